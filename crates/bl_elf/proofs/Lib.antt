@@ -1,0 +1,5 @@
+pub mod HeaderLemmas
+pub mod ProgramLemmas
+pub mod FaultLemmas
+pub mod SegmentLemmas
+pub mod ElfLaws

@@ -1,0 +1,86 @@
+-- What an executable file is, and the first fault of one that is refused (System V gABI, "Object Files").
+use Rattle.std.specs.Prelude.{◌≡◌, ◌⊎◌, ◌+◌, ◌-◌, ◌<◌, ◌≤◌, ◌^◌, ℕ, true, false, if◌then◌else◌, List, length, find, Option, Some, None}
+use Rattle.std.specs.List.{list_any}
+use Rattle.bl_mem.specs.declared.segment.Segment.{Segment}
+use Rattle.bl_elf.specs.declared.program.ProgramHeader.{ProgramHeader}
+use Rattle.bl_elf.specs.declared.fault.ElfFault.{ElfFault}
+use Rattle.bl_elf.specs.declared.fault.ElfFault.TheVariants.{NotElf, BadElf, SegmentCut, AddressTooHigh, SegmentsOverlap, NoEntry, NoMemory}
+use Rattle.bl_elf.specs.Header.{header_of, header_fault}
+use Rattle.bl_elf.specs.Program.{program_headers, segments_of, fault_at, share_at, is_entered, holds}
+
+-- what loading needs of a file: its loadable segments in the order of its program headers, and the physical address
+-- at which it is entered
+pub record ElfFacts : Type 0 where
+  pub segments : List Segment
+  pub entry : Option ℕ
+
+-- own: e_entry moved with the program header that holds it among its virtual addresses; or else e_entry itself where
+-- it is a physical address of a segment; or else none
+abbrev pub entry_among : ℕ → List Segment → Option ProgramHeader → Option ℕ
+entry_among e_entry segments (Some header) = Some (e_entry - header.p_vaddr + header.p_paddr)
+entry_among e_entry segments None = if list_any (holds e_entry) segments then Some e_entry else None
+
+-- the first loadable program header counts
+unfoldable pub entry_of : List ℕ → Option ℕ
+entry_of bytes =
+    let e_entry = (header_of bytes).e_entry in
+    let headers = program_headers bytes in
+    entry_among e_entry (segments_of headers) (find (is_entered e_entry) headers)
+
+-- a number below e_phnum
+abbrev pub IsIndex : List ℕ → ℕ → Type 0
+IsIndex bytes i = i < (header_of bytes).e_phnum
+
+-- program header i shares no physical byte with a later one
+abbrev pub SharesNone : List ℕ → ℕ → Type 0
+SharesNone bytes i = (j : ℕ) → i < j → IsIndex bytes j → share_at bytes i j ≡ false
+
+-- the header is sound and so is each program header, no two share a physical byte, and these are the facts
+pub record IsElf (bytes : List ℕ) (facts : ElfFacts) : Type 0 where
+  pub header : header_fault bytes ≡ None
+  pub sound : (i : ℕ) → IsIndex bytes i → fault_at bytes i ≡ None
+  pub apart : (i : ℕ) → IsIndex bytes i → SharesNone bytes i
+  pub segments : facts.segments ≡ segments_of (program_headers bytes)
+  pub entry : facts.entry ≡ entry_of bytes
+
+-- the header is sound, and program header i is the first with a fault, which is this one
+pub record IsFirstFaulty (bytes : List ℕ) (i : ℕ) (fault : ElfFault) : Type 0 where
+  pub header : header_fault bytes ≡ None
+  pub within : IsIndex bytes i
+  pub faulty : fault_at bytes i ≡ Some fault
+  pub sound_before : (k : ℕ) → k < i → fault_at bytes k ≡ None
+
+-- all is sound, and i is the least that shares a physical byte with a later program header, and j the least of those
+pub record IsFirstOverlap (bytes : List ℕ) (i j : ℕ) : Type 0 where
+  pub header : header_fault bytes ≡ None
+  pub sound : (k : ℕ) → IsIndex bytes k → fault_at bytes k ≡ None
+  pub above : i < j
+  pub within : IsIndex bytes j
+  pub share : share_at bytes i j ≡ true
+  pub least_first : (k : ℕ) → k < i → SharesNone bytes k
+  pub least_second : (k : ℕ) → i < k → k < j → share_at bytes i k ≡ false
+
+-- this is the first fault of a file that is refused, or memory ran out
+abbrev pub HasFirstFault : List ℕ → ElfFault → Type 0
+HasFirstFault bytes NotElf = header_fault bytes ≡ Some NotElf
+HasFirstFault bytes BadElf = (header_fault bytes ≡ Some BadElf) ⊎ ((i : ℕ) × IsFirstFaulty bytes i BadElf)
+HasFirstFault bytes (SegmentCut i) = IsFirstFaulty bytes i (SegmentCut i)
+HasFirstFault bytes (AddressTooHigh i) = IsFirstFaulty bytes i (AddressTooHigh i)
+HasFirstFault bytes (SegmentsOverlap i j) = IsFirstOverlap bytes i j
+HasFirstFault bytes NoEntry = ⊥
+HasFirstFault bytes NoMemory = Unit {0}
+
+-- a segment as a loader needs it: it takes memory below 2^32, and what it takes of the file is within the file
+pub record IsLoadable (bytes : List ℕ) (segment : Segment) : Type 0 where
+  pub filled : 1 ≤ segment.memsz
+  pub fits : segment.filesz ≤ segment.memsz
+  pub in_file : 0 < segment.filesz → segment.offset + segment.filesz ≤ length bytes
+  pub low : segment.address + segment.memsz ≤ 2 ^ 32
+
+-- a is an address of the segment
+abbrev pub Covers : Segment → ℕ → Type 0
+Covers segment a = (segment.address ≤ a) × (a < segment.address + segment.memsz)
+
+-- no address is in both
+abbrev pub AreApart : Segment → Segment → Type 0
+AreApart s t = (a : ℕ) → Covers s a → Covers t a → ⊥

@@ -1,0 +1,62 @@
+//! Where a file is entered.
+ghost use Rattle.std.specs.Prelude.{◌≡◌, ◌≤◌, ◌<◌, ◌+◌, ◌-◌, ◌^◌, ℕ, None, IfSome, find};
+ghost use Rattle.std.specs.List.{list_any};
+ghost use Rattle.bl_elf.specs.Header.{IsHeaderOf};
+ghost use Rattle.bl_elf.specs.Program.{program_headers, segments_of, fault_at, is_entered};
+ghost use Rattle.bl_elf.specs.Program as spec;
+ghost use Rattle.bl_elf.specs.Elf.{IsIndex, entry_of};
+
+use crate::header::Header;
+use crate::program::{ProgramHeader, program_header};
+use crate::sums::is_before_end;
+use bl_mem::{ByteView, Segment};
+
+/// The physical address at which a sound file is entered, if some segment holds its entry.
+#[tactic(auto, unfolding(crate::specs::Elf::entry_of))]
+pub fn find_entry<V: ByteView>(view: &V, header: Header, segments: &[Segment]) -> Option<u64>
+    requires header { IsHeaderOf (V.bytes view.now) header }
+    requires sound { (i : ℕ) → IsIndex (V.bytes view.now) i → fault_at (V.bytes view.now) i ≡ None }
+    requires segments { segments.now ≡ segments_of (program_headers (V.bytes view.now)) }
+    ensures { result ≡ entry_of (V.bytes view.now) }
+{
+    if let Some(program) = first_entered(view, header) {
+        return Some(header.e_entry - program.p_vaddr + program.p_paddr);
+    }
+    if is_held(header.e_entry, segments) {
+        return Some(header.e_entry);
+    }
+    None
+}
+
+/// The first loadable program header whose virtual addresses hold the entry.
+fn first_entered<V: ByteView>(view: &V, header: Header) -> Option<ProgramHeader>
+    requires header { IsHeaderOf (V.bytes view.now) header }
+    requires sound { (i : ℕ) → IsIndex (V.bytes view.now) i → fault_at (V.bytes view.now) i ≡ None }
+    ensures first { result ≡ find (is_entered header.e_entry) (program_headers (V.bytes view.now)) }
+    ensures inside { IfSome result (λ program. (program.p_vaddr ≤ header.e_entry)
+        × (header.e_entry - program.p_vaddr + program.p_paddr < 2 ^ 32)) }
+{
+    for i in 0..header.e_phnum {
+        let program = program_header(view, header, i);
+        if program.is_entered(header.e_entry) {
+            return Some(program);
+        }
+    }
+    None
+}
+
+/// Whether some segment's physical addresses hold `a`.
+fn is_held(a: u64, segments: &[Segment]) -> bool
+    ensures { result ≡ list_any (spec.holds a) segments.now }
+{
+    segments.iter().any(|segment| holds(a, *segment))
+}
+
+fn holds(a: u64, segment: Segment) -> bool
+    ensures { result ≡ spec.holds a segment }
+{
+    if a < segment.address {
+        return false;
+    }
+    is_before_end(a, segment.address, segment.memsz)
+}

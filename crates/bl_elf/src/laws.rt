@@ -1,0 +1,22 @@
+//! Laws of the definitions.
+ghost use Rattle.std.specs.Prelude.{◌≡◌, ℕ, List};
+ghost use Rattle.bl_elf.specs.declared.fault.ElfFault.{ElfFault};
+ghost use Rattle.bl_elf.specs.declared.fault.ElfFault.TheVariants.{SegmentsOverlap, NoMemory};
+ghost use Rattle.bl_elf.specs.Program.{program_header, segment_of};
+ghost use Rattle.bl_elf.specs.Elf.{ElfFacts, IsElf, HasFirstFault, Covers};
+
+/// A file is one executable or has one first fault, and never both. Want of memory is no fault of
+/// the file.
+pub fn elf_is_determined()
+    ensures one_reading { (bytes : List ℕ) (f g : ElfFacts) → IsElf bytes f → IsElf bytes g → f ≡ g }
+    ensures one_fault { (bytes : List ℕ) (f g : ElfFault) → ¬ (f ≡ NoMemory) → ¬ (g ≡ NoMemory)
+        → HasFirstFault bytes f → HasFirstFault bytes g → f ≡ g }
+    ensures not_both { (bytes : List ℕ) (facts : ElfFacts) (fault : ElfFault) → ¬ (fault ≡ NoMemory)
+        → IsElf bytes facts → HasFirstFault bytes fault → ⊥ }
+{}
+
+/// Where two segments overlap, some address lies in both.
+pub fn overlap_is_shared()
+    ensures { (bytes : List ℕ) (i j : ℕ) → HasFirstFault bytes (SegmentsOverlap i j)
+        → (a : ℕ) × Covers (segment_of (program_header bytes i)) a × Covers (segment_of (program_header bytes j)) a }
+{}

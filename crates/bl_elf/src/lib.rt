@@ -1,0 +1,19 @@
+//! Executables of ELF, 32-bit and 64-bit: their loadable segments, and where they are entered.
+#![tactic(auto)]
+
+mod class;
+mod elf;
+mod entry;
+mod fault;
+mod header;
+mod laws;
+mod overlap;
+mod program;
+mod segments;
+mod sums;
+#[cfg(test)]
+mod tests;
+
+pub use elf::{Elf, read_elf};
+pub use fault::ElfFault;
+pub use laws::{elf_is_determined, overlap_is_shared};

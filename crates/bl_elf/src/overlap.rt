@@ -1,0 +1,44 @@
+//! Segments that share a physical byte.
+ghost use Rattle.std.specs.Prelude.{◌≡◌, ◌<◌, ℕ, true, false, None, MatchOption, MatchResult};
+ghost use Rattle.bl_elf.specs.Header.{IsHeaderOf};
+ghost use Rattle.bl_elf.specs.Program.{fault_at, share_at};
+ghost use Rattle.bl_elf.specs.Elf.{IsIndex, SharesNone, HasFirstFault};
+
+use crate::fault::ElfFault;
+use crate::header::Header;
+use crate::program::program_header;
+use bl_mem::ByteView;
+
+/// The least program header behind the `i`-th that shares a physical byte with it.
+fn overlap_after<V: ByteView>(view: &V, header: Header, i: u16) -> Option<u16>
+    requires header { IsHeaderOf (V.bytes view.now) header }
+    requires within { i < header.e_phnum }
+    ensures { MatchOption result
+        (SharesNone (V.bytes view.now) i)
+        (λ j. (i < j) × IsIndex (V.bytes view.now) j × (share_at (V.bytes view.now) i j ≡ true)
+        × ((k : ℕ) → i < k → k < j → share_at (V.bytes view.now) i k ≡ false)) }
+{
+    let first = program_header(view, header, i);
+    for j in i + 1..header.e_phnum {
+        if first.shares_byte(program_header(view, header, j)) {
+            return Some(j);
+        }
+    }
+    None
+}
+
+/// Refuses a file in which two loadable segments share a physical byte, with the first two.
+pub fn check_overlaps<V: ByteView>(view: &V, header: Header) -> Result<(), ElfFault>
+    requires header { IsHeaderOf (V.bytes view.now) header }
+    requires sound { (i : ℕ) → IsIndex (V.bytes view.now) i → fault_at (V.bytes view.now) i ≡ None }
+    ensures { MatchResult result
+        (λ _. (i : ℕ) → IsIndex (V.bytes view.now) i → SharesNone (V.bytes view.now) i)
+        (HasFirstFault (V.bytes view.now)) }
+{
+    for i in 0..header.e_phnum {
+        if let Some(j) = overlap_after(view, header, i) {
+            return Err(ElfFault::SegmentsOverlap(i as u32, j as u32));
+        }
+    }
+    Ok(())
+}

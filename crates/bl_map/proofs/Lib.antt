@@ -1,0 +1,4 @@
+pub mod KindLemmas
+pub mod SweepLemmas
+pub mod MapLaws
+pub mod EdgeLemmas

@@ -1,0 +1,29 @@
+//! Kinds of memory.
+ghost use Rattle.std.specs.Prelude.{◌≡◌};
+ghost use Rattle.bl_map.specs.Kinds as kinds;
+
+/// What an address is for (Multiboot2 3.6.8 "Memory map"; an e820 entry has the same numbers).
+/// Where regions overlap, the greatest number counts.
+#[derive(Clone, Copy, Debug, PartialEq, Eq)]
+pub enum Kind {
+    Usable,
+    Reserved,
+    Acpi,
+    Nvs,
+    Bad,
+}
+
+impl Kind {
+    /// The kind's number, 1 to 5.
+    pub fn number(self) -> u32
+        ensures { result ≡ kinds.number_of self }
+    {
+        match self {
+            Kind::Usable => 1,
+            Kind::Reserved => 2,
+            Kind::Acpi => 3,
+            Kind::Nvs => 4,
+            Kind::Bad => 5,
+        }
+    }
+}

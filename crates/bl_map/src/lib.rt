@@ -1,0 +1,19 @@
+//! A machine: the kinds of its addresses, its normal map, its pool.
+#![tactic(auto)]
+
+mod fault;
+mod kind;
+mod laws;
+mod machine;
+mod region;
+mod rules;
+mod sweep;
+
+pub use fault::MapFault;
+pub use kind::Kind;
+pub use laws::normal_maps_are_determined;
+pub use machine::Machine;
+pub use region::Region;
+
+#[cfg(test)]
+mod tests;

@@ -1,0 +1,125 @@
+//! A machine.
+use crate::fault::MapFault;
+use crate::kind::Kind;
+use crate::region::Region;
+use crate::rules::{first_high, is_pool, is_size, is_usable_among, usable_end};
+use crate::sweep::{greatest_kind, normal_map};
+use std::alloc::Allocator;
+use std::marker::Model;
+use std::ops::Range;
+
+/// A machine: its size, its normal map, its pool. Contracts see it as these facts.
+#[derive(Drop)]
+pub struct Machine<A: Allocator> {
+    size: u64,
+    runs: Vec<Region, A>,
+    pool: Range<u64>,
+}
+
+impl<A: Allocator> Model for Machine<A> {
+    ghost use Rattle.bl_map.specs.Facts.{Facts, AreFacts};
+
+    ghost Value = { Facts };
+
+    ghost view = { λ m. record { size = m.size; runs = m.runs.items; pool = m.pool } };
+
+    ghost invariant = { λ m. AreFacts record { size = m.size; runs = m.runs.items; pool = m.pool } };
+}
+
+impl<A: Allocator> Machine<A> {
+    ghost use Rattle.std.specs.Prelude.{◌≡◌, ◌^◌, ◌<◌, ◌≤◌, IfErr, IfOk, MatchBool, OnOk};
+    ghost use Rattle.bl_map.specs.Kinds.{IsNormalMap, number_or_none};
+    ghost use Rattle.bl_map.specs.Kinds as kinds;
+    ghost use Rattle.bl_map.specs.Facts.{AllUsable, AreFacts};
+    ghost use Rattle.bl_map.specs.Faults.{HasFirstFault, IsAccepted};
+
+    /// The machine of these regions, in any order, overlapping, adjoining or empty; at most 128.
+    /// `size` is in bytes, 1 MiB to 4 GiB in whole frames of 4096; `pool` is whole usable frames, perhaps none.
+    pub fn new(
+        alloc: A,
+        size: u64,
+        regions: &[Region],
+        pool: Range<u64>,
+    ) -> Result<Machine<A>, MapFault>
+        ensures accepted { OnOk result (IsAccepted size regions.now pool) }
+        ensures size { IfOk result (λ m. m.size ≡ size) }
+        ensures runs { IfOk result (λ m. IsNormalMap regions.now m.runs) }
+        ensures pool { IfOk result (λ m. m.pool ≡ pool) }
+        ensures first_fault { IfErr result (HasFirstFault size regions.now pool) }
+    {
+        if !is_size(size) {
+            return Err(MapFault::BadSize);
+        }
+        if regions.len() > 128 {
+            return Err(MapFault::TooManyRegions);
+        }
+        if let Some(i) = first_high(regions) {
+            return Err(MapFault::BadRegion(i));
+        }
+        if !is_pool(regions, size, &pool) {
+            return Err(MapFault::BadPool);
+        }
+        let runs = normal_map(alloc, regions)?;
+        Ok(Machine { size, runs, pool })
+    }
+
+    /// How many bytes of memory there are.
+    pub fn size(&self) -> u64
+        ensures size { result ≡ self.now.size }
+        ensures facts { AreFacts self.now }
+    {
+        self.size
+    }
+
+    /// The normal map: the longest runs of one kind, ascending.
+    pub fn normal(&self) -> &[Region]
+        ensures runs { result.now ≡ self.now.runs }
+        ensures facts { AreFacts self.now }
+    {
+        self.runs.as_slice()
+    }
+
+    /// The frames that files are staged in.
+    pub fn pool(&self) -> Range<u64>
+        ensures pool { result ≡ self.now.pool }
+        ensures facts { AreFacts self.now }
+    {
+        self.pool.start..self.pool.end
+    }
+
+    /// What an address is for.
+    pub fn kind_at(&self, a: u64) -> Option<Kind>
+        ensures kind { number_or_none result ≡ kinds.kind_at self.now.runs a }
+        ensures facts { AreFacts self.now }
+    {
+        greatest_kind(self.runs.as_slice(), a)
+    }
+
+    /// Whether each byte of the range is usable, as in an empty one: of kind `Usable`, from 4096 on, below the size and below 0xFFFFF000.
+    pub fn is_usable(&self, range: Range<u64>) -> bool
+        requires forward { range.start ≤ range.end }
+        ensures usable { MatchBool result (AllUsable self.now range.start range.end) (¬ AllUsable self.now range.start range.end) }
+        ensures facts { AreFacts self.now }
+    {
+        is_usable_among(self.runs.as_slice(), self.size, range.start, range.end)
+    }
+
+    /// KiB of usable memory from address 0 on, at most 640 (Multiboot2 3.6.4 "Basic memory information").
+    pub fn low_kib(&self) -> u64
+        ensures low_kib { result ≡ kinds.low_kib self.now.runs }
+        ensures most { result ≤ 640 }
+        ensures facts { AreFacts self.now }
+    {
+        (usable_end(self.runs.as_slice(), 0) / 1024).min(640)
+    }
+
+    /// KiB of usable memory from 1 MiB on, at most what 32 bits hold (Multiboot2 3.6.4 "Basic memory information").
+    pub fn high_kib(&self) -> u64
+        ensures high_kib { result ≡ kinds.high_kib self.now.runs }
+        ensures most { result < 2 ^ 32 }
+        ensures facts { AreFacts self.now }
+    {
+        let end = usable_end(self.runs.as_slice(), 0x0010_0000);
+        (end.saturating_sub(0x0010_0000) / 1024).min(0xFFFF_FFFF)
+    }
+}

@@ -1,0 +1,33 @@
+//! A region of the firmware's memory map.
+use crate::kind::Kind;
+
+/// The highest end that a region may have, in bytes.
+pub(crate) const LIMIT: u64 = 0x0010_0000_0000_0000;
+
+/// The addresses from `base` up to `base + length`, in bytes, and their kind. A length of 0 holds nothing.
+#[derive(Clone, Copy, Debug, PartialEq, Eq)]
+pub struct Region {
+    pub base: u64,
+    pub length: u64,
+    pub kind: Kind,
+}
+
+impl Region {
+    ghost use Rattle.std.specs.Prelude.{◌≡◌, MatchBool};
+    ghost use Rattle.bl_map.specs.Kinds as kinds;
+    ghost use Rattle.bl_map.specs.Faults.{IsLow};
+
+    /// Whether the region holds this address.
+    pub(crate) fn holds(&self, a: u64) -> bool
+        ensures { result ≡ kinds.holds self.now a }
+    {
+        self.base <= a && a - self.base < self.length
+    }
+
+    /// Whether the region ends at most at 2^52.
+    pub(crate) fn is_low(&self) -> bool
+        ensures { MatchBool result (IsLow self.now) (¬ IsLow self.now) }
+    {
+        self.base <= LIMIT && self.length <= LIMIT - self.base
+    }
+}

@@ -1,0 +1,77 @@
+//! The rules that a machine is accepted by.
+ghost use Rattle.std.specs.Prelude.{◌≡◌, ℕ, ◌^◌, ◌<◌, ◌≤◌, All, IfSome, MatchBool, MatchOption, length, slice_get, take};
+ghost use Rattle.bl_map.specs.Facts.{IsPool, IsSize, IsUsableAmong};
+ghost use Rattle.bl_map.specs.Faults.{IsLow};
+ghost use Rattle.bl_map.specs.Kinds as kinds;
+
+use crate::kind::Kind;
+use crate::region::Region;
+use crate::sweep::{greatest_kind, run_end};
+use std::ops::Range;
+
+/// Whether this is 1 MiB to 4 GiB in whole frames.
+pub fn is_size(size: u64) -> bool
+    ensures { MatchBool result (IsSize size) (¬ IsSize size) }
+{
+    0x0010_0000 <= size && size <= 0x1_0000_0000 && size % 4096 == 0
+}
+
+/// The first region that ends above 2^52.
+pub fn first_high(regions: &[Region]) -> Option<usize>
+    ensures { MatchOption result
+        (All IsLow regions.now)
+        (λ i. (i < length regions.now) × All IsLow (take i regions.now) × IfSome (slice_get regions.now i) (λ region. ¬ IsLow region)) }
+{
+    for (i, region) in regions.iter().enumerate() {
+        if !region.is_low() {
+            return Some(i);
+        }
+    }
+    None
+}
+
+/// Whether each byte from `start` up to `end` is usable in a machine of this size and these regions.
+pub fn is_usable_among(regions: &[Region], size: u64, start: u64, end: u64) -> bool
+    requires low { All IsLow regions.now }
+    requires size { size ≤ 2 ^ 32 }
+    requires forward { start ≤ end }
+    ensures { MatchBool result
+        ((a : ℕ) → start ≤ a → a < end → IsUsableAmong regions.now size a)
+        (¬ ((a : ℕ) → start ≤ a → a < end → IsUsableAmong regions.now size a)) }
+{
+    if start == end {
+        return true;
+    }
+    if start < 4096 || size < end || 0xFFFF_F000 < end {
+        return false;
+    }
+    match greatest_kind(regions, start) {
+        Some(Kind::Usable) => end <= run_end(regions, start),
+        _ => false,
+    }
+}
+
+/// Whether the pool is whole usable frames, perhaps none.
+pub fn is_pool(regions: &[Region], size: u64, pool: &Range<u64>) -> bool
+    requires low { All IsLow regions.now }
+    requires size { size ≤ 2 ^ 32 }
+    ensures { MatchBool result (IsPool regions.now size pool.now) (¬ IsPool regions.now size pool.now) }
+{
+    if pool.end < pool.start || pool.start % 4096 != 0 || pool.end % 4096 != 0 {
+        return false;
+    }
+    is_usable_among(regions, size, pool.start, pool.end)
+}
+
+/// Where the run of usable memory ends that holds an address, 0 where there is none.
+pub fn usable_end(runs: &[Region], a: u64) -> u64
+    requires low { All IsLow runs.now }
+    ensures { result ≡ kinds.usable_end runs.now a }
+{
+    for run in runs {
+        if run.kind.number() == 1 && run.holds(a) {
+            return run.base + run.length;
+        }
+    }
+    0
+}

@@ -1,0 +1,2 @@
+pub mod Overwrites
+pub mod ReadLemmas

@@ -1,0 +1,4 @@
+pub mod Memory
+pub mod Words
+pub mod Least
+pub mod Contents

@@ -1,0 +1,16 @@
+-- Little-endian numbers at a place of a list of bytes.
+use Rattle.std.specs.Prelude.{ℕ, List, drop}
+use Rattle.byteorder.specs.Endian.{little_number}
+
+-- the number in the n bytes from a place on, the lowest byte first
+unfoldable pub number_at : ℕ → List ℕ → ℕ → ℕ
+number_at n bytes at = little_number n (drop at bytes)
+
+abbrev pub u16_at : List ℕ → ℕ → ℕ
+u16_at bytes at = number_at 2 bytes at
+
+abbrev pub u32_at : List ℕ → ℕ → ℕ
+u32_at bytes at = number_at 4 bytes at
+
+abbrev pub u64_at : List ℕ → ℕ → ℕ
+u64_at bytes at = number_at 8 bytes at

@@ -1,0 +1,60 @@
+//! Memory that is held whole.
+ghost use Rattle.std.specs.Prelude.{◌≡◌, ℕ, List, replicate, IfOk};
+
+use crate::memory::PhysMem;
+use std::alloc::{AllocError, Allocator};
+use std::marker::Model;
+use std::ops::Range;
+
+/// Memory that is held whole, with room everywhere. Contracts see it as the list of its bytes.
+#[derive(Drop)]
+pub struct Flat<A: Allocator> {
+    held: Vec<u8, A>,
+}
+
+impl<A: Allocator> Model for Flat<A> {
+    ghost Value = { List ℕ };
+
+    ghost view = { λ flat. flat.held.items };
+}
+
+impl<A: Allocator> Flat<A> {
+    /// Memory of `size` bytes, each of them `fill`. It takes all its memory at once.
+    pub fn new(alloc: A, size: u64, fill: u8) -> Result<Flat<A>, AllocError>
+        ensures ok { IfOk result (λ flat. flat ≡ replicate size fill) }
+    {
+        Ok(Flat {
+            held: Vec::from_elem(alloc, fill, size as usize)?,
+        })
+    }
+}
+
+impl<A: Allocator> PhysMem for Flat<A> {
+    ghost bytes = { λ flat. flat };
+
+    ghost room = { λ _ _. Unit {0} };
+
+    fn size(&self) -> u64 {
+        self.held.len() as u64
+    }
+
+    fn read(&self, at: u64, out: &mut [u8]) {
+        let held = &self.held[at as usize..];
+        out.copy_from_slice(&held[..out.len()]);
+    }
+
+    fn reserve(&mut self, _ranges: &[Range<u64>]) -> Result<(), AllocError> {
+        Ok(())
+    }
+
+    fn write(&mut self, at: u64, part: &[u8]) {
+        let start = at as usize;
+        let held = self.held.as_mut_slice();
+        let end = start + part.len();
+        held[start..end].copy_from_slice(part);
+    }
+
+    fn zero(&mut self, range: Range<u64>) {
+        self.held[range.start as usize..range.end as usize].fill(0);
+    }
+}
