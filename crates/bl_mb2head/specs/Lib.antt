@@ -1,0 +1,4 @@
+pub mod Address
+pub mod Header
+pub mod Place
+pub mod Tags

@@ -1,0 +1,13 @@
+-- Where a Multiboot2 header stands (Multiboot2 2.0, "3.1.1 The layout of Multiboot2 header" and
+-- "3.1.2 The magic fields of Multiboot2 header").
+use Rattle.std.specs.Prelude.{◌≡◌, ◌≤◌, ◌+◌, ◌%◌, ◌^◌, ℕ, List, length}
+use Rattle.bl_mem.specs.Words.{u32_at}
+
+-- a header stands at h: at a multiple of 8, its first 16 bytes within the file and the file's first
+-- 32768 bytes, with the magic number, and with four words that sum to 0 in 32 bits
+pub record IsHeaderAt (bytes : List ℕ) (h : ℕ) : Type 0 where
+  pub aligned : h % 8 ≡ 0
+  pub in_file : h + 16 ≤ length bytes
+  pub in_front : h + 16 ≤ 32768
+  pub magic : u32_at bytes h ≡ 0xE85250D6
+  pub sums : (u32_at bytes h + u32_at bytes (h + 4) + u32_at bytes (h + 8) + u32_at bytes (h + 12)) % 2 ^ 32 ≡ 0

@@ -1,0 +1,97 @@
+-- The tags of a Multiboot2 header, from a place to the header's end
+-- (Multiboot2 2.0, "3.1.3 General tag structure" to "3.1.13 Relocatable header tag").
+use Rattle.std.specs.Prelude.{◌≡◌, ◌≤◌, ◌+◌, ◌-◌, ◌*◌, ◌/◌, ℕ, zero, suc, Bool, false, ◌&&◌, ◌||◌, not, if◌then◌else◌, ◌==◌, nat_eq, nat_lt, nat_le, bit_and, List, [], ◌∷◌, reverse, Option, Some, None, IfSome}
+use Rattle.std.specs.List.{find}
+use Rattle.bl_mem.specs.Words.{u16_at, u32_at}
+use Rattle.bl_mb2head.specs.declared.tag.Tag.{Tag}
+use Rattle.bl_mb2head.specs.declared.last.LastTags.{LastTags}
+use Rattle.bl_mb2head.specs.declared.fault.HeadFault.{HeadFault}
+use Rattle.bl_mb2head.specs.declared.fault.HeadFault.TheVariants.{BadTag, UnsupportedTag, UnsupportedRequest, NoConsole}
+
+-- the tag whose first byte is at a place (3.1.3)
+abbrev pub tag_at : List ℕ → ℕ → Tag
+tag_at bytes at = record { place = at; kind = u16_at bytes at; flags = u16_at bytes (at + 2); size = u32_at bytes (at + 4) }
+
+-- the next multiple of 8 after a tag: padding is not part of its size (3.1.3)
+abbrev pub after : Tag → ℕ
+after t = (t.place + t.size + 7) / 8 * 8
+
+-- the least size of a kind of tag: that of the fields which are read (3.1.5, 3.1.6, 3.1.9, 3.1.13)
+abbrev pub least_size : ℕ → ℕ
+least_size kind =
+    if kind == 2 || kind == 10 then 24 else
+    if kind == 3 || kind == 4 then 12 else 8
+
+-- type, flags and size lie before the header's end, and so does the whole tag; its size is one of its
+-- kind, and the tag that ends the tags has size 8
+unfoldable pub is_well_formed : List ℕ → ℕ → ℕ → Bool
+is_well_formed bytes end at =
+    nat_le (at + 8) end && nat_le (at + u32_at bytes (at + 4)) end
+    && nat_le (least_size (u16_at bytes at)) (u32_at bytes (at + 4))
+    && (not (u16_at bytes at == 0) || u32_at bytes (at + 4) == 8)
+
+-- bit 0 of the flags: the tag may be ignored (3.1.3)
+abbrev pub is_optional : Tag → Bool
+is_optional t = not (bit_and t.flags 1 == 0)
+
+-- n words from a place on
+abbrev pub words_at : List ℕ → ℕ → ℕ → List ℕ
+words_at bytes at zero = []
+words_at bytes at (suc n) = u32_at bytes at ∷ words_at bytes (at + 4) n
+
+-- own: the types of information that can be given are 1 to 21 without 9, the ELF symbols
+abbrev pub can_be_given : ℕ → Bool
+can_be_given kind = nat_le 1 kind && nat_le kind 21 && not (kind == 9)
+
+-- the first type that an information request names and that can't be given (3.1.4)
+unfoldable pub first_unknown : List ℕ → Tag → Option ℕ
+first_unknown bytes t = find (λ kind. not (can_be_given kind)) (words_at bytes (t.place + 8) ((t.size - 8) / 4))
+
+abbrev pub request_fault : Option ℕ → Option HeadFault
+request_fault None = None
+request_fault (Some kind) = Some (UnsupportedRequest kind)
+
+-- what is wrong with the tag at a place: the first fault in this order. Bit 0 of the console flags
+-- (3.1.9) asks for a console, and there is none
+unfoldable pub fault_at : List ℕ → ℕ → ℕ → Option HeadFault
+fault_at bytes end at =
+    let t = tag_at bytes at in
+    if not (is_well_formed bytes end at) then Some (BadTag at) else
+    if is_optional t then None else
+    if nat_lt 10 t.kind then Some (UnsupportedTag t.kind) else
+    if t.kind == 1 then request_fault (first_unknown bytes t) else
+    if t.kind == 4 && not (bit_and (u32_at bytes (at + 8)) 1 == 0) then Some NoConsole else
+    None
+
+-- these tags stand one after the other from at to next, none of them the last, with no fault
+abbrev pub AreTags : List ℕ → ℕ → ℕ → ℕ → List Tag → Type 0
+AreTags bytes end at next [] = at ≡ next
+AreTags bytes end at next (t ∷ ts) = (t ≡ tag_at bytes at) × (fault_at bytes end at ≡ None) × (nat_eq t.kind 0 ≡ false) × AreTags bytes end (after t) next ts
+
+-- these are all tags from at on, up to the tag of type 0 at some place
+pub record AreAllTags (bytes : List ℕ) (end at : ℕ) (ts : List Tag) : Type 0 where
+  pub next : ℕ
+  pub tags : AreTags bytes end at next ts
+  pub sound : fault_at bytes end next ≡ None
+  pub ends : u16_at bytes next ≡ 0
+
+-- the first tag with a fault has this one
+pub record IsFirstFault (bytes : List ℕ) (end at : ℕ) (fault : HeadFault) : Type 0 where
+  pub before : List Tag
+  pub next : ℕ
+  pub tags : AreTags bytes end at next before
+  pub faulty : fault_at bytes end next ≡ Some fault
+
+-- the last tag of a kind
+abbrev pub last_of : ℕ → List Tag → Option Tag
+last_of kind ts = find (λ t. nat_eq t.kind kind) (reverse ts)
+
+-- own: of several tags of a kind that counts, the last one counts
+abbrev pub last_tags : List Tag → LastTags
+last_tags ts = record { address = last_of 2 ts; entry = last_of 3 ts; relocation = last_of 10 ts }
+
+-- the fields of the tags that count lie before the header's end
+pub record LieBefore (end : ℕ) (last : LastTags) : Type 0 where
+  pub address : IfSome last.address (λ t. t.place + 24 ≤ end)
+  pub entry : IfSome last.entry (λ t. t.place + 12 ≤ end)
+  pub relocation : IfSome last.relocation (λ t. t.place + 24 ≤ end)

@@ -1,0 +1,98 @@
+//! The whole header.
+
+ghost use Rattle.std.specs.Prelude.{◌≡◌, ◌+◌, ◌≤◌, ◌<◌, ◌^◌, length, IfOk, IfErr, IfSome};
+ghost use Rattle.bl_mb2head.specs.Header as header;
+ghost use Rattle.bl_mb2head.specs.Header.{IsHeader, BeginsAt, HasFirstFault, FitsFile, is_cut};
+
+use crate::address::address_segment;
+use crate::fault::HeadFault;
+use crate::last::last_tags;
+use crate::place::find_place;
+use crate::relocation::Relocation;
+use crate::tag::Tag;
+use bl_mem::{ByteView, Segment, u32_at};
+
+/// What a kernel's header says (Multiboot2 2.0, "3.1 OS image format").
+#[derive(Clone, Copy, Debug, PartialEq, Eq)]
+pub struct Header {
+    /// Where the header stands in the file.
+    pub place: u64,
+    /// What the last address tag asks to be loaded, which then holds in place of an ELF header.
+    pub segment: Option<Segment>,
+    /// The physical address of the last entry address tag, below 2^32.
+    pub entry: Option<u64>,
+    /// Where the image may be moved to, by the last relocatable tag.
+    pub relocation: Option<Relocation>,
+}
+
+/// Whether the header at a place has no room for its last tag, or does not lie where it must.
+fn is_cut<V: ByteView>(view: &V, place: u64) -> bool
+    requires in_file { place + 16 ≤ length (V.bytes view.now) }
+    requires in_front { place ≤ 32768 }
+    ensures { result ≡ is_cut (V.bytes view.now) place }
+{
+    let header_length = u32_at(view, place + 8) as u64;
+    let end = place + header_length;
+    header_length < 24 || view.len() < end || 32768 < end
+}
+
+/// The place of the file's header, or what is wrong with it before its tags.
+fn checked_place<V: ByteView>(view: &V) -> Result<u64, HeadFault>
+    ensures begins { IfOk result (BeginsAt (V.bytes view.now)) }
+    ensures first_fault { IfErr result (HasFirstFault (V.bytes view.now)) }
+{
+    let Some(place) = find_place(view) else {
+        return Err(HeadFault::NoHeader);
+    };
+    if is_cut(view, place) {
+        return Err(HeadFault::HeaderCut);
+    }
+    if u32_at(view, place + 4) != 0 {
+        return Err(HeadFault::BadArchitecture);
+    }
+    Ok(place)
+}
+
+/// The address of the entry address tag that counts.
+fn entry_of<V: ByteView>(view: &V, tag: Option<Tag>) -> Option<u64>
+    requires in_file { IfSome tag (λ t. t.place + 12 ≤ length (V.bytes view.now)) }
+    requires in_front { IfSome tag (λ t. t.place + 12 ≤ 32768) }
+    ensures exact { result ≡ header.entry_of (V.bytes view.now) tag }
+    ensures below { IfSome result (λ entry. entry < 2 ^ 32) }
+{
+    let tag = tag?;
+    Some(u32_at(view, tag.place + 8) as u64)
+}
+
+/// What the relocatable tag that counts says.
+fn relocation_of<V: ByteView>(view: &V, tag: Option<Tag>) -> Option<Relocation>
+    requires in_file { IfSome tag (λ t. t.place + 24 ≤ length (V.bytes view.now)) }
+    requires in_front { IfSome tag (λ t. t.place + 24 ≤ 32768) }
+    ensures { result ≡ header.relocation_of (V.bytes view.now) tag }
+{
+    let tag = tag?;
+    Some(Relocation {
+        min_addr: u32_at(view, tag.place + 8),
+        max_addr: u32_at(view, tag.place + 12),
+        align: u32_at(view, tag.place + 16),
+        preference: u32_at(view, tag.place + 20),
+    })
+}
+
+/// The header of a file of any length, or the file's first fault. It takes no memory.
+pub fn find_header<V: ByteView>(view: &V) -> Result<Header, HeadFault>
+    ensures found { IfOk result (λ header. IsHeader (V.bytes view.now) header) }
+    ensures first_fault { IfErr result (λ fault. HasFirstFault (V.bytes view.now) fault) }
+    ensures segment { IfOk result (λ header. IfSome header.segment (FitsFile (V.bytes view.now))) }
+    ensures entry { IfOk result (λ header. IfSome header.entry (λ entry. entry < 2 ^ 32)) }
+{
+    let place = checked_place(view)?;
+    let end = place + u32_at(view, place + 8) as u64;
+    let last = last_tags(view, place + 16, end)?;
+    Ok(Header {
+        place,
+        segment: address_segment(view, place, last.address)?,
+        entry: entry_of(view, last.entry),
+        relocation: relocation_of(view, last.relocation),
+    })
+}

@@ -1,0 +1,68 @@
+//! The tags one after the other: a cursor that keeps the last of each kind that counts.
+
+ghost use Rattle.std.specs.Prelude.{◌≡◌, ◌≤◌, ◌+◌, ◌++◌, ◌∷◌, [], ℕ, List, length, IfOk, IfErr};
+ghost use Rattle.bl_mb2head.specs.Tags as tags;
+ghost use Rattle.bl_mb2head.specs.Tags.{AreAllTags, IsFirstFault, LieBefore};
+ghost use Rattle.bl_mb2head.specs.declared.tag.Tag.{Tag};
+
+use crate::fault::HeadFault;
+use crate::tag::{Tag, checked_tag};
+use bl_mem::ByteView;
+
+/// The last tags of the kinds that count.
+#[derive(Clone, Copy, Debug, PartialEq, Eq)]
+pub struct LastTags {
+    pub address: Option<Tag>,
+    pub entry: Option<Tag>,
+    pub relocation: Option<Tag>,
+}
+
+impl LastTags {
+    /// The last tags after one more.
+    fn with(self, tag: Tag) -> LastTags
+        ensures last { (ts : List Tag) → self ≡ tags.last_tags ts → result ≡ tags.last_tags (ts ++ tag ∷ []) }
+        ensures fits { (end : ℕ) → LieBefore end self → tags.least_size tag.kind ≤ tag.size → tag.place + tag.size ≤ end → LieBefore end result }
+    {
+        match tag.kind {
+            2 => LastTags {
+                address: Some(tag),
+                ..self
+            },
+            3 => LastTags {
+                entry: Some(tag),
+                ..self
+            },
+            10 => LastTags {
+                relocation: Some(tag),
+                ..self
+            },
+            _ => self,
+        }
+    }
+}
+
+/// The last tags that count, from `start` to the tag of type 0 before `end`, or the fault of the first
+/// tag that has one.
+pub fn last_tags<V: ByteView>(view: &V, start: u64, end: u64) -> Result<LastTags, HeadFault>
+    requires in_file { end ≤ length (V.bytes view.now) }
+    requires in_front { end ≤ 32768 }
+    requires in_order { start ≤ end }
+    ensures fits { IfOk result (LieBefore end) }
+    ensures last { IfOk result (λ last. (ts : List Tag) × AreAllTags (V.bytes view.now) end start ts × (last ≡ tags.last_tags ts)) }
+    ensures first_fault { IfErr result (λ fault. IsFirstFault (V.bytes view.now) end start fault) }
+{
+    let mut at = start;
+    let mut last = LastTags {
+        address: None,
+        entry: None,
+        relocation: None,
+    };
+    loop {
+        let tag = checked_tag(view, at, end)?;
+        if tag.kind == 0 {
+            return Ok(last);
+        }
+        last = last.with(tag);
+        at = (at + tag.size as u64 + 7) / 8 * 8;
+    }
+}

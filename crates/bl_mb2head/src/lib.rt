@@ -1,0 +1,18 @@
+//! The Multiboot2 header of a kernel file.
+#![tactic(auto)]
+
+mod address;
+mod fault;
+mod header;
+mod last;
+mod laws;
+mod place;
+mod relocation;
+mod tag;
+#[cfg(test)]
+mod tests;
+
+pub use fault::HeadFault;
+pub use header::{Header, find_header};
+pub use laws::{headers_are_determined, headers_fit, tags_are_determined};
+pub use relocation::Relocation;

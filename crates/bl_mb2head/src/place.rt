@@ -1,0 +1,45 @@
+//! Where the header stands.
+
+ghost use Rattle.std.specs.Prelude.{◌≡◌, ◌≤◌, ◌+◌, ◌%◌, ◌↔◌, ℕ, length, IsTrue, MatchOption};
+ghost use Rattle.bl_mem.specs.Least.{IsLeast};
+ghost use Rattle.bl_mb2head.specs.Place.{IsHeaderAt};
+
+use bl_mem::{ByteView, u32_at};
+
+/// The first word of a header.
+const MAGIC: u32 = 0xE852_50D6;
+
+/// Whether a header stands at `at`, which is a multiple of 8 with 16 bytes behind it.
+fn is_header_at<V: ByteView>(view: &V, at: u64) -> bool
+    requires aligned { at % 8 ≡ 0 }
+    requires in_file { at + 16 ≤ length (V.bytes view.now) }
+    requires in_front { at + 16 ≤ 32768 }
+    ensures { IsTrue result ↔ IsHeaderAt (V.bytes view.now) at }
+{
+    let magic = u32_at(view, at);
+    if magic != MAGIC {
+        return false;
+    }
+    let architecture = u32_at(view, at + 4);
+    let header_length = u32_at(view, at + 8);
+    let checksum = u32_at(view, at + 12);
+    let sum = magic as u64 + architecture as u64 + header_length as u64 + checksum as u64;
+    sum % (1 << 32) == 0
+}
+
+/// The place of the header: the least place at which one stands.
+pub fn find_place<V: ByteView>(view: &V) -> Option<u64>
+    ensures { MatchOption result
+        ((h : ℕ) → IsHeaderAt (V.bytes view.now) h → ⊥)
+        (λ h. IsLeast (IsHeaderAt (V.bytes view.now)) h) }
+{
+    let end = view.len().min(32768);
+    let mut at = 0;
+    while at + 16 <= end {
+        if is_header_at(view, at) {
+            return Some(at);
+        }
+        at += 8;
+    }
+    None
+}
