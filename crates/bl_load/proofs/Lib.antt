@@ -1,0 +1,13 @@
+pub mod OrderLemmas
+pub mod KernelLaws
+pub mod BlockLemmas
+pub mod SortedLemmas
+pub mod ContentLemmas
+pub mod InformationLemmas
+pub mod WrittenLemmas
+pub mod HeldLemmas
+pub mod TestLemmas
+pub mod LineLemmas
+pub mod RowLemmas
+pub mod PlacingLemmas
+pub mod PrepareLemmas

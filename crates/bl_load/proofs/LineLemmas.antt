@@ -1,0 +1,35 @@
+-- A line with no fault.
+use Rattle.std.proofs.Common.{◌≡◌, ◌≢◌, ◌<◌, ◌≤◌, ℕ, zero, suc, Bool, true, false, List, [], ◌∷◌, length, get_or, Option, Some, None, cond, arith, refl, All, nat_lt, nat_eq}
+use Rattle.std.specs.Prelude.{◌||◌, ◌==◌}
+use Rattle.std.specs.List.{list_any}
+use Rattle.std.proofs.lemmas.Bool.Decides.{nat_tests}
+use Rattle.bl_mbi.specs.Info.{IsText}
+use Rattle.bl_load.specs.declared.refusal.Refusal.{Refusal}
+use Rattle.bl_load.specs.declared.refusal.Refusal.TheVariants.{LineHasNul, LineTooLong}
+use Rattle.bl_load.specs.Value.{line_fault}
+
+sound_parts : (a b : Bool) (x y : Refusal) → cond a (Some x) (cond b (Some y) None) ≡ None → (a ≡ false) × (b ≡ false)
+sound_parts true b x y h = absurd cc
+sound_parts false true x y h = absurd cc
+sound_parts false false x y h = (refl, refl)
+
+parts_of : (line : List ℕ) → line_fault line ≡ None → (list_any (λ b. b == 0) line ≡ false) × (nat_lt 4095 (length line) ≡ false)
+unfolding line_fault
+parts_of line h = sound_parts (list_any (λ b. b == 0) line) (nat_lt 4095 (length line)) LineHasNul LineTooLong h
+
+or_parts : (a b : Bool) → (a || b) ≡ false → (a ≡ false) × (b ≡ false)
+or_parts true b h = absurd cc
+or_parts false b h = (refl, h)
+
+none_zero : (line : List ℕ) → list_any (λ b. b == 0) line ≡ false → (k d : ℕ) → k < length line → get_or line k d ≢ 0
+none_zero [] h k d within = absurd (omega arith)
+none_zero (x ∷ line) h zero d within = let e = (or_parts (x == 0) (list_any (λ b. b == 0) line) h).0 in λ z. let f : nat_eq x 0 ≡ true = grind (arith, nat_tests) in absurd cc
+none_zero (x ∷ line) h (suc k) d within = none_zero line (or_parts (x == 0) (list_any (λ b. b == 0) line) h).1 k d (omega arith)
+
+-- it is short
+pub sound_short : (line : List ℕ) → line_fault line ≡ None → length line ≤ 4095
+sound_short line h = let e = (parts_of line h).1 in grind (arith, nat_tests)
+
+-- it is a text, whose bytes are bytes
+pub sound_text : (line : List ℕ) → line_fault line ≡ None → ((k d : ℕ) → k < length line → get_or line k d < 256) → IsText line
+sound_text line h bytes = λ k d within. (none_zero line (parts_of line h).0 k d within, bytes k d within)

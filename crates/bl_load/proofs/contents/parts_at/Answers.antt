@@ -1,0 +1,34 @@
+use Rattle.std.proofs.Common.{ℕ, List, [], ◌∷◌, ◌++◌, map, take, get_or, sym, ap, ap₂, ◌∙◌}
+use Rattle.std.proofs.lemmas.List.{map-append, take_more}
+use Rattle.std.proofs.lemmas.List.Elements.{All-push}
+use Rattle.bl_plan.specs.declared.place.Place.{Place}
+use Rattle.bl_plan.specs.declared.role.Role.TheVariants.{Kernel}
+use Rattle.bl_load.specs.declared.plan.Planned.{Planned}
+use Rattle.bl_load.specs.KernelRead.{kernel_by}
+use Rattle.bl_load.specs.Handover.{Part, part_at, filled}
+use Rattle.bl_load.specs.Parts.{part_from}
+use Rattle.bl_load.specs.Place.{place_of}
+use Rattle.bl_load.specs.Planned.{part_by, text_at, IsBacked}
+use Rattle.bl_load.proofs.contents.parts_at.Goals as goal
+
+pub loop-place-preserved : goal.loop-place-preserved
+loop-place-preserved g c =
+    let texts = map g.V.ByteView.bytes c.args.files.now in
+    let from : Place → Part = part_from c.args.machine.now c.args.line.now (text_at texts 0) (kernel_by c.args.kernel.now) c.args.base in
+    let by : Planned g.row.A.Denot → Part = part_by texts in
+    let place_in : Planned g.row.A.Denot → Place = place_of in
+    let k = c.loop-place.place-index in
+    let all = c.args.places.now in
+    let none : Place = record { role = Kernel; index = 0; address = 0; length = 0 } in
+    let place = get_or all k none in
+    let new : Planned g.row.A.Denot = record { place = place; content = c.in_ok-content.content } in
+    let more = take_more all k none c.loop-place-test.true in
+    let i = c.loop-place.invariant in
+    let items = c.in_ok-push.ensures.items in
+    record {
+      parts = ap (map by) items ∙ map-append by c.loop-place.parts.items (new ∷ [])
+          ∙ ap₂ (λ (xs : List Part) (x : Part). xs ++ x ∷ []) i.parts (ap (λ (bytes : List ℕ). part_at place (filled place.length bytes)) c.in_ok-content.ensures.content)
+          ∙ sym (map-append from (take k all) (place ∷ [])) ∙ ap (map from) (sym more);
+      backed = rw items (All-push (IsBacked texts) c.loop-place.parts.items new i.backed record { there = c.in_ok-content.ensures.there; short = c.in_ok-content.ensures.short });
+      places = ap (map place_in) items ∙ map-append place_in c.loop-place.parts.items (new ∷ []) ∙ ap (λ (xs : List Place). xs ++ place ∷ []) i.places ∙ sym more;
+    }

@@ -1,0 +1,16 @@
+use Rattle.std.proofs.Common.{◌≡◌, take, map, All}
+use Rattle.bl_load.specs.KernelRead.{kernel_by}
+use Rattle.bl_load.specs.Parts.{part_from}
+use Rattle.bl_load.specs.Place.{place_of}
+use Rattle.bl_load.specs.Planned.{part_by, text_at, IsBacked}
+use Rattle.bl_load.proofs.contents.parts_at.Given as goal
+
+-- the parts so far are those at the places so far
+abbrev pub invariant-loop-place : goal.invariant-loop-place
+invariant-loop-place g l =
+    let texts = map g.V.ByteView.bytes l.files in
+    record {
+      parts : map (part_by texts) l.parts.items ≡ map (part_from l.machine l.line (text_at texts 0) (kernel_by l.kernel) l.base) (take l.place-index l.places);
+      backed : All (IsBacked texts) l.parts.items;
+      places : map place_of l.parts.items ≡ take l.place-index l.places;
+    }

@@ -1,0 +1,28 @@
+use Rattle.std.proofs.Common.{◌≡◌, ◌<◌, ◌≤◌, ◌+◌, ◌*◌, ◌^◌, List, ℕ, [], None, length, arith, sym, ap, ◌∙◌, All, subst}
+use Rattle.std.specs.Prelude.{map, is_some}
+use Rattle.bl_mbi.specs.Info.{IsText, ModuleInfo}
+use Rattle.bl_mbi.specs.Size.{size_of}
+use Rattle.bl_load.proofs.LineLemmas.{sound_text}
+use Rattle.bl_load.proofs.InformationLemmas.{size_below}
+use Rattle.bl_load.proofs.information.information.Goals as goal
+
+pub new-facts-requires : goal.new-facts-requires
+new-facts-requires g c =
+    let line = c.in_ok-line.ensures.copy in
+    let runs = c.in_ok-runs.ensures.items ∙ c.normal.ensures.runs in
+    let facts = c.normal.ensures.facts in
+    record {
+      line = subst IsText (sym line) (sound_text c.args.line.now c.requires.sound (subst (All (λ (b : ℕ). b < 256)) line c.in_ok-line.ensures.fits));
+      modules = rw c.new-modules.ensures.items (λ k d within. absurd (omega arith));
+      mem_lower = c.low_kib-mem_lower.ensures.most;
+      mem_upper = c.high_kib-mem_upper.ensures.most;
+      runs = rw runs facts.runs.low;
+      rsdp_old = tt;
+      rsdp_new = tt;
+      load_base = c.requires.base;
+      small =
+          let short = size_below (length c.args.line.now) (length c.args.machine.now.runs) (is_some c.args.load_base) c.requires.short facts.few in
+          let size : size_of (length c.in_ok-line.line) (map (λ (m : ModuleInfo). length m.line) c.new-modules.result.items) (length c.in_ok-runs.runs.items) None None (is_some c.args.load_base) < 2 ^ 16 =
+              rw (line, c.new-modules.ensures.items, runs) short in
+          omega (arith, size);
+    }

@@ -1,0 +1,22 @@
+use Rattle.std.proofs.Common.{◌≡◌, ℕ, List, ◌+◌, ◌≤◌, length, map, ◌∙◌, ap, sym, arith, slice_index_or}
+use Rattle.bl_mem.specs.declared.segment.Segment.{Segment}
+use Rattle.bl_load.specs.Blocks.{span_of, block_of}
+use Rattle.bl_load.specs.Planned.{content_by, text_at}
+use Rattle.bl_load.proofs.BlockLemmas.{length-block_of}
+use Rattle.bl_load.proofs.loading.load_content.Goals as goal
+
+-- the block is as long as the content
+block_length : (g : _) (c : goal.After-as_slice-in-Block g) → span_of c.as_slice-in-Block.result.now ≡ length (content_by (map g.V.ByteView.bytes c.args.files.now) c.args.content.now)
+block_length g c =
+    rw (c.as_slice-in-Block.ensures.value, c.in-Block.is) (sym (length-block_of (text_at (map g.V.ByteView.bytes c.args.files.now) c.in-Block.file) c.in-Block.segments.items))
+
+pub load_block-requires-clause-inside : goal.load_block-requires-clause-inside
+load_block-requires-clause-inside g c = rw (block_length g c) c.requires.inside
+
+pub load_block-requires-clause-room : goal.load_block-requires-clause-room
+load_block-requires-clause-room g c = rw (block_length g c) c.requires.room
+
+pub returns-in-Block-clause-count : goal.returns-in-Block-clause-count
+returns-in-Block-clause-count g c =
+    c.load_block.ensures.count
+    ∙ rw (c.as_slice-in-Block.ensures.value, c.in-Block.is) (sym (length-block_of (text_at (map g.V.ByteView.bytes c.args.files.now) c.in-Block.file) c.in-Block.segments.items))

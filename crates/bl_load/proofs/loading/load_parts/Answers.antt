@@ -1,0 +1,21 @@
+use Rattle.std.proofs.Common.{◌≡◌, ℕ, List, ◌+◌, ◌≤◌, length, map, ◌∙◌, drop, arith, get_or}
+use Rattle.std.proofs.lemmas.List.{drop_more}
+use Rattle.bl_mem.proofs.Overwrites.{length-overwrite}
+use Rattle.bl_load.specs.Planned.{bytes_by}
+use Rattle.bl_load.proofs.HeldLemmas.{length-bytes_by}
+use Rattle.bl_load.proofs.loading.load_parts.Goals as goal
+
+pub loop-part-preserved : goal.loop-part-preserved
+loop-part-preserved g c =
+    let texts = map g.V.ByteView.bytes c.args.files.now in
+    let part = c.part-item.result in
+    let i = c.loop-part.part-index in
+    let here = c.loop-part-test.true in
+    let can = rw (← c.part-item.is) at (c.requires i part here) in
+    let wide = length-bytes_by texts part can.short in
+    let whole = rw (drop_more c.args.parts.now i part here, ← c.part-item.is) at c.loop-part.invariant.rest in
+    record {
+      size = rw c.load_part.ensures.after (length-overwrite (g.M.PhysMem.bytes c.loop-part.memory) part.place.address (bytes_by texts part) (omega arith) ∙ c.loop-part.invariant.size);
+      rest = rw c.load_part.ensures.after whole;
+      kept = λ a had. c.load_part.ensures.kept a (c.loop-part.invariant.kept a had);
+    }

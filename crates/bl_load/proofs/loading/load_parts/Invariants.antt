@@ -1,0 +1,17 @@
+use Rattle.std.proofs.Common.{◌≡◌, length, drop, map}
+use Rattle.bl_mem.specs.Memory.{KeepsRoom}
+use Rattle.bl_load.specs.Handover.{written}
+use Rattle.bl_load.specs.Planned.{part_by}
+use Rattle.bl_load.proofs.loading.load_parts.Given as goal
+
+-- what is left to write leads to what all of it leads to
+abbrev pub invariant-loop-part : goal.invariant-loop-part
+invariant-loop-part g l =
+    let bytes = g.M.PhysMem.bytes in
+    let room = g.M.PhysMem.room in
+    let texts = map g.V.ByteView.bytes l.files in
+    record {
+      size : length (bytes l.memory) ≡ length (bytes l.fn.memory);
+      rest : written (map (part_by texts) (drop l.part-index l.parts)) (bytes l.memory) ≡ written (map (part_by texts) l.parts) (bytes l.fn.memory);
+      kept : KeepsRoom (room l.fn.memory) (room l.memory);
+    }

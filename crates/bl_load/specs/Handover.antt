@@ -1,0 +1,33 @@
+-- What a kernel is handed. Own.
+use Rattle.std.specs.Prelude.{ℕ, ◌-◌, List, [], ◌∷◌, ◌++◌, length, replicate}
+use Rattle.bl_mem.specs.Memory.{overwrite}
+use Rattle.bl_plan.specs.declared.role.Role.{Role}
+use Rattle.bl_plan.specs.declared.place.Place.{Place}
+use Rattle.bl_load.specs.declared.protocol.Protocol.{Protocol}
+use Rattle.bl_load.specs.declared.registers.Registers.{Registers}
+
+-- a part: its role, its index among those of its role, its address, its bytes
+pub record Part : Type 0 where
+  pub role : Role
+  pub index : ℕ
+  pub address : ℕ
+  pub bytes : List ℕ
+
+-- the protocol, the registers, the parts in address order
+pub record Handover : Type 0 where
+  pub protocol : Protocol
+  pub registers : Registers
+  pub parts : List Part
+
+-- the part at a place
+abbrev pub part_at : Place → List ℕ → Part
+part_at place bytes = record { role = place.role; index = place.index; address = place.address; bytes = bytes }
+
+-- zeros behind a content, up to a length
+abbrev pub filled : ℕ → List ℕ → List ℕ
+filled count content = content ++ replicate (count - length content) 0
+
+-- memory once these parts are written, one after the other
+abbrev pub written : List Part → List ℕ → List ℕ
+written [] old = old
+written (part ∷ parts) old = written parts (overwrite old part.address part.bytes)

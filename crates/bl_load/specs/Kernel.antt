@@ -1,0 +1,112 @@
+-- A Multiboot2 kernel's file: what is loaded of it, where it is entered, how it may be moved; or its first fault.
+use Rattle.std.specs.Prelude.{◌≡◌, ◌+◌, ◌<◌, ◌≤◌, ◌^◌, ℕ, Bool, if◌then◌else◌, length, All, AllPairs, List, [], ◌∷◌, Option, Some, None, ◌⊎◌}
+use Rattle.std.specs.Option.{option_or}
+use Rattle.std.specs.List.{list_any}
+use Rattle.bl_mem.specs.declared.segment.Segment.{Segment}
+use Rattle.bl_elf.specs.Elf.{ElfFacts, IsElf}
+use Rattle.bl_elf.specs.Elf as elf
+use Rattle.bl_elf.specs.Elf.{AreApart}
+use Rattle.bl_load.specs.Blocks.{holds, span_of}
+use Rattle.bl_elf.specs.declared.fault.ElfFault.{ElfFault}
+use Rattle.bl_elf.specs.declared.fault.ElfFault.TheVariants as elf_fault
+use Rattle.bl_mb2head.specs.Header.{IsHeader}
+use Rattle.bl_mb2head.specs.Header as header
+use Rattle.bl_mb2head.specs.declared.header.Header.{Header}
+use Rattle.bl_mb2head.specs.declared.relocation.Relocation.{Relocation}
+use Rattle.bl_mb2head.specs.declared.fault.HeadFault.{HeadFault}
+use Rattle.bl_mb2head.specs.declared.fault.HeadFault.TheVariants as head_fault
+use Rattle.bl_load.specs.declared.refusal.Refusal.{Refusal}
+use Rattle.bl_load.specs.declared.refusal.Refusal.TheVariants as refusal
+use Rattle.bl_load.specs.declared.refusal.PrepFault.{PrepFault}
+use Rattle.bl_load.specs.declared.refusal.PrepFault.TheVariants as prep_fault
+
+-- a kernel: its segments in their order, the address that it is entered at where they lie as linked, how it may be moved
+pub record KernelFacts : Type 0 where
+  pub segments : List Segment
+  pub entry : ℕ
+  pub relocation : Option Relocation
+
+-- what the file gives to load, and the entry that it names itself: one segment where the header has an address
+-- tag (Multiboot2 3.1.5), and else that of an ELF executable
+abbrev pub IsLoadedBy : List ℕ → Option Segment → ElfFacts → Type 0
+IsLoadedBy file (Some segment) facts = facts ≡ record { segments = segment ∷ []; entry = None }
+IsLoadedBy file None facts = IsElf file facts
+
+abbrev pub holds_at : ℕ → Segment → Bool
+holds_at a segment = holds segment a
+
+-- the entry that counts must lie in a segment
+abbrev pub entry_fault : List Segment → Option ℕ → Option Refusal
+entry_fault segments None = Some refusal.NoEntry
+entry_fault segments (Some entry) = if list_any (holds_at entry) segments then None else Some refusal.EntryOutside
+
+-- the entry address tag (Multiboot2 3.1.6) counts where it stands, and else the file's own entry
+abbrev pub entry_of : Header → ElfFacts → Option ℕ
+entry_of header facts = option_or header.entry facts.entry
+
+pub record IsKernel (file : List ℕ) (kernel : KernelFacts) : Type 0 where
+  pub header : Header
+  pub facts : ElfFacts
+  pub is_header : IsHeader file header
+  pub loaded : IsLoadedBy file header.segment facts
+  pub sound : entry_fault facts.segments (entry_of header facts) ≡ None
+  pub entry : entry_of header facts ≡ Some kernel.entry
+  pub segments : kernel.segments ≡ facts.segments
+  pub relocation : kernel.relocation ≡ header.relocation
+
+-- a reader's fault as a refusal of the entry
+abbrev pub head_refusal : HeadFault → Refusal
+head_refusal head_fault.NoHeader = refusal.NoHeader
+head_refusal head_fault.HeaderCut = refusal.HeaderCut
+head_refusal head_fault.BadArchitecture = refusal.BadArchitecture
+head_refusal (head_fault.BadTag offset) = refusal.BadTag offset
+head_refusal (head_fault.UnsupportedTag type) = refusal.UnsupportedTag type
+head_refusal (head_fault.UnsupportedRequest type) = refusal.UnsupportedRequest type
+head_refusal head_fault.NoConsole = refusal.NoConsole
+
+abbrev pub elf_refusal : ElfFault → Option Refusal
+elf_refusal elf_fault.NotElf = Some refusal.NotElf
+elf_refusal elf_fault.BadElf = Some refusal.BadElf
+elf_refusal (elf_fault.SegmentCut i) = Some (refusal.SegmentCut i)
+elf_refusal (elf_fault.AddressTooHigh i) = Some (refusal.AddressTooHigh i)
+elf_refusal (elf_fault.SegmentsOverlap i j) = Some (refusal.SegmentsOverlap i j)
+elf_refusal elf_fault.NoEntry = Some refusal.NoEntry
+elf_refusal elf_fault.NoMemory = None
+
+-- the file has a sound header, and what the header leads to has this fault: the ELF file's, and then the entry's
+abbrev pub HasLoadFault : List ℕ → Option Segment → Refusal → Type 0
+HasLoadFault file (Some segment) refused = ⊥
+HasLoadFault file None refused = (fault : ElfFault) × (elf_refusal fault ≡ Some refused) × elf.HasFirstFault file fault
+
+-- the file's first fault: the header's, the ELF file's, the entry's
+abbrev pub HasKernelFault : List ℕ → Refusal → Type 0
+HasKernelFault file refused =
+    ((fault : HeadFault) × header.HasFirstFault file fault × (refused ≡ head_refusal fault))
+    ⊎ ((head : Header) × IsHeader file head × HasLoadFault file head.segment refused)
+    ⊎ ((head : Header) × (facts : ElfFacts) × IsHeader file head × IsLoadedBy file head.segment facts × (entry_fault facts.segments (entry_of head facts) ≡ Some refused))
+
+-- a fault of reading as one of preparing: it stands, or memory ran out
+abbrev pub IsElfFault : ElfFault → PrepFault → Type 0
+IsElfFault fault (prep_fault.Refused refused) = elf_refusal fault ≡ Some refused
+IsElfFault fault prep_fault.NoMemory = fault ≡ elf_fault.NoMemory
+
+abbrev pub IsLoadFault : List ℕ → Option Segment → PrepFault → Type 0
+IsLoadFault file segment (prep_fault.Refused refused) = HasLoadFault file segment refused
+IsLoadFault file segment prep_fault.NoMemory = Unit {0}
+
+abbrev pub IsKernelFault : List ℕ → PrepFault → Type 0
+IsKernelFault file (prep_fault.Refused refused) = HasKernelFault file refused
+IsKernelFault file prep_fault.NoMemory = Unit {0}
+
+-- what holds of the segments of a kernel with no fault: each takes memory, what it takes of the file is there, it
+-- begins below 4 GiB; no two share a byte, and their block has a length of 64 bits
+pub record AreLoadable (file : List ℕ) (segments : List Segment) : Type 0 where
+  pub some : 1 ≤ length segments
+  pub few : length segments ≤ 128
+  pub filled : All (λ s. 1 ≤ s.memsz) segments
+  pub fits : All (λ s. s.filesz ≤ s.memsz) segments
+  pub in_file : All (λ s. 0 < s.filesz → s.offset + s.filesz ≤ length file) segments
+  pub small : All (λ s. s.memsz < 2 ^ 64) segments
+  pub low : All (λ s. s.address < 2 ^ 32) segments
+  pub apart : AllPairs AreApart segments
+  pub span : span_of segments < 2 ^ 64

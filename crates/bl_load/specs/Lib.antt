@@ -1,0 +1,15 @@
+pub mod Place
+pub mod Handover
+pub mod Blocks
+pub mod Planned
+pub mod Handed
+pub mod Value
+pub mod Numbers
+pub mod Protocols
+pub mod Kernel
+pub mod KernelRead
+pub mod Rows
+pub mod Order
+pub mod Parts
+pub mod Rowed
+pub mod Room

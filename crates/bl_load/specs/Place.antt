@@ -1,0 +1,6 @@
+-- The place of what is planned.
+use Rattle.bl_plan.specs.declared.place.Place.{Place}
+use Rattle.bl_load.specs.declared.plan.Planned.{Planned}
+
+abbrev pub place_of : {A : Type 0} → Planned A → Place
+place_of part = part.place

@@ -1,0 +1,34 @@
+-- Whether the pool has frames enough beside the parts. Own.
+use Rattle.std.specs.Prelude.{ℕ, zero, suc, ◌+◌, ◌-◌, ◌*◌, ◌/◌, ◌≤◌, Bool, ◌||◌, if◌then◌else◌, nat_le, List, [], ◌∷◌, length}
+use Rattle.std.specs.List.{list_all}
+use Rattle.std.specs.declared.ops.Range.{Range}
+
+-- how many frames of 4096 bytes a length needs
+abbrev pub frames_of : ℕ → ℕ
+frames_of length = (length + 4095) / 4096
+
+-- how many frames the files of an entry need, each in frames of its own
+abbrev pub frames_needed : List (List ℕ) → ℕ
+frames_needed [] = 0
+frames_needed (file ∷ files) = frames_of (length file) + frames_needed files
+
+-- how many frames a pool has
+abbrev pub frames_in : Range ℕ → ℕ
+frames_in pool = (pool.end - pool.start) / 4096
+
+-- no byte of the frame at an address lies in one of these ranges
+abbrev pub is_open : List (Range ℕ) → ℕ → Bool
+is_open ranges frame = list_all (λ r. nat_le r.end frame || nat_le (frame + 4096) r.start) ranges
+
+-- how many of the first n frames from start on meet none of these ranges
+abbrev pub open_among : List (Range ℕ) → ℕ → ℕ → ℕ
+open_among ranges start zero = 0
+open_among ranges start (suc n) = open_among ranges start n + (if is_open ranges (start + 4096 * n) then 1 else 0)
+
+-- how many of a pool's frames meet none of these ranges
+abbrev pub open_frames : Range ℕ → List (Range ℕ) → ℕ
+open_frames pool ranges = open_among ranges pool.start (frames_in pool)
+
+-- the pool's frames that meet no part are enough for the files
+abbrev pub HasRoomFor : Range ℕ → List (Range ℕ) → List (List ℕ) → Type 0
+HasRoomFor pool ranges files = frames_needed files ≤ open_frames pool ranges

@@ -1,0 +1,63 @@
+//! What a kernel is handed.
+use crate::plan::Planned;
+use crate::protocol::Protocol;
+use crate::registers::Registers;
+use bl_plan::Place;
+use std::alloc::Allocator;
+use std::marker::Model;
+
+/// What a kernel is handed: the protocol, the registers, and the places of the parts in address order.
+/// There are at most 256; none is empty, none meets another, and none ends above 4 GiB.
+#[derive(Drop)]
+pub struct Handoff<A: Allocator> {
+    pub(crate) protocol: Protocol,
+    pub(crate) registers: Registers,
+    pub(crate) parts: Vec<Planned<A>, A>,
+}
+
+impl<A: Allocator> Model for Handoff<A> {
+    ghost use Rattle.std.specs.Prelude.{map};
+    ghost use Rattle.bl_load.specs.Handed.{Handed};
+    ghost use Rattle.bl_load.specs.Planned.{AreRecords};
+
+    ghost Value = { Handed };
+
+    ghost view = { λ h. record { protocol = h.protocol; registers = h.registers; places = map (λ part. part.place) h.parts.items } };
+
+    ghost invariant = { λ h. AreRecords (map (λ part. part.place) h.parts.items) };
+}
+
+impl<A: Allocator> Handoff<A> {
+    ghost use Rattle.std.specs.Prelude.{◌≡◌, ◌<◌, ◌≤◌, length, slice_index_or};
+    ghost use Rattle.bl_load.specs.Planned.{AreRecords};
+
+    /// How the kernel is entered.
+    pub fn protocol(&self) -> Protocol
+        ensures { result ≡ self.now.protocol }
+    {
+        self.protocol
+    }
+
+    /// The registers as the kernel begins.
+    pub fn registers(&self) -> Registers
+        ensures { result ≡ self.now.registers }
+    {
+        self.registers
+    }
+
+    /// How many parts there are, at most 256.
+    pub fn len(&self) -> usize
+        ensures len { result ≡ length self.now.places }
+        ensures records { AreRecords self.now.places }
+    {
+        self.parts.len()
+    }
+
+    /// The place of the part with this number in address order.
+    pub fn place(&self, index: usize) -> Place
+        requires { index < length self.now.places }
+        ensures { result ≡ slice_index_or self.now.places index result }
+    {
+        self.parts[index].place
+    }
+}

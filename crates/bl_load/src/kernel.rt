@@ -1,0 +1,156 @@
+//! A Multiboot2 kernel's file.
+ghost use Rattle.std.specs.Prelude.{◌≡◌, ◌≤◌, ◌<◌, ◌+◌, ◌^◌, Some, None, List, length, All, IfOk, IfErr, MatchResult};
+ghost use Rattle.std.specs.List.{list_any};
+ghost use Rattle.bl_load.specs.Kernel as kernel;
+ghost use Rattle.bl_load.specs.Kernel.{IsKernel, IsLoadedBy, IsLoadFault, IsKernelFault, entry_fault, AreLoadable};
+ghost use Rattle.bl_load.specs.KernelRead.{image_facts, kernel_by};
+
+use crate::refusal::{PrepFault, Refusal};
+use bl_elf::{Elf, ElfFault, read_elf};
+use bl_mb2head::{HeadFault, Relocation, find_header};
+use bl_mem::{ByteView, Segment};
+use std::alloc::Allocator;
+
+/// What the file gives to load: one segment by the header's address tag, or an ELF executable.
+#[derive(Drop)]
+pub enum Image<A: Allocator> {
+    Tag([Segment; 1]),
+    Executable(Elf<A>),
+}
+
+impl<A: Allocator> Image<A> {
+    /// The segments in their order.
+    pub fn segments(&self) -> &[Segment]
+        ensures { result.now ≡ (image_facts self.now).segments }
+    {
+        match self {
+            Image::Tag(one) => one.as_slice(),
+            Image::Executable(elf) => elf.segments(),
+        }
+    }
+
+    /// The entry that the file names itself.
+    fn entry(&self) -> Option<u64>
+        ensures { result ≡ (image_facts self.now).entry }
+    {
+        match self {
+            Image::Tag(_) => None,
+            Image::Executable(elf) => elf.entry().ok(),
+        }
+    }
+}
+
+/// What is read of a kernel's file.
+#[derive(Drop)]
+pub struct Kernel<A: Allocator> {
+    pub image: Image<A>,
+    pub entry: u64,
+    pub relocation: Option<Relocation>,
+}
+
+/// A header's fault as a refusal.
+fn head_refusal(fault: HeadFault) -> Refusal
+    ensures { result ≡ kernel.head_refusal fault }
+{
+    match fault {
+        HeadFault::NoHeader => Refusal::NoHeader,
+        HeadFault::HeaderCut => Refusal::HeaderCut,
+        HeadFault::BadArchitecture => Refusal::BadArchitecture,
+        HeadFault::BadTag(offset) => Refusal::BadTag(offset),
+        HeadFault::UnsupportedTag(kind) => Refusal::UnsupportedTag(kind),
+        HeadFault::UnsupportedRequest(kind) => Refusal::UnsupportedRequest(kind),
+        HeadFault::NoConsole => Refusal::NoConsole,
+    }
+}
+
+/// An ELF file's fault as one of preparing.
+fn elf_fault(fault: ElfFault) -> PrepFault
+    ensures { kernel.IsElfFault fault result }
+{
+    match fault {
+        ElfFault::NotElf => PrepFault::Refused(Refusal::NotElf),
+        ElfFault::BadElf => PrepFault::Refused(Refusal::BadElf),
+        ElfFault::SegmentCut(i) => PrepFault::Refused(Refusal::SegmentCut(i)),
+        ElfFault::AddressTooHigh(i) => PrepFault::Refused(Refusal::AddressTooHigh(i)),
+        ElfFault::SegmentsOverlap(i, j) => PrepFault::Refused(Refusal::SegmentsOverlap(i, j)),
+        ElfFault::NoEntry => PrepFault::Refused(Refusal::NoEntry),
+        ElfFault::NoMemory => PrepFault::NoMemory,
+    }
+}
+
+/// What the file gives to load, where its header has this segment of an address tag.
+fn read_image<A: Allocator + Copy, V: ByteView>(
+    alloc: A,
+    file: &V,
+    segment: Option<Segment>,
+) -> Result<Image<A>, PrepFault>
+    ensures loaded { IfOk result (λ image. IsLoadedBy (V.bytes file.now) segment (image_facts image)) }
+    ensures fault { IfErr result (λ fault. IsLoadFault (V.bytes file.now) segment fault) }
+{
+    match segment {
+        Some(segment) => Ok(Image::Tag([segment])),
+        None => match read_elf(alloc, file) {
+            Ok(elf) => Ok(Image::Executable(elf)),
+            Err(fault) => Err(elf_fault(fault)),
+        },
+    }
+}
+
+/// Whether a segment holds an address where it is linked.
+fn holds(segment: &Segment, a: u64) -> bool
+    ensures { result ≡ kernel.holds_at a segment.now }
+{
+    segment.address <= a && a - segment.address < segment.memsz
+}
+
+/// Whether one of the segments holds an address.
+fn is_held(segments: &[Segment], a: u64) -> bool
+    ensures { result ≡ list_any (kernel.holds_at a) segments.now }
+{
+    segments.iter().any(|segment| holds(segment, a))
+}
+
+/// The entry that counts, where it lies in a segment.
+fn entry_in(segments: &[Segment], entry: Option<u64>) -> Result<u64, Refusal>
+    ensures { MatchResult result
+        (λ a. (entry ≡ Some a) × (entry_fault segments.now entry ≡ None))
+        (λ refusal. entry_fault segments.now entry ≡ Some refusal) }
+{
+    let Some(a) = entry else {
+        return Err(Refusal::NoEntry);
+    };
+    if is_held(segments, a) {
+        Ok(a)
+    } else {
+        Err(Refusal::EntryOutside)
+    }
+}
+
+/// What is read of a kernel's file, or its first fault.
+pub fn read_kernel<A: Allocator + Copy, V: ByteView>(
+    alloc: A,
+    file: &V,
+) -> Result<Kernel<A>, PrepFault>
+    ensures kernel { IfOk result (λ kernel. IsKernel (V.bytes file.now) (kernel_by kernel)) }
+    ensures loadable { IfOk result (λ kernel. AreLoadable (V.bytes file.now) (kernel_by kernel).segments) }
+    ensures fault { IfErr result (λ fault. IsKernelFault (V.bytes file.now) fault) }
+{
+    let _len = file.len();
+    let header = match find_header(file) {
+        Ok(header) => header,
+        Err(fault) => return Err(PrepFault::Refused(head_refusal(fault))),
+    };
+    let image = match read_image(alloc, file, header.segment) {
+        Ok(image) => image,
+        Err(fault) => return Err(fault),
+    };
+    let counted = header.entry.or(image.entry());
+    match entry_in(image.segments(), counted) {
+        Ok(entry) => Ok(Kernel {
+            image,
+            entry,
+            relocation: header.relocation,
+        }),
+        Err(refusal) => Err(PrepFault::Refused(refusal)),
+    }
+}

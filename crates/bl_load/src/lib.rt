@@ -1,0 +1,30 @@
+//! What an entry hands over, and its way into memory.
+#![tactic(auto)]
+
+mod blocks;
+mod contents;
+mod copying;
+mod entry;
+mod handoff;
+mod information;
+mod kernel;
+mod loading;
+mod order;
+mod placing;
+mod plan;
+mod preparing;
+mod protocol;
+mod refusal;
+mod registers;
+mod room;
+mod rows;
+
+pub use entry::{Entry, Module};
+pub use handoff::Handoff;
+pub use loading::load;
+pub use plan::{Content, Plan, Planned};
+pub use preparing::prepare;
+pub use protocol::Protocol;
+pub use refusal::{PrepFault, Refusal};
+pub use registers::Registers;
+pub use room::{frames_in, frames_of, open_frames};

@@ -1,0 +1,117 @@
+//! The parts of a plan come into memory.
+ghost use Rattle.std.specs.Prelude.{◌≡◌, ℕ, ◌+◌, ◌-◌, ◌<◌, ◌≤◌, length, map, slice_index, All};
+ghost use Rattle.bl_mem.specs.Memory.{overwrite, HasRoom, AllHaveRoom, KeepsRoom};
+ghost use Rattle.bl_plan.specs.Placed.{Covers, range_of};
+ghost use Rattle.bl_load.specs.Handover.{written};
+ghost use Rattle.bl_load.specs.Planned.{content_by, bytes_by, part_by, handover_by, handover_in, places_of, IsThere, CanLoad, IsLoadable};
+
+use crate::blocks::load_block;
+use crate::copying::copy;
+use crate::handoff::Handoff;
+use crate::plan::{Content, Plan, Planned};
+use bl_mem::{ByteView, PhysMem};
+use std::alloc::Allocator;
+
+/// Writes a content at `at`, and says how long it is.
+fn load_content<M: PhysMem, V: ByteView, A: Allocator>(
+    memory: &mut M,
+    at: u64,
+    content: &Content<A>,
+    files: &[V],
+) -> u64
+    requires there { IsThere (map V.bytes files.now) content.now }
+    requires inside { at + length (content_by (map V.bytes files.now) content.now) ≤ length (M.bytes memory.old) }
+    requires room { HasRoom (M.room memory.old) at (at + length (content_by (map V.bytes files.now) content.now)) }
+    ensures count { result ≡ length (content_by (map V.bytes files.now) content.now) }
+    ensures after { M.bytes memory.new ≡ overwrite (M.bytes memory.old) at (content_by (map V.bytes files.now) content.now) }
+    ensures kept { KeepsRoom (M.room memory.old) (M.room memory.new) }
+{
+    match content {
+        Content::Own(bytes) => {
+            memory.write(at, bytes.as_slice());
+            bytes.len() as u64
+        }
+        Content::File {
+            file,
+            offset,
+            count,
+        } => {
+            copy(memory, at, &files[*file], *offset, *count);
+            *count
+        }
+        Content::Block { file, segments } => {
+            load_block(memory, at, &files[*file], segments.as_slice())
+        }
+    }
+}
+
+/// Writes a part.
+fn load_part<M: PhysMem, V: ByteView, A: Allocator>(memory: &mut M, part: &Planned<A>, files: &[V])
+    requires { CanLoad (map V.bytes files.now) (length (M.bytes memory.old)) (M.room memory.old) part.now }
+    ensures after { M.bytes memory.new ≡ overwrite (M.bytes memory.old) part.now.place.address (bytes_by (map V.bytes files.now) part.now) }
+    ensures kept { KeepsRoom (M.room memory.old) (M.room memory.new) }
+{
+    let _size = memory.size();
+    let address = part.place.address;
+    let count = load_content(memory, address, &part.content, files);
+    memory.zero(address + count..address + part.place.length);
+}
+
+/// Writes the parts, one after the other.
+fn load_parts<M: PhysMem, V: ByteView, A: Allocator>(
+    memory: &mut M,
+    parts: &[Planned<A>],
+    files: &[V],
+)
+    requires { All (CanLoad (map V.bytes files.now) (length (M.bytes memory.old)) (M.room memory.old)) parts.now }
+    ensures after { M.bytes memory.new ≡ written (map (part_by (map V.bytes files.now)) parts.now) (M.bytes memory.old) }
+    ensures size { length (M.bytes memory.new) ≡ length (M.bytes memory.old) }
+    ensures kept { KeepsRoom (M.room memory.old) (M.room memory.new) }
+{
+    for part in parts {
+        load_part(memory, part, files);
+    }
+}
+
+/// Writes the parts of a plan into memory, each byte of them once, and says what the kernel is handed.
+///
+/// The files are those that the plan was made from, in their order. No memory is taken, and nothing can
+/// fail: the list of parts becomes that of the handoff.
+pub fn load<M: PhysMem, V: ByteView, A: Allocator>(
+    memory: &mut M,
+    plan: Plan<A>,
+    files: &[V],
+) -> Handoff<A>
+    requires loadable { IsLoadable (map V.bytes files.now) (length (M.bytes memory.old)) plan }
+    requires room { AllHaveRoom (M.room memory.old) (map range_of (places_of plan)) }
+    ensures after { M.bytes memory.new ≡ written (handover_by (map V.bytes files.now) plan).parts (M.bytes memory.old) }
+    ensures protocol { result.protocol ≡ plan.protocol }
+    ensures registers { result.registers ≡ plan.registers }
+    ensures places { result.places ≡ places_of plan }
+    ensures handed { handover_in (M.bytes memory.new) result.protocol result.registers result.places ≡ handover_by (map V.bytes files.now) plan }
+
+    // Each address of a part has the part's byte, and every other one what it had.
+    ensures in_parts { All (λ part. (a : ℕ) → part.address ≤ a → a < part.address + length part.bytes →
+        slice_index (M.bytes memory.new) a ≡ slice_index part.bytes (a - part.address)) (handover_by (map V.bytes files.now) plan).parts }
+    ensures elsewhere { (a : ℕ) → All (λ place. ¬ Covers place a) (places_of plan) →
+        slice_index (M.bytes memory.new) a ≡ slice_index (M.bytes memory.old) a }
+
+    ensures size { length (M.bytes memory.new) ≡ length (M.bytes memory.old) }
+    ensures kept { KeepsRoom (M.room memory.old) (M.room memory.new) }
+{
+    let Plan {
+        protocol,
+        registers,
+        parts,
+        ranges: _,
+    } = plan;
+    load_parts(memory, parts.as_slice(), files);
+    Handoff {
+        protocol,
+        registers,
+        parts,
+    }
+}
+
+#[cfg(test)]
+mod tests;

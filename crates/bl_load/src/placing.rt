@@ -1,0 +1,154 @@
+//! The parts of a kernel that was read, at their places.
+ghost use Rattle.std.specs.Prelude.{◌≡◌, ◌≢◌, ◌≤◌, ◌<◌, ◌+◌, ◌^◌, Some, None, All, IfOk, IfErr, length, map, slice_index_or};
+ghost use Rattle.bl_load.specs.Value.{line_fault};
+ghost use Rattle.bl_plan.specs.Placed.{range_of};
+ghost use Rattle.bl_plan.specs.declared.fault.PlanFault.TheVariants.{Overlap};
+ghost use Rattle.bl_load.specs.Blocks as blocks;
+ghost use Rattle.bl_load.specs.Kernel.{IsKernel, AreLoadable};
+ghost use Rattle.bl_load.specs.KernelRead.{kernel_by};
+ghost use Rattle.bl_load.specs.Parts as parts;
+ghost use Rattle.bl_load.specs.Parts.{IsPlacedHandover, IsPlaceFault};
+ghost use Rattle.bl_load.specs.Place.{place_of};
+ghost use Rattle.bl_load.specs.Planned.{handover_by, text_at, IsLoadable};
+
+use crate::contents::parts_at;
+use crate::kernel::Kernel;
+use crate::order::in_order;
+use crate::plan::{Plan, Planned};
+use crate::protocol::Protocol;
+use crate::refusal::{PrepFault, Refusal};
+use crate::registers::Registers;
+use crate::rows::{low_of, rows_of};
+use bl_map::Machine;
+use bl_mem::ByteView;
+use bl_plan::{Place, PlanFault, place_rows};
+use std::alloc::{AllocError, Allocator};
+use std::ops::Range;
+
+/// A fault of placing as one of preparing. The parts of a kernel that was read don't overlap.
+fn fault_of(fault: PlanFault) -> PrepFault
+    requires { fault ≢ Overlap }
+    ensures { parts.fault_of fault ≡ Some result }
+{
+    match fault {
+        PlanFault::NotUsable => PrepFault::Refused(Refusal::NotUsable),
+        PlanFault::Overlap => unreachable!(),
+        PlanFault::NoRoom => PrepFault::Refused(Refusal::NoRoom),
+        PlanFault::NoMemory => PrepFault::NoMemory,
+    }
+}
+
+/// Where the first part that was placed stands.
+fn base_of(places: &[Place]) -> u64
+    requires { 1 ≤ length places.now }
+    ensures { result ≡ parts.base_of places.now }
+{
+    places[0].address
+}
+
+/// Where the last part that was placed stands.
+fn information_at(places: &[Place]) -> u64
+    requires { 1 ≤ length places.now }
+    ensures { result ≡ parts.information_at places.now }
+{
+    places[places.len() - 1].address
+}
+
+/// The registers that a Multiboot2 kernel begins with.
+fn multiboot2_registers(entry: u32, information: u32) -> Registers
+    ensures { result ≡ parts.multiboot2_registers entry information }
+{
+    Registers {
+        eip: entry,
+        eax: 0x36D7_6289,
+        ebx: information,
+        ecx: 0,
+        edx: 0,
+        esi: 0,
+        edi: 0,
+        ebp: 0,
+        esp: 0,
+        eflags: 2,
+        cr0: 0x11,
+        cs: 0x10,
+        ds: 0x18,
+        es: 0x18,
+        fs: 0x18,
+        gs: 0x18,
+        ss: 0x18,
+        gdt_base: 0,
+        gdt_limit: 0,
+        a20: 1,
+    }
+}
+
+/// Where the kernel is entered, once the first of its parts stands at `base`.
+fn entry_at<A: Allocator>(kernel: &Kernel<A>, base: u64) -> u64
+    requires above { blocks.low_of (kernel_by kernel.now).segments ≤ kernel.now.entry }
+    requires below { kernel.now.entry + base < 2 ^ 64 }
+    ensures { result ≡ parts.entry_at kernel.now.entry (kernel_by kernel.now).segments kernel.now.relocation base }
+{
+    match kernel.relocation {
+        None => kernel.entry,
+        Some(_) => kernel.entry - low_of(kernel.image.segments()) + base,
+    }
+}
+
+/// The ranges of parts.
+fn ranges_of<A: Allocator + Copy>(
+    alloc: A,
+    parts: &[Planned<A>],
+) -> Result<Vec<Range<u64>, A>, AllocError>
+    requires { All (λ place. place.address + place.length < 2 ^ 64) (map place_of parts.now) }
+    ensures { IfOk result (λ ranges. ranges.items ≡ map range_of (map place_of parts.now)) }
+{
+    let mut ranges = Vec::with_capacity(alloc, parts.len())?;
+    for part in parts {
+        ranges.push(part.place.address..part.place.address + part.place.length)?;
+    }
+    Ok(ranges)
+}
+
+/// The parts of a kernel that was read, at their places, or the first fault of placing.
+pub fn plan_parts<A: Allocator + Copy, V: ByteView>(
+    alloc: A,
+    machine: &Machine<A>,
+    line: &[u8],
+    kernel: &Kernel<A>,
+    files: &[V],
+) -> Result<Plan<A>, PrepFault>
+    requires sound { line_fault line.now ≡ None }
+    requires short { length line.now ≤ 4095 }
+    requires file { 1 ≤ length files.now }
+    requires kernel { IsKernel (text_at (map V.bytes files.now) 0) (kernel_by kernel.now) }
+    requires loadable { AreLoadable (text_at (map V.bytes files.now) 0) (kernel_by kernel.now).segments }
+    ensures handover { IfOk result (λ plan. IsPlacedHandover machine.now line.now (text_at (map V.bytes files.now) 0) (kernel_by kernel.now) (handover_by (map V.bytes files.now) plan)) }
+    ensures loadable { IfOk result (λ plan. IsLoadable (map V.bytes files.now) machine.now.size plan) }
+    ensures fault { IfErr result (λ fault. IsPlaceFault machine.now line.now (kernel_by kernel.now) fault) }
+{
+    let rows = rows_of(alloc, machine, line, kernel)?;
+    let places = match place_rows(alloc, machine, rows.as_slice()) {
+        Ok(places) => places,
+        Err(fault) => return Err(fault_of(fault)),
+    };
+    let base = base_of(places.as_slice());
+    let entry = entry_at(kernel, base);
+    let registers = multiboot2_registers(entry as u32, information_at(places.as_slice()) as u32);
+    let sorted = in_order(alloc, places.as_slice())?;
+    let parts = parts_at(
+        alloc,
+        machine,
+        line,
+        kernel,
+        files,
+        base as u32,
+        sorted.as_slice(),
+    )?;
+    let ranges = ranges_of(alloc, parts.as_slice())?;
+    Ok(Plan {
+        protocol: Protocol::Multiboot2,
+        registers,
+        parts,
+        ranges,
+    })
+}

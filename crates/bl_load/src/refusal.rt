@@ -1,0 +1,114 @@
+//! Why an entry is not booted.
+ghost use Rattle.std.specs.Prelude.{◌≡◌};
+ghost use Rattle.bl_load.specs.Numbers as numbers;
+ghost use Rattle.bl_load.specs.declared.refusal.PrepFault.TheVariants.{NoMemory};
+
+use std::alloc::{AllocError, AllocFailed};
+use thiserror::Error;
+
+/// Why an entry is refused: the first refusal in the order of the checks. A file is told by its place in
+/// the entry, the kernel being 0.
+#[derive(Clone, Copy, Debug, PartialEq, Eq, Error)]
+pub enum Refusal {
+    #[error("file {0} can't be read")]
+    NoFile(u32),
+    #[error("file {0} is too long")]
+    FileTooLong(u32),
+    #[error("no Multiboot2 header")]
+    NoHeader,
+    #[error("the Multiboot2 header is cut")]
+    HeaderCut,
+    #[error("a header for another architecture")]
+    BadArchitecture,
+    #[error("a bad header tag at {0}")]
+    BadTag(u64),
+    #[error("a header tag of type {0} is required")]
+    UnsupportedTag(u16),
+    #[error("information of type {0} is required")]
+    UnsupportedRequest(u32),
+    #[error("a console is required")]
+    NoConsole,
+    #[error("not an ELF file")]
+    NotElf,
+    #[error("a bad ELF file")]
+    BadElf,
+    #[error("segment {0} is cut")]
+    SegmentCut(u32),
+    #[error("segment {0} lies too high")]
+    AddressTooHigh(u32),
+    #[error("segments {0} and {1} overlap")]
+    SegmentsOverlap(u32, u32),
+    #[error("no entry address")]
+    NoEntry,
+    #[error("the entry lies in no segment")]
+    EntryOutside,
+    #[error("a fixed part is not usable memory")]
+    NotUsable,
+    #[error("no address is permitted for a part")]
+    NoRoom,
+    #[error("the pool is too small")]
+    NoPool,
+    #[error("a line is too long")]
+    LineTooLong,
+    #[error("a line has a zero byte")]
+    LineHasNul,
+    #[error("not supported yet")]
+    NotYet,
+}
+
+impl Refusal {
+    /// The refusal's number.
+    pub fn number(self) -> u32
+        ensures { result ≡ numbers.number_of self }
+    {
+        match self {
+            Refusal::NoFile(_) => 1,
+            Refusal::FileTooLong(_) => 3,
+            Refusal::NoHeader => 4,
+            Refusal::HeaderCut => 5,
+            Refusal::BadArchitecture => 6,
+            Refusal::BadTag(_) => 7,
+            Refusal::UnsupportedTag(_) => 8,
+            Refusal::UnsupportedRequest(_) => 9,
+            Refusal::NoConsole => 10,
+            Refusal::NotElf => 11,
+            Refusal::BadElf => 12,
+            Refusal::SegmentCut(_) => 13,
+            Refusal::AddressTooHigh(_) => 14,
+            Refusal::SegmentsOverlap(_, _) => 15,
+            Refusal::NoEntry => 16,
+            Refusal::EntryOutside => 17,
+            Refusal::NotUsable => 19,
+            Refusal::NoRoom => 20,
+            Refusal::NoPool => 21,
+            Refusal::LineTooLong => 27,
+            Refusal::LineHasNul => 28,
+            Refusal::NotYet => 90,
+        }
+    }
+}
+
+/// Why an entry is not prepared: its first refusal, or want of memory.
+#[derive(Clone, Copy, Debug, PartialEq, Eq, Error)]
+pub enum PrepFault {
+    #[error("refused")]
+    Refused(Refusal),
+    #[error("no memory")]
+    NoMemory,
+}
+
+impl From<AllocError> for PrepFault {
+    ghost from_gives = { λ _ fault. fault ≡ NoMemory };
+
+    fn from(_: AllocError) -> PrepFault {
+        PrepFault::NoMemory
+    }
+}
+
+impl<T: Drop> From<AllocFailed<T>> for PrepFault {
+    ghost from_gives = { λ _ fault. fault ≡ NoMemory };
+
+    fn from(_: AllocFailed<T>) -> PrepFault {
+        PrepFault::NoMemory
+    }
+}
