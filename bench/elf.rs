@@ -94,8 +94,16 @@ impl Header {
             e_type: u16_at(file, 16),
             e_machine: u16_at(file, 18),
             e_version: u32_at(file, 20),
-            e_entry: if is_64 { u64_at(file, 24) } else { u32_at(file, 24) as u64 },
-            e_phoff: if is_64 { u64_at(file, 32) } else { u32_at(file, 28) as u64 },
+            e_entry: if is_64 {
+                u64_at(file, 24)
+            } else {
+                u32_at(file, 24) as u64
+            },
+            e_phoff: if is_64 {
+                u64_at(file, 32)
+            } else {
+                u32_at(file, 28) as u64
+            },
             e_phentsize: u16_at(file, if is_64 { 54 } else { 42 }),
             e_phnum: u16_at(file, if is_64 { 56 } else { 44 }),
         };
@@ -145,7 +153,10 @@ impl Header {
         }
     }
 
-    fn program_headers<'a>(&'a self, file: &'a [u8]) -> impl Iterator<Item = (u32, ProgramHeader)> + 'a {
+    fn program_headers<'a>(
+        &'a self,
+        file: &'a [u8],
+    ) -> impl Iterator<Item = (u32, ProgramHeader)> + 'a {
         (0..self.e_phnum)
             .map(move |i| (i as u32, self.program_header(file, i)))
             .filter(|(_, program)| program.is_loadable())

@@ -40,12 +40,19 @@ struct Tag {
 
 fn is_header_at(file: &[u8], at: u64) -> bool {
     let words = [0, 4, 8, 12].map(|i| u32_at(file, at + i));
-    words[0] == MAGIC && words.iter().fold(0, |sum: u32, word| sum.wrapping_add(*word)) == 0
+    words[0] == MAGIC
+        && words
+            .iter()
+            .fold(0, |sum: u32, word| sum.wrapping_add(*word))
+            == 0
 }
 
 fn find_place(file: &[u8]) -> Option<u64> {
     let end = SEARCHED.min(file.len() as u64);
-    (0..end).step_by(8).take_while(|at| at + 16 <= end).find(|at| is_header_at(file, *at))
+    (0..end)
+        .step_by(8)
+        .take_while(|at| at + 16 <= end)
+        .find(|at| is_header_at(file, *at))
 }
 
 fn can_be_given(kind: u32) -> bool {
@@ -53,7 +60,9 @@ fn can_be_given(kind: u32) -> bool {
 }
 
 fn first_unknown_request(file: &[u8], at: u64, count: u64) -> Option<u32> {
-    (0..count).map(|i| u32_at(file, at + 4 * i)).find(|kind| !can_be_given(*kind))
+    (0..count)
+        .map(|i| u32_at(file, at + 4 * i))
+        .find(|kind| !can_be_given(*kind))
 }
 
 fn read_tag(file: &[u8], at: u64, end: u64) -> Result<Tag, HeadFault> {
@@ -104,7 +113,10 @@ fn segment_of(file: &[u8], place: u64, at: u64) -> Option<Segment> {
     let (offset, address) = if load_addr == u32::MAX as u64 {
         (0, header_addr.checked_sub(place)?)
     } else {
-        (place.checked_sub(header_addr.checked_sub(load_addr)?)?, load_addr)
+        (
+            place.checked_sub(header_addr.checked_sub(load_addr)?)?,
+            load_addr,
+        )
     };
     let filesz = if load_end_addr == 0 {
         size - offset

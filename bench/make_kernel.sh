@@ -65,7 +65,6 @@ place=$(((ends + 7) / 8 * 8))
     zeros $((place - ends))
     multiboot2_header
     zeros $((0x1000 - place - 24))
-    # The pattern's length is odd, so that no two pieces of a file are the same for a long while: a piece in
-    # the wrong place shows in the image.
-    yes 'The bytes of a segment: a piece that is misplaced shows here.' | head -c $((segments * bytes))
+    # Numbers, so that no two pieces are the same: one that is misplaced shows in the image.
+    seq 10000000 99999999 | head -c $((segments * bytes))
 } > "$file"

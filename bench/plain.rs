@@ -143,7 +143,10 @@ fn memory_map(regions: &[Region]) -> Vec<u8> {
 }
 
 fn information(machine: &Machine, line: &str) -> Vec<u8> {
-    let kib = [machine.kib_from(0, 640), machine.kib_from(0x10_0000, 0xFFFF_FFFF)];
+    let kib = [
+        machine.kib_from(0, 640),
+        machine.kib_from(0x10_0000, 0xFFFF_FFFF),
+    ];
     let mut out = vec![0; 8];
     put_tag(&mut out, 1, &[line.as_bytes(), &[0]].concat());
     put_tag(&mut out, 2, b"bootcore\0");
@@ -169,7 +172,9 @@ fn read_kernel(file: &[u8]) -> Answer<(Vec<Segment>, u32)> {
         }
     };
     let entry = entry.ok_or("no entry")?;
-    let is_inside = segments.iter().any(|s| s.address <= entry && entry - s.address < s.memsz);
+    let is_inside = segments
+        .iter()
+        .any(|s| s.address <= entry && entry - s.address < s.memsz);
     if !is_inside {
         return Err("the entry lies outside".into());
     }
@@ -242,7 +247,26 @@ fn load_information(memory: &mut [u8], part: &Part, bytes: &[u8]) {
 /// The head of an image and its records, of which each part has one.
 fn head(parts: &[Part], entry: u32, information: u32) -> Vec<u8> {
     let registers = [
-        entry, 0x36D7_6289, information, 0, 0, 0, 0, 0, 0, 2, 0x11, 0x10, 0x18, 0x18, 0x18, 0x18, 0x18, 0, 0, 1,
+        entry,
+        0x36D7_6289,
+        information,
+        0,
+        0,
+        0,
+        0,
+        0,
+        0,
+        2,
+        0x11,
+        0x10,
+        0x18,
+        0x18,
+        0x18,
+        0x18,
+        0x18,
+        0,
+        0,
+        1,
     ];
     let mut out = b"BLIMAGE\0".to_vec();
     out.extend_from_slice(&[1u32, 1].map(u32::to_le_bytes).concat());
@@ -269,7 +293,11 @@ fn boot(is_staged: bool, kernel: &str, image: &str, line: &str, machine: &Machin
     let file = fs::read(kernel).map_err(|error| format!("{kernel}: {error}"))?;
     let (segments, entry) = read_kernel(&file)?;
     let info = information(machine, line);
-    let mut parts = place_parts(machine, &segments, info.len().next_multiple_of(FRAME) as u64)?;
+    let mut parts = place_parts(
+        machine,
+        &segments,
+        info.len().next_multiple_of(FRAME) as u64,
+    )?;
     check_room(machine, &parts, file.len())?;
 
     let mut memory = vec![machine.fill; machine.size as usize];
@@ -309,7 +337,10 @@ fn number(word: &str) -> Answer<u64> {
 }
 
 fn machine_of(words: &[&str]) -> Answer<Machine> {
-    let numbers = words.iter().map(|word| number(word)).collect::<Answer<Vec<u64>>>()?;
+    let numbers = words
+        .iter()
+        .map(|word| number(word))
+        .collect::<Answer<Vec<u64>>>()?;
     let [size, fill, start, end, regions @ ..] = numbers.as_slice() else {
         return Err("too few numbers".into());
     };

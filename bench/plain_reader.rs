@@ -14,7 +14,9 @@ fn run(words: &[String]) -> Result<(), String> {
     let [reader, file, count] = words else {
         return Err("plain_reader elf|header FILE COUNT".into());
     };
-    let count: u64 = count.parse().map_err(|_| format!("{count}: not a number"))?;
+    let count: u64 = count
+        .parse()
+        .map_err(|_| format!("{count}: not a number"))?;
     let bytes = fs::read(file).map_err(|error| format!("{file}: {error}"))?;
     for _ in 0..count {
         let file = black_box(bytes.as_slice());
