@@ -1,5 +1,7 @@
 //! A reader of ELF executables in plain Rust, with the checks of the proved one in the same order.
 
+use crate::words::{ends_within, holds, u16_at, u32_at, u64_at};
+
 const MAGIC: u32 = 0x464C_457F;
 const PT_LOAD: u32 = 1;
 const MOST_PROGRAM_HEADERS: u16 = 128;
@@ -47,33 +49,6 @@ struct ProgramHeader {
     p_paddr: u64,
     p_filesz: u64,
     p_memsz: u64,
-}
-
-fn array_at<const N: usize>(file: &[u8], at: u64) -> [u8; N] {
-    let at = at as usize;
-    file[at..at + N].try_into().expect("N bytes")
-}
-
-pub fn u16_at(file: &[u8], at: u64) -> u16 {
-    u16::from_le_bytes(array_at(file, at))
-}
-
-pub fn u32_at(file: &[u8], at: u64) -> u32 {
-    u32::from_le_bytes(array_at(file, at))
-}
-
-fn u64_at(file: &[u8], at: u64) -> u64 {
-    u64::from_le_bytes(array_at(file, at))
-}
-
-/// Whether `start + size` is at most `end`, where the sum may not fit.
-fn ends_within(start: u64, size: u64, end: u64) -> bool {
-    start <= end && size <= end - start
-}
-
-/// Whether `a` lies in the `size` bytes from `start` on.
-fn holds(start: u64, size: u64, a: u64) -> bool {
-    start <= a && a - start < size
 }
 
 impl Header {
@@ -152,15 +127,6 @@ impl Header {
             }
         }
     }
-
-    fn program_headers<'a>(
-        &'a self,
-        file: &'a [u8],
-    ) -> impl Iterator<Item = (u32, ProgramHeader)> + 'a {
-        (0..self.e_phnum)
-            .map(move |i| (i as u32, self.program_header(file, i)))
-            .filter(|(_, program)| program.is_loadable())
-    }
 }
 
 impl ProgramHeader {
@@ -191,37 +157,51 @@ impl ProgramHeader {
     }
 }
 
-fn check_overlaps(file: &[u8], header: &Header) -> Result<(), ElfFault> {
-    for (i, a) in header.program_headers(file) {
-        for (j, b) in header.program_headers(file) {
-            if i < j && a.p_paddr < b.p_paddr + b.p_memsz && b.p_paddr < a.p_paddr + a.p_memsz {
-                return Err(ElfFault::SegmentsOverlap(i, j));
+/// The loadable program headers with their indices.
+fn loadable_headers(file: &[u8], header: &Header) -> Result<Vec<(u32, ProgramHeader)>, ElfFault> {
+    let mut programs = Vec::new();
+    for i in 0..header.e_phnum {
+        let program = header.program_header(file, i);
+        if program.is_loadable() {
+            program.check(i as u32, file.len() as u64)?;
+            programs.push((i as u32, program));
+        }
+    }
+    Ok(programs)
+}
+
+fn check_overlaps(programs: &[(u32, ProgramHeader)]) -> Result<(), ElfFault> {
+    for (at, (i, a)) in programs.iter().enumerate() {
+        for (j, b) in &programs[at + 1..] {
+            if a.p_paddr < b.p_paddr + b.p_memsz && b.p_paddr < a.p_paddr + a.p_memsz {
+                return Err(ElfFault::SegmentsOverlap(*i, *j));
             }
         }
     }
     Ok(())
 }
 
-fn find_entry(file: &[u8], header: &Header, segments: &[Segment]) -> Option<u64> {
-    let entry = header.e_entry;
-    for (_, program) in header.program_headers(file) {
-        if holds(program.p_vaddr, program.p_memsz, entry) {
-            return Some(entry - program.p_vaddr + program.p_paddr);
+fn find_entry(e_entry: u64, programs: &[(u32, ProgramHeader)]) -> Option<u64> {
+    for (_, program) in programs {
+        if holds(program.p_vaddr, program.p_memsz, e_entry) {
+            return Some(e_entry - program.p_vaddr + program.p_paddr);
         }
     }
-    let is_held = segments.iter().any(|s| holds(s.address, s.memsz, entry));
-    is_held.then_some(entry)
+    let mut programs = programs.iter();
+    let is_held = programs.any(|(_, program)| holds(program.p_paddr, program.p_memsz, e_entry));
+    is_held.then_some(e_entry)
 }
 
 /// The loadable segments of an executable, and its entry where some segment holds it.
 pub fn read_elf(file: &[u8]) -> Result<Elf, ElfFault> {
     let header = Header::read(file)?;
-    let mut segments = Vec::new();
-    for (i, program) in header.program_headers(file) {
-        program.check(i, file.len() as u64)?;
-        segments.push(program.segment());
-    }
-    check_overlaps(file, &header)?;
-    let entry = find_entry(file, &header, &segments);
-    Ok(Elf { segments, entry })
+    let programs = loadable_headers(file, &header)?;
+    check_overlaps(&programs)?;
+    Ok(Elf {
+        segments: programs
+            .iter()
+            .map(|(_, program)| program.segment())
+            .collect(),
+        entry: find_entry(header.e_entry, &programs),
+    })
 }

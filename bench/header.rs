@@ -1,6 +1,7 @@
 //! A reader of Multiboot2 headers in plain Rust, with the checks of the proved one in the same order.
 
-use crate::elf::{u16_at, u32_at, Segment};
+use crate::elf::Segment;
+use crate::words::{u16_at, u32_at};
 
 const MAGIC: u32 = 0xE852_50D6;
 const SEARCHED: u64 = 32768;

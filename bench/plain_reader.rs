@@ -6,6 +6,7 @@
 
 mod elf;
 mod header;
+mod words;
 
 use std::hint::black_box;
 use std::{env, fs, process};

@@ -11,3 +11,5 @@ pub mod LineLemmas
 pub mod RowLemmas
 pub mod PlacingLemmas
 pub mod PrepareLemmas
+pub mod HandoverLaws
+pub mod LegalLaws

@@ -1,5 +1,5 @@
 -- What the rows of an entry have, and each of their places.
-use Rattle.std.proofs.Common.{◌≡◌, ◌<◌, ◌≤◌, ◌+◌, ◌-◌, ◌^◌, ◌*◌, ◌/◌, ℕ, zero, suc, Bool, true, false, List, [], ◌∷◌, ◌++◌, length, get_or, Option, Some, None, arith, rules, refl, sym, ap, subst, ◌∙◌, All, AllPairs, ◌⊎◌, inl, inr, nat_eq, nat_lt, cond, length-append}
+use Rattle.std.proofs.Common.{◌≡◌, ◌<◌, ◌≤◌, ◌+◌, ◌-◌, ◌^◌, ℕ, suc, true, false, List, [], ◌∷◌, ◌++◌, length, get_or, Option, Some, None, arith, refl, sym, ap, subst, ◌∙◌, All, AllPairs, inl, inr, nat_eq, length-append}
 use Rattle.std.specs.Prelude.{◌||◌}
 use Rattle.std.specs.List.{list_any}
 use Rattle.std.proofs.lemmas.List.{get_or_default}
@@ -9,19 +9,18 @@ use Rattle.std.proofs.lemmas.Bool.Decides.{nat_tests}
 use Rattle.std.specs.declared.ops.Range.{Range}
 use Rattle.bl_mem.specs.declared.segment.Segment.{Segment}
 use Rattle.bl_mem.specs.Memory.{IsIn}
-use Rattle.bl_map.specs.Facts.{Facts, AllUsable}
+use Rattle.bl_map.specs.Facts.{Facts}
 use Rattle.bl_elf.specs.Elf.{AreApart}
 use Rattle.bl_mb2head.specs.declared.relocation.Relocation.{Relocation}
 use Rattle.bl_mbi.specs.Info.{Info, info_size}
 use Rattle.bl_plan.specs.Permitted.{AllOpen}
 use Rattle.bl_plan.specs.Planned.{put_in}
-use Rattle.bl_plan.specs.Placed.{ArePlaced, IsFirstFault, IsChosen, HasFault, IsChoice, IsRow, IsApart, place_at, range_of}
-use Rattle.bl_plan.specs.declared.choice.Choice.{Choice}
+use Rattle.bl_plan.specs.Placed.{ArePlaced, IsFirstFault, HasFault, IsChoice, IsRow, IsApart, place_at, range_of}
 use Rattle.bl_plan.specs.declared.choice.Choice.TheVariants.{Fixed, Lowest, Highest, Preferred}
 use Rattle.bl_plan.specs.declared.fault.PlanFault.TheVariants.{Overlap}
 use Rattle.bl_plan.specs.declared.row.Row.{Row}
 use Rattle.bl_plan.specs.declared.place.Place.{Place}
-use Rattle.bl_plan.specs.declared.role.Role.TheVariants.{Kernel, Information}
+use Rattle.bl_plan.specs.declared.role.Role.TheVariants.{Kernel}
 use Rattle.bl_plan.proofs.PutLemmas.{All-put_in}
 use Rattle.bl_plan.proofs.PlaceLaws.{as_many, all_usable, all_apart}
 use Rattle.bl_load.specs.Kernel.{KernelFacts, IsKernel, AreLoadable, holds_at, entry_fault, entry_of}

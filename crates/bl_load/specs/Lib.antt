@@ -13,3 +13,4 @@ pub mod Order
 pub mod Parts
 pub mod Rowed
 pub mod Room
+pub mod Legal

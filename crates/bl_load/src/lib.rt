@@ -8,6 +8,7 @@ mod entry;
 mod handoff;
 mod information;
 mod kernel;
+mod laws;
 mod loading;
 mod order;
 mod placing;
@@ -21,6 +22,7 @@ mod rows;
 
 pub use entry::{Entry, Module};
 pub use handoff::Handoff;
+pub use laws::{handovers_are_determined, handovers_are_legal};
 pub use loading::load;
 pub use plan::{Content, Plan, Planned};
 pub use preparing::prepare;

@@ -12,14 +12,16 @@ new-facts-requires g c =
     let runs = c.in_ok-runs.ensures.items ∙ c.normal.ensures.runs in
     let facts = c.normal.ensures.facts in
     record {
-      line = subst IsText (sym line) (sound_text c.args.line.now c.requires.sound (subst (All (λ (b : ℕ). b < 256)) line c.in_ok-line.ensures.fits));
-      modules = rw c.new-modules.ensures.items (λ k d within. absurd (omega arith));
-      mem_lower = c.low_kib-mem_lower.ensures.most;
-      mem_upper = c.high_kib-mem_upper.ensures.most;
-      runs = rw runs facts.runs.low;
-      rsdp_old = tt;
-      rsdp_new = tt;
-      load_base = c.requires.base;
+      told = record {
+        line = subst IsText (sym line) (sound_text c.args.line.now c.requires.sound (subst (All (λ (b : ℕ). b < 256)) line c.in_ok-line.ensures.fits));
+        modules = rw c.new-modules.ensures.items (λ k d within. absurd (omega arith));
+        mem_lower = c.low_kib-mem_lower.ensures.most;
+        mem_upper = c.high_kib-mem_upper.ensures.most;
+        runs = rw runs facts.runs.low;
+        rsdp_old = tt;
+        rsdp_new = tt;
+        load_base = c.requires.base;
+      };
       small =
           let short = size_below (length c.args.line.now) (length c.args.machine.now.runs) (is_some c.args.load_base) c.requires.short facts.few in
           let size : size_of (length c.in_ok-line.line) (map (λ (m : ModuleInfo). length m.line) c.new-modules.result.items) (length c.in_ok-runs.runs.items) None None (is_some c.args.load_base) < 2 ^ 16 =

@@ -1,0 +1,170 @@
+-- Equal facts and equal values give one handover, or one first refusal, and never both.
+use Rattle.std.proofs.Common.{◌≡◌, ℕ, List, [], Option, Some, None, sym, ap, subst, ◌∙◌, ◌⊎◌, inl, inr}
+use Rattle.std.proofs.lemmas.Option.{same_Some}
+use Rattle.bl_mem.specs.declared.segment.Segment.{Segment}
+use Rattle.bl_map.specs.Facts.{Facts}
+use Rattle.bl_elf.specs.Elf.{ElfFacts}
+use Rattle.bl_elf.specs.declared.fault.ElfFault.{ElfFault}
+use Rattle.bl_elf.specs.declared.fault.ElfFault.TheVariants as elf_fault
+use Rattle.bl_elf.proofs.ElfLaws.{elf_is_determined, fault_is_determined, elf_not_fault}
+use Rattle.bl_mb2head.specs.Header.{IsHeader}
+use Rattle.bl_mb2head.specs.declared.header.Header.{Header}
+use Rattle.bl_mb2head.specs.declared.relocation.Relocation.{Relocation}
+use Rattle.bl_mb2head.proofs.HeaderLaws as headers
+use Rattle.bl_plan.specs.Placed.{ArePlaced}
+use Rattle.bl_plan.proofs.PlaceLaws as places
+use Rattle.bl_load.specs.declared.refusal.Refusal.{Refusal}
+use Rattle.bl_load.specs.Value.{EntryValue, kernel_file, form_fault, line_fault}
+use Rattle.bl_load.specs.Kernel.{KernelFacts, IsLoadedBy, IsKernel, HasLoadFault, HasKernelFault, entry_fault, entry_of, head_refusal, elf_refusal}
+use Rattle.bl_load.specs.Rows.{rows_of}
+use Rattle.bl_load.specs.Handover.{Handover}
+use Rattle.bl_load.specs.Parts.{IsHandover, IsRefusal, HasPlaceFault, handover_of, placing_refusal}
+
+-- ---- a kernel's file
+
+-- a header leads to one list of segments and one entry
+one_loaded : (file : List ℕ) (segment : Option Segment) (f g : ElfFacts) → IsLoadedBy file segment f → IsLoadedBy file segment g → f ≡ g
+one_loaded file (Some segment) f g a b = a ∙ sym b
+one_loaded file None f g a b = elf_is_determined file f g a b
+
+-- two headers of a file are one, and so is what they lead to
+same_header : (file : List ℕ) (h k : Header) → IsHeader file h → IsHeader file k → k ≡ h
+same_header file h k a b = headers.one_header file k h b a
+
+same_loaded : (file : List ℕ) (h k : Header) (f g : ElfFacts) → IsHeader file h → IsHeader file k → IsLoadedBy file h.segment f → IsLoadedBy file k.segment g → g ≡ f
+same_loaded file h k f g is_h is_k a b =
+    one_loaded file h.segment g f (subst (λ (x : Header). IsLoadedBy file x.segment g) (same_header file h k is_h is_k) b) a
+
+kernel_from : List Segment → ℕ → Option Relocation → KernelFacts
+kernel_from segments entry relocation = record { segments = segments; entry = entry; relocation = relocation }
+
+same_kernel : (a b : KernelFacts) → a.segments ≡ b.segments → a.entry ≡ b.entry → a.relocation ≡ b.relocation → a ≡ b
+unfolding kernel_from
+same_kernel a b segments entry relocation =
+    ap (λ (s : List Segment). kernel_from s a.entry a.relocation) segments
+    ∙ ap (λ (e : ℕ). kernel_from b.segments e a.relocation) entry
+    ∙ ap (λ (r : Option Relocation). kernel_from b.segments b.entry r) relocation
+
+-- a file is one kernel
+pub one_kernel : (file : List ℕ) (a b : KernelFacts) → IsKernel file a → IsKernel file b → a ≡ b
+one_kernel file a b is_a is_b =
+    let header : is_b.header ≡ is_a.header = same_header file is_a.header is_b.header is_a.is_header is_b.is_header in
+    let facts : is_b.facts ≡ is_a.facts = same_loaded file is_a.header is_b.header is_a.facts is_b.facts is_a.is_header is_b.is_header is_a.loaded is_b.loaded in
+    let entry : entry_of is_a.header is_a.facts ≡ Some b.entry =
+        sym (ap (λ (h : Header). entry_of h is_a.facts) header) ∙ sym (ap (λ (f : ElfFacts). entry_of is_b.header f) facts) ∙ is_b.entry in
+    same_kernel a b
+    (is_a.segments ∙ sym (ap (λ (f : ElfFacts). f.segments) facts) ∙ sym is_b.segments)
+    (same_Some a.entry b.entry (sym is_a.entry ∙ entry))
+    (is_a.relocation ∙ sym (ap (λ (h : Header). h.relocation) header) ∙ sym is_b.relocation)
+
+-- a fault that refuses is no want of memory
+refuses : (fault : ElfFault) (r : Refusal) → elf_refusal fault ≡ Some r → ¬ (fault ≡ elf_fault.NoMemory)
+refuses fault r h = λ none. let bad : None ≡ Some r = sym (ap elf_refusal none) ∙ h in absurd cc
+
+one_load_fault : (file : List ℕ) (segment : Option Segment) (r s : Refusal) → HasLoadFault file segment r → HasLoadFault file segment s → r ≡ s
+one_load_fault file (Some segment) r s a b = absurd a
+one_load_fault file None r s (f, f_is, a) (g, g_is, b) =
+    let same = fault_is_determined file f g (refuses f r f_is) (refuses g s g_is) a b in
+    same_Some r s (sym f_is ∙ ap elf_refusal same ∙ g_is)
+
+-- what is loaded has no fault
+loaded_no_fault : (file : List ℕ) (segment : Option Segment) (facts : ElfFacts) (r : Refusal) → IsLoadedBy file segment facts → HasLoadFault file segment r → ⊥
+loaded_no_fault file (Some segment) facts r is has = has
+loaded_no_fault file None facts r is (f, f_is, a) = elf_not_fault file facts f (refuses f r f_is) is a
+
+-- where its header leads to a fault, a file has nothing to load
+sound_no_fault : (file : List ℕ) (h k : Header) (facts : ElfFacts) (r : Refusal) → IsHeader file h → IsHeader file k → IsLoadedBy file h.segment facts → HasLoadFault file k.segment r → ⊥
+sound_no_fault file h k facts r is_h is_k is has =
+    loaded_no_fault file h.segment facts r is (subst (λ (x : Header). HasLoadFault file x.segment r) (same_header file h k is_h is_k) has)
+
+same_entry_fault : (file : List ℕ) (h k : Header) (f g : ElfFacts) → IsHeader file h → IsHeader file k → IsLoadedBy file h.segment f → IsLoadedBy file k.segment g
+    → entry_fault f.segments (entry_of h f) ≡ entry_fault g.segments (entry_of k g)
+same_entry_fault file h k f g is_h is_k a b =
+    ap (λ (x : Header). entry_fault f.segments (entry_of x f)) (sym (same_header file h k is_h is_k))
+    ∙ ap (λ (x : ElfFacts). entry_fault x.segments (entry_of k x)) (sym (same_loaded file h k f g is_h is_k a b))
+
+-- or it has one first fault
+pub one_kernel_fault : (file : List ℕ) (r s : Refusal) → HasKernelFault file r → HasKernelFault file s → r ≡ s
+one_kernel_fault file r s (inl (f, a, r_is)) (inl (g, b, s_is)) = r_is ∙ ap head_refusal (headers.one_fault file f g a b) ∙ sym s_is
+one_kernel_fault file r s (inl (f, a, r_is)) (inr (inl (h, is, load))) = absurd (headers.not_both file h f is a)
+one_kernel_fault file r s (inl (f, a, r_is)) (inr (inr (h, facts, is, loaded, b))) = absurd (headers.not_both file h f is a)
+one_kernel_fault file r s (inr (inl (h, is, load))) (inl (g, b, s_is)) = absurd (headers.not_both file h g is b)
+one_kernel_fault file r s (inr (inl (h, is_h, a))) (inr (inl (k, is_k, b))) =
+    one_load_fault file h.segment r s a (subst (λ (x : Header). HasLoadFault file x.segment s) (same_header file h k is_h is_k) b)
+one_kernel_fault file r s (inr (inl (h, is_h, a))) (inr (inr (k, facts, is_k, loaded, b))) = absurd (sound_no_fault file k h facts r is_k is_h loaded a)
+one_kernel_fault file r s (inr (inr (h, facts, is, loaded, a))) (inl (g, b, s_is)) = absurd (headers.not_both file h g is b)
+one_kernel_fault file r s (inr (inr (h, facts, is_h, loaded, a))) (inr (inl (k, is_k, b))) = absurd (sound_no_fault file h k facts s is_h is_k loaded b)
+one_kernel_fault file r s (inr (inr (h, f, is_h, f_is, a))) (inr (inr (k, g, is_k, g_is, b))) =
+    same_Some r s (sym a ∙ same_entry_fault file h k f g is_h is_k f_is g_is ∙ b)
+
+-- and never both
+pub kernel_not_fault : (file : List ℕ) (kernel : KernelFacts) (r : Refusal) → IsKernel file kernel → HasKernelFault file r → ⊥
+kernel_not_fault file kernel r is (inl (f, a, r_is)) = headers.not_both file is.header f is.is_header a
+kernel_not_fault file kernel r is (inr (inl (h, is_h, a))) = sound_no_fault file is.header h is.facts r is.is_header is_h is.loaded a
+kernel_not_fault file kernel r is (inr (inr (h, f, is_h, f_is, a))) =
+    let bad : None ≡ Some r = sym is.sound ∙ same_entry_fault file is.header h is.facts f is.is_header is_h is.loaded f_is ∙ a in absurd cc
+
+-- ---- an entry
+
+-- equal facts and equal values hand over the same
+pub one_handover : (facts : Facts) (value : EntryValue) (h k : Handover) → IsHandover facts value h → IsHandover facts value k → h ≡ k
+one_handover facts value h k a b =
+    let file = kernel_file value in
+    let kernel : b.kernel ≡ a.kernel = one_kernel file b.kernel a.kernel b.is_kernel a.is_kernel in
+    let moved : ArePlaced facts [] (rows_of facts value.line a.kernel) b.places = subst (λ (x : KernelFacts). ArePlaced facts [] (rows_of facts value.line x) b.places) kernel b.placed in
+    let same : a.places ≡ b.places = places.one_list facts [] (rows_of facts value.line a.kernel) a.places b.places a.placed moved in
+    a.is ∙ ap (handover_of facts value.line file a.kernel) same ∙ ap (λ (x : KernelFacts). handover_of facts value.line file x b.places) (sym kernel) ∙ sym b.is
+
+-- the rows of a kernel are refused for one fault
+one_place_fault : (facts : Facts) (line : List ℕ) (kernel : KernelFacts) (r s : Refusal) → HasPlaceFault facts line kernel r → HasPlaceFault facts line kernel s → r ≡ s
+one_place_fault facts line kernel r s (f, a, f_is) (g, b, g_is) =
+    same_Some r s (sym f_is ∙ ap placing_refusal (places.one_fault facts [] (rows_of facts line kernel) f g a b) ∙ g_is)
+
+-- a check that refuses, or what comes behind it
+abbrev Then : Option Refusal → (Refusal → Type 0) → Refusal → Type 0
+Then first rest r = (first ≡ Some r) ⊎ ((first ≡ None) × rest r)
+
+one_then : (first : Option Refusal) (rest : Refusal → Type 0) (r s : Refusal) → (rest r → rest s → r ≡ s) → Then first rest r → Then first rest s → r ≡ s
+one_then first rest r s one (inl a) (inl b) = same_Some r s (sym a ∙ b)
+one_then first rest r s one (inl a) (inr b) = let bad : Some r ≡ None = sym a ∙ b.0 in absurd cc
+one_then first rest r s one (inr a) (inl b) = let bad : Some s ≡ None = sym b ∙ a.0 in absurd cc
+one_then first rest r s one (inr a) (inr b) = one a.1 b.1
+
+-- the kernel is refused, or one of its rows
+abbrev IsLateRefusal : Facts → List ℕ → List ℕ → Refusal → Type 0
+IsLateRefusal facts line file r = HasKernelFault file r ⊎ ((kernel : KernelFacts) × IsKernel file kernel × HasPlaceFault facts line kernel r)
+
+one_late : (facts : Facts) (line file : List ℕ) (r s : Refusal) → IsLateRefusal facts line file r → IsLateRefusal facts line file s → r ≡ s
+one_late facts line file r s (inl a) (inl b) = one_kernel_fault file r s a b
+one_late facts line file r s (inl a) (inr (k, is, b)) = absurd (kernel_not_fault file k r is a)
+one_late facts line file r s (inr (k, is, a)) (inl b) = absurd (kernel_not_fault file k s is b)
+one_late facts line file r s (inr (k, is_k, a)) (inr (l, is_l, b)) =
+    one_place_fault facts line k r s a (subst (λ (x : KernelFacts). HasPlaceFault facts line x s) (one_kernel file l k is_l is_k) b)
+
+-- a refusal, check after check
+abbrev IsInTurn : Facts → EntryValue → Refusal → Type 0
+IsInTurn facts value r = Then (form_fault value.protocol value.module_lines) (Then (line_fault value.line) (IsLateRefusal facts value.line (kernel_file value))) r
+
+in_turn : (facts : Facts) (value : EntryValue) (r : Refusal) → IsRefusal facts value r → IsInTurn facts value r
+in_turn facts value r (inl form) = inl form
+in_turn facts value r (inr (inl (form, line))) = inr (form, inl line)
+in_turn facts value r (inr (inr (inl (form, line, kernel)))) = inr (form, inr (line, inl kernel))
+in_turn facts value r (inr (inr (inr (form, line, place)))) = inr (form, inr (line, inr place))
+
+-- or have one first refusal
+pub one_refusal : (facts : Facts) (value : EntryValue) (r s : Refusal) → IsRefusal facts value r → IsRefusal facts value s → r ≡ s
+one_refusal facts value r s a b =
+    let file = kernel_file value in
+    one_then (form_fault value.protocol value.module_lines) (Then (line_fault value.line) (IsLateRefusal facts value.line file)) r s
+    (one_then (line_fault value.line) (IsLateRefusal facts value.line file) r s (one_late facts value.line file r s))
+    (in_turn facts value r a) (in_turn facts value s b)
+
+-- and never both
+pub not_both : (facts : Facts) (value : EntryValue) (h : Handover) (r : Refusal) → IsHandover facts value h → IsRefusal facts value r → ⊥
+not_both facts value h r is (inl form) = let bad : None ≡ Some r = sym is.form ∙ form in absurd cc
+not_both facts value h r is (inr (inl (form, line))) = let bad : None ≡ Some r = sym is.line ∙ line in absurd cc
+not_both facts value h r is (inr (inr (inl (form, line, kernel)))) = kernel_not_fault (kernel_file value) is.kernel r is.is_kernel kernel
+not_both facts value h r is (inr (inr (inr (form, line, (k, is_k, (f, a, f_is)))))) =
+    let placed : ArePlaced facts [] (rows_of facts value.line k) is.places =
+        subst (λ (x : KernelFacts). ArePlaced facts [] (rows_of facts value.line x) is.places) (one_kernel (kernel_file value) is.kernel k is.is_kernel is_k) is.placed in
+    places.not_both facts [] (rows_of facts value.line k) is.places f placed a

@@ -1,0 +1,14 @@
+pub mod BodyIs
+pub mod BodyLaws
+pub mod GroupLemmas
+pub mod Inverse
+pub mod ModuleLemmas
+pub mod Pieces
+pub mod ReadAgain
+pub mod ReadIs
+pub mod ReadLaws
+pub mod RunLemmas
+pub mod Sizes
+pub mod TagIs
+pub mod TagLaws
+pub mod WordLaws

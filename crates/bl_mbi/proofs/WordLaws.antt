@@ -1,0 +1,53 @@
+-- Numbers in front of bytes, written and read.
+use Rattle.std.proofs.Common.{◌≡◌, ◌<◌, ◌≤◌, ◌^◌, ℕ, List, ◌++◌, length, get_or, take, drop, arith, rules, refl, ap, ◌∙◌, ⊎_elim}
+use Rattle.std.proofs.lemmas.List.{places, take-append-drop, get_or_past}
+use Rattle.std.proofs.lemmas.List.Elements.{All-get_or, All-take}
+use Rattle.std.proofs.lemmas.Bool.{cases_lt}
+use Rattle.std.proofs.lemmas.Nat.{from_le_bytes-to_le_bytes_4, from_le_bytes-to_le_bytes_8, le_bytes_4, le_bytes_8}
+use Rattle.bl_mbi.specs.Info.{AreBytes}
+use Rattle.bl_mbi.specs.Tags.{u32_bytes, u64_bytes}
+use Rattle.bl_mbi.specs.Fields.{word, long}
+
+pub word_front : (n : ℕ) (rest : List ℕ) → n < 2 ^ 32 → word (u32_bytes n ++ rest) ≡ n
+unfolding u32_bytes
+word_front n rest fits = from_le_bytes-to_le_bytes_4 n fits
+
+pub long_front : (n : ℕ) (rest : List ℕ) → n < 2 ^ 64 → long (u64_bytes n ++ rest) ≡ n
+unfolding u64_bytes
+long_front n rest fits = from_le_bytes-to_le_bytes_8 n fits
+
+pub behind_word : (n : ℕ) (rest : List ℕ) → drop 4 (u32_bytes n ++ rest) ≡ rest
+unfolding u32_bytes
+behind_word n rest = refl
+
+pub behind_long : (n : ℕ) (rest : List ℕ) → drop 8 (u64_bytes n ++ rest) ≡ rest
+unfolding u64_bytes
+behind_long n rest = refl
+
+pub word_alone : (n : ℕ) → n < 2 ^ 32 → word (u32_bytes n) ≡ n
+unfolding u32_bytes
+word_alone n fits = from_le_bytes-to_le_bytes_4 n fits
+
+pub behind_words : (m n : ℕ) (rest : List ℕ) → drop 8 (u32_bytes m ++ (u32_bytes n ++ rest)) ≡ rest
+unfolding u32_bytes
+behind_words m n rest = refl
+
+small_at : (bytes : List ℕ) (i : ℕ) → AreBytes bytes → get_or bytes i 0 < 256
+small_at bytes i small =
+    ⊎_elim (λ inside. All-get_or (λ b. b < 256) bytes i 0 inside small) (λ past. let none = get_or_past bytes i 0 past in omega arith) (cases_lt i (length bytes))
+
+byte_small : (bytes : List ℕ) (n i : ℕ) → AreBytes bytes → get_or (take n bytes) i 0 < 256
+byte_small bytes n i small = small_at (take n bytes) i (All-take (λ b. b < 256) n bytes small)
+
+pub word_small : (bytes : List ℕ) → AreBytes bytes → word bytes < 2 ^ 32
+word_small bytes small = omega (arith, byte_small bytes 4 0 small, byte_small bytes 4 1 small, byte_small bytes 4 2 small, byte_small bytes 4 3 small)
+
+pub word_then : (bytes : List ℕ) → AreBytes bytes → 4 ≤ length bytes → u32_bytes (word bytes) ++ drop 4 bytes ≡ bytes
+unfolding u32_bytes
+word_then bytes small long_enough =
+    ap (λ (front : List ℕ). front ++ drop 4 bytes) (le_bytes_4 (take 4 bytes) (word bytes) (search (rules, places)) (λ i. byte_small bytes 4 i small) refl) ∙ take-append-drop 4 bytes
+
+pub long_then : (bytes : List ℕ) → AreBytes bytes → 8 ≤ length bytes → u64_bytes (long bytes) ++ drop 8 bytes ≡ bytes
+unfolding u64_bytes
+long_then bytes small long_enough =
+    ap (λ (front : List ℕ). front ++ drop 8 bytes) (le_bytes_8 (take 8 bytes) (long bytes) (search (rules, places)) (λ i. byte_small bytes 8 i small) refl) ∙ take-append-drop 8 bytes

@@ -1,0 +1,89 @@
+-- Reading boot information: what bytes tell, or the first fault and where it stands (Multiboot2 3.6 "Boot information
+-- format"; the order of tags and of faults is own).
+use Rattle.std.specs.Prelude.{◌==◌, ℕ, zero, suc, not, if◌then◌else◌, nat_lt, List, [], ◌∷◌, length, drop, Option, Some, None, Result, Ok, Err}
+use Rattle.bl_map.specs.declared.region.Region.{Region}
+use Rattle.bl_mbi.specs.declared.fault.InfoFault.{InfoFault}
+use Rattle.bl_mbi.specs.declared.fault.InfoFault.TheVariants.{WrongLength, BadReserved, BadTag, BadOrder}
+use Rattle.bl_mbi.specs.Info.{ModuleInfo}
+use Rattle.bl_mbi.specs.Fields.{◌>>=◌, Left, word, is_next, tag_at, or_bad}
+use Rattle.bl_mbi.specs.Bodies.{text_of, module_of, memory_of, map_of, load_base_of}
+use Rattle.bl_mbi.specs.Told.{Told}
+
+unfoldable pub text_at : ℕ → Left → Result (List ℕ × Left) InfoFault
+text_at kind left = do
+  tag ← tag_at kind left
+  text ← or_bad left.at (text_of tag.0)
+  Ok (text, tag.1)
+
+unfoldable pub module_at : Left → Result (ModuleInfo × Left) InfoFault
+module_at left = do
+  tag ← tag_at 3 left
+  told ← or_bad left.at (module_of tag.0)
+  Ok (told, tag.1)
+
+-- the modules up to the first tag of another type, but no more than so many
+abbrev pub modules_upto : ℕ → Left → Result (List ModuleInfo × Left) InfoFault
+modules_upto zero left = Ok ([], left)
+modules_upto (suc n) left =
+    if not (is_next 3 left) then Ok ([], left) else do
+      first ← module_at left
+      more ← modules_upto n first.1
+      Ok (first.0 ∷ more.0, more.1)
+
+-- all of them, since each takes a byte
+unfoldable pub modules_at : Left → Result (List ModuleInfo × Left) InfoFault
+modules_at left = modules_upto (length left.bytes) left
+
+unfoldable pub memory_at : Left → Result ((ℕ × ℕ) × Left) InfoFault
+memory_at left = do
+  tag ← tag_at 4 left
+  sizes ← or_bad left.at (memory_of tag.0)
+  Ok (sizes, tag.1)
+
+unfoldable pub map_at : Left → Result (List Region × Left) InfoFault
+map_at left = do
+  tag ← tag_at 6 left
+  runs ← or_bad left.at (map_of tag.0)
+  Ok (runs, tag.1)
+
+-- a tag that may be missing: the whole body is the copy
+unfoldable pub copy_at : ℕ → Left → Result (Option (List ℕ) × Left) InfoFault
+copy_at kind left =
+    if not (is_next kind left) then Ok (None, left) else do
+      tag ← tag_at kind left
+      Ok (Some tag.0, tag.1)
+
+unfoldable pub load_base_at : Left → Result (Option ℕ × Left) InfoFault
+load_base_at left =
+    if not (is_next 21 left) then Ok (None, left) else do
+      tag ← tag_at 21 left
+      base ← or_bad left.at (load_base_of tag.0)
+      Ok (Some base, tag.1)
+
+-- the tag that ends the information, with nothing behind it
+unfoldable pub end_at : Left → Result (Unit {0}) InfoFault
+end_at left = do
+  tag ← tag_at 0 left
+  if not (length tag.0 == 0) then Err (BadTag left.at) else if length tag.1.bytes == 0 then Ok tt else Err (BadOrder tag.1.at)
+
+-- the tags in their order
+unfoldable pub tags_of : Left → Result Told InfoFault
+tags_of left = do
+  line ← text_at 1 left
+  name ← text_at 2 line.1
+  modules ← modules_at name.1
+  memory ← memory_at modules.1
+  map ← map_at memory.1
+  old ← copy_at 14 map.1
+  new ← copy_at 15 old.1
+  base ← load_base_at new.1
+  end ← end_at base.1
+  Ok record { name = name.0; facts = record { line = line.0; modules = modules.0; mem_lower = memory.0.0; mem_upper = memory.0.1; runs = map.0; rsdp_old = old.0; rsdp_new = new.0; load_base = base.0 } }
+
+-- "Basic structure": total_size, reserved, the tags
+unfoldable pub info_of : List ℕ → Result Told InfoFault
+info_of bytes =
+    if nat_lt (length bytes) 16 then Err WrongLength else
+    if not (word bytes == length bytes) then Err WrongLength else
+    if not (word (drop 4 bytes) == 0) then Err BadReserved else
+    tags_of record { at = 8; bytes = drop 8 bytes }

@@ -1,0 +1,183 @@
+//! What the bodies of tags tell.
+ghost use Rattle.std.specs.Prelude.{◌≡◌, ◌≤◌, ◌%◌, ◌/◌, ◌==◌, length, option_map, IfSome};
+ghost use Rattle.std.specs.List.{list_all, list_any};
+ghost use Rattle.bl_mbi.specs.Fields.{Gives, or_bad};
+ghost use Rattle.bl_mbi.specs.Fields as fields;
+ghost use Rattle.bl_mbi.specs.Bodies as spec;
+
+use crate::fault::InfoFault;
+use crate::module::Module;
+use bl_map::{Kind, Region};
+use bl_mem::Bytes;
+use std::alloc::Allocator;
+
+pub(crate) fn word(bytes: &[u8]) -> u32
+    requires { 4 ≤ length bytes.now }
+    ensures { result ≡ fields.word bytes.now }
+{
+    u32::from_le_bytes([bytes[0], bytes[1], bytes[2], bytes[3]])
+}
+
+fn long(bytes: &[u8]) -> u64
+    requires { 8 ≤ length bytes.now }
+    ensures { result ≡ fields.long bytes.now }
+{
+    u64::from_le_bytes([
+        bytes[0], bytes[1], bytes[2], bytes[3], bytes[4], bytes[5], bytes[6], bytes[7],
+    ])
+}
+
+pub(crate) fn are_zeros(bytes: &[u8]) -> bool
+    ensures { result ≡ list_all (λ b. b == 0) bytes.now }
+{
+    bytes.iter().all(|b| *b == 0)
+}
+
+fn has_zero(bytes: &[u8]) -> bool
+    ensures { result ≡ list_any (λ b. b == 0) bytes.now }
+{
+    bytes.iter().any(|b| *b == 0)
+}
+
+/// A text that has its one zero behind it.
+#[tactic(auto, unfolding(crate::specs::Bodies::text_of))]
+pub(crate) fn text_of(body: &[u8]) -> Option<&[u8]>
+    ensures { option_map (λ text. text.now) result ≡ spec.text_of body.now }
+{
+    if body.is_empty() {
+        return None;
+    }
+    let text = &body[..body.len() - 1];
+    if body[body.len() - 1] != 0 {
+        return None;
+    }
+    if has_zero(text) {
+        return None;
+    }
+    Some(text)
+}
+
+/// The module that a body tells of.
+#[tactic(auto, unfolding(crate::specs::Bodies::module_of))]
+pub(crate) fn module_of<A: Allocator>(
+    alloc: A,
+    at: u64,
+    body: &[u8],
+) -> Result<Module<A>, InfoFault>
+    ensures { Gives (λ told. told) result (or_bad at (spec.module_of body.now)) }
+{
+    if body.len() < 8 {
+        return Err(InfoFault::BadTag(at));
+    }
+    let mod_start = word(body);
+    let mod_end = word(&body[4..]);
+    if mod_end < mod_start {
+        return Err(InfoFault::BadTag(at));
+    }
+    let Some(line) = text_of(&body[8..]) else {
+        return Err(InfoFault::BadTag(at));
+    };
+    Ok(Module {
+        mod_start,
+        mod_end,
+        line: Bytes::from(Vec::from_slice(alloc, line)?),
+    })
+}
+
+/// The sizes of memory in a body.
+#[tactic(auto, unfolding(crate::specs::Bodies::memory_of))]
+pub(crate) fn memory_of(body: &[u8]) -> Option<(u32, u32)>
+    ensures { result ≡ spec.memory_of body.now }
+{
+    if body.len() != 8 {
+        return None;
+    }
+    let mem_lower = word(body);
+    if mem_lower > 640 {
+        return None;
+    }
+    Some((mem_lower, word(&body[4..])))
+}
+
+#[tactic(auto, unfolding(crate::specs::Bodies::kind_of))]
+fn kind_of(number: u32) -> Option<Kind>
+    ensures { result ≡ spec.kind_of number }
+{
+    match number {
+        1 => Some(Kind::Usable),
+        2 => Some(Kind::Reserved),
+        3 => Some(Kind::Acpi),
+        4 => Some(Kind::Nvs),
+        5 => Some(Kind::Bad),
+        _ => None,
+    }
+}
+
+/// The entry of the memory map in 24 bytes.
+#[tactic(auto, unfolding(crate::specs::Bodies::run_of))]
+fn run_of(bytes: &[u8]) -> Option<Region>
+    requires { 24 ≤ length bytes.now }
+    ensures { result ≡ spec.run_of bytes.now }
+{
+    let base = long(bytes);
+    let length = long(&bytes[8..]);
+    if base as u128 + length as u128 > 1 << 52 {
+        return None;
+    }
+    if word(&bytes[20..]) != 0 {
+        return None;
+    }
+    let kind = kind_of(word(&bytes[16..]))?;
+    Some(Region { base, length, kind })
+}
+
+/// The entries of a memory map, one behind the other.
+fn runs_of<A: Allocator>(alloc: A, at: u64, bytes: &[u8]) -> Result<Vec<Region, A>, InfoFault>
+    requires { length bytes.now % 24 ≡ 0 }
+    ensures { Gives (λ runs. runs.items) result (or_bad at (spec.runs_of (length bytes.now / 24) bytes.now)) }
+{
+    let mut runs = Vec::new(alloc);
+    let count = bytes.len() / 24;
+    for i in 0..count {
+        let Some(run) = run_of(&bytes[24 * i..]) else {
+            return Err(InfoFault::BadTag(at));
+        };
+        runs.push(run)?;
+    }
+    Ok(runs)
+}
+
+/// The memory map in a body.
+#[tactic(auto, unfolding(crate::specs::Bodies::map_of))]
+pub(crate) fn map_of<A: Allocator>(
+    alloc: A,
+    at: u64,
+    body: &[u8],
+) -> Result<Vec<Region, A>, InfoFault>
+    ensures { Gives (λ runs. runs.items) result (or_bad at (spec.map_of body.now)) }
+{
+    if body.len() < 8 {
+        return Err(InfoFault::BadTag(at));
+    }
+    if word(body) != 24 {
+        return Err(InfoFault::BadTag(at));
+    }
+    if word(&body[4..]) != 0 {
+        return Err(InfoFault::BadTag(at));
+    }
+    if (body.len() - 8) % 24 != 0 {
+        return Err(InfoFault::BadTag(at));
+    }
+    runs_of(alloc, at, &body[8..])
+}
+
+/// The load base in a body.
+#[tactic(auto, unfolding(crate::specs::Bodies::load_base_of))]
+pub(crate) fn load_base_of(body: &[u8]) -> Option<u32>
+    ensures { result ≡ spec.load_base_of body.now }
+{
+    if body.len() != 4 {
+        return None;
+    }
+    Some(word(body))
+}

@@ -1,0 +1,25 @@
+//! The boot information that a Multiboot2 kernel is handed: what it tells, written as bytes and read from them.
+#![tactic(auto)]
+
+mod bodies;
+mod facts;
+mod fault;
+mod info;
+mod laws;
+mod module;
+mod put;
+mod read;
+mod reader;
+mod rest;
+mod tags;
+#[cfg(test)]
+mod tests;
+mod write;
+
+pub use facts::Facts;
+pub use fault::InfoFault;
+pub use info::Info;
+pub use laws::{read_is_spelled, spelled_is_read};
+pub use module::Module;
+pub use reader::read_info;
+pub use write::{info_size, write_info};

@@ -1,0 +1,166 @@
+//! Each tag of boot information, read where it stands.
+ghost use Rattle.std.specs.Prelude.{◌≡◌, ◌≤◌, ◌+◌, length, option_map, IfOk};
+ghost use Rattle.bl_mbi.specs.Fields.{Gives, left_of};
+ghost use Rattle.bl_mbi.specs.Fields as fields;
+ghost use Rattle.bl_mbi.specs.Reading as spec;
+
+use crate::bodies::{are_zeros, load_base_of, map_of, memory_of, module_of, text_of, word};
+use crate::fault::InfoFault;
+use crate::module::Module;
+use crate::rest::Rest;
+use bl_map::Region;
+use bl_mem::Bytes;
+use std::alloc::Allocator;
+
+/// Whether a tag of this type begins there.
+fn is_next(kind: u32, rest: Rest) -> bool
+    ensures { result ≡ fields.is_next kind (left_of rest.entry) }
+{
+    rest.bytes.len() >= 8 && word(rest.bytes) == kind
+}
+
+/// The body of the tag there, which must be of this type, and what is left behind it.
+#[tactic(auto, unfolding(crate::specs::Fields::tag_at))]
+fn tag_at<'a>(kind: u32, rest: Rest<'a>) -> Result<(&'a [u8], Rest<'a>), InfoFault>
+    ensures read { Gives (λ x. (x.0.now, left_of x.1)) result (fields.tag_at kind (left_of rest.entry)) }
+    ensures shorter { IfOk result (λ x. length x.1.bytes.now + 8 ≤ length rest.entry.bytes.now) }
+{
+    if rest.bytes.is_empty() {
+        return Err(InfoFault::BadOrder(rest.at));
+    }
+    if rest.bytes.len() < 8 {
+        return Err(InfoFault::BadTag(rest.at));
+    }
+    if word(rest.bytes) != kind {
+        return Err(InfoFault::BadOrder(rest.at));
+    }
+    let size = word(&rest.bytes[4..]) as usize;
+    let whole = (size + 7) / 8 * 8;
+    if size < 8 {
+        return Err(InfoFault::BadTag(rest.at));
+    }
+    if rest.bytes.len() < whole {
+        return Err(InfoFault::BadTag(rest.at));
+    }
+    if !are_zeros(&rest.bytes[size..whole]) {
+        return Err(InfoFault::BadTag(rest.at));
+    }
+    let after = Rest {
+        at: rest.at + whole as u64,
+        bytes: &rest.bytes[whole..],
+    };
+    Ok((&rest.bytes[8..size], after))
+}
+
+/// The text in a tag of this type.
+#[tactic(auto, unfolding(crate::specs::Reading::text_at))]
+pub(crate) fn text_at<'a, A: Allocator>(
+    alloc: A,
+    kind: u32,
+    rest: Rest<'a>,
+) -> Result<(Bytes<A>, Rest<'a>), InfoFault>
+    ensures { Gives (λ x. (x.0, left_of x.1)) result (spec.text_at kind (left_of rest.entry)) }
+{
+    let (body, after) = tag_at(kind, rest)?;
+    let Some(text) = text_of(body) else {
+        return Err(InfoFault::BadTag(rest.at));
+    };
+    Ok((Bytes::from(Vec::from_slice(alloc, text)?), after))
+}
+
+/// The module in the tag there.
+#[tactic(auto, unfolding(crate::specs::Reading::module_at))]
+fn module_at<'a, A: Allocator>(alloc: A, rest: Rest<'a>) -> Result<(Module<A>, Rest<'a>), InfoFault>
+    ensures read { Gives (λ x. (x.0, left_of x.1)) result (spec.module_at (left_of rest.entry)) }
+    ensures shorter { IfOk result (λ x. length x.1.bytes.now + 8 ≤ length rest.entry.bytes.now) }
+{
+    let (body, after) = tag_at(3, rest)?;
+    Ok((module_of(alloc, rest.at, body)?, after))
+}
+
+/// The modules up to the first tag of another type.
+pub(crate) fn modules_at<'a, A: Allocator + Copy>(
+    alloc: A,
+    rest: Rest<'a>,
+) -> Result<(Vec<Module<A>, A>, Rest<'a>), InfoFault>
+    ensures { Gives (λ x. (x.0.items, left_of x.1)) result (spec.modules_at (left_of rest.entry)) }
+{
+    let mut modules = Vec::new(alloc);
+    let mut left = rest;
+    'tags: while is_next(3, left) {
+        let (told, after) = module_at(alloc, left)?;
+        modules.push(told)?;
+        left = after;
+    }
+    Ok((modules, left))
+}
+
+/// The sizes of memory in the tag there.
+#[tactic(auto, unfolding(crate::specs::Reading::memory_at))]
+pub(crate) fn memory_at<'a>(rest: Rest<'a>) -> Result<((u32, u32), Rest<'a>), InfoFault>
+    ensures { Gives (λ x. (x.0, left_of x.1)) result (spec.memory_at (left_of rest.entry)) }
+{
+    let (body, after) = tag_at(4, rest)?;
+    let Some(sizes) = memory_of(body) else {
+        return Err(InfoFault::BadTag(rest.at));
+    };
+    Ok((sizes, after))
+}
+
+/// The memory map in the tag there.
+#[tactic(auto, unfolding(crate::specs::Reading::map_at))]
+pub(crate) fn map_at<'a, A: Allocator>(
+    alloc: A,
+    rest: Rest<'a>,
+) -> Result<(Vec<Region, A>, Rest<'a>), InfoFault>
+    ensures { Gives (λ x. (x.0.items, left_of x.1)) result (spec.map_at (left_of rest.entry)) }
+{
+    let (body, after) = tag_at(6, rest)?;
+    Ok((map_of(alloc, rest.at, body)?, after))
+}
+
+/// The copy in a tag of this type, which may be missing.
+#[tactic(auto, unfolding(crate::specs::Reading::copy_at))]
+pub(crate) fn copy_at<'a, A: Allocator>(
+    alloc: A,
+    kind: u32,
+    rest: Rest<'a>,
+) -> Result<(Option<Bytes<A>>, Rest<'a>), InfoFault>
+    ensures { Gives (λ x. (x.0, left_of x.1)) result (spec.copy_at kind (left_of rest.entry)) }
+{
+    if !is_next(kind, rest) {
+        return Ok((None, rest));
+    }
+    let (body, after) = tag_at(kind, rest)?;
+    Ok((Some(Bytes::from(Vec::from_slice(alloc, body)?)), after))
+}
+
+/// The load base in the tag there, which may be missing.
+#[tactic(auto, unfolding(crate::specs::Reading::load_base_at))]
+pub(crate) fn load_base_at<'a>(rest: Rest<'a>) -> Result<(Option<u32>, Rest<'a>), InfoFault>
+    ensures { Gives (λ x. (x.0, left_of x.1)) result (spec.load_base_at (left_of rest.entry)) }
+{
+    if !is_next(21, rest) {
+        return Ok((None, rest));
+    }
+    let (body, after) = tag_at(21, rest)?;
+    let Some(load_base) = load_base_of(body) else {
+        return Err(InfoFault::BadTag(rest.at));
+    };
+    Ok((Some(load_base), after))
+}
+
+/// The tag that ends the information, with nothing behind it.
+#[tactic(auto, unfolding(crate::specs::Reading::end_at))]
+pub(crate) fn end_at(rest: Rest) -> Result<(), InfoFault>
+    ensures { Gives (λ _. tt) result (spec.end_at (left_of rest.entry)) }
+{
+    let (body, after) = tag_at(0, rest)?;
+    if !body.is_empty() {
+        return Err(InfoFault::BadTag(rest.at));
+    }
+    if !after.bytes.is_empty() {
+        return Err(InfoFault::BadOrder(after.at));
+    }
+    Ok(())
+}

@@ -1,0 +1,73 @@
+//! Boot information, read.
+ghost use Rattle.std.specs.Prelude.{◌≡◌, ◌^◌, ◌<◌, length, IfOk, MatchResult};
+ghost use Rattle.bl_mbi.specs.Told.{Told, IsSpelled};
+ghost use Rattle.bl_mbi.specs.declared.fault.InfoFault.TheVariants.{NoMemory};
+ghost use Rattle.bl_mbi.specs.Fields.{Gives, left_of};
+ghost use Rattle.bl_mbi.specs.Reading as spec;
+
+use crate::bodies::word;
+use crate::fault::InfoFault;
+use crate::info::Info;
+use crate::read::{copy_at, end_at, load_base_at, map_at, memory_at, modules_at, text_at};
+use crate::rest::Rest;
+use std::alloc::Allocator;
+
+/// What the tags tell.
+#[tactic(auto, unfolding(crate::specs::Reading::tags_of))]
+fn tags_of<A: Allocator + Copy>(alloc: A, rest: Rest) -> Result<Info<A>, InfoFault>
+    ensures { Gives (λ told. told) result (spec.tags_of (left_of rest.entry)) }
+{
+    let (line, rest) = text_at(alloc, 1, rest)?;
+    let (name, rest) = text_at(alloc, 2, rest)?;
+    let (modules, rest) = modules_at(alloc, rest)?;
+    let ((mem_lower, mem_upper), rest) = memory_at(rest)?;
+    let (runs, rest) = map_at(alloc, rest)?;
+    let (rsdp_old, rest) = copy_at(alloc, 14, rest)?;
+    let (rsdp_new, rest) = copy_at(alloc, 15, rest)?;
+    let (load_base, rest) = load_base_at(rest)?;
+    end_at(rest)?;
+    Ok(Info {
+        name,
+        line,
+        modules,
+        mem_lower,
+        mem_upper,
+        runs,
+        rsdp_old,
+        rsdp_new,
+        load_base,
+    })
+}
+
+/// What the bytes tell.
+#[tactic(auto, unfolding(crate::specs::Reading::info_of))]
+fn info_of<A: Allocator + Copy>(alloc: A, bytes: &[u8]) -> Result<Info<A>, InfoFault>
+    ensures { Gives (λ told. told) result (spec.info_of bytes.now) }
+{
+    if bytes.len() < 16 {
+        return Err(InfoFault::WrongLength);
+    }
+    if word(bytes) as usize != bytes.len() {
+        return Err(InfoFault::WrongLength);
+    }
+    if word(&bytes[4..]) != 0 {
+        return Err(InfoFault::BadReserved);
+    }
+    let rest = Rest {
+        at: 8,
+        bytes: &bytes[8..],
+    };
+    tags_of(alloc, rest)
+}
+
+/// What the bytes tell, which are exactly `total_size`, or the first fault. Each spelling is accepted, by a loader of any
+/// name, and nothing else.
+pub fn read_info<A: Allocator + Copy>(alloc: A, bytes: &[u8]) -> Result<Info<A>, InfoFault>
+    ensures spelled { IfOk result (IsSpelled bytes.now) }
+
+    // Only memory can be wanting where the bytes are a spelling.
+    ensures accepts { (told : Told) → IsSpelled bytes.now told → length bytes.now < 2 ^ 32 → MatchResult result (λ read. read ≡ told) (λ fault. fault ≡ NoMemory) }
+    ensures first_fault { Gives (λ told. told) result (spec.info_of bytes.now) }
+{
+    info_of(alloc, bytes)
+}

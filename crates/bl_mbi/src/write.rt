@@ -1,0 +1,113 @@
+//! Boot information as bytes.
+ghost use Rattle.std.specs.Prelude.{◌≡◌, ◌≤◌, ◌+◌, ◌^◌, ◌<◌, ◌++◌, [], codes, length, sum_by, option_map, vec_len, vec_capacity, IsOk, OnOk, OnErr};
+ghost use Rattle.std.specs.List.{flat_map};
+ghost use Rattle.bl_mbi.specs.Size.{tag_size, copy_size};
+ghost use Rattle.bl_mbi.specs.Info.{info_size as size_told};
+ghost use Rattle.bl_mbi.specs.Spelling.{spelling};
+ghost use Rattle.bl_mbi.specs.Tags.{tag, text_body, module_tag, memory_body, map_body, copy_tag, load_base_tag};
+ghost use Rattle.bl_mbi.specs.Groups.{texts_size, map_size, last_size};
+
+use crate::facts::Facts;
+use crate::module::Module;
+use crate::put::put_u32;
+use crate::tags::{put_copy, put_end, put_load_base, put_map, put_memory, put_modules, put_text};
+use bl_mem::Bytes;
+use std::alloc::{AllocError, Allocator};
+
+/// How many bytes a tag takes whose body has so many.
+fn tag_len(body: u64) -> u64
+    requires { tag_size body < 2 ^ 32 }
+    ensures { result ≡ tag_size body }
+{
+    8 + (body + 7) / 8 * 8
+}
+
+/// How many bytes the tags of modules take.
+fn modules_len<A: Allocator>(modules: &[Module<A>]) -> u64
+    requires { sum_by (λ m. tag_size (length m.line + 9)) modules.now < 2 ^ 32 }
+    ensures { result ≡ sum_by (λ m. tag_size (length m.line + 9)) modules.now }
+{
+    let mut sum = 0;
+    for loaded in modules {
+        sum += tag_len(loaded.line.len() as u64 + 9);
+    }
+    sum
+}
+
+/// How many bytes a copy's tag takes, where there is one.
+fn copy_len<A: Allocator>(copy: &Option<Bytes<A>>) -> u64
+    requires { copy_size (option_map length copy.now) < 2 ^ 32 }
+    ensures { result ≡ copy_size (option_map length copy.now) }
+{
+    match copy {
+        Some(copy) => tag_len(copy.len() as u64),
+        None => 0,
+    }
+}
+
+/// How many bytes the information takes: its `total_size`, with the loader's name `bootcore`.
+pub fn info_size<A: Allocator>(facts: &Facts<A>) -> u64
+    ensures size { result ≡ length (spelling (codes "bootcore") facts.now) }
+    ensures told { result ≡ size_told facts.now }
+    ensures small { result < 2 ^ 32 }
+{
+    let line = tag_len(facts.line.len() as u64 + 1);
+    let modules = modules_len(&facts.modules);
+    let runs = 16 + 24 * facts.runs.len() as u64;
+    let copies = copy_len(&facts.rsdp_old) + copy_len(&facts.rsdp_new);
+    let load_base = if facts.load_base.is_some() { 16 } else { 0 };
+    8 + line + 24 + modules + 16 + runs + copies + load_base + 8
+}
+
+/// Appends the tags of texts: the line, the loader's name, the modules.
+fn put_texts<A: Allocator, B: Allocator>(facts: &Facts<A>, out: &mut Vec<u8, B>)
+    requires { vec_len out.old + texts_size facts.now ≤ vec_capacity out.old }
+    ensures items { out.new.items ≡ out.old.items ++ (tag 1 (text_body facts.now.line) ++ (tag 2 (text_body (codes "bootcore")) ++ flat_map module_tag facts.now.modules)) }
+    ensures len { vec_len out.new ≡ vec_len out.old + texts_size facts.now }
+    ensures capacity { vec_capacity out.old ≤ vec_capacity out.new }
+{
+    put_text(out, 1, facts.line.as_slice());
+    put_text(out, 2, b"bootcore");
+    put_modules(out, &facts.modules);
+}
+
+/// Appends the tags of memory: its sizes, its map.
+fn put_map_tags<A: Allocator, B: Allocator>(facts: &Facts<A>, out: &mut Vec<u8, B>)
+    requires { vec_len out.old + map_size facts.now ≤ vec_capacity out.old }
+    ensures items { out.new.items ≡ out.old.items ++ (tag 4 (memory_body facts.now.mem_lower facts.now.mem_upper) ++ tag 6 (map_body facts.now.runs)) }
+    ensures len { vec_len out.new ≡ vec_len out.old + map_size facts.now }
+    ensures capacity { vec_capacity out.old ≤ vec_capacity out.new }
+{
+    put_memory(out, facts.mem_lower, facts.mem_upper);
+    put_map(out, &facts.runs);
+}
+
+/// Appends the tags that do not always stand, and the one that ends the information.
+fn put_last<A: Allocator, B: Allocator>(facts: &Facts<A>, out: &mut Vec<u8, B>)
+    requires { vec_len out.old + last_size facts.now ≤ vec_capacity out.old }
+    ensures { out.new.items ≡ out.old.items ++ (copy_tag 14 facts.now.rsdp_old ++ (copy_tag 15 facts.now.rsdp_new ++ (load_base_tag facts.now.load_base ++ tag 0 []))) }
+{
+    put_copy(out, 14, &facts.rsdp_old);
+    put_copy(out, 15, &facts.rsdp_new);
+    put_load_base(out, facts.load_base);
+    put_end(out);
+}
+
+/// Appends the information, with the loader's name `bootcore`, or leaves the bytes as they were.
+pub fn write_info<A: Allocator, B: Allocator>(
+    facts: &Facts<A>,
+    out: &mut Vec<u8, B>,
+) -> Result<(), AllocError>
+    ensures ok { OnOk result (out.new.items ≡ out.old.items ++ spelling (codes "bootcore") facts.now) }
+    ensures err { OnErr result (out.new.items ≡ out.old.items) }
+    ensures succeeds { vec_len out.old + size_told facts.now ≤ vec_capacity out.old → IsOk result }
+{
+    let total_size = info_size(facts);
+    out.reserve(total_size as usize)?;
+    put_u32(out, total_size as u32);
+    put_u32(out, 0);
+    put_texts(facts, out);
+    put_map_tags(facts, out);
+    put_last(facts, out);
+    Ok(())
+}

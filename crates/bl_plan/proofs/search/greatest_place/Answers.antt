@@ -1,0 +1,38 @@
+use Rattle.std.proofs.Common.{arith, inl, inr, ◌+◌}
+use Rattle.std.proofs.lemmas.Bool.{cases_lt}
+use Rattle.bl_plan.proofs.BlockLemmas.{none_down_to_start}
+use Rattle.bl_plan.proofs.SearchLemmas.{ends_in_room}
+use Rattle.bl_plan.proofs.search.greatest_place.Goals as goal
+
+pub returns-then-end-length : goal.returns-then-end-length
+returns-then-end-length g c = λ a p.
+    let e = ends_in_room _ _ _ _ _ _ a _ c.requires.filled c.end_of_room-end.ensures.greatest p in omega (arith, c.if-end-length.true)
+
+pub loop-at-init : goal.loop-at-init
+loop-at-init g c =
+    let r = c.round_down-at.ensures in
+    record {
+      multiple = r.aligned;
+      in_end = omega (arith, r.below, c.if-end-length.false);
+      none = λ a p.
+          let e = ends_in_room _ _ _ _ _ _ a _ c.requires.filled c.end_of_room-end.ensures.greatest p in
+          r.greatest a p.aligned (omega arith);
+    }
+
+pub returns-then-stretch-length : goal.returns-then-stretch-length
+returns-then-stretch-length g c = λ a p.
+    none_down_to_start _ _ _ _ _ _ _ a _ c.requires.filled c.in-Some.ensures (c.loop-at.invariant.none a p) (omega (arith, c.if-stretch-length.true)) p
+
+pub loop-at-preserved : goal.loop-at-preserved
+loop-at-preserved g c =
+    let i = c.loop-at.invariant in
+    let h = c.in-Some.ensures in
+    let r = c.round_down-at-in-loop-at.ensures in
+    record {
+      multiple = r.aligned;
+      in_end = omega (arith, r.below, h.meets_end, i.in_end, c.if-stretch-length.false);
+      none = λ a p. elim (cases_lt c.in-Some.stretch.start (a + c.args.length)) [
+        | inl reaches ↦ absurd (none_down_to_start _ _ _ _ _ _ _ a _ c.requires.filled c.in-Some.ensures (i.none a p) reaches p)
+        | inr before ↦ r.greatest a p.aligned (omega arith)
+      ];
+    }

@@ -1,0 +1,4 @@
+pub mod Roles
+pub mod Permitted
+pub mod Planned
+pub mod Placed

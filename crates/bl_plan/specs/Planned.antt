@@ -1,0 +1,27 @@
+-- What a planner knows: the machine, and the ranges that are taken. Own.
+use Rattle.std.specs.Prelude.{ℕ, ◌<◌, ◌≤◌, List, [], ◌∷◌, All, AllPairs, if◌then◌else◌, nat_lt}
+use Rattle.std.specs.declared.ops.Range.{Range}
+use Rattle.bl_map.specs.Facts.{Facts, AllUsable}
+
+pub record PlannerFacts : Type 0 where
+  pub facts : Facts
+  pub taken : List (Range ℕ)
+
+-- ranges are not empty, and ascend with none meeting another
+pub record AreApart (ranges : List (Range ℕ)) : Type 0 where
+  pub forward : All (λ range. range.start < range.end) ranges
+  pub in_order : AllPairs (λ p q. p.end ≤ q.start) ranges
+
+-- so are taken ranges, and each of their bytes is usable
+pub record AreTaken (facts : Facts) (taken : List (Range ℕ)) : Type 0 where
+  pub apart : AreApart taken
+  pub usable : All (λ range. AllUsable facts range.start range.end) taken
+
+-- these ranges with one more, before the first that starts above it
+abbrev pub put_in : Range ℕ → List (Range ℕ) → List (Range ℕ)
+put_in range [] = range ∷ []
+put_in range (next ∷ rest) = if nat_lt range.start next.start then range ∷ next ∷ rest else next ∷ put_in range rest
+
+-- the planner with one more range taken
+abbrev pub with_taken : PlannerFacts → Range ℕ → PlannerFacts
+with_taken planner range = record { facts = planner.facts; taken = put_in range planner.taken }

@@ -1,0 +1,105 @@
+//! Stretches of bytes that can't be part of a place.
+ghost use Rattle.std.specs.Prelude.{◌≡◌, ℕ, ◌<◌, ◌≤◌, All, length, MatchOption, MatchBool};
+ghost use Rattle.std.specs.List.{AllWithin};
+ghost use Rattle.bl_mem.specs.Memory.{IsIn};
+ghost use Rattle.bl_map.specs.Kinds.{kind_at, AreRuns};
+ghost use Rattle.bl_map.specs.Facts.{AllUsable};
+ghost use Rattle.bl_plan.specs.Permitted.{AllOpen, IsFree, IsBlocked};
+ghost use Rattle.bl_plan.specs.Planned.{AreApart};
+
+use bl_map::{Kind, Machine, Region};
+use std::alloc::Allocator;
+use std::ops::Range;
+
+/// A stretch without memory of kind usable that meets these bytes.
+fn unusable_stretch(runs: &[Region], start: u64, end: u64) -> Option<Range<u64>>
+    requires runs { AreRuns runs.now }
+    requires forward { start < end }
+    ensures { MatchOption result
+        ((a : ℕ) → start ≤ a → a < end → kind_at runs.now a ≡ 1)
+        (λ stretch. IsBlocked (λ a. kind_at runs.now a ≡ 1) start end stretch) }
+{
+    let mut from = 0;
+    for run in runs {
+        let Kind::Usable = run.kind else {
+            continue;
+        };
+        if from < run.base && start < run.base && from < end {
+            return Some(from..run.base);
+        }
+        from = run.base + run.length;
+    }
+    if from < end {
+        return Some(from..u64::MAX);
+    }
+    None
+}
+
+/// Whether each byte from `start` up to `end` is usable.
+pub fn is_usable<A: Allocator>(machine: &Machine<A>, start: u64, end: u64) -> bool
+    requires forward { start < end }
+    ensures { MatchBool result (AllUsable machine.now start end) (¬ AllUsable machine.now start end) }
+{
+    if start < 4096 {
+        return false;
+    }
+    if machine.size() < end {
+        return false;
+    }
+    if 0xFFFF_F000 < end {
+        return false;
+    }
+    match unusable_stretch(machine.normal(), start, end) {
+        None => true,
+        Some(_) => false,
+    }
+}
+
+/// How many of these ascending ranges end at `start` or below.
+pub fn ended_by(ranges: &[Range<u64>], start: u64) -> usize
+    requires { AreApart ranges.now }
+    ensures bound { result ≤ length ranges.now }
+    ensures before { AllWithin (λ range. range.end ≤ start) ranges.now 0 result }
+    ensures behind { AllWithin (λ range. start < range.end) ranges.now result (length ranges.now) }
+{
+    ranges.partition_point(|range| range.end <= start)
+}
+
+/// A taken range that meets these bytes.
+pub fn taken_stretch(taken: &[Range<u64>], start: u64, end: u64) -> Option<Range<u64>>
+    requires apart { AreApart taken.now }
+    ensures { MatchOption result
+        (AllOpen taken.now start end)
+        (λ stretch. IsBlocked (λ a. All (λ range. ¬ IsIn range a) taken.now) start end stretch) }
+{
+    let next = ended_by(taken, start);
+    if next < taken.len() {
+        let range = &taken[next];
+        if range.start < end {
+            return Some(range.start..range.end);
+        }
+    }
+    None
+}
+
+/// A stretch without free bytes that meets these bytes.
+pub fn blocked_stretch<A: Allocator>(
+    machine: &Machine<A>,
+    taken: &[Range<u64>],
+    start: u64,
+    end: u64,
+) -> Option<Range<u64>>
+    requires apart { AreApart taken.now }
+    requires forward { start < end }
+    requires above { 4096 ≤ start }
+    requires in_size { end ≤ machine.now.size }
+    requires below { end ≤ 0xFFFFF000 }
+    ensures { MatchOption result
+        (AllUsable machine.now start end × AllOpen taken.now start end)
+        (λ stretch. IsBlocked (IsFree machine.now taken.now) start end stretch) }
+{
+    if let Some(stretch) = unusable_stretch(machine.normal(), start, end) {
+        return Some(stretch);
+    }
+    taken_stretch(taken, start, end)
+}

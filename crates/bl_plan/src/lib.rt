@@ -1,0 +1,27 @@
+//! Where the parts of an entry are placed.
+#![tactic(auto)]
+
+mod blocked;
+mod choice;
+mod fault;
+mod laws;
+mod place;
+mod placing;
+mod planner;
+mod role;
+mod rounding;
+mod row;
+mod search;
+mod side;
+#[cfg(test)]
+mod tests;
+
+pub use choice::Choice;
+pub use fault::PlanFault;
+pub use laws::{places_are_determined, places_are_legal, places_are_of_rows};
+pub use place::Place;
+pub use placing::place_rows;
+pub use planner::Planner;
+pub use role::Role;
+pub use row::Row;
+pub use side::Side;

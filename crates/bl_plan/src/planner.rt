@@ -1,0 +1,169 @@
+//! A planner.
+use crate::blocked::{ended_by, is_usable, taken_stretch};
+use crate::choice::Choice;
+use crate::fault::PlanFault;
+use crate::row::Row;
+use crate::search::{is_permitted, place_at_side};
+use crate::side::Side;
+use bl_map::Machine;
+use std::alloc::{AllocError, Allocator};
+use std::marker::Model;
+use std::ops::Range;
+
+/// A machine and the ranges that are taken of it. Contracts see it as these two.
+#[derive(Drop)]
+pub struct Planner<'m, A: Allocator> {
+    machine: &'m Machine<A>,
+    taken: Vec<Range<u64>, A>,
+}
+
+impl<'m, A: Allocator> Model for Planner<'m, A> {
+    ghost use Rattle.bl_plan.specs.Planned.{PlannerFacts, AreTaken};
+
+    ghost Value = { PlannerFacts };
+
+    ghost view = { λ p. record { facts = p.machine.now; taken = p.taken.items } };
+
+    ghost invariant = { λ p. AreTaken p.machine.now p.taken.items };
+}
+
+impl<'m, A: Allocator> Planner<'m, A> {
+    ghost use Rattle.std.specs.Prelude.{◌≡◌, ◌+◌, ◌<◌, ◌≤◌, [], IfOk, IfErr, OnOk, OnErr};
+    ghost use Rattle.bl_map.specs.Facts.{AllUsable};
+    ghost use Rattle.bl_plan.specs.Permitted.{AllOpen, IsPermitted, IsAtSide, IsPreferred, HasFixedFault, HasNoRoom, OrNoMemory};
+    ghost use Rattle.bl_plan.specs.Planned.{AreTaken, with_taken};
+    ghost use Rattle.bl_plan.specs.Placed.{IsRow, IsChosen, HasFault};
+
+    /// A planner of this machine, of which nothing is taken.
+    pub fn new(alloc: A, machine: &'m Machine<A>) -> Result<Planner<'m, A>, AllocError>
+        ensures new { IfOk result (λ planner. planner ≡ record { facts = machine.now; taken = [] }) }
+    {
+        Ok(Planner {
+            machine,
+            taken: Vec::new(alloc),
+        })
+    }
+
+    /// Takes a range that may be taken.
+    fn take(&mut self, range: Range<u64>) -> Result<(), AllocError>
+        requires filled { range.start < range.end }
+        requires usable { AllUsable self.old.facts range.start range.end }
+        requires free { AllOpen self.old.taken range.start range.end }
+        ensures taken { OnOk result (self.new ≡ with_taken self.old range) }
+        ensures unchanged { OnErr result (self.new ≡ self.old) }
+    {
+        let at = ended_by(self.taken.as_slice(), range.start);
+        self.taken.insert(at, range)?;
+        Ok(())
+    }
+
+    /// Takes these addresses, which are not empty. Refused where a byte is not usable, else where one is taken.
+    pub fn take_fixed(&mut self, range: Range<u64>) -> Result<(), PlanFault>
+        requires filled { range.start < range.end }
+        ensures free { OnOk result (AllUsable self.old.facts range.start range.end × AllOpen self.old.taken range.start range.end) }
+        ensures taken { OnOk result (self.new ≡ with_taken self.old range) }
+        ensures fault { IfErr result (OrNoMemory (HasFixedFault self.old.facts self.old.taken range.start range.end)) }
+        ensures unchanged { OnErr result (self.new ≡ self.old) }
+    {
+        if !is_usable(self.machine, range.start, range.end) {
+            return Err(PlanFault::NotUsable);
+        }
+        if let Some(_) = taken_stretch(self.taken.as_slice(), range.start, range.end) {
+            return Err(PlanFault::Overlap);
+        }
+        self.take(range)?;
+        Ok(())
+    }
+
+    /// Takes so many bytes at the least or the greatest permitted address, and answers it.
+    pub fn place(
+        &mut self,
+        length: u64,
+        align: u64,
+        low: u64,
+        high: u64,
+        side: Side,
+    ) -> Result<u64, PlanFault>
+        requires filled { 1 ≤ length }
+        requires aligned { 1 ≤ align }
+        ensures at_side { IfOk result (λ a. IsAtSide side (IsPermitted self.old.facts self.old.taken length align low high) a) }
+        ensures taken { IfOk result (λ a. self.new ≡ with_taken self.old (record { start = a; end = a + length })) }
+        ensures below { IfOk result (λ a. a + length ≤ 0xFFFFF000) }
+        ensures fault { IfErr result (OrNoMemory (HasNoRoom (IsPermitted self.old.facts self.old.taken length align low high))) }
+        ensures unchanged { OnErr result (self.new ≡ self.old) }
+    {
+        let taken = self.taken.as_slice();
+        match place_at_side(self.machine, taken, length, align, low, high, side) {
+            None => Err(PlanFault::NoRoom),
+            Some(at) => {
+                self.take(at..at + length)?;
+                Ok(at)
+            }
+        }
+    }
+
+    /// Takes so many bytes at `at` where that is permitted, else at the least permitted address, and answers it.
+    pub fn prefer(
+        &mut self,
+        at: u64,
+        length: u64,
+        align: u64,
+        low: u64,
+        high: u64,
+    ) -> Result<u64, PlanFault>
+        requires filled { 1 ≤ length }
+        requires aligned { 1 ≤ align }
+        ensures preferred { IfOk result (λ a. IsPreferred at (IsPermitted self.old.facts self.old.taken length align low high) a) }
+        ensures taken { IfOk result (λ a. self.new ≡ with_taken self.old (record { start = a; end = a + length })) }
+        ensures below { IfOk result (λ a. a + length ≤ 0xFFFFF000) }
+        ensures fault { IfErr result (OrNoMemory (HasNoRoom (IsPermitted self.old.facts self.old.taken length align low high))) }
+        ensures unchanged { OnErr result (self.new ≡ self.old) }
+    {
+        let taken = self.taken.as_slice();
+        if !is_permitted(self.machine, taken, at, length, align, low, high) {
+            return self.place(length, align, low, high, Side::Lowest);
+        }
+        self.take(at..at + length)?;
+        Ok(at)
+    }
+
+    /// Takes the place of a row, and answers its address.
+    pub(crate) fn place_row(&mut self, row: &Row) -> Result<u64, PlanFault>
+        requires row { IsRow row.now }
+        ensures chosen { IfOk result (λ a. IsChosen self.old.facts self.old.taken row.now.length row.now.choice a) }
+        ensures taken { IfOk result (λ a. self.new ≡ with_taken self.old (record { start = a; end = a + row.now.length })) }
+        ensures below { IfOk result (λ a. a + row.now.length ≤ 0xFFFFF000) }
+        ensures fault { IfErr result (OrNoMemory (HasFault self.old.facts self.old.taken row.now.length row.now.choice)) }
+        ensures unchanged { OnErr result (self.new ≡ self.old) }
+    {
+        match row.choice {
+            Choice::Fixed(at) => {
+                let Some(end) = at.checked_add(row.length) else {
+                    return Err(PlanFault::NotUsable);
+                };
+                self.take_fixed(at..end)?;
+                Ok(at)
+            }
+            Choice::Lowest { align, low, high } => {
+                self.place(row.length, align, low, high, Side::Lowest)
+            }
+            Choice::Highest { align, low, high } => {
+                self.place(row.length, align, low, high, Side::Highest)
+            }
+            Choice::Preferred {
+                at,
+                align,
+                low,
+                high,
+            } => self.prefer(at, row.length, align, low, high),
+        }
+    }
+
+    /// The ranges that are taken, ascending and apart.
+    pub fn taken(&self) -> &[Range<u64>]
+        ensures taken { result.now ≡ self.now.taken }
+        ensures in_order { AreTaken self.now.facts self.now.taken }
+    {
+        self.taken.as_slice()
+    }
+}
