@@ -5,8 +5,8 @@
 #
 # The program under test is the argument, else the variable BOOTCORE, else crates/bootcore/out/bootcore; where it
 # does not stand its row is left out. Needs bash 5, coreutils and awk; the plain programs need rustc, without which
-# their rows are left out. Peak memory is told by GNU time, else seen in /proc. Inputs and images lie in a new
-# folder under TMPDIR, about 400 MB, which is removed at the end.
+# their rows are left out. Peak memory is told by GNU time, else seen in /proc, there of the program alone and not of
+# one that it starts. Inputs and images lie in a new folder under TMPDIR, about 400 MB, which is removed at the end.
 #
 #   cp                a copy of the kernel file, by coreutils
 #   plain copy        the same by a loop in Rust
@@ -14,10 +14,10 @@
 #   plain, pool       the same, by way of a pool of frames
 #   bootcore          the program under test
 #
-# The programs take turns, so that what else the machine does meets each of them; the best of all rounds counts.
-# Fill 0 and another one are two tables, for memory that is zero need not be touched. The images are compared with
-# each other, and a difference ends the run with status 1. A goal that is missed is told and does not end it: a busy
-# machine misses goals too. At the end readers.sh runs.
+# The programs take turns, so that what else the machine does meets each of them; the best of all rounds counts. There
+# are two tables: with fill 0 Rust takes pages that are zero already and touches none of them, with another fill every
+# program writes the whole memory. The images are compared with each other, and a difference ends the run with status
+# 1. A goal that is missed is told and does not end it: a busy machine misses goals too. At the end readers.sh runs.
 source "$(dirname "${BASH_SOURCE[0]}")/measure.sh"
 
 kernel_bytes=$((60 << 20))

@@ -1,3 +1,5 @@
+mod growth;
+
 use crate::{Kind, Machine, MapFault, Region};
 use std::alloc::Global;
 use std::test::Fail;

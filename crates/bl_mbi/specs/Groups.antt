@@ -13,4 +13,6 @@ map_size info = 32 + 24 * length info.runs
 
 -- types 14, 15, 21 and 0
 abbrev pub last_size : Info → ℕ
-last_size info = copy_size (option_map length info.rsdp_old) + copy_size (option_map length info.rsdp_new) + load_base_size (is_some info.load_base) + 8
+last_size info =
+    copy_size (option_map length info.rsdp_old) + copy_size (option_map length info.rsdp_new)
+    + load_base_size (is_some info.load_base) + 8

@@ -78,7 +78,19 @@ tags_of left = do
   new ← copy_at 15 old.1
   base ← load_base_at new.1
   end ← end_at base.1
-  Ok record { name = name.0; facts = record { line = line.0; modules = modules.0; mem_lower = memory.0.0; mem_upper = memory.0.1; runs = map.0; rsdp_old = old.0; rsdp_new = new.0; load_base = base.0 } }
+  Ok record {
+    name = name.0;
+    facts = record {
+      line = line.0;
+      modules = modules.0;
+      mem_lower = memory.0.0;
+      mem_upper = memory.0.1;
+      runs = map.0;
+      rsdp_old = old.0;
+      rsdp_new = new.0;
+      load_base = base.0;
+    };
+  }
 
 -- "Basic structure": total_size, reserved, the tags
 unfoldable pub info_of : List ℕ → Result Told InfoFault

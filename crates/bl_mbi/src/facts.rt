@@ -25,9 +25,27 @@ impl<A: Allocator> Model for Facts<A> {
 
     ghost Value = { Info };
 
-    ghost view = { λ f. record { line = f.line; modules = f.modules.items; mem_lower = f.mem_lower; mem_upper = f.mem_upper; runs = f.runs.items; rsdp_old = f.rsdp_old; rsdp_new = f.rsdp_new; load_base = f.load_base } };
+    ghost view = { λ f. record {
+      line = f.line;
+      modules = f.modules.items;
+      mem_lower = f.mem_lower;
+      mem_upper = f.mem_upper;
+      runs = f.runs.items;
+      rsdp_old = f.rsdp_old;
+      rsdp_new = f.rsdp_new;
+      load_base = f.load_base;
+    } };
 
-    ghost invariant = { λ f. IsInfo record { line = f.line; modules = f.modules.items; mem_lower = f.mem_lower; mem_upper = f.mem_upper; runs = f.runs.items; rsdp_old = f.rsdp_old; rsdp_new = f.rsdp_new; load_base = f.load_base } };
+    ghost invariant = { λ f. IsInfo record {
+      line = f.line;
+      modules = f.modules.items;
+      mem_lower = f.mem_lower;
+      mem_upper = f.mem_upper;
+      runs = f.runs.items;
+      rsdp_old = f.rsdp_old;
+      rsdp_new = f.rsdp_new;
+      load_base = f.load_base;
+    } };
 }
 
 impl<A: Allocator> Facts<A> {
@@ -46,8 +64,26 @@ impl<A: Allocator> Facts<A> {
         rsdp_new: Option<Bytes<A>>,
         load_base: Option<u32>,
     ) -> Facts<A>
-        requires { IsInfo record { line = line; modules = modules.items; mem_lower = mem_lower; mem_upper = mem_upper; runs = runs.items; rsdp_old = rsdp_old; rsdp_new = rsdp_new; load_base = load_base } }
-        ensures { result ≡ record { line = line; modules = modules.items; mem_lower = mem_lower; mem_upper = mem_upper; runs = runs.items; rsdp_old = rsdp_old; rsdp_new = rsdp_new; load_base = load_base } }
+        requires { IsInfo record {
+          line = line;
+          modules = modules.items;
+          mem_lower = mem_lower;
+          mem_upper = mem_upper;
+          runs = runs.items;
+          rsdp_old = rsdp_old;
+          rsdp_new = rsdp_new;
+          load_base = load_base;
+        } }
+        ensures { result ≡ record {
+          line = line;
+          modules = modules.items;
+          mem_lower = mem_lower;
+          mem_upper = mem_upper;
+          runs = runs.items;
+          rsdp_old = rsdp_old;
+          rsdp_new = rsdp_new;
+          load_base = load_base;
+        } }
     {
         Facts {
             line,

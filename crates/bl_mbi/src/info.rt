@@ -24,5 +24,17 @@ impl<A: Allocator> Model for Info<A> {
 
     ghost Value = { Told };
 
-    ghost view = { λ i. record { name = i.name; facts = record { line = i.line; modules = i.modules.items; mem_lower = i.mem_lower; mem_upper = i.mem_upper; runs = i.runs.items; rsdp_old = i.rsdp_old; rsdp_new = i.rsdp_new; load_base = i.load_base } } };
+    ghost view = { λ i. record {
+      name = i.name;
+      facts = record {
+        line = i.line;
+        modules = i.modules.items;
+        mem_lower = i.mem_lower;
+        mem_upper = i.mem_upper;
+        runs = i.runs.items;
+        rsdp_old = i.rsdp_old;
+        rsdp_new = i.rsdp_new;
+        load_base = i.load_base;
+      };
+    } };
 }

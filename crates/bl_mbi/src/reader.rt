@@ -66,7 +66,8 @@ pub fn read_info<A: Allocator + Copy>(alloc: A, bytes: &[u8]) -> Result<Info<A>,
     ensures spelled { IfOk result (IsSpelled bytes.now) }
 
     // Only memory can be wanting where the bytes are a spelling.
-    ensures accepts { (told : Told) → IsSpelled bytes.now told → length bytes.now < 2 ^ 32 → MatchResult result (λ read. read ≡ told) (λ fault. fault ≡ NoMemory) }
+    ensures accepts { (told : Told) → IsSpelled bytes.now told → length bytes.now < 2 ^ 32
+        → MatchResult result (λ read. read ≡ told) (λ fault. fault ≡ NoMemory) }
     ensures first_fault { Gives (λ told. told) result (spec.info_of bytes.now) }
 {
     info_of(alloc, bytes)

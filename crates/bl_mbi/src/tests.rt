@@ -1,5 +1,6 @@
 //! Tags by hand, for the tests of the writer and of the reader.
 
+mod growth;
 mod reading;
 mod writing;
 

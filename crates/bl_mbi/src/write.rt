@@ -62,7 +62,8 @@ pub fn info_size<A: Allocator>(facts: &Facts<A>) -> u64
 /// Appends the tags of texts: the line, the loader's name, the modules.
 fn put_texts<A: Allocator, B: Allocator>(facts: &Facts<A>, out: &mut Vec<u8, B>)
     requires { vec_len out.old + texts_size facts.now ≤ vec_capacity out.old }
-    ensures items { out.new.items ≡ out.old.items ++ (tag 1 (text_body facts.now.line) ++ (tag 2 (text_body (codes "bootcore")) ++ flat_map module_tag facts.now.modules)) }
+    ensures items { out.new.items ≡ out.old.items ++ (tag 1 (text_body facts.now.line)
+        ++ (tag 2 (text_body (codes "bootcore")) ++ flat_map module_tag facts.now.modules)) }
     ensures len { vec_len out.new ≡ vec_len out.old + texts_size facts.now }
     ensures capacity { vec_capacity out.old ≤ vec_capacity out.new }
 {
@@ -74,7 +75,8 @@ fn put_texts<A: Allocator, B: Allocator>(facts: &Facts<A>, out: &mut Vec<u8, B>)
 /// Appends the tags of memory: its sizes, its map.
 fn put_map_tags<A: Allocator, B: Allocator>(facts: &Facts<A>, out: &mut Vec<u8, B>)
     requires { vec_len out.old + map_size facts.now ≤ vec_capacity out.old }
-    ensures items { out.new.items ≡ out.old.items ++ (tag 4 (memory_body facts.now.mem_lower facts.now.mem_upper) ++ tag 6 (map_body facts.now.runs)) }
+    ensures items { out.new.items ≡ out.old.items ++ (tag 4 (memory_body facts.now.mem_lower facts.now.mem_upper)
+        ++ tag 6 (map_body facts.now.runs)) }
     ensures len { vec_len out.new ≡ vec_len out.old + map_size facts.now }
     ensures capacity { vec_capacity out.old ≤ vec_capacity out.new }
 {
@@ -85,7 +87,8 @@ fn put_map_tags<A: Allocator, B: Allocator>(facts: &Facts<A>, out: &mut Vec<u8, 
 /// Appends the tags that do not always stand, and the one that ends the information.
 fn put_last<A: Allocator, B: Allocator>(facts: &Facts<A>, out: &mut Vec<u8, B>)
     requires { vec_len out.old + last_size facts.now ≤ vec_capacity out.old }
-    ensures { out.new.items ≡ out.old.items ++ (copy_tag 14 facts.now.rsdp_old ++ (copy_tag 15 facts.now.rsdp_new ++ (load_base_tag facts.now.load_base ++ tag 0 []))) }
+    ensures { out.new.items ≡ out.old.items ++ (copy_tag 14 facts.now.rsdp_old ++ (copy_tag 15 facts.now.rsdp_new
+        ++ (load_base_tag facts.now.load_base ++ tag 0 []))) }
 {
     put_copy(out, 14, &facts.rsdp_old);
     put_copy(out, 15, &facts.rsdp_new);

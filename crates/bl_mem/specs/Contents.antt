@@ -1,11 +1,11 @@
--- The bytes of a segment (System V gABI, "Program Header": p_offset, p_filesz, p_memsz).
+-- The bytes that a segment puts into memory (System V gABI, "Program Header": p_offset, p_filesz, p_memsz).
 use Rattle.std.specs.Prelude.{ℕ, ◌+◌, ◌-◌, List, ◌++◌, replicate, slice_range}
 use Rattle.bl_mem.specs.declared.segment.Segment.{Segment}
 
--- the filesz bytes of the file from offset on
+-- its bytes of the file
 abbrev pub file_part : List ℕ → Segment → List ℕ
 file_part file segment = slice_range file segment.offset (segment.offset + segment.filesz)
 
--- zeros behind them up to memsz
+-- those, and zeros up to memsz
 abbrev pub contents_of : List ℕ → Segment → List ℕ
 contents_of file segment = file_part file segment ++ replicate (segment.memsz - segment.filesz) 0

@@ -1,4 +1,4 @@
--- The least and the greatest number with a property.
+-- The least and the greatest number with a property. Own.
 use Rattle.std.specs.Prelude.{ℕ, ◌≤◌}
 
 pub record IsLeast (P : ℕ → Type 0) (n : ℕ) : Type 0 where

@@ -1,23 +1,23 @@
--- What memory holds, and which of its addresses can be written. Own.
+-- Memory after a write, and the addresses that a write may touch. Own.
 use Rattle.std.specs.Prelude.{ℕ, ◌+◌, ◌<◌, ◌≤◌, List, ◌++◌, length, take, drop, All}
 use Rattle.std.specs.declared.ops.Range.{Range}
 
--- these bytes with `part` written at `at`
+-- the bytes with those from `at` on replaced by `part`, as many as it has
 abbrev pub overwrite : List ℕ → ℕ → List ℕ → List ℕ
 overwrite bytes at part = take at bytes ++ part ++ drop (at + length part) bytes
 
--- an address lies in a range, whose end is not part of it
+-- the address lies in the range, whose end lies behind it
 abbrev pub IsIn : Range ℕ → ℕ → Type 0
 IsIn range a = (range.start ≤ a) × (a < range.end)
 
--- each address from start up to end has room
+-- all addresses from start on have room, up to end, which needs none
 abbrev pub HasRoom : (ℕ → Type 0) → ℕ → ℕ → Type 0
 HasRoom room start end = (a : ℕ) → start ≤ a → a < end → room a
 
--- each address of each of these ranges has room
+-- all addresses of all these ranges have room
 abbrev pub AllHaveRoom : (ℕ → Type 0) → List (Range ℕ) → Type 0
 AllHaveRoom room ranges = All (λ range. HasRoom room range.start range.end) ranges
 
--- what had room still has it
+-- no address loses its room
 abbrev pub KeepsRoom : (ℕ → Type 0) → (ℕ → Type 0) → Type 0
 KeepsRoom old new = (a : ℕ) → old a → new a

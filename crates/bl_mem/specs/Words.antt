@@ -1,8 +1,8 @@
--- Little-endian numbers at a place of a list of bytes.
+-- Numbers in a file, the lowest byte first (System V gABI, "ELF Identification": ELFDATA2LSB).
 use Rattle.std.specs.Prelude.{ℕ, List, drop}
 use Rattle.byteorder.specs.Endian.{little_number}
 
--- the number in the n bytes from a place on, the lowest byte first
+-- the number in the n bytes from an offset on
 unfoldable pub number_at : ℕ → List ℕ → ℕ → ℕ
 number_at n bytes at = little_number n (drop at bytes)
 

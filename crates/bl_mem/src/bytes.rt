@@ -1,11 +1,11 @@
-//! Bytes of one's own.
+//! Bytes that a value owns.
 ghost use Rattle.std.specs.Prelude.{◌≡◌, ◌==◌, ℕ, List, length};
 
 use std::alloc::Allocator;
 use std::marker::Model;
 
-/// Bytes of one's own, which contracts see as a list. They are made from a `Vec`, and give it back,
-/// without taking memory.
+/// A vector of bytes whose room does not count: contracts see the list alone. To wrap a vector, and to
+/// get it back, takes no memory.
 #[derive(Drop)]
 pub struct Bytes<A: Allocator> {
     held: Vec<u8, A>,
@@ -18,28 +18,28 @@ impl<A: Allocator> Model for Bytes<A> {
 }
 
 impl<A: Allocator> Bytes<A> {
-    /// The bytes in their order.
+    /// All of the bytes.
     pub fn as_slice(&self) -> &[u8]
         ensures { result.now ≡ self.now }
     {
         self.held.as_slice()
     }
 
-    /// How many there are.
+    /// The number of bytes.
     pub fn len(&self) -> usize
         ensures { result ≡ length self.now }
     {
         self.held.len()
     }
 
-    /// Whether there are none.
+    /// Whether there is no byte.
     pub fn is_empty(&self) -> bool
         ensures { result ≡ (length self.now == 0) }
     {
         self.held.is_empty()
     }
 
-    /// The vector that they are held in.
+    /// The vector that was wrapped.
     pub fn into_vec(self) -> Vec<u8, A>
         ensures { result.items ≡ self }
     {

@@ -1,4 +1,4 @@
-//! Memory that is held whole.
+//! Memory in one block.
 ghost use Rattle.std.specs.Prelude.{◌≡◌, ℕ, List, replicate, IfOk};
 
 use crate::memory::PhysMem;
@@ -6,7 +6,8 @@ use std::alloc::{AllocError, Allocator};
 use std::marker::Model;
 use std::ops::Range;
 
-/// Memory that is held whole, with room everywhere. Contracts see it as the list of its bytes.
+/// A machine's memory in one block. Each address has room from the start, so that no call but `new` takes
+/// memory. Contracts see the list of its bytes.
 #[derive(Drop)]
 pub struct Flat<A: Allocator> {
     held: Vec<u8, A>,
@@ -19,7 +20,7 @@ impl<A: Allocator> Model for Flat<A> {
 }
 
 impl<A: Allocator> Flat<A> {
-    /// Memory of `size` bytes, each of them `fill`. It takes all its memory at once.
+    /// `size` bytes of memory, which all are `fill`. They are asked for in one request.
     pub fn new(alloc: A, size: u64, fill: u8) -> Result<Flat<A>, AllocError>
         ensures ok { IfOk result (λ flat. flat ≡ replicate size fill) }
     {

@@ -1,14 +1,14 @@
-//! A machine's memory, and files as lists of bytes that can be read at any place.
+//! Where bytes come from and where they go: memory by address, and files by offset.
 #![tactic(auto)]
 
 mod bytes;
 mod flat;
 mod memory;
 mod segment;
-mod view;
-mod words;
 #[cfg(test)]
 mod tests;
+mod view;
+mod words;
 
 pub use bytes::Bytes;
 pub use flat::Flat;

@@ -1,31 +1,33 @@
-//! Memory that is read and written by address.
+//! What a loader asks of a machine's memory.
 ghost use Rattle.std.specs.Prelude.{◌≡◌, ℕ, ◌+◌, ◌-◌, ◌≤◌, List, length, replicate, slice_range, All, OnOk};
 ghost use Rattle.bl_mem.specs.Memory.{overwrite, HasRoom, AllHaveRoom, KeepsRoom};
 
 use std::alloc::AllocError;
 use std::ops::Range;
 
-/// Memory that is read and written by address.
+/// A machine's memory, one byte at each physical address from 0 up to its size.
 ///
-/// Room is apart from what is read: an address without room reads as some byte, and can't be written
-/// until `reserve` gave it room.
+/// Each address can be read, but only one with room can be written. Room comes by `reserve`, the one
+/// call that may run out of memory, and no call takes it away. What an address without room reads as
+/// is for the type to say.
 pub trait PhysMem {
-    /// What each address reads as, from 0 on.
+    /// The byte that is read at each address.
     ghost bytes: { Self → List ℕ };
 
-    /// Which addresses can be written.
+    /// The addresses that have room.
     ghost room: { Self → ℕ → Type 0 };
 
-    /// How many bytes there are.
+    /// The size in bytes.
     fn size(&self) -> u64
         ensures { result ≡ length (bytes self.now) };
 
-    /// Fills `out` with what stands from `at` on.
+    /// Reads from address `at` on, as many bytes as `out` holds.
     fn read(&self, at: u64, out: &mut [u8])
         requires { at + length out.old ≤ length (bytes self.now) }
         ensures { out.new ≡ slice_range (bytes self.now) at (at + length out.old) };
 
-    /// Makes room for each address of these ranges. Contents stay as they are in both outcomes.
+    /// Gives room to all addresses of the ranges, or answers that memory ran out, perhaps with room
+    /// for some of them. No byte changes by it.
     fn reserve(&mut self, ranges: &[Range<u64>]) -> Result<(), AllocError>
         requires forward { All (λ range. range.start ≤ range.end) ranges.now }
         requires inside { All (λ range. range.end ≤ length (bytes self.old)) ranges.now }
@@ -33,14 +35,14 @@ pub trait PhysMem {
         ensures kept { KeepsRoom (room self.old) (room self.new) }
         ensures made { OnOk result (AllHaveRoom (room self.new) ranges.now) };
 
-    /// Writes `part` at `at`, and nothing else.
+    /// Puts the bytes of `part` at the addresses from `at` on. All other bytes stay.
     fn write(&mut self, at: u64, part: &[u8])
         requires inside { at + length part.now ≤ length (bytes self.old) }
         requires room { HasRoom (room self.old) at (at + length part.now) }
         ensures after { bytes self.new ≡ overwrite (bytes self.old) at part.now }
         ensures kept { KeepsRoom (room self.old) (room self.new) };
 
-    /// Writes zeros over a range, and nothing else.
+    /// Clears the addresses of the range to 0. All other bytes stay.
     fn zero(&mut self, range: Range<u64>)
         requires forward { range.start ≤ range.end }
         requires inside { range.end ≤ length (bytes self.old) }

@@ -1,7 +1,8 @@
-/// A piece of a file, and the physical address that it is loaded at (System V gABI, "Program Header").
+/// What one program header loads (System V gABI, "Program Header"), or one address tag (Multiboot2 2.0,
+/// "3.1.5 The address tag of Multiboot2 header").
 ///
-/// It takes `memsz` bytes from `address` on: `filesz` bytes of the file from `offset` on, and zeros
-/// behind them. All four are in bytes.
+/// The `memsz` bytes of memory from the physical `address` on become the `filesz` bytes of the file from
+/// `offset` on, and zeros up to the end. Offset, address and sizes count bytes.
 #[derive(Clone, Copy, Debug, PartialEq, Eq)]
 pub struct Segment {
     pub offset: u64,

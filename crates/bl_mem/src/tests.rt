@@ -1,3 +1,5 @@
+mod growth;
+
 use crate::{ByteView, Bytes, Flat, PhysMem, SliceView, u8_at, u16_at, u32_at, u64_at};
 use std::test::Fail;
 

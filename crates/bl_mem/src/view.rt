@@ -1,29 +1,29 @@
-//! Files as lists of bytes.
+//! What a reader asks of a file.
 ghost use Rattle.std.specs.Prelude.{◌≡◌, ℕ, ◌+◌, ◌≤◌, List, length, slice_range};
 
-/// A file that can be read at any place, seen as the list of its bytes.
+/// A file whose bytes can be copied out from any offset, in any order. They need not lie side by side.
 pub trait ByteView {
-    /// The bytes of the file.
+    /// The file's bytes, in order.
     ghost bytes: { Self → List ℕ };
 
-    /// How many bytes there are.
+    /// The file's length in bytes.
     fn len(&self) -> u64
         ensures { result ≡ length (bytes self.now) };
 
-    /// Fills `out` with what stands from `at` on.
+    /// Copies bytes from offset `at` on, as many as `out` holds.
     fn read(&self, at: u64, out: &mut [u8])
         requires { at + length out.old ≤ length (bytes self.now) }
         ensures { out.new ≡ slice_range (bytes self.now) at (at + length out.old) };
 }
 
-/// A file that lies in one slice.
+/// A file in one slice.
 #[derive(Clone, Copy, Debug)]
 pub struct SliceView<'a> {
     bytes: &'a [u8],
 }
 
 impl<'a> SliceView<'a> {
-    /// A view of these bytes.
+    /// The slice as a file.
     pub fn new(bytes: &'a [u8]) -> SliceView<'a>
         ensures { result.bytes.now ≡ bytes.now }
     {

@@ -1,11 +1,11 @@
-//! Little-endian fields of a file.
+//! Numbers in a file, as the machines that are booted write them: the lowest byte first.
 ghost use Rattle.std.specs.Prelude.{◌≡◌, ◌≤◌, ◌+◌, length, slice_index};
 ghost use Rattle.bl_mem.specs.Words as words;
 
 use crate::view::ByteView;
 use byteorder::{ByteOrder, LittleEndian};
 
-/// The byte at a place.
+/// The byte at offset `at`.
 pub fn u8_at<V: ByteView>(view: &V, at: u64) -> u8
     requires { at + 1 ≤ length (V.bytes view.now) }
     ensures { result ≡ slice_index (V.bytes view.now) at }
@@ -15,7 +15,7 @@ pub fn u8_at<V: ByteView>(view: &V, at: u64) -> u8
     field[0]
 }
 
-/// The 16-bit number at a place.
+/// The number in the 2 bytes from offset `at` on, the lowest first.
 pub fn u16_at<V: ByteView>(view: &V, at: u64) -> u16
     requires { at + 2 ≤ length (V.bytes view.now) }
     ensures { result ≡ words.u16_at (V.bytes view.now) at }
@@ -25,7 +25,7 @@ pub fn u16_at<V: ByteView>(view: &V, at: u64) -> u16
     LittleEndian::read_u16(&field)
 }
 
-/// The 32-bit number at a place.
+/// The number in the 4 bytes from offset `at` on, the lowest first.
 pub fn u32_at<V: ByteView>(view: &V, at: u64) -> u32
     requires { at + 4 ≤ length (V.bytes view.now) }
     ensures { result ≡ words.u32_at (V.bytes view.now) at }
@@ -35,7 +35,7 @@ pub fn u32_at<V: ByteView>(view: &V, at: u64) -> u32
     LittleEndian::read_u32(&field)
 }
 
-/// The 64-bit number at a place.
+/// The number in the 8 bytes from offset `at` on, the lowest first.
 pub fn u64_at<V: ByteView>(view: &V, at: u64) -> u64
     requires { at + 8 ≤ length (V.bytes view.now) }
     ensures { result ≡ words.u64_at (V.bytes view.now) at }

@@ -2,6 +2,7 @@ ghost use Rattle.std.specs.Prelude.{◌<◌};
 
 use crate::{PlanFault, Planner, Side};
 use bl_map::{Kind, Machine, MapFault, Region};
+use bl_refusing::Refusing;
 use std::alloc::Global;
 use std::test::Fail;
 
@@ -233,5 +234,41 @@ fn four_gib(rt: HostRuntime) -> Result<(), Fail> {
         planner.place(1, 1, 0, u64::MAX, Side::Lowest),
         Err(PlanFault::NoRoom)
     );
+    Ok(())
+}
+
+// Each growth refused in turn: want of memory is answered then and only then, and the planner stays as it was.
+#[test]
+fn each_growth_refused(rt: HostRuntime) -> Result<(), Fail> {
+    let mut last = 0;
+    for nth in 1..100u64 {
+        let heap = Refusing::new(rt.alloc(), nth);
+        let regions = [region(0, 0x400000, Kind::Usable)];
+        let Ok(machine) = Machine::new(&heap, 0x400000, &regions, 0..0) else {
+            assert!(rt; heap.has_refused(), "at nth {nth}");
+            continue;
+        };
+        let mut planner = Planner::new(&heap, &machine)?;
+        for at in [0x1000, 0x3000, 0x5000, 0x7000, 0x9000, 0xB000] {
+            let held = planner.taken().len();
+            let first = planner.take_fixed(at..at + 1).err();
+            assert_eq!(rt; first.is_some(), heap.has_refused(), "at nth {nth}");
+            let second = planner.place(1, 1, 0x100000, HIGH, Side::Highest).err();
+            assert_eq!(rt; second.is_some(), heap.has_refused(), "at nth {nth}");
+            let third = planner.prefer(at + 0x1000, 1, 1, 0, HIGH).err();
+            assert_eq!(rt; third.is_some(), heap.has_refused(), "at nth {nth}");
+            if heap.has_refused() {
+                assert_eq!(rt; third, Some(PlanFault::NoMemory), "at nth {nth}");
+                assert!(rt; planner.taken().len() <= held + 2, "at nth {nth}");
+                break;
+            }
+            assert_eq!(rt; planner.taken().len(), held + 3, "at nth {nth}");
+        }
+        last = nth;
+        if !heap.has_refused() {
+            break;
+        }
+    }
+    assert!(rt; 3 < last && last < 99, "the last nth is {last}");
     Ok(())
 }

@@ -5,7 +5,7 @@ use std::alloc::Global;
 use std::process::Abort;
 use std::test::Fail;
 
-// The information of the first worked row, with one of its bytes changed.
+// The information with one module, and one of its bytes changed.
 fn fault_with(alloc: Global, at: usize, byte: u8) -> Result<Option<InfoFault>, Fail> {
     let head = b"\xb8\0\0\0\0\0\0\0".as_slice();
     let tags = [

@@ -6,6 +6,7 @@ use super::{EMPTY, END, FIRMWARE, HIGH, LINE, LOW, MAP, MEMORY, MODULE, NAME};
 use crate::{Facts, Module, info_size, write_info};
 use bl_map::{Kind, Region};
 use bl_mem::Bytes;
+use bl_refusing::Refusing;
 use std::alloc::{AllocError, Global};
 use std::process::Abort;
 use std::test::Fail;
@@ -66,7 +67,7 @@ fn copy(alloc: Global, len: usize) -> Result<Option<Bytes<Global>>, AllocError>
     Ok(Some(Bytes::from(Vec::from_elem(alloc, 7u8, len)?)))
 }
 
-// The first worked row's facts, with these parts.
+// The facts of a kernel with the line `k` on a machine of 636 and 3072 KiB, with these parts.
 fn facts(
     alloc: Global,
     modules: Vec<Module<Global>, Global>,
@@ -77,7 +78,8 @@ fn facts(
     requires modules { All IsModule modules.items }
     requires rsdp_old { IfSome rsdp_old AreBytes }
     requires rsdp_new { IfSome rsdp_new AreBytes }
-    requires small { sum_by (λ m. tag_size (length m.line + 9)) modules.items + copy_size (option_map length rsdp_old) + copy_size (option_map length rsdp_new) < 4096 }
+    requires small { sum_by (λ m. tag_size (length m.line + 9)) modules.items
+        + copy_size (option_map length rsdp_old) + copy_size (option_map length rsdp_new) < 4096 }
 {
     Ok(Facts::new(
         text(alloc, b"k")?,
@@ -108,7 +110,7 @@ fn writes(
     Ok(())
 }
 
-// The first worked row, of 184 bytes.
+// 184 bytes.
 #[test]
 fn one_module(rt: HostRuntime) -> Result<(), Fail> {
     let alloc = rt.alloc();
@@ -194,4 +196,22 @@ fn an_empty_copy(rt: HostRuntime) -> Result<(), Fail> {
         head, LINE, NAME, MEMORY, MAP, LOW, FIRMWARE, HIGH, copy, END,
     ];
     writes(&rt, alloc, &told, &want)
+}
+
+// The one growth of the writer refused: the bytes stay as they were.
+#[test]
+fn growth_refused(rt: HostRuntime) -> Result<(), Fail> {
+    let alloc = rt.alloc();
+    let told = facts(alloc, modules(alloc, false)?, None, None, None)?;
+    let heap = Refusing::new(alloc, 2);
+    let mut out = b"ab".to_vec(&heap)?;
+    assert!(rt; write_info(&told, &mut out).is_err());
+    assert!(rt; heap.has_refused());
+    assert_eq!(rt; out.as_slice(), b"ab".as_slice());
+    let heap = Refusing::new(alloc, 3);
+    let mut out = b"ab".to_vec(&heap)?;
+    write_info(&told, &mut out)?;
+    assert!(rt; !heap.has_refused());
+    assert_eq!(rt; out.len(), 186);
+    Ok(())
 }

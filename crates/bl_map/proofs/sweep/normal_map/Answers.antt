@@ -1,11 +1,11 @@
-use Rattle.std.proofs.Common.{ℕ, List, [], ◌∷◌, All, ◌≡◌, ◌≢◌, ◌+◌, ◌*◌, ◌<◌, ◌≤◌, ◌^◌, length, arith, sym, ap, ◌∙◌, inl, inr}
+use Rattle.std.proofs.Common.{ℕ, List, [], ◌∷◌, All, ◌≡◌, ◌≢◌, ◌^◌, length, arith, sym, ap, inl, inr}
 use Rattle.std.proofs.lemmas.List.{length-append}
 use Rattle.std.proofs.lemmas.Bool.{cases_lt}
 use Rattle.bl_map.specs.declared.kind.Kind.{Kind}
 use Rattle.bl_map.specs.declared.region.Region.{Region}
 use Rattle.bl_map.specs.Faults.{IsLow}
-use Rattle.bl_map.specs.Kinds.{kind_at, number_of, end_of}
-use Rattle.bl_map.proofs.EdgeLemmas.{edges_above, edges_most, edges_fall, edges_fall_once}
+use Rattle.bl_map.specs.Kinds.{kind_at, number_of}
+use Rattle.bl_map.proofs.EdgeLemmas.{edges_most, edges_fall, edges_fall_once}
 use Rattle.bl_map.proofs.KindLemmas.{none_behind, number_positive}
 use Rattle.bl_map.proofs.SweepLemmas.{upto_none, upto_gap, upto_run, upto_all, run_of, IsRunEnd}
 use Rattle.bl_map.proofs.sweep.normal_map.Goals as goal

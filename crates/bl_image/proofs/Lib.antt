@@ -1,0 +1,4 @@
+pub mod Ways
+pub mod Spelled
+pub mod NumberLemmas
+pub mod ReadAgain

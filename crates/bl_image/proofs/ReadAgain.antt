@@ -1,0 +1,196 @@
+-- An image is read again: the handover that it spells is one.
+use Rattle.std.proofs.Common.{◌≡◌, ◌+◌, ◌^◌, ◌<◌, ℕ, List, [], ◌∷◌, ◌++◌, length, get_or, take, drop, All, refl, sym, ap, ◌∙◌, arith, lit<, length-append, append_assoc}
+use Rattle.std.proofs.lemmas.List.Elements.{All-cons, All-append, All-tail, All-nil}
+use Rattle.std.specs.List.{flat_map}
+use Rattle.bl_plan.specs.declared.role.Role.{Role}
+use Rattle.bl_plan.specs.declared.role.Role.TheVariants.{Kernel, Module, Information, BootParams, CommandLine, Gdt, Initrd}
+use Rattle.bl_plan.specs.Roles as roles
+use Rattle.bl_load.specs.declared.protocol.Protocol.{Protocol}
+use Rattle.bl_load.specs.declared.protocol.Protocol.TheVariants.{Multiboot2, Linux}
+use Rattle.bl_load.specs.declared.registers.Registers.{Registers}
+use Rattle.bl_load.specs.Protocols as protocols
+use Rattle.bl_load.specs.Handover.{Part, Handover}
+use Rattle.bl_image.specs.Image.{u32_bytes, u64_bytes, magic, register_numbers, part_record, spelling}
+use Rattle.bl_image.specs.Spellable.{FitsRecord, IsSpellable}
+use Rattle.bl_image.proofs.NumberLemmas.{front_same, back_same, length-u32_bytes, length-u64_bytes, u32_same, u64_same}
+
+-- the role, the protocol and the registers of their numbers
+role_of : ℕ → Role
+role_of n = get_or (Kernel ∷ Kernel ∷ Module ∷ Information ∷ BootParams ∷ CommandLine ∷ Gdt ∷ Initrd ∷ []) n Kernel
+
+role_again : (r : Role) → r ≡ role_of (roles.number_of r)
+unfolding role_of
+role_again Kernel = refl
+role_again Module = refl
+role_again Information = refl
+role_again BootParams = refl
+role_again CommandLine = refl
+role_again Gdt = refl
+role_again Initrd = refl
+
+role_same : (r s : Role) → roles.number_of r ≡ roles.number_of s → r ≡ s
+role_same r s e = role_again r ∙ ap role_of e ∙ sym (role_again s)
+
+protocol_of : ℕ → Protocol
+protocol_of n = get_or (Multiboot2 ∷ Multiboot2 ∷ Linux ∷ []) n Multiboot2
+
+protocol_again : (p : Protocol) → p ≡ protocol_of (protocols.number_of p)
+unfolding protocol_of
+protocol_again Multiboot2 = refl
+protocol_again Linux = refl
+
+protocol_same : (p q : Protocol) → protocols.number_of p ≡ protocols.number_of q → p ≡ q
+protocol_same p q e = protocol_again p ∙ ap protocol_of e ∙ sym (protocol_again q)
+
+registers_of : List ℕ → Registers
+registers_of l = record {
+  eip = get_or l 0 0;
+  eax = get_or l 1 0;
+  ebx = get_or l 2 0;
+  ecx = get_or l 3 0;
+  edx = get_or l 4 0;
+  esi = get_or l 5 0;
+  edi = get_or l 6 0;
+  ebp = get_or l 7 0;
+  esp = get_or l 8 0;
+  eflags = get_or l 9 0;
+  cr0 = get_or l 10 0;
+  cs = get_or l 11 0;
+  ds = get_or l 12 0;
+  es = get_or l 13 0;
+  fs = get_or l 14 0;
+  gs = get_or l 15 0;
+  ss = get_or l 16 0;
+  gdt_base = get_or l 17 0;
+  gdt_limit = get_or l 18 0;
+  a20 = get_or l 19 0;
+}
+
+registers_again : (r : Registers) → r ≡ registers_of (register_numbers r)
+unfolding registers_of
+registers_again r = refl
+
+registers_same : (r s : Registers) → register_numbers r ≡ register_numbers s → r ≡ s
+registers_same r s e = registers_again r ∙ ap registers_of e ∙ sym (registers_again s)
+
+-- two parts with one record
+record IsAlike (p q : Part) : Type 0 where
+  role : p.role ≡ q.role
+  index : p.index ≡ q.index
+  address : p.address ≡ q.address
+  count : length p.bytes ≡ length q.bytes
+
+pair_fits : (top m n : ℕ) → m < top → n < top → All (λ k. k < top) (m ∷ n ∷ [])
+pair_fits top m n hm hn = All-cons (λ k. k < top) m (n ∷ []) hm (All-cons (λ k. k < top) n [] hn (All-nil (λ k. k < top)))
+
+role_fits : (r : Role) → roles.number_of r < 2 ^ 32
+role_fits Kernel = lit< tt
+role_fits Module = lit< tt
+role_fits Information = lit< tt
+role_fits BootParams = lit< tt
+role_fits CommandLine = lit< tt
+role_fits Gdt = lit< tt
+role_fits Initrd = lit< tt
+
+record_same : (p q : Part) → FitsRecord p → FitsRecord q → part_record p ≡ part_record q → IsAlike p q
+record_same p q hp hq e =
+    let ps : List ℕ = roles.number_of p.role ∷ p.index ∷ [] in
+    let qs : List ℕ = roles.number_of q.role ∷ q.index ∷ [] in
+    let wide : length (u32_bytes ps) ≡ length (u32_bytes qs) = length-u32_bytes ps ∙ sym (length-u32_bytes qs) in
+    let front : ps ≡ qs = u32_same ps qs (pair_fits (2 ^ 32) _ _ (role_fits p.role) hp.index) (pair_fits (2 ^ 32) _ _ (role_fits q.role) hq.index) refl (front_same _ _ _ _ wide e) in
+    let back : (p.address ∷ length p.bytes ∷ []) ≡ (q.address ∷ length q.bytes ∷ []) =
+    u64_same _ _ (pair_fits (2 ^ 64) _ _ hp.address hp.count) (pair_fits (2 ^ 64) _ _ hq.address hq.count) refl (back_same _ _ _ _ wide e) in
+    record {
+      role = role_same p.role q.role (ap (λ (l : List ℕ). get_or l 0 0) front);
+      index = ap (λ (l : List ℕ). get_or l 1 0) front;
+      address = ap (λ (l : List ℕ). get_or l 0 0) back;
+      count = ap (λ (l : List ℕ). get_or l 1 0) back;
+    }
+
+length-part_record : (p : Part) → length (part_record p) ≡ 24
+length-part_record p =
+    let front = length-u32_bytes (roles.number_of p.role ∷ p.index ∷ []) in
+    let back = length-u64_bytes (p.address ∷ length p.bytes ∷ []) in
+    length-append (u32_bytes (roles.number_of p.role ∷ p.index ∷ [])) (u64_bytes (p.address ∷ length p.bytes ∷ [])) ∙ omega (arith, front, back)
+
+part_same : (p q : Part) → IsAlike p q → p.bytes ≡ q.bytes → p ≡ q
+part_same p q a e =
+    let made : Role → ℕ → ℕ → List ℕ → Part = λ role index address bytes. record { role = role; index = index; address = address; bytes = bytes } in
+    ap (λ (role : Role). made role p.index p.address p.bytes) a.role
+    ∙ ap (λ (index : ℕ). made q.role index p.address p.bytes) a.index
+    ∙ ap (λ (address : ℕ). made q.role q.index address p.bytes) a.address
+    ∙ ap (λ (bytes : List ℕ). made q.role q.index q.address bytes) e
+
+abbrev AreAlike : List Part → List Part → Type 0
+AreAlike [] [] = Unit {0}
+AreAlike [] (q ∷ qs) = ⊥
+AreAlike (p ∷ ps) [] = ⊥
+AreAlike (p ∷ ps) (q ∷ qs) = IsAlike p q × AreAlike ps qs
+
+-- as many records, and what follows
+records_same : (ps qs : List Part) → All FitsRecord ps → All FitsRecord qs → length ps ≡ length qs
+    → (x y : List ℕ) → flat_map part_record ps ++ x ≡ flat_map part_record qs ++ y → AreAlike ps qs × (x ≡ y)
+records_same [] [] hp hq l x y e = (tt, e)
+records_same [] (q ∷ qs) hp hq l x y e = absurd (omega arith)
+records_same (p ∷ ps) [] hp hq l x y e = absurd (omega arith)
+records_same (p ∷ ps) (q ∷ qs) hp hq l x y e =
+    let wide : length (part_record p) ≡ length (part_record q) = length-part_record p ∙ sym (length-part_record q) in
+    let apart : part_record p ++ (flat_map part_record ps ++ x) ≡ part_record q ++ (flat_map part_record qs ++ y) =
+    sym (append_assoc (part_record p) (flat_map part_record ps) x) ∙ e ∙ append_assoc (part_record q) (flat_map part_record qs) y in
+    let first : IsAlike p q = record_same p q (hp 0 p (omega arith)) (hq 0 q (omega arith)) (front_same _ _ _ _ wide apart) in
+    let rest = records_same ps qs (All-tail FitsRecord p ps hp) (All-tail FitsRecord q qs hq) (omega arith) x y (back_same _ _ _ _ wide apart) in
+    ((first, rest.0), rest.1)
+
+-- parts with the same records are told apart by their bytes alone
+parts_same : (ps qs : List Part) → AreAlike ps qs → flat_map (λ (part : Part). part.bytes) ps ≡ flat_map (λ (part : Part). part.bytes) qs → ps ≡ qs
+parts_same [] [] alike e = refl
+parts_same [] (q ∷ qs) alike e = absurd alike
+parts_same (p ∷ ps) [] alike e = absurd alike
+parts_same (p ∷ ps) (q ∷ qs) alike e =
+    let first : p ≡ q = part_same p q alike.0 (front_same _ _ _ _ alike.0.count e) in
+    let rest : ps ≡ qs = parts_same ps qs alike.1 (back_same _ _ _ _ alike.0.count e) in
+    cc
+
+-- the numbers of the head
+abbrev words : Handover → List ℕ
+words h = 1 ∷ protocols.number_of h.protocol ∷ (register_numbers h.registers ++ length h.parts ∷ 0 ∷ [])
+
+protocol_fits : (p : Protocol) → protocols.number_of p < 2 ^ 32
+protocol_fits Multiboot2 = lit< tt
+protocol_fits Linux = lit< tt
+
+words_fit : (h : Handover) → IsSpellable h → All (λ n. n < 2 ^ 32) (words h)
+words_fit h s =
+    let fits : (n : ℕ) → Type 0 = λ n. n < 2 ^ 32 in
+    let last : List ℕ = length h.parts ∷ 0 ∷ [] in
+    let rest : List ℕ = register_numbers h.registers ++ last in
+    let end : All fits last = pair_fits (2 ^ 32) (length h.parts) 0 s.count (lit< tt) in
+    All-cons fits 1 (protocols.number_of h.protocol ∷ rest) (lit< tt)
+    (All-cons fits (protocols.number_of h.protocol) rest (protocol_fits h.protocol)
+    (All-append fits (register_numbers h.registers) last s.registers end))
+
+words_same : (h k : Handover) → IsSpellable h → IsSpellable k → (x y : List ℕ) → (magic ++ u32_bytes (words h)) ++ x ≡ (magic ++ u32_bytes (words k)) ++ y
+    → (words h ≡ words k) × (x ≡ y)
+words_same h k sh sk x y e =
+    let wide : length (u32_bytes (words h)) ≡ length (u32_bytes (words k)) = length-u32_bytes (words h) ∙ sym (length-u32_bytes (words k)) in
+    let front : length (magic ++ u32_bytes (words h)) ≡ length (magic ++ u32_bytes (words k)) =
+    length-append magic (u32_bytes (words h)) ∙ ap (λ (n : ℕ). length magic + n) wide ∙ sym (length-append magic (u32_bytes (words k))) in
+    let heads : magic ++ u32_bytes (words h) ≡ magic ++ u32_bytes (words k) = front_same (magic ++ u32_bytes (words h)) (magic ++ u32_bytes (words k)) x y front e in
+    (u32_same (words h) (words k) (words_fit h sh) (words_fit k sk) refl (back_same magic magic (u32_bytes (words h)) (u32_bytes (words k)) refl heads), back_same (magic ++ u32_bytes (words h)) (magic ++ u32_bytes (words k)) x y front e)
+
+handover_same : (h k : Handover) → h.protocol ≡ k.protocol → h.registers ≡ k.registers → h.parts ≡ k.parts → h ≡ k
+handover_same h k protocol registers parts =
+    let made : Protocol → Registers → List Part → Handover = λ p r ps. record { protocol = p; registers = r; parts = ps } in
+    ap (λ (p : Protocol). made p h.registers h.parts) protocol
+    ∙ ap (λ (r : Registers). made k.protocol r h.parts) registers
+    ∙ ap (λ (ps : List Part). made k.protocol k.registers ps) parts
+
+pub image_is_read_again : (h k : Handover) → IsSpellable h → IsSpellable k → spelling h ≡ spelling k → h ≡ k
+image_is_read_again h k sh sk e =
+    let top = words_same h k sh sk _ _ e in
+    let count : length h.parts ≡ length k.parts = ap (λ (l : List ℕ). get_or l 22 0) top.0 in
+    let below = records_same h.parts k.parts sh.parts sk.parts count _ _ top.1 in
+    handover_same h k
+    (protocol_same h.protocol k.protocol (ap (λ (l : List ℕ). get_or l 1 0) top.0))
+    (registers_same h.registers k.registers (ap (λ (l : List ℕ). take 20 (drop 2 l)) top.0))
+    (parts_same h.parts k.parts below.0 below.1)

@@ -1,0 +1,59 @@
+-- The image of what memory hands over, place by place.
+use Rattle.std.proofs.Common.{◌≡◌, ◌<◌, ◌≤◌, ◌+◌, ℕ, List, [], ◌∷◌, ◌++◌, length, get_or, drop, map, slice_range, All, arith, rules, refl, sym, ap, ◌∙◌}
+use Rattle.std.proofs.lemmas.List.{places, length-map, at_drop_more}
+use Rattle.std.proofs.lemmas.List.Elements.{All-tail}
+use Rattle.std.proofs.lemmas.List.Concat.{flat_map-cons}
+use Rattle.std.specs.List.{flat_map}
+use Rattle.bl_mem.proofs.Overwrites.{range_more}
+use Rattle.bl_plan.specs.declared.place.Place.{Place}
+use Rattle.bl_load.specs.declared.protocol.Protocol.{Protocol}
+use Rattle.bl_load.specs.declared.registers.Registers.{Registers}
+use Rattle.bl_load.specs.Handover.{Part}
+use Rattle.bl_load.specs.Planned.{part_in, handover_in}
+use Rattle.bl_image.specs.Image.{head, record_of, part_record, place_record, place_bytes, spelling}
+
+-- the place ends inside memory
+abbrev pub EndsIn : List ℕ → Place → Type 0
+EndsIn bytes place = place.address + place.length ≤ length bytes
+
+-- memory has as many bytes at a place as the place has
+pub length-place_bytes : (bytes : List ℕ) (place : Place) → EndsIn bytes place → length (place_bytes bytes place) ≡ place.length
+length-place_bytes bytes place h = search (rules, places)
+
+records_in : (bytes : List ℕ) (ps : List Place) → All (EndsIn bytes) ps → flat_map place_record ps ≡ flat_map part_record (map (part_in bytes) ps)
+records_in bytes [] h = refl
+records_in bytes (p ∷ ps) h =
+    flat_map-cons place_record p ps
+    ∙ ap (λ (n : ℕ). record_of p.role p.index p.address n ++ flat_map place_record ps) (sym (length-place_bytes bytes p (h 0 p (omega arith))))
+    ∙ ap (λ (l : List ℕ). part_record (part_in bytes p) ++ l) (records_in bytes ps (All-tail (EndsIn bytes) p ps h))
+    ∙ sym (flat_map-cons part_record (part_in bytes p) (map (part_in bytes) ps))
+
+bytes_in : (bytes : List ℕ) (ps : List Place) → flat_map (place_bytes bytes) ps ≡ flat_map (λ (part : Part). part.bytes) (map (part_in bytes) ps)
+bytes_in bytes [] = refl
+bytes_in bytes (p ∷ ps) =
+    flat_map-cons (place_bytes bytes) p ps
+    ∙ ap (λ (l : List ℕ). place_bytes bytes p ++ l) (bytes_in bytes ps)
+    ∙ sym (flat_map-cons (λ (part : Part). part.bytes) (part_in bytes p) (map (part_in bytes) ps))
+
+-- head, records and bytes of these places are the image
+pub spelling_in : (bytes : List ℕ) (protocol : Protocol) (r : Registers) (ps : List Place) → All (EndsIn bytes) ps
+    → spelling (handover_in bytes protocol r ps) ≡ head protocol r (length ps) ++ (flat_map place_record ps ++ flat_map (place_bytes bytes) ps)
+spelling_in bytes protocol r ps h =
+    ap (λ (n : ℕ). head protocol r n ++ (flat_map part_record (map (part_in bytes) ps) ++ flat_map (λ (part : Part). part.bytes) (map (part_in bytes) ps))) (length-map ps (part_in bytes))
+    ∙ ap (λ (l : List ℕ). head protocol r (length ps) ++ (l ++ flat_map (λ (part : Part). part.bytes) (map (part_in bytes) ps))) (sym (records_in bytes ps h))
+    ∙ ap (λ (l : List ℕ). head protocol r (length ps) ++ (flat_map place_record ps ++ l)) (sym (bytes_in bytes ps))
+
+-- the first of what is left
+pub flat_map-drop : {X : Type 0} (f : X → List ℕ) (xs : List X) (k : ℕ) (x : X) → x ≡ get_or xs k x → k < length xs
+    → flat_map f (drop k xs) ≡ f x ++ flat_map f (drop (k + 1) xs)
+flat_map-drop {X = X} f xs k x e h =
+    at_drop_more (flat_map f) xs k x h
+    ∙ flat_map-cons f (get_or xs k x) (drop (k + 1) xs)
+    ∙ ap (λ (y : X). f y ++ flat_map f (drop (k + 1) xs)) (sym e)
+
+-- the bytes at a place, from done on
+pub range-more : (bytes : List ℕ) (at done next count : ℕ) → done + next ≤ count → at + count ≤ length bytes
+    → slice_range bytes (at + done) (at + count) ≡ slice_range bytes (at + done) (at + done + next) ++ slice_range bytes (at + (done + next)) (at + count)
+range-more bytes at done next count h inside =
+    sym (range_more bytes (at + done) (at + done + next) (at + count) (omega arith) (omega arith) inside)
+    ∙ ap (λ (n : ℕ). slice_range bytes (at + done) (at + done + next) ++ slice_range bytes n (at + count)) (omega arith)

@@ -1,0 +1,54 @@
+-- The image of a handover, version 1: its one spelling. All numbers are little-endian. Own.
+use Rattle.std.specs.Prelude.{ℕ, ◌+◌, List, [], ◌∷◌, ◌++◌, length, codes, slice_range}
+use Rattle.std.specs.List.{flat_map}
+use Rattle.byteorder.specs.Endian.{little_bytes}
+use Rattle.bl_plan.specs.declared.place.Place.{Place}
+use Rattle.bl_plan.specs.declared.role.Role.{Role}
+use Rattle.bl_plan.specs.Roles as roles
+use Rattle.bl_load.specs.declared.protocol.Protocol.{Protocol}
+use Rattle.bl_load.specs.declared.registers.Registers.{Registers}
+use Rattle.bl_load.specs.Protocols as protocols
+use Rattle.bl_load.specs.Handover.{Part, Handover}
+
+-- numbers of 32 and of 64 bits, one behind the other
+unfoldable pub u32_bytes : List ℕ → List ℕ
+u32_bytes numbers = flat_map (little_bytes 4) numbers
+
+unfoldable pub u64_bytes : List ℕ → List ℕ
+u64_bytes numbers = flat_map (little_bytes 8) numbers
+
+-- `BLIMAGE` and a zero byte
+abbrev pub magic : List ℕ
+magic = codes "BLIMAGE" ++ 0 ∷ []
+
+-- the registers in their order
+abbrev pub register_numbers : Registers → List ℕ
+register_numbers r =
+    r.eip ∷ r.eax ∷ r.ebx ∷ r.ecx ∷ r.edx ∷ r.esi ∷ r.edi ∷ r.ebp ∷ r.esp ∷ r.eflags
+    ∷ r.cr0 ∷ r.cs ∷ r.ds ∷ r.es ∷ r.fs ∷ r.gs ∷ r.ss ∷ r.gdt_base ∷ r.gdt_limit ∷ r.a20 ∷ []
+
+-- the magic; version, protocol; the registers; the number of parts, a zero word
+abbrev pub head : Protocol → Registers → ℕ → List ℕ
+head protocol registers count =
+    magic ++ u32_bytes (1 ∷ protocols.number_of protocol ∷ (register_numbers registers ++ count ∷ 0 ∷ []))
+
+-- a record: role, index; address, length
+abbrev pub record_of : Role → ℕ → ℕ → ℕ → List ℕ
+record_of role index address count =
+    u32_bytes (roles.number_of role ∷ index ∷ []) ++ u64_bytes (address ∷ count ∷ [])
+
+abbrev pub part_record : Part → List ℕ
+part_record part = record_of part.role part.index part.address (length part.bytes)
+
+-- the head, a record for each part in the order of addresses, the bytes of the parts in the same order
+abbrev pub spelling : Handover → List ℕ
+spelling h =
+    head h.protocol h.registers (length h.parts)
+    ++ (flat_map part_record h.parts ++ flat_map (λ part. part.bytes) h.parts)
+
+-- the same of a place in memory
+abbrev pub place_record : Place → List ℕ
+place_record place = record_of place.role place.index place.address place.length
+
+abbrev pub place_bytes : List ℕ → Place → List ℕ
+place_bytes bytes place = slice_range bytes place.address (place.address + place.length)

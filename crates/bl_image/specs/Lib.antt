@@ -1,0 +1,4 @@
+pub mod Begun
+pub mod Faults
+pub mod Image
+pub mod Spellable

@@ -1,0 +1,21 @@
+//! The image of a handoff, written to a sink.
+#![tactic(auto)]
+
+mod fault;
+mod head;
+mod history;
+mod io_sink;
+mod laws;
+mod mem_sink;
+mod parts;
+mod sink;
+#[cfg(test)]
+mod tests;
+mod write;
+
+pub use fault::ImageFault;
+pub use io_sink::IoSink;
+pub use laws::image_tells_all;
+pub use mem_sink::MemSink;
+pub use sink::{DeviceFault, Sink, write_all};
+pub use write::write_image;

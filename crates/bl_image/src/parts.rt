@@ -1,0 +1,85 @@
+//! The bytes of the parts, from memory to a sink.
+ghost use Rattle.std.specs.Prelude.{◌≡◌, ◌+◌, ◌≤◌, ◌<◌, ◌^◌, ◌++◌, length, slice_range, All, OnOk, OnErr};
+ghost use Rattle.std.specs.List.{flat_map};
+ghost use Rattle.bl_image.specs.Begun.{IsBegun};
+ghost use Rattle.bl_image.specs.Image.{place_bytes};
+
+use crate::sink::{DeviceFault, Sink, write_all};
+use bl_load::Handoff;
+use bl_mem::PhysMem;
+use bl_plan::Place;
+use std::alloc::Allocator;
+
+/// Writes what stands in memory from `at` on, as much as the buffer holds.
+fn write_piece<M: PhysMem, S: Sink>(
+    memory: &M,
+    sink: &mut S,
+    at: u64,
+    buffer: &mut [u8],
+) -> Result<(), DeviceFault>
+    requires inside { at + length buffer.old ≤ length (M.bytes memory.now) }
+    requires faults { S.faults sink.old < 2 ^ 63 }
+    ensures ok { OnOk result (S.contents sink.new ≡ S.contents sink.old
+        ++ slice_range (M.bytes memory.now) at (at + length buffer.old)) }
+    ensures sound { OnOk result (S.faults sink.new ≡ S.faults sink.old) }
+    ensures begun { OnErr result (IsBegun (S.contents sink.old) (S.contents sink.new)
+        (slice_range (M.bytes memory.now) at (at + length buffer.old))) }
+    ensures fault { OnErr result (S.faults sink.new ≡ S.faults sink.old + 1) }
+{
+    memory.read(at, buffer);
+    write_all(sink, buffer)
+}
+
+/// Writes what stands in memory at a place, in pieces of the buffer's length.
+fn write_part<M: PhysMem, S: Sink>(
+    memory: &M,
+    sink: &mut S,
+    place: &Place,
+    buffer: &mut [u8],
+) -> Result<(), DeviceFault>
+    requires inside { place.now.address + place.now.length ≤ length (M.bytes memory.now) }
+    requires room { 1 ≤ length buffer.old }
+    requires faults { S.faults sink.old < 2 ^ 63 }
+    ensures ok { OnOk result (S.contents sink.new ≡ S.contents sink.old
+        ++ place_bytes (M.bytes memory.now) place.now) }
+    ensures sound { OnOk result (S.faults sink.new ≡ S.faults sink.old) }
+    ensures begun { OnErr result (IsBegun (S.contents sink.old) (S.contents sink.new)
+        (place_bytes (M.bytes memory.now) place.now)) }
+    ensures fault { OnErr result (S.faults sink.new ≡ S.faults sink.old + 1) }
+{
+    // The size bounds each address below.
+    let _size = memory.size();
+    let most = buffer.len() as u64;
+    let mut done = 0u64;
+    while done < place.length {
+        let next = (place.length - done).min(most);
+        let piece = &mut buffer[..next as usize];
+        write_piece(memory, sink, place.address + done, piece)?;
+        done += next;
+    }
+    Ok(())
+}
+
+/// Writes what stands in memory at each place, in the order of addresses.
+pub(crate) fn write_parts<M: PhysMem, S: Sink, A: Allocator>(
+    memory: &M,
+    sink: &mut S,
+    handoff: &Handoff<A>,
+    buffer: &mut [u8],
+) -> Result<(), DeviceFault>
+    requires inside { All (λ place. place.address + place.length ≤ length (M.bytes memory.now)) handoff.now.places }
+    requires room { 1 ≤ length buffer.old }
+    requires faults { S.faults sink.old < 2 ^ 63 }
+    ensures ok { OnOk result (S.contents sink.new ≡ S.contents sink.old
+        ++ flat_map (place_bytes (M.bytes memory.now)) handoff.now.places) }
+    ensures sound { OnOk result (S.faults sink.new ≡ S.faults sink.old) }
+    ensures begun { OnErr result (IsBegun (S.contents sink.old) (S.contents sink.new)
+        (flat_map (place_bytes (M.bytes memory.now)) handoff.now.places)) }
+    ensures fault { OnErr result (S.faults sink.new ≡ S.faults sink.old + 1) }
+{
+    for i in 0..handoff.len() {
+        let place = handoff.place(i);
+        write_part(memory, sink, &place, buffer)?;
+    }
+    Ok(())
+}

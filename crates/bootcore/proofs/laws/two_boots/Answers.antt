@@ -1,0 +1,14 @@
+use Rattle.bootcore.proofs.EndLaws.{one_handover, one_refusal, one_image, no_boot}
+use Rattle.bootcore.proofs.laws.two_boots.Goals as goal
+
+pub returns-clause-one_handover : goal.returns-clause-one_handover
+returns-clause-one_handover g c = one_handover
+
+pub returns-clause-one_refusal : goal.returns-clause-one_refusal
+returns-clause-one_refusal g c = one_refusal
+
+pub returns-clause-one_image : goal.returns-clause-one_image
+returns-clause-one_image g c = λ desc other s t u v m n p q a b alike. one_image s t u v m n p q a b alike
+
+pub returns-clause-no_boot : goal.returns-clause-no_boot
+returns-clause-no_boot g c = λ desc other s t u v m n p q a b alike. no_boot s t u v m n p q a b alike

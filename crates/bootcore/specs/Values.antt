@@ -1,0 +1,95 @@
+-- What the values of a description's TOML tree mean, one by one. Own.
+use Rattle.std.specs.Prelude.{ℕ, pos, Bool, true, ◌&&◌, if◌then◌else◌, nat_lt, List, [], ◌∷◌, Option, Some, None, Result, Ok, Err}
+use Rattle.std.specs.Str.{bytes_eq}
+use Rattle.std.specs.List.{list_any}
+use Rattle.std.specs.declared.ops.Range.{Range}
+use Rattle.toml.specs.Data.{Data, integer, string, array, table, Items, no_items, item, Members, no_members, member, get_member}
+use Rattle.hex.specs.Hex.{decode_of}
+
+infixl 10 ◌>>=◌
+abbrev pub ◌>>=◌ : {A B : Type 0} → Option A → (A → Option B) → Option B
+(Some x) >>= f = f x
+None >>= f = None
+
+-- what was read, where it passes a test
+abbrev pub passing : {A : Type 0} → (A → Bool) → A → Option A
+passing test x = if test x then Some x else None
+
+-- ---- values
+
+-- a number is a TOML integer that is not negative
+abbrev pub number_of : Data → Option ℕ
+number_of (integer (pos n)) = Some n
+number_of _ = None
+
+abbrev pub byte_of : Data → Option ℕ
+byte_of d = number_of d >>= passing (λ n. nat_lt n 256)
+
+abbrev pub text_of : Data → Option (List ℕ)
+text_of (string s) = Some s
+text_of _ = None
+
+abbrev pub bytes_from : {E : Type 0} → Result (List ℕ) E → Option (List ℕ)
+bytes_from (Ok bytes) = Some bytes
+bytes_from (Err e) = None
+
+-- the bytes that a text of hexadecimal digits stands for, two digits a byte
+abbrev pub bytes_of : Data → Option (List ℕ)
+bytes_of d = text_of d >>= λ text. bytes_from (decode_of text)
+
+-- two numbers: where a range starts, and its end
+abbrev pub range_in : Items → Option (Range ℕ)
+range_in (item a (item b no_items)) = do
+  start ← number_of a
+  end ← number_of b
+  Some record { start = start; end = end }
+range_in _ = None
+
+unfoldable pub range_of : Data → Option (Range ℕ)
+range_of (array ds) = range_in ds
+range_of _ = None
+
+-- ---- keys
+
+-- the table has no key but these
+abbrev pub has_only : List (List ℕ) → Members → Bool
+has_only keys no_members = true
+has_only keys (member k d ms) = list_any (λ x. bytes_eq x k) keys && has_only keys ms
+
+-- the value at a key that must stand
+abbrev pub required : {A : Type 0} → (Data → Option A) → Option Data → Option A
+required read None = None
+required read (Some d) = read d
+
+-- the value at a key that may be left out
+abbrev pub optional : {A : Type 0} → (Data → Option A) → A → Option Data → Option A
+optional read x None = Some x
+optional read x (Some d) = read d
+
+abbrev pub at_key : {A : Type 0} → (Data → Option A) → List ℕ → Members → Option A
+at_key read key ms = required read (get_member key ms)
+
+abbrev pub at_key_or : {A : Type 0} → A → (Data → Option A) → List ℕ → Members → Option A
+at_key_or x read key ms = optional read x (get_member key ms)
+
+-- ---- arrays of tables
+
+abbrev pub in_table : {A : Type 0} → (Members → Option A) → Data → Option A
+in_table read (table ms) = read ms
+in_table read _ = None
+
+-- each of the items, in order
+abbrev pub each_item : {A : Type 0} → (Data → Option A) → Items → Option (List A)
+each_item read no_items = Some []
+each_item read (item d ds) = do
+  x ← read d
+  xs ← each_item read ds
+  Some (x ∷ xs)
+
+abbrev pub in_array : {A : Type 0} → (Data → Option A) → Data → Option (List A)
+in_array read (array ds) = each_item read ds
+in_array read _ = None
+
+-- an array of tables, each read by itself
+abbrev pub in_tables : {A : Type 0} → (Members → Option A) → Data → Option (List A)
+in_tables read d = in_array (in_table read) d

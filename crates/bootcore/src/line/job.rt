@@ -1,0 +1,23 @@
+//! What the program is to do.
+
+/// The order in which a file's pieces come: as they were asked for, or the last one first.
+#[derive(Clone, Copy, Debug, PartialEq, Eq)]
+pub enum Order {
+    Forward,
+    Reverse,
+}
+
+/// What the program is to do, with the paths of its files.
+#[derive(Clone, Copy, Debug, PartialEq, Eq)]
+pub enum Job<'a> {
+    /// Boot an entry of a description, and write the image of the handover.
+    Boot {
+        description: &'a str,
+        image: &'a str,
+        order: Order,
+    },
+    /// Say the memory map of a description's machine.
+    Map {
+        description: &'a str,
+    },
+}

@@ -1,0 +1,55 @@
+//! The program: from a boot description to the image of a handover, or to the map of a machine.
+#![tactic(auto)]
+
+mod attempting;
+mod booting;
+mod describing;
+mod fetching;
+mod image_file;
+mod laws;
+mod line;
+mod mapping;
+mod program;
+mod saying;
+#[cfg(test)]
+mod tests;
+
+pub use attempting::{Attempt, Loaded, attempt_entry};
+pub use booting::{BootFault, Ended, boot, machine_of};
+pub use describing::{DescFault, Description, EntryRow, FileRow, Protocol, Text, read_description};
+pub use fetching::{FILE_LIMIT, Fetched, Files, MemFiles, PathFiles, read_file};
+pub use image_file::ImageFile;
+pub use laws::two_boots;
+pub use line::{Job, LineFault, Order, read_line};
+pub use mapping::map_to;
+use program::{run_line, word_of};
+pub use saying::{say_booted, say_map, say_no_entry_left, say_refused};
+use std::process::ExitCode;
+use std::{env, io};
+
+/// The words of the command line, run; or the status where they are no text.
+fn run_words(rt: &HostRuntime) -> u8 {
+    let args = match env::args(rt) {
+        Ok(args) => args,
+        Err(error) if error.kind() == io::ErrorKind::OutOfMemory => return 4,
+        Err(_) => return 64,
+    };
+    let Ok(words) = args.collect::<Vec<String>>(rt.alloc()) else {
+        return 4;
+    };
+    let mut texts = Vec::new(rt.alloc());
+    for word in &words {
+        if texts.push(word.as_str()).is_err() {
+            return 4;
+        }
+    }
+    run_line(rt, &texts)
+}
+
+fn main(rt: HostRuntime) -> ExitCode {
+    let status = run_words(&rt);
+    if let Some(word) = word_of(status) {
+        let _ = rt.eprintln(word);
+    }
+    ExitCode::from(status)
+}

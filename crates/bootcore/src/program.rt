@@ -1,0 +1,103 @@
+//! The program's jobs, on real files.
+ghost use Rattle.std.specs.Prelude.{◌≡◌, ◌⊎◌, ◌≤◌, option_map};
+ghost use Rattle.bootcore.specs.Statuses as statuses;
+
+use crate::booting::boot;
+use crate::fetching::{Fetched, PathFiles, read_file};
+use crate::image_file::ImageFile;
+use crate::line::{Job, LineFault, Order, read_line};
+use crate::mapping::map_to;
+use bl_mem::Bytes;
+use std::alloc::Global;
+use std::io;
+use std::io::Write;
+
+const USAGE: &str = "\
+usage: bootcore boot DESC --out IMAGE [--order forward|reverse]
+       bootcore map DESC
+";
+
+/// Writes to standard output, whose faults are not told.
+fn tell(rt: &HostRuntime, text: &[u8]) {
+    let mut out = rt.stdout();
+    let _ = out.write_all(text);
+    let _ = out.flush();
+}
+
+/// The description at a path, or the status where it can't be read.
+fn read_desc(rt: &HostRuntime, path: &str) -> Result<Bytes<Global>, u8> {
+    match read_file(rt, rt.alloc(), path, u64::MAX) {
+        Ok(Fetched::Bytes(desc)) => Ok(desc),
+        Err(error) if error.kind() == io::ErrorKind::OutOfMemory => Err(4),
+        _ => Err(3),
+    }
+}
+
+/// Boots the description at a path, and writes the image to another.
+fn boot_path(rt: &HostRuntime, path: &str, image: &str, order: Order) -> u8 {
+    let desc = match read_desc(rt, path) {
+        Ok(desc) => desc,
+        Err(status) => return status,
+    };
+    let mut files = PathFiles::new(rt);
+    let mut out = ImageFile::new(rt, image);
+    let mut say = Vec::new(rt.alloc());
+    let status = boot(
+        rt.alloc(),
+        rt.alloc(),
+        desc.as_slice(),
+        &mut files,
+        order,
+        &mut out,
+        &mut say,
+    );
+    tell(rt, &say);
+    status
+}
+
+/// Says the map of the description at a path.
+fn map_path(rt: &HostRuntime, path: &str) -> u8 {
+    let desc = match read_desc(rt, path) {
+        Ok(desc) => desc,
+        Err(status) => return status,
+    };
+    let mut say = Vec::new(rt.alloc());
+    let status = map_to(rt.alloc(), rt.alloc(), desc.as_slice(), &mut say);
+    tell(rt, &say);
+    status
+}
+
+/// Does what a command line asks for, and answers the program's status.
+pub fn run_line(rt: &HostRuntime, words: &[&str]) -> u8
+    ensures { (result ≤ 4) ⊎ (result ≡ 64) }
+{
+    match read_line(rt.alloc(), words) {
+        Ok(
+            Job::Boot {
+                description,
+                image,
+                order,
+            },
+        ) => boot_path(rt, description, image, order),
+        Ok(Job::Map { description }) => map_path(rt, description),
+        Err(LineFault::Help) => {
+            tell(rt, USAGE.as_bytes());
+            0
+        }
+        Err(LineFault::Refused) => 64,
+        Err(LineFault::NoMemory) => 4,
+    }
+}
+
+/// What is said on standard error as the program ends with a status.
+pub fn word_of(status: u8) -> Option<&'static str>
+    ensures { option_map (λ word. word.now) result ≡ statuses.word_of status }
+{
+    match status {
+        2 => Some("bad description"),
+        3 => Some("file fault"),
+        4 => Some("no memory"),
+        64 => Some("bad command line"),
+        _ => None,
+    }
+}
