@@ -1,5 +1,5 @@
 //! The program's jobs, on real files.
-ghost use Rattle.std.specs.Prelude.{◌≡◌, ◌⊎◌, ◌≤◌, option_map};
+ghost use Rattle.std.specs.Prelude.{◌≡◌, ◌⊎◌, ◌≤◌, option_map, IfErr};
 ghost use Rattle.bootcore.specs.Statuses as statuses;
 
 use crate::booting::boot;
@@ -25,7 +25,9 @@ fn tell(rt: &HostRuntime, text: &[u8]) {
 }
 
 /// The description at a path, or the status where it can't be read.
-fn read_desc(rt: &HostRuntime, path: &str) -> Result<Bytes<Global>, u8> {
+fn read_desc(rt: &HostRuntime, path: &str) -> Result<Bytes<Global>, u8>
+    ensures { IfErr result (λ status. status ≤ 4) }
+{
     match read_file(rt, rt.alloc(), path, u64::MAX) {
         Ok(Fetched::Bytes(desc)) => Ok(desc),
         Err(error) if error.kind() == io::ErrorKind::OutOfMemory => Err(4),
@@ -34,7 +36,9 @@ fn read_desc(rt: &HostRuntime, path: &str) -> Result<Bytes<Global>, u8> {
 }
 
 /// Boots the description at a path, and writes the image to another.
-fn boot_path(rt: &HostRuntime, path: &str, image: &str, order: Order) -> u8 {
+fn boot_path(rt: &HostRuntime, path: &str, image: &str, order: Order) -> u8
+    ensures { result ≤ 4 }
+{
     let desc = match read_desc(rt, path) {
         Ok(desc) => desc,
         Err(status) => return status,
@@ -56,7 +60,9 @@ fn boot_path(rt: &HostRuntime, path: &str, image: &str, order: Order) -> u8 {
 }
 
 /// Says the map of the description at a path.
-fn map_path(rt: &HostRuntime, path: &str) -> u8 {
+fn map_path(rt: &HostRuntime, path: &str) -> u8
+    ensures { result ≤ 4 }
+{
     let desc = match read_desc(rt, path) {
         Ok(desc) => desc,
         Err(status) => return status,

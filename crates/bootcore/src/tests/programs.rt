@@ -52,7 +52,9 @@ fn files_are_read_up_to_a_limit(rt: HostRuntime) -> Result<(), Fail> {
     let mut files = PathFiles::new(&rt);
     let fetched = files.fetch(rt.alloc(), &path)?;
     fs::remove_file(&rt, &path)?;
-    assert!(rt; matches!(&whole, Fetched::Bytes(bytes) if bytes.as_slice() == b"0123456789"));
+    assert!(rt;
+        matches!(&whole, Fetched::Bytes(bytes) if bytes.as_slice() == b"0123456789".as_slice())
+    );
     assert!(rt; matches!(&long, Fetched::TooLong(10)));
     assert!(rt; matches!(&fetched, Fetched::Bytes(bytes) if bytes.len() == 10));
     assert!(rt; files.faults() == 0);
