@@ -51,7 +51,7 @@ one_kernel file a b is_a is_b =
     let header : is_b.header ≡ is_a.header = same_header file is_a.header is_b.header is_a.is_header is_b.is_header in
     let facts : is_b.facts ≡ is_a.facts = same_loaded file is_a.header is_b.header is_a.facts is_b.facts is_a.is_header is_b.is_header is_a.loaded is_b.loaded in
     let entry : entry_of is_a.header is_a.facts ≡ Some b.entry =
-        sym (ap (λ (h : Header). entry_of h is_a.facts) header) ∙ sym (ap (λ (f : ElfFacts). entry_of is_b.header f) facts) ∙ is_b.entry in
+    sym (ap (λ (h : Header). entry_of h is_a.facts) header) ∙ sym (ap (λ (f : ElfFacts). entry_of is_b.header f) facts) ∙ is_b.entry in
     same_kernel a b
     (is_a.segments ∙ sym (ap (λ (f : ElfFacts). f.segments) facts) ∙ sym is_b.segments)
     (same_Some a.entry b.entry (sym is_a.entry ∙ entry))
@@ -166,5 +166,5 @@ not_both facts value h r is (inr (inl (form, line))) = let bad : None ≡ Some r
 not_both facts value h r is (inr (inr (inl (form, line, kernel)))) = kernel_not_fault (kernel_file value) is.kernel r is.is_kernel kernel
 not_both facts value h r is (inr (inr (inr (form, line, (k, is_k, (f, a, f_is)))))) =
     let placed : ArePlaced facts [] (rows_of facts value.line k) is.places =
-        subst (λ (x : KernelFacts). ArePlaced facts [] (rows_of facts value.line x) is.places) (one_kernel (kernel_file value) is.kernel k is.is_kernel is_k) is.placed in
+    subst (λ (x : KernelFacts). ArePlaced facts [] (rows_of facts value.line x) is.places) (one_kernel (kernel_file value) is.kernel k is.is_kernel is_k) is.placed in
     places.not_both facts [] (rows_of facts value.line k) is.places f placed a

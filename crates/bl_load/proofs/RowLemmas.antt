@@ -307,7 +307,7 @@ held_between (s ∷ segments) a low high above below held =
 pub entry_within : (file : List ℕ) (kernel : KernelFacts) → IsKernel file kernel → (low_of kernel.segments ≤ kernel.entry) × (kernel.entry < high_of kernel.segments)
 entry_within file kernel is =
     let sound : entry_fault kernel.segments (Some kernel.entry) ≡ None =
-        subst (λ (e : Option ℕ). entry_fault kernel.segments e ≡ None) is.entry (subst (λ (ss : List Segment). entry_fault ss (entry_of is.header is.facts) ≡ None) (sym is.segments) is.sound) in
+    subst (λ (e : Option ℕ). entry_fault kernel.segments e ≡ None) is.entry (subst (λ (ss : List Segment). entry_fault ss (entry_of is.header is.facts) ≡ None) (sym is.segments) is.sound) in
     held_between kernel.segments kernel.entry (low_of kernel.segments) (high_of kernel.segments) (low_below kernel.segments) (high_above_all kernel.segments) (entry_held kernel.segments kernel.entry sound)
 
 -- segments at their own addresses end no higher than their places

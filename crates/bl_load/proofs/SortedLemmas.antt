@@ -104,12 +104,12 @@ low_found (s ∷ t ∷ segments) h =
     let rest = low_found (t ∷ segments) (omega arith) in
     elim (cases_lt s.address (low_of (t ∷ segments))) [
       | inl less ↦
-        let e : low_of (s ∷ t ∷ segments) ≡ s.address = omega arith in
-        let f : nat_eq s.address (low_of (s ∷ t ∷ segments)) ≡ true = grind (arith, nat_tests) in
-        first_or (nat_eq s.address (low_of (s ∷ t ∷ segments))) (list_any (begins_at (low_of (s ∷ t ∷ segments))) (t ∷ segments)) f
+          let e : low_of (s ∷ t ∷ segments) ≡ s.address = omega arith in
+          let f : nat_eq s.address (low_of (s ∷ t ∷ segments)) ≡ true = grind (arith, nat_tests) in
+          first_or (nat_eq s.address (low_of (s ∷ t ∷ segments))) (list_any (begins_at (low_of (s ∷ t ∷ segments))) (t ∷ segments)) f
       | inr more ↦
-        let e : low_of (t ∷ segments) ≡ low_of (s ∷ t ∷ segments) = omega arith in
-        some_or (nat_eq s.address (low_of (s ∷ t ∷ segments))) (list_any (begins_at (low_of (s ∷ t ∷ segments))) (t ∷ segments)) (subst (λ (n : ℕ). list_any (begins_at n) (t ∷ segments) ≡ true) e rest)
+          let e : low_of (t ∷ segments) ≡ low_of (s ∷ t ∷ segments) = omega arith in
+          some_or (nat_eq s.address (low_of (s ∷ t ∷ segments))) (list_any (begins_at (low_of (s ∷ t ∷ segments))) (t ∷ segments)) (subst (λ (n : ℕ). list_any (begins_at n) (t ∷ segments) ≡ true) e rest)
     ]
 
 not_below : (segments : List Segment) (n m : ℕ) → All (IsFrom n) segments → list_any (begins_at m) segments ≡ true → n ≤ m
@@ -145,12 +145,12 @@ high_found (s ∷ t ∷ segments) h =
     let rest = high_found (t ∷ segments) (omega arith) in
     elim (cases_lt (s.address + s.memsz) (high_of (t ∷ segments))) [
       | inl less ↦
-        let e : high_of (t ∷ segments) ≡ high_of (s ∷ t ∷ segments) = omega arith in
-        some_or (nat_eq (s.address + s.memsz) (high_of (s ∷ t ∷ segments))) (list_any (ends_at (high_of (s ∷ t ∷ segments))) (t ∷ segments)) (subst (λ (n : ℕ). list_any (ends_at n) (t ∷ segments) ≡ true) e rest)
+          let e : high_of (t ∷ segments) ≡ high_of (s ∷ t ∷ segments) = omega arith in
+          some_or (nat_eq (s.address + s.memsz) (high_of (s ∷ t ∷ segments))) (list_any (ends_at (high_of (s ∷ t ∷ segments))) (t ∷ segments)) (subst (λ (n : ℕ). list_any (ends_at n) (t ∷ segments) ≡ true) e rest)
       | inr more ↦
-        let e : high_of (s ∷ t ∷ segments) ≡ s.address + s.memsz = omega arith in
-        let f : nat_eq (s.address + s.memsz) (high_of (s ∷ t ∷ segments)) ≡ true = grind (arith, nat_tests) in
-        first_or (nat_eq (s.address + s.memsz) (high_of (s ∷ t ∷ segments))) (list_any (ends_at (high_of (s ∷ t ∷ segments))) (t ∷ segments)) f
+          let e : high_of (s ∷ t ∷ segments) ≡ s.address + s.memsz = omega arith in
+          let f : nat_eq (s.address + s.memsz) (high_of (s ∷ t ∷ segments)) ≡ true = grind (arith, nat_tests) in
+          first_or (nat_eq (s.address + s.memsz) (high_of (s ∷ t ∷ segments))) (list_any (ends_at (high_of (s ∷ t ∷ segments))) (t ∷ segments)) f
     ]
 
 not_above : (segments : List Segment) (n m : ℕ) → All (IsUpTo n) segments → list_any (ends_at m) segments ≡ true → m ≤ n

@@ -62,16 +62,35 @@ entry_at entry segments (Some r) base = entry - low_of segments + base
 -- the state that Multiboot2 3.3 asks for; what it leaves open is own
 abbrev pub multiboot2_registers : ℕ → ℕ → Registers
 multiboot2_registers entry information = record {
-  eip = entry; eax = 0x36D76289; ebx = information; ecx = 0; edx = 0; esi = 0; edi = 0; ebp = 0; esp = 0;
-  eflags = 2; cr0 = 0x11; cs = 0x10; ds = 0x18; es = 0x18; fs = 0x18; gs = 0x18; ss = 0x18;
-  gdt_base = 0; gdt_limit = 0; a20 = 1 }
+  eip = entry;
+  eax = 0x36D76289;
+  ebx = information;
+  ecx = 0;
+  edx = 0;
+  esi = 0;
+  edi = 0;
+  ebp = 0;
+  esp = 0;
+  eflags = 2;
+  cr0 = 0x11;
+  cs = 0x10;
+  ds = 0x18;
+  es = 0x18;
+  fs = 0x18;
+  gs = 0x18;
+  ss = 0x18;
+  gdt_base = 0;
+  gdt_limit = 0;
+  a20 = 1;
+}
 
 -- what the entry with this line and this kernel's file hands over, where its rows have these places
 abbrev pub handover_of : Facts → List ℕ → List ℕ → KernelFacts → List Place → Handover
 handover_of facts line file kernel places = record {
   protocol = Multiboot2;
   registers = multiboot2_registers (entry_at kernel.entry kernel.segments kernel.relocation (base_of places)) (information_at places);
-  parts = map (part_from facts line file kernel (base_of places)) (in_order places) }
+  parts = map (part_from facts line file kernel (base_of places)) (in_order places);
+}
 
 -- this is what an entry of this value hands over on a machine of these facts
 pub record IsHandover (facts : Facts) (value : EntryValue) (handover : Handover) : Type 0 where
@@ -101,7 +120,7 @@ IsRefusal facts value refused =
     ⊎ ((form_fault value.protocol value.module_lines ≡ None) × (line_fault value.line ≡ Some refused))
     ⊎ ((form_fault value.protocol value.module_lines ≡ None) × (line_fault value.line ≡ None) × HasKernelFault (kernel_file value) refused)
     ⊎ ((form_fault value.protocol value.module_lines ≡ None) × (line_fault value.line ≡ None) × ((kernel : KernelFacts) × IsKernel (kernel_file value) kernel
-      × HasPlaceFault facts value.line kernel refused))
+    × HasPlaceFault facts value.line kernel refused))
 
 -- why an entry is not prepared, unless memory ran out
 abbrev pub IsPrepFault : Facts → EntryValue → PrepFault → Type 0

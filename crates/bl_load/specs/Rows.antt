@@ -48,7 +48,8 @@ information_of facts line relocation base = record {
   runs = facts.runs;
   rsdp_old = None;
   rsdp_new = None;
-  load_base = option_map (λ r. base) relocation }
+  load_base = option_map (λ r. base) relocation;
+}
 
 -- the information, in whole frames, at the lowest place from 4096 on; its size does not depend on where the kernel is
 abbrev pub information_row : Facts → List ℕ → Option Relocation → Row

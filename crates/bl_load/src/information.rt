@@ -28,8 +28,15 @@ pub fn information<A: Allocator + Copy>(
     requires short { length line.now ≤ 4095 }
     requires base { IfSome load_base (λ base. base < 2 ^ 32) }
     ensures { IfOk result (λ bytes. bytes ≡ spelling (codes "bootcore") record {
-        line = line.now; modules = []; mem_lower = low_kib machine.now.runs; mem_upper = high_kib machine.now.runs;
-        runs = machine.now.runs; rsdp_old = None; rsdp_new = None; load_base = load_base }) }
+      line = line.now;
+      modules = [];
+      mem_lower = low_kib machine.now.runs;
+      mem_upper = high_kib machine.now.runs;
+      runs = machine.now.runs;
+      rsdp_old = None;
+      rsdp_new = None;
+      load_base = load_base;
+    }) }
 {
     let mem_lower = machine.low_kib() as u32;
     let mem_upper = machine.high_kib() as u32;

@@ -30,3 +30,6 @@ pub use protocol::Protocol;
 pub use refusal::{PrepFault, Refusal};
 pub use registers::Registers;
 pub use room::{frames_in, frames_of, open_frames};
+
+#[cfg(test)]
+mod tests;

@@ -85,3 +85,6 @@ pub fn prepare<A: Allocator + Copy, V: ByteView>(
     };
     plan_parts(alloc, machine, line, &kernel, files)
 }
+
+#[cfg(test)]
+mod tests;

@@ -13,11 +13,12 @@ returns-in_ok-ascending-in-Some-clause-content g c =
 pub returns-in_ok-ascending-in-Some-clause-there : goal.returns-in_ok-ascending-in-Some-clause-there
 returns-in_ok-ascending-in-Some-clause-there g c =
     let is = c.in_ok-ascending-in-Some.ensures ∙ ap ascending c.segments-segments.ensures in
-    let some = c.requires.file in
-    (omega (arith, length-map c.args.files.now g.V.ByteView.bytes),
+    let some = c.requires.file in (
+      omega (arith, length-map c.args.files.now g.V.ByteView.bytes),
       block_some _ (image_facts c.args.kernel.now.image).segments _ c.requires.loadable is,
       block_copied _ (image_facts c.args.kernel.now.image).segments _ _ c.in-Some.field-0 _ _ c.requires.loadable is c.in-Some.is c.requires.length c.requires.small,
-      block_ascends _ (image_facts c.args.kernel.now.image).segments _ c.requires.loadable is)
+      block_ascends _ (image_facts c.args.kernel.now.image).segments _ c.requires.loadable is,
+    )
 
 pub returns-in_ok-ascending-in-Some-clause-short : goal.returns-in_ok-ascending-in-Some-clause-short
 returns-in_ok-ascending-in-Some-clause-short g c =

@@ -25,6 +25,6 @@ new-facts-requires g c =
       small =
           let short = size_below (length c.args.line.now) (length c.args.machine.now.runs) (is_some c.args.load_base) c.requires.short facts.few in
           let size : size_of (length c.in_ok-line.line) (map (λ (m : ModuleInfo). length m.line) c.new-modules.result.items) (length c.in_ok-runs.runs.items) None None (is_some c.args.load_base) < 2 ^ 16 =
-              rw (line, c.new-modules.ensures.items, runs) short in
+          rw (line, c.new-modules.ensures.items, runs) short in
           omega (arith, size);
     }

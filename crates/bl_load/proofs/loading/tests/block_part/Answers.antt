@@ -1,7 +1,7 @@
 use Rattle.std.proofs.Common.{◌≡◌, ℕ, List, [], ◌∷◌, arith, ◌∙◌, ◌≤◌, ◌+◌}
 use Rattle.std.proofs.lemmas.Grind.{common_steps}
 use Rattle.bl_mem.specs.declared.segment.Segment.{Segment}
-use Rattle.bl_load.specs.declared.tests.TheConstants.{FILE}
+use Rattle.bl_load.specs.declared.loading.tests.TheConstants.{FILE}
 use Rattle.bl_load.proofs.TestLemmas.{two_backed}
 use Rattle.bl_load.proofs.loading.tests.block_part.Goals as goal
 

@@ -1,6 +1,6 @@
 use Rattle.std.proofs.Common.{◌≡◌, [], ◌∷◌, map, arith}
 use Rattle.std.proofs.lemmas.Grind.{common_steps}
-use Rattle.bl_load.specs.declared.tests.TheConstants.{FILE}
+use Rattle.bl_load.specs.declared.loading.tests.TheConstants.{FILE}
 use Rattle.bl_load.specs.Planned.{IsBacked}
 use Rattle.bl_load.proofs.TestLemmas.{all_four, four_records}
 use Rattle.bl_load.proofs.loading.tests.parts.Goals as goal
