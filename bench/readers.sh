@@ -1,7 +1,6 @@
 #!/usr/bin/env bash
 # How many times in a second a kernel file of 66 MB with five program headers is read: its ELF and its Multiboot2
-# header, by the plain readers (plain_reader.rs) and, where the variable READER names one, by a program that calls
-# the proved ones.
+# header, by the plain readers (plain_reader.rs) and by a program that calls the proved ones.
 #
 #   [READER=PROGRAM] bench/readers.sh
 #
@@ -10,8 +9,9 @@
 #   READER elf|header FILE COUNT
 #
 # read FILE once and call read_elf or find_header COUNT times over its bytes. They are timed here from outside: COUNT
-# calls less the time of none. The proved program is a crate of its own, whose body is that loop over a SliceView;
-# nothing else joins it to this script. Needs bash 5, coreutils, awk and rustc.
+# calls less the time of none. The proved program is the crate written by write_reader below. Where the variable
+# READER does not name one it is proved and built here, beside copies of the crates that it calls with what of them
+# is built already; without rt its column is left out. Needs bash 5, coreutils, awk and rustc.
 source "$(dirname "${BASH_SOURCE[0]}")/measure.sh"
 
 segments=5
@@ -19,7 +19,83 @@ segment_bytes=0xC96000
 calls=2000000
 
 reader=${READER:+$(realpath -m "$READER")}
+crates=(bl_refusing bl_mem bl_map bl_elf bl_mb2head)
 cd "$work"
+
+# Writes the crate of the proved program.
+write_reader() {
+    mkdir -p reader/crates/reader/src
+    echo 'Handles allowed: none.' > reader/HANDLES
+    for crate in "${crates[@]}"; do
+        cp -R "$here/../crates/$crate" "reader/crates/$crate"
+        grep "^$crate:" "$here/../crates.txt"
+    done > reader/crates.txt
+    echo 'reader: bl_elf bl_mb2head bl_mem' >> reader/crates.txt
+    cat > reader/crates/reader/src/main.rt << 'RATTLE'
+//! Reads a kernel's file many times: its ELF or its Multiboot2 header.
+#![tactic(auto)]
+
+use bl_elf::read_elf;
+use bl_mb2head::find_header;
+use bl_mem::SliceView;
+use std::process::ExitCode;
+use std::{env, fs};
+
+// The number of a word of digits, modulo 2^64.
+fn number_of(word: &str) -> u64 {
+    let mut number = 0u64;
+    for digit in word.as_bytes() {
+        number = number.wrapping_mul(10).wrapping_add((*digit & 15) as u64);
+    }
+    number
+}
+
+fn run(rt: &HostRuntime, part: &str, path: &str, count: u64) -> u8 {
+    let Ok(bytes) = fs::read(rt, path) else {
+        return 3;
+    };
+    let view = SliceView::new(bytes.as_slice());
+    let mut sum = 0u64;
+    for _ in 0..count {
+        if part == "elf" {
+            let Ok(elf) = read_elf(rt.alloc(), &view) else {
+                return 1;
+            };
+            sum = sum.wrapping_add(elf.segments().len() as u64);
+        } else {
+            let Ok(header) = find_header(&view) else {
+                return 1;
+            };
+            sum = sum.wrapping_add(header.place);
+        }
+    }
+    if count > 0 && sum == 0 { 2 } else { 0 }
+}
+
+fn main(rt: HostRuntime) -> ExitCode {
+    let Ok(args) = env::args(&rt) else {
+        return ExitCode::from(64);
+    };
+    let Ok(words) = args.collect::<Vec<String>>(rt.alloc()) else {
+        return ExitCode::from(4);
+    };
+    if words.len() != 4 {
+        return ExitCode::from(64);
+    }
+    let (part, path, count) = (words[1].as_str(), words[2].as_str(), words[3].as_str());
+    ExitCode::from(run(&rt, part, path, number_of(count)))
+}
+RATTLE
+}
+
+# Sets `reader` to the proved program.
+build_reader() {
+    echo 'bench: building the proved reader (some minutes where its crates were not built before)' >&2
+    write_reader
+    (cd reader && git init -q . && cd crates/reader && rt run -- elf none 0) > reader.log 2>&1 || true
+    reader=$PWD/reader/crates/reader/out/reader
+    [ -x "$reader" ] || { tail -n 20 reader.log >&2; exit 1; }
+}
 
 # Sets `least`, the microseconds of the best of all rounds.
 time_calls() {
@@ -47,6 +123,9 @@ if ! has_rustc; then
     exit 0
 fi
 build plain_reader
+if [ -z "$reader" ] && command -v rt > /dev/null 2>&1; then
+    build_reader
+fi
 "$here/make_kernel.sh" kernel.elf "$segments" "$segment_bytes"
 
 printf '%-16s %12s %12s   %s\n' 'parses a second' plain proved 'plain / proved'

@@ -1,5 +1,5 @@
 -- A block, segment after segment.
-use Rattle.std.proofs.Common.{◌≡◌, ℕ, ◌+◌, ◌-◌, ◌<◌, ◌≤◌, List, [], ◌∷◌, ◌++◌, length, get_or, drop, replicate, zero, suc, arith, rules, refl, sym, ap, ◌∙◌, All, AllPairs, length-append, inl, inr, max, slice_range, true, false}
+use Rattle.std.proofs.Common.{◌≡◌, ℕ, ◌+◌, ◌-◌, ◌<◌, ◌≤◌, List, [], ◌∷◌, ◌++◌, length, get_or, replicate, zero, suc, arith, rules, refl, sym, ap, ◌∙◌, All, AllPairs, length-append, inl, inr, max, slice_range, true, false}
 use Rattle.std.proofs.lemmas.List.{places, same_lists, length-replicate, get_or_append_left, get_or-append_right, get_or-replicate, get_or_default, get_or_at}
 use Rattle.std.proofs.lemmas.List.Elements.{All-cons}
 use Rattle.std.proofs.lemmas.Bool.{cases_lt}

@@ -1,5 +1,5 @@
 -- The block that a relocatable kernel's part is loaded from.
-use Rattle.std.proofs.Common.{◌≡◌, ◌<◌, ◌≤◌, ◌+◌, ◌-◌, ◌^◌, ℕ, List, [], ◌∷◌, length, get_or, Option, Some, None, arith, refl, sym, ap, subst, ◌∙◌, All, AllPairs}
+use Rattle.std.proofs.Common.{◌≡◌, ◌<◌, ◌≤◌, ◌+◌, ◌^◌, ℕ, List, length, get_or, Option, Some, arith, sym, ap, subst, ◌∙◌, All, AllPairs}
 use Rattle.bl_mem.specs.declared.segment.Segment.{Segment}
 use Rattle.bl_mb2head.specs.declared.relocation.Relocation.{Relocation}
 use Rattle.bl_load.specs.Blocks.{low_of, high_of, span_of, block_of}

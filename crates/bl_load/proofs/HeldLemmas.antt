@@ -1,5 +1,5 @@
 -- What memory holds at the places of a plan once it is loaded.
-use Rattle.std.proofs.Common.{◌≡◌, ℕ, ◌+◌, ◌-◌, ◌<◌, ◌≤◌, List, [], ◌∷◌, length, get_or, arith, rules, refl, subst, sym, ap, ◌∙◌, suc, All, AllPairs, map, slice_range, length-append}
+use Rattle.std.proofs.Common.{◌≡◌, ℕ, ◌+◌, ◌<◌, ◌≤◌, List, [], ◌∷◌, length, get_or, arith, rules, refl, subst, sym, ap, ◌∙◌, suc, All, AllPairs, map, slice_range, length-append}
 use Rattle.std.proofs.Math.ListN.{get_or-map}
 use Rattle.std.proofs.lemmas.List.{places, same_lists, length-map, length-replicate, get_or-map as get_or-map_at}
 use Rattle.std.proofs.lemmas.List.Elements.{All-map}

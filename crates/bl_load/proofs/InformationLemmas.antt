@@ -1,9 +1,9 @@
 -- How long the information is.
-use Rattle.std.proofs.Common.{◌≡◌, ◌≤◌, ◌<◌, ◌+◌, ◌*◌, ◌/◌, ◌^◌, ℕ, List, [], length, Bool, true, false, Option, Some, None, arith, refl, ap, ◌∙◌, sym}
+use Rattle.std.proofs.Common.{◌≡◌, ◌≤◌, ◌<◌, ◌^◌, ℕ, List, [], length, Bool, true, false, Option, Some, None, arith, refl, ap}
 use Rattle.std.specs.Prelude.{codes, is_some, option_map}
-use Rattle.bl_map.specs.Facts.{Facts, AreFacts}
+use Rattle.bl_map.specs.Facts.{Facts}
 use Rattle.bl_mb2head.specs.declared.relocation.Relocation.{Relocation}
-use Rattle.bl_mbi.specs.Info.{Info, info_size}
+use Rattle.bl_mbi.specs.Info.{info_size}
 use Rattle.bl_mbi.specs.Size.{size_of, load_base_size}
 use Rattle.bl_mbi.specs.Spelling.{spelling}
 use Rattle.bl_mbi.proofs.Sizes.{length-spelling}

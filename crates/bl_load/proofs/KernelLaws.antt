@@ -1,17 +1,16 @@
 -- What holds of a kernel with no fault.
-use Rattle.std.proofs.Common.{◌≡◌, ◌<◌, ◌≤◌, ◌+◌, ◌-◌, ◌^◌, ℕ, zero, suc, Bool, true, false, List, [], ◌∷◌, length, Option, Some, None, max, min, cond, arith, rules, refl, sym, ap, subst, ◌∙◌, All, AllPairs, nat_le, nat_lt, inl, inr}
-use Rattle.std.specs.Prelude.{IfSome, ◌&&◌, ◌||◌}
+use Rattle.std.proofs.Common.{◌≡◌, ◌<◌, ◌≤◌, ◌+◌, ◌^◌, ℕ, Bool, true, false, List, [], ◌∷◌, length, Option, Some, None, cond, arith, refl, sym, ap, subst, All}
+use Rattle.std.specs.Prelude.{IfSome, ◌||◌}
 use Rattle.std.specs.List.{list_any}
 use Rattle.std.proofs.lemmas.List.Elements.{All-nil, All-cons, All-head, All-tail}
 use Rattle.std.proofs.lemmas.Bool.Decides.{nat_tests}
 use Rattle.std.proofs.lemmas.Grind.{common_steps}
 use Rattle.bl_mem.specs.declared.segment.Segment.{Segment}
-use Rattle.bl_elf.specs.Elf.{ElfFacts, IsElf, IsLoadable, AreApart}
+use Rattle.bl_elf.specs.Elf.{ElfFacts, IsElf}
 use Rattle.bl_elf.proofs.ElfLaws.{elf_few, elf_loadable, elf_apart}
 use Rattle.bl_mb2head.specs.Header.{FitsFile}
-use Rattle.bl_load.specs.declared.refusal.Refusal.{Refusal}
 use Rattle.bl_load.specs.declared.refusal.Refusal.TheVariants as refusal
-use Rattle.bl_load.specs.Blocks.{holds, low_of, high_of, span_of}
+use Rattle.bl_load.specs.Blocks.{holds, high_of}
 use Rattle.bl_load.specs.Kernel.{IsLoadedBy, entry_fault, holds_at, AreLoadable}
 
 none_when : {X : Type 0} (b : Bool) (x : X) → cond b None (Some x) ≡ None → b ≡ true

@@ -1,5 +1,5 @@
 -- What is prepared of an entry by its line and its kernel.
-use Rattle.std.proofs.Common.{◌≡◌, ◌≤◌, ◌+◌, ℕ, List, [], length, get_or, map, Option, Some, None, arith, refl, sym, ap, ap₂, subst, ◌∙◌, inl, inr}
+use Rattle.std.proofs.Common.{◌≡◌, ◌≤◌, ℕ, List, [], length, get_or, map, None, arith, refl, sym, ap, ap₂, subst, ◌∙◌, inl, inr}
 use Rattle.std.proofs.lemmas.List.{get_or-map}
 use Rattle.bl_map.specs.Facts.{Facts}
 use Rattle.bl_plan.specs.Placed.{ArePlaced}

@@ -1,11 +1,10 @@
 -- Segments in address order make the same block.
-use Rattle.std.proofs.Common.{◌≡◌, ◌<◌, ◌≤◌, ◌+◌, ◌-◌, ℕ, zero, suc, Bool, true, false, List, [], ◌∷◌, ◌++◌, length, get_or, max, min, cond, arith, rules, refl, sym, ap, ap₂, subst, ◌∙◌, All, AllPairs, nat_le, nat_lt, nat_eq, inl, inr}
+use Rattle.std.proofs.Common.{◌≡◌, ◌≤◌, ◌+◌, ◌-◌, ℕ, zero, suc, Bool, true, false, List, [], ◌∷◌, ◌++◌, length, get_or, arith, refl, sym, ap, ap₂, subst, ◌∙◌, All, AllPairs, nat_eq, inl, inr}
 use Rattle.std.specs.Prelude.{◌||◌, slice_index}
 use Rattle.std.specs.List.{list_any}
 use Rattle.std.proofs.lemmas.List.Elements.{All-nil, All-cons, All-head, All-tail}
 use Rattle.std.proofs.lemmas.Bool.{cond_both, cases_lt}
 use Rattle.std.proofs.lemmas.Bool.Decides.{nat_tests}
-use Rattle.std.proofs.lemmas.Grind.{common_steps}
 use Rattle.bl_mem.specs.declared.segment.Segment.{Segment}
 use Rattle.bl_mem.specs.Contents.{contents_of}
 use Rattle.bl_elf.specs.Elf.{AreApart}
@@ -14,7 +13,7 @@ use Rattle.bl_load.specs.Kernel.{holds_at}
 use Rattle.bl_load.specs.Planned.{SegmentsAscend}
 use Rattle.bl_load.specs.Order.{segment_key, ascending}
 use Rattle.bl_load.proofs.KernelLaws.{held_within}
-use Rattle.bl_load.proofs.OrderLemmas.{AreRelated, pairs_related, in_order_all, in_order_pairs, in_order_sorted, list_any-in_order, length-in_order, NotAbove}
+use Rattle.bl_load.proofs.OrderLemmas.{AreRelated, pairs_related, in_order_all, in_order_pairs, in_order_sorted, list_any-in_order, length-in_order}
 
 or_parts : (a b : Bool) → (a || b) ≡ false → (a ≡ false) × (b ≡ false)
 or_parts true b h = absurd cc

@@ -1,10 +1,9 @@
 -- A few parts, named one by one, can be loaded.
-use Rattle.std.proofs.Common.{◌≡◌, ℕ, ◌+◌, ◌<◌, ◌≤◌, ◌^◌, List, [], ◌∷◌, length, map, zero, suc, arith, All, AllPairs, Vec}
+use Rattle.std.proofs.Common.{◌≡◌, ℕ, ◌+◌, ◌≤◌, ◌^◌, List, [], ◌∷◌, zero, suc, arith, All, AllPairs, Vec}
 use Rattle.std.proofs.lemmas.List.Elements.{All-cons, All-nil}
 use Rattle.bl_mem.specs.declared.segment.Segment.{Segment}
 use Rattle.bl_plan.specs.declared.place.Place.{Place}
 use Rattle.bl_load.specs.declared.plan.Content.TheVariants.{Block}
-use Rattle.bl_load.specs.Blocks.{span_of}
 use Rattle.bl_load.specs.Planned.{IsCopied, SegmentsAscend, Ascends, IsBacked, AreRecords}
 use Rattle.bl_load.proofs.BlockLemmas.{length-block_of}
 

@@ -1,6 +1,6 @@
 -- What a plan holds, where the files hold these texts.
-use Rattle.std.specs.Prelude.{◌≡◌, ℕ, ◌+◌, ◌<◌, ◌≤◌, ◌^◌, List, [], ◌∷◌, length, map, slice_range, slice_index_or, All, AllPairs}
-use Rattle.bl_mem.specs.Memory.{overwrite, HasRoom}
+use Rattle.std.specs.Prelude.{ℕ, ◌+◌, ◌<◌, ◌≤◌, ◌^◌, List, [], length, map, slice_range, slice_index_or, All, AllPairs}
+use Rattle.bl_mem.specs.Memory.{HasRoom}
 use Rattle.bl_mem.specs.declared.segment.Segment.{Segment}
 use Rattle.bl_plan.specs.declared.place.Place.{Place}
 use Rattle.bl_load.specs.declared.plan.Content.{Content}
@@ -9,7 +9,7 @@ use Rattle.bl_load.specs.declared.plan.Planned.{Planned}
 use Rattle.bl_load.specs.declared.plan.Plan.{Plan}
 use Rattle.bl_load.specs.declared.protocol.Protocol.{Protocol}
 use Rattle.bl_load.specs.declared.registers.Registers.{Registers}
-use Rattle.bl_load.specs.Blocks.{span_of, block_of}
+use Rattle.bl_load.specs.Blocks.{block_of}
 use Rattle.bl_load.specs.Handover.{Part, Handover, part_at, filled}
 
 -- the bytes of a file of these

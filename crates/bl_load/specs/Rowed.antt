@@ -1,5 +1,5 @@
 -- What the places of an entry's rows keep of their rows.
-use Rattle.std.specs.Prelude.{◌≡◌, ◌<◌, ℕ, List, [], length, slice_index_or, Option, Some, None}
+use Rattle.std.specs.Prelude.{◌≡◌, ◌<◌, ℕ, List, length, slice_index_or, Option, Some, None}
 use Rattle.bl_mem.specs.declared.segment.Segment.{Segment}
 use Rattle.bl_map.specs.Facts.{Facts}
 use Rattle.bl_mb2head.specs.declared.relocation.Relocation.{Relocation}

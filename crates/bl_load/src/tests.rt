@@ -1,7 +1,10 @@
 //! Numbers, frames and texts.
 ghost use Rattle.std.specs.Prelude.{◌≤◌, ◌<◌, ◌^◌};
 
-use crate::{PrepFault, Protocol, Refusal, frames_in, frames_of, open_frames};
+use crate::{
+    PrepFault, Protocol, Refusal, frames_in, frames_of, handovers_are_determined,
+    handovers_are_legal, open_frames,
+};
 use std::alloc::{AllocError, Global};
 use std::ops::Range;
 use std::process::Abort;
@@ -93,4 +96,11 @@ fn faults(rt: HostRuntime) -> Result<(), Fail> {
     let text = format!(in alloc; "{}", PrepFault::NoMemory)?;
     assert_eq!(rt; text.as_str(), "no memory");
     Ok(())
+}
+
+// Laws have no effect.
+#[test]
+fn laws() {
+    handovers_are_determined();
+    handovers_are_legal();
 }

@@ -1,9 +1,8 @@
-use Rattle.std.proofs.Common.{◌≡◌, ℕ, ◌+◌, ◌-◌, ◌<◌, ◌≤◌, length, List, arith, refl, sym, ◌∙◌, get_or, drop, ◌∷◌, add-zero, zero-add}
-use Rattle.std.proofs.lemmas.List.{drop_more, get_or_default, length-append, length-replicate}
+use Rattle.std.proofs.Common.{◌+◌, ◌<◌, ◌≤◌, length, arith, refl, sym, ◌∙◌, get_or, drop, ◌∷◌, add-zero, zero-add}
+use Rattle.std.proofs.lemmas.List.{drop_more, get_or_default}
 use Rattle.bl_mem.specs.declared.segment.Segment.{Segment}
 use Rattle.bl_load.specs.Blocks.{span_of}
-use Rattle.bl_load.specs.Planned.{IsCopied}
-use Rattle.bl_load.proofs.BlockLemmas.{block_from, block_from_first, first_below, left_behind, step_size, block_step, length-contents_of}
+use Rattle.bl_load.proofs.BlockLemmas.{block_from, block_from_first, first_below, left_behind, step_size, block_step}
 use Rattle.bl_load.proofs.blocks.load_block.Goals as goal
 
 pub loop-segment-init : goal.loop-segment-init

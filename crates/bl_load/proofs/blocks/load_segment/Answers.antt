@@ -1,4 +1,4 @@
-use Rattle.std.proofs.Common.{◌≡◌, ◌+◌, length, arith, rules, slice_range, refl, ◌∙◌}
+use Rattle.std.proofs.Common.{◌+◌, arith, slice_range}
 use Rattle.bl_load.proofs.BlockLemmas.{length-filed}
 use Rattle.bl_load.proofs.WrittenLemmas.{zeros_behind}
 use Rattle.bl_load.proofs.blocks.load_segment.Goals as goal

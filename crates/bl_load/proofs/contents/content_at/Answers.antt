@@ -1,4 +1,4 @@
-use Rattle.std.proofs.Common.{◌≡◌, ◌≤◌, ℕ, List, Option, length, arith, ap, subst, ◌∙◌}
+use Rattle.std.proofs.Common.{◌≡◌, ℕ, List, length, arith, ap, subst}
 use Rattle.std.specs.Prelude.{codes}
 use Rattle.bl_mbi.specs.Info.{info_size}
 use Rattle.bl_mbi.specs.Spelling.{spelling}

@@ -1,4 +1,4 @@
-use Rattle.std.proofs.Common.{◌≡◌, ◌<◌, ◌≤◌, ◌+◌, ◌*◌, ◌^◌, List, ℕ, [], None, length, arith, sym, ap, ◌∙◌, All, subst}
+use Rattle.std.proofs.Common.{◌<◌, ◌^◌, ℕ, None, length, arith, sym, ◌∙◌, All, subst}
 use Rattle.std.specs.Prelude.{map, is_some}
 use Rattle.bl_mbi.specs.Info.{IsText, ModuleInfo}
 use Rattle.bl_mbi.specs.Size.{size_of}

@@ -1,4 +1,4 @@
-use Rattle.std.proofs.Common.{ap, ◌∙◌, sym, subst, inr, inl, arith, Option, List, ℕ, None, Some, ◌≡◌}
+use Rattle.std.proofs.Common.{ap, ◌∙◌, subst, inr, arith, List, None, Some, ◌≡◌}
 use Rattle.std.specs.Option.{option_or}
 use Rattle.bl_mem.specs.declared.segment.Segment.{Segment}
 use Rattle.bl_load.specs.Kernel.{entry_fault}

@@ -1,4 +1,4 @@
-use Rattle.std.proofs.Common.{◌≡◌, ℕ, List, map, length, refl, ap, ◌∙◌, slice_index}
+use Rattle.std.proofs.Common.{◌≡◌, List, map, length, refl, ap, ◌∙◌, slice_index}
 use Rattle.bl_load.specs.declared.plan.Planned.{Planned}
 use Rattle.bl_load.specs.Handover.{Part, Handover, written}
 use Rattle.bl_load.specs.Planned.{part_by}

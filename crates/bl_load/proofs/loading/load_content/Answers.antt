@@ -1,6 +1,5 @@
-use Rattle.std.proofs.Common.{◌≡◌, ℕ, List, ◌+◌, ◌≤◌, length, map, ◌∙◌, ap, sym, arith, slice_index_or}
-use Rattle.bl_mem.specs.declared.segment.Segment.{Segment}
-use Rattle.bl_load.specs.Blocks.{span_of, block_of}
+use Rattle.std.proofs.Common.{◌≡◌, length, map, ◌∙◌, sym}
+use Rattle.bl_load.specs.Blocks.{span_of}
 use Rattle.bl_load.specs.Planned.{content_by, text_at}
 use Rattle.bl_load.proofs.BlockLemmas.{length-block_of}
 use Rattle.bl_load.proofs.loading.load_content.Goals as goal

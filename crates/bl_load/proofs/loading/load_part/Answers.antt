@@ -1,4 +1,4 @@
-use Rattle.std.proofs.Common.{◌≡◌, length, arith, map, refl}
+use Rattle.std.proofs.Common.{length, map, refl}
 use Rattle.bl_load.specs.Planned.{content_by}
 use Rattle.bl_load.proofs.WrittenLemmas.{zeros_behind}
 use Rattle.bl_load.proofs.loading.load_part.Goals as goal

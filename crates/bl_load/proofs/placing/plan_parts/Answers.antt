@@ -1,8 +1,6 @@
-use Rattle.std.proofs.Common.{◌≡◌, ◌≢◌, ◌≤◌, ◌<◌, ◌+◌, ◌^◌, ℕ, List, [], Some, All, length, map, arith, ap, subst, sym, ◌∙◌}
-use Rattle.std.specs.declared.ops.Range.{Range}
+use Rattle.std.proofs.Common.{◌≡◌, ◌≤◌, ◌<◌, ◌+◌, ◌^◌, List, [], All, length, map, arith, ap, subst, sym, ◌∙◌}
 use Rattle.bl_plan.specs.declared.place.Place.{Place}
 use Rattle.bl_plan.specs.declared.row.Row.{Row}
-use Rattle.bl_plan.specs.declared.fault.PlanFault.TheVariants.{Overlap}
 use Rattle.bl_plan.specs.Placed.{ArePlaced, IsRow, IsPlacingFault}
 use Rattle.bl_load.specs.KernelRead.{kernel_by}
 use Rattle.bl_load.specs.Order.{in_order, place_key}
@@ -13,7 +11,7 @@ use Rattle.bl_load.specs.Rowed.{IsRowed}
 use Rattle.bl_load.specs.Rows.{rows_of}
 use Rattle.bl_load.proofs.OrderLemmas.{in_order_all}
 use Rattle.bl_load.proofs.PlacingLemmas.{refused_place, not_overlap, small_base, small_last}
-use Rattle.bl_load.proofs.RowLemmas.{rows_are_rows, each_rowed, few_places, are_inside, are_below, records, entry_small}
+use Rattle.bl_load.proofs.RowLemmas.{rows_are_rows, each_rowed, few_places, are_inside, records, entry_small}
 use Rattle.bl_load.proofs.placing.plan_parts.Goals as goal
 
 pub place_rows-requires : goal.place_rows-requires

@@ -1,9 +1,9 @@
-use Rattle.std.proofs.Common.{◌≡◌, ◌≤◌, ℕ, List, None, length, map, arith, ap, subst, sym, ◌∙◌}
+use Rattle.std.proofs.Common.{◌≤◌, ℕ, List, length, map, arith, subst, sym, ◌∙◌}
 use Rattle.std.proofs.lemmas.Result.{IfOk-weaker, IfErr-weaker}
 use Rattle.bl_load.specs.KernelRead.{kernel_by}
 use Rattle.bl_load.specs.Kernel.{IsKernel, AreLoadable, IsKernelFault}
 use Rattle.bl_load.specs.Planned.{text_at, handover_by}
-use Rattle.bl_load.specs.Value.{value_of, line_fault}
+use Rattle.bl_load.specs.Value.{value_of}
 use Rattle.bl_load.proofs.LineLemmas.{sound_short}
 use Rattle.bl_load.proofs.PrepareLemmas.{some_file, kernel_is, first_text, IsSound, prepared, refused_kernel, refused_places}
 use Rattle.bl_load.proofs.preparing.prepare.Goals as goal

@@ -183,7 +183,7 @@ fn refused_in_any_order_of_regions(rt: HostRuntime) -> Result<(), Fail> {
     Ok(())
 }
 
-// The first n bytes of a sound file, for each n.
+// The first n bytes of FIXED, for each n.
 #[test]
 fn cuts(rt: HostRuntime) -> Result<(), Fail> {
     let machine = machine(rt.alloc())?;

@@ -1,4 +1,4 @@
-use Rattle.std.proofs.Common.{◌≡◌, [], ◌∷◌, map, arith}
+use Rattle.std.proofs.Common.{◌≡◌, [], ◌∷◌, arith}
 use Rattle.std.proofs.lemmas.Grind.{common_steps}
 use Rattle.bl_load.specs.declared.loading.tests.TheConstants.{FILE}
 use Rattle.bl_load.specs.Planned.{IsBacked}
