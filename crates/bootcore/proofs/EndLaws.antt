@@ -1,12 +1,17 @@
 -- Of two attempts of equal values on equal machines.
-use Rattle.std.proofs.Common.{◌≡◌, ◌≤◌, ◌++◌, ◌∙◌, ℕ, List, inl, inr, sym, ap, subst}
+use Rattle.std.proofs.Common.{◌≡◌, ◌≤◌, ◌++◌, ◌∙◌, ℕ, List, inl, inr, refl, sym, ap, subst}
+use Rattle.std.specs.declared.ops.Range.{Range}
 use Rattle.bl_map.specs.Facts.{Facts}
+use Rattle.bl_map.specs.Kinds.{kind_at}
+use Rattle.bl_map.specs.declared.region.Region.{Region}
+use Rattle.bl_map.proofs.MapLaws.{one_normal_map}
 use Rattle.bl_load.specs.Handover.{Handover}
 use Rattle.bl_load.specs.declared.refusal.Refusal.{Refusal}
 use Rattle.bl_load.proofs.HandoverLaws as load
 use Rattle.bl_image.specs.Image.{spelling}
 use Rattle.bootcore.specs.Attempt.{IsAttemptHandover, IsAttemptRefusal, LacksRoom, HasRoomBeside, multiboot2_value}
-use Rattle.bootcore.specs.Ends.{AreAlike, IsBooted, IsRefused}
+use Rattle.bootcore.specs.Described.{Described}
+use Rattle.bootcore.specs.Ends.{AreAlike, IsBooted, IsMachineOf, IsRefused}
 use Rattle.bootcore.specs.Files.{Answer, missing, too_long, bytes}
 
 pub one_handover : (facts : Facts) (line : List ℕ) (answer : Answer) (h k : Handover)
@@ -61,3 +66,13 @@ module _ {desc other : List ℕ} {answers others : List ℕ → Answer → Type 
       let seen : IsAttemptRefusal b.attempted.facts b.attempted.entry.line b.attempted.answer a.refusal =
       rw (← alike.facts, ← alike.line, ← alike.answer) a.refused in
       not_both b.attempted.facts b.attempted.entry.line b.attempted.answer a.refusal b.handover seen b.handed
+
+facts_of : (s t : ℕ) (x y : List Region) (p q : Range ℕ) → s ≡ t → x ≡ y → p ≡ q
+    → ◌≡◌ {A = Facts} record { size = s; runs = x; pool = p } record { size = t; runs = y; pool = q }
+facts_of s t x y p q size runs pool = rw (size, runs, pool) refl
+
+pub same_facts : (one two : Described) (f g : Facts) → IsMachineOf one f → IsMachineOf two g
+    → one.size ≡ two.size → one.pool ≡ two.pool → ((a : ℕ) → kind_at one.regions a ≡ kind_at two.regions a) → f ≡ g
+same_facts one two f g a b size pool kinds =
+    facts_of f.size g.size f.runs g.runs f.pool g.pool (a.size ∙ size ∙ sym b.size)
+    (one_normal_map one.regions two.regions f.runs g.runs kinds a.runs b.runs) (a.pool ∙ pool ∙ sym b.pool)

@@ -1,10 +1,12 @@
 //! Two boots.
 ghost use Rattle.std.specs.Prelude.{◌≡◌, ◌++◌, ℕ, List};
 ghost use Rattle.bl_map.specs.Facts.{Facts};
+ghost use Rattle.bl_map.specs.Kinds.{kind_at};
 ghost use Rattle.bl_load.specs.Handover.{Handover};
 ghost use Rattle.bl_load.specs.declared.refusal.Refusal.{Refusal};
 ghost use Rattle.bootcore.specs.Attempt.{IsAttemptHandover, IsAttemptRefusal};
-ghost use Rattle.bootcore.specs.Ends.{AreAlike, IsBooted, IsRefused};
+ghost use Rattle.bootcore.specs.Described.{Described};
+ghost use Rattle.bootcore.specs.Ends.{AreAlike, IsBooted, IsMachineOf, IsRefused};
 ghost use Rattle.bootcore.specs.Files.{Answer};
 
 use crate::fetching::Files;
@@ -23,4 +25,9 @@ pub fn two_boots<F: Files, G: Files>(_files: &F, _others: &G)
     ensures no_boot { (desc other s t u v m n p q : List ℕ)
         (a : IsRefused desc (F.answers _files.now) s t u v) (b : IsBooted other (G.answers _others.now) m n p q) →
         AreAlike a.attempted b.attempted → ⊥ }
+
+    // Machines have equal facts where size and pool are equal and each address has one kind in both.
+    ensures same_facts { (one two : Described) (f g : Facts) → IsMachineOf one f → IsMachineOf two g →
+        one.size ≡ two.size → one.pool ≡ two.pool →
+        ((a : ℕ) → kind_at one.regions a ≡ kind_at two.regions a) → f ≡ g }
 {}

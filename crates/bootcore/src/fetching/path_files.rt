@@ -33,9 +33,9 @@ pub fn read_file<R: rt::Files, A: Allocator>(
     let mut bytes = Vec::with_capacity(alloc, length as usize)?;
     let file = fs::open(rt, path)?;
     file.take(limit.saturating_add(1)).read_to_end(&mut bytes)?;
-    let length = bytes.len() as u64;
-    if length > limit {
-        return Ok(Fetched::TooLong(length));
+    let count = bytes.len() as u64;
+    if count > limit {
+        return Ok(Fetched::TooLong(count));
     }
     Ok(Fetched::Bytes(Bytes::from(bytes)))
 }

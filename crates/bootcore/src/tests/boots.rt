@@ -1,5 +1,5 @@
 //! Boots that come to an end of their own.
-ghost use Rattle.std.specs.Prelude.{◌≡◌, ◌+◌};
+ghost use Rattle.std.specs.Prelude.{◌≡◌, ◌+◌, ◌≤◌};
 ghost use Rattle.bootcore.specs.Files.{too_long};
 
 use crate::tests::rows::{F1, NO_POOL, REGIONS, TOP, description, files_of, first, first_image};
@@ -24,6 +24,7 @@ fn boot_with<F: Files>(
     order: Order,
 ) -> Result<Came, AllocError>
     requires { F.faults files.old ≡ 0 }
+    ensures { F.faults files.new ≤ 1 }
 {
     let mut out = MemSink::new(alloc, 5000, 5000)?;
     let mut said = Vec::new(alloc);

@@ -1,4 +1,6 @@
 //! What the tests boot, and the image that comes of it.
+ghost use Rattle.std.specs.Prelude.{◌≡◌, IfOk};
+
 use crate::{FileRow, MemFiles, Text};
 use bl_mem::Bytes;
 use std::alloc::{AllocError, Global};
@@ -93,7 +95,9 @@ pub fn first(alloc: Global) -> Result<String, AllocError> {
 }
 
 /// Files of which one has this name.
-pub fn files_of(alloc: Global, name: &str, bytes: &[u8]) -> Result<MemFiles<Global>, AllocError> {
+pub fn files_of(alloc: Global, name: &str, bytes: &[u8]) -> Result<MemFiles<Global>, AllocError>
+    ensures { IfOk result (λ files. files.faults ≡ 0) }
+{
     let mut rows = Vec::new(alloc);
     rows.push(FileRow {
         name: Text::from(String::from_str(alloc, name)?),

@@ -1,4 +1,4 @@
-use Rattle.bootcore.proofs.EndLaws.{one_handover, one_refusal, one_image, no_boot}
+use Rattle.bootcore.proofs.EndLaws.{one_handover, one_refusal, one_image, no_boot, same_facts}
 use Rattle.bootcore.proofs.laws.two_boots.Goals as goal
 
 pub returns-clause-one_handover : goal.returns-clause-one_handover
@@ -12,3 +12,6 @@ returns-clause-one_image g c = λ desc other s t u v m n p q a b alike. one_imag
 
 pub returns-clause-no_boot : goal.returns-clause-no_boot
 returns-clause-no_boot g c = λ desc other s t u v m n p q a b alike. no_boot s t u v m n p q a b alike
+
+pub returns-clause-same_facts : goal.returns-clause-same_facts
+returns-clause-same_facts g c = same_facts
