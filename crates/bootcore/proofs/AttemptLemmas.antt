@@ -1,5 +1,5 @@
 -- What the code keeps of an attempt.
-use Rattle.std.proofs.Common.{◌≡◌, ◌+◌, ◌≤◌, ◌<◌, ◌∙◌, ℕ, suc, List, [], ◌∷◌, length, map, refl, sym, ap, All, arith}
+use Rattle.std.proofs.Common.{◌≡◌, ◌+◌, ◌≤◌, ◌∙◌, ℕ, suc, List, [], ◌∷◌, length, map, refl, ap, All, arith}
 use Rattle.std.specs.declared.ops.Range.{Range}
 use Rattle.bl_map.specs.Facts.{Facts}
 use Rattle.bl_plan.specs.Placed.{range_of}

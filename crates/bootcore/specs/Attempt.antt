@@ -1,8 +1,7 @@
 -- What an attempt to boot one entry comes to. Own.
-use Rattle.std.specs.Prelude.{◌≡◌, ◌⊎◌, ℕ, ◌+◌, ◌<◌, ◌≤◌, List, [], ◌∷◌, length, map, replicate, All, Option, MatchOption}
+use Rattle.std.specs.Prelude.{◌≡◌, ◌⊎◌, ℕ, ◌+◌, ◌≤◌, List, [], ◌∷◌, length, map, replicate, All, Option, MatchOption}
 use Rattle.std.specs.declared.ops.Range.{Range}
 use Rattle.bl_map.specs.Facts.{Facts}
-use Rattle.bl_plan.specs.declared.place.Place.{Place}
 use Rattle.bl_load.specs.declared.protocol.Protocol.TheVariants.{Multiboot2}
 use Rattle.bl_load.specs.declared.refusal.Refusal.{Refusal}
 use Rattle.bl_load.specs.declared.refusal.Refusal.TheVariants.{NoFile, FileTooLong, NoPool}

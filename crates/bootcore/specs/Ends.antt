@@ -1,5 +1,5 @@
 -- How the program's calls end. Own.
-use Rattle.std.specs.Prelude.{◌≡◌, ◌≢◌, ◌⊎◌, ℕ, ◌+◌, List, [], ◌∷◌, ◌++◌, Option, Some, None, Result, Ok, Err}
+use Rattle.std.specs.Prelude.{◌≡◌, ◌≢◌, ◌⊎◌, ℕ, ◌+◌, List, [], ◌∷◌, ◌++◌, Some, None, Result, Ok, Err}
 use Rattle.bl_map.specs.Facts.{Facts}
 use Rattle.bl_map.specs.Faults.{HasFirstFault, IsAccepted}
 use Rattle.bl_map.specs.Kinds.{IsNormalMap, low_kib, high_kib}

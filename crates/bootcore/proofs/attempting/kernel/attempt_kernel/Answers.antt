@@ -1,4 +1,4 @@
-use Rattle.std.proofs.Common.{◌≤◌, ◌∙◌, ℕ, List, [], ◌∷◌, rules, sym, refl, inl, inr, ap}
+use Rattle.std.proofs.Common.{◌∙◌, ℕ, List, [], ◌∷◌, rules, sym, refl, inl, inr}
 use Rattle.bl_load.specs.Planned.{handover_by}
 use Rattle.bootcore.specs.Attempt.{FitsPool}
 use Rattle.bootcore.proofs.AttemptLemmas.{ranges_are, room_beside, no_room_beside}
