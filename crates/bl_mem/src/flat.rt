@@ -20,7 +20,8 @@ impl<A: Allocator> Model for Flat<A> {
 }
 
 impl<A: Allocator> Flat<A> {
-    /// `size` bytes of memory, which all are `fill`. They are asked for in one request.
+    /// `size` bytes of memory, which all are `fill`. They are asked for in one request. From 2^63 bytes on
+    /// no block can be so large, and the answer is always that memory ran out.
     pub fn new(alloc: A, size: u64, fill: u8) -> Result<Flat<A>, AllocError>
         ensures ok { IfOk result (λ flat. flat ≡ replicate size fill) }
     {
