@@ -51,14 +51,19 @@ is_loadable header = header.p_type == 1 && not (header.p_memsz == 0)
 
 -- own: the segment is loaded at its physical address
 abbrev pub segment_of : ProgramHeader → Segment
-segment_of header =
-    record { offset = header.p_offset; address = header.p_paddr; filesz = header.p_filesz; memsz = header.p_memsz }
+segment_of header = record {
+  offset = header.p_offset;
+  address = header.p_paddr;
+  filesz = header.p_filesz;
+  memsz = header.p_memsz;
+}
 
 -- the segments of the loadable ones, in order
 abbrev pub segments_of : List ProgramHeader → List Segment
 segments_of headers = map segment_of (filter is_loadable headers)
 
--- the first fault of a loadable program header, the i-th of a file of this size; any other has none
+-- the first fault of a loadable program header, the i-th of a file of this size; any other has none. Own: its memory may
+-- not end above 2^32
 unfoldable pub program_fault : ℕ → ℕ → ProgramHeader → Option ElfFault
 program_fault size i header =
     if not (is_loadable header) then None else
@@ -71,7 +76,7 @@ program_fault size i header =
 abbrev pub fault_at : List ℕ → ℕ → Option ElfFault
 fault_at bytes i = program_fault (length bytes) i (program_header bytes i)
 
--- two loadable ones share a physical byte
+-- two loadable ones share a physical byte, which is a fault (own)
 unfoldable pub share_byte : ProgramHeader → ProgramHeader → Bool
 share_byte p q =
     is_loadable p

@@ -10,7 +10,12 @@ use Rattle.bl_mb2head.specs.declared.fault.HeadFault.TheVariants.{BadTag}
 
 -- the fields of the tag at a place
 abbrev pub address_tag_at : List ℕ → ℕ → AddressTag
-address_tag_at bytes at = record { header_addr = u32_at bytes (at + 8); load_addr = u32_at bytes (at + 12); load_end_addr = u32_at bytes (at + 16); bss_end_addr = u32_at bytes (at + 20) }
+address_tag_at bytes at = record {
+  header_addr = u32_at bytes (at + 8);
+  load_addr = u32_at bytes (at + 12);
+  load_end_addr = u32_at bytes (at + 16);
+  bss_end_addr = u32_at bytes (at + 20);
+}
 
 -- load_addr is -1: the file is loaded from its start on, and header_addr says where to (own)
 abbrev pub is_whole_file : AddressTag → Bool
@@ -26,14 +31,21 @@ offset_of h tag = if is_whole_file tag then 0 else h - (tag.header_addr - tag.lo
 
 -- how many bytes of the file: up to load_end_addr, or up to the file's end where that is 0
 abbrev pub filesz_of : ℕ → ℕ → AddressTag → ℕ
-filesz_of size h tag = if tag.load_end_addr == 0 then size - offset_of h tag else tag.load_end_addr - address_of h tag
+filesz_of size h tag =
+    if tag.load_end_addr == 0 then size - offset_of h tag else tag.load_end_addr - address_of h tag
 
 -- how many bytes of memory: zeros run up to bss_end_addr, and there are none where that is 0
 abbrev pub memsz_of : ℕ → ℕ → AddressTag → ℕ
-memsz_of size h tag = if tag.bss_end_addr == 0 then filesz_of size h tag else tag.bss_end_addr - address_of h tag
+memsz_of size h tag =
+    if tag.bss_end_addr == 0 then filesz_of size h tag else tag.bss_end_addr - address_of h tag
 
 abbrev pub segment_of : ℕ → ℕ → AddressTag → Segment
-segment_of size h tag = record { offset = offset_of h tag; address = address_of h tag; filesz = filesz_of size h tag; memsz = memsz_of size h tag }
+segment_of size h tag = record {
+  offset = offset_of h tag;
+  address = address_of h tag;
+  filesz = filesz_of size h tag;
+  memsz = memsz_of size h tag;
+}
 
 -- the file's start, or its first byte that is loaded, would lie below 0
 abbrev pub has_bad_start : ℕ → AddressTag → Bool
@@ -59,7 +71,8 @@ is_bad_address size h tag =
 -- what is wrong with the address tag that counts, if there is one
 abbrev pub address_fault : List ℕ → ℕ → Option Tag → Option HeadFault
 address_fault bytes h None = None
-address_fault bytes h (Some t) = if is_bad_address (length bytes) h (address_tag_at bytes t.place) then Some (BadTag t.place) else None
+address_fault bytes h (Some t) =
+    if is_bad_address (length bytes) h (address_tag_at bytes t.place) then Some (BadTag t.place) else None
 
 -- the segment that it gives
 abbrev pub address_segment : List ℕ → ℕ → Option Tag → Option Segment

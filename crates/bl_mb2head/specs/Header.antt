@@ -19,7 +19,10 @@ end_of bytes h = h + u32_at bytes (h + 8)
 -- the header at h has no room for the tag that ends its tags, or does not lie in the file and its
 -- first 32768 bytes (3.1)
 abbrev pub is_cut : List ℕ → ℕ → Bool
-is_cut bytes h = nat_lt (u32_at bytes (h + 8)) 24 || nat_lt (length bytes) (end_of bytes h) || nat_lt 32768 (end_of bytes h)
+is_cut bytes h =
+    nat_lt (u32_at bytes (h + 8)) 24
+    || nat_lt (length bytes) (end_of bytes h)
+    || nat_lt 32768 (end_of bytes h)
 
 -- the header's second word: architecture 0 is the protected mode of i386 (3.1.2)
 abbrev pub architecture_at : List ℕ → ℕ → ℕ
@@ -33,7 +36,12 @@ entry_of bytes (Some t) = Some (u32_at bytes (t.place + 8))
 -- where the image may be moved to, as a tag gives it (3.1.13)
 abbrev pub relocation_of : List ℕ → Option Tag → Option Relocation
 relocation_of bytes None = None
-relocation_of bytes (Some t) = Some (record { min_addr = u32_at bytes (t.place + 8); max_addr = u32_at bytes (t.place + 12); align = u32_at bytes (t.place + 16); preference = u32_at bytes (t.place + 20) })
+relocation_of bytes (Some t) = Some (record {
+  min_addr = u32_at bytes (t.place + 8);
+  max_addr = u32_at bytes (t.place + 12);
+  align = u32_at bytes (t.place + 16);
+  preference = u32_at bytes (t.place + 20);
+})
 
 -- the file's header stands at h, and nothing is wrong with it up to its tags
 pub record BeginsAt (bytes : List ℕ) (h : ℕ) : Type 0 where
@@ -62,11 +70,17 @@ pub record IsHeader (bytes : List ℕ) (header : Header) : Type 0 where
 abbrev pub HasFirstFault : List ℕ → HeadFault → Type 0
 HasFirstFault bytes NoHeader = (h : ℕ) → IsHeaderAt bytes h → ⊥
 HasFirstFault bytes HeaderCut = (h : ℕ) × IsLeast (IsHeaderAt bytes) h × (is_cut bytes h ≡ true)
-HasFirstFault bytes BadArchitecture = (h : ℕ) × IsLeast (IsHeaderAt bytes) h × (is_cut bytes h ≡ false) × (architecture_at bytes h ≢ 0)
-HasFirstFault bytes (BadTag at) = (h : ℕ) × BeginsAt bytes h × (IsFirstFault bytes (end_of bytes h) (h + 16) (BadTag at) ⊎ IsAddressFault bytes h (BadTag at))
-HasFirstFault bytes (UnsupportedTag kind) = (h : ℕ) × BeginsAt bytes h × IsFirstFault bytes (end_of bytes h) (h + 16) (UnsupportedTag kind)
-HasFirstFault bytes (UnsupportedRequest kind) = (h : ℕ) × BeginsAt bytes h × IsFirstFault bytes (end_of bytes h) (h + 16) (UnsupportedRequest kind)
-HasFirstFault bytes NoConsole = (h : ℕ) × BeginsAt bytes h × IsFirstFault bytes (end_of bytes h) (h + 16) NoConsole
+HasFirstFault bytes BadArchitecture =
+    (h : ℕ) × IsLeast (IsHeaderAt bytes) h × (is_cut bytes h ≡ false) × (architecture_at bytes h ≢ 0)
+HasFirstFault bytes (BadTag at) =
+    (h : ℕ) × BeginsAt bytes h
+    × (IsFirstFault bytes (end_of bytes h) (h + 16) (BadTag at) ⊎ IsAddressFault bytes h (BadTag at))
+HasFirstFault bytes (UnsupportedTag kind) =
+    (h : ℕ) × BeginsAt bytes h × IsFirstFault bytes (end_of bytes h) (h + 16) (UnsupportedTag kind)
+HasFirstFault bytes (UnsupportedRequest kind) =
+    (h : ℕ) × BeginsAt bytes h × IsFirstFault bytes (end_of bytes h) (h + 16) (UnsupportedRequest kind)
+HasFirstFault bytes NoConsole =
+    (h : ℕ) × BeginsAt bytes h × IsFirstFault bytes (end_of bytes h) (h + 16) NoConsole
 
 -- a segment that the file can fill, with sums that stay small
 pub record FitsFile (bytes : List ℕ) (segment : Segment) : Type 0 where

@@ -1,16 +1,20 @@
 -- The tags of a Multiboot2 header, from a place to the header's end
 -- (Multiboot2 2.0, "3.1.3 General tag structure" to "3.1.13 Relocatable header tag").
-use Rattle.std.specs.Prelude.{◌≡◌, ◌≤◌, ◌+◌, ◌-◌, ◌*◌, ◌/◌, ℕ, zero, suc, Bool, false, ◌&&◌, ◌||◌, not, if◌then◌else◌, ◌==◌, nat_eq, nat_lt, nat_le, bit_and, List, [], ◌∷◌, reverse, Option, Some, None, IfSome}
+use Rattle.std.specs.Prelude.{◌≡◌, ◌+◌, ◌-◌, ◌*◌, ◌/◌, ℕ, zero, suc, Bool, false, ◌&&◌, ◌||◌, not, if◌then◌else◌, ◌==◌, nat_eq, nat_lt, nat_le, bit_and, List, [], ◌∷◌, reverse, Option, Some, None}
 use Rattle.std.specs.List.{find}
 use Rattle.bl_mem.specs.Words.{u16_at, u32_at}
 use Rattle.bl_mb2head.specs.declared.tag.Tag.{Tag}
-use Rattle.bl_mb2head.specs.declared.last.LastTags.{LastTags}
 use Rattle.bl_mb2head.specs.declared.fault.HeadFault.{HeadFault}
 use Rattle.bl_mb2head.specs.declared.fault.HeadFault.TheVariants.{BadTag, UnsupportedTag, UnsupportedRequest, NoConsole}
 
 -- the tag whose first byte is at a place (3.1.3)
 abbrev pub tag_at : List ℕ → ℕ → Tag
-tag_at bytes at = record { place = at; kind = u16_at bytes at; flags = u16_at bytes (at + 2); size = u32_at bytes (at + 4) }
+tag_at bytes at = record {
+  place = at;
+  kind = u16_at bytes at;
+  flags = u16_at bytes (at + 2);
+  size = u32_at bytes (at + 4);
+}
 
 -- the next multiple of 8 after a tag: padding is not part of its size (3.1.3)
 abbrev pub after : Tag → ℕ
@@ -66,7 +70,9 @@ fault_at bytes end at =
 -- these tags stand one after the other from at to next, none of them the last, with no fault
 abbrev pub AreTags : List ℕ → ℕ → ℕ → ℕ → List Tag → Type 0
 AreTags bytes end at next [] = at ≡ next
-AreTags bytes end at next (t ∷ ts) = (t ≡ tag_at bytes at) × (fault_at bytes end at ≡ None) × (nat_eq t.kind 0 ≡ false) × AreTags bytes end (after t) next ts
+AreTags bytes end at next (t ∷ ts) =
+    (t ≡ tag_at bytes at) × (fault_at bytes end at ≡ None) × (nat_eq t.kind 0 ≡ false)
+    × AreTags bytes end (after t) next ts
 
 -- these are all tags from at on, up to the tag of type 0 at some place
 pub record AreAllTags (bytes : List ℕ) (end at : ℕ) (ts : List Tag) : Type 0 where
@@ -82,16 +88,6 @@ pub record IsFirstFault (bytes : List ℕ) (end at : ℕ) (fault : HeadFault) : 
   pub tags : AreTags bytes end at next before
   pub faulty : fault_at bytes end next ≡ Some fault
 
--- the last tag of a kind
+-- own: of several tags of one kind the last one counts, be it optional or not
 abbrev pub last_of : ℕ → List Tag → Option Tag
 last_of kind ts = find (λ t. nat_eq t.kind kind) (reverse ts)
-
--- own: of several tags of a kind that counts, the last one counts
-abbrev pub last_tags : List Tag → LastTags
-last_tags ts = record { address = last_of 2 ts; entry = last_of 3 ts; relocation = last_of 10 ts }
-
--- the fields of the tags that count lie before the header's end
-pub record LieBefore (end : ℕ) (last : LastTags) : Type 0 where
-  pub address : IfSome last.address (λ t. t.place + 24 ≤ end)
-  pub entry : IfSome last.entry (λ t. t.place + 12 ≤ end)
-  pub relocation : IfSome last.relocation (λ t. t.place + 24 ≤ end)

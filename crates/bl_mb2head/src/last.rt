@@ -2,7 +2,9 @@
 
 ghost use Rattle.std.specs.Prelude.{◌≡◌, ◌≤◌, ◌+◌, ◌++◌, ◌∷◌, [], ℕ, List, length, IfOk, IfErr};
 ghost use Rattle.bl_mb2head.specs.Tags as tags;
-ghost use Rattle.bl_mb2head.specs.Tags.{AreAllTags, IsFirstFault, LieBefore};
+ghost use Rattle.bl_mb2head.specs.Tags.{AreAllTags, IsFirstFault};
+ghost use Rattle.bl_mb2head.specs.Last as kept;
+ghost use Rattle.bl_mb2head.specs.Last.{LieBefore};
 ghost use Rattle.bl_mb2head.specs.declared.tag.Tag.{Tag};
 
 use crate::fault::HeadFault;
@@ -20,8 +22,9 @@ pub struct LastTags {
 impl LastTags {
     /// The last tags after one more.
     fn with(self, tag: Tag) -> LastTags
-        ensures last { (ts : List Tag) → self ≡ tags.last_tags ts → result ≡ tags.last_tags (ts ++ tag ∷ []) }
-        ensures fits { (end : ℕ) → LieBefore end self → tags.least_size tag.kind ≤ tag.size → tag.place + tag.size ≤ end → LieBefore end result }
+        ensures last { (ts : List Tag) → self ≡ kept.last_tags ts → result ≡ kept.last_tags (ts ++ tag ∷ []) }
+        ensures fits { (end : ℕ) → LieBefore end self → tags.least_size tag.kind ≤ tag.size
+            → tag.place + tag.size ≤ end → LieBefore end result }
     {
         match tag.kind {
             2 => LastTags {
@@ -48,7 +51,8 @@ pub fn last_tags<V: ByteView>(view: &V, start: u64, end: u64) -> Result<LastTags
     requires in_front { end ≤ 32768 }
     requires in_order { start ≤ end }
     ensures fits { IfOk result (LieBefore end) }
-    ensures last { IfOk result (λ last. (ts : List Tag) × AreAllTags (V.bytes view.now) end start ts × (last ≡ tags.last_tags ts)) }
+    ensures last { IfOk result (λ last.
+        (ts : List Tag) × AreAllTags (V.bytes view.now) end start ts × (last ≡ kept.last_tags ts)) }
     ensures first_fault { IfErr result (λ fault. IsFirstFault (V.bytes view.now) end start fault) }
 {
     let mut at = start;
