@@ -1,3 +1,5 @@
+//! Why a file has no header that can be used.
+
 use thiserror::Error;
 
 /// Why a file has no header that can be used: its first fault, in the order of the variants for one

@@ -1,3 +1,5 @@
+//! What a kernel file asks to be loaded.
+
 /// What one program header loads (System V gABI, "Program Header"), or one address tag (Multiboot2 2.0,
 /// "3.1.5 The address tag of Multiboot2 header").
 ///

@@ -10,7 +10,7 @@ use std::test::Fail;
 const AT: u32 = 0x10_0000;
 
 /// `header_addr`, `load_addr`, `load_end_addr` and `bss_end_addr` that the file cannot meet.
-const BAD: &[(&str, [u32; 4])] = &[
+const UNMET: &[(&str, [u32; 4])] = &[
     ("header_addr below load_addr", [AT - 1, AT, 0, 0]),
     ("a start before the file's", [AT + 1, AT, 0, 0]),
     ("load_end_addr below load_addr", [AT, AT, AT - 1, 0]),
@@ -23,7 +23,7 @@ const BAD: &[(&str, [u32; 4])] = &[
 ];
 
 /// With `header_addr` as `load_addr`: the ends, and the `filesz` and `memsz` that they give.
-const GOOD: &[(&str, [u32; 2], [u64; 2])] = &[
+const ENDS: &[(&str, [u32; 2], [u64; 2])] = &[
     ("the whole file", [0, 0], [48, 48]),
     ("a part of it", [AT + 32, 0], [32, 32]),
     ("all of it, by its end", [AT + 48, 0], [48, 48]),
@@ -53,8 +53,8 @@ fn loaded(place: u64, offset: u64, address: u64, filesz: u64, memsz: u64) -> Hea
 }
 
 #[test]
-fn bad(rt: HostRuntime) -> Result<(), Fail> {
-    for (says, fields) in BAD {
+fn what_the_file_cannot_meet_is_a_bad_tag(rt: HostRuntime) -> Result<(), Fail> {
+    for (says, fields) in UNMET {
         let file = with_address(rt.alloc(), *fields)?;
         expect_header(&rt, says, &file, Err(HeadFault::BadTag(16)));
     }
@@ -62,14 +62,29 @@ fn bad(rt: HostRuntime) -> Result<(), Fail> {
 }
 
 #[test]
-fn good(rt: HostRuntime) -> Result<(), Fail> {
-    for (says, ends, sizes) in GOOD {
+fn the_ends_give_the_sizes(rt: HostRuntime) -> Result<(), Fail> {
+    for (says, ends, sizes) in ENDS {
         let [load_end, bss_end] = *ends;
         let [filesz, memsz] = *sizes;
         let file = with_address(rt.alloc(), [AT, AT, load_end, bss_end])?;
         let want = loaded(0, 0, AT as u64, filesz, memsz);
         expect_header(&rt, says, &file, Ok(want));
     }
+    Ok(())
+}
+
+// What stands behind the four fields is not read, and the next tag stands at a multiple of 8 behind it.
+#[test]
+fn the_rest_of_a_longer_tag_is_ignored(rt: HostRuntime) -> Result<(), Fail> {
+    let tags = [2, 32, AT, AT, AT + 32, AT + 40, 1, u32::MAX, 0, 8];
+    let want = loaded(0, 0, AT as u64, 32, 40);
+    expect_header(&rt, "32 bytes", &header_of(rt.alloc(), &tags)?, Ok(want));
+    let tags = [2, 25, AT, AT, 0, 0, u32::MAX, u32::MAX, 3, 12, 7, 0, 0, 8];
+    let want = Header {
+        entry: Some(7),
+        ..loaded(0, 0, AT as u64, 72, 72)
+    };
+    expect_header(&rt, "25 bytes", &header_of(rt.alloc(), &tags)?, Ok(want));
     Ok(())
 }
 

@@ -4,7 +4,7 @@ use super::{PLAIN, expect_header, header_of};
 use crate::{Header, Relocation};
 use std::test::Fail;
 
-const PASSED: &[(&str, &[u32])] = &[
+const SAYING_NOTHING: &[(&str, &[u32])] = &[
     ("an end tag alone", &[0, 8]),
     ("an optional end tag", &[0x1_0000, 8]),
     ("tags behind the end tag", &[0, 8, 77, 8, 6, 0]),
@@ -70,8 +70,8 @@ const ENTRIES: &[(&str, &[u32], u64)] = &[
 ];
 
 #[test]
-fn passed(rt: HostRuntime) -> Result<(), Fail> {
-    for (says, tags) in PASSED {
+fn other_tags_are_accepted_and_give_nothing(rt: HostRuntime) -> Result<(), Fail> {
+    for (says, tags) in SAYING_NOTHING {
         expect_header(&rt, says, &header_of(rt.alloc(), tags)?, Ok(PLAIN));
     }
     Ok(())
