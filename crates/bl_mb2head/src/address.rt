@@ -6,6 +6,7 @@ ghost use Rattle.bl_mb2head.specs.Address.{address_tag_at, address_fault, addres
 ghost use Rattle.bl_mb2head.specs.Header.{FitsFile};
 
 use crate::fault::HeadFault;
+use crate::fields::{BSS_END_ADDR, HEADER_ADDR, LOAD_ADDR, LOAD_END_ADDR, WHOLE_FILE};
 use crate::tag::Tag;
 use bl_mem::{ByteView, Segment, u32_at};
 
@@ -26,10 +27,10 @@ impl AddressTag {
         ensures { result ≡ address_tag_at (V.bytes view.now) at }
     {
         AddressTag {
-            header_addr: u32_at(view, at + 8),
-            load_addr: u32_at(view, at + 12),
-            load_end_addr: u32_at(view, at + 16),
-            bss_end_addr: u32_at(view, at + 20),
+            header_addr: u32_at(view, at + HEADER_ADDR),
+            load_addr: u32_at(view, at + LOAD_ADDR),
+            load_end_addr: u32_at(view, at + LOAD_END_ADDR),
+            bss_end_addr: u32_at(view, at + BSS_END_ADDR),
         }
     }
 
@@ -37,7 +38,7 @@ impl AddressTag {
     fn is_whole_file(self) -> bool
         ensures { result ≡ tags.is_whole_file self }
     {
-        self.load_addr == u32::MAX
+        self.load_addr == WHOLE_FILE
     }
 
     /// Whether the file's start, or its first byte that is loaded, would lie below 0.

@@ -6,6 +6,10 @@ ghost use Rattle.bl_mb2head.specs.Header.{IsHeader, BeginsAt, HasFirstFault, Fit
 
 use crate::address::address_segment;
 use crate::fault::HeadFault;
+use crate::fields::{
+    ALIGN, ARCHITECTURE, ENTRY_ADDR, HEADER_LENGTH, I386, LEAST_LENGTH, MAX_ADDR, MIN_ADDR,
+    PREFERENCE, SEARCH_END, TAGS,
+};
 use crate::last::last_tags;
 use crate::place::find_place;
 use crate::relocation::Relocation;
@@ -31,9 +35,9 @@ fn is_cut<V: ByteView>(view: &V, place: u64) -> bool
     requires in_front { place ≤ 32768 }
     ensures { result ≡ is_cut (V.bytes view.now) place }
 {
-    let header_length = u32_at(view, place + 8) as u64;
+    let header_length = u32_at(view, place + HEADER_LENGTH) as u64;
     let end = place + header_length;
-    header_length < 24 || view.len() < end || 32768 < end
+    header_length < LEAST_LENGTH || view.len() < end || SEARCH_END < end
 }
 
 /// The place of the file's header, or what is wrong with it before its tags.
@@ -47,7 +51,7 @@ fn checked_place<V: ByteView>(view: &V) -> Result<u64, HeadFault>
     if is_cut(view, place) {
         return Err(HeadFault::HeaderCut);
     }
-    if u32_at(view, place + 4) != 0 {
+    if u32_at(view, place + ARCHITECTURE) != I386 {
         return Err(HeadFault::BadArchitecture);
     }
     Ok(place)
@@ -61,7 +65,7 @@ fn entry_of<V: ByteView>(view: &V, tag: Option<Tag>) -> Option<u64>
     ensures below { IfSome result (λ entry. entry < 2 ^ 32) }
 {
     let tag = tag?;
-    Some(u32_at(view, tag.place + 8) as u64)
+    Some(u32_at(view, tag.place + ENTRY_ADDR) as u64)
 }
 
 /// What the relocatable tag that counts says.
@@ -72,10 +76,10 @@ fn relocation_of<V: ByteView>(view: &V, tag: Option<Tag>) -> Option<Relocation>
 {
     let tag = tag?;
     Some(Relocation {
-        min_addr: u32_at(view, tag.place + 8),
-        max_addr: u32_at(view, tag.place + 12),
-        align: u32_at(view, tag.place + 16),
-        preference: u32_at(view, tag.place + 20),
+        min_addr: u32_at(view, tag.place + MIN_ADDR),
+        max_addr: u32_at(view, tag.place + MAX_ADDR),
+        align: u32_at(view, tag.place + ALIGN),
+        preference: u32_at(view, tag.place + PREFERENCE),
     })
 }
 
@@ -87,8 +91,8 @@ pub fn find_header<V: ByteView>(view: &V) -> Result<Header, HeadFault>
     ensures entry { IfOk result (λ header. IfSome header.entry (λ entry. entry < 2 ^ 32)) }
 {
     let place = checked_place(view)?;
-    let end = place + u32_at(view, place + 8) as u64;
-    let last = last_tags(view, place + 16, end)?;
+    let end = place + u32_at(view, place + HEADER_LENGTH) as u64;
+    let last = last_tags(view, place + TAGS, end)?;
     Ok(Header {
         place,
         segment: address_segment(view, place, last.address)?,

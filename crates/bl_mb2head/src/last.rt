@@ -8,6 +8,7 @@ ghost use Rattle.bl_mb2head.specs.Last.{LieBefore};
 ghost use Rattle.bl_mb2head.specs.declared.tag.Tag.{Tag};
 
 use crate::fault::HeadFault;
+use crate::fields::{ALIGNMENT, TAG_ADDRESS, TAG_END, TAG_ENTRY, TAG_RELOCATABLE};
 use crate::tag::{Tag, checked_tag};
 use bl_mem::ByteView;
 
@@ -27,15 +28,15 @@ impl LastTags {
             → tag.place + tag.size ≤ end → LieBefore end result }
     {
         match tag.kind {
-            2 => LastTags {
+            TAG_ADDRESS => LastTags {
                 address: Some(tag),
                 ..self
             },
-            3 => LastTags {
+            TAG_ENTRY => LastTags {
                 entry: Some(tag),
                 ..self
             },
-            10 => LastTags {
+            TAG_RELOCATABLE => LastTags {
                 relocation: Some(tag),
                 ..self
             },
@@ -63,10 +64,10 @@ pub fn last_tags<V: ByteView>(view: &V, start: u64, end: u64) -> Result<LastTags
     };
     loop {
         let tag = checked_tag(view, at, end)?;
-        if tag.kind == 0 {
+        if tag.kind == TAG_END {
             return Ok(last);
         }
         last = last.with(tag);
-        at = (at + tag.size as u64 + 7) / 8 * 8;
+        at = (at + tag.size as u64 + (ALIGNMENT - 1)) / ALIGNMENT * ALIGNMENT;
     }
 }

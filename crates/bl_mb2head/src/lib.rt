@@ -3,6 +3,7 @@
 
 mod address;
 mod fault;
+mod fields;
 mod header;
 mod last;
 mod laws;

@@ -4,10 +4,8 @@ ghost use Rattle.std.specs.Prelude.{◌≡◌, ◌≤◌, ◌+◌, ◌%◌, ◌�
 ghost use Rattle.bl_mem.specs.Least.{IsLeast};
 ghost use Rattle.bl_mb2head.specs.Place.{IsHeaderAt};
 
+use crate::fields::{ALIGNMENT, ARCHITECTURE, CHECKSUM, HEADER_LENGTH, MAGIC, SEARCH_END, TAGS};
 use bl_mem::{ByteView, u32_at};
-
-/// The first word of a header.
-const MAGIC: u32 = 0xE852_50D6;
 
 /// Whether a header stands at `at`, which is a multiple of 8 with 16 bytes behind it.
 fn is_header_at<V: ByteView>(view: &V, at: u64) -> bool
@@ -20,9 +18,9 @@ fn is_header_at<V: ByteView>(view: &V, at: u64) -> bool
     if magic != MAGIC {
         return false;
     }
-    let architecture = u32_at(view, at + 4);
-    let header_length = u32_at(view, at + 8);
-    let checksum = u32_at(view, at + 12);
+    let architecture = u32_at(view, at + ARCHITECTURE);
+    let header_length = u32_at(view, at + HEADER_LENGTH);
+    let checksum = u32_at(view, at + CHECKSUM);
     let sum = magic as u64 + architecture as u64 + header_length as u64 + checksum as u64;
     sum % (1 << 32) == 0
 }
@@ -33,13 +31,13 @@ pub fn find_place<V: ByteView>(view: &V) -> Option<u64>
         ((h : ℕ) → IsHeaderAt (V.bytes view.now) h → ⊥)
         (λ h. IsLeast (IsHeaderAt (V.bytes view.now)) h) }
 {
-    let end = view.len().min(32768);
+    let end = view.len().min(SEARCH_END);
     let mut at = 0;
-    while at + 16 <= end {
+    while at + TAGS <= end {
         if is_header_at(view, at) {
             return Some(at);
         }
-        at += 8;
+        at += ALIGNMENT;
     }
     None
 }

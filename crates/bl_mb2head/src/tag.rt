@@ -1,14 +1,20 @@
 //! One tag of a header, and what can be wrong with it.
 
-ghost use Rattle.std.specs.Prelude.{◌≡◌, ◌≤◌, ◌+◌, ◌*◌, Some, None, length, IfOk, not, MatchResult};
+ghost use Rattle.std.specs.Prelude.{◌≡◌, ◌≤◌, ◌+◌, ◌*◌, ◌==◌, ◌&&◌, if◌then◌else◌, bit_and, true, false, Some, None, length, IfOk, IfSome, not, MatchResult, MatchOption};
 ghost use Rattle.std.specs.List.{find};
+ghost use Rattle.bl_mem.specs.Words.{u32_at};
 ghost use Rattle.bl_mb2head.specs.Tags as tags;
-ghost use Rattle.bl_mb2head.specs.Tags.{tag_at, words_at, can_be_given, fault_at};
+ghost use Rattle.bl_mb2head.specs.Tags.{tag_at, words_at, can_be_given, is_well_formed, fault_at};
 
 use crate::fault::HeadFault;
+use crate::fields::{
+    ADDRESS_SIZE, BODY, CONSOLE_FLAGS, CONSOLE_REQUIRED, CONSOLE_SIZE, ELF_SYMBOLS, END_SIZE,
+    ENTRY_SIZE, FIRST_INFORMATION, FLAGS, LAST_INFORMATION, LAST_TAG, OPTIONAL, RELOCATABLE_SIZE,
+    SIZE, TAG_ADDRESS, TAG_CONSOLE, TAG_END, TAG_ENTRY, TAG_RELOCATABLE, TAG_REQUEST, WORD,
+};
 use bl_mem::{ByteView, u16_at, u32_at};
 
-/// Where a tag stands in the file, and its first 8 bytes.
+/// Where a tag stands in the file, and its first 8 bytes (Multiboot2 2.0, "3.1.3 General tag structure").
 #[derive(Clone, Copy, Debug, PartialEq, Eq)]
 pub struct Tag {
     pub place: u64,
@@ -22,9 +28,11 @@ fn least_size(kind: u16) -> u32
     ensures { result ≡ tags.least_size kind }
 {
     match kind {
-        2 | 10 => 24,
-        3 | 4 => 12,
-        _ => 8,
+        TAG_ADDRESS => ADDRESS_SIZE,
+        TAG_ENTRY => ENTRY_SIZE,
+        TAG_CONSOLE => CONSOLE_SIZE,
+        TAG_RELOCATABLE => RELOCATABLE_SIZE,
+        _ => END_SIZE,
     }
 }
 
@@ -32,7 +40,7 @@ fn least_size(kind: u16) -> u32
 fn can_be_given(kind: u32) -> bool
     ensures { result ≡ tags.can_be_given kind }
 {
-    1 <= kind && kind <= 21 && kind != 9
+    FIRST_INFORMATION <= kind && kind <= LAST_INFORMATION && kind != ELF_SYMBOLS
 }
 
 /// The first of `count` words from `at` on that names information which can't be given.
@@ -42,7 +50,7 @@ fn first_unknown_word<V: ByteView>(view: &V, at: u64, count: u64) -> Option<u32>
     ensures { result ≡ find (λ kind. not (can_be_given kind)) (words_at (V.bytes view.now) at count) }
 {
     for i in 0..count {
-        let kind = u32_at(view, at + 4 * i);
+        let kind = u32_at(view, at + WORD * i);
         if !can_be_given(kind) {
             return Some(kind);
         }
@@ -50,47 +58,92 @@ fn first_unknown_word<V: ByteView>(view: &V, at: u64, count: u64) -> Option<u32>
     None
 }
 
+/// The tag at a place, where it lies before `end` and has a size of its kind.
+#[tactic(auto, unfolding(crate::specs::Tags::is_well_formed))]
+fn well_formed_tag<V: ByteView>(view: &V, at: u64, end: u64) -> Option<Tag>
+    requires in_file { end ≤ length (V.bytes view.now) }
+    requires in_front { end ≤ 32768 }
+    requires in_reach { at ≤ end + 8 }
+    ensures fits { IfSome result (λ tag. (tag.place ≡ at) × (8 ≤ tag.size) × (tags.least_size tag.kind ≤ tag.size)
+        × (at + tag.size ≤ end)) }
+    ensures exact { MatchOption result
+        (is_well_formed (V.bytes view.now) end at ≡ false)
+        (λ tag. (tag ≡ tag_at (V.bytes view.now) at) × (is_well_formed (V.bytes view.now) end at ≡ true)) }
+{
+    if at + BODY > end {
+        return None;
+    }
+    let tag = Tag {
+        place: at,
+        kind: u16_at(view, at),
+        flags: u16_at(view, at + FLAGS),
+        size: u32_at(view, at + SIZE),
+    };
+    if at + tag.size as u64 > end || tag.size < least_size(tag.kind) {
+        return None;
+    }
+    if tag.kind == TAG_END && tag.size != END_SIZE {
+        return None;
+    }
+    Some(tag)
+}
+
+/// Whether a tag may be ignored.
+fn is_optional(tag: Tag) -> bool
+    ensures { result ≡ tags.is_optional tag }
+{
+    tag.flags & OPTIONAL != 0
+}
+
+/// What a request names first that can't be given. A tag of another kind requests nothing.
+#[tactic(auto, unfolding(crate::specs::Tags::first_unknown))]
+fn unknown_request<V: ByteView>(view: &V, tag: Tag) -> Option<u32>
+    requires whole { 8 ≤ tag.size }
+    requires in_file { tag.place + tag.size ≤ length (V.bytes view.now) }
+    requires in_front { tag.place + tag.size ≤ 32768 }
+    ensures { result ≡ (if tag.kind == 1 then tags.first_unknown (V.bytes view.now) tag else None) }
+{
+    if tag.kind != TAG_REQUEST {
+        return None;
+    }
+    first_unknown_word(view, tag.place + BODY, (tag.size as u64 - BODY) / WORD)
+}
+
+/// Whether a tag asks for a console.
+fn wants_console<V: ByteView>(view: &V, tag: Tag) -> bool
+    requires whole { tags.least_size tag.kind ≤ tag.size }
+    requires in_file { tag.place + tag.size ≤ length (V.bytes view.now) }
+    requires in_front { tag.place + tag.size ≤ 32768 }
+    ensures { result ≡ (tag.kind == 4 && not (bit_and (u32_at (V.bytes view.now) (tag.place + 8)) 1 == 0)) }
+{
+    tag.kind == TAG_CONSOLE && u32_at(view, tag.place + CONSOLE_FLAGS) & CONSOLE_REQUIRED != 0
+}
+
 /// The tag at a place, or its first fault.
-#[tactic(auto, unfolding(crate::specs::Tags::fault_at, crate::specs::Tags::is_well_formed, crate::specs::Tags::first_unknown))]
+#[tactic(auto, unfolding(crate::specs::Tags::fault_at))]
 pub fn checked_tag<V: ByteView>(view: &V, at: u64, end: u64) -> Result<Tag, HeadFault>
     requires in_file { end ≤ length (V.bytes view.now) }
     requires in_front { end ≤ 32768 }
     requires in_reach { at ≤ end + 8 }
-    ensures fits { IfOk result (λ tag. (tag.place ≡ at) × (8 ≤ tag.size) × (tags.least_size tag.kind ≤ tag.size) × (at + tag.size ≤ end)) }
+    ensures fits { IfOk result (λ tag. (tag.place ≡ at) × (8 ≤ tag.size) × (tags.least_size tag.kind ≤ tag.size)
+        × (at + tag.size ≤ end)) }
     ensures exact { MatchResult result
         (λ tag. (tag ≡ tag_at (V.bytes view.now) at) × (fault_at (V.bytes view.now) end at ≡ None))
         (λ fault. fault_at (V.bytes view.now) end at ≡ Some fault) }
 {
-    if at + 8 > end {
+    let Some(tag) = well_formed_tag(view, at, end) else {
         return Err(HeadFault::BadTag(at));
-    }
-    let kind = u16_at(view, at);
-    let flags = u16_at(view, at + 2);
-    let size = u32_at(view, at + 4);
-    let is_ended_well = kind != 0 || size == 8;
-    if at + size as u64 > end || size < least_size(kind) || !is_ended_well {
-        return Err(HeadFault::BadTag(at));
-    }
-    let tag = Tag {
-        place: at,
-        kind,
-        flags,
-        size,
     };
-    if flags & 1 != 0 {
+    if is_optional(tag) {
         return Ok(tag);
     }
-    if kind > 10 {
-        return Err(HeadFault::UnsupportedTag(kind));
+    if tag.kind > LAST_TAG {
+        return Err(HeadFault::UnsupportedTag(tag.kind));
     }
-    if kind == 1 {
-        let count = (size as u64 - 8) / 4;
-        return match first_unknown_word(view, at + 8, count) {
-            Some(kind) => Err(HeadFault::UnsupportedRequest(kind)),
-            None => Ok(tag),
-        };
+    if let Some(kind) = unknown_request(view, tag) {
+        return Err(HeadFault::UnsupportedRequest(kind));
     }
-    if kind == 4 && u32_at(view, at + 8) & 1 != 0 {
+    if wants_console(view, tag) {
         return Err(HeadFault::NoConsole);
     }
     Ok(tag)

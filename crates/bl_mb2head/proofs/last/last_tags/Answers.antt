@@ -12,7 +12,7 @@ loop-tag-preserved g c =
       fits = c.with-last.ensures.fits c.args.end c.loop-tag.invariant.fits c.in_ok-tag.ensures.fits.2 (omega (arith, c.in_ok-tag.ensures.fits.0, c.in_ok-tag.ensures.fits.3));
       before = (
         before.0 ++ tag ∷ [],
-        AreTags-push _ _ _ _ before.0 tag before.1 is.0 is.1 c.if-tag-eq0.false,
+        AreTags-push _ _ _ _ before.0 tag before.1 is.0 is.1 c.if-tag-eq-TAG_END.false,
         c.with-last.ensures.last before.0 before.2,
       );
     }
