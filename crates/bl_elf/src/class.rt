@@ -2,6 +2,8 @@
 ghost use Rattle.std.specs.Prelude.{◌≡◌};
 ghost use Rattle.bl_elf.specs.Header as spec;
 
+use crate::fields::{EHDR_SIZE_32, EHDR_SIZE_64, EM_386, EM_X86_64, PHDR_SIZE_32, PHDR_SIZE_64};
+
 /// How wide a file's addresses and offsets are (System V gABI, "ELF Header": `e_ident[EI_CLASS]`).
 #[derive(Clone, Copy, Debug, PartialEq, Eq)]
 pub enum Class {
@@ -15,8 +17,8 @@ impl Class {
         ensures { result ≡ spec.header_size self }
     {
         match self {
-            Class::Elf32 => 52,
-            Class::Elf64 => 64,
+            Class::Elf32 => EHDR_SIZE_32,
+            Class::Elf64 => EHDR_SIZE_64,
         }
     }
 
@@ -25,8 +27,8 @@ impl Class {
         ensures { result ≡ spec.program_header_size self }
     {
         match self {
-            Class::Elf32 => 32,
-            Class::Elf64 => 56,
+            Class::Elf32 => PHDR_SIZE_32,
+            Class::Elf64 => PHDR_SIZE_64,
         }
     }
 
@@ -35,8 +37,8 @@ impl Class {
         ensures { result ≡ spec.machine_of self }
     {
         match self {
-            Class::Elf32 => 3,
-            Class::Elf64 => 62,
+            Class::Elf32 => EM_386,
+            Class::Elf64 => EM_X86_64,
         }
     }
 }

@@ -5,14 +5,13 @@ ghost use Rattle.bl_elf.specs.Header.{IsHeaderOf};
 
 use crate::class::Class;
 use crate::fault::ElfFault;
+use crate::fields::{
+    E_ENTRY, E_MACHINE, E_PHENTSIZE_32, E_PHENTSIZE_64, E_PHNUM_32, E_PHNUM_64, E_PHOFF_32,
+    E_PHOFF_64, E_TYPE, E_VERSION, EI_CLASS, EI_DATA, EI_NIDENT, EI_VERSION, EI_VERSION_CURRENT,
+    ELFCLASS32, ELFCLASS64, ELFDATA2LSB, ET_DYN, ET_EXEC, EV_CURRENT, MAGIC, MOST_PROGRAM_HEADERS,
+};
 use crate::sums::ends_within;
 use bl_mem::{ByteView, u8_at, u16_at, u32_at, u64_at};
-
-/// The first word of an ELF file, the bytes 7F 45 4C 46.
-const MAGIC: u32 = 0x464C_457F;
-
-/// The most program headers that a file may have.
-const MOST_PROGRAM_HEADERS: u16 = 128;
 
 /// The fields of a file's ELF header that loading needs (System V gABI, "ELF Header").
 #[derive(Clone, Copy, Debug)]
@@ -57,7 +56,7 @@ pub fn read_header<V: ByteView>(view: &V) -> Result<Header, ElfFault>
 fn has_magic<V: ByteView>(view: &V) -> bool
     ensures { result ≡ spec.has_magic (V.bytes view.now) }
 {
-    if view.len() < 16 {
+    if view.len() < EI_NIDENT {
         return false;
     }
     u32_at(view, 0) == MAGIC
@@ -67,21 +66,21 @@ fn has_ident<V: ByteView>(view: &V) -> bool
     requires { 16 ≤ length (V.bytes view.now) }
     ensures { result ≡ spec.has_ident (V.bytes view.now) }
 {
-    let class = u8_at(view, 4);
-    if class != 1 && class != 2 {
+    let class = u8_at(view, EI_CLASS);
+    if class != ELFCLASS32 && class != ELFCLASS64 {
         return false;
     }
-    if u8_at(view, 5) != 1 {
+    if u8_at(view, EI_DATA) != ELFDATA2LSB {
         return false;
     }
-    u8_at(view, 6) == 1
+    u8_at(view, EI_VERSION) == EI_VERSION_CURRENT
 }
 
 fn class_of<V: ByteView>(view: &V) -> Class
     requires { 16 ≤ length (V.bytes view.now) }
     ensures { result ≡ spec.class_of (V.bytes view.now) }
 {
-    if u8_at(view, 4) == 2 {
+    if u8_at(view, EI_CLASS) == ELFCLASS64 {
         Class::Elf64
     } else {
         Class::Elf32
@@ -94,13 +93,13 @@ fn header_32<V: ByteView>(view: &V) -> Header
 {
     Header {
         class: Class::Elf32,
-        e_type: u16_at(view, 16),
-        e_machine: u16_at(view, 18),
-        e_version: u32_at(view, 20),
-        e_entry: u32_at(view, 24) as u64,
-        e_phoff: u32_at(view, 28) as u64,
-        e_phentsize: u16_at(view, 42),
-        e_phnum: u16_at(view, 44),
+        e_type: u16_at(view, E_TYPE),
+        e_machine: u16_at(view, E_MACHINE),
+        e_version: u32_at(view, E_VERSION),
+        e_entry: u32_at(view, E_ENTRY) as u64,
+        e_phoff: u32_at(view, E_PHOFF_32) as u64,
+        e_phentsize: u16_at(view, E_PHENTSIZE_32),
+        e_phnum: u16_at(view, E_PHNUM_32),
     }
 }
 
@@ -110,13 +109,13 @@ fn header_64<V: ByteView>(view: &V) -> Header
 {
     Header {
         class: Class::Elf64,
-        e_type: u16_at(view, 16),
-        e_machine: u16_at(view, 18),
-        e_version: u32_at(view, 20),
-        e_entry: u64_at(view, 24),
-        e_phoff: u64_at(view, 32),
-        e_phentsize: u16_at(view, 54),
-        e_phnum: u16_at(view, 56),
+        e_type: u16_at(view, E_TYPE),
+        e_machine: u16_at(view, E_MACHINE),
+        e_version: u32_at(view, E_VERSION),
+        e_entry: u64_at(view, E_ENTRY),
+        e_phoff: u64_at(view, E_PHOFF_64),
+        e_phentsize: u16_at(view, E_PHENTSIZE_64),
+        e_phnum: u16_at(view, E_PHNUM_64),
     }
 }
 
@@ -126,13 +125,13 @@ fn check_fields(size: u64, header: Header) -> Result<(), ElfFault>
         (λ _. spec.field_fault size header ≡ None)
         (λ fault. spec.field_fault size header ≡ Some fault) }
 {
-    if header.e_type != 2 && header.e_type != 3 {
+    if header.e_type != ET_EXEC && header.e_type != ET_DYN {
         return Err(ElfFault::BadElf);
     }
     if header.e_machine != header.class.machine() {
         return Err(ElfFault::BadElf);
     }
-    if header.e_version != 1 {
+    if header.e_version != EV_CURRENT {
         return Err(ElfFault::BadElf);
     }
     if header.e_phnum > MOST_PROGRAM_HEADERS {

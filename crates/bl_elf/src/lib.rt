@@ -5,6 +5,7 @@ mod class;
 mod elf;
 mod entry;
 mod fault;
+mod fields;
 mod header;
 mod laws;
 mod overlap;

@@ -5,15 +5,13 @@ ghost use Rattle.bl_elf.specs.Program as spec;
 
 use crate::class::Class;
 use crate::fault::ElfFault;
+use crate::fields::{
+    ADDRESS_END, P_FILESZ_32, P_FILESZ_64, P_MEMSZ_32, P_MEMSZ_64, P_OFFSET_32, P_OFFSET_64,
+    P_PADDR_32, P_PADDR_64, P_VADDR_32, P_VADDR_64, PT_LOAD,
+};
 use crate::header::Header;
 use crate::sums::{ends_within, is_before_end};
 use bl_mem::{ByteView, Segment, u32_at, u64_at};
-
-/// The type of a program header whose segment is loaded.
-const PT_LOAD: u32 = 1;
-
-/// The end of what can be addressed while the processor is in 32-bit mode.
-const ADDRESS_END: u64 = 1 << 32;
 
 /// The fields of a program header that loading needs (System V gABI, "Program Header").
 #[derive(Clone, Copy, Debug)]
@@ -48,11 +46,11 @@ fn program_header_32<V: ByteView>(view: &V, place: u64) -> ProgramHeader
 {
     ProgramHeader {
         p_type: u32_at(view, place),
-        p_offset: u32_at(view, place + 4) as u64,
-        p_vaddr: u32_at(view, place + 8) as u64,
-        p_paddr: u32_at(view, place + 12) as u64,
-        p_filesz: u32_at(view, place + 16) as u64,
-        p_memsz: u32_at(view, place + 20) as u64,
+        p_offset: u32_at(view, place + P_OFFSET_32) as u64,
+        p_vaddr: u32_at(view, place + P_VADDR_32) as u64,
+        p_paddr: u32_at(view, place + P_PADDR_32) as u64,
+        p_filesz: u32_at(view, place + P_FILESZ_32) as u64,
+        p_memsz: u32_at(view, place + P_MEMSZ_32) as u64,
     }
 }
 
@@ -64,11 +62,11 @@ fn program_header_64<V: ByteView>(view: &V, place: u64) -> ProgramHeader
 {
     ProgramHeader {
         p_type: u32_at(view, place),
-        p_offset: u64_at(view, place + 8),
-        p_vaddr: u64_at(view, place + 16),
-        p_paddr: u64_at(view, place + 24),
-        p_filesz: u64_at(view, place + 32),
-        p_memsz: u64_at(view, place + 40),
+        p_offset: u64_at(view, place + P_OFFSET_64),
+        p_vaddr: u64_at(view, place + P_VADDR_64),
+        p_paddr: u64_at(view, place + P_PADDR_64),
+        p_filesz: u64_at(view, place + P_FILESZ_64),
+        p_memsz: u64_at(view, place + P_MEMSZ_64),
     }
 }
 
