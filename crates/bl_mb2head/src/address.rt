@@ -6,7 +6,9 @@ ghost use Rattle.bl_mb2head.specs.Address.{address_tag_at, address_fault, addres
 ghost use Rattle.bl_mb2head.specs.Header.{FitsFile};
 
 use crate::fault::HeadFault;
-use crate::fields::{BSS_END_ADDR, HEADER_ADDR, LOAD_ADDR, LOAD_END_ADDR, WHOLE_FILE};
+use crate::fields::{
+    ADDRESS_SIZE, BSS_END_ADDR, HEADER_ADDR, LOAD_ADDR, LOAD_END_ADDR, SEARCH_END, WHOLE_FILE,
+};
 use crate::tag::Tag;
 use bl_mem::{ByteView, Segment, u32_at};
 
@@ -22,8 +24,8 @@ pub struct AddressTag {
 impl AddressTag {
     /// The fields of the tag at a place.
     fn read<V: ByteView>(view: &V, at: u64) -> AddressTag
-        requires in_file { at + 24 ≤ length (V.bytes view.now) }
-        requires in_front { at ≤ 32768 }
+        requires in_file { at + ADDRESS_SIZE ≤ length (V.bytes view.now) }
+        requires in_front { at ≤ SEARCH_END }
         ensures { result ≡ address_tag_at (V.bytes view.now) at }
     {
         AddressTag {
@@ -138,8 +140,8 @@ pub fn address_segment<V: ByteView>(
     tag: Option<Tag>,
 ) -> Result<Option<Segment>, HeadFault>
     requires place { place ≤ length (V.bytes view.now) }
-    requires in_file { IfSome tag (λ t. t.place + 24 ≤ length (V.bytes view.now)) }
-    requires in_front { IfSome tag (λ t. t.place + 24 ≤ 32768) }
+    requires in_file { IfSome tag (λ t. t.place + ADDRESS_SIZE ≤ length (V.bytes view.now)) }
+    requires in_front { IfSome tag (λ t. t.place + ADDRESS_SIZE ≤ SEARCH_END) }
     ensures exact { MatchResult result
         (λ segment. (address_fault (V.bytes view.now) place tag ≡ None) × (segment ≡ address_segment (V.bytes view.now) place tag))
         (λ fault. address_fault (V.bytes view.now) place tag ≡ Some fault) }

@@ -7,8 +7,8 @@ ghost use Rattle.bl_mb2head.specs.Header.{IsHeader, BeginsAt, HasFirstFault, Fit
 use crate::address::address_segment;
 use crate::fault::HeadFault;
 use crate::fields::{
-    ALIGN, ARCHITECTURE, ENTRY_ADDR, HEADER_LENGTH, I386, LEAST_LENGTH, MAX_ADDR, MIN_ADDR,
-    PREFERENCE, SEARCH_END, TAGS,
+    ALIGN, ARCHITECTURE, ENTRY_ADDR, ENTRY_SIZE, HEADER_LENGTH, I386, LEAST_LENGTH, MAX_ADDR,
+    MIN_ADDR, PREFERENCE, RELOCATABLE_SIZE, SEARCH_END, TAGS,
 };
 use crate::last::last_tags;
 use crate::place::find_place;
@@ -31,8 +31,8 @@ pub struct Header {
 
 /// Whether the header at a place has no room for its last tag, or does not lie where it must.
 fn is_cut<V: ByteView>(view: &V, place: u64) -> bool
-    requires in_file { place + 16 ≤ length (V.bytes view.now) }
-    requires in_front { place ≤ 32768 }
+    requires in_file { place + TAGS ≤ length (V.bytes view.now) }
+    requires in_front { place ≤ SEARCH_END }
     ensures { result ≡ is_cut (V.bytes view.now) place }
 {
     let header_length = u32_at(view, place + HEADER_LENGTH) as u64;
@@ -59,8 +59,8 @@ fn checked_place<V: ByteView>(view: &V) -> Result<u64, HeadFault>
 
 /// The address of the entry address tag that counts.
 fn entry_of<V: ByteView>(view: &V, tag: Option<Tag>) -> Option<u64>
-    requires in_file { IfSome tag (λ t. t.place + 12 ≤ length (V.bytes view.now)) }
-    requires in_front { IfSome tag (λ t. t.place + 12 ≤ 32768) }
+    requires in_file { IfSome tag (λ t. t.place + ENTRY_SIZE ≤ length (V.bytes view.now)) }
+    requires in_front { IfSome tag (λ t. t.place + ENTRY_SIZE ≤ SEARCH_END) }
     ensures exact { result ≡ header.entry_of (V.bytes view.now) tag }
     ensures below { IfSome result (λ entry. entry < 2 ^ 32) }
 {
@@ -70,8 +70,8 @@ fn entry_of<V: ByteView>(view: &V, tag: Option<Tag>) -> Option<u64>
 
 /// What the relocatable tag that counts says.
 fn relocation_of<V: ByteView>(view: &V, tag: Option<Tag>) -> Option<Relocation>
-    requires in_file { IfSome tag (λ t. t.place + 24 ≤ length (V.bytes view.now)) }
-    requires in_front { IfSome tag (λ t. t.place + 24 ≤ 32768) }
+    requires in_file { IfSome tag (λ t. t.place + RELOCATABLE_SIZE ≤ length (V.bytes view.now)) }
+    requires in_front { IfSome tag (λ t. t.place + RELOCATABLE_SIZE ≤ SEARCH_END) }
     ensures { result ≡ header.relocation_of (V.bytes view.now) tag }
 {
     let tag = tag?;

@@ -8,7 +8,7 @@ ghost use Rattle.bl_mb2head.specs.Last.{LieBefore};
 ghost use Rattle.bl_mb2head.specs.declared.tag.Tag.{Tag};
 
 use crate::fault::HeadFault;
-use crate::fields::{ALIGNMENT, TAG_ADDRESS, TAG_END, TAG_ENTRY, TAG_RELOCATABLE};
+use crate::fields::{ALIGNMENT, SEARCH_END, TAG_ADDRESS, TAG_END, TAG_ENTRY, TAG_RELOCATABLE};
 use crate::tag::{Tag, checked_tag};
 use bl_mem::ByteView;
 
@@ -49,7 +49,7 @@ impl LastTags {
 /// tag that has one.
 pub fn last_tags<V: ByteView>(view: &V, start: u64, end: u64) -> Result<LastTags, HeadFault>
     requires in_file { end ≤ length (V.bytes view.now) }
-    requires in_front { end ≤ 32768 }
+    requires in_front { end ≤ SEARCH_END }
     requires in_order { start ≤ end }
     ensures fits { IfOk result (LieBefore end) }
     ensures last { IfOk result (λ last.

@@ -9,9 +9,9 @@ use bl_mem::{ByteView, u32_at};
 
 /// Whether a header stands at `at`, which is a multiple of 8 with 16 bytes behind it.
 fn is_header_at<V: ByteView>(view: &V, at: u64) -> bool
-    requires aligned { at % 8 ≡ 0 }
-    requires in_file { at + 16 ≤ length (V.bytes view.now) }
-    requires in_front { at + 16 ≤ 32768 }
+    requires aligned { at % ALIGNMENT ≡ 0 }
+    requires in_file { at + TAGS ≤ length (V.bytes view.now) }
+    requires in_front { at + TAGS ≤ SEARCH_END }
     ensures { IsTrue result ↔ IsHeaderAt (V.bytes view.now) at }
 {
     let magic = u32_at(view, at);

@@ -10,7 +10,8 @@ use crate::fault::HeadFault;
 use crate::fields::{
     ADDRESS_SIZE, BODY, CONSOLE_FLAGS, CONSOLE_REQUIRED, CONSOLE_SIZE, ELF_SYMBOLS, END_SIZE,
     ENTRY_SIZE, FIRST_INFORMATION, FLAGS, LAST_INFORMATION, LAST_TAG, OPTIONAL, RELOCATABLE_SIZE,
-    SIZE, TAG_ADDRESS, TAG_CONSOLE, TAG_END, TAG_ENTRY, TAG_RELOCATABLE, TAG_REQUEST, WORD,
+    SEARCH_END, SIZE, TAG_ADDRESS, TAG_CONSOLE, TAG_END, TAG_ENTRY, TAG_RELOCATABLE, TAG_REQUEST,
+    WORD,
 };
 use bl_mem::{ByteView, u16_at, u32_at};
 
@@ -45,8 +46,8 @@ fn can_be_given(kind: u32) -> bool
 
 /// The first of `count` words from `at` on that names information which can't be given.
 fn first_unknown_word<V: ByteView>(view: &V, at: u64, count: u64) -> Option<u32>
-    requires in_file { at + 4 * count ≤ length (V.bytes view.now) }
-    requires in_front { at + 4 * count ≤ 32768 }
+    requires in_file { at + WORD * count ≤ length (V.bytes view.now) }
+    requires in_front { at + WORD * count ≤ SEARCH_END }
     ensures { result ≡ find (λ kind. not (can_be_given kind)) (words_at (V.bytes view.now) at count) }
 {
     for i in 0..count {
@@ -62,9 +63,9 @@ fn first_unknown_word<V: ByteView>(view: &V, at: u64, count: u64) -> Option<u32>
 #[tactic(auto, unfolding(crate::specs::Tags::is_well_formed))]
 fn well_formed_tag<V: ByteView>(view: &V, at: u64, end: u64) -> Option<Tag>
     requires in_file { end ≤ length (V.bytes view.now) }
-    requires in_front { end ≤ 32768 }
+    requires in_front { end ≤ SEARCH_END }
     requires in_reach { at ≤ end + 8 }
-    ensures fits { IfSome result (λ tag. (tag.place ≡ at) × (8 ≤ tag.size) × (tags.least_size tag.kind ≤ tag.size)
+    ensures fits { IfSome result (λ tag. (tag.place ≡ at) × (END_SIZE ≤ tag.size) × (tags.least_size tag.kind ≤ tag.size)
         × (at + tag.size ≤ end)) }
     ensures exact { MatchOption result
         (is_well_formed (V.bytes view.now) end at ≡ false)
@@ -98,9 +99,9 @@ fn is_optional(tag: Tag) -> bool
 /// What a request names first that can't be given. A tag of another kind requests nothing.
 #[tactic(auto, unfolding(crate::specs::Tags::first_unknown))]
 fn unknown_request<V: ByteView>(view: &V, tag: Tag) -> Option<u32>
-    requires whole { 8 ≤ tag.size }
+    requires whole { END_SIZE ≤ tag.size }
     requires in_file { tag.place + tag.size ≤ length (V.bytes view.now) }
-    requires in_front { tag.place + tag.size ≤ 32768 }
+    requires in_front { tag.place + tag.size ≤ SEARCH_END }
     ensures { result ≡ (if tag.kind == 1 then tags.first_unknown (V.bytes view.now) tag else None) }
 {
     if tag.kind != TAG_REQUEST {
@@ -113,7 +114,7 @@ fn unknown_request<V: ByteView>(view: &V, tag: Tag) -> Option<u32>
 fn wants_console<V: ByteView>(view: &V, tag: Tag) -> bool
     requires whole { tags.least_size tag.kind ≤ tag.size }
     requires in_file { tag.place + tag.size ≤ length (V.bytes view.now) }
-    requires in_front { tag.place + tag.size ≤ 32768 }
+    requires in_front { tag.place + tag.size ≤ SEARCH_END }
     ensures { result ≡ (tag.kind == 4 && not (bit_and (u32_at (V.bytes view.now) (tag.place + 8)) 1 == 0)) }
 {
     tag.kind == TAG_CONSOLE && u32_at(view, tag.place + CONSOLE_FLAGS) & CONSOLE_REQUIRED != 0
@@ -123,9 +124,9 @@ fn wants_console<V: ByteView>(view: &V, tag: Tag) -> bool
 #[tactic(auto, unfolding(crate::specs::Tags::fault_at))]
 pub fn checked_tag<V: ByteView>(view: &V, at: u64, end: u64) -> Result<Tag, HeadFault>
     requires in_file { end ≤ length (V.bytes view.now) }
-    requires in_front { end ≤ 32768 }
+    requires in_front { end ≤ SEARCH_END }
     requires in_reach { at ≤ end + 8 }
-    ensures fits { IfOk result (λ tag. (tag.place ≡ at) × (8 ≤ tag.size) × (tags.least_size tag.kind ≤ tag.size)
+    ensures fits { IfOk result (λ tag. (tag.place ≡ at) × (END_SIZE ≤ tag.size) × (tags.least_size tag.kind ≤ tag.size)
         × (at + tag.size ≤ end)) }
     ensures exact { MatchResult result
         (λ tag. (tag ≡ tag_at (V.bytes view.now) at) × (fault_at (V.bytes view.now) end at ≡ None))
