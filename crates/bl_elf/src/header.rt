@@ -7,8 +7,9 @@ use crate::class::Class;
 use crate::fault::ElfFault;
 use crate::fields::{
     E_ENTRY, E_MACHINE, E_PHENTSIZE_32, E_PHENTSIZE_64, E_PHNUM_32, E_PHNUM_64, E_PHOFF_32,
-    E_PHOFF_64, E_TYPE, E_VERSION, EI_CLASS, EI_DATA, EI_NIDENT, EI_VERSION, EI_VERSION_CURRENT,
-    ELFCLASS32, ELFCLASS64, ELFDATA2LSB, ET_DYN, ET_EXEC, EV_CURRENT, MAGIC, MOST_PROGRAM_HEADERS,
+    E_PHOFF_64, E_TYPE, E_VERSION, EHDR_SIZE_32, EHDR_SIZE_64, EI_CLASS, EI_DATA, EI_NIDENT,
+    EI_VERSION, EI_VERSION_CURRENT, ELFCLASS32, ELFCLASS64, ELFDATA2LSB, ET_DYN, ET_EXEC,
+    EV_CURRENT, MAGIC, MOST_PROGRAM_HEADERS,
 };
 use crate::sums::ends_within;
 use bl_mem::{ByteView, u8_at, u16_at, u32_at, u64_at};
@@ -63,7 +64,7 @@ fn has_magic<V: ByteView>(view: &V) -> bool
 }
 
 fn has_ident<V: ByteView>(view: &V) -> bool
-    requires { 16 ≤ length (V.bytes view.now) }
+    requires { EI_NIDENT ≤ length (V.bytes view.now) }
     ensures { result ≡ spec.has_ident (V.bytes view.now) }
 {
     let class = u8_at(view, EI_CLASS);
@@ -77,7 +78,7 @@ fn has_ident<V: ByteView>(view: &V) -> bool
 }
 
 fn class_of<V: ByteView>(view: &V) -> Class
-    requires { 16 ≤ length (V.bytes view.now) }
+    requires { EI_NIDENT ≤ length (V.bytes view.now) }
     ensures { result ≡ spec.class_of (V.bytes view.now) }
 {
     if u8_at(view, EI_CLASS) == ELFCLASS64 {
@@ -88,7 +89,7 @@ fn class_of<V: ByteView>(view: &V) -> Class
 }
 
 fn header_32<V: ByteView>(view: &V) -> Header
-    requires { 52 ≤ length (V.bytes view.now) }
+    requires { EHDR_SIZE_32 ≤ length (V.bytes view.now) }
     ensures { result ≡ spec.header_in Class.Elf32 (V.bytes view.now) }
 {
     Header {
@@ -104,7 +105,7 @@ fn header_32<V: ByteView>(view: &V) -> Header
 }
 
 fn header_64<V: ByteView>(view: &V) -> Header
-    requires { 64 ≤ length (V.bytes view.now) }
+    requires { EHDR_SIZE_64 ≤ length (V.bytes view.now) }
     ensures { result ≡ spec.header_in Class.Elf64 (V.bytes view.now) }
 {
     Header {

@@ -7,7 +7,7 @@ use crate::class::Class;
 use crate::fault::ElfFault;
 use crate::fields::{
     ADDRESS_END, P_FILESZ_32, P_FILESZ_64, P_MEMSZ_32, P_MEMSZ_64, P_OFFSET_32, P_OFFSET_64,
-    P_PADDR_32, P_PADDR_64, P_VADDR_32, P_VADDR_64, PT_LOAD,
+    P_PADDR_32, P_PADDR_64, P_VADDR_32, P_VADDR_64, PHDR_SIZE_32, PHDR_SIZE_64, PT_LOAD,
 };
 use crate::header::Header;
 use crate::sums::{ends_within, is_before_end};
@@ -40,7 +40,7 @@ pub fn program_header<V: ByteView>(view: &V, header: Header, i: u16) -> ProgramH
 
 #[tactic(auto, unfolding(crate::specs::Program::program_header_at))]
 fn program_header_32<V: ByteView>(view: &V, place: u64) -> ProgramHeader
-    requires inside { place + 32 ≤ length (V.bytes view.now) }
+    requires inside { place + PHDR_SIZE_32 ≤ length (V.bytes view.now) }
     requires short { length (V.bytes view.now) < 2 ^ 64 }
     ensures { result ≡ spec.program_header_at Class.Elf32 (V.bytes view.now) place }
 {
@@ -56,7 +56,7 @@ fn program_header_32<V: ByteView>(view: &V, place: u64) -> ProgramHeader
 
 #[tactic(auto, unfolding(crate::specs::Program::program_header_at))]
 fn program_header_64<V: ByteView>(view: &V, place: u64) -> ProgramHeader
-    requires inside { place + 56 ≤ length (V.bytes view.now) }
+    requires inside { place + PHDR_SIZE_64 ≤ length (V.bytes view.now) }
     requires short { length (V.bytes view.now) < 2 ^ 64 }
     ensures { result ≡ spec.program_header_at Class.Elf64 (V.bytes view.now) place }
 {
