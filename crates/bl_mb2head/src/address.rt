@@ -143,7 +143,8 @@ pub fn address_segment<V: ByteView>(
     requires in_file { IfSome tag (λ t. t.place + ADDRESS_SIZE ≤ length (V.bytes view.now)) }
     requires in_front { IfSome tag (λ t. t.place + ADDRESS_SIZE ≤ SEARCH_END) }
     ensures exact { MatchResult result
-        (λ segment. (address_fault (V.bytes view.now) place tag ≡ None) × (segment ≡ address_segment (V.bytes view.now) place tag))
+        (λ segment. (address_fault (V.bytes view.now) place tag ≡ None)
+        × (segment ≡ address_segment (V.bytes view.now) place tag))
         (λ fault. address_fault (V.bytes view.now) place tag ≡ Some fault) }
     ensures fits { IfOk result (λ segment. IfSome segment (FitsFile (V.bytes view.now))) }
 {

@@ -9,20 +9,27 @@ ghost use Rattle.bl_mb2head.specs.Tags.{AreAllTags, IsFirstFault};
 
 /// The tags from a place on are one list, or one first fault stands among them, and never both.
 pub fn tags_are_determined()
-    ensures one_list { (bytes : List ℕ) (end at : ℕ) (ts us : List Tag) → AreAllTags bytes end at ts → AreAllTags bytes end at us → ts ≡ us }
-    ensures one_fault { (bytes : List ℕ) (end at : ℕ) (f g : HeadFault) → IsFirstFault bytes end at f → IsFirstFault bytes end at g → f ≡ g }
-    ensures not_both { (bytes : List ℕ) (end at : ℕ) (ts : List Tag) (f : HeadFault) → AreAllTags bytes end at ts → IsFirstFault bytes end at f → ⊥ }
+    ensures one_list { (bytes : List ℕ) (end at : ℕ) (ts us : List Tag)
+        → AreAllTags bytes end at ts → AreAllTags bytes end at us → ts ≡ us }
+    ensures one_fault { (bytes : List ℕ) (end at : ℕ) (f g : HeadFault)
+        → IsFirstFault bytes end at f → IsFirstFault bytes end at g → f ≡ g }
+    ensures not_both { (bytes : List ℕ) (end at : ℕ) (ts : List Tag) (f : HeadFault)
+        → AreAllTags bytes end at ts → IsFirstFault bytes end at f → ⊥ }
 {}
 
 /// A file has one header, or one first fault, and never both.
 pub fn headers_are_determined()
     ensures one_header { (bytes : List ℕ) (a b : Header) → IsHeader bytes a → IsHeader bytes b → a ≡ b }
-    ensures one_fault { (bytes : List ℕ) (f g : HeadFault) → HasFirstFault bytes f → HasFirstFault bytes g → f ≡ g }
-    ensures not_both { (bytes : List ℕ) (header : Header) (fault : HeadFault) → IsHeader bytes header → HasFirstFault bytes fault → ⊥ }
+    ensures one_fault { (bytes : List ℕ) (f g : HeadFault)
+        → HasFirstFault bytes f → HasFirstFault bytes g → f ≡ g }
+    ensures not_both { (bytes : List ℕ) (header : Header) (fault : HeadFault)
+        → IsHeader bytes header → HasFirstFault bytes fault → ⊥ }
 {}
 
 /// The numbers of a header stay small, where the bytes of its file are bytes.
 pub fn headers_fit()
-    ensures segment { (bytes : List ℕ) (header : Header) → ((k : ℕ) → slice_index bytes k < 256) → IsHeader bytes header → IfSome header.segment (FitsFile bytes) }
-    ensures entry { (bytes : List ℕ) (header : Header) → ((k : ℕ) → slice_index bytes k < 256) → IsHeader bytes header → IfSome header.entry (λ entry. entry < 2 ^ 32) }
+    ensures segment { (bytes : List ℕ) (header : Header) → ((k : ℕ) → slice_index bytes k < 256)
+        → IsHeader bytes header → IfSome header.segment (FitsFile bytes) }
+    ensures entry { (bytes : List ℕ) (header : Header) → ((k : ℕ) → slice_index bytes k < 256)
+        → IsHeader bytes header → IfSome header.entry (λ entry. entry < 2 ^ 32) }
 {}
