@@ -4,6 +4,7 @@
 mod fault;
 mod kind;
 mod laws;
+mod limits;
 mod machine;
 mod region;
 mod rules;
@@ -12,6 +13,7 @@ mod sweep;
 pub use fault::MapFault;
 pub use kind::Kind;
 pub use laws::normal_maps_are_determined;
+pub use limits::{FIRST_USABLE, REGION_LIMIT, USABLE_LIMIT};
 pub use machine::Machine;
 pub use region::Region;
 

@@ -33,8 +33,16 @@ impl<A: Allocator> Machine<A> {
     ghost use Rattle.bl_map.specs.Facts.{AllUsable, AreFacts};
     ghost use Rattle.bl_map.specs.Faults.{HasFirstFault, IsAccepted};
 
-    /// The machine of these regions, in any order, overlapping, adjoining or empty; at most 128.
-    /// `size` is in bytes, 1 MiB to 4 GiB in whole frames of 4096; `pool` is whole usable frames, perhaps none.
+    /// The machine of these regions, in any order, overlapping, adjoining or empty. `size` is in bytes; `pool` has the
+    /// addresses of the frames that files are staged in.
+    ///
+    /// The first of these faults that stands refuses it:
+    /// - `BadSize`: the size is not 1 MiB to 4 GiB in whole frames of 4096 bytes.
+    /// - `TooManyRegions`: there are more than 128 regions.
+    /// - `BadRegion(i)`: region `i`, the first such one from 0, ends above 2^52.
+    /// - `BadPool`: the pool's start lies above its end, one of the two is no multiple of 4096, or a byte of it is not
+    ///   usable. An empty pool may stand at any multiple of 4096.
+    /// - `NoMemory`: there was no memory for the normal map.
     pub fn new(
         alloc: A,
         size: u64,
@@ -104,7 +112,7 @@ impl<A: Allocator> Machine<A> {
         is_usable_among(self.runs.as_slice(), self.size, range.start, range.end)
     }
 
-    /// KiB of usable memory from address 0 on, at most 640 (Multiboot2 3.6.4 "Basic memory information").
+    /// KiB of usable memory from address 0 on, at most 640 (Multiboot2 3.6.3 "Basic memory information").
     pub fn low_kib(&self) -> u64
         ensures low_kib { result ≡ kinds.low_kib self.now.runs }
         ensures most { result ≤ 640 }
@@ -113,7 +121,7 @@ impl<A: Allocator> Machine<A> {
         (usable_end(self.runs.as_slice(), 0) / 1024).min(640)
     }
 
-    /// KiB of usable memory from 1 MiB on, at most what 32 bits hold (Multiboot2 3.6.4 "Basic memory information").
+    /// KiB of usable memory from 1 MiB on, at most what 32 bits hold (Multiboot2 3.6.3 "Basic memory information").
     pub fn high_kib(&self) -> u64
         ensures high_kib { result ≡ kinds.high_kib self.now.runs }
         ensures most { result < 2 ^ 32 }

@@ -1,8 +1,6 @@
 //! A region of the firmware's memory map.
 use crate::kind::Kind;
-
-/// The highest end that a region may have, in bytes.
-pub(crate) const LIMIT: u64 = 0x0010_0000_0000_0000;
+use crate::limits::REGION_LIMIT;
 
 /// The addresses from `base` up to `base + length`, in bytes, and their kind. A length of 0 holds nothing.
 #[derive(Clone, Copy, Debug, PartialEq, Eq)]
@@ -28,6 +26,6 @@ impl Region {
     pub(crate) fn is_low(&self) -> bool
         ensures { MatchBool result (IsLow self.now) (¬ IsLow self.now) }
     {
-        self.base <= LIMIT && self.length <= LIMIT - self.base
+        self.base <= REGION_LIMIT && self.length <= REGION_LIMIT - self.base
     }
 }

@@ -5,6 +5,7 @@ ghost use Rattle.bl_map.specs.Faults.{IsLow};
 ghost use Rattle.bl_map.specs.Kinds as kinds;
 
 use crate::kind::Kind;
+use crate::limits::{FIRST_USABLE, USABLE_LIMIT};
 use crate::region::Region;
 use crate::sweep::{greatest_kind, run_end};
 use std::ops::Range;
@@ -42,7 +43,7 @@ pub fn is_usable_among(regions: &[Region], size: u64, start: u64, end: u64) -> b
     if start == end {
         return true;
     }
-    if start < 4096 || size < end || 0xFFFF_F000 < end {
+    if start < FIRST_USABLE || size < end || USABLE_LIMIT < end {
         return false;
     }
     match greatest_kind(regions, start) {

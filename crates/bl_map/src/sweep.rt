@@ -4,7 +4,8 @@ ghost use Rattle.bl_map.specs.Kinds.{IsNormalMap, holds, kind_at, number_of, num
 ghost use Rattle.bl_map.specs.Faults.{IsLow};
 
 use crate::kind::Kind;
-use crate::region::{LIMIT, Region};
+use crate::limits::REGION_LIMIT;
+use crate::region::Region;
 use std::alloc::{AllocError, Allocator};
 
 /// A kind's number, 0 for none.
@@ -65,7 +66,7 @@ fn change_after(regions: &[Region], at: u64) -> u64
     ensures within { result ≤ 2 ^ 52 }
     ensures same { (a : ℕ) → at ≤ a → a < result → kind_at regions.now a ≡ kind_at regions.now at }
 {
-    let mut next = LIMIT;
+    let mut next = REGION_LIMIT;
     for region in regions {
         next = change_in(region, at, next);
     }
@@ -83,7 +84,7 @@ pub fn run_end(regions: &[Region], at: u64) -> u64
 {
     let number = number_of(greatest_kind(regions, at));
     let mut end = change_after(regions, at);
-    while end < LIMIT {
+    while end < REGION_LIMIT {
         if number_of(greatest_kind(regions, end)) != number {
             return end;
         }
@@ -100,7 +101,7 @@ pub fn normal_map<A: Allocator>(alloc: A, regions: &[Region]) -> Result<Vec<Regi
 {
     let mut runs = Vec::new(alloc);
     let mut at = 0;
-    while at < LIMIT {
+    while at < REGION_LIMIT {
         let end = run_end(regions, at);
         if let Some(kind) = greatest_kind(regions, at) {
             runs.push(Region {
