@@ -1,5 +1,5 @@
 //! Stretches of bytes that can't be part of a place.
-ghost use Rattle.std.specs.Prelude.{◌≡◌, ℕ, ◌<◌, ◌≤◌, All, length, MatchOption, MatchBool};
+ghost use Rattle.std.specs.Prelude.{◌≡◌, ℕ, ◌<◌, ◌≤◌, All, length, MatchOption};
 ghost use Rattle.std.specs.List.{AllWithin};
 ghost use Rattle.bl_mem.specs.Memory.{IsIn};
 ghost use Rattle.bl_map.specs.Kinds.{kind_at, AreRuns};
@@ -7,7 +7,7 @@ ghost use Rattle.bl_map.specs.Facts.{AllUsable};
 ghost use Rattle.bl_plan.specs.Permitted.{AllOpen, IsFree, IsBlocked};
 ghost use Rattle.bl_plan.specs.Planned.{AreApart};
 
-use bl_map::{Kind, Machine, Region};
+use bl_map::{FIRST_USABLE, Kind, Machine, Region, USABLE_LIMIT};
 use std::alloc::Allocator;
 use std::ops::Range;
 
@@ -33,26 +33,6 @@ fn unusable_stretch(runs: &[Region], start: u64, end: u64) -> Option<Range<u64>>
         return Some(from..u64::MAX);
     }
     None
-}
-
-/// Whether each byte from `start` up to `end` is usable.
-pub fn is_usable<A: Allocator>(machine: &Machine<A>, start: u64, end: u64) -> bool
-    requires forward { start < end }
-    ensures { MatchBool result (AllUsable machine.now start end) (¬ AllUsable machine.now start end) }
-{
-    if start < 4096 {
-        return false;
-    }
-    if machine.size() < end {
-        return false;
-    }
-    if 0xFFFF_F000 < end {
-        return false;
-    }
-    match unusable_stretch(machine.normal(), start, end) {
-        None => true,
-        Some(_) => false,
-    }
 }
 
 /// How many of these ascending ranges end at `start` or below.
@@ -91,9 +71,9 @@ pub fn blocked_stretch<A: Allocator>(
 ) -> Option<Range<u64>>
     requires apart { AreApart taken.now }
     requires forward { start < end }
-    requires above { 4096 ≤ start }
+    requires above { FIRST_USABLE ≤ start }
     requires in_size { end ≤ machine.now.size }
-    requires below { end ≤ 0xFFFFF000 }
+    requires below { end ≤ USABLE_LIMIT }
     ensures { MatchOption result
         (AllUsable machine.now start end × AllOpen taken.now start end)
         (λ stretch. IsBlocked (IsFree machine.now taken.now) start end stretch) }

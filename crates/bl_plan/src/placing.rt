@@ -12,7 +12,16 @@ use std::alloc::Allocator;
 #[cfg(test)]
 mod tests;
 
-/// The places of these rows, each against those before it.
+/// The places of these rows, in their order, each row against the places of those before it. Each row has at least one byte,
+/// and an alignment from 1 on; lengths and addresses are in bytes. Every place ends at most at 0xFFFFF000.
+///
+/// The first row that has no place refuses all, and nothing is answered of the rows before it:
+/// - `NotUsable`: its address is fixed, and a byte there is not usable.
+/// - `Overlap`: its address is fixed, and a byte there belongs to an earlier row.
+/// - `NoRoom`: its address is not fixed, and none is permitted.
+/// - `NoMemory`: there was no memory for the places. It may come before another fault is found.
+///
+/// The machine and the rows stay as they are.
 pub fn place_rows<A: Allocator + Copy>(
     alloc: A,
     machine: &Machine<A>,

@@ -1,5 +1,5 @@
 //! A planner.
-use crate::blocked::{ended_by, is_usable, taken_stretch};
+use crate::blocked::{ended_by, taken_stretch};
 use crate::choice::Choice;
 use crate::fault::PlanFault;
 use crate::row::Row;
@@ -57,7 +57,12 @@ impl<'m, A: Allocator> Planner<'m, A> {
         Ok(())
     }
 
-    /// Takes these addresses, which are not empty. Refused where a byte is not usable, else where one is taken.
+    /// Takes the bytes from `range.start` up to `range.end`, at least one.
+    ///
+    /// The first of these faults that stands refuses it, and the planner stays as it was:
+    /// - `NotUsable`: a byte of the range is not usable.
+    /// - `Overlap`: a byte of it is taken.
+    /// - `NoMemory`: there was no memory to keep it.
     pub fn take_fixed(&mut self, range: Range<u64>) -> Result<(), PlanFault>
         requires filled { range.start < range.end }
         ensures free { OnOk result (AllUsable self.old.facts range.start range.end × AllOpen self.old.taken range.start range.end) }
@@ -65,7 +70,7 @@ impl<'m, A: Allocator> Planner<'m, A> {
         ensures fault { IfErr result (OrNoMemory (HasFixedFault self.old.facts self.old.taken range.start range.end)) }
         ensures unchanged { OnErr result (self.new ≡ self.old) }
     {
-        if !is_usable(self.machine, range.start, range.end) {
+        if !self.machine.is_usable(range.start..range.end) {
             return Err(PlanFault::NotUsable);
         }
         if let Some(_) = taken_stretch(self.taken.as_slice(), range.start, range.end) {
@@ -75,7 +80,14 @@ impl<'m, A: Allocator> Planner<'m, A> {
         Ok(())
     }
 
-    /// Takes so many bytes at the least or the greatest permitted address, and answers it.
+    /// Takes `length` bytes, at least one, at the least or the greatest permitted address, and answers that address.
+    ///
+    /// An address is permitted where it is a multiple of `align` (any number from 1 on), is not below `low`, and the bytes
+    /// from there on end at most at `high`, are usable and are not taken. All numbers are in bytes.
+    ///
+    /// One of these faults refuses it, and the planner stays as it was:
+    /// - `NoRoom`: no address is permitted.
+    /// - `NoMemory`: there was no memory to keep the place.
     pub fn place(
         &mut self,
         length: u64,
@@ -102,7 +114,9 @@ impl<'m, A: Allocator> Planner<'m, A> {
         }
     }
 
-    /// Takes so many bytes at `at` where that is permitted, else at the least permitted address, and answers it.
+    /// Takes `length` bytes, at least one, at `at` where that address is permitted, else at the least permitted one, and
+    /// answers the address. What is permitted, the faults and the units are those of `place`; a refusal leaves the planner
+    /// as it was. That `at` is not permitted is no fault.
     pub fn prefer(
         &mut self,
         at: u64,
@@ -127,7 +141,8 @@ impl<'m, A: Allocator> Planner<'m, A> {
         Ok(at)
     }
 
-    /// Takes the place of a row, and answers its address.
+    /// Takes the place of a row, and answers its address. A fixed row has the faults of `take_fixed`, each other one those of
+    /// `place`; a refusal leaves the planner as it was.
     pub(crate) fn place_row(&mut self, row: &Row) -> Result<u64, PlanFault>
         requires row { IsRow row.now }
         ensures chosen { IfOk result (λ a. IsChosen self.old.facts self.old.taken row.now.length row.now.choice a) }
@@ -159,7 +174,7 @@ impl<'m, A: Allocator> Planner<'m, A> {
         }
     }
 
-    /// The ranges that are taken, ascending and apart.
+    /// The ranges that are taken, in bytes: none empty, ascending, none meeting another.
     pub fn taken(&self) -> &[Range<u64>]
         ensures taken { result.now ≡ self.now.taken }
         ensures in_order { AreTaken self.now.facts self.now.taken }

@@ -4,10 +4,10 @@ ghost use Rattle.bl_mem.specs.Least.{IsLeast, IsGreatest};
 ghost use Rattle.bl_plan.specs.Permitted.{IsPermitted, IsAtSide};
 ghost use Rattle.bl_plan.specs.Planned.{AreApart};
 
-use crate::blocked::{blocked_stretch, is_usable, taken_stretch};
+use crate::blocked::{blocked_stretch, taken_stretch};
 use crate::rounding::{round_down, round_up};
 use crate::side::Side;
-use bl_map::Machine;
+use bl_map::{FIRST_USABLE, Machine, USABLE_LIMIT};
 use std::alloc::Allocator;
 use std::ops::Range;
 
@@ -18,10 +18,10 @@ mod tests;
 fn end_of_room<A: Allocator>(machine: &Machine<A>, high: u64) -> u64
     ensures high { result ≤ high }
     ensures size { result ≤ machine.now.size }
-    ensures below { result ≤ 0xFFFFF000 }
-    ensures greatest { (n : ℕ) → n ≤ high → n ≤ machine.now.size → n ≤ 0xFFFFF000 → n ≤ result }
+    ensures below { result ≤ USABLE_LIMIT }
+    ensures greatest { (n : ℕ) → n ≤ high → n ≤ machine.now.size → n ≤ USABLE_LIMIT → n ≤ result }
 {
-    high.min(machine.size()).min(0xFFFF_F000)
+    high.min(machine.size()).min(USABLE_LIMIT)
 }
 
 /// The least permitted address.
@@ -45,7 +45,7 @@ fn least_place<A: Allocator>(
         return None;
     }
     let last = end - length;
-    let mut at = round_up(low.max(4096), align)?;
+    let mut at = round_up(low.max(FIRST_USABLE), align)?;
     while at <= last {
         let Some(stretch) = blocked_stretch(machine, taken, at, at + length) else {
             return Some(at);
@@ -71,7 +71,7 @@ fn greatest_place<A: Allocator>(
         ((a : ℕ) → ¬ IsPermitted machine.now taken.now length align low high a)
         (λ a. IsGreatest (IsPermitted machine.now taken.now length align low high) a) }
 {
-    let first = low.max(4096);
+    let first = low.max(FIRST_USABLE);
     let end = end_of_room(machine, high);
     if end < length {
         return None;
@@ -141,7 +141,7 @@ pub fn is_permitted<A: Allocator>(
     if high - length < at {
         return false;
     }
-    if !is_usable(machine, at, at + length) {
+    if !machine.is_usable(at..at + length) {
         return false;
     }
     match taken_stretch(taken, at, at + length) {

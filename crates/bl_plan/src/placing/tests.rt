@@ -1,26 +1,11 @@
 ghost use Rattle.std.specs.Prelude.{◌≤◌};
 ghost use Rattle.bl_plan.specs.Placed.{IsChoice, IsRow};
 
+use crate::tests::{HIGH, pc};
 use crate::{Choice, Place, PlanFault, Role, Row, place_rows};
-use bl_map::{Kind, Machine, MapFault, Region};
+use bl_map::Machine;
 use std::alloc::Global;
 use std::test::Fail;
-
-const HIGH: u64 = 0x1_0000_0000;
-
-fn region(base: u64, length: u64, kind: Kind) -> Region {
-    Region { base, length, kind }
-}
-
-// 4 MiB, with memory below 0x9F000 and from 1 MiB on.
-fn pc(alloc: Global) -> Result<Machine<Global>, MapFault> {
-    let regions = [
-        region(0, 0x9F000, Kind::Usable),
-        region(0xF0000, 0x10000, Kind::Reserved),
-        region(0x100000, 0x300000, Kind::Usable),
-    ];
-    Machine::new(alloc, 0x400000, &regions, 0x300000..0x400000)
-}
 
 fn row(role: Role, index: u32, length: u64, choice: Choice) -> Row
     requires filled { 1 ≤ length }
