@@ -60,6 +60,6 @@ map_of body =
     if not ((length body - 8) % 24 == 0) then None else
     runs_of ((length body - 8) / 24) (drop 8 body)
 
--- "Image load base physical address": load_base_addr
+-- 3.6, section "Image load base physical address": load_base_addr
 unfoldable pub load_base_of : List ℕ → Option ℕ
 load_base_of body = if not (length body == 4) then None else Some (word body)

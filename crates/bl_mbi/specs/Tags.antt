@@ -44,12 +44,12 @@ run_bytes run = u64_bytes run.base ++ (u64_bytes run.length ++ (u32_bytes (numbe
 abbrev pub map_body : List Region → List ℕ
 map_body runs = u32_bytes 24 ++ (u32_bytes 0 ++ flat_map run_bytes runs)
 
--- "ACPI old RSDP" (type 14), "ACPI new RSDP" (type 15): a copy, where there is one
+-- 3.6, sections "ACPI old RSDP" (type 14) and "ACPI new RSDP" (type 15): a copy, where there is one
 abbrev pub copy_tag : ℕ → Option (List ℕ) → List ℕ
 copy_tag kind None = []
 copy_tag kind (Some copy) = tag kind copy
 
--- "Image load base physical address" (type 21): load_base_addr, where a relocated kernel was loaded
+-- 3.6, section "Image load base physical address" (type 21): load_base_addr, where a relocated kernel was loaded
 abbrev pub load_base_tag : Option ℕ → List ℕ
 load_base_tag None = []
 load_base_tag (Some base) = tag 21 (u32_bytes base)

@@ -6,8 +6,9 @@ ghost use Rattle.bl_mbi.specs.Fields as fields;
 ghost use Rattle.bl_mbi.specs.Bodies as spec;
 
 use crate::fault::InfoFault;
+use crate::format::{ENTRY_SIZE, MEM_LOWER_LIMIT};
 use crate::module::Module;
-use bl_map::{Kind, Region};
+use bl_map::{Kind, REGION_LIMIT, Region};
 use bl_mem::Bytes;
 use std::alloc::Allocator;
 
@@ -93,7 +94,7 @@ pub(crate) fn memory_of(body: &[u8]) -> Option<(u32, u32)>
         return None;
     }
     let mem_lower = word(body);
-    if mem_lower > 640 {
+    if mem_lower > MEM_LOWER_LIMIT {
         return None;
     }
     Some((mem_lower, word(&body[4..])))
@@ -121,7 +122,7 @@ fn run_of(bytes: &[u8]) -> Option<Region>
 {
     let base = long(bytes);
     let length = long(&bytes[8..]);
-    if base as u128 + length as u128 > 1 << 52 {
+    if base as u128 + length as u128 > REGION_LIMIT as u128 {
         return None;
     }
     if word(&bytes[20..]) != 0 {
@@ -137,9 +138,9 @@ fn runs_of<A: Allocator>(alloc: A, at: u64, bytes: &[u8]) -> Result<Vec<Region, 
     ensures { Gives (λ runs. runs.items) result (or_bad at (spec.runs_of (length bytes.now / 24) bytes.now)) }
 {
     let mut runs = Vec::new(alloc);
-    let count = bytes.len() / 24;
+    let count = bytes.len() / ENTRY_SIZE as usize;
     for i in 0..count {
-        let Some(run) = run_of(&bytes[24 * i..]) else {
+        let Some(run) = run_of(&bytes[ENTRY_SIZE as usize * i..]) else {
             return Err(InfoFault::BadTag(at));
         };
         runs.push(run)?;
@@ -159,13 +160,13 @@ pub(crate) fn map_of<A: Allocator>(
     if body.len() < 8 {
         return Err(InfoFault::BadTag(at));
     }
-    if word(body) != 24 {
+    if word(body) != ENTRY_SIZE {
         return Err(InfoFault::BadTag(at));
     }
     if word(&body[4..]) != 0 {
         return Err(InfoFault::BadTag(at));
     }
-    if (body.len() - 8) % 24 != 0 {
+    if (body.len() - 8) % ENTRY_SIZE as usize != 0 {
         return Err(InfoFault::BadTag(at));
     }
     runs_of(alloc, at, &body[8..])

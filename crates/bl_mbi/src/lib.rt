@@ -4,6 +4,7 @@
 mod bodies;
 mod facts;
 mod fault;
+mod format;
 mod info;
 mod laws;
 mod module;

@@ -6,6 +6,7 @@ ghost use Rattle.bl_mbi.specs.Reading as spec;
 
 use crate::bodies::{are_zeros, load_base_of, map_of, memory_of, module_of, text_of, word};
 use crate::fault::InfoFault;
+use crate::format::{TAG_BASIC_MEMORY, TAG_END, TAG_LOAD_BASE, TAG_MEMORY_MAP, TAG_MODULE};
 use crate::module::Module;
 use crate::rest::Rest;
 use bl_map::Region;
@@ -74,7 +75,7 @@ fn module_at<'a, A: Allocator>(alloc: A, rest: Rest<'a>) -> Result<(Module<A>, R
     ensures read { Gives (λ x. (x.0, left_of x.1)) result (spec.module_at (left_of rest.entry)) }
     ensures shorter { IfOk result (λ x. length x.1.bytes.now + 8 ≤ length rest.entry.bytes.now) }
 {
-    let (body, after) = tag_at(3, rest)?;
+    let (body, after) = tag_at(TAG_MODULE, rest)?;
     Ok((module_of(alloc, rest.at, body)?, after))
 }
 
@@ -87,7 +88,7 @@ pub(crate) fn modules_at<'a, A: Allocator + Copy>(
 {
     let mut modules = Vec::new(alloc);
     let mut left = rest;
-    'tags: while is_next(3, left) {
+    'tags: while is_next(TAG_MODULE, left) {
         let (told, after) = module_at(alloc, left)?;
         modules.push(told)?;
         left = after;
@@ -100,7 +101,7 @@ pub(crate) fn modules_at<'a, A: Allocator + Copy>(
 pub(crate) fn memory_at<'a>(rest: Rest<'a>) -> Result<((u32, u32), Rest<'a>), InfoFault>
     ensures { Gives (λ x. (x.0, left_of x.1)) result (spec.memory_at (left_of rest.entry)) }
 {
-    let (body, after) = tag_at(4, rest)?;
+    let (body, after) = tag_at(TAG_BASIC_MEMORY, rest)?;
     let Some(sizes) = memory_of(body) else {
         return Err(InfoFault::BadTag(rest.at));
     };
@@ -115,7 +116,7 @@ pub(crate) fn map_at<'a, A: Allocator>(
 ) -> Result<(Vec<Region, A>, Rest<'a>), InfoFault>
     ensures { Gives (λ x. (x.0.items, left_of x.1)) result (spec.map_at (left_of rest.entry)) }
 {
-    let (body, after) = tag_at(6, rest)?;
+    let (body, after) = tag_at(TAG_MEMORY_MAP, rest)?;
     Ok((map_of(alloc, rest.at, body)?, after))
 }
 
@@ -140,10 +141,10 @@ pub(crate) fn copy_at<'a, A: Allocator>(
 pub(crate) fn load_base_at<'a>(rest: Rest<'a>) -> Result<(Option<u32>, Rest<'a>), InfoFault>
     ensures { Gives (λ x. (x.0, left_of x.1)) result (spec.load_base_at (left_of rest.entry)) }
 {
-    if !is_next(21, rest) {
+    if !is_next(TAG_LOAD_BASE, rest) {
         return Ok((None, rest));
     }
-    let (body, after) = tag_at(21, rest)?;
+    let (body, after) = tag_at(TAG_LOAD_BASE, rest)?;
     let Some(load_base) = load_base_of(body) else {
         return Err(InfoFault::BadTag(rest.at));
     };
@@ -155,7 +156,7 @@ pub(crate) fn load_base_at<'a>(rest: Rest<'a>) -> Result<(Option<u32>, Rest<'a>)
 pub(crate) fn end_at(rest: Rest) -> Result<(), InfoFault>
     ensures { Gives (λ _. tt) result (spec.end_at (left_of rest.entry)) }
 {
-    let (body, after) = tag_at(0, rest)?;
+    let (body, after) = tag_at(TAG_END, rest)?;
     if !body.is_empty() {
         return Err(InfoFault::BadTag(rest.at));
     }

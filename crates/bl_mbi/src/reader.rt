@@ -7,6 +7,7 @@ ghost use Rattle.bl_mbi.specs.Reading as spec;
 
 use crate::bodies::word;
 use crate::fault::InfoFault;
+use crate::format::{TAG_ACPI_NEW, TAG_ACPI_OLD, TAG_BOOT_LOADER_NAME, TAG_COMMAND_LINE};
 use crate::info::Info;
 use crate::read::{copy_at, end_at, load_base_at, map_at, memory_at, modules_at, text_at};
 use crate::rest::Rest;
@@ -17,13 +18,13 @@ use std::alloc::Allocator;
 fn tags_of<A: Allocator + Copy>(alloc: A, rest: Rest) -> Result<Info<A>, InfoFault>
     ensures { Gives (λ told. told) result (spec.tags_of (left_of rest.entry)) }
 {
-    let (line, rest) = text_at(alloc, 1, rest)?;
-    let (name, rest) = text_at(alloc, 2, rest)?;
+    let (line, rest) = text_at(alloc, TAG_COMMAND_LINE, rest)?;
+    let (name, rest) = text_at(alloc, TAG_BOOT_LOADER_NAME, rest)?;
     let (modules, rest) = modules_at(alloc, rest)?;
     let ((mem_lower, mem_upper), rest) = memory_at(rest)?;
     let (runs, rest) = map_at(alloc, rest)?;
-    let (rsdp_old, rest) = copy_at(alloc, 14, rest)?;
-    let (rsdp_new, rest) = copy_at(alloc, 15, rest)?;
+    let (rsdp_old, rest) = copy_at(alloc, TAG_ACPI_OLD, rest)?;
+    let (rsdp_new, rest) = copy_at(alloc, TAG_ACPI_NEW, rest)?;
     let (load_base, rest) = load_base_at(rest)?;
     end_at(rest)?;
     Ok(Info {

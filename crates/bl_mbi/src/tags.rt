@@ -4,13 +4,16 @@ ghost use Rattle.std.specs.List.{flat_map};
 ghost use Rattle.bl_mbi.specs.Size.{tag_size, copy_size, load_base_size};
 ghost use Rattle.bl_mbi.specs.Tags.{tag, text_body, module_tag, memory_body, run_bytes, map_body, copy_tag, load_base_tag};
 
+use crate::format::{
+    ENTRY_SIZE, TAG_BASIC_MEMORY, TAG_END, TAG_LOAD_BASE, TAG_MEMORY_MAP, TAG_MODULE,
+};
 use crate::module::Module;
 use crate::put::{put, put_padding, put_u32, put_u64};
 use bl_map::Region;
 use bl_mem::Bytes;
 use std::alloc::Allocator;
 
-/// Appends a tag whose body is a text and its zero (3.6 "Boot command line", "Boot loader name").
+/// Appends a tag whose body is a text and its zero (3.6.5 "Boot command line", 3.6.9 "Boot loader name").
 pub(crate) fn put_text<A: Allocator>(out: &mut Vec<u8, A>, kind: u32, text: &[u8])
     requires room { vec_len out.old + tag_size (length text.now + 1) ≤ vec_capacity out.old }
     requires small { tag_size (length text.now + 1) < 2 ^ 32 }
@@ -34,7 +37,7 @@ fn put_module<A: Allocator, B: Allocator>(out: &mut Vec<u8, B>, loaded: &Module<
     ensures capacity { vec_capacity out.old ≤ vec_capacity out.new }
 {
     let line = loaded.line.as_slice();
-    put_u32(out, 3);
+    put_u32(out, TAG_MODULE);
     put_u32(out, line.len() as u32 + 17);
     put_u32(out, loaded.mod_start);
     put_u32(out, loaded.mod_end);
@@ -63,7 +66,7 @@ pub(crate) fn put_memory<A: Allocator>(out: &mut Vec<u8, A>, mem_lower: u32, mem
     ensures len { vec_len out.new ≡ vec_len out.old + 16 }
     ensures capacity { vec_capacity out.old ≤ vec_capacity out.new }
 {
-    put_u32(out, 4);
+    put_u32(out, TAG_BASIC_MEMORY);
     put_u32(out, 16);
     put_u32(out, mem_lower);
     put_u32(out, mem_upper);
@@ -100,9 +103,9 @@ pub(crate) fn put_map<A: Allocator>(out: &mut Vec<u8, A>, runs: &[Region])
     ensures len { vec_len out.new ≡ vec_len out.old + (16 + 24 * length runs.now) }
     ensures capacity { vec_capacity out.old ≤ vec_capacity out.new }
 {
-    put_u32(out, 6);
-    put_u32(out, 16 + 24 * runs.len() as u32);
-    put_u32(out, 24);
+    put_u32(out, TAG_MEMORY_MAP);
+    put_u32(out, 16 + ENTRY_SIZE * runs.len() as u32);
+    put_u32(out, ENTRY_SIZE);
     put_u32(out, 0);
     put_runs(out, runs);
 }
@@ -135,7 +138,7 @@ pub(crate) fn put_load_base<A: Allocator>(out: &mut Vec<u8, A>, load_base: Optio
     ensures capacity { vec_capacity out.old ≤ vec_capacity out.new }
 {
     if let Some(load_base_addr) = load_base {
-        put_u32(out, 21);
+        put_u32(out, TAG_LOAD_BASE);
         put_u32(out, 12);
         put_u32(out, load_base_addr);
         put_padding(out, 4);
@@ -147,6 +150,6 @@ pub(crate) fn put_end<A: Allocator>(out: &mut Vec<u8, A>)
     requires { vec_len out.old + 8 ≤ vec_capacity out.old }
     ensures { out.new.items ≡ out.old.items ++ tag 0 [] }
 {
-    put_u32(out, 0);
+    put_u32(out, TAG_END);
     put_u32(out, 8);
 }

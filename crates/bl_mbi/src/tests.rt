@@ -2,7 +2,10 @@
 
 mod growth;
 mod reading;
+mod told;
 mod writing;
+
+use std::alloc::{AllocError, Global};
 
 // The line `k`; the loader's name; the module `m` of five bytes at 0x101000; an empty module at 0x102000 with an empty
 // line; 636 and 3072 KiB; the map of three runs; the end.
@@ -25,3 +28,12 @@ pub(crate) const FIRMWARE: &[u8] = b"\0\0\x0f\0\0\0\0\0\0\0\x01\0\0\0\0\0\x02\0\
 pub(crate) const HIGH: &[u8] = b"\0\0\x10\0\0\0\0\0\0\0\x30\0\0\0\0\0\x01\0\0\0\0\0\0\0";
 
 pub(crate) const END: &[u8] = b"\0\0\0\0\x08\0\0\0";
+
+// The information with one module: its total size, a zero word, the tags. 184 bytes.
+pub(crate) fn information(alloc: Global) -> Result<Vec<u8>, AllocError> {
+    let head = b"\xb8\0\0\0\0\0\0\0".as_slice();
+    [
+        head, LINE, NAME, MODULE, MEMORY, MAP, LOW, FIRMWARE, HIGH, END,
+    ]
+    .concat(alloc)
+}

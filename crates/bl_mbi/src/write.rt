@@ -8,6 +8,9 @@ ghost use Rattle.bl_mbi.specs.Tags.{tag, text_body, module_tag, memory_body, map
 ghost use Rattle.bl_mbi.specs.Groups.{texts_size, map_size, last_size};
 
 use crate::facts::Facts;
+use crate::format::{
+    ENTRY_SIZE, TAG_ACPI_NEW, TAG_ACPI_OLD, TAG_BOOT_LOADER_NAME, TAG_COMMAND_LINE,
+};
 use crate::module::Module;
 use crate::put::put_u32;
 use crate::tags::{put_copy, put_end, put_load_base, put_map, put_memory, put_modules, put_text};
@@ -52,11 +55,12 @@ pub fn info_size<A: Allocator>(facts: &Facts<A>) -> u64
     ensures small { result < 2 ^ 32 }
 {
     let line = tag_len(facts.line.len() as u64 + 1);
+    let name = tag_len(9);
     let modules = modules_len(&facts.modules);
-    let runs = 16 + 24 * facts.runs.len() as u64;
+    let runs = 16 + ENTRY_SIZE as u64 * facts.runs.len() as u64;
     let copies = copy_len(&facts.rsdp_old) + copy_len(&facts.rsdp_new);
     let load_base = if facts.load_base.is_some() { 16 } else { 0 };
-    8 + line + 24 + modules + 16 + runs + copies + load_base + 8
+    8 + line + name + modules + 16 + runs + copies + load_base + 8
 }
 
 /// Appends the tags of texts: the line, the loader's name, the modules.
@@ -67,8 +71,8 @@ fn put_texts<A: Allocator, B: Allocator>(facts: &Facts<A>, out: &mut Vec<u8, B>)
     ensures len { vec_len out.new ≡ vec_len out.old + texts_size facts.now }
     ensures capacity { vec_capacity out.old ≤ vec_capacity out.new }
 {
-    put_text(out, 1, facts.line.as_slice());
-    put_text(out, 2, b"bootcore");
+    put_text(out, TAG_COMMAND_LINE, facts.line.as_slice());
+    put_text(out, TAG_BOOT_LOADER_NAME, b"bootcore");
     put_modules(out, &facts.modules);
 }
 
@@ -90,8 +94,8 @@ fn put_last<A: Allocator, B: Allocator>(facts: &Facts<A>, out: &mut Vec<u8, B>)
     ensures { out.new.items ≡ out.old.items ++ (copy_tag 14 facts.now.rsdp_old ++ (copy_tag 15 facts.now.rsdp_new
         ++ (load_base_tag facts.now.load_base ++ tag 0 []))) }
 {
-    put_copy(out, 14, &facts.rsdp_old);
-    put_copy(out, 15, &facts.rsdp_new);
+    put_copy(out, TAG_ACPI_OLD, &facts.rsdp_old);
+    put_copy(out, TAG_ACPI_NEW, &facts.rsdp_new);
     put_load_base(out, facts.load_base);
     put_end(out);
 }

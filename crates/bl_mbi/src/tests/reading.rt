@@ -1,4 +1,5 @@
-use super::{END, FIRMWARE, HIGH, LINE, LOW, MAP, MEMORY, MODULE, NAME};
+//! What is read, and what is refused.
+use super::{END, LINE, MAP, MEMORY, MODULE, NAME, information};
 use crate::{InfoFault, read_info, read_is_spelled, spelled_is_read};
 use bl_map::{Kind, Region};
 use std::alloc::Global;
@@ -7,11 +8,7 @@ use std::test::Fail;
 
 // The information with one module, and one of its bytes changed.
 fn fault_with(alloc: Global, at: usize, byte: u8) -> Result<Option<InfoFault>, Fail> {
-    let head = b"\xb8\0\0\0\0\0\0\0".as_slice();
-    let tags = [
-        head, LINE, NAME, MODULE, MEMORY, MAP, LOW, FIRMWARE, HIGH, END,
-    ];
-    let mut bytes = tags.concat(alloc)?;
+    let mut bytes = information(alloc)?;
     if let Some(changed) = bytes.get_mut(at) {
         *changed = byte;
     }
@@ -29,11 +26,7 @@ fn fault_of(alloc: Global, tags: &[&[u8]]) -> Result<Option<InfoFault>, Fail> {
 
 #[test]
 fn reads(rt: HostRuntime) -> Result<(), Fail> {
-    let head = b"\xb8\0\0\0\0\0\0\0".as_slice();
-    let tags = [
-        head, LINE, NAME, MODULE, MEMORY, MAP, LOW, FIRMWARE, HIGH, END,
-    ];
-    let bytes = tags.concat(rt.alloc())?;
+    let bytes = information(rt.alloc())?;
     let told = read_info(rt.alloc(), &bytes)?;
     assert_eq!(rt; told.name.as_slice(), b"bootcore".as_slice());
     assert_eq!(rt; told.line.as_slice(), b"k".as_slice());
@@ -120,6 +113,26 @@ fn one_byte(rt: HostRuntime) -> Result<(), Fail> {
     Ok(())
 }
 
+// The information with one module, or its first bytes alone: how many, and the fault.
+#[test]
+fn lengths(rt: HostRuntime) -> Result<(), Fail> {
+    let bytes = information(rt.alloc())?;
+    assert_eq!(rt; bytes.len(), 184);
+    for (len, want) in [
+        (184, None),
+        (183, Some(InfoFault::WrongLength)),
+        (176, Some(InfoFault::WrongLength)),
+        (16, Some(InfoFault::WrongLength)),
+        (15, Some(InfoFault::WrongLength)),
+        (0, Some(InfoFault::WrongLength)),
+    ] {
+        assert!(rt; len <= bytes.len());
+        let fault = read_info(rt.alloc(), &bytes[..len]).err();
+        assert!(rt; fault == want, "the first {len} bytes");
+    }
+    Ok(())
+}
+
 fn cut(rt: &impl Abort, alloc: Global, tags: &[&[u8]], want: InfoFault) -> Result<(), Fail> {
     let fault = fault_of(alloc, tags)?;
     assert!(rt; fault == Some(want));
@@ -134,6 +147,8 @@ fn ends(rt: HostRuntime) -> Result<(), Fail> {
     let old = b"\x0e\0\0\0\x08\0\0\0".as_slice();
     let new = b"\x0f\0\0\0\x08\0\0\0".as_slice();
     cut(&rt, alloc, &[b"\0\0\0\0"], InfoFault::WrongLength)?;
+    cut(&rt, alloc, &[&END[..7]], InfoFault::WrongLength)?;
+    cut(&rt, alloc, &[END], InfoFault::BadOrder(8))?;
     cut(&rt, alloc, &[LINE], InfoFault::BadOrder(24))?;
     cut(&rt, alloc, &[LINE, b"\x02\0\0\0"], InfoFault::BadTag(24))?;
     cut(

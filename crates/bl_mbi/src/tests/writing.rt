@@ -1,97 +1,10 @@
-ghost use Rattle.std.specs.Prelude.{◌≡◌, ◌≤◌, ◌+◌, ◌^◌, ◌<◌, length, sum_by, option_map, All, IfOk, IfSome};
-ghost use Rattle.bl_mbi.specs.Info.{IsModule, IsText, AreBytes};
-ghost use Rattle.bl_mbi.specs.Size.{tag_size, copy_size};
-
+//! What is written.
+use super::told::{copy, facts, modules};
 use super::{EMPTY, END, FIRMWARE, HIGH, LINE, LOW, MAP, MEMORY, MODULE, NAME};
-use crate::{Facts, Module, info_size, write_info};
-use bl_map::{Kind, Region};
-use bl_mem::Bytes;
-use bl_refusing::Refusing;
-use std::alloc::{AllocError, Global};
+use crate::{Facts, info_size, write_info};
+use std::alloc::Global;
 use std::process::Abort;
 use std::test::Fail;
-
-fn text(alloc: Global, bytes: &[u8]) -> Result<Bytes<Global>, AllocError>
-    ensures { IfOk result (λ text. text ≡ bytes.now) }
-{
-    Ok(Bytes::from(Vec::from_slice(alloc, bytes)?))
-}
-
-fn region(base: u64, length: u64, kind: Kind) -> Region
-    ensures { result ≡ record { base = base; length = length; kind = kind } }
-{
-    Region { base, length, kind }
-}
-
-// 636 KiB, the firmware's 64 KiB, and 3 MiB from 1 MiB on.
-fn runs(alloc: Global) -> Result<Vec<Region, Global>, AllocError>
-    ensures few { IfOk result (λ runs. length runs.items ≡ 3) }
-    ensures low { IfOk result (λ runs. All (λ run. run.base + run.length ≤ 2 ^ 52) runs.items) }
-{
-    Vec::from_slice(
-        alloc,
-        &[
-            region(0, 0x9F000, Kind::Usable),
-            region(0xF0000, 0x10000, Kind::Reserved),
-            region(0x100000, 0x300000, Kind::Usable),
-        ],
-    )
-}
-
-// The module of five bytes, and the empty one behind it if it is asked for.
-fn modules(alloc: Global, second: bool) -> Result<Vec<Module<Global>, Global>, AllocError>
-    ensures are { IfOk result (λ modules. All IsModule modules.items) }
-    ensures size { IfOk result (λ modules. sum_by (λ m. tag_size (length m.line + 9)) modules.items ≤ 48) }
-{
-    let mut modules = Vec::new(alloc);
-    modules.push(Module {
-        mod_start: 0x101000,
-        mod_end: 0x101005,
-        line: text(alloc, b"m")?,
-    })?;
-    if second {
-        modules.push(Module {
-            mod_start: 0x102000,
-            mod_end: 0x102000,
-            line: text(alloc, b"")?,
-        })?;
-    }
-    Ok(modules)
-}
-
-// A copy of so many bytes, each of them 7.
-fn copy(alloc: Global, len: usize) -> Result<Option<Bytes<Global>>, AllocError>
-    ensures bytes { IfOk result (λ copy. IfSome copy AreBytes) }
-    ensures size { IfOk result (λ copy. option_map length copy ≡ Some len) }
-{
-    Ok(Some(Bytes::from(Vec::from_elem(alloc, 7u8, len)?)))
-}
-
-// The facts of a kernel with the line `k` on a machine of 636 and 3072 KiB, with these parts.
-fn facts(
-    alloc: Global,
-    modules: Vec<Module<Global>, Global>,
-    rsdp_old: Option<Bytes<Global>>,
-    rsdp_new: Option<Bytes<Global>>,
-    load_base: Option<u32>,
-) -> Result<Facts<Global>, AllocError>
-    requires modules { All IsModule modules.items }
-    requires rsdp_old { IfSome rsdp_old AreBytes }
-    requires rsdp_new { IfSome rsdp_new AreBytes }
-    requires small { sum_by (λ m. tag_size (length m.line + 9)) modules.items
-        + copy_size (option_map length rsdp_old) + copy_size (option_map length rsdp_new) < 4096 }
-{
-    Ok(Facts::new(
-        text(alloc, b"k")?,
-        modules,
-        636,
-        3072,
-        runs(alloc)?,
-        rsdp_old,
-        rsdp_new,
-        load_base,
-    ))
-}
 
 // What is written behind two bytes that stood there is these pieces.
 fn writes(
@@ -196,22 +109,4 @@ fn an_empty_copy(rt: HostRuntime) -> Result<(), Fail> {
         head, LINE, NAME, MEMORY, MAP, LOW, FIRMWARE, HIGH, copy, END,
     ];
     writes(&rt, alloc, &told, &want)
-}
-
-// The one growth of the writer refused: the bytes stay as they were.
-#[test]
-fn growth_refused(rt: HostRuntime) -> Result<(), Fail> {
-    let alloc = rt.alloc();
-    let told = facts(alloc, modules(alloc, false)?, None, None, None)?;
-    let heap = Refusing::new(alloc, 2);
-    let mut out = b"ab".to_vec(&heap)?;
-    assert!(rt; write_info(&told, &mut out).is_err());
-    assert!(rt; heap.has_refused());
-    assert_eq!(rt; out.as_slice(), b"ab".as_slice());
-    let heap = Refusing::new(alloc, 3);
-    let mut out = b"ab".to_vec(&heap)?;
-    write_info(&told, &mut out)?;
-    assert!(rt; !heap.has_refused());
-    assert_eq!(rt; out.len(), 186);
-    Ok(())
 }

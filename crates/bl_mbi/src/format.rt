@@ -1,0 +1,34 @@
+//! The numbers of boot information (Multiboot2 3.6 "Boot information format"). Sizes are in bytes.
+
+/// The types of tags: 3.6.5 "Boot command line".
+pub(crate) const TAG_COMMAND_LINE: u32 = 1;
+
+/// 3.6.9 "Boot loader name".
+pub(crate) const TAG_BOOT_LOADER_NAME: u32 = 2;
+
+/// 3.6.6 "Modules".
+pub(crate) const TAG_MODULE: u32 = 3;
+
+/// 3.6.3 "Basic memory information".
+pub(crate) const TAG_BASIC_MEMORY: u32 = 4;
+
+/// 3.6.8 "Memory map".
+pub(crate) const TAG_MEMORY_MAP: u32 = 6;
+
+/// 3.6, section "ACPI old RSDP".
+pub(crate) const TAG_ACPI_OLD: u32 = 14;
+
+/// 3.6, section "ACPI new RSDP".
+pub(crate) const TAG_ACPI_NEW: u32 = 15;
+
+/// 3.6, section "Image load base physical address".
+pub(crate) const TAG_LOAD_BASE: u32 = 21;
+
+/// 3.6.2 "Basic tags structure": the tag that ends the information.
+pub(crate) const TAG_END: u32 = 0;
+
+/// The most KiB that `mem_lower` may tell, 3.6.3.
+pub(crate) const MEM_LOWER_LIMIT: u32 = 640;
+
+/// The `entry_size` of the memory map, 3.6.8.
+pub(crate) const ENTRY_SIZE: u32 = 24;
