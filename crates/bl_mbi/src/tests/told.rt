@@ -1,6 +1,6 @@
 //! Facts for the tests of the writer.
 ghost use Rattle.std.specs.Prelude.{◌≡◌, ◌≤◌, ◌+◌, ◌^◌, ◌<◌, length, sum_by, option_map, All, IfOk, IfSome};
-ghost use Rattle.bl_mbi.specs.Info.{IsModule, IsText, AreBytes};
+ghost use Rattle.bl_mbi.specs.Info.{IsModule, AreBytes};
 ghost use Rattle.bl_mbi.specs.Size.{tag_size, copy_size};
 
 use crate::{Facts, Module};
