@@ -2,3 +2,4 @@ pub mod Ways
 pub mod Spelled
 pub mod NumberLemmas
 pub mod ReadAgain
+mod TestLemmas

@@ -1,4 +1,8 @@
 //! Sinks of all sizes, and writers that end early.
+mod growth;
+mod images;
+mod loaded;
+
 use crate::{DeviceFault, ImageFault, IoSink, MemSink, Sink, image_tells_all, write_all};
 use std::alloc::{AllocError, Global};
 use std::io;
