@@ -1,7 +1,13 @@
 -- Bytes that are taken piece after piece.
 use Rattle.std.proofs.Common.{◌≡◌, ℕ, List, [], ◌++◌, Result, Ok, Err, OnErr, refl, sym, ap, ◌∙◌, subst, append_assoc}
 use Rattle.std.proofs.lemmas.List.{append-nil}
-use Rattle.bl_image.specs.Begun.{IsBegun, IsOnWay}
+use Rattle.bl_image.specs.Begun.{IsBegun}
+
+-- of these bytes all but the rest was taken
+pub record IsOnWay (old now rest whole : List ℕ) : Type 0 where
+  pub done : List ℕ
+  pub now_is : now ≡ old ++ done
+  pub whole_is : whole ≡ done ++ rest
 
 -- nothing was taken yet
 pub way_begins : (old whole : List ℕ) → IsOnWay old old whole whole

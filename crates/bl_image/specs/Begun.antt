@@ -1,14 +1,14 @@
 -- What a sink took. Own.
 use Rattle.std.specs.Prelude.{◌≡◌, ℕ, List, ◌++◌, Option, IsSome}
 
--- a sink in memory: what it took, its faults so far, how many bytes it has room for, and how many it takes at once
-pub record Kept : Type 0 where
+-- what contracts see of a `MemSink`: what it took, its faults so far, how many bytes it has room for, and how many it takes at once
+pub record MemSinkFacts : Type 0 where
   pub contents : List ℕ
   pub faults : ℕ
   pub limit : ℕ
   pub step : ℕ
 
--- a sink over a writer: what the writer told that it held at the start, then what it took; its faults so far
+-- what contracts see of an `IoSink`: what its writer told that it held at the start, then what the writer said it took; its faults so far
 pub record Told : Type 0 where
   pub contents : List ℕ
   pub faults : ℕ
@@ -23,9 +23,3 @@ pub record IsBegun (old new whole : List ℕ) : Type 0 where
   pub rest : List ℕ
   pub whole_is : whole ≡ begun ++ rest
   pub new_is : new ≡ old ++ begun
-
--- of these bytes all but the rest was taken
-pub record IsOnWay (old now rest whole : List ℕ) : Type 0 where
-  pub done : List ℕ
-  pub now_is : now ≡ old ++ done
-  pub whole_is : whole ≡ done ++ rest

@@ -15,9 +15,9 @@ pub struct MemSink<A: Allocator> {
 
 impl<A: Allocator> Model for MemSink<A> {
     ghost use Rattle.std.specs.Prelude.{◌≤◌, vec_len, vec_capacity};
-    ghost use Rattle.bl_image.specs.Begun.{Kept};
+    ghost use Rattle.bl_image.specs.Begun.{MemSinkFacts};
 
-    ghost Value = { Kept };
+    ghost Value = { MemSinkFacts };
 
     ghost view = { λ s. record { contents = s.held.items; faults = s.faults; limit = s.limit; step = s.step } };
 

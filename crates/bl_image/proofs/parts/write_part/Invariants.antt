@@ -1,5 +1,5 @@
 use Rattle.std.proofs.Common.{◌≡◌, ◌+◌, ◌-◌, ◌≤◌, slice_range}
-use Rattle.bl_image.specs.Begun.{IsOnWay}
+use Rattle.bl_image.proofs.Ways.{IsOnWay}
 use Rattle.bl_image.specs.Image.{place_bytes}
 use Rattle.bl_image.proofs.parts.write_part.Given as goal
 
