@@ -2,4 +2,5 @@ pub mod Ways
 pub mod Spelled
 pub mod NumberLemmas
 pub mod ReadAgain
+mod FitLemmas
 mod TestLemmas

@@ -1,8 +1,10 @@
 -- The image of what memory hands over, place by place.
-use Rattle.std.proofs.Common.{◌≡◌, ◌<◌, ◌≤◌, ◌+◌, ℕ, List, [], ◌∷◌, ◌++◌, length, get_or, drop, map, slice_range, All, arith, rules, refl, sym, ap, ◌∙◌}
-use Rattle.std.proofs.lemmas.List.{places, length-map, at_drop_more}
+use Rattle.std.proofs.Common.{◌≡◌, ◌<◌, ◌≤◌, ◌+◌, ◌*◌, ℕ, List, [], ◌∷◌, ◌++◌, length, get_or, take, drop, map, slice_range, All, arith, rules, refl, sym, ap, ◌∙◌, append_assoc}
+use Rattle.std.proofs.lemmas.List.{places, length-map, at_drop_more, take_more, append-nil}
 use Rattle.std.proofs.lemmas.List.Elements.{All-tail}
 use Rattle.std.proofs.lemmas.List.Concat.{flat_map-cons}
+use Rattle.std.proofs.lemmas.Grind.{flat_map-append}
+use Rattle.std.proofs.Math.Seq.{take-length}
 use Rattle.std.specs.List.{flat_map}
 use Rattle.bl_mem.proofs.Overwrites.{range_more}
 use Rattle.bl_plan.specs.declared.place.Place.{Place}
@@ -36,12 +38,18 @@ bytes_in bytes (p ∷ ps) =
     ∙ sym (flat_map-cons (λ (part : Part). part.bytes) (part_in bytes p) (map (part_in bytes) ps))
 
 -- head, records and bytes of these places are the image
-pub spelling_in : (bytes : List ℕ) (protocol : Protocol) (r : Registers) (ps : List Place) → All (EndsIn bytes) ps
+spelling_in : (bytes : List ℕ) (protocol : Protocol) (r : Registers) (ps : List Place) → All (EndsIn bytes) ps
     → spelling (handover_in bytes protocol r ps) ≡ head protocol r (length ps) ++ (flat_map place_record ps ++ flat_map (place_bytes bytes) ps)
 spelling_in bytes protocol r ps h =
     ap (λ (n : ℕ). head protocol r n ++ (flat_map part_record (map (part_in bytes) ps) ++ flat_map (λ (part : Part). part.bytes) (map (part_in bytes) ps))) (length-map ps (part_in bytes))
     ∙ ap (λ (l : List ℕ). head protocol r (length ps) ++ (l ++ flat_map (λ (part : Part). part.bytes) (map (part_in bytes) ps))) (sym (records_in bytes ps h))
     ∙ ap (λ (l : List ℕ). head protocol r (length ps) ++ (flat_map place_record ps ++ l)) (sym (bytes_in bytes ps))
+
+-- with what stands before the bytes as one piece
+pub image_in : (bytes : List ℕ) (protocol : Protocol) (r : Registers) (ps : List Place) → All (EndsIn bytes) ps
+    → spelling (handover_in bytes protocol r ps) ≡ (head protocol r (length ps) ++ flat_map place_record ps) ++ flat_map (place_bytes bytes) ps
+image_in bytes protocol r ps h =
+    spelling_in bytes protocol r ps h ∙ sym (append_assoc (head protocol r (length ps)) (flat_map place_record ps) (flat_map (place_bytes bytes) ps))
 
 -- the first of what is left
 pub flat_map-drop : {X : Type 0} (f : X → List ℕ) (xs : List X) (k : ℕ) (x : X) → x ≡ get_or xs k x → k < length xs
@@ -50,6 +58,34 @@ flat_map-drop {X = X} f xs k x e h =
     at_drop_more (flat_map f) xs k x h
     ∙ flat_map-cons f (get_or xs k x) (drop (k + 1) xs)
     ∙ ap (λ (y : X). f y ++ flat_map f (drop (k + 1) xs)) (sym e)
+
+pub flat_map-take : {X : Type 0} (f : X → List ℕ) (xs : List X) (k : ℕ) (x : X) → x ≡ get_or xs k x → k < length xs
+    → flat_map f (take (k + 1) xs) ≡ flat_map f (take k xs) ++ f x
+flat_map-take {X = X} f xs k x e h =
+    ap (flat_map f) (take_more xs k x h)
+    ∙ flat_map-append f (take k xs) (get_or xs k x ∷ [])
+    ∙ ap (λ (l : List ℕ). flat_map f (take k xs) ++ l) (flat_map-cons f (get_or xs k x) [] ∙ append-nil (f (get_or xs k x)) ∙ ap f (sym e))
+
+-- a buffer that begins with a front and the records of the first places, and one more record behind them
+pub records_more : (front old new : List ℕ) (ps : List Place) (i : ℕ) (p : Place) → p ≡ get_or ps i p → i < length ps
+    → take (104 + 24 * i) old ≡ front ++ flat_map place_record (take i ps)
+    → take (104 + 24 * i + 24) new ≡ take (104 + 24 * i) old ++ place_record p
+    → take (104 + 24 * (i + 1)) new ≡ front ++ flat_map place_record (take (i + 1) ps)
+records_more front old new ps i p e h before step =
+    ap (λ (n : ℕ). take n new) (omega arith)
+    ∙ step
+    ∙ ap (λ (l : List ℕ). l ++ place_record p) before
+    ∙ append_assoc front (flat_map place_record (take i ps)) (place_record p)
+    ∙ ap (λ (l : List ℕ). front ++ l) (sym (flat_map-take place_record ps i p e h))
+
+-- and with all records
+pub records_all : (front buffer : List ℕ) (ps : List Place) (i n : ℕ) → i ≡ n → n ≡ length ps
+    → take (104 + 24 * i) buffer ≡ front ++ flat_map place_record (take i ps) → take (104 + 24 * n) buffer ≡ front ++ flat_map place_record ps
+records_all front buffer ps i n at all before =
+    ap (λ (k : ℕ). take (104 + 24 * k) buffer) (sym at)
+    ∙ before
+    ∙ ap (λ (k : ℕ). front ++ flat_map place_record (take k ps)) (at ∙ all)
+    ∙ ap (λ (l : List Place). front ++ flat_map place_record l) (take-length ps)
 
 -- the bytes at a place, from done on
 pub range-more : (bytes : List ℕ) (at done next count : ℕ) → done + next ≤ count → at + count ≤ length bytes

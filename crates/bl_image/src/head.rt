@@ -1,8 +1,9 @@
 //! The head of an image, and its records.
-ghost use Rattle.std.specs.Prelude.{◌≡◌, ◌+◌, ◌<◌, ◌^◌, ◌++◌, length, OnOk, OnErr};
+ghost use Rattle.std.specs.Prelude.{◌≡◌, ◌+◌, ◌*◌, ◌<◌, ◌≤◌, ◌^◌, ◌++◌, length, take, All, OnOk, OnErr};
 ghost use Rattle.std.specs.List.{flat_map};
 ghost use Rattle.bl_image.specs.Begun.{IsBegun};
-ghost use Rattle.bl_image.specs.Image.{head, place_record};
+ghost use Rattle.bl_image.specs.Image.{u32_bytes, head, place_record, register_numbers};
+ghost use Rattle.bl_image.specs.Spellable.{AreSpellable};
 
 use crate::sink::{DeviceFault, Sink, write_all};
 use bl_load::{Handoff, Protocol, Registers};
@@ -16,10 +17,20 @@ const MAGIC: [u8; 8] = *b"BLIMAGE\0";
 /// The version of the format.
 const VERSION: u32 = 1;
 
-/// The head of an image with so many parts.
+/// Puts words into bytes, the lowest byte of each first.
 #[tactic(auto, unfolding(crate::specs::Image::u32_bytes))]
+fn put_words(words: &[u32], bytes: &mut [u8])
+    requires { length bytes.old ≡ 4 * length words.now }
+    ensures bytes { bytes.new ≡ u32_bytes words.now }
+    ensures fit { All (λ word. word < 2 ^ 32) words.now }
+{
+    LittleEndian::write_u32_into(words, bytes);
+}
+
+/// The head of an image with so many parts.
 fn head_bytes(protocol: Protocol, r: &Registers, count: u32) -> [u8; 104]
-    ensures { result ≡ head protocol r.now count }
+    ensures bytes { result ≡ head protocol r.now count }
+    ensures fit { All (λ n. n < 2 ^ 32) (register_numbers r.now) }
 {
     let words: [u32; 24] = [
         VERSION,
@@ -49,65 +60,72 @@ fn head_bytes(protocol: Protocol, r: &Registers, count: u32) -> [u8; 104]
     ];
     let mut bytes = [0u8; 104];
     bytes[..8].copy_from_slice(&MAGIC);
-    LittleEndian::write_u32_into(&words, &mut bytes[8..]);
+    put_words(&words, &mut bytes[8..]);
     bytes
 }
 
 /// The record of a part.
 #[tactic(auto, unfolding(crate::specs::Image::u32_bytes, crate::specs::Image::u64_bytes))]
 fn record_bytes(place: &Place) -> [u8; 24]
-    ensures { result ≡ place_record place.now }
+    ensures bytes { result ≡ place_record place.now }
+    ensures index { place.now.index < 2 ^ 32 }
 {
     let mut bytes = [0u8; 24];
-    LittleEndian::write_u32_into(&[place.role.number(), place.index], &mut bytes[..8]);
+    put_words(&[place.role.number(), place.index], &mut bytes[..8]);
     LittleEndian::write_u64_into(&[place.address, place.length], &mut bytes[8..]);
     bytes
 }
 
-/// Writes what stands before the records.
-pub(crate) fn write_head<S: Sink, A: Allocator>(
-    sink: &mut S,
-    handoff: &Handoff<A>,
-) -> Result<(), DeviceFault>
-    requires { S.faults sink.old < 2 ^ 63 }
-    ensures ok { OnOk result (S.contents sink.new ≡ S.contents sink.old
-        ++ head handoff.now.protocol handoff.now.registers (length handoff.now.places)) }
-    ensures sound { OnOk result (S.faults sink.new ≡ S.faults sink.old) }
-    ensures begun { OnErr result (IsBegun (S.contents sink.old) (S.contents sink.new)
-        (head handoff.now.protocol handoff.now.registers (length handoff.now.places))) }
-    ensures fault { OnErr result (S.faults sink.new ≡ S.faults sink.old + 1) }
+/// Puts bytes into the buffer, from `at` on.
+fn put(buffer: &mut [u8], at: usize, bytes: &[u8])
+    requires { at + length bytes.now ≤ length buffer.old }
+    ensures { take (at + length bytes.now) buffer.new ≡ take at buffer.old ++ bytes.now }
 {
-    let count = handoff.len() as u32;
-    let bytes = head_bytes(handoff.protocol(), &handoff.registers(), count);
-    write_all(sink, &bytes)
+    let end = at + bytes.len();
+    buffer[at..end].copy_from_slice(bytes);
 }
 
-/// Writes the record of a part.
-fn write_record<S: Sink>(sink: &mut S, place: &Place) -> Result<(), DeviceFault>
-    requires { S.faults sink.old < 2 ^ 63 }
-    ensures ok { OnOk result (S.contents sink.new ≡ S.contents sink.old ++ place_record place.now) }
-    ensures sound { OnOk result (S.faults sink.new ≡ S.faults sink.old) }
-    ensures begun { OnErr result (IsBegun (S.contents sink.old) (S.contents sink.new) (place_record place.now)) }
-    ensures fault { OnErr result (S.faults sink.new ≡ S.faults sink.old + 1) }
+/// Puts all that stands before the parts' bytes into the buffer, and says how many bytes it has: 104, and 24
+/// for each of at most 256 parts.
+fn put_front<A: Allocator>(buffer: &mut [u8], handoff: &Handoff<A>) -> usize
+    requires { 6248 ≤ length buffer.old }
+    ensures within { result ≤ length buffer.new }
+    ensures front { take result buffer.new ≡ head handoff.now.protocol handoff.now.registers (length handoff.now.places)
+        ++ flat_map place_record handoff.now.places }
+    ensures fit { AreSpellable handoff.now.registers handoff.now.places }
 {
-    write_all(sink, &record_bytes(place))
-}
-
-/// Writes the records of the parts, in the order of addresses.
-pub(crate) fn write_records<S: Sink, A: Allocator>(
-    sink: &mut S,
-    handoff: &Handoff<A>,
-) -> Result<(), DeviceFault>
-    requires { S.faults sink.old < 2 ^ 63 }
-    ensures ok { OnOk result (S.contents sink.new ≡ S.contents sink.old ++ flat_map place_record handoff.now.places) }
-    ensures sound { OnOk result (S.faults sink.new ≡ S.faults sink.old) }
-    ensures begun { OnErr result (IsBegun (S.contents sink.old) (S.contents sink.new)
-        (flat_map place_record handoff.now.places)) }
-    ensures fault { OnErr result (S.faults sink.new ≡ S.faults sink.old + 1) }
-{
-    for i in 0..handoff.len() {
+    let count = handoff.len();
+    let registers = handoff.registers();
+    put(
+        buffer,
+        0,
+        &head_bytes(handoff.protocol(), &registers, count as u32),
+    );
+    for i in 0..count {
         let place = handoff.place(i);
-        write_record(sink, &place)?;
+        put(buffer, 104 + 24 * i, &record_bytes(&place));
     }
-    Ok(())
+    104 + 24 * count
+}
+
+/// Writes all that stands before the parts' bytes, at once.
+pub(crate) fn write_front<S: Sink, A: Allocator>(
+    sink: &mut S,
+    handoff: &Handoff<A>,
+    buffer: &mut [u8],
+) -> Result<(), DeviceFault>
+    requires room { 6248 ≤ length buffer.old }
+    requires faults { S.faults sink.old < 2 ^ 63 }
+    ensures ok { OnOk result (S.contents sink.new ≡ S.contents sink.old
+        ++ (head handoff.now.protocol handoff.now.registers (length handoff.now.places)
+        ++ flat_map place_record handoff.now.places)) }
+    ensures sound { OnOk result (S.faults sink.new ≡ S.faults sink.old) }
+    ensures begun { OnErr result (IsBegun (S.contents sink.old) (S.contents sink.new)
+        (head handoff.now.protocol handoff.now.registers (length handoff.now.places)
+        ++ flat_map place_record handoff.now.places)) }
+    ensures fault { OnErr result (S.faults sink.new ≡ S.faults sink.old + 1) }
+    ensures fit { AreSpellable handoff.now.registers handoff.now.places }
+{
+    let count = put_front(buffer, handoff);
+    write_all(sink, &buffer[..count])
 }

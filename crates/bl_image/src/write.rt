@@ -3,9 +3,10 @@ ghost use Rattle.std.specs.Prelude.{◌≡◌, ◌+◌, ◌≤◌, ◌<◌, ◌^
 ghost use Rattle.bl_load.specs.Planned.{handover_in};
 ghost use Rattle.bl_image.specs.Begun.{IsBegun};
 ghost use Rattle.bl_image.specs.Image.{spelling};
+ghost use Rattle.bl_image.specs.Spellable.{IsSpellable};
 
 use crate::fault::ImageFault;
-use crate::head::{write_head, write_records};
+use crate::head::write_front;
 use crate::parts::write_parts;
 use crate::sink::Sink;
 use bl_load::Handoff;
@@ -31,11 +32,11 @@ pub fn write_image<M: PhysMem, S: Sink, A: Allocator>(
     ensures begun { OnErr result (IsBegun (S.contents sink.old) (S.contents sink.new)
         (spelling (handover_in (M.bytes memory.now) handoff.now.protocol handoff.now.registers handoff.now.places))) }
     ensures fault { OnErr result (S.faults sink.new ≡ S.faults sink.old + 1) }
+    ensures spellable { IsSpellable (handover_in (M.bytes memory.now) handoff.now.protocol handoff.now.registers handoff.now.places) }
     ensures device { IfErr result (λ fault. fault ≡ ImageFault.DeviceFault) }
 {
     let mut buffer = [0u8; BUFFER];
-    write_head(sink, handoff)?;
-    write_records(sink, handoff)?;
+    write_front(sink, handoff, &mut buffer)?;
     write_parts(memory, sink, handoff, &mut buffer)?;
     Ok(())
 }
