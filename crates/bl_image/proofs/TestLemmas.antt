@@ -1,5 +1,5 @@
 -- Two parts of a file, named one by one, can be loaded.
-use Rattle.std.proofs.Common.{◌≡◌, ℕ, ◌+◌, ◌≤◌, ◌^◌, List, [], ◌∷◌, length, slice_range, All, arith, rules}
+use Rattle.std.proofs.Common.{◌≡◌, ℕ, ◌+◌, ◌≤◌, ◌^◌, List, [], ◌∷◌, length, slice_range, arith, rules}
 use Rattle.std.proofs.lemmas.List.{places}
 use Rattle.bl_plan.specs.declared.place.Place.{Place}
 use Rattle.bl_load.specs.declared.plan.Content.TheVariants.{File}

@@ -32,8 +32,10 @@ pub fn write_image<M: PhysMem, S: Sink, A: Allocator>(
     ensures begun { OnErr result (IsBegun (S.contents sink.old) (S.contents sink.new)
         (spelling (handover_in (M.bytes memory.now) handoff.now.protocol handoff.now.registers handoff.now.places))) }
     ensures fault { OnErr result (S.faults sink.new ≡ S.faults sink.old + 1) }
-    ensures spellable { IsSpellable (handover_in (M.bytes memory.now) handoff.now.protocol handoff.now.registers handoff.now.places) }
     ensures device { IfErr result (λ fault. fault ≡ ImageFault.DeviceFault) }
+
+    // Whatever is handed over fits, so that its image tells all of it: `image_tells_all`.
+    ensures spellable { IsSpellable (handover_in (M.bytes memory.now) handoff.now.protocol handoff.now.registers handoff.now.places) }
 {
     let mut buffer = [0u8; BUFFER];
     write_front(sink, handoff, &mut buffer)?;
