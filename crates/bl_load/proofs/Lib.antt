@@ -13,3 +13,4 @@ pub mod PlacingLemmas
 pub mod PrepareLemmas
 pub mod HandoverLaws
 pub mod LegalLaws
+pub mod RoomLemmas

@@ -1,5 +1,5 @@
 -- Whether the pool has frames enough beside the parts. Own.
-use Rattle.std.specs.Prelude.{ℕ, zero, suc, ◌+◌, ◌-◌, ◌*◌, ◌/◌, ◌≤◌, Bool, ◌||◌, if◌then◌else◌, nat_le, List, [], ◌∷◌, length}
+use Rattle.std.specs.Prelude.{◌≡◌, ℕ, zero, suc, ◌+◌, ◌-◌, ◌*◌, ◌/◌, ◌<◌, ◌≤◌, Bool, true, false, ◌||◌, if◌then◌else◌, nat_le, List, [], ◌∷◌, length, All, AllPairs}
 use Rattle.std.specs.List.{list_all}
 use Rattle.std.specs.declared.ops.Range.{Range}
 
@@ -16,9 +16,13 @@ frames_needed (file ∷ files) = frames_of (length file) + frames_needed files
 abbrev pub frames_in : Range ℕ → ℕ
 frames_in pool = (pool.end - pool.start) / 4096
 
--- no byte of the frame at an address lies in one of these ranges
+-- no byte of the frame at an address lies in the range; a range of no byte meets no frame
+abbrev pub is_beside : Range ℕ → ℕ → Bool
+is_beside range frame = nat_le range.end range.start || nat_le range.end frame || nat_le (frame + 4096) range.start
+
+-- no byte of the frame lies in one of these ranges
 abbrev pub is_open : List (Range ℕ) → ℕ → Bool
-is_open ranges frame = list_all (λ r. nat_le r.end frame || nat_le (frame + 4096) r.start) ranges
+is_open ranges frame = list_all (λ range. is_beside range frame) ranges
 
 -- how many of the first n frames from start on meet none of these ranges
 abbrev pub open_among : List (Range ℕ) → ℕ → ℕ → ℕ
@@ -32,3 +36,18 @@ open_frames pool ranges = open_among ranges pool.start (frames_in pool)
 -- the pool's frames that meet no part are enough for the files
 abbrev pub HasRoomFor : Range ℕ → List (Range ℕ) → List (List ℕ) → Type 0
 HasRoomFor pool ranges files = frames_needed files ≤ open_frames pool ranges
+
+-- ranges that go forward, each behind the one before; one may have no byte
+pub record AreAscending (ranges : List (Range ℕ)) : Type 0 where
+  pub forward : All (λ range. range.start ≤ range.end) ranges
+  pub in_order : AllPairs (λ p q. p.end ≤ q.start) ranges
+
+-- ---- what the code keeps
+
+-- of a pool's frames a range meets those with these numbers, from 0 on; each before them ends before the range begins
+pub record AreMet (pool range met : Range ℕ) : Type 0 where
+  pub forward : met.start ≤ met.end
+  pub within : met.end ≤ frames_in pool
+  pub before : (i : ℕ) → i < met.start → pool.start + 4096 * i + 4096 ≤ range.start
+  pub inside : (i : ℕ) → met.start ≤ i → i < met.end → is_beside range (pool.start + 4096 * i) ≡ false
+  pub behind : (i : ℕ) → met.end ≤ i → i < frames_in pool → is_beside range (pool.start + 4096 * i) ≡ true

@@ -19,27 +19,34 @@ pub fn frames_in(pool: &Range<u64>) -> u64
     (pool.end - pool.start) / 4096
 }
 
-/// Whether no byte of the frame at an address lies in one of these ranges.
-fn is_open(ranges: &[Range<u64>], frame: u64) -> bool
-    requires { frame + 4096 < 2 ^ 64 }
-    ensures { result ≡ room.is_open ranges.now frame }
+/// The frames of a pool that a range meets, by their numbers from 0 on. A range of no byte meets none.
+fn frames_met(pool: &Range<u64>, range: &Range<u64>) -> Range<u64>
+    requires pool { pool.now.start ≤ pool.now.end }
+    requires range { range.now.start ≤ range.now.end }
+    ensures { room.AreMet pool.now range.now result }
 {
-    ranges
-        .iter()
-        .all(|range| range.end <= frame || frame + 4096 <= range.start)
+    let frames = frames_in(pool);
+    let first = (range.start.saturating_sub(pool.start) / 4096).min(frames);
+    if range.start == range.end {
+        return first..first;
+    }
+    let behind = frames_of(range.end.saturating_sub(pool.start)).min(frames);
+    first..behind
 }
 
-/// How many frames of a pool meet none of these ranges.
+/// How many frames of a pool meet none of these ranges. One byte of a range meets a frame; a range of no
+/// byte meets none. The ranges ascend, so that one pass over them is enough, however many frames there are.
 pub fn open_frames(pool: &Range<u64>, ranges: &[Range<u64>]) -> u64
     requires forward { pool.now.start ≤ pool.now.end }
-    requires small { pool.now.end < 2 ^ 63 }
+    requires ascending { room.AreAscending ranges.now }
     ensures { result ≡ room.open_frames pool.now ranges.now }
 {
     let mut open = 0;
-    for i in 0..frames_in(pool) {
-        if is_open(ranges, pool.start + 4096 * i) {
-            open += 1;
-        }
+    let mut next = 0;
+    for range in ranges {
+        let met = frames_met(pool, range);
+        open += met.start.saturating_sub(next);
+        next = next.max(met.end);
     }
-    open
+    open + (frames_in(pool) - next)
 }

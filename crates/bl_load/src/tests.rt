@@ -1,5 +1,6 @@
 //! Numbers, frames and texts.
-ghost use Rattle.std.specs.Prelude.{◌≤◌, ◌<◌, ◌^◌};
+ghost use Rattle.std.specs.Prelude.{◌≤◌};
+ghost use Rattle.bl_load.specs.Room.{AreAscending};
 
 use crate::{
     PrepFault, Protocol, Refusal, frames_in, frames_of, handovers_are_determined,
@@ -63,7 +64,7 @@ fn frames(rt: HostRuntime) {
 
 fn expect_open(rt: &impl Abort, pool: &Range<u64>, ranges: &[Range<u64>], frames: u64)
     requires forward { pool.now.start ≤ pool.now.end }
-    requires small { pool.now.end < 2 ^ 63 }
+    requires ascending { AreAscending ranges.now }
 {
     assert_eq!(rt; open_frames(pool, ranges), frames);
 }
@@ -77,9 +78,19 @@ fn open(rt: HostRuntime) {
     expect_open(&rt, &pool, &[0x2FF000..0x300001], 15);
     expect_open(&rt, &pool, &[0x30FFFF..0x320000], 15);
     expect_open(&rt, &pool, &[0x300FFF..0x301001], 14);
-    expect_open(&rt, &pool, &[0x301000..0x302000, 0x301800..0x302000], 15);
+    expect_open(&rt, &pool, &[0x302000..0x303000, 0x305000..0x306000], 14);
     expect_open(&rt, &pool, &[0..0x400000], 0);
     expect_open(&rt, &(0x300000..0x300000), &[], 0);
+}
+
+// A frame that several ranges meet is met once; a range of no byte meets none.
+#[test]
+fn shared_frames_and_empty_ranges(rt: HostRuntime) {
+    let pool = 0x300000..0x310000;
+    expect_open(&rt, &pool, &[0x301000..0x301001, 0x301FFF..0x302000], 15);
+    expect_open(&rt, &pool, &[0x300800..0x301001, 0x301001..0x302001], 13);
+    expect_open(&rt, &pool, &[0x301800..0x301800], 16);
+    expect_open(&rt, &pool, &[0x301000..0x301800, 0x301800..0x301800], 15);
 }
 
 // Want of memory comes of an allocator's answer, and of a vector's.

@@ -2,7 +2,7 @@
 ghost use Rattle.std.specs.Prelude.{◌≡◌, ℕ, ◌≤◌, List, [], ◌∷◌, IfOk, MatchBool, map};
 ghost use Rattle.std.specs.Borrow.{Bor};
 ghost use Rattle.bl_load.specs.Planned.{IsLoadable, handover_by};
-ghost use Rattle.bl_load.specs.Room.{frames_in};
+ghost use Rattle.bl_load.specs.Room.{frames_in, AreAscending};
 ghost use Rattle.bl_load.specs.Room as room;
 ghost use Rattle.bl_load.specs.Value.{value_of, file_count, HasFewModules};
 ghost use Rattle.bootcore.specs.Attempt.{multiboot2_value, IsAttempt, IsLoaded};
@@ -29,9 +29,10 @@ fn entry_of<A: Allocator + Copy>(alloc: A, line: &[u8]) -> Result<Entry<A>, Allo
     })
 }
 
-/// Whether as many frames of the machine's pool as these lie beside the ranges.
+/// Whether as many frames of the machine's pool as these lie beside the ranges, which ascend.
 fn has_room<A: Allocator>(machine: &Machine<A>, ranges: &[Range<u64>], frames: u64) -> bool
-    requires { frames ≤ frames_in machine.now.pool }
+    requires frames { frames ≤ frames_in machine.now.pool }
+    requires ascending { AreAscending ranges.now }
     ensures { MatchBool result
         (frames ≤ room.open_frames machine.now.pool ranges.now)
         (¬ (frames ≤ room.open_frames machine.now.pool ranges.now)) }

@@ -1,5 +1,6 @@
 use Rattle.std.proofs.Common.{◌∙◌, ℕ, List, [], ◌∷◌, rules, sym, refl, inl, inr}
-use Rattle.bl_load.specs.Planned.{handover_by}
+use Rattle.bl_load.specs.Planned.{handover_by, places_of}
+use Rattle.bl_load.proofs.RoomLemmas.{ranges_ascend}
 use Rattle.bootcore.specs.Attempt.{FitsPool}
 use Rattle.bootcore.proofs.AttemptLemmas.{ranges_are, room_beside, no_room_beside}
 use Rattle.bootcore.proofs.attempting.kernel.attempt_kernel.Goals as goal
@@ -14,6 +15,9 @@ returns-in-Err g c =
           rw w.result-is (inr (inl (fits, rw w.in-Refused.is at fault)))
       | in-NoMemory w ↦ rw w.result-is tt
     ]
+
+pub has_room-requires-clause-ascending : goal.has_room-requires-clause-ascending
+has_room-requires-clause-ascending g c = rw c.ranges-2.ensures (ranges_ascend (places_of c.in-Ok.plan) c.in-Ok.ensures.loadable.records)
 
 pub returns-then-not-has_room : goal.returns-then-not-has_room
 returns-then-not-has_room g c =
