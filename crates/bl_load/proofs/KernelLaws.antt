@@ -1,5 +1,5 @@
 -- What holds of a kernel with no fault.
-use Rattle.std.proofs.Common.{◌≡◌, ◌<◌, ◌≤◌, ◌+◌, ◌^◌, ℕ, Bool, true, false, List, [], ◌∷◌, length, Option, Some, None, cond, arith, refl, sym, ap, subst, All}
+use Rattle.std.proofs.Common.{◌≡◌, ◌<◌, ◌≤◌, ◌+◌, ◌^◌, ℕ, Bool, true, false, List, [], ◌∷◌, length, Option, Some, None, cond, arith, refl, sym, ap, subst, inl, inr, All}
 use Rattle.std.specs.Prelude.{IfSome, ◌||◌}
 use Rattle.std.specs.List.{list_any}
 use Rattle.std.proofs.lemmas.List.Elements.{All-nil, All-cons, All-head, All-tail}
@@ -8,10 +8,13 @@ use Rattle.std.proofs.lemmas.Grind.{common_steps}
 use Rattle.bl_mem.specs.declared.segment.Segment.{Segment}
 use Rattle.bl_elf.specs.Elf.{ElfFacts, IsElf}
 use Rattle.bl_elf.proofs.ElfLaws.{elf_few, elf_loadable, elf_apart}
-use Rattle.bl_mb2head.specs.Header.{FitsFile}
+use Rattle.bl_mb2head.specs.Header.{FitsFile, IsHeader}
+use Rattle.bl_mb2head.specs.declared.header.Header.{Header}
 use Rattle.bl_load.specs.declared.refusal.Refusal.TheVariants as refusal
 use Rattle.bl_load.specs.Blocks.{holds, high_of}
-use Rattle.bl_load.specs.Kernel.{IsLoadedBy, entry_fault, holds_at, AreLoadable}
+use Rattle.bl_load.specs.declared.refusal.PrepFault.{PrepFault}
+use Rattle.bl_load.specs.declared.refusal.PrepFault.TheVariants as prep
+use Rattle.bl_load.specs.Kernel.{IsLoadedBy, IsLoadFault, IsKernelFault, entry_fault, holds_at, AreLoadable}
 
 none_when : {X : Type 0} (b : Bool) (x : X) → cond b None (Some x) ≡ None → b ≡ true
 none_when true x h = refl
@@ -87,3 +90,8 @@ kernel_loadable file (Some s) facts entry fits loaded sound short =
 kernel_loadable file None facts entry fits loaded sound short = elf_as_loadable file facts entry loaded sound
 
 -- a fault of the entry is the kernel's
+
+-- a fault of what the header leads to refuses the kernel
+pub load_refused : (file : List ℕ) (head : Header) (fault : PrepFault) → IsHeader file head → IsLoadFault file head.segment fault → IsKernelFault file fault
+load_refused file head (prep.Refused refused) is h = inr (inl (head, is, h))
+load_refused file head prep.NoMemory is h = tt

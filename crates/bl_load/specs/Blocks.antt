@@ -1,5 +1,5 @@
 -- A relocatable kernel's image: one block from the least to the greatest address of its segments, with zeros in
--- the gaps (Multiboot2 3.1.10 "Relocatable header tag").
+-- the gaps (Multiboot2 3.1.13 "Relocatable header tag").
 use Rattle.std.specs.Prelude.{ℕ, zero, suc, ◌+◌, ◌-◌, Bool, ◌&&◌, if◌then◌else◌, nat_le, nat_lt, min, max, List, [], ◌∷◌, ◌++◌, slice_index}
 use Rattle.bl_mem.specs.declared.segment.Segment.{Segment}
 use Rattle.bl_mem.specs.Contents.{contents_of}

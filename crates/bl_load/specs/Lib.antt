@@ -10,6 +10,7 @@ pub mod Kernel
 pub mod KernelRead
 pub mod Rows
 pub mod Order
+pub mod Registers
 pub mod Parts
 pub mod Rowed
 pub mod Room

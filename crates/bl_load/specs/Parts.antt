@@ -1,5 +1,5 @@
 -- What an entry hands over on a machine, or its first refusal.
-use Rattle.std.specs.Prelude.{◌≡◌, ℕ, ◌+◌, ◌-◌, List, [], ◌∷◌, map, slice_index_or, ◌⊎◌, Option, Some, None, codes}
+use Rattle.std.specs.Prelude.{◌≡◌, ℕ, ◌+◌, ◌-◌, List, [], ◌∷◌, map, slice_index_or, ◌⊎◌, Option, Some, None, option_map, codes}
 use Rattle.bl_mem.specs.Contents.{file_part}
 use Rattle.bl_mem.specs.declared.segment.Segment.{Segment}
 use Rattle.bl_map.specs.Facts.{Facts}
@@ -12,23 +12,24 @@ use Rattle.bl_plan.specs.declared.place.Place.{Place}
 use Rattle.bl_plan.specs.declared.fault.PlanFault.{PlanFault}
 use Rattle.bl_plan.specs.declared.fault.PlanFault.TheVariants as plan_fault
 use Rattle.bl_load.specs.declared.protocol.Protocol.TheVariants.{Multiboot2}
-use Rattle.bl_load.specs.declared.registers.Registers.{Registers}
 use Rattle.bl_load.specs.declared.refusal.Refusal.{Refusal}
 use Rattle.bl_load.specs.declared.refusal.Refusal.TheVariants as refusal
 use Rattle.bl_load.specs.Value.{EntryValue, kernel_file, form_fault, line_fault}
 use Rattle.bl_load.specs.Kernel.{KernelFacts, IsKernel, HasKernelFault}
 use Rattle.bl_load.specs.Blocks.{low_of, block_of}
 use Rattle.bl_load.specs.Rows.{rows_of, information_of}
+use Rattle.bl_load.specs.Registers.{multiboot2_registers}
 use Rattle.bl_load.specs.Order.{in_order}
 use Rattle.bl_load.specs.Handover.{Part, Handover, part_at, filled}
 use Rattle.bl_load.specs.declared.refusal.PrepFault.{PrepFault}
 use Rattle.bl_load.specs.declared.refusal.PrepFault.TheVariants as prep_fault
 
--- what the kernel's part i holds before its zeros: the bytes of the file that its segment i names; with a relocatable
--- tag the whole block
+-- what is read behind the last segment
 abbrev pub no_segment : Segment
 no_segment = record { offset = 0; address = 0; filesz = 0; memsz = 0 }
 
+-- what the kernel's part i holds before its zeros: the bytes of the file that its segment i names; with a relocatable
+-- tag the whole block
 abbrev pub kernel_content : List ℕ → List Segment → Option Relocation → ℕ → List ℕ
 kernel_content file segments None i = file_part file (slice_index_or segments i no_segment)
 kernel_content file segments (Some r) i = block_of file segments
@@ -58,31 +59,6 @@ part_from facts line file kernel base place = part_at place (filled place.length
 abbrev pub entry_at : ℕ → List Segment → Option Relocation → ℕ → ℕ
 entry_at entry segments None base = entry
 entry_at entry segments (Some r) base = entry - low_of segments + base
-
--- the state that Multiboot2 3.3 asks for; what it leaves open is own
-abbrev pub multiboot2_registers : ℕ → ℕ → Registers
-multiboot2_registers entry information = record {
-  eip = entry;
-  eax = 0x36D76289;
-  ebx = information;
-  ecx = 0;
-  edx = 0;
-  esi = 0;
-  edi = 0;
-  ebp = 0;
-  esp = 0;
-  eflags = 2;
-  cr0 = 0x11;
-  cs = 0x10;
-  ds = 0x18;
-  es = 0x18;
-  fs = 0x18;
-  gs = 0x18;
-  ss = 0x18;
-  gdt_base = 0;
-  gdt_limit = 0;
-  a20 = 1;
-}
 
 -- what the entry with this line and this kernel's file hands over, where its rows have these places
 abbrev pub handover_of : Facts → List ℕ → List ℕ → KernelFacts → List Place → Handover
@@ -127,16 +103,17 @@ abbrev pub IsPrepFault : Facts → EntryValue → PrepFault → Type 0
 IsPrepFault facts value (prep_fault.Refused refused) = IsRefusal facts value refused
 IsPrepFault facts value prep_fault.NoMemory = Unit {0}
 
+-- ---- what the code keeps
+
+-- why its parts are not placed, unless memory ran out
 abbrev pub IsPlaceFault : Facts → List ℕ → KernelFacts → PrepFault → Type 0
 IsPlaceFault facts line kernel (prep_fault.Refused refused) = HasPlaceFault facts line kernel refused
 IsPlaceFault facts line kernel prep_fault.NoMemory = Unit {0}
 
--- a fault of placing as one of preparing
+-- a fault of placing as one of preparing: its refusal, or want of memory
 abbrev pub fault_of : PlanFault → Option PrepFault
-fault_of plan_fault.NotUsable = Some (prep_fault.Refused refusal.NotUsable)
-fault_of plan_fault.Overlap = None
-fault_of plan_fault.NoRoom = Some (prep_fault.Refused refusal.NoRoom)
 fault_of plan_fault.NoMemory = Some prep_fault.NoMemory
+fault_of fault = option_map (λ refused. prep_fault.Refused refused) (placing_refusal fault)
 
 -- the rows have these places, and this is handed over
 pub record IsPlacedHandover (facts : Facts) (line file : List ℕ) (kernel : KernelFacts) (handover : Handover) : Type 0 where

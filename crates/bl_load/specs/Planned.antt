@@ -1,8 +1,10 @@
 -- What a plan holds, where the files hold these texts.
-use Rattle.std.specs.Prelude.{ℕ, ◌+◌, ◌<◌, ◌≤◌, ◌^◌, List, [], length, map, slice_range, slice_index_or, All, AllPairs}
+use Rattle.std.specs.Prelude.{◌≡◌, ℕ, ◌+◌, ◌<◌, ◌≤◌, ◌^◌, List, [], length, map, slice_range, slice_index_or, All, AllPairs}
 use Rattle.bl_mem.specs.Memory.{HasRoom}
 use Rattle.bl_mem.specs.declared.segment.Segment.{Segment}
 use Rattle.bl_plan.specs.declared.place.Place.{Place}
+use Rattle.bl_plan.specs.declared.role.Role.{Role}
+use Rattle.bl_plan.specs.declared.role.Role.TheVariants.{Information}
 use Rattle.bl_load.specs.declared.plan.Content.{Content}
 use Rattle.bl_load.specs.declared.plan.Content.TheVariants.{Own, File, Block}
 use Rattle.bl_load.specs.declared.plan.Planned.{Planned}
@@ -57,6 +59,16 @@ IsThere texts (Block file segments) = (file < length texts) × (1 ≤ length seg
 pub record IsBacked {A : Type 0} (texts : List (List ℕ)) (part : Planned A) : Type 0 where
   pub there : IsThere texts part.content
   pub short : length (content_by texts part.content) ≤ part.place.length
+
+-- a content's bytes stay in the files until it is loaded; the information alone has bytes of its own
+abbrev pub StaysInFiles : {A : Type 0} → Role → Content A → Type 0
+StaysInFiles role (Own bytes) = role ≡ Information
+StaysInFiles role (File file offset count) = Unit {0}
+StaysInFiles role (Block file segments) = Unit {0}
+
+-- a plan holds none of the files' bytes, so it takes no memory in proportion to what a header claims
+abbrev pub IsLean : {A : Type 0} → List (Planned A) → Type 0
+IsLean parts = All (λ part. StaysInFiles part.place.role part.content) parts
 
 -- the second place lies behind the first
 abbrev pub Ascends : Place → Place → Type 0

@@ -1,5 +1,5 @@
 -- The table of places of a Multiboot2 entry's parts. Own; the kernel's row with a relocatable header tag is
--- Multiboot2 3.1.10.
+-- Multiboot2 3.1.13.
 use Rattle.std.specs.Prelude.{ℕ, suc, ◌+◌, ◌*◌, ◌/◌, if◌then◌else◌, ◌==◌, List, [], ◌∷◌, ◌++◌, Option, Some, None, option_map}
 use Rattle.bl_mem.specs.declared.segment.Segment.{Segment}
 use Rattle.bl_map.specs.Facts.{Facts}

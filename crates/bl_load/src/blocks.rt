@@ -16,6 +16,7 @@ fn load_segment<M: PhysMem, V: ByteView>(memory: &mut M, at: u64, view: &V, segm
     ensures after { M.bytes memory.new ≡ overwrite (M.bytes memory.old) at (contents_of (V.bytes view.now) segment.now) }
     ensures kept { KeepsRoom (M.room memory.old) (M.room memory.new) }
 {
+    // Memory's size is known to be below 2^64, so that no sum here wraps, only once it was asked for.
     let _size = memory.size();
     copy(memory, at, view, segment.offset, segment.filesz);
     memory.zero(at + segment.filesz..at + segment.memsz);
@@ -38,6 +39,7 @@ pub(crate) fn load_block<M: PhysMem, V: ByteView>(
     ensures after { M.bytes memory.new ≡ overwrite (M.bytes memory.old) at (block_of (V.bytes view.now) segments.now) }
     ensures kept { KeepsRoom (M.room memory.old) (M.room memory.new) }
 {
+    // Memory's size is known to be below 2^64, so that no sum here wraps, only once it was asked for.
     let _size = memory.size();
     let low = segments[0].address;
     let mut done = 0u64;

@@ -6,13 +6,13 @@ ghost use Rattle.bl_load.specs.KernelRead.{kernel_by};
 ghost use Rattle.bl_load.specs.Parts as parts;
 ghost use Rattle.bl_load.specs.Parts.{content_from, part_from};
 ghost use Rattle.bl_load.specs.Place.{place_of};
-ghost use Rattle.bl_load.specs.Planned.{content_by, part_by, text_at, IsThere, IsBacked};
+ghost use Rattle.bl_load.specs.Planned.{content_by, part_by, text_at, IsThere, IsBacked, StaysInFiles, IsLean};
 ghost use Rattle.bl_load.specs.Rowed.{HasKernelLength, IsRowed};
 
 use crate::entry::Entry;
 use crate::information::information;
 use crate::kernel::Kernel;
-use crate::order::ascending;
+use crate::order::in_order;
 use crate::plan::{Content, Planned};
 use bl_map::Machine;
 use bl_mb2head::Relocation;
@@ -35,6 +35,7 @@ fn kernel_content<A: Allocator + Copy, V: ByteView>(
         ≡ parts.kernel_content (text_at (map V.bytes files.now) 0) (kernel_by kernel.now).segments kernel.now.relocation place.now.index) }
     ensures there { IfOk result (λ content. IsThere (map V.bytes files.now) content) }
     ensures short { IfOk result (λ content. length (content_by (map V.bytes files.now) content) ≤ place.now.length) }
+    ensures lean { IfOk result (StaysInFiles Role.Kernel) }
 {
     let segments = kernel.image.segments();
     match kernel.relocation {
@@ -48,7 +49,7 @@ fn kernel_content<A: Allocator + Copy, V: ByteView>(
         }
         Some(_) => Ok(Content::Block {
             file: 0,
-            segments: ascending(alloc, segments)?,
+            segments: in_order(alloc, segments)?,
         }),
     }
 }
@@ -84,6 +85,7 @@ fn content_at<A: Allocator + Copy, V: ByteView>(
         ≡ content_from machine.now line.now (text_at (map V.bytes files.now) 0) (kernel_by kernel.now) base place.now.role place.now.index) }
     ensures there { IfOk result (λ content. IsThere (map V.bytes files.now) content) }
     ensures short { IfOk result (λ content. length (content_by (map V.bytes files.now) content) ≤ place.now.length) }
+    ensures lean { IfOk result (StaysInFiles place.now.role) }
 {
     match place.role {
         Role::Kernel => kernel_content(alloc, kernel, files, place),
@@ -114,6 +116,7 @@ pub fn parts_at<A: Allocator + Copy, V: ByteView>(
     ensures parts { IfOk result (λ parts. map (part_by (map V.bytes files.now)) parts.items
         ≡ map (part_from machine.now line.now (text_at (map V.bytes files.now) 0) (kernel_by kernel.now) base) places.now) }
     ensures backed { IfOk result (λ parts. All (IsBacked (map V.bytes files.now)) parts.items) }
+    ensures lean { IfOk result (λ parts. IsLean parts.items) }
     ensures places { IfOk result (λ parts. map place_of parts.items ≡ places.now) }
 {
     let mut parts = Vec::with_capacity(alloc, places.len())?;

@@ -37,6 +37,7 @@ pub(crate) fn copy<M: PhysMem, V: ByteView>(
     ensures after { M.bytes memory.new ≡ overwrite (M.bytes memory.old) at (slice_range (V.bytes view.now) offset (offset + count)) }
     ensures kept { KeepsRoom (M.room memory.old) (M.room memory.new) }
 {
+    // Both lengths are known to be below 2^64, so that no sum here wraps, only once they were asked for.
     let _source = view.len();
     let _target = memory.size();
     let mut buffer = [0u8; 4096];

@@ -4,6 +4,7 @@ ghost use Rattle.std.specs.List.{list_any};
 ghost use Rattle.bl_load.specs.Kernel as kernel;
 ghost use Rattle.bl_load.specs.Kernel.{IsKernel, IsLoadedBy, IsLoadFault, IsKernelFault, entry_fault, AreLoadable};
 ghost use Rattle.bl_load.specs.KernelRead.{image_facts, kernel_by};
+ghost use Rattle.bl_load.specs.declared.refusal.PrepFault.TheVariants.{Refused};
 
 use crate::refusal::{PrepFault, Refusal};
 use bl_elf::{Elf, ElfFault, read_elf};
@@ -63,18 +64,27 @@ fn head_refusal(fault: HeadFault) -> Refusal
     }
 }
 
-/// An ELF file's fault as one of preparing.
-fn elf_fault(fault: ElfFault) -> PrepFault
-    ensures { kernel.IsElfFault fault result }
-{
-    match fault {
-        ElfFault::NotElf => PrepFault::Refused(Refusal::NotElf),
-        ElfFault::BadElf => PrepFault::Refused(Refusal::BadElf),
-        ElfFault::SegmentCut(i) => PrepFault::Refused(Refusal::SegmentCut(i)),
-        ElfFault::AddressTooHigh(i) => PrepFault::Refused(Refusal::AddressTooHigh(i)),
-        ElfFault::SegmentsOverlap(i, j) => PrepFault::Refused(Refusal::SegmentsOverlap(i, j)),
-        ElfFault::NoEntry => PrepFault::Refused(Refusal::NoEntry),
-        ElfFault::NoMemory => PrepFault::NoMemory,
+impl From<HeadFault> for PrepFault {
+    ghost from_gives = { λ fault prep. prep ≡ Refused (kernel.head_refusal fault) };
+
+    fn from(fault: HeadFault) -> PrepFault {
+        PrepFault::Refused(head_refusal(fault))
+    }
+}
+
+impl From<ElfFault> for PrepFault {
+    ghost from_gives = { kernel.IsElfFault };
+
+    fn from(fault: ElfFault) -> PrepFault {
+        match fault {
+            ElfFault::NotElf => PrepFault::Refused(Refusal::NotElf),
+            ElfFault::BadElf => PrepFault::Refused(Refusal::BadElf),
+            ElfFault::SegmentCut(i) => PrepFault::Refused(Refusal::SegmentCut(i)),
+            ElfFault::AddressTooHigh(i) => PrepFault::Refused(Refusal::AddressTooHigh(i)),
+            ElfFault::SegmentsOverlap(i, j) => PrepFault::Refused(Refusal::SegmentsOverlap(i, j)),
+            ElfFault::NoEntry => PrepFault::Refused(Refusal::NoEntry),
+            ElfFault::NoMemory => PrepFault::NoMemory,
+        }
     }
 }
 
@@ -89,10 +99,10 @@ fn read_image<A: Allocator + Copy, V: ByteView>(
 {
     match segment {
         Some(segment) => Ok(Image::Tag([segment])),
-        None => match read_elf(alloc, file) {
-            Ok(elf) => Ok(Image::Executable(elf)),
-            Err(fault) => Err(elf_fault(fault)),
-        },
+        None => {
+            let elf = read_elf(alloc, file)?;
+            Ok(Image::Executable(elf))
+        }
     }
 }
 
@@ -135,22 +145,15 @@ pub fn read_kernel<A: Allocator + Copy, V: ByteView>(
     ensures loadable { IfOk result (λ kernel. AreLoadable (V.bytes file.now) (kernel_by kernel).segments) }
     ensures fault { IfErr result (λ fault. IsKernelFault (V.bytes file.now) fault) }
 {
+    // The file's length, and so that of the tag's segment, is known to be below 2^64 only once it was asked for.
     let _len = file.len();
-    let header = match find_header(file) {
-        Ok(header) => header,
-        Err(fault) => return Err(PrepFault::Refused(head_refusal(fault))),
-    };
-    let image = match read_image(alloc, file, header.segment) {
-        Ok(image) => image,
-        Err(fault) => return Err(fault),
-    };
+    let header = find_header(file)?;
+    let image = read_image(alloc, file, header.segment)?;
     let counted = header.entry.or(image.entry());
-    match entry_in(image.segments(), counted) {
-        Ok(entry) => Ok(Kernel {
-            image,
-            entry,
-            relocation: header.relocation,
-        }),
-        Err(refusal) => Err(PrepFault::Refused(refusal)),
-    }
+    let entry = entry_in(image.segments(), counted)?;
+    Ok(Kernel {
+        image,
+        entry,
+        relocation: header.relocation,
+    })
 }

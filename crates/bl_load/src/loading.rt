@@ -51,6 +51,7 @@ fn load_part<M: PhysMem, V: ByteView, A: Allocator>(memory: &mut M, part: &Plann
     ensures after { M.bytes memory.new ≡ overwrite (M.bytes memory.old) part.now.place.address (bytes_by (map V.bytes files.now) part.now) }
     ensures kept { KeepsRoom (M.room memory.old) (M.room memory.new) }
 {
+    // Memory's size is known to be below 2^64, so that no sum here wraps, only once it was asked for.
     let _size = memory.size();
     let address = part.place.address;
     let count = load_content(memory, address, &part.content, files);
@@ -75,8 +76,9 @@ fn load_parts<M: PhysMem, V: ByteView, A: Allocator>(
 
 /// Writes the parts of a plan into memory, each byte of them once, and says what the kernel is handed.
 ///
-/// The files are those that the plan was made from, in their order. No memory is taken, and nothing can
-/// fail: the list of parts becomes that of the handoff.
+/// The files are those that the plan was made from, in their order. Each address of the plan's ranges has
+/// room, as after `reserve`, and lies in memory. No memory is taken, and nothing can fail: the list of parts
+/// becomes that of the handoff. What lies in no part stays as it was, and no address loses its room.
 pub fn load<M: PhysMem, V: ByteView, A: Allocator>(
     memory: &mut M,
     plan: Plan<A>,

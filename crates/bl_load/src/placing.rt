@@ -7,9 +7,10 @@ ghost use Rattle.bl_load.specs.Blocks as blocks;
 ghost use Rattle.bl_load.specs.Kernel.{IsKernel, AreLoadable};
 ghost use Rattle.bl_load.specs.KernelRead.{kernel_by};
 ghost use Rattle.bl_load.specs.Parts as parts;
+ghost use Rattle.bl_load.specs.Registers as state;
 ghost use Rattle.bl_load.specs.Parts.{IsPlacedHandover, IsPlaceFault};
 ghost use Rattle.bl_load.specs.Place.{place_of};
-ghost use Rattle.bl_load.specs.Planned.{handover_by, text_at, IsLoadable};
+ghost use Rattle.bl_load.specs.Planned.{handover_by, text_at, IsLoadable, IsLean};
 
 use crate::contents::parts_at;
 use crate::kernel::Kernel;
@@ -56,7 +57,7 @@ fn information_at(places: &[Place]) -> u64
 
 /// The registers that a Multiboot2 kernel begins with.
 fn multiboot2_registers(entry: u32, information: u32) -> Registers
-    ensures { result ≡ parts.multiboot2_registers entry information }
+    ensures { result ≡ state.multiboot2_registers entry information }
 {
     Registers {
         eip: entry,
@@ -124,6 +125,7 @@ pub fn plan_parts<A: Allocator + Copy, V: ByteView>(
     requires loadable { AreLoadable (text_at (map V.bytes files.now) 0) (kernel_by kernel.now).segments }
     ensures handover { IfOk result (λ plan. IsPlacedHandover machine.now line.now (text_at (map V.bytes files.now) 0) (kernel_by kernel.now) (handover_by (map V.bytes files.now) plan)) }
     ensures loadable { IfOk result (λ plan. IsLoadable (map V.bytes files.now) machine.now.size plan) }
+    ensures lean { IfOk result (λ plan. IsLean plan.parts.items) }
     ensures fault { IfErr result (λ fault. IsPlaceFault machine.now line.now (kernel_by kernel.now) fault) }
 {
     let rows = rows_of(alloc, machine, line, kernel)?;

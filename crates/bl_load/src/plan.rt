@@ -13,7 +13,7 @@ use std::ops::Range;
 /// Where the bytes of a part come from.
 #[derive(Drop)]
 pub enum Content<A: Allocator> {
-    /// These bytes.
+    /// These bytes, which the plan holds: those of the information.
     Own(Bytes<A>),
 
     /// `count` bytes of a file, from `offset` on. Nothing is read where `count` is 0.

@@ -3,7 +3,7 @@ ghost use Rattle.std.specs.Prelude.{◌≡◌, ◌==◌, ◌≤◌, ◌<◌, Som
 ghost use Rattle.std.specs.List.{list_any};
 ghost use Rattle.bl_load.specs.Value.{value_of, line_fault, file_count, HasFewModules, HasLine, HasFormFault};
 ghost use Rattle.bl_load.specs.Parts.{IsHandover, IsPrepFault};
-ghost use Rattle.bl_load.specs.Planned.{handover_by, IsLoadable};
+ghost use Rattle.bl_load.specs.Planned.{handover_by, IsLoadable, IsLean};
 
 use crate::entry::Entry;
 use crate::kernel::read_kernel;
@@ -59,7 +59,8 @@ fn check_line(line: &[u8]) -> Result<(), Refusal>
 /// the kernel first. The machine, the entry and the files stay as they are in each outcome.
 ///
 /// The refusals come in the order: the entry's form, its line, the kernel's header, its ELF header and
-/// segments, its entry, and then the parts' places, part by part.
+/// segments, its entry, and then the parts' places, part by part. Want of memory may be answered at any
+/// growth, in the place of a refusal that would have come later; it is never told as a refusal.
 pub fn prepare<A: Allocator + Copy, V: ByteView>(
     alloc: A,
     machine: &Machine<A>,
@@ -70,19 +71,15 @@ pub fn prepare<A: Allocator + Copy, V: ByteView>(
     requires modules { HasFewModules entry.now }
     ensures handover { IfOk result (λ plan. IsHandover machine.now (value_of (map V.bytes files.now) entry.now) (handover_by (map V.bytes files.now) plan)) }
     ensures loadable { IfOk result (λ plan. IsLoadable (map V.bytes files.now) machine.now.size plan) }
+
+    // Of the files' bytes a plan holds none: only the information has bytes of its own.
+    ensures lean { IfOk result (λ plan. IsLean plan.parts.items) }
+
     ensures fault { IfErr result (λ fault. IsPrepFault machine.now (value_of (map V.bytes files.now) entry.now) fault) }
 {
-    let line = match line_of(entry) {
-        Ok(line) => line.as_slice(),
-        Err(refusal) => return Err(PrepFault::Refused(refusal)),
-    };
-    if let Err(refusal) = check_line(line) {
-        return Err(PrepFault::Refused(refusal));
-    }
-    let kernel = match read_kernel(alloc, &files[0]) {
-        Ok(kernel) => kernel,
-        Err(fault) => return Err(fault),
-    };
+    let line = line_of(entry)?.as_slice();
+    check_line(line)?;
+    let kernel = read_kernel(alloc, &files[0])?;
     plan_parts(alloc, machine, line, &kernel, files)
 }
 

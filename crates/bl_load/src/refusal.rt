@@ -1,7 +1,7 @@
 //! Why an entry is not booted.
 ghost use Rattle.std.specs.Prelude.{◌≡◌};
 ghost use Rattle.bl_load.specs.Numbers as numbers;
-ghost use Rattle.bl_load.specs.declared.refusal.PrepFault.TheVariants.{NoMemory};
+ghost use Rattle.bl_load.specs.declared.refusal.PrepFault.TheVariants.{Refused, NoMemory};
 
 use std::alloc::{AllocError, AllocFailed};
 use thiserror::Error;
@@ -91,10 +91,18 @@ impl Refusal {
 /// Why an entry is not prepared: its first refusal, or want of memory.
 #[derive(Clone, Copy, Debug, PartialEq, Eq, Error)]
 pub enum PrepFault {
-    #[error("refused")]
+    #[error("{0}")]
     Refused(Refusal),
     #[error("no memory")]
     NoMemory,
+}
+
+impl From<Refusal> for PrepFault {
+    ghost from_gives = { λ refusal fault. fault ≡ Refused refusal };
+
+    fn from(refusal: Refusal) -> PrepFault {
+        PrepFault::Refused(refusal)
+    }
 }
 
 impl From<AllocError> for PrepFault {

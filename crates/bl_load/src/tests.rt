@@ -104,6 +104,8 @@ fn faults(rt: HostRuntime) -> Result<(), Fail> {
     let alloc: Global = rt.alloc();
     let text = format!(in alloc; "{}", Refusal::SegmentsOverlap(1, 2))?;
     assert_eq!(rt; text.as_str(), "segments 1 and 2 overlap");
+    let text = format!(in alloc; "{}", PrepFault::Refused(Refusal::BadTag(104)))?;
+    assert_eq!(rt; text.as_str(), "a bad header tag at 104");
     let text = format!(in alloc; "{}", PrepFault::NoMemory)?;
     assert_eq!(rt; text.as_str(), "no memory");
     Ok(())

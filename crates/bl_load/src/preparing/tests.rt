@@ -5,6 +5,7 @@ ghost use Rattle.bl_load.specs.Value.{file_count, HasFewModules};
 ghost use Rattle.bl_load.specs.Planned.{IsLoadable};
 
 mod bytes;
+mod cuts;
 mod files;
 mod forms;
 mod growth;

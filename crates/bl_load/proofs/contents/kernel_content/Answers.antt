@@ -5,13 +5,13 @@ use Rattle.bl_load.specs.KernelRead.{image_facts}
 use Rattle.bl_load.proofs.ContentLemmas.{block_content, block_copied, block_ascends, block_some, block_short}
 use Rattle.bl_load.proofs.contents.kernel_content.Goals as goal
 
-pub returns-in_ok-ascending-in-Some-clause-content : goal.returns-in_ok-ascending-in-Some-clause-content
-returns-in_ok-ascending-in-Some-clause-content g c =
-    block_content _ (image_facts c.args.kernel.now.image).segments _ c.in-Some.field-0 _ _ c.requires.loadable (c.in_ok-ascending-in-Some.ensures ∙ ap ascending c.segments-segments.ensures) c.in-Some.is
+pub returns-in_ok-in_order-in-Some-clause-content : goal.returns-in_ok-in_order-in-Some-clause-content
+returns-in_ok-in_order-in-Some-clause-content g c =
+    block_content _ (image_facts c.args.kernel.now.image).segments _ c.in-Some.field-0 _ _ c.requires.loadable (c.in_ok-in_order-in-Some.ensures ∙ ap ascending c.segments-segments.ensures) c.in-Some.is
 
-pub returns-in_ok-ascending-in-Some-clause-there : goal.returns-in_ok-ascending-in-Some-clause-there
-returns-in_ok-ascending-in-Some-clause-there g c =
-    let is = c.in_ok-ascending-in-Some.ensures ∙ ap ascending c.segments-segments.ensures in
+pub returns-in_ok-in_order-in-Some-clause-there : goal.returns-in_ok-in_order-in-Some-clause-there
+returns-in_ok-in_order-in-Some-clause-there g c =
+    let is = c.in_ok-in_order-in-Some.ensures ∙ ap ascending c.segments-segments.ensures in
     let some = c.requires.file in (
       omega (arith, length-map c.args.files.now g.V.ByteView.bytes),
       block_some _ (image_facts c.args.kernel.now.image).segments _ c.requires.loadable is,
@@ -19,6 +19,6 @@ returns-in_ok-ascending-in-Some-clause-there g c =
       block_ascends _ (image_facts c.args.kernel.now.image).segments _ c.requires.loadable is,
     )
 
-pub returns-in_ok-ascending-in-Some-clause-short : goal.returns-in_ok-ascending-in-Some-clause-short
-returns-in_ok-ascending-in-Some-clause-short g c =
-    block_short _ (image_facts c.args.kernel.now.image).segments _ _ c.in-Some.field-0 _ _ c.requires.loadable (c.in_ok-ascending-in-Some.ensures ∙ ap ascending c.segments-segments.ensures) c.in-Some.is c.requires.length
+pub returns-in_ok-in_order-in-Some-clause-short : goal.returns-in_ok-in_order-in-Some-clause-short
+returns-in_ok-in_order-in-Some-clause-short g c =
+    block_short _ (image_facts c.args.kernel.now.image).segments _ _ c.in-Some.field-0 _ _ c.requires.loadable (c.in_ok-in_order-in-Some.ensures ∙ ap ascending c.segments-segments.ensures) c.in-Some.is c.requires.length

@@ -8,7 +8,7 @@ use Rattle.bl_load.specs.KernelRead.{kernel_by}
 use Rattle.bl_load.specs.Handover.{Part, part_at, filled}
 use Rattle.bl_load.specs.Parts.{part_from}
 use Rattle.bl_load.specs.Place.{place_of}
-use Rattle.bl_load.specs.Planned.{part_by, text_at, IsBacked}
+use Rattle.bl_load.specs.Planned.{part_by, text_at, IsBacked, StaysInFiles}
 use Rattle.bl_load.proofs.contents.parts_at.Goals as goal
 
 pub loop-place-preserved : goal.loop-place-preserved
@@ -16,6 +16,7 @@ loop-place-preserved g c =
     let texts = map g.V.ByteView.bytes c.args.files.now in
     let from : Place → Part = part_from c.args.machine.now c.args.line.now (text_at texts 0) (kernel_by c.args.kernel.now) c.args.base in
     let by : Planned g.row.A.Denot → Part = part_by texts in
+    let stays : Planned g.row.A.Denot → Type 0 = λ part. StaysInFiles part.place.role part.content in
     let place_in : Planned g.row.A.Denot → Place = place_of in
     let k = c.loop-place.place-index in
     let all = c.args.places.now in
@@ -30,5 +31,6 @@ loop-place-preserved g c =
           ∙ ap₂ (λ (xs : List Part) (x : Part). xs ++ x ∷ []) i.parts (ap (λ (bytes : List ℕ). part_at place (filled place.length bytes)) c.in_ok-content.ensures.content)
           ∙ sym (map-append from (take k all) (place ∷ [])) ∙ ap (map from) (sym more);
       backed = rw items (All-push (IsBacked texts) c.loop-place.parts.items new i.backed record { there = c.in_ok-content.ensures.there; short = c.in_ok-content.ensures.short });
+      lean = rw items (All-push stays c.loop-place.parts.items new i.lean c.in_ok-content.ensures.lean);
       places = ap (map place_in) items ∙ map-append place_in c.loop-place.parts.items (new ∷ []) ∙ ap (λ (xs : List Place). xs ++ place ∷ []) i.places ∙ sym more;
     }

@@ -1,5 +1,5 @@
 use Rattle.std.proofs.Common.{◌≤◌, ℕ, List, length, map, arith, subst, sym, ◌∙◌}
-use Rattle.std.proofs.lemmas.Result.{IfOk-weaker, IfErr-weaker}
+use Rattle.std.proofs.lemmas.Result.{IfOk-weaker, IfErr-weaker, err_from_is_err_and}
 use Rattle.bl_load.specs.KernelRead.{kernel_by}
 use Rattle.bl_load.specs.Kernel.{IsKernel, AreLoadable, IsKernelFault}
 use Rattle.bl_load.specs.Planned.{text_at, handover_by}
@@ -8,24 +8,26 @@ use Rattle.bl_load.proofs.LineLemmas.{sound_short}
 use Rattle.bl_load.proofs.PrepareLemmas.{some_file, kernel_is, first_text, IsSound, prepared, refused_kernel, refused_places}
 use Rattle.bl_load.proofs.preparing.prepare.Goals as goal
 
-pub returns-in-Err-read_kernel-clause-fault : goal.returns-in-Err-read_kernel-clause-fault
-returns-in-Err-read_kernel-clause-fault g c =
+pub returns-in_err-kernel-clause-fault : goal.returns-in_err-kernel-clause-fault
+returns-in_err-kernel-clause-fault g c =
+    let p = err_from_is_err_and c.from_residual-in_err-kernel.result c.from_residual-in_err-kernel.ensures.1 in
+    let fault = c.in_err-kernel.field-0.0 in
     let texts = map g.V.ByteView.bytes c.args.files.now in
     let entry = c.args.entry.now in
     let some : 1 ≤ length c.args.files.now = omega (arith, some_file entry, c.requires.files) in
     let file = first_text g.V.ByteView.bytes c.args.files.now c.index-files-0.result some c.index-files-0.is in
     let value = value_of texts entry in
-    let has = c.in-Ok.ensures texts in
-    let sound : IsSound value c.as_slice-line.result.now (text_at texts 0) = record { form = has.1; line_is = has.2 ∙ sym c.as_slice-line.ensures; file_is = kernel_is texts entry; no_fault = c.in_default.ensures } in
-    refused_kernel c.args.machine.now value c.as_slice-line.result.now (text_at texts 0) sound c.in-Err-read_kernel.fault (subst (λ (f : List ℕ). IsKernelFault f c.in-Err-read_kernel.fault) file c.in-Err-read_kernel.ensures.fault)
+    let has = c.in_ok-line_of.ensures texts in
+    let sound : IsSound value c.as_slice-line.result.now (text_at texts 0) = record { form = has.1; line_is = has.2 ∙ sym c.as_slice-line.ensures; file_is = kernel_is texts entry; no_fault = c.in_ok-check_line.ensures } in
+    rw (p.1, p.2) (refused_kernel c.args.machine.now value c.as_slice-line.result.now (text_at texts 0) sound fault (subst (λ (f : List ℕ). IsKernelFault f fault) file c.in_err-kernel.ensures.fault))
 
 pub plan_parts-requires-clause-sound : goal.plan_parts-requires-clause-sound
 plan_parts-requires-clause-sound g c =
-    c.in_default.ensures
+    c.in_ok-check_line.ensures
 
 pub plan_parts-requires-clause-short : goal.plan_parts-requires-clause-short
 plan_parts-requires-clause-short g c =
-    sound_short c.as_slice-line.result.now c.in_default.ensures
+    sound_short c.as_slice-line.result.now c.in_ok-check_line.ensures
 
 pub plan_parts-requires-clause-file : goal.plan_parts-requires-clause-file
 plan_parts-requires-clause-file g c =
@@ -37,7 +39,7 @@ plan_parts-requires-clause-kernel g c =
     let entry = c.args.entry.now in
     let some : 1 ≤ length c.args.files.now = omega (arith, some_file entry, c.requires.files) in
     let file = first_text g.V.ByteView.bytes c.args.files.now c.index-files-0.result some c.index-files-0.is in
-    subst (λ (f : List ℕ). IsKernel f (kernel_by c.in-Ok-read_kernel.kernel)) file c.in-Ok-read_kernel.ensures.kernel
+    subst (λ (f : List ℕ). IsKernel f (kernel_by c.in_ok-kernel.kernel)) file c.in_ok-kernel.ensures.kernel
 
 pub plan_parts-requires-clause-loadable : goal.plan_parts-requires-clause-loadable
 plan_parts-requires-clause-loadable g c =
@@ -45,7 +47,7 @@ plan_parts-requires-clause-loadable g c =
     let entry = c.args.entry.now in
     let some : 1 ≤ length c.args.files.now = omega (arith, some_file entry, c.requires.files) in
     let file = first_text g.V.ByteView.bytes c.args.files.now c.index-files-0.result some c.index-files-0.is in
-    subst (λ (f : List ℕ). AreLoadable f (kernel_by c.in-Ok-read_kernel.kernel).segments) file c.in-Ok-read_kernel.ensures.loadable
+    subst (λ (f : List ℕ). AreLoadable f (kernel_by c.in_ok-kernel.kernel).segments) file c.in_ok-kernel.ensures.loadable
 
 pub returns-clause-handover : goal.returns-clause-handover
 returns-clause-handover g c =
@@ -54,10 +56,10 @@ returns-clause-handover g c =
     let some : 1 ≤ length c.args.files.now = omega (arith, some_file entry, c.requires.files) in
     let file = first_text g.V.ByteView.bytes c.args.files.now c.index-files-0.result some c.index-files-0.is in
     let value = value_of texts entry in
-    let has = c.in-Ok.ensures texts in
-    let sound : IsSound value c.as_slice-line.result.now (text_at texts 0) = record { form = has.1; line_is = has.2 ∙ sym c.as_slice-line.ensures; file_is = kernel_is texts entry; no_fault = c.in_default.ensures } in
-    let is = subst (λ (f : List ℕ). IsKernel f (kernel_by c.in-Ok-read_kernel.kernel)) file c.in-Ok-read_kernel.ensures.kernel in
-    IfOk-weaker c.plan_parts.result _ _ (λ plan h. prepared c.args.machine.now value c.as_slice-line.result.now (text_at texts 0) sound (kernel_by c.in-Ok-read_kernel.kernel) (handover_by texts plan) is h) c.plan_parts.ensures.handover
+    let has = c.in_ok-line_of.ensures texts in
+    let sound : IsSound value c.as_slice-line.result.now (text_at texts 0) = record { form = has.1; line_is = has.2 ∙ sym c.as_slice-line.ensures; file_is = kernel_is texts entry; no_fault = c.in_ok-check_line.ensures } in
+    let is = subst (λ (f : List ℕ). IsKernel f (kernel_by c.in_ok-kernel.kernel)) file c.in_ok-kernel.ensures.kernel in
+    IfOk-weaker c.plan_parts.result _ _ (λ plan h. prepared c.args.machine.now value c.as_slice-line.result.now (text_at texts 0) sound (kernel_by c.in_ok-kernel.kernel) (handover_by texts plan) is h) c.plan_parts.ensures.handover
 
 pub returns-clause-fault : goal.returns-clause-fault
 returns-clause-fault g c =
@@ -66,7 +68,7 @@ returns-clause-fault g c =
     let some : 1 ≤ length c.args.files.now = omega (arith, some_file entry, c.requires.files) in
     let file = first_text g.V.ByteView.bytes c.args.files.now c.index-files-0.result some c.index-files-0.is in
     let value = value_of texts entry in
-    let has = c.in-Ok.ensures texts in
-    let sound : IsSound value c.as_slice-line.result.now (text_at texts 0) = record { form = has.1; line_is = has.2 ∙ sym c.as_slice-line.ensures; file_is = kernel_is texts entry; no_fault = c.in_default.ensures } in
-    let is = subst (λ (f : List ℕ). IsKernel f (kernel_by c.in-Ok-read_kernel.kernel)) file c.in-Ok-read_kernel.ensures.kernel in
-    IfErr-weaker c.plan_parts.result _ _ (λ fault h. refused_places c.args.machine.now value c.as_slice-line.result.now (text_at texts 0) sound (kernel_by c.in-Ok-read_kernel.kernel) fault is h) c.plan_parts.ensures.fault
+    let has = c.in_ok-line_of.ensures texts in
+    let sound : IsSound value c.as_slice-line.result.now (text_at texts 0) = record { form = has.1; line_is = has.2 ∙ sym c.as_slice-line.ensures; file_is = kernel_is texts entry; no_fault = c.in_ok-check_line.ensures } in
+    let is = subst (λ (f : List ℕ). IsKernel f (kernel_by c.in_ok-kernel.kernel)) file c.in_ok-kernel.ensures.kernel in
+    IfErr-weaker c.plan_parts.result _ _ (λ fault h. refused_places c.args.machine.now value c.as_slice-line.result.now (text_at texts 0) sound (kernel_by c.in_ok-kernel.kernel) fault is h) c.plan_parts.ensures.fault

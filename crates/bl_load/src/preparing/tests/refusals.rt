@@ -182,20 +182,3 @@ fn refused_in_any_order_of_regions(rt: HostRuntime) -> Result<(), Fail> {
     expect_refused(&rt, rt.alloc(), &machine, &FILES)?;
     Ok(())
 }
-
-// The first n bytes of FIXED, for each n.
-#[test]
-fn cuts(rt: HostRuntime) -> Result<(), Fail> {
-    let machine = machine(rt.alloc())?;
-    for n in 0..=FIXED.len() {
-        let answer = prepared(rt.alloc(), &machine, &FIXED[..n], b"k");
-        let wanted = match n {
-            0..104 => Some(PrepFault::Refused(Refusal::NoHeader)),
-            104..112 => Some(PrepFault::Refused(Refusal::HeaderCut)),
-            112..160 => Some(PrepFault::Refused(Refusal::SegmentCut(0))),
-            _ => None,
-        };
-        assert_eq!(rt; answer.err(), wanted, "at {n}");
-    }
-    Ok(())
-}

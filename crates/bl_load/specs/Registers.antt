@@ -1,0 +1,28 @@
+-- The registers as a kernel begins (Multiboot2 3.3 "I386 machine state"). What the text leaves open is own.
+use Rattle.std.specs.Prelude.{ℕ}
+use Rattle.bl_load.specs.declared.registers.Registers.{Registers}
+
+-- by the address where the kernel is entered, and by that of the information
+abbrev pub multiboot2_registers : ℕ → ℕ → Registers
+multiboot2_registers entry information = record {
+  eip = entry;
+  eax = 0x36D76289;
+  ebx = information;
+  ecx = 0;
+  edx = 0;
+  esi = 0;
+  edi = 0;
+  ebp = 0;
+  esp = 0;
+  eflags = 2;
+  cr0 = 0x11;
+  cs = 0x10;
+  ds = 0x18;
+  es = 0x18;
+  fs = 0x18;
+  gs = 0x18;
+  ss = 0x18;
+  gdt_base = 0;
+  gdt_limit = 0;
+  a20 = 1;
+}
