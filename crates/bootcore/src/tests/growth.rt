@@ -1,6 +1,6 @@
 //! Requests for memory, each refused in turn.
-use crate::tests::rows::{F1, NO_POOL, REGIONS, description, files_of, first};
-use crate::{Order, boot, map_to};
+use crate::tests::worked::{F1, NO_POOL, REGIONS, description, example_text, files_of};
+use crate::{Fetched, Files, Order, boot, map_to};
 use bl_image::{MemSink, Sink};
 use bl_refusing::Refusing;
 use std::alloc::{AllocError, Global};
@@ -29,8 +29,8 @@ fn boot_over(
     Ok((status, out))
 }
 
-/// The nth request of a boot is refused: it wants memory where there was such a request, and else ends as
-/// it should.
+/// The nth request of a boot is refused, where the first is that of what was said before: it wants memory where there was such
+/// a request, and then leaves what was said, and else ends as it should.
 fn boots_with(
     rt: &impl Abort,
     heap: &Refusing,
@@ -38,13 +38,18 @@ fn boots_with(
     text: &str,
     kernel: &[u8],
     status: u8,
+    lines: &[u8],
 ) -> Result<(), Fail> {
     let nth = heap.nth;
-    let mut said = Vec::new(heap);
+    let mut said = b"before\n".to_vec(heap)?;
     let (came, out) = boot_over(heap, alloc, text, kernel, &mut said)?;
-    let wanted = if heap.has_refused() { 4 } else { status };
+    let (wanted, told) = if heap.has_refused() {
+        (4, b"before\n".as_slice())
+    } else {
+        (status, lines)
+    };
     assert_eq!(rt; came, wanted, "at request {nth}");
-    assert_eq!(rt; said.is_empty(), heap.has_refused(), "at request {nth}");
+    assert_eq!(rt; said.as_slice(), told, "at request {nth}");
     assert_eq!(rt; out.contents().is_empty(), came != 0, "at request {nth}");
     assert!(rt; out.faults() == 0, "at request {nth}");
     Ok(())
@@ -57,11 +62,12 @@ fn boots_at_each(
     text: &str,
     kernel: &[u8],
     status: u8,
+    lines: &[u8],
 ) -> Result<(), Fail> {
     let mut was_granted = false;
-    for nth in 1..1000 {
+    for nth in 2..1000 {
         let heap = Refusing::new(alloc, nth);
-        boots_with(rt, &heap, alloc, text, kernel, status)?;
+        boots_with(rt, &heap, alloc, text, kernel, status, lines)?;
         if !heap.has_refused() {
             was_granted = true;
             break;
@@ -73,33 +79,81 @@ fn boots_at_each(
 
 #[test]
 fn boots_want_memory(rt: HostRuntime) -> Result<(), Fail> {
-    let text = first(rt.alloc())?;
-    boots_at_each(&rt, rt.alloc(), &text, &F1, 0)
+    let text = example_text(rt.alloc())?;
+    boots_at_each(
+        &rt,
+        rt.alloc(),
+        &text,
+        &F1,
+        0,
+        b"before\nbooted 0 row one\n",
+    )
 }
 
 #[test]
 fn refusals_want_memory(rt: HostRuntime) -> Result<(), Fail> {
     let text = description(rt.alloc(), NO_POOL, REGIONS, "\"k\"")?;
-    boots_at_each(&rt, rt.alloc(), &text, &F1, 1)
+    boots_at_each(
+        &rt,
+        rt.alloc(),
+        &text,
+        &F1,
+        1,
+        b"before\nrefused 0 21\nno entry left\n",
+    )
 }
 
-/// The nth request of a map is refused.
-fn maps_with(rt: &impl Abort, heap: &Refusing, alloc: Global, text: &str) {
+/// The nth request of a map is refused, where the first is that of what was said before.
+fn maps_with(rt: &impl Abort, heap: &Refusing, alloc: Global, text: &str) -> Result<(), Fail> {
     let nth = heap.nth;
-    let mut said = Vec::new(heap);
+    let mut said = b"before\n".to_vec(heap)?;
     let came = map_to(heap, alloc, text.as_bytes(), &mut said);
     let wanted = if heap.has_refused() { 4 } else { 0 };
     assert_eq!(rt; came, wanted, "at request {nth}");
-    assert_eq!(rt; said.is_empty(), heap.has_refused(), "at request {nth}");
+    assert_eq!(rt;
+        said.as_slice() == b"before\n".as_slice(),
+        heap.has_refused(),
+        "at request {nth}"
+    );
+    Ok(())
 }
 
 #[test]
 fn maps_want_memory(rt: HostRuntime) -> Result<(), Fail> {
-    let text = first(rt.alloc())?;
+    let text = example_text(rt.alloc())?;
     let mut was_granted = false;
-    for nth in 1..1000 {
+    for nth in 2..1000 {
         let heap = Refusing::new(rt.alloc(), nth);
-        maps_with(&rt, &heap, rt.alloc(), &text);
+        maps_with(&rt, &heap, rt.alloc(), &text)?;
+        if !heap.has_refused() {
+            was_granted = true;
+            break;
+        }
+    }
+    assert!(rt; was_granted);
+    Ok(())
+}
+
+/// The nth request of a fetch is refused: it wants memory where there was such a request, and else gives the file. Neither is a
+/// fault of the file's.
+fn fetches_with(rt: &impl Abort, heap: &Refusing, alloc: Global) -> Result<(), Fail> {
+    let nth = heap.nth;
+    let mut files = files_of(alloc, "f1.elf", &F1)?;
+    let fetched = files.fetch(heap, "f1.elf");
+    let is_whole =
+        matches!(&fetched, Ok(Fetched::Bytes(bytes)) if bytes.as_slice() == F1.as_slice());
+    assert_eq!(rt; fetched.is_err(), heap.has_refused(), "at request {nth}");
+    assert_eq!(rt; is_whole, !heap.has_refused(), "at request {nth}");
+    assert!(rt; files.faults() == 0, "at request {nth}");
+    Ok(())
+}
+
+#[test]
+fn fetches_want_memory(rt: HostRuntime) -> Result<(), Fail> {
+    let mut was_granted = false;
+    for nth in 1..100 {
+        let heap = Refusing::new(rt.alloc(), nth);
+        fetches_with(&rt, &heap, rt.alloc())?;
         if !heap.has_refused() {
             was_granted = true;
             break;

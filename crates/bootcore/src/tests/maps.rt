@@ -1,6 +1,6 @@
 //! The map of a description's machine.
 use crate::map_to;
-use crate::tests::rows::first;
+use crate::tests::worked::example_text;
 use std::test::Fail;
 
 static MAP: &str = "before
@@ -15,7 +15,7 @@ pool 0000000000300000 0000000000400000
 // The entry's kernel is not there, and not asked for.
 #[test]
 fn says_the_map(rt: HostRuntime) -> Result<(), Fail> {
-    let text = first(rt.alloc())?;
+    let text = example_text(rt.alloc())?;
     let mut said = b"before\n".to_vec(rt.alloc())?;
     let status = map_to(rt.alloc(), rt.alloc(), text.as_bytes(), &mut said);
     assert_eq!(rt; status, 0);

@@ -2,7 +2,7 @@
 ghost use Rattle.std.specs.Prelude.{◌+◌, ◌<◌, ◌≤◌};
 
 use crate::program::{run_line, word_of};
-use crate::tests::rows::{F1, REGIONS, TOP, first_image};
+use crate::tests::worked::{F1, REGIONS, TOP, example_image};
 use crate::{Fetched, Files, ImageFile, PathFiles, read_file};
 use bl_image::Sink;
 use std::alloc::Global;
@@ -133,7 +133,7 @@ fn boots_real_files(rt: HostRuntime) -> Result<(), Fail> {
     fs::remove_file(&rt, &paths.image)?;
     fs::remove_file(&rt, &paths.kernel)?;
     fs::remove_file(&rt, &paths.description)?;
-    let want = first_image(rt.alloc())?;
+    let want = example_image(rt.alloc())?;
     assert!(rt; status == 0);
     assert!(rt; image.as_slice() == want.as_slice());
     assert!(rt; unwritten == 3);

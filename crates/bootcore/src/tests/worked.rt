@@ -1,4 +1,4 @@
-//! What the tests boot, and the image that comes of it.
+//! The worked example: a kernel, the description that boots it, and the image that comes of it.
 ghost use Rattle.std.specs.Prelude.{◌≡◌, IfOk};
 
 use crate::{FileRow, MemFiles, Text};
@@ -89,8 +89,8 @@ line = {line}
     )
 }
 
-/// The description of the machine, with the line `k`.
-pub fn first(alloc: Global) -> Result<String, AllocError> {
+/// The description of the worked example: that machine, and the line `k`.
+pub fn example_text(alloc: Global) -> Result<String, AllocError> {
     description(alloc, TOP, REGIONS, "\"k\"")
 }
 
@@ -106,8 +106,8 @@ pub fn files_of(alloc: Global, name: &str, bytes: &[u8]) -> Result<MemFiles<Glob
     Ok(MemFiles::new(rows))
 }
 
-/// The whole image: the information's frame, the segment's bytes 0 to 0x2F, and its zeros.
-pub fn first_image(alloc: Global) -> Result<Vec<u8>, AllocError> {
+/// The image of the worked example: the information's frame, the segment's bytes 0 to 0x2F, and its zeros.
+pub fn example_image(alloc: Global) -> Result<Vec<u8>, AllocError> {
     let mut image = HEAD.to_vec(alloc)?;
     image.extend_from_slice(&INFO)?;
     image.extend_from_slice(&[0; 3936])?;
