@@ -1,6 +1,8 @@
 //! The program: from a boot description to the image of a handover, or to the map of a machine.
 #![tactic(auto)]
 
+ghost use Rattle.std.specs.Prelude.{◌≡◌, ◌⊎◌, ◌≤◌};
+
 mod attempting;
 mod booting;
 mod describing;
@@ -28,7 +30,9 @@ use std::process::ExitCode;
 use std::{env, io};
 
 /// The words of the command line, run; or the status where they are no text.
-fn run_words(rt: &HostRuntime) -> u8 {
+fn run_words(rt: &HostRuntime) -> u8
+    ensures { (result ≤ 4) ⊎ (result ≡ 64) }
+{
     let args = match env::args(rt) {
         Ok(args) => args,
         Err(error) if error.kind() == io::ErrorKind::OutOfMemory => return 4,

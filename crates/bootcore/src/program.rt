@@ -26,7 +26,7 @@ fn tell(rt: &HostRuntime, text: &[u8]) {
 
 /// The description at a path, or the status where it can't be read.
 fn read_desc(rt: &HostRuntime, path: &str) -> Result<Bytes<Global>, u8>
-    ensures { IfErr result (λ status. status ≤ 4) }
+    ensures { IfErr result (λ status. (status ≡ 3) ⊎ (status ≡ 4)) }
 {
     match read_file(rt, rt.alloc(), path, u64::MAX) {
         Ok(Fetched::Bytes(desc)) => Ok(desc),
