@@ -67,7 +67,7 @@ abbrev pub IsJobOf : Text × List Row → Job → Type 0
 IsJobOf chosen (Boot description image order) = (bytes_eq chosen.0 (codes "boot") ≡ true)
     × (description.now ≡ text_of (codes "desc") chosen.1) × (image.now ≡ text_of (codes "out") chosen.1)
     × (order ≡ order_named (text_of (codes "order") chosen.1))
-IsJobOf chosen (Map description) = (bytes_eq chosen.0 (codes "boot") ≡ false)
+IsJobOf chosen (Map description) = (bytes_eq chosen.0 (codes "map") ≡ true)
     × (description.now ≡ text_of (codes "desc") chosen.1)
 
 -- clap's own definition has no fault for the words, and its matches tell the job

@@ -1,5 +1,6 @@
 //! The job of a command line.
-ghost use Rattle.std.specs.Prelude.{◌≡◌, map, IfOk, IfErr};
+ghost use Rattle.std.specs.Prelude.{◌≡◌, false, map, codes, IfOk, IfErr, MatchOption};
+ghost use Rattle.std.specs.Str.{bytes_eq};
 ghost use Rattle.clap.specs.Words.{found_of, rows_of};
 ghost use Rattle.bootcore.specs.Lines as lines;
 ghost use Rattle.bootcore.specs.Lines.{IsJobOf, IsTaken, Tells, Refuses};
@@ -32,18 +33,21 @@ fn order_named(text: &str) -> Order
     }
 }
 
-/// The job of a subcommand with its matches.
-fn job_of<'a>(name: &str, matches: &ArgMatches<'a>) -> Job<'a>
-    ensures { IsJobOf (name.now, rows_of (found_of matches.now)) result }
+/// The job of a subcommand with its matches, if the program has one of that name.
+fn job_of<'a>(name: &str, matches: &ArgMatches<'a>) -> Option<Job<'a>>
+    ensures { MatchOption result
+        ((bytes_eq name.now (codes "boot") ≡ false) × (bytes_eq name.now (codes "map") ≡ false))
+        (IsJobOf (name.now, rows_of (found_of matches.now))) }
 {
     let description = text_of(matches, "desc");
-    if name != "boot" {
-        return Job::Map { description };
-    }
-    Job::Boot {
-        description,
-        image: text_of(matches, "out"),
-        order: order_named(text_of(matches, "order")),
+    match name {
+        "boot" => Some(Job::Boot {
+            description,
+            image: text_of(matches, "out"),
+            order: order_named(text_of(matches, "order")),
+        }),
+        "map" => Some(Job::Map { description }),
+        _ => None,
     }
 }
 
@@ -71,8 +75,11 @@ pub fn read_line<'a>(global: Global, words: &'a [&'a str]) -> Result<Job<'a>, Li
         Ok(matches) => matches,
         Err(error) => return Err(fault_of(error.kind())),
     };
-    match matches.subcommand() {
-        Some((name, inner)) => Ok(job_of(name, inner)),
+    let Some((name, inner)) = matches.subcommand() else {
+        return Err(LineFault::Refused);
+    };
+    match job_of(name, inner) {
+        Some(job) => Ok(job),
         None => Err(LineFault::Refused),
     }
 }
