@@ -12,7 +12,7 @@ mod tests;
 mod text;
 mod values;
 
-pub use desc::{Description, EntryRow, FileRow, Protocol};
+pub use desc::{Description, EntryRow, FileRow, Protocol, file_named};
 pub use fault::DescFault;
 pub use read::read_description;
 pub use text::Text;

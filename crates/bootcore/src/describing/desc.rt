@@ -1,6 +1,7 @@
 //! What a description says.
-ghost use Rattle.std.specs.Prelude.{◌≡◌, option_copied};
-ghost use Rattle.bootcore.specs.Described.{file_named, view};
+ghost use Rattle.std.specs.Prelude.{◌≡◌, map, option_copied};
+ghost use Rattle.bootcore.specs.Described as spec;
+ghost use Rattle.bootcore.specs.Described.{file_view, view};
 
 use crate::describing::text::Text;
 use bl_map::Region;
@@ -46,16 +47,23 @@ pub struct Description<A: Allocator> {
     pub entries: Vec<EntryRow<A>, A>,
 }
 
+/// The bytes of the first of these files that has this name, if one has.
+pub fn file_named<'a, A: Allocator>(name: &str, files: &'a [FileRow<A>]) -> Option<&'a [u8]>
+    ensures { option_copied result ≡ spec.file_named name.now (map file_view files.now) }
+{
+    for file in files {
+        if file.name.as_str() == name {
+            return Some(file.bytes.as_slice());
+        }
+    }
+    None
+}
+
 impl<A: Allocator> Description<A> {
     /// The bytes of the file of this name that stands in the description, if one does.
     pub fn file_named(&self, name: &str) -> Option<&[u8]>
-        ensures { option_copied result ≡ file_named name.now (view self.now).files }
+        ensures { option_copied result ≡ spec.file_named name.now (view self.now).files }
     {
-        for file in &self.files {
-            if file.name.as_str() == name {
-                return Some(file.bytes.as_slice());
-            }
-        }
-        None
+        file_named(name, &self.files)
     }
 }

@@ -1,5 +1,5 @@
 //! Files in memory.
-use crate::describing::FileRow;
+use crate::describing::{FileRow, file_named};
 use crate::fetching::{FILE_LIMIT, Fetched, Files};
 use bl_mem::Bytes;
 use std::alloc::{AllocError, Allocator};
@@ -23,8 +23,7 @@ impl<A: Allocator> Model for MemFiles<A> {
 }
 
 impl<A: Allocator> MemFiles<A> {
-    ghost use Rattle.std.specs.Prelude.{◌≡◌, map, option_copied};
-    ghost use Rattle.bootcore.specs.Described as spec;
+    ghost use Rattle.std.specs.Prelude.{◌≡◌, map};
     ghost use Rattle.bootcore.specs.Described.{file_view};
 
     /// These files, for which no name was missing yet.
@@ -32,18 +31,6 @@ impl<A: Allocator> MemFiles<A> {
         ensures { result ≡ record { files = map file_view rows.items; faults = 0 } }
     {
         MemFiles { rows, faults: 0 }
-    }
-
-    /// The bytes of the first file of this name.
-    fn find(&self, name: &str) -> Option<&[u8]>
-        ensures { option_copied result ≡ spec.file_named name.now self.now.files }
-    {
-        for row in &self.rows {
-            if row.name.as_str() == name {
-                return Some(row.bytes.as_slice());
-            }
-        }
-        None
     }
 }
 
@@ -56,7 +43,7 @@ impl<A: Allocator> Files for MemFiles<A> {
     ghost faults = { λ f. f.faults };
 
     fn fetch<B: Allocator>(&mut self, alloc: B, name: &str) -> Result<Fetched<B>, AllocError> {
-        let Some(bytes) = self.find(name) else {
+        let Some(bytes) = file_named(name, &self.rows) else {
             self.faults += 1;
             return Ok(Fetched::Missing);
         };
