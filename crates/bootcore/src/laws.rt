@@ -11,8 +11,8 @@ ghost use Rattle.bootcore.specs.Files.{Answer};
 
 use crate::fetching::Files;
 
-/// Two boots of one kernel with one line, on machines of equal map and pool, write one image, whatever
-/// memory held, whatever the titles, the names and the other files are, and wherever the kernel came from.
+/// Two boots of one kernel with one line, on machines of equal size, map and pool, write one image,
+/// whatever memory held, whatever the titles, the names and the other files are, and wherever the kernel came from.
 /// Of two such boots none is refused while the other is not, and both are refused for one thing.
 pub fn two_boots<F: Files, G: Files>(_files: &F, _others: &G)
     ensures one_handover { (facts : Facts) (line : List ℕ) (answer : Answer) (h k : Handover) →
