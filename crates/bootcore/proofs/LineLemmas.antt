@@ -1,5 +1,5 @@
 -- What a parse by the program's command tells.
-use Rattle.std.proofs.Common.{◌≡◌, true, false, List, [], ◌∷◌, Option, Some, None, Bor, Box, map, codes, option_map, refl, sym, ap, ◌∙◌, inl, inr}
+use Rattle.std.proofs.Common.{◌≡◌, Bool, true, false, List, [], ◌∷◌, Option, Some, None, Bor, Box, map, codes, option_map, refl, sym, ap, ◌∙◌, inl, inr}
 use Rattle.std.specs.Box.{box_value}
 use Rattle.std.specs.List.{list_any}
 use Rattle.std.specs.Prelude.{find}
