@@ -11,7 +11,7 @@ use Rattle.bootcore.specs.declared.attempting.attempt.Attempt.TheVariants as att
 use Rattle.bootcore.specs.declared.attempting.attempt.Loaded.{Loaded}
 use Rattle.bootcore.specs.declared.booting.fault.BootFault.{BootFault}
 use Rattle.bootcore.specs.declared.booting.fault.BootFault.TheVariants.{BadDescription, Device, NoMemory}
-use Rattle.bootcore.specs.Described.{described, view, entry_view}
+use Rattle.bootcore.specs.Described.{Entry, described, view, entry_view}
 use Rattle.bootcore.specs.Files.{Answer}
 use Rattle.bootcore.specs.Attempt.{IsFound, IsAttempt, IsAttemptHandover, image_of}
 use Rattle.bootcore.specs.Says.{booted_line, refused_line, no_entry_line}
@@ -24,16 +24,16 @@ only_one (y ∷ []) x one is = ap (λ y. y ∷ []) (sym is)
 only_one (y ∷ z ∷ xs) x one is = absurd (omega arith)
 
 -- what was loaded is what is handed over
-handed_by : {A : Type 0} (fill : ℕ) (facts : Facts) (line : List ℕ) (answer : Answer) (loaded : Loaded A)
-    → IsAttempt fill facts line answer (attempt.Loaded loaded) → IsAttemptHandover facts line answer (image_of loaded)
-handed_by fill facts line answer loaded came = rw came.2.handed came.1
+handed_by : {A : Type 0} (fill : ℕ) (facts : Facts) (entry : Entry) (answer : Answer) (loaded : Loaded A)
+    → IsAttempt fill facts entry answer (attempt.Loaded loaded) → IsAttemptHandover facts entry answer (image_of loaded)
+handed_by fill facts entry answer loaded came = rw came.2.handed came.1
 
 -- the bytes describe d, whose one entry is this row, and its machine has these facts
 module _ {A : Type 0} (desc : List ℕ) (answers : List ℕ → Answer → Type 0) (d : Description A) (facts : Facts) (row : EntryRow A)
     (is : described desc ≡ Some (view d)) (machine : IsMachineOf (view d) facts) (one : length d.entries.items ≡ 1) (at_0 : row ≡ get_or d.entries.items 0 row) where
   -- this came of the attempt
   abbrev Came : Attempt A → Type 0
-  Came a = (answer : Answer) × IsFound (view d).files answers row.kernel answer × IsAttempt d.fill facts row.line answer a
+  Came a = (answer : Answer) × IsFound (view d).files answers row.kernel answer × IsAttempt d.fill facts (entry_view row) answer a
 
   abbrev attempted : (answer : Answer) → IsFound (view d).files answers row.kernel answer → Attempted desc answers
   attempted answer found = record {
@@ -56,7 +56,7 @@ module _ {A : Type 0} (desc : List ℕ) (answers : List ℕ → Answer → Type 
   booted_by loaded came s t u v image said = record {
     attempted = attempted came.0 came.1;
     handover = image_of loaded;
-    handed = handed_by d.fill facts row.line came.0 loaded came.2;
+    handed = handed_by d.fill facts (entry_view row) came.0 loaded came.2;
     image = image;
     said = said;
   }
@@ -68,7 +68,7 @@ module _ {A : Type 0} (desc : List ℕ) (answers : List ℕ → Answer → Type 
   not_handed_by loaded came old new s t u v Device broken unsaid = record {
     attempted = attempted came.0 came.1;
     handover = image_of loaded;
-    handed = handed_by d.fill facts row.line came.0 loaded came.2;
+    handed = handed_by d.fill facts (entry_view row) came.0 loaded came.2;
     begun = broken.1;
     unsaid = unsaid;
   }

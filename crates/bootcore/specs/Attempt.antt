@@ -1,8 +1,9 @@
 -- What an attempt to boot one entry comes to. Own.
-use Rattle.std.specs.Prelude.{◌≡◌, ◌⊎◌, ℕ, ◌+◌, ◌≤◌, List, [], ◌∷◌, length, map, replicate, All, MatchOption}
+use Rattle.std.specs.Prelude.{◌≡◌, ◌⊎◌, ℕ, ◌+◌, ◌≤◌, List, [], ◌∷◌, length, map, replicate, Option, Some, None, All, MatchOption}
 use Rattle.std.specs.declared.ops.Range.{Range}
 use Rattle.bl_map.specs.Facts.{Facts}
-use Rattle.bl_load.specs.declared.protocol.Protocol.TheVariants.{Multiboot2}
+use Rattle.bl_load.specs.declared.protocol.Protocol.{Protocol}
+use Rattle.bl_load.specs.declared.protocol.Protocol.TheVariants as protocol
 use Rattle.bl_load.specs.declared.refusal.Refusal.{Refusal}
 use Rattle.bl_load.specs.declared.refusal.Refusal.TheVariants.{NoFile, FileTooLong, NoPool}
 use Rattle.bl_load.specs.Value.{EntryValue}
@@ -13,12 +14,24 @@ use Rattle.bl_load.specs.Room.{frames_of, frames_in, HasRoomFor}
 use Rattle.bootcore.specs.declared.attempting.attempt.Attempt.{Attempt}
 use Rattle.bootcore.specs.declared.attempting.attempt.Attempt.TheVariants as attempt
 use Rattle.bootcore.specs.declared.attempting.attempt.Loaded.{Loaded}
-use Rattle.bootcore.specs.Described.{File, file_named}
+use Rattle.bootcore.specs.declared.describing.desc.Protocol.TheVariants as described
+use Rattle.bootcore.specs.declared.describing.desc.Protocol as desc
+use Rattle.bootcore.specs.Described.{Entry, File, file_named}
 use Rattle.bootcore.specs.Files.{Answer, missing, too_long, bytes, answer_for}
 
--- the value of a Multiboot2 entry without modules, with this line and this kernel's file
-abbrev pub multiboot2_value : List ℕ → List ℕ → EntryValue
-multiboot2_value line kernel = record { protocol = Multiboot2; line = line; files = kernel ∷ []; module_lines = [] }
+-- the protocol that an entry names
+abbrev pub protocol_of : desc.Protocol → Protocol
+protocol_of described.Multiboot2 = protocol.Multiboot2
+
+-- the value of an entry, which has no modules, with this kernel's file
+abbrev pub entry_value : Entry → List ℕ → EntryValue
+entry_value entry kernel = record { protocol = protocol_of entry.protocol; line = entry.line; files = kernel ∷ []; module_lines = [] }
+
+-- its value by what was found for the kernel, if that is a file that can be read
+abbrev pub value_found : Entry → Answer → Option EntryValue
+value_found entry missing = None
+value_found entry (too_long n) = None
+value_found entry (bytes kernel) = Some (entry_value entry kernel)
 
 -- the ranges of what is handed over
 abbrev pub part_range : Part → Range ℕ
@@ -36,27 +49,27 @@ abbrev pub HasRoomBeside : Facts → List ℕ → Handover → Type 0
 HasRoomBeside facts kernel h = HasRoomFor facts.pool (ranges_of h) (kernel ∷ [])
 
 -- the entry could be handed over, but beside its parts the pool has too few frames
-pub record LacksRoom (facts : Facts) (line kernel : List ℕ) : Type 0 where
+pub record LacksRoom (facts : Facts) (entry : Entry) (kernel : List ℕ) : Type 0 where
   pub handover : Handover
-  pub handed : IsHandover facts (multiboot2_value line kernel) handover
+  pub handed : IsHandover facts (entry_value entry kernel) handover
   pub lacking : ¬ HasRoomBeside facts kernel handover
 
--- the first refusal of an entry with this line on a machine of these facts, by what was answered for its kernel: no
+-- the first refusal of an entry on a machine of these facts, by what was answered for its kernel: no
 -- file; a file too long; more frames than the pool has; what the entry itself is refused for; no room beside the parts
-abbrev pub IsAttemptRefusal : Facts → List ℕ → Answer → Refusal → Type 0
-IsAttemptRefusal facts line missing refused = refused ≡ NoFile 0
-IsAttemptRefusal facts line (too_long n) refused = refused ≡ FileTooLong 0
-IsAttemptRefusal facts line (bytes kernel) refused =
+abbrev pub IsAttemptRefusal : Facts → Entry → Answer → Refusal → Type 0
+IsAttemptRefusal facts entry missing refused = refused ≡ NoFile 0
+IsAttemptRefusal facts entry (too_long n) refused = refused ≡ FileTooLong 0
+IsAttemptRefusal facts entry (bytes kernel) refused =
     ((¬ FitsPool facts kernel) × (refused ≡ NoPool))
-    ⊎ (FitsPool facts kernel × IsRefusal facts (multiboot2_value line kernel) refused)
-    ⊎ (FitsPool facts kernel × LacksRoom facts line kernel × (refused ≡ NoPool))
+    ⊎ (FitsPool facts kernel × IsRefusal facts (entry_value entry kernel) refused)
+    ⊎ (FitsPool facts kernel × LacksRoom facts entry kernel × (refused ≡ NoPool))
 
 -- what such an entry hands over
-abbrev pub IsAttemptHandover : Facts → List ℕ → Answer → Handover → Type 0
-IsAttemptHandover facts line missing h = ⊥
-IsAttemptHandover facts line (too_long n) h = ⊥
-IsAttemptHandover facts line (bytes kernel) h =
-    FitsPool facts kernel × IsHandover facts (multiboot2_value line kernel) h × HasRoomBeside facts kernel h
+abbrev pub IsAttemptHandover : Facts → Entry → Answer → Handover → Type 0
+IsAttemptHandover facts entry missing h = ⊥
+IsAttemptHandover facts entry (too_long n) h = ⊥
+IsAttemptHandover facts entry (bytes kernel) h =
+    FitsPool facts kernel × IsHandover facts (entry_value entry kernel) h × HasRoomBeside facts kernel h
 
 -- what is found for the name of a file: that of the description, and else what the files answer
 abbrev pub IsFound : List File → (List ℕ → Answer → Type 0) → List ℕ → Answer → Type 0
@@ -75,7 +88,7 @@ pub record IsLoaded {A : Type 0} (size fill : ℕ) (handover : Handover) (loaded
   pub inside : All (λ place. place.address + place.length ≤ length loaded.memory) loaded.handoff.places
 
 -- what came of an attempt
-abbrev pub IsAttempt : {A : Type 0} → ℕ → Facts → List ℕ → Answer → Attempt A → Type 0
-IsAttempt fill facts line answer (attempt.Refused refused) = IsAttemptRefusal facts line answer refused
-IsAttempt fill facts line answer (attempt.Loaded loaded) =
-    (h : Handover) × IsAttemptHandover facts line answer h × IsLoaded facts.size fill h loaded
+abbrev pub IsAttempt : {A : Type 0} → ℕ → Facts → Entry → Answer → Attempt A → Type 0
+IsAttempt fill facts entry answer (attempt.Refused refused) = IsAttemptRefusal facts entry answer refused
+IsAttempt fill facts entry answer (attempt.Loaded loaded) =
+    (h : Handover) × IsAttemptHandover facts entry answer h × IsLoaded facts.size fill h loaded

@@ -12,7 +12,7 @@ use Rattle.bl_image.specs.Begun.{IsBegun}
 use Rattle.bl_image.specs.Image.{spelling}
 use Rattle.bootcore.specs.Described.{Described, Entry, described}
 use Rattle.bootcore.specs.Files.{Answer}
-use Rattle.bootcore.specs.Attempt.{IsFound, IsAttemptHandover, IsAttemptRefusal}
+use Rattle.bootcore.specs.Attempt.{IsFound, IsAttemptHandover, IsAttemptRefusal, value_found}
 use Rattle.bootcore.specs.Says.{booted_line, refused_line, no_entry_line, map_lines}
 use Rattle.bootcore.specs.declared.booting.fault.BootFault.{BootFault}
 use Rattle.bootcore.specs.declared.booting.fault.BootFault.TheVariants.{BadDescription, Device, NoMemory}
@@ -59,17 +59,18 @@ pub record Attempted (desc : List ℕ) (answers : List ℕ → Answer → Type 0
   pub one_entry : description.entries ≡ entry ∷ []
   pub found : IsFound description.files answers entry.kernel answer
 
--- two attempts of equal values on equal machines: equal facts, equal lines, and the same was found for the kernels
+-- two attempts of equal values on equal machines: equal facts, the same was found for the kernels, and with it the entries
+-- have equal values
 pub record AreAlike {desc other : List ℕ} {answers others : List ℕ → Answer → Type 0} (a : Attempted desc answers) (b : Attempted other others) : Type 0 where
   pub facts : a.facts ≡ b.facts
-  pub line : a.entry.line ≡ b.entry.line
   pub answer : a.answer ≡ b.answer
+  pub value : value_found a.entry a.answer ≡ value_found b.entry b.answer
 
 -- the entry was handed over: the sink, which held s, holds its image behind that, and what is said, u before, tells it
 pub record IsBooted (desc : List ℕ) (answers : List ℕ → Answer → Type 0) (s t u v : List ℕ) : Type 0 where
   pub attempted : Attempted desc answers
   pub handover : Handover
-  pub handed : IsAttemptHandover attempted.facts attempted.entry.line attempted.answer handover
+  pub handed : IsAttemptHandover attempted.facts attempted.entry attempted.answer handover
   pub image : t ≡ s ++ spelling handover
   pub said : v ≡ u ++ booted_line 0 attempted.entry.title
 
@@ -77,7 +78,7 @@ pub record IsBooted (desc : List ℕ) (answers : List ℕ → Answer → Type 0)
 pub record IsRefused (desc : List ℕ) (answers : List ℕ → Answer → Type 0) (s t u v : List ℕ) : Type 0 where
   pub attempted : Attempted desc answers
   pub refusal : Refusal
-  pub refused : IsAttemptRefusal attempted.facts attempted.entry.line attempted.answer refusal
+  pub refused : IsAttemptRefusal attempted.facts attempted.entry attempted.answer refusal
   pub nothing : t ≡ s
   pub said : v ≡ u ++ (refused_line 0 (number_of refusal) ++ no_entry_line)
 
@@ -85,7 +86,7 @@ pub record IsRefused (desc : List ℕ) (answers : List ℕ → Answer → Type 0
 pub record IsBroken (desc : List ℕ) (answers : List ℕ → Answer → Type 0) (s t u v : List ℕ) : Type 0 where
   pub attempted : Attempted desc answers
   pub handover : Handover
-  pub handed : IsAttemptHandover attempted.facts attempted.entry.line attempted.answer handover
+  pub handed : IsAttemptHandover attempted.facts attempted.entry attempted.answer handover
   pub begun : IsBegun s t (spelling handover)
   pub unsaid : v ≡ u
 

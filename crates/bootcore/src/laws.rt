@@ -5,20 +5,20 @@ ghost use Rattle.bl_map.specs.Kinds.{kind_at};
 ghost use Rattle.bl_load.specs.Handover.{Handover};
 ghost use Rattle.bl_load.specs.declared.refusal.Refusal.{Refusal};
 ghost use Rattle.bootcore.specs.Attempt.{IsAttemptHandover, IsAttemptRefusal};
-ghost use Rattle.bootcore.specs.Described.{Described};
+ghost use Rattle.bootcore.specs.Described.{Described, Entry};
 ghost use Rattle.bootcore.specs.Ends.{AreAlike, IsBooted, IsMachineOf, IsRefused};
 ghost use Rattle.bootcore.specs.Files.{Answer};
 
 use crate::fetching::Files;
 
-/// Two boots of one kernel with one line, on machines of equal size, map and pool, write one image,
+/// Two boots of one kernel by one protocol with one line, on machines of equal size, map and pool, write one image,
 /// whatever memory held, whatever the titles, the names and the other files are, and wherever the kernel came from.
 /// Of two such boots none is refused while the other is not, and both are refused for one thing.
 pub fn two_boots<F: Files, G: Files>(_files: &F, _others: &G)
-    ensures one_handover { (facts : Facts) (line : List ℕ) (answer : Answer) (h k : Handover) →
-        IsAttemptHandover facts line answer h → IsAttemptHandover facts line answer k → h ≡ k }
-    ensures one_refusal { (facts : Facts) (line : List ℕ) (answer : Answer) (r q : Refusal) →
-        IsAttemptRefusal facts line answer r → IsAttemptRefusal facts line answer q → r ≡ q }
+    ensures one_handover { (facts : Facts) (entry : Entry) (answer : Answer) (h k : Handover) →
+        IsAttemptHandover facts entry answer h → IsAttemptHandover facts entry answer k → h ≡ k }
+    ensures one_refusal { (facts : Facts) (entry : Entry) (answer : Answer) (r q : Refusal) →
+        IsAttemptRefusal facts entry answer r → IsAttemptRefusal facts entry answer q → r ≡ q }
     ensures one_image { (desc other s t u v m n p q : List ℕ)
         (a : IsBooted desc (F.answers _files.now) s t u v) (b : IsBooted other (G.answers _others.now) m n p q) →
         AreAlike a.attempted b.attempted → (image : List ℕ) × (t ≡ s ++ image) × (n ≡ m ++ image) }

@@ -1,7 +1,7 @@
 //! An attempt with an entry of a description.
 ghost use Rattle.std.specs.Prelude.{ℕ, List, ◌+◌, ◌<◌, ◌≤◌, ◌^◌, IfOk};
 ghost use Rattle.bootcore.specs.Attempt.{IsAttempt, IsFound};
-ghost use Rattle.bootcore.specs.Described.{view};
+ghost use Rattle.bootcore.specs.Described.{entry_view, view};
 ghost use Rattle.bootcore.specs.Files.{Answer, answer_for, answer_of};
 
 use crate::attempting::attempt::Attempt;
@@ -17,15 +17,15 @@ fn attempt_inline<A: Allocator + Copy>(
     alloc: A,
     machine: &Machine<A>,
     fill: u8,
-    line: &[u8],
+    entry: &EntryRow<A>,
     kernel: &[u8],
 ) -> Result<Attempt<A>, AllocError>
-    ensures { IfOk result (IsAttempt fill machine.now line.now (answer_for kernel.now)) }
+    ensures { IfOk result (IsAttempt fill machine.now (entry_view entry.now) (answer_for kernel.now)) }
 {
     if kernel.len() as u64 > FILE_LIMIT {
         return Ok(Attempt::Refused(Refusal::FileTooLong(0)));
     }
-    attempt_kernel(alloc, machine, fill, line, kernel)
+    attempt_kernel(alloc, machine, fill, entry, kernel)
 }
 
 /// An attempt with what was found for the kernel's name.
@@ -33,15 +33,15 @@ fn attempt_fetched<A: Allocator + Copy>(
     alloc: A,
     machine: &Machine<A>,
     fill: u8,
-    line: &[u8],
+    entry: &EntryRow<A>,
     fetched: &Fetched<A>,
 ) -> Result<Attempt<A>, AllocError>
-    ensures { IfOk result (IsAttempt fill machine.now line.now (answer_of fetched.now)) }
+    ensures { IfOk result (IsAttempt fill machine.now (entry_view entry.now) (answer_of fetched.now)) }
 {
     match fetched {
         Fetched::Missing => Ok(Attempt::Refused(Refusal::NoFile(0))),
         Fetched::TooLong(_) => Ok(Attempt::Refused(Refusal::FileTooLong(0))),
-        Fetched::Bytes(kernel) => attempt_kernel(alloc, machine, fill, line, kernel.as_slice()),
+        Fetched::Bytes(kernel) => attempt_kernel(alloc, machine, fill, entry, kernel.as_slice()),
     }
 }
 
@@ -57,7 +57,7 @@ pub fn attempt_entry<A: Allocator + Copy, F: Files>(
     requires { F.faults files.old < 2 ^ 63 }
     ensures came { IfOk result (λ attempt. (answer : Answer)
         × IsFound (view description.now).files (F.answers files.old) entry.now.kernel answer
-        × IsAttempt description.now.fill machine.now entry.now.line answer attempt) }
+        × IsAttempt description.now.fill machine.now (entry_view entry.now) answer attempt) }
 
     // The files answer as before, and at most one of them was missing.
     ensures same { (file : List ℕ) (answer : Answer) →
@@ -65,11 +65,10 @@ pub fn attempt_entry<A: Allocator + Copy, F: Files>(
     ensures faults { F.faults files.new ≤ F.faults files.old + 1 }
 {
     let fill = description.fill;
-    let line = entry.line.as_str().as_bytes();
     let name = entry.kernel.as_str();
     if let Some(kernel) = description.file_named(name) {
-        return attempt_inline(alloc, machine, fill, line, kernel);
+        return attempt_inline(alloc, machine, fill, entry, kernel);
     }
     let fetched = files.fetch(alloc, name)?;
-    attempt_fetched(alloc, machine, fill, line, &fetched)
+    attempt_fetched(alloc, machine, fill, entry, &fetched)
 }

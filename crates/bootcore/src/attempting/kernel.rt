@@ -5,28 +5,33 @@ ghost use Rattle.bl_load.specs.Planned.{IsLoadable, handover_by};
 ghost use Rattle.bl_load.specs.Room.{frames_in, AreAscending};
 ghost use Rattle.bl_load.specs.Room as room;
 ghost use Rattle.bl_load.specs.Value.{value_of, file_count, HasFewModules};
-ghost use Rattle.bootcore.specs.Attempt.{multiboot2_value, IsAttempt, IsLoaded};
+ghost use Rattle.bootcore.specs.Attempt.{entry_value, IsAttempt, IsLoaded};
+ghost use Rattle.bootcore.specs.Described.{entry_view};
 ghost use Rattle.bootcore.specs.Files.{bytes};
 
 use crate::attempting::attempt::{Attempt, Loaded};
+use crate::describing::{EntryRow, Protocol};
 use bl_load::{Entry, Plan, PrepFault, Refusal, frames_in, frames_of, load, open_frames, prepare};
 use bl_map::Machine;
 use bl_mem::{ByteView, Bytes, Flat, PhysMem, SliceView};
 use std::alloc::{AllocError, Allocator};
 use std::ops::Range;
 
-/// The entry of this line, whose kernel is the first file.
-fn entry_of<A: Allocator + Copy>(alloc: A, line: &[u8]) -> Result<Entry<A>, AllocError>
+/// The entry of a row, whose kernel is the first file.
+fn entry_of<A: Allocator + Copy>(alloc: A, row: &EntryRow<A>) -> Result<Entry<A>, AllocError>
     ensures value { IfOk result (λ entry. (kernel : List ℕ) →
-        value_of (kernel ∷ []) entry ≡ multiboot2_value line.now kernel) }
+        value_of (kernel ∷ []) entry ≡ entry_value (entry_view row.now) kernel) }
     ensures files { IfOk result (λ entry. file_count entry ≡ 1) }
     ensures modules { IfOk result HasFewModules }
 {
-    Ok(Entry::Multiboot2 {
-        kernel: 0,
-        line: Bytes::from(Vec::from_slice(alloc, line)?),
-        modules: Vec::new(alloc),
-    })
+    let line = Bytes::from(Vec::from_slice(alloc, row.line.as_str().as_bytes())?);
+    match row.protocol {
+        Protocol::Multiboot2 => Ok(Entry::Multiboot2 {
+            kernel: 0,
+            line,
+            modules: Vec::new(alloc),
+        }),
+    }
 }
 
 /// Whether as many frames of the machine's pool as these lie beside the ranges, which ascend.
@@ -61,22 +66,21 @@ fn load_plan<A: Allocator + Copy, V: ByteView>(
     Ok(Loaded { handoff, memory })
 }
 
-/// Attempts to boot an entry of this line with the bytes of its kernel, in memory each byte of which is
-/// `fill` before.
+/// Attempts to boot an entry with the bytes of its kernel, in memory each byte of which is `fill` before.
 pub fn attempt_kernel<A: Allocator + Copy>(
     alloc: A,
     machine: &Machine<A>,
     fill: u8,
-    line: &[u8],
+    row: &EntryRow<A>,
     kernel: &[u8],
 ) -> Result<Attempt<A>, AllocError>
-    ensures { IfOk result (IsAttempt fill machine.now line.now (bytes kernel.now)) }
+    ensures { IfOk result (IsAttempt fill machine.now (entry_view row.now) (bytes kernel.now)) }
 {
     let frames = frames_of(kernel.len() as u64);
     if frames_in(&machine.pool()) < frames {
         return Ok(Attempt::Refused(Refusal::NoPool));
     }
-    let entry = entry_of(alloc, line)?;
+    let entry = entry_of(alloc, row)?;
     let files = [SliceView::new(kernel)];
     let plan = match prepare(alloc, machine, &entry, &files) {
         Ok(plan) => plan,
