@@ -1,5 +1,5 @@
 -- Of two attempts of equal values on equal machines.
-use Rattle.std.proofs.Common.{◌≡◌, ◌++◌, ◌∙◌, ℕ, List, Some, inl, inr, refl, sym, ap, subst}
+use Rattle.std.proofs.Common.{◌≡◌, ◌++◌, ◌∙◌, ℕ, List, inl, inr, refl, sym, ap, subst}
 use Rattle.std.specs.declared.ops.Range.{Range}
 use Rattle.bl_map.specs.Facts.{Facts}
 use Rattle.bl_map.specs.Kinds.{kind_at}
