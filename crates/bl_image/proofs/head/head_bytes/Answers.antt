@@ -1,5 +1,6 @@
 use Rattle.std.proofs.Common.{◌<◌, ◌^◌, ◌++◌, ℕ, List, [], ◌∷◌, All, drop}
 use Rattle.std.proofs.lemmas.List.Elements.{All-drop, All-take}
+use Rattle.bl_image.specs.declared.head.TheConstants.{VERSION}
 use Rattle.bl_image.specs.Image.{register_numbers}
 use Rattle.bl_image.proofs.head.head_bytes.Goals as goal
 
@@ -7,6 +8,6 @@ use Rattle.bl_image.proofs.head.head_bytes.Goals as goal
 pub returns-clause-fit : goal.returns-clause-fit
 returns-clause-fit c =
     let fits : ℕ → Type 0 = λ n. n < 2 ^ 32 in
-    let words : List ℕ = 1 ∷ c.number.result ∷ (register_numbers c.args.r.now ++ c.args.count ∷ 0 ∷ []) in
+    let words : List ℕ = VERSION ∷ c.number.result ∷ (register_numbers c.args.r.now ++ c.args.count ∷ 0 ∷ []) in
     let all : All fits words = c.put_words.ensures.fit in
     All-take fits 20 (drop 2 words) (All-drop fits 2 words all)
