@@ -96,11 +96,8 @@ fn put_front<A: Allocator>(buffer: &mut [u8], handoff: &Handoff<A>) -> usize
 {
     let count = handoff.len();
     let registers = handoff.registers();
-    put(
-        buffer,
-        0,
-        &head_bytes(handoff.protocol(), &registers, count as u32),
-    );
+    let bytes = head_bytes(handoff.protocol(), &registers, count as u32);
+    put(buffer, 0, &bytes);
     for i in 0..count {
         let place = handoff.place(i);
         put(buffer, 104 + 24 * i, &record_bytes(&place));

@@ -12,8 +12,8 @@ use Rattle.bl_image.proofs.head.put_front.Goals as goal
 pub loop-i-init : goal.loop-i-init
 loop-i-init g c =
     let h = c.args.handoff.now in
-    let wide : 104 ≡ 0 + length c.head_bytes.result = omega arith in
-    let bytes : c.head_bytes.result ≡ head h.protocol h.registers (length h.places) = rw (c.protocol.ensures, c.registers-registers.ensures, c.len-count.ensures.len) at c.head_bytes.ensures.bytes in
+    let wide : 104 ≡ 0 + length c.head_bytes-bytes.result = omega arith in
+    let bytes : c.head_bytes-bytes.result ≡ head h.protocol h.registers (length h.places) = rw (c.protocol.ensures, c.registers-registers.ensures, c.len-count.ensures.len) at c.head_bytes-bytes.ensures.bytes in
     record {
       front = ap (λ (n : ℕ). take n c.put.new.buffer) wide ∙ c.put.ensures ∙ bytes ∙ sym (append-nil (head h.protocol h.registers (length h.places)));
       indices = All-nil (λ (place : Place). place.index < 2 ^ 32);
@@ -39,7 +39,7 @@ pub returns-clause-fit : goal.returns-clause-fit
 returns-clause-fit g c =
     let h = c.args.handoff.now in
     let all : c.loop-i.i ≡ length h.places = omega (arith, c.len-count.ensures.len) in
-    let registers : All (λ n. n < 2 ^ 32) (register_numbers h.registers) = subst (λ (r : Registers). All (λ n. n < 2 ^ 32) (register_numbers r)) c.registers-registers.ensures c.head_bytes.ensures.fit in
+    let registers : All (λ n. n < 2 ^ 32) (register_numbers h.registers) = subst (λ (r : Registers). All (λ n. n < 2 ^ 32) (register_numbers r)) c.registers-registers.ensures c.head_bytes-bytes.ensures.fit in
     let indices : All (λ (p : Place). p.index < 2 ^ 32) h.places = subst (All (λ (p : Place). p.index < 2 ^ 32)) (ap (λ (n : ℕ). take n h.places) all ∙ take-length h.places) c.loop-i.invariant.indices in
     records_fit h.registers h.places registers indices c.len-count.ensures.records
 
