@@ -55,7 +55,7 @@ pub fn info_size<A: Allocator>(facts: &Facts<A>) -> u64
     ensures small { result < 2 ^ 32 }
 {
     let line = tag_len(facts.line.len() as u64 + 1);
-    let name = tag_len(9);
+    let name = tag_len(b"bootcore".len() as u64 + 1);
     let modules = modules_len(&facts.modules);
     let runs = 16 + ENTRY_SIZE as u64 * facts.runs.len() as u64;
     let copies = copy_len(&facts.rsdp_old) + copy_len(&facts.rsdp_new);
