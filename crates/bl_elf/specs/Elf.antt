@@ -21,8 +21,8 @@ entry_among e_entry segments (Some header) = Some (e_entry - header.p_vaddr + he
 entry_among e_entry segments None = if list_any (holds e_entry) segments then Some e_entry else None
 
 -- the first loadable program header counts
-unfoldable pub entry_of : List ℕ → Option ℕ
-entry_of bytes =
+unfoldable pub physical_entry : List ℕ → Option ℕ
+physical_entry bytes =
     let e_entry = (header_of bytes).e_entry in
     let headers = program_headers bytes in
     entry_among e_entry (segments_of headers) (find (is_entered e_entry) headers)
@@ -41,7 +41,7 @@ pub record IsElf (bytes : List ℕ) (facts : ElfFacts) : Type 0 where
   pub sound : (i : ℕ) → IsIndex bytes i → fault_at bytes i ≡ None
   pub apart : (i : ℕ) → IsIndex bytes i → SharesNone bytes i
   pub segments : facts.segments ≡ segments_of (program_headers bytes)
-  pub entry : facts.entry ≡ entry_of bytes
+  pub entry : facts.entry ≡ physical_entry bytes
 
 -- the header is sound, and program header i is the first with a fault, which is this one
 pub record IsFirstFaulty (bytes : List ℕ) (i : ℕ) (fault : ElfFault) : Type 0 where

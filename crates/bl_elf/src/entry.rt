@@ -4,7 +4,7 @@ ghost use Rattle.std.specs.List.{list_any};
 ghost use Rattle.bl_elf.specs.Header.{IsHeaderOf};
 ghost use Rattle.bl_elf.specs.Program.{program_headers, segments_of, fault_at, is_entered};
 ghost use Rattle.bl_elf.specs.Program as spec;
-ghost use Rattle.bl_elf.specs.Elf.{IsIndex, entry_of};
+ghost use Rattle.bl_elf.specs.Elf.{IsIndex, physical_entry};
 
 use crate::header::Header;
 use crate::program::{ProgramHeader, program_header};
@@ -12,12 +12,12 @@ use crate::sums::is_before_end;
 use bl_mem::{ByteView, Segment};
 
 /// The physical address at which a sound file is entered, if some segment holds its entry.
-#[tactic(auto, unfolding(crate::specs::Elf::entry_of))]
+#[tactic(auto, unfolding(crate::specs::Elf::physical_entry))]
 pub fn find_entry<V: ByteView>(view: &V, header: Header, segments: &[Segment]) -> Option<u64>
     requires header { IsHeaderOf (V.bytes view.now) header }
     requires sound { (i : ℕ) → IsIndex (V.bytes view.now) i → fault_at (V.bytes view.now) i ≡ None }
     requires segments { segments.now ≡ segments_of (program_headers (V.bytes view.now)) }
-    ensures { result ≡ entry_of (V.bytes view.now) }
+    ensures { result ≡ physical_entry (V.bytes view.now) }
 {
     if let Some(program) = first_entered(view, header) {
         return Some(header.e_entry - program.p_vaddr + program.p_paddr);

@@ -12,8 +12,6 @@ mod overlap;
 mod program;
 mod segments;
 mod sums;
-#[cfg(test)]
-mod tests;
 
 pub use elf::{Elf, read_elf};
 pub use fault::ElfFault;

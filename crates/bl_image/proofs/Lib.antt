@@ -3,4 +3,3 @@ pub mod Spelled
 pub mod NumberLemmas
 pub mod ReadAgain
 mod FitLemmas
-mod TestLemmas

@@ -5,10 +5,10 @@ use Rattle.std.specs.List.{flat_map}
 use Rattle.bl_plan.specs.declared.role.Role.{Role}
 use Rattle.bl_plan.specs.declared.role.Role.TheVariants.{Kernel, Module, Information, BootParams, CommandLine, Gdt, Initrd}
 use Rattle.bl_plan.specs.Roles as roles
-use Rattle.bl_load.specs.declared.protocol.Protocol.{Protocol}
-use Rattle.bl_load.specs.declared.protocol.Protocol.TheVariants.{Multiboot2, Linux}
+use Rattle.bl_plan.specs.declared.protocol.Protocol.{Protocol}
+use Rattle.bl_plan.specs.declared.protocol.Protocol.TheVariants.{Multiboot2, Linux}
 use Rattle.bl_load.specs.declared.registers.Registers.{Registers}
-use Rattle.bl_load.specs.Protocols as protocols
+use Rattle.bl_plan.specs.Protocols as protocols
 use Rattle.bl_load.specs.Handover.{Part, Handover}
 use Rattle.bl_image.specs.Image.{u32_bytes, u64_bytes, magic, register_numbers, part_record, spelling}
 use Rattle.bl_image.specs.Spellable.{FitsRecord, IsSpellable}
@@ -18,7 +18,7 @@ use Rattle.bl_image.proofs.NumberLemmas.{front_same, back_same, length-u32_bytes
 role_of : ℕ → Role
 role_of n = get_or (Kernel ∷ Kernel ∷ Module ∷ Information ∷ BootParams ∷ CommandLine ∷ Gdt ∷ Initrd ∷ []) n Kernel
 
-role_again : (r : Role) → r ≡ role_of (roles.number_of r)
+role_again : (r : Role) → r ≡ role_of (roles.role_number r)
 unfolding role_of
 role_again Kernel = refl
 role_again Module = refl
@@ -28,18 +28,18 @@ role_again CommandLine = refl
 role_again Gdt = refl
 role_again Initrd = refl
 
-role_same : (r s : Role) → roles.number_of r ≡ roles.number_of s → r ≡ s
+role_same : (r s : Role) → roles.role_number r ≡ roles.role_number s → r ≡ s
 role_same r s e = role_again r ∙ ap role_of e ∙ sym (role_again s)
 
 protocol_of : ℕ → Protocol
 protocol_of n = get_or (Multiboot2 ∷ Multiboot2 ∷ Linux ∷ []) n Multiboot2
 
-protocol_again : (p : Protocol) → p ≡ protocol_of (protocols.number_of p)
+protocol_again : (p : Protocol) → p ≡ protocol_of (protocols.protocol_number p)
 unfolding protocol_of
 protocol_again Multiboot2 = refl
 protocol_again Linux = refl
 
-protocol_same : (p q : Protocol) → protocols.number_of p ≡ protocols.number_of q → p ≡ q
+protocol_same : (p q : Protocol) → protocols.protocol_number p ≡ protocols.protocol_number q → p ≡ q
 protocol_same p q e = protocol_again p ∙ ap protocol_of e ∙ sym (protocol_again q)
 
 registers_of : List ℕ → Registers
@@ -83,7 +83,7 @@ record IsAlike (p q : Part) : Type 0 where
 pair_fits : (top m n : ℕ) → m < top → n < top → All (λ k. k < top) (m ∷ n ∷ [])
 pair_fits top m n hm hn = All-cons (λ k. k < top) m (n ∷ []) hm (All-cons (λ k. k < top) n [] hn (All-nil (λ k. k < top)))
 
-role_fits : (r : Role) → roles.number_of r < 2 ^ 32
+role_fits : (r : Role) → roles.role_number r < 2 ^ 32
 role_fits Kernel = lit< tt
 role_fits Module = lit< tt
 role_fits Information = lit< tt
@@ -94,8 +94,8 @@ role_fits Initrd = lit< tt
 
 record_same : (p q : Part) → FitsRecord p → FitsRecord q → part_record p ≡ part_record q → IsAlike p q
 record_same p q hp hq e =
-    let ps : List ℕ = roles.number_of p.role ∷ p.index ∷ [] in
-    let qs : List ℕ = roles.number_of q.role ∷ q.index ∷ [] in
+    let ps : List ℕ = roles.role_number p.role ∷ p.index ∷ [] in
+    let qs : List ℕ = roles.role_number q.role ∷ q.index ∷ [] in
     let wide : length (u32_bytes ps) ≡ length (u32_bytes qs) = length-u32_bytes ps ∙ sym (length-u32_bytes qs) in
     let front : ps ≡ qs = u32_same ps qs (pair_fits (2 ^ 32) _ _ (role_fits p.role) hp.index) (pair_fits (2 ^ 32) _ _ (role_fits q.role) hq.index) refl (front_same _ _ _ _ wide e) in
     let back : (p.address ∷ length p.bytes ∷ []) ≡ (q.address ∷ length q.bytes ∷ []) =
@@ -109,9 +109,9 @@ record_same p q hp hq e =
 
 length-part_record : (p : Part) → length (part_record p) ≡ 24
 length-part_record p =
-    let front = length-u32_bytes (roles.number_of p.role ∷ p.index ∷ []) in
+    let front = length-u32_bytes (roles.role_number p.role ∷ p.index ∷ []) in
     let back = length-u64_bytes (p.address ∷ length p.bytes ∷ []) in
-    length-append (u32_bytes (roles.number_of p.role ∷ p.index ∷ [])) (u64_bytes (p.address ∷ length p.bytes ∷ [])) ∙ omega (arith, front, back)
+    length-append (u32_bytes (roles.role_number p.role ∷ p.index ∷ [])) (u64_bytes (p.address ∷ length p.bytes ∷ [])) ∙ omega (arith, front, back)
 
 part_same : (p q : Part) → IsAlike p q → p.bytes ≡ q.bytes → p ≡ q
 part_same p q a e =
@@ -153,9 +153,9 @@ parts_same (p ∷ ps) (q ∷ qs) alike e =
 
 -- the numbers of the head
 abbrev words : Handover → List ℕ
-words h = 1 ∷ protocols.number_of h.protocol ∷ (register_numbers h.registers ++ length h.parts ∷ 0 ∷ [])
+words h = 1 ∷ protocols.protocol_number h.protocol ∷ (register_numbers h.registers ++ length h.parts ∷ 0 ∷ [])
 
-protocol_fits : (p : Protocol) → protocols.number_of p < 2 ^ 32
+protocol_fits : (p : Protocol) → protocols.protocol_number p < 2 ^ 32
 protocol_fits Multiboot2 = lit< tt
 protocol_fits Linux = lit< tt
 
@@ -165,8 +165,8 @@ words_fit h s =
     let last : List ℕ = length h.parts ∷ 0 ∷ [] in
     let rest : List ℕ = register_numbers h.registers ++ last in
     let end : All fits last = pair_fits (2 ^ 32) (length h.parts) 0 s.count (lit< tt) in
-    All-cons fits 1 (protocols.number_of h.protocol ∷ rest) (lit< tt)
-    (All-cons fits (protocols.number_of h.protocol) rest (protocol_fits h.protocol)
+    All-cons fits 1 (protocols.protocol_number h.protocol ∷ rest) (lit< tt)
+    (All-cons fits (protocols.protocol_number h.protocol) rest (protocol_fits h.protocol)
     (All-append fits (register_numbers h.registers) last s.registers end))
 
 words_same : (h k : Handover) → IsSpellable h → IsSpellable k → (x y : List ℕ) → (magic ++ u32_bytes (words h)) ++ x ≡ (magic ++ u32_bytes (words k)) ++ y

@@ -9,7 +9,7 @@ pub record MemSinkFacts : Type 0 where
   pub step : ℕ
 
 -- what contracts see of an `IoSink`: what its writer told that it held at the start, then what the writer said it took; its faults so far
-pub record Told : Type 0 where
+pub record IoSinkFacts : Type 0 where
   pub contents : List ℕ
   pub faults : ℕ
 

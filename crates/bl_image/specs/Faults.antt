@@ -3,5 +3,5 @@ use Rattle.std.specs.Prelude.{ℕ}
 use Rattle.bl_image.specs.declared.fault.ImageFault.{ImageFault}
 use Rattle.bl_image.specs.declared.fault.ImageFault.TheVariants.{DeviceFault}
 
-abbrev pub number_of : ImageFault → ℕ
-number_of DeviceFault = 76
+abbrev pub image_fault_number : ImageFault → ℕ
+image_fault_number DeviceFault = 76

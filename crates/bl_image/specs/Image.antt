@@ -5,9 +5,9 @@ use Rattle.byteorder.specs.Endian.{little_bytes}
 use Rattle.bl_plan.specs.declared.place.Place.{Place}
 use Rattle.bl_plan.specs.declared.role.Role.{Role}
 use Rattle.bl_plan.specs.Roles as roles
-use Rattle.bl_load.specs.declared.protocol.Protocol.{Protocol}
+use Rattle.bl_plan.specs.declared.protocol.Protocol.{Protocol}
 use Rattle.bl_load.specs.declared.registers.Registers.{Registers}
-use Rattle.bl_load.specs.Protocols as protocols
+use Rattle.bl_plan.specs.Protocols as protocols
 use Rattle.bl_load.specs.Handover.{Part, Handover}
 
 -- numbers of 32 and of 64 bits, one behind the other
@@ -30,12 +30,12 @@ register_numbers r =
 -- the magic; version, protocol; the registers; the number of parts, a zero word
 abbrev pub head : Protocol → Registers → ℕ → List ℕ
 head protocol registers count =
-    magic ++ u32_bytes (1 ∷ protocols.number_of protocol ∷ (register_numbers registers ++ count ∷ 0 ∷ []))
+    magic ++ u32_bytes (1 ∷ protocols.protocol_number protocol ∷ (register_numbers registers ++ count ∷ 0 ∷ []))
 
 -- a record: role, index; address, length
 abbrev pub record_of : Role → ℕ → ℕ → ℕ → List ℕ
 record_of role index address count =
-    u32_bytes (roles.number_of role ∷ index ∷ []) ++ u64_bytes (address ∷ count ∷ [])
+    u32_bytes (roles.role_number role ∷ index ∷ []) ++ u64_bytes (address ∷ count ∷ [])
 
 abbrev pub part_record : Part → List ℕ
 part_record part = record_of part.role part.index part.address (length part.bytes)

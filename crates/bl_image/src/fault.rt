@@ -1,7 +1,7 @@
 //! Why an image is not written.
 ghost use Rattle.std.specs.Prelude.{◌≡◌};
 ghost use Rattle.bl_image.specs.declared.fault.ImageFault.TheVariants as faults;
-ghost use Rattle.bl_image.specs.Faults.{number_of};
+ghost use Rattle.bl_image.specs.Faults.{image_fault_number};
 
 use crate::sink::DeviceFault;
 use thiserror::Error;
@@ -16,7 +16,7 @@ pub enum ImageFault {
 impl ImageFault {
     /// The fault's number.
     pub fn number(self) -> u32
-        ensures { result ≡ number_of self }
+        ensures { result ≡ image_fault_number self }
     {
         match self {
             ImageFault::DeviceFault => 76,

@@ -18,9 +18,9 @@ pub struct IoSink<W: Write + Drop> {
 
 impl<W: Write + Drop> Model for IoSink<W> {
     ghost use Rattle.std.specs.Prelude.{◌≡◌, Some};
-    ghost use Rattle.bl_image.specs.Begun.{Told, AlwaysTells};
+    ghost use Rattle.bl_image.specs.Begun.{IoSinkFacts, AlwaysTells};
 
-    ghost Value = { Told };
+    ghost Value = { IoSinkFacts };
 
     ghost view = { λ s. record { contents = s.history.bytes; faults = s.faults } };
 

@@ -9,8 +9,6 @@ mod laws;
 mod mem_sink;
 mod parts;
 mod sink;
-#[cfg(test)]
-mod tests;
 mod write;
 
 pub use fault::ImageFault;

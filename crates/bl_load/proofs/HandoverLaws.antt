@@ -2,7 +2,7 @@
 use Rattle.std.proofs.Common.{◌≡◌, ℕ, List, [], Option, Some, None, sym, ap, subst, ◌∙◌, ◌⊎◌, inl, inr}
 use Rattle.std.proofs.lemmas.Option.{same_Some}
 use Rattle.bl_mem.specs.declared.segment.Segment.{Segment}
-use Rattle.bl_map.specs.Facts.{Facts}
+use Rattle.bl_map.specs.MachineFacts.{MachineFacts}
 use Rattle.bl_elf.specs.Elf.{ElfFacts}
 use Rattle.bl_elf.specs.declared.fault.ElfFault.{ElfFault}
 use Rattle.bl_elf.specs.declared.fault.ElfFault.TheVariants as elf_fault
@@ -15,7 +15,7 @@ use Rattle.bl_plan.specs.Placed.{ArePlaced}
 use Rattle.bl_plan.proofs.PlaceLaws as places
 use Rattle.bl_load.specs.declared.refusal.Refusal.{Refusal}
 use Rattle.bl_load.specs.Value.{EntryValue, kernel_file, form_fault, line_fault}
-use Rattle.bl_load.specs.Kernel.{KernelFacts, IsLoadedBy, IsKernel, HasLoadFault, HasKernelFault, entry_fault, entry_of, head_refusal, elf_refusal}
+use Rattle.bl_load.specs.Kernel.{KernelFacts, IsLoadedBy, IsKernel, HasLoadFault, HasKernelFault, entry_fault, counted_entry, head_refusal, elf_refusal}
 use Rattle.bl_load.specs.Rows.{rows_of}
 use Rattle.bl_load.specs.Handover.{Handover}
 use Rattle.bl_load.specs.Parts.{IsHandover, IsRefusal, HasPlaceFault, handover_of, placing_refusal}
@@ -50,8 +50,8 @@ pub one_kernel : (file : List ℕ) (a b : KernelFacts) → IsKernel file a → I
 one_kernel file a b is_a is_b =
     let header : is_b.header ≡ is_a.header = same_header file is_a.header is_b.header is_a.is_header is_b.is_header in
     let facts : is_b.facts ≡ is_a.facts = same_loaded file is_a.header is_b.header is_a.facts is_b.facts is_a.is_header is_b.is_header is_a.loaded is_b.loaded in
-    let entry : entry_of is_a.header is_a.facts ≡ Some b.entry =
-    sym (ap (λ (h : Header). entry_of h is_a.facts) header) ∙ sym (ap (λ (f : ElfFacts). entry_of is_b.header f) facts) ∙ is_b.entry in
+    let entry : counted_entry is_a.header is_a.facts ≡ Some b.entry =
+    sym (ap (λ (h : Header). counted_entry h is_a.facts) header) ∙ sym (ap (λ (f : ElfFacts). counted_entry is_b.header f) facts) ∙ is_b.entry in
     same_kernel a b
     (is_a.segments ∙ sym (ap (λ (f : ElfFacts). f.segments) facts) ∙ sym is_b.segments)
     (same_Some a.entry b.entry (sym is_a.entry ∙ entry))
@@ -78,10 +78,10 @@ sound_no_fault file h k facts r is_h is_k is has =
     loaded_no_fault file h.segment facts r is (subst (λ (x : Header). HasLoadFault file x.segment r) (same_header file h k is_h is_k) has)
 
 same_entry_fault : (file : List ℕ) (h k : Header) (f g : ElfFacts) → IsHeader file h → IsHeader file k → IsLoadedBy file h.segment f → IsLoadedBy file k.segment g
-    → entry_fault f.segments (entry_of h f) ≡ entry_fault g.segments (entry_of k g)
+    → entry_fault f.segments (counted_entry h f) ≡ entry_fault g.segments (counted_entry k g)
 same_entry_fault file h k f g is_h is_k a b =
-    ap (λ (x : Header). entry_fault f.segments (entry_of x f)) (sym (same_header file h k is_h is_k))
-    ∙ ap (λ (x : ElfFacts). entry_fault x.segments (entry_of k x)) (sym (same_loaded file h k f g is_h is_k a b))
+    ap (λ (x : Header). entry_fault f.segments (counted_entry x f)) (sym (same_header file h k is_h is_k))
+    ∙ ap (λ (x : ElfFacts). entry_fault x.segments (counted_entry k x)) (sym (same_loaded file h k f g is_h is_k a b))
 
 -- or it has one first fault
 pub one_kernel_fault : (file : List ℕ) (r s : Refusal) → HasKernelFault file r → HasKernelFault file s → r ≡ s
@@ -107,7 +107,7 @@ kernel_not_fault file kernel r is (inr (inr (h, f, is_h, f_is, a))) =
 -- ---- an entry
 
 -- equal facts and equal values hand over the same
-pub one_handover : (facts : Facts) (value : EntryValue) (h k : Handover) → IsHandover facts value h → IsHandover facts value k → h ≡ k
+pub one_handover : (facts : MachineFacts) (value : EntryValue) (h k : Handover) → IsHandover facts value h → IsHandover facts value k → h ≡ k
 one_handover facts value h k a b =
     let file = kernel_file value in
     let kernel : b.kernel ≡ a.kernel = one_kernel file b.kernel a.kernel b.is_kernel a.is_kernel in
@@ -116,7 +116,7 @@ one_handover facts value h k a b =
     a.is ∙ ap (handover_of facts value.line file a.kernel) same ∙ ap (λ (x : KernelFacts). handover_of facts value.line file x b.places) (sym kernel) ∙ sym b.is
 
 -- the rows of a kernel are refused for one fault
-one_place_fault : (facts : Facts) (line : List ℕ) (kernel : KernelFacts) (r s : Refusal) → HasPlaceFault facts line kernel r → HasPlaceFault facts line kernel s → r ≡ s
+one_place_fault : (facts : MachineFacts) (line : List ℕ) (kernel : KernelFacts) (r s : Refusal) → HasPlaceFault facts line kernel r → HasPlaceFault facts line kernel s → r ≡ s
 one_place_fault facts line kernel r s (f, a, f_is) (g, b, g_is) =
     same_Some r s (sym f_is ∙ ap placing_refusal (places.one_fault facts [] (rows_of facts line kernel) f g a b) ∙ g_is)
 
@@ -131,10 +131,10 @@ one_then first rest r s one (inr a) (inl b) = let bad : Some s ≡ None = sym b 
 one_then first rest r s one (inr a) (inr b) = one a.1 b.1
 
 -- the kernel is refused, or one of its rows
-abbrev IsLateRefusal : Facts → List ℕ → List ℕ → Refusal → Type 0
+abbrev IsLateRefusal : MachineFacts → List ℕ → List ℕ → Refusal → Type 0
 IsLateRefusal facts line file r = HasKernelFault file r ⊎ ((kernel : KernelFacts) × IsKernel file kernel × HasPlaceFault facts line kernel r)
 
-one_late : (facts : Facts) (line file : List ℕ) (r s : Refusal) → IsLateRefusal facts line file r → IsLateRefusal facts line file s → r ≡ s
+one_late : (facts : MachineFacts) (line file : List ℕ) (r s : Refusal) → IsLateRefusal facts line file r → IsLateRefusal facts line file s → r ≡ s
 one_late facts line file r s (inl a) (inl b) = one_kernel_fault file r s a b
 one_late facts line file r s (inl a) (inr (k, is, b)) = absurd (kernel_not_fault file k r is a)
 one_late facts line file r s (inr (k, is, a)) (inl b) = absurd (kernel_not_fault file k s is b)
@@ -142,17 +142,17 @@ one_late facts line file r s (inr (k, is_k, a)) (inr (l, is_l, b)) =
     one_place_fault facts line k r s a (subst (λ (x : KernelFacts). HasPlaceFault facts line x s) (one_kernel file l k is_l is_k) b)
 
 -- a refusal, check after check
-abbrev IsInTurn : Facts → EntryValue → Refusal → Type 0
+abbrev IsInTurn : MachineFacts → EntryValue → Refusal → Type 0
 IsInTurn facts value r = Then (form_fault value.protocol value.module_lines) (Then (line_fault value.line) (IsLateRefusal facts value.line (kernel_file value))) r
 
-in_turn : (facts : Facts) (value : EntryValue) (r : Refusal) → IsRefusal facts value r → IsInTurn facts value r
+in_turn : (facts : MachineFacts) (value : EntryValue) (r : Refusal) → IsRefusal facts value r → IsInTurn facts value r
 in_turn facts value r (inl form) = inl form
 in_turn facts value r (inr (inl (form, line))) = inr (form, inl line)
 in_turn facts value r (inr (inr (inl (form, line, kernel)))) = inr (form, inr (line, inl kernel))
 in_turn facts value r (inr (inr (inr (form, line, place)))) = inr (form, inr (line, inr place))
 
 -- or have one first refusal
-pub one_refusal : (facts : Facts) (value : EntryValue) (r s : Refusal) → IsRefusal facts value r → IsRefusal facts value s → r ≡ s
+pub one_refusal : (facts : MachineFacts) (value : EntryValue) (r s : Refusal) → IsRefusal facts value r → IsRefusal facts value s → r ≡ s
 one_refusal facts value r s a b =
     let file = kernel_file value in
     one_then (form_fault value.protocol value.module_lines) (Then (line_fault value.line) (IsLateRefusal facts value.line file)) r s
@@ -160,7 +160,7 @@ one_refusal facts value r s a b =
     (in_turn facts value r a) (in_turn facts value s b)
 
 -- and never both
-pub not_both : (facts : Facts) (value : EntryValue) (h : Handover) (r : Refusal) → IsHandover facts value h → IsRefusal facts value r → ⊥
+pub not_both : (facts : MachineFacts) (value : EntryValue) (h : Handover) (r : Refusal) → IsHandover facts value h → IsRefusal facts value r → ⊥
 not_both facts value h r is (inl form) = let bad : None ≡ Some r = sym is.form ∙ form in absurd cc
 not_both facts value h r is (inr (inl (form, line))) = let bad : None ≡ Some r = sym is.line ∙ line in absurd cc
 not_both facts value h r is (inr (inr (inl (form, line, kernel)))) = kernel_not_fault (kernel_file value) is.kernel r is.is_kernel kernel

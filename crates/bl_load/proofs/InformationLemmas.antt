@@ -1,9 +1,9 @@
 -- How long the information is.
 use Rattle.std.proofs.Common.{◌≡◌, ◌≤◌, ◌<◌, ◌^◌, ℕ, List, [], length, Bool, true, false, Option, Some, None, arith, refl, ap}
 use Rattle.std.specs.Prelude.{codes, is_some, option_map}
-use Rattle.bl_map.specs.Facts.{Facts}
+use Rattle.bl_map.specs.MachineFacts.{MachineFacts}
 use Rattle.bl_mb2head.specs.declared.relocation.Relocation.{Relocation}
-use Rattle.bl_mbi.specs.Info.{info_size}
+use Rattle.bl_mbi.specs.InformationFacts.{info_size}
 use Rattle.bl_mbi.specs.Size.{size_of, load_base_size}
 use Rattle.bl_mbi.specs.Spelling.{spelling}
 use Rattle.bl_mbi.proofs.Sizes.{length-spelling}
@@ -22,11 +22,11 @@ same_given (Some r) base other = refl
 same_given None base other = refl
 
 -- its size does not depend on where the kernel stands
-pub same_size : (facts : Facts) (line : List ℕ) (relocation : Option Relocation) (base other : ℕ) → info_size (information_of facts line relocation base) ≡ info_size (information_of facts line relocation other)
+pub same_size : (facts : MachineFacts) (line : List ℕ) (relocation : Option Relocation) (base other : ℕ) → info_size (information_of facts line relocation base) ≡ info_size (information_of facts line relocation other)
 same_size facts line relocation base other = ap (λ (b : Bool). size_of (length line) [] (length facts.runs) None None b) (same_given relocation base other)
 
 -- it is no longer than its place
-pub information_short : (facts : Facts) (line : List ℕ) (relocation : Option Relocation) (base count : ℕ) → count ≡ whole_frames (info_size (information_of facts line relocation 0))
+pub information_short : (facts : MachineFacts) (line : List ℕ) (relocation : Option Relocation) (base count : ℕ) → count ≡ whole_frames (info_size (information_of facts line relocation 0))
     → length (spelling (codes "bootcore") (information_of facts line relocation base)) ≤ count
 information_short facts line relocation base count is =
     let e = length-spelling (information_of facts line relocation base) in

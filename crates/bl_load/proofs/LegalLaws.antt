@@ -7,7 +7,7 @@ use Rattle.std.proofs.lemmas.List.Edits.{length-remove, get_or-remove_below, get
 use Rattle.std.proofs.lemmas.List.Elements.{All-map}
 use Rattle.std.specs.declared.ops.Range.{Range}
 use Rattle.bl_mem.specs.Memory.{IsIn}
-use Rattle.bl_map.specs.Facts.{Facts}
+use Rattle.bl_map.specs.MachineFacts.{MachineFacts}
 use Rattle.bl_plan.specs.Permitted.{AllOpen, IsPermitted, IsPreferred}
 use Rattle.bl_plan.specs.Placed.{ArePlaced, IsChosen, IsApart, range_of}
 use Rattle.bl_plan.specs.Planned.{put_in}
@@ -46,7 +46,7 @@ preferred_holds at P a (inl here) = subst P (sym here.1) here.0
 preferred_holds at P a (inr least) = least.1.holds
 
 -- a chosen address is allowed beside all that its range does not meet
-chosen_allowed : (facts : Facts) (taken ranges : List (Range ℕ)) (count : ℕ) (choice : Choice) (a : ℕ) → IsChosen facts taken count choice a → AllOpen ranges a (a + count) → IsAllowed facts ranges count choice a
+chosen_allowed : (facts : MachineFacts) (taken ranges : List (Range ℕ)) (count : ℕ) (choice : Choice) (a : ℕ) → IsChosen facts taken count choice a → AllOpen ranges a (a + count) → IsAllowed facts ranges count choice a
 chosen_allowed facts taken ranges count (Fixed at) a chosen free = let e = chosen.0 in (e, (λ b low high. chosen.1 b (omega arith) (omega arith)), free)
 chosen_allowed facts taken ranges count (Lowest align low high) a chosen free =
     record { aligned = chosen.holds.aligned; above = chosen.holds.above; below = chosen.holds.below; usable = chosen.holds.usable; apart = free }
@@ -57,7 +57,7 @@ chosen_allowed facts taken ranges count (Preferred at align low high) a chosen f
     record { aligned = p.aligned; above = p.above; below = p.below; usable = p.usable; apart = free }
 
 -- the address of each row's place was chosen for it, and the place has the row's length
-chosen_at : (facts : Facts) (taken : List (Range ℕ)) (rows : List Row) (places : List Place) → ArePlaced facts taken rows places → (i : ℕ) (row : Row) (place : Place) → i < length places
+chosen_at : (facts : MachineFacts) (taken : List (Range ℕ)) (rows : List Row) (places : List Place) → ArePlaced facts taken rows places → (i : ℕ) (row : Row) (place : Place) → i < length places
     → (before : List (Range ℕ)) × IsChosen facts before (get_or rows i row).length (get_or rows i row).choice (get_or places i place).address × ((get_or places i place).length ≡ (get_or rows i row).length)
 chosen_at facts taken [] [] placed i row place within = absurd (omega arith)
 chosen_at facts taken [] (p ∷ places) placed i row place within = absurd placed
@@ -66,7 +66,7 @@ chosen_at facts taken (r ∷ rows) (p ∷ places) placed zero row place within =
 chosen_at facts taken (r ∷ rows) (p ∷ places) placed (suc i) row place within = chosen_at facts (put_in (range_of p) taken) rows places placed.2 i row place (omega arith)
 
 -- the places of rows are allowed
-placed_allowed : (facts : Facts) (rows : List Row) (places : List Place) → ArePlaced facts [] rows places → AreAllowed facts rows places
+placed_allowed : (facts : MachineFacts) (rows : List Row) (places : List Place) → ArePlaced facts [] rows places → AreAllowed facts rows places
 placed_allowed facts rows places placed i row place within =
     let chosen = chosen_at facts [] rows places placed i row place within in
     let free = others_open places i place within (all_apart facts [] rows places placed) in
@@ -74,7 +74,7 @@ placed_allowed facts rows places placed i row place within =
     (subst (λ (n : ℕ). AllOpen (others places i) (get_or places i place).address ((get_or places i place).address + n)) chosen.2 free)
 
 -- so what is handed over is legal
-pub handover_legal : (facts : Facts) (value : EntryValue) (h : Handover) → IsHandover facts value h → IsLegal facts value h
+pub handover_legal : (facts : MachineFacts) (value : EntryValue) (h : Handover) → IsHandover facts value h → IsLegal facts value h
 handover_legal facts value h is =
     let rows = rows_of facts value.line is.kernel in
     record {

@@ -6,11 +6,10 @@ pub mod ContentLemmas
 pub mod InformationLemmas
 pub mod WrittenLemmas
 pub mod HeldLemmas
-pub mod TestLemmas
 pub mod LineLemmas
 pub mod RowLemmas
 pub mod PlacingLemmas
 pub mod PrepareLemmas
 pub mod HandoverLaws
 pub mod LegalLaws
-pub mod RoomLemmas
+pub mod RangeLemmas

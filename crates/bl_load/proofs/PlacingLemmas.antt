@@ -2,7 +2,7 @@
 use Rattle.std.proofs.Common.{◌≡◌, ◌≢◌, ◌≤◌, ◌-◌, ◌+◌, ℕ, zero, suc, List, [], ◌∷◌, length, get_or, Some, All, arith, refl, subst}
 use Rattle.std.proofs.lemmas.Option.{same_Some}
 use Rattle.std.proofs.lemmas.List.Elements.{All-head, All-tail}
-use Rattle.bl_map.specs.Facts.{Facts}
+use Rattle.bl_map.specs.MachineFacts.{MachineFacts}
 use Rattle.bl_plan.specs.declared.fault.PlanFault.{PlanFault}
 use Rattle.bl_plan.specs.declared.fault.PlanFault.TheVariants as plan_fault
 use Rattle.bl_plan.specs.Placed.{IsPlacingFault}
@@ -37,12 +37,12 @@ small_last (p ∷ []) n h = let first = All-head (EndsUpTo n) p [] h in omega ar
 small_last (p ∷ q ∷ places) n h = small_last (q ∷ places) n (All-tail (EndsUpTo n) p (q ∷ places) h)
 
 -- a fault of placing refuses the entry
-pub refused_place : (facts : Facts) (line : List ℕ) (kernel : KernelFacts) (fault : PlanFault) (result : PrepFault) → IsPlacingFault facts (rows_of facts line kernel) fault → fault_of fault ≡ Some result → IsPlaceFault facts line kernel result
+pub refused_place : (facts : MachineFacts) (line : List ℕ) (kernel : KernelFacts) (fault : PlanFault) (result : PrepFault) → IsPlacingFault facts (rows_of facts line kernel) fault → fault_of fault ≡ Some result → IsPlaceFault facts line kernel result
 refused_place facts line kernel plan_fault.NotUsable result h e = subst (IsPlaceFault facts line kernel) (same_Some _ _ e) (plan_fault.NotUsable, h, refl)
 refused_place facts line kernel plan_fault.Overlap result h e = absurd cc
 refused_place facts line kernel plan_fault.NoRoom result h e = subst (IsPlaceFault facts line kernel) (same_Some _ _ e) (plan_fault.NoRoom, h, refl)
 refused_place facts line kernel plan_fault.NoMemory result h e = subst (IsPlaceFault facts line kernel) (same_Some _ _ e) tt
 
 -- and it is no overlap
-pub not_overlap : (file : List ℕ) (facts : Facts) (line : List ℕ) (kernel : KernelFacts) (fault : PlanFault) → AreLoadable file kernel.segments → IsPlacingFault facts (rows_of facts line kernel) fault → fault ≢ plan_fault.Overlap
+pub not_overlap : (file : List ℕ) (facts : MachineFacts) (line : List ℕ) (kernel : KernelFacts) (fault : PlanFault) → AreLoadable file kernel.segments → IsPlacingFault facts (rows_of facts line kernel) fault → fault ≢ plan_fault.Overlap
 not_overlap file facts line kernel fault loadable h = λ e. no_overlap file facts line kernel loadable (subst (IsPlacingFault facts (rows_of facts line kernel)) e h)

@@ -1,7 +1,7 @@
 -- What is prepared of an entry by its line and its kernel.
 use Rattle.std.proofs.Common.{◌≡◌, ◌≤◌, ℕ, List, [], length, get_or, map, None, arith, refl, sym, ap, ap₂, subst, ◌∙◌, inl, inr}
 use Rattle.std.proofs.lemmas.List.{get_or-map}
-use Rattle.bl_map.specs.Facts.{Facts}
+use Rattle.bl_map.specs.MachineFacts.{MachineFacts}
 use Rattle.bl_plan.specs.Placed.{ArePlaced}
 use Rattle.bl_load.specs.declared.entry.Entry.{Entry}
 use Rattle.bl_load.specs.declared.entry.Entry.TheVariants.{Multiboot2, Linux}
@@ -12,7 +12,7 @@ use Rattle.bl_load.specs.Value.{EntryValue, value_of, kernel_file, form_fault, l
 use Rattle.bl_load.specs.Kernel.{KernelFacts, IsKernel, IsKernelFault}
 use Rattle.bl_load.specs.Rows.{rows_of}
 use Rattle.bl_load.specs.Parts.{IsHandover, IsPrepFault, IsPlaceFault, HasPlaceFault, IsPlacedHandover, handover_of}
-use Rattle.bl_load.specs.Planned.{text_at}
+use Rattle.bl_load.specs.Planned.{file_text}
 
 -- an entry has its kernel's file
 pub some_file : {A : Type 0} (entry : Entry A) → 1 ≤ file_count entry
@@ -20,11 +20,11 @@ some_file (Multiboot2 kernel line modules) = omega arith
 some_file (Linux kernel line initrd) = omega arith
 
 -- the kernel's file is the first
-pub kernel_is : {A : Type 0} (texts : List (List ℕ)) (entry : Entry A) → kernel_file (value_of texts entry) ≡ text_at texts 0
+pub kernel_is : {A : Type 0} (texts : List (List ℕ)) (entry : Entry A) → kernel_file (value_of texts entry) ≡ file_text texts 0
 kernel_is texts (Multiboot2 kernel line modules) = refl
 kernel_is texts (Linux kernel line initrd) = refl
 
-pub first_text : {V : Type 0} (bytes : V → List ℕ) (files : List V) (file : V) → 1 ≤ length files → file ≡ get_or files 0 file → bytes file ≡ text_at (map bytes files) 0
+pub first_text : {V : Type 0} (bytes : V → List ℕ) (files : List V) (file : V) → 1 ≤ length files → file ≡ get_or files 0 file → bytes file ≡ file_text (map bytes files) 0
 first_text bytes files file some is = ap bytes is ∙ sym (get_or-map bytes files 0 file [] (omega arith))
 
 -- a value of a form that has come, with a sound line
@@ -34,7 +34,7 @@ pub record IsSound (value : EntryValue) (line file : List ℕ) : Type 0 where
   pub file_is : kernel_file value ≡ file
   pub no_fault : line_fault line ≡ None
 
-module _ (facts : Facts) (value : EntryValue) (line file : List ℕ) (sound : IsSound value line file) where
+module _ (facts : MachineFacts) (value : EntryValue) (line file : List ℕ) (sound : IsSound value line file) where
   line_sound : line_fault value.line ≡ None
   line_sound = ap line_fault sound.line_is ∙ sound.no_fault
 

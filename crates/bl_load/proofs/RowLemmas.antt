@@ -9,10 +9,10 @@ use Rattle.std.proofs.lemmas.Bool.Decides.{nat_tests}
 use Rattle.std.specs.declared.ops.Range.{Range}
 use Rattle.bl_mem.specs.declared.segment.Segment.{Segment}
 use Rattle.bl_mem.specs.Memory.{IsIn}
-use Rattle.bl_map.specs.Facts.{Facts}
+use Rattle.bl_map.specs.MachineFacts.{MachineFacts}
 use Rattle.bl_elf.specs.Elf.{AreApart}
 use Rattle.bl_mb2head.specs.declared.relocation.Relocation.{Relocation}
-use Rattle.bl_mbi.specs.Info.{Info, info_size}
+use Rattle.bl_mbi.specs.InformationFacts.{InformationFacts, info_size}
 use Rattle.bl_plan.specs.Permitted.{AllOpen}
 use Rattle.bl_plan.specs.Planned.{put_in}
 use Rattle.bl_plan.specs.Placed.{ArePlaced, IsFirstFault, HasFault, IsChoice, IsRow, IsApart, place_at, range_of}
@@ -23,7 +23,7 @@ use Rattle.bl_plan.specs.declared.place.Place.{Place}
 use Rattle.bl_plan.specs.declared.role.Role.TheVariants.{Kernel}
 use Rattle.bl_plan.proofs.PutLemmas.{All-put_in}
 use Rattle.bl_plan.proofs.PlaceLaws.{as_many, all_usable, all_apart}
-use Rattle.bl_load.specs.Kernel.{KernelFacts, IsKernel, AreLoadable, holds_at, entry_fault, entry_of}
+use Rattle.bl_load.specs.Kernel.{KernelFacts, IsKernel, AreLoadable, holds_at, entry_fault, counted_entry}
 use Rattle.bl_load.specs.Blocks.{holds, low_of, high_of, span_of}
 use Rattle.bl_load.specs.Rows.{whole_frames, segment_rows, align_of, block_choice, kernel_rows, information_of, information_row, rows_of}
 use Rattle.bl_load.specs.Parts.{no_segment, base_of, entry_at}
@@ -64,7 +64,7 @@ block_choice_is r linked =
 pub some_frames : (n : ℕ) → 1 ≤ n → n ≤ whole_frames n
 some_frames n some = omega arith
 
-some_info : (info : Info) → 1 ≤ info_size info
+some_info : (info : InformationFacts) → 1 ≤ info_size info
 some_info info = omega arith
 
 kernel_rows_are : (segments : List Segment) (relocation : Option Relocation) → 1 ≤ length segments → All (λ s. 1 ≤ s.memsz) segments → All IsRow (kernel_rows segments relocation)
@@ -74,14 +74,14 @@ kernel_rows_are segments (Some r) some filled =
     All-cons IsRow (record { role = Kernel; index = 0; length = span_of segments; choice = block_choice r (low_of segments) }) []
     (record { filled = omega arith; choice = block_choice_is r (low_of segments) }) (All-nil IsRow)
 
-information_row_is : (facts : Facts) (line : List ℕ) (relocation : Option Relocation) → IsRow (information_row facts line relocation)
+information_row_is : (facts : MachineFacts) (line : List ℕ) (relocation : Option Relocation) → IsRow (information_row facts line relocation)
 information_row_is facts line relocation =
     let size = some_info (information_of facts line relocation 0) in
     let frames = some_frames (info_size (information_of facts line relocation 0)) size in
     record { filled = omega arith; choice = omega arith }
 
 -- the rows of a kernel that can be loaded are rows of some bytes
-pub rows_are_rows : (file : List ℕ) (facts : Facts) (line : List ℕ) (kernel : KernelFacts) → AreLoadable file kernel.segments → All IsRow (rows_of facts line kernel)
+pub rows_are_rows : (file : List ℕ) (facts : MachineFacts) (line : List ℕ) (kernel : KernelFacts) → AreLoadable file kernel.segments → All IsRow (rows_of facts line kernel)
 rows_are_rows file facts line kernel loadable =
     All-append IsRow (kernel_rows kernel.segments kernel.relocation) (information_row facts line kernel.relocation ∷ [])
     (kernel_rows_are kernel.segments kernel.relocation loadable.some loadable.filled)
@@ -99,7 +99,7 @@ stays_free taken s t row size apart free = λ a low high.
     All-put_in (λ r. ¬ IsIn r a) (range_of (place_at row s.address)) taken (λ here. apart a (omega (arith, here.0), omega (arith, here.1)) (low, high)) (free a low high)
 
 -- segments that are apart and free have no overlap before what is placed behind them
-segments_no_overlap : (facts : Facts) (taken : List (Range ℕ)) (k : ℕ) (segments : List Segment) (rest : List Row) → All (IsFreeSegment taken) segments → AreRelated AreApart segments
+segments_no_overlap : (facts : MachineFacts) (taken : List (Range ℕ)) (k : ℕ) (segments : List Segment) (rest : List Row) → All (IsFreeSegment taken) segments → AreRelated AreApart segments
     → ((more : List (Range ℕ)) → IsFirstFault facts more rest Overlap → ⊥) → IsFirstFault facts taken (segment_rows k segments ++ rest) Overlap → ⊥
 segments_no_overlap facts taken k [] rest free apart none h = none taken h
 segments_no_overlap facts taken k (s ∷ segments) rest free apart none (inl here) = here.1 (All-head (IsFreeSegment taken) s segments free)
@@ -110,16 +110,16 @@ segments_no_overlap facts taken k (s ∷ segments) rest free apart none (inr lat
     apart.1 none
     (subst (λ (a : ℕ). IsFirstFault facts (put_in (range_of (place_at row a)) taken) (segment_rows (suc k) segments ++ rest) Overlap) later.1.0 later.2)
 
-information_no_overlap : (facts : Facts) (line : List ℕ) (relocation : Option Relocation) (taken : List (Range ℕ)) → IsFirstFault facts taken (information_row facts line relocation ∷ []) Overlap → ⊥
+information_no_overlap : (facts : MachineFacts) (line : List ℕ) (relocation : Option Relocation) (taken : List (Range ℕ)) → IsFirstFault facts taken (information_row facts line relocation ∷ []) Overlap → ⊥
 information_no_overlap facts line relocation taken (inl here) = here
 information_no_overlap facts line relocation taken (inr later) = later.2
 
-block_no_overlap : (facts : Facts) (taken : List (Range ℕ)) (count : ℕ) (r : Relocation) (linked : ℕ) → HasFault facts taken count (block_choice r linked) Overlap → ⊥
+block_no_overlap : (facts : MachineFacts) (taken : List (Range ℕ)) (count : ℕ) (r : Relocation) (linked : ℕ) → HasFault facts taken count (block_choice r linked) Overlap → ⊥
 block_no_overlap facts taken count r linked =
     cond_both (nat_eq r.preference 1) (Lowest (align_of r) r.min_addr r.max_addr) _ (λ choice. HasFault facts taken count choice Overlap → ⊥) (λ _ h. h)
     (λ _. cond_both (nat_eq r.preference 2) (Highest (align_of r) r.min_addr r.max_addr) (Preferred linked (align_of r) r.min_addr r.max_addr) (λ choice. HasFault facts taken count choice Overlap → ⊥) (λ _ h. h) (λ _ h. h))
 
-rows_no_overlap : (facts : Facts) (line : List ℕ) (segments : List Segment) (relocation : Option Relocation) → AllPairs AreApart segments
+rows_no_overlap : (facts : MachineFacts) (line : List ℕ) (segments : List Segment) (relocation : Option Relocation) → AllPairs AreApart segments
     → IsFirstFault facts [] (kernel_rows segments relocation ++ information_row facts line relocation ∷ []) Overlap → ⊥
 rows_no_overlap facts line segments None apart h =
     segments_no_overlap facts [] 0 segments (information_row facts line None ∷ []) (λ k d within a low high. All-nil (λ r. ¬ IsIn r a)) (pairs_related AreApart segments apart)
@@ -128,7 +128,7 @@ rows_no_overlap facts line segments (Some r) apart (inl here) = block_no_overlap
 rows_no_overlap facts line segments (Some r) apart (inr later) = information_no_overlap facts line (Some r) _ later.2
 
 -- so the first fault of a kernel that can be loaded is no overlap
-pub no_overlap : (file : List ℕ) (facts : Facts) (line : List ℕ) (kernel : KernelFacts) → AreLoadable file kernel.segments → IsFirstFault facts [] (rows_of facts line kernel) Overlap → ⊥
+pub no_overlap : (file : List ℕ) (facts : MachineFacts) (line : List ℕ) (kernel : KernelFacts) → AreLoadable file kernel.segments → IsFirstFault facts [] (rows_of facts line kernel) Overlap → ⊥
 no_overlap file facts line kernel loadable h = rows_no_overlap facts line kernel.segments kernel.relocation loadable.apart h
 
 -- ---- each place has what its row has
@@ -137,7 +137,7 @@ no_overlap file facts line kernel loadable h = rows_no_overlap facts line kernel
 abbrev Anywhere : (Place → Type 0) → Row → Type 0
 Anywhere P row = (a : ℕ) → P (place_at row a)
 
-each_place : (facts : Facts) (P : Place → Type 0) (taken : List (Range ℕ)) (rows : List Row) (places : List Place) → All (Anywhere P) rows → ArePlaced facts taken rows places → All P places
+each_place : (facts : MachineFacts) (P : Place → Type 0) (taken : List (Range ℕ)) (rows : List Row) (places : List Place) → All (Anywhere P) rows → ArePlaced facts taken rows places → All P places
 each_place facts P taken [] [] each placed = All-nil P
 each_place facts P taken [] (p ∷ places) each placed = absurd placed
 each_place facts P taken (row ∷ rows) [] each placed = absurd placed
@@ -149,7 +149,7 @@ each_place facts P taken (row ∷ rows) (p ∷ places) each placed =
 abbrev AreFrom : List Segment → ℕ → List Segment → Type 0
 AreFrom all k segments = (i : ℕ) (d : Segment) → i < length segments → (k + i < length all) × (get_or all (k + i) no_segment ≡ get_or segments i d)
 
-segment_rows_rowed : (facts : Facts) (line : List ℕ) (kernel : KernelFacts) (k : ℕ) (segments : List Segment) → kernel.relocation ≡ None → AreFrom kernel.segments k segments
+segment_rows_rowed : (facts : MachineFacts) (line : List ℕ) (kernel : KernelFacts) (k : ℕ) (segments : List Segment) → kernel.relocation ≡ None → AreFrom kernel.segments k segments
     → All (Anywhere (IsRowed facts line kernel)) (segment_rows k segments)
 segment_rows_rowed facts line kernel k [] fixed from = All-nil (Anywhere (IsRowed facts line kernel))
 segment_rows_rowed facts line kernel k (s ∷ segments) fixed from =
@@ -165,7 +165,7 @@ segment_rows_rowed facts line kernel k (s ∷ segments) fixed from =
     let on : k + suc i ≡ suc k + i = omega arith in
     (omega (arith, next.0), ap (λ (n : ℕ). get_or kernel.segments n no_segment) (sym on) ∙ next.1)))
 
-kernel_rows_rowed : (facts : Facts) (line : List ℕ) (kernel : KernelFacts) (relocation : Option Relocation) → kernel.relocation ≡ relocation → All (Anywhere (IsRowed facts line kernel)) (kernel_rows kernel.segments relocation)
+kernel_rows_rowed : (facts : MachineFacts) (line : List ℕ) (kernel : KernelFacts) (relocation : Option Relocation) → kernel.relocation ≡ relocation → All (Anywhere (IsRowed facts line kernel)) (kernel_rows kernel.segments relocation)
 kernel_rows_rowed facts line kernel None is =
     segment_rows_rowed facts line kernel 0 kernel.segments is
     (λ i d within. let same : 0 + i ≡ i = omega arith in (omega arith, ap (λ (n : ℕ). get_or kernel.segments n no_segment) same ∙ get_or_default kernel.segments i no_segment d within))
@@ -173,14 +173,14 @@ kernel_rows_rowed facts line kernel (Some r) is =
     All-cons (Anywhere (IsRowed facts line kernel)) (record { role = Kernel; index = 0; length = span_of kernel.segments; choice = block_choice r (low_of kernel.segments) }) []
     (λ a. subst (λ (o : Option Relocation). HasKernelLength kernel.segments o 0 (span_of kernel.segments)) (sym is) refl) (All-nil (Anywhere (IsRowed facts line kernel)))
 
-rows_rowed : (facts : Facts) (line : List ℕ) (kernel : KernelFacts) → All (Anywhere (IsRowed facts line kernel)) (rows_of facts line kernel)
+rows_rowed : (facts : MachineFacts) (line : List ℕ) (kernel : KernelFacts) → All (Anywhere (IsRowed facts line kernel)) (rows_of facts line kernel)
 rows_rowed facts line kernel =
     All-append (Anywhere (IsRowed facts line kernel)) (kernel_rows kernel.segments kernel.relocation) (information_row facts line kernel.relocation ∷ [])
     (kernel_rows_rowed facts line kernel kernel.relocation refl)
     (All-cons (Anywhere (IsRowed facts line kernel)) (information_row facts line kernel.relocation) [] (λ a. refl) (All-nil (Anywhere (IsRowed facts line kernel))))
 
 -- each place has the length that its role and its index ask for
-pub each_rowed : (facts : Facts) (line : List ℕ) (kernel : KernelFacts) (taken : List (Range ℕ)) (places : List Place) → ArePlaced facts taken (rows_of facts line kernel) places → All (IsRowed facts line kernel) places
+pub each_rowed : (facts : MachineFacts) (line : List ℕ) (kernel : KernelFacts) (taken : List (Range ℕ)) (places : List Place) → ArePlaced facts taken (rows_of facts line kernel) places → All (IsRowed facts line kernel) places
 each_rowed facts line kernel taken places placed = each_place facts (IsRowed facts line kernel) taken (rows_of facts line kernel) places (rows_rowed facts line kernel) placed
 
 -- ---- how many they are
@@ -194,18 +194,18 @@ few_kernel_rows segments None some few = let e = length-segment_rows 0 segments 
 few_kernel_rows segments (Some r) some few = (omega arith, omega arith)
 
 -- there are at least two rows, and at most 129
-pub few_rows : (file : List ℕ) (facts : Facts) (line : List ℕ) (kernel : KernelFacts) → AreLoadable file kernel.segments → (2 ≤ length (rows_of facts line kernel)) × (length (rows_of facts line kernel) ≤ 129)
+pub few_rows : (file : List ℕ) (facts : MachineFacts) (line : List ℕ) (kernel : KernelFacts) → AreLoadable file kernel.segments → (2 ≤ length (rows_of facts line kernel)) × (length (rows_of facts line kernel) ≤ 129)
 few_rows file facts line kernel loadable =
     let e = few_kernel_rows kernel.segments kernel.relocation loadable.some loadable.few in
     let sum = length-append (kernel_rows kernel.segments kernel.relocation) (information_row facts line kernel.relocation ∷ []) in
     (omega (arith, e.0, e.1, sum), omega (arith, e.0, e.1, sum))
 
 -- there are as many places as rows
-pub count : (facts : Facts) (line : List ℕ) (kernel : KernelFacts) (taken : List (Range ℕ)) (places : List Place) → ArePlaced facts taken (rows_of facts line kernel) places → length places ≡ length (rows_of facts line kernel)
+pub count : (facts : MachineFacts) (line : List ℕ) (kernel : KernelFacts) (taken : List (Range ℕ)) (places : List Place) → ArePlaced facts taken (rows_of facts line kernel) places → length places ≡ length (rows_of facts line kernel)
 count facts line kernel taken places placed = as_many facts taken (rows_of facts line kernel) places placed
 
 -- so there are at least two, and at most 129
-pub few_places : (file : List ℕ) (facts : Facts) (line : List ℕ) (kernel : KernelFacts) (taken : List (Range ℕ)) (places : List Place) → AreLoadable file kernel.segments → ArePlaced facts taken (rows_of facts line kernel) places
+pub few_places : (file : List ℕ) (facts : MachineFacts) (line : List ℕ) (kernel : KernelFacts) (taken : List (Range ℕ)) (places : List Place) → AreLoadable file kernel.segments → ArePlaced facts taken (rows_of facts line kernel) places
     → (2 ≤ length places) × (length places ≤ 129)
 few_places file facts line kernel taken places loadable placed =
     let e = few_rows file facts line kernel loadable in
@@ -221,11 +221,11 @@ filled_anywhere : (row : Row) → IsRow row → Anywhere IsFilled row
 filled_anywhere row is a = is.filled
 
 -- each place has some bytes
-pub are_filled : (facts : Facts) (taken : List (Range ℕ)) (rows : List Row) (places : List Place) → ArePlaced facts taken rows places → All IsRow rows → All IsFilled places
+pub are_filled : (facts : MachineFacts) (taken : List (Range ℕ)) (rows : List Row) (places : List Place) → ArePlaced facts taken rows places → All IsRow rows → All IsFilled places
 are_filled facts taken rows places placed are = each_place facts IsFilled taken rows places (λ i d within. filled_anywhere (get_or rows i d) (are i d within)) placed
 
 -- each lies inside memory
-pub are_inside : (facts : Facts) (taken : List (Range ℕ)) (rows : List Row) (places : List Place) → ArePlaced facts taken rows places → All IsRow rows → All (λ p. p.address + p.length ≤ facts.size) places
+pub are_inside : (facts : MachineFacts) (taken : List (Range ℕ)) (rows : List Row) (places : List Place) → ArePlaced facts taken rows places → All IsRow rows → All (λ p. p.address + p.length ≤ facts.size) places
 are_inside facts taken rows places placed are i d within =
     let p = get_or places i d in
     let some = are_filled facts taken rows places placed are i d within in
@@ -233,7 +233,7 @@ are_inside facts taken rows places placed are i d within =
     omega arith
 
 -- and below the last frame of 4 GiB
-pub are_below : (facts : Facts) (taken : List (Range ℕ)) (rows : List Row) (places : List Place) → ArePlaced facts taken rows places → All IsRow rows → All (λ p. p.address + p.length ≤ 0xFFFFF000) places
+pub are_below : (facts : MachineFacts) (taken : List (Range ℕ)) (rows : List Row) (places : List Place) → ArePlaced facts taken rows places → All IsRow rows → All (λ p. p.address + p.length ≤ 0xFFFFF000) places
 are_below facts taken rows places placed are i d within =
     let p = get_or places i d in
     let some = are_filled facts taken rows places placed are i d within in
@@ -258,7 +258,7 @@ in_order_ascends places filled apart i j d ij within =
     ]
 
 -- the places of a kernel that can be loaded are those of records
-pub records : (file : List ℕ) (facts : Facts) (line : List ℕ) (kernel : KernelFacts) (places : List Place) → AreLoadable file kernel.segments → ArePlaced facts [] (rows_of facts line kernel) places → AreRecords (in_order places)
+pub records : (file : List ℕ) (facts : MachineFacts) (line : List ℕ) (kernel : KernelFacts) (places : List Place) → AreLoadable file kernel.segments → ArePlaced facts [] (rows_of facts line kernel) places → AreRecords (in_order places)
 records file facts line kernel places loadable placed =
     let are = rows_are_rows file facts line kernel loadable in
     let rows = rows_of facts line kernel in
@@ -273,17 +273,17 @@ records file facts line kernel places loadable placed =
     }
 
 -- in order each place has the length that its role and its index ask for
-pub in_order_rowed : (facts : Facts) (line : List ℕ) (kernel : KernelFacts) (places : List Place) → ArePlaced facts [] (rows_of facts line kernel) places → All (IsRowed facts line kernel) (in_order places)
+pub in_order_rowed : (facts : MachineFacts) (line : List ℕ) (kernel : KernelFacts) (places : List Place) → ArePlaced facts [] (rows_of facts line kernel) places → All (IsRowed facts line kernel) (in_order places)
 in_order_rowed facts line kernel places placed = in_order_all place_key (IsRowed facts line kernel) places (each_rowed facts line kernel [] places placed)
 
 -- each lies inside memory
-pub in_order_inside : (file : List ℕ) (facts : Facts) (line : List ℕ) (kernel : KernelFacts) (places : List Place) → AreLoadable file kernel.segments → ArePlaced facts [] (rows_of facts line kernel) places
+pub in_order_inside : (file : List ℕ) (facts : MachineFacts) (line : List ℕ) (kernel : KernelFacts) (places : List Place) → AreLoadable file kernel.segments → ArePlaced facts [] (rows_of facts line kernel) places
     → All (λ p. p.address + p.length ≤ facts.size) (in_order places)
 in_order_inside file facts line kernel places loadable placed =
     in_order_all place_key (λ (p : Place). p.address + p.length ≤ facts.size) places (are_inside facts [] (rows_of facts line kernel) places placed (rows_are_rows file facts line kernel loadable))
 
 -- and is no longer than memory
-pub in_order_short : (file : List ℕ) (facts : Facts) (line : List ℕ) (kernel : KernelFacts) (places : List Place) → AreLoadable file kernel.segments → ArePlaced facts [] (rows_of facts line kernel) places
+pub in_order_short : (file : List ℕ) (facts : MachineFacts) (line : List ℕ) (kernel : KernelFacts) (places : List Place) → AreLoadable file kernel.segments → ArePlaced facts [] (rows_of facts line kernel) places
     → All (λ p. p.length ≤ 2 ^ 32) (in_order places)
 in_order_short file facts line kernel places loadable placed i d within =
     let below = (records file facts line kernel places loadable placed).below i d within in omega arith
@@ -307,11 +307,11 @@ held_between (s ∷ segments) a low high above below held =
 pub entry_within : (file : List ℕ) (kernel : KernelFacts) → IsKernel file kernel → (low_of kernel.segments ≤ kernel.entry) × (kernel.entry < high_of kernel.segments)
 entry_within file kernel is =
     let sound : entry_fault kernel.segments (Some kernel.entry) ≡ None =
-    subst (λ (e : Option ℕ). entry_fault kernel.segments e ≡ None) is.entry (subst (λ (ss : List Segment). entry_fault ss (entry_of is.header is.facts) ≡ None) (sym is.segments) is.sound) in
+    subst (λ (e : Option ℕ). entry_fault kernel.segments e ≡ None) is.entry (subst (λ (ss : List Segment). entry_fault ss (counted_entry is.header is.facts) ≡ None) (sym is.segments) is.sound) in
     held_between kernel.segments kernel.entry (low_of kernel.segments) (high_of kernel.segments) (low_below kernel.segments) (high_above_all kernel.segments) (entry_held kernel.segments kernel.entry sound)
 
 -- segments at their own addresses end no higher than their places
-segments_below : (facts : Facts) (taken : List (Range ℕ)) (k n : ℕ) (segments : List Segment) (rest : List Row) (places : List Place) → ArePlaced facts taken (segment_rows k segments ++ rest) places → All (λ p. p.address + p.length ≤ n) places
+segments_below : (facts : MachineFacts) (taken : List (Range ℕ)) (k n : ℕ) (segments : List Segment) (rest : List Row) (places : List Place) → ArePlaced facts taken (segment_rows k segments ++ rest) places → All (λ p. p.address + p.length ≤ n) places
     → All (λ s. s.address + s.memsz ≤ n) segments
 segments_below facts taken k n [] rest places placed below = All-nil (λ (s : Segment). s.address + s.memsz ≤ n)
 segments_below facts taken k n (s ∷ segments) rest [] placed below = absurd placed
@@ -327,7 +327,7 @@ base_below : (n : ℕ) (places : List Place) → All (λ p. p.address + p.length
 base_below n [] below = omega arith
 base_below n (p ∷ places) below = let here = All-head (λ (q : Place). q.address + q.length ≤ n) p places below in omega arith
 
-entry_small_by : (facts : Facts) (file line : List ℕ) (segments : List Segment) (relocation : Option Relocation) (entry : ℕ) (places : List Place) → AreLoadable file segments → low_of segments ≤ entry → entry < high_of segments
+entry_small_by : (facts : MachineFacts) (file line : List ℕ) (segments : List Segment) (relocation : Option Relocation) (entry : ℕ) (places : List Place) → AreLoadable file segments → low_of segments ≤ entry → entry < high_of segments
     → ArePlaced facts [] (kernel_rows segments relocation ++ information_row facts line relocation ∷ []) places → All (λ p. p.address + p.length ≤ 0xFFFFF000) places
     → (entry + base_of places < 2 ^ 64) × (entry_at entry segments relocation (base_of places) < 2 ^ 32)
 entry_small_by facts file line segments None entry places loadable above under placed below =
@@ -343,7 +343,7 @@ entry_small_by facts file line segments (Some r) entry (p ∷ places) loadable a
     (omega arith, omega arith)
 
 -- the entry lies in the block, and its sums stay small
-pub entry_small : (file : List ℕ) (facts : Facts) (line : List ℕ) (kernel : KernelFacts) (places : List Place) → IsKernel file kernel → AreLoadable file kernel.segments → ArePlaced facts [] (rows_of facts line kernel) places
+pub entry_small : (file : List ℕ) (facts : MachineFacts) (line : List ℕ) (kernel : KernelFacts) (places : List Place) → IsKernel file kernel → AreLoadable file kernel.segments → ArePlaced facts [] (rows_of facts line kernel) places
     → All (λ p. p.address + p.length ≤ 0xFFFFF000) places
     → (low_of kernel.segments ≤ kernel.entry) × (kernel.entry + base_of places < 2 ^ 64) × (entry_at kernel.entry kernel.segments kernel.relocation (base_of places) < 2 ^ 32)
 entry_small file facts line kernel places is loadable placed below =

@@ -41,16 +41,16 @@ entry_fault segments None = Some refusal.NoEntry
 entry_fault segments (Some entry) = if list_any (holds_at entry) segments then None else Some refusal.EntryOutside
 
 -- the entry address tag (Multiboot2 3.1.6) counts where it stands, and else the file's own entry
-abbrev pub entry_of : Header → ElfFacts → Option ℕ
-entry_of header facts = option_or header.entry facts.entry
+abbrev pub counted_entry : Header → ElfFacts → Option ℕ
+counted_entry header facts = option_or header.entry facts.entry
 
 pub record IsKernel (file : List ℕ) (kernel : KernelFacts) : Type 0 where
   pub header : Header
   pub facts : ElfFacts
   pub is_header : IsHeader file header
   pub loaded : IsLoadedBy file header.segment facts
-  pub sound : entry_fault facts.segments (entry_of header facts) ≡ None
-  pub entry : entry_of header facts ≡ Some kernel.entry
+  pub sound : entry_fault facts.segments (counted_entry header facts) ≡ None
+  pub entry : counted_entry header facts ≡ Some kernel.entry
   pub segments : kernel.segments ≡ facts.segments
   pub relocation : kernel.relocation ≡ header.relocation
 
@@ -83,7 +83,7 @@ abbrev pub HasKernelFault : List ℕ → Refusal → Type 0
 HasKernelFault file refused =
     ((fault : HeadFault) × header.HasFirstFault file fault × (refused ≡ head_refusal fault))
     ⊎ ((head : Header) × IsHeader file head × HasLoadFault file head.segment refused)
-    ⊎ ((head : Header) × (facts : ElfFacts) × IsHeader file head × IsLoadedBy file head.segment facts × (entry_fault facts.segments (entry_of head facts) ≡ Some refused))
+    ⊎ ((head : Header) × (facts : ElfFacts) × IsHeader file head × IsLoadedBy file head.segment facts × (entry_fault facts.segments (counted_entry head facts) ≡ Some refused))
 
 -- a fault of reading as one of preparing: it stands, or memory ran out
 abbrev pub IsElfFault : ElfFault → PrepFault → Type 0

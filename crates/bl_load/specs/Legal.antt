@@ -2,7 +2,7 @@
 use Rattle.std.specs.Prelude.{◌≡◌, ◌+◌, ◌<◌, ℕ, List, length, map, slice_index_or, None}
 use Rattle.std.specs.List.{AllZip, remove}
 use Rattle.std.specs.declared.ops.Range.{Range}
-use Rattle.bl_map.specs.Facts.{Facts, AllUsable}
+use Rattle.bl_map.specs.MachineFacts.{MachineFacts, AllUsable}
 use Rattle.bl_plan.specs.Permitted.{AllOpen, IsPermitted}
 use Rattle.bl_plan.specs.Placed.{IsPlaceOf, range_of}
 use Rattle.bl_plan.specs.declared.choice.Choice.{Choice}
@@ -17,7 +17,7 @@ use Rattle.bl_load.specs.Parts.{handover_of}
 
 -- an address that a row's choice allows for so many bytes beside these ranges: the fixed one, or any within its limits;
 -- that it is the lowest, the highest or the preferred one is not asked
-abbrev pub IsAllowed : Facts → List (Range ℕ) → ℕ → Choice → ℕ → Type 0
+abbrev pub IsAllowed : MachineFacts → List (Range ℕ) → ℕ → Choice → ℕ → Type 0
 IsAllowed facts ranges length (Fixed at) a = (a ≡ at) × AllUsable facts a (a + length) × AllOpen ranges a (a + length)
 IsAllowed facts ranges length (Lowest align low high) a = IsPermitted facts ranges length align low high a
 IsAllowed facts ranges length (Highest align low high) a = IsPermitted facts ranges length align low high a
@@ -28,13 +28,13 @@ abbrev pub others : List Place → ℕ → List (Range ℕ)
 others places i = map range_of (remove places i)
 
 -- each place is allowed for its row beside all others
-abbrev pub AreAllowed : Facts → List Row → List Place → Type 0
+abbrev pub AreAllowed : MachineFacts → List Row → List Place → Type 0
 AreAllowed facts rows places = (i : ℕ) (row : Row) (place : Place) → i < length places →
     IsAllowed facts (others places i) (slice_index_or rows i row).length (slice_index_or rows i row).choice (slice_index_or places i place).address
 
 -- the entry's file is a kernel; there is one place for each of its rows and no other, each allowed beside all others;
 -- and what is handed over are the parts at these places, with the registers for them
-pub record IsLegal (facts : Facts) (value : EntryValue) (handover : Handover) : Type 0 where
+pub record IsLegal (facts : MachineFacts) (value : EntryValue) (handover : Handover) : Type 0 where
   pub kernel : KernelFacts
   pub places : List Place
   pub form : form_fault value.protocol value.module_lines ≡ None

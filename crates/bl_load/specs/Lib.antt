@@ -2,10 +2,9 @@ pub mod Place
 pub mod Handover
 pub mod Blocks
 pub mod Planned
-pub mod Handed
+pub mod HandoffFacts
 pub mod Value
 pub mod Numbers
-pub mod Protocols
 pub mod Kernel
 pub mod KernelRead
 pub mod Rows
@@ -13,5 +12,4 @@ pub mod Order
 pub mod Registers
 pub mod Parts
 pub mod Rowed
-pub mod Room
 pub mod Legal

@@ -2,7 +2,7 @@
 use Rattle.std.specs.Prelude.{◌≡◌, ℕ, ◌+◌, ◌-◌, List, [], ◌∷◌, map, slice_index_or, ◌⊎◌, Option, Some, None, option_map, codes}
 use Rattle.bl_mem.specs.Contents.{file_part}
 use Rattle.bl_mem.specs.declared.segment.Segment.{Segment}
-use Rattle.bl_map.specs.Facts.{Facts}
+use Rattle.bl_map.specs.MachineFacts.{MachineFacts}
 use Rattle.bl_mb2head.specs.declared.relocation.Relocation.{Relocation}
 use Rattle.bl_mbi.specs.Spelling.{spelling}
 use Rattle.bl_plan.specs.Placed.{ArePlaced, IsFirstFault}
@@ -11,7 +11,7 @@ use Rattle.bl_plan.specs.declared.role.Role.TheVariants.{Kernel, Information}
 use Rattle.bl_plan.specs.declared.place.Place.{Place}
 use Rattle.bl_plan.specs.declared.fault.PlanFault.{PlanFault}
 use Rattle.bl_plan.specs.declared.fault.PlanFault.TheVariants as plan_fault
-use Rattle.bl_load.specs.declared.protocol.Protocol.TheVariants.{Multiboot2}
+use Rattle.bl_plan.specs.declared.protocol.Protocol.TheVariants.{Multiboot2}
 use Rattle.bl_load.specs.declared.refusal.Refusal.{Refusal}
 use Rattle.bl_load.specs.declared.refusal.Refusal.TheVariants as refusal
 use Rattle.bl_load.specs.Value.{EntryValue, kernel_file, form_fault, line_fault}
@@ -46,13 +46,13 @@ information_at (place ∷ []) = place.address
 information_at (place ∷ next ∷ places) = information_at (next ∷ places)
 
 -- what a part holds before its zeros, where the first of the kernel's parts stands at base
-abbrev pub content_from : Facts → List ℕ → List ℕ → KernelFacts → ℕ → Role → ℕ → List ℕ
+abbrev pub content_from : MachineFacts → List ℕ → List ℕ → KernelFacts → ℕ → Role → ℕ → List ℕ
 content_from facts line file kernel base Kernel i = kernel_content file kernel.segments kernel.relocation i
 content_from facts line file kernel base Information i = spelling (codes "bootcore") (information_of facts line kernel.relocation base)
 content_from facts line file kernel base _ i = []
 
 -- the part of an entry at one of its places
-abbrev pub part_from : Facts → List ℕ → List ℕ → KernelFacts → ℕ → Place → Part
+abbrev pub part_from : MachineFacts → List ℕ → List ℕ → KernelFacts → ℕ → Place → Part
 part_from facts line file kernel base place = part_at place (filled place.length (content_from facts line file kernel base place.role place.index))
 
 -- where the kernel is entered: a block moves its entry with it
@@ -61,7 +61,7 @@ entry_at entry segments None base = entry
 entry_at entry segments (Some r) base = entry - low_of segments + base
 
 -- what the entry with this line and this kernel's file hands over, where its rows have these places
-abbrev pub handover_of : Facts → List ℕ → List ℕ → KernelFacts → List Place → Handover
+abbrev pub handover_of : MachineFacts → List ℕ → List ℕ → KernelFacts → List Place → Handover
 handover_of facts line file kernel places = record {
   protocol = Multiboot2;
   registers = multiboot2_registers (entry_at kernel.entry kernel.segments kernel.relocation (base_of places)) (information_at places);
@@ -69,7 +69,7 @@ handover_of facts line file kernel places = record {
 }
 
 -- this is what an entry of this value hands over on a machine of these facts
-pub record IsHandover (facts : Facts) (value : EntryValue) (handover : Handover) : Type 0 where
+pub record IsHandover (facts : MachineFacts) (value : EntryValue) (handover : Handover) : Type 0 where
   pub kernel : KernelFacts
   pub places : List Place
   pub form : form_fault value.protocol value.module_lines ≡ None
@@ -86,11 +86,11 @@ placing_refusal plan_fault.NoRoom = Some refusal.NoRoom
 placing_refusal plan_fault.NoMemory = None
 
 -- the first of its rows that has no place is refused so
-abbrev pub HasPlaceFault : Facts → List ℕ → KernelFacts → Refusal → Type 0
+abbrev pub HasPlaceFault : MachineFacts → List ℕ → KernelFacts → Refusal → Type 0
 HasPlaceFault facts line kernel refused = (fault : PlanFault) × IsFirstFault facts [] (rows_of facts line kernel) fault × (placing_refusal fault ≡ Some refused)
 
 -- this is its first refusal: of its form, its line, its kernel, its places
-abbrev pub IsRefusal : Facts → EntryValue → Refusal → Type 0
+abbrev pub IsRefusal : MachineFacts → EntryValue → Refusal → Type 0
 IsRefusal facts value refused =
     (form_fault value.protocol value.module_lines ≡ Some refused)
     ⊎ ((form_fault value.protocol value.module_lines ≡ None) × (line_fault value.line ≡ Some refused))
@@ -99,14 +99,14 @@ IsRefusal facts value refused =
     × HasPlaceFault facts value.line kernel refused))
 
 -- why an entry is not prepared, unless memory ran out
-abbrev pub IsPrepFault : Facts → EntryValue → PrepFault → Type 0
+abbrev pub IsPrepFault : MachineFacts → EntryValue → PrepFault → Type 0
 IsPrepFault facts value (prep_fault.Refused refused) = IsRefusal facts value refused
 IsPrepFault facts value prep_fault.NoMemory = Unit {0}
 
 -- ---- what the code keeps
 
 -- why its parts are not placed, unless memory ran out
-abbrev pub IsPlaceFault : Facts → List ℕ → KernelFacts → PrepFault → Type 0
+abbrev pub IsPlaceFault : MachineFacts → List ℕ → KernelFacts → PrepFault → Type 0
 IsPlaceFault facts line kernel (prep_fault.Refused refused) = HasPlaceFault facts line kernel refused
 IsPlaceFault facts line kernel prep_fault.NoMemory = Unit {0}
 
@@ -116,7 +116,7 @@ fault_of plan_fault.NoMemory = Some prep_fault.NoMemory
 fault_of fault = option_map (λ refused. prep_fault.Refused refused) (placing_refusal fault)
 
 -- the rows have these places, and this is handed over
-pub record IsPlacedHandover (facts : Facts) (line file : List ℕ) (kernel : KernelFacts) (handover : Handover) : Type 0 where
+pub record IsPlacedHandover (facts : MachineFacts) (line file : List ℕ) (kernel : KernelFacts) (handover : Handover) : Type 0 where
   pub places : List Place
   pub placed : ArePlaced facts [] (rows_of facts line kernel) places
   pub is : handover ≡ handover_of facts line file kernel places

@@ -9,20 +9,20 @@ use Rattle.bl_load.specs.declared.plan.Content.{Content}
 use Rattle.bl_load.specs.declared.plan.Content.TheVariants.{Own, File, Block}
 use Rattle.bl_load.specs.declared.plan.Planned.{Planned}
 use Rattle.bl_load.specs.declared.plan.Plan.{Plan}
-use Rattle.bl_load.specs.declared.protocol.Protocol.{Protocol}
+use Rattle.bl_plan.specs.declared.protocol.Protocol.{Protocol}
 use Rattle.bl_load.specs.declared.registers.Registers.{Registers}
 use Rattle.bl_load.specs.Blocks.{block_of}
 use Rattle.bl_load.specs.Handover.{Part, Handover, part_at, filled}
 
 -- the bytes of a file of these
-abbrev pub text_at : List (List ℕ) → ℕ → List ℕ
-text_at texts file = slice_index_or texts file []
+abbrev pub file_text : List (List ℕ) → ℕ → List ℕ
+file_text texts file = slice_index_or texts file []
 
 -- what a content holds
 abbrev pub content_by : {A : Type 0} → List (List ℕ) → Content A → List ℕ
 content_by texts (Own bytes) = bytes
-content_by texts (File file offset count) = slice_range (text_at texts file) offset (offset + count)
-content_by texts (Block file segments) = block_of (text_at texts file) segments.items
+content_by texts (File file offset count) = slice_range (file_text texts file) offset (offset + count)
+content_by texts (Block file segments) = block_of (file_text texts file) segments.items
 
 abbrev pub bytes_by : {A : Type 0} → List (List ℕ) → Planned A → List ℕ
 bytes_by texts part = filled part.place.length (content_by texts part.content)
@@ -52,8 +52,8 @@ SegmentsAscend s t = s.address + s.memsz ≤ t.address
 -- the content is there
 abbrev pub IsThere : {A : Type 0} → List (List ℕ) → Content A → Type 0
 IsThere texts (Own bytes) = Unit {0}
-IsThere texts (File file offset count) = (file < length texts) × (1 ≤ count → offset + count ≤ length (text_at texts file))
-IsThere texts (Block file segments) = (file < length texts) × (1 ≤ length segments.items) × All (IsCopied (text_at texts file)) segments.items × AllPairs SegmentsAscend segments.items
+IsThere texts (File file offset count) = (file < length texts) × (1 ≤ count → offset + count ≤ length (file_text texts file))
+IsThere texts (Block file segments) = (file < length texts) × (1 ≤ length segments.items) × All (IsCopied (file_text texts file)) segments.items × AllPairs SegmentsAscend segments.items
 
 -- the content is there and no longer than its place
 pub record IsBacked {A : Type 0} (texts : List (List ℕ)) (part : Planned A) : Type 0 where

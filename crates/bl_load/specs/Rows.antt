@@ -2,10 +2,10 @@
 -- Multiboot2 3.1.13.
 use Rattle.std.specs.Prelude.{ℕ, suc, ◌+◌, ◌*◌, ◌/◌, if◌then◌else◌, ◌==◌, List, [], ◌∷◌, ◌++◌, Option, Some, None, option_map}
 use Rattle.bl_mem.specs.declared.segment.Segment.{Segment}
-use Rattle.bl_map.specs.Facts.{Facts}
+use Rattle.bl_map.specs.MachineFacts.{MachineFacts}
 use Rattle.bl_map.specs.Kinds.{low_kib, high_kib}
 use Rattle.bl_mb2head.specs.declared.relocation.Relocation.{Relocation}
-use Rattle.bl_mbi.specs.Info.{Info, info_size}
+use Rattle.bl_mbi.specs.InformationFacts.{InformationFacts, info_size}
 use Rattle.bl_plan.specs.declared.row.Row.{Row}
 use Rattle.bl_plan.specs.declared.role.Role.TheVariants.{Kernel, Information}
 use Rattle.bl_plan.specs.declared.choice.Choice.{Choice}
@@ -39,7 +39,7 @@ kernel_rows segments None = segment_rows 0 segments
 kernel_rows segments (Some r) = record { role = Kernel; index = 0; length = span_of segments; choice = block_choice r (low_of segments) } ∷ []
 
 -- what the information tells, where the kernel's first part was placed at base: the load base only with a relocatable tag
-abbrev pub information_of : Facts → List ℕ → Option Relocation → ℕ → Info
+abbrev pub information_of : MachineFacts → List ℕ → Option Relocation → ℕ → InformationFacts
 information_of facts line relocation base = record {
   line = line;
   modules = [];
@@ -52,8 +52,8 @@ information_of facts line relocation base = record {
 }
 
 -- the information, in whole frames, at the lowest place from 4096 on; its size does not depend on where the kernel is
-abbrev pub information_row : Facts → List ℕ → Option Relocation → Row
+abbrev pub information_row : MachineFacts → List ℕ → Option Relocation → Row
 information_row facts line relocation = record { role = Information; index = 0; length = whole_frames (info_size (information_of facts line relocation 0)); choice = Lowest 4096 0x1000 0x100000000 }
 
-abbrev pub rows_of : Facts → List ℕ → KernelFacts → List Row
+abbrev pub rows_of : MachineFacts → List ℕ → KernelFacts → List Row
 rows_of facts line kernel = kernel_rows kernel.segments kernel.relocation ++ information_row facts line kernel.relocation ∷ []

@@ -1,8 +1,8 @@
 -- What is booted, told apart from where it lies: an entry's value. Own.
 use Rattle.std.specs.Prelude.{◌≡◌, ℕ, ◌+◌, ◌≤◌, if◌then◌else◌, ◌==◌, nat_lt, List, [], length, map, slice_index_or, Option, Some, None, option_to_list}
 use Rattle.std.specs.List.{list_any}
-use Rattle.bl_load.specs.declared.protocol.Protocol.{Protocol}
-use Rattle.bl_load.specs.declared.protocol.Protocol.TheVariants as protocol
+use Rattle.bl_plan.specs.declared.protocol.Protocol.{Protocol}
+use Rattle.bl_plan.specs.declared.protocol.Protocol.TheVariants as protocol
 use Rattle.bl_load.specs.declared.entry.Entry.{Entry}
 use Rattle.bl_load.specs.declared.entry.Entry.TheVariants.{Multiboot2, Linux}
 use Rattle.bl_load.specs.declared.refusal.Refusal.{Refusal}

@@ -1,8 +1,7 @@
 //! What a kernel is handed.
 use crate::plan::Planned;
-use crate::protocol::Protocol;
 use crate::registers::Registers;
-use bl_plan::Place;
+use bl_plan::{Place, Protocol};
 use std::alloc::Allocator;
 use std::marker::Model;
 
@@ -17,10 +16,10 @@ pub struct Handoff<A: Allocator> {
 
 impl<A: Allocator> Model for Handoff<A> {
     ghost use Rattle.std.specs.Prelude.{map};
-    ghost use Rattle.bl_load.specs.Handed.{Handed};
+    ghost use Rattle.bl_load.specs.HandoffFacts.{HandoffFacts};
     ghost use Rattle.bl_load.specs.Planned.{AreRecords};
 
-    ghost Value = { Handed };
+    ghost Value = { HandoffFacts };
 
     ghost view = { λ h. record { protocol = h.protocol; registers = h.registers; places = map (λ part. part.place) h.parts.items } };
 

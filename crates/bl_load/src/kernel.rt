@@ -3,7 +3,7 @@ ghost use Rattle.std.specs.Prelude.{◌≡◌, ◌≤◌, ◌<◌, ◌+◌, ◌^
 ghost use Rattle.std.specs.List.{list_any};
 ghost use Rattle.bl_load.specs.Kernel as kernel;
 ghost use Rattle.bl_load.specs.Kernel.{IsKernel, IsLoadedBy, IsLoadFault, IsKernelFault, entry_fault, AreLoadable};
-ghost use Rattle.bl_load.specs.KernelRead.{image_facts, kernel_by};
+ghost use Rattle.bl_load.specs.KernelRead.{executable_facts, kernel_by};
 ghost use Rattle.bl_load.specs.declared.refusal.PrepFault.TheVariants.{Refused};
 
 use crate::refusal::{PrepFault, Refusal};
@@ -14,29 +14,29 @@ use std::alloc::Allocator;
 
 /// What the file gives to load: one segment by the header's address tag, or an ELF executable.
 #[derive(Drop)]
-pub enum Image<A: Allocator> {
-    Tag([Segment; 1]),
-    Executable(Elf<A>),
+pub enum Executable<A: Allocator> {
+    AddressTag([Segment; 1]),
+    Elf(Elf<A>),
 }
 
-impl<A: Allocator> Image<A> {
+impl<A: Allocator> Executable<A> {
     /// The segments in their order.
     pub fn segments(&self) -> &[Segment]
-        ensures { result.now ≡ (image_facts self.now).segments }
+        ensures { result.now ≡ (executable_facts self.now).segments }
     {
         match self {
-            Image::Tag(one) => one.as_slice(),
-            Image::Executable(elf) => elf.segments(),
+            Executable::AddressTag(one) => one.as_slice(),
+            Executable::Elf(elf) => elf.segments(),
         }
     }
 
     /// The entry that the file names itself.
     fn entry(&self) -> Option<u64>
-        ensures { result ≡ (image_facts self.now).entry }
+        ensures { result ≡ (executable_facts self.now).entry }
     {
         match self {
-            Image::Tag(_) => None,
-            Image::Executable(elf) => elf.entry().ok(),
+            Executable::AddressTag(_) => None,
+            Executable::Elf(elf) => elf.entry().ok(),
         }
     }
 }
@@ -44,7 +44,7 @@ impl<A: Allocator> Image<A> {
 /// What is read of a kernel's file.
 #[derive(Drop)]
 pub struct Kernel<A: Allocator> {
-    pub image: Image<A>,
+    pub executable: Executable<A>,
     pub entry: u64,
     pub relocation: Option<Relocation>,
 }
@@ -89,19 +89,19 @@ impl From<ElfFault> for PrepFault {
 }
 
 /// What the file gives to load, where its header has this segment of an address tag.
-fn read_image<A: Allocator + Copy, V: ByteView>(
+fn read_executable<A: Allocator + Copy, V: ByteView>(
     alloc: A,
     file: &V,
     segment: Option<Segment>,
-) -> Result<Image<A>, PrepFault>
-    ensures loaded { IfOk result (λ image. IsLoadedBy (V.bytes file.now) segment (image_facts image)) }
+) -> Result<Executable<A>, PrepFault>
+    ensures loaded { IfOk result (λ executable. IsLoadedBy (V.bytes file.now) segment (executable_facts executable)) }
     ensures fault { IfErr result (λ fault. IsLoadFault (V.bytes file.now) segment fault) }
 {
     match segment {
-        Some(segment) => Ok(Image::Tag([segment])),
+        Some(segment) => Ok(Executable::AddressTag([segment])),
         None => {
             let elf = read_elf(alloc, file)?;
-            Ok(Image::Executable(elf))
+            Ok(Executable::Elf(elf))
         }
     }
 }
@@ -148,11 +148,11 @@ pub fn read_kernel<A: Allocator + Copy, V: ByteView>(
     // The file's length, and so that of the tag's segment, is known to be below 2^64 only once it was asked for.
     let _len = file.len();
     let header = find_header(file)?;
-    let image = read_image(alloc, file, header.segment)?;
-    let counted = header.entry.or(image.entry());
-    let entry = entry_in(image.segments(), counted)?;
+    let executable = read_executable(alloc, file, header.segment)?;
+    let counted = header.entry.or(executable.entry());
+    let entry = entry_in(executable.segments(), counted)?;
     Ok(Kernel {
-        image,
+        executable,
         entry,
         relocation: header.relocation,
     })

@@ -1,6 +1,6 @@
 //! Laws of the definitions.
 ghost use Rattle.std.specs.Prelude.{◌≡◌};
-ghost use Rattle.bl_map.specs.Facts.{Facts};
+ghost use Rattle.bl_map.specs.MachineFacts.{MachineFacts};
 ghost use Rattle.bl_load.specs.declared.refusal.Refusal.{Refusal};
 ghost use Rattle.bl_load.specs.Value.{EntryValue};
 ghost use Rattle.bl_load.specs.Handover.{Handover};
@@ -10,12 +10,12 @@ ghost use Rattle.bl_load.specs.Legal.{IsLegal};
 /// Equal facts and equal values give one handover, or one first refusal, and never both: nothing else decides, such as
 /// what memory held or where the files lay.
 pub fn handovers_are_determined()
-    ensures one_handover { (facts : Facts) (value : EntryValue) (h k : Handover) → IsHandover facts value h → IsHandover facts value k → h ≡ k }
-    ensures one_refusal { (facts : Facts) (value : EntryValue) (r s : Refusal) → IsRefusal facts value r → IsRefusal facts value s → r ≡ s }
-    ensures not_both { (facts : Facts) (value : EntryValue) (h : Handover) (r : Refusal) → IsHandover facts value h → IsRefusal facts value r → ⊥ }
+    ensures one_handover { (facts : MachineFacts) (value : EntryValue) (h k : Handover) → IsHandover facts value h → IsHandover facts value k → h ≡ k }
+    ensures one_refusal { (facts : MachineFacts) (value : EntryValue) (r s : Refusal) → IsRefusal facts value r → IsRefusal facts value s → r ≡ s }
+    ensures not_both { (facts : MachineFacts) (value : EntryValue) (h : Handover) (r : Refusal) → IsHandover facts value h → IsRefusal facts value r → ⊥ }
 {}
 
 /// What is handed over is legal.
 pub fn handovers_are_legal()
-    ensures { (facts : Facts) (value : EntryValue) (handover : Handover) → IsHandover facts value handover → IsLegal facts value handover }
+    ensures { (facts : MachineFacts) (value : EntryValue) (handover : Handover) → IsHandover facts value handover → IsLegal facts value handover }
 {}

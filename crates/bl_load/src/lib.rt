@@ -14,22 +14,16 @@ mod order;
 mod placing;
 mod plan;
 mod preparing;
-mod protocol;
 mod refusal;
 mod registers;
-mod room;
 mod rows;
 
+pub use bl_plan::Protocol;
 pub use entry::{Entry, Module};
 pub use handoff::Handoff;
 pub use laws::{handovers_are_determined, handovers_are_legal};
 pub use loading::load;
 pub use plan::{Content, Plan, Planned};
 pub use preparing::prepare;
-pub use protocol::Protocol;
 pub use refusal::{PrepFault, Refusal};
 pub use registers::Registers;
-pub use room::{frames_in, frames_of, open_frames};
-
-#[cfg(test)]
-mod tests;

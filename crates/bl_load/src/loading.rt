@@ -114,6 +114,3 @@ pub fn load<M: PhysMem, V: ByteView, A: Allocator>(
         parts,
     }
 }
-
-#[cfg(test)]
-mod tests;

@@ -10,19 +10,18 @@ ghost use Rattle.bl_load.specs.Parts as parts;
 ghost use Rattle.bl_load.specs.Registers as state;
 ghost use Rattle.bl_load.specs.Parts.{IsPlacedHandover, IsPlaceFault};
 ghost use Rattle.bl_load.specs.Place.{place_of};
-ghost use Rattle.bl_load.specs.Planned.{handover_by, text_at, IsLoadable, IsLean};
+ghost use Rattle.bl_load.specs.Planned.{handover_by, file_text, IsLoadable, IsLean};
 
 use crate::contents::parts_at;
 use crate::kernel::Kernel;
 use crate::order::in_order;
 use crate::plan::{Plan, Planned};
-use crate::protocol::Protocol;
 use crate::refusal::{PrepFault, Refusal};
 use crate::registers::Registers;
 use crate::rows::{low_of, rows_of};
 use bl_map::Machine;
 use bl_mem::ByteView;
-use bl_plan::{Place, PlanFault, place_rows};
+use bl_plan::{Place, PlanFault, Protocol, place_rows};
 use std::alloc::{AllocError, Allocator};
 use std::ops::Range;
 
@@ -91,7 +90,7 @@ fn entry_at<A: Allocator>(kernel: &Kernel<A>, base: u64) -> u64
 {
     match kernel.relocation {
         None => kernel.entry,
-        Some(_) => kernel.entry - low_of(kernel.image.segments()) + base,
+        Some(_) => kernel.entry - low_of(kernel.executable.segments()) + base,
     }
 }
 
@@ -121,9 +120,9 @@ pub fn plan_parts<A: Allocator + Copy, V: ByteView>(
     requires sound { line_fault line.now ≡ None }
     requires short { length line.now ≤ 4095 }
     requires file { 1 ≤ length files.now }
-    requires kernel { IsKernel (text_at (map V.bytes files.now) 0) (kernel_by kernel.now) }
-    requires loadable { AreLoadable (text_at (map V.bytes files.now) 0) (kernel_by kernel.now).segments }
-    ensures handover { IfOk result (λ plan. IsPlacedHandover machine.now line.now (text_at (map V.bytes files.now) 0) (kernel_by kernel.now) (handover_by (map V.bytes files.now) plan)) }
+    requires kernel { IsKernel (file_text (map V.bytes files.now) 0) (kernel_by kernel.now) }
+    requires loadable { AreLoadable (file_text (map V.bytes files.now) 0) (kernel_by kernel.now).segments }
+    ensures handover { IfOk result (λ plan. IsPlacedHandover machine.now line.now (file_text (map V.bytes files.now) 0) (kernel_by kernel.now) (handover_by (map V.bytes files.now) plan)) }
     ensures loadable { IfOk result (λ plan. IsLoadable (map V.bytes files.now) machine.now.size plan) }
     ensures lean { IfOk result (λ plan. IsLean plan.parts.items) }
     ensures fault { IfErr result (λ fault. IsPlaceFault machine.now line.now (kernel_by kernel.now) fault) }

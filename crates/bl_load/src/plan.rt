@@ -3,10 +3,9 @@ ghost use Rattle.std.specs.Prelude.{◌≡◌, map};
 ghost use Rattle.bl_plan.specs.Placed.{range_of};
 ghost use Rattle.bl_load.specs.Place.{place_of};
 
-use crate::protocol::Protocol;
 use crate::registers::Registers;
 use bl_mem::{Bytes, Segment};
-use bl_plan::Place;
+use bl_plan::{Place, Protocol};
 use std::alloc::Allocator;
 use std::ops::Range;
 

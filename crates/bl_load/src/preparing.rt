@@ -82,6 +82,3 @@ pub fn prepare<A: Allocator + Copy, V: ByteView>(
     let kernel = read_kernel(alloc, &files[0])?;
     plan_parts(alloc, machine, line, &kernel, files)
 }
-
-#[cfg(test)]
-mod tests;

@@ -59,7 +59,7 @@ pub enum Refusal {
 impl Refusal {
     /// The refusal's number.
     pub fn number(self) -> u32
-        ensures { result ≡ numbers.number_of self }
+        ensures { result ≡ numbers.refusal_number self }
     {
         match self {
             Refusal::NoFile(_) => 1,

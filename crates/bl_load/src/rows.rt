@@ -101,7 +101,7 @@ fn push_kernel_rows<A: Allocator, B: Allocator>(
     requires span { blocks.span_of (kernel_by kernel.now).segments < 2 ^ 64 }
     ensures { IfOk result (λ _. rows.new.items ≡ rows.old.items ++ table.kernel_rows (kernel_by kernel.now).segments kernel.now.relocation) }
 {
-    let segments = kernel.image.segments();
+    let segments = kernel.executable.segments();
     match &kernel.relocation {
         None => push_segment_rows(rows, segments),
         Some(relocation) => {

@@ -3,7 +3,7 @@ use Rattle.std.proofs.Common.{◌≡◌, ◌≢◌, ◌+◌, ◌*◌, ◌≤◌,
 use Rattle.std.proofs.lemmas.Bool.{cases_lt}
 use Rattle.std.proofs.lemmas.Bool.Decides.{nat_tests}
 use Rattle.bl_map.specs.declared.region.Region.{Region}
-use Rattle.bl_map.specs.Kinds.{number_of, end_of, holds, kind_at}
+use Rattle.bl_map.specs.Kinds.{kind_number, end_of, holds, kind_at}
 
 -- how many ends of a region lie above an address
 above : ℕ → ℕ → ℕ
@@ -53,7 +53,7 @@ same_kind (r ∷ regions) at later h e =
     let a = above_falls at later r.base h in let b = above_falls at later (end_of r) h in let c = edges_fall regions at later h in
     let base = above_stays at later r.base h (omega arith) in
     let end = above_stays at later (end_of r) h (omega arith) in
-    ap₂ (λ (t : Bool) (k : ℕ). max (if t then number_of r.kind else 0) k) (same_holds r at later base end) (same_kind regions at later h (omega arith))
+    ap₂ (λ (t : Bool) (k : ℕ). max (if t then kind_number r.kind else 0) k) (same_holds r at later base end) (same_kind regions at later h (omega arith))
 
 -- a change of kind passes an edge
 pub edges_fall_once : (regions : List Region) (at later : ℕ) → at ≤ later → kind_at regions later ≢ kind_at regions at → edges_above regions later + 1 ≤ edges_above regions at

@@ -6,7 +6,7 @@ use Rattle.std.proofs.lemmas.List.Elements.{All-head, All-tail}
 use Rattle.bl_map.specs.declared.kind.Kind.{Kind}
 use Rattle.bl_map.specs.declared.kind.Kind.TheVariants.{Usable, Reserved, Acpi, Nvs, Bad}
 use Rattle.bl_map.specs.declared.region.Region.{Region}
-use Rattle.bl_map.specs.Kinds.{number_of, end_of, holds, kind_at}
+use Rattle.bl_map.specs.Kinds.{kind_number, end_of, holds, kind_at}
 
 pub held : (r : Region) (a : ℕ) → r.base ≤ a → a < end_of r → holds r a ≡ true
 held r a low high = grind (arith, nat_tests)
@@ -19,9 +19,9 @@ not_held_behind r a high = grind (arith, nat_tests)
 
 -- the number that one region gives an address
 abbrev pub number_in : Region → ℕ → ℕ
-number_in r a = if holds r a then number_of r.kind else 0
+number_in r a = if holds r a then kind_number r.kind else 0
 
-pub number_in-held : (r : Region) (a : ℕ) → holds r a ≡ true → number_in r a ≡ number_of r.kind
+pub number_in-held : (r : Region) (a : ℕ) → holds r a ≡ true → number_in r a ≡ kind_number r.kind
 number_in-held r a h = rw h refl
 
 pub number_in-not_held : (r : Region) (a : ℕ) → holds r a ≡ false → number_in r a ≡ 0
@@ -30,7 +30,7 @@ number_in-not_held r a h = rw h refl
 pub kind_not_held : (r : Region) (rs : List Region) (a : ℕ) → holds r a ≡ false → kind_at (r ∷ rs) a ≡ kind_at rs a
 kind_not_held r rs a h = ap (λ n. max n (kind_at rs a)) (number_in-not_held r a h) ∙ zero-max (kind_at rs a)
 
-pub kind_held : (r : Region) (rs : List Region) (a : ℕ) → holds r a ≡ true → kind_at (r ∷ rs) a ≡ max (number_of r.kind) (kind_at rs a)
+pub kind_held : (r : Region) (rs : List Region) (a : ℕ) → holds r a ≡ true → kind_at (r ∷ rs) a ≡ max (kind_number r.kind) (kind_at rs a)
 kind_held r rs a h = ap (λ n. max n (kind_at rs a)) (number_in-held r a h)
 
 -- the last region counts as the first does
@@ -57,7 +57,7 @@ none_before (r ∷ rs) n a all low =
     let first = All-head (λ r. n ≤ r.base) r rs all in
     kind_not_held r rs a (not_held_before r a (omega arith)) ∙ none_before rs n a (All-tail (λ r. n ≤ r.base) r rs all) low
 
-pub number_positive : (k : Kind) → 1 ≤ number_of k
+pub number_positive : (k : Kind) → 1 ≤ kind_number k
 number_positive Usable = omega arith
 number_positive Reserved = omega arith
 number_positive Acpi = omega arith
@@ -65,4 +65,4 @@ number_positive Nvs = omega arith
 number_positive Bad = omega arith
 
 pub kind_at-same : (r : Region) (rs : List Region) (a b : ℕ) → holds r a ≡ holds r b → kind_at rs a ≡ kind_at rs b → kind_at (r ∷ rs) a ≡ kind_at (r ∷ rs) b
-kind_at-same r rs a b first rest = ap (λ h. max (if h then number_of r.kind else 0) (kind_at rs a)) first ∙ ap (λ n. max (number_in r b) n) rest
+kind_at-same r rs a b first rest = ap (λ h. max (if h then kind_number r.kind else 0) (kind_at rs a)) first ∙ ap (λ n. max (number_in r b) n) rest

@@ -2,3 +2,4 @@ pub mod KindLemmas
 pub mod SweepLemmas
 pub mod MapLaws
 pub mod EdgeLemmas
+pub mod RoomLemmas

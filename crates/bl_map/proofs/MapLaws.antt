@@ -6,7 +6,7 @@ use Rattle.std.proofs.lemmas.List.Elements.{All-cons, All-head, All-tail, All-we
 use Rattle.bl_map.specs.declared.kind.Kind.{Kind}
 use Rattle.bl_map.specs.declared.kind.Kind.TheVariants.{Usable, Reserved, Acpi, Nvs, Bad}
 use Rattle.bl_map.specs.declared.region.Region.{Region}
-use Rattle.bl_map.specs.Kinds.{number_of, end_of, kind_at, ComesBefore, AreRuns, IsNormalMap}
+use Rattle.bl_map.specs.Kinds.{kind_number, end_of, kind_at, ComesBefore, AreRuns, IsNormalMap}
 use Rattle.bl_map.proofs.KindLemmas.{held, not_held_behind, kind_held, kind_not_held, none_before, number_positive}
 
 kind_of : ℕ → Kind
@@ -17,7 +17,7 @@ kind_of (suc (suc (suc zero))) = Acpi
 kind_of (suc (suc (suc (suc zero)))) = Nvs
 kind_of (suc (suc (suc (suc (suc n))))) = Bad
 
-kind_of-number : (k : Kind) → kind_of (number_of k) ≡ k
+kind_of-number : (k : Kind) → kind_of (kind_number k) ≡ k
 unfolding kind_of
 kind_of-number Usable = refl
 kind_of-number Reserved = refl
@@ -26,7 +26,7 @@ kind_of-number Nvs = refl
 kind_of-number Bad = refl
 
 -- a kind is known by its number
-pub same_kind : (p q : Kind) → number_of p ≡ number_of q → p ≡ q
+pub same_kind : (p q : Kind) → kind_number p ≡ kind_number q → p ≡ q
 same_kind p q same = sym (kind_of-number p) ∙ ap kind_of same ∙ kind_of-number q
 
 pub later_runs : (x : Region) (xs : List Region) → AreRuns (x ∷ xs) → All (ComesBefore x) xs
@@ -49,14 +49,14 @@ kind_before x xs a runs below =
     (All-cons (λ r. x.base ≤ r.base) x xs (omega arith) (All-weaker (λ r. end_of x ≤ r.base) (λ r. x.base ≤ r.base) (λ r h. omega arith) xs (later_bases x xs runs)))
     below
 
-kind_in : (x : Region) (xs : List Region) (a : ℕ) → AreRuns (x ∷ xs) → x.base ≤ a → a < end_of x → kind_at (x ∷ xs) a ≡ number_of x.kind
+kind_in : (x : Region) (xs : List Region) (a : ℕ) → AreRuns (x ∷ xs) → x.base ≤ a → a < end_of x → kind_at (x ∷ xs) a ≡ kind_number x.kind
 kind_in x xs a runs from below =
     kind_held x xs a (held x a from below)
-    ∙ ap (λ n. max (number_of x.kind) n) (none_before xs (end_of x) a (later_bases x xs runs) below)
-    ∙ max-zero (number_of x.kind)
+    ∙ ap (λ n. max (kind_number x.kind) n) (none_before xs (end_of x) a (later_bases x xs runs) below)
+    ∙ max-zero (kind_number x.kind)
 
 -- at its end a run's kind is over
-other_behind : (x : Region) (xs : List Region) → AreRuns (x ∷ xs) → kind_at xs (end_of x) ≢ number_of x.kind
+other_behind : (x : Region) (xs : List Region) → AreRuns (x ∷ xs) → kind_at xs (end_of x) ≢ kind_number x.kind
 other_behind x [] runs same = let p = number_positive x.kind in absurd (omega (arith, same))
 other_behind x (y ∷ ys) runs same =
     let next = All-head (ComesBefore x) y ys (later_runs x (y ∷ ys) runs) in
@@ -107,7 +107,7 @@ ends_by x xs y ys h =
           (sym (kind_not_held x xs (end_of x) (not_held_behind x (end_of x) (omega arith)))
           ∙ h.same (end_of x)
           ∙ kind_in y ys (end_of x) h.right (omega arith) before
-          ∙ ap number_of (sym (same_first_kind x xs y ys h))))
+          ∙ ap kind_number (sym (same_first_kind x xs y ys h))))
       | inr from ↦ from
     ]
 

@@ -6,13 +6,13 @@ use Rattle.std.proofs.lemmas.List.Elements.{All-nil, All-push, All-weaker}
 use Rattle.std.proofs.lemmas.List.Quantifiers.{all_pairs_push}
 use Rattle.bl_map.specs.declared.kind.Kind.{Kind}
 use Rattle.bl_map.specs.declared.region.Region.{Region}
-use Rattle.bl_map.specs.Kinds.{number_of, end_of, kind_at, ComesBefore, AreRuns, IsNormalMap}
+use Rattle.bl_map.specs.Kinds.{kind_number, end_of, kind_at, ComesBefore, AreRuns, IsNormalMap}
 use Rattle.bl_map.specs.Faults.{IsLow}
 use Rattle.bl_map.proofs.KindLemmas.{held, not_held_before, number_in, number_in-held, number_in-not_held, kind_at-push, none_behind, number_positive}
 
 -- the run ends at an address or before it, and can't go on there
 abbrev pub EndsBefore : List Region → ℕ → Region → Type 0
-EndsBefore regions at run = (end_of run ≤ at) × (end_of run ≡ at → number_of run.kind ≢ kind_at regions at)
+EndsBefore regions at run = (end_of run ≤ at) × (end_of run ≡ at → kind_number run.kind ≢ kind_at regions at)
 
 -- runs that are the normal map of the addresses below one
 pub record IsMapUpto (regions runs : List Region) (at : ℕ) : Type 0 where
@@ -62,7 +62,7 @@ abbrev pub run_of : ℕ → ℕ → Kind → Region
 run_of at end kind = record { base = at; length = end - at; kind = kind }
 
 module _ (regions runs : List Region) (at end : ℕ) (kind : Kind)
-    (low : All IsLow regions) (upto : IsMapUpto regions runs at) (run : IsRunEnd regions at end) (is : number_of kind ≡ kind_at regions at) where
+    (low : All IsLow regions) (upto : IsMapUpto regions runs at) (run : IsRunEnd regions at end) (is : kind_number kind ≡ kind_at regions at) where
   end_is : end_of (run_of at end kind) ≡ end
   end_is = let a = run.ahead in omega arith
 
@@ -73,7 +73,7 @@ module _ (regions runs : List Region) (at end : ℕ) (kind : Kind)
         filled = All-push (λ run. 1 ≤ run.length) runs (run_of at end kind) upto.runs_are.filled (omega arith);
         low = All-push (λ run. end_of run ≤ 2 ^ 52) runs (run_of at end kind) upto.runs_are.low (omega arith);
         in_order = all_pairs_push ComesBefore runs (run_of at end kind) upto.runs_are.in_order
-            (λ k d inside. let h = upto.ended k d inside in (h.0, λ adjoins same. h.1 adjoins (ap number_of same ∙ is)));
+            (λ k d inside. let h = upto.ended k d inside in (h.0, λ adjoins same. h.1 adjoins (ap kind_number same ∙ is)));
       }
 
   ends_there : EndsBefore regions end (run_of at end kind)

@@ -5,7 +5,7 @@ use Rattle.bl_map.specs.declared.region.Region.{Region}
 use Rattle.bl_map.specs.declared.fault.MapFault.{MapFault}
 use Rattle.bl_map.specs.declared.fault.MapFault.TheVariants.{BadSize, TooManyRegions, BadRegion, BadPool, NoMemory}
 use Rattle.bl_map.specs.Kinds.{end_of}
-use Rattle.bl_map.specs.Facts.{IsSize, IsPool}
+use Rattle.bl_map.specs.MachineFacts.{IsSize, IsPool}
 
 -- a region ends at most at 2^52
 abbrev pub IsLow : Region → Type 0

@@ -5,17 +5,17 @@ use Rattle.bl_map.specs.declared.kind.Kind.{Kind}
 use Rattle.bl_map.specs.declared.kind.Kind.TheVariants.{Usable, Reserved, Acpi, Nvs, Bad}
 use Rattle.bl_map.specs.declared.region.Region.{Region}
 
-abbrev pub number_of : Kind → ℕ
-number_of Usable = 1
-number_of Reserved = 2
-number_of Acpi = 3
-number_of Nvs = 4
-number_of Bad = 5
+abbrev pub kind_number : Kind → ℕ
+kind_number Usable = 1
+kind_number Reserved = 2
+kind_number Acpi = 3
+kind_number Nvs = 4
+kind_number Bad = 5
 
 -- the number of a kind, 0 for none
 abbrev pub number_or_none : Option Kind → ℕ
 number_or_none None = 0
-number_or_none (Some kind) = number_of kind
+number_or_none (Some kind) = kind_number kind
 
 abbrev pub end_of : Region → ℕ
 end_of region = region.base + region.length
@@ -27,7 +27,7 @@ holds region a = nat_le region.base a && nat_lt a (end_of region)
 -- the greatest number of the kinds of the regions that hold an address, 0 where none holds it
 abbrev pub kind_at : List Region → ℕ → ℕ
 kind_at [] a = 0
-kind_at (region ∷ regions) a = max (if holds region a then number_of region.kind else 0) (kind_at regions a)
+kind_at (region ∷ regions) a = max (if holds region a then kind_number region.kind else 0) (kind_at regions a)
 
 -- q lies behind p, and has another kind where the two adjoin
 abbrev pub ComesBefore : Region → Region → Type 0
@@ -47,7 +47,7 @@ pub record IsNormalMap (regions runs : List Region) : Type 0 where
 -- the end of the run of kind 1 that holds an address, 0 where there is none
 abbrev pub usable_end : List Region → ℕ → ℕ
 usable_end [] a = 0
-usable_end (run ∷ runs) a = if (number_of run.kind == 1) && holds run a then end_of run else usable_end runs a
+usable_end (run ∷ runs) a = if (kind_number run.kind == 1) && holds run a then end_of run else usable_end runs a
 
 -- KiB of usable memory from address 0 on, at most 640
 abbrev pub low_kib : List Region → ℕ

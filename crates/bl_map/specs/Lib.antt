@@ -1,3 +1,4 @@
 pub mod Kinds
-pub mod Facts
+pub mod MachineFacts
 pub mod Faults
+pub mod Room

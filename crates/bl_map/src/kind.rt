@@ -16,7 +16,7 @@ pub enum Kind {
 impl Kind {
     /// The kind's number, 1 to 5.
     pub fn number(self) -> u32
-        ensures { result ≡ kinds.number_of self }
+        ensures { result ≡ kinds.kind_number self }
     {
         match self {
             Kind::Usable => 1,

@@ -7,6 +7,7 @@ mod laws;
 mod limits;
 mod machine;
 mod region;
+mod room;
 mod rules;
 mod sweep;
 
@@ -16,6 +17,4 @@ pub use laws::normal_maps_are_determined;
 pub use limits::{FIRST_USABLE, REGION_LIMIT, USABLE_LIMIT};
 pub use machine::Machine;
 pub use region::Region;
-
-#[cfg(test)]
-mod tests;
+pub use room::{frames_in, frames_of, open_frames};

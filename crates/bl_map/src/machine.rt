@@ -17,20 +17,20 @@ pub struct Machine<A: Allocator> {
 }
 
 impl<A: Allocator> Model for Machine<A> {
-    ghost use Rattle.bl_map.specs.Facts.{Facts, AreFacts};
+    ghost use Rattle.bl_map.specs.MachineFacts.{MachineFacts, AreMachineFacts};
 
-    ghost Value = { Facts };
+    ghost Value = { MachineFacts };
 
     ghost view = { λ m. record { size = m.size; runs = m.runs.items; pool = m.pool } };
 
-    ghost invariant = { λ m. AreFacts record { size = m.size; runs = m.runs.items; pool = m.pool } };
+    ghost invariant = { λ m. AreMachineFacts record { size = m.size; runs = m.runs.items; pool = m.pool } };
 }
 
 impl<A: Allocator> Machine<A> {
     ghost use Rattle.std.specs.Prelude.{◌≡◌, ◌^◌, ◌<◌, ◌≤◌, IfErr, IfOk, MatchBool, OnOk};
     ghost use Rattle.bl_map.specs.Kinds.{IsNormalMap, number_or_none};
     ghost use Rattle.bl_map.specs.Kinds as kinds;
-    ghost use Rattle.bl_map.specs.Facts.{AllUsable, AreFacts};
+    ghost use Rattle.bl_map.specs.MachineFacts.{AllUsable, AreMachineFacts};
     ghost use Rattle.bl_map.specs.Faults.{HasFirstFault, IsAccepted};
 
     /// The machine of these regions, in any order, overlapping, adjoining or empty. `size` is in bytes; `pool` has the
@@ -74,7 +74,7 @@ impl<A: Allocator> Machine<A> {
     /// How many bytes of memory there are.
     pub fn size(&self) -> u64
         ensures size { result ≡ self.now.size }
-        ensures facts { AreFacts self.now }
+        ensures facts { AreMachineFacts self.now }
     {
         self.size
     }
@@ -82,7 +82,7 @@ impl<A: Allocator> Machine<A> {
     /// The normal map: the longest runs of one kind, ascending.
     pub fn normal(&self) -> &[Region]
         ensures runs { result.now ≡ self.now.runs }
-        ensures facts { AreFacts self.now }
+        ensures facts { AreMachineFacts self.now }
     {
         self.runs.as_slice()
     }
@@ -90,7 +90,7 @@ impl<A: Allocator> Machine<A> {
     /// The frames that files are staged in.
     pub fn pool(&self) -> Range<u64>
         ensures pool { result ≡ self.now.pool }
-        ensures facts { AreFacts self.now }
+        ensures facts { AreMachineFacts self.now }
     {
         self.pool.start..self.pool.end
     }
@@ -98,7 +98,7 @@ impl<A: Allocator> Machine<A> {
     /// What an address is for.
     pub fn kind_at(&self, a: u64) -> Option<Kind>
         ensures kind { number_or_none result ≡ kinds.kind_at self.now.runs a }
-        ensures facts { AreFacts self.now }
+        ensures facts { AreMachineFacts self.now }
     {
         greatest_kind(self.runs.as_slice(), a)
     }
@@ -107,7 +107,7 @@ impl<A: Allocator> Machine<A> {
     pub fn is_usable(&self, range: Range<u64>) -> bool
         requires forward { range.start ≤ range.end }
         ensures usable { MatchBool result (AllUsable self.now range.start range.end) (¬ AllUsable self.now range.start range.end) }
-        ensures facts { AreFacts self.now }
+        ensures facts { AreMachineFacts self.now }
     {
         is_usable_among(self.runs.as_slice(), self.size, range.start, range.end)
     }
@@ -116,7 +116,7 @@ impl<A: Allocator> Machine<A> {
     pub fn low_kib(&self) -> u64
         ensures low_kib { result ≡ kinds.low_kib self.now.runs }
         ensures most { result ≤ 640 }
-        ensures facts { AreFacts self.now }
+        ensures facts { AreMachineFacts self.now }
     {
         (usable_end(self.runs.as_slice(), 0) / 1024).min(640)
     }
@@ -125,7 +125,7 @@ impl<A: Allocator> Machine<A> {
     pub fn high_kib(&self) -> u64
         ensures high_kib { result ≡ kinds.high_kib self.now.runs }
         ensures most { result < 2 ^ 32 }
-        ensures facts { AreFacts self.now }
+        ensures facts { AreMachineFacts self.now }
     {
         let end = usable_end(self.runs.as_slice(), 0x0010_0000);
         (end.saturating_sub(0x0010_0000) / 1024).min(0xFFFF_FFFF)

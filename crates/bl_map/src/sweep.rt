@@ -1,6 +1,6 @@
 //! The normal map of regions, by a sweep over the addresses where kinds change.
 ghost use Rattle.std.specs.Prelude.{◌≡◌, ◌≢◌, ℕ, ◌*◌, ◌^◌, ◌<◌, ◌≤◌, All, length, max, IfOk};
-ghost use Rattle.bl_map.specs.Kinds.{IsNormalMap, holds, kind_at, number_of, number_or_none};
+ghost use Rattle.bl_map.specs.Kinds.{IsNormalMap, holds, kind_at, kind_number, number_or_none};
 ghost use Rattle.bl_map.specs.Faults.{IsLow};
 
 use crate::kind::Kind;
@@ -9,7 +9,7 @@ use crate::region::Region;
 use std::alloc::{AllocError, Allocator};
 
 /// A kind's number, 0 for none.
-fn number_of(kind: Option<Kind>) -> u32
+fn known_number(kind: Option<Kind>) -> u32
     ensures { result ≡ number_or_none kind }
 {
     match kind {
@@ -20,9 +20,9 @@ fn number_of(kind: Option<Kind>) -> u32
 
 /// The one of greater number.
 fn greater(known: Option<Kind>, kind: Kind) -> Option<Kind>
-    ensures { number_or_none result ≡ max (number_of kind) (number_or_none known) }
+    ensures { number_or_none result ≡ max (kind_number kind) (number_or_none known) }
 {
-    if kind.number() <= number_of(known) {
+    if kind.number() <= known_number(known) {
         return known;
     }
     Some(kind)
@@ -82,10 +82,10 @@ pub fn run_end(regions: &[Region], at: u64) -> u64
     ensures same { (a : ℕ) → at ≤ a → a < result → kind_at regions.now a ≡ kind_at regions.now at }
     ensures other { result < 2 ^ 52 → kind_at regions.now result ≢ kind_at regions.now at }
 {
-    let number = number_of(greatest_kind(regions, at));
+    let number = known_number(greatest_kind(regions, at));
     let mut end = change_after(regions, at);
     while end < REGION_LIMIT {
-        if number_of(greatest_kind(regions, end)) != number {
+        if known_number(greatest_kind(regions, end)) != number {
             return end;
         }
         end = change_after(regions, end);

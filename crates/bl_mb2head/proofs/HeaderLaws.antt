@@ -12,7 +12,7 @@ use Rattle.bl_mb2head.specs.declared.tag.Tag.{Tag}
 use Rattle.bl_mb2head.specs.Address.{address_fault, address_segment}
 use Rattle.bl_mb2head.specs.Place.{IsHeaderAt}
 use Rattle.bl_mb2head.specs.Tags.{AreAllTags, IsFirstFault, last_of}
-use Rattle.bl_mb2head.specs.Header.{end_of, is_cut, architecture_at, entry_of, relocation_of, BeginsAt, IsAddressFault, IsHeader, HasFirstFault}
+use Rattle.bl_mb2head.specs.Header.{end_of, is_cut, architecture_at, tag_entry, relocation_of, BeginsAt, IsAddressFault, IsHeader, HasFirstFault}
 use Rattle.bl_mb2head.proofs.TagLaws as tags
 
 -- the file's header stands at one place
@@ -111,5 +111,5 @@ one_header bytes a b is_a is_b =
     let same : is_a.tags ≡ is_b.tags = tags.one_list bytes (end_of bytes b.place) (b.place + 16) is_a.tags is_b.tags moved is_b.all in
     same_header a b place
     (is_a.segment ∙ ap (λ (h : ℕ). address_segment bytes h (last_of 2 is_a.tags)) place ∙ ap (λ (ts : List Tag). address_segment bytes b.place (last_of 2 ts)) same ∙ sym is_b.segment)
-    (is_a.entry ∙ ap (λ (ts : List Tag). entry_of bytes (last_of 3 ts)) same ∙ sym is_b.entry)
+    (is_a.entry ∙ ap (λ (ts : List Tag). tag_entry bytes (last_of 3 ts)) same ∙ sym is_b.entry)
     (is_a.relocation ∙ ap (λ (ts : List Tag). relocation_of bytes (last_of 10 ts)) same ∙ sym is_b.relocation)

@@ -10,8 +10,6 @@ mod laws;
 mod place;
 mod relocation;
 mod tag;
-#[cfg(test)]
-mod tests;
 
 pub use fault::HeadFault;
 pub use header::{Header, find_header};

@@ -10,8 +10,8 @@ use Rattle.std.proofs.Math.Seq.{drop-cons}
 use Rattle.bl_map.specs.declared.kind.Kind.{Kind}
 use Rattle.bl_map.specs.declared.kind.Kind.TheVariants.{Usable, Reserved, Acpi, Nvs, Bad}
 use Rattle.bl_map.specs.declared.region.Region.{Region}
-use Rattle.bl_map.specs.Kinds.{number_of, end_of}
-use Rattle.bl_mbi.specs.Info.{ModuleInfo, IsModule, IsText, AreBytes}
+use Rattle.bl_map.specs.Kinds.{kind_number, end_of}
+use Rattle.bl_mbi.specs.InformationFacts.{ModuleInfo, IsModule, IsText, AreBytes}
 use Rattle.bl_mbi.specs.Tags.{u32_bytes, u64_bytes, text_body, module_body, memory_body, run_bytes, map_body}
 use Rattle.bl_mbi.specs.Fields.{word, long}
 use Rattle.bl_mbi.specs.Bodies.{text_of, module_of, memory_of, kind_of, run_of, runs_of, map_of, load_base_of}
@@ -78,20 +78,20 @@ memory_is body sizes small h =
     rw (← told) is
 
 -- a number that is this kind's, or is looked for among the others
-kind_if : (n m : ℕ) (this : Kind) (others : Option Kind) (kind : Kind) → cond (nat_eq n m) (Some this) others ≡ Some kind → m ≡ number_of this → (others ≡ Some kind → n ≡ number_of kind) → n ≡ number_of kind
+kind_if : (n m : ℕ) (this : Kind) (others : Option Kind) (kind : Kind) → cond (nat_eq n m) (Some this) others ≡ Some kind → m ≡ kind_number this → (others ≡ Some kind → n ≡ kind_number kind) → n ≡ kind_number kind
 kind_if n m this others kind h number more =
     by_test (nat_eq n m) refl
   where
-    by_test : (b : Bool) → nat_eq n m ≡ b → n ≡ number_of kind
+    by_test : (b : Bool) → nat_eq n m ≡ b → n ≡ kind_number kind
     by_test true equal =
         let same : n ≡ m = grind (arith, nat_tests, equal) in
         let it : Some this ≡ Some kind = rw equal at h in
-        same ∙ number ∙ ap number_of (same_some this kind it)
+        same ∙ number ∙ ap kind_number (same_some this kind it)
     by_test false other =
         let it : others ≡ Some kind = rw other at h in
         more it
 
-kind_is : (n : ℕ) (kind : Kind) → kind_of n ≡ Some kind → n ≡ number_of kind
+kind_is : (n : ℕ) (kind : Kind) → kind_of n ≡ Some kind → n ≡ kind_number kind
 unfolding kind_of
 kind_is n kind h =
     kind_if n 1 Usable _ kind h refl (λ h2. kind_if n 2 Reserved _ kind h2 refl (λ h3. kind_if n 3 Acpi _ kind h3 refl (λ h4. kind_if n 4 Nvs _ kind h4 refl (λ h5. kind_if n 5 Bad None kind h5 refl (λ none. absurd (cc))))))
@@ -120,7 +120,7 @@ run_is bytes run small enough h =
     sym first ∙ ap (λ (xs : List ℕ). u64_bytes base ++ xs) (sym second)
     ∙ ap (λ (xs : List ℕ). u64_bytes base ++ (u64_bytes len ++ xs)) (at_16 ∙ sym third)
     ∙ ap₂ (λ (n : ℕ) (xs : List ℕ). u64_bytes base ++ (u64_bytes len ++ (u32_bytes n ++ xs))) kind (at_20 ∙ sym fourth)
-    ∙ ap₂ (λ (n : ℕ) (xs : List ℕ). u64_bytes base ++ (u64_bytes len ++ (u32_bytes (number_of s3.0) ++ (u32_bytes n ++ xs)))) reserved at_24
+    ∙ ap₂ (λ (n : ℕ) (xs : List ℕ). u64_bytes base ++ (u64_bytes len ++ (u32_bytes (kind_number s3.0) ++ (u32_bytes n ++ xs)))) reserved at_24
     ∙ simp append_assoc in
     let is : (bytes ≡ run_bytes told ++ drop 24 bytes) × (end_of told ≤ 2 ^ 52) = (spelled, low) in
     rw (← s3.2) is

@@ -10,8 +10,8 @@ use Rattle.std.proofs.Math.Seq.{get_or-append_seam}
 use Rattle.bl_map.specs.declared.kind.Kind.{Kind}
 use Rattle.bl_map.specs.declared.kind.Kind.TheVariants.{Usable, Reserved, Acpi, Nvs, Bad}
 use Rattle.bl_map.specs.declared.region.Region.{Region}
-use Rattle.bl_map.specs.Kinds.{number_of, end_of}
-use Rattle.bl_mbi.specs.Info.{ModuleInfo, IsModule, IsText}
+use Rattle.bl_map.specs.Kinds.{kind_number, end_of}
+use Rattle.bl_mbi.specs.InformationFacts.{ModuleInfo, IsModule, IsText}
 use Rattle.bl_mbi.specs.Tags.{u32_bytes, u64_bytes, text_body, module_body, memory_body, run_bytes, map_body}
 use Rattle.bl_mbi.specs.Fields.{word, long}
 use Rattle.bl_mbi.specs.Bodies.{text_of, module_of, memory_of, kind_of, run_of, runs_of, map_of, load_base_of}
@@ -56,7 +56,7 @@ memory_again lower upper low fits =
     let low_enough : nat_lt 640 lower ≡ false = grind (arith, nat_tests) in
     rw (whole, second, first, low_enough) refl
 
-kind_again : (kind : Kind) → kind_of (number_of kind) ≡ Some kind
+kind_again : (kind : Kind) → kind_of (kind_number kind) ≡ Some kind
 unfolding kind_of
 kind_again Usable = refl
 kind_again Reserved = refl
@@ -64,7 +64,7 @@ kind_again Acpi = refl
 kind_again Nvs = refl
 kind_again Bad = refl
 
-number_small : (kind : Kind) → number_of kind < 2 ^ 32
+number_small : (kind : Kind) → kind_number kind < 2 ^ 32
 number_small Usable = lit< tt
 number_small Reserved = lit< tt
 number_small Acpi = lit< tt
@@ -74,7 +74,7 @@ number_small Bad = lit< tt
 run_again : (run : Region) (rest : List ℕ) → end_of run ≤ 2 ^ 52 → run_of (run_bytes run ++ rest) ≡ Some run
 unfolding run_of
 run_again run rest low =
-    let kind = number_of run.kind in
+    let kind = kind_number run.kind in
     let bytes = run_bytes run ++ rest in
     let all : bytes ≡ u64_bytes run.base ++ (u64_bytes run.length ++ (u32_bytes kind ++ (u32_bytes 0 ++ rest))) = simp append_assoc in
     let behind_base : drop 8 bytes ≡ u64_bytes run.length ++ (u32_bytes kind ++ (u32_bytes 0 ++ rest)) = rw all (behind_long run.base _) in

@@ -4,7 +4,7 @@ use Rattle.std.proofs.lemmas.Bool.Decides.{nat_tests}
 use Rattle.std.proofs.lemmas.List.{append-nil}
 use Rattle.bl_mbi.specs.declared.fault.InfoFault.{InfoFault}
 use Rattle.bl_mbi.specs.declared.fault.InfoFault.TheVariants.{WrongLength, BadReserved, BadTag, BadOrder, NoMemory}
-use Rattle.bl_mbi.specs.Info.{ModuleInfo}
+use Rattle.bl_mbi.specs.InformationFacts.{ModuleInfo}
 use Rattle.bl_mbi.specs.Fields.{◌>>=◌, Fails, Left, is_next}
 use Rattle.bl_mbi.specs.Reading.{module_at, modules_upto, modules_at}
 

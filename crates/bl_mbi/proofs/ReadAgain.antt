@@ -8,11 +8,11 @@ use Rattle.std.proofs.lemmas.List.Elements.{All-head, All-tail}
 use Rattle.bl_map.specs.declared.region.Region.{Region}
 use Rattle.bl_map.specs.Kinds.{end_of}
 use Rattle.bl_mbi.specs.declared.fault.InfoFault.{InfoFault}
-use Rattle.bl_mbi.specs.Info.{Info, ModuleInfo, IsModule, IsText, IsTold}
+use Rattle.bl_mbi.specs.InformationFacts.{InformationFacts, ModuleInfo, IsModule, IsText, IsTold}
 use Rattle.bl_mbi.specs.Tags.{u32_bytes, tag, text_body, module_body, module_tag, memory_body, map_body, copy_tag, load_base_tag}
 use Rattle.bl_mbi.specs.Spelling.{tags, spelling}
 use Rattle.bl_mbi.specs.Fields.{◌>>=◌, Left, word, is_next, tag_at}
-use Rattle.bl_mbi.specs.Reading.{text_at, module_at, modules_upto, modules_at, memory_at, map_at, copy_at, load_base_at, end_at, tags_of, info_of}
+use Rattle.bl_mbi.specs.Reading.{text_tag_at, module_at, modules_upto, modules_at, memory_at, map_at, copy_at, load_base_at, end_at, tags_of, info_of}
 use Rattle.bl_mbi.proofs.Sizes.{length-u32_bytes, length-tag, length-tags, length-text_body, length-module_body, length-map_body, length-module_tag}
 use Rattle.bl_mbi.proofs.WordLaws.{word_front, behind_word, behind_words}
 use Rattle.bl_mbi.proofs.ModuleLemmas.{no_more, one_more}
@@ -26,9 +26,9 @@ from at bytes = record { at = at; bytes = bytes }
 abbrev past : ℕ → List ℕ → List ℕ → Left
 past at piece rest = from (at + length piece) rest
 
-text_at_again : (kind at : ℕ) (text rest : List ℕ) → kind < 2 ^ 32 → length text < 2 ^ 32 - 9 → IsText text → text_at kind (from at (tag kind (text_body text) ++ rest)) ≡ Ok (text, past at (tag kind (text_body text)) rest)
-unfolding text_at
-text_at_again kind at text rest kind_fits fits is =
+text_tag_at_again : (kind at : ℕ) (text rest : List ℕ) → kind < 2 ^ 32 → length text < 2 ^ 32 - 9 → IsText text → text_tag_at kind (from at (tag kind (text_body text) ++ rest)) ≡ Ok (text, past at (tag kind (text_body text)) rest)
+unfolding text_tag_at
+text_tag_at_again kind at text rest kind_fits fits is =
     let size : 8 + length (text_body text) < 2 ^ 32 = omega (arith, length-text_body text) in
     rw (tag_again kind at (text_body text) rest kind_fits size, text_again text is) refl
 
@@ -125,15 +125,15 @@ no_old at None None = next_end 14 at
 no_old at None (Some base) = next_tag 14 21 at (u32_bytes base) (tag 0 []) (lit< tt)
 
 -- the tags, one behind the other
-in_order : (l0 l1 l2 l3 l4 l5 l6 l7 l8 : Left) (name : List ℕ) (info : Info)
-    → text_at 1 l0 ≡ Ok (info.line, l1) → text_at 2 l1 ≡ Ok (name, l2) → modules_at l2 ≡ Ok (info.modules, l3)
+in_order : (l0 l1 l2 l3 l4 l5 l6 l7 l8 : Left) (name : List ℕ) (info : InformationFacts)
+    → text_tag_at 1 l0 ≡ Ok (info.line, l1) → text_tag_at 2 l1 ≡ Ok (name, l2) → modules_at l2 ≡ Ok (info.modules, l3)
     → memory_at l3 ≡ Ok ((info.mem_lower, info.mem_upper), l4) → map_at l4 ≡ Ok (info.runs, l5)
     → copy_at 14 l5 ≡ Ok (info.rsdp_old, l6) → copy_at 15 l6 ≡ Ok (info.rsdp_new, l7) → load_base_at l7 ≡ Ok (info.load_base, l8) → end_at l8 ≡ Ok tt
     → tags_of l0 ≡ Ok record { name = name; facts = info }
 unfolding tags_of
 in_order l0 l1 l2 l3 l4 l5 l6 l7 l8 name info line loader modules memory map old new base end = rw (line, loader, modules, memory, map, old, new, base, end) refl
 
-pub tags_again : (at : ℕ) (name : List ℕ) (info : Info) → IsText name → IsTold info → 8 + length (tags name info) < 2 ^ 32 → tags_of (from at (tags name info)) ≡ Ok record { name = name; facts = info }
+pub tags_again : (at : ℕ) (name : List ℕ) (info : InformationFacts) → IsText name → IsTold info → 8 + length (tags name info) < 2 ^ 32 → tags_of (from at (tags name info)) ≡ Ok record { name = name; facts = info }
 tags_again at name info name_is is fits =
     let line = tag 1 (text_body info.line) in
     let loader = tag 2 (text_body name) in
@@ -164,8 +164,8 @@ tags_again at name info name_is is fits =
     let name_fits : length name < 2 ^ 32 - 9 = omega (arith, length-tag 2 (text_body name), length-text_body name) in
     let map_fits : 24 * length info.runs < 2 ^ 32 - 16 = omega (arith, length-tag 6 (map_body info.runs), length-map_body info.runs) in
     in_order (from at (tags name info)) l1 l2 l3 l4 l5 l6 l7 l8 name info
-    (text_at_again 1 at info.line r1 (lit< tt) line_fits is.line)
-    (text_at_again 2 l1.at name r2 (lit< tt) name_fits name_is)
+    (text_tag_at_again 1 at info.line r1 (lit< tt) line_fits is.line)
+    (text_tag_at_again 2 l1.at name r2 (lit< tt) name_fits name_is)
     (modules_at_again l2.at info.modules r3 (omega arith) is.modules (λ there. next_tag 3 4 there (memory_body info.mem_lower info.mem_upper) r4 (lit< tt)))
     (memory_at_again l3.at info.mem_lower info.mem_upper r4 is.mem_lower is.mem_upper)
     (map_at_again l4.at info.runs r5 map_fits is.runs)
@@ -174,7 +174,7 @@ tags_again at name info name_is is fits =
     (load_base_at_again l7.at info.load_base r8 is.load_base (no_base l8.at))
     (end_at_again l8.at)
 
-pub spelled_is_read : (name : List ℕ) (info : Info) → IsText name → IsTold info → length (spelling name info) < 2 ^ 32 → info_of (spelling name info) ≡ Ok record { name = name; facts = info }
+pub spelled_is_read : (name : List ℕ) (info : InformationFacts) → IsText name → IsTold info → length (spelling name info) < 2 ^ 32 → info_of (spelling name info) ≡ Ok record { name = name; facts = info }
 unfolding info_of spelling
 spelled_is_read name info name_is is fits =
     let all = tags name info in

@@ -8,13 +8,13 @@ use Rattle.std.proofs.lemmas.List.{drop-drop, drop_all, append-nil}
 use Rattle.std.proofs.lemmas.List.Elements.{All-nil, All-cons}
 use Rattle.bl_map.specs.declared.region.Region.{Region}
 use Rattle.bl_map.specs.Kinds.{end_of}
-use Rattle.bl_mbi.specs.Info.{Info, ModuleInfo, IsModule, IsText, AreBytes, IsTold}
-use Rattle.bl_mbi.specs.Told.{Told, IsSpelled}
+use Rattle.bl_mbi.specs.InformationFacts.{InformationFacts, ModuleInfo, IsModule, IsText, AreBytes, IsTold}
+use Rattle.bl_mbi.specs.InfoFacts.{InfoFacts, IsSpelled}
 use Rattle.bl_mbi.specs.Tags.{u32_bytes, tag, text_body, module_body, module_tag, memory_body, map_body, copy_tag, load_base_tag}
 use Rattle.bl_mbi.specs.Spelling.{tags, spelling}
 use Rattle.bl_mbi.specs.Fields.{Left, word, is_next, tag_at, or_bad}
 use Rattle.bl_mbi.specs.Bodies.{text_of, module_of, memory_of, map_of, load_base_of}
-use Rattle.bl_mbi.specs.Reading.{text_at, module_at, modules_upto, modules_at, memory_at, map_at, copy_at, load_base_at, end_at, tags_of, info_of}
+use Rattle.bl_mbi.specs.Reading.{text_tag_at, module_at, modules_upto, modules_at, memory_at, map_at, copy_at, load_base_at, end_at, tags_of, info_of}
 use Rattle.bl_mbi.proofs.Inverse.{passed, passed_last, made, told_by, chosen, same_ok}
 use Rattle.bl_mbi.proofs.WordLaws.{word_then}
 use Rattle.bl_mbi.proofs.TagIs.{IsRead, drop_small, tag_is}
@@ -33,9 +33,9 @@ both_read l0 l1 l2 a b first second =
 read_as : (kind : ℕ) (left after : Left) (body piece : List ℕ) → IsRead left (tag kind body) after → body ≡ piece → IsRead left (tag kind piece) after
 read_as kind left after body piece is e = rw (← e) is
 
-text_at_is : (kind : ℕ) (left : Left) (read : List ℕ × Left) → AreBytes left.bytes → text_at kind left ≡ Ok read → IsRead left (tag kind (text_body read.0)) read.1 × IsText read.0
-unfolding text_at
-text_at_is kind left read small h =
+text_tag_at_is : (kind : ℕ) (left : Left) (read : List ℕ × Left) → AreBytes left.bytes → text_tag_at kind left ≡ Ok read → IsRead left (tag kind (text_body read.0)) read.1 × IsText read.0
+unfolding text_tag_at
+text_tag_at_is kind left read small h =
     let s1 = made (tag_at kind left) _ read h in
     let s2 = made (or_bad left.at (text_of s1.0.0)) _ read s1.2 in
     let whole = tag_is kind left s1.0 small s1.1 in
@@ -143,7 +143,7 @@ end_at_is left small h =
     whole.0.bytes ∙ ap₂ (λ (body rest : List ℕ). tag 0 body ++ rest) no_body no_rest ∙ append-nil (tag 0 [])
 
 -- the tags that were read, one behind the other
-record IsInOrder (left : Left) (told : Told) : Type 0 where
+record IsInOrder (left : Left) (told : InfoFacts) : Type 0 where
   bytes : left.bytes ≡ tags told.name told.facts
   name : IsText told.name
   facts : IsTold told.facts
@@ -153,11 +153,11 @@ in_order : (l0 l1 l2 l3 l4 l5 l6 l7 l8 : Left) (a b c d e f g h i : List ℕ) �
 in_order l0 l1 l2 l3 l4 l5 l6 l7 l8 a b c d e f g h i r1 r2 r3 r4 r5 r6 r7 r8 last =
     rw (r1.bytes, r2.bytes, r3.bytes, r4.bytes, r5.bytes, r6.bytes, r7.bytes, r8.bytes, last) refl
 
-tags_are : (left : Left) (told : Told) → AreBytes left.bytes → tags_of left ≡ Ok told → IsInOrder left told
+tags_are : (left : Left) (told : InfoFacts) → AreBytes left.bytes → tags_of left ≡ Ok told → IsInOrder left told
 unfolding tags_of
 tags_are left told small h =
-    let s1 = made (text_at 1 left) _ told h in
-    let s2 = made (text_at 2 s1.0.1) _ told s1.2 in
+    let s1 = made (text_tag_at 1 left) _ told h in
+    let s2 = made (text_tag_at 2 s1.0.1) _ told s1.2 in
     let s3 = made (modules_at s2.0.1) _ told s2.2 in
     let s4 = made (memory_at s3.0.1) _ told s3.2 in
     let s5 = made (map_at s4.0.1) _ told s4.2 in
@@ -165,8 +165,8 @@ tags_are left told small h =
     let s7 = made (copy_at 15 s6.0.1) _ told s6.2 in
     let s8 = made (load_base_at s7.0.1) _ told s7.2 in
     let s9 = made (end_at s8.0.1) _ told s8.2 in
-    let line = text_at_is 1 left s1.0 small s1.1 in
-    let name = text_at_is 2 s1.0.1 s2.0 line.0.small s2.1 in
+    let line = text_tag_at_is 1 left s1.0 small s1.1 in
+    let name = text_tag_at_is 2 s1.0.1 s2.0 line.0.small s2.1 in
     let modules = modules_at_are s2.0.1 s3.0 name.0.small s3.1 in
     let memory = memory_at_is s3.0.1 s4.0 modules.0.small s4.1 in
     let map = map_at_is s4.0.1 s5.0 memory.0.small s5.1 in
@@ -174,8 +174,8 @@ tags_are left told small h =
     let new = copy_at_is 15 s6.0.1 s7.0 old.0.small s7.1 in
     let base = load_base_at_is s7.0.1 s8.0 new.0.small s8.1 in
     let end : s8.0.1.bytes ≡ tag 0 [] = end_at_is s8.0.1 base.0.small s9.1 in
-    let facts : Info = record { line = s1.0.0; modules = s3.0.0; mem_lower = s4.0.0.0; mem_upper = s4.0.0.1; runs = s5.0.0; rsdp_old = s6.0.0; rsdp_new = s7.0.0; load_base = s8.0.0 } in
-    let told_is : Told = record { name = s2.0.0; facts = facts } in
+    let facts : InformationFacts = record { line = s1.0.0; modules = s3.0.0; mem_lower = s4.0.0.0; mem_upper = s4.0.0.1; runs = s5.0.0; rsdp_old = s6.0.0; rsdp_new = s7.0.0; load_base = s8.0.0 } in
+    let told_is : InfoFacts = record { name = s2.0.0; facts = facts } in
     let is : IsInOrder left told_is = record {
       bytes = in_order left s1.0.1 s2.0.1 s3.0.1 s4.0.1 s5.0.1 s6.0.1 s7.0.1 s8.0.1 _ _ _ _ _ _ _ _ _ line.0 name.0 modules.0 memory.0 map.0 old.0 new.0 base.0 end;
       name = name.1;
@@ -184,7 +184,7 @@ tags_are left told small h =
     rw (← same_ok told_is told s9.2) is
 
 -- what was read is spelled so
-pub read_is_spelled : (bytes : List ℕ) (told : Told) → AreBytes bytes → info_of bytes ≡ Ok told → IsSpelled bytes told
+pub read_is_spelled : (bytes : List ℕ) (told : InfoFacts) → AreBytes bytes → info_of bytes ≡ Ok told → IsSpelled bytes told
 unfolding info_of spelling
 read_is_spelled bytes told small h =
     let s1 = passed (nat_lt (length bytes) 16) _ _ told h in

@@ -6,7 +6,7 @@ use Rattle.std.proofs.lemmas.List.{length-replicate}
 use Rattle.std.proofs.lemmas.List.Sums.{sum_by-cons}
 use Rattle.bl_map.specs.declared.region.Region.{Region}
 use Rattle.bl_mbi.specs.Size.{tag_size, copy_size, load_base_size}
-use Rattle.bl_mbi.specs.Info.{Info, ModuleInfo, info_size}
+use Rattle.bl_mbi.specs.InformationFacts.{InformationFacts, ModuleInfo, info_size}
 use Rattle.bl_mbi.specs.Tags.{u32_bytes, u64_bytes, padding, tag, text_body, module_body, module_tag, memory_body, run_bytes, map_body, copy_tag, load_base_tag}
 use Rattle.bl_mbi.specs.Spelling.{tags, spelling}
 
@@ -57,7 +57,7 @@ pub length-load_base_tag : (base : Option ℕ) → length (load_base_tag base) �
 length-load_base_tag None = refl
 length-load_base_tag (Some base) = length-tag 21 (u32_bytes base) ∙ ap tag_size (length-u32_bytes base)
 
-pub length-tags : (name : List ℕ) (info : Info) → length (tags name info) + 32 ≡ info_size info + tag_size (length name + 1)
+pub length-tags : (name : List ℕ) (info : InformationFacts) → length (tags name info) + 32 ≡ info_size info + tag_size (length name + 1)
 length-tags name info =
     let line = length-tag 1 (text_body info.line) ∙ ap tag_size (length-text_body info.line) in
     let loader = length-tag 2 (text_body name) ∙ ap tag_size (length-text_body name) in
@@ -67,15 +67,15 @@ length-tags name info =
     omega (arith, length-append {A = ℕ}, line, loader, memory, map, last, length-u32_bytes, length-modules info.modules, length-copy_tag 14 info.rsdp_old, length-copy_tag 15 info.rsdp_new, length-load_base_tag info.load_base)
 
 -- by any loader's name
-pub length-spelling_by : (name : List ℕ) (info : Info) → length (spelling name info) + 24 ≡ info_size info + tag_size (length name + 1)
+pub length-spelling_by : (name : List ℕ) (info : InformationFacts) → length (spelling name info) + 24 ≡ info_size info + tag_size (length name + 1)
 unfolding spelling
 length-spelling_by name info = omega (arith, length-append {A = ℕ}, length-u32_bytes, length-tags name info)
 
 -- with the name that is written
-pub length-spelling : (info : Info) → length (spelling (codes "bootcore") info) ≡ info_size info
+pub length-spelling : (info : InformationFacts) → length (spelling (codes "bootcore") info) ≡ info_size info
 length-spelling info = omega (arith, length-spelling_by (codes "bootcore") info)
 
 -- no address and no number has a part in the size
-pub same_size : (i j : Info) → length i.line ≡ length j.line → map (λ m. length m.line) i.modules ≡ map (λ m. length m.line) j.modules → length i.runs ≡ length j.runs
+pub same_size : (i j : InformationFacts) → length i.line ≡ length j.line → map (λ m. length m.line) i.modules ≡ map (λ m. length m.line) j.modules → length i.runs ≡ length j.runs
     → option_map length i.rsdp_old ≡ option_map length j.rsdp_old → option_map length i.rsdp_new ≡ option_map length j.rsdp_new → is_some i.load_base ≡ is_some j.load_base → info_size i ≡ info_size j
 same_size i j line lines runs old new base = rw (line, lines, runs, old, new, base) refl

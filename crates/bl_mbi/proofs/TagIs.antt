@@ -7,7 +7,7 @@ use Rattle.std.proofs.lemmas.Bool.Decides.{nat_tests}
 use Rattle.std.proofs.lemmas.List.{drop-drop, places, take-append-drop}
 use Rattle.std.proofs.lemmas.List.Elements.{All-take, All-drop}
 use Rattle.bl_mbi.specs.Size.{padded}
-use Rattle.bl_mbi.specs.Info.{AreBytes}
+use Rattle.bl_mbi.specs.InformationFacts.{AreBytes}
 use Rattle.bl_mbi.specs.Tags.{u32_bytes, padding, tag}
 use Rattle.bl_mbi.specs.Fields.{Left, word, tag_at}
 use Rattle.bl_mbi.proofs.Inverse.{passed, same_ok}

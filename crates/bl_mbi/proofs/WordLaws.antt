@@ -4,7 +4,7 @@ use Rattle.std.proofs.lemmas.List.{places, take-append-drop, get_or_past}
 use Rattle.std.proofs.lemmas.List.Elements.{All-get_or, All-take}
 use Rattle.std.proofs.lemmas.Bool.{cases_lt}
 use Rattle.std.proofs.lemmas.Nat.{from_le_bytes-to_le_bytes_4, from_le_bytes-to_le_bytes_8, le_bytes_4, le_bytes_8}
-use Rattle.bl_mbi.specs.Info.{AreBytes}
+use Rattle.bl_mbi.specs.InformationFacts.{AreBytes}
 use Rattle.bl_mbi.specs.Tags.{u32_bytes, u64_bytes}
 use Rattle.bl_mbi.specs.Fields.{word, long}
 

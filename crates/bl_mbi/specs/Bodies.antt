@@ -4,7 +4,7 @@ use Rattle.std.specs.List.{list_any}
 use Rattle.bl_map.specs.declared.kind.Kind.{Kind}
 use Rattle.bl_map.specs.declared.kind.Kind.TheVariants.{Usable, Reserved, Acpi, Nvs, Bad}
 use Rattle.bl_map.specs.declared.region.Region.{Region}
-use Rattle.bl_mbi.specs.Info.{ModuleInfo}
+use Rattle.bl_mbi.specs.InformationFacts.{ModuleInfo}
 use Rattle.bl_mbi.specs.Fields.{word, long}
 
 -- 3.6.5 "Boot command line", 3.6.9 "Boot loader name": a text with its one zero behind it

@@ -1,18 +1,18 @@
 -- How long the groups of tags are that are written one after the other. Own.
 use Rattle.std.specs.Prelude.{◌+◌, ◌*◌, ℕ, length, sum_by, option_map, is_some}
 use Rattle.bl_mbi.specs.Size.{tag_size, copy_size, load_base_size}
-use Rattle.bl_mbi.specs.Info.{Info}
+use Rattle.bl_mbi.specs.InformationFacts.{InformationFacts}
 
 -- types 1, 2 and 3, with the loader's name `bootcore`
-abbrev pub texts_size : Info → ℕ
+abbrev pub texts_size : InformationFacts → ℕ
 texts_size info = tag_size (length info.line + 1) + 24 + sum_by (λ m. tag_size (length m.line + 9)) info.modules
 
 -- types 4 and 6
-abbrev pub map_size : Info → ℕ
+abbrev pub map_size : InformationFacts → ℕ
 map_size info = 32 + 24 * length info.runs
 
 -- types 14, 15, 21 and 0
-abbrev pub last_size : Info → ℕ
+abbrev pub last_size : InformationFacts → ℕ
 last_size info =
     copy_size (option_map length info.rsdp_old) + copy_size (option_map length info.rsdp_new)
     + load_base_size (is_some info.load_base) + 8

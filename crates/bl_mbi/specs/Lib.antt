@@ -1,9 +1,9 @@
 pub mod Bodies
 pub mod Fields
 pub mod Groups
-pub mod Info
+pub mod InformationFacts
 pub mod Reading
 pub mod Size
 pub mod Spelling
 pub mod Tags
-pub mod Told
+pub mod InfoFacts

@@ -4,13 +4,13 @@ use Rattle.std.specs.Prelude.{◌==◌, ℕ, zero, suc, not, if◌then◌else◌
 use Rattle.bl_map.specs.declared.region.Region.{Region}
 use Rattle.bl_mbi.specs.declared.fault.InfoFault.{InfoFault}
 use Rattle.bl_mbi.specs.declared.fault.InfoFault.TheVariants.{WrongLength, BadReserved, BadTag, BadOrder}
-use Rattle.bl_mbi.specs.Info.{ModuleInfo}
+use Rattle.bl_mbi.specs.InformationFacts.{ModuleInfo}
 use Rattle.bl_mbi.specs.Fields.{◌>>=◌, Left, word, is_next, tag_at, or_bad}
 use Rattle.bl_mbi.specs.Bodies.{text_of, module_of, memory_of, map_of, load_base_of}
-use Rattle.bl_mbi.specs.Told.{Told}
+use Rattle.bl_mbi.specs.InfoFacts.{InfoFacts}
 
-unfoldable pub text_at : ℕ → Left → Result (List ℕ × Left) InfoFault
-text_at kind left = do
+unfoldable pub text_tag_at : ℕ → Left → Result (List ℕ × Left) InfoFault
+text_tag_at kind left = do
   tag ← tag_at kind left
   text ← or_bad left.at (text_of tag.0)
   Ok (text, tag.1)
@@ -67,10 +67,10 @@ end_at left = do
   if not (length tag.0 == 0) then Err (BadTag left.at) else if length tag.1.bytes == 0 then Ok tt else Err (BadOrder tag.1.at)
 
 -- the tags in their order
-unfoldable pub tags_of : Left → Result Told InfoFault
+unfoldable pub tags_of : Left → Result InfoFacts InfoFault
 tags_of left = do
-  line ← text_at 1 left
-  name ← text_at 2 line.1
+  line ← text_tag_at 1 left
+  name ← text_tag_at 2 line.1
   modules ← modules_at name.1
   memory ← memory_at modules.1
   map ← map_at memory.1
@@ -93,7 +93,7 @@ tags_of left = do
   }
 
 -- "Basic structure": total_size, reserved, the tags
-unfoldable pub info_of : List ℕ → Result Told InfoFault
+unfoldable pub info_of : List ℕ → Result InfoFacts InfoFault
 info_of bytes =
     if nat_lt (length bytes) 16 then Err WrongLength else
     if not (word bytes == length bytes) then Err WrongLength else

@@ -3,8 +3,8 @@ use Rattle.std.specs.Prelude.{◌+◌, ◌-◌, ◌%◌, ℕ, List, [], ◌∷�
 use Rattle.std.specs.List.{flat_map}
 use Rattle.std.specs.Int.{w32, w64, to_le_bytes}
 use Rattle.bl_map.specs.declared.region.Region.{Region}
-use Rattle.bl_map.specs.Kinds.{number_of}
-use Rattle.bl_mbi.specs.Info.{ModuleInfo}
+use Rattle.bl_map.specs.Kinds.{kind_number}
+use Rattle.bl_mbi.specs.InformationFacts.{ModuleInfo}
 
 -- little-endian numbers
 unfoldable pub u32_bytes : ℕ → List ℕ
@@ -38,7 +38,7 @@ memory_body mem_lower mem_upper = u32_bytes mem_lower ++ u32_bytes mem_upper
 
 -- an entry of the memory map, 3.6.8: base_addr, length, type, reserved
 abbrev pub run_bytes : Region → List ℕ
-run_bytes run = u64_bytes run.base ++ (u64_bytes run.length ++ (u32_bytes (number_of run.kind) ++ u32_bytes 0))
+run_bytes run = u64_bytes run.base ++ (u64_bytes run.length ++ (u32_bytes (kind_number run.kind) ++ u32_bytes 0))
 
 -- 3.6.8 "Memory map" (type 6): entry_size, entry_version, entries
 abbrev pub map_body : List Region → List ℕ

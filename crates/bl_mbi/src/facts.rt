@@ -21,9 +21,9 @@ pub struct Facts<A: Allocator> {
 }
 
 impl<A: Allocator> Model for Facts<A> {
-    ghost use Rattle.bl_mbi.specs.Info.{Info, IsInfo};
+    ghost use Rattle.bl_mbi.specs.InformationFacts.{InformationFacts, IsInfo};
 
-    ghost Value = { Info };
+    ghost Value = { InformationFacts };
 
     ghost view = { λ f. record {
       line = f.line;
@@ -50,7 +50,7 @@ impl<A: Allocator> Model for Facts<A> {
 
 impl<A: Allocator> Facts<A> {
     ghost use Rattle.std.specs.Prelude.{◌≡◌};
-    ghost use Rattle.bl_mbi.specs.Info.{IsInfo};
+    ghost use Rattle.bl_mbi.specs.InformationFacts.{IsInfo};
 
     /// The facts of these parts. Sizes of memory are in KiB.
     #[allow(clippy::too_many_arguments)]

@@ -20,9 +20,9 @@ pub struct Info<A: Allocator> {
 }
 
 impl<A: Allocator> Model for Info<A> {
-    ghost use Rattle.bl_mbi.specs.Told.{Told};
+    ghost use Rattle.bl_mbi.specs.InfoFacts.{InfoFacts};
 
-    ghost Value = { Told };
+    ghost Value = { InfoFacts };
 
     ghost view = { λ i. record {
       name = i.name;

@@ -1,7 +1,7 @@
 //! The boot information that a Multiboot2 kernel is handed: what it tells, written as bytes and read from them.
 //!
 //! Two things are called `Info`. The struct `Info`, what was read, has the loader's name too, and contracts see it as the
-//! record `Told`. The record `Info` of the contracts is what they see of `Facts`, and has no name of a loader.
+//! record `InfoFacts`. The record `Info` of the contracts is what they see of `Facts`, and has no name of a loader.
 #![tactic(auto)]
 
 mod bodies;
@@ -16,8 +16,6 @@ mod read;
 mod reader;
 mod rest;
 mod tags;
-#[cfg(test)]
-mod tests;
 mod write;
 
 pub use facts::Facts;

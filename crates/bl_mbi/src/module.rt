@@ -13,7 +13,7 @@ pub struct Module<A: Allocator> {
 }
 
 impl<A: Allocator> Model for Module<A> {
-    ghost use Rattle.bl_mbi.specs.Info.{ModuleInfo};
+    ghost use Rattle.bl_mbi.specs.InformationFacts.{ModuleInfo};
 
     ghost Value = { ModuleInfo };
 

@@ -54,13 +54,13 @@ fn tag_at<'a>(kind: u32, rest: Rest<'a>) -> Result<(&'a [u8], Rest<'a>), InfoFau
 }
 
 /// The text in a tag of this type.
-#[tactic(auto, unfolding(crate::specs::Reading::text_at))]
-pub(crate) fn text_at<'a, A: Allocator>(
+#[tactic(auto, unfolding(crate::specs::Reading::text_tag_at))]
+pub(crate) fn text_tag_at<'a, A: Allocator>(
     alloc: A,
     kind: u32,
     rest: Rest<'a>,
 ) -> Result<(Bytes<A>, Rest<'a>), InfoFault>
-    ensures { Gives (λ x. (x.0, left_of x.1)) result (spec.text_at kind (left_of rest.entry)) }
+    ensures { Gives (λ x. (x.0, left_of x.1)) result (spec.text_tag_at kind (left_of rest.entry)) }
 {
     let (body, after) = tag_at(kind, rest)?;
     let Some(text) = text_of(body) else {

@@ -1,6 +1,6 @@
 //! Boot information, read.
 ghost use Rattle.std.specs.Prelude.{◌≡◌, ◌^◌, ◌<◌, length, IfOk, MatchResult};
-ghost use Rattle.bl_mbi.specs.Told.{Told, IsSpelled};
+ghost use Rattle.bl_mbi.specs.InfoFacts.{InfoFacts, IsSpelled};
 ghost use Rattle.bl_mbi.specs.declared.fault.InfoFault.TheVariants.{NoMemory};
 ghost use Rattle.bl_mbi.specs.Fields.{Gives, left_of};
 ghost use Rattle.bl_mbi.specs.Reading as spec;
@@ -9,7 +9,7 @@ use crate::bodies::word;
 use crate::fault::InfoFault;
 use crate::format::{TAG_ACPI_NEW, TAG_ACPI_OLD, TAG_BOOT_LOADER_NAME, TAG_COMMAND_LINE};
 use crate::info::Info;
-use crate::read::{copy_at, end_at, load_base_at, map_at, memory_at, modules_at, text_at};
+use crate::read::{copy_at, end_at, load_base_at, map_at, memory_at, modules_at, text_tag_at};
 use crate::rest::Rest;
 use std::alloc::Allocator;
 
@@ -18,8 +18,8 @@ use std::alloc::Allocator;
 fn tags_of<A: Allocator + Copy>(alloc: A, rest: Rest) -> Result<Info<A>, InfoFault>
     ensures { Gives (λ told. told) result (spec.tags_of (left_of rest.entry)) }
 {
-    let (line, rest) = text_at(alloc, TAG_COMMAND_LINE, rest)?;
-    let (name, rest) = text_at(alloc, TAG_BOOT_LOADER_NAME, rest)?;
+    let (line, rest) = text_tag_at(alloc, TAG_COMMAND_LINE, rest)?;
+    let (name, rest) = text_tag_at(alloc, TAG_BOOT_LOADER_NAME, rest)?;
     let (modules, rest) = modules_at(alloc, rest)?;
     let ((mem_lower, mem_upper), rest) = memory_at(rest)?;
     let (runs, rest) = map_at(alloc, rest)?;
@@ -67,7 +67,7 @@ pub fn read_info<A: Allocator + Copy>(alloc: A, bytes: &[u8]) -> Result<Info<A>,
     ensures spelled { IfOk result (IsSpelled bytes.now) }
 
     // Only memory can be wanting where the bytes are a spelling.
-    ensures accepts { (told : Told) → IsSpelled bytes.now told → length bytes.now < 2 ^ 32
+    ensures accepts { (told : InfoFacts) → IsSpelled bytes.now told → length bytes.now < 2 ^ 32
         → MatchResult result (λ read. read ≡ told) (λ fault. fault ≡ NoMemory) }
     ensures first_fault { Gives (λ told. told) result (spec.info_of bytes.now) }
 {

@@ -2,7 +2,7 @@
 ghost use Rattle.std.specs.Prelude.{◌≡◌, ◌≤◌, ◌+◌, ◌^◌, ◌<◌, ◌++◌, [], codes, length, sum_by, option_map, vec_len, vec_capacity, IsOk, OnOk, OnErr};
 ghost use Rattle.std.specs.List.{flat_map};
 ghost use Rattle.bl_mbi.specs.Size.{tag_size, copy_size};
-ghost use Rattle.bl_mbi.specs.Info.{info_size as size_told};
+ghost use Rattle.bl_mbi.specs.InformationFacts.{info_size as size_told};
 ghost use Rattle.bl_mbi.specs.Spelling.{spelling};
 ghost use Rattle.bl_mbi.specs.Tags.{tag, text_body, module_tag, memory_body, map_body, copy_tag, load_base_tag};
 ghost use Rattle.bl_mbi.specs.Groups.{texts_size, map_size, last_size};

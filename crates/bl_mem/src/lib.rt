@@ -5,8 +5,6 @@ mod bytes;
 mod flat;
 mod memory;
 mod segment;
-#[cfg(test)]
-mod tests;
 mod view;
 mod words;
 

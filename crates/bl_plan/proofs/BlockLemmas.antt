@@ -2,7 +2,7 @@
 use Rattle.std.proofs.Common.{◌<◌, ◌≤◌, ◌+◌, ℕ, List, arith, inl, inr}
 use Rattle.std.proofs.lemmas.Bool.{cases_lt}
 use Rattle.std.specs.declared.ops.Range.{Range}
-use Rattle.bl_map.specs.Facts.{Facts}
+use Rattle.bl_map.specs.MachineFacts.{MachineFacts}
 use Rattle.bl_plan.specs.Permitted.{IsPermitted, IsFree, IsBlocked}
 
 -- a blocked stretch is blocked for what asks more
@@ -19,7 +19,7 @@ not_all P start end stretch some h all =
     ]
 
 -- no address from at up to the stretch's end is permitted
-pub none_up_to_end : (facts : Facts) (taken : List (Range ℕ)) (length align low high at a : ℕ) (stretch : Range ℕ) → 1 ≤ length
+pub none_up_to_end : (facts : MachineFacts) (taken : List (Range ℕ)) (length align low high at a : ℕ) (stretch : Range ℕ) → 1 ≤ length
     → IsBlocked (IsFree facts taken) at (at + length) stretch → at ≤ a → a < stretch.end → IsPermitted facts taken length align low high a → ⊥
 none_up_to_end facts taken length align low high at a stretch some h above below p =
     elim (cases_lt a stretch.start) [
@@ -29,7 +29,7 @@ none_up_to_end facts taken length align low high at a stretch some h above below
     ]
 
 -- no address up to at from which the bytes reach into the stretch is permitted
-pub none_down_to_start : (facts : Facts) (taken : List (Range ℕ)) (length align low high at a : ℕ) (stretch : Range ℕ) → 1 ≤ length
+pub none_down_to_start : (facts : MachineFacts) (taken : List (Range ℕ)) (length align low high at a : ℕ) (stretch : Range ℕ) → 1 ≤ length
     → IsBlocked (IsFree facts taken) at (at + length) stretch → a ≤ at → stretch.start < a + length → IsPermitted facts taken length align low high a → ⊥
 none_down_to_start facts taken length align low high at a stretch some h below above p =
     let e = h.meets_start in let f = h.forward in

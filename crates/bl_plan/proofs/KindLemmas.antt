@@ -8,14 +8,14 @@ use Rattle.std.proofs.lemmas.List.Elements.{All-head, All-tail}
 use Rattle.bl_map.specs.declared.kind.Kind.{Kind}
 use Rattle.bl_map.specs.declared.kind.Kind.TheVariants.{Usable, Reserved, Acpi, Nvs, Bad}
 use Rattle.bl_map.specs.declared.region.Region.{Region}
-use Rattle.bl_map.specs.Kinds.{kind_at, number_of, holds, end_of, AreRuns, ComesBefore}
+use Rattle.bl_map.specs.Kinds.{kind_at, kind_number, holds, end_of, AreRuns, ComesBefore}
 use Rattle.bl_plan.specs.Permitted.{IsBlocked}
 
 -- a run of kind usable that holds an address
 abbrev pub IsUsableRun : ℕ → Region → Type 0
 IsUsableRun a run = (run.kind ≡ Usable) × (run.base ≤ a) × (a < end_of run)
 
-usable_by_number : (kind : Kind) → number_of kind ≡ 1 → kind ≡ Usable
+usable_by_number : (kind : Kind) → kind_number kind ≡ 1 → kind ≡ Usable
 usable_by_number Usable h = refl
 usable_by_number Reserved h = absurd (omega arith)
 usable_by_number Acpi h = absurd (omega arith)
@@ -44,7 +44,7 @@ run_of_usable [] a h = absurd (omega arith)
 run_of_usable (run ∷ runs) a h =
     elim (cases_lt (kind_at runs a) 1) [
       | inl less ↦
-          let (in_it, one) = where_one (holds run a) (number_of run.kind) (omega arith) in
+          let (in_it, one) = where_one (holds run a) (kind_number run.kind) (omega arith) in
           (0, run, omega arith, refl, (usable_by_number run.kind one, (held run a in_it).0, (held run a in_it).1))
       | inr more ↦
           let (k, x, within, at, here) = run_of_usable runs a (omega arith) in

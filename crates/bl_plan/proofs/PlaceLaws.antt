@@ -3,7 +3,7 @@ use Rattle.std.proofs.Common.{◌≡◌, ◌<◌, ◌+◌, ℕ, zero, suc, List,
 use Rattle.std.specs.List.{AllZip}
 use Rattle.std.proofs.lemmas.List.Elements.{All-nil, All-cons}
 use Rattle.std.specs.declared.ops.Range.{Range}
-use Rattle.bl_map.specs.Facts.{Facts, AllUsable}
+use Rattle.bl_map.specs.MachineFacts.{MachineFacts, AllUsable}
 use Rattle.bl_mem.specs.Memory.{IsIn}
 use Rattle.bl_mem.specs.Least.{IsLeast, IsGreatest}
 use Rattle.bl_plan.specs.Permitted.{AllOpen, IsPermitted, IsPreferred, HasFixedFault, HasNoRoom}
@@ -48,7 +48,7 @@ one_no_room P NoRoom Overlap p q = absurd q
 one_no_room P NoRoom NoRoom p q = refl
 one_no_room P NoRoom NoMemory p q = absurd q
 
-module _ (facts : Facts) where
+module _ (facts : MachineFacts) where
   not_fixed : (taken : List (Range ℕ)) (start end : ℕ) (f : PlanFault) → AllUsable facts start end → AllOpen taken start end → HasFixedFault facts taken start end f → ⊥
   not_fixed taken start end NotUsable usable free q = q usable
   not_fixed taken start end Overlap usable free q = q.1 free

@@ -1,7 +1,7 @@
 -- The places of an entry's parts, row by row, each against the places before it. Own.
 use Rattle.std.specs.Prelude.{◌≡◌, ◌+◌, ◌<◌, ◌≤◌, ◌⊎◌, ℕ, List, [], ◌∷◌}
 use Rattle.std.specs.declared.ops.Range.{Range}
-use Rattle.bl_map.specs.Facts.{Facts, AllUsable}
+use Rattle.bl_map.specs.MachineFacts.{MachineFacts, AllUsable}
 use Rattle.bl_mem.specs.Least.{IsLeast, IsGreatest}
 use Rattle.bl_plan.specs.Permitted.{AllOpen, IsPermitted, IsPreferred, HasFixedFault, HasNoRoom, OrNoMemory}
 use Rattle.bl_plan.specs.Planned.{put_in}
@@ -12,14 +12,14 @@ use Rattle.bl_plan.specs.declared.row.Row.{Row}
 use Rattle.bl_plan.specs.declared.place.Place.{Place}
 
 -- the address that a choice asks for, for so many bytes beside what is taken
-abbrev pub IsChosen : Facts → List (Range ℕ) → ℕ → Choice → ℕ → Type 0
+abbrev pub IsChosen : MachineFacts → List (Range ℕ) → ℕ → Choice → ℕ → Type 0
 IsChosen facts taken length (Fixed at) a = (a ≡ at) × AllUsable facts at (at + length) × AllOpen taken at (at + length)
 IsChosen facts taken length (Lowest align low high) a = IsLeast (IsPermitted facts taken length align low high) a
 IsChosen facts taken length (Highest align low high) a = IsGreatest (IsPermitted facts taken length align low high) a
 IsChosen facts taken length (Preferred at align low high) a = IsPreferred at (IsPermitted facts taken length align low high) a
 
 -- the choice can't be met, for this reason
-abbrev pub HasFault : Facts → List (Range ℕ) → ℕ → Choice → PlanFault → Type 0
+abbrev pub HasFault : MachineFacts → List (Range ℕ) → ℕ → Choice → PlanFault → Type 0
 HasFault facts taken length (Fixed at) fault = HasFixedFault facts taken at (at + length) fault
 HasFault facts taken length (Lowest align low high) fault = HasNoRoom (IsPermitted facts taken length align low high) fault
 HasFault facts taken length (Highest align low high) fault = HasNoRoom (IsPermitted facts taken length align low high) fault
@@ -33,7 +33,7 @@ abbrev pub range_of : Place → Range ℕ
 range_of place = record { start = place.address; end = place.address + place.length }
 
 -- these are the places of these rows beside what is taken, each row against the places before it
-abbrev pub ArePlaced : Facts → List (Range ℕ) → List Row → List Place → Type 0
+abbrev pub ArePlaced : MachineFacts → List (Range ℕ) → List Row → List Place → Type 0
 ArePlaced facts taken [] [] = Unit {0}
 ArePlaced facts taken [] (place ∷ places) = ⊥
 ArePlaced facts taken (row ∷ rows) [] = ⊥
@@ -43,7 +43,7 @@ ArePlaced facts taken (row ∷ rows) (place ∷ places) =
     × ArePlaced facts (put_in (range_of place) taken) rows places
 
 -- the first of these rows that has no place has none for this reason
-abbrev pub IsFirstFault : Facts → List (Range ℕ) → List Row → PlanFault → Type 0
+abbrev pub IsFirstFault : MachineFacts → List (Range ℕ) → List Row → PlanFault → Type 0
 IsFirstFault facts taken [] fault = ⊥
 IsFirstFault facts taken (row ∷ rows) fault =
     HasFault facts taken row.length row.choice fault
@@ -62,11 +62,11 @@ pub record IsRow (row : Row) : Type 0 where
   pub choice : IsChoice row.choice
 
 -- why rows are not placed: their first fault, or want of memory
-abbrev pub IsPlacingFault : Facts → List Row → PlanFault → Type 0
+abbrev pub IsPlacingFault : MachineFacts → List Row → PlanFault → Type 0
 IsPlacingFault facts rows fault = OrNoMemory (IsFirstFault facts [] rows) fault
 
 -- each byte of the place is usable
-abbrev pub IsPlaceable : Facts → Place → Type 0
+abbrev pub IsPlaceable : MachineFacts → Place → Type 0
 IsPlaceable facts place = AllUsable facts place.address (place.address + place.length)
 
 -- a is an address of the place

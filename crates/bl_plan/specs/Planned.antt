@@ -1,10 +1,10 @@
 -- What a planner knows: the machine, and the ranges that are taken. Own.
 use Rattle.std.specs.Prelude.{ℕ, ◌<◌, ◌≤◌, List, [], ◌∷◌, All, AllPairs, if◌then◌else◌, nat_lt}
 use Rattle.std.specs.declared.ops.Range.{Range}
-use Rattle.bl_map.specs.Facts.{Facts, AllUsable}
+use Rattle.bl_map.specs.MachineFacts.{MachineFacts, AllUsable}
 
 pub record PlannerFacts : Type 0 where
-  pub facts : Facts
+  pub facts : MachineFacts
   pub taken : List (Range ℕ)
 
 -- ranges are not empty, and ascend with none meeting another
@@ -13,7 +13,7 @@ pub record AreApart (ranges : List (Range ℕ)) : Type 0 where
   pub in_order : AllPairs (λ p q. p.end ≤ q.start) ranges
 
 -- so are taken ranges, and each of their bytes is usable
-pub record AreTaken (facts : Facts) (taken : List (Range ℕ)) : Type 0 where
+pub record AreTaken (facts : MachineFacts) (taken : List (Range ℕ)) : Type 0 where
   pub apart : AreApart taken
   pub usable : All (λ range. AllUsable facts range.start range.end) taken
 

@@ -3,11 +3,11 @@ use Rattle.std.specs.Prelude.{ℕ}
 use Rattle.bl_plan.specs.declared.role.Role.{Role}
 use Rattle.bl_plan.specs.declared.role.Role.TheVariants.{Kernel, Module, Information, BootParams, CommandLine, Gdt, Initrd}
 
-abbrev pub number_of : Role → ℕ
-number_of Kernel = 1
-number_of Module = 2
-number_of Information = 3
-number_of BootParams = 4
-number_of CommandLine = 5
-number_of Gdt = 6
-number_of Initrd = 7
+abbrev pub role_number : Role → ℕ
+role_number Kernel = 1
+role_number Module = 2
+role_number Information = 3
+role_number BootParams = 4
+role_number CommandLine = 5
+role_number Gdt = 6
+role_number Initrd = 7

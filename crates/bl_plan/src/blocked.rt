@@ -3,7 +3,7 @@ ghost use Rattle.std.specs.Prelude.{◌≡◌, ℕ, ◌<◌, ◌≤◌, All, len
 ghost use Rattle.std.specs.List.{AllWithin};
 ghost use Rattle.bl_mem.specs.Memory.{IsIn};
 ghost use Rattle.bl_map.specs.Kinds.{kind_at, AreRuns};
-ghost use Rattle.bl_map.specs.Facts.{AllUsable};
+ghost use Rattle.bl_map.specs.MachineFacts.{AllUsable};
 ghost use Rattle.bl_plan.specs.Permitted.{AllOpen, IsFree, IsBlocked};
 ghost use Rattle.bl_plan.specs.Planned.{AreApart};
 

@@ -8,13 +8,12 @@ mod laws;
 mod place;
 mod placing;
 mod planner;
+mod protocol;
 mod role;
 mod rounding;
 mod row;
 mod search;
 mod side;
-#[cfg(test)]
-mod tests;
 
 pub use choice::Choice;
 pub use fault::PlanFault;
@@ -22,6 +21,7 @@ pub use laws::{places_are_determined, places_are_legal, places_are_of_rows};
 pub use place::Place;
 pub use placing::place_rows;
 pub use planner::Planner;
+pub use protocol::Protocol;
 pub use role::Role;
 pub use row::Row;
 pub use side::Side;

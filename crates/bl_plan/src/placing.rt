@@ -9,9 +9,6 @@ use crate::row::Row;
 use bl_map::Machine;
 use std::alloc::Allocator;
 
-#[cfg(test)]
-mod tests;
-
 /// The places of these rows, in their order, each row against the places of those before it. Each row has at least one byte,
 /// and an alignment from 1 on; lengths and addresses are in bytes. Every place ends at most at 0xFFFFF000.
 ///

@@ -29,7 +29,7 @@ impl<'m, A: Allocator> Model for Planner<'m, A> {
 
 impl<'m, A: Allocator> Planner<'m, A> {
     ghost use Rattle.std.specs.Prelude.{◌≡◌, ◌+◌, ◌<◌, ◌≤◌, [], IfOk, IfErr, OnOk, OnErr};
-    ghost use Rattle.bl_map.specs.Facts.{AllUsable};
+    ghost use Rattle.bl_map.specs.MachineFacts.{AllUsable};
     ghost use Rattle.bl_plan.specs.Permitted.{AllOpen, IsPermitted, IsAtSide, IsPreferred, HasFixedFault, HasNoRoom, OrNoMemory};
     ghost use Rattle.bl_plan.specs.Planned.{AreTaken, with_taken};
     ghost use Rattle.bl_plan.specs.Placed.{IsRow, IsChosen, HasFault};

@@ -17,7 +17,7 @@ pub enum Role {
 impl Role {
     /// The role's number in an image, 1 to 7.
     pub fn number(self) -> u32
-        ensures { result ≡ roles.number_of self }
+        ensures { result ≡ roles.role_number self }
     {
         match self {
             Role::Kernel => 1,

@@ -11,9 +11,6 @@ use bl_map::{FIRST_USABLE, Machine, USABLE_LIMIT};
 use std::alloc::Allocator;
 use std::ops::Range;
 
-#[cfg(test)]
-mod tests;
-
 /// Where a usable range that is not above `high` ends at the latest.
 fn end_of_room<A: Allocator>(machine: &Machine<A>, high: u64) -> u64
     ensures high { result ≤ high }

@@ -1,11 +1,2 @@
-pub mod Values
-pub mod Kinds
-pub mod Described
-pub mod Lines
-pub mod Says
-pub mod Files
-pub mod Attempt
-pub mod Faults
-pub mod Ends
-pub mod Saved
+pub mod ImageFileFacts
 pub mod Statuses

@@ -16,9 +16,9 @@ pub struct ImageFile<'a> {
 
 impl<'a> Model for ImageFile<'a> {
     ghost use Rattle.std.specs.Prelude.{◌+◌};
-    ghost use Rattle.bootcore.specs.Saved.{Saved, contents_of, faults_of};
+    ghost use Rattle.bootcore.specs.ImageFileFacts.{ImageFileFacts, contents_of, faults_of};
 
-    ghost Value = { Saved };
+    ghost Value = { ImageFileFacts };
 
     ghost view = { λ f. record { contents = contents_of f.sink; faults = f.not_created + faults_of f.sink } };
 }

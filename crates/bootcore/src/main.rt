@@ -3,29 +3,15 @@
 
 ghost use Rattle.std.specs.Prelude.{◌≡◌, ◌⊎◌, ◌≤◌};
 
-mod attempting;
-mod booting;
-mod describing;
-mod fetching;
 mod image_file;
-mod laws;
-mod line;
-mod mapping;
+mod path_files;
 mod program;
-mod saying;
-#[cfg(test)]
-mod tests;
 
-pub use attempting::{Attempt, Loaded, attempt_entry};
-pub use booting::{BootFault, Ended, boot, machine_of};
-pub use describing::{DescFault, Description, EntryRow, FileRow, Protocol, Text, read_description};
-pub use fetching::{FILE_LIMIT, Fetched, Files, MemFiles, PathFiles, read_file};
+pub use bl_boot::{FILE_LIMIT, Fetched, Files, MemFiles, boot, map_to};
+pub use bl_line::{Job, LineFault, Order, read_line};
 pub use image_file::ImageFile;
-pub use laws::two_boots;
-pub use line::{Job, LineFault, Order, read_line};
-pub use mapping::map_to;
+pub use path_files::{PathFiles, read_file};
 use program::{run_line, word_of};
-pub use saying::{say_booted, say_map, say_no_entry_left, say_refused};
 use std::process::ExitCode;
 use std::{env, io};
 

@@ -2,11 +2,10 @@
 ghost use Rattle.std.specs.Prelude.{◌≡◌, ◌⊎◌, ◌≤◌, option_map, IfErr};
 ghost use Rattle.bootcore.specs.Statuses as statuses;
 
-use crate::booting::boot;
-use crate::fetching::{Fetched, PathFiles, read_file};
 use crate::image_file::ImageFile;
-use crate::line::{Job, LineFault, Order, read_line};
-use crate::mapping::map_to;
+use crate::path_files::{PathFiles, read_file};
+use bl_boot::{Fetched, boot, map_to};
+use bl_line::{Job, LineFault, Order, read_line};
 use bl_mem::Bytes;
 use std::alloc::Global;
 use std::io;

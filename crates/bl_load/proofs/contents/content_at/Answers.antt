@@ -1,6 +1,6 @@
 use Rattle.std.proofs.Common.{◌≡◌, ℕ, List, length, arith, ap, subst}
 use Rattle.std.specs.Prelude.{codes}
-use Rattle.bl_mbi.specs.Info.{info_size}
+use Rattle.bl_mbi.specs.InformationFacts.{info_size}
 use Rattle.bl_mbi.specs.Spelling.{spelling}
 use Rattle.bl_plan.specs.declared.role.Role.{Role}
 use Rattle.bl_load.specs.KernelRead.{kernel_by}

@@ -2,7 +2,7 @@ use Rattle.std.proofs.Common.{◌≡◌, take, map, All}
 use Rattle.bl_load.specs.KernelRead.{kernel_by}
 use Rattle.bl_load.specs.Parts.{part_from}
 use Rattle.bl_load.specs.Place.{place_of}
-use Rattle.bl_load.specs.Planned.{part_by, text_at, IsBacked, IsLean}
+use Rattle.bl_load.specs.Planned.{part_by, file_text, IsBacked, IsLean}
 use Rattle.bl_load.proofs.contents.parts_at.Given as goal
 
 -- the parts so far are those at the places so far
@@ -10,7 +10,7 @@ abbrev pub invariant-loop-place : goal.invariant-loop-place
 invariant-loop-place g l =
     let texts = map g.V.ByteView.bytes l.files in
     record {
-      parts : map (part_by texts) l.parts.items ≡ map (part_from l.machine l.line (text_at texts 0) (kernel_by l.kernel) l.base) (take l.place-index l.places);
+      parts : map (part_by texts) l.parts.items ≡ map (part_from l.machine l.line (file_text texts 0) (kernel_by l.kernel) l.base) (take l.place-index l.places);
       backed : All (IsBacked texts) l.parts.items;
       lean : IsLean l.parts.items;
       places : map place_of l.parts.items ≡ take l.place-index l.places;

@@ -1,6 +1,6 @@
 use Rattle.std.proofs.Common.{◌<◌, ◌^◌, ℕ, None, length, arith, sym, ◌∙◌, All, subst}
 use Rattle.std.specs.Prelude.{map, is_some}
-use Rattle.bl_mbi.specs.Info.{IsText, ModuleInfo}
+use Rattle.bl_mbi.specs.InformationFacts.{IsText, ModuleInfo}
 use Rattle.bl_mbi.specs.Size.{size_of}
 use Rattle.bl_load.proofs.LineLemmas.{sound_text}
 use Rattle.bl_load.proofs.InformationLemmas.{size_below}

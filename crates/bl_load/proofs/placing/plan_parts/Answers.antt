@@ -6,7 +6,7 @@ use Rattle.bl_load.specs.KernelRead.{kernel_by}
 use Rattle.bl_load.specs.Order.{in_order, place_key}
 use Rattle.bl_load.specs.Parts.{base_of, information_at, entry_at}
 use Rattle.bl_load.specs.Place.{place_of}
-use Rattle.bl_load.specs.Planned.{text_at, AreRecords}
+use Rattle.bl_load.specs.Planned.{file_text, AreRecords}
 use Rattle.bl_load.specs.Rowed.{IsRowed}
 use Rattle.bl_load.specs.Rows.{rows_of}
 use Rattle.bl_load.proofs.OrderLemmas.{in_order_all}
@@ -16,7 +16,7 @@ use Rattle.bl_load.proofs.placing.plan_parts.Goals as goal
 
 pub place_rows-requires : goal.place_rows-requires
 place_rows-requires g c =
-    let file = text_at (map g.V.ByteView.bytes c.args.files.now) 0 in
+    let file = file_text (map g.V.ByteView.bytes c.args.files.now) 0 in
     let facts = c.args.machine.now in
     let line = c.args.line.now in
     let kernel = kernel_by c.args.kernel.now in
@@ -25,7 +25,7 @@ place_rows-requires g c =
 
 pub fault_of-requires : goal.fault_of-requires
 fault_of-requires g c =
-    let file = text_at (map g.V.ByteView.bytes c.args.files.now) 0 in
+    let file = file_text (map g.V.ByteView.bytes c.args.files.now) 0 in
     let facts = c.args.machine.now in
     let line = c.args.line.now in
     let kernel = kernel_by c.args.kernel.now in
@@ -34,7 +34,7 @@ fault_of-requires g c =
 
 pub returns-in-Err-clause-fault : goal.returns-in-Err-clause-fault
 returns-in-Err-clause-fault g c =
-    let file = text_at (map g.V.ByteView.bytes c.args.files.now) 0 in
+    let file = file_text (map g.V.ByteView.bytes c.args.files.now) 0 in
     let facts = c.args.machine.now in
     let line = c.args.line.now in
     let kernel = kernel_by c.args.kernel.now in
@@ -43,7 +43,7 @@ returns-in-Err-clause-fault g c =
 
 pub base_of-base-requires : goal.base_of-base-requires
 base_of-base-requires g c =
-    let file = text_at (map g.V.ByteView.bytes c.args.files.now) 0 in
+    let file = file_text (map g.V.ByteView.bytes c.args.files.now) 0 in
     let facts = c.args.machine.now in
     let line = c.args.line.now in
     let kernel = kernel_by c.args.kernel.now in
@@ -54,7 +54,7 @@ base_of-base-requires g c =
 
 pub entry_at-entry-requires-clause-above : goal.entry_at-entry-requires-clause-above
 entry_at-entry-requires-clause-above g c =
-    let file = text_at (map g.V.ByteView.bytes c.args.files.now) 0 in
+    let file = file_text (map g.V.ByteView.bytes c.args.files.now) 0 in
     let facts = c.args.machine.now in
     let line = c.args.line.now in
     let kernel = kernel_by c.args.kernel.now in
@@ -66,7 +66,7 @@ entry_at-entry-requires-clause-above g c =
 
 pub entry_at-entry-requires-clause-below : goal.entry_at-entry-requires-clause-below
 entry_at-entry-requires-clause-below g c =
-    let file = text_at (map g.V.ByteView.bytes c.args.files.now) 0 in
+    let file = file_text (map g.V.ByteView.bytes c.args.files.now) 0 in
     let facts = c.args.machine.now in
     let line = c.args.line.now in
     let kernel = kernel_by c.args.kernel.now in
@@ -78,7 +78,7 @@ entry_at-entry-requires-clause-below g c =
 
 pub overflow_cast-entry : goal.overflow_cast-entry
 overflow_cast-entry g c =
-    let file = text_at (map g.V.ByteView.bytes c.args.files.now) 0 in
+    let file = file_text (map g.V.ByteView.bytes c.args.files.now) 0 in
     let facts = c.args.machine.now in
     let line = c.args.line.now in
     let kernel = kernel_by c.args.kernel.now in
@@ -91,7 +91,7 @@ overflow_cast-entry g c =
 
 pub information_at-requires : goal.information_at-requires
 information_at-requires g c =
-    let file = text_at (map g.V.ByteView.bytes c.args.files.now) 0 in
+    let file = file_text (map g.V.ByteView.bytes c.args.files.now) 0 in
     let facts = c.args.machine.now in
     let line = c.args.line.now in
     let kernel = kernel_by c.args.kernel.now in
@@ -102,7 +102,7 @@ information_at-requires g c =
 
 pub overflow_cast-information_at : goal.overflow_cast-information_at
 overflow_cast-information_at g c =
-    let file = text_at (map g.V.ByteView.bytes c.args.files.now) 0 in
+    let file = file_text (map g.V.ByteView.bytes c.args.files.now) 0 in
     let facts = c.args.machine.now in
     let line = c.args.line.now in
     let kernel = kernel_by c.args.kernel.now in
@@ -112,7 +112,7 @@ overflow_cast-information_at g c =
 
 pub overflow_cast-base : goal.overflow_cast-base
 overflow_cast-base g c =
-    let file = text_at (map g.V.ByteView.bytes c.args.files.now) 0 in
+    let file = file_text (map g.V.ByteView.bytes c.args.files.now) 0 in
     let facts = c.args.machine.now in
     let line = c.args.line.now in
     let kernel = kernel_by c.args.kernel.now in
@@ -122,7 +122,7 @@ overflow_cast-base g c =
 
 pub parts_at-requires-clause-rowed : goal.parts_at-requires-clause-rowed
 parts_at-requires-clause-rowed g c =
-    let file = text_at (map g.V.ByteView.bytes c.args.files.now) 0 in
+    let file = file_text (map g.V.ByteView.bytes c.args.files.now) 0 in
     let facts = c.args.machine.now in
     let line = c.args.line.now in
     let kernel = kernel_by c.args.kernel.now in
@@ -133,7 +133,7 @@ parts_at-requires-clause-rowed g c =
 
 pub parts_at-requires-clause-small : goal.parts_at-requires-clause-small
 parts_at-requires-clause-small g c =
-    let file = text_at (map g.V.ByteView.bytes c.args.files.now) 0 in
+    let file = file_text (map g.V.ByteView.bytes c.args.files.now) 0 in
     let facts = c.args.machine.now in
     let line = c.args.line.now in
     let kernel = kernel_by c.args.kernel.now in
@@ -142,7 +142,7 @@ parts_at-requires-clause-small g c =
 
 pub ranges_of-requires : goal.ranges_of-requires
 ranges_of-requires g c =
-    let file = text_at (map g.V.ByteView.bytes c.args.files.now) 0 in
+    let file = file_text (map g.V.ByteView.bytes c.args.files.now) 0 in
     let facts = c.args.machine.now in
     let line = c.args.line.now in
     let kernel = kernel_by c.args.kernel.now in
@@ -156,7 +156,7 @@ ranges_of-requires g c =
 
 pub returns-clause-loadable : goal.returns-clause-loadable
 returns-clause-loadable g c =
-    let file = text_at (map g.V.ByteView.bytes c.args.files.now) 0 in
+    let file = file_text (map g.V.ByteView.bytes c.args.files.now) 0 in
     let facts = c.args.machine.now in
     let line = c.args.line.now in
     let kernel = kernel_by c.args.kernel.now in

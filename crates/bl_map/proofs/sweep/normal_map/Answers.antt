@@ -4,13 +4,13 @@ use Rattle.std.proofs.lemmas.Bool.{cases_lt}
 use Rattle.bl_map.specs.declared.kind.Kind.{Kind}
 use Rattle.bl_map.specs.declared.region.Region.{Region}
 use Rattle.bl_map.specs.Faults.{IsLow}
-use Rattle.bl_map.specs.Kinds.{kind_at, number_of}
+use Rattle.bl_map.specs.Kinds.{kind_at, kind_number}
 use Rattle.bl_map.proofs.EdgeLemmas.{edges_most, edges_fall, edges_fall_once}
 use Rattle.bl_map.proofs.KindLemmas.{none_behind, number_positive}
 use Rattle.bl_map.proofs.SweepLemmas.{upto_none, upto_gap, upto_run, upto_all, run_of, IsRunEnd}
 use Rattle.bl_map.proofs.sweep.normal_map.Goals as goal
 
-changes : (regions : List Region) (at end : ℕ) (kind : Kind) → All IsLow regions → IsRunEnd regions at end → number_of kind ≡ kind_at regions at → kind_at regions end ≢ kind_at regions at
+changes : (regions : List Region) (at end : ℕ) (kind : Kind) → All IsLow regions → IsRunEnd regions at end → kind_number kind ≡ kind_at regions at → kind_at regions end ≢ kind_at regions at
 changes regions at end kind low run is = elim (cases_lt end (2 ^ 52)) [
   | inl before ↦ run.other before
   | inr behind ↦ λ same. let none = none_behind regions (2 ^ 52) end low behind in let some = number_positive kind in omega (arith, none, some, same, is)

@@ -1,5 +1,5 @@
 use Rattle.std.proofs.Common.{List, ℕ, ◌++◌, ◌∙◌, ap}
-use Rattle.bl_mbi.specs.Info.{ModuleInfo}
+use Rattle.bl_mbi.specs.InformationFacts.{ModuleInfo}
 use Rattle.bl_mbi.specs.Tags.{module_tag}
 use Rattle.bl_mbi.proofs.Pieces.{appended_7, module_pieces}
 use Rattle.bl_mbi.proofs.tags.put_module.Goals as goal

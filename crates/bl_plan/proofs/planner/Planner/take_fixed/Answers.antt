@@ -1,6 +1,6 @@
 use Rattle.std.proofs.Common.{ℕ, List, ap, subst, ◌∙◌}
 use Rattle.std.specs.declared.ops.Range.{Range}
-use Rattle.bl_map.specs.Facts.{AllUsable}
+use Rattle.bl_map.specs.MachineFacts.{AllUsable}
 use Rattle.bl_plan.specs.Permitted.{AllOpen}
 use Rattle.bl_plan.specs.Planned.{PlannerFacts}
 use Rattle.bl_plan.proofs.BlockLemmas.{not_all}

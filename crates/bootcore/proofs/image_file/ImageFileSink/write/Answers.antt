@@ -1,6 +1,6 @@
 -- The sink that takes the part holds what was taken so far, whether it stood before or was made just now.
 use Rattle.std.proofs.Common.{◌≡◌, refl}
-use Rattle.bootcore.specs.Saved.{contents_of}
+use Rattle.bootcore.specs.ImageFileFacts.{contents_of}
 use Rattle.bootcore.proofs.image_file.ImageFileSink.write.Goals as goal
 use Rattle.bootcore.proofs.image_file.ImageFileSink.write.Goals.{in-Some, in-None+in-Ok}
 

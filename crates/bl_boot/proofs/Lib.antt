@@ -1,0 +1,4 @@
+pub mod HexLemmas
+pub mod AttemptLemmas
+pub mod EndLemmas
+pub mod EndLaws

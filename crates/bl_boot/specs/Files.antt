@@ -1,0 +1,58 @@
+-- What may be answered for the name of a file. Own.
+use Rattle.std.specs.Prelude.{◌≡◌, ℕ, ◌+◌, ◌<◌, ◌≤◌, if◌then◌else◌, nat_lt, List, length, Option, Some, None}
+use Rattle.bl_boot.specs.declared.fetching.fetched.Fetched.{Fetched}
+use Rattle.bl_boot.specs.declared.fetching.fetched.Fetched.TheVariants as fetched
+use Rattle.bl_desc.specs.Described.{File, file_named}
+
+-- there is no such file; it is too long to be read, and has this length; it has these bytes
+pub data Answer : Type 0 where
+  missing : Answer
+  too_long : ℕ → Answer
+  bytes : List ℕ → Answer
+
+-- the greatest length of a file, in bytes
+abbrev pub file_limit : ℕ
+file_limit = 0x40000000
+
+-- of a file with these bytes
+abbrev pub answer_for : List ℕ → Answer
+answer_for file = if nat_lt file_limit (length file) then too_long (length file) else bytes file
+
+-- of a file that may stand there
+abbrev pub answer_if : Option (List ℕ) → Answer
+answer_if None = missing
+answer_if (Some file) = answer_for file
+
+-- of these files, the first of the name
+abbrev pub answer_in : List File → List ℕ → Answer
+answer_in files name = answer_if (file_named name files)
+
+-- files in memory, and how many names were missing so far
+pub record MemFilesFacts : Type 0 where
+  pub files : List File
+  pub faults : ℕ
+
+-- ---- what the code keeps
+
+abbrev pub answer_of : {A : Type 0} → Fetched A → Answer
+answer_of fetched.Missing = missing
+answer_of (fetched.TooLong n) = too_long n
+answer_of (fetched.Bytes file) = bytes file
+
+-- a file is told as too long only above the limit, and its bytes are given only up to it
+abbrev pub KeepsLimit : {A : Type 0} → Fetched A → Type 0
+KeepsLimit fetched.Missing = Unit {0}
+KeepsLimit (fetched.TooLong n) = file_limit < n
+KeepsLimit (fetched.Bytes file) = length file ≤ file_limit
+
+-- there is one fault more exactly where the file is missing
+abbrev pub CountsFault : {A : Type 0} → ℕ → ℕ → Fetched A → Type 0
+CountsFault old new fetched.Missing = new ≡ old + 1
+CountsFault old new (fetched.TooLong n) = new ≡ old
+CountsFault old new (fetched.Bytes file) = new ≡ old
+
+-- a file that stands there was read whole, or not at all where it is longer than a limit
+abbrev pub IsRead : {A : Type 0} → ℕ → Fetched A → Type 0
+IsRead limit fetched.Missing = ⊥
+IsRead limit (fetched.TooLong n) = limit < n
+IsRead limit (fetched.Bytes file) = length file ≤ limit

@@ -1,0 +1,5 @@
+pub mod Says
+pub mod Files
+pub mod Attempt
+pub mod Faults
+pub mod Ends

@@ -1,0 +1,10 @@
+//! A boot: from a description to the image of the handover.
+
+mod fault;
+mod handing;
+mod machine;
+mod running;
+
+pub use fault::{EndFault, Ended};
+pub use machine::machine_of;
+pub use running::boot;

@@ -1,0 +1,60 @@
+//! How a boot ends.
+ghost use Rattle.std.specs.Prelude.{◌≡◌};
+ghost use Rattle.bl_boot.specs.declared.booting.fault.EndFault.TheVariants as boot_fault;
+ghost use Rattle.bl_boot.specs.Faults.{fault_of};
+
+use bl_desc::DescFault;
+use std::alloc::{AllocError, AllocFailed};
+use thiserror::Error;
+
+/// How a boot ends that nothing stopped.
+#[derive(Clone, Copy, Debug, PartialEq, Eq)]
+pub enum Ended {
+    /// An entry was handed over.
+    Booted,
+
+    /// Each entry was refused.
+    NoEntryLeft,
+}
+
+/// Why a boot, or a map, is not told to its end.
+#[derive(Clone, Copy, Debug, PartialEq, Eq, Error)]
+pub enum EndFault {
+    /// The description breaks a rule of its form, or one of machines.
+    #[error("bad description")]
+    BadDescription,
+
+    /// The sink had a fault.
+    #[error("device fault")]
+    Device,
+
+    #[error("no memory")]
+    NoMemory,
+}
+
+impl From<DescFault> for EndFault {
+    ghost from_gives = { λ fault result. result ≡ fault_of fault };
+
+    fn from(fault: DescFault) -> EndFault {
+        match fault {
+            DescFault::BadDescription => EndFault::BadDescription,
+            DescFault::NoMemory => EndFault::NoMemory,
+        }
+    }
+}
+
+impl From<AllocError> for EndFault {
+    ghost from_gives = { λ _ fault. fault ≡ boot_fault.NoMemory };
+
+    fn from(_: AllocError) -> EndFault {
+        EndFault::NoMemory
+    }
+}
+
+impl<T: Drop> From<AllocFailed<T>> for EndFault {
+    ghost from_gives = { λ _ fault. fault ≡ boot_fault.NoMemory };
+
+    fn from(_: AllocFailed<T>) -> EndFault {
+        EndFault::NoMemory
+    }
+}

@@ -1,0 +1,39 @@
+//! Where the files of an entry come from.
+ghost use Rattle.std.specs.Prelude.{◌≡◌, ℕ, ◌-◌, ◌<◌, ◌^◌, List, IfOk, OnErr};
+ghost use Rattle.bl_boot.specs.Files.{Answer, answer_of, KeepsLimit, CountsFault};
+
+use std::alloc::{AllocError, Allocator};
+
+mod fetched;
+mod mem_files;
+
+pub use fetched::Fetched;
+pub use mem_files::MemFiles;
+
+/// The greatest length of a file, in bytes. A longer one is not read.
+pub const FILE_LIMIT: u64 = 0x4000_0000;
+
+/// Files by their names. They count their own faults, so that whoever is told that a file is missing
+/// can be shown it.
+pub trait Files {
+    /// What may be answered for a name from now on.
+    ghost answers: { Self → List ℕ → Answer → Type 0 };
+
+    /// How many faults there were.
+    ghost faults: { Self → ℕ };
+
+    /// The file of this name, whole. Want of memory is no fault of the file's.
+    fn fetch<A: Allocator>(&mut self, alloc: A, name: &str) -> Result<Fetched<A>, AllocError>
+        requires { faults self.old < 2 ^ 64 - 1 }
+        ensures told { IfOk result (λ file. answers self.old name.now (answer_of file)) }
+        ensures same { (file : List ℕ) (answer : Answer) →
+            answers self.new file answer → answers self.old file answer }
+        ensures limit { IfOk result KeepsLimit }
+        ensures missing { IfOk result (CountsFault (faults self.old) (faults self.new)) }
+        ensures err { OnErr result (faults self.new ≡ faults self.old) };
+
+    /// How many faults there were.
+    fn faults(&self) -> u64
+        requires { faults self.now < 2 ^ 64 }
+        ensures { result ≡ faults self.now };
+}

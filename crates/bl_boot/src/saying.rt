@@ -1,0 +1,7 @@
+//! The lines that the program says on standard output.
+
+mod map;
+mod outcome;
+
+pub use map::say_map;
+pub use outcome::{say_booted, say_no_entry_left, say_refused};

@@ -1,0 +1,41 @@
+-- Reading the items of an array one after the other.
+use Rattle.std.proofs.Common.{◌≡◌, ℕ, ◌+◌, ◌<◌, ◌≤◌, Option, Some, None, List, [], ◌∷◌, ◌++◌, length, map, drop, get_or, refl, sym, ap, ◌∙◌, arith, append_assoc}
+use Rattle.std.proofs.lemmas.List.{map-append}
+use Rattle.toml.specs.Data.{Data, item}
+use Rattle.toml.specs.View.{view, items_view}
+use Rattle.toml.specs.declared.value.Value.{Value}
+use Rattle.toml.proofs.Views.{items_view-drop}
+use Rattle.bl_desc.specs.Values.{◌>>=◌, range_in, each_item}
+
+-- what was read before, and what is still read
+abbrev pub with_front : {A : Type 0} → List A → Option (List A) → Option (List A)
+with_front front read = read >>= λ xs. Some (front ++ xs)
+
+-- an array of another length is no range
+pub no_range_short : (vs : List Value) → length vs < 2 → range_in (items_view vs) ≡ None
+no_range_short [] h = refl
+no_range_short (a ∷ []) h = refl
+no_range_short (a ∷ b ∷ vs) h = absurd (omega arith)
+
+pub no_range_long : (vs : List Value) → 3 ≤ length vs → range_in (items_view vs) ≡ None
+no_range_long [] h = absurd (omega arith)
+no_range_long (a ∷ []) h = absurd (omega arith)
+no_range_long (a ∷ b ∷ []) h = absurd (omega arith)
+no_range_long (a ∷ b ∷ c ∷ vs) h = refl
+
+-- an item that was read goes from what is still read to what was read before
+front_grows : {Y : Type 0} (front : List Y) (y : Y) (rest : Option (List Y))
+    → with_front (front ++ y ∷ []) rest ≡ with_front front (rest >>= λ ys. Some (y ∷ ys))
+front_grows front y None = refl
+front_grows front y (Some ys) = rw append_assoc
+
+-- the same of what the code has kept, where `seen` is what an item is seen as
+pub one_more : {X Y : Type 0} (seen : X → Y) (read : Data → Option Y) (vs : List Value) (i : ℕ) (v : Value) (front after : List X) (x : X)
+    → i < length vs → v ≡ get_or vs i v → read (view v) ≡ Some (seen x) → after ≡ front ++ x ∷ []
+    → with_front (map seen after) (each_item read (items_view (drop (i + 1) vs)))
+    ≡ with_front (map seen front) (each_item read (items_view (drop i vs)))
+one_more seen read vs i v front after x within at_i here same =
+    let rest = items_view (drop (i + 1) vs) in
+    let there : items_view (drop i vs) ≡ item (view v) rest =
+    items_view-drop vs i v within ∙ ap (λ (w : Value). item (view w) rest) (sym at_i) in
+    rw (same, map-append, there, here) (front_grows (map seen front) (seen x) (each_item read rest))

@@ -1,0 +1,12 @@
+use Rattle.std.proofs.Common.{◌∙◌}
+use Rattle.bl_desc.specs.Values.{in_table}
+use Rattle.bl_desc.specs.Described.{entry_in, entry_view}
+use Rattle.bl_desc.proofs.ItemLemmas.{one_more}
+use Rattle.bl_desc.proofs.entries.entries_in.Goals as goal
+
+pub loop-item-preserved : goal.loop-item-preserved
+loop-item-preserved g c =
+    let one = one_more entry_view (in_table entry_in) c.args.items.now c.loop-item.item-index c.item-item.result
+    c.loop-item.entries.items c.push.new.self.items c.in_ok-entry.entry
+    c.loop-item-test.true c.item-item.is c.in_ok-entry.ensures c.in_ok-push.ensures.items in
+    one ∙ c.loop-item.invariant

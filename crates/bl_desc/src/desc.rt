@@ -1,0 +1,63 @@
+//! What a description says.
+ghost use Rattle.std.specs.Prelude.{◌≡◌, map, option_copied};
+ghost use Rattle.bl_desc.specs.Described as spec;
+ghost use Rattle.bl_desc.specs.Described.{file_view, view};
+
+use crate::text::Text;
+use bl_map::Region;
+use bl_mem::Bytes;
+use bl_plan::Protocol;
+use std::alloc::Allocator;
+use std::ops::Range;
+
+/// A file that stands in the description, with its bytes.
+#[derive(Drop)]
+pub struct FileRow<A: Allocator> {
+    pub name: Text<A>,
+    pub bytes: Bytes<A>,
+}
+
+/// An entry of the menu. The title is 1 to 64 bytes from 0x20 to 0x7E, `kernel` names a file, and
+/// `line` is the kernel's command line, perhaps empty.
+#[derive(Drop)]
+pub struct EntryRow<A: Allocator> {
+    pub title: Text<A>,
+    pub protocol: Protocol,
+    pub kernel: Text<A>,
+    pub line: Text<A>,
+}
+
+/// What a description says: the machine, files and the menu, which has exactly one entry.
+///
+/// `size` is in bytes, `fill` is what each byte of memory holds before the boot, and the regions may
+/// come in any order. Whether they make a machine is not asked here. No two files have one name.
+#[derive(Drop)]
+pub struct Description<A: Allocator> {
+    pub size: u64,
+    pub pool: Range<u64>,
+    pub fill: u8,
+    pub regions: Vec<Region, A>,
+    pub files: Vec<FileRow<A>, A>,
+    pub entries: Vec<EntryRow<A>, A>,
+}
+
+/// The bytes of the first of these files that has this name, if one has.
+pub fn file_named<'a, A: Allocator>(name: &str, files: &'a [FileRow<A>]) -> Option<&'a [u8]>
+    ensures { option_copied result ≡ spec.file_named name.now (map file_view files.now) }
+{
+    for file in files {
+        if file.name.as_str() == name {
+            return Some(file.bytes.as_slice());
+        }
+    }
+    None
+}
+
+impl<A: Allocator> Description<A> {
+    /// The bytes of the file of this name that stands in the description, if one does.
+    pub fn file_named(&self, name: &str) -> Option<&[u8]>
+        ensures { option_copied result ≡ spec.file_named name.now (view self.now).files }
+    {
+        file_named(name, &self.files)
+    }
+}

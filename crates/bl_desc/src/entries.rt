@@ -1,0 +1,147 @@
+//! The entries of a description.
+ghost use Rattle.std.specs.Prelude.{◌≡◌, [], map, codes, vec_len, IfOk};
+ghost use Rattle.toml.specs.View.{view, table_view, items_view};
+ghost use Rattle.bl_desc.specs.Values as values;
+ghost use Rattle.bl_desc.specs.Described as spec;
+ghost use Rattle.bl_desc.specs.Described.{Gives, entry_view};
+
+use crate::desc::EntryRow;
+use crate::fault::DescFault;
+use crate::keys::{at_key, has_only, text_at};
+use crate::text::Text;
+use bl_plan::Protocol;
+use std::alloc::Allocator;
+use toml::{Table, Value};
+
+/// Whether each byte of a text is printable ASCII.
+fn is_printable(text: &str) -> bool
+    ensures { result ≡ spec.is_printable text.now }
+{
+    text.as_bytes().iter().all(|c| *c >= 0x20 && *c <= 0x7E)
+}
+
+/// Whether a text can be a title.
+fn is_title(text: &str) -> bool
+    ensures { result ≡ spec.is_title text.now }
+{
+    if text.is_empty() || text.len() > 64 {
+        return false;
+    }
+    is_printable(text)
+}
+
+fn title_in(table: &Table) -> Result<&str, DescFault>
+    ensures { Gives (λ s. s.now) result
+        (values.at_key spec.title_of (codes "title") (table_view table.now)) }
+{
+    let title = text_at(table, "title")?;
+    if !is_title(title) {
+        return Err(DescFault::BadDescription);
+    }
+    Ok(title)
+}
+
+/// The protocol of this name.
+fn protocol_named(name: &str) -> Option<Protocol>
+    ensures { result ≡ spec.protocol_named name.now }
+{
+    match name {
+        "multiboot2" => Some(Protocol::Multiboot2),
+        _ => None,
+    }
+}
+
+fn protocol_in(table: &Table) -> Result<Protocol, DescFault>
+    ensures { Gives (λ p. p) result
+        (values.at_key spec.protocol_of (codes "protocol") (table_view table.now)) }
+{
+    let name = text_at(table, "protocol")?;
+    protocol_named(name).ok_or(DescFault::BadDescription)
+}
+
+fn line_in(table: &Table) -> Result<&str, DescFault>
+    ensures { Gives (λ s. s.now) result
+        (values.at_key_or [] values.text_of (codes "line") (table_view table.now)) }
+{
+    match at_key(table, "line") {
+        Some(value) => value.as_str().ok_or(DescFault::BadDescription),
+        None => Ok(""),
+    }
+}
+
+#[tactic(auto, unfolding(crate::specs::Described::entry_in))]
+fn entry_in<A: Allocator + Copy>(alloc: A, table: &Table) -> Result<EntryRow<A>, DescFault>
+    ensures { Gives entry_view result (spec.entry_in (table_view table.now)) }
+{
+    if !has_only(table, &["title", "protocol", "kernel", "line"]) {
+        return Err(DescFault::BadDescription);
+    }
+    let title = title_in(table)?;
+    let protocol = protocol_in(table)?;
+    let kernel = text_at(table, "kernel")?;
+    let line = line_in(table)?;
+    Ok(EntryRow {
+        title: Text::from(String::from_str(alloc, title)?),
+        protocol,
+        kernel: Text::from(String::from_str(alloc, kernel)?),
+        line: Text::from(String::from_str(alloc, line)?),
+    })
+}
+
+/// An entry, from an item of an array of tables.
+fn entry_of<A: Allocator + Copy>(alloc: A, value: &Value) -> Result<EntryRow<A>, DescFault>
+    ensures { Gives entry_view result (values.in_table spec.entry_in (view value.now)) }
+{
+    match value.as_table() {
+        Some(table) => entry_in(alloc, table),
+        None => Err(DescFault::BadDescription),
+    }
+}
+
+fn entries_in<A: Allocator + Copy>(
+    alloc: A,
+    items: &[Value],
+) -> Result<Vec<EntryRow<A>, A>, DescFault>
+    ensures { Gives (λ v. map entry_view v.items) result
+        (values.each_item (values.in_table spec.entry_in) (items_view items.now)) }
+{
+    let mut entries = Vec::new(alloc);
+    for item in items {
+        let entry = entry_of(alloc, item)?;
+        entries.push(entry)?;
+    }
+    Ok(entries)
+}
+
+#[tactic(auto, unfolding(crate::specs::Described::entries_of))]
+fn entries_of<A: Allocator + Copy>(
+    alloc: A,
+    value: &Value,
+) -> Result<Vec<EntryRow<A>, A>, DescFault>
+    ensures given { Gives (λ v. map entry_view v.items) result (spec.entries_of (view value.now)) }
+    ensures one { IfOk result (λ v. vec_len v ≡ 1) }
+{
+    let Some(items) = value.as_array() else {
+        return Err(DescFault::BadDescription);
+    };
+    let entries = entries_in(alloc, items)?;
+    if entries.len() != 1 {
+        return Err(DescFault::BadDescription);
+    }
+    Ok(entries)
+}
+
+/// The entries of a description, which must stand.
+pub fn entries_at<A: Allocator + Copy>(
+    alloc: A,
+    table: &Table,
+) -> Result<Vec<EntryRow<A>, A>, DescFault>
+    ensures given { Gives (λ v. map entry_view v.items) result
+        (values.at_key spec.entries_of (codes "entry") (table_view table.now)) }
+    ensures one { IfOk result (λ v. vec_len v ≡ 1) }
+{
+    match at_key(table, "entry") {
+        Some(value) => entries_of(alloc, value),
+        None => Err(DescFault::BadDescription),
+    }
+}

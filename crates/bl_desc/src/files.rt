@@ -1,0 +1,114 @@
+//! The files of a description.
+ghost use Rattle.std.specs.Prelude.{◌≡◌, [], map, codes};
+ghost use Rattle.toml.specs.View.{view, table_view, items_view};
+ghost use Rattle.bl_desc.specs.Values as values;
+ghost use Rattle.bl_desc.specs.Described as spec;
+ghost use Rattle.bl_desc.specs.Described.{Gives, file_view};
+
+use crate::desc::FileRow;
+use crate::fault::DescFault;
+use crate::keys::{at_key, has_only, text_at};
+use crate::text::Text;
+use crate::values::bytes_of;
+use bl_mem::Bytes;
+use std::alloc::Allocator;
+use toml::{Table, Value};
+
+fn hex_in<A: Allocator>(alloc: A, table: &Table) -> Result<Bytes<A>, DescFault>
+    ensures { Gives (λ bytes. bytes) result
+        (values.at_key values.bytes_of (codes "hex") (table_view table.now)) }
+{
+    match at_key(table, "hex") {
+        Some(value) => bytes_of(alloc, value),
+        None => Err(DescFault::BadDescription),
+    }
+}
+
+#[tactic(auto, unfolding(crate::specs::Described::file_in))]
+fn file_in<A: Allocator + Copy>(alloc: A, table: &Table) -> Result<FileRow<A>, DescFault>
+    ensures { Gives file_view result (spec.file_in (table_view table.now)) }
+{
+    if !has_only(table, &["name", "hex"]) {
+        return Err(DescFault::BadDescription);
+    }
+    let name = text_at(table, "name")?;
+    let bytes = hex_in(alloc, table)?;
+    Ok(FileRow {
+        name: Text::from(String::from_str(alloc, name)?),
+        bytes,
+    })
+}
+
+/// A file, from an item of an array of tables.
+fn file_of<A: Allocator + Copy>(alloc: A, value: &Value) -> Result<FileRow<A>, DescFault>
+    ensures { Gives file_view result (values.in_table spec.file_in (view value.now)) }
+{
+    match value.as_table() {
+        Some(table) => file_in(alloc, table),
+        None => Err(DescFault::BadDescription),
+    }
+}
+
+fn files_in<A: Allocator + Copy>(alloc: A, items: &[Value]) -> Result<Vec<FileRow<A>, A>, DescFault>
+    ensures { Gives (λ v. map file_view v.items) result
+        (values.each_item (values.in_table spec.file_in) (items_view items.now)) }
+{
+    let mut files = Vec::new(alloc);
+    for item in items {
+        let file = file_of(alloc, item)?;
+        files.push(file)?;
+    }
+    Ok(files)
+}
+
+/// Whether one of the files has this name.
+fn has_file<A: Allocator>(name: &str, files: &[FileRow<A>]) -> bool
+    ensures { result ≡ spec.has_file name.now (map file_view files.now) }
+{
+    for file in files {
+        if file.name.as_str() == name {
+            return true;
+        }
+    }
+    false
+}
+
+/// Whether no two files have one name.
+fn names_differ<A: Allocator>(files: &[FileRow<A>]) -> bool
+    ensures { result ≡ spec.names_differ (map file_view files.now) }
+{
+    for (i, file) in files.iter().enumerate() {
+        if has_file(file.name.as_str(), &files[i + 1..]) {
+            return false;
+        }
+    }
+    true
+}
+
+#[tactic(auto, unfolding(crate::specs::Described::files_of))]
+fn files_of<A: Allocator + Copy>(alloc: A, value: &Value) -> Result<Vec<FileRow<A>, A>, DescFault>
+    ensures { Gives (λ v. map file_view v.items) result (spec.files_of (view value.now)) }
+{
+    let Some(items) = value.as_array() else {
+        return Err(DescFault::BadDescription);
+    };
+    let files = files_in(alloc, items)?;
+    if !names_differ(&files) {
+        return Err(DescFault::BadDescription);
+    }
+    Ok(files)
+}
+
+/// The files of a description, none where it has no such key.
+pub fn files_at<A: Allocator + Copy>(
+    alloc: A,
+    table: &Table,
+) -> Result<Vec<FileRow<A>, A>, DescFault>
+    ensures { Gives (λ v. map file_view v.items) result
+        (values.at_key_or [] spec.files_of (codes "file") (table_view table.now)) }
+{
+    match at_key(table, "file") {
+        Some(value) => files_of(alloc, value),
+        None => Ok(Vec::new(alloc)),
+    }
+}

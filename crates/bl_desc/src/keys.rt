@@ -1,0 +1,62 @@
+//! The keys of a description's tables.
+ghost use Rattle.std.specs.Prelude.{◌≡◌, map, option_map, string_bytes};
+ghost use Rattle.std.specs.List.{list_any, list_all};
+ghost use Rattle.std.specs.Str.{bytes_eq};
+ghost use Rattle.std.specs.BTreeMap.{keys};
+ghost use Rattle.toml.specs.View.{view, table_view};
+ghost use Rattle.toml.specs.Data.{get_member};
+ghost use Rattle.bl_desc.specs.Values as spec;
+ghost use Rattle.bl_desc.specs.Described.{Gives};
+
+use crate::fault::DescFault;
+use crate::values::number_of;
+use toml::{Table, Value};
+
+/// The value at a key.
+pub fn at_key<'a>(table: &'a Table, key: &str) -> Option<&'a Value>
+    ensures { option_map (λ v. view v.now) result ≡ get_member key.now (table_view table.now) }
+{
+    table.get(key)
+}
+
+/// The number at a key that must stand.
+pub fn number_at(table: &Table, key: &str) -> Result<u64, DescFault>
+    ensures { Gives (λ n. n) result (spec.at_key spec.number_of key.now (table_view table.now)) }
+{
+    match at_key(table, key) {
+        Some(value) => number_of(value).ok_or(DescFault::BadDescription),
+        None => Err(DescFault::BadDescription),
+    }
+}
+
+/// The text at a key that must stand.
+pub fn text_at<'a>(table: &'a Table, key: &str) -> Result<&'a str, DescFault>
+    ensures { Gives (λ s. s.now) result (spec.at_key spec.text_of key.now (table_view table.now)) }
+{
+    match at_key(table, key) {
+        Some(value) => value.as_str().ok_or(DescFault::BadDescription),
+        None => Err(DescFault::BadDescription),
+    }
+}
+
+/// Whether a key is one of these.
+fn is_among(key: &str, known: &[&str]) -> bool
+    ensures { result ≡ list_any (λ k. bytes_eq k.now key.now) known.now }
+{
+    known.iter().any(|k| *k == key)
+}
+
+/// The same as `has_only`, in the words of a map.
+fn has_only_keys(table: &Table, known: &[&str]) -> bool
+    ensures { result ≡ list_all
+        (λ key. list_any (λ k. bytes_eq k.now (string_bytes key)) known.now) (keys table.now) }
+{
+    table.keys().all(|key| is_among(key.as_str(), known))
+}
+
+/// Whether a table has no key but these.
+pub fn has_only(table: &Table, known: &[&str]) -> bool
+    ensures { result ≡ spec.has_only (map (λ k. k.now) known.now) (table_view table.now) }
+{
+    has_only_keys(table, known)
+}

@@ -1,0 +1,17 @@
+//! The description of a boot: TOML to records.
+#![tactic(auto)]
+
+mod desc;
+mod entries;
+mod fault;
+mod files;
+mod keys;
+mod read;
+mod regions;
+mod text;
+mod values;
+
+pub use desc::{Description, EntryRow, FileRow, file_named};
+pub use fault::DescFault;
+pub use read::read_description;
+pub use text::Text;

@@ -1,0 +1,52 @@
+//! Whether the pool has frames enough beside the parts.
+ghost use Rattle.std.specs.Prelude.{◌≡◌, ◌≤◌, ◌<◌, ◌+◌, ◌*◌, ◌^◌, length};
+ghost use Rattle.bl_map.specs.Room as room;
+
+use std::ops::Range;
+
+/// How many frames of 4096 bytes a length of bytes needs.
+pub fn frames_of(length: u64) -> u64
+    ensures { result ≡ room.frames_of length }
+{
+    length / 4096 + if length % 4096 == 0 { 0 } else { 1 }
+}
+
+/// How many whole frames a pool has.
+pub fn frames_in(pool: &Range<u64>) -> u64
+    requires { pool.now.start ≤ pool.now.end }
+    ensures { result ≡ room.frames_in pool.now }
+{
+    (pool.end - pool.start) / 4096
+}
+
+/// The frames of a pool that a range meets, by their numbers from 0 on. A range of no byte meets none.
+fn frames_met(pool: &Range<u64>, range: &Range<u64>) -> Range<u64>
+    requires pool { pool.now.start ≤ pool.now.end }
+    requires range { range.now.start ≤ range.now.end }
+    ensures { room.AreMet pool.now range.now result }
+{
+    let frames = frames_in(pool);
+    let first = (range.start.saturating_sub(pool.start) / 4096).min(frames);
+    if range.start == range.end {
+        return first..first;
+    }
+    let behind = frames_of(range.end.saturating_sub(pool.start)).min(frames);
+    first..behind
+}
+
+/// How many frames of a pool meet none of these ranges. One byte of a range meets a frame; a range of no
+/// byte meets none. The ranges ascend, so that one pass over them is enough, however many frames there are.
+pub fn open_frames(pool: &Range<u64>, ranges: &[Range<u64>]) -> u64
+    requires forward { pool.now.start ≤ pool.now.end }
+    requires ascending { room.AreAscending ranges.now }
+    ensures { result ≡ room.open_frames pool.now ranges.now }
+{
+    let mut open = 0;
+    let mut next = 0;
+    for range in ranges {
+        let met = frames_met(pool, range);
+        open += met.start.saturating_sub(next);
+        next = next.max(met.end);
+    }
+    open + (frames_in(pool) - next)
+}

@@ -1,0 +1,57 @@
+-- What boot information tells (Multiboot2 3.6 "Boot information format"), and what is kept of it.
+use Rattle.std.specs.Prelude.{◌≢◌, ◌^◌, ◌<◌, ◌≤◌, ℕ, List, length, map, All, Option, option_map, is_some, IfSome}
+use Rattle.bl_map.specs.declared.region.Region.{Region}
+use Rattle.bl_map.specs.Kinds.{end_of}
+use Rattle.bl_mbi.specs.Size.{size_of}
+
+-- 3.6.6 "Modules": the addresses of its first byte and behind its last one, and its line
+pub record ModuleInfo : Type 0 where
+  pub mod_start : ℕ
+  pub mod_end : ℕ
+  pub line : List ℕ
+
+-- the kernel's line, the modules in their order, KiB of memory below and above 1 MiB, the memory map's runs, the copies
+-- of the ACPI tables' roots, the address that a relocated kernel was loaded at
+pub record InformationFacts : Type 0 where
+  pub line : List ℕ
+  pub modules : List ModuleInfo
+  pub mem_lower : ℕ
+  pub mem_upper : ℕ
+  pub runs : List Region
+  pub rsdp_old : Option (List ℕ)
+  pub rsdp_new : Option (List ℕ)
+  pub load_base : Option ℕ
+
+-- bytes with no zero among them, since a zero ends a text
+abbrev pub IsText : List ℕ → Type 0
+IsText text = All (λ c. (c ≢ 0) × (c < 256)) text
+
+abbrev pub AreBytes : List ℕ → Type 0
+AreBytes bytes = All (λ b. b < 256) bytes
+
+pub record IsModule (m : ModuleInfo) : Type 0 where
+  pub forward : m.mod_start ≤ m.mod_end
+  pub small : m.mod_end < 2 ^ 32
+  pub line : IsText m.line
+
+-- each number is in the range of its field, each text has no zero
+pub record IsTold (info : InformationFacts) : Type 0 where
+  pub line : IsText info.line
+  pub modules : All IsModule info.modules
+  pub mem_lower : info.mem_lower ≤ 640
+  pub mem_upper : info.mem_upper < 2 ^ 32
+  pub runs : All (λ run. end_of run ≤ 2 ^ 52) info.runs
+  pub rsdp_old : IfSome info.rsdp_old AreBytes
+  pub rsdp_new : IfSome info.rsdp_new AreBytes
+  pub load_base : IfSome info.load_base (λ base. base < 2 ^ 32)
+
+-- how many bytes it takes
+abbrev pub info_size : InformationFacts → ℕ
+info_size info =
+    size_of (length info.line) (map (λ m. length m.line) info.modules) (length info.runs)
+    (option_map length info.rsdp_old) (option_map length info.rsdp_new) (is_some info.load_base)
+
+-- what has a spelling with the loader's name `bootcore`: its total size fits its field too
+pub record IsInfo (info : InformationFacts) : Type 0 where
+  pub told : IsTold info
+  pub small : info_size info < 2 ^ 32

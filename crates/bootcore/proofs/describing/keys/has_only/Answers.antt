@@ -1,6 +1,0 @@
-use Rattle.std.proofs.Common.{◌∙◌}
-use Rattle.bootcore.proofs.KeyLemmas.{has_only-members}
-use Rattle.bootcore.proofs.describing.keys.has_only.Goals as goal
-
-pub returns : goal.returns
-returns c = c.has_only_keys.ensures ∙ has_only-members c.args.known.now c.args.table.now.entries

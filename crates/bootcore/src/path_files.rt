@@ -1,0 +1,91 @@
+//! Files of the operating system.
+ghost use Rattle.std.specs.Prelude.{IfOk};
+ghost use Rattle.bl_boot.specs.Files.{IsRead};
+
+use bl_boot::{FILE_LIMIT, Fetched, Files};
+use bl_mem::Bytes;
+use std::alloc::{AllocError, Allocator};
+use std::io::Read;
+use std::marker::Model;
+use std::{fs, io, rt};
+
+/// Reads the regular file at a path whole, unless it is longer than `limit` bytes.
+///
+/// The length is taken first: above the limit nothing is read, and of a file that grows meanwhile at most
+/// one byte more than the limit. A path at which no regular file stands is an error, since a device may
+/// never end and a pipe may never begin.
+pub fn read_file<R: rt::Files, A: Allocator>(
+    rt: &R,
+    alloc: A,
+    path: &str,
+    limit: u64,
+) -> io::Result<Fetched<A>>
+    ensures { IfOk result (IsRead limit) }
+{
+    let metadata = fs::metadata(rt, path)?;
+    if !metadata.is_file() {
+        return Err(io::Error::from(io::ErrorKind::InvalidInput));
+    }
+    let length = metadata.len();
+    if length > limit {
+        return Ok(Fetched::TooLong(length));
+    }
+    let mut bytes = Vec::with_capacity(alloc, length as usize)?;
+    let file = fs::open(rt, path)?;
+    file.take(limit.saturating_add(1)).read_to_end(&mut bytes)?;
+    let count = bytes.len() as u64;
+    if count > limit {
+        return Ok(Fetched::TooLong(count));
+    }
+    Ok(Fetched::Bytes(Bytes::from(bytes)))
+}
+
+/// Files by their paths, as the operating system reads them relative to the current folder. Each one
+/// that can't be read, and each path at which no regular file stands, is a fault.
+///
+/// What a real file holds is not claimed: anything may be answered for a path.
+#[derive(Drop)]
+pub struct PathFiles<'a, R: rt::Files> {
+    rt: &'a R,
+    faults: u64,
+}
+
+impl<'a, R: rt::Files> Model for PathFiles<'a, R> {
+    ghost use Rattle.std.specs.Prelude.{ℕ};
+
+    ghost Value = { ℕ };
+
+    ghost view = { λ f. f.faults };
+}
+
+impl<'a, R: rt::Files> PathFiles<'a, R> {
+    ghost use Rattle.std.specs.Prelude.{◌≡◌};
+
+    /// The files that this runtime reaches, of which none was missing yet.
+    pub fn new(rt: &'a R) -> PathFiles<'a, R>
+        ensures { result ≡ 0 }
+    {
+        PathFiles { rt, faults: 0 }
+    }
+}
+
+impl<R: rt::Files> Files for PathFiles<'_, R> {
+    ghost answers = { λ _ _ _. Unit {0} };
+
+    ghost faults = { λ f. f };
+
+    fn fetch<A: Allocator>(&mut self, alloc: A, name: &str) -> Result<Fetched<A>, AllocError> {
+        match read_file(self.rt, alloc, name, FILE_LIMIT) {
+            Ok(file) => Ok(file),
+            Err(error) if error.kind() == io::ErrorKind::OutOfMemory => Err(AllocError),
+            Err(_) => {
+                self.faults += 1;
+                Ok(Fetched::Missing)
+            }
+        }
+    }
+
+    fn faults(&self) -> u64 {
+        self.faults
+    }
+}

@@ -1,9 +1,0 @@
-//! The lines that the program says on standard output.
-
-mod map;
-mod outcome;
-#[cfg(test)]
-mod tests;
-
-pub use map::say_map;
-pub use outcome::{say_booted, say_no_entry_left, say_refused};
