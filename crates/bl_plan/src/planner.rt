@@ -30,6 +30,7 @@ impl<'m, A: Allocator> Model for Planner<'m, A> {
 
 impl<'m, A: Allocator> Planner<'m, A> {
     ghost use Rattle.std.specs.Prelude.{◌≡◌, ◌+◌, ◌<◌, ◌≤◌, [], IfOk, IfErr, OnOk, OnErr};
+    ghost use Rattle.bl_map.specs.Limits.{usable_limit};
     ghost use Rattle.bl_map.specs.MachineFacts.{AllUsable};
     ghost use Rattle.bl_plan.specs.Permitted.{AllOpen, IsPermitted, IsAtSide, IsPreferred, HasFixedFault, HasNoRoom, OrNoMemory};
     ghost use Rattle.bl_plan.specs.Planned.{AreTaken, with_taken};
@@ -101,7 +102,7 @@ impl<'m, A: Allocator> Planner<'m, A> {
         requires aligned { 1 ≤ align }
         ensures at_side { IfOk result (λ a. IsAtSide side (IsPermitted self.old.facts self.old.taken length align low high) a) }
         ensures taken { IfOk result (λ a. self.new ≡ with_taken self.old (record { start = a; end = a + length })) }
-        ensures below { IfOk result (λ a. a + length ≤ 0xFFFFF000) }
+        ensures below { IfOk result (λ a. a + length ≤ usable_limit) }
         ensures fault { IfErr result (OrNoMemory (HasNoRoom (IsPermitted self.old.facts self.old.taken length align low high))) }
         ensures unchanged { OnErr result (self.new ≡ self.old) }
     {
@@ -130,7 +131,7 @@ impl<'m, A: Allocator> Planner<'m, A> {
         requires aligned { 1 ≤ align }
         ensures preferred { IfOk result (λ a. IsPreferred at (IsPermitted self.old.facts self.old.taken length align low high) a) }
         ensures taken { IfOk result (λ a. self.new ≡ with_taken self.old (record { start = a; end = a + length })) }
-        ensures below { IfOk result (λ a. a + length ≤ 0xFFFFF000) }
+        ensures below { IfOk result (λ a. a + length ≤ usable_limit) }
         ensures fault { IfErr result (OrNoMemory (HasNoRoom (IsPermitted self.old.facts self.old.taken length align low high))) }
         ensures unchanged { OnErr result (self.new ≡ self.old) }
     {
@@ -148,7 +149,7 @@ impl<'m, A: Allocator> Planner<'m, A> {
         requires row { IsRow row.now }
         ensures chosen { IfOk result (λ a. IsChosen self.old.facts self.old.taken row.now.length row.now.choice a) }
         ensures taken { IfOk result (λ a. self.new ≡ with_taken self.old (record { start = a; end = a + row.now.length })) }
-        ensures below { IfOk result (λ a. a + row.now.length ≤ 0xFFFFF000) }
+        ensures below { IfOk result (λ a. a + row.now.length ≤ usable_limit) }
         ensures fault { IfErr result (OrNoMemory (HasFault self.old.facts self.old.taken row.now.length row.now.choice)) }
         ensures unchanged { OnErr result (self.new ≡ self.old) }
     {
