@@ -1,5 +1,5 @@
--- Kinds of addresses, and the normal map. Own; the numbers of kinds are those of the memory map of Multiboot2
--- (3.6.8 "Memory map") and of an e820 entry.
+-- Kinds of addresses, and the normal map. Own; the numbers of kinds are those of the memory map of
+-- Multiboot2 (3.6.8 "Memory map") and of an e820 entry.
 use Rattle.std.specs.Prelude.{◌≡◌, ◌≢◌, ◌+◌, ◌-◌, ◌/◌, ◌≤◌, ℕ, Bool, ◌&&◌, if◌then◌else◌, ◌==◌, nat_le, nat_lt, min, max, List, [], ◌∷◌, All, AllPairs, Option, Some, None}
 use Rattle.bl_map.specs.Limits.{region_limit}
 use Rattle.bl_map.specs.declared.kind.Kind.{Kind}
@@ -37,7 +37,8 @@ holds region a = nat_le region.base a && nat_lt a (end_of region)
 -- the greatest number of the kinds of the regions that hold an address, 0 where none holds it
 abbrev pub kind_at : List Region → ℕ → ℕ
 kind_at [] a = 0
-kind_at (region ∷ regions) a = max (if holds region a then kind_number region.kind else 0) (kind_at regions a)
+kind_at (region ∷ regions) a =
+    max (if holds region a then kind_number region.kind else 0) (kind_at regions a)
 
 -- q lies behind p, and has another kind where the two adjoin
 abbrev pub ComesBefore : Region → Region → Type 0
@@ -57,9 +58,11 @@ pub record IsNormalMap (regions runs : List Region) : Type 0 where
 -- the end of the run of kind 1 that holds an address, 0 where there is none
 abbrev pub usable_end : List Region → ℕ → ℕ
 usable_end [] a = 0
-usable_end (run ∷ runs) a = if (kind_number run.kind == 1) && holds run a then end_of run else usable_end runs a
+usable_end (run ∷ runs) a =
+    if (kind_number run.kind == 1) && holds run a then end_of run else usable_end runs a
 
--- Multiboot2 3.6.3 "Basic memory information": mem_lower, KiB of usable memory from address 0 on, at most 640
+-- Multiboot2 3.6.3 "Basic memory information": mem_lower, KiB of usable memory from address 0 on,
+-- at most 640
 abbrev pub low_kib : List Region → ℕ
 low_kib runs = min (usable_end runs 0 / 1024) 640
 

@@ -12,7 +12,8 @@ least_size = 0x100000
 abbrev pub most_size : ℕ
 most_size = 2 ^ 32
 
--- a machine is made of so many regions at most, each of which ends at most there; its normal map has so many runs at most
+-- a machine is made of so many regions at most, each of which ends at most there; its normal map
+-- has so many runs at most
 abbrev pub most_regions : ℕ
 most_regions = 128
 

@@ -11,7 +11,8 @@ pub record MachineFacts : Type 0 where
   pub runs : List Region
   pub pool : Range ℕ
 
--- in a machine of this size, whose addresses have the kinds that these regions give them, a part may lie on this byte
+-- in a machine of this size, whose addresses have the kinds that these regions give them, a part
+-- may lie on this byte
 pub record IsUsableAmong (regions : List Region) (size a : ℕ) : Type 0 where
   pub kind : kind_at regions a ≡ 1
   pub above : first_usable ≤ a

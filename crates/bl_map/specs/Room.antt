@@ -23,7 +23,8 @@ frames_in pool = (pool.end - pool.start) / frame_size
 
 -- no byte of the frame at an address lies in the range; a range of no byte meets no frame
 abbrev pub is_beside : Range ℕ → ℕ → Bool
-is_beside range frame = nat_le range.end range.start || nat_le range.end frame || nat_le (frame + frame_size) range.start
+is_beside range frame =
+    nat_le range.end range.start || nat_le range.end frame || nat_le (frame + frame_size) range.start
 
 -- no byte of the frame lies in one of these ranges
 abbrev pub is_open : List (Range ℕ) → ℕ → Bool
@@ -32,7 +33,8 @@ is_open ranges frame = list_all (λ range. is_beside range frame) ranges
 -- how many of the first n frames from start on meet none of these ranges
 abbrev pub open_among : List (Range ℕ) → ℕ → ℕ → ℕ
 open_among ranges start zero = 0
-open_among ranges start (suc n) = open_among ranges start n + (if is_open ranges (start + frame_size * n) then 1 else 0)
+open_among ranges start (suc n) =
+    open_among ranges start n + (if is_open ranges (start + frame_size * n) then 1 else 0)
 
 -- how many of a pool's frames meet none of these ranges
 abbrev pub open_frames : Range ℕ → List (Range ℕ) → ℕ

@@ -1,6 +1,7 @@
 //! The limits of memory. Addresses and sizes are in bytes.
 
-/// The length of a frame: files are staged in these, and a machine's size and its pool are whole ones.
+/// The length of a frame: files are staged in these, and a machine's size and its pool are whole
+/// ones.
 pub const FRAME: u64 = 4096;
 
 /// The least size of a machine: 1 MiB.
@@ -24,11 +25,13 @@ pub const REGION_LIMIT: u64 = 0x0010_0000_0000_0000;
 /// Bytes in a KiB.
 pub const KIB: u64 = 1024;
 
-/// The most KiB that are told of memory from address 0 on (Multiboot2 3.6.3 "Basic memory information").
+/// The most KiB that are told of memory from address 0 on (Multiboot2 3.6.3 "Basic memory
+/// information").
 pub const MOST_LOW_KIB: u64 = 640;
 
 /// Where high memory starts: 1 MiB (Multiboot2 3.6.3 "Basic memory information").
 pub const HIGH_START: u64 = 0x0010_0000;
 
-/// The most KiB that are told of high memory: what 32 bits hold (Multiboot2 3.6.3 "Basic memory information").
+/// The most KiB that are told of high memory: what 32 bits hold (Multiboot2 3.6.3 "Basic memory
+/// information").
 pub const MOST_HIGH_KIB: u64 = 0xFFFF_FFFF;

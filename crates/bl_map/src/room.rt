@@ -13,7 +13,7 @@ pub fn frames_of(length: u64) -> u64
     length / FRAME + if length % FRAME == 0 { 0 } else { 1 }
 }
 
-/// A length of bytes, rounded up to whole frames.
+/// A length of bytes, at most 2^64 - 4096, rounded up to whole frames, in bytes.
 pub fn whole_frames(length: u64) -> u64
     requires small { length + 4095 < 2 ^ 64 }
     ensures { result ≡ room.whole_frames length }
@@ -29,7 +29,8 @@ pub fn frames_in(pool: &Range<u64>) -> u64
     (pool.end - pool.start) / FRAME
 }
 
-/// The frames of a pool that a range meets, by their numbers from 0 on. A range of no byte meets none.
+/// The frames of a pool that a range meets, by their numbers from 0 on. A range of no byte meets
+/// none.
 fn frames_met(pool: &Range<u64>, range: &Range<u64>) -> Range<u64>
     requires pool { pool.now.start ≤ pool.now.end }
     requires range { range.now.start ≤ range.now.end }
@@ -44,8 +45,9 @@ fn frames_met(pool: &Range<u64>, range: &Range<u64>) -> Range<u64>
     first..behind
 }
 
-/// How many frames of a pool meet none of these ranges. One byte of a range meets a frame; a range of no
-/// byte meets none. The ranges ascend, so that one pass over them is enough, however many frames there are.
+/// How many frames of a pool meet none of these ranges. One byte of a range meets a frame; a range
+/// of no byte meets none. The ranges ascend, so that one pass over them is enough, however many
+/// frames there are.
 pub fn open_frames(pool: &Range<u64>, ranges: &[Range<u64>]) -> u64
     requires forward { pool.now.start ≤ pool.now.end }
     requires ascending { room.AreAscending ranges.now }

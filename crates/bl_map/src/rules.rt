@@ -21,7 +21,9 @@ pub fn is_size(size: u64) -> bool
 pub fn first_high(regions: &[Region]) -> Option<usize>
     ensures { MatchOption result
         (All IsLow regions.now)
-        (λ i. (i < length regions.now) × All IsLow (take i regions.now) × IfSome (slice_get regions.now i) (λ region. ¬ IsLow region)) }
+        (λ i. (i < length regions.now)
+        × All IsLow (take i regions.now)
+        × IfSome (slice_get regions.now i) (λ region. ¬ IsLow region)) }
 {
     for (i, region) in regions.iter().enumerate() {
         if !region.is_low() {
@@ -31,7 +33,8 @@ pub fn first_high(regions: &[Region]) -> Option<usize>
     None
 }
 
-/// Whether each byte from `start` up to `end` is usable in a machine of this size and these regions.
+/// Whether each byte from `start` up to `end` is usable in a machine of this size and these
+/// regions.
 pub fn is_usable_among(regions: &[Region], size: u64, start: u64, end: u64) -> bool
     requires low { All IsLow regions.now }
     requires size { size ≤ MOST_SIZE }
@@ -56,7 +59,9 @@ pub fn is_usable_among(regions: &[Region], size: u64, start: u64, end: u64) -> b
 pub fn is_pool(regions: &[Region], size: u64, pool: &Range<u64>) -> bool
     requires low { All IsLow regions.now }
     requires size { size ≤ MOST_SIZE }
-    ensures { MatchBool result (IsPool regions.now size pool.now) (¬ IsPool regions.now size pool.now) }
+    ensures { MatchBool result
+        (IsPool regions.now size pool.now)
+        (¬ IsPool regions.now size pool.now) }
 {
     if pool.end < pool.start || pool.start % FRAME != 0 || pool.end % FRAME != 0 {
         return false;
