@@ -17,7 +17,8 @@ abbrev pub HasFirstFault : ℕ → List Region → Range ℕ → MapFault → Ty
 HasFirstFault size regions pool BadSize = ¬ IsSize size
 HasFirstFault size regions pool TooManyRegions = IsSize size × (most_regions < length regions)
 HasFirstFault size regions pool (BadRegion i) =
-    IsSize size × (length regions ≤ most_regions) × (i < length regions) × All IsLow (take i regions)
+    IsSize size × (length regions ≤ most_regions) × (i < length regions)
+    × All IsLow (take i regions)
     × IfSome (slice_get regions i) (λ region. ¬ IsLow region)
 HasFirstFault size regions pool BadPool =
     IsSize size × (length regions ≤ most_regions) × All IsLow regions × (¬ IsPool regions size pool)

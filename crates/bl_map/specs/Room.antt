@@ -24,7 +24,9 @@ frames_in pool = (pool.end - pool.start) / frame_size
 -- no byte of the frame at an address lies in the range; a range of no byte meets no frame
 abbrev pub is_beside : Range ℕ → ℕ → Bool
 is_beside range frame =
-    nat_le range.end range.start || nat_le range.end frame || nat_le (frame + frame_size) range.start
+    nat_le range.end range.start
+    || nat_le range.end frame
+    || nat_le (frame + frame_size) range.start
 
 -- no byte of the frame lies in one of these ranges
 abbrev pub is_open : List (Range ℕ) → ℕ → Bool

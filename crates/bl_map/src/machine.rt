@@ -42,8 +42,8 @@ impl<A: Allocator> Machine<A> {
     /// - `BadSize`: the size is not 1 MiB to 4 GiB in whole frames of 4096 bytes.
     /// - `TooManyRegions`: there are more than 128 regions.
     /// - `BadRegion(i)`: region `i`, the first such one from 0, ends above 2^52.
-    /// - `BadPool`: the pool's start lies above its end, one of the two is no multiple of 4096, or a
-    ///   byte of it is not usable. An empty pool may stand at any multiple of 4096.
+    /// - `BadPool`: the pool's start lies above its end, one of the two is no multiple of 4096, or
+    ///   a byte of it is not usable. An empty pool may stand at any multiple of 4096.
     /// - `NoMemory`: there was no memory for the normal map.
     pub fn new(
         alloc: A,
@@ -105,8 +105,8 @@ impl<A: Allocator> Machine<A> {
         greatest_kind(self.runs.as_slice(), a)
     }
 
-    /// Whether each byte of the range is usable, as in an empty one: of kind `Usable`, from 4096 on,
-    /// below the size and below 0xFFFFF000.
+    /// Whether each byte of the range is usable, as in an empty one: of kind `Usable`, from 4096
+    /// on, below the size and below 0xFFFFF000.
     pub fn is_usable(&self, range: Range<u64>) -> bool
         requires forward { range.start ≤ range.end }
         ensures usable { MatchBool result
@@ -127,8 +127,8 @@ impl<A: Allocator> Machine<A> {
         (usable_end(self.runs.as_slice(), 0) / KIB).min(MOST_LOW_KIB)
     }
 
-    /// KiB of usable memory from 1 MiB on, at most what 32 bits hold (Multiboot2 3.6.3 "Basic memory
-    /// information").
+    /// KiB of usable memory from 1 MiB on, at most what 32 bits hold (Multiboot2 3.6.3 "Basic
+    /// memory information").
     pub fn high_kib(&self) -> u64
         ensures high_kib { result ≡ kinds.high_kib self.now.runs }
         ensures most { result < 2 ^ 32 }

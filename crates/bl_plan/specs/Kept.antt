@@ -8,7 +8,8 @@ use Rattle.bl_mem.specs.Memory.{IsIn}
 abbrev pub IsFree : MachineFacts → List (Range ℕ) → ℕ → Type 0
 IsFree facts taken a = IsUsable facts a × All (λ range. ¬ IsIn range a) taken
 
--- from start up to end some byte lacks the property, and so does each byte of this stretch, which has that byte
+-- from start up to end some byte lacks the property, and so does each byte of this stretch, which
+-- has that byte
 pub record IsBlocked (P : ℕ → Type 0) (start end : ℕ) (stretch : Range ℕ) : Type 0 where
   pub forward : stretch.start < stretch.end
   pub meets_end : stretch.start < end

@@ -14,7 +14,8 @@ abbrev pub AllOpen : List (Range ℕ) → ℕ → ℕ → Type 0
 AllOpen taken start end = (a : ℕ) → start ≤ a → a < end → All (λ range. ¬ IsIn range a) taken
 
 -- an address for so many bytes between low and high, beside the ranges that are taken
-pub record IsPermitted (facts : MachineFacts) (taken : List (Range ℕ)) (length align low high a : ℕ) : Type 0 where
+pub record IsPermitted (facts : MachineFacts) (taken : List (Range ℕ))
+    (length align low high a : ℕ) : Type 0 where
   pub aligned : a % align ≡ 0
   pub above : low ≤ a
   pub below : a + length ≤ high
@@ -33,7 +34,8 @@ IsPreferred at P a = (P at × (a ≡ at)) ⊎ ((¬ P at) × IsLeast P a)
 -- these addresses are refused for this reason
 abbrev pub HasFixedFault : MachineFacts → List (Range ℕ) → ℕ → ℕ → PlanFault → Type 0
 HasFixedFault facts taken start end NotUsable = ¬ AllUsable facts start end
-HasFixedFault facts taken start end Overlap = AllUsable facts start end × (¬ AllOpen taken start end)
+HasFixedFault facts taken start end Overlap =
+    AllUsable facts start end × (¬ AllOpen taken start end)
 HasFixedFault facts taken start end NoRoom = ⊥
 HasFixedFault facts taken start end NoMemory = ⊥
 
