@@ -1,2 +1,3 @@
 pub mod Overwrites
 pub mod ReadLemmas
+pub mod WordLaws
