@@ -94,7 +94,3 @@ is_entered entry header =
     nat_le header.p_vaddr entry
     && nat_lt entry (header.p_vaddr + header.p_memsz)
     && is_loadable header
-
--- the segment's physical addresses hold a
-abbrev pub holds : ℕ → Segment → Bool
-holds a segment = nat_le segment.address a && nat_lt a (segment.address + segment.memsz)

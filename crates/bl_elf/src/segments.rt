@@ -1,6 +1,6 @@
 //! The loadable segments.
 ghost use Rattle.std.specs.Prelude.{◌≡◌, ℕ, None, IfOk, OnOk, IfErr};
-ghost use Rattle.bl_elf.specs.Header.{IsHeaderOf};
+ghost use Rattle.bl_elf.specs.Kept.{IsHeaderOf};
 ghost use Rattle.bl_elf.specs.Program.{program_headers, segments_of, fault_at};
 ghost use Rattle.bl_elf.specs.Elf.{IsIndex, HasFirstFault};
 
