@@ -10,7 +10,8 @@ ghost use Rattle.bl_elf.specs.Elf.{ElfFacts, IsElf, HasFirstFault, Covers};
 pub fn elf_is_determined()
     ensures total { (bytes : List ℕ) → ((facts : ElfFacts) × IsElf bytes facts)
         ⊎ ((fault : ElfFault) × ¬ (fault ≡ NoMemory) × HasFirstFault bytes fault) }
-    ensures one_reading { (bytes : List ℕ) (f g : ElfFacts) → IsElf bytes f → IsElf bytes g → f ≡ g }
+    ensures one_reading { (bytes : List ℕ) (f g : ElfFacts)
+        → IsElf bytes f → IsElf bytes g → f ≡ g }
     ensures one_fault { (bytes : List ℕ) (f g : ElfFault) → ¬ (f ≡ NoMemory) → ¬ (g ≡ NoMemory)
         → HasFirstFault bytes f → HasFirstFault bytes g → f ≡ g }
     ensures not_both { (bytes : List ℕ) (facts : ElfFacts) (fault : ElfFault) → ¬ (fault ≡ NoMemory)
@@ -20,5 +21,6 @@ pub fn elf_is_determined()
 /// Where two segments overlap, some address lies in both.
 pub fn overlap_is_shared()
     ensures { (bytes : List ℕ) (i j : ℕ) → HasFirstFault bytes (SegmentsOverlap i j)
-        → (a : ℕ) × Covers (segment_of (program_header bytes i)) a × Covers (segment_of (program_header bytes j)) a }
+        → (a : ℕ) × Covers (segment_of (program_header bytes i)) a
+        × Covers (segment_of (program_header bytes j)) a }
 {}

@@ -10,7 +10,7 @@ use Rattle.bl_mb2head.specs.declared.fault.HeadFault.TheVariants.{NoHeader, Head
 use Rattle.bl_mb2head.specs.declared.header.Header.{Header}
 use Rattle.bl_mb2head.specs.declared.tag.Tag.{Tag}
 use Rattle.bl_mb2head.specs.Address.{address_fault, address_segment}
-use Rattle.bl_mb2head.specs.Place.{IsHeaderAt}
+use Rattle.bl_mb2head.specs.Place.{IsHeaderAt, sum_at}
 use Rattle.bl_mb2head.specs.Tags.{tag_at, after, is_well_formed, fault_at, AreAllTags, IsFirstFault, last_of}
 use Rattle.bl_mb2head.specs.Header.{end_of, is_cut, architecture_at, tag_entry, relocation_of, BeginsAt, IsHeader, HasFirstFault}
 use Rattle.bl_mb2head.proofs.FaultLemmas.{tag_fault_first, address_fault_first}
@@ -79,7 +79,7 @@ stands_or_not bytes h =
           | inl far ↦ inr (λ here. omega (arith, here.in_front))
           | inr in_front ↦ elim (eq_or_not (u32_at bytes h) 0xE85250D6) [
             | inr other ↦ inr (λ here. other here.magic)
-            | inl magic ↦ elim (eq_or_not ((u32_at bytes h + u32_at bytes (h + 4) + u32_at bytes (h + 8) + u32_at bytes (h + 12)) % 2 ^ 32) 0) [
+            | inl magic ↦ elim (eq_or_not (sum_at bytes h % 2 ^ 32) 0) [
               | inr other ↦ inr (λ here. other here.sums)
               | inl sums ↦ inl record { aligned = aligned; in_file = in_file; in_front = in_front; magic = magic; sums = sums }
             ]

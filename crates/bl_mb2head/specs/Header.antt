@@ -75,14 +75,17 @@ abbrev pub HasFirstFault : List ℕ → HeadFault → Type 0
 HasFirstFault bytes NoHeader = (h : ℕ) → IsHeaderAt bytes h → ⊥
 HasFirstFault bytes HeaderCut = (h : ℕ) × IsLeast (IsHeaderAt bytes) h × (is_cut bytes h ≡ true)
 HasFirstFault bytes BadArchitecture =
-    (h : ℕ) × IsLeast (IsHeaderAt bytes) h × (is_cut bytes h ≡ false) × (architecture_at bytes h ≢ 0)
+    (h : ℕ) × IsLeast (IsHeaderAt bytes) h × (is_cut bytes h ≡ false)
+    × (architecture_at bytes h ≢ 0)
 HasFirstFault bytes (BadTag at) =
     (h : ℕ) × BeginsAt bytes h
-    × (IsFirstFault bytes (end_of bytes h) (h + 16) (BadTag at) ⊎ IsAddressFault bytes h (BadTag at))
+    × (IsFirstFault bytes (end_of bytes h) (h + 16) (BadTag at)
+    ⊎ IsAddressFault bytes h (BadTag at))
 HasFirstFault bytes (UnsupportedTag kind) =
     (h : ℕ) × BeginsAt bytes h × IsFirstFault bytes (end_of bytes h) (h + 16) (UnsupportedTag kind)
 HasFirstFault bytes (UnsupportedRequest kind) =
-    (h : ℕ) × BeginsAt bytes h × IsFirstFault bytes (end_of bytes h) (h + 16) (UnsupportedRequest kind)
+    (h : ℕ) × BeginsAt bytes h
+    × IsFirstFault bytes (end_of bytes h) (h + 16) (UnsupportedRequest kind)
 HasFirstFault bytes NoConsole =
     (h : ℕ) × BeginsAt bytes h × IsFirstFault bytes (end_of bytes h) (h + 16) NoConsole
 

@@ -7,8 +7,8 @@ use Rattle.bl_mb2head.specs.declared.tag.Tag.{Tag}
 use Rattle.bl_mb2head.specs.declared.fault.HeadFault.{HeadFault}
 use Rattle.bl_mb2head.specs.declared.fault.HeadFault.TheVariants.{BadTag, UnsupportedTag, UnsupportedRequest, NoConsole}
 
--- the types of tags that are read: end (3.1.3), information request (3.1.4), address tag (3.1.5), entry address tag (3.1.6), console
--- flags (3.1.9), relocatable tag (3.1.13)
+-- the types of tags that are read: end (3.1.3), information request (3.1.4), address (3.1.5), entry address (3.1.6),
+-- console flags (3.1.9), relocatable (3.1.13)
 abbrev pub end_type : ℕ
 end_type = 0
 
@@ -73,7 +73,8 @@ can_be_given kind = nat_le 1 kind && nat_le kind 21 && not (kind == 9)
 
 -- the first type that an information request names and that can't be given (3.1.4)
 unfoldable pub first_unknown : List ℕ → Tag → Option ℕ
-first_unknown bytes t = find (λ kind. not (can_be_given kind)) (words_at bytes (t.place + 8) ((t.size - 8) / 4))
+first_unknown bytes t =
+    find (λ kind. not (can_be_given kind)) (words_at bytes (t.place + 8) ((t.size - 8) / 4))
 
 -- what is wrong with what a request names
 abbrev pub request_fault : Option ℕ → Option HeadFault
@@ -82,7 +83,8 @@ request_fault (Some kind) = Some (UnsupportedRequest kind)
 
 -- bit 0 of the console flags: the tag asks for a console (3.1.9)
 abbrev pub asks_for_console : List ℕ → Tag → Bool
-asks_for_console bytes t = t.kind == console_type && not (bit_and (u32_at bytes (t.place + 8)) 1 == 0)
+asks_for_console bytes t =
+    t.kind == console_type && not (bit_and (u32_at bytes (t.place + 8)) 1 == 0)
 
 -- what is wrong with the tag at a place: the first fault in this order. Own: there is no console
 unfoldable pub fault_at : List ℕ → ℕ → ℕ → Option HeadFault

@@ -23,7 +23,8 @@ pub struct LastTags {
 impl LastTags {
     /// The last tags after one more.
     fn with(self, tag: Tag) -> LastTags
-        ensures last { (ts : List Tag) → self ≡ kept.last_tags ts → result ≡ kept.last_tags (ts ++ tag ∷ []) }
+        ensures last { (ts : List Tag) → self ≡ kept.last_tags ts
+            → result ≡ kept.last_tags (ts ++ tag ∷ []) }
         ensures fits { (end : ℕ) → LieBefore end self → tags.least_size tag.kind ≤ tag.size
             → tag.place + tag.size ≤ end → LieBefore end result }
     {

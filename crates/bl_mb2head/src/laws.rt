@@ -25,7 +25,8 @@ pub fn tags_are_determined()
 pub fn headers_are_determined()
     ensures total { (bytes : List ℕ) → ((header : Header) × IsHeader bytes header)
         ⊎ ((fault : HeadFault) × HasFirstFault bytes fault) }
-    ensures one_header { (bytes : List ℕ) (a b : Header) → IsHeader bytes a → IsHeader bytes b → a ≡ b }
+    ensures one_header { (bytes : List ℕ) (a b : Header)
+        → IsHeader bytes a → IsHeader bytes b → a ≡ b }
     ensures one_fault { (bytes : List ℕ) (f g : HeadFault)
         → HasFirstFault bytes f → HasFirstFault bytes g → f ≡ g }
     ensures not_both { (bytes : List ℕ) (header : Header) (fault : HeadFault)

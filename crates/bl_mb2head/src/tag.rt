@@ -48,7 +48,8 @@ fn can_be_given(kind: u32) -> bool
 fn first_unknown_word<V: ByteView>(view: &V, at: u64, count: u64) -> Option<u32>
     requires in_file { at + WORD * count ≤ length (V.bytes view.now) }
     requires in_front { at + WORD * count ≤ SEARCH_END }
-    ensures { result ≡ find (λ kind. not (can_be_given kind)) (words_at (V.bytes view.now) at count) }
+    ensures { result
+        ≡ find (λ kind. not (can_be_given kind)) (words_at (V.bytes view.now) at count) }
 {
     for i in 0..count {
         let kind = u32_at(view, at + WORD * i);
@@ -65,11 +66,12 @@ fn well_formed_tag<V: ByteView>(view: &V, at: u64, end: u64) -> Option<Tag>
     requires in_file { end ≤ length (V.bytes view.now) }
     requires in_front { end ≤ SEARCH_END }
     requires in_reach { at ≤ end + ALIGNMENT }
-    ensures fits { IfSome result (λ tag. (tag.place ≡ at) × (END_SIZE ≤ tag.size) × (tags.least_size tag.kind ≤ tag.size)
-        × (at + tag.size ≤ end)) }
+    ensures fits { IfSome result (λ tag. (tag.place ≡ at) × (END_SIZE ≤ tag.size)
+        × (tags.least_size tag.kind ≤ tag.size) × (at + tag.size ≤ end)) }
     ensures exact { MatchOption result
         (is_well_formed (V.bytes view.now) end at ≡ false)
-        (λ tag. (tag ≡ tag_at (V.bytes view.now) at) × (is_well_formed (V.bytes view.now) end at ≡ true)) }
+        (λ tag. (tag ≡ tag_at (V.bytes view.now) at)
+        × (is_well_formed (V.bytes view.now) end at ≡ true)) }
 {
     if at + BODY > end {
         return None;
@@ -102,7 +104,8 @@ fn unknown_request<V: ByteView>(view: &V, tag: Tag) -> Option<u32>
     requires whole { END_SIZE ≤ tag.size }
     requires in_file { tag.place + tag.size ≤ length (V.bytes view.now) }
     requires in_front { tag.place + tag.size ≤ SEARCH_END }
-    ensures { result ≡ (if tag.kind == TAG_REQUEST then tags.first_unknown (V.bytes view.now) tag else None) }
+    ensures { result
+        ≡ (if tag.kind == TAG_REQUEST then tags.first_unknown (V.bytes view.now) tag else None) }
 {
     if tag.kind != TAG_REQUEST {
         return None;
@@ -126,8 +129,8 @@ pub fn checked_tag<V: ByteView>(view: &V, at: u64, end: u64) -> Result<Tag, Head
     requires in_file { end ≤ length (V.bytes view.now) }
     requires in_front { end ≤ SEARCH_END }
     requires in_reach { at ≤ end + ALIGNMENT }
-    ensures fits { IfOk result (λ tag. (tag.place ≡ at) × (END_SIZE ≤ tag.size) × (tags.least_size tag.kind ≤ tag.size)
-        × (at + tag.size ≤ end)) }
+    ensures fits { IfOk result (λ tag. (tag.place ≡ at) × (END_SIZE ≤ tag.size)
+        × (tags.least_size tag.kind ≤ tag.size) × (at + tag.size ≤ end)) }
     ensures exact { MatchResult result
         (λ tag. (tag ≡ tag_at (V.bytes view.now) at) × (fault_at (V.bytes view.now) end at ≡ None))
         (λ fault. fault_at (V.bytes view.now) end at ≡ Some fault) }
