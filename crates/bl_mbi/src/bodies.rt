@@ -65,7 +65,7 @@ pub(crate) fn module_of<A: Allocator>(
     at: u64,
     body: &[u8],
 ) -> Result<Module<A>, InfoFault>
-    ensures { Gives (λ told. told) result (or_bad at (spec.module_of body.now)) }
+    ensures { Gives (λ m. m) result (or_bad at (spec.module_of body.now)) }
 {
     if body.len() < 8 {
         return Err(InfoFault::BadTag(at));

@@ -89,8 +89,8 @@ pub(crate) fn modules_at<'a, A: Allocator + Copy>(
     let mut modules = Vec::new(alloc);
     let mut left = rest;
     'tags: while is_next(TAG_MODULE, left) {
-        let (told, after) = module_at(alloc, left)?;
-        modules.push(told)?;
+        let (module, after) = module_at(alloc, left)?;
+        modules.push(module)?;
         left = after;
     }
     Ok((modules, left))

@@ -2,7 +2,7 @@
 ghost use Rattle.std.specs.Prelude.{◌≡◌, ◌≤◌, ◌+◌, ◌^◌, ◌<◌, ◌++◌, [], codes, length, sum_by, option_map, vec_len, vec_capacity, IsOk, OnOk, OnErr};
 ghost use Rattle.std.specs.List.{flat_map};
 ghost use Rattle.bl_mbi.specs.Size.{tag_size, copy_size};
-ghost use Rattle.bl_mbi.specs.InformationFacts.{info_size as size_told};
+ghost use Rattle.bl_mbi.specs.InformationFacts.{info_size as size_of_info};
 ghost use Rattle.bl_mbi.specs.Spelling.{spelling};
 ghost use Rattle.bl_mbi.specs.Tags.{tag, text_body, module_tag, memory_body, map_body, copy_tag, load_base_tag};
 ghost use Rattle.bl_mbi.specs.Groups.{texts_size, map_size, last_size};
@@ -51,7 +51,7 @@ fn copy_len<A: Allocator>(copy: &Option<Bytes<A>>) -> u64
 /// How many bytes the information takes: its `total_size`, with the loader's name `bootcore`.
 pub fn info_size<A: Allocator>(facts: &Facts<A>) -> u64
     ensures size { result ≡ length (spelling (codes "bootcore") facts.now) }
-    ensures told { result ≡ size_told facts.now }
+    ensures by_lengths { result ≡ size_of_info facts.now }
     ensures small { result < 2 ^ 32 }
 {
     let line = tag_len(facts.line.len() as u64 + 1);
@@ -107,7 +107,7 @@ pub fn write_info<A: Allocator, B: Allocator>(
 ) -> Result<(), AllocError>
     ensures ok { OnOk result (out.new.items ≡ out.old.items ++ spelling (codes "bootcore") facts.now) }
     ensures err { OnErr result (out.new.items ≡ out.old.items) }
-    ensures succeeds { vec_len out.old + size_told facts.now ≤ vec_capacity out.old → IsOk result }
+    ensures succeeds { vec_len out.old + size_of_info facts.now ≤ vec_capacity out.old → IsOk result }
 {
     let total_size = info_size(facts);
     out.reserve(total_size as usize)?;
