@@ -12,7 +12,8 @@ use Rattle.bl_map.specs.declared.kind.Kind.TheVariants.{Usable, Reserved, Acpi, 
 use Rattle.bl_map.specs.declared.region.Region.{Region}
 use Rattle.bl_map.specs.Kinds.{kind_number, end_of}
 use Rattle.bl_mbi.specs.InformationFacts.{ModuleInfo, IsModule, IsText, AreBytes}
-use Rattle.bl_mbi.specs.Tags.{u32_bytes, u64_bytes, text_body, module_body, memory_body, run_bytes, map_body}
+use Rattle.bl_mem.specs.Words.{u32_bytes, u64_bytes}
+use Rattle.bl_mbi.specs.Tags.{text_body, module_body, memory_body, run_bytes, map_body}
 use Rattle.bl_mbi.specs.Fields.{word, long}
 use Rattle.bl_mbi.specs.Bodies.{text_of, module_of, memory_of, kind_of, run_of, runs_of, map_of, load_base_of}
 use Rattle.bl_mbi.proofs.Inverse.{passed_some, mapped, then, same_some}

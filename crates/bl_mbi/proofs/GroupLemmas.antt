@@ -6,7 +6,8 @@ use Rattle.std.proofs.lemmas.List.Sums.{sum_by-cons}
 use Rattle.bl_mbi.specs.Size.{tag_size}
 use Rattle.bl_mbi.specs.InformationFacts.{InformationFacts, HasSpelling, ModuleInfo, info_size}
 use Rattle.bl_mbi.specs.Groups.{texts_size, map_size, last_size}
-use Rattle.bl_mbi.specs.Tags.{u32_bytes, tag, text_body, module_tag, memory_body, map_body, copy_tag, load_base_tag}
+use Rattle.bl_mem.specs.Words.{u32_bytes}
+use Rattle.bl_mbi.specs.Tags.{tag, text_body, module_tag, memory_body, map_body, copy_tag, load_base_tag}
 use Rattle.bl_mbi.specs.Spelling.{tags, spelling}
 use Rattle.bl_mbi.proofs.Sizes.{length-tags}
 

@@ -9,11 +9,13 @@ use Rattle.bl_map.specs.declared.region.Region.{Region}
 use Rattle.bl_map.specs.Kinds.{end_of}
 use Rattle.bl_mbi.specs.declared.fault.InfoFault.{InfoFault}
 use Rattle.bl_mbi.specs.InformationFacts.{InformationFacts, ModuleInfo, IsModule, IsText, FitsFields}
-use Rattle.bl_mbi.specs.Tags.{u32_bytes, tag, text_body, module_body, module_tag, memory_body, map_body, copy_tag, load_base_tag}
+use Rattle.bl_mem.specs.Words.{u32_bytes}
+use Rattle.bl_mbi.specs.Tags.{tag, text_body, module_body, module_tag, memory_body, map_body, copy_tag, load_base_tag}
 use Rattle.bl_mbi.specs.Spelling.{tags, spelling}
 use Rattle.bl_mbi.specs.Fields.{◌>>=◌, Left, word, is_next, tag_at}
 use Rattle.bl_mbi.specs.Reading.{text_tag_at, module_at, modules_upto, modules_at, memory_at, map_at, copy_at, load_base_at, end_at, tags_of, info_of}
-use Rattle.bl_mbi.proofs.Sizes.{length-u32_bytes, length-tag, length-tags, length-text_body, length-module_body, length-map_body, length-module_tag}
+use Rattle.bl_mem.proofs.WordLaws.{length-u32_bytes}
+use Rattle.bl_mbi.proofs.Sizes.{length-tag, length-tags, length-text_body, length-module_body, length-map_body, length-module_tag}
 use Rattle.bl_mbi.proofs.WordLaws.{word_front, behind_word, behind_words}
 use Rattle.bl_mbi.proofs.ModuleLemmas.{no_more, one_more}
 use Rattle.bl_mbi.proofs.TagLaws.{tag_again, next_tag}

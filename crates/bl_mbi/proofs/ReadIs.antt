@@ -10,7 +10,8 @@ use Rattle.bl_map.specs.declared.region.Region.{Region}
 use Rattle.bl_map.specs.Kinds.{end_of}
 use Rattle.bl_mbi.specs.InformationFacts.{InformationFacts, ModuleInfo, IsModule, IsText, AreBytes, FitsFields}
 use Rattle.bl_mbi.specs.InfoFacts.{InfoFacts, IsSpelling}
-use Rattle.bl_mbi.specs.Tags.{u32_bytes, tag, text_body, module_body, module_tag, memory_body, map_body, copy_tag, load_base_tag}
+use Rattle.bl_mem.specs.Words.{u32_bytes}
+use Rattle.bl_mbi.specs.Tags.{tag, text_body, module_body, module_tag, memory_body, map_body, copy_tag, load_base_tag}
 use Rattle.bl_mbi.specs.Spelling.{tags, spelling}
 use Rattle.bl_mbi.specs.Fields.{Left, word, is_next, tag_at, or_bad}
 use Rattle.bl_mbi.specs.Bodies.{text_of, module_of, memory_of, map_of, load_base_of}

@@ -5,18 +5,12 @@ use Rattle.std.specs.List.{flat_map}
 use Rattle.std.proofs.lemmas.List.{length-replicate}
 use Rattle.std.proofs.lemmas.List.Sums.{sum_by-cons}
 use Rattle.bl_map.specs.declared.region.Region.{Region}
+use Rattle.bl_mem.proofs.WordLaws.{length-u32_bytes, length-u64_bytes}
 use Rattle.bl_mbi.specs.Size.{tag_size, copy_size, load_base_size}
 use Rattle.bl_mbi.specs.InformationFacts.{InformationFacts, ModuleInfo, info_size}
-use Rattle.bl_mbi.specs.Tags.{u32_bytes, u64_bytes, padding, tag, text_body, module_body, module_tag, memory_body, run_bytes, map_body, copy_tag, load_base_tag}
+use Rattle.bl_mem.specs.Words.{u32_bytes, u64_bytes}
+use Rattle.bl_mbi.specs.Tags.{padding, tag, text_body, module_body, module_tag, memory_body, run_bytes, map_body, copy_tag, load_base_tag}
 use Rattle.bl_mbi.specs.Spelling.{tags, spelling}
-
-pub length-u32_bytes : (n : ℕ) → length (u32_bytes n) ≡ 4
-unfolding u32_bytes
-length-u32_bytes n = refl
-
-pub length-u64_bytes : (n : ℕ) → length (u64_bytes n) ≡ 8
-unfolding u64_bytes
-length-u64_bytes n = refl
 
 pub length-padding : (n : ℕ) → length (padding n) ≡ (8 - n % 8) % 8
 length-padding n = length-replicate ((8 - n % 8) % 8) 0

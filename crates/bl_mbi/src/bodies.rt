@@ -9,23 +9,21 @@ use crate::fault::InfoFault;
 use crate::format::{ENTRY_SIZE, MEM_LOWER_LIMIT};
 use crate::module::Module;
 use bl_map::{Kind, REGION_LIMIT, Region};
-use bl_mem::Bytes;
+use bl_mem::{Bytes, SliceView, u32_at, u64_at};
 use std::alloc::Allocator;
 
 pub(crate) fn word(bytes: &[u8]) -> u32
     requires { 4 ≤ length bytes.now }
     ensures { result ≡ fields.word bytes.now }
 {
-    u32::from_le_bytes([bytes[0], bytes[1], bytes[2], bytes[3]])
+    u32_at(&SliceView::new(bytes), 0)
 }
 
 fn long(bytes: &[u8]) -> u64
     requires { 8 ≤ length bytes.now }
     ensures { result ≡ fields.long bytes.now }
 {
-    u64::from_le_bytes([
-        bytes[0], bytes[1], bytes[2], bytes[3], bytes[4], bytes[5], bytes[6], bytes[7],
-    ])
+    u64_at(&SliceView::new(bytes), 0)
 }
 
 pub(crate) fn are_zeros(bytes: &[u8]) -> bool
@@ -81,7 +79,7 @@ pub(crate) fn module_of<A: Allocator>(
     Ok(Module {
         mod_start,
         mod_end,
-        line: Bytes::from(Vec::from_slice(alloc, line)?),
+        line: Bytes::copy(alloc, line)?,
     })
 }
 

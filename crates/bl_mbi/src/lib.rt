@@ -12,7 +12,6 @@ mod format;
 mod info;
 mod laws;
 mod module;
-mod put;
 mod read;
 mod reader;
 mod rest;

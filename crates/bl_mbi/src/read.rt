@@ -66,7 +66,7 @@ pub(crate) fn text_tag_at<'a, A: Allocator>(
     let Some(text) = text_of(body) else {
         return Err(InfoFault::BadTag(rest.at));
     };
-    Ok((Bytes::from(Vec::from_slice(alloc, text)?), after))
+    Ok((Bytes::copy(alloc, text)?, after))
 }
 
 /// The module in the tag there.
@@ -133,7 +133,7 @@ pub(crate) fn copy_at<'a, A: Allocator>(
         return Ok((None, rest));
     }
     let (body, after) = tag_at(kind, rest)?;
-    Ok((Some(Bytes::from(Vec::from_slice(alloc, body)?)), after))
+    Ok((Some(Bytes::copy(alloc, body)?), after))
 }
 
 /// The load base in the tag there, which may be missing.

@@ -12,9 +12,8 @@ use crate::format::{
     ENTRY_SIZE, TAG_ACPI_NEW, TAG_ACPI_OLD, TAG_BOOT_LOADER_NAME, TAG_COMMAND_LINE,
 };
 use crate::module::Module;
-use crate::put::put_u32;
 use crate::tags::{put_copy, put_end, put_load_base, put_map, put_memory, put_modules, put_text};
-use bl_mem::Bytes;
+use bl_mem::{Bytes, put_u32};
 use std::alloc::{AllocError, Allocator};
 
 /// How many bytes a tag takes whose body has so many.
