@@ -1,6 +1,7 @@
 //! A machine.
 use crate::fault::MapFault;
 use crate::kind::Kind;
+use crate::limits::{HIGH_START, KIB, MOST_HIGH_KIB, MOST_LOW_KIB, MOST_REGIONS};
 use crate::region::Region;
 use crate::rules::{first_high, is_pool, is_size, is_usable_among, usable_end};
 use crate::sweep::{greatest_kind, normal_map};
@@ -27,7 +28,7 @@ impl<A: Allocator> Model for Machine<A> {
 }
 
 impl<A: Allocator> Machine<A> {
-    ghost use Rattle.std.specs.Prelude.{◌≡◌, ◌^◌, ◌<◌, ◌≤◌, IfErr, IfOk, MatchBool, OnOk};
+    ghost use Rattle.std.specs.Prelude.{◌≡◌, ◌<◌, ◌≤◌, IfErr, IfOk, MatchBool, OnOk};
     ghost use Rattle.bl_map.specs.Kinds.{IsNormalMap, number_or_none};
     ghost use Rattle.bl_map.specs.Kinds as kinds;
     ghost use Rattle.bl_map.specs.MachineFacts.{AllUsable, AreMachineFacts};
@@ -58,7 +59,7 @@ impl<A: Allocator> Machine<A> {
         if !is_size(size) {
             return Err(MapFault::BadSize);
         }
-        if regions.len() > 128 {
+        if regions.len() > MOST_REGIONS {
             return Err(MapFault::TooManyRegions);
         }
         if let Some(i) = first_high(regions) {
@@ -115,19 +116,19 @@ impl<A: Allocator> Machine<A> {
     /// KiB of usable memory from address 0 on, at most 640 (Multiboot2 3.6.3 "Basic memory information").
     pub fn low_kib(&self) -> u64
         ensures low_kib { result ≡ kinds.low_kib self.now.runs }
-        ensures most { result ≤ 640 }
+        ensures most { result ≤ MOST_LOW_KIB }
         ensures facts { AreMachineFacts self.now }
     {
-        (usable_end(self.runs.as_slice(), 0) / 1024).min(640)
+        (usable_end(self.runs.as_slice(), 0) / KIB).min(MOST_LOW_KIB)
     }
 
     /// KiB of usable memory from 1 MiB on, at most what 32 bits hold (Multiboot2 3.6.3 "Basic memory information").
     pub fn high_kib(&self) -> u64
         ensures high_kib { result ≡ kinds.high_kib self.now.runs }
-        ensures most { result < 2 ^ 32 }
+        ensures most { result ≤ MOST_HIGH_KIB }
         ensures facts { AreMachineFacts self.now }
     {
-        let end = usable_end(self.runs.as_slice(), 0x0010_0000);
-        (end.saturating_sub(0x0010_0000) / 1024).min(0xFFFF_FFFF)
+        let end = usable_end(self.runs.as_slice(), HIGH_START);
+        (end.saturating_sub(HIGH_START) / KIB).min(MOST_HIGH_KIB)
     }
 }

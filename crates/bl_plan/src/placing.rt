@@ -1,5 +1,6 @@
 //! Places for a table of parts.
 ghost use Rattle.std.specs.Prelude.{◌+◌, ◌≤◌, All, [], IfOk, IfErr};
+ghost use Rattle.bl_map.specs.Limits.{usable_limit};
 ghost use Rattle.bl_plan.specs.Placed.{ArePlaced, IsRow, IsPlacingFault};
 
 use crate::fault::PlanFault;
@@ -27,7 +28,7 @@ pub fn place_rows<A: Allocator + Copy>(
     requires { All IsRow rows.now }
     ensures placed { IfOk result (λ places. ArePlaced machine.now [] rows.now places.items) }
     ensures fault { IfErr result (IsPlacingFault machine.now rows.now) }
-    ensures below { IfOk result (λ places. All (λ place. place.address + place.length ≤ 0xFFFFF000) places.items) }
+    ensures below { IfOk result (λ places. All (λ place. place.address + place.length ≤ usable_limit) places.items) }
 {
     let mut planner = Planner::new(alloc, machine)?;
     let mut places = Vec::new(alloc);

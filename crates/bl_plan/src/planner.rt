@@ -1,7 +1,8 @@
 //! A planner.
-use crate::blocked::{ended_by, taken_stretch};
+use crate::blocked::taken_stretch;
 use crate::choice::Choice;
 use crate::fault::PlanFault;
+use crate::order::position_for;
 use crate::row::Row;
 use crate::search::{is_permitted, place_at_side};
 use crate::side::Side;
@@ -29,6 +30,7 @@ impl<'m, A: Allocator> Model for Planner<'m, A> {
 
 impl<'m, A: Allocator> Planner<'m, A> {
     ghost use Rattle.std.specs.Prelude.{◌≡◌, ◌+◌, ◌<◌, ◌≤◌, [], IfOk, IfErr, OnOk, OnErr};
+    ghost use Rattle.bl_map.specs.Limits.{usable_limit};
     ghost use Rattle.bl_map.specs.MachineFacts.{AllUsable};
     ghost use Rattle.bl_plan.specs.Permitted.{AllOpen, IsPermitted, IsAtSide, IsPreferred, HasFixedFault, HasNoRoom, OrNoMemory};
     ghost use Rattle.bl_plan.specs.Planned.{AreTaken, with_taken};
@@ -52,7 +54,7 @@ impl<'m, A: Allocator> Planner<'m, A> {
         ensures taken { OnOk result (self.new ≡ with_taken self.old range) }
         ensures unchanged { OnErr result (self.new ≡ self.old) }
     {
-        let at = ended_by(self.taken.as_slice(), range.start);
+        let at = position_for(self.taken.as_slice(), &range);
         self.taken.insert(at, range)?;
         Ok(())
     }
@@ -100,7 +102,7 @@ impl<'m, A: Allocator> Planner<'m, A> {
         requires aligned { 1 ≤ align }
         ensures at_side { IfOk result (λ a. IsAtSide side (IsPermitted self.old.facts self.old.taken length align low high) a) }
         ensures taken { IfOk result (λ a. self.new ≡ with_taken self.old (record { start = a; end = a + length })) }
-        ensures below { IfOk result (λ a. a + length ≤ 0xFFFFF000) }
+        ensures below { IfOk result (λ a. a + length ≤ usable_limit) }
         ensures fault { IfErr result (OrNoMemory (HasNoRoom (IsPermitted self.old.facts self.old.taken length align low high))) }
         ensures unchanged { OnErr result (self.new ≡ self.old) }
     {
@@ -129,7 +131,7 @@ impl<'m, A: Allocator> Planner<'m, A> {
         requires aligned { 1 ≤ align }
         ensures preferred { IfOk result (λ a. IsPreferred at (IsPermitted self.old.facts self.old.taken length align low high) a) }
         ensures taken { IfOk result (λ a. self.new ≡ with_taken self.old (record { start = a; end = a + length })) }
-        ensures below { IfOk result (λ a. a + length ≤ 0xFFFFF000) }
+        ensures below { IfOk result (λ a. a + length ≤ usable_limit) }
         ensures fault { IfErr result (OrNoMemory (HasNoRoom (IsPermitted self.old.facts self.old.taken length align low high))) }
         ensures unchanged { OnErr result (self.new ≡ self.old) }
     {
@@ -147,7 +149,7 @@ impl<'m, A: Allocator> Planner<'m, A> {
         requires row { IsRow row.now }
         ensures chosen { IfOk result (λ a. IsChosen self.old.facts self.old.taken row.now.length row.now.choice a) }
         ensures taken { IfOk result (λ a. self.new ≡ with_taken self.old (record { start = a; end = a + row.now.length })) }
-        ensures below { IfOk result (λ a. a + row.now.length ≤ 0xFFFFF000) }
+        ensures below { IfOk result (λ a. a + row.now.length ≤ usable_limit) }
         ensures fault { IfErr result (OrNoMemory (HasFault self.old.facts self.old.taken row.now.length row.now.choice)) }
         ensures unchanged { OnErr result (self.new ≡ self.old) }
     {
