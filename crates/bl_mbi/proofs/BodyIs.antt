@@ -10,12 +10,12 @@ use Rattle.std.proofs.Math.Seq.{drop-cons}
 use Rattle.bl_map.specs.declared.kind.Kind.{Kind}
 use Rattle.bl_map.specs.declared.kind.Kind.TheVariants.{Usable, Reserved, Acpi, Nvs, Bad}
 use Rattle.bl_map.specs.declared.region.Region.{Region}
-use Rattle.bl_map.specs.Kinds.{kind_number, end_of}
+use Rattle.bl_map.specs.Kinds.{kind_number, kind_of, end_of}
 use Rattle.bl_mbi.specs.InformationFacts.{ModuleInfo, IsModule, IsText, AreBytes}
 use Rattle.bl_mem.specs.Words.{u32_bytes, u64_bytes}
 use Rattle.bl_mbi.specs.Tags.{text_body, module_body, memory_body, run_bytes, map_body}
 use Rattle.bl_mbi.specs.Fields.{word, long}
-use Rattle.bl_mbi.specs.Bodies.{text_of, module_of, memory_of, kind_of, run_of, runs_of, map_of, load_base_of}
+use Rattle.bl_mbi.specs.Bodies.{text_of, module_of, memory_of, run_of, runs_of, map_of, load_base_of}
 use Rattle.bl_mbi.proofs.Inverse.{passed_some, mapped, then, same_some}
 use Rattle.bl_mbi.proofs.WordLaws.{word_then, long_then, word_small}
 use Rattle.bl_mbi.proofs.TagIs.{drop_small, take_small}

@@ -1,6 +1,7 @@
 -- The facts of boot information (Multiboot2 3.6 "Boot information format"), and what of them has a spelling.
 use Rattle.std.specs.Prelude.{◌≢◌, ◌^◌, ◌<◌, ◌≤◌, ℕ, List, length, map, All, Option, option_map, is_some, IfSome}
 use Rattle.bl_map.specs.declared.region.Region.{Region}
+use Rattle.bl_map.specs.Limits.{region_limit}
 use Rattle.bl_map.specs.Kinds.{end_of}
 use Rattle.bl_mbi.specs.Size.{size_of}
 
@@ -40,7 +41,7 @@ pub record FitsFields (facts : InformationFacts) : Type 0 where
   pub modules : All IsModule facts.modules
   pub mem_lower : facts.mem_lower ≤ 640
   pub mem_upper : facts.mem_upper < 2 ^ 32
-  pub runs : All (λ run. end_of run ≤ 2 ^ 52) facts.runs
+  pub runs : All (λ run. end_of run ≤ region_limit) facts.runs
   pub rsdp_old : IfSome facts.rsdp_old AreBytes
   pub rsdp_new : IfSome facts.rsdp_new AreBytes
   pub load_base : IfSome facts.load_base (λ base. base < 2 ^ 32)

@@ -98,20 +98,6 @@ pub(crate) fn memory_of(body: &[u8]) -> Option<(u32, u32)>
     Some((mem_lower, word(&body[4..])))
 }
 
-#[tactic(auto, unfolding(crate::specs::Bodies::kind_of))]
-fn kind_of(number: u32) -> Option<Kind>
-    ensures { result ≡ spec.kind_of number }
-{
-    match number {
-        1 => Some(Kind::Usable),
-        2 => Some(Kind::Reserved),
-        3 => Some(Kind::Acpi),
-        4 => Some(Kind::Nvs),
-        5 => Some(Kind::Bad),
-        _ => None,
-    }
-}
-
 /// The entry of the memory map in 24 bytes.
 #[tactic(auto, unfolding(crate::specs::Bodies::run_of))]
 fn run_of(bytes: &[u8]) -> Option<Region>
@@ -126,7 +112,7 @@ fn run_of(bytes: &[u8]) -> Option<Region>
     if word(&bytes[20..]) != 0 {
         return None;
     }
-    let kind = kind_of(word(&bytes[16..]))?;
+    let kind = Kind::from_number(word(&bytes[16..]))?;
     Some(Region { base, length, kind })
 }
 
