@@ -43,7 +43,7 @@ kind_before x xs a runs below =
     (All-cons (λ r. x.base ≤ r.base) x xs (omega arith) (All-weaker (λ r. end_of x ≤ r.base) (λ r. x.base ≤ r.base) (λ r h. omega arith) xs (later_bases x xs runs)))
     below
 
-kind_in : (x : Region) (xs : List Region) (a : ℕ) → AreRuns (x ∷ xs) → x.base ≤ a → a < end_of x → kind_at (x ∷ xs) a ≡ kind_number x.kind
+pub kind_in : (x : Region) (xs : List Region) (a : ℕ) → AreRuns (x ∷ xs) → x.base ≤ a → a < end_of x → kind_at (x ∷ xs) a ≡ kind_number x.kind
 kind_in x xs a runs from below =
     kind_held x xs a (held x a from below)
     ∙ ap (λ n. max (kind_number x.kind) n) (none_before xs (end_of x) a (later_bases x xs runs) below)

@@ -28,7 +28,7 @@ impl<A: Allocator> Model for Machine<A> {
 }
 
 impl<A: Allocator> Machine<A> {
-    ghost use Rattle.std.specs.Prelude.{◌≡◌, ◌<◌, ◌≤◌, IfErr, IfOk, MatchBool, OnOk};
+    ghost use Rattle.std.specs.Prelude.{◌≡◌, ◌^◌, ◌<◌, ◌≤◌, IfErr, IfOk, MatchBool, OnOk};
     ghost use Rattle.bl_map.specs.Kinds.{IsNormalMap, number_or_none};
     ghost use Rattle.bl_map.specs.Kinds as kinds;
     ghost use Rattle.bl_map.specs.MachineFacts.{AllUsable, AreMachineFacts};
@@ -125,7 +125,7 @@ impl<A: Allocator> Machine<A> {
     /// KiB of usable memory from 1 MiB on, at most what 32 bits hold (Multiboot2 3.6.3 "Basic memory information").
     pub fn high_kib(&self) -> u64
         ensures high_kib { result ≡ kinds.high_kib self.now.runs }
-        ensures most { result ≤ MOST_HIGH_KIB }
+        ensures most { result < 2 ^ 32 }
         ensures facts { AreMachineFacts self.now }
     {
         let end = usable_end(self.runs.as_slice(), HIGH_START);
