@@ -1,5 +1,5 @@
 -- The groups of tags together.
-use Rattle.std.proofs.Common.{◌≡◌, ◌+◌, ◌<◌, ◌^◌, ℕ, List, [], ◌∷◌, ◌++◌, length, map, sum_by, arith, refl, append_assoc}
+use Rattle.std.proofs.Common.{◌≡◌, ◌+◌, ◌<◌, ◌^◌, ℕ, List, [], ◌∷◌, ◌++◌, length, map, sum_by, arith, refl, subst, append_assoc}
 use Rattle.std.specs.Prelude.{codes}
 use Rattle.std.specs.List.{flat_map}
 use Rattle.std.proofs.lemmas.List.Sums.{sum_by-cons}
@@ -18,6 +18,12 @@ sum_lines (m ∷ modules) =
 
 pub info_size_is : (facts : InformationFacts) → info_size facts ≡ 8 + texts_size facts + map_size facts + last_size facts
 info_size_is facts = omega (arith, sum_lines facts.modules)
+
+-- what holds of the fields that facts keep
+pub groups_below : (inside facts : InformationFacts) → HasSpelling inside → inside ≡ facts → 8 + texts_size facts + map_size facts + last_size facts < 2 ^ 32
+groups_below inside facts is same =
+    let below : 8 + texts_size inside + map_size inside + last_size inside < 2 ^ 32 = omega (arith, info_size_is inside, is.small) in
+    subst (λ (f : InformationFacts). 8 + texts_size f + map_size f + last_size f < 2 ^ 32) same below
 
 pub modules_small : (facts : InformationFacts) → HasSpelling facts → sum_by (λ m. tag_size (length m.line + 9)) facts.modules < 2 ^ 32
 modules_small facts is = omega (arith, sum_lines facts.modules, is.small)

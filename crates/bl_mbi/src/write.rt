@@ -47,19 +47,33 @@ fn copy_len<A: Allocator>(copy: &Option<Bytes<A>>) -> u64
     }
 }
 
+/// How many bytes the tags of texts take: the line, the loader's name, the modules.
+fn texts_len<A: Allocator>(facts: &Facts<A>) -> u64
+    requires { texts_size facts.now < 2 ^ 32 }
+    ensures { result ≡ texts_size facts.now }
+{
+    let line = tag_len(facts.line.len() as u64 + 1);
+    let name = tag_len(b"bootcore".len() as u64 + 1);
+    line + name + modules_len(&facts.modules)
+}
+
+/// How many bytes the last tags take: those that do not always stand, and the one that ends the information.
+fn last_len<A: Allocator>(facts: &Facts<A>) -> u64
+    requires { last_size facts.now < 2 ^ 32 }
+    ensures { result ≡ last_size facts.now }
+{
+    let load_base = if facts.load_base.is_some() { 16 } else { 0 };
+    copy_len(&facts.rsdp_old) + copy_len(&facts.rsdp_new) + load_base + 8
+}
+
 /// How many bytes the information takes: its `total_size`, with the loader's name `bootcore`.
 pub fn info_size<A: Allocator>(facts: &Facts<A>) -> u64
     ensures size { result ≡ length (spelling (codes "bootcore") facts.now) }
     ensures by_lengths { result ≡ size_of_info facts.now }
     ensures small { result < 2 ^ 32 }
 {
-    let line = tag_len(facts.line.len() as u64 + 1);
-    let name = tag_len(b"bootcore".len() as u64 + 1);
-    let modules = modules_len(&facts.modules);
-    let runs = 16 + ENTRY_SIZE as u64 * facts.runs.len() as u64;
-    let copies = copy_len(&facts.rsdp_old) + copy_len(&facts.rsdp_new);
-    let load_base = if facts.load_base.is_some() { 16 } else { 0 };
-    8 + line + name + modules + 16 + runs + copies + load_base + 8
+    let map = 32 + ENTRY_SIZE as u64 * facts.runs.len() as u64;
+    8 + texts_len(facts) + map + last_len(facts)
 }
 
 /// Appends the tags of texts: the line, the loader's name, the modules.
