@@ -45,7 +45,7 @@ or_false : (b : Bool) → (b || false) ≡ true → b ≡ true
 or_false true h = refl
 or_false false h = h
 
-one_filled : (s : Segment) (entry : Option ℕ) → entry_fault (s ∷ []) entry ≡ None → 1 ≤ s.memsz
+pub one_filled : (s : Segment) (entry : Option ℕ) → entry_fault (s ∷ []) entry ≡ None → 1 ≤ s.memsz
 one_filled s None h = absurd cc
 one_filled s (Some a) h = let w = held_within s a (or_false (holds s a) (entry_held (s ∷ []) a h)) in omega (arith, w.0, w.1)
 

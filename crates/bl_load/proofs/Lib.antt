@@ -12,4 +12,5 @@ pub mod PlacingLemmas
 pub mod PrepareLemmas
 pub mod HandoverLaws
 pub mod LegalLaws
+pub mod PartLaws
 pub mod RangeLemmas

@@ -80,12 +80,15 @@ information_row_is facts line relocation =
     let frames = some_frames (info_size (information_of facts line relocation 0)) size in
     record { filled = omega arith; choice = omega arith }
 
--- the rows of a kernel that can be loaded are rows of some bytes
-pub rows_are_rows : (file : List ℕ) (facts : MachineFacts) (line : List ℕ) (kernel : KernelFacts) → AreLoadable file kernel.segments → All IsRow (rows_of facts line kernel)
-rows_are_rows file facts line kernel loadable =
+-- the rows of a kernel whose segments take memory are rows of some bytes
+pub kernel_rows_are_rows : (facts : MachineFacts) (line : List ℕ) (kernel : KernelFacts) → 1 ≤ length kernel.segments → All (λ s. 1 ≤ s.memsz) kernel.segments → All IsRow (rows_of facts line kernel)
+kernel_rows_are_rows facts line kernel some filled =
     All-append IsRow (kernel_rows kernel.segments kernel.relocation) (information_row facts line kernel.relocation ∷ [])
-    (kernel_rows_are kernel.segments kernel.relocation loadable.some loadable.filled)
+    (kernel_rows_are kernel.segments kernel.relocation some filled)
     (All-cons IsRow (information_row facts line kernel.relocation) [] (information_row_is facts line kernel.relocation) (All-nil IsRow))
+
+pub rows_are_rows : (file : List ℕ) (facts : MachineFacts) (line : List ℕ) (kernel : KernelFacts) → AreLoadable file kernel.segments → All IsRow (rows_of facts line kernel)
+rows_are_rows file facts line kernel loadable = kernel_rows_are_rows facts line kernel loadable.some loadable.filled
 
 -- ---- the parts of a kernel don't overlap one another
 
