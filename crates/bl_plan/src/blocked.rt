@@ -36,7 +36,7 @@ fn unusable_stretch(runs: &[Region], start: u64, end: u64) -> Option<Range<u64>>
 }
 
 /// How many of these ascending ranges end at `start` or below.
-pub fn ended_by(ranges: &[Range<u64>], start: u64) -> usize
+fn ended_by(ranges: &[Range<u64>], start: u64) -> usize
     requires { AreApart ranges.now }
     ensures bound { result ≤ length ranges.now }
     ensures before { AllWithin (λ range. range.end ≤ start) ranges.now 0 result }

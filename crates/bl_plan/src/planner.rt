@@ -1,7 +1,8 @@
 //! A planner.
-use crate::blocked::{ended_by, taken_stretch};
+use crate::blocked::taken_stretch;
 use crate::choice::Choice;
 use crate::fault::PlanFault;
+use crate::order::position_for;
 use crate::row::Row;
 use crate::search::{is_permitted, place_at_side};
 use crate::side::Side;
@@ -52,7 +53,7 @@ impl<'m, A: Allocator> Planner<'m, A> {
         ensures taken { OnOk result (self.new ≡ with_taken self.old range) }
         ensures unchanged { OnErr result (self.new ≡ self.old) }
     {
-        let at = ended_by(self.taken.as_slice(), range.start);
+        let at = position_for(self.taken.as_slice(), &range);
         self.taken.insert(at, range)?;
         Ok(())
     }
