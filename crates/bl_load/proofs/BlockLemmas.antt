@@ -7,8 +7,8 @@ use Rattle.std.proofs.lemmas.Bool.Decides.{nat_tests}
 use Rattle.bl_mem.specs.Memory.{overwrite}
 use Rattle.bl_mem.proofs.Overwrites.{length-overwrite, overwrite_more}
 use Rattle.bl_mem.specs.declared.segment.Segment.{Segment}
-use Rattle.bl_mem.specs.Contents.{contents_of}
-use Rattle.bl_load.specs.Blocks.{holds, low_of, high_of, span_of, byte_at, first_values, block_of}
+use Rattle.bl_mem.specs.Contents.{contents_of, holds}
+use Rattle.bl_load.specs.Blocks.{low_of, high_of, span_of, byte_at, first_values, block_of}
 use Rattle.bl_load.specs.Planned.{IsCopied, SegmentsAscend}
 
 -- segments from a linked address on, each behind the zeros of the gap before it

@@ -8,6 +8,7 @@ use Rattle.std.proofs.lemmas.Bool.{cond_both, cases_lt}
 use Rattle.std.proofs.lemmas.Bool.Decides.{nat_tests}
 use Rattle.std.specs.declared.ops.Range.{Range}
 use Rattle.bl_mem.specs.declared.segment.Segment.{Segment}
+use Rattle.bl_mem.specs.Contents.{holds}
 use Rattle.bl_mem.specs.Memory.{IsIn}
 use Rattle.bl_map.specs.MachineFacts.{MachineFacts}
 use Rattle.bl_elf.specs.Elf.{AreApart}
@@ -24,7 +25,7 @@ use Rattle.bl_plan.specs.declared.role.Role.TheVariants.{Kernel}
 use Rattle.bl_plan.proofs.PutLemmas.{All-put_in}
 use Rattle.bl_plan.proofs.PlaceLaws.{as_many, all_usable, all_apart}
 use Rattle.bl_load.specs.Kernel.{KernelFacts, IsKernel, AreLoadable, holds_at, entry_fault, counted_entry}
-use Rattle.bl_load.specs.Blocks.{holds, low_of, high_of, span_of}
+use Rattle.bl_load.specs.Blocks.{low_of, high_of, span_of}
 use Rattle.bl_load.specs.Rows.{whole_frames, segment_rows, align_of, block_choice, kernel_rows, information_of, information_row, rows_of}
 use Rattle.bl_load.specs.Parts.{no_segment, base_of, entry_at}
 use Rattle.bl_load.specs.Rowed.{HasKernelLength, IsRowed}

@@ -6,9 +6,9 @@ use Rattle.std.proofs.lemmas.List.Elements.{All-nil, All-cons, All-head, All-tai
 use Rattle.std.proofs.lemmas.Bool.{cond_both, cases_lt}
 use Rattle.std.proofs.lemmas.Bool.Decides.{nat_tests}
 use Rattle.bl_mem.specs.declared.segment.Segment.{Segment}
-use Rattle.bl_mem.specs.Contents.{contents_of}
+use Rattle.bl_mem.specs.Contents.{contents_of, holds}
 use Rattle.bl_elf.specs.Elf.{AreApart}
-use Rattle.bl_load.specs.Blocks.{holds, low_of, high_of, span_of, byte_at, first_values, block_of}
+use Rattle.bl_load.specs.Blocks.{low_of, high_of, span_of, byte_at, first_values, block_of}
 use Rattle.bl_load.specs.Kernel.{holds_at}
 use Rattle.bl_load.specs.Planned.{SegmentsAscend}
 use Rattle.bl_plan.specs.Order.{segment_key, ascending}

@@ -6,7 +6,8 @@ use Rattle.bl_mem.specs.declared.segment.Segment.{Segment}
 use Rattle.bl_elf.specs.Elf.{ElfFacts, IsElf}
 use Rattle.bl_elf.specs.Elf as elf
 use Rattle.bl_elf.specs.Elf.{AreApart}
-use Rattle.bl_load.specs.Blocks.{holds, span_of}
+use Rattle.bl_mem.specs.Contents.{holds}
+use Rattle.bl_load.specs.Blocks.{span_of}
 use Rattle.bl_elf.specs.declared.fault.ElfFault.{ElfFault}
 use Rattle.bl_elf.specs.declared.fault.ElfFault.TheVariants as elf_fault
 use Rattle.bl_mb2head.specs.Header.{IsHeader}

@@ -106,18 +106,11 @@ fn read_executable<A: Allocator + Copy, V: ByteView>(
     }
 }
 
-/// Whether a segment holds an address where it is linked.
-fn holds(segment: &Segment, a: u64) -> bool
-    ensures { result ≡ kernel.holds_at a segment.now }
-{
-    segment.address <= a && a - segment.address < segment.memsz
-}
-
 /// Whether one of the segments holds an address.
 fn is_held(segments: &[Segment], a: u64) -> bool
     ensures { result ≡ list_any (kernel.holds_at a) segments.now }
 {
-    segments.iter().any(|segment| holds(segment, a))
+    segments.iter().any(|segment| segment.holds(a))
 }
 
 /// The entry that counts, where it lies in a segment.
