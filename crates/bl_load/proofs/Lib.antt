@@ -7,6 +7,9 @@ pub mod WrittenLemmas
 pub mod HeldLemmas
 pub mod LineLemmas
 pub mod RowLemmas
+pub mod OverlapLemmas
+pub mod RowPlaceLemmas
+pub mod EntryLemmas
 pub mod PlacingLemmas
 pub mod PrepareLemmas
 pub mod HandoverLaws

@@ -26,7 +26,7 @@ use Rattle.bl_load.specs.Value.{EntryValue, kernel_file}
 use Rattle.bl_load.specs.Kernel.{KernelFacts, IsKernel, IsLoadedBy, entry_fault, counted_entry}
 use Rattle.bl_load.specs.Blocks.{span_of}
 use Rattle.bl_load.specs.Rows.{rows_of}
-use Rattle.bl_load.specs.Rowed.{HasKernelLength, HasLength, IsRowed}
+use Rattle.bl_load.specs.PlacingKept.{HasKernelLength, HasLength, IsRowed}
 use Rattle.bl_plan.specs.Order.{place_key, in_order}
 use Rattle.bl_load.specs.Handover.{Part, Handover, filled, end_of}
 use Rattle.bl_load.specs.Parts.{IsHandover, part_from, content_from, kernel_content, no_segment, base_of}
@@ -35,7 +35,8 @@ use Rattle.bl_load.proofs.BlockLemmas.{length-block_of}
 use Rattle.bl_load.proofs.InformationLemmas.{information_short}
 use Rattle.bl_load.proofs.HeldLemmas.{AllPairs-map}
 use Rattle.bl_plan.proofs.OrderLemmas.{in_order_all}
-use Rattle.bl_load.proofs.RowLemmas.{kernel_rows_are_rows, each_rowed, are_filled, in_order_ascends}
+use Rattle.bl_load.proofs.RowLemmas.{kernel_rows_are_rows}
+use Rattle.bl_load.proofs.RowPlaceLemmas.{each_rowed, are_filled, in_order_ascends}
 
 -- ---- the segments of a kernel, whatever numbers its file's bytes are
 
