@@ -13,3 +13,7 @@ contents_of file segment = file_part file segment ++ replicate (segment.memsz - 
 -- an address lies in the segment, where it is linked
 abbrev pub holds : Segment → ℕ → Bool
 holds segment a = nat_le segment.address a && nat_lt a (segment.address + segment.memsz)
+
+-- the same as a test of segments
+abbrev pub holds_at : ℕ → Segment → Bool
+holds_at a segment = holds segment a
