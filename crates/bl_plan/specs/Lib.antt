@@ -4,3 +4,4 @@ pub mod Order
 pub mod Permitted
 pub mod Planned
 pub mod Placed
+pub mod Kept

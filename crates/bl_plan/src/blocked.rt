@@ -4,7 +4,8 @@ ghost use Rattle.std.specs.List.{AllWithin};
 ghost use Rattle.bl_mem.specs.Memory.{IsIn};
 ghost use Rattle.bl_map.specs.Kinds.{kind_at, AreRuns};
 ghost use Rattle.bl_map.specs.MachineFacts.{AllUsable};
-ghost use Rattle.bl_plan.specs.Permitted.{AllOpen, IsFree, IsBlocked};
+ghost use Rattle.bl_plan.specs.Kept.{IsBlocked, IsFree};
+ghost use Rattle.bl_plan.specs.Permitted.{AllOpen};
 ghost use Rattle.bl_plan.specs.Planned.{AreApart};
 
 use bl_map::{FIRST_USABLE, Kind, Machine, Region, USABLE_LIMIT};
