@@ -1,5 +1,5 @@
 -- What an attempt to boot one entry comes to. Own.
-use Rattle.std.specs.Prelude.{◌≡◌, ◌⊎◌, ℕ, ◌+◌, ◌≤◌, List, [], ◌∷◌, length, map, replicate, Option, Some, None, All, MatchOption}
+use Rattle.std.specs.Prelude.{◌≡◌, ◌⊎◌, ℕ, ◌+◌, ◌≤◌, List, [], ◌∷◌, length, map, replicate, Option, Some, None, All}
 use Rattle.std.specs.declared.ops.Range.{Range}
 use Rattle.bl_map.specs.MachineFacts.{MachineFacts}
 use Rattle.bl_load.specs.declared.refusal.Refusal.{Refusal}
@@ -12,8 +12,8 @@ use Rattle.bl_map.specs.Room.{frames_of, frames_in, HasRoomFor}
 use Rattle.bl_boot.specs.declared.attempting.attempt.Attempt.{Attempt}
 use Rattle.bl_boot.specs.declared.attempting.attempt.Attempt.TheVariants as attempt
 use Rattle.bl_boot.specs.declared.attempting.attempt.Loaded.{Loaded}
-use Rattle.bl_desc.specs.Described.{Entry, File, file_named}
-use Rattle.bl_boot.specs.Files.{Answer, missing, too_long, bytes, answer_for}
+use Rattle.bl_desc.specs.Described.{Entry}
+use Rattle.bl_boot.specs.Files.{Answer, missing, too_long, bytes}
 
 -- the value of an entry, which has no modules, with this kernel's file
 abbrev pub entry_value : Entry → List ℕ → EntryValue
@@ -62,10 +62,6 @@ IsAttemptHandover facts entry missing h = ⊥
 IsAttemptHandover facts entry (too_long n) h = ⊥
 IsAttemptHandover facts entry (bytes kernel) h =
     FitsPool facts kernel × IsHandover facts (entry_value entry kernel) h × HasRoomBeside facts kernel h
-
--- what is found for the name of a file: that of the description, and else what the files answer
-abbrev pub IsFound : List File → (List ℕ → Answer → Type 0) → List ℕ → Answer → Type 0
-IsFound files answers name answer = MatchOption (file_named name files) (answers name answer) (λ file. answer ≡ answer_for file)
 
 -- ---- what the code keeps
 

@@ -1,5 +1,6 @@
 pub mod Says
 pub mod Files
+pub mod Found
 pub mod Attempt
 pub mod Faults
 pub mod Ends

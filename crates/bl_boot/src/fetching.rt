@@ -28,8 +28,9 @@ pub trait Files {
         ensures told { IfOk result (λ file. answers self.old name.now (answer_of file)) }
         ensures same { (file : List ℕ) (answer : Answer) →
             answers self.new file answer → answers self.old file answer }
-        ensures limit { IfOk result KeepsLimit }
-        ensures missing { IfOk result (CountsFault (faults self.old) (faults self.new)) }
+        ensures limit { IfOk result (λ file. KeepsLimit (answer_of file)) }
+        ensures missing { IfOk result (λ file.
+            CountsFault (faults self.old) (faults self.new) (answer_of file)) }
         ensures err { OnErr result (faults self.new ≡ faults self.old) };
 
     /// How many faults there were.

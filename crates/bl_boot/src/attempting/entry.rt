@@ -1,7 +1,8 @@
 //! An attempt with an entry of a description.
-ghost use Rattle.std.specs.Prelude.{ℕ, List, ◌+◌, ◌<◌, ◌≤◌, ◌^◌, IfOk};
-ghost use Rattle.bl_boot.specs.Attempt.{IsAttempt, IsFound};
-ghost use Rattle.bl_desc.specs.Described.{entry_view, view};
+ghost use Rattle.std.specs.Prelude.{◌≡◌, ℕ, List, ◌+◌, ◌<◌, ◌≤◌, ◌^◌, IfOk, IsSome};
+ghost use Rattle.bl_boot.specs.Attempt.{IsAttempt};
+ghost use Rattle.bl_boot.specs.Found.{IsFound};
+ghost use Rattle.bl_desc.specs.Described.{entry_view, file_named, view};
 ghost use Rattle.bl_boot.specs.Files.{Answer, answer_for, answer_of};
 
 use crate::attempting::attempt::Attempt;
@@ -56,8 +57,13 @@ pub fn attempt_entry<A: Allocator + Copy, F: Files>(
 ) -> Result<Attempt<A>, AllocError>
     requires { F.faults files.old < 2 ^ 63 }
     ensures came { IfOk result (λ attempt. (answer : Answer)
-        × IsFound (view description.now).files (F.answers files.old) entry.now.kernel answer
+        × IsFound F.answers F.faults (view description.now).files entry.now.kernel
+        files.old files.new answer
         × IsAttempt description.now.fill machine.now (entry_view entry.now) answer attempt) }
+
+    // A kernel that stands in the description is not asked for.
+    ensures inline { IsSome (file_named entry.now.kernel (view description.now).files) →
+        files.new ≡ files.old }
 
     // The files answer as before, and at most one of them was missing.
     ensures same { (file : List ℕ) (answer : Answer) →
