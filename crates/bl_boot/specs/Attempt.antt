@@ -1,5 +1,5 @@
 -- What an attempt to boot one entry comes to. Own.
-use Rattle.std.specs.Prelude.{◌≡◌, ◌⊎◌, ℕ, ◌+◌, ◌≤◌, List, [], ◌∷◌, length, map, replicate, Option, Some, None, All}
+use Rattle.std.specs.Prelude.{◌≡◌, ◌⊎◌, ℕ, ◌+◌, ◌-◌, ◌<◌, ◌≤◌, List, [], ◌∷◌, length, map, replicate, slice_index, Option, Some, None, All}
 use Rattle.std.specs.declared.ops.Range.{Range}
 use Rattle.bl_map.specs.MachineFacts.{MachineFacts}
 use Rattle.bl_load.specs.declared.refusal.Refusal.{Refusal}
@@ -69,9 +69,16 @@ IsAttemptHandover facts entry (bytes kernel) h =
 abbrev pub handover_loaded : {A : Type 0} → Loaded A → Handover
 handover_loaded loaded = handover_in loaded.memory loaded.handoff.protocol loaded.handoff.registers loaded.handoff.places
 
--- memory that was filled with one byte holds what is handed over, and nothing else is changed
+-- a is an address of the part
+abbrev pub Spans : Part → ℕ → Type 0
+Spans part a = (part.address ≤ a) × (a < part.address + length part.bytes)
+
+-- memory that was filled with one byte holds what is handed over, and nothing else is changed: each address of a part has
+-- the part's byte, and every other one the byte that it had
 pub record IsLoaded {A : Type 0} (size fill : ℕ) (handover : Handover) (loaded : Loaded A) : Type 0 where
   pub memory : loaded.memory ≡ written handover.parts (replicate size fill)
+  pub in_parts : All (λ part. (a : ℕ) → Spans part a → slice_index loaded.memory a ≡ slice_index part.bytes (a - part.address)) handover.parts
+  pub elsewhere : (a : ℕ) → a < size → All (λ part. ¬ Spans part a) handover.parts → slice_index loaded.memory a ≡ fill
   pub handed : handover_loaded loaded ≡ handover
   pub inside : All (λ place. place.address + place.length ≤ length loaded.memory) loaded.handoff.places
 

@@ -68,7 +68,8 @@ pub fn attempt_entry<A: Allocator + Copy, F: Files>(
     // The files answer as before, and at most one of them was missing.
     ensures same { (file : List ℕ) (answer : Answer) →
         F.answers files.new file answer → F.answers files.old file answer }
-    ensures faults { F.faults files.new ≤ F.faults files.old + 1 }
+    ensures missing { (F.faults files.old ≤ F.faults files.new)
+        × (F.faults files.new ≤ F.faults files.old + 1) }
 {
     let fill = description.fill;
     let name = entry.kernel.as_str();

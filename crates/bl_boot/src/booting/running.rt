@@ -31,7 +31,8 @@ fn run_boot<A: Allocator + Copy, F: Files, S: Sink, B: Allocator>(
     ensures inline { HasInlineKernel desc.now → files.new ≡ files.old }
     ensures same_files { (file : List ℕ) (answer : Answer) →
         F.answers files.new file answer → F.answers files.old file answer }
-    ensures missing { F.faults files.new ≤ F.faults files.old + 1 }
+    ensures missing { (F.faults files.old ≤ F.faults files.new)
+        × (F.faults files.new ≤ F.faults files.old + 1) }
 {
     let description = read_description(alloc, global, desc)?;
     let machine = machine_of(alloc, &description)?;
@@ -48,13 +49,14 @@ fn run_boot<A: Allocator + Copy, F: Files, S: Sink, B: Allocator>(
     }
 }
 
-/// Boots the entry of a description, and writes the image of the handover to `out`. A file that is not
-/// in the description is asked of `files`. What the boot came to is appended to `say`, line by line.
+/// Boots the entry of a description, and writes the image of the handover to `out`. A kernel that is not
+/// in the description is asked of `files`, once, and nothing else is. What the boot came to is appended to
+/// `say`, line by line.
 ///
 /// The status is 0 where the entry was booted, 1 where it was refused, 2 where the description is bad,
-/// 3 where the sink had a fault, and 4 where memory ran out; with 2, 3 and 4 nothing is said. `global` is
-/// what the TOML reader takes its memory from. The order in which pieces come has no effect yet, since
-/// each file is read whole.
+/// 3 where the sink had a fault, and 4 where memory ran out; with 2, 3 and 4 nothing is said. The entry is
+/// refused for want of its file only where `files` counted a fault more. `global` is what the TOML reader
+/// takes its memory from. The order in which pieces come has no effect yet, since each file is read whole.
 pub fn boot<A: Allocator + Copy, F: Files, S: Sink, B: Allocator>(
     alloc: A,
     global: Global,
@@ -90,7 +92,8 @@ pub fn boot<A: Allocator + Copy, F: Files, S: Sink, B: Allocator>(
     ensures inline { HasInlineKernel desc.now → files.new ≡ files.old }
     ensures same_files { (file : List ℕ) (answer : Answer) →
         F.answers files.new file answer → F.answers files.old file answer }
-    ensures missing { F.faults files.new ≤ F.faults files.old + 1 }
+    ensures missing { (F.faults files.old ≤ F.faults files.new)
+        × (F.faults files.new ≤ F.faults files.old + 1) }
 {
     match run_boot(alloc, global, desc, files, out, say) {
         Ok(Ended::Booted) => 0,
