@@ -13,8 +13,8 @@ pub use mem_files::MemFiles;
 /// The greatest length of a file, in bytes. A longer one is not read.
 pub const FILE_LIMIT: u64 = 0x4000_0000;
 
-/// Files by their names. They count their own faults, so that whoever is told that a file is missing
-/// can be shown it.
+/// Files by their names. They count their own faults, so that whoever is told that a file is
+/// missing can be shown it.
 pub trait Files {
     /// What may be answered for a name from now on.
     ghost answers: { Self → List ℕ → Answer → Type 0 };

@@ -21,7 +21,8 @@ fn attempt_inline<A: Allocator + Copy>(
     entry: &EntryRow<A>,
     kernel: &[u8],
 ) -> Result<Attempt<A>, AllocError>
-    ensures { IfOk result (IsAttempt fill machine.now (entry_view entry.now) (answer_for kernel.now)) }
+    ensures { IfOk result
+        (IsAttempt fill machine.now (entry_view entry.now) (answer_for kernel.now)) }
 {
     if kernel.len() as u64 > FILE_LIMIT {
         return Ok(Attempt::Refused(Refusal::FileTooLong(0)));
@@ -37,7 +38,8 @@ fn attempt_fetched<A: Allocator + Copy>(
     entry: &EntryRow<A>,
     fetched: &Fetched<A>,
 ) -> Result<Attempt<A>, AllocError>
-    ensures { IfOk result (IsAttempt fill machine.now (entry_view entry.now) (answer_of fetched.now)) }
+    ensures { IfOk result
+        (IsAttempt fill machine.now (entry_view entry.now) (answer_of fetched.now)) }
 {
     match fetched {
         Fetched::Missing => Ok(Attempt::Refused(Refusal::NoFile(0))),
@@ -46,8 +48,8 @@ fn attempt_fetched<A: Allocator + Copy>(
     }
 }
 
-/// Attempts to boot an entry of a description on its machine. The kernel is the description's own file of
-/// that name, and else is fetched.
+/// Attempts to boot an entry of a description on its machine. The kernel is the description's own
+/// file of that name, and else is fetched.
 pub fn attempt_entry<A: Allocator + Copy, F: Files>(
     alloc: A,
     machine: &Machine<A>,

@@ -72,7 +72,8 @@ fn load_plan<A: Allocator + Copy, V: ByteView>(
     Ok(Loaded { handoff, memory })
 }
 
-/// Attempts to boot an entry with the bytes of its kernel, in memory each byte of which is `fill` before.
+/// Attempts to boot an entry with the bytes of its kernel, in memory each byte of which is `fill`
+/// before.
 pub fn attempt_kernel<A: Allocator + Copy>(
     alloc: A,
     machine: &Machine<A>,

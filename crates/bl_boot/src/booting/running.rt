@@ -1,6 +1,7 @@
 //! One boot.
 ghost use Rattle.std.specs.Prelude.{◌≡◌, ◌≢◌, ℕ, List, ◌+◌, ◌<◌, ◌≤◌, ◌^◌};
-ghost use Rattle.bl_boot.specs.Ends.{Ends, HasFaults, IsBooted, IsRefused, IsBadDescription, IsBroken, HasInlineKernel};
+ghost use Rattle.bl_boot.specs.Ends.{Ends, HasFaults, HasInlineKernel};
+ghost use Rattle.bl_boot.specs.Ends.{IsBooted, IsRefused, IsBadDescription, IsBroken};
 ghost use Rattle.bl_boot.specs.Files.{Answer};
 
 use crate::attempting::{Attempt, attempt_entry};
@@ -49,14 +50,15 @@ fn run_boot<A: Allocator + Copy, F: Files, S: Sink, B: Allocator>(
     }
 }
 
-/// Boots the entry of a description, and writes the image of the handover to `out`. A kernel that is not
-/// in the description is asked of `files`, once, and nothing else is. What the boot came to is appended to
-/// `say`, line by line.
+/// Boots the entry of a description, and writes the image of the handover to `out`. A kernel that
+/// is not in the description is asked of `files`, once, and nothing else is. What the boot came to
+/// is appended to `say`, line by line.
 ///
-/// The status is 0 where the entry was booted, 1 where it was refused, 2 where the description is bad,
-/// 3 where the sink had a fault, and 4 where memory ran out; with 2, 3 and 4 nothing is said. The entry is
-/// refused for want of its file only where `files` counted a fault more. `global` is what the TOML reader
-/// takes its memory from. The order in which pieces come has no effect yet, since each file is read whole.
+/// The status is 0 where the entry was booted, 1 where it was refused, 2 where the description is
+/// bad, 3 where the sink had a fault, and 4 where memory ran out; with 2, 3 and 4 nothing is said.
+/// The entry is refused for want of its file only where `files` counted a fault more. `global` is
+/// what the TOML reader takes its memory from. The order in which pieces come has no effect yet,
+/// since each file is read whole.
 pub fn boot<A: Allocator + Copy, F: Files, S: Sink, B: Allocator>(
     alloc: A,
     global: Global,
@@ -87,8 +89,8 @@ pub fn boot<A: Allocator + Copy, F: Files, S: Sink, B: Allocator>(
     ensures fault { result ≡ 3 → S.faults out.new ≡ S.faults out.old + 1 }
     ensures sound { result ≢ 3 → S.faults out.new ≡ S.faults out.old }
 
-    // A kernel that stands in the description is not asked for. The files answer as before, and at most
-    // one of them was missing.
+    // A kernel that stands in the description is not asked for. The files answer as before, and at
+    // most one of them was missing.
     ensures inline { HasInlineKernel desc.now → files.new ≡ files.old }
     ensures same_files { (file : List ℕ) (answer : Answer) →
         F.answers files.new file answer → F.answers files.old file answer }
