@@ -15,9 +15,11 @@ use Rattle.bl_boot.specs.declared.booting.fault.EndFault.TheVariants.{BadDescrip
 use Rattle.bl_desc.specs.Described.{Described, Entry, described, file_named, view, entry_view}
 use Rattle.bl_boot.specs.Files.{Answer}
 use Rattle.bl_boot.specs.Found.{IsFound}
-use Rattle.bl_boot.specs.Attempt.{IsAttempt, IsAttemptHandover, handover_loaded}
+use Rattle.bl_boot.specs.Attempt.{IsAttemptHandover}
+use Rattle.bl_boot.specs.Loaded.{IsAttempt, handover_loaded}
 use Rattle.bl_boot.specs.Says.{booted_line, refused_line, no_entry_line}
-use Rattle.bl_boot.specs.Ends.{IsMachineOf, Attempted, HasInlineKernel, IsBooted, IsRefused, IsHandFault, Ends, Surroundings}
+use Rattle.bl_boot.specs.Ends.{IsMachineOf, Attempted, HasInlineKernel, IsBooted, IsRefused, Surroundings}
+use Rattle.bl_boot.specs.Kept.{IsHandFault, Ends}
 
 -- a list of one item is that item alone
 only_one : {X : Type 0} (xs : List X) (x : X) → length xs ≡ 1 → x ≡ get_or xs 0 x → xs ≡ x ∷ []

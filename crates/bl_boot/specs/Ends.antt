@@ -1,5 +1,5 @@
 -- How the program's calls end. Own.
-use Rattle.std.specs.Prelude.{◌≡◌, ◌≢◌, ◌⊎◌, ℕ, ◌+◌, List, [], ◌∷◌, ◌++◌, Some, None, Result, Ok, Err}
+use Rattle.std.specs.Prelude.{◌≡◌, ◌≢◌, ◌⊎◌, ℕ, List, [], ◌∷◌, ◌++◌, Some, None}
 use Rattle.bl_map.specs.MachineFacts.{MachineFacts}
 use Rattle.bl_map.specs.Faults.{HasFirstFault, IsAccepted}
 use Rattle.bl_map.specs.Kinds.{IsNormalMap, low_kib, high_kib}
@@ -15,10 +15,6 @@ use Rattle.bl_boot.specs.Files.{Answer}
 use Rattle.bl_boot.specs.Found.{IsFound}
 use Rattle.bl_boot.specs.Attempt.{IsAttemptHandover, IsAttemptRefusal, value_found}
 use Rattle.bl_boot.specs.Says.{booted_line, refused_line, no_entry_line, map_lines}
-use Rattle.bl_boot.specs.declared.booting.fault.EndFault.{EndFault}
-use Rattle.bl_boot.specs.declared.booting.fault.EndFault.TheVariants.{BadDescription, Device, NoMemory}
-use Rattle.bl_boot.specs.declared.booting.fault.Ended.{Ended}
-use Rattle.bl_boot.specs.declared.booting.fault.Ended.TheVariants.{Booted, NoEntryLeft}
 
 -- ---- the machine of a description
 
@@ -39,12 +35,6 @@ pub record IsBadMachine (description : Described) : Type 0 where
 abbrev pub IsBadDescription : List ℕ → Type 0
 IsBadDescription desc = (described desc ≡ None)
     ⊎ ((description : Described) × (described desc ≡ Some description) × IsBadMachine description)
-
--- why there is no such machine: a rule is broken, or memory ran out
-abbrev pub IsMachineFault : Described → EndFault → Type 0
-IsMachineFault description BadDescription = IsBadMachine description
-IsMachineFault description Device = ⊥
-IsMachineFault description NoMemory = Unit {0}
 
 -- ---- boot
 
@@ -92,14 +82,6 @@ module _ {F : Type 0} (answers : F → List ℕ → Answer → Type 0) (faults :
     pub begun : IsBegun before.sink after.sink (spelling handover)
     pub unsaid : after.said ≡ before.said
 
-  -- a boot ends so
-  abbrev pub Ends : List ℕ → Surroundings F → Surroundings F → Result Ended EndFault → Type 0
-  Ends desc before after (Ok Booted) = IsBooted desc before after
-  Ends desc before after (Ok NoEntryLeft) = IsRefused desc before after
-  Ends desc before after (Err BadDescription) = IsBadDescription desc × (after ≡ before)
-  Ends desc before after (Err Device) = IsBroken desc before after
-  Ends desc before after (Err NoMemory) = (after.sink ≡ before.sink) × (after.said ≡ before.said)
-
 -- the bytes describe an entry whose kernel stands in the description
 pub record HasInlineKernel (desc : List ℕ) : Type 0 where
   pub description : Described
@@ -118,19 +100,6 @@ pub record AreAlike {F G : Type 0} {answers : F → List ℕ → Answer → Type
   pub answer : a.answer ≡ b.answer
   pub value : value_found a.entry a.answer ≡ value_found b.entry b.answer
 
--- why an image was not handed over whole to a sink: the sink had a fault and took a beginning, or memory ran out before
-abbrev pub IsHandFault : ℕ → ℕ → List ℕ → List ℕ → List ℕ → EndFault → Type 0
-IsHandFault faults_before faults_after before after image BadDescription = ⊥
-IsHandFault faults_before faults_after before after image Device = (faults_after ≡ faults_before + 1) × IsBegun before after image
-IsHandFault faults_before faults_after before after image NoMemory = (faults_after ≡ faults_before) × (after ≡ before)
-
--- the sink has one fault more exactly where the boot ends in it
-abbrev pub HasFaults : ℕ → ℕ → Result Ended EndFault → Type 0
-HasFaults before after (Err Device) = after ≡ before + 1
-HasFaults before after (Err BadDescription) = after ≡ before
-HasFaults before after (Err NoMemory) = after ≡ before
-HasFaults before after (Ok ended) = after ≡ before
-
 -- ---- map
 
 -- what is said grew by the map of the machine that the bytes describe
@@ -140,10 +109,3 @@ pub record IsMapped (desc before after : List ℕ) : Type 0 where
   pub is_described : described desc ≡ Some description
   pub machine : IsMachineOf description facts
   pub said : after ≡ before ++ map_lines facts.runs (low_kib facts.runs) (high_kib facts.runs) facts.pool
-
--- a map ends so
-abbrev pub MapEnds : List ℕ → List ℕ → List ℕ → Result (Unit {0}) EndFault → Type 0
-MapEnds desc before after (Ok done) = IsMapped desc before after
-MapEnds desc before after (Err BadDescription) = IsBadDescription desc × (after ≡ before)
-MapEnds desc before after (Err Device) = ⊥
-MapEnds desc before after (Err NoMemory) = after ≡ before

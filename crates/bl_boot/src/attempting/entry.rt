@@ -1,6 +1,6 @@
 //! An attempt with an entry of a description.
 ghost use Rattle.std.specs.Prelude.{◌≡◌, ℕ, List, ◌+◌, ◌<◌, ◌≤◌, ◌^◌, IfOk, IsSome};
-ghost use Rattle.bl_boot.specs.Attempt.{IsAttempt};
+ghost use Rattle.bl_boot.specs.Loaded.{IsAttempt};
 ghost use Rattle.bl_boot.specs.Found.{IsFound};
 ghost use Rattle.bl_desc.specs.Described.{entry_view, file_named, view};
 ghost use Rattle.bl_boot.specs.Files.{Answer, answer_for, answer_of};

@@ -2,8 +2,8 @@
 ghost use Rattle.std.specs.Prelude.{◌≡◌, ◌+◌, ◌<◌, ◌≤◌, ◌^◌, ◌++◌, length, All, OnOk, OnErr, IfErr};
 ghost use Rattle.bl_load.specs.Numbers.{refusal_number};
 ghost use Rattle.bl_image.specs.Image.{spelling};
-ghost use Rattle.bl_boot.specs.Attempt.{handover_loaded};
-ghost use Rattle.bl_boot.specs.Ends.{IsHandFault};
+ghost use Rattle.bl_boot.specs.Loaded.{handover_loaded};
+ghost use Rattle.bl_boot.specs.Kept.{IsHandFault};
 ghost use Rattle.bl_boot.specs.Says.{booted_line, refused_line, no_entry_line};
 
 use crate::attempting::Loaded;

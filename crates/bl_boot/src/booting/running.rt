@@ -1,7 +1,7 @@
 //! One boot.
 ghost use Rattle.std.specs.Prelude.{◌≡◌, ◌≢◌, ℕ, List, ◌+◌, ◌<◌, ◌≤◌, ◌^◌};
-ghost use Rattle.bl_boot.specs.Ends.{Ends, HasFaults, HasInlineKernel};
-ghost use Rattle.bl_boot.specs.Ends.{IsBooted, IsRefused, IsBadDescription, IsBroken};
+ghost use Rattle.bl_boot.specs.Ends.{HasInlineKernel, IsBooted, IsRefused, IsBadDescription, IsBroken};
+ghost use Rattle.bl_boot.specs.Kept.{Ends, HasFaults};
 ghost use Rattle.bl_boot.specs.Files.{Answer};
 
 use crate::attempting::{Attempt, attempt_entry};
