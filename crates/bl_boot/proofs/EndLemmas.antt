@@ -12,7 +12,8 @@ use Rattle.bl_boot.specs.declared.attempting.attempt.Attempt.TheVariants as atte
 use Rattle.bl_boot.specs.declared.attempting.attempt.Loaded.{Loaded}
 use Rattle.bl_boot.specs.declared.booting.fault.EndFault.{EndFault}
 use Rattle.bl_boot.specs.declared.booting.fault.EndFault.TheVariants.{BadDescription, Device, NoMemory}
-use Rattle.bl_desc.specs.Described.{Described, Entry, described, file_named, view, entry_view}
+use Rattle.bl_desc.specs.Described.{Described, Entry, described, file_named}
+use Rattle.bl_desc.specs.Kept.{view, entry_view}
 use Rattle.bl_boot.specs.Files.{Answer}
 use Rattle.bl_boot.specs.Found.{IsFound}
 use Rattle.bl_boot.specs.Attempt.{IsAttemptHandover}

@@ -2,7 +2,8 @@
 ghost use Rattle.std.specs.Prelude.{◌≡◌, ℕ, List, ◌+◌, ◌<◌, ◌≤◌, ◌^◌, IfOk, IsSome};
 ghost use Rattle.bl_boot.specs.Loaded.{IsAttempt};
 ghost use Rattle.bl_boot.specs.Found.{IsFound};
-ghost use Rattle.bl_desc.specs.Described.{entry_view, file_named, view};
+ghost use Rattle.bl_desc.specs.Described.{file_named};
+ghost use Rattle.bl_desc.specs.Kept.{entry_view, view};
 ghost use Rattle.bl_boot.specs.Files.{Answer, answer_for, answer_of};
 
 use crate::attempting::attempt::Attempt;

@@ -7,7 +7,7 @@ ghost use Rattle.bl_map.specs.Room as room;
 ghost use Rattle.bl_load.specs.Value.{value_of, file_count, HasFewModules};
 ghost use Rattle.bl_boot.specs.Attempt.{entry_value};
 ghost use Rattle.bl_boot.specs.Loaded.{IsAttempt, IsLoaded};
-ghost use Rattle.bl_desc.specs.Described.{entry_view};
+ghost use Rattle.bl_desc.specs.Kept.{entry_view};
 ghost use Rattle.bl_boot.specs.Files.{bytes};
 
 use crate::attempting::attempt::{Attempt, Loaded};
