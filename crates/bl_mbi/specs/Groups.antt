@@ -5,7 +5,8 @@ use Rattle.bl_mbi.specs.InformationFacts.{InformationFacts}
 
 -- types 1, 2 and 3, with the loader's name `bootcore`
 abbrev pub texts_size : InformationFacts → ℕ
-texts_size facts = tag_size (length facts.line + 1) + 24 + sum_by (λ m. tag_size (length m.line + 9)) facts.modules
+texts_size facts =
+    tag_size (length facts.line + 1) + 24 + sum_by (λ m. tag_size (length m.line + 9)) facts.modules
 
 -- types 4 and 6
 abbrev pub map_size : InformationFacts → ℕ

@@ -1,4 +1,5 @@
--- The facts of boot information (Multiboot2 3.6 "Boot information format"), and what of them has a spelling.
+-- The facts of boot information (Multiboot2 3.6 "Boot information format"), and what of them has a
+-- spelling.
 use Rattle.std.specs.Prelude.{◌≢◌, ◌^◌, ◌<◌, ◌≤◌, ℕ, List, length, map, All, Option, option_map, is_some, IfSome}
 use Rattle.bl_map.specs.declared.region.Region.{Region}
 use Rattle.bl_map.specs.Limits.{region_limit}
@@ -11,8 +12,9 @@ pub record ModuleInfo : Type 0 where
   pub mod_end : ℕ
   pub line : List ℕ
 
--- the kernel's line, the modules in their order, KiB of memory below and above 1 MiB, the memory map's runs, the copies
--- of the ACPI tables' roots, the address that a relocated kernel was loaded at
+-- the kernel's line, the modules in their order, KiB of memory below and above 1 MiB, the memory
+-- map's runs, the copies of the ACPI tables' roots, the address that a relocated kernel was loaded
+-- at
 pub record InformationFacts : Type 0 where
   pub line : List ℕ
   pub modules : List ModuleInfo
@@ -52,7 +54,8 @@ info_size facts =
     size_of (length facts.line) (map (λ m. length m.line) facts.modules) (length facts.runs)
     (option_map length facts.rsdp_old) (option_map length facts.rsdp_new) (is_some facts.load_base)
 
--- facts that have a spelling with the loader's name `bootcore`: each fits its field, and the total size fits its own
+-- facts that have a spelling with the loader's name `bootcore`: each fits its field, and the total
+-- size fits its own
 pub record HasSpelling (facts : InformationFacts) : Type 0 where
   pub told : FitsFields facts
   pub small : info_size facts < 2 ^ 32

@@ -119,7 +119,8 @@ fn run_of(bytes: &[u8]) -> Option<Region>
 /// The entries of a memory map, one behind the other.
 fn runs_of<A: Allocator>(alloc: A, at: u64, bytes: &[u8]) -> Result<Vec<Region, A>, InfoFault>
     requires { length bytes.now % 24 ≡ 0 }
-    ensures { Gives (λ runs. runs.items) result (or_bad at (spec.runs_of (length bytes.now / 24) bytes.now)) }
+    ensures { Gives (λ runs. runs.items) result
+        (or_bad at (spec.runs_of (length bytes.now / 24) bytes.now)) }
 {
     let mut runs = Vec::new(alloc);
     let count = bytes.len() / ENTRY_SIZE as usize;

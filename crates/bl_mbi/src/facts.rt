@@ -5,9 +5,9 @@ use bl_mem::Bytes;
 use std::alloc::Allocator;
 use std::marker::Model;
 
-/// The facts of boot information, all but the loader's name (Multiboot2 3.6 "Boot information format"). They always
-/// have a spelling: texts without a zero byte, `mod_start` at most `mod_end`, at most 640 KiB of lower memory, runs that
-/// end at most at 2^52, a total size below 2^32.
+/// The facts of boot information, all but the loader's name (Multiboot2 3.6 "Boot information
+/// format"). They always have a spelling: texts without a zero byte, `mod_start` at most `mod_end`,
+/// at most 640 KiB of lower memory, runs that end at most at 2^52, a total size below 2^32.
 #[derive(Drop)]
 pub struct Facts<A: Allocator> {
     pub(crate) line: Bytes<A>,
@@ -52,7 +52,8 @@ impl<A: Allocator> Facts<A> {
     ghost use Rattle.std.specs.Prelude.{◌≡◌};
     ghost use Rattle.bl_mbi.specs.InformationFacts.{HasSpelling};
 
-    /// The facts of these parts, which must have a spelling. Sizes of memory are in KiB. It takes no memory.
+    /// The facts of these parts, which must have a spelling. Sizes of memory are in KiB. It takes
+    /// no memory.
     #[allow(clippy::too_many_arguments)]
     pub fn new(
         line: Bytes<A>,

@@ -5,7 +5,8 @@ use bl_mem::Bytes;
 use std::alloc::Allocator;
 use std::marker::Model;
 
-/// Boot information as it was read, with the name that the loader gave itself. Sizes of memory are in KiB.
+/// Boot information as it was read, with the name that the loader gave itself. Sizes of memory are
+/// in KiB.
 #[derive(Drop)]
 pub struct Info<A: Allocator> {
     pub name: Bytes<A>,

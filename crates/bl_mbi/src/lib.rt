@@ -1,8 +1,9 @@
-//! The boot information that a Multiboot2 kernel is handed: its facts, written as bytes and read from them.
+//! The boot information that a Multiboot2 kernel is handed: its facts, written as bytes and read
+//! from them.
 //!
-//! `Facts` is what is written, always with the loader's name `bootcore`: contracts see it as the record
-//! `InformationFacts`. `Info` is what was read, with the name of whatever loader wrote it: contracts see it as the record
-//! `InfoFacts`, which is a name and the facts.
+//! `Facts` is what is written, always with the loader's name `bootcore`: contracts see it as the
+//! record `InformationFacts`. `Info` is what was read, with the name of whatever loader wrote it:
+//! contracts see it as the record `InfoFacts`, which is a name and the facts.
 #![tactic(auto)]
 
 mod bodies;

@@ -23,7 +23,8 @@ fn is_next(kind: u32, rest: Rest) -> bool
 /// The body of the tag there, which must be of this type, and what is left behind it.
 #[tactic(auto, unfolding(crate::specs::Fields::tag_at))]
 fn tag_at<'a>(kind: u32, rest: Rest<'a>) -> Result<(&'a [u8], Rest<'a>), InfoFault>
-    ensures read { Gives (λ x. (x.0.now, left_of x.1)) result (fields.tag_at kind (left_of rest.entry)) }
+    ensures read { Gives (λ x. (x.0.now, left_of x.1)) result
+        (fields.tag_at kind (left_of rest.entry)) }
     ensures shorter { IfOk result (λ x. length x.1.bytes.now + 8 ≤ length rest.entry.bytes.now) }
 {
     if rest.bytes.is_empty() {

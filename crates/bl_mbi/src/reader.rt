@@ -61,8 +61,8 @@ fn info_of<A: Allocator + Copy>(alloc: A, bytes: &[u8]) -> Result<Info<A>, InfoF
     tags_of(alloc, rest)
 }
 
-/// What the bytes tell, which are exactly `total_size`, or the first fault. Each spelling is accepted, by a loader of any
-/// name, and nothing else.
+/// What the bytes tell, which are exactly `total_size`, or the first fault. Each spelling is
+/// accepted, by a loader of any name, and nothing else.
 pub fn read_info<A: Allocator + Copy>(alloc: A, bytes: &[u8]) -> Result<Info<A>, InfoFault>
     ensures spelled { IfOk result (IsSpelling bytes.now) }
 

@@ -1,9 +1,11 @@
 //! Each tag of boot information, appended where there is room for it.
-ghost use Rattle.std.specs.Prelude.{◌≡◌, ◌≤◌, ◌+◌, ◌-◌, ◌*◌, ◌%◌, ◌^◌, ◌<◌, ◌++◌, [], length, is_some, sum_by};
+ghost use Rattle.std.specs.Prelude.{◌≡◌, ◌≤◌, ◌+◌, ◌-◌, ◌*◌, ◌%◌, ◌^◌, ◌<◌, ◌++◌, [], length};
+ghost use Rattle.std.specs.Prelude.{is_some, sum_by};
 ghost use Rattle.std.specs.Prelude.{option_map, vec_len, vec_capacity};
 ghost use Rattle.std.specs.List.{flat_map};
 ghost use Rattle.bl_mbi.specs.Size.{tag_size, copy_size, load_base_size};
-ghost use Rattle.bl_mbi.specs.Tags.{padding, tag, text_body, module_tag, memory_body, run_bytes, map_body};
+ghost use Rattle.bl_mbi.specs.Tags.{padding, tag, text_body, module_tag, memory_body, run_bytes};
+ghost use Rattle.bl_mbi.specs.Tags.{map_body};
 ghost use Rattle.bl_mbi.specs.Tags.{copy_tag, load_base_tag};
 
 use crate::format::{
@@ -26,7 +28,8 @@ fn put_padding<A: Allocator>(out: &mut Vec<u8, A>, len: u64)
     put_bytes(out, &zeros[..count]);
 }
 
-/// Appends a tag whose body is a text and its zero (3.6.5 "Boot command line", 3.6.9 "Boot loader name").
+/// Appends a tag whose body is a text and its zero (3.6.5 "Boot command line", 3.6.9 "Boot loader
+/// name").
 pub(crate) fn put_text<A: Allocator>(out: &mut Vec<u8, A>, kind: u32, text: &[u8])
     requires room { vec_len out.old + tag_size (length text.now + 1) ≤ vec_capacity out.old }
     requires small { tag_size (length text.now + 1) < 2 ^ 32 }
@@ -61,10 +64,12 @@ fn put_module<A: Allocator, B: Allocator>(out: &mut Vec<u8, B>, loaded: &Module<
 
 /// Appends the tags of modules, in their order.
 pub(crate) fn put_modules<A: Allocator, B: Allocator>(out: &mut Vec<u8, B>, modules: &[Module<A>])
-    requires room { vec_len out.old + sum_by (λ m. tag_size (length m.line + 9)) modules.now ≤ vec_capacity out.old }
+    requires room { vec_len out.old + sum_by (λ m. tag_size (length m.line + 9)) modules.now
+        ≤ vec_capacity out.old }
     requires small { sum_by (λ m. tag_size (length m.line + 9)) modules.now < 2 ^ 32 }
     ensures items { out.new.items ≡ out.old.items ++ flat_map module_tag modules.now }
-    ensures len { vec_len out.new ≡ vec_len out.old + sum_by (λ m. tag_size (length m.line + 9)) modules.now }
+    ensures len { vec_len out.new
+        ≡ vec_len out.old + sum_by (λ m. tag_size (length m.line + 9)) modules.now }
     ensures capacity { vec_capacity out.old ≤ vec_capacity out.new }
 {
     for module in modules {
@@ -129,7 +134,8 @@ pub(crate) fn put_copy<A: Allocator, B: Allocator>(
     kind: u32,
     copy: &Option<Bytes<A>>,
 )
-    requires room { vec_len out.old + copy_size (option_map length copy.now) ≤ vec_capacity out.old }
+    requires room { vec_len out.old + copy_size (option_map length copy.now)
+        ≤ vec_capacity out.old }
     requires small { copy_size (option_map length copy.now) < 2 ^ 32 }
     ensures items { out.new.items ≡ out.old.items ++ copy_tag kind copy.now }
     ensures len { vec_len out.new ≡ vec_len out.old + copy_size (option_map length copy.now) }
