@@ -27,7 +27,8 @@ use Rattle.bl_plan.proofs.PlaceLaws.{as_many, all_usable, all_apart}
 use Rattle.bl_load.specs.Kernel.{KernelFacts, IsKernel, holds_at, entry_fault, counted_entry}
 use Rattle.bl_load.specs.KernelKept.{AreLoadable}
 use Rattle.bl_load.specs.Blocks.{low_of, high_of, span_of}
-use Rattle.bl_load.specs.Rows.{whole_frames, segment_rows, align_of, block_choice, kernel_rows, information_of, information_row, rows_of}
+use Rattle.bl_map.specs.Room.{whole_frames}
+use Rattle.bl_load.specs.Rows.{segment_rows, align_of, block_choice, kernel_rows, information_of, information_row, rows_of}
 use Rattle.bl_load.specs.Parts.{no_segment, base_of, information_at, entry_at}
 use Rattle.bl_load.specs.PlacingKept.{HasKernelLength, IsRowed}
 use Rattle.bl_plan.specs.Order.{place_key, in_order}

@@ -27,7 +27,8 @@ use Rattle.bl_plan.proofs.PlaceLaws.{as_many, all_usable, all_apart}
 use Rattle.bl_load.specs.Kernel.{KernelFacts, IsKernel, holds_at, entry_fault, counted_entry}
 use Rattle.bl_load.specs.KernelKept.{AreLoadable}
 use Rattle.bl_load.specs.Blocks.{low_of, high_of, span_of}
-use Rattle.bl_load.specs.Rows.{whole_frames, segment_rows, align_of, block_choice, kernel_rows, information_of, information_row, rows_of}
+use Rattle.bl_map.specs.Room.{whole_frames}
+use Rattle.bl_load.specs.Rows.{segment_rows, align_of, block_choice, kernel_rows, information_of, information_row, rows_of}
 use Rattle.bl_load.specs.Parts.{no_segment, base_of, entry_at}
 use Rattle.bl_load.specs.PlacingKept.{HasKernelLength, IsRowed}
 use Rattle.bl_plan.specs.Order.{place_key, in_order}
@@ -148,19 +149,3 @@ records file facts line kernel places loadable placed =
       below = in_order_all place_key (λ (p : Place). p.address + p.length ≤ 2 ^ 32) places (λ i d within. let low = are_below facts [] rows places placed are i d within in omega arith);
       ascending = in_order_ascends places filled (all_apart facts [] rows places placed);
     }
-
--- in order each place has the length that its role and its index ask for
-pub in_order_rowed : (facts : MachineFacts) (line : List ℕ) (kernel : KernelFacts) (places : List Place) → ArePlaced facts [] (rows_of facts line kernel) places → All (IsRowed facts line kernel) (in_order places)
-in_order_rowed facts line kernel places placed = in_order_all place_key (IsRowed facts line kernel) places (each_rowed facts line kernel [] places placed)
-
--- each lies inside memory
-pub in_order_inside : (file : List ℕ) (facts : MachineFacts) (line : List ℕ) (kernel : KernelFacts) (places : List Place) → AreLoadable file kernel.segments → ArePlaced facts [] (rows_of facts line kernel) places
-    → All (λ p. p.address + p.length ≤ facts.size) (in_order places)
-in_order_inside file facts line kernel places loadable placed =
-    in_order_all place_key (λ (p : Place). p.address + p.length ≤ facts.size) places (are_inside facts [] (rows_of facts line kernel) places placed (rows_are_rows file facts line kernel loadable))
-
--- and is no longer than memory
-pub in_order_short : (file : List ℕ) (facts : MachineFacts) (line : List ℕ) (kernel : KernelFacts) (places : List Place) → AreLoadable file kernel.segments → ArePlaced facts [] (rows_of facts line kernel) places
-    → All (λ p. p.length ≤ 2 ^ 32) (in_order places)
-in_order_short file facts line kernel places loadable placed i d within =
-    let below = (records file facts line kernel places loadable placed).below i d within in omega arith
