@@ -2,8 +2,8 @@
 ghost use Rattle.std.specs.Prelude.{◌≡◌, ◌≤◌, ◌<◌, ◌+◌, ◌^◌, Some, None, List, length, All, IfOk, IfErr, MatchResult};
 ghost use Rattle.std.specs.List.{list_any};
 ghost use Rattle.bl_load.specs.Kernel as kernel;
-ghost use Rattle.bl_load.specs.Kernel.{IsKernel, IsLoadedBy, IsLoadFault, IsKernelFault, entry_fault, AreLoadable};
-ghost use Rattle.bl_load.specs.KernelRead.{executable_facts, kernel_by};
+ghost use Rattle.bl_load.specs.Kernel.{IsKernel, IsLoadedBy, entry_fault};
+ghost use Rattle.bl_load.specs.KernelKept.{IsElfFault, IsLoadFault, IsKernelFault, AreLoadable, executable_facts, kernel_by};
 ghost use Rattle.bl_load.specs.declared.refusal.PrepFault.TheVariants.{Refused};
 
 use crate::refusal::{PrepFault, Refusal};
@@ -73,7 +73,7 @@ impl From<HeadFault> for PrepFault {
 }
 
 impl From<ElfFault> for PrepFault {
-    ghost from_gives = { kernel.IsElfFault };
+    ghost from_gives = { IsElfFault };
 
     fn from(fault: ElfFault) -> PrepFault {
         match fault {
@@ -106,18 +106,11 @@ fn read_executable<A: Allocator + Copy, V: ByteView>(
     }
 }
 
-/// Whether a segment holds an address where it is linked.
-fn holds(segment: &Segment, a: u64) -> bool
-    ensures { result ≡ kernel.holds_at a segment.now }
-{
-    segment.address <= a && a - segment.address < segment.memsz
-}
-
 /// Whether one of the segments holds an address.
 fn is_held(segments: &[Segment], a: u64) -> bool
     ensures { result ≡ list_any (kernel.holds_at a) segments.now }
 {
-    segments.iter().any(|segment| holds(segment, a))
+    segments.iter().any(|segment| segment.holds(a))
 }
 
 /// The entry that counts, where it lies in a segment.

@@ -3,7 +3,8 @@ ghost use Rattle.std.specs.Prelude.{◌≡◌, ℕ, ◌+◌, ◌-◌, ◌<◌, �
 ghost use Rattle.bl_mem.specs.Memory.{overwrite, HasRoom, AllHaveRoom, KeepsRoom};
 ghost use Rattle.bl_plan.specs.Placed.{Covers, range_of};
 ghost use Rattle.bl_load.specs.Handover.{written};
-ghost use Rattle.bl_load.specs.Planned.{content_by, bytes_by, part_by, handover_by, handover_in, places_of, IsThere, CanLoad, IsLoadable};
+ghost use Rattle.bl_load.specs.Planned.{content_by, bytes_by, part_by, handover_by, handover_in, places_of};
+ghost use Rattle.bl_load.specs.Kept.{lengths_of, content_length, IsThere, CanLoad, IsLoadable};
 
 use crate::blocks::load_block;
 use crate::copying::copy;
@@ -19,10 +20,10 @@ fn load_content<M: PhysMem, V: ByteView, A: Allocator>(
     content: &Content<A>,
     files: &[V],
 ) -> u64
-    requires there { IsThere (map V.bytes files.now) content.now }
-    requires inside { at + length (content_by (map V.bytes files.now) content.now) ≤ length (M.bytes memory.old) }
-    requires room { HasRoom (M.room memory.old) at (at + length (content_by (map V.bytes files.now) content.now)) }
-    ensures count { result ≡ length (content_by (map V.bytes files.now) content.now) }
+    requires there { IsThere (lengths_of (map V.bytes files.now)) content.now }
+    requires inside { at + content_length content.now ≤ length (M.bytes memory.old) }
+    requires room { HasRoom (M.room memory.old) at (at + content_length content.now) }
+    ensures count { result ≡ content_length content.now }
     ensures after { M.bytes memory.new ≡ overwrite (M.bytes memory.old) at (content_by (map V.bytes files.now) content.now) }
     ensures kept { KeepsRoom (M.room memory.old) (M.room memory.new) }
 {
@@ -47,7 +48,7 @@ fn load_content<M: PhysMem, V: ByteView, A: Allocator>(
 
 /// Writes a part.
 fn load_part<M: PhysMem, V: ByteView, A: Allocator>(memory: &mut M, part: &Planned<A>, files: &[V])
-    requires { CanLoad (map V.bytes files.now) (length (M.bytes memory.old)) (M.room memory.old) part.now }
+    requires { CanLoad (lengths_of (map V.bytes files.now)) (length (M.bytes memory.old)) (M.room memory.old) part.now }
     ensures after { M.bytes memory.new ≡ overwrite (M.bytes memory.old) part.now.place.address (bytes_by (map V.bytes files.now) part.now) }
     ensures kept { KeepsRoom (M.room memory.old) (M.room memory.new) }
 {
@@ -64,7 +65,7 @@ fn load_parts<M: PhysMem, V: ByteView, A: Allocator>(
     parts: &[Planned<A>],
     files: &[V],
 )
-    requires { All (CanLoad (map V.bytes files.now) (length (M.bytes memory.old)) (M.room memory.old)) parts.now }
+    requires { All (CanLoad (lengths_of (map V.bytes files.now)) (length (M.bytes memory.old)) (M.room memory.old)) parts.now }
     ensures after { M.bytes memory.new ≡ written (map (part_by (map V.bytes files.now)) parts.now) (M.bytes memory.old) }
     ensures size { length (M.bytes memory.new) ≡ length (M.bytes memory.old) }
     ensures kept { KeepsRoom (M.room memory.old) (M.room memory.new) }
@@ -78,13 +79,13 @@ fn load_parts<M: PhysMem, V: ByteView, A: Allocator>(
 ///
 /// The files are those that the plan was made from, in their order. Each address of the plan's ranges has
 /// room, as after `reserve`, and lies in memory. No memory is taken, and nothing can fail: the list of parts
-/// becomes that of the handoff. What lies in no part stays as it was, and no address loses its room.
+/// becomes that of the handoff, and so does that of ranges. What lies in no part stays as it was, and no address loses its room.
 pub fn load<M: PhysMem, V: ByteView, A: Allocator>(
     memory: &mut M,
     plan: Plan<A>,
     files: &[V],
 ) -> Handoff<A>
-    requires loadable { IsLoadable (map V.bytes files.now) (length (M.bytes memory.old)) plan }
+    requires loadable { IsLoadable (lengths_of (map V.bytes files.now)) (length (M.bytes memory.old)) plan }
     requires room { AllHaveRoom (M.room memory.old) (map range_of (places_of plan)) }
     ensures after { M.bytes memory.new ≡ written (handover_by (map V.bytes files.now) plan).parts (M.bytes memory.old) }
     ensures protocol { result.protocol ≡ plan.protocol }
@@ -105,12 +106,13 @@ pub fn load<M: PhysMem, V: ByteView, A: Allocator>(
         protocol,
         registers,
         parts,
-        ranges: _,
+        ranges,
     } = plan;
     load_parts(memory, parts.as_slice(), files);
     Handoff {
         protocol,
         registers,
         parts,
+        ranges,
     }
 }

@@ -3,7 +3,8 @@ ghost use Rattle.std.specs.Prelude.{◌≡◌, ◌==◌, ◌≤◌, ◌<◌, Som
 ghost use Rattle.std.specs.List.{list_any};
 ghost use Rattle.bl_load.specs.Value.{value_of, line_fault, file_count, HasFewModules, HasLine, HasFormFault};
 ghost use Rattle.bl_load.specs.Parts.{IsHandover, IsPrepFault};
-ghost use Rattle.bl_load.specs.Planned.{handover_by, IsLoadable, IsLean};
+ghost use Rattle.bl_load.specs.Planned.{handover_by};
+ghost use Rattle.bl_load.specs.Kept.{lengths_of, IsLoadable, IsLean};
 
 use crate::entry::Entry;
 use crate::kernel::read_kernel;
@@ -70,7 +71,7 @@ pub fn prepare<A: Allocator + Copy, V: ByteView>(
     requires files { length files.now ≡ file_count entry.now }
     requires modules { HasFewModules entry.now }
     ensures handover { IfOk result (λ plan. IsHandover machine.now (value_of (map V.bytes files.now) entry.now) (handover_by (map V.bytes files.now) plan)) }
-    ensures loadable { IfOk result (λ plan. IsLoadable (map V.bytes files.now) machine.now.size plan) }
+    ensures loadable { IfOk result (λ plan. IsLoadable (lengths_of (map V.bytes files.now)) machine.now.size plan) }
 
     // Of the files' bytes a plan holds none: only the information has bytes of its own.
     ensures lean { IfOk result (λ plan. IsLean plan.parts.items) }

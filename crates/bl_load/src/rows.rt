@@ -3,8 +3,7 @@ ghost use Rattle.std.specs.Prelude.{◌≡◌, ◌≤◌, ◌<◌, ◌+◌, ◌^
 ghost use Rattle.bl_mbi.specs.Size.{size_of};
 ghost use Rattle.bl_load.specs.Blocks as blocks;
 ghost use Rattle.bl_load.specs.Rows as table;
-ghost use Rattle.bl_load.specs.Kernel.{AreLoadable};
-ghost use Rattle.bl_load.specs.KernelRead.{kernel_by};
+ghost use Rattle.bl_load.specs.KernelKept.{AreLoadable, kernel_by};
 
 use crate::kernel::Kernel;
 use bl_map::Machine;

@@ -1,7 +1,7 @@
 -- What reading gives, the numbers and the tag at a place (Multiboot2 3.6.2 "Basic tags structure").
 use Rattle.std.specs.Prelude.{◌≡◌, ◌+◌, ℕ, Bool, not, ◌&&◌, if◌then◌else◌, ◌==◌, nat_lt, nat_le, List, length, take, drop, slice_range, Option, Some, None, Result, Ok, Err}
 use Rattle.std.specs.List.{list_all}
-use Rattle.std.specs.Int.{w32, w64, from_le_bytes}
+use Rattle.bl_mem.specs.Words.{u32_at, u64_at}
 use Rattle.bl_mbi.specs.declared.fault.InfoFault.{InfoFault}
 use Rattle.bl_mbi.specs.declared.fault.InfoFault.TheVariants.{BadTag, BadOrder, NoMemory}
 use Rattle.bl_mbi.specs.declared.rest.Rest.{Rest}
@@ -24,10 +24,10 @@ Gives view (Err e) read = Fails e read
 
 -- the little-endian number at the front
 abbrev pub word : List ℕ → ℕ
-word bytes = from_le_bytes w32 (take 4 bytes)
+word bytes = u32_at bytes 0
 
 abbrev pub long : List ℕ → ℕ
-long bytes = from_le_bytes w64 (take 8 bytes)
+long bytes = u64_at bytes 0
 
 -- the bytes that are left, and the offset at which they stand
 pub record Left : Type 0 where

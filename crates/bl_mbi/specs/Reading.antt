@@ -18,8 +18,8 @@ text_tag_at kind left = do
 unfoldable pub module_at : Left → Result (ModuleInfo × Left) InfoFault
 module_at left = do
   tag ← tag_at 3 left
-  told ← or_bad left.at (module_of tag.0)
-  Ok (told, tag.1)
+  m ← or_bad left.at (module_of tag.0)
+  Ok (m, tag.1)
 
 -- the modules up to the first tag of another type, but no more than so many
 abbrev pub modules_upto : ℕ → Left → Result (List ModuleInfo × Left) InfoFault

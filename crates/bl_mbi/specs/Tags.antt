@@ -1,17 +1,10 @@
 -- The tags of boot information (Multiboot2 3.6.2 "Basic tags structure"), each by its body.
 use Rattle.std.specs.Prelude.{◌+◌, ◌-◌, ◌%◌, ℕ, List, [], ◌∷◌, ◌++◌, length, replicate, Option, Some, None}
 use Rattle.std.specs.List.{flat_map}
-use Rattle.std.specs.Int.{w32, w64, to_le_bytes}
 use Rattle.bl_map.specs.declared.region.Region.{Region}
 use Rattle.bl_map.specs.Kinds.{kind_number}
+use Rattle.bl_mem.specs.Words.{u32_bytes, u64_bytes}
 use Rattle.bl_mbi.specs.InformationFacts.{ModuleInfo}
-
--- little-endian numbers
-unfoldable pub u32_bytes : ℕ → List ℕ
-u32_bytes n = to_le_bytes w32 n
-
-unfoldable pub u64_bytes : ℕ → List ℕ
-u64_bytes n = to_le_bytes w64 n
 
 -- zeros behind so many bytes, up to the next multiple of 8
 abbrev pub padding : ℕ → List ℕ

@@ -66,7 +66,7 @@ pub(crate) fn text_tag_at<'a, A: Allocator>(
     let Some(text) = text_of(body) else {
         return Err(InfoFault::BadTag(rest.at));
     };
-    Ok((Bytes::from(Vec::from_slice(alloc, text)?), after))
+    Ok((Bytes::copy(alloc, text)?, after))
 }
 
 /// The module in the tag there.
@@ -89,8 +89,8 @@ pub(crate) fn modules_at<'a, A: Allocator + Copy>(
     let mut modules = Vec::new(alloc);
     let mut left = rest;
     'tags: while is_next(TAG_MODULE, left) {
-        let (told, after) = module_at(alloc, left)?;
-        modules.push(told)?;
+        let (module, after) = module_at(alloc, left)?;
+        modules.push(module)?;
         left = after;
     }
     Ok((modules, left))
@@ -133,7 +133,7 @@ pub(crate) fn copy_at<'a, A: Allocator>(
         return Ok((None, rest));
     }
     let (body, after) = tag_at(kind, rest)?;
-    Ok((Some(Bytes::from(Vec::from_slice(alloc, body)?)), after))
+    Ok((Some(Bytes::copy(alloc, body)?), after))
 }
 
 /// The load base in the tag there, which may be missing.

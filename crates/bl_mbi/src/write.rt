@@ -2,7 +2,7 @@
 ghost use Rattle.std.specs.Prelude.{◌≡◌, ◌≤◌, ◌+◌, ◌^◌, ◌<◌, ◌++◌, [], codes, length, sum_by, option_map, vec_len, vec_capacity, IsOk, OnOk, OnErr};
 ghost use Rattle.std.specs.List.{flat_map};
 ghost use Rattle.bl_mbi.specs.Size.{tag_size, copy_size};
-ghost use Rattle.bl_mbi.specs.InformationFacts.{info_size as size_told};
+ghost use Rattle.bl_mbi.specs.InformationFacts.{info_size as size_of_info};
 ghost use Rattle.bl_mbi.specs.Spelling.{spelling};
 ghost use Rattle.bl_mbi.specs.Tags.{tag, text_body, module_tag, memory_body, map_body, copy_tag, load_base_tag};
 ghost use Rattle.bl_mbi.specs.Groups.{texts_size, map_size, last_size};
@@ -12,9 +12,8 @@ use crate::format::{
     ENTRY_SIZE, TAG_ACPI_NEW, TAG_ACPI_OLD, TAG_BOOT_LOADER_NAME, TAG_COMMAND_LINE,
 };
 use crate::module::Module;
-use crate::put::put_u32;
 use crate::tags::{put_copy, put_end, put_load_base, put_map, put_memory, put_modules, put_text};
-use bl_mem::Bytes;
+use bl_mem::{Bytes, put_u32};
 use std::alloc::{AllocError, Allocator};
 
 /// How many bytes a tag takes whose body has so many.
@@ -48,19 +47,33 @@ fn copy_len<A: Allocator>(copy: &Option<Bytes<A>>) -> u64
     }
 }
 
-/// How many bytes the information takes: its `total_size`, with the loader's name `bootcore`.
-pub fn info_size<A: Allocator>(facts: &Facts<A>) -> u64
-    ensures size { result ≡ length (spelling (codes "bootcore") facts.now) }
-    ensures told { result ≡ size_told facts.now }
-    ensures small { result < 2 ^ 32 }
+/// How many bytes the tags of texts take: the line, the loader's name, the modules.
+fn texts_len<A: Allocator>(facts: &Facts<A>) -> u64
+    requires { texts_size facts.now < 2 ^ 32 }
+    ensures { result ≡ texts_size facts.now }
 {
     let line = tag_len(facts.line.len() as u64 + 1);
     let name = tag_len(b"bootcore".len() as u64 + 1);
-    let modules = modules_len(&facts.modules);
-    let runs = 16 + ENTRY_SIZE as u64 * facts.runs.len() as u64;
-    let copies = copy_len(&facts.rsdp_old) + copy_len(&facts.rsdp_new);
+    line + name + modules_len(&facts.modules)
+}
+
+/// How many bytes the last tags take: those that do not always stand, and the one that ends the information.
+fn last_len<A: Allocator>(facts: &Facts<A>) -> u64
+    requires { last_size facts.now < 2 ^ 32 }
+    ensures { result ≡ last_size facts.now }
+{
     let load_base = if facts.load_base.is_some() { 16 } else { 0 };
-    8 + line + name + modules + 16 + runs + copies + load_base + 8
+    copy_len(&facts.rsdp_old) + copy_len(&facts.rsdp_new) + load_base + 8
+}
+
+/// How many bytes the information takes: its `total_size`, with the loader's name `bootcore`.
+pub fn info_size<A: Allocator>(facts: &Facts<A>) -> u64
+    ensures size { result ≡ length (spelling (codes "bootcore") facts.now) }
+    ensures by_lengths { result ≡ size_of_info facts.now }
+    ensures small { result < 2 ^ 32 }
+{
+    let map = 32 + ENTRY_SIZE as u64 * facts.runs.len() as u64;
+    8 + texts_len(facts) + map + last_len(facts)
 }
 
 /// Appends the tags of texts: the line, the loader's name, the modules.
@@ -107,7 +120,7 @@ pub fn write_info<A: Allocator, B: Allocator>(
 ) -> Result<(), AllocError>
     ensures ok { OnOk result (out.new.items ≡ out.old.items ++ spelling (codes "bootcore") facts.now) }
     ensures err { OnErr result (out.new.items ≡ out.old.items) }
-    ensures succeeds { vec_len out.old + size_told facts.now ≤ vec_capacity out.old → IsOk result }
+    ensures succeeds { vec_len out.old + size_of_info facts.now ≤ vec_capacity out.old → IsOk result }
 {
     let total_size = info_size(facts);
     out.reserve(total_size as usize)?;
