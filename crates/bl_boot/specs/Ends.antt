@@ -44,7 +44,7 @@ pub record Surroundings (F : Type 0) : Type 0 where
   pub sink : List ℕ
   pub said : List ℕ
 
--- with files that may answer so for a name, and had so many faults
+-- with files of a type F: what they may answer for a name, and how many faults they had
 module _ {F : Type 0} (answers : F → List ℕ → Answer → Type 0) (faults : F → ℕ) where
   -- what is attempted: the description that the bytes are, the facts of its machine, its one entry, and what was found
   -- for the entry's kernel
@@ -91,7 +91,7 @@ pub record HasInlineKernel (desc : List ℕ) : Type 0 where
   pub one_entry : description.entries ≡ entry ∷ []
   pub inline : file_named entry.kernel description.files ≡ Some kernel
 
--- two attempts of equal values on equal machines: equal facts, the same was found for the kernels, and with it the entries
+-- two attempts that are alike: their machines have equal facts, the same was found for their kernels, and with it their entries
 -- have equal values
 pub record AreAlike {F G : Type 0} {answers : F → List ℕ → Answer → Type 0} {faults : F → ℕ} {desc : List ℕ} {before after : F}
     {replies : G → List ℕ → Answer → Type 0} {wants : G → ℕ} {other : List ℕ} {began ended : G}

@@ -37,7 +37,7 @@ Ends answers faults desc before after (Err BadDescription) = IsBadDescription de
 Ends answers faults desc before after (Err Device) = IsBroken answers faults desc before after
 Ends answers faults desc before after (Err NoMemory) = (after.sink ≡ before.sink) × (after.said ≡ before.said)
 
--- the sink has one fault more exactly where the boot ends in it
+-- the sink has one fault more exactly where the boot ends in a fault of the sink
 abbrev pub HasFaults : ℕ → ℕ → Result Ended EndFault → Type 0
 HasFaults before after (Err Device) = after ≡ before + 1
 HasFaults before after (Err BadDescription) = after ≡ before
