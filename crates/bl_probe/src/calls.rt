@@ -1,9 +1,18 @@
 //! The calls, by their names.
 
 mod elf;
+mod facts;
+mod frames;
 mod header;
+mod laws;
 pub mod machine;
+mod memory;
 mod normal;
+mod own;
+mod places;
+mod plan;
+mod table;
+mod view;
 
 use crate::fault::RowFault;
 use crate::session::Session;
@@ -20,7 +29,7 @@ pub enum Argument<'a> {
 /// Whether the words behind this name are bytes, and nothing else.
 pub fn takes_bytes(name: &str) -> bool {
     match name {
-        "elf" | "header" => true,
+        "elf" | "header" | "own" => true,
         _ => false,
     }
 }
@@ -37,7 +46,16 @@ pub fn make(
         ("elf", Argument::Bytes(file)) => elf::answer(alloc, heap, file),
         ("header", Argument::Bytes(file)) => header::answer(alloc, file),
         ("machine", Argument::Words(words)) => machine::answer(alloc, heap, session, words),
-        ("normal", Argument::Words("")) => normal::answer(alloc, session),
+        ("normal", Argument::Words("")) => normal::answer(alloc, heap, session),
+        ("facts", Argument::Words(words)) => facts::answer(alloc, heap, session, words),
+        ("frames", Argument::Words(words)) => frames::answer(alloc, words),
+        ("plan", Argument::Words(steps)) => plan::answer(alloc, heap, session, steps),
+        ("places", Argument::Words(rows)) => places::answer(alloc, heap, session, rows),
+        ("numbers", Argument::Words("")) => table::answer(alloc),
+        ("memory", Argument::Words(words)) => memory::answer(alloc, heap, session, words),
+        ("view", Argument::Words(words)) => view::answer(alloc, session, words),
+        ("own", Argument::Bytes(bytes)) => own::answer(alloc, heap, bytes),
+        ("laws", Argument::Words("")) => laws::answer(alloc),
         _ => Err(RowFault::BadRow),
     }
 }
