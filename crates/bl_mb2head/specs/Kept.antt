@@ -2,11 +2,15 @@
 use Rattle.std.specs.Prelude.{◌≤◌, ◌+◌, ℕ, List, IfSome}
 use Rattle.bl_mb2head.specs.declared.tag.Tag.{Tag}
 use Rattle.bl_mb2head.specs.declared.last.LastTags.{LastTags}
-use Rattle.bl_mb2head.specs.Tags.{last_of}
+use Rattle.bl_mb2head.specs.Tags.{last_of, address_type, entry_type, relocatable_type}
 
 -- the last tags of the kinds that count
 abbrev pub last_tags : List Tag → LastTags
-last_tags ts = record { address = last_of 2 ts; entry = last_of 3 ts; relocation = last_of 10 ts }
+last_tags ts = record {
+  address = last_of address_type ts;
+  entry = last_of entry_type ts;
+  relocation = last_of relocatable_type ts;
+}
 
 -- their fields lie before the header's end
 pub record LieBefore (end : ℕ) (last : LastTags) : Type 0 where
