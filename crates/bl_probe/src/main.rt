@@ -12,6 +12,7 @@ mod parse;
 mod runs;
 mod session;
 mod sweep;
+mod unasked;
 
 use session::Session;
 use std::io;
