@@ -20,8 +20,8 @@ struct Said {
     was_refused: bool,
 }
 
-/// Makes the call where its `nth` request is refused and all after it; at 0 none is. Its answer tells if memory ran out
-/// though nothing was refused, and if a block was not given back.
+/// Makes the call where its `nth` request is refused and all after it; at 0 none is. Its answer
+/// tells if memory ran out though nothing was refused, and if a block was not given back.
 fn once(
     alloc: Global,
     session: &mut Session,
