@@ -117,7 +117,7 @@ fn read_way(call: &str) -> Result<(Way, &str), RowFault> {
     match split_word(call) {
         ("refuse", rest) => {
             let (nth, call) = split_word(rest);
-            let nth = nth.parse::<u64>().map_err(|_| RowFault::BadRow)?;
+            let nth = nth.parse::<u64>().ok().ok_or(RowFault::BadRow)?;
             Ok((Way::Once { nth }, call))
         }
         ("each", rest) => match split_word(rest) {
