@@ -1,7 +1,6 @@
 -- The first and the last of places.
-use Rattle.std.proofs.Common.{◌≡◌, ◌≢◌, ◌≤◌, ◌-◌, ◌+◌, ℕ, zero, suc, List, [], ◌∷◌, length, get_or, Some, All, arith, refl, subst}
+use Rattle.std.proofs.Common.{◌≡◌, ◌≢◌, ◌≤◌, ◌-◌, ℕ, zero, suc, List, [], ◌∷◌, length, get_or, Some, arith, refl, subst}
 use Rattle.std.proofs.lemmas.Option.{same_Some}
-use Rattle.std.proofs.lemmas.List.Elements.{All-head, All-tail}
 use Rattle.bl_map.specs.MachineFacts.{MachineFacts}
 use Rattle.bl_plan.specs.declared.fault.PlanFault.{PlanFault}
 use Rattle.bl_plan.specs.declared.fault.PlanFault.TheVariants as plan_fault
@@ -11,7 +10,7 @@ use Rattle.bl_load.specs.Kernel.{KernelFacts}
 use Rattle.bl_load.specs.KernelKept.{AreLoadable}
 use Rattle.bl_load.specs.Rows.{rows_of}
 use Rattle.bl_plan.specs.declared.place.Place.{Place}
-use Rattle.bl_load.specs.Parts.{base_of, information_at}
+use Rattle.bl_load.specs.Parts.{information_at}
 use Rattle.bl_load.specs.PlacingKept.{fault_of, IsPlaceFault}
 use Rattle.bl_load.proofs.OverlapLemmas.{no_overlap}
 
