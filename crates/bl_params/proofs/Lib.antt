@@ -1,0 +1,2 @@
+pub mod OverLemmas
+pub mod EntryLemmas
