@@ -1,2 +1,5 @@
 pub mod OverLemmas
 pub mod EntryLemmas
+pub mod FormLemmas
+pub mod EntriesRead
+pub mod WriteLemmas

@@ -7,11 +7,11 @@ ghost use Rattle.bl_params.specs.Kept.{IsSoundUpto, IsQuiet};
 
 use crate::fault::ParamFault;
 use crate::fields::{
-    BOOT_FLAG, BOOT_FLAG_MAGIC, E820_ENTRIES, HEADER, HEADER_MAGIC, JUMP_DISPLACEMENT, LEAST_END,
-    LEAST_VERSION, LOADER_UNDEFINED, MOST_END, MOST_ENTRIES, SETUP_DATA, TYPE_OF_LOADER, VERSION,
-    VID_MODE, VID_MODE_NORMAL,
+    BOOT_FLAG, BOOT_FLAG_MAGIC, E820_ENTRIES, HEADER, HEADER_MAGIC, HEADER_START,
+    JUMP_DISPLACEMENT, LEAST_END, LEAST_VERSION, LOADER_UNDEFINED, MOST_END, MOST_ENTRIES,
+    SETUP_DATA, TYPE_OF_LOADER, VERSION, VID_MODE, VID_MODE_NORMAL,
 };
-use bl_mem::{SliceView, u16_at, u32_at, u64_at};
+use crate::numbers::{u16_in, u32_in, u64_in};
 
 /// Goes on from `at` to `next`, unless what stands at `at` breaks the form.
 pub fn go_on(bytes: &[u8], at: usize, next: usize, is_broken: bool) -> Result<(), ParamFault>
@@ -20,7 +20,9 @@ pub fn go_on(bytes: &[u8], at: usize, next: usize, is_broken: bool) -> Result<()
     requires upto { IsSoundUpto bytes.now at }
     requires here { is_broken ≡ breaks bytes.now at }
     requires quiet { IsQuiet bytes.now (at + 1) next }
-    ensures { MatchResult result (λ _. IsSoundUpto bytes.now next) (HasFirstFault bytes.now) }
+    ensures { MatchResult result
+        (λ _. IsSoundUpto bytes.now next × (is_broken ≡ false))
+        (HasFirstFault bytes.now) }
 {
     if is_broken {
         return Err(ParamFault::BadParams(at as u64));
@@ -65,7 +67,8 @@ pub fn pass_front(bytes: &[u8]) -> Result<(), ParamFault>
         E820_ENTRIES + 1,
         bytes[E820_ENTRIES] > MOST_ENTRIES,
     )?;
-    pass_zeros(bytes, E820_ENTRIES + 1, 0x1F1)
+    pass_zeros(bytes, E820_ENTRIES + 1, HEADER_START)?;
+    Ok(())
 }
 
 /// The fields of the header that precede its version.
@@ -74,18 +77,17 @@ fn pass_magic(bytes: &[u8]) -> Result<(), ParamFault>
     requires upto { IsSoundUpto bytes.now 0x1F1 }
     ensures { MatchResult result (λ _. IsSoundUpto bytes.now 0x206 × (0x264 ≤ header_end bytes.now)) (HasFirstFault bytes.now) }
 {
-    let view = SliceView::new(bytes);
     go_on(
         bytes,
         VID_MODE,
         BOOT_FLAG,
-        u16_at(&view, VID_MODE as u64) != VID_MODE_NORMAL,
+        u16_in(bytes, VID_MODE) != VID_MODE_NORMAL,
     )?;
     go_on(
         bytes,
         BOOT_FLAG,
         JUMP_DISPLACEMENT,
-        u16_at(&view, BOOT_FLAG as u64) != BOOT_FLAG_MAGIC,
+        u16_in(bytes, BOOT_FLAG) != BOOT_FLAG_MAGIC,
     )?;
     go_on(
         bytes,
@@ -97,8 +99,9 @@ fn pass_magic(bytes: &[u8]) -> Result<(), ParamFault>
         bytes,
         HEADER,
         VERSION,
-        u32_at(&view, HEADER as u64) != HEADER_MAGIC,
-    )
+        u32_in(bytes, HEADER) != HEADER_MAGIC,
+    )?;
+    Ok(())
 }
 
 /// The fields of the header from its version on.
@@ -108,13 +111,12 @@ fn pass_loader(bytes: &[u8]) -> Result<(), ParamFault>
     requires upto { IsSoundUpto bytes.now 0x206 }
     ensures { MatchResult result (λ _. IsSoundUpto bytes.now (header_end bytes.now)) (HasFirstFault bytes.now) }
 {
-    let view = SliceView::new(bytes);
     let end = end_of_header(bytes);
     go_on(
         bytes,
         VERSION,
         TYPE_OF_LOADER,
-        u16_at(&view, VERSION as u64) < LEAST_VERSION,
+        u16_in(bytes, VERSION) < LEAST_VERSION,
     )?;
     go_on(
         bytes,
@@ -122,12 +124,7 @@ fn pass_loader(bytes: &[u8]) -> Result<(), ParamFault>
         SETUP_DATA,
         bytes[TYPE_OF_LOADER] != LOADER_UNDEFINED,
     )?;
-    go_on(
-        bytes,
-        SETUP_DATA,
-        end,
-        u64_at(&view, SETUP_DATA as u64) != 0,
-    )
+    go_on(bytes, SETUP_DATA, end, u64_in(bytes, SETUP_DATA) != 0)
 }
 
 /// The header.
@@ -137,5 +134,6 @@ pub fn pass_header(bytes: &[u8]) -> Result<(), ParamFault>
     ensures { MatchResult result (λ _. IsSoundUpto bytes.now (header_end bytes.now) × (0x264 ≤ header_end bytes.now)) (HasFirstFault bytes.now) }
 {
     pass_magic(bytes)?;
-    pass_loader(bytes)
+    pass_loader(bytes)?;
+    Ok(())
 }

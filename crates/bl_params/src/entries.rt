@@ -1,5 +1,5 @@
 //! The memory map in boot parameters.
-ghost use Rattle.std.specs.Prelude.{◌≡◌, ◌≤◌, ◌<◌, ◌+◌, ◌*◌, ◌&&◌, ℕ, nat_le, not, true, false, length, MatchResult, MatchOption};
+ghost use Rattle.std.specs.Prelude.{◌≡◌, ◌≤◌, ◌<◌, ◌+◌, ◌*◌, ◌&&◌, ℕ, nat_le, not, true, false, length, MatchResult};
 ghost use Rattle.bl_map.specs.Kinds.{kind_number};
 ghost use Rattle.bl_bzimage.specs.Setup.{header_end};
 ghost use Rattle.bl_params.specs.Form.{entries_in, entry_at};
@@ -9,23 +9,28 @@ ghost use Rattle.bl_params.specs.Kept.{IsSoundUpto};
 use crate::checks::go_on;
 use crate::fault::ParamFault;
 use crate::fields::{E820_ENTRIES, E820_TABLE, ENTRY_LENGTH, ENTRY_SIZE, ENTRY_TYPE};
+use crate::numbers::{u32_in, u64_in};
 use bl_map::{Kind, REGION_LIMIT, Region};
-use bl_mem::{SliceView, u32_at, u64_at};
 use std::alloc::Allocator;
 
+/// Whether a number is that of a kind.
+fn is_kind(number: u32) -> bool
+    ensures { result ≡ (nat_le 1 number && nat_le number 5) }
+{
+    1 <= number && number <= 5
+}
+
 /// The kind of a number.
-fn kind_of(number: u32) -> Option<Kind>
-    ensures { MatchOption result
-        ((nat_le 1 number && nat_le number 5) ≡ false)
-        (λ kind. (kind_number kind ≡ number) × ((nat_le 1 number && nat_le number 5) ≡ true)) }
+fn kind_of(number: u32) -> Kind
+    requires { (nat_le 1 number && nat_le number 5) ≡ true }
+    ensures { kind_number result ≡ number }
 {
     match number {
-        1 => Some(Kind::Usable),
-        2 => Some(Kind::Reserved),
-        3 => Some(Kind::Acpi),
-        4 => Some(Kind::Nvs),
-        5 => Some(Kind::Bad),
-        _ => None,
+        1 => Kind::Usable,
+        2 => Kind::Reserved,
+        3 => Kind::Acpi,
+        4 => Kind::Nvs,
+        _ => Kind::Bad,
     }
 }
 
@@ -40,17 +45,14 @@ fn entry(bytes: &[u8], i: usize) -> Result<Region, ParamFault>
         (HasFirstFault bytes.now) }
 {
     let at = E820_TABLE + ENTRY_SIZE * i;
-    let view = SliceView::new(bytes);
-    let base = u64_at(&view, at as u64);
-    let length = u64_at(&view, (at + ENTRY_LENGTH) as u64);
+    let base = u64_in(bytes, at);
+    let length = u64_in(bytes, at + ENTRY_LENGTH);
     let is_high = base as u128 + length as u128 > REGION_LIMIT as u128;
     go_on(bytes, at, at + ENTRY_TYPE, is_high)?;
-    let kind = kind_of(u32_at(&view, (at + ENTRY_TYPE) as u64));
-    go_on(bytes, at + ENTRY_TYPE, at + ENTRY_SIZE, kind.is_none())?;
-    match kind {
-        Some(kind) => Ok(Region { base, length, kind }),
-        None => Err(ParamFault::BadParams((at + ENTRY_TYPE) as u64)),
-    }
+    let number = u32_in(bytes, at + ENTRY_TYPE);
+    go_on(bytes, at + ENTRY_TYPE, at + ENTRY_SIZE, !is_kind(number))?;
+    let kind = kind_of(number);
+    Ok(Region { base, length, kind })
 }
 
 /// The memory map's runs.

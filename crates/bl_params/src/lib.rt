@@ -7,6 +7,7 @@ mod entries;
 mod facts;
 mod fault;
 mod fields;
+mod numbers;
 mod params;
 mod put;
 mod reader;

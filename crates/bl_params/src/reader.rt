@@ -10,8 +10,8 @@ use crate::fields::{
     INITRD_ADDR_MAX, KERNEL_ALIGNMENT, LOADFLAGS, PARAMS_SIZE, PREF_ADDRESS, RAMDISK_IMAGE,
     RAMDISK_SIZE, RELOCATABLE_KERNEL, VERSION, XLOADFLAGS,
 };
+use crate::numbers::{u16_in, u32_in, u64_in};
 use crate::params::Params;
-use bl_mem::{SliceView, u8_at, u16_at, u32_at, u64_at};
 use std::alloc::Allocator;
 
 /// Reads boot parameters of the form that `write_params` gives, or answers why the bytes have not that form: it accepts
@@ -29,21 +29,20 @@ pub fn read_params<A: Allocator + Copy>(alloc: A, bytes: &[u8]) -> Result<Params
     let runs = entries(alloc, bytes)?;
     let count = bytes[E820_ENTRIES] as usize;
     pass_zeros(bytes, E820_TABLE + ENTRY_SIZE * count, PARAMS_SIZE)?;
-    let view = SliceView::new(bytes);
     Ok(Params {
-        version: u16_at(&view, VERSION as u64),
-        loadflags: u8_at(&view, LOADFLAGS as u64),
-        code32_start: u32_at(&view, CODE32_START as u64),
-        ramdisk_image: u32_at(&view, RAMDISK_IMAGE as u64),
-        ramdisk_size: u32_at(&view, RAMDISK_SIZE as u64),
-        cmd_line_ptr: u32_at(&view, CMD_LINE_PTR as u64),
-        initrd_addr_max: u32_at(&view, INITRD_ADDR_MAX as u64),
-        kernel_alignment: u32_at(&view, KERNEL_ALIGNMENT as u64),
-        relocatable_kernel: u8_at(&view, RELOCATABLE_KERNEL as u64),
-        xloadflags: u16_at(&view, XLOADFLAGS as u64),
-        cmdline_size: u32_at(&view, CMDLINE_SIZE as u64),
-        pref_address: u64_at(&view, PREF_ADDRESS as u64),
-        init_size: u32_at(&view, INIT_SIZE as u64),
+        version: u16_in(bytes, VERSION),
+        loadflags: bytes[LOADFLAGS],
+        code32_start: u32_in(bytes, CODE32_START),
+        ramdisk_image: u32_in(bytes, RAMDISK_IMAGE),
+        ramdisk_size: u32_in(bytes, RAMDISK_SIZE),
+        cmd_line_ptr: u32_in(bytes, CMD_LINE_PTR),
+        initrd_addr_max: u32_in(bytes, INITRD_ADDR_MAX),
+        kernel_alignment: u32_in(bytes, KERNEL_ALIGNMENT),
+        relocatable_kernel: bytes[RELOCATABLE_KERNEL],
+        xloadflags: u16_in(bytes, XLOADFLAGS),
+        cmdline_size: u32_in(bytes, CMDLINE_SIZE),
+        pref_address: u64_in(bytes, PREF_ADDRESS),
+        init_size: u32_in(bytes, INIT_SIZE),
         runs,
     })
 }

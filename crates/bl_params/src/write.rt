@@ -49,9 +49,10 @@ fn put_entries(out: &mut [u8; 4096], runs: &[Region])
 pub fn write_params<A: Allocator>(setup: &Setup, facts: &ParamFacts<A>, out: &mut [u8; 4096])
     ensures { out.new ≡ boot_params setup.now.header facts.now }
 {
+    let runs = facts.runs.as_slice();
     clear(out);
     put(out, HEADER_START, setup.header.as_slice());
-    put_entries(out, &facts.runs);
+    put_entries(out, runs);
     put_u64(out, SETUP_DATA, 0);
     put_u32(out, CMD_LINE_PTR, facts.cmd_line_ptr);
     put_u32(out, RAMDISK_SIZE, facts.ramdisk_size);
@@ -59,5 +60,5 @@ pub fn write_params<A: Allocator>(setup: &Setup, facts: &ParamFacts<A>, out: &mu
     put_u32(out, CODE32_START, facts.code32_start);
     put(out, TYPE_OF_LOADER, &[LOADER_UNDEFINED]);
     put_u16(out, VID_MODE, VID_MODE_NORMAL);
-    put(out, E820_ENTRIES, &[facts.runs.len() as u8]);
+    put(out, E820_ENTRIES, &[runs.len() as u8]);
 }
