@@ -7,7 +7,7 @@ use Rattle.bl_params.specs.Reading.{IsEntry, AreEntries}
 pub entries_push : (bytes : List ℕ) (at : ℕ) (runs : List Region) (run : Region) → AreEntries bytes at runs → IsEntry bytes (at + 20 * length runs) run
     → AreEntries bytes at (runs ++ run ∷ [])
 entries_push bytes at [] run are is =
-    let here : at + 20 * length [] ≡ at = omega arith in
+    let here : at + 20 * length {A = Region} [] ≡ at = omega arith in
     (subst (λ (n : ℕ). IsEntry bytes n run) here is, tt)
 entries_push bytes at (first ∷ runs) run are is =
     let there : at + 20 * length (first ∷ runs) ≡ at + 20 + 20 * length runs = omega arith in

@@ -1,7 +1,7 @@
 -- What breaks the form of boot parameters, region by region.
 use Rattle.std.proofs.Common.{◌≡◌, ◌≢◌, ◌≤◌, ◌<◌, ◌+◌, ◌-◌, ◌*◌, ◌%◌, ◌^◌, ℕ, Bool, true, false, not, ◌&&◌, ◌||◌, nat_lt, nat_le, List, slice_index, arith, refl, sym, ◌∙◌, ap, ⊎_elim}
 use Rattle.std.specs.Prelude.{◌==◌, nat_eq}
-use Rattle.std.proofs.lemmas.Bool.{cases_lt}
+use Rattle.std.proofs.lemmas.Bool.{cases_lt, ltb-false}
 use Rattle.std.proofs.lemmas.Bool.Decides.{nat_tests}
 use Rattle.bl_mem.specs.Words.{u16_at, u32_at, u64_at}
 use Rattle.bl_bzimage.specs.Setup.{header_end}
@@ -102,6 +102,9 @@ boot_flag_is bytes n e = rw e (sym (header_is bytes 0x1FE (omega arith) (omega a
 pub jump_is : (bytes : List ℕ) (end : ℕ) → end ≡ header_end bytes → nat_lt end 0x264 ≡ breaks bytes 0x201
 jump_is bytes end e = rw e (sym (header_is bytes 0x201 (omega arith) (omega arith) ∙ simp or_false))
 
+pub long_from : (bytes : List ℕ) (end : ℕ) → end ≡ header_end bytes → nat_lt end 0x264 ≡ false → 0x264 ≤ header_end bytes
+long_from bytes end e test = let above : 0x264 ≤ end = first_of (grind (arith, nat_tests), omega (arith, ltb-false)) in omega arith
+
 pub magic_is : (bytes : List ℕ) (n : ℕ) → 0x264 ≤ header_end bytes → n ≡ u32_at bytes 0x202 → not (n == 0x53726448) ≡ breaks bytes 0x202
 magic_is bytes n long e = rw e (sym (header_is bytes 0x202 (omega arith) (omega arith) ∙ simp or_false))
 
@@ -128,7 +131,7 @@ kind_is bytes i n counted e =
     let place : (entry_at i + 16 - 0x2D0) % 20 ≡ 16 = omega arith in
     rw e (sym (entries_are bytes (entry_at i + 16) (omega arith) (omega arith) ∙ rw place refl))
 
-quiet_place : (bytes : List ℕ) (place k : ℕ) → place ≢ 0 → place ≢ 16 → breaks_entry bytes place k ≡ false
+pub quiet_place : (bytes : List ℕ) (place k : ℕ) → place ≢ 0 → place ≢ 16 → breaks_entry bytes place k ≡ false
 quiet_place bytes place k not_first not_kind = rw (eq_no place 0 not_first, eq_no place 16 not_kind) refl
 
 pub quiet_first : (bytes : List ℕ) (i : ℕ) → i < entries_in bytes → IsQuiet bytes (entry_at i + 1) (entry_at i + 16)

@@ -3,3 +3,4 @@ pub mod EntryLemmas
 pub mod FormLemmas
 pub mod EntriesRead
 pub mod WriteLemmas
+pub mod WrittenIsRead

@@ -28,11 +28,11 @@ pub over_none : (at : ℕ) (rest : ℕ → ℕ) (k : ℕ) → over at [] rest k 
 over_none at rest k = ⊎_elim (λ below. over_below at [] rest k below) (λ above. over_above at [] rest k (omega arith)) (cases_lt k at)
 
 -- a byte of the first of two fields
-earlier : (first second : List ℕ) (i : ℕ) → i < length first → slice_index (first ++ second) i ≡ slice_index first i
+pub earlier : (first second : List ℕ) (i : ℕ) → i < length first → slice_index (first ++ second) i ≡ slice_index first i
 earlier first second i within = search (rules, places)
 
 -- a byte of the second of two fields
-later : (first second : List ℕ) (at mid k : ℕ) → mid ≡ at + length first → mid ≤ k → slice_index (first ++ second) (k - at) ≡ slice_index second (k - mid)
+pub later : (first second : List ℕ) (at mid k : ℕ) → mid ≡ at + length first → mid ≤ k → slice_index (first ++ second) (k - at) ≡ slice_index second (k - mid)
 later first second at mid k e behind = search (rules, places)
 
 -- two fields that adjoin are one

@@ -40,15 +40,24 @@ pub written : (header h : List ℕ) (facts : BootParamsFacts) (runs : List Regio
     → o10 ≡ boot_params header facts
 unfolding boot_params
 written header h facts runs n count o0 o1 o2 o3 o4 o5 o6 o7 o8 o9 o10 same_header same_runs same_count clear p1 p2 p3 p4 p5 p6 p7 p8 p9 p10 long =
+    let l1 : List (ℕ × List ℕ) = (0x1F1, header) ∷ [] in
+    let l2 : List (ℕ × List ℕ) = (0x2D0, flat_map entry_bytes facts.runs) ∷ l1 in
+    let l3 : List (ℕ × List ℕ) = (0x250, number_bytes 8 0) ∷ l2 in
+    let l4 : List (ℕ × List ℕ) = (0x228, number_bytes 4 facts.cmd_line_ptr) ∷ l3 in
+    let l5 : List (ℕ × List ℕ) = (0x21C, number_bytes 4 facts.ramdisk_size) ∷ l4 in
+    let l6 : List (ℕ × List ℕ) = (0x218, number_bytes 4 facts.ramdisk_image) ∷ l5 in
+    let l7 : List (ℕ × List ℕ) = (0x214, number_bytes 4 facts.code32_start) ∷ l6 in
+    let l8 : List (ℕ × List ℕ) = (0x210, 0xFF ∷ []) ∷ l7 in
+    let l9 : List (ℕ × List ℕ) = (0x1FA, number_bytes 2 0xFFFF) ∷ l8 in
     let f0 : (k : ℕ) → slice_index o0 k ≡ byte_of [] k = λ k. ap (λ (xs : List ℕ). slice_index xs k) clear ∙ zero_at n k in
     let f1 = next o0 o1 0x1F1 h header [] p1 same_header f0 in
-    let f2 = next o1 o2 0x2D0 _ (flat_map entry_bytes facts.runs) _ p2 (ap (λ (rs : List Region). flat_map entry_bytes rs) same_runs) f1 in
-    let f3 = next o2 o3 0x250 _ _ _ p3 refl f2 in
-    let f4 = next o3 o4 0x228 _ _ _ p4 refl f3 in
-    let f5 = next o4 o5 0x21C _ _ _ p5 refl f4 in
-    let f6 = next o5 o6 0x218 _ _ _ p6 refl f5 in
-    let f7 = next o6 o7 0x214 _ _ _ p7 refl f6 in
-    let f8 = next o7 o8 0x210 _ _ _ p8 refl f7 in
-    let f9 = next o8 o9 0x1FA _ _ _ p9 refl f8 in
-    let f10 = next o9 o10 0x1E8 _ (length facts.runs ∷ []) _ p10 (ap (λ (x : ℕ). x ∷ []) same_count) f9 in
+    let f2 = next o1 o2 0x2D0 (flat_map entry_bytes runs) (flat_map entry_bytes facts.runs) l1 p2 (ap (λ (rs : List Region). flat_map entry_bytes rs) same_runs) f1 in
+    let f3 = next o2 o3 0x250 (number_bytes 8 0) (number_bytes 8 0) l2 p3 refl f2 in
+    let f4 = next o3 o4 0x228 (number_bytes 4 facts.cmd_line_ptr) (number_bytes 4 facts.cmd_line_ptr) l3 p4 refl f3 in
+    let f5 = next o4 o5 0x21C (number_bytes 4 facts.ramdisk_size) (number_bytes 4 facts.ramdisk_size) l4 p5 refl f4 in
+    let f6 = next o5 o6 0x218 (number_bytes 4 facts.ramdisk_image) (number_bytes 4 facts.ramdisk_image) l5 p6 refl f5 in
+    let f7 = next o6 o7 0x214 (number_bytes 4 facts.code32_start) (number_bytes 4 facts.code32_start) l6 p7 refl f6 in
+    let f8 = next o7 o8 0x210 (0xFF ∷ []) (0xFF ∷ []) l7 p8 refl f7 in
+    let f9 = next o8 o9 0x1FA (number_bytes 2 0xFFFF) (number_bytes 2 0xFFFF) l8 p9 refl f8 in
+    let f10 = next o9 o10 0x1E8 (count ∷ []) (length facts.runs ∷ []) l9 p10 (ap (λ (x : ℕ). x ∷ []) same_count) f9 in
     fill_by_all (byte_of (fields_of header facts)) o10 4096 0 long (λ k within. f10 k)

@@ -7,6 +7,9 @@ use Rattle.byteorder.specs.Endian.{little_bytes}
 abbrev pub gdt : List ℕ
 gdt = flat_map (little_bytes 8) (0 ∷ 0 ∷ 0x00CF9A000000FFFF ∷ 0x00CF92000000FFFF ∷ [])
 
--- own: they stand at the front of a frame of zeros
-unfoldable pub gdt_part : List ℕ
-gdt_part = gdt ++ replicate 4064 0
+unfoldable pub zeros : ℕ → List ℕ
+zeros n = replicate n 0
+
+-- own: they stand at the front of a frame, and the rest of it is zeros
+abbrev pub gdt_part : List ℕ
+gdt_part = gdt ++ zeros 4064

@@ -6,3 +6,4 @@ pub mod Gdt
 pub mod Form
 pub mod Reading
 pub mod Kept
+pub mod Told
