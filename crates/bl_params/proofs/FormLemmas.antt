@@ -17,7 +17,7 @@ lt_no k n above = grind (arith, nat_tests)
 pub eq_no : (k n : ℕ) → k ≢ n → nat_eq k n ≡ false
 eq_no k n other = grind (arith, nat_tests)
 
-or_false : (x : Bool) → (x || false) ≡ x
+pub or_false : (x : Bool) → (x || false) ≡ x
 or_false true = refl
 or_false false = refl
 

@@ -23,7 +23,7 @@ use Rattle.bl_params.specs.Reading.{IsEntry, AreEntries, IsParams}
 use Rattle.bl_params.specs.Told.{params_of, AreWords}
 use Rattle.bl_params.proofs.OverLemmas.{over_in, over_below, over_above, earlier, later}
 use Rattle.bl_params.proofs.EntryLemmas.{length-number_bytes, length-entry_bytes, length-entries}
-use Rattle.bl_params.proofs.FormLemmas.{lt_no, front_is, count_is, gap_is, header_is, behind_is, entries_are, end_is, quiet_place}
+use Rattle.bl_params.proofs.FormLemmas.{lt_no, or_false, front_is, count_is, gap_is, header_is, behind_is, entries_are, end_is, quiet_place}
 
 -- ---- numbers in bytes
 
@@ -127,11 +127,16 @@ nth bytes at (run ∷ runs) (suc j) within low are =
     let there : at + 20 + 20 * j ≡ at + 20 * suc j = omega arith in
     (found.0, (subst (λ (n : ℕ). IsEntry bytes n found.0) there found.1.0, found.1.1))
 
+first_sound : (bytes : List ℕ) (place k : ℕ) → place ≡ 0 → nat_lt (2 ^ 52) (u64_at bytes k + u64_at bytes (k + 8)) ≡ false → breaks_entry bytes place k ≡ false
+first_sound bytes place k e low = subst (λ (n : ℕ). breaks_entry bytes n k ≡ false) (sym e) (or_false (nat_lt (2 ^ 52) (u64_at bytes k + u64_at bytes (k + 8))) ∙ low)
+
+last_sound : (bytes : List ℕ) (place k : ℕ) → place ≡ 16 → (nat_le 1 (u32_at bytes k) && nat_le (u32_at bytes k) 5) ≡ true → breaks_entry bytes place k ≡ false
+last_sound bytes place k e allowed = subst (λ (n : ℕ). breaks_entry bytes n k ≡ false) (sym e) (ap not allowed)
+
 -- entries with allowed kinds and low ends break nothing
 entries_sound : (bytes : List ℕ) (runs : List Region) (k : ℕ) → AllLow runs → AreEntries bytes 0x2D0 runs → 0x2D0 ≤ k → k < 0x2D0 + 20 * length runs
     → breaks_entry bytes ((k - 0x2D0) % 20) k ≡ false
 entries_sound bytes runs k low are from below =
-    let j = (k - 0x2D0) / 20 in
     let found = nth bytes 0x2D0 runs ((k - 0x2D0) / 20) (omega arith) low are in
     ⊎_elim
     (λ first.
@@ -139,14 +144,12 @@ entries_sound bytes runs k low are from below =
     let entry : IsEntry bytes k found.0 = subst (λ (n : ℕ). IsEntry bytes n found.0) here found.1.0 in
     let base = entry.base in
     let size = entry.size in
-    let sum : nat_lt (2 ^ 52) (u64_at bytes k + u64_at bytes (k + 8)) ≡ false = lt_no _ _ (omega (arith, found.1.1)) in
-    rw (first, sum) refl)
+    first_sound bytes ((k - 0x2D0) % 20) k first (lt_no (2 ^ 52) (u64_at bytes k + u64_at bytes (k + 8)) (omega (arith, found.1.1))))
     (λ other. ⊎_elim
     (λ last.
     let here : 0x2D0 + 20 * ((k - 0x2D0) / 20) + 16 ≡ k = omega arith in
     let kind : kind_number found.0.kind ≡ u32_at bytes k = subst (λ (n : ℕ). kind_number found.0.kind ≡ u32_at bytes n) here found.1.0.kind in
-    let allowed : (nat_le 1 (u32_at bytes k) && nat_le (u32_at bytes k) 5) ≡ true = subst (λ (n : ℕ). (nat_le 1 n && nat_le n 5) ≡ true) kind (kind_allowed found.0.kind) in
-    rw (last, allowed) refl)
+    last_sound bytes ((k - 0x2D0) % 20) k last (subst (λ (n : ℕ). (nat_le 1 n && nat_le n 5) ≡ true) kind (kind_allowed found.0.kind)))
     (λ neither. quiet_place bytes ((k - 0x2D0) % 20) k other neither)
     (cases_eq ((k - 0x2D0) % 20) 16))
     (cases_eq ((k - 0x2D0) % 20) 0)
