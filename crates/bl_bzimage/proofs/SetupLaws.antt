@@ -1,13 +1,12 @@
 -- What follows from the definition of a setup alone.
-use Rattle.std.proofs.Common.{◌≡◌, ◌≤◌, ◌<◌, ◌+◌, ◌-◌, ◌^◌, ℕ, Bool, true, false, not, ◌&&◌, nat_lt, nat_le, List, length, slice_index, Some, None, arith, rules, refl, sym, ap, ◌∙◌}
+use Rattle.std.proofs.Common.{◌≡◌, ◌≤◌, ◌<◌, ◌+◌, ◌-◌, ℕ, Bool, true, false, not, ◌&&◌, nat_lt, nat_le, List, length, slice_index, Some, None, arith, rules, refl, ap, ◌∙◌}
 use Rattle.std.specs.Prelude.{◌==◌, nat_eq, Option, if◌then◌else◌, slice_range}
-use Rattle.std.proofs.lemmas.Bool.{and_parts}
 use Rattle.std.proofs.lemmas.Bool.Decides.{nat_tests}
 use Rattle.std.proofs.lemmas.List.{places}
 use Rattle.bl_mem.specs.Words.{u16_at, u32_at, u64_at}
 use Rattle.bl_bzimage.specs.declared.setup.Setup.{Setup}
 use Rattle.bl_bzimage.specs.declared.fault.SetupFault.{SetupFault}
-use Rattle.bl_bzimage.specs.Setup.{IsSetup, setup_fault, setup_of, header_end, payload_at, is_bz_image, is_loaded_high, is_whole, has_alignment, has_preferred}
+use Rattle.bl_bzimage.specs.Setup.{IsSetup, setup_fault, setup_of, header_end, payload_at, is_bz_image, is_whole}
 
 -- ---- a file without a fault
 

@@ -1,9 +1,9 @@
 -- The byte at an offset where a field stands over other bytes.
-use Rattle.std.proofs.Common.{◌≡◌, ◌≤◌, ◌<◌, ◌+◌, ◌-◌, ◌&&◌, ℕ, nat_lt, nat_le, List, [], ◌∷◌, ◌++◌, length, slice_index, arith, rules, ap, refl, ◌∙◌, sym, ⊎_elim}
+use Rattle.std.proofs.Common.{◌≡◌, ◌≤◌, ◌<◌, ◌+◌, ◌-◌, ◌&&◌, ℕ, nat_lt, nat_le, List, [], ◌++◌, length, slice_index, arith, rules, ap, ◌∙◌, sym, ⊎_elim}
 use Rattle.std.specs.Prelude.{if◌then◌else◌}
 use Rattle.std.proofs.lemmas.Bool.{cases_lt}
 use Rattle.std.proofs.lemmas.Bool.Decides.{nat_tests}
-use Rattle.std.proofs.lemmas.List.{places, length-append, get_or_append_left, get_or-append_right}
+use Rattle.std.proofs.lemmas.List.{places, length-append}
 use Rattle.bl_params.specs.Fields.{over}
 
 pub over_in : (at : ℕ) (field : List ℕ) (rest : ℕ → ℕ) (k : ℕ) → at ≤ k → k < at + length field → over at field rest k ≡ slice_index field (k - at)

@@ -1,6 +1,6 @@
 -- Boot parameters that were written have the form, and tell their reader what they were made of.
-use Rattle.std.proofs.Common.{◌≡◌, ◌≢◌, ◌≤◌, ◌<◌, ◌+◌, ◌-◌, ◌*◌, ◌/◌, ◌%◌, ◌^◌, ℕ, zero, suc, Bool, true, false, not, ◌&&◌, ◌||◌, nat_lt, nat_le, List, [], ◌∷◌, ◌++◌, length, slice_index, drop, arith, rules, refl, sym, ap, subst, ◌∙◌, ⊎_elim}
-use Rattle.std.specs.Prelude.{◌==◌, nat_eq, min, All}
+use Rattle.std.proofs.Common.{◌≡◌, ◌≤◌, ◌<◌, ◌+◌, ◌-◌, ◌*◌, ◌/◌, ◌%◌, ◌^◌, ℕ, zero, suc, true, false, not, ◌&&◌, nat_lt, nat_le, List, [], ◌∷◌, ◌++◌, length, slice_index, drop, arith, rules, refl, sym, ap, subst, ◌∙◌, ⊎_elim}
+use Rattle.std.specs.Prelude.{◌==◌, min, All}
 use Rattle.std.specs.List.{flat_map}
 use Rattle.std.proofs.lemmas.Bool.{cases_lt, cases_eq, and_right}
 use Rattle.std.proofs.lemmas.List.FromFn.{length-map-range_with_len, get_or-map-range_with_len}
@@ -18,7 +18,7 @@ use Rattle.bl_bzimage.proofs.SetupLaws.{IsSoundFile, setup_sound, fields_are, he
 use Rattle.bl_params.specs.BootParamsFacts.{BootParamsFacts, AreTold}
 use Rattle.bl_params.specs.BootParams.{boot_params, fields_of, entry_bytes}
 use Rattle.bl_params.specs.Fields.{byte_of, number_bytes}
-use Rattle.bl_params.specs.Form.{breaks, breaks_header, breaks_entry, is_filled, entries_in, entry_at}
+use Rattle.bl_params.specs.Form.{breaks, breaks_header, breaks_entry, is_filled, entries_in}
 use Rattle.bl_params.specs.Reading.{IsEntry, AreEntries, IsParams}
 use Rattle.bl_params.specs.Told.{params_of, AreWords}
 use Rattle.bl_params.proofs.OverLemmas.{over_in, over_below, over_above, earlier, later}

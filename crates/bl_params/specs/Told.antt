@@ -1,5 +1,5 @@
 -- What boot parameters tell their reader that were written for a kernel.
-use Rattle.std.specs.Prelude.{◌^◌, ◌<◌, ℕ}
+use Rattle.std.specs.Prelude.{◌^◌, ◌<◌}
 use Rattle.bl_bzimage.specs.declared.setup.Setup.{Setup}
 use Rattle.bl_params.specs.BootParamsFacts.{BootParamsFacts}
 use Rattle.bl_params.specs.ParamsFacts.{ParamsFacts}

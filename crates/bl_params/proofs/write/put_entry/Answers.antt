@@ -1,5 +1,4 @@
 use Rattle.std.proofs.Common.{◌∙◌, arith}
-use Rattle.bl_map.specs.Kinds.{kind_number}
 use Rattle.bl_params.proofs.OverLemmas.{over_same, over_three}
 use Rattle.bl_params.proofs.EntryLemmas.{length-number_bytes}
 use Rattle.bl_params.proofs.write.put_entry.Goals as goal
