@@ -1,0 +1,6 @@
+pub mod OverLemmas
+pub mod EntryLemmas
+pub mod FormLemmas
+pub mod EntriesRead
+pub mod WriteLemmas
+pub mod WrittenIsRead

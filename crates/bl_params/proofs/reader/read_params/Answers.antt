@@ -1,0 +1,10 @@
+use Rattle.std.proofs.Common.{arith}
+use Rattle.bl_params.proofs.FormLemmas.{behind_is, end_is}
+use Rattle.bl_params.proofs.reader.read_params.Goals as goal
+
+pub pass_zeros-requires-clause-plain : goal.pass_zeros-requires-clause-plain
+pass_zeros-requires-clause-plain g c =
+    let e = c.end_of_header.ensures.exact in λ k from below. behind_is _ k (omega arith) below
+
+pub pass_zeros-requires-2-clause-plain : goal.pass_zeros-requires-2-clause-plain
+pass_zeros-requires-2-clause-plain g c = λ k from below. end_is _ k (omega arith) from

@@ -1,0 +1,18 @@
+-- What boot parameters tell a kernel beside its own header (Linux/x86 Boot Protocol, "Details of Header Fields" and "Zero
+-- Page").
+use Rattle.std.specs.Prelude.{◌^◌, ◌≤◌, ℕ, List, length, All}
+use Rattle.bl_map.specs.declared.region.Region.{Region}
+use Rattle.bl_map.specs.Kinds.{end_of}
+
+-- where the kernel lies and is entered, where the initrd lies and how long it is, where the line is, the memory map
+pub record BootParamsFacts : Type 0 where
+  pub code32_start : ℕ
+  pub ramdisk_image : ℕ
+  pub ramdisk_size : ℕ
+  pub cmd_line_ptr : ℕ
+  pub runs : List Region
+
+-- own: a memory map that boot parameters have room for, each run of which ends at most at 2^52
+pub record AreTold (runs : List Region) : Type 0 where
+  pub few : length runs ≤ 128
+  pub low : All (λ run. end_of run ≤ 2 ^ 52) runs

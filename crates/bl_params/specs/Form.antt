@@ -1,0 +1,45 @@
+-- The form of boot parameters (Linux/x86 Boot Protocol, "Details of Header Fields" and "Zero Page"; own: what a loader of
+-- this kind writes), and the offsets at which bytes break it.
+use Rattle.std.specs.Prelude.{ℕ, ◌+◌, ◌-◌, ◌*◌, ◌%◌, ◌^◌, Bool, ◌&&◌, ◌||◌, not, if◌then◌else◌, ◌==◌, nat_lt, nat_le, List, slice_index}
+use Rattle.bl_mem.specs.Words.{u16_at, u32_at, u64_at}
+use Rattle.bl_bzimage.specs.Setup.{header_end}
+
+-- "e820_entries"
+abbrev pub entries_in : List ℕ → ℕ
+entries_in bytes = slice_index bytes 0x1E8
+
+-- "e820_table": each entry takes 20 bytes
+abbrev pub entry_at : ℕ → ℕ
+entry_at i = 0x2D0 + 20 * i
+
+-- a byte of no field must be 0
+abbrev pub is_filled : List ℕ → ℕ → Bool
+is_filled bytes k = not (slice_index bytes k == 0)
+
+-- the fields of the header, each by the offset at which it counts
+abbrev pub breaks_header : List ℕ → ℕ → Bool
+breaks_header bytes k =
+    (k == 0x1FA && not (u16_at bytes 0x1FA == 0xFFFF))  -- vid_mode
+    || (k == 0x1FE && not (u16_at bytes 0x1FE == 0xAA55))  -- boot_flag
+    || (k == 0x201 && nat_lt (header_end bytes) 0x264)  -- jump
+    || (k == 0x202 && not (u32_at bytes 0x202 == 0x53726448))  -- header: `HdrS`
+    || (k == 0x206 && nat_lt (u16_at bytes 0x206) 0x020A)  -- version
+    || (k == 0x210 && not (slice_index bytes 0x210 == 0xFF))  -- type_of_loader
+    || (k == 0x250 && not (u64_at bytes 0x250 == 0))  -- setup_data
+
+-- the fields of an entry of "e820_table", by their place in it: addr with size at 0, type at 16
+abbrev pub breaks_entry : List ℕ → ℕ → ℕ → Bool
+breaks_entry bytes place k =
+    (place == 0 && nat_lt (2 ^ 52) (u64_at bytes k + u64_at bytes (k + 8)))
+    || (place == 16 && not (nat_le 1 (u32_at bytes k) && nat_le (u32_at bytes k) 5))
+
+-- whether what stands at an offset breaks the form
+unfoldable pub breaks : List ℕ → ℕ → Bool
+breaks bytes k =
+    if nat_lt k 0x1E8 then is_filled bytes k else
+    if k == 0x1E8 then nat_lt 128 (entries_in bytes) else
+    if nat_lt k 0x1F1 then is_filled bytes k else
+    if nat_lt k (header_end bytes) then breaks_header bytes k else
+    if nat_lt k 0x2D0 then is_filled bytes k else
+    if nat_lt k (entry_at (entries_in bytes)) then breaks_entry bytes ((k - 0x2D0) % 20) k else
+    is_filled bytes k

@@ -1,0 +1,15 @@
+-- The descriptors of segments (Linux/x86 Boot Protocol, "32-bit Boot Protocol": __BOOT_CS and __BOOT_DS, flat 4 GiB).
+use Rattle.std.specs.Prelude.{ℕ, List, [], ◌∷◌, ◌++◌, replicate}
+use Rattle.std.specs.List.{flat_map}
+use Rattle.byteorder.specs.Endian.{little_bytes}
+
+-- two null descriptors, the code segment at 0x10, the data segment at 0x18
+abbrev pub gdt : List ℕ
+gdt = flat_map (little_bytes 8) (0 ∷ 0 ∷ 0x00CF9A000000FFFF ∷ 0x00CF92000000FFFF ∷ [])
+
+unfoldable pub zeros : ℕ → List ℕ
+zeros n = replicate n 0
+
+-- own: they stand at the front of a frame, and the rest of it is zeros
+abbrev pub gdt_part : List ℕ
+gdt_part = gdt ++ zeros 4064

@@ -1,0 +1,47 @@
+-- What is read of boot parameters, or why they are refused.
+use Rattle.std.specs.Prelude.{◌≡◌, ℕ, ◌+◌, ◌<◌, List, [], ◌∷◌, length, slice_index, true, false}
+use Rattle.bl_mem.specs.Words.{u16_at, u32_at, u64_at}
+use Rattle.bl_mem.specs.Least.{IsLeast}
+use Rattle.bl_map.specs.declared.region.Region.{Region}
+use Rattle.bl_map.specs.Kinds.{kind_number}
+use Rattle.bl_params.specs.declared.fault.ParamFault.{ParamFault}
+use Rattle.bl_params.specs.declared.fault.ParamFault.TheVariants.{WrongLength, BadParams, NoMemory}
+use Rattle.bl_params.specs.Form.{breaks, entries_in}
+use Rattle.bl_params.specs.ParamsFacts.{ParamsFacts}
+
+-- the entry of "e820_table" that stands at an offset
+pub record IsEntry (bytes : List ℕ) (at : ℕ) (run : Region) : Type 0 where
+  pub base : run.base ≡ u64_at bytes at
+  pub size : run.length ≡ u64_at bytes (at + 8)
+  pub kind : kind_number run.kind ≡ u32_at bytes (at + 16)
+
+-- the entries from an offset on, one behind the other
+abbrev pub AreEntries : List ℕ → ℕ → List Region → Type 0
+AreEntries bytes at [] = Unit {0}
+AreEntries bytes at (run ∷ runs) = IsEntry bytes at run × AreEntries bytes (at + 20) runs
+
+-- these bytes have the form, and tell this: each number at its offset, and as many runs as are counted
+pub record IsParams (bytes : List ℕ) (params : ParamsFacts) : Type 0 where
+  pub size : length bytes ≡ 4096
+  pub sound : (k : ℕ) → k < 4096 → breaks bytes k ≡ false
+  pub version : params.version ≡ u16_at bytes 0x206
+  pub loadflags : params.loadflags ≡ slice_index bytes 0x211
+  pub code32_start : params.code32_start ≡ u32_at bytes 0x214
+  pub ramdisk_image : params.ramdisk_image ≡ u32_at bytes 0x218
+  pub ramdisk_size : params.ramdisk_size ≡ u32_at bytes 0x21C
+  pub cmd_line_ptr : params.cmd_line_ptr ≡ u32_at bytes 0x228
+  pub initrd_addr_max : params.initrd_addr_max ≡ u32_at bytes 0x22C
+  pub kernel_alignment : params.kernel_alignment ≡ u32_at bytes 0x230
+  pub relocatable_kernel : params.relocatable_kernel ≡ slice_index bytes 0x234
+  pub xloadflags : params.xloadflags ≡ u16_at bytes 0x236
+  pub cmdline_size : params.cmdline_size ≡ u32_at bytes 0x238
+  pub pref_address : params.pref_address ≡ u64_at bytes 0x258
+  pub init_size : params.init_size ≡ u32_at bytes 0x260
+  pub count : length params.runs ≡ entries_in bytes
+  pub runs : AreEntries bytes 0x2D0 params.runs
+
+-- the least offset that breaks the form, of as many bytes as boot parameters have; or memory ran out
+abbrev pub HasFirstFault : List ℕ → ParamFault → Type 0
+HasFirstFault bytes WrongLength = ¬ (length bytes ≡ 4096)
+HasFirstFault bytes (BadParams k) = (length bytes ≡ 4096) × IsLeast (λ j. (j < 4096) × (breaks bytes j ≡ true)) k
+HasFirstFault bytes NoMemory = Unit {0}

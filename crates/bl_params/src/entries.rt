@@ -1,0 +1,75 @@
+//! The memory map in boot parameters.
+ghost use Rattle.std.specs.Prelude.{◌≡◌, ◌≤◌, ◌<◌, ◌+◌, ◌*◌, ◌&&◌, ℕ, nat_le, not, true, false, length, MatchResult};
+ghost use Rattle.bl_map.specs.Kinds.{kind_number};
+ghost use Rattle.bl_bzimage.specs.Setup.{header_end};
+ghost use Rattle.bl_params.specs.Form.{entries_in, entry_at};
+ghost use Rattle.bl_params.specs.Reading.{HasFirstFault, AreEntries, IsEntry};
+ghost use Rattle.bl_params.specs.Kept.{IsSoundUpto};
+
+use crate::checks::go_on;
+use crate::fault::ParamFault;
+use crate::fields::{E820_ENTRIES, E820_TABLE, ENTRY_LENGTH, ENTRY_SIZE, ENTRY_TYPE};
+use crate::numbers::{u32_in, u64_in};
+use bl_map::{Kind, REGION_LIMIT, Region};
+use std::alloc::Allocator;
+
+/// Whether a number is that of a kind.
+fn is_kind(number: u32) -> bool
+    ensures { result ≡ (nat_le 1 number && nat_le number 5) }
+{
+    1 <= number && number <= 5
+}
+
+/// The kind of a number.
+fn kind_of(number: u32) -> Kind
+    requires { (nat_le 1 number && nat_le number 5) ≡ true }
+    ensures { kind_number result ≡ number }
+{
+    match number {
+        1 => Kind::Usable,
+        2 => Kind::Reserved,
+        3 => Kind::Acpi,
+        4 => Kind::Nvs,
+        _ => Kind::Bad,
+    }
+}
+
+/// The entry with a number, counted from 0.
+fn entry(bytes: &[u8], i: usize) -> Result<Region, ParamFault>
+    requires whole { length bytes.now ≡ 4096 }
+    requires few { entries_in bytes.now ≤ 128 }
+    requires counted { i < entries_in bytes.now }
+    requires upto { IsSoundUpto bytes.now (entry_at i) }
+    ensures { MatchResult result
+        (λ run. IsEntry bytes.now (entry_at i) run × IsSoundUpto bytes.now (entry_at (i + 1)))
+        (HasFirstFault bytes.now) }
+{
+    let at = E820_TABLE + ENTRY_SIZE * i;
+    let base = u64_in(bytes, at);
+    let length = u64_in(bytes, at + ENTRY_LENGTH);
+    let is_high = base as u128 + length as u128 > REGION_LIMIT as u128;
+    go_on(bytes, at, at + ENTRY_TYPE, is_high)?;
+    let number = u32_in(bytes, at + ENTRY_TYPE);
+    go_on(bytes, at + ENTRY_TYPE, at + ENTRY_SIZE, !is_kind(number))?;
+    let kind = kind_of(number);
+    Ok(Region { base, length, kind })
+}
+
+/// The memory map's runs.
+pub fn entries<A: Allocator>(alloc: A, bytes: &[u8]) -> Result<Vec<Region, A>, ParamFault>
+    requires whole { length bytes.now ≡ 4096 }
+    requires few { entries_in bytes.now ≤ 128 }
+    requires upto { IsSoundUpto bytes.now 0x2D0 }
+    ensures { MatchResult result
+        (λ runs. AreEntries bytes.now 0x2D0 runs.items × (length runs.items ≡ entries_in bytes.now)
+        × IsSoundUpto bytes.now (entry_at (entries_in bytes.now)))
+        (HasFirstFault bytes.now) }
+{
+    let mut runs = Vec::new(alloc);
+    let count = bytes[E820_ENTRIES] as usize;
+    for i in 0..count {
+        let run = entry(bytes, i)?;
+        runs.push(run)?;
+    }
+    Ok(runs)
+}

@@ -1,0 +1,48 @@
+//! Boot parameters, read back.
+ghost use Rattle.std.specs.Prelude.{◌≡◌, ◌≤◌, ◌+◌, ◌*◌, length, IfOk, IfErr};
+ghost use Rattle.bl_params.specs.Reading.{IsParams, HasFirstFault};
+
+use crate::checks::{end_of_header, pass_front, pass_header, pass_zeros};
+use crate::entries::entries;
+use crate::fault::ParamFault;
+use crate::fields::{
+    CMD_LINE_PTR, CMDLINE_SIZE, CODE32_START, E820_ENTRIES, E820_TABLE, ENTRY_SIZE, INIT_SIZE,
+    INITRD_ADDR_MAX, KERNEL_ALIGNMENT, LOADFLAGS, PARAMS_SIZE, PREF_ADDRESS, RAMDISK_IMAGE,
+    RAMDISK_SIZE, RELOCATABLE_KERNEL, VERSION, XLOADFLAGS,
+};
+use crate::numbers::{u16_in, u32_in, u64_in};
+use crate::params::Params;
+use std::alloc::Allocator;
+
+/// Reads boot parameters of the form that `write_params` gives, or answers why the bytes have not that form: it accepts
+/// nothing else, and names the least offset at which they break it.
+pub fn read_params<A: Allocator + Copy>(alloc: A, bytes: &[u8]) -> Result<Params<A>, ParamFault>
+    ensures read { IfOk result (λ params. IsParams bytes.now params) }
+    ensures first_fault { IfErr result (λ fault. HasFirstFault bytes.now fault) }
+{
+    if bytes.len() != PARAMS_SIZE {
+        return Err(ParamFault::WrongLength);
+    }
+    pass_front(bytes)?;
+    pass_header(bytes)?;
+    pass_zeros(bytes, end_of_header(bytes), E820_TABLE)?;
+    let runs = entries(alloc, bytes)?;
+    let count = bytes[E820_ENTRIES] as usize;
+    pass_zeros(bytes, E820_TABLE + ENTRY_SIZE * count, PARAMS_SIZE)?;
+    Ok(Params {
+        version: u16_in(bytes, VERSION),
+        loadflags: bytes[LOADFLAGS],
+        code32_start: u32_in(bytes, CODE32_START),
+        ramdisk_image: u32_in(bytes, RAMDISK_IMAGE),
+        ramdisk_size: u32_in(bytes, RAMDISK_SIZE),
+        cmd_line_ptr: u32_in(bytes, CMD_LINE_PTR),
+        initrd_addr_max: u32_in(bytes, INITRD_ADDR_MAX),
+        kernel_alignment: u32_in(bytes, KERNEL_ALIGNMENT),
+        relocatable_kernel: bytes[RELOCATABLE_KERNEL],
+        xloadflags: u16_in(bytes, XLOADFLAGS),
+        cmdline_size: u32_in(bytes, CMDLINE_SIZE),
+        pref_address: u64_in(bytes, PREF_ADDRESS),
+        init_size: u32_in(bytes, INIT_SIZE),
+        runs,
+    })
+}
