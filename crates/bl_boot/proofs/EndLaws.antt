@@ -14,7 +14,7 @@ use Rattle.bl_load.proofs.HandoverLaws as load
 use Rattle.bl_image.specs.Image.{spelling}
 use Rattle.bl_boot.specs.Attempt.{IsAttemptHandover, IsAttemptRefusal, LacksRoom, HasRoomBeside, entry_value, value_found}
 use Rattle.bl_desc.specs.Described.{Described, Entry}
-use Rattle.bl_boot.specs.Ends.{AreAlike, Attempted, IsBooted, IsMachineOf, IsRefused, Surroundings}
+use Rattle.bl_boot.specs.Ends.{AreAlike, BootCase, IsBooted, IsMachineOf, IsRefused, Surroundings}
 use Rattle.bl_boot.specs.Files.{Answer, missing, too_long, bytes}
 
 one_handover_of : (facts : MachineFacts) (entry : Entry) (answer : Answer) (h k : Handover)
@@ -85,7 +85,7 @@ like_refusal facts entry other (bytes kernel) r same (inr (inr (fits, lacks, is)
 -- of two attempts that are alike
 module _ {F G : Type 0} {answers : F → List ℕ → Answer → Type 0} {faults : F → ℕ} {desc : List ℕ} {before after : F}
     {replies : G → List ℕ → Answer → Type 0} {wants : G → ℕ} {other : List ℕ} {began ended : G}
-    (a : Attempted answers faults desc before after) (b : Attempted replies wants other began ended) (alike : AreAlike a b) where
+    (a : BootCase answers faults desc before after) (b : BootCase replies wants other began ended) (alike : AreAlike a b) where
   same_value : value_found a.entry b.answer ≡ value_found b.entry b.answer
   same_value = let value = alike.value in rw alike.answer at value
 

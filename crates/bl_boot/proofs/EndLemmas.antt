@@ -9,7 +9,7 @@ use Rattle.bl_desc.specs.declared.desc.Description.{Description}
 use Rattle.bl_desc.specs.declared.desc.EntryRow.{EntryRow}
 use Rattle.bl_boot.specs.declared.attempting.attempt.Attempt.{Attempt}
 use Rattle.bl_boot.specs.declared.attempting.attempt.Attempt.TheVariants as attempt
-use Rattle.bl_boot.specs.declared.attempting.attempt.Loaded.{Loaded}
+use Rattle.bl_boot.specs.declared.attempting.attempt.LoadedEntry.{LoadedEntry}
 use Rattle.bl_boot.specs.declared.booting.fault.EndFault.{EndFault}
 use Rattle.bl_boot.specs.declared.booting.fault.EndFault.TheVariants.{BadDescription, Device, NoMemory}
 use Rattle.bl_desc.specs.Described.{Described, Entry, described, file_named}
@@ -17,9 +17,9 @@ use Rattle.bl_desc.specs.Kept.{view, entry_view}
 use Rattle.bl_boot.specs.Files.{Answer}
 use Rattle.bl_boot.specs.Found.{IsFound}
 use Rattle.bl_boot.specs.Attempt.{IsAttemptHandover}
-use Rattle.bl_boot.specs.Loaded.{IsAttempt, handover_loaded}
+use Rattle.bl_boot.specs.LoadedEntry.{IsAttempt, handover_loaded}
 use Rattle.bl_boot.specs.Says.{booted_line, refused_line, no_entry_line}
-use Rattle.bl_boot.specs.Ends.{IsMachineOf, Attempted, HasInlineKernel, IsBooted, IsRefused, Surroundings}
+use Rattle.bl_boot.specs.Ends.{IsMachineOf, BootCase, HasInlineKernel, IsBooted, IsRefused, Surroundings}
 use Rattle.bl_boot.specs.Kept.{IsHandFault, Ends}
 
 -- a list of one item is that item alone
@@ -29,7 +29,7 @@ only_one (y ∷ []) x one is = ap (λ y. y ∷ []) (sym is)
 only_one (y ∷ z ∷ xs) x one is = absurd (omega arith)
 
 -- what was loaded is what is handed over
-handed_by : {A : Type 0} (fill : ℕ) (facts : MachineFacts) (entry : Entry) (answer : Answer) (loaded : Loaded A)
+handed_by : {A : Type 0} (fill : ℕ) (facts : MachineFacts) (entry : Entry) (answer : Answer) (loaded : LoadedEntry A)
     → IsAttempt fill facts entry answer (attempt.Loaded loaded) → IsAttemptHandover facts entry answer (handover_loaded loaded)
 handed_by fill facts entry answer loaded came = rw came.2.handed came.1
 
@@ -55,7 +55,7 @@ module _ {A : Type 0} (desc : List ℕ) (d : Description A) (row : EntryRow A)
     abbrev Came : Attempt A → Type 0
     Came a = (answer : Answer) × IsFound answers faults (view d).files row.kernel before after answer × IsAttempt d.fill facts (entry_view row) answer a
 
-    abbrev attempted : (answer : Answer) → IsFound answers faults (view d).files row.kernel before after answer → Attempted answers faults desc before after
+    abbrev attempted : (answer : Answer) → IsFound answers faults (view d).files row.kernel before after answer → BootCase answers faults desc before after
     attempted answer found = record {
       description = view d;
       facts = facts;
@@ -75,7 +75,7 @@ module _ {A : Type 0} (desc : List ℕ) (d : Description A) (row : EntryRow A)
         → v ≡ u ++ (refused_line 0 (refusal_number refusal) ++ no_entry_line) → IsRefused answers faults desc (around before s u) (around after s v)
     refused_by refusal came s u v said = record { attempted = attempted came.0 came.1; refusal = refusal; refused = came.2; nothing = refl; said = said }
 
-    pub booted_by : (loaded : Loaded A) → Came (attempt.Loaded loaded) → (s t u v : List ℕ)
+    pub booted_by : (loaded : LoadedEntry A) → Came (attempt.Loaded loaded) → (s t u v : List ℕ)
         → t ≡ s ++ spelling (handover_loaded loaded) → v ≡ u ++ booted_line 0 row.title → IsBooted answers faults desc (around before s u) (around after t v)
     booted_by loaded came s t u v image said = record {
       attempted = attempted came.0 came.1;
@@ -86,7 +86,7 @@ module _ {A : Type 0} (desc : List ℕ) (d : Description A) (row : EntryRow A)
     }
 
     -- an entry that is not handed over after all
-    pub not_handed_by : (loaded : Loaded A) → Came (attempt.Loaded loaded) → (old new : ℕ) (s t u v : List ℕ) (fault : EndFault)
+    pub not_handed_by : (loaded : LoadedEntry A) → Came (attempt.Loaded loaded) → (old new : ℕ) (s t u v : List ℕ) (fault : EndFault)
         → IsHandFault old new s t (spelling (handover_loaded loaded)) fault → v ≡ u → Ends answers faults desc (around before s u) (around after t v) (Err fault)
     not_handed_by loaded came old new s t u v BadDescription never unsaid = absurd never
     not_handed_by loaded came old new s t u v Device broken unsaid = record {

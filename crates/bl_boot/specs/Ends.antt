@@ -48,7 +48,7 @@ pub record Surroundings (F : Type 0) : Type 0 where
 module _ {F : Type 0} (answers : F → List ℕ → Answer → Type 0) (faults : F → ℕ) where
   -- what is attempted: the description that the bytes are, the facts of its machine, its one entry, and what was found
   -- for the entry's kernel
-  pub record Attempted (desc : List ℕ) (before after : F) : Type 0 where
+  pub record BootCase (desc : List ℕ) (before after : F) : Type 0 where
     pub description : Described
     pub facts : MachineFacts
     pub entry : Entry
@@ -60,7 +60,7 @@ module _ {F : Type 0} (answers : F → List ℕ → Answer → Type 0) (faults :
 
   -- the entry was handed over: the sink took its image, and what is said tells it
   pub record IsBooted (desc : List ℕ) (before after : Surroundings F) : Type 0 where
-    pub attempted : Attempted desc before.files after.files
+    pub attempted : BootCase desc before.files after.files
     pub handover : Handover
     pub handed : IsAttemptHandover attempted.facts attempted.entry attempted.answer handover
     pub image : after.sink ≡ before.sink ++ spelling handover
@@ -68,7 +68,7 @@ module _ {F : Type 0} (answers : F → List ℕ → Answer → Type 0) (faults :
 
   -- the entry was refused, the sink took nothing, and what is said tells it
   pub record IsRefused (desc : List ℕ) (before after : Surroundings F) : Type 0 where
-    pub attempted : Attempted desc before.files after.files
+    pub attempted : BootCase desc before.files after.files
     pub refusal : Refusal
     pub refused : IsAttemptRefusal attempted.facts attempted.entry attempted.answer refusal
     pub nothing : after.sink ≡ before.sink
@@ -76,7 +76,7 @@ module _ {F : Type 0} (answers : F → List ℕ → Answer → Type 0) (faults :
 
   -- the entry can be handed over, but of its image the sink took a beginning; nothing is said
   pub record IsBroken (desc : List ℕ) (before after : Surroundings F) : Type 0 where
-    pub attempted : Attempted desc before.files after.files
+    pub attempted : BootCase desc before.files after.files
     pub handover : Handover
     pub handed : IsAttemptHandover attempted.facts attempted.entry attempted.answer handover
     pub begun : IsBegun before.sink after.sink (spelling handover)
@@ -95,7 +95,7 @@ pub record HasInlineKernel (desc : List ℕ) : Type 0 where
 -- have equal values
 pub record AreAlike {F G : Type 0} {answers : F → List ℕ → Answer → Type 0} {faults : F → ℕ} {desc : List ℕ} {before after : F}
     {replies : G → List ℕ → Answer → Type 0} {wants : G → ℕ} {other : List ℕ} {began ended : G}
-    (a : Attempted answers faults desc before after) (b : Attempted replies wants other began ended) : Type 0 where
+    (a : BootCase answers faults desc before after) (b : BootCase replies wants other began ended) : Type 0 where
   pub facts : a.facts ≡ b.facts
   pub answer : a.answer ≡ b.answer
   pub value : value_found a.entry a.answer ≡ value_found b.entry b.answer

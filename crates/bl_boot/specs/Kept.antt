@@ -8,8 +8,8 @@ use Rattle.bl_boot.specs.Files.{Answer}
 use Rattle.bl_boot.specs.Ends.{IsBadMachine, IsBadDescription, IsBooted, IsRefused, IsBroken, IsMapped, Surroundings}
 use Rattle.bl_boot.specs.declared.booting.fault.EndFault.{EndFault}
 use Rattle.bl_boot.specs.declared.booting.fault.EndFault.TheVariants.{BadDescription, Device, NoMemory}
-use Rattle.bl_boot.specs.declared.booting.fault.Ended.{Ended}
-use Rattle.bl_boot.specs.declared.booting.fault.Ended.TheVariants.{Booted, NoEntryLeft}
+use Rattle.bl_boot.specs.declared.booting.fault.End.{End}
+use Rattle.bl_boot.specs.declared.booting.fault.End.TheVariants.{Booted, NoEntryLeft}
 
 -- a fault of the description as one of a boot
 abbrev pub fault_of : DescFault → EndFault
@@ -30,7 +30,7 @@ IsHandFault faults_before faults_after before after image NoMemory = (faults_aft
 
 -- a boot ends so
 abbrev pub Ends : {F : Type 0} → (F → List ℕ → Answer → Type 0) → (F → ℕ) → List ℕ → Surroundings F → Surroundings F
-    → Result Ended EndFault → Type 0
+    → Result End EndFault → Type 0
 Ends answers faults desc before after (Ok Booted) = IsBooted answers faults desc before after
 Ends answers faults desc before after (Ok NoEntryLeft) = IsRefused answers faults desc before after
 Ends answers faults desc before after (Err BadDescription) = IsBadDescription desc × (after ≡ before)
@@ -38,7 +38,7 @@ Ends answers faults desc before after (Err Device) = IsBroken answers faults des
 Ends answers faults desc before after (Err NoMemory) = (after.sink ≡ before.sink) × (after.said ≡ before.said)
 
 -- the sink has one fault more exactly where the boot ends in a fault of the sink
-abbrev pub HasFaults : ℕ → ℕ → Result Ended EndFault → Type 0
+abbrev pub HasFaults : ℕ → ℕ → Result End EndFault → Type 0
 HasFaults before after (Err Device) = after ≡ before + 1
 HasFaults before after (Err BadDescription) = after ≡ before
 HasFaults before after (Err NoMemory) = after ≡ before

@@ -6,7 +6,7 @@ ghost use Rattle.bl_load.specs.Handover.{Handover};
 ghost use Rattle.bl_load.specs.declared.refusal.Refusal.{Refusal};
 ghost use Rattle.bl_boot.specs.Attempt.{IsAttemptHandover, IsAttemptRefusal};
 ghost use Rattle.bl_desc.specs.Described.{Described};
-ghost use Rattle.bl_boot.specs.Ends.{AreAlike, Attempted, IsBooted, IsMachineOf, IsRefused};
+ghost use Rattle.bl_boot.specs.Ends.{AreAlike, BootCase, IsBooted, IsMachineOf, IsRefused};
 ghost use Rattle.bl_boot.specs.Ends.{Surroundings};
 
 use crate::fetching::Files;
@@ -19,13 +19,13 @@ use crate::fetching::Files;
 /// Where both end in 0 or 1 they end alike: both write one image, or both are refused for one thing.
 pub fn two_boots<F: Files, G: Files>()
     ensures one_handover { (desc other : List ℕ) (before after : F) (began ended : G)
-        (a : Attempted F.answers F.faults desc before after)
-        (b : Attempted G.answers G.faults other began ended) → AreAlike a b → (h k : Handover) →
+        (a : BootCase F.answers F.faults desc before after)
+        (b : BootCase G.answers G.faults other began ended) → AreAlike a b → (h k : Handover) →
         IsAttemptHandover a.facts a.entry a.answer h →
         IsAttemptHandover b.facts b.entry b.answer k → h ≡ k }
     ensures one_refusal { (desc other : List ℕ) (before after : F) (began ended : G)
-        (a : Attempted F.answers F.faults desc before after)
-        (b : Attempted G.answers G.faults other began ended) → AreAlike a b → (r q : Refusal) →
+        (a : BootCase F.answers F.faults desc before after)
+        (b : BootCase G.answers G.faults other began ended) → AreAlike a b → (r q : Refusal) →
         IsAttemptRefusal a.facts a.entry a.answer r →
         IsAttemptRefusal b.facts b.entry b.answer q → r ≡ q }
     ensures one_image { (desc other : List ℕ) (before after : Surroundings F)

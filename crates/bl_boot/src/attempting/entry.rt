@@ -1,6 +1,6 @@
 //! An attempt with an entry of a description.
 ghost use Rattle.std.specs.Prelude.{◌≡◌, ℕ, List, ◌+◌, ◌<◌, ◌≤◌, ◌^◌, IfOk, IsSome};
-ghost use Rattle.bl_boot.specs.Loaded.{IsAttempt};
+ghost use Rattle.bl_boot.specs.LoadedEntry.{IsAttempt};
 ghost use Rattle.bl_boot.specs.Found.{IsFound};
 ghost use Rattle.bl_desc.specs.Described.{file_named};
 ghost use Rattle.bl_desc.specs.Kept.{entry_view, view};

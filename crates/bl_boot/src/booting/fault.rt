@@ -9,7 +9,7 @@ use thiserror::Error;
 
 /// How a boot ends that nothing stopped.
 #[derive(Clone, Copy, Debug, PartialEq, Eq)]
-pub enum Ended {
+pub enum End {
     /// An entry was handed over.
     Booted,
 

@@ -2,11 +2,11 @@
 ghost use Rattle.std.specs.Prelude.{◌≡◌, ◌+◌, ◌<◌, ◌≤◌, ◌^◌, ◌++◌, length, All, OnOk, OnErr, IfErr};
 ghost use Rattle.bl_load.specs.Numbers.{refusal_number};
 ghost use Rattle.bl_image.specs.Image.{spelling};
-ghost use Rattle.bl_boot.specs.Loaded.{handover_loaded};
+ghost use Rattle.bl_boot.specs.LoadedEntry.{handover_loaded};
 ghost use Rattle.bl_boot.specs.Kept.{IsHandFault};
 ghost use Rattle.bl_boot.specs.Says.{booted_line, refused_line, no_entry_line};
 
-use crate::attempting::Loaded;
+use crate::attempting::LoadedEntry;
 use crate::booting::fault::EndFault;
 use crate::saying::{say_booted, say_no_entry_left, say_refused};
 use bl_image::{Sink, write_image};
@@ -33,7 +33,7 @@ pub fn say_refusal<A: Allocator + Copy, B: Allocator>(
 /// has its place before the image is begun, so that a fault leaves the text as it was.
 pub fn hand_over<A: Allocator + Copy, S: Sink, B: Allocator>(
     alloc: A,
-    loaded: &Loaded<A>,
+    loaded: &LoadedEntry<A>,
     title: &str,
     out: &mut S,
     say: &mut Vec<u8, B>,

@@ -5,7 +5,7 @@ ghost use Rattle.bl_boot.specs.Kept.{Ends, HasFaults};
 ghost use Rattle.bl_boot.specs.Files.{Answer};
 
 use crate::attempting::{Attempt, attempt_entry};
-use crate::booting::fault::{EndFault, Ended};
+use crate::booting::fault::{End, EndFault};
 use crate::booting::handing::{hand_over, say_refusal};
 use crate::booting::machine::machine_of;
 use crate::fetching::Files;
@@ -22,7 +22,7 @@ fn run_boot<A: Allocator + Copy, F: Files, S: Sink, B: Allocator>(
     files: &mut F,
     out: &mut S,
     say: &mut Vec<u8, B>,
-) -> Result<Ended, EndFault>
+) -> Result<End, EndFault>
     requires files { F.faults files.old < 2 ^ 63 }
     requires sink { S.faults out.old < 2 ^ 63 }
     ensures ends { Ends F.answers F.faults desc.now
@@ -41,11 +41,11 @@ fn run_boot<A: Allocator + Copy, F: Files, S: Sink, B: Allocator>(
     match attempt_entry(alloc, &machine, &description, entry, files)? {
         Attempt::Refused(refusal) => {
             say_refusal(alloc, refusal, say)?;
-            Ok(Ended::NoEntryLeft)
+            Ok(End::NoEntryLeft)
         }
         Attempt::Loaded(loaded) => {
             hand_over(alloc, &loaded, entry.title.as_str(), out, say)?;
-            Ok(Ended::Booted)
+            Ok(End::Booted)
         }
     }
 }
@@ -98,8 +98,8 @@ pub fn boot<A: Allocator + Copy, F: Files, S: Sink, B: Allocator>(
         × (F.faults files.new ≤ F.faults files.old + 1) }
 {
     match run_boot(alloc, global, desc, files, out, say) {
-        Ok(Ended::Booted) => 0,
-        Ok(Ended::NoEntryLeft) => 1,
+        Ok(End::Booted) => 0,
+        Ok(End::NoEntryLeft) => 1,
         Err(EndFault::BadDescription) => 2,
         Err(EndFault::Device) => 3,
         Err(EndFault::NoMemory) => 4,
