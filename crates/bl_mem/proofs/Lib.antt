@@ -2,3 +2,4 @@ pub mod Overwrites
 pub mod ReadLemmas
 pub mod WordLaws
 pub mod LeastLaws
+pub mod SparseLemmas
