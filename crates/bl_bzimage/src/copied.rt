@@ -5,8 +5,8 @@ use crate::fields::{MOST_HEADER, SETUP_SECTS};
 use bl_mem::ByteView;
 use std::marker::Model;
 
-/// The bytes of a setup header, from 0x1F1 to its end: at most 0x9F, as many as `boot_params` has room for. No memory is
-/// taken for them. Contracts see them as a list.
+/// The bytes of a setup header, from 0x1F1 to its end: at most 0x9F, as many as `boot_params` has
+/// room for. No memory is taken for them. Contracts see them as a list.
 #[derive(Drop)]
 pub struct SetupHeader {
     bytes: [u8; 0x9F],

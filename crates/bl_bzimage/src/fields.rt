@@ -1,5 +1,5 @@
-//! The numbers of the setup header (Linux/x86 Boot Protocol, "The Real-Mode Kernel Header"). A field is named by its
-//! offset from the file's first byte. Offsets and sizes count bytes.
+//! The numbers of the setup header (Linux/x86 Boot Protocol, "The Real-Mode Kernel Header"). A
+//! field is named by its offset from the file's first byte. Offsets and sizes count bytes.
 
 /// The least length of a file: a boot sector, and a sector of setup.
 pub const LEAST_FILE: u64 = 1024;
@@ -61,7 +61,8 @@ pub const PREF_ADDRESS: u64 = 0x258;
 /// The least `pref_address` of a kernel that is not relocatable: 1 MiB.
 pub const LEAST_PREF_ADDRESS: u64 = 0x10_0000;
 
-/// The greatest `pref_address` of a kernel that is not relocatable, since its entry is a 32-bit number.
+/// The greatest `pref_address` of a kernel that is not relocatable, since its entry is a 32-bit
+/// number.
 pub const MOST_PREF_ADDRESS: u64 = 0xFFFF_FFFF;
 
 /// `init_size`, the last field that is read.

@@ -14,8 +14,9 @@ use crate::fields::{
 };
 use bl_mem::{ByteView, u8_at, u16_at, u32_at, u64_at};
 
-/// The fields of a setup header that loading needs, by the boot protocol's names (Linux/x86 Boot Protocol, "Details of
-/// Header Fields"), the header's bytes, which are copied for the kernel, and where the payload is in the file.
+/// The fields of a setup header that loading needs, by the boot protocol's names (Linux/x86 Boot
+/// Protocol, "Details of Header Fields"), the header's bytes, which are copied for the kernel, and
+/// where the payload is in the file.
 ///
 /// - `setup_sects`: sectors of 512 bytes, as it stands in the file, where 0 means 4.
 /// - `version`: the major number times 256 and the minor, from 0x20A on.
@@ -23,10 +24,11 @@ use bl_mem::{ByteView, u8_at, u16_at, u32_at, u64_at};
 /// - `kernel_alignment`: in bytes, a power of two where `relocatable_kernel` is not 0.
 /// - `xloadflags`: has a meaning from version 2.12 on.
 /// - `cmdline_size`: the bytes of the longest line, its zero byte not counted.
-/// - `pref_address`: where the kernel runs unless it lies elsewhere, from 0x100000 to 0xFFFFFFFF where
-///   `relocatable_kernel` is 0.
+/// - `pref_address`: where the kernel runs unless it lies elsewhere, from 0x100000 to 0xFFFFFFFF
+///   where `relocatable_kernel` is 0.
 /// - `init_size`: how many bytes the kernel needs from the address on at which it runs.
-/// - `payload_offset`, `payload_size`: the bytes of the file that are loaded, at least one, up to the file's end.
+/// - `payload_offset`, `payload_size`: the bytes of the file that are loaded, at least one, up to
+///   the file's end.
 #[derive(Drop)]
 pub struct Setup {
     pub setup_sects: u8,
@@ -68,8 +70,9 @@ fn setup_of<V: ByteView>(view: &V) -> Setup
     }
 }
 
-/// Reads the setup header of a kernel's file (Linux/x86 Boot Protocol, versions 2.10 to 2.12; a later one is read as
-/// 2.12), or answers the first fault in the order of the checks. Takes no memory.
+/// Reads the setup header of a kernel's file (Linux/x86 Boot Protocol, versions 2.10 to 2.12; a
+/// later one is read as 2.12), or answers the first fault in the order of the checks. Takes no
+/// memory.
 #[tactic(auto, unfolding(crate::specs::Setup::setup_fault))]
 pub fn read_setup<V: ByteView>(view: &V) -> Result<Setup, SetupFault>
     ensures ok { IfOk result (IsSetup (V.bytes view.now)) }

@@ -4,3 +4,4 @@ pub mod FormLemmas
 pub mod EntriesRead
 pub mod WriteLemmas
 pub mod WrittenIsRead
+pub mod ParamsLaws

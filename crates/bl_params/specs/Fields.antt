@@ -8,7 +8,8 @@ number_bytes n x = little_bytes n x
 
 -- the byte at k where a field stands at an offset over other bytes
 unfoldable pub over : ℕ → List ℕ → (ℕ → ℕ) → ℕ → ℕ
-over at field rest k = if nat_le at k && nat_lt k (at + length field) then slice_index field (k - at) else rest k
+over at field rest k =
+    if nat_le at k && nat_lt k (at + length field) then slice_index field (k - at) else rest k
 
 -- the byte at k of fields, each an offset and its bytes: where several reach it the first counts, where none does it is 0
 abbrev pub byte_of : List (ℕ × List ℕ) → ℕ → ℕ

@@ -36,7 +36,8 @@ pub fn pass_zeros(bytes: &[u8], start: usize, end: usize) -> Result<(), ParamFau
     requires within { end ≤ 4096 }
     requires forward { start ≤ end }
     requires upto { IsSoundUpto bytes.now start }
-    requires plain { (k : ℕ) → start ≤ k → k < end → breaks bytes.now k ≡ is_filled bytes.now k }
+    requires plain { (k : ℕ) → start ≤ k → k < end
+        → breaks bytes.now k ≡ is_filled bytes.now k }
     ensures { MatchResult result (λ _. IsSoundUpto bytes.now end) (HasFirstFault bytes.now) }
 {
     for at in start..end {
@@ -58,7 +59,9 @@ pub fn end_of_header(bytes: &[u8]) -> usize
 /// The bytes before the header.
 pub fn pass_front(bytes: &[u8]) -> Result<(), ParamFault>
     requires { length bytes.now ≡ 4096 }
-    ensures { MatchResult result (λ _. IsSoundUpto bytes.now 0x1F1 × (entries_in bytes.now ≤ 128)) (HasFirstFault bytes.now) }
+    ensures { MatchResult result
+        (λ _. IsSoundUpto bytes.now 0x1F1 × (entries_in bytes.now ≤ 128))
+        (HasFirstFault bytes.now) }
 {
     pass_zeros(bytes, 0, E820_ENTRIES)?;
     go_on(
@@ -75,7 +78,9 @@ pub fn pass_front(bytes: &[u8]) -> Result<(), ParamFault>
 fn pass_magic(bytes: &[u8]) -> Result<(), ParamFault>
     requires whole { length bytes.now ≡ 4096 }
     requires upto { IsSoundUpto bytes.now 0x1F1 }
-    ensures { MatchResult result (λ _. IsSoundUpto bytes.now 0x206 × (0x264 ≤ header_end bytes.now)) (HasFirstFault bytes.now) }
+    ensures { MatchResult result
+        (λ _. IsSoundUpto bytes.now 0x206 × (0x264 ≤ header_end bytes.now))
+        (HasFirstFault bytes.now) }
 {
     go_on(
         bytes,
@@ -109,7 +114,9 @@ fn pass_loader(bytes: &[u8]) -> Result<(), ParamFault>
     requires whole { length bytes.now ≡ 4096 }
     requires long { 0x264 ≤ header_end bytes.now }
     requires upto { IsSoundUpto bytes.now 0x206 }
-    ensures { MatchResult result (λ _. IsSoundUpto bytes.now (header_end bytes.now)) (HasFirstFault bytes.now) }
+    ensures { MatchResult result
+        (λ _. IsSoundUpto bytes.now (header_end bytes.now))
+        (HasFirstFault bytes.now) }
 {
     let end = end_of_header(bytes);
     go_on(
@@ -131,7 +138,10 @@ fn pass_loader(bytes: &[u8]) -> Result<(), ParamFault>
 pub fn pass_header(bytes: &[u8]) -> Result<(), ParamFault>
     requires whole { length bytes.now ≡ 4096 }
     requires upto { IsSoundUpto bytes.now 0x1F1 }
-    ensures { MatchResult result (λ _. IsSoundUpto bytes.now (header_end bytes.now) × (0x264 ≤ header_end bytes.now)) (HasFirstFault bytes.now) }
+    ensures { MatchResult result
+        (λ _. IsSoundUpto bytes.now (header_end bytes.now)
+        × (0x264 ≤ header_end bytes.now))
+        (HasFirstFault bytes.now) }
 {
     pass_magic(bytes)?;
     pass_loader(bytes)?;

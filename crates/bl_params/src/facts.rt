@@ -3,11 +3,12 @@ use bl_map::Region;
 use std::alloc::Allocator;
 use std::marker::Model;
 
-/// What boot parameters tell a kernel beside its own header (Linux/x86 Boot Protocol). It is kept that they have room for
-/// it: at most 128 runs, each of which ends at most at 2^52.
+/// What boot parameters tell a kernel beside its own header (Linux/x86 Boot Protocol). It is kept
+/// that they have room for it: at most 128 runs, each of which ends at most at 2^52.
 ///
 /// - `code32_start`: the address at which the kernel lies and is entered.
-/// - `ramdisk_image`, `ramdisk_size`: the initrd's address and its length in bytes, 0 and 0 without one.
+/// - `ramdisk_image`, `ramdisk_size`: the initrd's address and its length in bytes, 0 and 0 without
+///   one.
 /// - `cmd_line_ptr`: the address of the line.
 /// - `runs`: the memory map.
 #[derive(Drop)]

@@ -8,8 +8,9 @@ use thiserror::Error;
 /// Why boot parameters are refused.
 ///
 /// - `WrongLength`: there are not 4096 bytes.
-/// - `BadParams(offset)`: the least offset of a byte or field that breaks the form. A field counts by its first byte, and
-///   an end of the header that is too low by the byte at 0x201 which tells it.
+/// - `BadParams(offset)`: the least offset of a byte or field that breaks the form. A field counts
+///   by its first byte, and an end of the header that is too low by the byte at 0x201 which tells
+///   it.
 /// - `NoMemory`: memory ran out. This says nothing of the bytes, and may come at any growth.
 #[derive(Clone, Copy, Debug, PartialEq, Eq, Error)]
 pub enum ParamFault {

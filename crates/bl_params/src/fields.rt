@@ -1,5 +1,5 @@
-//! The numbers of boot parameters (Linux/x86 Boot Protocol, "The Real-Mode Kernel Header", and "Zero Page"). A field is
-//! named by its offset from the first byte. Offsets and sizes count bytes.
+//! The numbers of boot parameters (Linux/x86 Boot Protocol, "The Real-Mode Kernel Header", and
+//! "Zero Page"). A field is named by its offset from the first byte. Offsets and sizes count bytes.
 
 /// How many bytes boot parameters take.
 pub const PARAMS_SIZE: usize = 4096;

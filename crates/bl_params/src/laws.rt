@@ -5,14 +5,29 @@ ghost use Rattle.bl_bzimage.specs.Setup.{IsSetup};
 ghost use Rattle.bl_params.specs.BootParams.{boot_params};
 ghost use Rattle.bl_params.specs.BootParamsFacts.{BootParamsFacts, AreTold};
 ghost use Rattle.bl_params.specs.Gdt.{gdt, gdt_part};
-ghost use Rattle.bl_params.specs.Reading.{IsParams};
+ghost use Rattle.bl_params.specs.Reading.{IsParams, HasFirstFault};
+ghost use Rattle.bl_params.specs.ParamsFacts.{ParamsFacts};
+ghost use Rattle.bl_params.specs.declared.fault.ParamFault.{ParamFault};
+ghost use Rattle.bl_params.specs.declared.fault.ParamFault.TheVariants.{NoMemory};
 ghost use Rattle.bl_params.specs.Told.{AreWords, params_of};
 
-/// Boot parameters that were written for the setup of a file are accepted, and tell what they were made of.
+/// Boot parameters that were written for the setup of a file are accepted, and tell what they were
+/// made of.
 pub fn written_is_read()
     ensures { (file : List ℕ) (setup : Setup) (facts : BootParamsFacts) → IsSetup file setup
         → AreTold facts.runs → AreWords facts
         → IsParams (boot_params setup.header facts) (params_of setup facts) }
+{}
+
+/// Bytes tell one thing or have one first fault, and never both. Want of memory is no fault of the
+/// bytes.
+pub fn params_are_determined()
+    ensures one_reading { (bytes : List ℕ) (p q : ParamsFacts)
+        → IsParams bytes p → IsParams bytes q → p ≡ q }
+    ensures one_fault { (bytes : List ℕ) (f g : ParamFault) → ¬ (f ≡ NoMemory) → ¬ (g ≡ NoMemory)
+        → HasFirstFault bytes f → HasFirstFault bytes g → f ≡ g }
+    ensures not_both { (bytes : List ℕ) (params : ParamsFacts) (fault : ParamFault)
+        → ¬ (fault ≡ NoMemory) → IsParams bytes params → HasFirstFault bytes fault → ⊥ }
 {}
 
 /// The descriptors are the first 32 bytes of their frame.

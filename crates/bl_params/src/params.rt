@@ -3,10 +3,12 @@ use bl_map::Region;
 use std::alloc::Allocator;
 use std::marker::Model;
 
-/// What boot parameters tell, by the boot protocol's names (Linux/x86 Boot Protocol, "Details of Header Fields"): where
-/// the kernel, the initrd and the line are, what the kernel's header says of itself, and the memory map.
+/// What boot parameters tell, by the boot protocol's names (Linux/x86 Boot Protocol, "Details of
+/// Header Fields"): where the kernel, the initrd and the line are, what the kernel's header says of
+/// itself, and the memory map.
 ///
-/// Addresses and lengths are in bytes; an initrd of length 0 is none. `xloadflags` has a meaning from version 2.12 on.
+/// Addresses and lengths are in bytes; an initrd of length 0 is none. `xloadflags` has a meaning
+/// from version 2.12 on.
 #[derive(Drop)]
 pub struct Params<A: Allocator> {
     pub version: u16,

@@ -8,7 +8,8 @@ use byteorder::{ByteOrder, LittleEndian};
 #[tactic(auto, unfolding(crate::specs::Fields::over))]
 pub fn put(out: &mut [u8; 4096], at: usize, field: &[u8])
     requires { at + length field.now ≤ 4096 }
-    ensures { (k : ℕ) → slice_index out.new k ≡ over at field.now (λ j. slice_index out.old j) k }
+    ensures { (k : ℕ) → slice_index out.new k
+        ≡ over at field.now (λ j. slice_index out.old j) k }
 {
     out[at..at + field.len()].copy_from_slice(field);
 }
@@ -17,7 +18,8 @@ pub fn put(out: &mut [u8; 4096], at: usize, field: &[u8])
 #[tactic(auto, unfolding(crate::specs::Fields::number_bytes))]
 pub fn put_u16(out: &mut [u8; 4096], at: usize, n: u16)
     requires { at + 2 ≤ 4096 }
-    ensures { (k : ℕ) → slice_index out.new k ≡ over at (number_bytes 2 n) (λ j. slice_index out.old j) k }
+    ensures { (k : ℕ) → slice_index out.new k
+        ≡ over at (number_bytes 2 n) (λ j. slice_index out.old j) k }
 {
     let mut field = [0u8; 2];
     LittleEndian::write_u16(&mut field, n);
@@ -28,7 +30,8 @@ pub fn put_u16(out: &mut [u8; 4096], at: usize, n: u16)
 #[tactic(auto, unfolding(crate::specs::Fields::number_bytes))]
 pub fn put_u32(out: &mut [u8; 4096], at: usize, n: u32)
     requires { at + 4 ≤ 4096 }
-    ensures { (k : ℕ) → slice_index out.new k ≡ over at (number_bytes 4 n) (λ j. slice_index out.old j) k }
+    ensures { (k : ℕ) → slice_index out.new k
+        ≡ over at (number_bytes 4 n) (λ j. slice_index out.old j) k }
 {
     let mut field = [0u8; 4];
     LittleEndian::write_u32(&mut field, n);
@@ -39,7 +42,8 @@ pub fn put_u32(out: &mut [u8; 4096], at: usize, n: u32)
 #[tactic(auto, unfolding(crate::specs::Fields::number_bytes))]
 pub fn put_u64(out: &mut [u8; 4096], at: usize, n: u64)
     requires { at + 8 ≤ 4096 }
-    ensures { (k : ℕ) → slice_index out.new k ≡ over at (number_bytes 8 n) (λ j. slice_index out.old j) k }
+    ensures { (k : ℕ) → slice_index out.new k
+        ≡ over at (number_bytes 8 n) (λ j. slice_index out.old j) k }
 {
     let mut field = [0u8; 8];
     LittleEndian::write_u64(&mut field, n);

@@ -14,8 +14,8 @@ use crate::numbers::{u16_in, u32_in, u64_in};
 use crate::params::Params;
 use std::alloc::Allocator;
 
-/// Reads boot parameters of the form that `write_params` gives, or answers why the bytes have not that form: it accepts
-/// nothing else, and names the least offset at which they break it.
+/// Reads boot parameters of the form that `write_params` gives, or answers why the bytes have not
+/// that form: it accepts nothing else, and names the least offset at which they break it.
 pub fn read_params<A: Allocator + Copy>(alloc: A, bytes: &[u8]) -> Result<Params<A>, ParamFault>
     ensures read { IfOk result (λ params. IsParams bytes.now params) }
     ensures first_fault { IfErr result (λ fault. HasFirstFault bytes.now fault) }

@@ -24,7 +24,8 @@ fn clear(out: &mut [u8])
 /// Writes an entry of the memory map.
 fn put_entry(out: &mut [u8; 4096], at: usize, run: &Region)
     requires { at + 20 ≤ 4096 }
-    ensures { (k : ℕ) → slice_index out.new k ≡ over at (entry_bytes run.now) (λ j. slice_index out.old j) k }
+    ensures { (k : ℕ) → slice_index out.new k
+        ≡ over at (entry_bytes run.now) (λ j. slice_index out.old j) k }
 {
     put_u64(out, at, run.base);
     put_u64(out, at + ENTRY_LENGTH, run.length);
@@ -44,8 +45,9 @@ fn put_entries(out: &mut [u8; 4096], runs: &[Region])
     }
 }
 
-/// Writes boot parameters over whatever stands there: zeros, the setup header from 0x1F1 on as it stands in the file,
-/// the fields that a loader writes, and the memory map (Linux/x86 Boot Protocol, "Zero Page"). Takes no memory.
+/// Writes boot parameters over whatever stands there: zeros, the setup header from 0x1F1 on as it
+/// stands in the file, the fields that a loader writes, and the memory map (Linux/x86 Boot
+/// Protocol, "Zero Page"). Takes no memory.
 pub fn write_params<A: Allocator>(setup: &Setup, facts: &ParamFacts<A>, out: &mut [u8; 4096])
     ensures { out.new ≡ boot_params setup.now.header facts.now }
 {
