@@ -11,7 +11,8 @@ use Rattle.bl_plan.specs.declared.place.Place.{Place}
 use Rattle.bl_plan.specs.declared.role.Role.TheVariants.{Kernel}
 use Rattle.bl_load.specs.Addresses.{address_of}
 use Rattle.bl_load.specs.Value.{EntryValue}
-use Rattle.bl_load.specs.Rows.{information_of, whole_frames}
+use Rattle.bl_map.specs.Room.{whole_frames}
+use Rattle.bl_load.specs.Rows.{information_of}
 
 most_load_base : (b : Bool) → load_base_size b ≤ 16
 most_load_base true = omega arith

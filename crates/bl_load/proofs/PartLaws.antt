@@ -1,5 +1,5 @@
 -- The parts that are handed over are not empty, usable, and apart.
-use Rattle.std.proofs.Common.{◌≡◌, ◌≤◌, ◌+◌, ℕ, Bool, true, false, if◌then◌else◌, List, [], ◌∷◌, ◌++◌, length, get_or, map, replicate, Option, Some, None, IfSome, arith, rules, refl, sym, ap, subst, ◌∙◌, All, AllPairs, slice_range, length-append}
+use Rattle.std.proofs.Common.{◌≡◌, ◌≤◌, ◌+◌, ℕ, Bool, true, false, if◌then◌else◌, List, [], ◌∷◌, length, get_or, map, Option, Some, None, IfSome, arith, rules, refl, sym, ap, subst, All, AllPairs, slice_range, length-append}
 use Rattle.std.proofs.lemmas.Bool.Decides.{nat_tests}
 use Rattle.std.proofs.lemmas.List.{places, length-replicate}
 use Rattle.std.proofs.lemmas.List.Elements.{All-nil, All-cons, All-map}
@@ -24,7 +24,6 @@ use Rattle.bl_plan.specs.declared.row.Row.{Row}
 use Rattle.bl_plan.proofs.PlaceLaws as places_laws
 use Rattle.bl_load.specs.Value.{EntryValue, kernel_file}
 use Rattle.bl_load.specs.Kernel.{KernelFacts, IsKernel, IsLoadedBy, entry_fault, counted_entry}
-use Rattle.bl_load.specs.Blocks.{span_of}
 use Rattle.bl_load.specs.Rows.{rows_of}
 use Rattle.bl_load.specs.PlacingKept.{HasKernelLength, HasLength, IsRowed}
 use Rattle.bl_plan.specs.Order.{place_key, in_order}

@@ -1,42 +1,25 @@
 -- What the rows of an entry have.
-use Rattle.std.proofs.Common.{◌≡◌, ◌<◌, ◌≤◌, ◌+◌, ◌-◌, ◌^◌, ℕ, suc, true, false, List, [], ◌∷◌, ◌++◌, length, get_or, Option, Some, None, arith, refl, sym, ap, subst, ◌∙◌, All, AllPairs, inl, inr, nat_eq, length-append}
-use Rattle.std.specs.Prelude.{◌||◌}
-use Rattle.std.specs.List.{list_any}
-use Rattle.std.proofs.lemmas.List.{get_or_default}
+use Rattle.std.proofs.Common.{◌≡◌, ◌<◌, ◌≤◌, ℕ, suc, List, [], ◌∷◌, length, Option, Some, None, arith, refl, ap, All, nat_eq, length-append}
 use Rattle.std.proofs.lemmas.List.Elements.{All-nil, All-cons, All-head, All-tail, All-append}
-use Rattle.std.proofs.lemmas.Bool.{cond_both, cases_lt}
+use Rattle.std.proofs.lemmas.Bool.{cond_both}
 use Rattle.std.proofs.lemmas.Bool.Decides.{nat_tests}
 use Rattle.std.specs.declared.ops.Range.{Range}
 use Rattle.bl_mem.specs.declared.segment.Segment.{Segment}
-use Rattle.bl_mem.specs.Contents.{holds}
-use Rattle.bl_mem.specs.Memory.{IsIn}
 use Rattle.bl_map.specs.MachineFacts.{MachineFacts}
-use Rattle.bl_elf.specs.Elf.{AreApart}
 use Rattle.bl_mb2head.specs.declared.relocation.Relocation.{Relocation}
 use Rattle.bl_mbi.specs.InformationFacts.{InformationFacts, info_size}
-use Rattle.bl_plan.specs.Permitted.{AllOpen}
-use Rattle.bl_plan.specs.Planned.{put_in}
-use Rattle.bl_plan.specs.Placed.{ArePlaced, IsFirstFault, HasFault, IsChoice, IsRow, IsApart, place_at, range_of}
+use Rattle.bl_plan.specs.Placed.{ArePlaced, IsChoice, IsRow}
 use Rattle.bl_plan.specs.declared.choice.Choice.TheVariants.{Fixed, Lowest, Highest, Preferred}
-use Rattle.bl_plan.specs.declared.fault.PlanFault.TheVariants.{Overlap}
-use Rattle.bl_plan.specs.declared.row.Row.{Row}
 use Rattle.bl_plan.specs.declared.place.Place.{Place}
 use Rattle.bl_plan.specs.declared.role.Role.TheVariants.{Kernel}
-use Rattle.bl_plan.proofs.PutLemmas.{All-put_in}
-use Rattle.bl_plan.proofs.PlaceLaws.{as_many, all_usable, all_apart}
+use Rattle.bl_plan.proofs.PlaceLaws.{as_many}
 use Rattle.bl_load.specs.Value.{EntryValue}
-use Rattle.bl_load.specs.Reading.{Reading, multiboot2}
-use Rattle.bl_load.specs.Kernel.{KernelFacts, IsKernel, holds_at, entry_fault, counted_entry}
+use Rattle.bl_load.specs.Reading.{multiboot2}
+use Rattle.bl_load.specs.Kernel.{KernelFacts}
 use Rattle.bl_load.specs.KernelKept.{AreLoadable}
 use Rattle.bl_load.specs.Blocks.{low_of, high_of, span_of}
-use Rattle.bl_load.specs.Rows.{whole_frames, segment_rows, align_of, block_choice, kernel_rows, information_of, information_row, rows_of}
-use Rattle.bl_load.specs.Parts.{no_segment, entry_at}
-use Rattle.bl_load.specs.Addresses.{address_of}
-use Rattle.bl_load.specs.PlacingKept.{HasKernelLength, IsRowed}
-use Rattle.bl_plan.specs.Order.{place_key, in_order}
-use Rattle.bl_load.specs.HandoffFacts.{Ascends, AreRecords}
-use Rattle.bl_plan.proofs.OrderLemmas.{AreRelated, pairs_related, in_order_all, in_order_pairs, in_order_sorted, length-in_order}
-use Rattle.bl_load.proofs.KernelLaws.{entry_held, held_within, high_below}
+use Rattle.bl_map.specs.Room.{whole_frames}
+use Rattle.bl_load.specs.Rows.{segment_rows, align_of, block_choice, kernel_rows, information_of, information_row, rows_of}
 use Rattle.bl_load.proofs.SortedLemmas.{low_below, high_above_all}
 
 -- ---- each row has some bytes and a choice

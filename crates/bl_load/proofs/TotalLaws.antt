@@ -1,5 +1,5 @@
 -- Each entry has a handover or a first refusal.
-use Rattle.std.proofs.Common.{◌≡◌, ◌≢◌, ℕ, List, [], ◌∷◌, Option, Some, None, ◌⊎◌, inl, inr, arith, sym, refl, ap, subst, AllPairs}
+use Rattle.std.proofs.Common.{◌≡◌, ◌≢◌, ℕ, List, [], ◌∷◌, Option, Some, None, ◌⊎◌, inl, inr, arith, sym, refl, subst, AllPairs}
 use Rattle.bl_mem.specs.declared.segment.Segment.{Segment}
 use Rattle.bl_map.specs.MachineFacts.{MachineFacts}
 use Rattle.bl_elf.specs.Elf.{ElfFacts, AreApart}
@@ -10,7 +10,7 @@ use Rattle.bl_elf.proofs.TotalLaws.{elf_or_fault}
 use Rattle.bl_mb2head.specs.Header.{IsHeader}
 use Rattle.bl_mb2head.specs.declared.header.Header.{Header}
 use Rattle.bl_mb2head.proofs.TotalLaws.{header_or_fault}
-use Rattle.bl_plan.specs.Placed.{ArePlaced, IsFirstFault}
+use Rattle.bl_plan.specs.Placed.{IsFirstFault}
 use Rattle.bl_plan.specs.declared.fault.PlanFault.{PlanFault}
 use Rattle.bl_plan.specs.declared.fault.PlanFault.TheVariants as plan_fault
 use Rattle.bl_plan.specs.declared.protocol.Protocol.{Protocol}
@@ -22,7 +22,7 @@ use Rattle.bl_load.specs.Kernel.{KernelFacts, IsLoadedBy, IsKernel, HasLoadFault
 use Rattle.bl_load.specs.Reading.{Reading, multiboot2, IsRead, HasReadFault}
 use Rattle.bl_load.specs.Rows.{rows_of}
 use Rattle.bl_load.specs.Handover.{Handover}
-use Rattle.bl_load.specs.Parts.{IsHandover, IsRefusal, HasRowFault, handover_of, placing_refusal}
+use Rattle.bl_load.specs.Parts.{IsHandover, IsRefusal, HasRowFault, handover_of}
 use Rattle.bl_load.proofs.DecidedLaws.{placed_or_fault}
 use Rattle.bl_load.proofs.OverlapLemmas.{no_overlap}
 

@@ -14,9 +14,13 @@ pub record HandoffFacts : Type 0 where
 abbrev pub Ascends : Place → Place → Type 0
 Ascends p q = p.address + p.length ≤ q.address
 
--- the places keep this, and so do the records of an image: at most 256, none empty, ascending, below 4 GiB
+-- there are at most so many parts
+abbrev pub most_parts : ℕ
+most_parts = 256
+
+-- the places keep this, and so do the records of an image: they are few, none empty, ascending, below 4 GiB
 pub record AreRecords (places : List Place) : Type 0 where
-  pub few : length places ≤ 256
+  pub few : length places ≤ most_parts
   pub filled : All (λ place. 1 ≤ place.length) places
   pub below : All (λ place. place.address + place.length ≤ 2 ^ 32) places
   pub ascending : AllPairs Ascends places

@@ -1,5 +1,5 @@
 -- A Multiboot2 kernel's file: what is loaded of it, where it is entered, how it may be moved; or its first fault.
-use Rattle.std.specs.Prelude.{◌≡◌, ◌+◌, ◌<◌, ◌≤◌, ◌^◌, ℕ, Bool, if◌then◌else◌, length, All, AllPairs, List, [], ◌∷◌, Option, Some, None, ◌⊎◌}
+use Rattle.std.specs.Prelude.{◌≡◌, ℕ, Bool, if◌then◌else◌, List, [], ◌∷◌, Option, Some, None, ◌⊎◌}
 use Rattle.std.specs.Option.{option_or}
 use Rattle.std.specs.List.{list_any}
 use Rattle.bl_mem.specs.declared.segment.Segment.{Segment}
@@ -7,7 +7,6 @@ use Rattle.bl_elf.specs.Elf.{ElfFacts, IsElf}
 use Rattle.bl_elf.specs.Elf as elf
 use Rattle.bl_elf.specs.Elf.{AreApart}
 use Rattle.bl_mem.specs.Contents.{holds}
-use Rattle.bl_load.specs.Blocks.{span_of}
 use Rattle.bl_elf.specs.declared.fault.ElfFault.{ElfFault}
 use Rattle.bl_elf.specs.declared.fault.ElfFault.TheVariants as elf_fault
 use Rattle.bl_mb2head.specs.Header.{IsHeader}
@@ -18,8 +17,6 @@ use Rattle.bl_mb2head.specs.declared.fault.HeadFault.{HeadFault}
 use Rattle.bl_mb2head.specs.declared.fault.HeadFault.TheVariants as head_fault
 use Rattle.bl_load.specs.declared.refusal.Refusal.{Refusal}
 use Rattle.bl_load.specs.declared.refusal.Refusal.TheVariants as refusal
-use Rattle.bl_load.specs.declared.refusal.PrepFault.{PrepFault}
-use Rattle.bl_load.specs.declared.refusal.PrepFault.TheVariants as prep_fault
 
 -- a kernel: its segments in their order, the address that it is entered at where they lie as linked, how it may be moved
 pub record KernelFacts : Type 0 where

@@ -1,5 +1,5 @@
 -- What an entry hands over on a machine, or its first refusal.
-use Rattle.std.specs.Prelude.{◌≡◌, ℕ, ◌+◌, ◌-◌, List, [], ◌∷◌, map, slice_index_or, ◌⊎◌, Option, Some, None, option_map, codes}
+use Rattle.std.specs.Prelude.{◌≡◌, ℕ, ◌+◌, ◌-◌, List, [], map, slice_index_or, ◌⊎◌, Option, Some, None, codes}
 use Rattle.bl_mem.specs.Contents.{file_part}
 use Rattle.bl_mem.specs.declared.segment.Segment.{Segment}
 use Rattle.bl_map.specs.MachineFacts.{MachineFacts}

@@ -1,9 +1,11 @@
 -- The table of places of a Multiboot2 entry's parts. Own; the kernel's row with a relocatable header tag is
 -- Multiboot2 3.1.13.
-use Rattle.std.specs.Prelude.{ℕ, suc, ◌+◌, ◌*◌, ◌/◌, if◌then◌else◌, ◌==◌, List, [], ◌∷◌, ◌++◌, Option, Some, None, option_map}
+use Rattle.std.specs.Prelude.{ℕ, suc, if◌then◌else◌, ◌==◌, List, [], ◌∷◌, ◌++◌, Option, Some, None, option_map}
 use Rattle.bl_mem.specs.declared.segment.Segment.{Segment}
 use Rattle.bl_map.specs.MachineFacts.{MachineFacts}
 use Rattle.bl_map.specs.Kinds.{low_kib, high_kib}
+use Rattle.bl_map.specs.Limits.{frame_size, first_usable, most_size}
+use Rattle.bl_map.specs.Room.{whole_frames}
 use Rattle.bl_mb2head.specs.declared.relocation.Relocation.{Relocation}
 use Rattle.bl_mbi.specs.InformationFacts.{InformationFacts, info_size}
 use Rattle.bl_plan.specs.declared.row.Row.{Row}
@@ -15,10 +17,6 @@ use Rattle.bl_load.specs.Addresses.{address_of}
 use Rattle.bl_load.specs.Value.{EntryValue}
 use Rattle.bl_load.specs.Reading.{Reading, multiboot2}
 use Rattle.bl_load.specs.Blocks.{low_of, span_of}
-
--- a length in whole frames of 4096 bytes
-abbrev pub whole_frames : ℕ → ℕ
-whole_frames n = (n + 4095) / 4096 * 4096
 
 -- segments at their own addresses, numbered from k on
 abbrev pub segment_rows : ℕ → List Segment → List Row
@@ -54,13 +52,13 @@ information_of facts value relocation places = record {
   load_base = option_map (λ r. address_of Kernel 0 places) relocation;
 }
 
--- the information, in whole frames, at the lowest place from 4096 on; its size does not depend on any place
+-- the information, in whole frames, at the lowest place of all; its size does not depend on any place
 abbrev pub information_row : MachineFacts → EntryValue → Option Relocation → Row
 information_row facts value relocation = record {
   role = Information;
   index = 0;
   length = whole_frames (info_size (information_of facts value relocation []));
-  choice = Lowest 4096 0x1000 0x100000000;
+  choice = Lowest frame_size first_usable most_size;
 }
 
 -- the rows of an entry, by what was read of its kernel

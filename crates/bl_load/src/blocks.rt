@@ -13,17 +13,19 @@ fn load_segment<M: PhysMem, V: ByteView>(memory: &mut M, at: u64, view: &V, segm
     requires copied { IsCopied (length (V.bytes view.now)) segment.now }
     requires inside { at + segment.now.memsz ≤ length (M.bytes memory.old) }
     requires room { HasRoom (M.room memory.old) at (at + segment.now.memsz) }
-    ensures after { M.bytes memory.new ≡ overwrite (M.bytes memory.old) at (contents_of (V.bytes view.now) segment.now) }
+    ensures after { M.bytes memory.new ≡ overwrite (M.bytes memory.old) at
+        (contents_of (V.bytes view.now) segment.now) }
     ensures kept { KeepsRoom (M.room memory.old) (M.room memory.new) }
 {
-    // Memory's size is known to be below 2^64, so that no sum here wraps, only once it was asked for.
+    // Memory's size is known to be below 2^64, so that no sum here wraps, only once it was asked
+    // for.
     let _size = memory.size();
     copy(memory, at, view, segment.offset, segment.filesz);
     memory.zero(at + segment.filesz..at + segment.memsz);
 }
 
-/// Writes the block of these segments at `at`, and says how long it is. Each of its bytes is written once:
-/// zeros go into the gaps and behind the bytes of the file alone.
+/// Writes the block of these segments at `at`, and says how long it is. Each of its bytes is
+/// written once: zeros go into the gaps and behind the bytes of the file alone.
 pub(crate) fn load_block<M: PhysMem, V: ByteView>(
     memory: &mut M,
     at: u64,
@@ -36,10 +38,12 @@ pub(crate) fn load_block<M: PhysMem, V: ByteView>(
     requires inside { at + span_of segments.now ≤ length (M.bytes memory.old) }
     requires room { HasRoom (M.room memory.old) at (at + span_of segments.now) }
     ensures count { result ≡ span_of segments.now }
-    ensures after { M.bytes memory.new ≡ overwrite (M.bytes memory.old) at (block_of (V.bytes view.now) segments.now) }
+    ensures after { M.bytes memory.new ≡ overwrite (M.bytes memory.old) at
+        (block_of (V.bytes view.now) segments.now) }
     ensures kept { KeepsRoom (M.room memory.old) (M.room memory.new) }
 {
-    // Memory's size is known to be below 2^64, so that no sum here wraps, only once it was asked for.
+    // Memory's size is known to be below 2^64, so that no sum here wraps, only once it was asked
+    // for.
     let _size = memory.size();
     let low = segments[0].address;
     let mut done = 0u64;

@@ -28,11 +28,14 @@ fn kernel_content<A: Allocator + Copy, V: ByteView>(
     place: &Place,
 ) -> Result<Content<A>, AllocError>
     requires file { 1 ≤ length files.now }
-    requires loadable { AreLoadable (file_text (map V.bytes files.now) 0) (kernel_by kernel.now).segments }
-    requires length { HasKernelLength (kernel_by kernel.now).segments kernel.now.relocation place.now.index place.now.length }
+    requires loadable { AreLoadable (file_text (map V.bytes files.now) 0)
+        (kernel_by kernel.now).segments }
+    requires length { HasKernelLength (kernel_by kernel.now).segments kernel.now.relocation
+        place.now.index place.now.length }
     requires small { place.now.length ≤ 2 ^ 32 }
     ensures content { IfOk result (λ content. content_by (map V.bytes files.now) content
-        ≡ parts.kernel_content (file_text (map V.bytes files.now) 0) (kernel_by kernel.now).segments kernel.now.relocation place.now.index) }
+        ≡ parts.kernel_content (file_text (map V.bytes files.now) 0)
+        (kernel_by kernel.now).segments kernel.now.relocation place.now.index) }
     ensures there { IfOk result (λ content. IsThere (lengths_of (map V.bytes files.now)) content) }
     ensures short { IfOk result (λ content. content_length content ≤ place.now.length) }
     ensures lean { IfOk result (StaysInFiles Role.Kernel) }

@@ -6,8 +6,8 @@ use std::alloc::Allocator;
 use std::marker::Model;
 use std::ops::Range;
 
-/// What a kernel is handed: the protocol, the registers, and the places of the parts in address order.
-/// There are at most 256; none is empty, none meets another, and none ends above 4 GiB.
+/// What a kernel is handed: the protocol, the registers, and the places of the parts in address
+/// order. There are at most 256; none is empty, none meets another, and none ends above 4 GiB.
 #[derive(Drop)]
 pub struct Handoff<A: Allocator> {
     pub(crate) protocol: Protocol,

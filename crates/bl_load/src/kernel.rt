@@ -94,7 +94,8 @@ fn read_executable<A: Allocator + Copy, V: ByteView>(
     file: &V,
     segment: Option<Segment>,
 ) -> Result<Executable<A>, PrepFault>
-    ensures loaded { IfOk result (λ executable. IsLoadedBy (V.bytes file.now) segment (executable_facts executable)) }
+    ensures loaded { IfOk result (λ executable. IsLoadedBy (V.bytes file.now) segment
+        (executable_facts executable)) }
     ensures fault { IfErr result (λ fault. IsLoadFault (V.bytes file.now) segment fault) }
 {
     match segment {
@@ -135,10 +136,12 @@ pub fn read_kernel<A: Allocator + Copy, V: ByteView>(
     file: &V,
 ) -> Result<Kernel<A>, PrepFault>
     ensures kernel { IfOk result (λ kernel. IsKernel (V.bytes file.now) (kernel_by kernel)) }
-    ensures loadable { IfOk result (λ kernel. AreLoadable (V.bytes file.now) (kernel_by kernel).segments) }
+    ensures loadable { IfOk result (λ kernel. AreLoadable (V.bytes file.now)
+        (kernel_by kernel).segments) }
     ensures fault { IfErr result (λ fault. IsKernelFault (V.bytes file.now) fault) }
 {
-    // The file's length, and so that of the tag's segment, is known to be below 2^64 only once it was asked for.
+    // The file's length, and so that of the tag's segment, is known to be below 2^64 only once it
+    // was asked for.
     let _len = file.len();
     let header = find_header(file)?;
     let executable = read_executable(alloc, file, header.segment)?;

@@ -19,7 +19,7 @@ mod registers;
 mod rows;
 
 pub use bl_plan::Protocol;
-pub use entry::{Entry, Module};
+pub use entry::{Entry, MOST_LINE, Module};
 pub use handoff::Handoff;
 pub use laws::{
     each_entry_has_an_answer, handovers_are_determined, handovers_are_legal,

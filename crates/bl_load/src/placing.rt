@@ -44,13 +44,17 @@ fn fault_of(fault: PlanFault) -> PrepFault
     }
 }
 
+/// What `eax` tells a kernel: it was loaded by a boot loader of Multiboot2 (3.3 "I386 machine
+/// state").
+const BOOTLOADER_MAGIC: u32 = 0x36D7_6289;
+
 /// The registers that a Multiboot2 kernel begins with.
 fn multiboot2_registers(entry: u32, information: u32) -> Registers
     ensures { result ≡ state.multiboot2_registers entry information }
 {
     Registers {
         eip: entry,
-        eax: 0x36D7_6289,
+        eax: BOOTLOADER_MAGIC,
         ebx: information,
         ecx: 0,
         edx: 0,
@@ -76,7 +80,8 @@ fn multiboot2_registers(entry: u32, information: u32) -> Registers
 fn entry_at<A: Allocator>(kernel: &Kernel<A>, base: u64) -> u64
     requires above { blocks.low_of (kernel_by kernel.now).segments ≤ kernel.now.entry }
     requires below { kernel.now.entry + base < 2 ^ 64 }
-    ensures { result ≡ parts.entry_at kernel.now.entry (kernel_by kernel.now).segments kernel.now.relocation base }
+    ensures { result ≡ parts.entry_at kernel.now.entry (kernel_by kernel.now).segments
+        kernel.now.relocation base }
 {
     match kernel.relocation {
         None => kernel.entry,

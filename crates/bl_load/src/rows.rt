@@ -8,7 +8,7 @@ ghost use Rattle.bl_load.specs.Reading.{multiboot2};
 ghost use Rattle.bl_load.specs.KernelKept.{AreLoadable, kernel_by};
 
 use crate::kernel::Kernel;
-use bl_map::Machine;
+use bl_map::{FIRST_USABLE, FRAME, MOST_SIZE, Machine, whole_frames};
 use bl_mb2head::Relocation;
 use bl_mem::Segment;
 use bl_plan::{Choice, Role, Row};
@@ -80,7 +80,8 @@ fn push_segment_rows<A: Allocator>(
     segments: &[Segment],
 ) -> Result<(), AllocError>
     requires { length segments.now ≤ 128 }
-    ensures { IfOk result (λ _. rows.new.items ≡ rows.old.items ++ table.segment_rows 0 segments.now) }
+    ensures { IfOk result (λ _. rows.new.items ≡ rows.old.items ++ table.segment_rows 0
+        segments.now) }
 {
     for (index, segment) in segments.iter().enumerate() {
         rows.push(Row {
@@ -100,7 +101,8 @@ fn push_kernel_rows<A: Allocator, B: Allocator>(
 ) -> Result<(), AllocError>
     requires few { length (kernel_by kernel.now).segments ≤ 128 }
     requires span { blocks.span_of (kernel_by kernel.now).segments < 2 ^ 64 }
-    ensures { IfOk result (λ _. rows.new.items ≡ rows.old.items ++ table.kernel_rows (kernel_by kernel.now).segments kernel.now.relocation) }
+    ensures { IfOk result (λ _. rows.new.items ≡ rows.old.items ++ table.kernel_rows
+        (kernel_by kernel.now).segments kernel.now.relocation) }
 {
     let segments = kernel.executable.segments();
     match &kernel.relocation {
@@ -139,11 +141,11 @@ fn information_row<A: Allocator>(machine: &Machine<A>, line: &[u8], kernel: &Ker
     Row {
         role: Role::Information,
         index: 0,
-        length: (length + 4095) / 4096 * 4096,
+        length: whole_frames(length),
         choice: Choice::Lowest {
-            align: 4096,
-            low: 0x1000,
-            high: 0x1_0000_0000,
+            align: FRAME,
+            low: FIRST_USABLE,
+            high: MOST_SIZE,
         },
     }
 }

@@ -6,7 +6,8 @@ use Rattle.bl_plan.specs.declared.role.Role.{Role}
 use Rattle.bl_load.specs.Value.{multiboot2_value}
 use Rattle.bl_load.specs.Reading.{multiboot2}
 use Rattle.bl_load.specs.KernelKept.{kernel_by}
-use Rattle.bl_load.specs.Rows.{information_of, whole_frames}
+use Rattle.bl_map.specs.Room.{whole_frames}
+use Rattle.bl_load.specs.Rows.{information_of}
 use Rattle.bl_load.specs.PlacingKept.{HasLength}
 use Rattle.bl_load.proofs.InformationLemmas.{information_short}
 use Rattle.bl_load.proofs.contents.content_at.Goals as goal

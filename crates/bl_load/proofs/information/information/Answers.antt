@@ -1,4 +1,4 @@
-use Rattle.std.proofs.Common.{◌<◌, ◌^◌, ℕ, None, length, arith, sym, ◌∙◌, All, subst}
+use Rattle.std.proofs.Common.{◌<◌, ◌^◌, ℕ, None, length, arith, sym, ◌∙◌, subst}
 use Rattle.std.proofs.lemmas.List.Elements.{All-from_get_or}
 use Rattle.std.specs.Prelude.{map, is_some}
 use Rattle.bl_mbi.specs.InformationFacts.{IsText, ModuleInfo}

@@ -1,11 +1,10 @@
-use Rattle.std.proofs.Common.{◌≡◌, ◌≤◌, ◌<◌, ◌+◌, ◌^◌, List, [], All, length, map, arith, ap, subst, sym, ◌∙◌}
+use Rattle.std.proofs.Common.{◌≡◌, ◌≤◌, ◌<◌, ◌+◌, ◌^◌, List, [], All, map, arith, ap, subst, sym, ◌∙◌}
 use Rattle.bl_plan.specs.declared.place.Place.{Place}
 use Rattle.bl_plan.specs.declared.row.Row.{Row}
 use Rattle.bl_plan.specs.Placed.{ArePlaced, IsRow, IsPlacingFault}
 use Rattle.bl_load.specs.KernelKept.{kernel_by}
 use Rattle.bl_plan.specs.Order.{in_order, place_key}
-use Rattle.bl_load.specs.Parts.{entry_at}
-use Rattle.bl_load.specs.Value.{EntryValue, multiboot2_value}
+use Rattle.bl_load.specs.Value.{multiboot2_value}
 use Rattle.bl_load.specs.Reading.{multiboot2}
 use Rattle.bl_load.specs.Place.{place_of}
 use Rattle.bl_load.specs.Planned.{file_text}
@@ -14,7 +13,7 @@ use Rattle.bl_load.specs.PlacingKept.{IsRowed}
 use Rattle.bl_load.specs.Rows.{rows_of}
 use Rattle.bl_plan.proofs.OrderLemmas.{in_order_all}
 use Rattle.bl_load.proofs.PlacingLemmas.{refused_place, not_overlap}
-use Rattle.bl_load.proofs.RowLemmas.{rows_are_rows, few_places}
+use Rattle.bl_load.proofs.RowLemmas.{rows_are_rows}
 use Rattle.bl_load.proofs.RowPlaceLemmas.{each_rowed, are_inside, records}
 use Rattle.bl_load.proofs.EntryLemmas.{entry_small}
 use Rattle.bl_load.proofs.placing.plan_parts.Goals as goal

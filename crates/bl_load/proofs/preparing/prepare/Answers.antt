@@ -2,7 +2,7 @@ use Rattle.std.proofs.Common.{◌≤◌, ◌≡◌, ℕ, List, [], length, map, 
 use Rattle.std.proofs.lemmas.Result.{IfOk-weaker, IfErr-weaker, err_from_is_err_and}
 use Rattle.bl_load.specs.KernelKept.{kernel_by, AreLoadable, IsKernelFault}
 use Rattle.bl_load.specs.Kernel.{IsKernel}
-use Rattle.bl_load.specs.Planned.{file_text, handover_by}
+use Rattle.bl_load.specs.Planned.{handover_by}
 use Rattle.bl_load.specs.Value.{value_of, multiboot2_value}
 use Rattle.bl_load.proofs.LineLemmas.{sound_short}
 use Rattle.bl_load.proofs.PrepareLemmas.{some_file, first_text, prepared, refused_kernel, refused_places, refused_line}
