@@ -1,6 +1,6 @@
 -- Where the kernel is entered.
-use Rattle.std.proofs.Common.{◌≡◌, ◌<◌, ◌≤◌, ◌+◌, ◌^◌, ℕ, suc, true, false, List, [], ◌∷◌, ◌++◌, Option, Some, None, arith, refl, sym, ap, subst, All}
-use Rattle.std.specs.Prelude.{◌||◌}
+use Rattle.std.proofs.Common.{◌≡◌, ◌<◌, ◌≤◌, ◌+◌, ◌^◌, ℕ, suc, true, false, List, [], ◌∷◌, ◌++◌, Option, Some, None, arith, refl, sym, ap, subst, All, nat_eq}
+use Rattle.std.specs.Prelude.{◌||◌, ◌&&◌}
 use Rattle.std.specs.List.{list_any}
 use Rattle.std.proofs.lemmas.List.Elements.{All-nil, All-cons, All-head, All-tail}
 use Rattle.std.specs.declared.ops.Range.{Range}
@@ -9,14 +9,21 @@ use Rattle.bl_mem.specs.Contents.{holds}
 use Rattle.bl_map.specs.MachineFacts.{MachineFacts}
 use Rattle.bl_mb2head.specs.declared.relocation.Relocation.{Relocation}
 use Rattle.bl_plan.specs.Planned.{put_in}
-use Rattle.bl_plan.specs.Placed.{ArePlaced, range_of}
+use Rattle.std.proofs.lemmas.Bool.{cond_both}
+use Rattle.bl_plan.specs.Placed.{ArePlaced, place_at, range_of}
 use Rattle.bl_plan.specs.declared.row.Row.{Row}
 use Rattle.bl_plan.specs.declared.place.Place.{Place}
+use Rattle.bl_plan.specs.declared.role.Role.TheVariants.{Kernel}
+use Rattle.bl_plan.specs.declared.role.Role.{Role}
+use Rattle.bl_plan.specs.Roles.{role_number}
+use Rattle.bl_load.specs.Value.{EntryValue}
+use Rattle.bl_load.specs.Reading.{multiboot2}
 use Rattle.bl_load.specs.Kernel.{KernelFacts, IsKernel, holds_at, entry_fault, counted_entry}
 use Rattle.bl_load.specs.KernelKept.{AreLoadable}
 use Rattle.bl_load.specs.Blocks.{low_of, high_of, span_of}
-use Rattle.bl_load.specs.Rows.{segment_rows, kernel_rows, information_row, rows_of}
-use Rattle.bl_load.specs.Parts.{base_of, information_at, entry_at}
+use Rattle.bl_load.specs.Rows.{segment_rows, block_choice, kernel_rows, information_row, rows_of}
+use Rattle.bl_load.specs.Parts.{entry_at}
+use Rattle.bl_load.specs.Addresses.{address_of}
 use Rattle.bl_load.proofs.KernelLaws.{entry_held, held_within, high_below}
 use Rattle.bl_load.proofs.SortedLemmas.{low_below, high_above_all}
 
@@ -55,36 +62,40 @@ segments_below facts taken k n (s ∷ segments) rest (p ∷ places) placed below
 abbrev EndsUpTo : ℕ → Place → Type 0
 EndsUpTo n p = p.address + p.length ≤ n
 
--- the first and the last stand no higher than any part may end
-pub small_base : (places : List Place) (n : ℕ) → All (EndsUpTo n) places → base_of places ≤ n
-small_base [] n h = omega arith
-small_base (p ∷ places) n h = let first = All-head (EndsUpTo n) p places h in omega arith
+-- each stands no higher than any part may end
+pub small_address : (role : Role) (i : ℕ) (places : List Place) (n : ℕ) → All (EndsUpTo n) places → address_of role i places ≤ n
+small_address role i [] n h = omega arith
+small_address role i (p ∷ places) n h =
+    let first = All-head (EndsUpTo n) p places h in
+    cond_both (nat_eq (role_number p.role) (role_number role) && nat_eq p.index i) p.address (address_of role i places) (λ a. a ≤ n) (λ _. omega arith)
+    (λ _. small_address role i places n (All-tail (EndsUpTo n) p places h))
 
-pub small_last : (places : List Place) (n : ℕ) → All (EndsUpTo n) places → information_at places ≤ n
-small_last [] n h = omega arith
-small_last (p ∷ []) n h = let first = All-head (EndsUpTo n) p [] h in omega arith
-small_last (p ∷ q ∷ places) n h = small_last (q ∷ places) n (All-tail (EndsUpTo n) p (q ∷ places) h)
+-- the block is the kernel's only part
+block_address : (r : Relocation) (segments : List Segment) (p : Place) (places : List Place)
+    → p ≡ place_at (record { role = Kernel; index = 0; length = span_of segments; choice = block_choice r (low_of segments) }) p.address → address_of Kernel 0 (p ∷ places) ≡ p.address
+block_address r segments p places is = ap (λ (q : Place). address_of Kernel 0 (q ∷ places)) is
 
-entry_small_by : (facts : MachineFacts) (file line : List ℕ) (segments : List Segment) (relocation : Option Relocation) (entry : ℕ) (places : List Place) → AreLoadable file segments → low_of segments ≤ entry → entry < high_of segments
-    → ArePlaced facts [] (kernel_rows segments relocation ++ information_row facts line relocation ∷ []) places → All (λ p. p.address + p.length ≤ 0xFFFFF000) places
-    → (entry + base_of places < 2 ^ 64) × (entry_at entry segments relocation (base_of places) < 2 ^ 32)
-entry_small_by facts file line segments None entry places loadable above under placed below =
-    let high = high_below segments 0xFFFFF000 (segments_below facts [] 0 0xFFFFF000 segments (information_row facts line None ∷ []) places placed below) in
-    let base = small_base places 0xFFFFF000 below in
+entry_small_by : (facts : MachineFacts) (file : List ℕ) (value : EntryValue) (segments : List Segment) (relocation : Option Relocation) (entry : ℕ) (places : List Place) → AreLoadable file segments → low_of segments ≤ entry → entry < high_of segments
+    → ArePlaced facts [] (kernel_rows segments relocation ++ information_row facts value relocation ∷ []) places → All (λ p. p.address + p.length ≤ 0xFFFFF000) places
+    → (entry + address_of Kernel 0 places < 2 ^ 64) × (entry_at entry segments relocation (address_of Kernel 0 places) < 2 ^ 32)
+entry_small_by facts file value segments None entry places loadable above under placed below =
+    let high = high_below segments 0xFFFFF000 (segments_below facts [] 0 0xFFFFF000 segments (information_row facts value None ∷ []) places placed below) in
+    let base = small_address Kernel 0 places 0xFFFFF000 below in
     (omega arith, omega arith)
-entry_small_by facts file line segments (Some r) entry [] loadable above under placed below = absurd placed
-entry_small_by facts file line segments (Some r) entry (p ∷ places) loadable above under placed below =
+entry_small_by facts file value segments (Some r) entry [] loadable above under placed below = absurd placed
+entry_small_by facts file value segments (Some r) entry (p ∷ places) loadable above under placed below =
     let here = All-head (λ (q : Place). q.address + q.length ≤ 0xFFFFF000) p places below in
     let size : p.length ≡ span_of segments = ap (λ (q : Place). q.length) placed.1 in
+    let at : address_of Kernel 0 (p ∷ places) ≡ p.address = block_address r segments p places placed.1 in
     let first = low_below segments 0 (record { offset = 0; address = 0; filesz = 0; memsz = 0 }) loadable.some in
     let small = loadable.low 0 (record { offset = 0; address = 0; filesz = 0; memsz = 0 }) loadable.some in
     (omega arith, omega arith)
 
 -- the entry lies in the block, and its sums stay small
-pub entry_small : (file : List ℕ) (facts : MachineFacts) (line : List ℕ) (kernel : KernelFacts) (places : List Place) → IsKernel file kernel → AreLoadable file kernel.segments → ArePlaced facts [] (rows_of facts line kernel) places
+pub entry_small : (file : List ℕ) (facts : MachineFacts) (value : EntryValue) (kernel : KernelFacts) (places : List Place) → IsKernel file kernel → AreLoadable file kernel.segments → ArePlaced facts [] (rows_of facts value (multiboot2 kernel)) places
     → All (λ p. p.address + p.length ≤ 0xFFFFF000) places
-    → (low_of kernel.segments ≤ kernel.entry) × (kernel.entry + base_of places < 2 ^ 64) × (entry_at kernel.entry kernel.segments kernel.relocation (base_of places) < 2 ^ 32)
-entry_small file facts line kernel places is loadable placed below =
+    → (low_of kernel.segments ≤ kernel.entry) × (kernel.entry + address_of Kernel 0 places < 2 ^ 64) × (entry_at kernel.entry kernel.segments kernel.relocation (address_of Kernel 0 places) < 2 ^ 32)
+entry_small file facts value kernel places is loadable placed below =
     let within = entry_within file kernel is in
-    let small = entry_small_by facts file line kernel.segments kernel.relocation kernel.entry places loadable within.0 within.1 placed below in
+    let small = entry_small_by facts file value kernel.segments kernel.relocation kernel.entry places loadable within.0 within.1 placed below in
     (within.0, small.0, small.1)

@@ -14,11 +14,13 @@ use Rattle.bl_mb2head.proofs.HeaderLaws as headers
 use Rattle.bl_plan.specs.Placed.{ArePlaced}
 use Rattle.bl_plan.proofs.PlaceLaws as places
 use Rattle.bl_load.specs.declared.refusal.Refusal.{Refusal}
-use Rattle.bl_load.specs.Value.{EntryValue, kernel_file, form_fault, line_fault}
+use Rattle.bl_load.specs.Value.{EntryValue, kernel_file, form_fault, lines_fault, lines_of}
+use Rattle.bl_load.specs.Reading.{Reading, multiboot2, IsRead, HasReadFault}
 use Rattle.bl_load.specs.Kernel.{KernelFacts, IsLoadedBy, IsKernel, HasLoadFault, HasKernelFault, entry_fault, counted_entry, head_refusal, elf_refusal}
 use Rattle.bl_load.specs.Rows.{rows_of}
 use Rattle.bl_load.specs.Handover.{Handover}
-use Rattle.bl_load.specs.Parts.{IsHandover, IsRefusal, HasPlaceFault, handover_of, placing_refusal}
+use Rattle.bl_load.specs.Parts.{IsHandover, IsRefusal, HasRowFault, HasPlaceFault, Then, handover_of, placing_refusal}
+use Rattle.bl_plan.specs.declared.row.Row.{Row}
 
 -- ---- a kernel's file
 
@@ -104,25 +106,31 @@ kernel_not_fault file kernel r is (inr (inl (h, is_h, a))) = sound_no_fault file
 kernel_not_fault file kernel r is (inr (inr (h, f, is_h, f_is, a))) =
     let bad : None ≡ Some r = sym is.sound ∙ same_entry_fault file is.header h is.facts f is.is_header is_h is.loaded f_is ∙ a in absurd cc
 
+-- ---- what a protocol adds: its reading
+
+one_reading : (value : EntryValue) (a b : Reading) → IsRead value a → IsRead value b → a ≡ b
+one_reading value (multiboot2 k) (multiboot2 l) a b = ap multiboot2 (one_kernel (kernel_file value) k l a.1 b.1)
+
+one_read_fault : (value : EntryValue) (r s : Refusal) → HasReadFault value r → HasReadFault value s → r ≡ s
+one_read_fault value r s a b = one_kernel_fault (kernel_file value) r s a.1 b.1
+
+read_not_fault : (value : EntryValue) (reading : Reading) (r : Refusal) → IsRead value reading → HasReadFault value r → ⊥
+read_not_fault value (multiboot2 kernel) r is fault = kernel_not_fault (kernel_file value) kernel r is.1 fault.1
+
 -- ---- an entry
 
 -- equal facts and equal values hand over the same
 pub one_handover : (facts : MachineFacts) (value : EntryValue) (h k : Handover) → IsHandover facts value h → IsHandover facts value k → h ≡ k
 one_handover facts value h k a b =
-    let file = kernel_file value in
-    let kernel : b.kernel ≡ a.kernel = one_kernel file b.kernel a.kernel b.is_kernel a.is_kernel in
-    let moved : ArePlaced facts [] (rows_of facts value.line a.kernel) b.places = subst (λ (x : KernelFacts). ArePlaced facts [] (rows_of facts value.line x) b.places) kernel b.placed in
-    let same : a.places ≡ b.places = places.one_list facts [] (rows_of facts value.line a.kernel) a.places b.places a.placed moved in
-    a.is ∙ ap (handover_of facts value.line file a.kernel) same ∙ ap (λ (x : KernelFacts). handover_of facts value.line file x b.places) (sym kernel) ∙ sym b.is
+    let reading : b.reading ≡ a.reading = one_reading value b.reading a.reading b.read a.read in
+    let moved : ArePlaced facts [] (rows_of facts value a.reading) b.places = subst (λ (x : Reading). ArePlaced facts [] (rows_of facts value x) b.places) reading b.placed in
+    let same : a.places ≡ b.places = places.one_list facts [] (rows_of facts value a.reading) a.places b.places a.placed moved in
+    a.is ∙ ap (handover_of facts value a.reading) same ∙ ap (λ (x : Reading). handover_of facts value x b.places) (sym reading) ∙ sym b.is
 
--- the rows of a kernel are refused for one fault
-one_place_fault : (facts : MachineFacts) (line : List ℕ) (kernel : KernelFacts) (r s : Refusal) → HasPlaceFault facts line kernel r → HasPlaceFault facts line kernel s → r ≡ s
-one_place_fault facts line kernel r s (f, a, f_is) (g, b, g_is) =
-    same_Some r s (sym f_is ∙ ap placing_refusal (places.one_fault facts [] (rows_of facts line kernel) f g a b) ∙ g_is)
-
--- a check that refuses, or what comes behind it
-abbrev Then : Option Refusal → (Refusal → Type 0) → Refusal → Type 0
-Then first rest r = (first ≡ Some r) ⊎ ((first ≡ None) × rest r)
+-- rows are refused for one fault
+one_row_fault : (facts : MachineFacts) (rows : List Row) (r s : Refusal) → HasRowFault facts rows r → HasRowFault facts rows s → r ≡ s
+one_row_fault facts rows r s (f, a, f_is) (g, b, g_is) =
+    same_Some r s (sym f_is ∙ ap placing_refusal (places.one_fault facts [] rows f g a b) ∙ g_is)
 
 one_then : (first : Option Refusal) (rest : Refusal → Type 0) (r s : Refusal) → (rest r → rest s → r ≡ s) → Then first rest r → Then first rest s → r ≡ s
 one_then first rest r s one (inl a) (inl b) = same_Some r s (sym a ∙ b)
@@ -130,41 +138,29 @@ one_then first rest r s one (inl a) (inr b) = let bad : Some r ≡ None = sym a 
 one_then first rest r s one (inr a) (inl b) = let bad : Some s ≡ None = sym b ∙ a.0 in absurd cc
 one_then first rest r s one (inr a) (inr b) = one a.1 b.1
 
--- the kernel is refused, or one of its rows
-abbrev IsLateRefusal : MachineFacts → List ℕ → List ℕ → Refusal → Type 0
-IsLateRefusal facts line file r = HasKernelFault file r ⊎ ((kernel : KernelFacts) × IsKernel file kernel × HasPlaceFault facts line kernel r)
+-- the kernel is refused, or one of the rows
+abbrev IsLateRefusal : MachineFacts → EntryValue → Refusal → Type 0
+IsLateRefusal facts value r = HasReadFault value r ⊎ HasPlaceFault facts value r
 
-one_late : (facts : MachineFacts) (line file : List ℕ) (r s : Refusal) → IsLateRefusal facts line file r → IsLateRefusal facts line file s → r ≡ s
-one_late facts line file r s (inl a) (inl b) = one_kernel_fault file r s a b
-one_late facts line file r s (inl a) (inr (k, is, b)) = absurd (kernel_not_fault file k r is a)
-one_late facts line file r s (inr (k, is, a)) (inl b) = absurd (kernel_not_fault file k s is b)
-one_late facts line file r s (inr (k, is_k, a)) (inr (l, is_l, b)) =
-    one_place_fault facts line k r s a (subst (λ (x : KernelFacts). HasPlaceFault facts line x s) (one_kernel file l k is_l is_k) b)
-
--- a refusal, check after check
-abbrev IsInTurn : MachineFacts → EntryValue → Refusal → Type 0
-IsInTurn facts value r = Then (form_fault value.protocol value.module_lines) (Then (line_fault value.line) (IsLateRefusal facts value.line (kernel_file value))) r
-
-in_turn : (facts : MachineFacts) (value : EntryValue) (r : Refusal) → IsRefusal facts value r → IsInTurn facts value r
-in_turn facts value r (inl form) = inl form
-in_turn facts value r (inr (inl (form, line))) = inr (form, inl line)
-in_turn facts value r (inr (inr (inl (form, line, kernel)))) = inr (form, inr (line, inl kernel))
-in_turn facts value r (inr (inr (inr (form, line, place)))) = inr (form, inr (line, inr place))
+one_late : (facts : MachineFacts) (value : EntryValue) (r s : Refusal) → IsLateRefusal facts value r → IsLateRefusal facts value s → r ≡ s
+one_late facts value r s (inl a) (inl b) = one_read_fault value r s a b
+one_late facts value r s (inl a) (inr (k, is, b)) = absurd (read_not_fault value k r is a)
+one_late facts value r s (inr (k, is, a)) (inl b) = absurd (read_not_fault value k s is b)
+one_late facts value r s (inr (k, is_k, a)) (inr (l, is_l, b)) =
+    one_row_fault facts (rows_of facts value k) r s a (subst (λ (x : Reading). HasRowFault facts (rows_of facts value x) s) (one_reading value l k is_l is_k) b)
 
 -- or have one first refusal
 pub one_refusal : (facts : MachineFacts) (value : EntryValue) (r s : Refusal) → IsRefusal facts value r → IsRefusal facts value s → r ≡ s
 one_refusal facts value r s a b =
-    let file = kernel_file value in
-    one_then (form_fault value.protocol value.module_lines) (Then (line_fault value.line) (IsLateRefusal facts value.line file)) r s
-    (one_then (line_fault value.line) (IsLateRefusal facts value.line file) r s (one_late facts value.line file r s))
-    (in_turn facts value r a) (in_turn facts value s b)
+    one_then (form_fault value.protocol value.module_lines) (Then (lines_fault (lines_of value)) (IsLateRefusal facts value)) r s
+    (one_then (lines_fault (lines_of value)) (IsLateRefusal facts value) r s (one_late facts value r s)) a b
 
 -- and never both
 pub not_both : (facts : MachineFacts) (value : EntryValue) (h : Handover) (r : Refusal) → IsHandover facts value h → IsRefusal facts value r → ⊥
 not_both facts value h r is (inl form) = let bad : None ≡ Some r = sym is.form ∙ form in absurd cc
-not_both facts value h r is (inr (inl (form, line))) = let bad : None ≡ Some r = sym is.line ∙ line in absurd cc
-not_both facts value h r is (inr (inr (inl (form, line, kernel)))) = kernel_not_fault (kernel_file value) is.kernel r is.is_kernel kernel
-not_both facts value h r is (inr (inr (inr (form, line, (k, is_k, (f, a, f_is)))))) =
-    let placed : ArePlaced facts [] (rows_of facts value.line k) is.places =
-    subst (λ (x : KernelFacts). ArePlaced facts [] (rows_of facts value.line x) is.places) (one_kernel (kernel_file value) is.kernel k is.is_kernel is_k) is.placed in
-    places.not_both facts [] (rows_of facts value.line k) is.places f placed a
+not_both facts value h r is (inr (form, inl lines)) = let bad : None ≡ Some r = sym is.lines ∙ lines in absurd cc
+not_both facts value h r is (inr (form, inr (lines, inl read))) = read_not_fault value is.reading r is.read read
+not_both facts value h r is (inr (form, inr (lines, inr (k, is_k, (f, a, f_is))))) =
+    let placed : ArePlaced facts [] (rows_of facts value k) is.places =
+    subst (λ (x : Reading). ArePlaced facts [] (rows_of facts value x) is.places) (one_reading value is.reading k is.read is_k) is.placed in
+    places.not_both facts [] (rows_of facts value k) is.places f placed a

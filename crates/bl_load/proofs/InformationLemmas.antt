@@ -7,6 +7,10 @@ use Rattle.bl_mbi.specs.InformationFacts.{info_size}
 use Rattle.bl_mbi.specs.Size.{size_of, load_base_size}
 use Rattle.bl_mbi.specs.Spelling.{spelling}
 use Rattle.bl_mbi.proofs.Sizes.{length-spelling}
+use Rattle.bl_plan.specs.declared.place.Place.{Place}
+use Rattle.bl_plan.specs.declared.role.Role.TheVariants.{Kernel}
+use Rattle.bl_load.specs.Addresses.{address_of}
+use Rattle.bl_load.specs.Value.{EntryValue}
 use Rattle.bl_map.specs.Room.{whole_frames}
 use Rattle.bl_load.specs.Rows.{information_of}
 
@@ -23,13 +27,15 @@ same_given (Some r) base other = refl
 same_given None base other = refl
 
 -- its size does not depend on where the kernel stands
-pub same_size : (facts : MachineFacts) (line : List ℕ) (relocation : Option Relocation) (base other : ℕ) → info_size (information_of facts line relocation base) ≡ info_size (information_of facts line relocation other)
-same_size facts line relocation base other = ap (λ (b : Bool). size_of (length line) [] (length facts.runs) None None b) (same_given relocation base other)
+pub same_size : (facts : MachineFacts) (value : EntryValue) (relocation : Option Relocation) (places others : List Place)
+    → info_size (information_of facts value relocation places) ≡ info_size (information_of facts value relocation others)
+same_size facts value relocation places others =
+    ap (λ (b : Bool). size_of (length value.line) [] (length facts.runs) None None b) (same_given relocation (address_of Kernel 0 places) (address_of Kernel 0 others))
 
 -- it is no longer than its place
-pub information_short : (facts : MachineFacts) (line : List ℕ) (relocation : Option Relocation) (base count : ℕ) → count ≡ whole_frames (info_size (information_of facts line relocation 0))
-    → length (spelling (codes "bootcore") (information_of facts line relocation base)) ≤ count
-information_short facts line relocation base count is =
-    let e = length-spelling (information_of facts line relocation base) in
-    let f = same_size facts line relocation base 0 in
+pub information_short : (facts : MachineFacts) (value : EntryValue) (relocation : Option Relocation) (places : List Place) (count : ℕ) → count ≡ whole_frames (info_size (information_of facts value relocation []))
+    → length (spelling (codes "bootcore") (information_of facts value relocation places)) ≤ count
+information_short facts value relocation places count is =
+    let e = length-spelling (information_of facts value relocation places) in
+    let f = same_size facts value relocation places [] in
     omega (arith, e, f, is)

@@ -88,13 +88,13 @@ placed_allowed facts rows places placed i row place is_row is_place =
 -- so what is handed over is legal
 pub handover_legal : (facts : MachineFacts) (value : EntryValue) (h : Handover) → IsHandover facts value h → IsLegal facts value h
 handover_legal facts value h is =
-    let rows = rows_of facts value.line is.kernel in
+    let rows = rows_of facts value is.reading in
     record {
-      kernel = is.kernel;
+      reading = is.reading;
       places = is.places;
       form = is.form;
-      line = is.line;
-      is_kernel = is.is_kernel;
+      lines = is.lines;
+      read = is.read;
       of_rows = of_rows facts [] rows is.places is.placed;
       allowed = placed_allowed facts rows is.places is.placed;
       is = is.is;

@@ -14,5 +14,7 @@ pub mod PlacingLemmas
 pub mod PrepareLemmas
 pub mod HandoverLaws
 pub mod LegalLaws
+pub mod DecidedLaws
+pub mod TotalLaws
 pub mod PartLaws
 pub mod RangeLemmas

@@ -16,8 +16,9 @@ use Rattle.bl_plan.specs.declared.fault.PlanFault.TheVariants.{Overlap}
 use Rattle.bl_plan.specs.declared.row.Row.{Row}
 use Rattle.bl_plan.specs.declared.role.Role.TheVariants.{Kernel}
 use Rattle.bl_plan.proofs.PutLemmas.{All-put_in}
+use Rattle.bl_load.specs.Value.{EntryValue}
+use Rattle.bl_load.specs.Reading.{multiboot2}
 use Rattle.bl_load.specs.Kernel.{KernelFacts}
-use Rattle.bl_load.specs.KernelKept.{AreLoadable}
 use Rattle.bl_load.specs.Blocks.{low_of, span_of}
 use Rattle.bl_load.specs.Rows.{segment_rows, align_of, block_choice, kernel_rows, information_row, rows_of}
 use Rattle.bl_plan.proofs.OrderLemmas.{AreRelated, pairs_related}
@@ -43,23 +44,23 @@ segments_no_overlap facts taken k (s ∷ segments) rest free apart none (inr lat
     apart.1 none
     (subst (λ (a : ℕ). IsFirstFault facts (put_in (range_of (place_at row a)) taken) (segment_rows (suc k) segments ++ rest) Overlap) later.1.0 later.2)
 
-information_no_overlap : (facts : MachineFacts) (line : List ℕ) (relocation : Option Relocation) (taken : List (Range ℕ)) → IsFirstFault facts taken (information_row facts line relocation ∷ []) Overlap → ⊥
-information_no_overlap facts line relocation taken (inl here) = here
-information_no_overlap facts line relocation taken (inr later) = later.2
+information_no_overlap : (facts : MachineFacts) (value : EntryValue) (relocation : Option Relocation) (taken : List (Range ℕ)) → IsFirstFault facts taken (information_row facts value relocation ∷ []) Overlap → ⊥
+information_no_overlap facts value relocation taken (inl here) = here
+information_no_overlap facts value relocation taken (inr later) = later.2
 
 block_no_overlap : (facts : MachineFacts) (taken : List (Range ℕ)) (count : ℕ) (r : Relocation) (linked : ℕ) → HasFault facts taken count (block_choice r linked) Overlap → ⊥
 block_no_overlap facts taken count r linked =
     cond_both (nat_eq r.preference 1) (Lowest (align_of r) r.min_addr r.max_addr) _ (λ choice. HasFault facts taken count choice Overlap → ⊥) (λ _ h. h)
     (λ _. cond_both (nat_eq r.preference 2) (Highest (align_of r) r.min_addr r.max_addr) (Preferred linked (align_of r) r.min_addr r.max_addr) (λ choice. HasFault facts taken count choice Overlap → ⊥) (λ _ h. h) (λ _ h. h))
 
-rows_no_overlap : (facts : MachineFacts) (line : List ℕ) (segments : List Segment) (relocation : Option Relocation) → AllPairs AreApart segments
-    → IsFirstFault facts [] (kernel_rows segments relocation ++ information_row facts line relocation ∷ []) Overlap → ⊥
-rows_no_overlap facts line segments None apart h =
-    segments_no_overlap facts [] 0 segments (information_row facts line None ∷ []) (λ k d within a low high. All-nil (λ r. ¬ IsIn r a)) (pairs_related AreApart segments apart)
-    (information_no_overlap facts line None) h
-rows_no_overlap facts line segments (Some r) apart (inl here) = block_no_overlap facts [] (span_of segments) r (low_of segments) here
-rows_no_overlap facts line segments (Some r) apart (inr later) = information_no_overlap facts line (Some r) _ later.2
+rows_no_overlap : (facts : MachineFacts) (value : EntryValue) (segments : List Segment) (relocation : Option Relocation) → AllPairs AreApart segments
+    → IsFirstFault facts [] (kernel_rows segments relocation ++ information_row facts value relocation ∷ []) Overlap → ⊥
+rows_no_overlap facts value segments None apart h =
+    segments_no_overlap facts [] 0 segments (information_row facts value None ∷ []) (λ k d within a low high. All-nil (λ r. ¬ IsIn r a)) (pairs_related AreApart segments apart)
+    (information_no_overlap facts value None) h
+rows_no_overlap facts value segments (Some r) apart (inl here) = block_no_overlap facts [] (span_of segments) r (low_of segments) here
+rows_no_overlap facts value segments (Some r) apart (inr later) = information_no_overlap facts value (Some r) _ later.2
 
--- so the first fault of a kernel that can be loaded is no overlap
-pub no_overlap : (file : List ℕ) (facts : MachineFacts) (line : List ℕ) (kernel : KernelFacts) → AreLoadable file kernel.segments → IsFirstFault facts [] (rows_of facts line kernel) Overlap → ⊥
-no_overlap file facts line kernel loadable h = rows_no_overlap facts line kernel.segments kernel.relocation loadable.apart h
+-- so the first fault of a kernel whose segments share no byte is no overlap
+pub no_overlap : (facts : MachineFacts) (value : EntryValue) (kernel : KernelFacts) → AllPairs AreApart kernel.segments → IsFirstFault facts [] (rows_of facts value (multiboot2 kernel)) Overlap → ⊥
+no_overlap facts value kernel apart h = rows_no_overlap facts value kernel.segments kernel.relocation apart h

@@ -16,7 +16,7 @@ use Rattle.bl_mb2head.specs.declared.fault.HeadFault.TheVariants.{BadTag}
 use Rattle.bl_mb2head.specs.declared.header.Header.{Header}
 use Rattle.bl_mb2head.specs.declared.relocation.Relocation.{Relocation}
 use Rattle.bl_mb2head.specs.declared.tag.Tag.{Tag}
-use Rattle.bl_plan.specs.Placed.{IsPlaceable, IsRow}
+use Rattle.bl_plan.specs.Placed.{ArePlaced, IsPlaceable, IsRow}
 use Rattle.bl_plan.specs.declared.place.Place.{Place}
 use Rattle.bl_plan.specs.declared.role.Role.{Role}
 use Rattle.bl_plan.specs.declared.role.Role.TheVariants.{Kernel, Information}
@@ -28,7 +28,8 @@ use Rattle.bl_load.specs.Rows.{rows_of}
 use Rattle.bl_load.specs.PlacingKept.{HasKernelLength, HasLength, IsRowed}
 use Rattle.bl_plan.specs.Order.{place_key, in_order}
 use Rattle.bl_load.specs.Handover.{Part, Handover, filled, end_of}
-use Rattle.bl_load.specs.Parts.{IsHandover, part_from, content_from, kernel_content, no_segment, base_of}
+use Rattle.bl_load.specs.Parts.{IsHandover, part_from, content_of, kernel_content, no_segment}
+use Rattle.bl_load.specs.Reading.{Reading, multiboot2, IsRead}
 use Rattle.bl_load.proofs.KernelLaws.{some_segment, one_filled}
 use Rattle.bl_load.proofs.BlockLemmas.{length-block_of}
 use Rattle.bl_load.proofs.InformationLemmas.{information_short}
@@ -89,35 +90,46 @@ kernel_short file segments None i count full has =
     omega arith
 kernel_short file segments (Some r) i count full has = let e = length-block_of file segments in omega arith
 
-content_short : (facts : MachineFacts) (line file : List ℕ) (kernel : KernelFacts) (base : ℕ) (role : Role) (i count : ℕ) → All IsFull kernel.segments → HasLength facts line kernel role i count
-    → length (content_from facts line file kernel base role i) ≤ count
-content_short facts line file kernel base Kernel i count full has = kernel_short file kernel.segments kernel.relocation i count full has
-content_short facts line file kernel base Information i count full has = information_short facts line kernel.relocation base count has
-content_short facts line file kernel base _ i count full has = absurd has
+content_short : (facts : MachineFacts) (value : EntryValue) (kernel : KernelFacts) (places : List Place) (role : Role) (i count : ℕ) → All IsFull kernel.segments → HasLength facts value (multiboot2 kernel) role i count
+    → length (content_of facts value (multiboot2 kernel) places role i) ≤ count
+content_short facts value kernel places Kernel i count full has = kernel_short (kernel_file value) kernel.segments kernel.relocation i count full has
+content_short facts value kernel places Information i count full has = information_short facts value kernel.relocation places count has
+content_short facts value kernel places _ i count full has = absurd has
 
 length-filled : (count : ℕ) (content : List ℕ) → length content ≤ count → length (filled count content) ≡ count
 length-filled count content short = rw (length-append, length-replicate) (omega arith)
 
 -- ---- the parts of a handover
 
+-- each row has some bytes, wherever its kernel was read
+reading_rows : (facts : MachineFacts) (value : EntryValue) (reading : Reading) → IsRead value reading → All IsRow (rows_of facts value reading)
+reading_rows facts value (multiboot2 kernel) is =
+    let full = kernel_full (kernel_file value) kernel is.1 in
+    kernel_rows_are_rows facts value kernel full.0 (λ k d within. (full.1 k d within).filled)
+
+-- and each place takes what it holds
+reading_short : (facts : MachineFacts) (value : EntryValue) (reading : Reading) (places : List Place) (place : Place) → IsRead value reading → IsRowed facts value reading place
+    → length (content_of facts value reading places place.role place.index) ≤ place.length
+reading_short facts value (multiboot2 kernel) places place is rowed =
+    content_short facts value kernel places place.role place.index place.length (kernel_full (kernel_file value) kernel is.1).1 rowed
+
+-- each place has the length that its role and its index ask for
+reading_rowed : (facts : MachineFacts) (value : EntryValue) (reading : Reading) (places : List Place) → ArePlaced facts [] (rows_of facts value reading) places → All (IsRowed facts value reading) places
+reading_rowed facts value (multiboot2 kernel) places placed = each_rowed facts value kernel [] places placed
+
 module _ (facts : MachineFacts) (value : EntryValue) (h : Handover) (is : IsHandover facts value h) where
   rows : List Row
-  rows = rows_of facts value.line is.kernel
+  rows = rows_of facts value is.reading
 
   sorted : List Place
   sorted = in_order is.places
 
   part : Place → Part
-  part = part_from facts value.line (kernel_file value) is.kernel (base_of is.places)
-
-  full : All IsFull is.kernel.segments
-  full = (kernel_full (kernel_file value) is.kernel is.is_kernel).1
+  part = part_from facts value is.reading is.places
 
   are_rows : All IsRow rows
   unfolding rows
-  are_rows =
-      let some = (kernel_full (kernel_file value) is.kernel is.is_kernel).0 in
-      kernel_rows_are_rows facts value.line is.kernel some (λ k d within. (full k d within).filled)
+  are_rows = reading_rows facts value is.reading is.read
 
   parts_are : h.parts ≡ map part sorted
   unfolding part sorted
@@ -131,8 +143,8 @@ module _ (facts : MachineFacts) (value : EntryValue) (h : Handover) (is : IsHand
   unfolding sorted part
   all_sized k d within =
       let place = get_or sorted k d in
-      let rowed = in_order_all place_key (IsRowed facts value.line is.kernel) is.places (each_rowed facts value.line is.kernel [] is.places is.placed) k d within in
-      length-filled place.length _ (content_short facts value.line (kernel_file value) is.kernel (base_of is.places) place.role place.index place.length full rowed)
+      let rowed = in_order_all place_key (IsRowed facts value is.reading) is.places (reading_rowed facts value is.reading is.places is.placed) k d within in
+      length-filled place.length _ (reading_short facts value is.reading is.places place is.read rowed)
 
   sorted_filled : All (λ (p : Place). 1 ≤ p.length) sorted
   unfolding sorted

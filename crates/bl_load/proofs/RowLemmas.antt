@@ -13,6 +13,8 @@ use Rattle.bl_plan.specs.declared.choice.Choice.TheVariants.{Fixed, Lowest, High
 use Rattle.bl_plan.specs.declared.place.Place.{Place}
 use Rattle.bl_plan.specs.declared.role.Role.TheVariants.{Kernel}
 use Rattle.bl_plan.proofs.PlaceLaws.{as_many}
+use Rattle.bl_load.specs.Value.{EntryValue}
+use Rattle.bl_load.specs.Reading.{multiboot2}
 use Rattle.bl_load.specs.Kernel.{KernelFacts}
 use Rattle.bl_load.specs.KernelKept.{AreLoadable}
 use Rattle.bl_load.specs.Blocks.{low_of, high_of, span_of}
@@ -60,21 +62,21 @@ kernel_rows_are segments (Some r) some filled =
     All-cons IsRow (record { role = Kernel; index = 0; length = span_of segments; choice = block_choice r (low_of segments) }) []
     (record { filled = omega arith; choice = block_choice_is r (low_of segments) }) (All-nil IsRow)
 
-information_row_is : (facts : MachineFacts) (line : List ℕ) (relocation : Option Relocation) → IsRow (information_row facts line relocation)
-information_row_is facts line relocation =
-    let size = some_info (information_of facts line relocation 0) in
-    let frames = some_frames (info_size (information_of facts line relocation 0)) size in
+information_row_is : (facts : MachineFacts) (value : EntryValue) (relocation : Option Relocation) → IsRow (information_row facts value relocation)
+information_row_is facts value relocation =
+    let size = some_info (information_of facts value relocation []) in
+    let frames = some_frames (info_size (information_of facts value relocation [])) size in
     record { filled = omega arith; choice = omega arith }
 
 -- the rows of a kernel whose segments take memory are rows of some bytes
-pub kernel_rows_are_rows : (facts : MachineFacts) (line : List ℕ) (kernel : KernelFacts) → 1 ≤ length kernel.segments → All (λ s. 1 ≤ s.memsz) kernel.segments → All IsRow (rows_of facts line kernel)
-kernel_rows_are_rows facts line kernel some filled =
-    All-append IsRow (kernel_rows kernel.segments kernel.relocation) (information_row facts line kernel.relocation ∷ [])
+pub kernel_rows_are_rows : (facts : MachineFacts) (value : EntryValue) (kernel : KernelFacts) → 1 ≤ length kernel.segments → All (λ s. 1 ≤ s.memsz) kernel.segments → All IsRow (rows_of facts value (multiboot2 kernel))
+kernel_rows_are_rows facts value kernel some filled =
+    All-append IsRow (kernel_rows kernel.segments kernel.relocation) (information_row facts value kernel.relocation ∷ [])
     (kernel_rows_are kernel.segments kernel.relocation some filled)
-    (All-cons IsRow (information_row facts line kernel.relocation) [] (information_row_is facts line kernel.relocation) (All-nil IsRow))
+    (All-cons IsRow (information_row facts value kernel.relocation) [] (information_row_is facts value kernel.relocation) (All-nil IsRow))
 
-pub rows_are_rows : (file : List ℕ) (facts : MachineFacts) (line : List ℕ) (kernel : KernelFacts) → AreLoadable file kernel.segments → All IsRow (rows_of facts line kernel)
-rows_are_rows file facts line kernel loadable = kernel_rows_are_rows facts line kernel loadable.some loadable.filled
+pub rows_are_rows : (file : List ℕ) (facts : MachineFacts) (value : EntryValue) (kernel : KernelFacts) → AreLoadable file kernel.segments → All IsRow (rows_of facts value (multiboot2 kernel))
+rows_are_rows file facts value kernel loadable = kernel_rows_are_rows facts value kernel loadable.some loadable.filled
 
 -- ---- how many they are
 
@@ -87,20 +89,20 @@ few_kernel_rows segments None some few = let e = length-segment_rows 0 segments 
 few_kernel_rows segments (Some r) some few = (omega arith, omega arith)
 
 -- there are at least two rows, and at most 129
-pub few_rows : (file : List ℕ) (facts : MachineFacts) (line : List ℕ) (kernel : KernelFacts) → AreLoadable file kernel.segments → (2 ≤ length (rows_of facts line kernel)) × (length (rows_of facts line kernel) ≤ 129)
-few_rows file facts line kernel loadable =
+pub few_rows : (file : List ℕ) (facts : MachineFacts) (value : EntryValue) (kernel : KernelFacts) → AreLoadable file kernel.segments → (2 ≤ length (rows_of facts value (multiboot2 kernel))) × (length (rows_of facts value (multiboot2 kernel)) ≤ 129)
+few_rows file facts value kernel loadable =
     let e = few_kernel_rows kernel.segments kernel.relocation loadable.some loadable.few in
-    let sum = length-append (kernel_rows kernel.segments kernel.relocation) (information_row facts line kernel.relocation ∷ []) in
+    let sum = length-append (kernel_rows kernel.segments kernel.relocation) (information_row facts value kernel.relocation ∷ []) in
     (omega (arith, e.0, e.1, sum), omega (arith, e.0, e.1, sum))
 
 -- there are as many places as rows
-pub count : (facts : MachineFacts) (line : List ℕ) (kernel : KernelFacts) (taken : List (Range ℕ)) (places : List Place) → ArePlaced facts taken (rows_of facts line kernel) places → length places ≡ length (rows_of facts line kernel)
-count facts line kernel taken places placed = as_many facts taken (rows_of facts line kernel) places placed
+pub count : (facts : MachineFacts) (value : EntryValue) (kernel : KernelFacts) (taken : List (Range ℕ)) (places : List Place) → ArePlaced facts taken (rows_of facts value (multiboot2 kernel)) places → length places ≡ length (rows_of facts value (multiboot2 kernel))
+count facts value kernel taken places placed = as_many facts taken (rows_of facts value (multiboot2 kernel)) places placed
 
 -- so there are at least two, and at most 129
-pub few_places : (file : List ℕ) (facts : MachineFacts) (line : List ℕ) (kernel : KernelFacts) (taken : List (Range ℕ)) (places : List Place) → AreLoadable file kernel.segments → ArePlaced facts taken (rows_of facts line kernel) places
+pub few_places : (file : List ℕ) (facts : MachineFacts) (value : EntryValue) (kernel : KernelFacts) (taken : List (Range ℕ)) (places : List Place) → AreLoadable file kernel.segments → ArePlaced facts taken (rows_of facts value (multiboot2 kernel)) places
     → (2 ≤ length places) × (length places ≤ 129)
-few_places file facts line kernel taken places loadable placed =
-    let e = few_rows file facts line kernel loadable in
-    let same = count facts line kernel taken places placed in
+few_places file facts value kernel taken places loadable placed =
+    let e = few_rows file facts value kernel loadable in
+    let same = count facts value kernel taken places placed in
     (omega (arith, e.0, same), omega (arith, e.1, same))

@@ -14,6 +14,8 @@ use Rattle.bl_plan.specs.declared.row.Row.{Row}
 use Rattle.bl_plan.specs.declared.place.Place.{Place}
 use Rattle.bl_plan.specs.declared.role.Role.TheVariants.{Kernel}
 use Rattle.bl_plan.proofs.PlaceLaws.{all_usable, all_apart}
+use Rattle.bl_load.specs.Value.{EntryValue}
+use Rattle.bl_load.specs.Reading.{multiboot2}
 use Rattle.bl_load.specs.Kernel.{KernelFacts}
 use Rattle.bl_load.specs.KernelKept.{AreLoadable}
 use Rattle.bl_load.specs.Blocks.{low_of, span_of}
@@ -43,39 +45,39 @@ each_place facts P taken (row ∷ rows) (p ∷ places) each placed =
 abbrev AreFrom : List Segment → ℕ → List Segment → Type 0
 AreFrom all k segments = (i : ℕ) (d : Segment) → i < length segments → (k + i < length all) × (get_or all (k + i) no_segment ≡ get_or segments i d)
 
-segment_rows_rowed : (facts : MachineFacts) (line : List ℕ) (kernel : KernelFacts) (k : ℕ) (segments : List Segment) → kernel.relocation ≡ None → AreFrom kernel.segments k segments
-    → All (Anywhere (IsRowed facts line kernel)) (segment_rows k segments)
-segment_rows_rowed facts line kernel k [] fixed from = All-nil (Anywhere (IsRowed facts line kernel))
-segment_rows_rowed facts line kernel k (s ∷ segments) fixed from =
+segment_rows_rowed : (facts : MachineFacts) (value : EntryValue) (kernel : KernelFacts) (k : ℕ) (segments : List Segment) → kernel.relocation ≡ None → AreFrom kernel.segments k segments
+    → All (Anywhere (IsRowed facts value (multiboot2 kernel))) (segment_rows k segments)
+segment_rows_rowed facts value kernel k [] fixed from = All-nil (Anywhere (IsRowed facts value (multiboot2 kernel)))
+segment_rows_rowed facts value kernel k (s ∷ segments) fixed from =
     let first = from 0 s (omega arith) in
     let same : k + 0 ≡ k = omega arith in
     let is : get_or kernel.segments k no_segment ≡ s = ap (λ (n : ℕ). get_or kernel.segments n no_segment) (sym same) ∙ first.1 in
     let size = ap (λ (t : Segment). t.memsz) is in
     let has : HasKernelLength kernel.segments None k s.memsz = (omega (arith, first.0), sym size) in
-    All-cons (Anywhere (IsRowed facts line kernel)) (record { role = Kernel; index = k; length = s.memsz; choice = Fixed s.address }) (segment_rows (suc k) segments)
+    All-cons (Anywhere (IsRowed facts value (multiboot2 kernel))) (record { role = Kernel; index = k; length = s.memsz; choice = Fixed s.address }) (segment_rows (suc k) segments)
     (λ a. subst (λ (r : Option Relocation). HasKernelLength kernel.segments r k s.memsz) (sym fixed) has)
-    (segment_rows_rowed facts line kernel (suc k) segments fixed
+    (segment_rows_rowed facts value kernel (suc k) segments fixed
     (λ i d within. let next = from (suc i) d (omega arith) in
     let on : k + suc i ≡ suc k + i = omega arith in
     (omega (arith, next.0), ap (λ (n : ℕ). get_or kernel.segments n no_segment) (sym on) ∙ next.1)))
 
-kernel_rows_rowed : (facts : MachineFacts) (line : List ℕ) (kernel : KernelFacts) (relocation : Option Relocation) → kernel.relocation ≡ relocation → All (Anywhere (IsRowed facts line kernel)) (kernel_rows kernel.segments relocation)
-kernel_rows_rowed facts line kernel None is =
-    segment_rows_rowed facts line kernel 0 kernel.segments is
+kernel_rows_rowed : (facts : MachineFacts) (value : EntryValue) (kernel : KernelFacts) (relocation : Option Relocation) → kernel.relocation ≡ relocation → All (Anywhere (IsRowed facts value (multiboot2 kernel))) (kernel_rows kernel.segments relocation)
+kernel_rows_rowed facts value kernel None is =
+    segment_rows_rowed facts value kernel 0 kernel.segments is
     (λ i d within. let same : 0 + i ≡ i = omega arith in (omega arith, ap (λ (n : ℕ). get_or kernel.segments n no_segment) same ∙ get_or_default kernel.segments i no_segment d within))
-kernel_rows_rowed facts line kernel (Some r) is =
-    All-cons (Anywhere (IsRowed facts line kernel)) (record { role = Kernel; index = 0; length = span_of kernel.segments; choice = block_choice r (low_of kernel.segments) }) []
-    (λ a. subst (λ (o : Option Relocation). HasKernelLength kernel.segments o 0 (span_of kernel.segments)) (sym is) refl) (All-nil (Anywhere (IsRowed facts line kernel)))
+kernel_rows_rowed facts value kernel (Some r) is =
+    All-cons (Anywhere (IsRowed facts value (multiboot2 kernel))) (record { role = Kernel; index = 0; length = span_of kernel.segments; choice = block_choice r (low_of kernel.segments) }) []
+    (λ a. subst (λ (o : Option Relocation). HasKernelLength kernel.segments o 0 (span_of kernel.segments)) (sym is) refl) (All-nil (Anywhere (IsRowed facts value (multiboot2 kernel))))
 
-rows_rowed : (facts : MachineFacts) (line : List ℕ) (kernel : KernelFacts) → All (Anywhere (IsRowed facts line kernel)) (rows_of facts line kernel)
-rows_rowed facts line kernel =
-    All-append (Anywhere (IsRowed facts line kernel)) (kernel_rows kernel.segments kernel.relocation) (information_row facts line kernel.relocation ∷ [])
-    (kernel_rows_rowed facts line kernel kernel.relocation refl)
-    (All-cons (Anywhere (IsRowed facts line kernel)) (information_row facts line kernel.relocation) [] (λ a. refl) (All-nil (Anywhere (IsRowed facts line kernel))))
+rows_rowed : (facts : MachineFacts) (value : EntryValue) (kernel : KernelFacts) → All (Anywhere (IsRowed facts value (multiboot2 kernel))) (rows_of facts value (multiboot2 kernel))
+rows_rowed facts value kernel =
+    All-append (Anywhere (IsRowed facts value (multiboot2 kernel))) (kernel_rows kernel.segments kernel.relocation) (information_row facts value kernel.relocation ∷ [])
+    (kernel_rows_rowed facts value kernel kernel.relocation refl)
+    (All-cons (Anywhere (IsRowed facts value (multiboot2 kernel))) (information_row facts value kernel.relocation) [] (λ a. refl) (All-nil (Anywhere (IsRowed facts value (multiboot2 kernel)))))
 
 -- each place has the length that its role and its index ask for
-pub each_rowed : (facts : MachineFacts) (line : List ℕ) (kernel : KernelFacts) (taken : List (Range ℕ)) (places : List Place) → ArePlaced facts taken (rows_of facts line kernel) places → All (IsRowed facts line kernel) places
-each_rowed facts line kernel taken places placed = each_place facts (IsRowed facts line kernel) taken (rows_of facts line kernel) places (rows_rowed facts line kernel) placed
+pub each_rowed : (facts : MachineFacts) (value : EntryValue) (kernel : KernelFacts) (taken : List (Range ℕ)) (places : List Place) → ArePlaced facts taken (rows_of facts value (multiboot2 kernel)) places → All (IsRowed facts value (multiboot2 kernel)) places
+each_rowed facts value kernel taken places placed = each_place facts (IsRowed facts value (multiboot2 kernel)) taken (rows_of facts value (multiboot2 kernel)) places (rows_rowed facts value kernel) placed
 
 -- ---- where they lie
 
@@ -123,12 +125,12 @@ in_order_ascends places filled apart i j d ij within =
     ]
 
 -- the places of a kernel that can be loaded are those of records
-pub records : (file : List ℕ) (facts : MachineFacts) (line : List ℕ) (kernel : KernelFacts) (places : List Place) → AreLoadable file kernel.segments → ArePlaced facts [] (rows_of facts line kernel) places → AreRecords (in_order places)
-records file facts line kernel places loadable placed =
-    let are = rows_are_rows file facts line kernel loadable in
-    let rows = rows_of facts line kernel in
+pub records : (file : List ℕ) (facts : MachineFacts) (value : EntryValue) (kernel : KernelFacts) (places : List Place) → AreLoadable file kernel.segments → ArePlaced facts [] (rows_of facts value (multiboot2 kernel)) places → AreRecords (in_order places)
+records file facts value kernel places loadable placed =
+    let are = rows_are_rows file facts value kernel loadable in
+    let rows = rows_of facts value (multiboot2 kernel) in
     let filled = are_filled facts [] rows places placed are in
-    let few = few_places file facts line kernel [] places loadable placed in
+    let few = few_places file facts value kernel [] places loadable placed in
     let same = length-in_order place_key places in
     record {
       few = omega (arith, few.1, same);
@@ -136,3 +138,19 @@ records file facts line kernel places loadable placed =
       below = in_order_all place_key (λ (p : Place). p.address + p.length ≤ 2 ^ 32) places (λ i d within. let low = are_below facts [] rows places placed are i d within in omega arith);
       ascending = in_order_ascends places filled (all_apart facts [] rows places placed);
     }
+
+-- in order each place has the length that its role and its index ask for
+pub in_order_rowed : (facts : MachineFacts) (value : EntryValue) (kernel : KernelFacts) (places : List Place) → ArePlaced facts [] (rows_of facts value (multiboot2 kernel)) places → All (IsRowed facts value (multiboot2 kernel)) (in_order places)
+in_order_rowed facts value kernel places placed = in_order_all place_key (IsRowed facts value (multiboot2 kernel)) places (each_rowed facts value kernel [] places placed)
+
+-- each lies inside memory
+pub in_order_inside : (file : List ℕ) (facts : MachineFacts) (value : EntryValue) (kernel : KernelFacts) (places : List Place) → AreLoadable file kernel.segments → ArePlaced facts [] (rows_of facts value (multiboot2 kernel)) places
+    → All (λ p. p.address + p.length ≤ facts.size) (in_order places)
+in_order_inside file facts value kernel places loadable placed =
+    in_order_all place_key (λ (p : Place). p.address + p.length ≤ facts.size) places (are_inside facts [] (rows_of facts value (multiboot2 kernel)) places placed (rows_are_rows file facts value kernel loadable))
+
+-- and is no longer than memory
+pub in_order_short : (file : List ℕ) (facts : MachineFacts) (value : EntryValue) (kernel : KernelFacts) (places : List Place) → AreLoadable file kernel.segments → ArePlaced facts [] (rows_of facts value (multiboot2 kernel)) places
+    → All (λ p. p.length ≤ 2 ^ 32) (in_order places)
+in_order_short file facts value kernel places loadable placed i d within =
+    let below = (records file facts value kernel places loadable placed).below i d within in omega arith

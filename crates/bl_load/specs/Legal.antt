@@ -9,8 +9,8 @@ use Rattle.bl_plan.specs.declared.choice.Choice.{Choice}
 use Rattle.bl_plan.specs.declared.choice.Choice.TheVariants.{Fixed, Lowest, Highest, Preferred}
 use Rattle.bl_plan.specs.declared.row.Row.{Row}
 use Rattle.bl_plan.specs.declared.place.Place.{Place}
-use Rattle.bl_load.specs.Value.{EntryValue, kernel_file, form_fault, line_fault}
-use Rattle.bl_load.specs.Kernel.{KernelFacts, IsKernel}
+use Rattle.bl_load.specs.Value.{EntryValue, form_fault, lines_fault, lines_of}
+use Rattle.bl_load.specs.Reading.{Reading, IsRead}
 use Rattle.bl_load.specs.Rows.{rows_of}
 use Rattle.bl_load.specs.Handover.{Handover}
 use Rattle.bl_load.specs.Parts.{handover_of}
@@ -32,14 +32,14 @@ abbrev pub AreAllowed : MachineFacts → List Row → List Place → Type 0
 AreAllowed facts rows places = (i : ℕ) (row : Row) (place : Place) → slice_get rows i ≡ Some row → slice_get places i ≡ Some place
     → IsAllowed facts (others places i) row.length row.choice place.address
 
--- the entry's file is a kernel; there is one place for each of its rows and no other, each allowed beside all others;
+-- the entry's kernel is read so; there is one place for each of its rows and no other, each allowed beside all others;
 -- and what is handed over are the parts at these places, with the registers for them
 pub record IsLegal (facts : MachineFacts) (value : EntryValue) (handover : Handover) : Type 0 where
-  pub kernel : KernelFacts
+  pub reading : Reading
   pub places : List Place
   pub form : form_fault value.protocol value.module_lines ≡ None
-  pub line : line_fault value.line ≡ None
-  pub is_kernel : IsKernel (kernel_file value) kernel
-  pub of_rows : AllZip IsPlaceOf (rows_of facts value.line kernel) places
-  pub allowed : AreAllowed facts (rows_of facts value.line kernel) places
-  pub is : handover ≡ handover_of facts value.line (kernel_file value) kernel places
+  pub lines : lines_fault (lines_of value) ≡ None
+  pub read : IsRead value reading
+  pub of_rows : AllZip IsPlaceOf (rows_of facts value reading) places
+  pub allowed : AreAllowed facts (rows_of facts value reading) places
+  pub is : handover ≡ handover_of facts value reading places

@@ -8,6 +8,8 @@ pub mod Value
 pub mod Numbers
 pub mod Kernel
 pub mod KernelKept
+pub mod Addresses
+pub mod Reading
 pub mod Rows
 pub mod Registers
 pub mod Parts

@@ -1,5 +1,5 @@
 -- What an entry hands over on a machine, or its first refusal.
-use Rattle.std.specs.Prelude.{◌≡◌, ℕ, ◌+◌, ◌-◌, List, [], ◌∷◌, map, slice_index_or, ◌⊎◌, Option, Some, None, codes}
+use Rattle.std.specs.Prelude.{◌≡◌, ℕ, ◌+◌, ◌-◌, List, [], map, slice_index_or, ◌⊎◌, Option, Some, None, codes}
 use Rattle.bl_mem.specs.Contents.{file_part}
 use Rattle.bl_mem.specs.declared.segment.Segment.{Segment}
 use Rattle.bl_map.specs.MachineFacts.{MachineFacts}
@@ -7,15 +7,17 @@ use Rattle.bl_mb2head.specs.declared.relocation.Relocation.{Relocation}
 use Rattle.bl_mbi.specs.Spelling.{spelling}
 use Rattle.bl_plan.specs.Placed.{ArePlaced, IsFirstFault}
 use Rattle.bl_plan.specs.declared.role.Role.{Role}
-use Rattle.bl_plan.specs.declared.role.Role.TheVariants.{Kernel, Information}
+use Rattle.bl_plan.specs.declared.role.Role.TheVariants.{Kernel, Module, Information, BootParams, CommandLine, Gdt, Initrd}
 use Rattle.bl_plan.specs.declared.place.Place.{Place}
 use Rattle.bl_plan.specs.declared.fault.PlanFault.{PlanFault}
 use Rattle.bl_plan.specs.declared.fault.PlanFault.TheVariants as plan_fault
-use Rattle.bl_plan.specs.declared.protocol.Protocol.TheVariants.{Multiboot2}
+use Rattle.bl_plan.specs.declared.row.Row.{Row}
 use Rattle.bl_load.specs.declared.refusal.Refusal.{Refusal}
 use Rattle.bl_load.specs.declared.refusal.Refusal.TheVariants as refusal
-use Rattle.bl_load.specs.Value.{EntryValue, kernel_file, form_fault, line_fault}
-use Rattle.bl_load.specs.Kernel.{KernelFacts, IsKernel, HasKernelFault}
+use Rattle.bl_load.specs.declared.registers.Registers.{Registers}
+use Rattle.bl_load.specs.Addresses.{address_of}
+use Rattle.bl_load.specs.Value.{EntryValue, kernel_file, form_fault, lines_fault, lines_of}
+use Rattle.bl_load.specs.Reading.{Reading, multiboot2, IsRead, HasReadFault}
 use Rattle.bl_load.specs.Blocks.{low_of, block_of}
 use Rattle.bl_load.specs.Rows.{rows_of, information_of}
 use Rattle.bl_load.specs.Registers.{multiboot2_registers}
@@ -34,49 +36,52 @@ abbrev pub kernel_content : List ℕ → List Segment → Option Relocation → 
 kernel_content file segments None i = file_part file (slice_index_or segments i no_segment)
 kernel_content file segments (Some r) i = block_of file segments
 
--- where the first of the kernel's parts stands
-abbrev pub base_of : List Place → ℕ
-base_of [] = 0
-base_of (place ∷ places) = place.address
-
--- where the information stands: it is the last that is placed
-abbrev pub information_at : List Place → ℕ
-information_at [] = 0
-information_at (place ∷ []) = place.address
-information_at (place ∷ next ∷ places) = information_at (next ∷ places)
-
--- what a part holds before its zeros, where the first of the kernel's parts stands at base
-abbrev pub content_from : MachineFacts → List ℕ → List ℕ → KernelFacts → ℕ → Role → ℕ → List ℕ
-content_from facts line file kernel base Kernel i = kernel_content file kernel.segments kernel.relocation i
-content_from facts line file kernel base Information i = spelling (codes "bootcore") (information_of facts line kernel.relocation base)
-content_from facts line file kernel base _ i = []
+-- what a part holds before its zeros, where the parts have these places
+abbrev pub content_of : MachineFacts → EntryValue → Reading → List Place → Role → ℕ → List ℕ
+content_of facts value (multiboot2 kernel) places Kernel i =
+    kernel_content (kernel_file value) kernel.segments kernel.relocation i
+content_of facts value (multiboot2 kernel) places Module i = []
+content_of facts value (multiboot2 kernel) places Information i =
+    spelling (codes "bootcore") (information_of facts value kernel.relocation places)
+content_of facts value (multiboot2 kernel) places BootParams i = []
+content_of facts value (multiboot2 kernel) places CommandLine i = []
+content_of facts value (multiboot2 kernel) places Gdt i = []
+content_of facts value (multiboot2 kernel) places Initrd i = []
 
 -- the part of an entry at one of its places
-abbrev pub part_from : MachineFacts → List ℕ → List ℕ → KernelFacts → ℕ → Place → Part
-part_from facts line file kernel base place = part_at place (filled place.length (content_from facts line file kernel base place.role place.index))
+abbrev pub part_from : MachineFacts → EntryValue → Reading → List Place → Place → Part
+part_from facts value reading places place =
+    part_at place (filled place.length (content_of facts value reading places place.role place.index))
 
 -- where the kernel is entered: a block moves its entry with it
 abbrev pub entry_at : ℕ → List Segment → Option Relocation → ℕ → ℕ
 entry_at entry segments None base = entry
 entry_at entry segments (Some r) base = entry - low_of segments + base
 
--- what the entry with this line and this kernel's file hands over, where its rows have these places
-abbrev pub handover_of : MachineFacts → List ℕ → List ℕ → KernelFacts → List Place → Handover
-handover_of facts line file kernel places = record {
-  protocol = Multiboot2;
-  registers = multiboot2_registers (entry_at kernel.entry kernel.segments kernel.relocation (base_of places)) (information_at places);
-  parts = map (part_from facts line file kernel (base_of places)) (in_order places);
+-- the registers as the kernel begins, where the parts have these places
+abbrev pub registers_of : Reading → List Place → Registers
+registers_of (multiboot2 kernel) places =
+    multiboot2_registers
+    (entry_at kernel.entry kernel.segments kernel.relocation (address_of Kernel 0 places))
+    (address_of Information 0 places)
+
+-- what an entry hands over, where its rows have these places
+abbrev pub handover_of : MachineFacts → EntryValue → Reading → List Place → Handover
+handover_of facts value reading places = record {
+  protocol = value.protocol;
+  registers = registers_of reading places;
+  parts = map (part_from facts value reading places) (in_order places);
 }
 
 -- this is what an entry of this value hands over on a machine of these facts
 pub record IsHandover (facts : MachineFacts) (value : EntryValue) (handover : Handover) : Type 0 where
-  pub kernel : KernelFacts
+  pub reading : Reading
   pub places : List Place
   pub form : form_fault value.protocol value.module_lines ≡ None
-  pub line : line_fault value.line ≡ None
-  pub is_kernel : IsKernel (kernel_file value) kernel
-  pub placed : ArePlaced facts [] (rows_of facts value.line kernel) places
-  pub is : handover ≡ handover_of facts value.line (kernel_file value) kernel places
+  pub lines : lines_fault (lines_of value) ≡ None
+  pub read : IsRead value reading
+  pub placed : ArePlaced facts [] (rows_of facts value reading) places
+  pub is : handover ≡ handover_of facts value reading places
 
 -- a fault of placing as a refusal; parts of a kernel that was read don't overlap one another
 abbrev pub placing_refusal : PlanFault → Option Refusal
@@ -85,18 +90,26 @@ placing_refusal plan_fault.Overlap = None
 placing_refusal plan_fault.NoRoom = Some refusal.NoRoom
 placing_refusal plan_fault.NoMemory = None
 
--- the first of its rows that has no place is refused so
-abbrev pub HasPlaceFault : MachineFacts → List ℕ → KernelFacts → Refusal → Type 0
-HasPlaceFault facts line kernel refused = (fault : PlanFault) × IsFirstFault facts [] (rows_of facts line kernel) fault × (placing_refusal fault ≡ Some refused)
+-- the first of these rows that has no place is refused so
+abbrev pub HasRowFault : MachineFacts → List Row → Refusal → Type 0
+HasRowFault facts rows refused =
+    (fault : PlanFault) × IsFirstFault facts [] rows fault × (placing_refusal fault ≡ Some refused)
 
--- this is its first refusal: of its form, its line, its kernel, its places
+-- the kernel is read, and one of the entry's rows is refused so
+abbrev pub HasPlaceFault : MachineFacts → EntryValue → Refusal → Type 0
+HasPlaceFault facts value refused =
+    (reading : Reading) × IsRead value reading
+    × HasRowFault facts (rows_of facts value reading) refused
+
+-- a check that refuses, or what comes behind it
+abbrev pub Then : Option Refusal → (Refusal → Type 0) → Refusal → Type 0
+Then first rest refused = (first ≡ Some refused) ⊎ ((first ≡ None) × rest refused)
+
+-- this is its first refusal: of its form, its lines, its kernel, its places
 abbrev pub IsRefusal : MachineFacts → EntryValue → Refusal → Type 0
-IsRefusal facts value refused =
-    (form_fault value.protocol value.module_lines ≡ Some refused)
-    ⊎ ((form_fault value.protocol value.module_lines ≡ None) × (line_fault value.line ≡ Some refused))
-    ⊎ ((form_fault value.protocol value.module_lines ≡ None) × (line_fault value.line ≡ None) × HasKernelFault (kernel_file value) refused)
-    ⊎ ((form_fault value.protocol value.module_lines ≡ None) × (line_fault value.line ≡ None) × ((kernel : KernelFacts) × IsKernel (kernel_file value) kernel
-    × HasPlaceFault facts value.line kernel refused))
+IsRefusal facts value =
+    Then (form_fault value.protocol value.module_lines)
+    (Then (lines_fault (lines_of value)) (λ r. HasReadFault value r ⊎ HasPlaceFault facts value r))
 
 -- why an entry is not prepared, unless memory ran out
 abbrev pub IsPrepFault : MachineFacts → EntryValue → PrepFault → Type 0

@@ -9,10 +9,13 @@ use Rattle.bl_map.specs.Room.{whole_frames}
 use Rattle.bl_mb2head.specs.declared.relocation.Relocation.{Relocation}
 use Rattle.bl_mbi.specs.InformationFacts.{InformationFacts, info_size}
 use Rattle.bl_plan.specs.declared.row.Row.{Row}
+use Rattle.bl_plan.specs.declared.place.Place.{Place}
 use Rattle.bl_plan.specs.declared.role.Role.TheVariants.{Kernel, Information}
 use Rattle.bl_plan.specs.declared.choice.Choice.{Choice}
 use Rattle.bl_plan.specs.declared.choice.Choice.TheVariants.{Fixed, Lowest, Highest, Preferred}
-use Rattle.bl_load.specs.Kernel.{KernelFacts}
+use Rattle.bl_load.specs.Addresses.{address_of}
+use Rattle.bl_load.specs.Value.{EntryValue}
+use Rattle.bl_load.specs.Reading.{Reading, multiboot2}
 use Rattle.bl_load.specs.Blocks.{low_of, span_of}
 
 -- segments at their own addresses, numbered from k on
@@ -36,22 +39,30 @@ abbrev pub kernel_rows : List Segment → Option Relocation → List Row
 kernel_rows segments None = segment_rows 0 segments
 kernel_rows segments (Some r) = record { role = Kernel; index = 0; length = span_of segments; choice = block_choice r (low_of segments) } ∷ []
 
--- what the information tells, where the kernel's first part was placed at base: the load base only with a relocatable tag
-abbrev pub information_of : MachineFacts → List ℕ → Option Relocation → ℕ → InformationFacts
-information_of facts line relocation base = record {
-  line = line;
+-- what the information tells, where the parts have these places: the load base only with a relocatable tag
+abbrev pub information_of : MachineFacts → EntryValue → Option Relocation → List Place → InformationFacts
+information_of facts value relocation places = record {
+  line = value.line;
   modules = [];
   mem_lower = low_kib facts.runs;
   mem_upper = high_kib facts.runs;
   runs = facts.runs;
   rsdp_old = None;
   rsdp_new = None;
-  load_base = option_map (λ r. base) relocation;
+  load_base = option_map (λ r. address_of Kernel 0 places) relocation;
 }
 
--- the information, in whole frames, at the lowest place of all; its size does not depend on where the kernel is
-abbrev pub information_row : MachineFacts → List ℕ → Option Relocation → Row
-information_row facts line relocation = record { role = Information; index = 0; length = whole_frames (info_size (information_of facts line relocation 0)); choice = Lowest frame_size first_usable most_size }
+-- the information, in whole frames, at the lowest place of all; its size does not depend on any place
+abbrev pub information_row : MachineFacts → EntryValue → Option Relocation → Row
+information_row facts value relocation = record {
+  role = Information;
+  index = 0;
+  length = whole_frames (info_size (information_of facts value relocation []));
+  choice = Lowest frame_size first_usable most_size;
+}
 
-abbrev pub rows_of : MachineFacts → List ℕ → KernelFacts → List Row
-rows_of facts line kernel = kernel_rows kernel.segments kernel.relocation ++ information_row facts line kernel.relocation ∷ []
+-- the rows of an entry, by what was read of its kernel
+abbrev pub rows_of : MachineFacts → EntryValue → Reading → List Row
+rows_of facts value (multiboot2 kernel) =
+    kernel_rows kernel.segments kernel.relocation
+    ++ information_row facts value kernel.relocation ∷ []

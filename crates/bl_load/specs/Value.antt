@@ -1,6 +1,7 @@
 -- What is booted, told apart from where it lies: an entry's value. Own.
-use Rattle.std.specs.Prelude.{◌≡◌, ℕ, ◌+◌, ◌≤◌, if◌then◌else◌, ◌==◌, nat_lt, List, [], length, map, slice_index_or, Option, Some, None, option_to_list}
+use Rattle.std.specs.Prelude.{◌≡◌, ℕ, ◌+◌, ◌≤◌, if◌then◌else◌, ◌==◌, nat_lt, List, [], ◌∷◌, length, map, slice_index_or, Option, Some, None, option_to_list}
 use Rattle.std.specs.List.{list_any}
+use Rattle.std.specs.Option.{option_or}
 use Rattle.bl_plan.specs.declared.protocol.Protocol.{Protocol}
 use Rattle.bl_plan.specs.declared.protocol.Protocol.TheVariants as protocol
 use Rattle.bl_load.specs.declared.entry.Entry.{Entry}
@@ -15,9 +16,13 @@ pub record EntryValue : Type 0 where
   pub files : List (List ℕ)
   pub module_lines : List (List ℕ)
 
+-- the value of a Multiboot2 entry with this line and these lines of its modules, whose files hold these texts
+abbrev pub multiboot2_value : List (List ℕ) → List ℕ → List (List ℕ) → EntryValue
+multiboot2_value texts line lines = record { protocol = protocol.Multiboot2; line = line; files = texts; module_lines = lines }
+
 -- the value of an entry whose files hold these texts
 abbrev pub value_of : {A : Type 0} → List (List ℕ) → Entry A → EntryValue
-value_of texts (Multiboot2 kernel line modules) = record { protocol = protocol.Multiboot2; line = line; files = texts; module_lines = map (λ m. m.line) modules.items }
+value_of texts (Multiboot2 kernel line modules) = multiboot2_value texts line (map (λ m. m.line) modules.items)
 value_of texts (Linux kernel line initrd) = record { protocol = protocol.Linux; line = line; files = texts; module_lines = [] }
 
 -- the bytes of the kernel's file
@@ -53,10 +58,18 @@ line_fault line =
     if nat_lt most_line (length line) then Some LineTooLong else
     None
 
--- whatever the files hold, an entry of a form that has come has this line
+-- the first fault of lines, one after the other
+abbrev pub lines_fault : List (List ℕ) → Option Refusal
+lines_fault [] = None
+lines_fault (line ∷ lines) = option_or (line_fault line) (lines_fault lines)
+
+-- the lines of an entry: the kernel's, and then those of its modules
+abbrev pub lines_of : EntryValue → List (List ℕ)
+lines_of value = value.line ∷ value.module_lines
+
+-- whatever the files hold, this is the value of an entry of a form that has come, with this line
 abbrev pub HasLine : {A : Type 0} → Entry A → List ℕ → Type 0
-HasLine entry line = (texts : List (List ℕ)) →
-    ((value_of texts entry).protocol ≡ protocol.Multiboot2) × (form_fault (value_of texts entry).protocol (value_of texts entry).module_lines ≡ None) × ((value_of texts entry).line ≡ line)
+HasLine entry line = (texts : List (List ℕ)) → value_of texts entry ≡ multiboot2_value texts line []
 
 -- whatever the files hold, the entry's form is refused so
 abbrev pub HasFormFault : {A : Type 0} → Entry A → Refusal → Type 0

@@ -1,15 +1,16 @@
 //! The contents of an entry's parts, at their places.
-ghost use Rattle.std.specs.Prelude.{◌≡◌, ◌≤◌, ◌<◌, ◌^◌, ◌+◌, None, All, IfOk, IfSome, length, map, option_map};
-ghost use Rattle.bl_load.specs.Value.{line_fault};
+ghost use Rattle.std.specs.Prelude.{◌≡◌, ◌≤◌, ◌<◌, ◌^◌, ◌+◌, [], None, All, IfOk, IfSome, length, map, option_map};
+ghost use Rattle.bl_load.specs.Value.{multiboot2_value, line_fault};
+ghost use Rattle.bl_load.specs.Reading.{multiboot2};
 ghost use Rattle.bl_load.specs.KernelKept.{AreLoadable, kernel_by};
 ghost use Rattle.bl_load.specs.Parts as parts;
-ghost use Rattle.bl_load.specs.Parts.{content_from, part_from};
+ghost use Rattle.bl_load.specs.Parts.{content_of, part_from};
 ghost use Rattle.bl_load.specs.Place.{place_of};
 ghost use Rattle.bl_load.specs.Planned.{content_by, part_by, file_text};
 ghost use Rattle.bl_load.specs.Kept.{lengths_of, content_length, IsThere, IsBacked, StaysInFiles, IsLean};
-ghost use Rattle.bl_load.specs.PlacingKept.{HasKernelLength, IsRowed};
+ghost use Rattle.bl_load.specs.PlacingKept.{HasKernelLength, IsRowed, IsLow};
 
-use crate::entry::Entry;
+use crate::addresses::address_of;
 use crate::information::information;
 use crate::kernel::Kernel;
 use crate::plan::{Content, Planned};
@@ -67,26 +68,25 @@ fn load_base_of(relocation: &Option<Relocation>, base: u32) -> Option<u32>
     }
 }
 
-/// The content of the part at a place, where the first of the kernel's parts stands at `base`.
+/// The content of the part at a place, where the parts have these places.
 fn content_at<A: Allocator + Copy, V: ByteView>(
     alloc: A,
     machine: &Machine<A>,
     line: &[u8],
     kernel: &Kernel<A>,
     files: &[V],
-    base: u32,
+    places: &[Place],
     place: &Place,
 ) -> Result<Content<A>, AllocError>
     requires sound { line_fault line.now ≡ None }
     requires line { length line.now ≤ 4095 }
     requires file { 1 ≤ length files.now }
-    requires loadable { AreLoadable (file_text (map V.bytes files.now) 0)
-        (kernel_by kernel.now).segments }
-    requires rowed { IsRowed machine.now line.now (kernel_by kernel.now) place.now }
+    requires loadable { AreLoadable (file_text (map V.bytes files.now) 0) (kernel_by kernel.now).segments }
+    requires low { All IsLow places.now }
+    requires rowed { IsRowed machine.now (multiboot2_value [] line.now []) (multiboot2 (kernel_by kernel.now)) place.now }
     requires small { place.now.length ≤ 2 ^ 32 }
     ensures content { IfOk result (λ content. content_by (map V.bytes files.now) content
-        ≡ content_from machine.now line.now (file_text (map V.bytes files.now) 0)
-        (kernel_by kernel.now) base place.now.role place.now.index) }
+        ≡ content_of machine.now (multiboot2_value (map V.bytes files.now) line.now []) (multiboot2 (kernel_by kernel.now)) places.now place.now.role place.now.index) }
     ensures there { IfOk result (λ content. IsThere (lengths_of (map V.bytes files.now)) content) }
     ensures short { IfOk result (λ content. content_length content ≤ place.now.length) }
     ensures lean { IfOk result (StaysInFiles place.now.role) }
@@ -94,6 +94,7 @@ fn content_at<A: Allocator + Copy, V: ByteView>(
     match place.role {
         Role::Kernel => kernel_content(alloc, kernel, files, place),
         Role::Information => {
+            let base = address_of(Role::Kernel, 0, places);
             let load_base = load_base_of(&kernel.relocation, base);
             Ok(Content::Own(information(alloc, machine, line, load_base)?))
         }
@@ -101,34 +102,32 @@ fn content_at<A: Allocator + Copy, V: ByteView>(
     }
 }
 
-/// The parts at these places.
+/// The parts at these places, in this order.
 pub fn parts_at<A: Allocator + Copy, V: ByteView>(
     alloc: A,
     machine: &Machine<A>,
     line: &[u8],
     kernel: &Kernel<A>,
     files: &[V],
-    base: u32,
     places: &[Place],
+    sorted: &[Place],
 ) -> Result<Vec<Planned<A>, A>, AllocError>
     requires sound { line_fault line.now ≡ None }
     requires line { length line.now ≤ 4095 }
     requires file { 1 ≤ length files.now }
-    requires loadable { AreLoadable (file_text (map V.bytes files.now) 0)
-        (kernel_by kernel.now).segments }
-    requires rowed { All (IsRowed machine.now line.now (kernel_by kernel.now)) places.now }
-    requires small { All (λ place. place.length ≤ 2 ^ 32) places.now }
+    requires loadable { AreLoadable (file_text (map V.bytes files.now) 0) (kernel_by kernel.now).segments }
+    requires low { All IsLow places.now }
+    requires rowed { All (IsRowed machine.now (multiboot2_value [] line.now []) (multiboot2 (kernel_by kernel.now))) sorted.now }
+    requires small { All (λ place. place.length ≤ 2 ^ 32) sorted.now }
     ensures parts { IfOk result (λ parts. map (part_by (map V.bytes files.now)) parts.items
-        ≡ map (part_from machine.now line.now (file_text (map V.bytes files.now) 0)
-        (kernel_by kernel.now) base) places.now) }
-    ensures backed { IfOk result (λ parts. All (IsBacked
-        (lengths_of (map V.bytes files.now))) parts.items) }
+        ≡ map (part_from machine.now (multiboot2_value (map V.bytes files.now) line.now []) (multiboot2 (kernel_by kernel.now)) places.now) sorted.now) }
+    ensures backed { IfOk result (λ parts. All (IsBacked (lengths_of (map V.bytes files.now))) parts.items) }
     ensures lean { IfOk result (λ parts. IsLean parts.items) }
-    ensures places { IfOk result (λ parts. map place_of parts.items ≡ places.now) }
+    ensures places { IfOk result (λ parts. map place_of parts.items ≡ sorted.now) }
 {
-    let mut parts = Vec::with_capacity(alloc, places.len())?;
-    for place in places {
-        let content = content_at(alloc, machine, line, kernel, files, base, place)?;
+    let mut parts = Vec::with_capacity(alloc, sorted.len())?;
+    for place in sorted {
+        let content = content_at(alloc, machine, line, kernel, files, places, place)?;
         parts.push(Planned {
             place: *place,
             content,

@@ -1,5 +1,5 @@
 //! Laws of the definitions.
-ghost use Rattle.std.specs.Prelude.{◌≡◌, ◌≤◌, length, All, AllPairs};
+ghost use Rattle.std.specs.Prelude.{◌≡◌, ◌≤◌, ◌⊎◌, length, All, AllPairs};
 ghost use Rattle.bl_map.specs.MachineFacts.{MachineFacts, AllUsable};
 ghost use Rattle.bl_load.specs.declared.refusal.Refusal.{Refusal};
 ghost use Rattle.bl_load.specs.Value.{EntryValue};
@@ -16,6 +16,13 @@ pub fn handovers_are_determined()
         → IsRefusal facts value r → IsRefusal facts value s → r ≡ s }
     ensures not_both { (facts : MachineFacts) (value : EntryValue) (h : Handover) (r : Refusal)
         → IsHandover facts value h → IsRefusal facts value r → ⊥ }
+{}
+
+/// Each entry has a handover or a first refusal, so by the law above it has exactly one of them. Want of memory is all that
+/// the contract of `prepare` leaves open.
+pub fn each_entry_has_an_answer()
+    ensures { (facts : MachineFacts) (value : EntryValue)
+        → ((handover : Handover) × IsHandover facts value handover) ⊎ ((r : Refusal) × IsRefusal facts value r) }
 {}
 
 /// What is handed over is legal.

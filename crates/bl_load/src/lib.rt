@@ -1,6 +1,7 @@
 //! What an entry hands over, and its way into memory.
 #![tactic(auto)]
 
+mod addresses;
 mod blocks;
 mod contents;
 mod copying;
@@ -20,7 +21,10 @@ mod rows;
 pub use bl_plan::Protocol;
 pub use entry::{Entry, MOST_LINE, Module};
 pub use handoff::Handoff;
-pub use laws::{handovers_are_determined, handovers_are_legal, parts_are_apart_and_usable};
+pub use laws::{
+    each_entry_has_an_answer, handovers_are_determined, handovers_are_legal,
+    parts_are_apart_and_usable,
+};
 pub use loading::load;
 pub use plan::{Content, Plan, Planned};
 pub use preparing::prepare;

@@ -1,6 +1,10 @@
 //! The parts of a kernel that was read, at their places.
-ghost use Rattle.std.specs.Prelude.{◌≡◌, ◌≢◌, ◌≤◌, ◌<◌, ◌+◌, ◌^◌, Some, None, All, IfOk, IfErr, length, map, slice_index_or};
-ghost use Rattle.bl_load.specs.Value.{line_fault};
+ghost use Rattle.std.specs.Prelude.{◌≡◌, ◌≢◌, ◌≤◌, ◌<◌, ◌+◌, ◌^◌, [], Some, None, All, IfOk, IfErr, length, map, slice_index_or};
+ghost use Rattle.bl_plan.specs.declared.role.Role.TheVariants as role;
+ghost use Rattle.bl_load.specs.Addresses as addresses;
+ghost use Rattle.bl_load.specs.Value.{multiboot2_value, line_fault};
+ghost use Rattle.bl_load.specs.Reading.{multiboot2};
+ghost use Rattle.bl_load.specs.Rows as table;
 ghost use Rattle.bl_plan.specs.Placed.{range_of};
 ghost use Rattle.bl_plan.specs.declared.fault.PlanFault.TheVariants.{Overlap};
 ghost use Rattle.bl_load.specs.Blocks as blocks;
@@ -9,11 +13,12 @@ ghost use Rattle.bl_load.specs.KernelKept.{AreLoadable, kernel_by};
 ghost use Rattle.bl_load.specs.Parts as parts;
 ghost use Rattle.bl_load.specs.Registers as state;
 ghost use Rattle.bl_load.specs.PlacingKept as kept;
-ghost use Rattle.bl_load.specs.PlacingKept.{IsPlacedHandover, IsPlaceFault};
+ghost use Rattle.bl_load.specs.PlacingKept.{IsLow, IsPlacedHandover, IsPlaceFault};
 ghost use Rattle.bl_load.specs.Place.{place_of};
 ghost use Rattle.bl_load.specs.Planned.{handover_by, file_text};
 ghost use Rattle.bl_load.specs.Kept.{lengths_of, IsLoadable, IsLean};
 
+use crate::addresses::address_of;
 use crate::contents::parts_at;
 use crate::kernel::Kernel;
 use crate::plan::{Plan, Planned};
@@ -22,7 +27,7 @@ use crate::registers::Registers;
 use crate::rows::{low_of, rows_of};
 use bl_map::Machine;
 use bl_mem::ByteView;
-use bl_plan::{Place, PlanFault, Protocol, in_order, place_rows};
+use bl_plan::{Place, PlanFault, Protocol, Role, in_order, place_rows};
 use std::alloc::{AllocError, Allocator};
 use std::ops::Range;
 
@@ -37,22 +42,6 @@ fn fault_of(fault: PlanFault) -> PrepFault
         PlanFault::NoRoom => PrepFault::Refused(Refusal::NoRoom),
         PlanFault::NoMemory => PrepFault::NoMemory,
     }
-}
-
-/// Where the first part that was placed stands.
-fn base_of(places: &[Place]) -> u64
-    requires { 1 ≤ length places.now }
-    ensures { result ≡ parts.base_of places.now }
-{
-    places[0].address
-}
-
-/// Where the last part that was placed stands.
-fn information_at(places: &[Place]) -> u64
-    requires { 1 ≤ length places.now }
-    ensures { result ≡ parts.information_at places.now }
-{
-    places[places.len() - 1].address
 }
 
 /// What `eax` tells a kernel: it was loaded by a boot loader of Multiboot2 (3.3 "I386 machine
@@ -100,6 +89,19 @@ fn entry_at<A: Allocator>(kernel: &Kernel<A>, base: u64) -> u64
     }
 }
 
+/// The registers as the kernel begins, where its parts have these places.
+fn registers_of<A: Allocator>(kernel: &Kernel<A>, places: &[Place]) -> Registers
+    requires low { All IsLow places.now }
+    requires above { blocks.low_of (kernel_by kernel.now).segments ≤ kernel.now.entry }
+    requires below { kernel.now.entry + addresses.address_of role.Kernel 0 places.now < 2 ^ 64 }
+    requires entry { parts.entry_at kernel.now.entry (kernel_by kernel.now).segments kernel.now.relocation
+        (addresses.address_of role.Kernel 0 places.now) < 2 ^ 32 }
+    ensures { result ≡ parts.registers_of (multiboot2 (kernel_by kernel.now)) places.now }
+{
+    let entry = entry_at(kernel, address_of(Role::Kernel, 0, places) as u64);
+    multiboot2_registers(entry as u32, address_of(Role::Information, 0, places))
+}
+
 /// The ranges of parts.
 fn ranges_of<A: Allocator + Copy>(
     alloc: A,
@@ -127,25 +129,18 @@ pub fn plan_parts<A: Allocator + Copy, V: ByteView>(
     requires short { length line.now ≤ 4095 }
     requires file { 1 ≤ length files.now }
     requires kernel { IsKernel (file_text (map V.bytes files.now) 0) (kernel_by kernel.now) }
-    requires loadable { AreLoadable (file_text (map V.bytes files.now) 0)
-        (kernel_by kernel.now).segments }
-    ensures handover { IfOk result (λ plan. IsPlacedHandover machine.now line.now
-        (file_text (map V.bytes files.now) 0) (kernel_by kernel.now)
-        (handover_by (map V.bytes files.now) plan)) }
-    ensures loadable { IfOk result (λ plan. IsLoadable
-        (lengths_of (map V.bytes files.now)) machine.now.size plan) }
+    requires loadable { AreLoadable (file_text (map V.bytes files.now) 0) (kernel_by kernel.now).segments }
+    ensures handover { IfOk result (λ plan. IsPlacedHandover machine.now (multiboot2_value (map V.bytes files.now) line.now []) (multiboot2 (kernel_by kernel.now)) (handover_by (map V.bytes files.now) plan)) }
+    ensures loadable { IfOk result (λ plan. IsLoadable (lengths_of (map V.bytes files.now)) machine.now.size plan) }
     ensures lean { IfOk result (λ plan. IsLean plan.parts.items) }
-    ensures fault { IfErr result (λ fault. IsPlaceFault machine.now line.now
-        (kernel_by kernel.now) fault) }
+    ensures fault { IfErr result (λ fault. IsPlaceFault machine.now (table.rows_of machine.now (multiboot2_value (map V.bytes files.now) line.now []) (multiboot2 (kernel_by kernel.now))) fault) }
 {
     let rows = rows_of(alloc, machine, line, kernel)?;
     let places = match place_rows(alloc, machine, rows.as_slice()) {
         Ok(places) => places,
         Err(fault) => return Err(fault_of(fault)),
     };
-    let base = base_of(places.as_slice());
-    let entry = entry_at(kernel, base);
-    let registers = multiboot2_registers(entry as u32, information_at(places.as_slice()) as u32);
+    let registers = registers_of(kernel, places.as_slice());
     let sorted = in_order(alloc, places.as_slice())?;
     let parts = parts_at(
         alloc,
@@ -153,7 +148,7 @@ pub fn plan_parts<A: Allocator + Copy, V: ByteView>(
         line,
         kernel,
         files,
-        base as u32,
+        places.as_slice(),
         sorted.as_slice(),
     )?;
     let ranges = ranges_of(alloc, parts.as_slice())?;

@@ -22,13 +22,10 @@ fn line_of<A: Allocator>(entry: &Entry<A>) -> Result<&Bytes<A>, Refusal>
         (λ refusal. HasFormFault entry.now refusal) }
 {
     match entry {
-        Entry::Multiboot2 { line, modules, .. } => {
-            if modules.is_empty() {
-                Ok(line)
-            } else {
-                Err(Refusal::NotYet)
-            }
-        }
+        Entry::Multiboot2 { line, modules, .. } => match modules.as_slice() {
+            [] => Ok(line),
+            _ => Err(Refusal::NotYet),
+        },
         Entry::Linux { .. } => Err(Refusal::NotYet),
     }
 }

@@ -3,6 +3,8 @@ ghost use Rattle.std.specs.Prelude.{◌≡◌, ◌≤◌, ◌<◌, ◌+◌, ◌^
 ghost use Rattle.bl_mbi.specs.Size.{size_of};
 ghost use Rattle.bl_load.specs.Blocks as blocks;
 ghost use Rattle.bl_load.specs.Rows as table;
+ghost use Rattle.bl_load.specs.Value.{multiboot2_value};
+ghost use Rattle.bl_load.specs.Reading.{multiboot2};
 ghost use Rattle.bl_load.specs.KernelKept.{AreLoadable, kernel_by};
 
 use crate::kernel::Kernel;
@@ -132,7 +134,7 @@ fn info_length(line: u64, runs: u64, is_relocatable: bool) -> u64
 /// The row of the information.
 fn information_row<A: Allocator>(machine: &Machine<A>, line: &[u8], kernel: &Kernel<A>) -> Row
     requires { length line.now ≤ 4095 }
-    ensures { result ≡ table.information_row machine.now line.now kernel.now.relocation }
+    ensures { result ≡ table.information_row machine.now (multiboot2_value [] line.now []) kernel.now.relocation }
 {
     let runs = machine.normal().len() as u64;
     let length = info_length(line.len() as u64, runs, kernel.relocation.is_some());
@@ -158,8 +160,7 @@ pub fn rows_of<A: Allocator>(
     requires line { length line.now ≤ 4095 }
     requires few { length (kernel_by kernel.now).segments ≤ 128 }
     requires span { blocks.span_of (kernel_by kernel.now).segments < 2 ^ 64 }
-    ensures { IfOk result (λ rows. rows.items ≡ table.rows_of machine.now line.now
-        (kernel_by kernel.now)) }
+    ensures { IfOk result (λ rows. rows.items ≡ table.rows_of machine.now (multiboot2_value [] line.now []) (multiboot2 (kernel_by kernel.now))) }
 {
     let mut rows = Vec::new(alloc);
     push_kernel_rows(&mut rows, kernel)?;

@@ -1,8 +1,10 @@
-use Rattle.std.proofs.Common.{◌≡◌, take, map, All}
+use Rattle.std.proofs.Common.{◌≡◌, [], take, map, All}
+use Rattle.bl_load.specs.Value.{multiboot2_value}
+use Rattle.bl_load.specs.Reading.{multiboot2}
 use Rattle.bl_load.specs.KernelKept.{kernel_by}
 use Rattle.bl_load.specs.Parts.{part_from}
 use Rattle.bl_load.specs.Place.{place_of}
-use Rattle.bl_load.specs.Planned.{part_by, file_text}
+use Rattle.bl_load.specs.Planned.{part_by}
 use Rattle.bl_load.specs.Kept.{lengths_of, IsBacked, IsLean}
 use Rattle.bl_load.proofs.contents.parts_at.Given as goal
 
@@ -11,8 +13,8 @@ abbrev pub invariant-loop-place : goal.invariant-loop-place
 invariant-loop-place g l =
     let texts = map g.V.ByteView.bytes l.files in
     record {
-      parts : map (part_by texts) l.parts.items ≡ map (part_from l.machine l.line (file_text texts 0) (kernel_by l.kernel) l.base) (take l.place-index l.places);
+      parts : map (part_by texts) l.parts.items ≡ map (part_from l.machine (multiboot2_value texts l.line []) (multiboot2 (kernel_by l.kernel)) l.places) (take l.place-index l.sorted);
       backed : All (IsBacked (lengths_of texts)) l.parts.items;
       lean : IsLean l.parts.items;
-      places : map place_of l.parts.items ≡ take l.place-index l.places;
+      places : map place_of l.parts.items ≡ take l.place-index l.sorted;
     }

@@ -1,12 +1,20 @@
-use Rattle.std.proofs.Common.{◌≤◌, ℕ, List, length, map, arith, subst, sym, ◌∙◌}
+use Rattle.std.proofs.Common.{◌≤◌, ◌≡◌, ℕ, List, [], length, map, arith, subst, sym, ap, ◌∙◌}
 use Rattle.std.proofs.lemmas.Result.{IfOk-weaker, IfErr-weaker, err_from_is_err_and}
 use Rattle.bl_load.specs.KernelKept.{kernel_by, AreLoadable, IsKernelFault}
 use Rattle.bl_load.specs.Kernel.{IsKernel}
-use Rattle.bl_load.specs.Planned.{file_text, handover_by}
-use Rattle.bl_load.specs.Value.{value_of}
+use Rattle.bl_load.specs.Planned.{handover_by}
+use Rattle.bl_load.specs.Value.{value_of, multiboot2_value}
 use Rattle.bl_load.proofs.LineLemmas.{sound_short}
-use Rattle.bl_load.proofs.PrepareLemmas.{some_file, kernel_is, first_text, IsSound, prepared, refused_kernel, refused_places}
+use Rattle.bl_load.proofs.PrepareLemmas.{some_file, first_text, prepared, refused_kernel, refused_places, refused_line}
 use Rattle.bl_load.proofs.preparing.prepare.Goals as goal
+
+pub returns-in_err-check_line-clause-fault : goal.returns-in_err-check_line-clause-fault
+returns-in_err-check_line-clause-fault g c =
+    let p = err_from_is_err_and c.from_residual-in_err-check_line.result c.from_residual-in_err-check_line.ensures.1 in
+    let texts = map g.V.ByteView.bytes c.args.files.now in
+    let line = c.as_slice-line.result.now in
+    let is_value : value_of texts c.args.entry.now ≡ multiboot2_value texts line [] = c.in_ok-line_of.ensures texts ∙ ap (λ (l : List ℕ). multiboot2_value texts l []) (sym c.as_slice-line.ensures) in
+    rw (p.1, p.2) (refused_line c.args.machine.now (value_of texts c.args.entry.now) texts line _ is_value c.in_err-check_line.ensures)
 
 pub returns-in_err-kernel-clause-fault : goal.returns-in_err-kernel-clause-fault
 returns-in_err-kernel-clause-fault g c =
@@ -17,9 +25,9 @@ returns-in_err-kernel-clause-fault g c =
     let some : 1 ≤ length c.args.files.now = omega (arith, some_file entry, c.requires.files) in
     let file = first_text g.V.ByteView.bytes c.args.files.now c.index-files-0.result some c.index-files-0.is in
     let value = value_of texts entry in
-    let has = c.in_ok-line_of.ensures texts in
-    let sound : IsSound value c.as_slice-line.result.now (file_text texts 0) = record { form = has.1; line_is = has.2 ∙ sym c.as_slice-line.ensures; file_is = kernel_is texts entry; no_fault = c.in_ok-check_line.ensures } in
-    rw (p.1, p.2) (refused_kernel c.args.machine.now value c.as_slice-line.result.now (file_text texts 0) sound fault (subst (λ (f : List ℕ). IsKernelFault f fault) file c.in_err-kernel.ensures.fault))
+    let line = c.as_slice-line.result.now in
+    let is_value : value ≡ multiboot2_value texts line [] = c.in_ok-line_of.ensures texts ∙ ap (λ (l : List ℕ). multiboot2_value texts l []) (sym c.as_slice-line.ensures) in
+    rw (p.1, p.2) (refused_kernel c.args.machine.now value texts line is_value c.in_ok-check_line.ensures fault (subst (λ (f : List ℕ). IsKernelFault f fault) file c.in_err-kernel.ensures.fault))
 
 pub plan_parts-requires-clause-sound : goal.plan_parts-requires-clause-sound
 plan_parts-requires-clause-sound g c =
@@ -56,10 +64,10 @@ returns-clause-handover g c =
     let some : 1 ≤ length c.args.files.now = omega (arith, some_file entry, c.requires.files) in
     let file = first_text g.V.ByteView.bytes c.args.files.now c.index-files-0.result some c.index-files-0.is in
     let value = value_of texts entry in
-    let has = c.in_ok-line_of.ensures texts in
-    let sound : IsSound value c.as_slice-line.result.now (file_text texts 0) = record { form = has.1; line_is = has.2 ∙ sym c.as_slice-line.ensures; file_is = kernel_is texts entry; no_fault = c.in_ok-check_line.ensures } in
+    let line = c.as_slice-line.result.now in
+    let is_value : value ≡ multiboot2_value texts line [] = c.in_ok-line_of.ensures texts ∙ ap (λ (l : List ℕ). multiboot2_value texts l []) (sym c.as_slice-line.ensures) in
     let is = subst (λ (f : List ℕ). IsKernel f (kernel_by c.in_ok-kernel.kernel)) file c.in_ok-kernel.ensures.kernel in
-    IfOk-weaker c.plan_parts.result _ _ (λ plan h. prepared c.args.machine.now value c.as_slice-line.result.now (file_text texts 0) sound (kernel_by c.in_ok-kernel.kernel) (handover_by texts plan) is h) c.plan_parts.ensures.handover
+    IfOk-weaker c.plan_parts.result _ _ (λ plan h. prepared c.args.machine.now value texts line is_value c.in_ok-check_line.ensures (kernel_by c.in_ok-kernel.kernel) (handover_by texts plan) is h) c.plan_parts.ensures.handover
 
 pub returns-clause-fault : goal.returns-clause-fault
 returns-clause-fault g c =
@@ -68,7 +76,7 @@ returns-clause-fault g c =
     let some : 1 ≤ length c.args.files.now = omega (arith, some_file entry, c.requires.files) in
     let file = first_text g.V.ByteView.bytes c.args.files.now c.index-files-0.result some c.index-files-0.is in
     let value = value_of texts entry in
-    let has = c.in_ok-line_of.ensures texts in
-    let sound : IsSound value c.as_slice-line.result.now (file_text texts 0) = record { form = has.1; line_is = has.2 ∙ sym c.as_slice-line.ensures; file_is = kernel_is texts entry; no_fault = c.in_ok-check_line.ensures } in
+    let line = c.as_slice-line.result.now in
+    let is_value : value ≡ multiboot2_value texts line [] = c.in_ok-line_of.ensures texts ∙ ap (λ (l : List ℕ). multiboot2_value texts l []) (sym c.as_slice-line.ensures) in
     let is = subst (λ (f : List ℕ). IsKernel f (kernel_by c.in_ok-kernel.kernel)) file c.in_ok-kernel.ensures.kernel in
-    IfErr-weaker c.plan_parts.result _ _ (λ fault h. refused_places c.args.machine.now value c.as_slice-line.result.now (file_text texts 0) sound (kernel_by c.in_ok-kernel.kernel) fault is h) c.plan_parts.ensures.fault
+    IfErr-weaker c.plan_parts.result _ _ (λ fault h. refused_places c.args.machine.now value texts line is_value c.in_ok-check_line.ensures (kernel_by c.in_ok-kernel.kernel) fault is h) c.plan_parts.ensures.fault

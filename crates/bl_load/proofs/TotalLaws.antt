@@ -1,0 +1,126 @@
+-- Each entry has a handover or a first refusal.
+use Rattle.std.proofs.Common.{◌≡◌, ◌≢◌, ℕ, List, [], ◌∷◌, Option, Some, None, ◌⊎◌, inl, inr, arith, sym, refl, subst, AllPairs}
+use Rattle.bl_mem.specs.declared.segment.Segment.{Segment}
+use Rattle.bl_map.specs.MachineFacts.{MachineFacts}
+use Rattle.bl_elf.specs.Elf.{ElfFacts, AreApart}
+use Rattle.bl_elf.specs.declared.fault.ElfFault.{ElfFault}
+use Rattle.bl_elf.specs.declared.fault.ElfFault.TheVariants as elf_fault
+use Rattle.bl_elf.proofs.ElfLaws.{elf_apart}
+use Rattle.bl_elf.proofs.TotalLaws.{elf_or_fault}
+use Rattle.bl_mb2head.specs.Header.{IsHeader}
+use Rattle.bl_mb2head.specs.declared.header.Header.{Header}
+use Rattle.bl_mb2head.proofs.TotalLaws.{header_or_fault}
+use Rattle.bl_plan.specs.Placed.{IsFirstFault}
+use Rattle.bl_plan.specs.declared.fault.PlanFault.{PlanFault}
+use Rattle.bl_plan.specs.declared.fault.PlanFault.TheVariants as plan_fault
+use Rattle.bl_plan.specs.declared.protocol.Protocol.{Protocol}
+use Rattle.bl_plan.specs.declared.protocol.Protocol.TheVariants as protocol
+use Rattle.bl_load.specs.declared.refusal.Refusal.{Refusal}
+use Rattle.bl_load.specs.declared.refusal.Refusal.TheVariants as refusal
+use Rattle.bl_load.specs.Value.{EntryValue, kernel_file, form_fault, lines_fault, lines_of}
+use Rattle.bl_load.specs.Kernel.{KernelFacts, IsLoadedBy, IsKernel, HasLoadFault, HasKernelFault, entry_fault, counted_entry, head_refusal, elf_refusal}
+use Rattle.bl_load.specs.Reading.{Reading, multiboot2, IsRead, HasReadFault}
+use Rattle.bl_load.specs.Rows.{rows_of}
+use Rattle.bl_load.specs.Handover.{Handover}
+use Rattle.bl_load.specs.Parts.{IsHandover, IsRefusal, HasRowFault, handover_of}
+use Rattle.bl_load.proofs.DecidedLaws.{placed_or_fault}
+use Rattle.bl_load.proofs.OverlapLemmas.{no_overlap}
+
+some_or_none : {X : Type 0} (o : Option X) → ((x : X) × (o ≡ Some x)) ⊎ (o ≡ None)
+some_or_none None = inr refl
+some_or_none (Some x) = inl (x, refl)
+
+-- ---- a Multiboot2 kernel's file
+
+-- a fault that is no want of memory refuses
+elf_refused : (fault : ElfFault) → ¬ (fault ≡ elf_fault.NoMemory) → (r : Refusal) × (elf_refusal fault ≡ Some r)
+elf_refused elf_fault.NotElf some = (refusal.NotElf, refl)
+elf_refused elf_fault.BadElf some = (refusal.BadElf, refl)
+elf_refused (elf_fault.SegmentCut i) some = (refusal.SegmentCut i, refl)
+elf_refused (elf_fault.AddressTooHigh i) some = (refusal.AddressTooHigh i, refl)
+elf_refused (elf_fault.SegmentsOverlap i j) some = (refusal.SegmentsOverlap i j, refl)
+elf_refused elf_fault.NoEntry some = (refusal.NoEntry, refl)
+elf_refused elf_fault.NoMemory some = absurd (some refl)
+
+loaded_or_fault : (file : List ℕ) (segment : Option Segment) → ((facts : ElfFacts) × IsLoadedBy file segment facts) ⊎ ((r : Refusal) × HasLoadFault file segment r)
+loaded_or_fault file (Some segment) = inl (record { segments = segment ∷ []; entry = None }, refl)
+loaded_or_fault file None =
+    elim (elf_or_fault file) [
+      | inl elf ↦ inl elf
+      | inr (fault, some, has) ↦ inr ((elf_refused fault some).0, (fault, (elf_refused fault some).1, has))
+    ]
+
+entry_given : (segments : List Segment) (entry : Option ℕ) → entry_fault segments entry ≡ None → (a : ℕ) × (entry ≡ Some a)
+entry_given segments None sound = absurd cc
+entry_given segments (Some a) sound = (a, refl)
+
+kernel_of : (file : List ℕ) (header : Header) (facts : ElfFacts) → IsHeader file header → IsLoadedBy file header.segment facts → entry_fault facts.segments (counted_entry header facts) ≡ None → (kernel : KernelFacts) × IsKernel file kernel
+kernel_of file header facts is loaded sound =
+    let entry = entry_given facts.segments (counted_entry header facts) sound in (
+      record { segments = facts.segments; entry = entry.0; relocation = header.relocation },
+      record { header = header; facts = facts; is_header = is; loaded = loaded; sound = sound; entry = entry.1; segments = refl; relocation = refl },
+    )
+
+kernel_or_fault : (file : List ℕ) → ((kernel : KernelFacts) × IsKernel file kernel) ⊎ ((r : Refusal) × HasKernelFault file r)
+kernel_or_fault file =
+    elim (header_or_fault file) [
+      | inr (fault, has) ↦ inr (head_refusal fault, inl (fault, has, refl))
+      | inl (header, is) ↦ elim (loaded_or_fault file header.segment) [
+        | inr (r, has) ↦ inr (r, inr (inl (header, is, has)))
+        | inl (facts, loaded) ↦ elim (some_or_none (entry_fault facts.segments (counted_entry header facts))) [
+          | inl (r, has) ↦ inr (r, inr (inr (header, facts, is, loaded, has)))
+          | inr sound ↦ inl (kernel_of file header facts is loaded sound)
+        ]
+      ]
+    ]
+
+loaded_apart : (file : List ℕ) (segment : Option Segment) (facts : ElfFacts) → IsLoadedBy file segment facts → AllPairs AreApart facts.segments
+loaded_apart file (Some segment) facts loaded = subst (λ (f : ElfFacts). AllPairs AreApart f.segments) (sym loaded) (λ i j d ij within. absurd (omega arith))
+loaded_apart file None facts loaded = elf_apart file facts loaded
+
+-- the segments of a kernel share no byte
+kernel_apart : (file : List ℕ) (kernel : KernelFacts) → IsKernel file kernel → AllPairs AreApart kernel.segments
+kernel_apart file kernel is = subst (λ (ss : List Segment). AllPairs AreApart ss) (sym is.segments) (loaded_apart file is.header.segment is.facts is.loaded)
+
+-- ---- what a protocol adds
+
+form_is : (p : Protocol) (lines : List (List ℕ)) → form_fault p lines ≡ None → p ≡ protocol.Multiboot2
+form_is protocol.Multiboot2 lines sound = refl
+form_is protocol.Linux lines sound = absurd cc
+
+read_or_fault : (value : EntryValue) → form_fault value.protocol value.module_lines ≡ None → ((reading : Reading) × IsRead value reading) ⊎ ((r : Refusal) × HasReadFault value r)
+read_or_fault value form =
+    let is = form_is value.protocol value.module_lines form in
+    elim (kernel_or_fault (kernel_file value)) [
+      | inl (kernel, is_kernel) ↦ inl (multiboot2 kernel, (is, is_kernel))
+      | inr (r, has) ↦ inr (r, (is, has))
+    ]
+
+-- the rows of what was read don't overlap one another
+reading_no_overlap : (facts : MachineFacts) (value : EntryValue) (reading : Reading) → IsRead value reading → IsFirstFault facts [] (rows_of facts value reading) plan_fault.Overlap → ⊥
+reading_no_overlap facts value (multiboot2 kernel) is has = no_overlap facts value kernel (kernel_apart (kernel_file value) kernel is.1) has
+
+-- ---- the rest names none
+
+row_refused : (facts : MachineFacts) (value : EntryValue) (reading : Reading) (fault : PlanFault) → IsRead value reading → fault ≢ plan_fault.NoMemory → IsFirstFault facts [] (rows_of facts value reading) fault
+    → (r : Refusal) × HasRowFault facts (rows_of facts value reading) r
+row_refused facts value reading plan_fault.NotUsable is some has = (refusal.NotUsable, (plan_fault.NotUsable, has, refl))
+row_refused facts value reading plan_fault.Overlap is some has = absurd (reading_no_overlap facts value reading is has)
+row_refused facts value reading plan_fault.NoRoom is some has = (refusal.NoRoom, (plan_fault.NoRoom, has, refl))
+row_refused facts value reading plan_fault.NoMemory is some has = absurd (some refl)
+
+pub handover_or_refusal : (facts : MachineFacts) (value : EntryValue) → ((handover : Handover) × IsHandover facts value handover) ⊎ ((r : Refusal) × IsRefusal facts value r)
+handover_or_refusal facts value =
+    elim (some_or_none (form_fault value.protocol value.module_lines)) [
+      | inl (r, faulty) ↦ inr (r, inl faulty)
+      | inr form ↦ elim (some_or_none (lines_fault (lines_of value))) [
+        | inl (r, faulty) ↦ inr (r, inr (form, inl faulty))
+        | inr lines ↦ elim (read_or_fault value form) [
+          | inr (r, has) ↦ inr (r, inr (form, inr (lines, inl has)))
+          | inl (reading, read) ↦ elim (placed_or_fault facts [] (rows_of facts value reading)) [
+            | inr (fault, some, has) ↦ let refused = row_refused facts value reading fault read some has in inr (refused.0, inr (form, inr (lines, inr (reading, read, refused.1))))
+            | inl (places, placed) ↦ inl (handover_of facts value reading places, record { reading = reading; places = places; form = form; lines = lines; read = read; placed = placed; is = refl })
+          ]
+        ]
+      ]
+    ]
