@@ -4,5 +4,5 @@ mod attempt;
 mod entry;
 mod kernel;
 
-pub use attempt::{Attempt, Loaded};
+pub use attempt::{Attempt, LoadedEntry};
 pub use entry::attempt_entry;

@@ -5,6 +5,6 @@ mod handing;
 mod machine;
 mod running;
 
-pub use fault::{EndFault, Ended};
+pub use fault::{End, EndFault};
 pub use machine::machine_of;
 pub use running::boot;

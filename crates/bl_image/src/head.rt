@@ -1,14 +1,15 @@
 //! The head of an image, and its records.
-ghost use Rattle.std.specs.Prelude.{◌≡◌, ◌+◌, ◌*◌, ◌<◌, ◌≤◌, ◌^◌, ◌++◌, length, take, All, OnOk, OnErr};
+ghost use Rattle.std.specs.Prelude.{◌≡◌, ◌+◌, ◌*◌, ◌<◌, ◌≤◌, ◌^◌, ◌++◌, length, take, All, OnOk};
+ghost use Rattle.std.specs.Prelude.{OnErr};
 ghost use Rattle.std.specs.List.{flat_map};
 ghost use Rattle.bl_image.specs.Begun.{IsBegun};
-ghost use Rattle.bl_image.specs.Image.{u32_bytes, head, place_record, register_numbers};
+ghost use Rattle.bl_image.specs.Image.{head, place_record, register_numbers};
 ghost use Rattle.bl_image.specs.Spellable.{AreSpellable};
 
 use crate::sink::{DeviceFault, Sink, write_all};
 use bl_load::{Handoff, Protocol, Registers};
+use bl_mem::{write_u32s, write_u64s};
 use bl_plan::Place;
-use byteorder::{ByteOrder, LittleEndian};
 use std::alloc::Allocator;
 
 /// What an image begins with.
@@ -16,16 +17,6 @@ const MAGIC: [u8; 8] = *b"BLIMAGE\0";
 
 /// The version of the format.
 const VERSION: u32 = 1;
-
-/// Puts words into bytes, the lowest byte of each first.
-#[tactic(auto, unfolding(crate::specs::Image::u32_bytes))]
-fn put_words(words: &[u32], bytes: &mut [u8])
-    requires { length bytes.old ≡ 4 * length words.now }
-    ensures bytes { bytes.new ≡ u32_bytes words.now }
-    ensures fit { All (λ word. word < 2 ^ 32) words.now }
-{
-    LittleEndian::write_u32_into(words, bytes);
-}
 
 /// The head of an image with so many parts.
 fn head_bytes(protocol: Protocol, r: &Registers, count: u32) -> [u8; 104]
@@ -60,19 +51,18 @@ fn head_bytes(protocol: Protocol, r: &Registers, count: u32) -> [u8; 104]
     ];
     let mut bytes = [0u8; 104];
     bytes[..8].copy_from_slice(&MAGIC);
-    put_words(&words, &mut bytes[8..]);
+    write_u32s(&words, &mut bytes[8..]);
     bytes
 }
 
 /// The record of a part.
-#[tactic(auto, unfolding(crate::specs::Image::u32_bytes, crate::specs::Image::u64_bytes))]
 fn record_bytes(place: &Place) -> [u8; 24]
     ensures bytes { result ≡ place_record place.now }
     ensures index { place.now.index < 2 ^ 32 }
 {
     let mut bytes = [0u8; 24];
-    put_words(&[place.role.number(), place.index], &mut bytes[..8]);
-    LittleEndian::write_u64_into(&[place.address, place.length], &mut bytes[8..]);
+    write_u32s(&[place.role.number(), place.index], &mut bytes[..8]);
+    write_u64s(&[place.address, place.length], &mut bytes[8..]);
     bytes
 }
 
@@ -85,12 +75,13 @@ fn put(buffer: &mut [u8], at: usize, bytes: &[u8])
     buffer[at..end].copy_from_slice(bytes);
 }
 
-/// Puts all that stands before the parts' bytes into the buffer, and says how many bytes it has: 104, and 24
-/// for each of at most 256 parts.
+/// Puts all that stands before the parts' bytes into the buffer, and says how many bytes it has:
+/// 104, and 24 for each of at most 256 parts.
 fn put_front<A: Allocator>(buffer: &mut [u8], handoff: &Handoff<A>) -> usize
     requires { 6248 ≤ length buffer.old }
     ensures within { result ≤ length buffer.new }
-    ensures front { take result buffer.new ≡ head handoff.now.protocol handoff.now.registers (length handoff.now.places)
+    ensures front { take result buffer.new
+        ≡ head handoff.now.protocol handoff.now.registers (length handoff.now.places)
         ++ flat_map place_record handoff.now.places }
     ensures fit { AreSpellable handoff.now.registers handoff.now.places }
 {

@@ -1,12 +1,12 @@
 -- A Multiboot2 kernel's file: what is loaded of it, where it is entered, how it may be moved; or its first fault.
-use Rattle.std.specs.Prelude.{◌≡◌, ◌+◌, ◌<◌, ◌≤◌, ◌^◌, ℕ, Bool, if◌then◌else◌, length, All, AllPairs, List, [], ◌∷◌, Option, Some, None, ◌⊎◌}
+use Rattle.std.specs.Prelude.{◌≡◌, ℕ, Bool, if◌then◌else◌, List, [], ◌∷◌, Option, Some, None, ◌⊎◌}
 use Rattle.std.specs.Option.{option_or}
 use Rattle.std.specs.List.{list_any}
 use Rattle.bl_mem.specs.declared.segment.Segment.{Segment}
 use Rattle.bl_elf.specs.Elf.{ElfFacts, IsElf}
 use Rattle.bl_elf.specs.Elf as elf
 use Rattle.bl_elf.specs.Elf.{AreApart}
-use Rattle.bl_load.specs.Blocks.{holds, span_of}
+use Rattle.bl_mem.specs.Contents.{holds}
 use Rattle.bl_elf.specs.declared.fault.ElfFault.{ElfFault}
 use Rattle.bl_elf.specs.declared.fault.ElfFault.TheVariants as elf_fault
 use Rattle.bl_mb2head.specs.Header.{IsHeader}
@@ -17,8 +17,6 @@ use Rattle.bl_mb2head.specs.declared.fault.HeadFault.{HeadFault}
 use Rattle.bl_mb2head.specs.declared.fault.HeadFault.TheVariants as head_fault
 use Rattle.bl_load.specs.declared.refusal.Refusal.{Refusal}
 use Rattle.bl_load.specs.declared.refusal.Refusal.TheVariants as refusal
-use Rattle.bl_load.specs.declared.refusal.PrepFault.{PrepFault}
-use Rattle.bl_load.specs.declared.refusal.PrepFault.TheVariants as prep_fault
 
 -- a kernel: its segments in their order, the address that it is entered at where they lie as linked, how it may be moved
 pub record KernelFacts : Type 0 where
@@ -84,29 +82,3 @@ HasKernelFault file refused =
     ((fault : HeadFault) × header.HasFirstFault file fault × (refused ≡ head_refusal fault))
     ⊎ ((head : Header) × IsHeader file head × HasLoadFault file head.segment refused)
     ⊎ ((head : Header) × (facts : ElfFacts) × IsHeader file head × IsLoadedBy file head.segment facts × (entry_fault facts.segments (counted_entry head facts) ≡ Some refused))
-
--- a fault of reading as one of preparing: it stands, or memory ran out
-abbrev pub IsElfFault : ElfFault → PrepFault → Type 0
-IsElfFault fault (prep_fault.Refused refused) = elf_refusal fault ≡ Some refused
-IsElfFault fault prep_fault.NoMemory = fault ≡ elf_fault.NoMemory
-
-abbrev pub IsLoadFault : List ℕ → Option Segment → PrepFault → Type 0
-IsLoadFault file segment (prep_fault.Refused refused) = HasLoadFault file segment refused
-IsLoadFault file segment prep_fault.NoMemory = Unit {0}
-
-abbrev pub IsKernelFault : List ℕ → PrepFault → Type 0
-IsKernelFault file (prep_fault.Refused refused) = HasKernelFault file refused
-IsKernelFault file prep_fault.NoMemory = Unit {0}
-
--- what holds of the segments of a kernel with no fault: each takes memory, what it takes of the file is there, it
--- begins below 4 GiB; no two share a byte, and their block has a length of 64 bits
-pub record AreLoadable (file : List ℕ) (segments : List Segment) : Type 0 where
-  pub some : 1 ≤ length segments
-  pub few : length segments ≤ 128
-  pub filled : All (λ s. 1 ≤ s.memsz) segments
-  pub fits : All (λ s. s.filesz ≤ s.memsz) segments
-  pub in_file : All (λ s. 0 < s.filesz → s.offset + s.filesz ≤ length file) segments
-  pub small : All (λ s. s.memsz < 2 ^ 64) segments
-  pub low : All (λ s. s.address < 2 ^ 32) segments
-  pub apart : AllPairs AreApart segments
-  pub span : span_of segments < 2 ^ 64

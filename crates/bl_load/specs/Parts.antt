@@ -1,5 +1,5 @@
 -- What an entry hands over on a machine, or its first refusal.
-use Rattle.std.specs.Prelude.{◌≡◌, ℕ, ◌+◌, ◌-◌, List, [], ◌∷◌, map, slice_index_or, ◌⊎◌, Option, Some, None, option_map, codes}
+use Rattle.std.specs.Prelude.{◌≡◌, ℕ, ◌+◌, ◌-◌, List, [], ◌∷◌, map, slice_index_or, ◌⊎◌, Option, Some, None, codes}
 use Rattle.bl_mem.specs.Contents.{file_part}
 use Rattle.bl_mem.specs.declared.segment.Segment.{Segment}
 use Rattle.bl_map.specs.MachineFacts.{MachineFacts}
@@ -19,7 +19,7 @@ use Rattle.bl_load.specs.Kernel.{KernelFacts, IsKernel, HasKernelFault}
 use Rattle.bl_load.specs.Blocks.{low_of, block_of}
 use Rattle.bl_load.specs.Rows.{rows_of, information_of}
 use Rattle.bl_load.specs.Registers.{multiboot2_registers}
-use Rattle.bl_load.specs.Order.{in_order}
+use Rattle.bl_plan.specs.Order.{in_order}
 use Rattle.bl_load.specs.Handover.{Part, Handover, part_at, filled}
 use Rattle.bl_load.specs.declared.refusal.PrepFault.{PrepFault}
 use Rattle.bl_load.specs.declared.refusal.PrepFault.TheVariants as prep_fault
@@ -102,21 +102,3 @@ IsRefusal facts value refused =
 abbrev pub IsPrepFault : MachineFacts → EntryValue → PrepFault → Type 0
 IsPrepFault facts value (prep_fault.Refused refused) = IsRefusal facts value refused
 IsPrepFault facts value prep_fault.NoMemory = Unit {0}
-
--- ---- what the code keeps
-
--- why its parts are not placed, unless memory ran out
-abbrev pub IsPlaceFault : MachineFacts → List ℕ → KernelFacts → PrepFault → Type 0
-IsPlaceFault facts line kernel (prep_fault.Refused refused) = HasPlaceFault facts line kernel refused
-IsPlaceFault facts line kernel prep_fault.NoMemory = Unit {0}
-
--- a fault of placing as one of preparing: its refusal, or want of memory
-abbrev pub fault_of : PlanFault → Option PrepFault
-fault_of plan_fault.NoMemory = Some prep_fault.NoMemory
-fault_of fault = option_map (λ refused. prep_fault.Refused refused) (placing_refusal fault)
-
--- the rows have these places, and this is handed over
-pub record IsPlacedHandover (facts : MachineFacts) (line file : List ℕ) (kernel : KernelFacts) (handover : Handover) : Type 0 where
-  pub places : List Place
-  pub placed : ArePlaced facts [] (rows_of facts line kernel) places
-  pub is : handover ≡ handover_of facts line file kernel places

@@ -1,12 +1,13 @@
 -- Counts of open frames, and the frames that a pass over the ranges has decided.
-use Rattle.std.proofs.Common.{◌≡◌, ◌<◌, ◌≤◌, ◌+◌, ◌-◌, ◌*◌, ℕ, zero, suc, true, false, List, length, get_or, map, arith, rules, ap, ◌∙◌, inl, inr}
+use Rattle.std.proofs.Common.{◌≡◌, ◌<◌, ◌≤◌, ◌+◌, ◌-◌, ◌*◌, ℕ, zero, suc, true, false, List, length, get_or, arith, rules, ap, ◌∙◌, inl, inr}
 use Rattle.std.proofs.lemmas.Bool.{cases_lt}
 use Rattle.std.proofs.lemmas.List.{get_or_default}
 use Rattle.std.proofs.lemmas.List.Folds.{list_all_at}
 use Rattle.std.proofs.lemmas.List.Sums.{list_all-from_AllPass}
 use Rattle.std.specs.declared.ops.Range.{Range}
 use Rattle.std.specs.Prelude.{max}
-use Rattle.bl_map.specs.Room.{frames_in, is_beside, is_open, open_among, AreAscending, AreMet}
+use Rattle.bl_map.specs.Kept.{AreMet}
+use Rattle.bl_map.specs.Room.{frames_in, is_beside, is_open, open_among, AreAscending}
 
 -- frames of which each is open are counted
 all_open : (ranges : List (Range ℕ)) (start n k : ℕ) → ((i : ℕ) → n ≤ i → i < n + k → is_open ranges (start + 4096 * i) ≡ true)

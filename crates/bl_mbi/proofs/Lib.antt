@@ -1,6 +1,7 @@
 pub mod BodyIs
 pub mod BodyLaws
 pub mod GroupLemmas
+pub mod InfoIs
 pub mod Inverse
 pub mod ModuleLemmas
 pub mod Pieces
@@ -9,6 +10,7 @@ pub mod ReadIs
 pub mod ReadLaws
 pub mod RunLemmas
 pub mod Sizes
+pub mod SumLemmas
 pub mod TagIs
 pub mod TagLaws
 pub mod WordLaws

@@ -1,2 +1,5 @@
 pub mod Overwrites
 pub mod ReadLemmas
+pub mod WordLaws
+pub mod LeastLaws
+pub mod SparseLemmas

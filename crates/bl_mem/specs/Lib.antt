@@ -2,3 +2,4 @@ pub mod Memory
 pub mod Words
 pub mod Least
 pub mod Contents
+pub mod Sparse

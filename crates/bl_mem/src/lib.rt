@@ -3,14 +3,19 @@
 
 mod bytes;
 mod flat;
+mod frame;
 mod memory;
+mod put;
 mod segment;
+mod sparse;
 mod view;
 mod words;
 
 pub use bytes::Bytes;
 pub use flat::Flat;
 pub use memory::PhysMem;
+pub use put::{put_bytes, put_u32, put_u64, write_u32s, write_u64s};
 pub use segment::Segment;
+pub use sparse::Sparse;
 pub use view::{ByteView, SliceView};
 pub use words::{u8_at, u16_at, u32_at, u64_at};

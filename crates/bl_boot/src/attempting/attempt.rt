@@ -5,7 +5,7 @@ use std::alloc::Allocator;
 
 /// Memory that holds an entry's parts, and what the kernel is handed.
 #[derive(Drop)]
-pub struct Loaded<A: Allocator> {
+pub struct LoadedEntry<A: Allocator> {
     pub handoff: Handoff<A>,
     pub memory: Flat<A>,
 }
@@ -17,5 +17,5 @@ pub enum Attempt<A: Allocator> {
     Refused(Refusal),
 
     /// The entry can be handed over.
-    Loaded(Loaded<A>),
+    Loaded(LoadedEntry<A>),
 }

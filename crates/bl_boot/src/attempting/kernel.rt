@@ -1,15 +1,17 @@
 //! An attempt with the bytes of a kernel.
 ghost use Rattle.std.specs.Prelude.{◌≡◌, ℕ, ◌≤◌, List, [], ◌∷◌, IfOk, MatchBool, map};
 ghost use Rattle.std.specs.Borrow.{Bor};
-ghost use Rattle.bl_load.specs.Planned.{IsLoadable, handover_by};
+ghost use Rattle.bl_load.specs.Planned.{handover_by};
+ghost use Rattle.bl_load.specs.Kept.{lengths_of, IsLoadable};
 ghost use Rattle.bl_map.specs.Room.{frames_in, AreAscending};
 ghost use Rattle.bl_map.specs.Room as room;
 ghost use Rattle.bl_load.specs.Value.{value_of, file_count, HasFewModules};
-ghost use Rattle.bl_boot.specs.Attempt.{entry_value, IsAttempt, IsLoaded};
-ghost use Rattle.bl_desc.specs.Described.{entry_view};
+ghost use Rattle.bl_boot.specs.Attempt.{entry_value};
+ghost use Rattle.bl_boot.specs.LoadedEntry.{IsAttempt, IsLoaded};
+ghost use Rattle.bl_desc.specs.Kept.{entry_view};
 ghost use Rattle.bl_boot.specs.Files.{bytes};
 
-use crate::attempting::attempt::{Attempt, Loaded};
+use crate::attempting::attempt::{Attempt, LoadedEntry};
 use bl_desc::EntryRow;
 use bl_load::{Entry, Plan, PrepFault, Refusal, load, prepare};
 use bl_map::{Machine, frames_in, frames_of, open_frames};
@@ -62,17 +64,18 @@ fn load_plan<A: Allocator + Copy, V: ByteView>(
     fill: u8,
     plan: Plan<A>,
     files: &[V],
-) -> Result<Loaded<A>, AllocError>
-    requires { IsLoadable (map V.bytes files.now) size plan }
+) -> Result<LoadedEntry<A>, AllocError>
+    requires { IsLoadable (lengths_of (map V.bytes files.now)) size plan }
     ensures { IfOk result (IsLoaded size fill (handover_by (map V.bytes files.now) plan)) }
 {
     let mut memory = Flat::new(alloc, size, fill)?;
     memory.reserve(plan.ranges())?;
     let handoff = load(&mut memory, plan, files);
-    Ok(Loaded { handoff, memory })
+    Ok(LoadedEntry { handoff, memory })
 }
 
-/// Attempts to boot an entry with the bytes of its kernel, in memory each byte of which is `fill` before.
+/// Attempts to boot an entry with the bytes of its kernel, in memory each byte of which is `fill`
+/// before.
 pub fn attempt_kernel<A: Allocator + Copy>(
     alloc: A,
     machine: &Machine<A>,

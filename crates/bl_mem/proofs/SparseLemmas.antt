@@ -1,0 +1,156 @@
+-- What kept frames read as, before and after one of them is made or written.
+use Rattle.std.proofs.Common.{◌≡◌, ℕ, ◌+◌, ◌-◌, ◌/◌, ◌%◌, ◌<◌, ◌≤◌, List, ◌++◌, length, get_or, take, map, replicate, slice_range, Option, Some, None, is_some, arith, rules, refl, sym, ap, ◌∙◌, inl, inr, false}
+use Rattle.std.specs.List.{range_with_len}
+use Rattle.std.specs.Ordering.{nat_cmp}
+use Rattle.std.specs.declared.boxed.Box.{Box}
+use Rattle.std.specs.BTreeMap.{BTreeMap, get, is_at}
+use Rattle.std.proofs.lemmas.Bool.Decides.{nat_tests}
+use Rattle.std.proofs.lemmas.Bool.{cases_lt, cases_eq}
+use Rattle.std.proofs.lemmas.List.{places, same_lists, ext_get_or, get_or_default, get_or_past, get_or-replicate, length-replicate}
+use Rattle.std.proofs.lemmas.List.FromFn.{length-map-range_with_len, get_or-map-range_with_len}
+use Rattle.bl_mem.specs.Memory.{overwrite}
+use Rattle.bl_mem.specs.Sparse.{byte_in, byte_at, bytes_of}
+use Rattle.bl_mem.proofs.Overwrites.{length-overwrite, get_or-overwrite_in, get_or-overwrite_below, get_or-overwrite_above, overwrite_more, range_more}
+
+-- a function's first values
+abbrev pub values : (ℕ → ℕ) → ℕ → List ℕ
+values f n = map f (range_with_len 0 n)
+
+pub length-values : (f : ℕ → ℕ) (n : ℕ) → length (values f n) ≡ n
+length-values f n = length-map-range_with_len f 0 n
+
+pub get_or-values : (f : ℕ → ℕ) (n a : ℕ) → a < n → get_or (values f n) a 0 ≡ f a
+get_or-values f n a h = get_or-map-range_with_len f 0 n a a 0 h (omega arith)
+
+-- memory is as long as its size
+pub bytes_of_length : {X : Type 0} (frames : BTreeMap ℕ (Box (List ℕ) X)) (fill size : ℕ) → length (bytes_of frames fill size) ≡ size
+bytes_of_length frames fill size = length-values (byte_at frames fill) size
+
+-- functions that agree have the same values
+pub same_values : (f g : ℕ → ℕ) (n : ℕ) → ((a : ℕ) → f a ≡ g a) → values f n ≡ values g n
+same_values f g n same = ext_get_or 0 _ _ (length-values f n ∙ sym (length-values g n)) (λ a h.
+    let below : a < n = let e = length-values f n in omega arith in
+    get_or-values f n a below ∙ same a ∙ sym (get_or-values g n a below))
+
+-- a constant's values
+pub constant_values : (f : ℕ → ℕ) (n x : ℕ) → ((a : ℕ) → f a ≡ x) → values f n ≡ replicate n x
+constant_values f n x same = ext_get_or 0 _ _ (length-values f n ∙ sym (length-replicate n x)) (λ a h.
+    let below : a < n = let e = length-values f n in omega arith in
+    get_or-values f n a below ∙ same a ∙ sym (get_or-replicate n a x 0 below))
+
+-- some values in a row
+pub values_range : (f : ℕ → ℕ) (n at : ℕ) (part : List ℕ) → at + length part ≤ n → ((k : ℕ) → k < length part → f (at + k) ≡ get_or part k 0) → part ≡ slice_range (values f n) at (at + length part)
+values_range f n at part h same =
+    let size = length-values f n in
+    let len : length part ≡ length (slice_range (values f n) at (at + length part)) = sym (search (rules, places)) in
+    ext_get_or 0 part _ len (λ k within.
+    let read : get_or (slice_range (values f n) at (at + length part)) k 0 ≡ get_or (values f n) (at + k) 0 = grind (arith, places) in
+    sym (same k within) ∙ sym (get_or-values f n (at + k) (omega arith)) ∙ sym read)
+
+-- values of which those of one range changed
+pub values_overwritten : (f g : ℕ → ℕ) (n at : ℕ) (part : List ℕ) → at + length part ≤ n
+    → ((a : ℕ) → at ≤ a → a < at + length part → g a ≡ get_or part (a - at) 0)
+    → ((a : ℕ) → a < at → g a ≡ f a)
+    → ((a : ℕ) → at + length part ≤ a → g a ≡ f a)
+    → values g n ≡ overwrite (values f n) at part
+values_overwritten f g n at part h inside below above =
+    let size = length-values f n in
+    let fits : at + length part ≤ length (values f n) = omega arith in
+    ext_get_or 0 _ _ (length-values g n ∙ sym (length-overwrite (values f n) at part fits ∙ size)) (λ a within.
+    let small : a < n = let e = length-values g n in omega arith in
+    get_or-values g n a small ∙ elim (cases_lt a at) [
+      | inl low ↦ below a low ∙ sym (get_or-overwrite_below (values f n) at part a 0 low fits ∙ get_or-values f n a small)
+      | inr from ↦ elim (cases_lt a (at + length part)) [
+        | inl high ↦ inside a from high ∙ sym (get_or-overwrite_in (values f n) at part a 0 from high fits)
+        | inr past ↦ above a past ∙ sym (get_or-overwrite_above (values f n) at part a 0 past fits ∙ get_or-values f n a small)
+      ]
+    ])
+
+module _ {X : Type 0} (frames : BTreeMap ℕ (Box (List ℕ) X)) (fill size at : ℕ) where
+  -- a byte behind `at` in the same frame, of which it is known whether it is kept
+  byte_found : (found : Option (Box (List ℕ) X)) (k : ℕ) → get nat_cmp frames (at / 4096) ≡ found → at % 4096 + k < 4096 → byte_at frames fill (at + k) ≡ byte_in fill found (at % 4096 + k)
+  byte_found found k is h =
+      let number : (at + k) / 4096 ≡ at / 4096 = omega arith in
+      let place : (at + k) % 4096 ≡ at % 4096 + k = omega arith in
+      rw (number, place, is) refl
+
+  -- bytes of a frame that is kept
+  pub read_kept : (frame : Box (List ℕ) X) (n : ℕ) → get nat_cmp frames (at / 4096) ≡ Some frame → length frame.value ≡ 4096 → at + n ≤ size → at % 4096 + n ≤ 4096
+      → slice_range frame.value (at % 4096) (at % 4096 + n) ≡ slice_range (bytes_of frames fill size) at (at + n)
+  read_kept frame n is whole inside one =
+      let part = slice_range frame.value (at % 4096) (at % 4096 + n) in
+      let len : length part ≡ n = search (rules, places) in
+      values_range (byte_at frames fill) size at part (omega arith) (λ k h.
+      byte_found (Some frame) k is (omega arith) ∙ get_or_default frame.value (at % 4096 + k) fill 0 (omega arith) ∙ grind (arith, places))
+      ∙ ap (λ m. slice_range (bytes_of frames fill size) at (at + m)) len
+
+  -- bytes of a frame that is not
+  pub read_filled : (n : ℕ) → get nat_cmp frames (at / 4096) ≡ None → at + n ≤ size → at % 4096 + n ≤ 4096 → replicate n fill ≡ slice_range (bytes_of frames fill size) at (at + n)
+  read_filled n is inside one =
+      let len = length-replicate n fill in
+      values_range (byte_at frames fill) size at (replicate n fill) (omega arith) (λ k h. byte_found None k is (omega arith) ∙ sym (get_or-replicate n k fill 0 (omega arith)))
+      ∙ ap (λ m. slice_range (bytes_of frames fill size) at (at + m)) len
+
+  -- memory after bytes of a kept frame were written
+  pub write_kept : (after : BTreeMap ℕ (Box (List ℕ) X)) (frame changed : Box (List ℕ) X) (part : List ℕ) → get nat_cmp frames (at / 4096) ≡ Some frame → length frame.value ≡ 4096
+      → get nat_cmp after (at / 4096) ≡ Some changed → changed.value ≡ overwrite frame.value (at % 4096) part → ((q : ℕ) → (q ≡ at / 4096 → ⊥) → get nat_cmp after q ≡ get nat_cmp frames q)
+      → at + length part ≤ size → at % 4096 + length part ≤ 4096 → bytes_of after fill size ≡ overwrite (bytes_of frames fill size) at part
+  write_kept after frame changed part is whole now wrote others inside one =
+      values_overwritten (byte_at frames fill) (byte_at after fill) size at part inside
+      (λ a low high.
+      let number : a / 4096 ≡ at / 4096 = omega arith in
+      let place : a % 4096 ≡ at % 4096 + (a - at) = omega arith in
+      let back : at % 4096 + (a - at) - at % 4096 ≡ a - at = omega arith in
+      rw (number, place, now, wrote) (
+      get_or-overwrite_in frame.value (at % 4096) part (at % 4096 + (a - at)) fill (omega arith) (omega arith) (omega arith)
+      ∙ ap (λ k. get_or part k fill) back ∙ get_or_default part (a - at) fill 0 (omega arith)))
+      (λ a low. elim (cases_eq (a / 4096) (at / 4096)) [
+        | inl same ↦ rw (same, now, is, wrote) (get_or-overwrite_below frame.value (at % 4096) part (a % 4096) fill (omega arith) (omega arith))
+        | inr other ↦ rw (others (a / 4096) other) refl
+      ])
+      (λ a high. elim (cases_eq (a / 4096) (at / 4096)) [
+        | inl same ↦ rw (same, now, is, wrote) (get_or-overwrite_above frame.value (at % 4096) part (a % 4096) fill (omega arith) (omega arith))
+        | inr other ↦ rw (others (a / 4096) other) refl
+      ])
+
+-- a number is found under its own key alone
+pub other_key : (x q : ℕ) → (q ≡ x → ⊥) → is_at (nat_cmp x) q ≡ false
+other_key x q other = grind (arith, nat_tests)
+
+pub none_of : {X : Type 0} (o : Option X) → is_some o ≡ false → o ≡ None
+none_of None h = refl
+none_of (Some x) h = cc
+
+-- memory after a frame was given room
+pub newly_kept : {X : Type 0} (frames after : BTreeMap ℕ (Box (List ℕ) X)) (fill size number : ℕ) (frame : Box (List ℕ) X) → ((k : ℕ) → get_or frame.value k fill ≡ fill)
+    → get nat_cmp frames number ≡ None → get nat_cmp after number ≡ Some frame → ((q : ℕ) → (q ≡ number → ⊥) → get nat_cmp after q ≡ get nat_cmp frames q)
+    → bytes_of after fill size ≡ bytes_of frames fill size
+newly_kept frames after fill size number frame is was now others =
+    same_values (byte_at after fill) (byte_at frames fill) size (λ a. elim (cases_eq (a / 4096) number) [
+      | inl same ↦ rw (same, now, was) (is (a % 4096))
+      | inr other ↦ rw (others (a / 4096) other) refl
+    ])
+
+-- a byte of a filled frame, with the filling as the answer past its end
+pub get_or-filled : (n k x : ℕ) → get_or (replicate n x) k x ≡ x
+get_or-filled n k x =
+    elim (cases_lt k n) [
+      | inl within ↦ get_or-replicate n k x x within
+      | inr past ↦ get_or_past (replicate n x) k x (let e = length-replicate n x in omega arith)
+    ]
+
+-- a read that goes on where it stopped
+pub read_on : (bytes old out piece : List ℕ) (at done next : ℕ) → done + next ≤ length old → at + length old ≤ length bytes → take done old ≡ slice_range bytes at (at + done)
+    → piece ≡ slice_range bytes (at + done) (at + done + next) → take (done + next) out ≡ take done old ++ piece → take (done + next) out ≡ slice_range bytes at (at + (done + next))
+read_on bytes old out piece at done next within inside before is now =
+    now ∙ ap (λ t. t ++ piece) before ∙ ap (λ t. slice_range bytes at (at + done) ++ t) is
+    ∙ range_more bytes at (at + done) (at + done + next) (omega arith) (omega arith) (omega arith) ∙ ap (slice_range bytes at) (omega arith)
+
+-- a write that goes on where it stopped
+pub write_on : (bytes part : List ℕ) (at done next : ℕ) → done + next ≤ length part → at + length part ≤ length bytes
+    → overwrite (overwrite bytes at (take done part)) (at + done) (slice_range part done (done + next)) ≡ overwrite bytes at (take (done + next) part)
+write_on bytes part at done next within inside =
+    let first : length (take done part) ≡ done = search (rules, places) in
+    let second : length (slice_range part done (done + next)) ≡ next = search (rules, places) in
+    overwrite_more bytes at (take done part) (slice_range part done (done + next)) (at + done) (omega arith) (omega arith)
+    ∙ ap (overwrite bytes at) (same_lists _ _ (search (rules, places)) (λ k d h. grind (arith, places)))

@@ -1,0 +1,14 @@
+use Rattle.std.proofs.Common.{◌≡◌, ◌-◌, ◌+◌, ◌≤◌, length, take, slice_range}
+use Rattle.bl_mem.specs.Sparse.{bytes_of}
+use Rattle.bl_mem.proofs.sparse.SparsePhysMem.read.Given as goal
+
+-- what was read so far
+abbrev pub invariant-loop-done : goal.invariant-loop-done
+invariant-loop-done g l =
+    record {
+      within : l.done ≤ length l.out;
+      after : take l.done l.out ≡ slice_range (bytes_of l.self.frames l.self.fill l.self.size) l.at (l.at + l.done);
+    }
+
+abbrev pub decreases-loop-done : goal.decreases-loop-done
+decreases-loop-done g l = length l.out - l.done

@@ -1,0 +1,192 @@
+//! How often a call is made, and over which memory.
+
+use crate::bytes::bytes_of;
+use crate::calls::{Argument, make, takes_bytes};
+use crate::fault::RowFault;
+use crate::parse::{byte, split_word};
+use crate::runs::Runs;
+use crate::session::Session;
+use crate::unasked::mark_unasked;
+use bl_refusing::Refusing;
+use std::alloc::Global;
+
+/// More requests than any call of a row makes.
+const REQUESTS: u64 = 100_000;
+
+/// What a call said, and whether a request of its was refused.
+#[derive(Drop)]
+struct Said {
+    text: String,
+    was_refused: bool,
+}
+
+/// Makes the call where its `nth` request is refused and all after it; at 0 none is. Its answer
+/// tells if memory ran out though nothing was refused, and if a block was not given back.
+fn once(
+    alloc: Global,
+    session: &mut Session,
+    nth: u64,
+    name: &str,
+    argument: Argument<'_>,
+) -> Result<Said, RowFault> {
+    let heap = Refusing::new(alloc, nth);
+    let mut text = make(alloc, &heap, session, name, argument)?;
+    let was_refused = heap.has_refused();
+    mark_unasked(&heap, 0, &mut text)?;
+    if heap.held() != 0 {
+        text.push_str(", and leaks")?;
+    }
+    Ok(Said { text, was_refused })
+}
+
+fn each_refusal(
+    alloc: Global,
+    session: &mut Session,
+    name: &str,
+    argument: Argument<'_>,
+) -> Result<String, RowFault> {
+    let mut runs = Runs::new(alloc, false);
+    for nth in 1..REQUESTS {
+        let said = once(alloc, session, nth, name, argument)?;
+        let was_refused = said.was_refused;
+        runs.add(nth, said.text)?;
+        if !was_refused {
+            return Ok(runs.finish()?);
+        }
+    }
+    Err(RowFault::BadRow)
+}
+
+fn each_cut(
+    alloc: Global,
+    session: &mut Session,
+    name: &str,
+    bytes: &[u8],
+) -> Result<String, RowFault> {
+    let mut runs = Runs::new(alloc, true);
+    for length in 0..bytes.len() + 1 {
+        let argument = Argument::Bytes(&bytes[..length]);
+        let said = once(alloc, session, 0, name, argument)?;
+        runs.add(length as u64, said.text)?;
+    }
+    Ok(runs.finish()?)
+}
+
+/// A copy of the bytes with one of them set to a value.
+fn with_set(alloc: Global, bytes: &[u8], at: usize, value: u8) -> Result<Vec<u8>, RowFault> {
+    let mut changed = Vec::new(alloc);
+    changed.extend_from_slice(bytes)?;
+    if let Some(byte) = changed.get_mut(at) {
+        *byte = value;
+    }
+    Ok(changed)
+}
+
+fn each_set(
+    alloc: Global,
+    session: &mut Session,
+    value: u8,
+    name: &str,
+    bytes: &[u8],
+) -> Result<String, RowFault> {
+    let mut runs = Runs::new(alloc, true);
+    for at in 0..bytes.len() {
+        let changed = with_set(alloc, bytes, at, value)?;
+        let argument = Argument::Bytes(changed.as_slice());
+        let said = once(alloc, session, 0, name, argument)?;
+        runs.add(at as u64, said.text)?;
+    }
+    Ok(runs.finish()?)
+}
+
+/// How a call is made.
+#[derive(Clone, Copy)]
+enum Way {
+    /// Once, where the `nth` request is refused, or none at 0.
+    Once { nth: u64 },
+    /// Where the first request is refused, the second, .. until none was.
+    EachRefusal,
+    /// Over the first bytes, from none to all.
+    EachCut,
+    /// Over all bytes with one of them set to a value.
+    EachSet { value: u8 },
+}
+
+/// How the call is made, and the call.
+fn read_way(call: &str) -> Result<(Way, &str), RowFault> {
+    match split_word(call) {
+        ("refuse", rest) => {
+            let (nth, call) = split_word(rest);
+            let nth = nth.parse::<u64>().ok().ok_or(RowFault::BadRow)?;
+            Ok((Way::Once { nth }, call))
+        }
+        ("each", rest) => match split_word(rest) {
+            ("refusal", call) => Ok((Way::EachRefusal, call)),
+            ("cut", call) => Ok((Way::EachCut, call)),
+            ("set", rest) => {
+                let (value, call) = split_word(rest);
+                Ok((
+                    Way::EachSet {
+                        value: byte(value)?,
+                    },
+                    call,
+                ))
+            }
+            _ => Err(RowFault::BadRow),
+        },
+        _ => Ok((Way::Once { nth: 0 }, call)),
+    }
+}
+
+fn answer_once(
+    alloc: Global,
+    session: &mut Session,
+    nth: u64,
+    name: &str,
+    argument: Argument<'_>,
+) -> Result<String, RowFault> {
+    Ok(once(alloc, session, nth, name, argument)?.text)
+}
+
+fn answer_words(
+    alloc: Global,
+    session: &mut Session,
+    way: Way,
+    name: &str,
+    argument: Argument<'_>,
+) -> Result<String, RowFault> {
+    match way {
+        Way::Once { nth } => answer_once(alloc, session, nth, name, argument),
+        Way::EachRefusal => each_refusal(alloc, session, name, argument),
+        _ => Err(RowFault::BadRow),
+    }
+}
+
+fn answer_bytes(
+    alloc: Global,
+    session: &mut Session,
+    way: Way,
+    name: &str,
+    words: &str,
+) -> Result<String, RowFault> {
+    let bytes = bytes_of(alloc, &session.names, words)?;
+    match way {
+        Way::EachCut => each_cut(alloc, session, name, bytes.as_slice()),
+        Way::EachSet { value } => each_set(alloc, session, value, name, bytes.as_slice()),
+        _ => {
+            let argument = Argument::Bytes(bytes.as_slice());
+            answer_words(alloc, session, way, name, argument)
+        }
+    }
+}
+
+/// What a row's call answers.
+pub fn answer_call(alloc: Global, session: &mut Session, call: &str) -> Result<String, RowFault> {
+    let (way, call) = read_way(call)?;
+    let (name, words) = split_word(call);
+    if takes_bytes(name) {
+        return answer_bytes(alloc, session, way, name, words);
+    }
+    let argument = Argument::Words(words);
+    answer_words(alloc, session, way, name, argument)
+}
