@@ -5,3 +5,4 @@ pub mod EntriesRead
 pub mod WriteLemmas
 pub mod WrittenIsRead
 pub mod ParamsLaws
+pub mod Lengths

@@ -3,7 +3,7 @@ use Rattle.std.proofs.Common.{◌≡◌, ◌≤◌, ◌<◌, ◌+◌, ◌-◌, �
 use Rattle.std.specs.Prelude.{◌==◌, min, All}
 use Rattle.std.specs.List.{flat_map}
 use Rattle.std.proofs.lemmas.Bool.{cases_lt, cases_eq, and_right}
-use Rattle.std.proofs.lemmas.List.FromFn.{length-map-range_with_len, get_or-map-range_with_len}
+use Rattle.std.proofs.lemmas.List.FromFn.{get_or-map-range_with_len}
 use Rattle.std.proofs.lemmas.List.{places, length-append, append-nil}
 use Rattle.byteorder.specs.Endian.{little_from}
 use Rattle.byteorder.specs.Numbers.{little_number-reads_back}
@@ -21,6 +21,7 @@ use Rattle.bl_params.specs.Fields.{byte_of, number_bytes}
 use Rattle.bl_params.specs.Form.{breaks, breaks_header, breaks_entry, is_filled, entries_in}
 use Rattle.bl_params.specs.Reading.{IsEntry, AreEntries, IsParams}
 use Rattle.bl_params.specs.Told.{params_of, AreWords}
+use Rattle.bl_params.proofs.Lengths.{length-boot_params}
 use Rattle.bl_params.proofs.OverLemmas.{over_in, over_below, over_above, earlier, later}
 use Rattle.bl_params.proofs.EntryLemmas.{length-number_bytes, length-entry_bytes, length-entries}
 use Rattle.bl_params.proofs.FormLemmas.{lt_no, or_false, front_is, count_is, gap_is, header_is, behind_is, entries_are, end_is, quiet_place}
@@ -166,10 +167,6 @@ module _ (file header : List ℕ) (end : ℕ) (facts : BootParamsFacts)
   is_at : (k : ℕ) → k < 4096 → slice_index params k ≡ byte_of (fields_of header facts) k
   unfolding boot_params
   is_at k within = get_or-map-range_with_len (byte_of (fields_of header facts)) 0 4096 k k 0 within (omega arith)
-
-  size_is : length params ≡ 4096
-  unfolding boot_params
-  size_is = length-map-range_with_len (byte_of (fields_of header facts)) 0 4096
 
   vid_len : length (number_bytes 2 0xFFFF) ≡ 2
   vid_len = length-number_bytes 2 0xFFFF
@@ -402,7 +399,7 @@ written_is_read file setup facts is told words =
     let high = header_high file in
     let same = header_same file setup is in
     record {
-      size = size_is file setup.header e facts long low high same told;
+      size = length-boot_params setup.header facts;
       sound = form file setup.header e facts long low high same told sound refl;
       version = fields.version ∙ sym (number_1 file setup.header e facts long low high same told 2 0x206 (omega arith) (omega arith));
       loadflags = fields.loadflags ∙ sym (copied_2 file setup.header e facts long low high same told 0x211 (omega arith) (omega arith));
