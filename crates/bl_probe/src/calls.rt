@@ -1,9 +1,12 @@
 //! The calls, by their names.
 
 mod elf;
+mod entry;
 mod header;
 pub mod machine;
 mod normal;
+mod prepared;
+mod unprepared;
 
 use crate::fault::RowFault;
 use crate::session::Session;

@@ -11,6 +11,7 @@ mod line;
 mod parse;
 mod runs;
 mod session;
+mod show;
 mod sweep;
 
 use session::Session;
