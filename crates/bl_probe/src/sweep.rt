@@ -12,13 +12,6 @@ use std::alloc::Global;
 /// More requests than any call of a row makes.
 const REQUESTS: u64 = 100_000;
 
-/// A call's name and argument.
-#[derive(Clone, Copy)]
-struct Call<'a> {
-    name: &'a str,
-    argument: Argument<'a>,
-}
-
 /// What a call said, and whether a request of its was refused.
 #[derive(Drop)]
 struct Said {
@@ -28,9 +21,15 @@ struct Said {
 
 /// Makes the call where its `nth` request is refused and all after it; at 0 none is. Its answer tells if memory ran out
 /// though nothing was refused, and if a block was not given back.
-fn once(alloc: Global, session: &mut Session, nth: u64, call: Call<'_>) -> Result<Said, RowFault> {
+fn once(
+    alloc: Global,
+    session: &mut Session,
+    nth: u64,
+    name: &str,
+    argument: Argument<'_>,
+) -> Result<Said, RowFault> {
     let heap = Refusing::new(alloc, nth);
-    let mut text = make(alloc, &heap, session, call.name, call.argument)?;
+    let mut text = make(alloc, &heap, session, name, argument)?;
     let was_refused = heap.has_refused();
     if !was_refused && text.contains("no memory") {
         text.push_str(", unasked")?;
@@ -41,10 +40,15 @@ fn once(alloc: Global, session: &mut Session, nth: u64, call: Call<'_>) -> Resul
     Ok(Said { text, was_refused })
 }
 
-fn each_refusal(alloc: Global, session: &mut Session, call: Call<'_>) -> Result<String, RowFault> {
+fn each_refusal(
+    alloc: Global,
+    session: &mut Session,
+    name: &str,
+    argument: Argument<'_>,
+) -> Result<String, RowFault> {
     let mut runs = Runs::new(alloc, false);
     for nth in 1..REQUESTS {
-        let said = once(alloc, session, nth, call)?;
+        let said = once(alloc, session, nth, name, argument)?;
         let was_refused = said.was_refused;
         runs.add(nth, said.text)?;
         if !was_refused {
@@ -63,10 +67,20 @@ fn each_cut(
     let mut runs = Runs::new(alloc, true);
     for length in 0..bytes.len() + 1 {
         let argument = Argument::Bytes(&bytes[..length]);
-        let said = once(alloc, session, 0, Call { name, argument })?;
+        let said = once(alloc, session, 0, name, argument)?;
         runs.add(length as u64, said.text)?;
     }
     Ok(runs.finish()?)
+}
+
+/// A copy of the bytes with one of them set to a value.
+fn with_set(alloc: Global, bytes: &[u8], at: usize, value: u8) -> Result<Vec<u8>, RowFault> {
+    let mut changed = Vec::new(alloc);
+    changed.extend_from_slice(bytes)?;
+    if let Some(byte) = changed.get_mut(at) {
+        *byte = value;
+    }
+    Ok(changed)
 }
 
 fn each_set(
@@ -74,16 +88,14 @@ fn each_set(
     session: &mut Session,
     value: u8,
     name: &str,
-    bytes: &mut Vec<u8>,
+    bytes: &[u8],
 ) -> Result<String, RowFault> {
     let mut runs = Runs::new(alloc, true);
     for at in 0..bytes.len() {
-        let before = bytes[at];
-        bytes[at] = value;
-        let argument = Argument::Bytes(bytes.as_slice());
-        let said = once(alloc, session, 0, Call { name, argument })?;
+        let changed = with_set(alloc, bytes, at, value)?;
+        let argument = Argument::Bytes(changed.as_slice());
+        let said = once(alloc, session, 0, name, argument)?;
         runs.add(at as u64, said.text)?;
-        bytes[at] = before;
     }
     Ok(runs.finish()?)
 }
@@ -131,20 +143,22 @@ fn answer_once(
     alloc: Global,
     session: &mut Session,
     nth: u64,
-    call: Call<'_>,
+    name: &str,
+    argument: Argument<'_>,
 ) -> Result<String, RowFault> {
-    Ok(once(alloc, session, nth, call)?.text)
+    Ok(once(alloc, session, nth, name, argument)?.text)
 }
 
 fn answer_words(
     alloc: Global,
     session: &mut Session,
     way: Way,
-    call: Call<'_>,
+    name: &str,
+    argument: Argument<'_>,
 ) -> Result<String, RowFault> {
     match way {
-        Way::Once { nth } => answer_once(alloc, session, nth, call),
-        Way::EachRefusal => each_refusal(alloc, session, call),
+        Way::Once { nth } => answer_once(alloc, session, nth, name, argument),
+        Way::EachRefusal => each_refusal(alloc, session, name, argument),
         _ => Err(RowFault::BadRow),
     }
 }
@@ -156,13 +170,13 @@ fn answer_bytes(
     name: &str,
     words: &str,
 ) -> Result<String, RowFault> {
-    let mut bytes = bytes_of(alloc, &session.names, words)?;
+    let bytes = bytes_of(alloc, &session.names, words)?;
     match way {
         Way::EachCut => each_cut(alloc, session, name, bytes.as_slice()),
-        Way::EachSet { value } => each_set(alloc, session, value, name, &mut bytes),
+        Way::EachSet { value } => each_set(alloc, session, value, name, bytes.as_slice()),
         _ => {
             let argument = Argument::Bytes(bytes.as_slice());
-            answer_words(alloc, session, way, Call { name, argument })
+            answer_words(alloc, session, way, name, argument)
         }
     }
 }
@@ -178,5 +192,5 @@ pub fn answer_call(alloc: Global, session: &mut Session, call: &str) -> Result<S
         return answer_bytes(alloc, session, way, name, words);
     }
     let argument = Argument::Words(words);
-    answer_words(alloc, session, way, Call { name, argument })
+    answer_words(alloc, session, way, name, argument)
 }
