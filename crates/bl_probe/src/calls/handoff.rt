@@ -17,8 +17,26 @@ use std::alloc::{AllocError, Global};
 /// The registers in the order of an image.
 fn registers_text(alloc: Global, r: &Registers) -> Result<String, AllocError> {
     let numbers = [
-        r.eip, r.eax, r.ebx, r.ecx, r.edx, r.esi, r.edi, r.ebp, r.esp, r.eflags, r.cr0, r.cs, r.ds,
-        r.es, r.fs, r.gs, r.ss, r.gdt_base, r.gdt_limit, r.a20,
+        r.eip,
+        r.eax,
+        r.ebx,
+        r.ecx,
+        r.edx,
+        r.esi,
+        r.edi,
+        r.ebp,
+        r.esp,
+        r.eflags,
+        r.cr0,
+        r.cs,
+        r.ds,
+        r.es,
+        r.fs,
+        r.gs,
+        r.ss,
+        r.gdt_base,
+        r.gdt_limit,
+        r.a20,
     ];
     let mut text = String::from_str(alloc, "registers")?;
     for number in numbers {

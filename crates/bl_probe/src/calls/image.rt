@@ -19,11 +19,11 @@ use std::ops::Range;
 /// How the writing of an image ended: its answer, the faults of the sink and how often it asked for memory.
 fn ended_text(
     alloc: Global,
-    result: Result<(), ImageFault>,
+    written: Result<(), ImageFault>,
     faults: u64,
     requests: u64,
 ) -> Result<String, AllocError> {
-    match result {
+    match written {
         Ok(()) => format!(in alloc; "ok, faults {faults:x}, asked {requests:x}"),
         Err(fault) => {
             let number = fault.number();
@@ -47,9 +47,9 @@ fn written<'h>(
     }
     let mut sink = MemSink::new(heap, limit as usize, step as usize)?;
     let before = heap.asked();
-    let result = write_image(&loaded.handoff, &loaded.memory, &mut sink);
+    let ended = write_image(&loaded.handoff, &loaded.memory, &mut sink);
     let requests = heap.asked().saturating_sub(before);
-    Ok((ended_text(alloc, result, sink.faults(), requests)?, sink))
+    Ok((ended_text(alloc, ended, sink.faults(), requests)?, sink))
 }
 
 /// The answer for one sink, with the bytes that it took.

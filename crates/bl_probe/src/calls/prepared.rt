@@ -5,7 +5,7 @@ ghost use Rattle.bl_load.specs.Planned.{IsLoadable};
 use crate::calls::unprepared::Unprepared;
 use bl_load::{Entry, Handoff, Module, Plan, load, prepare};
 use bl_map::Machine;
-use bl_mem::{Bytes, Flat, PhysMem, SliceView};
+use bl_mem::{Bytes, Flat, SliceView};
 use bl_plan::Protocol;
 use bl_refusing::Refusing;
 use std::alloc::AllocError;
@@ -115,7 +115,6 @@ pub fn load_entry<'h>(
 {
     let plan = prepare_entry(heap, machine, protocol, lines, files)?;
     let mut memory = Flat::new(heap, machine.size(), fill)?;
-    memory.reserve(plan.ranges())?;
     let before = heap.asked();
     let handoff = load(&mut memory, plan, files);
     Ok(LoadedEntry {
