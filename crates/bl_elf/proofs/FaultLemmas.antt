@@ -12,7 +12,7 @@ field_kinds : (size : ℕ) (header : Header) (fault : ElfFault) → field_fault 
 unfolding field_fault
 field_kinds size header fault e = grind arith
 
-header_kinds : (bytes : List ℕ) (fault : ElfFault) → header_fault bytes ≡ Some fault → (fault ≡ NotElf) ⊎ (fault ≡ BadElf)
+pub header_kinds : (bytes : List ℕ) (fault : ElfFault) → header_fault bytes ≡ Some fault → (fault ≡ NotElf) ⊎ (fault ≡ BadElf)
 unfolding header_fault
 header_kinds bytes fault e = grind (arith, field_kinds (length bytes) (header_of bytes) fault)
 
@@ -24,7 +24,7 @@ header_first bytes fault e =
       | inr bad_elf ↦ rw bad_elf (inl (rw bad_elf at e))
     ]
 
-program_kinds : (size i : ℕ) (header : ProgramHeader) (fault : ElfFault) → program_fault size i header ≡ Some fault → (fault ≡ BadElf) ⊎ ((fault ≡ SegmentCut i) ⊎ (fault ≡ AddressTooHigh i))
+pub program_kinds : (size i : ℕ) (header : ProgramHeader) (fault : ElfFault) → program_fault size i header ≡ Some fault → (fault ≡ BadElf) ⊎ ((fault ≡ SegmentCut i) ⊎ (fault ≡ AddressTooHigh i))
 unfolding program_fault
 program_kinds size i header fault e = grind arith
 

@@ -2,7 +2,8 @@
 use Rattle.std.proofs.Common.{◌≡◌, ◌+◌, ◌<◌, ◌≤◌, ℕ, List, length, true, None, arith}
 use Rattle.std.proofs.lemmas.Bool.Decides.{nat_tests}
 use Rattle.bl_elf.specs.declared.header.Header.{Header}
-use Rattle.bl_elf.specs.Header.{header_of, has_table, field_fault, header_fault, program_header_size, IsHeaderOf}
+use Rattle.bl_elf.specs.Header.{header_of, has_table, field_fault, header_fault, program_header_size}
+use Rattle.bl_elf.specs.Kept.{IsHeaderOf}
 use Rattle.bl_elf.specs.Program.{place_of}
 
 -- the table of a file of this size has at most 128 entries, and ends within it

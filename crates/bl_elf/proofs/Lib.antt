@@ -3,3 +3,4 @@ pub mod ProgramLemmas
 pub mod FaultLemmas
 pub mod SegmentLemmas
 pub mod ElfLaws
+pub mod TotalLaws

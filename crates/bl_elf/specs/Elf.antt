@@ -1,12 +1,13 @@
 -- What an executable file is, and the first fault of one that is refused (System V gABI, "Object Files").
 use Rattle.std.specs.Prelude.{◌≡◌, ◌⊎◌, ◌+◌, ◌-◌, ◌<◌, ◌≤◌, ◌^◌, ℕ, true, false, if◌then◌else◌, List, length, find, Option, Some, None}
 use Rattle.std.specs.List.{list_any}
+use Rattle.bl_mem.specs.Contents.{holds_at}
 use Rattle.bl_mem.specs.declared.segment.Segment.{Segment}
 use Rattle.bl_elf.specs.declared.program.ProgramHeader.{ProgramHeader}
 use Rattle.bl_elf.specs.declared.fault.ElfFault.{ElfFault}
 use Rattle.bl_elf.specs.declared.fault.ElfFault.TheVariants.{NotElf, BadElf, SegmentCut, AddressTooHigh, SegmentsOverlap, NoEntry, NoMemory}
 use Rattle.bl_elf.specs.Header.{header_of, header_fault}
-use Rattle.bl_elf.specs.Program.{program_headers, segments_of, fault_at, share_at, is_entered, holds}
+use Rattle.bl_elf.specs.Program.{program_headers, segments_of, fault_at, share_at, is_entered}
 
 -- what loading needs of a file: its loadable segments in the order of its program headers, and the physical address
 -- at which it is entered
@@ -18,7 +19,8 @@ pub record ElfFacts : Type 0 where
 -- it is a physical address of a segment; or else none
 abbrev pub entry_among : ℕ → List Segment → Option ProgramHeader → Option ℕ
 entry_among e_entry segments (Some header) = Some (e_entry - header.p_vaddr + header.p_paddr)
-entry_among e_entry segments None = if list_any (holds e_entry) segments then Some e_entry else None
+entry_among e_entry segments None =
+    if list_any (holds_at e_entry) segments then Some e_entry else None
 
 -- the first loadable program header counts
 unfoldable pub physical_entry : List ℕ → Option ℕ
@@ -63,7 +65,8 @@ pub record IsFirstOverlap (bytes : List ℕ) (i j : ℕ) : Type 0 where
 -- this is the first fault of a file that is refused, or memory ran out
 abbrev pub HasFirstFault : List ℕ → ElfFault → Type 0
 HasFirstFault bytes NotElf = header_fault bytes ≡ Some NotElf
-HasFirstFault bytes BadElf = (header_fault bytes ≡ Some BadElf) ⊎ ((i : ℕ) × IsFirstFaulty bytes i BadElf)
+HasFirstFault bytes BadElf =
+    (header_fault bytes ≡ Some BadElf) ⊎ ((i : ℕ) × IsFirstFaulty bytes i BadElf)
 HasFirstFault bytes (SegmentCut i) = IsFirstFaulty bytes i (SegmentCut i)
 HasFirstFault bytes (AddressTooHigh i) = IsFirstFaulty bytes i (AddressTooHigh i)
 HasFirstFault bytes (SegmentsOverlap i j) = IsFirstOverlap bytes i j

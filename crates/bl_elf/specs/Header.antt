@@ -1,6 +1,6 @@
 -- The ELF header (System V gABI, "ELF Header"; the machines' numbers are those of the processor supplements): its
 -- fields at their offsets, and the first fault that it has.
-use Rattle.std.specs.Prelude.{◌≡◌, ◌<◌, ◌^◌, ◌+◌, ◌*◌, ℕ, Bool, ◌&&◌, ◌||◌, not, if◌then◌else◌, ◌==◌, nat_lt, nat_le, List, length, slice_index, Option, Some, None}
+use Rattle.std.specs.Prelude.{◌+◌, ◌*◌, ℕ, Bool, ◌&&◌, ◌||◌, not, if◌then◌else◌, ◌==◌, nat_lt, nat_le, List, length, slice_index, Option, Some, None}
 use Rattle.bl_mem.specs.Words.{u16_at, u32_at, u64_at}
 use Rattle.bl_elf.specs.declared.class.Class.{Class}
 use Rattle.bl_elf.specs.declared.class.Class.TheVariants.{Elf32, Elf64}
@@ -93,9 +93,3 @@ header_fault bytes =
     if not (has_ident bytes) then Some BadElf else
     if nat_lt (length bytes) (header_size (class_of bytes)) then Some BadElf else
     field_fault (length bytes) (header_of bytes)
-
--- own: a sound header that was read, of a file whose length is a 64-bit number
-pub record IsHeaderOf (bytes : List ℕ) (header : Header) : Type 0 where
-  pub is : header ≡ header_of bytes
-  pub sound : header_fault bytes ≡ None
-  pub short : length bytes < 2 ^ 64

@@ -1,3 +1,4 @@
 pub mod Header
 pub mod Program
 pub mod Elf
+pub mod Kept

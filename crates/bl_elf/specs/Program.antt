@@ -35,7 +35,8 @@ abbrev pub place_of : Header → ℕ → ℕ
 place_of header i = header.e_phoff + i * header.e_phentsize
 
 unfoldable pub program_header : List ℕ → ℕ → ProgramHeader
-program_header bytes i = let header = header_of bytes in program_header_at header.class bytes (place_of header i)
+program_header bytes i =
+    let header = header_of bytes in program_header_at header.class bytes (place_of header i)
 
 -- the n program headers from the i-th on
 abbrev pub headers_from : List ℕ → ℕ → ℕ → List ProgramHeader
@@ -68,7 +69,8 @@ unfoldable pub program_fault : ℕ → ℕ → ProgramHeader → Option ElfFault
 program_fault size i header =
     if not (is_loadable header) then None else
     if nat_lt header.p_memsz header.p_filesz then Some BadElf else
-    if not (header.p_filesz == 0) && not (nat_le (header.p_offset + header.p_filesz) size) then Some (SegmentCut i) else
+    if not (header.p_filesz == 0) && not (nat_le (header.p_offset + header.p_filesz) size)
+    then Some (SegmentCut i) else
     if not (nat_le (header.p_paddr + header.p_memsz) (2 ^ 32)) then Some (AddressTooHigh i) else
     None
 
@@ -94,7 +96,3 @@ is_entered entry header =
     nat_le header.p_vaddr entry
     && nat_lt entry (header.p_vaddr + header.p_memsz)
     && is_loadable header
-
--- the segment's physical addresses hold a
-abbrev pub holds : ℕ → Segment → Bool
-holds a segment = nat_le segment.address a && nat_lt a (segment.address + segment.memsz)

@@ -1,14 +1,13 @@
 //! Where a file is entered.
 ghost use Rattle.std.specs.Prelude.{◌≡◌, ◌≤◌, ◌<◌, ◌+◌, ◌-◌, ◌^◌, ℕ, None, IfSome, find};
 ghost use Rattle.std.specs.List.{list_any};
-ghost use Rattle.bl_elf.specs.Header.{IsHeaderOf};
+ghost use Rattle.bl_elf.specs.Kept.{IsHeaderOf};
 ghost use Rattle.bl_elf.specs.Program.{program_headers, segments_of, fault_at, is_entered};
-ghost use Rattle.bl_elf.specs.Program as spec;
+ghost use Rattle.bl_mem.specs.Contents.{holds_at};
 ghost use Rattle.bl_elf.specs.Elf.{IsIndex, physical_entry};
 
 use crate::header::Header;
 use crate::program::{ProgramHeader, program_header};
-use crate::sums::is_before_end;
 use bl_mem::{ByteView, Segment};
 
 /// The physical address at which a sound file is entered, if some segment holds its entry.
@@ -47,16 +46,7 @@ fn first_entered<V: ByteView>(view: &V, header: Header) -> Option<ProgramHeader>
 
 /// Whether some segment's physical addresses hold `a`.
 fn is_held(a: u64, segments: &[Segment]) -> bool
-    ensures { result ≡ list_any (spec.holds a) segments.now }
+    ensures { result ≡ list_any (holds_at a) segments.now }
 {
-    segments.iter().any(|segment| holds(a, *segment))
-}
-
-fn holds(a: u64, segment: Segment) -> bool
-    ensures { result ≡ spec.holds a segment }
-{
-    if a < segment.address {
-        return false;
-    }
-    is_before_end(a, segment.address, segment.memsz)
+    segments.iter().any(|segment| segment.holds(a))
 }

@@ -1,7 +1,7 @@
 //! The ELF header.
 ghost use Rattle.std.specs.Prelude.{◌≡◌, ◌≤◌, Some, None, length, MatchResult, IfOk};
 ghost use Rattle.bl_elf.specs.Header as spec;
-ghost use Rattle.bl_elf.specs.Header.{IsHeaderOf};
+ghost use Rattle.bl_elf.specs.Kept.{IsHeaderOf};
 
 use crate::class::Class;
 use crate::fault::ElfFault;

@@ -1,6 +1,6 @@
 //! Segments that share a physical byte.
 ghost use Rattle.std.specs.Prelude.{◌≡◌, ◌<◌, ℕ, true, false, None, MatchOption, MatchResult};
-ghost use Rattle.bl_elf.specs.Header.{IsHeaderOf};
+ghost use Rattle.bl_elf.specs.Kept.{IsHeaderOf};
 ghost use Rattle.bl_elf.specs.Program.{fault_at, share_at};
 ghost use Rattle.bl_elf.specs.Elf.{IsIndex, SharesNone, HasFirstFault};
 

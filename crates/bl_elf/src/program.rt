@@ -1,6 +1,6 @@
 //! Program headers.
 ghost use Rattle.std.specs.Prelude.{◌≡◌, ◌≤◌, ◌<◌, ◌+◌, ◌^◌, Some, None, length, MatchResult};
-ghost use Rattle.bl_elf.specs.Header.{IsHeaderOf};
+ghost use Rattle.bl_elf.specs.Kept.{IsHeaderOf};
 ghost use Rattle.bl_elf.specs.Program as spec;
 
 use crate::class::Class;

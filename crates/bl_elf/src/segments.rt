@@ -1,6 +1,6 @@
 //! The loadable segments.
 ghost use Rattle.std.specs.Prelude.{◌≡◌, ℕ, None, IfOk, OnOk, IfErr};
-ghost use Rattle.bl_elf.specs.Header.{IsHeaderOf};
+ghost use Rattle.bl_elf.specs.Kept.{IsHeaderOf};
 ghost use Rattle.bl_elf.specs.Program.{program_headers, segments_of, fault_at};
 ghost use Rattle.bl_elf.specs.Elf.{IsIndex, HasFirstFault};
 
@@ -17,8 +17,10 @@ pub fn loadable_segments<A: Allocator + Copy, V: ByteView>(
     header: Header,
 ) -> Result<Vec<Segment, A>, ElfFault>
     requires { IsHeaderOf (V.bytes view.now) header }
-    ensures segments { IfOk result (λ segments. segments.items ≡ segments_of (program_headers (V.bytes view.now))) }
-    ensures sound { OnOk result ((i : ℕ) → IsIndex (V.bytes view.now) i → fault_at (V.bytes view.now) i ≡ None) }
+    ensures segments { IfOk result
+        (λ segments. segments.items ≡ segments_of (program_headers (V.bytes view.now))) }
+    ensures sound { OnOk result
+        ((i : ℕ) → IsIndex (V.bytes view.now) i → fault_at (V.bytes view.now) i ≡ None) }
     ensures first_fault { IfErr result (HasFirstFault (V.bytes view.now)) }
 {
     let size = view.len();

@@ -4,12 +4,12 @@ use Rattle.bl_mem.specs.declared.segment.Segment.{Segment}
 use Rattle.bl_mb2head.specs.declared.relocation.Relocation.{Relocation}
 use Rattle.bl_load.specs.Blocks.{low_of, high_of, span_of, block_of}
 use Rattle.bl_load.specs.Kernel.{AreLoadable}
-use Rattle.bl_load.specs.Order.{segment_key, ascending}
+use Rattle.bl_plan.specs.Order.{segment_key, ascending}
 use Rattle.bl_load.specs.Parts.{kernel_content}
 use Rattle.bl_load.specs.Planned.{IsCopied, SegmentsAscend}
 use Rattle.bl_load.specs.Rowed.{HasKernelLength}
 use Rattle.bl_load.proofs.BlockLemmas.{length-block_of}
-use Rattle.bl_load.proofs.OrderLemmas.{in_order_all, length-in_order}
+use Rattle.bl_plan.proofs.OrderLemmas.{in_order_all, length-in_order}
 use Rattle.bl_load.proofs.SortedLemmas.{same_block, ascending_ascends, low_below, high_above_all}
 
 -- the content is the kernel's

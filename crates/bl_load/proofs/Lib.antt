@@ -1,4 +1,3 @@
-pub mod OrderLemmas
 pub mod KernelLaws
 pub mod BlockLemmas
 pub mod SortedLemmas

@@ -28,9 +28,9 @@ use Rattle.bl_load.specs.Blocks.{holds, low_of, high_of, span_of}
 use Rattle.bl_load.specs.Rows.{whole_frames, segment_rows, align_of, block_choice, kernel_rows, information_of, information_row, rows_of}
 use Rattle.bl_load.specs.Parts.{no_segment, base_of, entry_at}
 use Rattle.bl_load.specs.Rowed.{HasKernelLength, IsRowed}
-use Rattle.bl_load.specs.Order.{place_key, in_order}
+use Rattle.bl_plan.specs.Order.{place_key, in_order}
 use Rattle.bl_load.specs.Planned.{Ascends, AreRecords}
-use Rattle.bl_load.proofs.OrderLemmas.{AreRelated, pairs_related, in_order_all, in_order_pairs, in_order_sorted, length-in_order}
+use Rattle.bl_plan.proofs.OrderLemmas.{AreRelated, pairs_related, in_order_all, in_order_pairs, in_order_sorted, length-in_order}
 use Rattle.bl_load.proofs.KernelLaws.{entry_held, held_within, high_below}
 use Rattle.bl_load.proofs.SortedLemmas.{low_below, high_above_all}
 

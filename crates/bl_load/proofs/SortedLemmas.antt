@@ -11,9 +11,9 @@ use Rattle.bl_elf.specs.Elf.{AreApart}
 use Rattle.bl_load.specs.Blocks.{holds, low_of, high_of, span_of, byte_at, first_values, block_of}
 use Rattle.bl_load.specs.Kernel.{holds_at}
 use Rattle.bl_load.specs.Planned.{SegmentsAscend}
-use Rattle.bl_load.specs.Order.{segment_key, ascending}
+use Rattle.bl_plan.specs.Order.{segment_key, ascending}
 use Rattle.bl_load.proofs.KernelLaws.{held_within}
-use Rattle.bl_load.proofs.OrderLemmas.{AreRelated, pairs_related, in_order_all, in_order_pairs, in_order_sorted, list_any-in_order, length-in_order}
+use Rattle.bl_plan.proofs.OrderLemmas.{AreRelated, pairs_related, in_order_all, in_order_pairs, in_order_sorted, list_any-in_order, length-in_order}
 
 or_parts : (a b : Bool) → (a || b) ≡ false → (a ≡ false) × (b ≡ false)
 or_parts true b h = absurd cc

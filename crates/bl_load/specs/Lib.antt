@@ -8,7 +8,6 @@ pub mod Numbers
 pub mod Kernel
 pub mod KernelRead
 pub mod Rows
-pub mod Order
 pub mod Registers
 pub mod Parts
 pub mod Rowed

@@ -19,7 +19,7 @@ use Rattle.bl_load.specs.Kernel.{KernelFacts, IsKernel, HasKernelFault}
 use Rattle.bl_load.specs.Blocks.{low_of, block_of}
 use Rattle.bl_load.specs.Rows.{rows_of, information_of}
 use Rattle.bl_load.specs.Registers.{multiboot2_registers}
-use Rattle.bl_load.specs.Order.{in_order}
+use Rattle.bl_plan.specs.Order.{in_order}
 use Rattle.bl_load.specs.Handover.{Part, Handover, part_at, filled}
 use Rattle.bl_load.specs.declared.refusal.PrepFault.{PrepFault}
 use Rattle.bl_load.specs.declared.refusal.PrepFault.TheVariants as prep_fault

@@ -12,12 +12,11 @@ ghost use Rattle.bl_load.specs.Rowed.{HasKernelLength, IsRowed};
 use crate::entry::Entry;
 use crate::information::information;
 use crate::kernel::Kernel;
-use crate::order::in_order;
 use crate::plan::{Content, Planned};
 use bl_map::Machine;
 use bl_mb2head::Relocation;
 use bl_mem::ByteView;
-use bl_plan::{Place, Role};
+use bl_plan::{Place, Role, in_order};
 use std::alloc::{AllocError, Allocator};
 
 /// The content of the kernel's part at a place.

@@ -10,7 +10,6 @@ mod information;
 mod kernel;
 mod laws;
 mod loading;
-mod order;
 mod placing;
 mod plan;
 mod preparing;

@@ -14,14 +14,13 @@ ghost use Rattle.bl_load.specs.Planned.{handover_by, file_text, IsLoadable, IsLe
 
 use crate::contents::parts_at;
 use crate::kernel::Kernel;
-use crate::order::in_order;
 use crate::plan::{Plan, Planned};
 use crate::refusal::{PrepFault, Refusal};
 use crate::registers::Registers;
 use crate::rows::{low_of, rows_of};
 use bl_map::Machine;
 use bl_mem::ByteView;
-use bl_plan::{Place, PlanFault, Protocol, place_rows};
+use bl_plan::{Place, PlanFault, Protocol, in_order, place_rows};
 use std::alloc::{AllocError, Allocator};
 use std::ops::Range;
 

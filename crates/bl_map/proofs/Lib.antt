@@ -1,4 +1,5 @@
 pub mod KindLemmas
+pub mod PoolLemmas
 pub mod SweepLemmas
 pub mod MapLaws
 pub mod EdgeLemmas

@@ -6,18 +6,12 @@ use Rattle.std.proofs.lemmas.List.Elements.{All-cons, All-head, All-tail, All-we
 use Rattle.bl_map.specs.declared.kind.Kind.{Kind}
 use Rattle.bl_map.specs.declared.kind.Kind.TheVariants.{Usable, Reserved, Acpi, Nvs, Bad}
 use Rattle.bl_map.specs.declared.region.Region.{Region}
-use Rattle.bl_map.specs.Kinds.{kind_number, end_of, kind_at, ComesBefore, AreRuns, IsNormalMap}
+use Rattle.std.specs.Prelude.{Some}
+use Rattle.bl_map.specs.Kinds.{kind_number, kind_of, end_of, kind_at, ComesBefore, AreRuns, IsNormalMap}
 use Rattle.bl_map.proofs.KindLemmas.{held, not_held_behind, kind_held, kind_not_held, none_before, number_positive}
 
-kind_of : ℕ → Kind
-kind_of zero = Usable
-kind_of (suc zero) = Usable
-kind_of (suc (suc zero)) = Reserved
-kind_of (suc (suc (suc zero))) = Acpi
-kind_of (suc (suc (suc (suc zero)))) = Nvs
-kind_of (suc (suc (suc (suc (suc n))))) = Bad
-
-kind_of-number : (k : Kind) → kind_of (kind_number k) ≡ k
+-- a kind is read again from its number
+pub kind_of-number : (k : Kind) → kind_of (kind_number k) ≡ Some k
 unfolding kind_of
 kind_of-number Usable = refl
 kind_of-number Reserved = refl
@@ -27,7 +21,7 @@ kind_of-number Bad = refl
 
 -- a kind is known by its number
 pub same_kind : (p q : Kind) → kind_number p ≡ kind_number q → p ≡ q
-same_kind p q same = sym (kind_of-number p) ∙ ap kind_of same ∙ kind_of-number q
+same_kind p q same = let e : Some p ≡ Some q = sym (kind_of-number p) ∙ ap kind_of same ∙ kind_of-number q in cc
 
 pub later_runs : (x : Region) (xs : List Region) → AreRuns (x ∷ xs) → All (ComesBefore x) xs
 later_runs x xs runs = λ k d inside. runs.in_order 0 (suc k) d (omega arith) (omega arith)
@@ -49,7 +43,7 @@ kind_before x xs a runs below =
     (All-cons (λ r. x.base ≤ r.base) x xs (omega arith) (All-weaker (λ r. end_of x ≤ r.base) (λ r. x.base ≤ r.base) (λ r h. omega arith) xs (later_bases x xs runs)))
     below
 
-kind_in : (x : Region) (xs : List Region) (a : ℕ) → AreRuns (x ∷ xs) → x.base ≤ a → a < end_of x → kind_at (x ∷ xs) a ≡ kind_number x.kind
+pub kind_in : (x : Region) (xs : List Region) (a : ℕ) → AreRuns (x ∷ xs) → x.base ≤ a → a < end_of x → kind_at (x ∷ xs) a ≡ kind_number x.kind
 kind_in x xs a runs from below =
     kind_held x xs a (held x a from below)
     ∙ ap (λ n. max (kind_number x.kind) n) (none_before xs (end_of x) a (later_bases x xs runs) below)

@@ -6,7 +6,8 @@ use Rattle.std.proofs.lemmas.List.Folds.{list_all_at}
 use Rattle.std.proofs.lemmas.List.Sums.{list_all-from_AllPass}
 use Rattle.std.specs.declared.ops.Range.{Range}
 use Rattle.std.specs.Prelude.{max}
-use Rattle.bl_map.specs.Room.{frames_in, is_beside, is_open, open_among, AreAscending, AreMet}
+use Rattle.bl_map.specs.Kept.{AreMet}
+use Rattle.bl_map.specs.Room.{frames_in, is_beside, is_open, open_among, AreAscending}
 
 -- frames of which each is open are counted
 all_open : (ranges : List (Range ℕ)) (start n k : ℕ) → ((i : ℕ) → n ≤ i → i < n + k → is_open ranges (start + 4096 * i) ≡ true)

@@ -1,29 +1,32 @@
 -- What refuses a machine. Own.
-use Rattle.std.specs.Prelude.{◌≤◌, ◌<◌, ◌^◌, ℕ, List, length, take, All, slice_get, IfSome}
+use Rattle.std.specs.Prelude.{◌≤◌, ◌<◌, ℕ, List, length, take, All, slice_get, IfSome}
 use Rattle.std.specs.declared.ops.Range.{Range}
 use Rattle.bl_map.specs.declared.region.Region.{Region}
 use Rattle.bl_map.specs.declared.fault.MapFault.{MapFault}
 use Rattle.bl_map.specs.declared.fault.MapFault.TheVariants.{BadSize, TooManyRegions, BadRegion, BadPool, NoMemory}
+use Rattle.bl_map.specs.Limits.{most_regions, region_limit}
 use Rattle.bl_map.specs.Kinds.{end_of}
 use Rattle.bl_map.specs.MachineFacts.{IsSize, IsPool}
 
 -- a region ends at most at 2^52
 abbrev pub IsLow : Region → Type 0
-IsLow region = end_of region ≤ 2 ^ 52
+IsLow region = end_of region ≤ region_limit
 
 -- the first fault of a machine, in the order of these lines; memory may run out at any growth
 abbrev pub HasFirstFault : ℕ → List Region → Range ℕ → MapFault → Type 0
 HasFirstFault size regions pool BadSize = ¬ IsSize size
-HasFirstFault size regions pool TooManyRegions = IsSize size × (128 < length regions)
+HasFirstFault size regions pool TooManyRegions = IsSize size × (most_regions < length regions)
 HasFirstFault size regions pool (BadRegion i) =
-    IsSize size × (length regions ≤ 128) × (i < length regions) × All IsLow (take i regions) × IfSome (slice_get regions i) (λ region. ¬ IsLow region)
+    IsSize size × (length regions ≤ most_regions) × (i < length regions)
+    × All IsLow (take i regions)
+    × IfSome (slice_get regions i) (λ region. ¬ IsLow region)
 HasFirstFault size regions pool BadPool =
-    IsSize size × (length regions ≤ 128) × All IsLow regions × (¬ IsPool regions size pool)
+    IsSize size × (length regions ≤ most_regions) × All IsLow regions × (¬ IsPool regions size pool)
 HasFirstFault size regions pool NoMemory = Unit {0}
 
 -- no fault stands
 pub record IsAccepted (size : ℕ) (regions : List Region) (pool : Range ℕ) : Type 0 where
   pub size_is : IsSize size
-  pub few : length regions ≤ 128
+  pub few : length regions ≤ most_regions
   pub low : All IsLow regions
   pub pool_is : IsPool regions size pool

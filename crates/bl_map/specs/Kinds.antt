@@ -1,6 +1,7 @@
--- Kinds of addresses, and the normal map. Own; the numbers of kinds are those of the memory map of Multiboot2
--- (3.6.8 "Memory map") and of an e820 entry.
-use Rattle.std.specs.Prelude.{◌≡◌, ◌≢◌, ◌+◌, ◌-◌, ◌/◌, ◌^◌, ◌≤◌, ℕ, Bool, ◌&&◌, if◌then◌else◌, ◌==◌, nat_le, nat_lt, min, max, List, [], ◌∷◌, All, AllPairs, Option, Some, None}
+-- Kinds of addresses, and the normal map. Own; the numbers of kinds are those of the memory map of
+-- Multiboot2 (3.6.8 "Memory map") and of an e820 entry.
+use Rattle.std.specs.Prelude.{◌≡◌, ◌≢◌, ◌+◌, ◌-◌, ◌/◌, ◌≤◌, ℕ, Bool, ◌&&◌, if◌then◌else◌, ◌==◌, nat_le, nat_lt, min, max, List, [], ◌∷◌, All, AllPairs, Option, Some, None}
+use Rattle.bl_map.specs.Limits.{region_limit}
 use Rattle.bl_map.specs.declared.kind.Kind.{Kind}
 use Rattle.bl_map.specs.declared.kind.Kind.TheVariants.{Usable, Reserved, Acpi, Nvs, Bad}
 use Rattle.bl_map.specs.declared.region.Region.{Region}
@@ -11,6 +12,15 @@ kind_number Reserved = 2
 kind_number Acpi = 3
 kind_number Nvs = 4
 kind_number Bad = 5
+
+-- the kind of a number
+unfoldable pub kind_of : ℕ → Option Kind
+kind_of n =
+    if n == 1 then Some Usable else
+    if n == 2 then Some Reserved else
+    if n == 3 then Some Acpi else
+    if n == 4 then Some Nvs else
+    if n == 5 then Some Bad else None
 
 -- the number of a kind, 0 for none
 abbrev pub number_or_none : Option Kind → ℕ
@@ -27,7 +37,8 @@ holds region a = nat_le region.base a && nat_lt a (end_of region)
 -- the greatest number of the kinds of the regions that hold an address, 0 where none holds it
 abbrev pub kind_at : List Region → ℕ → ℕ
 kind_at [] a = 0
-kind_at (region ∷ regions) a = max (if holds region a then kind_number region.kind else 0) (kind_at regions a)
+kind_at (region ∷ regions) a =
+    max (if holds region a then kind_number region.kind else 0) (kind_at regions a)
 
 -- q lies behind p, and has another kind where the two adjoin
 abbrev pub ComesBefore : Region → Region → Type 0
@@ -36,7 +47,7 @@ ComesBefore p q = (end_of p ≤ q.base) × (end_of p ≡ q.base → p.kind ≢ q
 -- runs are not empty, ascend, and are the longest of one kind
 pub record AreRuns (runs : List Region) : Type 0 where
   pub filled : All (λ run. 1 ≤ run.length) runs
-  pub low : All (λ run. end_of run ≤ 2 ^ 52) runs
+  pub low : All (λ run. end_of run ≤ region_limit) runs
   pub in_order : AllPairs ComesBefore runs
 
 -- the normal map of regions: runs that give each address the kind that the regions give it
@@ -47,12 +58,14 @@ pub record IsNormalMap (regions runs : List Region) : Type 0 where
 -- the end of the run of kind 1 that holds an address, 0 where there is none
 abbrev pub usable_end : List Region → ℕ → ℕ
 usable_end [] a = 0
-usable_end (run ∷ runs) a = if (kind_number run.kind == 1) && holds run a then end_of run else usable_end runs a
+usable_end (run ∷ runs) a =
+    if (kind_number run.kind == 1) && holds run a then end_of run else usable_end runs a
 
--- KiB of usable memory from address 0 on, at most 640
+-- Multiboot2 3.6.3 "Basic memory information": mem_lower, KiB of usable memory from address 0 on,
+-- at most 640
 abbrev pub low_kib : List Region → ℕ
 low_kib runs = min (usable_end runs 0 / 1024) 640
 
--- KiB of usable memory from 1 MiB on, at most what 32 bits hold
+-- mem_upper, KiB of usable memory from 1 MiB on, at most what 32 bits hold
 abbrev pub high_kib : List Region → ℕ
 high_kib runs = min ((usable_end runs 0x100000 - 0x100000) / 1024) 0xFFFFFFFF

@@ -1,4 +1,6 @@
+pub mod Limits
 pub mod Kinds
 pub mod MachineFacts
 pub mod Faults
 pub mod Room
+pub mod Kept

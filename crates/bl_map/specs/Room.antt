@@ -1,11 +1,16 @@
 -- Whether the pool has frames enough beside the parts. Own.
-use Rattle.std.specs.Prelude.{◌≡◌, ℕ, zero, suc, ◌+◌, ◌-◌, ◌*◌, ◌/◌, ◌<◌, ◌≤◌, Bool, true, false, ◌||◌, if◌then◌else◌, nat_le, List, [], ◌∷◌, length, All, AllPairs}
+use Rattle.std.specs.Prelude.{ℕ, zero, suc, ◌+◌, ◌-◌, ◌*◌, ◌/◌, ◌≤◌, Bool, ◌||◌, if◌then◌else◌, nat_le, List, [], ◌∷◌, length, All, AllPairs}
 use Rattle.std.specs.List.{list_all}
 use Rattle.std.specs.declared.ops.Range.{Range}
+use Rattle.bl_map.specs.Limits.{frame_size}
 
--- how many frames of 4096 bytes a length needs
+-- how many frames a length in bytes needs
 abbrev pub frames_of : ℕ → ℕ
-frames_of length = (length + 4095) / 4096
+frames_of length = (length + (frame_size - 1)) / frame_size
+
+-- a length rounded up to whole frames
+abbrev pub whole_frames : ℕ → ℕ
+whole_frames length = frames_of length * frame_size
 
 -- how many frames the files of an entry need, each in frames of its own
 abbrev pub frames_needed : List (List ℕ) → ℕ
@@ -14,11 +19,14 @@ frames_needed (file ∷ files) = frames_of (length file) + frames_needed files
 
 -- how many frames a pool has
 abbrev pub frames_in : Range ℕ → ℕ
-frames_in pool = (pool.end - pool.start) / 4096
+frames_in pool = (pool.end - pool.start) / frame_size
 
 -- no byte of the frame at an address lies in the range; a range of no byte meets no frame
 abbrev pub is_beside : Range ℕ → ℕ → Bool
-is_beside range frame = nat_le range.end range.start || nat_le range.end frame || nat_le (frame + 4096) range.start
+is_beside range frame =
+    nat_le range.end range.start
+    || nat_le range.end frame
+    || nat_le (frame + frame_size) range.start
 
 -- no byte of the frame lies in one of these ranges
 abbrev pub is_open : List (Range ℕ) → ℕ → Bool
@@ -27,7 +35,8 @@ is_open ranges frame = list_all (λ range. is_beside range frame) ranges
 -- how many of the first n frames from start on meet none of these ranges
 abbrev pub open_among : List (Range ℕ) → ℕ → ℕ → ℕ
 open_among ranges start zero = 0
-open_among ranges start (suc n) = open_among ranges start n + (if is_open ranges (start + 4096 * n) then 1 else 0)
+open_among ranges start (suc n) =
+    open_among ranges start n + (if is_open ranges (start + frame_size * n) then 1 else 0)
 
 -- how many of a pool's frames meet none of these ranges
 abbrev pub open_frames : Range ℕ → List (Range ℕ) → ℕ
@@ -41,13 +50,3 @@ HasRoomFor pool ranges files = frames_needed files ≤ open_frames pool ranges
 pub record AreAscending (ranges : List (Range ℕ)) : Type 0 where
   pub forward : All (λ range. range.start ≤ range.end) ranges
   pub in_order : AllPairs (λ p q. p.end ≤ q.start) ranges
-
--- ---- what the code keeps
-
--- of a pool's frames a range meets those with these numbers, from 0 on; each before them ends before the range begins
-pub record AreMet (pool range met : Range ℕ) : Type 0 where
-  pub forward : met.start ≤ met.end
-  pub within : met.end ≤ frames_in pool
-  pub before : (i : ℕ) → i < met.start → pool.start + 4096 * i + 4096 ≤ range.start
-  pub inside : (i : ℕ) → met.start ≤ i → i < met.end → is_beside range (pool.start + 4096 * i) ≡ false
-  pub behind : (i : ℕ) → met.end ≤ i → i < frames_in pool → is_beside range (pool.start + 4096 * i) ≡ true

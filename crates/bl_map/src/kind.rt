@@ -26,4 +26,19 @@ impl Kind {
             Kind::Bad => 5,
         }
     }
+
+    /// The kind of a number, or none of another number than 1 to 5.
+    #[tactic(auto, unfolding(crate::specs::Kinds::kind_of))]
+    pub fn from_number(number: u32) -> Option<Kind>
+        ensures { result ≡ kinds.kind_of number }
+    {
+        match number {
+            1 => Some(Kind::Usable),
+            2 => Some(Kind::Reserved),
+            3 => Some(Kind::Acpi),
+            4 => Some(Kind::Nvs),
+            5 => Some(Kind::Bad),
+            _ => None,
+        }
+    }
 }

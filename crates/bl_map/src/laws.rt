@@ -5,5 +5,7 @@ ghost use Rattle.bl_map.specs.Kinds.{IsNormalMap, kind_at};
 
 /// Regions that give each address the same kind have the same normal map.
 pub fn normal_maps_are_determined()
-    ensures one_map { (regions others xs ys : List Region) → ((a : ℕ) → kind_at regions a ≡ kind_at others a) → IsNormalMap regions xs → IsNormalMap others ys → xs ≡ ys }
+    ensures one_map { (regions others xs ys : List Region)
+        → ((a : ℕ) → kind_at regions a ≡ kind_at others a)
+        → IsNormalMap regions xs → IsNormalMap others ys → xs ≡ ys }
 {}

@@ -14,7 +14,10 @@ mod sweep;
 pub use fault::MapFault;
 pub use kind::Kind;
 pub use laws::normal_maps_are_determined;
-pub use limits::{FIRST_USABLE, REGION_LIMIT, USABLE_LIMIT};
+pub use limits::{
+    FIRST_USABLE, FRAME, HIGH_START, KIB, LEAST_SIZE, MOST_HIGH_KIB, MOST_LOW_KIB, MOST_REGIONS,
+    MOST_SIZE, REGION_LIMIT, USABLE_LIMIT,
+};
 pub use machine::Machine;
 pub use region::Region;
-pub use room::{frames_in, frames_of, open_frames};
+pub use room::{frames_in, frames_of, open_frames, whole_frames};

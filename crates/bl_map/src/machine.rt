@@ -1,6 +1,7 @@
 //! A machine.
 use crate::fault::MapFault;
 use crate::kind::Kind;
+use crate::limits::{HIGH_START, KIB, MOST_HIGH_KIB, MOST_LOW_KIB, MOST_REGIONS};
 use crate::region::Region;
 use crate::rules::{first_high, is_pool, is_size, is_usable_among, usable_end};
 use crate::sweep::{greatest_kind, normal_map};
@@ -23,7 +24,8 @@ impl<A: Allocator> Model for Machine<A> {
 
     ghost view = { λ m. record { size = m.size; runs = m.runs.items; pool = m.pool } };
 
-    ghost invariant = { λ m. AreMachineFacts record { size = m.size; runs = m.runs.items; pool = m.pool } };
+    ghost invariant = { λ m.
+        AreMachineFacts record { size = m.size; runs = m.runs.items; pool = m.pool } };
 }
 
 impl<A: Allocator> Machine<A> {
@@ -33,15 +35,15 @@ impl<A: Allocator> Machine<A> {
     ghost use Rattle.bl_map.specs.MachineFacts.{AllUsable, AreMachineFacts};
     ghost use Rattle.bl_map.specs.Faults.{HasFirstFault, IsAccepted};
 
-    /// The machine of these regions, in any order, overlapping, adjoining or empty. `size` is in bytes; `pool` has the
-    /// addresses of the frames that files are staged in.
+    /// The machine of these regions, in any order, overlapping, adjoining or empty. `size` is in
+    /// bytes; `pool` has the addresses of the frames that files are staged in.
     ///
     /// The first of these faults that stands refuses it:
     /// - `BadSize`: the size is not 1 MiB to 4 GiB in whole frames of 4096 bytes.
     /// - `TooManyRegions`: there are more than 128 regions.
     /// - `BadRegion(i)`: region `i`, the first such one from 0, ends above 2^52.
-    /// - `BadPool`: the pool's start lies above its end, one of the two is no multiple of 4096, or a byte of it is not
-    ///   usable. An empty pool may stand at any multiple of 4096.
+    /// - `BadPool`: the pool's start lies above its end, one of the two is no multiple of 4096, or
+    ///   a byte of it is not usable. An empty pool may stand at any multiple of 4096.
     /// - `NoMemory`: there was no memory for the normal map.
     pub fn new(
         alloc: A,
@@ -58,7 +60,7 @@ impl<A: Allocator> Machine<A> {
         if !is_size(size) {
             return Err(MapFault::BadSize);
         }
-        if regions.len() > 128 {
+        if regions.len() > MOST_REGIONS {
             return Err(MapFault::TooManyRegions);
         }
         if let Some(i) = first_high(regions) {
@@ -103,31 +105,36 @@ impl<A: Allocator> Machine<A> {
         greatest_kind(self.runs.as_slice(), a)
     }
 
-    /// Whether each byte of the range is usable, as in an empty one: of kind `Usable`, from 4096 on, below the size and below 0xFFFFF000.
+    /// Whether each byte of the range is usable, as in an empty one: of kind `Usable`, from 4096
+    /// on, below the size and below 0xFFFFF000.
     pub fn is_usable(&self, range: Range<u64>) -> bool
         requires forward { range.start ≤ range.end }
-        ensures usable { MatchBool result (AllUsable self.now range.start range.end) (¬ AllUsable self.now range.start range.end) }
+        ensures usable { MatchBool result
+            (AllUsable self.now range.start range.end)
+            (¬ AllUsable self.now range.start range.end) }
         ensures facts { AreMachineFacts self.now }
     {
         is_usable_among(self.runs.as_slice(), self.size, range.start, range.end)
     }
 
-    /// KiB of usable memory from address 0 on, at most 640 (Multiboot2 3.6.3 "Basic memory information").
+    /// KiB of usable memory from address 0 on, at most 640 (Multiboot2 3.6.3 "Basic memory
+    /// information").
     pub fn low_kib(&self) -> u64
         ensures low_kib { result ≡ kinds.low_kib self.now.runs }
-        ensures most { result ≤ 640 }
+        ensures most { result ≤ MOST_LOW_KIB }
         ensures facts { AreMachineFacts self.now }
     {
-        (usable_end(self.runs.as_slice(), 0) / 1024).min(640)
+        (usable_end(self.runs.as_slice(), 0) / KIB).min(MOST_LOW_KIB)
     }
 
-    /// KiB of usable memory from 1 MiB on, at most what 32 bits hold (Multiboot2 3.6.3 "Basic memory information").
+    /// KiB of usable memory from 1 MiB on, at most what 32 bits hold (Multiboot2 3.6.3 "Basic
+    /// memory information").
     pub fn high_kib(&self) -> u64
         ensures high_kib { result ≡ kinds.high_kib self.now.runs }
         ensures most { result < 2 ^ 32 }
         ensures facts { AreMachineFacts self.now }
     {
-        let end = usable_end(self.runs.as_slice(), 0x0010_0000);
-        (end.saturating_sub(0x0010_0000) / 1024).min(0xFFFF_FFFF)
+        let end = usable_end(self.runs.as_slice(), HIGH_START);
+        (end.saturating_sub(HIGH_START) / KIB).min(MOST_HIGH_KIB)
     }
 }

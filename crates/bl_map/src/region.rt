@@ -2,7 +2,8 @@
 use crate::kind::Kind;
 use crate::limits::REGION_LIMIT;
 
-/// The addresses from `base` up to `base + length`, in bytes, and their kind. A length of 0 holds nothing.
+/// The addresses from `base` up to `base + length`, in bytes, and their kind. A length of 0 holds
+/// nothing.
 #[derive(Clone, Copy, Debug, PartialEq, Eq)]
 pub struct Region {
     pub base: u64,

@@ -1,14 +1,24 @@
 //! Whether the pool has frames enough beside the parts.
 ghost use Rattle.std.specs.Prelude.{◌≡◌, ◌≤◌, ◌<◌, ◌+◌, ◌*◌, ◌^◌, length};
+ghost use Rattle.bl_map.specs.Kept.{AreMet};
 ghost use Rattle.bl_map.specs.Room as room;
 
+use crate::limits::FRAME;
 use std::ops::Range;
 
-/// How many frames of 4096 bytes a length of bytes needs.
+/// How many frames a length of bytes needs.
 pub fn frames_of(length: u64) -> u64
     ensures { result ≡ room.frames_of length }
 {
-    length / 4096 + if length % 4096 == 0 { 0 } else { 1 }
+    length / FRAME + if length % FRAME == 0 { 0 } else { 1 }
+}
+
+/// A length of bytes, at most 2^64 - 4096, rounded up to whole frames, in bytes.
+pub fn whole_frames(length: u64) -> u64
+    requires small { length + 4095 < 2 ^ 64 }
+    ensures { result ≡ room.whole_frames length }
+{
+    frames_of(length) * FRAME
 }
 
 /// How many whole frames a pool has.
@@ -16,17 +26,18 @@ pub fn frames_in(pool: &Range<u64>) -> u64
     requires { pool.now.start ≤ pool.now.end }
     ensures { result ≡ room.frames_in pool.now }
 {
-    (pool.end - pool.start) / 4096
+    (pool.end - pool.start) / FRAME
 }
 
-/// The frames of a pool that a range meets, by their numbers from 0 on. A range of no byte meets none.
+/// The frames of a pool that a range meets, by their numbers from 0 on. A range of no byte meets
+/// none.
 fn frames_met(pool: &Range<u64>, range: &Range<u64>) -> Range<u64>
     requires pool { pool.now.start ≤ pool.now.end }
     requires range { range.now.start ≤ range.now.end }
-    ensures { room.AreMet pool.now range.now result }
+    ensures { AreMet pool.now range.now result }
 {
     let frames = frames_in(pool);
-    let first = (range.start.saturating_sub(pool.start) / 4096).min(frames);
+    let first = (range.start.saturating_sub(pool.start) / FRAME).min(frames);
     if range.start == range.end {
         return first..first;
     }
@@ -34,8 +45,9 @@ fn frames_met(pool: &Range<u64>, range: &Range<u64>) -> Range<u64>
     first..behind
 }
 
-/// How many frames of a pool meet none of these ranges. One byte of a range meets a frame; a range of no
-/// byte meets none. The ranges ascend, so that one pass over them is enough, however many frames there are.
+/// How many frames of a pool meet none of these ranges. One byte of a range meets a frame; a range
+/// of no byte meets none. The ranges ascend, so that one pass over them is enough, however many
+/// frames there are.
 pub fn open_frames(pool: &Range<u64>, ranges: &[Range<u64>]) -> u64
     requires forward { pool.now.start ≤ pool.now.end }
     requires ascending { room.AreAscending ranges.now }

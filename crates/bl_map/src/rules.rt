@@ -1,11 +1,11 @@
 //! The rules that a machine is accepted by.
-ghost use Rattle.std.specs.Prelude.{◌≡◌, ℕ, ◌^◌, ◌<◌, ◌≤◌, All, IfSome, MatchBool, MatchOption, length, slice_get, take};
+ghost use Rattle.std.specs.Prelude.{◌≡◌, ℕ, ◌<◌, ◌≤◌, All, IfSome, MatchBool, MatchOption, length, slice_get, take};
 ghost use Rattle.bl_map.specs.MachineFacts.{IsPool, IsSize, IsUsableAmong};
 ghost use Rattle.bl_map.specs.Faults.{IsLow};
 ghost use Rattle.bl_map.specs.Kinds as kinds;
 
 use crate::kind::Kind;
-use crate::limits::{FIRST_USABLE, USABLE_LIMIT};
+use crate::limits::{FIRST_USABLE, FRAME, LEAST_SIZE, MOST_SIZE, USABLE_LIMIT};
 use crate::region::Region;
 use crate::sweep::{greatest_kind, run_end};
 use std::ops::Range;
@@ -14,14 +14,16 @@ use std::ops::Range;
 pub fn is_size(size: u64) -> bool
     ensures { MatchBool result (IsSize size) (¬ IsSize size) }
 {
-    0x0010_0000 <= size && size <= 0x1_0000_0000 && size % 4096 == 0
+    LEAST_SIZE <= size && size <= MOST_SIZE && size % FRAME == 0
 }
 
 /// The first region that ends above 2^52.
 pub fn first_high(regions: &[Region]) -> Option<usize>
     ensures { MatchOption result
         (All IsLow regions.now)
-        (λ i. (i < length regions.now) × All IsLow (take i regions.now) × IfSome (slice_get regions.now i) (λ region. ¬ IsLow region)) }
+        (λ i. (i < length regions.now)
+        × All IsLow (take i regions.now)
+        × IfSome (slice_get regions.now i) (λ region. ¬ IsLow region)) }
 {
     for (i, region) in regions.iter().enumerate() {
         if !region.is_low() {
@@ -31,10 +33,11 @@ pub fn first_high(regions: &[Region]) -> Option<usize>
     None
 }
 
-/// Whether each byte from `start` up to `end` is usable in a machine of this size and these regions.
+/// Whether each byte from `start` up to `end` is usable in a machine of this size and these
+/// regions.
 pub fn is_usable_among(regions: &[Region], size: u64, start: u64, end: u64) -> bool
     requires low { All IsLow regions.now }
-    requires size { size ≤ 2 ^ 32 }
+    requires size { size ≤ MOST_SIZE }
     requires forward { start ≤ end }
     ensures { MatchBool result
         ((a : ℕ) → start ≤ a → a < end → IsUsableAmong regions.now size a)
@@ -55,10 +58,12 @@ pub fn is_usable_among(regions: &[Region], size: u64, start: u64, end: u64) -> b
 /// Whether the pool is whole usable frames, perhaps none.
 pub fn is_pool(regions: &[Region], size: u64, pool: &Range<u64>) -> bool
     requires low { All IsLow regions.now }
-    requires size { size ≤ 2 ^ 32 }
-    ensures { MatchBool result (IsPool regions.now size pool.now) (¬ IsPool regions.now size pool.now) }
+    requires size { size ≤ MOST_SIZE }
+    ensures { MatchBool result
+        (IsPool regions.now size pool.now)
+        (¬ IsPool regions.now size pool.now) }
 {
-    if pool.end < pool.start || pool.start % 4096 != 0 || pool.end % 4096 != 0 {
+    if pool.end < pool.start || pool.start % FRAME != 0 || pool.end % FRAME != 0 {
         return false;
     }
     is_usable_among(regions, size, pool.start, pool.end)

@@ -1,5 +1,5 @@
 //! The normal map of regions, by a sweep over the addresses where kinds change.
-ghost use Rattle.std.specs.Prelude.{◌≡◌, ◌≢◌, ℕ, ◌*◌, ◌^◌, ◌<◌, ◌≤◌, All, length, max, IfOk};
+ghost use Rattle.std.specs.Prelude.{◌≡◌, ◌≢◌, ℕ, ◌*◌, ◌<◌, ◌≤◌, All, length, max, IfOk};
 ghost use Rattle.bl_map.specs.Kinds.{IsNormalMap, holds, kind_at, kind_number, number_or_none};
 ghost use Rattle.bl_map.specs.Faults.{IsLow};
 
@@ -61,9 +61,9 @@ fn change_in(region: &Region, at: u64, limit: u64) -> u64
 /// An address before which all addresses from `at` on have one kind.
 fn change_after(regions: &[Region], at: u64) -> u64
     requires low { All IsLow regions.now }
-    requires ahead { at < 2 ^ 52 }
+    requires ahead { at < REGION_LIMIT }
     ensures ahead { at < result }
-    ensures within { result ≤ 2 ^ 52 }
+    ensures within { result ≤ REGION_LIMIT }
     ensures same { (a : ℕ) → at ≤ a → a < result → kind_at regions.now a ≡ kind_at regions.now at }
 {
     let mut next = REGION_LIMIT;
@@ -76,11 +76,11 @@ fn change_after(regions: &[Region], at: u64) -> u64
 /// Where the addresses from `at` on that have one kind end.
 pub fn run_end(regions: &[Region], at: u64) -> u64
     requires low { All IsLow regions.now }
-    requires ahead { at < 2 ^ 52 }
+    requires ahead { at < REGION_LIMIT }
     ensures ahead { at < result }
-    ensures within { result ≤ 2 ^ 52 }
+    ensures within { result ≤ REGION_LIMIT }
     ensures same { (a : ℕ) → at ≤ a → a < result → kind_at regions.now a ≡ kind_at regions.now at }
-    ensures other { result < 2 ^ 52 → kind_at regions.now result ≢ kind_at regions.now at }
+    ensures other { result < REGION_LIMIT → kind_at regions.now result ≢ kind_at regions.now at }
 {
     let number = known_number(greatest_kind(regions, at));
     let mut end = change_after(regions, at);

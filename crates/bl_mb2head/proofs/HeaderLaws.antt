@@ -3,6 +3,7 @@ use Rattle.std.proofs.Common.{◌≡◌, ◌≢◌, ◌+◌, ℕ, true, false, n
 use Rattle.std.proofs.lemmas.Bool.Decides.{nat_tests}
 use Rattle.std.proofs.lemmas.Option.{same_Some}
 use Rattle.bl_mem.specs.Least.{IsLeast}
+use Rattle.bl_mem.proofs.LeastLaws.{one_least}
 use Rattle.bl_mem.specs.declared.segment.Segment.{Segment}
 use Rattle.bl_mb2head.specs.declared.fault.HeadFault.{HeadFault}
 use Rattle.bl_mb2head.specs.declared.fault.HeadFault.TheVariants.{NoHeader, HeaderCut, BadArchitecture, BadTag, UnsupportedTag, UnsupportedRequest, NoConsole}
@@ -14,10 +15,6 @@ use Rattle.bl_mb2head.specs.Place.{IsHeaderAt}
 use Rattle.bl_mb2head.specs.Tags.{AreAllTags, IsFirstFault, last_of}
 use Rattle.bl_mb2head.specs.Header.{end_of, is_cut, architecture_at, tag_entry, relocation_of, BeginsAt, IsAddressFault, IsHeader, HasFirstFault}
 use Rattle.bl_mb2head.proofs.TagLaws as tags
-
--- the file's header stands at one place
-one_place : (bytes : List ℕ) (h k : ℕ) → IsLeast (IsHeaderAt bytes) h → IsLeast (IsHeaderAt bytes) k → h ≡ k
-one_place bytes h k at_h at_k = let le = at_h.least k at_k.holds in let ge = at_k.least h at_h.holds in omega arith
 
 -- what is wrong with the header at h before its tags
 abbrev early_fault : List ℕ → ℕ → Option HeadFault
@@ -75,7 +72,7 @@ one_fault bytes f g a b =
       ]
       | inr at_a ↦ elim (by_place bytes g b) [
         | inl none_b ↦ absurd (none_b.0 at_a.0 at_a.1.holds)
-        | inr at_b ↦ one_fault_at bytes at_a.0 f g at_a.2 (subst (λ (h : ℕ). HasFaultAt bytes h g) (one_place bytes at_b.0 at_a.0 at_b.1 at_a.1) at_b.2)
+        | inr at_b ↦ one_fault_at bytes at_a.0 f g at_a.2 (subst (λ (h : ℕ). HasFaultAt bytes h g) (one_least (IsHeaderAt bytes) at_b.0 at_a.0 at_b.1 at_a.1) at_b.2)
       ]
     ]
 
@@ -89,7 +86,7 @@ pub not_both : (bytes : List ℕ) (header : Header) (fault : HeadFault) → IsHe
 not_both bytes header fault is has =
     elim (by_place bytes fault has) [
       | inl none ↦ none.0 header.place is.begins.place.holds
-      | inr at ↦ none_at bytes header.place is.tags fault is.begins is.all is.sound (subst (λ (h : ℕ). HasFaultAt bytes h fault) (one_place bytes at.0 header.place at.1 is.begins.place) at.2)
+      | inr at ↦ none_at bytes header.place is.tags fault is.begins is.all is.sound (subst (λ (h : ℕ). HasFaultAt bytes h fault) (one_least (IsHeaderAt bytes) at.0 header.place at.1 is.begins.place) at.2)
     ]
 
 header_of : ℕ → Option Segment → Option ℕ → Option Relocation → Header
@@ -106,7 +103,7 @@ same_header a b place segment entry relocation =
 -- a file has one header
 pub one_header : (bytes : List ℕ) (a b : Header) → IsHeader bytes a → IsHeader bytes b → a ≡ b
 one_header bytes a b is_a is_b =
-    let place : a.place ≡ b.place = one_place bytes a.place b.place is_a.begins.place is_b.begins.place in
+    let place : a.place ≡ b.place = one_least (IsHeaderAt bytes) a.place b.place is_a.begins.place is_b.begins.place in
     let moved : AreAllTags bytes (end_of bytes b.place) (b.place + 16) is_a.tags = subst (λ (h : ℕ). AreAllTags bytes (end_of bytes h) (h + 16) is_a.tags) place is_a.all in
     let same : is_a.tags ≡ is_b.tags = tags.one_list bytes (end_of bytes b.place) (b.place + 16) is_a.tags is_b.tags moved is_b.all in
     same_header a b place

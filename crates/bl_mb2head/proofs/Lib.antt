@@ -5,3 +5,4 @@ pub mod PlaceLemmas
 pub mod SegmentLaws
 pub mod TagLaws
 pub mod TagLemmas
+pub mod TotalLaws

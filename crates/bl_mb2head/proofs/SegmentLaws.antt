@@ -1,8 +1,7 @@
 -- The segment and the entry of a header are numbers that stay small, where the file's bytes are bytes.
 use Rattle.std.proofs.Common.{◌≡◌, ◌≤◌, ◌<◌, ◌+◌, ◌^◌, ℕ, Bool, true, false, if◌then◌else◌, Option, Some, None, IfSome, List, length, drop, slice_index, refl, sym, subst, arith}
 use Rattle.std.proofs.lemmas.Bool.Decides.{nat_tests}
-use Rattle.std.proofs.lemmas.List.{get_or-drop}
-use Rattle.bl_mem.specs.Words.{number_at, u32_at}
+use Rattle.bl_mem.proofs.WordLaws.{u32_at-lt}
 use Rattle.bl_mem.specs.declared.segment.Segment.{Segment}
 use Rattle.bl_mb2head.specs.declared.address.AddressTag.{AddressTag}
 use Rattle.bl_mb2head.specs.declared.fault.HeadFault.{HeadFault}
@@ -12,12 +11,6 @@ use Rattle.bl_mb2head.specs.declared.tag.Tag.{Tag}
 use Rattle.bl_mb2head.specs.Address.{address_tag_at, segment_of, is_bad_address, address_fault, address_segment}
 use Rattle.bl_mb2head.specs.Header.{FitsFile, IsHeader, tag_entry}
 use Rattle.bl_mb2head.specs.Tags.{last_of}
-
-u32_at-lt : (bytes : List ℕ) (at : ℕ) → ((k : ℕ) → slice_index bytes k < 256) → u32_at bytes at < 2 ^ 32
-unfolding number_at
-u32_at-lt bytes at small =
-    let byte : (k : ℕ) → slice_index (drop at bytes) k < 256 = λ k. rw get_or-drop (small (at + k)) in
-    omega (arith, byte 0, byte 1, byte 2, byte 3)
 
 -- what an address tag with no fault gives
 segment_fits : (bytes : List ℕ) (h : ℕ) (tag : AddressTag) → h ≤ length bytes → tag.header_addr < 2 ^ 32 → tag.load_addr < 2 ^ 32 → tag.bss_end_addr < 2 ^ 32 → is_bad_address (length bytes) h tag ≡ false → FitsFile bytes (segment_of (length bytes) h tag)

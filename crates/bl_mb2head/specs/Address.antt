@@ -59,7 +59,9 @@ has_bad_load_end h tag = not (tag.load_end_addr == 0) && nat_lt tag.load_end_add
 
 -- the zeros end before the file's part does
 abbrev pub has_bad_bss_end : ℕ → ℕ → AddressTag → Bool
-has_bad_bss_end size h tag = not (tag.bss_end_addr == 0) && nat_lt tag.bss_end_addr (address_of h tag + filesz_of size h tag)
+has_bad_bss_end size h tag =
+    not (tag.bss_end_addr == 0)
+    && nat_lt tag.bss_end_addr (address_of h tag + filesz_of size h tag)
 
 -- own: what the file can't meet is a fault. The third is that its part would pass its end
 unfoldable pub is_bad_address : ℕ → ℕ → AddressTag → Bool
@@ -72,7 +74,8 @@ is_bad_address size h tag =
 abbrev pub address_fault : List ℕ → ℕ → Option Tag → Option HeadFault
 address_fault bytes h None = None
 address_fault bytes h (Some t) =
-    if is_bad_address (length bytes) h (address_tag_at bytes t.place) then Some (BadTag t.place) else None
+    if is_bad_address (length bytes) h (address_tag_at bytes t.place)
+    then Some (BadTag t.place) else None
 
 -- the segment that it gives
 abbrev pub address_segment : List ℕ → ℕ → Option Tag → Option Segment

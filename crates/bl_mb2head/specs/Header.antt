@@ -3,8 +3,8 @@ use Rattle.std.specs.Prelude.{◌≡◌, ◌≢◌, ◌≤◌, ◌<◌, ◌+◌,
 use Rattle.bl_mem.specs.Least.{IsLeast}
 use Rattle.bl_mem.specs.Words.{u32_at}
 use Rattle.bl_mem.specs.declared.segment.Segment.{Segment}
-use Rattle.bl_mb2head.specs.Place.{IsHeaderAt}
-use Rattle.bl_mb2head.specs.Tags.{AreAllTags, IsFirstFault, last_of}
+use Rattle.bl_mb2head.specs.Place.{IsHeaderAt, search_end}
+use Rattle.bl_mb2head.specs.Tags.{AreAllTags, IsFirstFault, last_of, address_type, entry_type, relocatable_type}
 use Rattle.bl_mb2head.specs.Address.{address_fault, address_segment}
 use Rattle.bl_mb2head.specs.declared.tag.Tag.{Tag}
 use Rattle.bl_mb2head.specs.declared.relocation.Relocation.{Relocation}
@@ -16,13 +16,17 @@ use Rattle.bl_mb2head.specs.declared.fault.HeadFault.TheVariants.{NoHeader, Head
 abbrev pub end_of : List ℕ → ℕ → ℕ
 end_of bytes h = h + u32_at bytes (h + 8)
 
+-- a header whose only tag is the last has 24 bytes
+abbrev pub least_length : ℕ
+least_length = 24
+
 -- the header at h has no room for the tag that ends its tags, or does not lie in the file and its
 -- first 32768 bytes (3.1)
 abbrev pub is_cut : List ℕ → ℕ → Bool
 is_cut bytes h =
-    nat_lt (u32_at bytes (h + 8)) 24
+    nat_lt (u32_at bytes (h + 8)) least_length
     || nat_lt (length bytes) (end_of bytes h)
-    || nat_lt 32768 (end_of bytes h)
+    || nat_lt search_end (end_of bytes h)
 
 -- the header's second word: architecture 0 is the protected mode of i386 (3.1.2)
 abbrev pub architecture_at : List ℕ → ℕ → ℕ
@@ -53,17 +57,17 @@ pub record BeginsAt (bytes : List ℕ) (h : ℕ) : Type 0 where
 pub record IsAddressFault (bytes : List ℕ) (h : ℕ) (fault : HeadFault) : Type 0 where
   pub tags : List Tag
   pub all : AreAllTags bytes (end_of bytes h) (h + 16) tags
-  pub faulty : address_fault bytes h (last_of 2 tags) ≡ Some fault
+  pub faulty : address_fault bytes h (last_of address_type tags) ≡ Some fault
 
 -- the file has a header with no fault, and this is what it says
 pub record IsHeader (bytes : List ℕ) (header : Header) : Type 0 where
   pub begins : BeginsAt bytes header.place
   pub tags : List Tag
   pub all : AreAllTags bytes (end_of bytes header.place) (header.place + 16) tags
-  pub sound : address_fault bytes header.place (last_of 2 tags) ≡ None
-  pub segment : header.segment ≡ address_segment bytes header.place (last_of 2 tags)
-  pub entry : header.entry ≡ tag_entry bytes (last_of 3 tags)
-  pub relocation : header.relocation ≡ relocation_of bytes (last_of 10 tags)
+  pub sound : address_fault bytes header.place (last_of address_type tags) ≡ None
+  pub segment : header.segment ≡ address_segment bytes header.place (last_of address_type tags)
+  pub entry : header.entry ≡ tag_entry bytes (last_of entry_type tags)
+  pub relocation : header.relocation ≡ relocation_of bytes (last_of relocatable_type tags)
 
 -- the file's first fault, in the order of these lines. The tags are judged one after the other, and
 -- the address tag that counts after all of them
@@ -71,14 +75,17 @@ abbrev pub HasFirstFault : List ℕ → HeadFault → Type 0
 HasFirstFault bytes NoHeader = (h : ℕ) → IsHeaderAt bytes h → ⊥
 HasFirstFault bytes HeaderCut = (h : ℕ) × IsLeast (IsHeaderAt bytes) h × (is_cut bytes h ≡ true)
 HasFirstFault bytes BadArchitecture =
-    (h : ℕ) × IsLeast (IsHeaderAt bytes) h × (is_cut bytes h ≡ false) × (architecture_at bytes h ≢ 0)
+    (h : ℕ) × IsLeast (IsHeaderAt bytes) h × (is_cut bytes h ≡ false)
+    × (architecture_at bytes h ≢ 0)
 HasFirstFault bytes (BadTag at) =
     (h : ℕ) × BeginsAt bytes h
-    × (IsFirstFault bytes (end_of bytes h) (h + 16) (BadTag at) ⊎ IsAddressFault bytes h (BadTag at))
+    × (IsFirstFault bytes (end_of bytes h) (h + 16) (BadTag at)
+    ⊎ IsAddressFault bytes h (BadTag at))
 HasFirstFault bytes (UnsupportedTag kind) =
     (h : ℕ) × BeginsAt bytes h × IsFirstFault bytes (end_of bytes h) (h + 16) (UnsupportedTag kind)
 HasFirstFault bytes (UnsupportedRequest kind) =
-    (h : ℕ) × BeginsAt bytes h × IsFirstFault bytes (end_of bytes h) (h + 16) (UnsupportedRequest kind)
+    (h : ℕ) × BeginsAt bytes h
+    × IsFirstFault bytes (end_of bytes h) (h + 16) (UnsupportedRequest kind)
 HasFirstFault bytes NoConsole =
     (h : ℕ) × BeginsAt bytes h × IsFirstFault bytes (end_of bytes h) (h + 16) NoConsole
 

@@ -1,5 +1,5 @@
 pub mod Address
 pub mod Header
-pub mod Last
+pub mod Kept
 pub mod Place
 pub mod Tags

@@ -7,6 +7,30 @@ use Rattle.bl_mb2head.specs.declared.tag.Tag.{Tag}
 use Rattle.bl_mb2head.specs.declared.fault.HeadFault.{HeadFault}
 use Rattle.bl_mb2head.specs.declared.fault.HeadFault.TheVariants.{BadTag, UnsupportedTag, UnsupportedRequest, NoConsole}
 
+-- the types of tags that are read: end (3.1.3), information request (3.1.4), address (3.1.5), entry address (3.1.6),
+-- console flags (3.1.9), relocatable (3.1.13)
+abbrev pub end_type : ℕ
+end_type = 0
+
+abbrev pub request_type : ℕ
+request_type = 1
+
+abbrev pub address_type : ℕ
+address_type = 2
+
+abbrev pub entry_type : ℕ
+entry_type = 3
+
+abbrev pub console_type : ℕ
+console_type = 4
+
+abbrev pub relocatable_type : ℕ
+relocatable_type = 10
+
+-- the last type that the specification has
+abbrev pub last_type : ℕ
+last_type = 10
+
 -- the tag whose first byte is at a place (3.1.3)
 abbrev pub tag_at : List ℕ → ℕ → Tag
 tag_at bytes at = record {
@@ -23,8 +47,8 @@ after t = (t.place + t.size + 7) / 8 * 8
 -- the least size of a kind of tag: that of the fields which are read (3.1.5, 3.1.6, 3.1.9, 3.1.13)
 abbrev pub least_size : ℕ → ℕ
 least_size kind =
-    if kind == 2 || kind == 10 then 24 else
-    if kind == 3 || kind == 4 then 12 else 8
+    if kind == address_type || kind == relocatable_type then 24 else
+    if kind == entry_type || kind == console_type then 12 else 8
 
 -- type, flags and size lie before the header's end, and so does the whole tag; its size is one of its
 -- kind, and the tag that ends the tags has size 8
@@ -32,7 +56,7 @@ unfoldable pub is_well_formed : List ℕ → ℕ → ℕ → Bool
 is_well_formed bytes end at =
     nat_le (at + 8) end && nat_le (at + u32_at bytes (at + 4)) end
     && nat_le (least_size (u16_at bytes at)) (u32_at bytes (at + 4))
-    && (not (u16_at bytes at == 0) || u32_at bytes (at + 4) == 8)
+    && (not (u16_at bytes at == end_type) || u32_at bytes (at + 4) == 8)
 
 -- bit 0 of the flags: the tag may be ignored (3.1.3)
 abbrev pub is_optional : Tag → Bool
@@ -49,29 +73,35 @@ can_be_given kind = nat_le 1 kind && nat_le kind 21 && not (kind == 9)
 
 -- the first type that an information request names and that can't be given (3.1.4)
 unfoldable pub first_unknown : List ℕ → Tag → Option ℕ
-first_unknown bytes t = find (λ kind. not (can_be_given kind)) (words_at bytes (t.place + 8) ((t.size - 8) / 4))
+first_unknown bytes t =
+    find (λ kind. not (can_be_given kind)) (words_at bytes (t.place + 8) ((t.size - 8) / 4))
 
+-- what is wrong with what a request names
 abbrev pub request_fault : Option ℕ → Option HeadFault
 request_fault None = None
 request_fault (Some kind) = Some (UnsupportedRequest kind)
 
--- what is wrong with the tag at a place: the first fault in this order. Bit 0 of the console flags
--- (3.1.9) asks for a console, and there is none
+-- bit 0 of the console flags: the tag asks for a console (3.1.9)
+abbrev pub asks_for_console : List ℕ → Tag → Bool
+asks_for_console bytes t =
+    t.kind == console_type && not (bit_and (u32_at bytes (t.place + 8)) 1 == 0)
+
+-- what is wrong with the tag at a place: the first fault in this order. Own: there is no console
 unfoldable pub fault_at : List ℕ → ℕ → ℕ → Option HeadFault
 fault_at bytes end at =
     let t = tag_at bytes at in
     if not (is_well_formed bytes end at) then Some (BadTag at) else
     if is_optional t then None else
-    if nat_lt 10 t.kind then Some (UnsupportedTag t.kind) else
-    if t.kind == 1 then request_fault (first_unknown bytes t) else
-    if t.kind == 4 && not (bit_and (u32_at bytes (at + 8)) 1 == 0) then Some NoConsole else
+    if nat_lt last_type t.kind then Some (UnsupportedTag t.kind) else
+    if t.kind == request_type then request_fault (first_unknown bytes t) else
+    if asks_for_console bytes t then Some NoConsole else
     None
 
 -- these tags stand one after the other from at to next, none of them the last, with no fault
 abbrev pub AreTags : List ℕ → ℕ → ℕ → ℕ → List Tag → Type 0
 AreTags bytes end at next [] = at ≡ next
 AreTags bytes end at next (t ∷ ts) =
-    (t ≡ tag_at bytes at) × (fault_at bytes end at ≡ None) × (nat_eq t.kind 0 ≡ false)
+    (t ≡ tag_at bytes at) × (fault_at bytes end at ≡ None) × (nat_eq t.kind end_type ≡ false)
     × AreTags bytes end (after t) next ts
 
 -- these are all tags from at on, up to the tag of type 0 at some place
@@ -79,7 +109,7 @@ pub record AreAllTags (bytes : List ℕ) (end at : ℕ) (ts : List Tag) : Type 0
   pub next : ℕ
   pub tags : AreTags bytes end at next ts
   pub sound : fault_at bytes end next ≡ None
-  pub ends : u16_at bytes next ≡ 0
+  pub ends : u16_at bytes next ≡ end_type
 
 -- the first tag with a fault has this one
 pub record IsFirstFault (bytes : List ℕ) (end at : ℕ) (fault : HeadFault) : Type 0 where

@@ -103,7 +103,8 @@ impl AddressTag {
         requires in_file { place ≤ size }
         ensures exact { MatchOption result
             (tags.is_bad_address size place self ≡ true)
-            (λ segment. (tags.is_bad_address size place self ≡ false) × (segment ≡ tags.segment_of size place self)) }
+            (λ segment. (tags.is_bad_address size place self ≡ false)
+            × (segment ≡ tags.segment_of size place self)) }
         ensures fits { IfSome result (λ segment.
             (segment.filesz ≤ segment.memsz) × (segment.offset + segment.filesz ≤ size)
             × (segment.address < 2 ^ 32) × (segment.memsz ≤ max (2 ^ 32) size)) }

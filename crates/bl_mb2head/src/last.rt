@@ -3,8 +3,8 @@
 ghost use Rattle.std.specs.Prelude.{◌≡◌, ◌≤◌, ◌+◌, ◌++◌, ◌∷◌, [], ℕ, List, length, IfOk, IfErr};
 ghost use Rattle.bl_mb2head.specs.Tags as tags;
 ghost use Rattle.bl_mb2head.specs.Tags.{AreAllTags, IsFirstFault};
-ghost use Rattle.bl_mb2head.specs.Last as kept;
-ghost use Rattle.bl_mb2head.specs.Last.{LieBefore};
+ghost use Rattle.bl_mb2head.specs.Kept as kept;
+ghost use Rattle.bl_mb2head.specs.Kept.{LieBefore};
 ghost use Rattle.bl_mb2head.specs.declared.tag.Tag.{Tag};
 
 use crate::fault::HeadFault;
@@ -23,7 +23,8 @@ pub struct LastTags {
 impl LastTags {
     /// The last tags after one more.
     fn with(self, tag: Tag) -> LastTags
-        ensures last { (ts : List Tag) → self ≡ kept.last_tags ts → result ≡ kept.last_tags (ts ++ tag ∷ []) }
+        ensures last { (ts : List Tag) → self ≡ kept.last_tags ts
+            → result ≡ kept.last_tags (ts ++ tag ∷ []) }
         ensures fits { (end : ℕ) → LieBefore end self → tags.least_size tag.kind ≤ tag.size
             → tag.place + tag.size ≤ end → LieBefore end result }
     {

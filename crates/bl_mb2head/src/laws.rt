@@ -1,14 +1,17 @@
 //! Laws of the definitions.
 
-ghost use Rattle.std.specs.Prelude.{◌≡◌, ◌<◌, ◌^◌, ℕ, List, slice_index, IfSome};
+ghost use Rattle.std.specs.Prelude.{◌≡◌, ◌<◌, ◌^◌, ◌⊎◌, ℕ, List, slice_index, IfSome};
 ghost use Rattle.bl_mb2head.specs.declared.fault.HeadFault.{HeadFault};
 ghost use Rattle.bl_mb2head.specs.declared.header.Header.{Header};
 ghost use Rattle.bl_mb2head.specs.declared.tag.Tag.{Tag};
 ghost use Rattle.bl_mb2head.specs.Header.{IsHeader, HasFirstFault, FitsFile};
 ghost use Rattle.bl_mb2head.specs.Tags.{AreAllTags, IsFirstFault};
 
-/// The tags from a place on are one list, or one first fault stands among them, and never both.
+/// Exactly one of these holds of a place: the tags from it on are one list, or one first fault stands
+/// among them. This holds for every list of numbers, be they bytes or not.
 pub fn tags_are_determined()
+    ensures total { (bytes : List ℕ) (end at : ℕ) → ((ts : List Tag) × AreAllTags bytes end at ts)
+        ⊎ ((fault : HeadFault) × IsFirstFault bytes end at fault) }
     ensures one_list { (bytes : List ℕ) (end at : ℕ) (ts us : List Tag)
         → AreAllTags bytes end at ts → AreAllTags bytes end at us → ts ≡ us }
     ensures one_fault { (bytes : List ℕ) (end at : ℕ) (f g : HeadFault)
@@ -17,9 +20,13 @@ pub fn tags_are_determined()
         → AreAllTags bytes end at ts → IsFirstFault bytes end at f → ⊥ }
 {}
 
-/// A file has one header, or one first fault, and never both.
+/// A file has exactly one of these: one header, or one first fault. This holds for every list of numbers,
+/// be they bytes or not.
 pub fn headers_are_determined()
-    ensures one_header { (bytes : List ℕ) (a b : Header) → IsHeader bytes a → IsHeader bytes b → a ≡ b }
+    ensures total { (bytes : List ℕ) → ((header : Header) × IsHeader bytes header)
+        ⊎ ((fault : HeadFault) × HasFirstFault bytes fault) }
+    ensures one_header { (bytes : List ℕ) (a b : Header)
+        → IsHeader bytes a → IsHeader bytes b → a ≡ b }
     ensures one_fault { (bytes : List ℕ) (f g : HeadFault)
         → HasFirstFault bytes f → HasFirstFault bytes g → f ≡ g }
     ensures not_both { (bytes : List ℕ) (header : Header) (fault : HeadFault)

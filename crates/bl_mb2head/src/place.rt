@@ -4,7 +4,9 @@ ghost use Rattle.std.specs.Prelude.{◌≡◌, ◌≤◌, ◌+◌, ◌%◌, ◌�
 ghost use Rattle.bl_mem.specs.Least.{IsLeast};
 ghost use Rattle.bl_mb2head.specs.Place.{IsHeaderAt};
 
-use crate::fields::{ALIGNMENT, ARCHITECTURE, CHECKSUM, HEADER_LENGTH, MAGIC, SEARCH_END, TAGS};
+use crate::fields::{
+    ALIGNMENT, ARCHITECTURE, CHECKSUM, HEADER_LENGTH, MAGIC, SEARCH_END, TAGS, WORD_VALUES,
+};
 use bl_mem::{ByteView, u32_at};
 
 /// Whether a header stands at `at`, which is a multiple of 8 with 16 bytes behind it.
@@ -22,7 +24,7 @@ fn is_header_at<V: ByteView>(view: &V, at: u64) -> bool
     let header_length = u32_at(view, at + HEADER_LENGTH);
     let checksum = u32_at(view, at + CHECKSUM);
     let sum = magic as u64 + architecture as u64 + header_length as u64 + checksum as u64;
-    sum % (1 << 32) == 0
+    sum % WORD_VALUES == 0
 }
 
 /// The place of the header: the least place at which one stands.

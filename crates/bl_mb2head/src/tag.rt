@@ -1,17 +1,16 @@
 //! One tag of a header, and what can be wrong with it.
 
-ghost use Rattle.std.specs.Prelude.{◌≡◌, ◌≤◌, ◌+◌, ◌*◌, ◌==◌, ◌&&◌, if◌then◌else◌, bit_and, true, false, Some, None, length, IfOk, IfSome, not, MatchResult, MatchOption};
+ghost use Rattle.std.specs.Prelude.{◌≡◌, ◌≤◌, ◌+◌, ◌*◌, ◌==◌, if◌then◌else◌, true, false, Some, None, length, IfOk, IfSome, not, MatchResult, MatchOption};
 ghost use Rattle.std.specs.List.{find};
-ghost use Rattle.bl_mem.specs.Words.{u32_at};
 ghost use Rattle.bl_mb2head.specs.Tags as tags;
 ghost use Rattle.bl_mb2head.specs.Tags.{tag_at, words_at, can_be_given, is_well_formed, fault_at};
 
 use crate::fault::HeadFault;
 use crate::fields::{
-    ADDRESS_SIZE, BODY, CONSOLE_FLAGS, CONSOLE_REQUIRED, CONSOLE_SIZE, ELF_SYMBOLS, END_SIZE,
-    ENTRY_SIZE, FIRST_INFORMATION, FLAGS, LAST_INFORMATION, LAST_TAG, OPTIONAL, RELOCATABLE_SIZE,
-    SEARCH_END, SIZE, TAG_ADDRESS, TAG_CONSOLE, TAG_END, TAG_ENTRY, TAG_RELOCATABLE, TAG_REQUEST,
-    WORD,
+    ADDRESS_SIZE, ALIGNMENT, BODY, CONSOLE_FLAGS, CONSOLE_REQUIRED, CONSOLE_SIZE, ELF_SYMBOLS,
+    END_SIZE, ENTRY_SIZE, FIRST_INFORMATION, FLAGS, LAST_INFORMATION, LAST_TAG, OPTIONAL,
+    RELOCATABLE_SIZE, SEARCH_END, SIZE, TAG_ADDRESS, TAG_CONSOLE, TAG_END, TAG_ENTRY,
+    TAG_RELOCATABLE, TAG_REQUEST, WORD,
 };
 use bl_mem::{ByteView, u16_at, u32_at};
 
@@ -49,7 +48,8 @@ fn can_be_given(kind: u32) -> bool
 fn first_unknown_word<V: ByteView>(view: &V, at: u64, count: u64) -> Option<u32>
     requires in_file { at + WORD * count ≤ length (V.bytes view.now) }
     requires in_front { at + WORD * count ≤ SEARCH_END }
-    ensures { result ≡ find (λ kind. not (can_be_given kind)) (words_at (V.bytes view.now) at count) }
+    ensures { result
+        ≡ find (λ kind. not (can_be_given kind)) (words_at (V.bytes view.now) at count) }
 {
     for i in 0..count {
         let kind = u32_at(view, at + WORD * i);
@@ -65,12 +65,13 @@ fn first_unknown_word<V: ByteView>(view: &V, at: u64, count: u64) -> Option<u32>
 fn well_formed_tag<V: ByteView>(view: &V, at: u64, end: u64) -> Option<Tag>
     requires in_file { end ≤ length (V.bytes view.now) }
     requires in_front { end ≤ SEARCH_END }
-    requires in_reach { at ≤ end + 8 }
-    ensures fits { IfSome result (λ tag. (tag.place ≡ at) × (END_SIZE ≤ tag.size) × (tags.least_size tag.kind ≤ tag.size)
-        × (at + tag.size ≤ end)) }
+    requires in_reach { at ≤ end + ALIGNMENT }
+    ensures fits { IfSome result (λ tag. (tag.place ≡ at) × (END_SIZE ≤ tag.size)
+        × (tags.least_size tag.kind ≤ tag.size) × (at + tag.size ≤ end)) }
     ensures exact { MatchOption result
         (is_well_formed (V.bytes view.now) end at ≡ false)
-        (λ tag. (tag ≡ tag_at (V.bytes view.now) at) × (is_well_formed (V.bytes view.now) end at ≡ true)) }
+        (λ tag. (tag ≡ tag_at (V.bytes view.now) at)
+        × (is_well_formed (V.bytes view.now) end at ≡ true)) }
 {
     if at + BODY > end {
         return None;
@@ -103,7 +104,8 @@ fn unknown_request<V: ByteView>(view: &V, tag: Tag) -> Option<u32>
     requires whole { END_SIZE ≤ tag.size }
     requires in_file { tag.place + tag.size ≤ length (V.bytes view.now) }
     requires in_front { tag.place + tag.size ≤ SEARCH_END }
-    ensures { result ≡ (if tag.kind == 1 then tags.first_unknown (V.bytes view.now) tag else None) }
+    ensures { result
+        ≡ (if tag.kind == TAG_REQUEST then tags.first_unknown (V.bytes view.now) tag else None) }
 {
     if tag.kind != TAG_REQUEST {
         return None;
@@ -116,7 +118,7 @@ fn wants_console<V: ByteView>(view: &V, tag: Tag) -> bool
     requires whole { tags.least_size tag.kind ≤ tag.size }
     requires in_file { tag.place + tag.size ≤ length (V.bytes view.now) }
     requires in_front { tag.place + tag.size ≤ SEARCH_END }
-    ensures { result ≡ (tag.kind == 4 && not (bit_and (u32_at (V.bytes view.now) (tag.place + 8)) 1 == 0)) }
+    ensures { result ≡ tags.asks_for_console (V.bytes view.now) tag }
 {
     tag.kind == TAG_CONSOLE && u32_at(view, tag.place + CONSOLE_FLAGS) & CONSOLE_REQUIRED != 0
 }
@@ -126,9 +128,9 @@ fn wants_console<V: ByteView>(view: &V, tag: Tag) -> bool
 pub fn checked_tag<V: ByteView>(view: &V, at: u64, end: u64) -> Result<Tag, HeadFault>
     requires in_file { end ≤ length (V.bytes view.now) }
     requires in_front { end ≤ SEARCH_END }
-    requires in_reach { at ≤ end + 8 }
-    ensures fits { IfOk result (λ tag. (tag.place ≡ at) × (END_SIZE ≤ tag.size) × (tags.least_size tag.kind ≤ tag.size)
-        × (at + tag.size ≤ end)) }
+    requires in_reach { at ≤ end + ALIGNMENT }
+    ensures fits { IfOk result (λ tag. (tag.place ≡ at) × (END_SIZE ≤ tag.size)
+        × (tags.least_size tag.kind ≤ tag.size) × (at + tag.size ≤ end)) }
     ensures exact { MatchResult result
         (λ tag. (tag ≡ tag_at (V.bytes view.now) at) × (fault_at (V.bytes view.now) end at ≡ None))
         (λ fault. fault_at (V.bytes view.now) end at ≡ Some fault) }

@@ -1,2 +1,4 @@
 pub mod Overwrites
 pub mod ReadLemmas
+pub mod WordLaws
+pub mod LeastLaws

@@ -1,5 +1,5 @@
 -- The bytes that a segment puts into memory (System V gABI, "Program Header": p_offset, p_filesz, p_memsz).
-use Rattle.std.specs.Prelude.{ℕ, ◌+◌, ◌-◌, List, ◌++◌, replicate, slice_range}
+use Rattle.std.specs.Prelude.{ℕ, ◌+◌, ◌-◌, Bool, ◌&&◌, nat_le, nat_lt, List, ◌++◌, replicate, slice_range}
 use Rattle.bl_mem.specs.declared.segment.Segment.{Segment}
 
 -- its bytes of the file
@@ -9,3 +9,11 @@ file_part file segment = slice_range file segment.offset (segment.offset + segme
 -- those, and zeros up to memsz
 abbrev pub contents_of : List ℕ → Segment → List ℕ
 contents_of file segment = file_part file segment ++ replicate (segment.memsz - segment.filesz) 0
+
+-- an address lies in the segment, where it is linked
+abbrev pub holds : Segment → ℕ → Bool
+holds segment a = nat_le segment.address a && nat_lt a (segment.address + segment.memsz)
+
+-- the same as a test of segments
+abbrev pub holds_at : ℕ → Segment → Bool
+holds_at a segment = holds segment a

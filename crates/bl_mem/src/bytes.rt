@@ -1,7 +1,7 @@
 //! Bytes that a value owns.
-ghost use Rattle.std.specs.Prelude.{◌≡◌, ◌==◌, ℕ, List, length};
+ghost use Rattle.std.specs.Prelude.{◌≡◌, ◌==◌, ℕ, List, length, IfOk};
 
-use std::alloc::Allocator;
+use std::alloc::{AllocError, Allocator};
 use std::marker::Model;
 
 /// A vector of bytes whose room does not count: contracts see the list alone. To wrap a vector, and to
@@ -18,6 +18,15 @@ impl<A: Allocator> Model for Bytes<A> {
 }
 
 impl<A: Allocator> Bytes<A> {
+    /// A copy of these bytes, or that memory for it was refused.
+    pub fn copy(alloc: A, bytes: &[u8]) -> Result<Bytes<A>, AllocError>
+        ensures ok { IfOk result (λ copy. copy ≡ bytes.now) }
+    {
+        Ok(Bytes {
+            held: Vec::from_slice(alloc, bytes)?,
+        })
+    }
+
     /// All of the bytes.
     pub fn as_slice(&self) -> &[u8]
         ensures { result.now ≡ self.now }

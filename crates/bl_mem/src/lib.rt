@@ -4,6 +4,7 @@
 mod bytes;
 mod flat;
 mod memory;
+mod put;
 mod segment;
 mod view;
 mod words;
@@ -11,6 +12,7 @@ mod words;
 pub use bytes::Bytes;
 pub use flat::Flat;
 pub use memory::PhysMem;
+pub use put::{put_bytes, put_u32, put_u64, write_u32s, write_u64s};
 pub use segment::Segment;
 pub use view::{ByteView, SliceView};
 pub use words::{u8_at, u16_at, u32_at, u64_at};

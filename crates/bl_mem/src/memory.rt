@@ -47,6 +47,7 @@ pub trait PhysMem {
         requires forward { range.start ≤ range.end }
         requires inside { range.end ≤ length (bytes self.old) }
         requires room { HasRoom (room self.old) range.start range.end }
-        ensures after { bytes self.new ≡ overwrite (bytes self.old) range.start (replicate (range.end - range.start) 0) }
+        ensures after { bytes self.new
+            ≡ overwrite (bytes self.old) range.start (replicate (range.end - range.start) 0) }
         ensures kept { KeepsRoom (room self.old) (room self.new) };
 }

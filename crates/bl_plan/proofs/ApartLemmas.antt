@@ -5,7 +5,8 @@ use Rattle.std.specs.List.Sorted.{IsNonDecreasingBy}
 use Rattle.std.specs.List.{AllWithin}
 use Rattle.std.specs.declared.ops.Range.{Range}
 use Rattle.bl_mem.specs.Memory.{IsIn}
-use Rattle.bl_plan.specs.Permitted.{AllOpen, IsBlocked}
+use Rattle.bl_plan.specs.Kept.{IsBlocked}
+use Rattle.bl_plan.specs.Permitted.{AllOpen}
 use Rattle.bl_plan.specs.Planned.{AreApart}
 
 pub ends_ascend : (ranges : List (Range ℕ)) → AreApart ranges → IsNonDecreasingBy (λ range. range.end) ranges

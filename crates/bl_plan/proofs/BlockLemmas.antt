@@ -3,7 +3,8 @@ use Rattle.std.proofs.Common.{◌<◌, ◌≤◌, ◌+◌, ℕ, List, arith, inl
 use Rattle.std.proofs.lemmas.Bool.{cases_lt}
 use Rattle.std.specs.declared.ops.Range.{Range}
 use Rattle.bl_map.specs.MachineFacts.{MachineFacts}
-use Rattle.bl_plan.specs.Permitted.{IsPermitted, IsFree, IsBlocked}
+use Rattle.bl_plan.specs.Kept.{IsBlocked, IsFree}
+use Rattle.bl_plan.specs.Permitted.{IsPermitted}
 
 -- a blocked stretch is blocked for what asks more
 pub blocked_for : (P Q : ℕ → Type 0) (start end : ℕ) (stretch : Range ℕ) → ((a : ℕ) → Q a → P a) → IsBlocked P start end stretch → IsBlocked Q start end stretch

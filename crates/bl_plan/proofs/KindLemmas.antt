@@ -1,42 +1,26 @@
 -- The kind of an address, by the run that holds it.
-use Rattle.std.proofs.Common.{◌≡◌, ◌<◌, ◌≤◌, ◌+◌, ℕ, zero, suc, Bool, true, false, List, [], ◌∷◌, length, get_or, arith, ap, sym, ◌∙◌, refl, inl, inr, All, AllPairs, if◌then◌else◌}
+use Rattle.std.proofs.Common.{◌≡◌, ◌<◌, ◌≤◌, ◌+◌, ℕ, zero, suc, Bool, true, false, List, [], ◌∷◌, length, get_or, arith, ap, sym, ◌∙◌, refl, inl, inr, if◌then◌else◌}
 use Rattle.std.specs.Prelude.{Any}
 use Rattle.std.proofs.lemmas.Bool.{cases_lt}
 use Rattle.std.proofs.lemmas.Bool.Decides.{nat_tests}
 use Rattle.std.proofs.lemmas.List.{get_or_default}
-use Rattle.std.proofs.lemmas.List.Elements.{All-head, All-tail}
-use Rattle.bl_map.specs.declared.kind.Kind.{Kind}
-use Rattle.bl_map.specs.declared.kind.Kind.TheVariants.{Usable, Reserved, Acpi, Nvs, Bad}
+use Rattle.bl_map.specs.declared.kind.Kind.TheVariants.{Usable}
 use Rattle.bl_map.specs.declared.region.Region.{Region}
-use Rattle.bl_map.specs.Kinds.{kind_at, kind_number, holds, end_of, AreRuns, ComesBefore}
-use Rattle.bl_plan.specs.Permitted.{IsBlocked}
+use Rattle.bl_map.specs.Kinds.{kind_at, kind_number, holds, end_of, AreRuns}
+use Rattle.bl_map.proofs.KindLemmas.{kind_not_held, not_held_behind}
+use Rattle.bl_map.proofs.MapLaws.{fewer_runs, kind_in, same_kind}
+use Rattle.bl_plan.specs.Kept.{IsBlocked}
 
 -- a run of kind usable that holds an address
 abbrev pub IsUsableRun : ℕ → Region → Type 0
 IsUsableRun a run = (run.kind ≡ Usable) × (run.base ≤ a) × (a < end_of run)
 
-usable_by_number : (kind : Kind) → kind_number kind ≡ 1 → kind ≡ Usable
-usable_by_number Usable h = refl
-usable_by_number Reserved h = absurd (omega arith)
-usable_by_number Acpi h = absurd (omega arith)
-usable_by_number Nvs h = absurd (omega arith)
-usable_by_number Bad h = absurd (omega arith)
+held_at_one : (b : Bool) (n : ℕ) → (if b then n else 0) ≡ 1 → (b ≡ true) × (n ≡ 1)
+held_at_one true n h = (refl, h)
+held_at_one false n h = absurd (omega arith)
 
-where_one : (b : Bool) (n : ℕ) → (if b then n else 0) ≡ 1 → (b ≡ true) × (n ≡ 1)
-where_one true n h = (refl, h)
-where_one false n h = absurd (omega arith)
-
-held : (run : Region) (a : ℕ) → holds run a ≡ true → (run.base ≤ a) × (a < end_of run)
-held run a h = grind (arith, nat_tests)
-
-holds_it : (run : Region) (a : ℕ) → run.base ≤ a → a < end_of run → holds run a ≡ true
-holds_it run a low high = grind (arith, nat_tests)
-
-not_yet : (run : Region) (a : ℕ) → a < run.base → holds run a ≡ false
-not_yet run a low = grind (arith, nat_tests)
-
-no_more : (run : Region) (a : ℕ) → end_of run ≤ a → holds run a ≡ false
-no_more run a high = grind (arith, nat_tests)
+within : (run : Region) (a : ℕ) → holds run a ≡ true → (run.base ≤ a) × (a < end_of run)
+within run a h = grind (arith, nat_tests)
 
 -- an address of kind 1 lies in a run of that kind
 pub run_of_usable : (runs : List Region) (a : ℕ) → kind_at runs a ≡ 1 → Any (IsUsableRun a) runs
@@ -44,33 +28,21 @@ run_of_usable [] a h = absurd (omega arith)
 run_of_usable (run ∷ runs) a h =
     elim (cases_lt (kind_at runs a) 1) [
       | inl less ↦
-          let (in_it, one) = where_one (holds run a) (kind_number run.kind) (omega arith) in
-          (0, run, omega arith, refl, (usable_by_number run.kind one, (held run a in_it).0, (held run a in_it).1))
+          let (in_it, one) = held_at_one (holds run a) (kind_number run.kind) (omega arith) in
+          let here = within run a in_it in
+          (0, run, omega arith, refl, (same_kind run.kind Usable one, here.0, here.1))
       | inr more ↦
           let (k, x, within, at, here) = run_of_usable runs a (omega arith) in
           (suc k, x, omega arith, at, here)
     ]
 
-pairs_tail : (run : Region) (runs : List Region) → AllPairs ComesBefore (run ∷ runs) → AllPairs ComesBefore runs
-pairs_tail run runs h = λ i j d less within. h (suc i) (suc j) d (omega arith) (omega arith)
-
--- runs that come later do not hold it
-none_behind : (runs : List Region) (a : ℕ) → All (λ run. a < run.base) runs → kind_at runs a ≡ 0
-none_behind [] a h = refl
-none_behind (run ∷ runs) a h =
-    let rest = none_behind runs a (All-tail (λ r. a < r.base) run runs h) in
-    rw (not_yet run a (All-head (λ r. a < r.base) run runs h), rest) refl
-
 -- an address in a run of kind 1 has that kind
-pub usable_in_run : (runs : List Region) (k a : ℕ) (d : Region) → AllPairs ComesBefore runs → k < length runs → IsUsableRun a (get_or runs k d) → kind_at runs a ≡ 1
-usable_in_run [] k a d apart within h = absurd (omega arith)
-usable_in_run (run ∷ runs) zero a d apart within h =
-    let rest = none_behind runs a (λ j e in_j. let p = (apart 0 (suc j) e (omega arith) (omega arith)).0 in omega (arith, h.2)) in
-    rw (holds_it run a h.1 h.2, rest, h.0) refl
-usable_in_run (run ∷ runs) (suc k) a d apart within h =
-    let rest = usable_in_run runs k a d (pairs_tail run runs apart) (omega arith) h in
-    let p = (apart 0 (suc k) d (omega arith) within).0 in
-    rw (no_more run a (omega (arith, h.1)), rest) refl
+pub usable_in_run : (runs : List Region) (k a : ℕ) (d : Region) → AreRuns runs → k < length runs → IsUsableRun a (get_or runs k d) → kind_at runs a ≡ 1
+usable_in_run [] k a d are inside h = absurd (omega arith)
+usable_in_run (run ∷ runs) zero a d are inside h = kind_in run runs a are h.1 h.2 ∙ ap kind_number h.0
+usable_in_run (run ∷ runs) (suc k) a d are inside h =
+    let p = (are.in_order 0 (suc k) d (omega arith) inside).0 in
+    kind_not_held run runs a (not_held_behind run a (omega (arith, h.1))) ∙ usable_in_run runs k a d (fewer_runs run runs are) (omega arith) h
 
 -- where the runs of kind usable before k end at `from` or below, an address from there on that has that kind lies in run k or behind it
 usable_from : (runs : List Region) (k from a : ℕ) → ((j : ℕ) (e : Region) → j < k → (get_or runs j e).kind ≡ Usable → end_of (get_or runs j e) ≤ from)
@@ -137,7 +109,7 @@ usable_more runs k from start end a d are within usable no_gap so_far above belo
       | inl less ↦ so_far a above below less
       | inr more ↦ elim (cases_lt a (get_or runs k d).base) [
         | inl gap ↦ absurd (no_gap (omega arith) (omega arith) (omega arith))
-        | inr no_less ↦ usable_in_run runs k a d are.in_order within (usable, no_less, in_run)
+        | inr no_less ↦ usable_in_run runs k a d are within (usable, no_less, in_run)
       ]
     ]
 

@@ -3,6 +3,7 @@ pub mod KindLemmas
 pub mod ApartLemmas
 pub mod BlockLemmas
 pub mod SearchLemmas
+pub mod OrderLemmas
 pub mod PutLemmas
 pub mod PlaceLemmas
 pub mod PlaceLaws

@@ -2,6 +2,7 @@
 use Rattle.std.proofs.Common.{◌≡◌, ◌<◌, ◌+◌, ℕ, zero, suc, List, [], ◌∷◌, length, get_or, arith, subst, sym, ap, ap₂, refl, ◌∙◌, inl, inr, All, AllPairs}
 use Rattle.std.specs.List.{AllZip}
 use Rattle.std.proofs.lemmas.List.Elements.{All-nil, All-cons}
+use Rattle.std.proofs.lemmas.List.Kept.{AllPairs-cons}
 use Rattle.std.specs.declared.ops.Range.{Range}
 use Rattle.bl_map.specs.MachineFacts.{MachineFacts, AllUsable}
 use Rattle.bl_mem.specs.Memory.{IsIn}
@@ -15,7 +16,8 @@ use Rattle.bl_plan.specs.declared.fault.PlanFault.TheVariants.{NotUsable, Overla
 use Rattle.bl_plan.specs.declared.row.Row.{Row}
 use Rattle.bl_plan.specs.declared.place.Place.{Place}
 use Rattle.bl_plan.specs.Placed.{IsChosen, HasFault, place_at, range_of, ArePlaced, IsFirstFault, IsPlaceable, IsApart, IsOpen, IsPlaceOf}
-use Rattle.bl_plan.proofs.PutLemmas.{All-from_put_in}
+use Rattle.bl_plan.specs.Order.{range_key}
+use Rattle.bl_plan.proofs.OrderLemmas.{put_from}
 
 one_least : (P : ℕ → Type 0) (a b : ℕ) → IsLeast P a → IsLeast P b → a ≡ b
 one_least P a b p q = omega (arith, p.least b q.holds, q.least a p.holds)
@@ -141,7 +143,7 @@ module _ (facts : MachineFacts) where
 
   -- what is open beside more is open beside less
   less_open : (range : Range ℕ) (taken : List (Range ℕ)) (p : Place) → IsOpen (put_in range taken) p → IsOpen taken p
-  less_open range taken p h = λ b low high. (All-from_put_in (λ r. ¬ IsIn r b) range taken (h b low high)).1
+  less_open range taken p h = λ b low high. (put_from range_key (λ r. ¬ IsIn r b) range taken (h b low high)).1
 
   pub all_open : (taken : List (Range ℕ)) (rows : List Row) (ps : List Place) → ArePlaced facts taken rows ps → All (IsOpen taken) ps
   all_open taken [] [] a = All-nil (IsOpen taken)
@@ -152,13 +154,7 @@ module _ (facts : MachineFacts) where
       All-cons (IsOpen taken) p ps (here_open taken row p a.0 a.1) (λ k d within. less_open (range_of p) taken (get_or ps k d) (rest k d within))
 
   first_apart : (taken : List (Range ℕ)) (p q : Place) → IsOpen (put_in (range_of p) taken) q → IsApart p q
-  first_apart taken p q h = λ a in_p in_q. (All-from_put_in (λ r. ¬ IsIn r a) (range_of p) taken (h a in_q.0 in_q.1)).0 in_p
-
-  pairs_cons : (p : Place) (ps : List Place) → All (IsApart p) ps → AllPairs IsApart ps
-      → (i j : ℕ) (d : Place) → i < j → j < length (p ∷ ps) → IsApart (get_or (p ∷ ps) i d) (get_or (p ∷ ps) j d)
-  pairs_cons p ps h pairs i zero d less within = absurd (omega arith)
-  pairs_cons p ps h pairs zero (suc j) d less within = h j d (omega arith)
-  pairs_cons p ps h pairs (suc i) (suc j) d less within = pairs i j d (omega arith) (omega arith)
+  first_apart taken p q h = λ a in_p in_q. (put_from range_key (λ r. ¬ IsIn r a) (range_of p) taken (h a in_q.0 in_q.1)).0 in_p
 
   pub all_apart : (taken : List (Range ℕ)) (rows : List Row) (ps : List Place) → ArePlaced facts taken rows ps → AllPairs IsApart ps
   all_apart taken [] [] a = λ i j d less within. absurd (omega arith)
@@ -166,7 +162,7 @@ module _ (facts : MachineFacts) where
   all_apart taken (row ∷ rows) [] a = absurd a
   all_apart taken (row ∷ rows) (p ∷ ps) a =
       let rest = all_open (put_in (range_of p) taken) rows ps a.2 in
-      λ i j d less within. pairs_cons p ps (λ k e k_in. first_apart taken p (get_or ps k e) (rest k e k_in)) (all_apart (put_in (range_of p) taken) rows ps a.2) i j d less within
+      AllPairs-cons IsApart p ps (λ k e k_in. first_apart taken p (get_or ps k e) (rest k e k_in)) (all_apart (put_in (range_of p) taken) rows ps a.2)
 
   pub as_many : (taken : List (Range ℕ)) (rows : List Row) (ps : List Place) → ArePlaced facts taken rows ps → length ps ≡ length rows
   as_many taken [] [] a = refl

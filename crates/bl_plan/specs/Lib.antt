@@ -1,5 +1,7 @@
 pub mod Roles
 pub mod Protocols
+pub mod Order
 pub mod Permitted
 pub mod Planned
 pub mod Placed
+pub mod Kept

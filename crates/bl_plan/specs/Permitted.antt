@@ -1,7 +1,7 @@
 -- Which addresses are permitted for a part, and which of them is chosen. Own.
 use Rattle.std.specs.Prelude.{◌≡◌, ◌+◌, ◌%◌, ◌<◌, ◌≤◌, ◌⊎◌, ℕ, List, All}
 use Rattle.std.specs.declared.ops.Range.{Range}
-use Rattle.bl_map.specs.MachineFacts.{MachineFacts, IsUsable, AllUsable}
+use Rattle.bl_map.specs.MachineFacts.{MachineFacts, AllUsable}
 use Rattle.bl_mem.specs.Memory.{IsIn}
 use Rattle.bl_mem.specs.Least.{IsLeast, IsGreatest}
 use Rattle.bl_plan.specs.declared.side.Side.{Side}
@@ -13,24 +13,14 @@ use Rattle.bl_plan.specs.declared.fault.PlanFault.TheVariants.{NotUsable, Overla
 abbrev pub AllOpen : List (Range ℕ) → ℕ → ℕ → Type 0
 AllOpen taken start end = (a : ℕ) → start ≤ a → a < end → All (λ range. ¬ IsIn range a) taken
 
--- a byte that a part may have, beside the ranges that are taken
-abbrev pub IsFree : MachineFacts → List (Range ℕ) → ℕ → Type 0
-IsFree facts taken a = IsUsable facts a × All (λ range. ¬ IsIn range a) taken
-
 -- an address for so many bytes between low and high, beside the ranges that are taken
-pub record IsPermitted (facts : MachineFacts) (taken : List (Range ℕ)) (length align low high a : ℕ) : Type 0 where
+pub record IsPermitted (facts : MachineFacts) (taken : List (Range ℕ))
+    (length align low high a : ℕ) : Type 0 where
   pub aligned : a % align ≡ 0
   pub above : low ≤ a
   pub below : a + length ≤ high
   pub usable : AllUsable facts a (a + length)
   pub apart : AllOpen taken a (a + length)
-
--- from start up to end some byte lacks the property, and so does each byte of this stretch, which has that byte
-pub record IsBlocked (P : ℕ → Type 0) (start end : ℕ) (stretch : Range ℕ) : Type 0 where
-  pub forward : stretch.start < stretch.end
-  pub meets_end : stretch.start < end
-  pub meets_start : start < stretch.end
-  pub without : (a : ℕ) → stretch.start ≤ a → a < stretch.end → ¬ P a
 
 -- of the numbers with a property, the one at this side
 abbrev pub IsAtSide : Side → (ℕ → Type 0) → ℕ → Type 0
@@ -44,7 +34,8 @@ IsPreferred at P a = (P at × (a ≡ at)) ⊎ ((¬ P at) × IsLeast P a)
 -- these addresses are refused for this reason
 abbrev pub HasFixedFault : MachineFacts → List (Range ℕ) → ℕ → ℕ → PlanFault → Type 0
 HasFixedFault facts taken start end NotUsable = ¬ AllUsable facts start end
-HasFixedFault facts taken start end Overlap = AllUsable facts start end × (¬ AllOpen taken start end)
+HasFixedFault facts taken start end Overlap =
+    AllUsable facts start end × (¬ AllOpen taken start end)
 HasFixedFault facts taken start end NoRoom = ⊥
 HasFixedFault facts taken start end NoMemory = ⊥
 

@@ -13,17 +13,25 @@ use Rattle.bl_plan.specs.declared.place.Place.{Place}
 
 -- the address that a choice asks for, for so many bytes beside what is taken
 abbrev pub IsChosen : MachineFacts → List (Range ℕ) → ℕ → Choice → ℕ → Type 0
-IsChosen facts taken length (Fixed at) a = (a ≡ at) × AllUsable facts at (at + length) × AllOpen taken at (at + length)
-IsChosen facts taken length (Lowest align low high) a = IsLeast (IsPermitted facts taken length align low high) a
-IsChosen facts taken length (Highest align low high) a = IsGreatest (IsPermitted facts taken length align low high) a
-IsChosen facts taken length (Preferred at align low high) a = IsPreferred at (IsPermitted facts taken length align low high) a
+IsChosen facts taken length (Fixed at) a =
+    (a ≡ at) × AllUsable facts at (at + length) × AllOpen taken at (at + length)
+IsChosen facts taken length (Lowest align low high) a =
+    IsLeast (IsPermitted facts taken length align low high) a
+IsChosen facts taken length (Highest align low high) a =
+    IsGreatest (IsPermitted facts taken length align low high) a
+IsChosen facts taken length (Preferred at align low high) a =
+    IsPreferred at (IsPermitted facts taken length align low high) a
 
 -- the choice can't be met, for this reason
 abbrev pub HasFault : MachineFacts → List (Range ℕ) → ℕ → Choice → PlanFault → Type 0
-HasFault facts taken length (Fixed at) fault = HasFixedFault facts taken at (at + length) fault
-HasFault facts taken length (Lowest align low high) fault = HasNoRoom (IsPermitted facts taken length align low high) fault
-HasFault facts taken length (Highest align low high) fault = HasNoRoom (IsPermitted facts taken length align low high) fault
-HasFault facts taken length (Preferred at align low high) fault = HasNoRoom (IsPermitted facts taken length align low high) fault
+HasFault facts taken length (Fixed at) fault =
+    HasFixedFault facts taken at (at + length) fault
+HasFault facts taken length (Lowest align low high) fault =
+    HasNoRoom (IsPermitted facts taken length align low high) fault
+HasFault facts taken length (Highest align low high) fault =
+    HasNoRoom (IsPermitted facts taken length align low high) fault
+HasFault facts taken length (Preferred at align low high) fault =
+    HasNoRoom (IsPermitted facts taken length align low high) fault
 
 -- the place of a row at an address
 abbrev pub place_at : Row → ℕ → Place
@@ -47,7 +55,8 @@ abbrev pub IsFirstFault : MachineFacts → List (Range ℕ) → List Row → Pla
 IsFirstFault facts taken [] fault = ⊥
 IsFirstFault facts taken (row ∷ rows) fault =
     HasFault facts taken row.length row.choice fault
-    ⊎ ((a : ℕ) × IsChosen facts taken row.length row.choice a × IsFirstFault facts (put_in (range_of (place_at row a)) taken) rows fault)
+    ⊎ ((a : ℕ) × IsChosen facts taken row.length row.choice a
+    × IsFirstFault facts (put_in (range_of (place_at row a)) taken) rows fault)
 
 -- a choice aligns to one byte at least
 abbrev pub IsChoice : Choice → Type 0

@@ -1,7 +1,8 @@
 -- What a planner knows: the machine, and the ranges that are taken. Own.
-use Rattle.std.specs.Prelude.{ℕ, ◌<◌, ◌≤◌, List, [], ◌∷◌, All, AllPairs, if◌then◌else◌, nat_lt}
+use Rattle.std.specs.Prelude.{ℕ, ◌<◌, ◌≤◌, List, All, AllPairs}
 use Rattle.std.specs.declared.ops.Range.{Range}
 use Rattle.bl_map.specs.MachineFacts.{MachineFacts, AllUsable}
+use Rattle.bl_plan.specs.Order.{put, range_key}
 
 pub record PlannerFacts : Type 0 where
   pub facts : MachineFacts
@@ -19,8 +20,7 @@ pub record AreTaken (facts : MachineFacts) (taken : List (Range ℕ)) : Type 0 w
 
 -- these ranges with one more, before the first that starts above it
 abbrev pub put_in : Range ℕ → List (Range ℕ) → List (Range ℕ)
-put_in range [] = range ∷ []
-put_in range (next ∷ rest) = if nat_lt range.start next.start then range ∷ next ∷ rest else next ∷ put_in range rest
+put_in range taken = put range_key range taken
 
 -- the planner with one more range taken
 abbrev pub with_taken : PlannerFacts → Range ℕ → PlannerFacts

@@ -4,7 +4,8 @@ ghost use Rattle.std.specs.List.{AllWithin};
 ghost use Rattle.bl_mem.specs.Memory.{IsIn};
 ghost use Rattle.bl_map.specs.Kinds.{kind_at, AreRuns};
 ghost use Rattle.bl_map.specs.MachineFacts.{AllUsable};
-ghost use Rattle.bl_plan.specs.Permitted.{AllOpen, IsFree, IsBlocked};
+ghost use Rattle.bl_plan.specs.Kept.{IsBlocked, IsFree};
+ghost use Rattle.bl_plan.specs.Permitted.{AllOpen};
 ghost use Rattle.bl_plan.specs.Planned.{AreApart};
 
 use bl_map::{FIRST_USABLE, Kind, Machine, Region, USABLE_LIMIT};
@@ -36,7 +37,7 @@ fn unusable_stretch(runs: &[Region], start: u64, end: u64) -> Option<Range<u64>>
 }
 
 /// How many of these ascending ranges end at `start` or below.
-pub fn ended_by(ranges: &[Range<u64>], start: u64) -> usize
+fn ended_by(ranges: &[Range<u64>], start: u64) -> usize
     requires { AreApart ranges.now }
     ensures bound { result ≤ length ranges.now }
     ensures before { AllWithin (λ range. range.end ≤ start) ranges.now 0 result }

@@ -1,8 +1,8 @@
 //! How an address is chosen.
 
-/// How a part's address is chosen. An address is permitted for a part where it is a multiple of `align`
-/// (any number from 1 on), is not below `low`, the part ends at most at `high`, and each of its bytes is
-/// usable and in no earlier part.
+/// How a part's address is chosen. An address is permitted for a part where it is a multiple of
+/// `align` (any number from 1 on), is not below `low`, the part ends at most at `high`, and each of
+/// its bytes is usable and in no earlier part.
 #[derive(Clone, Copy, Debug, PartialEq, Eq)]
 pub enum Choice {
     /// This address.

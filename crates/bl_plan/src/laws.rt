@@ -10,20 +10,47 @@ ghost use Rattle.bl_plan.specs.Placed.{ArePlaced, IsFirstFault, IsApart, IsPlace
 
 /// Rows have one list of places, or one first fault, and never both.
 pub fn places_are_determined()
-    ensures one_list { (facts : MachineFacts) (taken : List (Range ℕ)) (rows : List Row) (ps qs : List Place) → ArePlaced facts taken rows ps → ArePlaced facts taken rows qs → ps ≡ qs }
-    ensures one_fault { (facts : MachineFacts) (taken : List (Range ℕ)) (rows : List Row) (f g : PlanFault) → IsFirstFault facts taken rows f → IsFirstFault facts taken rows g → f ≡ g }
-    ensures not_both { (facts : MachineFacts) (taken : List (Range ℕ)) (rows : List Row) (ps : List Place) (f : PlanFault) → ArePlaced facts taken rows ps → IsFirstFault facts taken rows f → ⊥ }
+    ensures one_list { (facts : MachineFacts) (taken : List (Range ℕ)) (rows : List Row)
+        (ps qs : List Place)
+        → ArePlaced facts taken rows ps
+        → ArePlaced facts taken rows qs
+        → ps ≡ qs }
+    ensures one_fault { (facts : MachineFacts) (taken : List (Range ℕ)) (rows : List Row)
+        (f g : PlanFault)
+        → IsFirstFault facts taken rows f
+        → IsFirstFault facts taken rows g
+        → f ≡ g }
+    ensures not_both { (facts : MachineFacts) (taken : List (Range ℕ)) (rows : List Row)
+        (ps : List Place) (f : PlanFault)
+        → ArePlaced facts taken rows ps
+        → IsFirstFault facts taken rows f
+        → ⊥ }
 {}
 
 /// The places of rows are usable and meet neither one another nor what was taken before.
 pub fn places_are_legal()
-    ensures usable { (facts : MachineFacts) (taken : List (Range ℕ)) (rows : List Row) (ps : List Place) → ArePlaced facts taken rows ps → All (IsPlaceable facts) ps }
-    ensures beside { (facts : MachineFacts) (taken : List (Range ℕ)) (rows : List Row) (ps : List Place) → ArePlaced facts taken rows ps → All (IsOpen taken) ps }
-    ensures apart { (facts : MachineFacts) (taken : List (Range ℕ)) (rows : List Row) (ps : List Place) → ArePlaced facts taken rows ps → AllPairs IsApart ps }
+    ensures usable { (facts : MachineFacts) (taken : List (Range ℕ)) (rows : List Row)
+        (ps : List Place)
+        → ArePlaced facts taken rows ps
+        → All (IsPlaceable facts) ps }
+    ensures beside { (facts : MachineFacts) (taken : List (Range ℕ)) (rows : List Row)
+        (ps : List Place)
+        → ArePlaced facts taken rows ps
+        → All (IsOpen taken) ps }
+    ensures apart { (facts : MachineFacts) (taken : List (Range ℕ)) (rows : List Row)
+        (ps : List Place)
+        → ArePlaced facts taken rows ps
+        → AllPairs IsApart ps }
 {}
 
 /// There is one place for each row, in the rows' order, with the row's role, index and length.
 pub fn places_are_of_rows()
-    ensures as_many { (facts : MachineFacts) (taken : List (Range ℕ)) (rows : List Row) (ps : List Place) → ArePlaced facts taken rows ps → length ps ≡ length rows }
-    ensures of_rows { (facts : MachineFacts) (taken : List (Range ℕ)) (rows : List Row) (ps : List Place) → ArePlaced facts taken rows ps → AllZip IsPlaceOf rows ps }
+    ensures as_many { (facts : MachineFacts) (taken : List (Range ℕ)) (rows : List Row)
+        (ps : List Place)
+        → ArePlaced facts taken rows ps
+        → length ps ≡ length rows }
+    ensures of_rows { (facts : MachineFacts) (taken : List (Range ℕ)) (rows : List Row)
+        (ps : List Place)
+        → ArePlaced facts taken rows ps
+        → AllZip IsPlaceOf rows ps }
 {}

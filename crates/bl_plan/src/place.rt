@@ -1,7 +1,8 @@
 //! A part's place.
 use crate::role::Role;
 
-/// A row with the address that was chosen: the part has the bytes from `address` up to `address + length`.
+/// A row with the address that was chosen: the part has the bytes from `address` up to
+/// `address + length`.
 #[derive(Clone, Copy, Debug, PartialEq, Eq)]
 pub struct Place {
     pub role: Role,

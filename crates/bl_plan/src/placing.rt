@@ -1,5 +1,6 @@
 //! Places for a table of parts.
 ghost use Rattle.std.specs.Prelude.{◌+◌, ◌≤◌, All, [], IfOk, IfErr};
+ghost use Rattle.bl_map.specs.Limits.{usable_limit};
 ghost use Rattle.bl_plan.specs.Placed.{ArePlaced, IsRow, IsPlacingFault};
 
 use crate::fault::PlanFault;
@@ -9,8 +10,9 @@ use crate::row::Row;
 use bl_map::Machine;
 use std::alloc::Allocator;
 
-/// The places of these rows, in their order, each row against the places of those before it. Each row has at least one byte,
-/// and an alignment from 1 on; lengths and addresses are in bytes. Every place ends at most at 0xFFFFF000.
+/// The places of these rows, in their order, each row against the places of those before it. Each
+/// row has at least one byte, and an alignment from 1 on; lengths and addresses are in bytes. Every
+/// place ends at most at 0xFFFFF000.
 ///
 /// The first row that has no place refuses all, and nothing is answered of the rows before it:
 /// - `NotUsable`: its address is fixed, and a byte there is not usable.
@@ -27,7 +29,8 @@ pub fn place_rows<A: Allocator + Copy>(
     requires { All IsRow rows.now }
     ensures placed { IfOk result (λ places. ArePlaced machine.now [] rows.now places.items) }
     ensures fault { IfErr result (IsPlacingFault machine.now rows.now) }
-    ensures below { IfOk result (λ places. All (λ place. place.address + place.length ≤ 0xFFFFF000) places.items) }
+    ensures below { IfOk result (λ places.
+        All (λ place. place.address + place.length ≤ usable_limit) places.items) }
 {
     let mut planner = Planner::new(alloc, machine)?;
     let mut places = Vec::new(alloc);

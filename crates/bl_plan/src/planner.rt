@@ -1,7 +1,8 @@
 //! A planner.
-use crate::blocked::{ended_by, taken_stretch};
+use crate::blocked::taken_stretch;
 use crate::choice::Choice;
 use crate::fault::PlanFault;
+use crate::order::position_for;
 use crate::row::Row;
 use crate::search::{is_permitted, place_at_side};
 use crate::side::Side;
@@ -29,6 +30,7 @@ impl<'m, A: Allocator> Model for Planner<'m, A> {
 
 impl<'m, A: Allocator> Planner<'m, A> {
     ghost use Rattle.std.specs.Prelude.{◌≡◌, ◌+◌, ◌<◌, ◌≤◌, [], IfOk, IfErr, OnOk, OnErr};
+    ghost use Rattle.bl_map.specs.Limits.{usable_limit};
     ghost use Rattle.bl_map.specs.MachineFacts.{AllUsable};
     ghost use Rattle.bl_plan.specs.Permitted.{AllOpen, IsPermitted, IsAtSide, IsPreferred, HasFixedFault, HasNoRoom, OrNoMemory};
     ghost use Rattle.bl_plan.specs.Planned.{AreTaken, with_taken};
@@ -36,7 +38,8 @@ impl<'m, A: Allocator> Planner<'m, A> {
 
     /// A planner of this machine, of which nothing is taken.
     pub fn new(alloc: A, machine: &'m Machine<A>) -> Result<Planner<'m, A>, AllocError>
-        ensures new { IfOk result (λ planner. planner ≡ record { facts = machine.now; taken = [] }) }
+        ensures new { IfOk result (λ planner.
+            planner ≡ record { facts = machine.now; taken = [] }) }
     {
         Ok(Planner {
             machine,
@@ -52,7 +55,7 @@ impl<'m, A: Allocator> Planner<'m, A> {
         ensures taken { OnOk result (self.new ≡ with_taken self.old range) }
         ensures unchanged { OnErr result (self.new ≡ self.old) }
     {
-        let at = ended_by(self.taken.as_slice(), range.start);
+        let at = position_for(self.taken.as_slice(), &range);
         self.taken.insert(at, range)?;
         Ok(())
     }
@@ -65,9 +68,11 @@ impl<'m, A: Allocator> Planner<'m, A> {
     /// - `NoMemory`: there was no memory to keep it.
     pub fn take_fixed(&mut self, range: Range<u64>) -> Result<(), PlanFault>
         requires filled { range.start < range.end }
-        ensures free { OnOk result (AllUsable self.old.facts range.start range.end × AllOpen self.old.taken range.start range.end) }
+        ensures free { OnOk result (AllUsable self.old.facts range.start range.end
+            × AllOpen self.old.taken range.start range.end) }
         ensures taken { OnOk result (self.new ≡ with_taken self.old range) }
-        ensures fault { IfErr result (OrNoMemory (HasFixedFault self.old.facts self.old.taken range.start range.end)) }
+        ensures fault { IfErr result
+            (OrNoMemory (HasFixedFault self.old.facts self.old.taken range.start range.end)) }
         ensures unchanged { OnErr result (self.new ≡ self.old) }
     {
         if !self.machine.is_usable(range.start..range.end) {
@@ -80,10 +85,12 @@ impl<'m, A: Allocator> Planner<'m, A> {
         Ok(())
     }
 
-    /// Takes `length` bytes, at least one, at the least or the greatest permitted address, and answers that address.
+    /// Takes `length` bytes, at least one, at the least or the greatest permitted address, and
+    /// answers that address.
     ///
-    /// An address is permitted where it is a multiple of `align` (any number from 1 on), is not below `low`, and the bytes
-    /// from there on end at most at `high`, are usable and are not taken. All numbers are in bytes.
+    /// An address is permitted where it is a multiple of `align` (any number from 1 on), is not
+    /// below `low`, and the bytes from there on end at most at `high`, are usable and are not taken. All
+    /// numbers are in bytes.
     ///
     /// One of these faults refuses it, and the planner stays as it was:
     /// - `NoRoom`: no address is permitted.
@@ -98,10 +105,14 @@ impl<'m, A: Allocator> Planner<'m, A> {
     ) -> Result<u64, PlanFault>
         requires filled { 1 ≤ length }
         requires aligned { 1 ≤ align }
-        ensures at_side { IfOk result (λ a. IsAtSide side (IsPermitted self.old.facts self.old.taken length align low high) a) }
-        ensures taken { IfOk result (λ a. self.new ≡ with_taken self.old (record { start = a; end = a + length })) }
-        ensures below { IfOk result (λ a. a + length ≤ 0xFFFFF000) }
-        ensures fault { IfErr result (OrNoMemory (HasNoRoom (IsPermitted self.old.facts self.old.taken length align low high))) }
+        ensures at_side { IfOk result (λ a.
+            IsAtSide side (IsPermitted self.old.facts self.old.taken length align low high) a) }
+        ensures taken { IfOk result (λ a.
+            self.new ≡ with_taken self.old (record { start = a; end = a + length })) }
+        ensures below { IfOk result (λ a. a + length ≤ usable_limit) }
+        ensures fault { IfErr result
+            (OrNoMemory (HasNoRoom
+            (IsPermitted self.old.facts self.old.taken length align low high))) }
         ensures unchanged { OnErr result (self.new ≡ self.old) }
     {
         let taken = self.taken.as_slice();
@@ -114,9 +125,10 @@ impl<'m, A: Allocator> Planner<'m, A> {
         }
     }
 
-    /// Takes `length` bytes, at least one, at `at` where that address is permitted, else at the least permitted one, and
-    /// answers the address. What is permitted, the faults and the units are those of `place`; a refusal leaves the planner
-    /// as it was. That `at` is not permitted is no fault.
+    /// Takes `length` bytes, at least one, at `at` where that address is permitted, else at the
+    /// least permitted one, and answers the address. What is permitted, the faults and the units
+    /// are those of `place`; a refusal leaves the planner as it was. That `at` is not permitted is
+    /// no fault.
     pub fn prefer(
         &mut self,
         at: u64,
@@ -127,10 +139,14 @@ impl<'m, A: Allocator> Planner<'m, A> {
     ) -> Result<u64, PlanFault>
         requires filled { 1 ≤ length }
         requires aligned { 1 ≤ align }
-        ensures preferred { IfOk result (λ a. IsPreferred at (IsPermitted self.old.facts self.old.taken length align low high) a) }
-        ensures taken { IfOk result (λ a. self.new ≡ with_taken self.old (record { start = a; end = a + length })) }
-        ensures below { IfOk result (λ a. a + length ≤ 0xFFFFF000) }
-        ensures fault { IfErr result (OrNoMemory (HasNoRoom (IsPermitted self.old.facts self.old.taken length align low high))) }
+        ensures preferred { IfOk result (λ a.
+            IsPreferred at (IsPermitted self.old.facts self.old.taken length align low high) a) }
+        ensures taken { IfOk result (λ a.
+            self.new ≡ with_taken self.old (record { start = a; end = a + length })) }
+        ensures below { IfOk result (λ a. a + length ≤ usable_limit) }
+        ensures fault { IfErr result
+            (OrNoMemory (HasNoRoom
+            (IsPermitted self.old.facts self.old.taken length align low high))) }
         ensures unchanged { OnErr result (self.new ≡ self.old) }
     {
         let taken = self.taken.as_slice();
@@ -141,14 +157,17 @@ impl<'m, A: Allocator> Planner<'m, A> {
         Ok(at)
     }
 
-    /// Takes the place of a row, and answers its address. A fixed row has the faults of `take_fixed`, each other one those of
-    /// `place`; a refusal leaves the planner as it was.
+    /// Takes the place of a row, and answers its address. A fixed row has the faults of
+    /// `take_fixed`, each other one those of `place`; a refusal leaves the planner as it was.
     pub(crate) fn place_row(&mut self, row: &Row) -> Result<u64, PlanFault>
         requires row { IsRow row.now }
-        ensures chosen { IfOk result (λ a. IsChosen self.old.facts self.old.taken row.now.length row.now.choice a) }
-        ensures taken { IfOk result (λ a. self.new ≡ with_taken self.old (record { start = a; end = a + row.now.length })) }
-        ensures below { IfOk result (λ a. a + row.now.length ≤ 0xFFFFF000) }
-        ensures fault { IfErr result (OrNoMemory (HasFault self.old.facts self.old.taken row.now.length row.now.choice)) }
+        ensures chosen { IfOk result (λ a.
+            IsChosen self.old.facts self.old.taken row.now.length row.now.choice a) }
+        ensures taken { IfOk result (λ a.
+            self.new ≡ with_taken self.old (record { start = a; end = a + row.now.length })) }
+        ensures below { IfOk result (λ a. a + row.now.length ≤ usable_limit) }
+        ensures fault { IfErr result
+            (OrNoMemory (HasFault self.old.facts self.old.taken row.now.length row.now.choice)) }
         ensures unchanged { OnErr result (self.new ≡ self.old) }
     {
         match row.choice {

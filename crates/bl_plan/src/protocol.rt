@@ -2,8 +2,8 @@
 ghost use Rattle.std.specs.Prelude.{◌≡◌};
 ghost use Rattle.bl_plan.specs.Protocols as protocols;
 
-/// How a kernel is entered: as the Multiboot2 Specification says, or by the 32-bit entry of the Linux
-/// boot protocol. An image names it by its number.
+/// How a kernel is entered: as the Multiboot2 Specification says, or by the 32-bit entry of the
+/// Linux boot protocol. An image names it by its number.
 #[derive(Clone, Copy, Debug, PartialEq, Eq)]
 pub enum Protocol {
     Multiboot2,

@@ -7,7 +7,8 @@ pub fn round_up(n: u64, align: u64) -> Option<u64>
     requires { 1 ≤ align }
     ensures aligned { MatchOption result (Unit {0}) (λ a. a % align ≡ 0) }
     ensures above { MatchOption result (Unit {0}) (λ a. n ≤ a) }
-    ensures least { (a : ℕ) → a % align ≡ 0 → n ≤ a → MatchOption result (2 ^ 64 ≤ a) (λ least. least ≤ a) }
+    ensures least { (a : ℕ) → a % align ≡ 0 → n ≤ a
+        → MatchOption result (2 ^ 64 ≤ a) (λ least. least ≤ a) }
 {
     let over = n % align;
     if over == 0 {

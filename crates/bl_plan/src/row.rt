@@ -2,8 +2,8 @@
 use crate::choice::Choice;
 use crate::role::Role;
 
-/// A line of the table of an entry's parts: what the part is, which of its role it is, its length in bytes, and how its
-/// address is chosen.
+/// A line of the table of an entry's parts: what the part is, which of its role it is, its length
+/// in bytes, and how its address is chosen.
 #[derive(Clone, Copy, Debug, PartialEq, Eq)]
 pub struct Row {
     pub role: Role,

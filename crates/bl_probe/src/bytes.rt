@@ -19,7 +19,15 @@ fn push_number(bytes: &mut Vec<u8>, kind: &str, digits: &str) -> Result<(), RowF
     Ok(())
 }
 
-/// Appends a piece: a name's bytes, a number's (`u16:N`, `u32:N`, `u64:N`), or those of hexadecimal digits.
+/// Appends numbers of one width, which stand behind its name: `u32:N,N,N`.
+fn push_numbers(bytes: &mut Vec<u8>, kind: &str, list: &str) -> Result<(), RowFault> {
+    for digits in list.split(',') {
+        push_number(bytes, kind, digits)?;
+    }
+    Ok(())
+}
+
+/// Appends a piece: a name's bytes, those of numbers (`u16:N,N`, `u32:N`, `u64:N`), or those of hexadecimal digits.
 fn push_piece(
     alloc: Global,
     names: &Names,
@@ -30,8 +38,8 @@ fn push_piece(
         bytes.extend_from_slice(named.as_slice())?;
         return Ok(());
     }
-    if let Some((kind, digits)) = piece.split_once(':') {
-        return push_number(bytes, kind, digits);
+    if let Some((kind, list)) = piece.split_once(':') {
+        return push_numbers(bytes, kind, list);
     }
     let decoded = hex::decode(alloc, piece)?;
     bytes.extend_from_slice(decoded.as_slice())?;

@@ -1,25 +1,21 @@
 //! The calls, by their names.
 
-mod beside;
-mod boot;
-mod describe;
 mod elf;
-mod entry;
-mod handoff;
+mod facts;
+mod frames;
 mod header;
-mod image;
-mod line;
-mod long_files;
+mod laws;
 pub mod machine;
+mod memory;
 mod normal;
-mod pairs;
-mod prepared;
-mod refusal;
-mod sink;
-mod unprepared;
+mod own;
+mod places;
+mod plan;
+mod table;
+mod upper;
+mod view;
 
 use crate::fault::RowFault;
-use crate::parse::split_word;
 use crate::session::Session;
 use bl_refusing::Refusing;
 use std::alloc::Global;
@@ -34,8 +30,8 @@ pub enum Argument<'a> {
 /// Whether the words behind this name are bytes, and nothing else.
 pub fn takes_bytes(name: &str) -> bool {
     match name {
-        "elf" | "header" | "describe" => true,
-        _ => false,
+        "elf" | "header" | "own" => true,
+        _ => upper::takes_bytes(name),
     }
 }
 
@@ -51,45 +47,17 @@ pub fn make(
         ("elf", Argument::Bytes(file)) => elf::answer(alloc, heap, file),
         ("header", Argument::Bytes(file)) => header::answer(alloc, file),
         ("machine", Argument::Words(words)) => machine::answer(alloc, heap, session, words),
-        ("normal", Argument::Words("")) => normal::answer(alloc, session),
-        (name, Argument::Words(words)) => make_plain(alloc, heap, session, name, words),
-        (name, Argument::Bytes(bytes)) => make_of(alloc, heap, session, name, bytes),
-    }
-}
-
-/// Makes a call of an upper library's over the heap, once: `NAME WORDS`.
-fn make_plain(
-    alloc: Global,
-    heap: &Refusing,
-    session: &mut Session,
-    name: &str,
-    words: &str,
-) -> Result<String, RowFault> {
-    match name {
-        "sink" => sink::answer(alloc, heap, session, words),
-        "line" => line::answer(alloc, words),
-        "fetch" => boot::answer_fetch(alloc, heap, session, words),
-        _ => Err(RowFault::BadRow),
-    }
-}
-
-/// Makes a call of an upper library's over the heap, once: `NAME WORDS of BYTES`, or `NAME BYTES` without the words.
-fn make_of(
-    alloc: Global,
-    heap: &Refusing,
-    session: &mut Session,
-    call: &str,
-    bytes: &[u8],
-) -> Result<String, RowFault> {
-    match split_word(call) {
-        ("prepare", words) => handoff::answer_prepare(alloc, heap, session, words, bytes),
-        ("load", words) => handoff::answer_load(alloc, heap, session, words, bytes),
-        ("image", words) => image::answer(alloc, heap, session, words, bytes),
-        ("boot", words) => boot::answer_boot(alloc, heap, session, words, bytes),
-        ("boots", words) => boot::answer_boots(alloc, heap, session, words, bytes),
-        ("map", words) => boot::answer_map(alloc, heap, session, words, bytes),
-        ("describe", "") => describe::answer(alloc, heap, bytes),
-        ("named", name) => describe::answer_named(alloc, name, bytes),
-        _ => Err(RowFault::BadRow),
+        ("normal", Argument::Words("")) => normal::answer(alloc, heap, session),
+        ("facts", Argument::Words(words)) => facts::answer(alloc, heap, session, words),
+        ("frames", Argument::Words(words)) => frames::answer(alloc, words),
+        ("plan", Argument::Words(steps)) => plan::answer(alloc, heap, session, steps),
+        ("places", Argument::Words(rows)) => places::answer(alloc, heap, session, rows),
+        ("numbers", Argument::Words("")) => table::answer(alloc),
+        ("memory", Argument::Words(words)) => memory::answer(alloc, heap, session, words),
+        ("view", Argument::Words(words)) => view::answer(alloc, session, words),
+        ("own", Argument::Bytes(bytes)) => own::answer(alloc, heap, bytes),
+        ("laws", Argument::Words("")) => laws::answer(alloc),
+        (name, Argument::Words(words)) => upper::make_plain(alloc, heap, session, name, words),
+        (name, Argument::Bytes(bytes)) => upper::make_over(alloc, heap, session, name, bytes),
     }
 }

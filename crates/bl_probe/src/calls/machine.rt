@@ -1,11 +1,13 @@
 //! `machine size=SIZE pool=START..END region=BASE+LENGTH:KIND ..`: the machine that later rows are about.
+//!
+//! A region may stand there several times: `BASE+LENGTH:KIND*COUNT`, or each a step behind the last: `..*COUNT/STEP`.
 
 use crate::fault::RowFault;
 use crate::parse::{field, number, number_field, range};
 use crate::session::Session;
 use bl_map::{Kind, Machine, MapFault, Region};
 use bl_refusing::Refusing;
-use std::alloc::{AllocError, Global};
+use std::alloc::Global;
 use std::ops::Range;
 
 /// What a machine is made from.
@@ -25,10 +27,13 @@ impl MachineRow {
 }
 
 impl Session {
-    /// The last machine that was accepted, over a heap that refuses nothing. It is not a part of the call that is tested.
-    pub fn machine_over<'h>(&self, heap: &'h Refusing) -> Result<Machine<&'h Refusing>, RowFault> {
+    /// The last machine that was accepted, made again over a heap; none if memory ran out.
+    pub fn machine_over<'h>(
+        &self,
+        heap: &'h Refusing,
+    ) -> Result<Option<Machine<&'h Refusing>>, RowFault> {
         let row = self.machine.as_ref().ok_or(RowFault::BadRow)?;
-        row.build(heap).map_err(|_| RowFault::NoMemory)
+        Ok(row.build(heap).ok())
     }
 }
 
@@ -55,7 +60,7 @@ pub fn kind_name(kind: Kind) -> &'static str {
 }
 
 /// The region that `BASE+LENGTH:KIND` is.
-fn region(word: &str) -> Result<Region, RowFault> {
+pub fn region(word: &str) -> Result<Region, RowFault> {
     let (base, rest) = word.split_once('+').ok_or(RowFault::BadRow)?;
     let (length, name) = rest.split_once(':').ok_or(RowFault::BadRow)?;
     Ok(Region {
@@ -65,16 +70,25 @@ fn region(word: &str) -> Result<Region, RowFault> {
     })
 }
 
-/// Appends a region, or several of its length and kind, side by side: `region=BASE+LENGTH:KIND*COUNT`.
+/// How often a region stands there, and how far each lies behind the one before: `COUNT`, or `COUNT/STEP`.
+fn repeats(text: &str) -> Result<(u64, u64), RowFault> {
+    match text.split_once('/') {
+        Some((count, step)) => Ok((number(count)?, number(step)?)),
+        None => Ok((number(text)?, 0)),
+    }
+}
+
+/// Appends a region, or as many as stand behind a `*`.
 fn push_regions(regions: &mut Vec<Region>, word: &str) -> Result<(), RowFault> {
-    let Some((word, count)) = word.split_once('*') else {
+    let Some((word, text)) = word.split_once('*') else {
         regions.push(region(word)?)?;
         return Ok(());
     };
     let mut next = region(word)?;
-    for _ in 0..number(count)? {
+    let (count, step) = repeats(text)?;
+    for _ in 0..count {
         regions.push(next)?;
-        next.base = next.base.wrapping_add(next.length);
+        next.base = next.base.wrapping_add(step);
     }
     Ok(())
 }
@@ -94,16 +108,6 @@ fn read_row(alloc: Global, fields: &str) -> Result<MachineRow, RowFault> {
     })
 }
 
-fn fault_text(alloc: Global, fault: MapFault) -> Result<String, AllocError> {
-    match fault {
-        MapFault::BadSize => String::from_str(alloc, "bad size"),
-        MapFault::BadRegion(i) => format!(in alloc; "bad region {i:x}"),
-        MapFault::TooManyRegions => String::from_str(alloc, "too many regions"),
-        MapFault::BadPool => String::from_str(alloc, "bad pool"),
-        MapFault::NoMemory => String::from_str(alloc, "no memory"),
-    }
-}
-
 /// Makes the machine over the heap. One that is refused leaves the session as it was.
 pub fn answer(
     alloc: Global,
@@ -113,7 +117,7 @@ pub fn answer(
 ) -> Result<String, RowFault> {
     let row = read_row(alloc, fields)?;
     if let Err(fault) = row.build(heap) {
-        return Ok(fault_text(alloc, fault)?);
+        return Ok(format!(in alloc; "{fault}")?);
     }
     session.machine = Some(row);
     Ok(String::from_str(alloc, "ok")?)

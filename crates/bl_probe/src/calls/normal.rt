@@ -3,13 +3,11 @@
 use crate::calls::machine::kind_name;
 use crate::fault::RowFault;
 use crate::session::Session;
+use bl_map::Machine;
 use bl_refusing::Refusing;
-use std::alloc::Global;
+use std::alloc::{AllocError, Global};
 
-/// Reads the machine's map. The calls take no memory.
-pub fn answer(alloc: Global, session: &Session) -> Result<String, RowFault> {
-    let heap = Refusing::new(alloc, 0);
-    let machine = session.machine_over(&heap)?;
+fn map_text(alloc: Global, machine: &Machine<&Refusing>) -> Result<String, AllocError> {
     let mut text = String::new(alloc);
     for run in machine.normal() {
         let base = run.base;
@@ -20,5 +18,14 @@ pub fn answer(alloc: Global, session: &Session) -> Result<String, RowFault> {
     let low = machine.low_kib();
     let high = machine.high_kib();
     write!(text, "low {low:x} high {high:x}")?;
+    Ok(text)
+}
+
+/// Makes the machine again over the heap, and reads its map.
+pub fn answer(alloc: Global, heap: &Refusing, session: &Session) -> Result<String, RowFault> {
+    let text = match session.machine_over(heap)? {
+        Some(machine) => map_text(alloc, &machine)?,
+        None => String::from_str(alloc, "no memory")?,
+    };
     Ok(text)
 }

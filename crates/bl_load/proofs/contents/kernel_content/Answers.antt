@@ -1,6 +1,6 @@
 use Rattle.std.proofs.Common.{arith, ap, ◌∙◌}
 use Rattle.std.proofs.lemmas.List.{length-map}
-use Rattle.bl_load.specs.Order.{ascending}
+use Rattle.bl_plan.specs.Order.{ascending}
 use Rattle.bl_load.specs.KernelRead.{executable_facts}
 use Rattle.bl_load.proofs.ContentLemmas.{block_content, block_copied, block_ascends, block_some, block_short}
 use Rattle.bl_load.proofs.contents.kernel_content.Goals as goal

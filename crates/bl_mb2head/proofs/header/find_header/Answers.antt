@@ -6,7 +6,7 @@ use Rattle.bl_mb2head.specs.declared.last.LastTags.{LastTags}
 use Rattle.bl_mb2head.specs.declared.tag.Tag.{Tag}
 use Rattle.bl_mb2head.specs.Address.{address_fault}
 use Rattle.bl_mb2head.specs.Header.{BeginsAt, HasFirstFault}
-use Rattle.bl_mb2head.specs.Last.{last_tags}
+use Rattle.bl_mb2head.specs.Kept.{last_tags}
 use Rattle.bl_mb2head.specs.Tags.{AreAllTags, IsFirstFault}
 use Rattle.bl_mb2head.proofs.FaultLemmas.{tag_fault_first, address_fault_first}
 use Rattle.bl_mb2head.proofs.HeaderLemmas.{ends_in_file, ends_in_front, lies_before}

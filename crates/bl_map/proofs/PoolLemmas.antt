@@ -1,0 +1,11 @@
+-- Where a pool lies.
+use Rattle.std.proofs.Common.{◌<◌, ◌≤◌, ◌-◌, ℕ, List, arith}
+use Rattle.std.specs.declared.ops.Range.{Range}
+use Rattle.bl_map.specs.declared.region.Region.{Region}
+use Rattle.bl_map.specs.MachineFacts.{MachineFacts, AreMachineFacts}
+
+-- a pool that is not empty ends in memory; an empty one may lie anywhere, since nothing is reserved for it
+pub pool_in_memory : (facts : MachineFacts) → AreMachineFacts facts → facts.pool.start < facts.pool.end → facts.pool.end ≤ facts.size
+pool_in_memory facts are some =
+    let last = are.pool.usable (facts.pool.end - 1) (omega arith) (omega arith) in
+    omega (arith, last.in_size)

@@ -1,0 +1,31 @@
+-- The limits of memory, in bytes, but for the number of regions and of runs. Own.
+use Rattle.std.specs.Prelude.{ℕ, ◌^◌}
+
+-- a frame: files are staged in these, and a machine's size and its pool are whole ones
+abbrev pub frame_size : ℕ
+frame_size = 4096
+
+-- a machine's size: 1 MiB to 4 GiB, both included
+abbrev pub least_size : ℕ
+least_size = 0x100000
+
+abbrev pub most_size : ℕ
+most_size = 2 ^ 32
+
+-- a machine is made of so many regions at most, each of which ends at most there; its normal map
+-- has so many runs at most
+abbrev pub most_regions : ℕ
+most_regions = 128
+
+abbrev pub region_limit : ℕ
+region_limit = 2 ^ 52
+
+abbrev pub most_runs : ℕ
+most_runs = 256
+
+-- where usable memory may lie: neither in the first frame nor from the last frame below 4 GiB on
+abbrev pub first_usable : ℕ
+first_usable = 4096
+
+abbrev pub usable_limit : ℕ
+usable_limit = 0xFFFFF000

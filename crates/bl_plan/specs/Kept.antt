@@ -1,0 +1,17 @@
+-- What only the code keeps: no definition that a reader must believe.
+use Rattle.std.specs.Prelude.{◌<◌, ◌≤◌, ℕ, List, All}
+use Rattle.std.specs.declared.ops.Range.{Range}
+use Rattle.bl_map.specs.MachineFacts.{MachineFacts, IsUsable}
+use Rattle.bl_mem.specs.Memory.{IsIn}
+
+-- a byte that a part may have, beside the ranges that are taken
+abbrev pub IsFree : MachineFacts → List (Range ℕ) → ℕ → Type 0
+IsFree facts taken a = IsUsable facts a × All (λ range. ¬ IsIn range a) taken
+
+-- from start up to end some byte lacks the property, and so does each byte of this stretch, which
+-- has that byte
+pub record IsBlocked (P : ℕ → Type 0) (start end : ℕ) (stretch : Range ℕ) : Type 0 where
+  pub forward : stretch.start < stretch.end
+  pub meets_end : stretch.start < end
+  pub meets_start : start < stretch.end
+  pub without : (a : ℕ) → stretch.start ≤ a → a < stretch.end → ¬ P a
