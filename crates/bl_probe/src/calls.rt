@@ -11,6 +11,8 @@ mod normal;
 mod own;
 mod places;
 mod plan;
+mod segments;
+mod spell;
 mod table;
 mod upper;
 mod view;
@@ -52,8 +54,12 @@ pub fn make(
         ("frames", Argument::Words(words)) => frames::answer(alloc, words),
         ("plan", Argument::Words(steps)) => plan::answer(alloc, heap, session, steps),
         ("places", Argument::Words(rows)) => places::answer(alloc, heap, session, rows),
+        ("kind", Argument::Words(digits)) => table::answer_kind(alloc, digits),
         ("numbers", Argument::Words("")) => table::answer(alloc),
         ("memory", Argument::Words(words)) => memory::answer(alloc, heap, session, words),
+        ("holds", Argument::Words(words)) => segments::answer_holds(alloc, words),
+        ("order", Argument::Words(words)) => segments::answer_order(alloc, heap, words),
+        ("spell", Argument::Words(words)) => spell::answer(alloc, session, words),
         ("view", Argument::Words(words)) => view::answer(alloc, session, words),
         ("own", Argument::Bytes(bytes)) => own::answer(alloc, heap, bytes),
         ("laws", Argument::Words("")) => laws::answer(alloc),

@@ -13,6 +13,7 @@ mod runs;
 mod session;
 mod show;
 mod sweep;
+mod unasked;
 
 use session::Session;
 use std::io;

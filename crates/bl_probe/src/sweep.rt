@@ -6,6 +6,7 @@ use crate::fault::RowFault;
 use crate::parse::{byte, split_word};
 use crate::runs::Runs;
 use crate::session::Session;
+use crate::unasked::mark_unasked;
 use bl_refusing::Refusing;
 use std::alloc::Global;
 
@@ -31,9 +32,7 @@ fn once(
     let heap = Refusing::new(alloc, nth);
     let mut text = make(alloc, &heap, session, name, argument)?;
     let was_refused = heap.has_refused();
-    if !was_refused && text.contains("no memory") {
-        text.push_str(", unasked")?;
-    }
+    mark_unasked(&heap, 0, &mut text)?;
     if heap.held() != 0 {
         text.push_str(", and leaks")?;
     }

@@ -1,16 +1,14 @@
-//! An allocator for tests, which refuses the nth request for memory and each one after it.
+//! An allocator for `bl_probe` and `bl_tests`, which refuses the nth request for memory and each one after it.
 //!
-//! Lent as `&heap`, it is handed to code that takes any `A: Allocator + Copy`. A test calls that code with `nth` counting up
-//! from 1, until a call asks for less than `nth` times: so each request has been the first refused one.
+//! Lent as `&heap`, it is handed to code that takes any `A: Allocator + Copy`. A test calls that code with `nth` counting
+//! up from 1, until a call asks for less than `nth` times: so each request has been the first refused one. An answer that
+//! memory ran out must come with a refusal: `refused` is greater after the call than before it.
 #![tactic(auto)]
 
 ghost use Rattle.std.specs.Prelude.{◌≡◌, ◌<◌, ◌≤◌, ◌↔◌, IsTrue};
 
 use std::alloc::{AllocError, Allocator, Global};
 use std::cell::Cell;
-
-#[cfg(test)]
-mod tests;
 
 /// Passes each request on to the heap until the `nth`, and refuses that one and all that come after it, so that no second try
 /// hides the refusal. Blocks that were handed out before stay valid, and can always be given back.
@@ -65,6 +63,17 @@ impl Refusing {
         ensures { IsTrue result → 0 < self.now.nth }
     {
         self.refuses(self.asked.get())
+    }
+
+    /// How many requests were refused so far: all from the `nth` on. A test tells by it whether a call's answer that memory
+    /// ran out came with a refusal, also where an earlier call was refused before.
+    pub fn refused(&self) -> u64
+        ensures { 0 < result → 0 < self.now.nth }
+    {
+        if self.nth == 0 {
+            return 0;
+        }
+        self.asked.get().saturating_sub(self.nth - 1)
     }
 
     // Counts one more request, and says whether it is refused.

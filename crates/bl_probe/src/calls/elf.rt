@@ -30,7 +30,8 @@ pub fn fault_text(alloc: Global, fault: ElfFault) -> Result<String, AllocError> 
     }
 }
 
-fn segments_text(alloc: Global, segments: &[Segment]) -> Result<String, AllocError> {
+/// Segments, or `none`.
+pub fn segments_text(alloc: Global, segments: &[Segment]) -> Result<String, AllocError> {
     if segments.is_empty() {
         return String::from_str(alloc, "none");
     }

@@ -1,10 +1,10 @@
-//! `frames of LENGTH`, `frames in START..END`, `frames open START..END RANGE ..`: counts of frames.
+//! `frames for LENGTH`, `frames whole LENGTH`, `frames in START..END`, `frames open START..END RANGE ..`: counts of frames.
 ghost use Rattle.std.specs.Prelude.{IsTrue, All, ◌≤◌};
 ghost use Rattle.bl_map.specs.Room.{AreAscending};
 
 use crate::fault::RowFault;
 use crate::parse::{number, range, split_word};
-use bl_map::{frames_in, frames_of, open_frames};
+use bl_map::{frames_in, frames_of, open_frames, whole_frames};
 use std::alloc::Global;
 use std::ops::Range;
 
@@ -35,6 +35,14 @@ fn frames_in_word(word: &str) -> Result<u64, RowFault> {
     Ok(frames_in(&pool))
 }
 
+fn whole_in_word(word: &str) -> Result<u64, RowFault> {
+    let length = number(word)?;
+    if length > u64::MAX - 4095 {
+        return Err(RowFault::BadRow);
+    }
+    Ok(whole_frames(length))
+}
+
 fn open_in_words(alloc: Global, words: &str) -> Result<u64, RowFault> {
     let mut words = words.split_whitespace();
     let pool = range(words.next().ok_or(RowFault::BadRow)?)?;
@@ -51,7 +59,8 @@ fn open_in_words(alloc: Global, words: &str) -> Result<u64, RowFault> {
 /// The count, hexadecimal.
 pub fn answer(alloc: Global, words: &str) -> Result<String, RowFault> {
     let count = match split_word(words) {
-        ("of", length) => frames_of(number(length)?),
+        ("for", length) => frames_of(number(length)?),
+        ("whole", length) => whole_in_word(length)?,
         ("in", pool) => frames_in_word(pool)?,
         ("open", words) => open_in_words(alloc, words)?,
         _ => return Err(RowFault::BadRow),

@@ -8,6 +8,7 @@ use crate::bytes::{Names, bytes_of};
 use crate::fault::RowFault;
 use crate::parse::{byte, field, number, number_field, range, split_word};
 use crate::session::Session;
+use crate::unasked::mark_unasked;
 use bl_mem::{Flat, PhysMem};
 use bl_refusing::Refusing;
 use std::alloc::Global;
@@ -124,7 +125,10 @@ pub fn answer(
         if !text.is_empty() {
             text.push_str("; ")?;
         }
-        text.push_str(&step(alloc, &session.names, &mut memory, words.trim())?)?;
+        let before = heap.refused();
+        let mut said = step(alloc, &session.names, &mut memory, words.trim())?;
+        mark_unasked(heap, before, &mut said)?;
+        text.push_str(&said)?;
     }
     Ok(text)
 }

@@ -6,6 +6,7 @@
 use crate::fault::RowFault;
 use crate::parse::{number_field, range};
 use crate::session::Session;
+use crate::unasked::mark_unasked;
 use bl_plan::{PlanFault, Planner, Side};
 use bl_refusing::Refusing;
 use std::alloc::{AllocError, Global};
@@ -147,7 +148,10 @@ pub fn answer(
         if !text.is_empty() {
             text.push_str("; ")?;
         }
-        text.push_str(&step(alloc, &mut planner, words)?)?;
+        let before = heap.refused();
+        let mut said = step(alloc, &mut planner, words)?;
+        mark_unasked(heap, before, &mut said)?;
+        text.push_str(&said)?;
     }
     Ok(text)
 }

@@ -1,6 +1,8 @@
-//! `numbers`: the numbers of kinds, roles and protocols.
+//! `numbers`: the numbers of kinds, roles and protocols. `kind N`: the kind of a number.
 
+use crate::calls::machine::kind_name;
 use crate::fault::RowFault;
+use crate::parse::number32;
 use bl_map::Kind;
 use bl_plan::{Protocol, Role};
 use std::alloc::Global;
@@ -37,4 +39,13 @@ pub fn answer(alloc: Global) -> Result<String, RowFault> {
         write!(text, " {protocol:?} {number}")?;
     }
     Ok(text)
+}
+
+/// The kind's name, or `none`.
+pub fn answer_kind(alloc: Global, digits: &str) -> Result<String, RowFault> {
+    let name = match Kind::from_number(number32(digits)?) {
+        Some(kind) => kind_name(kind),
+        None => "none",
+    };
+    Ok(String::from_str(alloc, name)?)
 }
