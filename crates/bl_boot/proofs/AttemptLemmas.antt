@@ -5,17 +5,18 @@ use Rattle.bl_map.specs.MachineFacts.{MachineFacts}
 use Rattle.bl_plan.specs.Placed.{range_of}
 use Rattle.bl_load.specs.declared.plan.Planned.{Planned}
 use Rattle.bl_load.specs.Handover.{Handover}
-use Rattle.bl_load.specs.Planned.{part_by, IsBacked}
+use Rattle.bl_load.specs.Planned.{part_by}
+use Rattle.bl_load.specs.Kept.{lengths_of, IsBacked}
 use Rattle.bl_map.specs.Room.{frames_of, open_frames}
 use Rattle.bl_load.proofs.HeldLemmas.{length-bytes_by}
 use Rattle.bl_boot.specs.Attempt.{part_range, ranges_of, HasRoomBeside}
 
 -- the ranges of what a plan hands over are those of its places
-pub ranges_are : {A : Type 0} (texts : List (List ℕ)) (parts : List (Planned A)) → All (IsBacked texts) parts
+pub ranges_are : {A : Type 0} (texts : List (List ℕ)) (parts : List (Planned A)) → All (IsBacked (lengths_of texts)) parts
     → map part_range (map (part_by texts) parts) ≡ map range_of (map (λ part. part.place) parts)
 ranges_are texts [] backed = refl
 ranges_are texts (p ∷ parts) backed =
-    let size = length-bytes_by texts p (backed 0 p (omega arith)).short in
+    let size = length-bytes_by texts p (backed 0 p (omega arith)) in
     let here : part_range (part_by texts p) ≡ range_of p.place =
     ap (λ n. let r : Range ℕ = record { start = p.place.address; end = p.place.address + n } in r) size in
     ap (λ (r : Range ℕ). r ∷ map part_range (map (part_by texts) parts)) here

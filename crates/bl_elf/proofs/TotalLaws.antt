@@ -1,9 +1,9 @@
 -- Each file is an executable or has a first fault that is not want of memory.
-use Rattle.std.proofs.Common.{◌≡◌, ◌<◌, ◌⊎◌, inl, inr, ℕ, List, length, Bool, true, false, Option, Some, None, refl, arith}
+use Rattle.std.proofs.Common.{◌≡◌, ◌<◌, ◌⊎◌, inl, inr, ℕ, List, length, true, Option, Some, None, refl, arith}
 use Rattle.std.proofs.lemmas.Bool.{cases_lt, cases_Bool, false_from_ne_true}
-use Rattle.bl_mem.proofs.LeastLaws.{NoneBelow, SomeBelow, least_below}
+use Rattle.bl_mem.proofs.LeastLaws.{SomeBelow, least_below}
 use Rattle.bl_elf.specs.declared.fault.ElfFault.{ElfFault}
-use Rattle.bl_elf.specs.declared.fault.ElfFault.TheVariants.{NotElf, BadElf, SegmentCut, AddressTooHigh, SegmentsOverlap, NoMemory}
+use Rattle.bl_elf.specs.declared.fault.ElfFault.TheVariants.{SegmentsOverlap, NoMemory}
 use Rattle.bl_elf.specs.Header.{header_of, header_fault}
 use Rattle.bl_elf.specs.Program.{fault_at, program_header, program_headers, segments_of, share_at}
 use Rattle.bl_elf.specs.Elf.{ElfFacts, IsElf, IsIndex, SharesNone, IsFirstFaulty, IsFirstOverlap, HasFirstFault, physical_entry}

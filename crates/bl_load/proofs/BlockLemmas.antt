@@ -7,9 +7,9 @@ use Rattle.std.proofs.lemmas.Bool.Decides.{nat_tests}
 use Rattle.bl_mem.specs.Memory.{overwrite}
 use Rattle.bl_mem.proofs.Overwrites.{length-overwrite, overwrite_more}
 use Rattle.bl_mem.specs.declared.segment.Segment.{Segment}
-use Rattle.bl_mem.specs.Contents.{contents_of}
-use Rattle.bl_load.specs.Blocks.{holds, low_of, high_of, span_of, byte_at, first_values, block_of}
-use Rattle.bl_load.specs.Planned.{IsCopied, SegmentsAscend}
+use Rattle.bl_mem.specs.Contents.{contents_of, holds}
+use Rattle.bl_load.specs.Blocks.{low_of, high_of, span_of, byte_at, first_values, block_of}
+use Rattle.bl_load.specs.Kept.{IsCopied, SegmentsAscend}
 
 -- segments from a linked address on, each behind the zeros of the gap before it
 abbrev pub block_from : List ℕ → ℕ → List Segment → List ℕ
@@ -17,14 +17,14 @@ block_from text start [] = []
 block_from text start (s ∷ segments) = replicate (s.address - start) 0 ++ contents_of text s ++ block_from text (s.address + s.memsz) segments
 
 -- a segment has as many bytes of the file as it says
-pub length-filed : (text : List ℕ) (s : Segment) → IsCopied text s → length (slice_range text s.offset (s.offset + s.filesz)) ≡ s.filesz
+pub length-filed : (text : List ℕ) (s : Segment) → IsCopied (length text) s → length (slice_range text s.offset (s.offset + s.filesz)) ≡ s.filesz
 length-filed text s copied =
     elim (cases_lt 0 s.filesz) [
       | inl some ↦ let inside = copied.inside (omega arith) in search (rules, places)
       | inr none ↦ search (rules, places)
     ]
 
-pub length-contents_of : (text : List ℕ) (s : Segment) → IsCopied text s → length (contents_of text s) ≡ s.memsz
+pub length-contents_of : (text : List ℕ) (s : Segment) → IsCopied (length text) s → length (contents_of text s) ≡ s.memsz
 length-contents_of text s copied =
     let fits = copied.fits in
     rw (length-append, length-replicate, length-filed text s copied) (omega arith)
@@ -64,11 +64,11 @@ unfolding block_of
 length-block_of text segments = length-first_values (span_of segments) (λ i. byte_at text segments (low_of segments + i))
 
 -- segments end behind where they begin
-high_above : (text : List ℕ) (start : ℕ) (s : Segment) (segments : List Segment) → All (IsCopied text) (s ∷ segments) → All (λ t. start ≤ t.address) (s ∷ segments) → start < high_of (s ∷ segments)
+high_above : (text : List ℕ) (start : ℕ) (s : Segment) (segments : List Segment) → All (IsCopied (length text)) (s ∷ segments) → All (λ t. start ≤ t.address) (s ∷ segments) → start < high_of (s ∷ segments)
 high_above text start s segments copied above =
     let c = copied 0 s (omega arith) in let filled = c.filled in let a = above 0 s (omega arith) in omega arith
 
-pub length-block_from : (text : List ℕ) (start : ℕ) (segments : List Segment) → All (IsCopied text) segments → AllPairs SegmentsAscend segments → All (λ s. start ≤ s.address) segments
+pub length-block_from : (text : List ℕ) (start : ℕ) (segments : List Segment) → All (IsCopied (length text)) segments → AllPairs SegmentsAscend segments → All (λ s. start ≤ s.address) segments
     → start + length (block_from text start segments) ≡ max start (high_of segments)
 length-block_from text start [] copied ascend above = omega arith
 length-block_from text start (s ∷ segments) copied ascend above =
@@ -79,7 +79,7 @@ length-block_from text start (s ∷ segments) copied ascend above =
     let rest = length-block_from text (s.address + s.memsz) segments (λ k d h. copied (suc k) d (omega arith)) (λ i j d ij h. ascend (suc i) (suc j) d (omega arith) (omega arith)) (λ k d h. ascend 0 (suc k) d (omega arith) (omega arith)) in
     rw (length-append, length-append, length-replicate, n) (omega arith)
 
-pub get_or-block_from : (text : List ℕ) (start : ℕ) (segments : List Segment) (k d : ℕ) → All (IsCopied text) segments → AllPairs SegmentsAscend segments → All (λ s. start ≤ s.address) segments
+pub get_or-block_from : (text : List ℕ) (start : ℕ) (segments : List Segment) (k d : ℕ) → All (IsCopied (length text)) segments → AllPairs SegmentsAscend segments → All (λ s. start ≤ s.address) segments
     → k < length (block_from text start segments) → get_or (block_from text start segments) k d ≡ byte_at text segments (start + k)
 get_or-block_from text start [] k d copied ascend above within = absurd (omega arith)
 get_or-block_from text start (s ∷ segments) k d copied ascend above within =
@@ -119,7 +119,7 @@ first_below [] d ascend = λ k e within. absurd (omega arith)
 first_below (s ∷ segments) d ascend = All-cons (λ t. s.address ≤ t.address) s segments (omega arith) (λ j e h. let up = ascend 0 (suc j) e (omega arith) (omega arith) in omega arith)
 
 -- the block is its segments from the first address on
-pub block_from_first : (text : List ℕ) (segments : List Segment) (d : Segment) → 1 ≤ length segments → All (IsCopied text) segments → AllPairs SegmentsAscend segments
+pub block_from_first : (text : List ℕ) (segments : List Segment) (d : Segment) → 1 ≤ length segments → All (IsCopied (length text)) segments → AllPairs SegmentsAscend segments
     → (span_of segments ≡ length (block_from text (get_or segments 0 d).address segments)) × (block_of text segments ≡ block_from text (get_or segments 0 d).address segments)
 unfolding block_of
 block_from_first text [] d some copied ascend = absurd (omega arith)
@@ -137,7 +137,7 @@ block_from_first text (s ∷ segments) d some copied ascend =
     )
 
 -- a gap and a segment are written
-module _ (text m : List ℕ) (at low done : ℕ) (s : Segment) (rest : List Segment) (copied : IsCopied text s) (above : low + done ≤ s.address)
+module _ (text m : List ℕ) (at low done : ℕ) (s : Segment) (rest : List Segment) (copied : IsCopied (length text) s) (above : low + done ≤ s.address)
     (inside : at + (done + length (block_from text (low + done) (s ∷ rest))) ≤ length m) where
   -- what is left then
   pub left_behind : s.address - low + s.memsz + length (block_from text (low + (s.address - low + s.memsz)) rest) ≡ done + length (block_from text (low + done) (s ∷ rest))

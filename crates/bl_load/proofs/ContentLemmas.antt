@@ -3,14 +3,14 @@ use Rattle.std.proofs.Common.{◌≡◌, ◌<◌, ◌≤◌, ◌+◌, ◌^◌, �
 use Rattle.bl_mem.specs.declared.segment.Segment.{Segment}
 use Rattle.bl_mb2head.specs.declared.relocation.Relocation.{Relocation}
 use Rattle.bl_load.specs.Blocks.{low_of, high_of, span_of, block_of}
-use Rattle.bl_load.specs.Kernel.{AreLoadable}
+use Rattle.bl_load.specs.KernelKept.{AreLoadable}
 use Rattle.bl_plan.specs.Order.{segment_key, ascending}
 use Rattle.bl_load.specs.Parts.{kernel_content}
-use Rattle.bl_load.specs.Planned.{IsCopied, SegmentsAscend}
-use Rattle.bl_load.specs.Rowed.{HasKernelLength}
+use Rattle.bl_load.specs.Kept.{IsCopied, SegmentsAscend}
+use Rattle.bl_load.specs.PlacingKept.{HasKernelLength}
 use Rattle.bl_load.proofs.BlockLemmas.{length-block_of}
 use Rattle.bl_plan.proofs.OrderLemmas.{in_order_all, length-in_order}
-use Rattle.bl_load.proofs.SortedLemmas.{same_block, ascending_ascends, low_below, high_above_all}
+use Rattle.bl_load.proofs.SortedLemmas.{same_block, same_span, ascending_ascends, low_below, high_above_all}
 
 -- the content is the kernel's
 pub block_content : (file : List ℕ) (segments items : List Segment) (r : Relocation) (relocation : Option Relocation) (i : ℕ)
@@ -22,7 +22,7 @@ length_as_span : (segments : List Segment) (relocation : Option Relocation) (r :
 length_as_span segments relocation r i count is h = subst (λ (o : Option Relocation). HasKernelLength segments o i count) is h
 
 -- each of its segments can be copied
-all_copied : (file : List ℕ) (segments : List Segment) → AreLoadable file segments → span_of segments ≤ 2 ^ 32 → All (IsCopied file) segments
+all_copied : (file : List ℕ) (segments : List Segment) → AreLoadable file segments → span_of segments ≤ 2 ^ 32 → All (IsCopied (length file)) segments
 all_copied file segments h small k d within =
     let s = get_or segments k d in
     let above : s.address + s.memsz ≤ high_of segments = high_above_all segments k d within in
@@ -36,10 +36,10 @@ all_copied file segments h small k d within =
     }
 
 pub block_copied : (file : List ℕ) (segments items : List Segment) (relocation : Option Relocation) (r : Relocation) (i count : ℕ) → AreLoadable file segments → items ≡ ascending segments → relocation ≡ Some r
-    → HasKernelLength segments relocation i count → count ≤ 2 ^ 32 → All (IsCopied file) items
+    → HasKernelLength segments relocation i count → count ≤ 2 ^ 32 → All (IsCopied (length file)) items
 block_copied file segments items relocation r i count h items_are is long small =
     let span = length_as_span segments relocation r i count is long in
-    subst (λ (ss : List Segment). All (IsCopied file) ss) (sym items_are) (in_order_all segment_key (IsCopied file) segments (all_copied file segments h (omega arith)))
+    subst (λ (ss : List Segment). All (IsCopied (length file)) ss) (sym items_are) (in_order_all segment_key (IsCopied (length file)) segments (all_copied file segments h (omega arith)))
 
 pub block_ascends : (file : List ℕ) (segments items : List Segment) → AreLoadable file segments → items ≡ ascending segments → AllPairs SegmentsAscend items
 block_ascends file segments items h items_are = subst (λ (ss : List Segment). AllPairs SegmentsAscend ss) (sym items_are) (ascending_ascends segments h.filled h.apart)
@@ -48,8 +48,8 @@ pub block_some : (file : List ℕ) (segments items : List Segment) → AreLoadab
 block_some file segments items h items_are = let e = ap (λ (ss : List Segment). length ss) items_are in let f = length-in_order segment_key segments in let some = h.some in omega arith
 
 pub block_short : (file : List ℕ) (segments items : List Segment) (relocation : Option Relocation) (r : Relocation) (i count : ℕ) → AreLoadable file segments → items ≡ ascending segments → relocation ≡ Some r
-    → HasKernelLength segments relocation i count → length (block_of file items) ≤ count
+    → HasKernelLength segments relocation i count → span_of items ≤ count
 block_short file segments items relocation r i count h items_are is long =
     let span = length_as_span segments relocation r i count is long in
-    let e = ap (λ (bytes : List ℕ). length bytes) (ap (block_of file) items_are ∙ same_block file segments h.some h.apart) in
-    let f = length-block_of file segments in omega arith
+    let e = ap span_of items_are in
+    let f = same_span segments h.some in omega arith

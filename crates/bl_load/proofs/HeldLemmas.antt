@@ -1,18 +1,24 @@
 -- What memory holds at the places of a plan once it is loaded.
-use Rattle.std.proofs.Common.{◌≡◌, ℕ, ◌+◌, ◌<◌, ◌≤◌, List, [], ◌∷◌, length, get_or, arith, rules, refl, subst, sym, ap, ◌∙◌, suc, All, AllPairs, map, slice_range, length-append}
+use Rattle.std.proofs.Common.{◌≡◌, ℕ, ◌+◌, ◌<◌, ◌≤◌, inl, inr, slice_index, List, [], ◌∷◌, length, get_or, arith, rules, refl, subst, sym, ap, ◌∙◌, suc, All, AllPairs, map, slice_range, length-append}
 use Rattle.std.proofs.Math.ListN.{get_or-map}
 use Rattle.std.proofs.lemmas.List.{places, same_lists, length-map, length-replicate, get_or-map as get_or-map_at}
 use Rattle.std.proofs.lemmas.List.Elements.{All-map}
+use Rattle.std.proofs.lemmas.Bool.{cases_lt}
 use Rattle.std.proofs.lemmas.Simd.{map-map}
 use Rattle.std.specs.declared.ops.Range.{Range}
 use Rattle.bl_mem.specs.Memory.{AllHaveRoom, HasRoom}
 use Rattle.bl_plan.specs.declared.place.Place.{Place}
 use Rattle.bl_plan.specs.Placed.{Covers, range_of}
+use Rattle.bl_load.specs.declared.plan.Content.{Content}
+use Rattle.bl_load.specs.declared.plan.Content.TheVariants.{Own, File, Block}
 use Rattle.bl_load.specs.declared.plan.Planned.{Planned}
 use Rattle.bl_load.specs.declared.plan.Plan.{Plan}
 use Rattle.bl_load.specs.Handover.{part_at, written}
 use Rattle.bl_load.specs.Place.{place_of}
-use Rattle.bl_load.specs.Planned.{content_by, bytes_by, part_by, part_in, places_of, Ascends, IsLoadable, CanLoad}
+use Rattle.bl_load.specs.Planned.{file_text, content_by, bytes_by, part_by, part_in, places_of}
+use Rattle.bl_load.specs.HandoffFacts.{Ascends}
+use Rattle.bl_load.specs.Kept.{lengths_of, content_length, IsThere, IsBacked, IsLoadable, CanLoad}
+use Rattle.bl_load.proofs.BlockLemmas.{length-block_of}
 use Rattle.bl_load.proofs.WrittenLemmas.{EndsWithin, IsBefore, Has, length-written, written_in, written_elsewhere}
 
 -- two functions that agree on a list
@@ -35,13 +41,42 @@ AllPairs-map R f (x ∷ xs) h i j d ij within =
     subst (λ y. R y (get_or (map f (x ∷ xs)) j d)) (sym (get_or-map_at f (x ∷ xs) i x d (omega arith)))
     (subst (λ y. R (f (get_or (x ∷ xs) i x)) y) (sym (get_or-map_at f (x ∷ xs) j x d (omega arith))) (h i j x ij (omega arith)))
 
--- a part has as many bytes as its place
-pub length-bytes_by : {A : Type 0} (texts : List (List ℕ)) (part : Planned A) → length (content_by texts part.content) ≤ part.place.length → length (bytes_by texts part) ≡ part.place.length
-length-bytes_by texts part short = rw (length-append, length-replicate) (omega arith)
+-- a file's length, by the list of lengths
+pub length_at : (texts : List (List ℕ)) (file : ℕ) → slice_index (lengths_of texts) file ≡ length (file_text texts file)
+length_at texts file = get_or-map (λ (text : List ℕ). length text) texts file []
 
-module _ {A : Type 0} (texts : List (List ℕ)) (size : ℕ) (plan : Plan A) (loadable : IsLoadable texts size plan) where
+-- so each view's length is there
+pub within_files : {V : Type 0} (bytes : V → List ℕ) (files : List V) (file : ℕ) → file < length (lengths_of (map bytes files)) → file < length files
+within_files bytes files file h =
+    let e = length-map (map bytes files) (λ (text : List ℕ). length text) in
+    let f = length-map files bytes in
+    omega (arith, h, e, f)
+
+pub view_length : {V : Type 0} (bytes : V → List ℕ) (files : List V) (file : ℕ) (view : V) → view ≡ get_or files file view → file < length files → slice_index (lengths_of (map bytes files)) file ≡ length (bytes view)
+view_length bytes files file view is within =
+    length_at (map bytes files) file ∙ ap (λ (text : List ℕ). length text) (get_or-map_at bytes files file view [] within ∙ ap bytes (sym is))
+
+-- a content that is there has as many bytes as it says
+pub length-content_by : {A : Type 0} (texts : List (List ℕ)) (content : Content A) → IsThere (lengths_of texts) content → length (content_by texts content) ≡ content_length content
+length-content_by texts (Own bytes) there = refl
+length-content_by texts (File file offset count) there =
+    let size = length_at texts file in
+    elim (cases_lt 0 count) [
+      | inl some ↦ let inside = there.1 (omega arith) in search (rules, places)
+      | inr none ↦ search (rules, places)
+    ]
+length-content_by texts (Block file segments) there = length-block_of (file_text texts file) segments.items
+
+-- a part has as many bytes as its place
+pub length-bytes_by : {A : Type 0} (texts : List (List ℕ)) (part : Planned A) → IsBacked (lengths_of texts) part → length (bytes_by texts part) ≡ part.place.length
+length-bytes_by texts part backed =
+    let own = length-content_by texts part.content backed.there in
+    let short = backed.short in
+    rw (length-append, length-replicate) (omega arith)
+
+module _ {A : Type 0} (texts : List (List ℕ)) (size : ℕ) (plan : Plan A) (loadable : IsLoadable (lengths_of texts) size plan) where
   -- a loadable plan can be loaded once its places have room
-  pub can_load : (room : ℕ → Type 0) → AllHaveRoom room (map range_of (places_of plan)) → All (CanLoad texts size room) plan.parts.items
+  pub can_load : (room : ℕ → Type 0) → AllHaveRoom room (map range_of (places_of plan)) → All (CanLoad (lengths_of texts) size room) plan.parts.items
   can_load room has k d within =
       let backed = loadable.backed k d within in
       record {
@@ -55,13 +90,13 @@ module _ {A : Type 0} (texts : List (List ℕ)) (size : ℕ) (plan : Plan A) (lo
   pub all_end_within : All (EndsWithin size) (map (part_by texts) plan.parts.items)
   all_end_within = All-map (EndsWithin size) (part_by texts) plan.parts.items (λ k d within.
       let inside = all_under (λ (place : Place). place.address + place.length ≤ size) place_of plan.parts.items loadable.inside k d within in
-      let count = length-bytes_by texts (get_or plan.parts.items k d) (loadable.backed k d within).short in
+      let count = length-bytes_by texts (get_or plan.parts.items k d) (loadable.backed k d within) in
       omega arith)
 
   pub all_are_before : AllPairs IsBefore (map (part_by texts) plan.parts.items)
   all_are_before = AllPairs-map IsBefore (part_by texts) plan.parts.items (λ i j d ij within.
       let up = pairs_under Ascends place_of plan.parts.items loadable.records.ascending i j d ij within in
-      let count = length-bytes_by texts (get_or plan.parts.items i d) (loadable.backed i d (omega arith)).short in
+      let count = length-bytes_by texts (get_or plan.parts.items i d) (loadable.backed i d (omega arith)) in
       omega arith)
 
   -- memory reads back as each part
@@ -71,7 +106,7 @@ module _ {A : Type 0} (texts : List (List ℕ)) (size : ℕ) (plan : Plan A) (lo
       let parts = map (part_by texts) plan.parts.items in
       let part = get_or plan.parts.items k d in
       let inside = all_under (λ (place : Place). place.address + place.length ≤ size) place_of plan.parts.items loadable.inside k d within in
-      let count = length-bytes_by texts part (loadable.backed k d within).short in
+      let count = length-bytes_by texts part (loadable.backed k d within) in
       let total = length-written size parts m is all_end_within in
       let read : List ℕ = slice_range (written parts m) part.place.address (part.place.address + part.place.length) in
       let wide : length read ≡ part.place.length = search (rules, places) in
@@ -91,5 +126,5 @@ module _ {A : Type 0} (texts : List (List ℕ)) (size : ℕ) (plan : Plan A) (lo
   pub held_elsewhere : (m : List ℕ) (a : ℕ) → length m ≡ size → All (λ place. ¬ Covers place a) (places_of plan) → get_or (written (map (part_by texts) plan.parts.items) m) a 0 ≡ get_or m a 0
   held_elsewhere m a is out =
       written_elsewhere size (map (part_by texts) plan.parts.items) m a is all_end_within (All-map (λ p. Has p a → ⊥) (part_by texts) plan.parts.items (λ k d within. λ has.
-      let count = length-bytes_by texts (get_or plan.parts.items k d) (loadable.backed k d within).short in
+      let count = length-bytes_by texts (get_or plan.parts.items k d) (loadable.backed k d within) in
       all_under (λ (place : Place). ¬ Covers place a) place_of plan.parts.items out k d within (has.0, omega arith)))

@@ -7,7 +7,8 @@ use Rattle.bl_mbi.specs.InformationFacts.{info_size}
 use Rattle.bl_mbi.specs.Size.{size_of, load_base_size}
 use Rattle.bl_mbi.specs.Spelling.{spelling}
 use Rattle.bl_mbi.proofs.Sizes.{length-spelling}
-use Rattle.bl_load.specs.Rows.{information_of, whole_frames}
+use Rattle.bl_map.specs.Room.{whole_frames}
+use Rattle.bl_load.specs.Rows.{information_of}
 
 most_load_base : (b : Bool) → load_base_size b ≤ 16
 most_load_base true = omega arith

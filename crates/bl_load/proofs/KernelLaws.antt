@@ -1,20 +1,23 @@
 -- What holds of a kernel with no fault.
-use Rattle.std.proofs.Common.{◌≡◌, ◌<◌, ◌≤◌, ◌+◌, ◌^◌, ℕ, Bool, true, false, List, [], ◌∷◌, length, Option, Some, None, cond, arith, refl, sym, ap, subst, inl, inr, All}
+use Rattle.std.proofs.Common.{◌≡◌, ◌<◌, ◌≤◌, ◌+◌, ◌^◌, ℕ, Bool, true, false, List, [], ◌∷◌, length, Option, Some, None, cond, arith, refl, sym, ap, subst, ◌∙◌, inl, inr, All}
 use Rattle.std.specs.Prelude.{IfSome, ◌||◌}
 use Rattle.std.specs.List.{list_any}
+use Rattle.std.proofs.Math.Bool.{or-false}
 use Rattle.std.proofs.lemmas.List.Elements.{All-nil, All-cons, All-head, All-tail}
 use Rattle.std.proofs.lemmas.Bool.Decides.{nat_tests}
 use Rattle.std.proofs.lemmas.Grind.{common_steps}
 use Rattle.bl_mem.specs.declared.segment.Segment.{Segment}
+use Rattle.bl_mem.specs.Contents.{holds}
 use Rattle.bl_elf.specs.Elf.{ElfFacts, IsElf}
 use Rattle.bl_elf.proofs.ElfLaws.{elf_few, elf_loadable, elf_apart}
 use Rattle.bl_mb2head.specs.Header.{FitsFile, IsHeader}
 use Rattle.bl_mb2head.specs.declared.header.Header.{Header}
 use Rattle.bl_load.specs.declared.refusal.Refusal.TheVariants as refusal
-use Rattle.bl_load.specs.Blocks.{holds, high_of}
+use Rattle.bl_load.specs.Blocks.{high_of}
 use Rattle.bl_load.specs.declared.refusal.PrepFault.{PrepFault}
 use Rattle.bl_load.specs.declared.refusal.PrepFault.TheVariants as prep
-use Rattle.bl_load.specs.Kernel.{IsLoadedBy, IsLoadFault, IsKernelFault, entry_fault, holds_at, AreLoadable}
+use Rattle.bl_load.specs.Kernel.{IsLoadedBy, entry_fault, holds_at}
+use Rattle.bl_load.specs.KernelKept.{IsLoadFault, IsKernelFault, AreLoadable}
 
 none_when : {X : Type 0} (b : Bool) (x : X) → cond b None (Some x) ≡ None → b ≡ true
 none_when true x h = refl
@@ -41,13 +44,9 @@ high_below (s ∷ segments) n h =
     let first : s.address + s.memsz ≤ n = All-head (λ s. s.address + s.memsz ≤ n) s segments h in
     let rest = high_below segments n (All-tail (λ s. s.address + s.memsz ≤ n) s segments h) in omega arith
 
-or_false : (b : Bool) → (b || false) ≡ true → b ≡ true
-or_false true h = refl
-or_false false h = h
-
-one_filled : (s : Segment) (entry : Option ℕ) → entry_fault (s ∷ []) entry ≡ None → 1 ≤ s.memsz
+pub one_filled : (s : Segment) (entry : Option ℕ) → entry_fault (s ∷ []) entry ≡ None → 1 ≤ s.memsz
 one_filled s None h = absurd cc
-one_filled s (Some a) h = let w = held_within s a (or_false (holds s a) (entry_held (s ∷ []) a h)) in omega (arith, w.0, w.1)
+one_filled s (Some a) h = let w = held_within s a (sym (or-false (holds s a)) ∙ entry_held (s ∷ []) a h) in omega (arith, w.0, w.1)
 
 one_loadable : (file : List ℕ) (s : Segment) (entry : Option ℕ) → FitsFile file s → entry_fault (s ∷ []) entry ≡ None → length file < 2 ^ 64 → AreLoadable file (s ∷ [])
 one_loadable file s entry fits sound short =
@@ -88,8 +87,6 @@ kernel_loadable file (Some s) facts entry fits loaded sound short =
     let e : facts.segments ≡ s ∷ [] = ap (λ (f : ElfFacts). f.segments) loaded in
     subst (AreLoadable file) (sym e) (one_loadable file s entry fits (subst (λ (ss : List Segment). entry_fault ss entry ≡ None) e sound) short)
 kernel_loadable file None facts entry fits loaded sound short = elf_as_loadable file facts entry loaded sound
-
--- a fault of the entry is the kernel's
 
 -- a fault of what the header leads to refuses the kernel
 pub load_refused : (file : List ℕ) (head : Header) (fault : PrepFault) → IsHeader file head → IsLoadFault file head.segment fault → IsKernelFault file fault

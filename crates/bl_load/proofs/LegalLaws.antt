@@ -1,6 +1,7 @@
 -- What is handed over is legal.
-use Rattle.std.proofs.Common.{◌≡◌, ◌<◌, ◌+◌, ℕ, zero, suc, List, [], ◌∷◌, length, get_or, arith, sym, ap, subst, All, AllPairs, inl, inr}
-use Rattle.std.specs.List.{remove}
+use Rattle.std.proofs.Common.{◌≡◌, ◌<◌, ◌+◌, ℕ, zero, suc, List, [], ◌∷◌, length, get_or, Some, arith, sym, ap, subst, All, AllPairs, inl, inr}
+use Rattle.std.specs.List.{remove, slice_get}
+use Rattle.std.proofs.lemmas.Option.{same_Some}
 use Rattle.std.proofs.lemmas.Bool.{cases_lt}
 use Rattle.std.proofs.lemmas.List.{get_or_default}
 use Rattle.std.proofs.lemmas.List.Edits.{length-remove, get_or-remove_below, get_or-remove_above}
@@ -65,13 +66,24 @@ chosen_at facts taken (r ∷ rows) [] placed i row place within = absurd placed
 chosen_at facts taken (r ∷ rows) (p ∷ places) placed zero row place within = (taken, placed.0, ap (λ (x : Place). x.length) placed.1)
 chosen_at facts taken (r ∷ rows) (p ∷ places) placed (suc i) row place within = chosen_at facts (put_in (range_of p) taken) rows places placed.2 i row place (omega arith)
 
+-- an element that a list has at an index
+got : {X : Type 0} (xs : List X) (i : ℕ) (x : X) → slice_get xs i ≡ Some x → (i < length xs) × (get_or xs i x ≡ x)
+got [] i x h = absurd cc
+got (y ∷ xs) zero x h = (omega arith, same_Some y x h)
+got (y ∷ xs) (suc i) x h = let rest = got xs i x h in (omega (arith, rest.0), rest.1)
+
 -- the places of rows are allowed
 placed_allowed : (facts : MachineFacts) (rows : List Row) (places : List Place) → ArePlaced facts [] rows places → AreAllowed facts rows places
-placed_allowed facts rows places placed i row place within =
+placed_allowed facts rows places placed i row place is_row is_place =
+    let at_row = got rows i row is_row in
+    let at_place = got places i place is_place in
+    let within = at_place.0 in
     let chosen = chosen_at facts [] rows places placed i row place within in
     let free = others_open places i place within (all_apart facts [] rows places placed) in
-    chosen_allowed facts chosen.0 (others places i) (get_or rows i row).length (get_or rows i row).choice (get_or places i place).address chosen.1
-    (subst (λ (n : ℕ). AllOpen (others places i) (get_or places i place).address ((get_or places i place).address + n)) chosen.2 free)
+    subst (λ (r : Row). IsAllowed facts (others places i) r.length r.choice place.address) at_row.1
+    (subst (λ (p : Place). IsAllowed facts (others places i) (get_or rows i row).length (get_or rows i row).choice p.address) at_place.1
+    (chosen_allowed facts chosen.0 (others places i) (get_or rows i row).length (get_or rows i row).choice (get_or places i place).address chosen.1
+    (subst (λ (n : ℕ). AllOpen (others places i) (get_or places i place).address ((get_or places i place).address + n)) chosen.2 free)))
 
 -- so what is handed over is legal
 pub handover_legal : (facts : MachineFacts) (value : EntryValue) (h : Handover) → IsHandover facts value h → IsLegal facts value h

@@ -7,8 +7,12 @@ pub mod WrittenLemmas
 pub mod HeldLemmas
 pub mod LineLemmas
 pub mod RowLemmas
+pub mod OverlapLemmas
+pub mod RowPlaceLemmas
+pub mod EntryLemmas
 pub mod PlacingLemmas
 pub mod PrepareLemmas
 pub mod HandoverLaws
 pub mod LegalLaws
+pub mod PartLaws
 pub mod RangeLemmas

@@ -2,6 +2,7 @@
 use Rattle.std.proofs.Common.{◌≡◌, ◌≢◌, ◌<◌, ◌≤◌, ℕ, zero, suc, Bool, true, false, List, [], ◌∷◌, length, get_or, Some, None, cond, arith, refl, nat_lt, nat_eq}
 use Rattle.std.specs.Prelude.{◌||◌, ◌==◌}
 use Rattle.std.specs.List.{list_any}
+use Rattle.std.proofs.lemmas.Bool.{or_parts}
 use Rattle.std.proofs.lemmas.Bool.Decides.{nat_tests}
 use Rattle.bl_mbi.specs.InformationFacts.{IsText}
 use Rattle.bl_load.specs.declared.refusal.Refusal.{Refusal}
@@ -16,10 +17,6 @@ sound_parts false false x y h = (refl, refl)
 parts_of : (line : List ℕ) → line_fault line ≡ None → (list_any (λ b. b == 0) line ≡ false) × (nat_lt 4095 (length line) ≡ false)
 unfolding line_fault
 parts_of line h = sound_parts (list_any (λ b. b == 0) line) (nat_lt 4095 (length line)) LineHasNul LineTooLong h
-
-or_parts : (a b : Bool) → (a || b) ≡ false → (a ≡ false) × (b ≡ false)
-or_parts true b h = absurd cc
-or_parts false b h = (refl, h)
 
 none_zero : (line : List ℕ) → list_any (λ b. b == 0) line ≡ false → (k d : ℕ) → k < length line → get_or line k d ≢ 0
 none_zero [] h k d within = absurd (omega arith)

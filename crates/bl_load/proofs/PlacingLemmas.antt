@@ -7,11 +7,13 @@ use Rattle.bl_plan.specs.declared.fault.PlanFault.{PlanFault}
 use Rattle.bl_plan.specs.declared.fault.PlanFault.TheVariants as plan_fault
 use Rattle.bl_plan.specs.Placed.{IsPlacingFault}
 use Rattle.bl_load.specs.declared.refusal.PrepFault.{PrepFault}
-use Rattle.bl_load.specs.Kernel.{KernelFacts, AreLoadable}
+use Rattle.bl_load.specs.Kernel.{KernelFacts}
+use Rattle.bl_load.specs.KernelKept.{AreLoadable}
 use Rattle.bl_load.specs.Rows.{rows_of}
 use Rattle.bl_plan.specs.declared.place.Place.{Place}
-use Rattle.bl_load.specs.Parts.{base_of, information_at, fault_of, IsPlaceFault}
-use Rattle.bl_load.proofs.RowLemmas.{no_overlap}
+use Rattle.bl_load.specs.Parts.{base_of, information_at}
+use Rattle.bl_load.specs.PlacingKept.{fault_of, IsPlaceFault}
+use Rattle.bl_load.proofs.OverlapLemmas.{no_overlap}
 
 last_at : (places : List Place) (k : ℕ) (d : Place) → suc k ≡ length places → (get_or places k d).address ≡ information_at places
 last_at [] k d e = absurd (omega arith)
@@ -22,19 +24,6 @@ last_at (p ∷ q ∷ places) (suc k) d e = last_at (q ∷ places) k d (omega ari
 
 pub last_place : (places : List Place) (d : Place) → 1 ≤ length places → (get_or places (length places - 1) d).address ≡ information_at places
 last_place places d h = last_at places (length places - 1) d (omega arith)
-
-abbrev EndsUpTo : ℕ → Place → Type 0
-EndsUpTo n p = p.address + p.length ≤ n
-
--- the first and the last stand no higher than any part may end
-pub small_base : (places : List Place) (n : ℕ) → All (EndsUpTo n) places → base_of places ≤ n
-small_base [] n h = omega arith
-small_base (p ∷ places) n h = let first = All-head (EndsUpTo n) p places h in omega arith
-
-pub small_last : (places : List Place) (n : ℕ) → All (EndsUpTo n) places → information_at places ≤ n
-small_last [] n h = omega arith
-small_last (p ∷ []) n h = let first = All-head (EndsUpTo n) p [] h in omega arith
-small_last (p ∷ q ∷ places) n h = small_last (q ∷ places) n (All-tail (EndsUpTo n) p (q ∷ places) h)
 
 -- a fault of placing refuses the entry
 pub refused_place : (facts : MachineFacts) (line : List ℕ) (kernel : KernelFacts) (fault : PlanFault) (result : PrepFault) → IsPlacingFault facts (rows_of facts line kernel) fault → fault_of fault ≡ Some result → IsPlaceFault facts line kernel result

@@ -9,9 +9,11 @@ use Rattle.bl_load.specs.declared.refusal.PrepFault.{PrepFault}
 use Rattle.bl_load.specs.declared.refusal.PrepFault.TheVariants as prep
 use Rattle.bl_load.specs.Handover.{Handover}
 use Rattle.bl_load.specs.Value.{EntryValue, value_of, kernel_file, form_fault, line_fault, file_count}
-use Rattle.bl_load.specs.Kernel.{KernelFacts, IsKernel, IsKernelFault}
+use Rattle.bl_load.specs.Kernel.{KernelFacts, IsKernel}
+use Rattle.bl_load.specs.KernelKept.{IsKernelFault}
 use Rattle.bl_load.specs.Rows.{rows_of}
-use Rattle.bl_load.specs.Parts.{IsHandover, IsPrepFault, IsPlaceFault, HasPlaceFault, IsPlacedHandover, handover_of}
+use Rattle.bl_load.specs.Parts.{IsHandover, IsPrepFault, HasPlaceFault, handover_of}
+use Rattle.bl_load.specs.PlacingKept.{IsPlaceFault, IsPlacedHandover}
 use Rattle.bl_load.specs.Planned.{file_text}
 
 -- an entry has its kernel's file

@@ -5,7 +5,7 @@ use Rattle.std.specs.declared.ops.Range.{Range}
 use Rattle.bl_map.specs.Room.{AreAscending}
 use Rattle.bl_plan.specs.declared.place.Place.{Place}
 use Rattle.bl_plan.specs.Placed.{range_of}
-use Rattle.bl_load.specs.Planned.{AreRecords}
+use Rattle.bl_load.specs.HandoffFacts.{AreRecords}
 use Rattle.bl_load.proofs.HeldLemmas.{AllPairs-map}
 
 -- the ranges of a handoff's places ascend

@@ -3,21 +3,17 @@ use Rattle.std.proofs.Common.{◌≡◌, ◌≤◌, ◌+◌, ◌-◌, ℕ, zero,
 use Rattle.std.specs.Prelude.{◌||◌, slice_index}
 use Rattle.std.specs.List.{list_any}
 use Rattle.std.proofs.lemmas.List.Elements.{All-nil, All-cons, All-head, All-tail}
-use Rattle.std.proofs.lemmas.Bool.{cond_both, cases_lt}
+use Rattle.std.proofs.lemmas.Bool.{cond_both, cases_lt, or_parts, or_left, or_right}
 use Rattle.std.proofs.lemmas.Bool.Decides.{nat_tests}
 use Rattle.bl_mem.specs.declared.segment.Segment.{Segment}
-use Rattle.bl_mem.specs.Contents.{contents_of}
+use Rattle.bl_mem.specs.Contents.{contents_of, holds}
 use Rattle.bl_elf.specs.Elf.{AreApart}
-use Rattle.bl_load.specs.Blocks.{holds, low_of, high_of, span_of, byte_at, first_values, block_of}
+use Rattle.bl_load.specs.Blocks.{low_of, high_of, span_of, byte_at, first_values, block_of}
 use Rattle.bl_load.specs.Kernel.{holds_at}
-use Rattle.bl_load.specs.Planned.{SegmentsAscend}
+use Rattle.bl_load.specs.Kept.{SegmentsAscend}
 use Rattle.bl_plan.specs.Order.{segment_key, ascending}
 use Rattle.bl_load.proofs.KernelLaws.{held_within}
 use Rattle.bl_plan.proofs.OrderLemmas.{AreRelated, pairs_related, in_order_all, in_order_pairs, in_order_sorted, list_any-in_order, length-in_order}
-
-or_parts : (a b : Bool) → (a || b) ≡ false → (a ≡ false) × (b ≡ false)
-or_parts true b h = absurd cc
-or_parts false b h = (refl, h)
 
 or_rest : (a b : Bool) → (a || b) ≡ true → a ≡ false → b ≡ true
 or_rest true b h e = absurd cc
@@ -87,28 +83,20 @@ low_all (s ∷ t ∷ segments) =
     let rest = low_all (t ∷ segments) in
     All-cons (IsFrom (low_of (s ∷ t ∷ segments))) s (t ∷ segments) (omega arith) (λ k d within. let e = rest k d within in omega arith)
 
-some_or : (a b : Bool) → b ≡ true → (a || b) ≡ true
-some_or true b h = refl
-some_or false b h = h
-
-first_or : (a b : Bool) → a ≡ true → (a || b) ≡ true
-first_or true b h = refl
-first_or false b h = absurd cc
-
 low_found : (segments : List Segment) → 1 ≤ length segments → list_any (begins_at (low_of segments)) segments ≡ true
 unfolding begins_at
 low_found [] h = absurd (omega arith)
-low_found (s ∷ []) h = let e : nat_eq s.address s.address ≡ true = grind (arith, nat_tests) in first_or (nat_eq s.address s.address) false e
+low_found (s ∷ []) h = let e : nat_eq s.address s.address ≡ true = grind (arith, nat_tests) in or_left (nat_eq s.address s.address) false e
 low_found (s ∷ t ∷ segments) h =
     let rest = low_found (t ∷ segments) (omega arith) in
     elim (cases_lt s.address (low_of (t ∷ segments))) [
       | inl less ↦
           let e : low_of (s ∷ t ∷ segments) ≡ s.address = omega arith in
           let f : nat_eq s.address (low_of (s ∷ t ∷ segments)) ≡ true = grind (arith, nat_tests) in
-          first_or (nat_eq s.address (low_of (s ∷ t ∷ segments))) (list_any (begins_at (low_of (s ∷ t ∷ segments))) (t ∷ segments)) f
+          or_left (nat_eq s.address (low_of (s ∷ t ∷ segments))) (list_any (begins_at (low_of (s ∷ t ∷ segments))) (t ∷ segments)) f
       | inr more ↦
           let e : low_of (t ∷ segments) ≡ low_of (s ∷ t ∷ segments) = omega arith in
-          some_or (nat_eq s.address (low_of (s ∷ t ∷ segments))) (list_any (begins_at (low_of (s ∷ t ∷ segments))) (t ∷ segments)) (subst (λ (n : ℕ). list_any (begins_at n) (t ∷ segments) ≡ true) e rest)
+          or_right (nat_eq s.address (low_of (s ∷ t ∷ segments))) (list_any (begins_at (low_of (s ∷ t ∷ segments))) (t ∷ segments)) (subst (λ (n : ℕ). list_any (begins_at n) (t ∷ segments) ≡ true) e rest)
     ]
 
 not_below : (segments : List Segment) (n m : ℕ) → All (IsFrom n) segments → list_any (begins_at m) segments ≡ true → n ≤ m
@@ -139,17 +127,17 @@ high_all (s ∷ segments) =
 high_found : (segments : List Segment) → 1 ≤ length segments → list_any (ends_at (high_of segments)) segments ≡ true
 unfolding ends_at
 high_found [] h = absurd (omega arith)
-high_found (s ∷ []) h = let e : nat_eq (s.address + s.memsz) (high_of (s ∷ [])) ≡ true = grind (arith, nat_tests) in first_or (nat_eq (s.address + s.memsz) (high_of (s ∷ []))) false e
+high_found (s ∷ []) h = let e : nat_eq (s.address + s.memsz) (high_of (s ∷ [])) ≡ true = grind (arith, nat_tests) in or_left (nat_eq (s.address + s.memsz) (high_of (s ∷ []))) false e
 high_found (s ∷ t ∷ segments) h =
     let rest = high_found (t ∷ segments) (omega arith) in
     elim (cases_lt (s.address + s.memsz) (high_of (t ∷ segments))) [
       | inl less ↦
           let e : high_of (t ∷ segments) ≡ high_of (s ∷ t ∷ segments) = omega arith in
-          some_or (nat_eq (s.address + s.memsz) (high_of (s ∷ t ∷ segments))) (list_any (ends_at (high_of (s ∷ t ∷ segments))) (t ∷ segments)) (subst (λ (n : ℕ). list_any (ends_at n) (t ∷ segments) ≡ true) e rest)
+          or_right (nat_eq (s.address + s.memsz) (high_of (s ∷ t ∷ segments))) (list_any (ends_at (high_of (s ∷ t ∷ segments))) (t ∷ segments)) (subst (λ (n : ℕ). list_any (ends_at n) (t ∷ segments) ≡ true) e rest)
       | inr more ↦
           let e : high_of (s ∷ t ∷ segments) ≡ s.address + s.memsz = omega arith in
           let f : nat_eq (s.address + s.memsz) (high_of (s ∷ t ∷ segments)) ≡ true = grind (arith, nat_tests) in
-          first_or (nat_eq (s.address + s.memsz) (high_of (s ∷ t ∷ segments))) (list_any (ends_at (high_of (s ∷ t ∷ segments))) (t ∷ segments)) f
+          or_left (nat_eq (s.address + s.memsz) (high_of (s ∷ t ∷ segments))) (list_any (ends_at (high_of (s ∷ t ∷ segments))) (t ∷ segments)) f
     ]
 
 not_above : (segments : List Segment) (n m : ℕ) → All (IsUpTo n) segments → list_any (ends_at m) segments ≡ true → m ≤ n
@@ -169,6 +157,10 @@ same_high segments some =
     let up : high_of segments ≤ high_of sorted = not_above sorted (high_of sorted) (high_of segments) (high_all sorted) (list_any-in_order segment_key (ends_at (high_of segments)) segments ∙ high_found segments some) in
     omega arith
 
+-- so they span as much
+pub same_span : (segments : List Segment) → 1 ≤ length segments → span_of (ascending segments) ≡ span_of segments
+same_span segments some = ap₂ (λ (h l : ℕ). h - l) (same_high segments some) (same_low segments some)
+
 -- ---- the block
 
 same_values : (n : ℕ) (f g : ℕ → ℕ) → ((k : ℕ) → f k ≡ g k) → first_values n f ≡ first_values n g
@@ -181,7 +173,7 @@ pub same_block : (file : List ℕ) (segments : List Segment) → 1 ≤ length se
 unfolding block_of
 same_block file segments some apart =
     let low = same_low segments some in
-    let span : span_of (ascending segments) ≡ span_of segments = ap₂ (λ (h l : ℕ). h - l) (same_high segments some) low in
+    let span = same_span segments some in
     ap (λ (n : ℕ). first_values n (λ i. byte_at file (ascending segments) (low_of (ascending segments) + i))) span
     ∙ same_values (span_of segments) (λ i. byte_at file (ascending segments) (low_of (ascending segments) + i)) (λ i. byte_at file segments (low_of segments + i))
     (λ i. same_byte file segments (low_of (ascending segments) + i) apart ∙ ap (λ (n : ℕ). byte_at file segments (n + i)) low)

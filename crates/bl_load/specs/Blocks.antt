@@ -1,12 +1,8 @@
 -- A relocatable kernel's image: one block from the least to the greatest address of its segments, with zeros in
 -- the gaps (Multiboot2 3.1.13 "Relocatable header tag").
-use Rattle.std.specs.Prelude.{ℕ, zero, suc, ◌+◌, ◌-◌, Bool, ◌&&◌, if◌then◌else◌, nat_le, nat_lt, min, max, List, [], ◌∷◌, ◌++◌, slice_index}
+use Rattle.std.specs.Prelude.{ℕ, zero, suc, ◌+◌, ◌-◌, if◌then◌else◌, min, max, List, [], ◌∷◌, ◌++◌, slice_index}
 use Rattle.bl_mem.specs.declared.segment.Segment.{Segment}
-use Rattle.bl_mem.specs.Contents.{contents_of}
-
--- an address lies in a segment, where it is linked
-abbrev pub holds : Segment → ℕ → Bool
-holds segment a = nat_le segment.address a && nat_lt a (segment.address + segment.memsz)
+use Rattle.bl_mem.specs.Contents.{contents_of, holds}
 
 -- the least address of segments, of which there is one at least
 abbrev pub low_of : List Segment → ℕ

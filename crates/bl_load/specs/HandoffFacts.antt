@@ -1,5 +1,5 @@
 -- What a handoff says.
-use Rattle.std.specs.Prelude.{List}
+use Rattle.std.specs.Prelude.{ℕ, ◌+◌, ◌≤◌, ◌^◌, List, length, All, AllPairs}
 use Rattle.bl_plan.specs.declared.place.Place.{Place}
 use Rattle.bl_plan.specs.declared.protocol.Protocol.{Protocol}
 use Rattle.bl_load.specs.declared.registers.Registers.{Registers}
@@ -9,3 +9,18 @@ pub record HandoffFacts : Type 0 where
   pub protocol : Protocol
   pub registers : Registers
   pub places : List Place
+
+-- the second place lies behind the first
+abbrev pub Ascends : Place → Place → Type 0
+Ascends p q = p.address + p.length ≤ q.address
+
+-- there are at most so many parts
+abbrev pub most_parts : ℕ
+most_parts = 256
+
+-- the places keep this, and so do the records of an image: they are few, none empty, ascending, below 4 GiB
+pub record AreRecords (places : List Place) : Type 0 where
+  pub few : length places ≤ most_parts
+  pub filled : All (λ place. 1 ≤ place.length) places
+  pub below : All (λ place. place.address + place.length ≤ 2 ^ 32) places
+  pub ascending : AllPairs Ascends places

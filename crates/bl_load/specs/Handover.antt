@@ -1,5 +1,5 @@
 -- What a kernel is handed. Own.
-use Rattle.std.specs.Prelude.{ℕ, ◌-◌, List, [], ◌∷◌, ◌++◌, length, replicate}
+use Rattle.std.specs.Prelude.{ℕ, ◌+◌, ◌-◌, List, [], ◌∷◌, ◌++◌, length, replicate}
 use Rattle.bl_mem.specs.Memory.{overwrite}
 use Rattle.bl_plan.specs.declared.role.Role.{Role}
 use Rattle.bl_plan.specs.declared.place.Place.{Place}
@@ -12,6 +12,10 @@ pub record Part : Type 0 where
   pub index : ℕ
   pub address : ℕ
   pub bytes : List ℕ
+
+-- the address behind a part's last byte
+abbrev pub end_of : Part → ℕ
+end_of part = part.address + length part.bytes
 
 -- the protocol, the registers, the parts in address order
 pub record Handover : Type 0 where

@@ -6,7 +6,8 @@ use Rattle.bl_mem.specs.declared.segment.Segment.{Segment}
 use Rattle.bl_elf.specs.Elf.{ElfFacts, IsElf}
 use Rattle.bl_elf.specs.Elf as elf
 use Rattle.bl_elf.specs.Elf.{AreApart}
-use Rattle.bl_load.specs.Blocks.{holds, span_of}
+use Rattle.bl_mem.specs.Contents.{holds}
+use Rattle.bl_load.specs.Blocks.{span_of}
 use Rattle.bl_elf.specs.declared.fault.ElfFault.{ElfFault}
 use Rattle.bl_elf.specs.declared.fault.ElfFault.TheVariants as elf_fault
 use Rattle.bl_mb2head.specs.Header.{IsHeader}
@@ -84,29 +85,3 @@ HasKernelFault file refused =
     ((fault : HeadFault) × header.HasFirstFault file fault × (refused ≡ head_refusal fault))
     ⊎ ((head : Header) × IsHeader file head × HasLoadFault file head.segment refused)
     ⊎ ((head : Header) × (facts : ElfFacts) × IsHeader file head × IsLoadedBy file head.segment facts × (entry_fault facts.segments (counted_entry head facts) ≡ Some refused))
-
--- a fault of reading as one of preparing: it stands, or memory ran out
-abbrev pub IsElfFault : ElfFault → PrepFault → Type 0
-IsElfFault fault (prep_fault.Refused refused) = elf_refusal fault ≡ Some refused
-IsElfFault fault prep_fault.NoMemory = fault ≡ elf_fault.NoMemory
-
-abbrev pub IsLoadFault : List ℕ → Option Segment → PrepFault → Type 0
-IsLoadFault file segment (prep_fault.Refused refused) = HasLoadFault file segment refused
-IsLoadFault file segment prep_fault.NoMemory = Unit {0}
-
-abbrev pub IsKernelFault : List ℕ → PrepFault → Type 0
-IsKernelFault file (prep_fault.Refused refused) = HasKernelFault file refused
-IsKernelFault file prep_fault.NoMemory = Unit {0}
-
--- what holds of the segments of a kernel with no fault: each takes memory, what it takes of the file is there, it
--- begins below 4 GiB; no two share a byte, and their block has a length of 64 bits
-pub record AreLoadable (file : List ℕ) (segments : List Segment) : Type 0 where
-  pub some : 1 ≤ length segments
-  pub few : length segments ≤ 128
-  pub filled : All (λ s. 1 ≤ s.memsz) segments
-  pub fits : All (λ s. s.filesz ≤ s.memsz) segments
-  pub in_file : All (λ s. 0 < s.filesz → s.offset + s.filesz ≤ length file) segments
-  pub small : All (λ s. s.memsz < 2 ^ 64) segments
-  pub low : All (λ s. s.address < 2 ^ 32) segments
-  pub apart : AllPairs AreApart segments
-  pub span : span_of segments < 2 ^ 64

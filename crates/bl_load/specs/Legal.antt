@@ -1,6 +1,6 @@
 -- A legal handover: whatever places were chosen, each part has one that is permitted for it. Own.
-use Rattle.std.specs.Prelude.{◌≡◌, ◌+◌, ◌<◌, ℕ, List, length, map, slice_index_or, None}
-use Rattle.std.specs.List.{AllZip, remove}
+use Rattle.std.specs.Prelude.{◌≡◌, ◌+◌, ℕ, List, map, Some, None}
+use Rattle.std.specs.List.{AllZip, remove, slice_get}
 use Rattle.std.specs.declared.ops.Range.{Range}
 use Rattle.bl_map.specs.MachineFacts.{MachineFacts, AllUsable}
 use Rattle.bl_plan.specs.Permitted.{AllOpen, IsPermitted}
@@ -27,10 +27,10 @@ IsAllowed facts ranges length (Preferred at align low high) a = IsPermitted fact
 abbrev pub others : List Place → ℕ → List (Range ℕ)
 others places i = map range_of (remove places i)
 
--- each place is allowed for its row beside all others
+-- each place is allowed for its row, which has the same index, beside all others
 abbrev pub AreAllowed : MachineFacts → List Row → List Place → Type 0
-AreAllowed facts rows places = (i : ℕ) (row : Row) (place : Place) → i < length places →
-    IsAllowed facts (others places i) (slice_index_or rows i row).length (slice_index_or rows i row).choice (slice_index_or places i place).address
+AreAllowed facts rows places = (i : ℕ) (row : Row) (place : Place) → slice_get rows i ≡ Some row → slice_get places i ≡ Some place
+    → IsAllowed facts (others places i) row.length row.choice place.address
 
 -- the entry's file is a kernel; there is one place for each of its rows and no other, each allowed beside all others;
 -- and what is handed over are the parts at these places, with the registers for them

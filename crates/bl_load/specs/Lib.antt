@@ -2,13 +2,14 @@ pub mod Place
 pub mod Handover
 pub mod Blocks
 pub mod Planned
+pub mod Kept
 pub mod HandoffFacts
 pub mod Value
 pub mod Numbers
 pub mod Kernel
-pub mod KernelRead
+pub mod KernelKept
 pub mod Rows
 pub mod Registers
 pub mod Parts
-pub mod Rowed
+pub mod PlacingKept
 pub mod Legal

@@ -102,21 +102,3 @@ IsRefusal facts value refused =
 abbrev pub IsPrepFault : MachineFacts → EntryValue → PrepFault → Type 0
 IsPrepFault facts value (prep_fault.Refused refused) = IsRefusal facts value refused
 IsPrepFault facts value prep_fault.NoMemory = Unit {0}
-
--- ---- what the code keeps
-
--- why its parts are not placed, unless memory ran out
-abbrev pub IsPlaceFault : MachineFacts → List ℕ → KernelFacts → PrepFault → Type 0
-IsPlaceFault facts line kernel (prep_fault.Refused refused) = HasPlaceFault facts line kernel refused
-IsPlaceFault facts line kernel prep_fault.NoMemory = Unit {0}
-
--- a fault of placing as one of preparing: its refusal, or want of memory
-abbrev pub fault_of : PlanFault → Option PrepFault
-fault_of plan_fault.NoMemory = Some prep_fault.NoMemory
-fault_of fault = option_map (λ refused. prep_fault.Refused refused) (placing_refusal fault)
-
--- the rows have these places, and this is handed over
-pub record IsPlacedHandover (facts : MachineFacts) (line file : List ℕ) (kernel : KernelFacts) (handover : Handover) : Type 0 where
-  pub places : List Place
-  pub placed : ArePlaced facts [] (rows_of facts line kernel) places
-  pub is : handover ≡ handover_of facts line file kernel places

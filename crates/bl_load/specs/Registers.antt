@@ -2,11 +2,15 @@
 use Rattle.std.specs.Prelude.{ℕ}
 use Rattle.bl_load.specs.declared.registers.Registers.{Registers}
 
+-- what eax tells: a boot loader of Multiboot2 loaded the kernel (3.3)
+abbrev pub bootloader_magic : ℕ
+bootloader_magic = 0x36D76289
+
 -- by the address where the kernel is entered, and by that of the information
 abbrev pub multiboot2_registers : ℕ → ℕ → Registers
 multiboot2_registers entry information = record {
   eip = entry;
-  eax = 0x36D76289;
+  eax = bootloader_magic;
   ebx = information;
   ecx = 0;
   edx = 0;

@@ -1,9 +1,11 @@
 -- The table of places of a Multiboot2 entry's parts. Own; the kernel's row with a relocatable header tag is
 -- Multiboot2 3.1.13.
-use Rattle.std.specs.Prelude.{ℕ, suc, ◌+◌, ◌*◌, ◌/◌, if◌then◌else◌, ◌==◌, List, [], ◌∷◌, ◌++◌, Option, Some, None, option_map}
+use Rattle.std.specs.Prelude.{ℕ, suc, if◌then◌else◌, ◌==◌, List, [], ◌∷◌, ◌++◌, Option, Some, None, option_map}
 use Rattle.bl_mem.specs.declared.segment.Segment.{Segment}
 use Rattle.bl_map.specs.MachineFacts.{MachineFacts}
 use Rattle.bl_map.specs.Kinds.{low_kib, high_kib}
+use Rattle.bl_map.specs.Limits.{frame_size, first_usable, most_size}
+use Rattle.bl_map.specs.Room.{whole_frames}
 use Rattle.bl_mb2head.specs.declared.relocation.Relocation.{Relocation}
 use Rattle.bl_mbi.specs.InformationFacts.{InformationFacts, info_size}
 use Rattle.bl_plan.specs.declared.row.Row.{Row}
@@ -12,10 +14,6 @@ use Rattle.bl_plan.specs.declared.choice.Choice.{Choice}
 use Rattle.bl_plan.specs.declared.choice.Choice.TheVariants.{Fixed, Lowest, Highest, Preferred}
 use Rattle.bl_load.specs.Kernel.{KernelFacts}
 use Rattle.bl_load.specs.Blocks.{low_of, span_of}
-
--- a length in whole frames of 4096 bytes
-abbrev pub whole_frames : ℕ → ℕ
-whole_frames n = (n + 4095) / 4096 * 4096
 
 -- segments at their own addresses, numbered from k on
 abbrev pub segment_rows : ℕ → List Segment → List Row
@@ -51,9 +49,9 @@ information_of facts line relocation base = record {
   load_base = option_map (λ r. base) relocation;
 }
 
--- the information, in whole frames, at the lowest place from 4096 on; its size does not depend on where the kernel is
+-- the information, in whole frames, at the lowest place of all; its size does not depend on where the kernel is
 abbrev pub information_row : MachineFacts → List ℕ → Option Relocation → Row
-information_row facts line relocation = record { role = Information; index = 0; length = whole_frames (info_size (information_of facts line relocation 0)); choice = Lowest 4096 0x1000 0x100000000 }
+information_row facts line relocation = record { role = Information; index = 0; length = whole_frames (info_size (information_of facts line relocation 0)); choice = Lowest frame_size first_usable most_size }
 
 abbrev pub rows_of : MachineFacts → List ℕ → KernelFacts → List Row
 rows_of facts line kernel = kernel_rows kernel.segments kernel.relocation ++ information_row facts line kernel.relocation ∷ []

@@ -34,16 +34,23 @@ abbrev pub file_count : {A : Type 0} → Entry A → ℕ
 file_count (Multiboot2 kernel line modules) = 1 + length modules.items
 file_count (Linux kernel line initrd) = 1 + length (option_to_list initrd)
 
--- at most 64 modules
+-- an entry has at most so many modules
+abbrev pub most_modules : ℕ
+most_modules = 64
+
 abbrev pub HasFewModules : {A : Type 0} → Entry A → Type 0
-HasFewModules (Multiboot2 kernel line modules) = length modules.items ≤ 64
+HasFewModules (Multiboot2 kernel line modules) = length modules.items ≤ most_modules
 HasFewModules (Linux kernel line initrd) = Unit {0}
 
--- the first fault of a line: a zero byte, then more than 4095 bytes
+-- a line has at most so many bytes
+abbrev pub most_line : ℕ
+most_line = 4095
+
+-- the first fault of a line: a zero byte, then too many bytes
 unfoldable pub line_fault : List ℕ → Option Refusal
 line_fault line =
     if list_any (λ b. b == 0) line then Some LineHasNul else
-    if nat_lt 4095 (length line) then Some LineTooLong else
+    if nat_lt most_line (length line) then Some LineTooLong else
     None
 
 -- whatever the files hold, an entry of a form that has come has this line

@@ -3,27 +3,29 @@ ghost use Rattle.std.specs.Prelude.{◌≡◌, ◌+◌, ◌≤◌, length, All, 
 ghost use Rattle.bl_mem.specs.Contents.{contents_of};
 ghost use Rattle.bl_mem.specs.Memory.{overwrite, HasRoom, KeepsRoom};
 ghost use Rattle.bl_load.specs.Blocks.{span_of, block_of};
-ghost use Rattle.bl_load.specs.Planned.{IsCopied, SegmentsAscend};
+ghost use Rattle.bl_load.specs.Kept.{IsCopied, SegmentsAscend};
 
 use crate::copying::copy;
 use bl_mem::{ByteView, PhysMem, Segment};
 
 /// Writes a segment at `at`: its bytes of the file, and zeros behind them.
 fn load_segment<M: PhysMem, V: ByteView>(memory: &mut M, at: u64, view: &V, segment: &Segment)
-    requires copied { IsCopied (V.bytes view.now) segment.now }
+    requires copied { IsCopied (length (V.bytes view.now)) segment.now }
     requires inside { at + segment.now.memsz ≤ length (M.bytes memory.old) }
     requires room { HasRoom (M.room memory.old) at (at + segment.now.memsz) }
-    ensures after { M.bytes memory.new ≡ overwrite (M.bytes memory.old) at (contents_of (V.bytes view.now) segment.now) }
+    ensures after { M.bytes memory.new ≡ overwrite (M.bytes memory.old) at
+        (contents_of (V.bytes view.now) segment.now) }
     ensures kept { KeepsRoom (M.room memory.old) (M.room memory.new) }
 {
-    // Memory's size is known to be below 2^64, so that no sum here wraps, only once it was asked for.
+    // Memory's size is known to be below 2^64, so that no sum here wraps, only once it was asked
+    // for.
     let _size = memory.size();
     copy(memory, at, view, segment.offset, segment.filesz);
     memory.zero(at + segment.filesz..at + segment.memsz);
 }
 
-/// Writes the block of these segments at `at`, and says how long it is. Each of its bytes is written once:
-/// zeros go into the gaps and behind the bytes of the file alone.
+/// Writes the block of these segments at `at`, and says how long it is. Each of its bytes is
+/// written once: zeros go into the gaps and behind the bytes of the file alone.
 pub(crate) fn load_block<M: PhysMem, V: ByteView>(
     memory: &mut M,
     at: u64,
@@ -31,15 +33,17 @@ pub(crate) fn load_block<M: PhysMem, V: ByteView>(
     segments: &[Segment],
 ) -> u64
     requires some { 1 ≤ length segments.now }
-    requires copied { All (IsCopied (V.bytes view.now)) segments.now }
+    requires copied { All (IsCopied (length (V.bytes view.now))) segments.now }
     requires ascending { AllPairs SegmentsAscend segments.now }
     requires inside { at + span_of segments.now ≤ length (M.bytes memory.old) }
     requires room { HasRoom (M.room memory.old) at (at + span_of segments.now) }
     ensures count { result ≡ span_of segments.now }
-    ensures after { M.bytes memory.new ≡ overwrite (M.bytes memory.old) at (block_of (V.bytes view.now) segments.now) }
+    ensures after { M.bytes memory.new ≡ overwrite (M.bytes memory.old) at
+        (block_of (V.bytes view.now) segments.now) }
     ensures kept { KeepsRoom (M.room memory.old) (M.room memory.new) }
 {
-    // Memory's size is known to be below 2^64, so that no sum here wraps, only once it was asked for.
+    // Memory's size is known to be below 2^64, so that no sum here wraps, only once it was asked
+    // for.
     let _size = memory.size();
     let low = segments[0].address;
     let mut done = 0u64;

@@ -1,13 +1,13 @@
 //! The contents of an entry's parts, at their places.
 ghost use Rattle.std.specs.Prelude.{◌≡◌, ◌≤◌, ◌<◌, ◌^◌, ◌+◌, None, All, IfOk, IfSome, length, map, option_map};
 ghost use Rattle.bl_load.specs.Value.{line_fault};
-ghost use Rattle.bl_load.specs.Kernel.{AreLoadable};
-ghost use Rattle.bl_load.specs.KernelRead.{kernel_by};
+ghost use Rattle.bl_load.specs.KernelKept.{AreLoadable, kernel_by};
 ghost use Rattle.bl_load.specs.Parts as parts;
 ghost use Rattle.bl_load.specs.Parts.{content_from, part_from};
 ghost use Rattle.bl_load.specs.Place.{place_of};
-ghost use Rattle.bl_load.specs.Planned.{content_by, part_by, file_text, IsThere, IsBacked, StaysInFiles, IsLean};
-ghost use Rattle.bl_load.specs.Rowed.{HasKernelLength, IsRowed};
+ghost use Rattle.bl_load.specs.Planned.{content_by, part_by, file_text};
+ghost use Rattle.bl_load.specs.Kept.{lengths_of, content_length, IsThere, IsBacked, StaysInFiles, IsLean};
+ghost use Rattle.bl_load.specs.PlacingKept.{HasKernelLength, IsRowed};
 
 use crate::entry::Entry;
 use crate::information::information;
@@ -27,13 +27,16 @@ fn kernel_content<A: Allocator + Copy, V: ByteView>(
     place: &Place,
 ) -> Result<Content<A>, AllocError>
     requires file { 1 ≤ length files.now }
-    requires loadable { AreLoadable (file_text (map V.bytes files.now) 0) (kernel_by kernel.now).segments }
-    requires length { HasKernelLength (kernel_by kernel.now).segments kernel.now.relocation place.now.index place.now.length }
+    requires loadable { AreLoadable (file_text (map V.bytes files.now) 0)
+        (kernel_by kernel.now).segments }
+    requires length { HasKernelLength (kernel_by kernel.now).segments kernel.now.relocation
+        place.now.index place.now.length }
     requires small { place.now.length ≤ 2 ^ 32 }
     ensures content { IfOk result (λ content. content_by (map V.bytes files.now) content
-        ≡ parts.kernel_content (file_text (map V.bytes files.now) 0) (kernel_by kernel.now).segments kernel.now.relocation place.now.index) }
-    ensures there { IfOk result (λ content. IsThere (map V.bytes files.now) content) }
-    ensures short { IfOk result (λ content. length (content_by (map V.bytes files.now) content) ≤ place.now.length) }
+        ≡ parts.kernel_content (file_text (map V.bytes files.now) 0)
+        (kernel_by kernel.now).segments kernel.now.relocation place.now.index) }
+    ensures there { IfOk result (λ content. IsThere (lengths_of (map V.bytes files.now)) content) }
+    ensures short { IfOk result (λ content. content_length content ≤ place.now.length) }
     ensures lean { IfOk result (StaysInFiles Role.Kernel) }
 {
     let segments = kernel.executable.segments();
@@ -77,13 +80,15 @@ fn content_at<A: Allocator + Copy, V: ByteView>(
     requires sound { line_fault line.now ≡ None }
     requires line { length line.now ≤ 4095 }
     requires file { 1 ≤ length files.now }
-    requires loadable { AreLoadable (file_text (map V.bytes files.now) 0) (kernel_by kernel.now).segments }
+    requires loadable { AreLoadable (file_text (map V.bytes files.now) 0)
+        (kernel_by kernel.now).segments }
     requires rowed { IsRowed machine.now line.now (kernel_by kernel.now) place.now }
     requires small { place.now.length ≤ 2 ^ 32 }
     ensures content { IfOk result (λ content. content_by (map V.bytes files.now) content
-        ≡ content_from machine.now line.now (file_text (map V.bytes files.now) 0) (kernel_by kernel.now) base place.now.role place.now.index) }
-    ensures there { IfOk result (λ content. IsThere (map V.bytes files.now) content) }
-    ensures short { IfOk result (λ content. length (content_by (map V.bytes files.now) content) ≤ place.now.length) }
+        ≡ content_from machine.now line.now (file_text (map V.bytes files.now) 0)
+        (kernel_by kernel.now) base place.now.role place.now.index) }
+    ensures there { IfOk result (λ content. IsThere (lengths_of (map V.bytes files.now)) content) }
+    ensures short { IfOk result (λ content. content_length content ≤ place.now.length) }
     ensures lean { IfOk result (StaysInFiles place.now.role) }
 {
     match place.role {
@@ -109,12 +114,15 @@ pub fn parts_at<A: Allocator + Copy, V: ByteView>(
     requires sound { line_fault line.now ≡ None }
     requires line { length line.now ≤ 4095 }
     requires file { 1 ≤ length files.now }
-    requires loadable { AreLoadable (file_text (map V.bytes files.now) 0) (kernel_by kernel.now).segments }
+    requires loadable { AreLoadable (file_text (map V.bytes files.now) 0)
+        (kernel_by kernel.now).segments }
     requires rowed { All (IsRowed machine.now line.now (kernel_by kernel.now)) places.now }
     requires small { All (λ place. place.length ≤ 2 ^ 32) places.now }
     ensures parts { IfOk result (λ parts. map (part_by (map V.bytes files.now)) parts.items
-        ≡ map (part_from machine.now line.now (file_text (map V.bytes files.now) 0) (kernel_by kernel.now) base) places.now) }
-    ensures backed { IfOk result (λ parts. All (IsBacked (map V.bytes files.now)) parts.items) }
+        ≡ map (part_from machine.now line.now (file_text (map V.bytes files.now) 0)
+        (kernel_by kernel.now) base) places.now) }
+    ensures backed { IfOk result (λ parts. All (IsBacked
+        (lengths_of (map V.bytes files.now))) parts.items) }
     ensures lean { IfOk result (λ parts. IsLean parts.items) }
     ensures places { IfOk result (λ parts. map place_of parts.items ≡ places.now) }
 {

@@ -15,15 +15,17 @@ fn copy_piece<M: PhysMem, V: ByteView>(
     requires source { offset + length buffer.old ≤ length (V.bytes view.now) }
     requires inside { at + length buffer.old ≤ length (M.bytes memory.old) }
     requires room { HasRoom (M.room memory.old) at (at + length buffer.old) }
-    ensures after { M.bytes memory.new ≡ overwrite (M.bytes memory.old) at (slice_range (V.bytes view.now) offset (offset + length buffer.old)) }
+    ensures after { M.bytes memory.new ≡ overwrite (M.bytes memory.old) at (slice_range
+        (V.bytes view.now) offset (offset + length buffer.old)) }
     ensures kept { KeepsRoom (M.room memory.old) (M.room memory.new) }
 {
     view.read(offset, buffer);
     memory.write(at, buffer);
 }
 
-/// Copies `count` bytes of the file, from `offset` on, to `at`. They go through one buffer, which stays in
-/// the processor's cache. Where `count` is 0 nothing is read, and `offset` may lie outside the file.
+/// Copies `count` bytes of the file, from `offset` on, to `at`. They go through one buffer, which
+/// stays in the processor's cache. Where `count` is 0 nothing is read, and `offset` may lie outside
+/// the file.
 pub(crate) fn copy<M: PhysMem, V: ByteView>(
     memory: &mut M,
     at: u64,
@@ -34,10 +36,12 @@ pub(crate) fn copy<M: PhysMem, V: ByteView>(
     requires source { 1 ≤ count → offset + count ≤ length (V.bytes view.now) }
     requires inside { at + count ≤ length (M.bytes memory.old) }
     requires room { HasRoom (M.room memory.old) at (at + count) }
-    ensures after { M.bytes memory.new ≡ overwrite (M.bytes memory.old) at (slice_range (V.bytes view.now) offset (offset + count)) }
+    ensures after { M.bytes memory.new ≡ overwrite (M.bytes memory.old) at (slice_range
+        (V.bytes view.now) offset (offset + count)) }
     ensures kept { KeepsRoom (M.room memory.old) (M.room memory.new) }
 {
-    // Both lengths are known to be below 2^64, so that no sum here wraps, only once they were asked for.
+    // Both lengths are known to be below 2^64, so that no sum here wraps, only once they were asked
+    // for.
     let _source = view.len();
     let _target = memory.size();
     let mut buffer = [0u8; 4096];

@@ -4,31 +4,35 @@ use crate::registers::Registers;
 use bl_plan::{Place, Protocol};
 use std::alloc::Allocator;
 use std::marker::Model;
+use std::ops::Range;
 
-/// What a kernel is handed: the protocol, the registers, and the places of the parts in address order.
-/// There are at most 256; none is empty, none meets another, and none ends above 4 GiB.
+/// What a kernel is handed: the protocol, the registers, and the places of the parts in address
+/// order. There are at most 256; none is empty, none meets another, and none ends above 4 GiB.
 #[derive(Drop)]
 pub struct Handoff<A: Allocator> {
     pub(crate) protocol: Protocol,
     pub(crate) registers: Registers,
     pub(crate) parts: Vec<Planned<A>, A>,
+    pub(crate) ranges: Vec<Range<u64>, A>,
 }
 
 impl<A: Allocator> Model for Handoff<A> {
-    ghost use Rattle.std.specs.Prelude.{map};
-    ghost use Rattle.bl_load.specs.HandoffFacts.{HandoffFacts};
-    ghost use Rattle.bl_load.specs.Planned.{AreRecords};
+    ghost use Rattle.std.specs.Prelude.{◌≡◌, map};
+    ghost use Rattle.bl_plan.specs.Placed.{range_of};
+    ghost use Rattle.bl_load.specs.Place.{place_of};
+    ghost use Rattle.bl_load.specs.HandoffFacts.{HandoffFacts, AreRecords};
 
     ghost Value = { HandoffFacts };
 
-    ghost view = { λ h. record { protocol = h.protocol; registers = h.registers; places = map (λ part. part.place) h.parts.items } };
+    ghost view = { λ h. record { protocol = h.protocol; registers = h.registers; places = map place_of h.parts.items } };
 
-    ghost invariant = { λ h. AreRecords (map (λ part. part.place) h.parts.items) };
+    ghost invariant = { λ h. AreRecords (map place_of h.parts.items) × (h.ranges.items ≡ map range_of (map place_of h.parts.items)) };
 }
 
 impl<A: Allocator> Handoff<A> {
-    ghost use Rattle.std.specs.Prelude.{◌≡◌, ◌<◌, ◌≤◌, length, slice_index_or};
-    ghost use Rattle.bl_load.specs.Planned.{AreRecords};
+    ghost use Rattle.std.specs.Prelude.{◌≡◌, ◌<◌, length, map, slice_index_or};
+    ghost use Rattle.bl_plan.specs.Placed.{range_of};
+    ghost use Rattle.bl_load.specs.HandoffFacts.{AreRecords};
 
     /// How the kernel is entered.
     pub fn protocol(&self) -> Protocol
@@ -58,5 +62,12 @@ impl<A: Allocator> Handoff<A> {
         ensures { result ≡ slice_index_or self.now.places index result }
     {
         self.parts[index].place
+    }
+
+    /// The ranges of the parts, in address order. They are the plan's.
+    pub fn ranges(&self) -> &[Range<u64>]
+        ensures { result.now ≡ map range_of self.now.places }
+    {
+        self.ranges.as_slice()
     }
 }

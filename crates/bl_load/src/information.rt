@@ -9,14 +9,6 @@ use bl_mbi::{Facts, write_info};
 use bl_mem::Bytes;
 use std::alloc::{AllocError, Allocator};
 
-/// A copy of a line.
-fn copy_of<A: Allocator>(alloc: A, line: &[u8]) -> Result<Bytes<A>, AllocError>
-    ensures copy { IfOk result (λ bytes. bytes ≡ line.now) }
-    ensures fits { IfOk result (λ bytes. All (λ b. b < 256) bytes) }
-{
-    Ok(Bytes::from(Vec::from_slice(alloc, line)?))
-}
-
 /// The information's bytes, with this line and no module.
 pub fn information<A: Allocator + Copy>(
     alloc: A,
@@ -40,7 +32,7 @@ pub fn information<A: Allocator + Copy>(
 {
     let mem_lower = machine.low_kib() as u32;
     let mem_upper = machine.high_kib() as u32;
-    let line = copy_of(alloc, line)?;
+    let line = Bytes::copy(alloc, line)?;
     let runs = Vec::from_slice(alloc, machine.normal())?;
     let modules = Vec::new(alloc);
     let facts = Facts::new(

@@ -2,8 +2,8 @@
 ghost use Rattle.std.specs.Prelude.{◌≡◌, ◌≤◌, ◌<◌, ◌+◌, ◌^◌, Some, None, List, length, All, IfOk, IfErr, MatchResult};
 ghost use Rattle.std.specs.List.{list_any};
 ghost use Rattle.bl_load.specs.Kernel as kernel;
-ghost use Rattle.bl_load.specs.Kernel.{IsKernel, IsLoadedBy, IsLoadFault, IsKernelFault, entry_fault, AreLoadable};
-ghost use Rattle.bl_load.specs.KernelRead.{executable_facts, kernel_by};
+ghost use Rattle.bl_load.specs.Kernel.{IsKernel, IsLoadedBy, entry_fault};
+ghost use Rattle.bl_load.specs.KernelKept.{IsElfFault, IsLoadFault, IsKernelFault, AreLoadable, executable_facts, kernel_by};
 ghost use Rattle.bl_load.specs.declared.refusal.PrepFault.TheVariants.{Refused};
 
 use crate::refusal::{PrepFault, Refusal};
@@ -73,7 +73,7 @@ impl From<HeadFault> for PrepFault {
 }
 
 impl From<ElfFault> for PrepFault {
-    ghost from_gives = { kernel.IsElfFault };
+    ghost from_gives = { IsElfFault };
 
     fn from(fault: ElfFault) -> PrepFault {
         match fault {
@@ -94,7 +94,8 @@ fn read_executable<A: Allocator + Copy, V: ByteView>(
     file: &V,
     segment: Option<Segment>,
 ) -> Result<Executable<A>, PrepFault>
-    ensures loaded { IfOk result (λ executable. IsLoadedBy (V.bytes file.now) segment (executable_facts executable)) }
+    ensures loaded { IfOk result (λ executable. IsLoadedBy (V.bytes file.now) segment
+        (executable_facts executable)) }
     ensures fault { IfErr result (λ fault. IsLoadFault (V.bytes file.now) segment fault) }
 {
     match segment {
@@ -106,18 +107,11 @@ fn read_executable<A: Allocator + Copy, V: ByteView>(
     }
 }
 
-/// Whether a segment holds an address where it is linked.
-fn holds(segment: &Segment, a: u64) -> bool
-    ensures { result ≡ kernel.holds_at a segment.now }
-{
-    segment.address <= a && a - segment.address < segment.memsz
-}
-
 /// Whether one of the segments holds an address.
 fn is_held(segments: &[Segment], a: u64) -> bool
     ensures { result ≡ list_any (kernel.holds_at a) segments.now }
 {
-    segments.iter().any(|segment| holds(segment, a))
+    segments.iter().any(|segment| segment.holds(a))
 }
 
 /// The entry that counts, where it lies in a segment.
@@ -142,10 +136,12 @@ pub fn read_kernel<A: Allocator + Copy, V: ByteView>(
     file: &V,
 ) -> Result<Kernel<A>, PrepFault>
     ensures kernel { IfOk result (λ kernel. IsKernel (V.bytes file.now) (kernel_by kernel)) }
-    ensures loadable { IfOk result (λ kernel. AreLoadable (V.bytes file.now) (kernel_by kernel).segments) }
+    ensures loadable { IfOk result (λ kernel. AreLoadable (V.bytes file.now)
+        (kernel_by kernel).segments) }
     ensures fault { IfErr result (λ fault. IsKernelFault (V.bytes file.now) fault) }
 {
-    // The file's length, and so that of the tag's segment, is known to be below 2^64 only once it was asked for.
+    // The file's length, and so that of the tag's segment, is known to be below 2^64 only once it
+    // was asked for.
     let _len = file.len();
     let header = find_header(file)?;
     let executable = read_executable(alloc, file, header.segment)?;

@@ -1,21 +1,40 @@
 //! Laws of the definitions.
-ghost use Rattle.std.specs.Prelude.{◌≡◌};
-ghost use Rattle.bl_map.specs.MachineFacts.{MachineFacts};
+ghost use Rattle.std.specs.Prelude.{◌≡◌, ◌≤◌, length, All, AllPairs};
+ghost use Rattle.bl_map.specs.MachineFacts.{MachineFacts, AllUsable};
 ghost use Rattle.bl_load.specs.declared.refusal.Refusal.{Refusal};
 ghost use Rattle.bl_load.specs.Value.{EntryValue};
-ghost use Rattle.bl_load.specs.Handover.{Handover};
+ghost use Rattle.bl_load.specs.Handover.{Handover, end_of};
 ghost use Rattle.bl_load.specs.Parts.{IsHandover, IsRefusal};
 ghost use Rattle.bl_load.specs.Legal.{IsLegal};
 
-/// Equal facts and equal values give one handover, or one first refusal, and never both: nothing else decides, such as
-/// what memory held or where the files lay.
+/// Equal facts and equal values give one handover, or one first refusal, and never both: nothing
+/// else decides, such as what memory held or where the files lay.
 pub fn handovers_are_determined()
-    ensures one_handover { (facts : MachineFacts) (value : EntryValue) (h k : Handover) → IsHandover facts value h → IsHandover facts value k → h ≡ k }
-    ensures one_refusal { (facts : MachineFacts) (value : EntryValue) (r s : Refusal) → IsRefusal facts value r → IsRefusal facts value s → r ≡ s }
-    ensures not_both { (facts : MachineFacts) (value : EntryValue) (h : Handover) (r : Refusal) → IsHandover facts value h → IsRefusal facts value r → ⊥ }
+    ensures one_handover { (facts : MachineFacts) (value : EntryValue) (h k : Handover)
+        → IsHandover facts value h → IsHandover facts value k → h ≡ k }
+    ensures one_refusal { (facts : MachineFacts) (value : EntryValue) (r s : Refusal)
+        → IsRefusal facts value r → IsRefusal facts value s → r ≡ s }
+    ensures not_both { (facts : MachineFacts) (value : EntryValue) (h : Handover) (r : Refusal)
+        → IsHandover facts value h → IsRefusal facts value r → ⊥ }
 {}
 
 /// What is handed over is legal.
 pub fn handovers_are_legal()
-    ensures { (facts : MachineFacts) (value : EntryValue) (handover : Handover) → IsHandover facts value handover → IsLegal facts value handover }
+    ensures { (facts : MachineFacts) (value : EntryValue) (handover : Handover)
+        → IsHandover facts value handover → IsLegal facts value handover }
+{}
+
+/// The parts of what is handed over lie in memory that may be used, beside one another: none is
+/// empty, each of its bytes is usable, and each part begins at or behind the end of those before it
+/// in the list.
+pub fn parts_are_apart_and_usable()
+    ensures filled { (facts : MachineFacts) (value : EntryValue) (h : Handover)
+        → IsHandover facts value h
+        → All (λ part. 1 ≤ length part.bytes) h.parts }
+    ensures usable { (facts : MachineFacts) (value : EntryValue) (h : Handover)
+        → IsHandover facts value h
+        → All (λ part. AllUsable facts part.address (end_of part)) h.parts }
+    ensures apart { (facts : MachineFacts) (value : EntryValue) (h : Handover)
+        → IsHandover facts value h
+        → AllPairs (λ p q. end_of p ≤ q.address) h.parts }
 {}

@@ -18,9 +18,9 @@ mod registers;
 mod rows;
 
 pub use bl_plan::Protocol;
-pub use entry::{Entry, Module};
+pub use entry::{Entry, MOST_LINE, Module};
 pub use handoff::Handoff;
-pub use laws::{handovers_are_determined, handovers_are_legal};
+pub use laws::{handovers_are_determined, handovers_are_legal, parts_are_apart_and_usable};
 pub use loading::load;
 pub use plan::{Content, Plan, Planned};
 pub use preparing::prepare;

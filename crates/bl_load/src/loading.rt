@@ -3,7 +3,8 @@ ghost use Rattle.std.specs.Prelude.{◌≡◌, ℕ, ◌+◌, ◌-◌, ◌<◌, �
 ghost use Rattle.bl_mem.specs.Memory.{overwrite, HasRoom, AllHaveRoom, KeepsRoom};
 ghost use Rattle.bl_plan.specs.Placed.{Covers, range_of};
 ghost use Rattle.bl_load.specs.Handover.{written};
-ghost use Rattle.bl_load.specs.Planned.{content_by, bytes_by, part_by, handover_by, handover_in, places_of, IsThere, CanLoad, IsLoadable};
+ghost use Rattle.bl_load.specs.Planned.{content_by, bytes_by, part_by, handover_by, handover_in, places_of};
+ghost use Rattle.bl_load.specs.Kept.{lengths_of, content_length, IsThere, CanLoad, IsLoadable};
 
 use crate::blocks::load_block;
 use crate::copying::copy;
@@ -19,11 +20,12 @@ fn load_content<M: PhysMem, V: ByteView, A: Allocator>(
     content: &Content<A>,
     files: &[V],
 ) -> u64
-    requires there { IsThere (map V.bytes files.now) content.now }
-    requires inside { at + length (content_by (map V.bytes files.now) content.now) ≤ length (M.bytes memory.old) }
-    requires room { HasRoom (M.room memory.old) at (at + length (content_by (map V.bytes files.now) content.now)) }
-    ensures count { result ≡ length (content_by (map V.bytes files.now) content.now) }
-    ensures after { M.bytes memory.new ≡ overwrite (M.bytes memory.old) at (content_by (map V.bytes files.now) content.now) }
+    requires there { IsThere (lengths_of (map V.bytes files.now)) content.now }
+    requires inside { at + content_length content.now ≤ length (M.bytes memory.old) }
+    requires room { HasRoom (M.room memory.old) at (at + content_length content.now) }
+    ensures count { result ≡ content_length content.now }
+    ensures after { M.bytes memory.new ≡ overwrite (M.bytes memory.old) at (content_by
+        (map V.bytes files.now) content.now) }
     ensures kept { KeepsRoom (M.room memory.old) (M.room memory.new) }
 {
     match content {
@@ -47,11 +49,14 @@ fn load_content<M: PhysMem, V: ByteView, A: Allocator>(
 
 /// Writes a part.
 fn load_part<M: PhysMem, V: ByteView, A: Allocator>(memory: &mut M, part: &Planned<A>, files: &[V])
-    requires { CanLoad (map V.bytes files.now) (length (M.bytes memory.old)) (M.room memory.old) part.now }
-    ensures after { M.bytes memory.new ≡ overwrite (M.bytes memory.old) part.now.place.address (bytes_by (map V.bytes files.now) part.now) }
+    requires { CanLoad (lengths_of (map V.bytes files.now)) (length (M.bytes memory.old))
+        (M.room memory.old) part.now }
+    ensures after { M.bytes memory.new ≡ overwrite (M.bytes memory.old) part.now.place.address
+        (bytes_by (map V.bytes files.now) part.now) }
     ensures kept { KeepsRoom (M.room memory.old) (M.room memory.new) }
 {
-    // Memory's size is known to be below 2^64, so that no sum here wraps, only once it was asked for.
+    // Memory's size is known to be below 2^64, so that no sum here wraps, only once it was asked
+    // for.
     let _size = memory.size();
     let address = part.place.address;
     let count = load_content(memory, address, &part.content, files);
@@ -64,8 +69,10 @@ fn load_parts<M: PhysMem, V: ByteView, A: Allocator>(
     parts: &[Planned<A>],
     files: &[V],
 )
-    requires { All (CanLoad (map V.bytes files.now) (length (M.bytes memory.old)) (M.room memory.old)) parts.now }
-    ensures after { M.bytes memory.new ≡ written (map (part_by (map V.bytes files.now)) parts.now) (M.bytes memory.old) }
+    requires { All (CanLoad (lengths_of (map V.bytes files.now)) (length (M.bytes memory.old))
+        (M.room memory.old)) parts.now }
+    ensures after { M.bytes memory.new ≡ written (map (part_by (map V.bytes files.now)) parts.now)
+        (M.bytes memory.old) }
     ensures size { length (M.bytes memory.new) ≡ length (M.bytes memory.old) }
     ensures kept { KeepsRoom (M.room memory.old) (M.room memory.new) }
 {
@@ -74,29 +81,36 @@ fn load_parts<M: PhysMem, V: ByteView, A: Allocator>(
     }
 }
 
-/// Writes the parts of a plan into memory, each byte of them once, and says what the kernel is handed.
+/// Writes the parts of a plan into memory, each byte of them once, and says what the kernel is
+/// handed.
 ///
-/// The files are those that the plan was made from, in their order. Each address of the plan's ranges has
-/// room, as after `reserve`, and lies in memory. No memory is taken, and nothing can fail: the list of parts
-/// becomes that of the handoff. What lies in no part stays as it was, and no address loses its room.
+/// The files are those that the plan was made from, in their order. Each address of the plan's
+/// ranges has room, as after `reserve`, and lies in memory. No memory is taken, and nothing can
+/// fail: the list of parts becomes that of the handoff, and so does that of ranges. What lies in no
+/// part stays as it was, and no address loses its room.
 pub fn load<M: PhysMem, V: ByteView, A: Allocator>(
     memory: &mut M,
     plan: Plan<A>,
     files: &[V],
 ) -> Handoff<A>
-    requires loadable { IsLoadable (map V.bytes files.now) (length (M.bytes memory.old)) plan }
+    requires loadable { IsLoadable (lengths_of (map V.bytes files.now))
+        (length (M.bytes memory.old)) plan }
     requires room { AllHaveRoom (M.room memory.old) (map range_of (places_of plan)) }
-    ensures after { M.bytes memory.new ≡ written (handover_by (map V.bytes files.now) plan).parts (M.bytes memory.old) }
+    ensures after { M.bytes memory.new ≡ written (handover_by (map V.bytes files.now) plan).parts
+        (M.bytes memory.old) }
     ensures protocol { result.protocol ≡ plan.protocol }
     ensures registers { result.registers ≡ plan.registers }
     ensures places { result.places ≡ places_of plan }
-    ensures handed { handover_in (M.bytes memory.new) result.protocol result.registers result.places ≡ handover_by (map V.bytes files.now) plan }
+    ensures handed { handover_in (M.bytes memory.new) result.protocol result.registers result.places
+        ≡ handover_by (map V.bytes files.now) plan }
 
     // Each address of a part has the part's byte, and every other one what it had.
-    ensures in_parts { All (λ part. (a : ℕ) → part.address ≤ a → a < part.address + length part.bytes →
-        slice_index (M.bytes memory.new) a ≡ slice_index part.bytes (a - part.address)) (handover_by (map V.bytes files.now) plan).parts }
-    ensures elsewhere { (a : ℕ) → All (λ place. ¬ Covers place a) (places_of plan) →
-        slice_index (M.bytes memory.new) a ≡ slice_index (M.bytes memory.old) a }
+    ensures in_parts { All (λ part. (a : ℕ) → part.address ≤ a
+        → a < part.address + length part.bytes
+        → slice_index (M.bytes memory.new) a ≡ slice_index part.bytes (a - part.address))
+        (handover_by (map V.bytes files.now) plan).parts }
+    ensures elsewhere { (a : ℕ) → All (λ place. ¬ Covers place a) (places_of plan)
+        → slice_index (M.bytes memory.new) a ≡ slice_index (M.bytes memory.old) a }
 
     ensures size { length (M.bytes memory.new) ≡ length (M.bytes memory.old) }
     ensures kept { KeepsRoom (M.room memory.old) (M.room memory.new) }
@@ -105,12 +119,13 @@ pub fn load<M: PhysMem, V: ByteView, A: Allocator>(
         protocol,
         registers,
         parts,
-        ranges: _,
+        ranges,
     } = plan;
     load_parts(memory, parts.as_slice(), files);
     Handoff {
         protocol,
         registers,
         parts,
+        ranges,
     }
 }

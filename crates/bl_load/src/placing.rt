@@ -4,13 +4,15 @@ ghost use Rattle.bl_load.specs.Value.{line_fault};
 ghost use Rattle.bl_plan.specs.Placed.{range_of};
 ghost use Rattle.bl_plan.specs.declared.fault.PlanFault.TheVariants.{Overlap};
 ghost use Rattle.bl_load.specs.Blocks as blocks;
-ghost use Rattle.bl_load.specs.Kernel.{IsKernel, AreLoadable};
-ghost use Rattle.bl_load.specs.KernelRead.{kernel_by};
+ghost use Rattle.bl_load.specs.Kernel.{IsKernel};
+ghost use Rattle.bl_load.specs.KernelKept.{AreLoadable, kernel_by};
 ghost use Rattle.bl_load.specs.Parts as parts;
 ghost use Rattle.bl_load.specs.Registers as state;
-ghost use Rattle.bl_load.specs.Parts.{IsPlacedHandover, IsPlaceFault};
+ghost use Rattle.bl_load.specs.PlacingKept as kept;
+ghost use Rattle.bl_load.specs.PlacingKept.{IsPlacedHandover, IsPlaceFault};
 ghost use Rattle.bl_load.specs.Place.{place_of};
-ghost use Rattle.bl_load.specs.Planned.{handover_by, file_text, IsLoadable, IsLean};
+ghost use Rattle.bl_load.specs.Planned.{handover_by, file_text};
+ghost use Rattle.bl_load.specs.Kept.{lengths_of, IsLoadable, IsLean};
 
 use crate::contents::parts_at;
 use crate::kernel::Kernel;
@@ -27,7 +29,7 @@ use std::ops::Range;
 /// A fault of placing as one of preparing. The parts of a kernel that was read don't overlap.
 fn fault_of(fault: PlanFault) -> PrepFault
     requires { fault ≢ Overlap }
-    ensures { parts.fault_of fault ≡ Some result }
+    ensures { kept.fault_of fault ≡ Some result }
 {
     match fault {
         PlanFault::NotUsable => PrepFault::Refused(Refusal::NotUsable),
@@ -53,13 +55,17 @@ fn information_at(places: &[Place]) -> u64
     places[places.len() - 1].address
 }
 
+/// What `eax` tells a kernel: it was loaded by a boot loader of Multiboot2 (3.3 "I386 machine
+/// state").
+const BOOTLOADER_MAGIC: u32 = 0x36D7_6289;
+
 /// The registers that a Multiboot2 kernel begins with.
 fn multiboot2_registers(entry: u32, information: u32) -> Registers
     ensures { result ≡ state.multiboot2_registers entry information }
 {
     Registers {
         eip: entry,
-        eax: 0x36D7_6289,
+        eax: BOOTLOADER_MAGIC,
         ebx: information,
         ecx: 0,
         edx: 0,
@@ -85,7 +91,8 @@ fn multiboot2_registers(entry: u32, information: u32) -> Registers
 fn entry_at<A: Allocator>(kernel: &Kernel<A>, base: u64) -> u64
     requires above { blocks.low_of (kernel_by kernel.now).segments ≤ kernel.now.entry }
     requires below { kernel.now.entry + base < 2 ^ 64 }
-    ensures { result ≡ parts.entry_at kernel.now.entry (kernel_by kernel.now).segments kernel.now.relocation base }
+    ensures { result ≡ parts.entry_at kernel.now.entry (kernel_by kernel.now).segments
+        kernel.now.relocation base }
 {
     match kernel.relocation {
         None => kernel.entry,
@@ -120,11 +127,16 @@ pub fn plan_parts<A: Allocator + Copy, V: ByteView>(
     requires short { length line.now ≤ 4095 }
     requires file { 1 ≤ length files.now }
     requires kernel { IsKernel (file_text (map V.bytes files.now) 0) (kernel_by kernel.now) }
-    requires loadable { AreLoadable (file_text (map V.bytes files.now) 0) (kernel_by kernel.now).segments }
-    ensures handover { IfOk result (λ plan. IsPlacedHandover machine.now line.now (file_text (map V.bytes files.now) 0) (kernel_by kernel.now) (handover_by (map V.bytes files.now) plan)) }
-    ensures loadable { IfOk result (λ plan. IsLoadable (map V.bytes files.now) machine.now.size plan) }
+    requires loadable { AreLoadable (file_text (map V.bytes files.now) 0)
+        (kernel_by kernel.now).segments }
+    ensures handover { IfOk result (λ plan. IsPlacedHandover machine.now line.now
+        (file_text (map V.bytes files.now) 0) (kernel_by kernel.now)
+        (handover_by (map V.bytes files.now) plan)) }
+    ensures loadable { IfOk result (λ plan. IsLoadable
+        (lengths_of (map V.bytes files.now)) machine.now.size plan) }
     ensures lean { IfOk result (λ plan. IsLean plan.parts.items) }
-    ensures fault { IfErr result (λ fault. IsPlaceFault machine.now line.now (kernel_by kernel.now) fault) }
+    ensures fault { IfErr result (λ fault. IsPlaceFault machine.now line.now
+        (kernel_by kernel.now) fault) }
 {
     let rows = rows_of(alloc, machine, line, kernel)?;
     let places = match place_rows(alloc, machine, rows.as_slice()) {

@@ -6,8 +6,8 @@ ghost use Rattle.bl_load.specs.declared.refusal.PrepFault.TheVariants.{Refused, 
 use std::alloc::{AllocError, AllocFailed};
 use thiserror::Error;
 
-/// Why an entry is refused: the first refusal in the order of the checks. A file is told by its place in
-/// the entry, the kernel being 0.
+/// Why an entry is refused: the first refusal in the order of the checks. A file is told by its
+/// place in the entry, the kernel being 0.
 #[derive(Clone, Copy, Debug, PartialEq, Eq, Error)]
 pub enum Refusal {
     #[error("file {0} can't be read")]

@@ -1,7 +1,8 @@
 //! The state of the processor as a kernel begins.
 
 /// The registers as a kernel begins (Multiboot2 3.3 "I386 machine state"; Linux/x86 boot protocol,
-/// "32-bit boot protocol"). A segment register's number is its selector; A20 is 1 where the gate is open.
+/// "32-bit boot protocol"). A segment register's number is its selector; A20 is 1 where the gate is
+/// open.
 #[derive(Clone, Copy, Debug, PartialEq, Eq)]
 pub struct Registers {
     pub eip: u32,

@@ -3,11 +3,10 @@ ghost use Rattle.std.specs.Prelude.{◌≡◌, ◌≤◌, ◌<◌, ◌+◌, ◌^
 ghost use Rattle.bl_mbi.specs.Size.{size_of};
 ghost use Rattle.bl_load.specs.Blocks as blocks;
 ghost use Rattle.bl_load.specs.Rows as table;
-ghost use Rattle.bl_load.specs.Kernel.{AreLoadable};
-ghost use Rattle.bl_load.specs.KernelRead.{kernel_by};
+ghost use Rattle.bl_load.specs.KernelKept.{AreLoadable, kernel_by};
 
 use crate::kernel::Kernel;
-use bl_map::Machine;
+use bl_map::{FIRST_USABLE, FRAME, MOST_SIZE, Machine, whole_frames};
 use bl_mb2head::Relocation;
 use bl_mem::Segment;
 use bl_plan::{Choice, Role, Row};
@@ -79,7 +78,8 @@ fn push_segment_rows<A: Allocator>(
     segments: &[Segment],
 ) -> Result<(), AllocError>
     requires { length segments.now ≤ 128 }
-    ensures { IfOk result (λ _. rows.new.items ≡ rows.old.items ++ table.segment_rows 0 segments.now) }
+    ensures { IfOk result (λ _. rows.new.items ≡ rows.old.items ++ table.segment_rows 0
+        segments.now) }
 {
     for (index, segment) in segments.iter().enumerate() {
         rows.push(Row {
@@ -99,7 +99,8 @@ fn push_kernel_rows<A: Allocator, B: Allocator>(
 ) -> Result<(), AllocError>
     requires few { length (kernel_by kernel.now).segments ≤ 128 }
     requires span { blocks.span_of (kernel_by kernel.now).segments < 2 ^ 64 }
-    ensures { IfOk result (λ _. rows.new.items ≡ rows.old.items ++ table.kernel_rows (kernel_by kernel.now).segments kernel.now.relocation) }
+    ensures { IfOk result (λ _. rows.new.items ≡ rows.old.items ++ table.kernel_rows
+        (kernel_by kernel.now).segments kernel.now.relocation) }
 {
     let segments = kernel.executable.segments();
     match &kernel.relocation {
@@ -138,11 +139,11 @@ fn information_row<A: Allocator>(machine: &Machine<A>, line: &[u8], kernel: &Ker
     Row {
         role: Role::Information,
         index: 0,
-        length: (length + 4095) / 4096 * 4096,
+        length: whole_frames(length),
         choice: Choice::Lowest {
-            align: 4096,
-            low: 0x1000,
-            high: 0x1_0000_0000,
+            align: FRAME,
+            low: FIRST_USABLE,
+            high: MOST_SIZE,
         },
     }
 }
@@ -157,7 +158,8 @@ pub fn rows_of<A: Allocator>(
     requires line { length line.now ≤ 4095 }
     requires few { length (kernel_by kernel.now).segments ≤ 128 }
     requires span { blocks.span_of (kernel_by kernel.now).segments < 2 ^ 64 }
-    ensures { IfOk result (λ rows. rows.items ≡ table.rows_of machine.now line.now (kernel_by kernel.now)) }
+    ensures { IfOk result (λ rows. rows.items ≡ table.rows_of machine.now line.now
+        (kernel_by kernel.now)) }
 {
     let mut rows = Vec::new(alloc);
     push_kernel_rows(&mut rows, kernel)?;

@@ -1,5 +1,5 @@
 -- The segment and the entry of a header are numbers that stay small, where the file's bytes are bytes.
-use Rattle.std.proofs.Common.{◌≡◌, ◌≤◌, ◌<◌, ◌+◌, ◌^◌, ℕ, Bool, true, false, if◌then◌else◌, Option, Some, None, IfSome, List, length, drop, slice_index, refl, sym, subst, arith}
+use Rattle.std.proofs.Common.{◌≡◌, ◌≤◌, ◌<◌, ◌+◌, ◌^◌, ℕ, Bool, true, false, if◌then◌else◌, Option, Some, None, IfSome, List, length, slice_index, refl, sym, subst, arith}
 use Rattle.std.proofs.lemmas.Bool.Decides.{nat_tests}
 use Rattle.bl_mem.proofs.WordLaws.{u32_at-lt}
 use Rattle.bl_mem.specs.declared.segment.Segment.{Segment}

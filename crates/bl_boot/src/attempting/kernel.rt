@@ -1,7 +1,8 @@
 //! An attempt with the bytes of a kernel.
 ghost use Rattle.std.specs.Prelude.{◌≡◌, ℕ, ◌≤◌, List, [], ◌∷◌, IfOk, MatchBool, map};
 ghost use Rattle.std.specs.Borrow.{Bor};
-ghost use Rattle.bl_load.specs.Planned.{IsLoadable, handover_by};
+ghost use Rattle.bl_load.specs.Planned.{handover_by};
+ghost use Rattle.bl_load.specs.Kept.{lengths_of, IsLoadable};
 ghost use Rattle.bl_map.specs.Room.{frames_in, AreAscending};
 ghost use Rattle.bl_map.specs.Room as room;
 ghost use Rattle.bl_load.specs.Value.{value_of, file_count, HasFewModules};
@@ -63,7 +64,7 @@ fn load_plan<A: Allocator + Copy, V: ByteView>(
     plan: Plan<A>,
     files: &[V],
 ) -> Result<Loaded<A>, AllocError>
-    requires { IsLoadable (map V.bytes files.now) size plan }
+    requires { IsLoadable (lengths_of (map V.bytes files.now)) size plan }
     ensures { IfOk result (IsLoaded size fill (handover_by (map V.bytes files.now) plan)) }
 {
     let mut memory = Flat::new(alloc, size, fill)?;

@@ -3,9 +3,10 @@ use Rattle.std.specs.Prelude.{codes}
 use Rattle.bl_mbi.specs.InformationFacts.{info_size}
 use Rattle.bl_mbi.specs.Spelling.{spelling}
 use Rattle.bl_plan.specs.declared.role.Role.{Role}
-use Rattle.bl_load.specs.KernelRead.{kernel_by}
-use Rattle.bl_load.specs.Rows.{information_of, whole_frames}
-use Rattle.bl_load.specs.Rowed.{HasLength}
+use Rattle.bl_load.specs.KernelKept.{kernel_by}
+use Rattle.bl_map.specs.Room.{whole_frames}
+use Rattle.bl_load.specs.Rows.{information_of}
+use Rattle.bl_load.specs.PlacingKept.{HasLength}
 use Rattle.bl_load.proofs.InformationLemmas.{information_short}
 use Rattle.bl_load.proofs.contents.content_at.Goals as goal
 

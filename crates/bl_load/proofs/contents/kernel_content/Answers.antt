@@ -1,8 +1,9 @@
-use Rattle.std.proofs.Common.{arith, ap, ◌∙◌}
+use Rattle.std.proofs.Common.{ℕ, List, length, map, arith, ap, ◌∙◌}
 use Rattle.std.proofs.lemmas.List.{length-map}
 use Rattle.bl_plan.specs.Order.{ascending}
-use Rattle.bl_load.specs.KernelRead.{executable_facts}
+use Rattle.bl_load.specs.KernelKept.{executable_facts}
 use Rattle.bl_load.proofs.ContentLemmas.{block_content, block_copied, block_ascends, block_some, block_short}
+use Rattle.bl_load.proofs.HeldLemmas.{length_at}
 use Rattle.bl_load.proofs.contents.kernel_content.Goals as goal
 
 pub returns-in_ok-in_order-in-Some-clause-content : goal.returns-in_ok-in_order-in-Some-clause-content
@@ -12,10 +13,11 @@ returns-in_ok-in_order-in-Some-clause-content g c =
 pub returns-in_ok-in_order-in-Some-clause-there : goal.returns-in_ok-in_order-in-Some-clause-there
 returns-in_ok-in_order-in-Some-clause-there g c =
     let is = c.in_ok-in_order-in-Some.ensures ∙ ap ascending c.segments-segments.ensures in
+    let texts = map g.V.ByteView.bytes c.args.files.now in
     let some = c.requires.file in (
-      omega (arith, length-map c.args.files.now g.V.ByteView.bytes),
+      omega (arith, length-map c.args.files.now g.V.ByteView.bytes, length-map texts (λ (text : List ℕ). length text)),
       block_some _ (executable_facts c.args.kernel.now.executable).segments _ c.requires.loadable is,
-      block_copied _ (executable_facts c.args.kernel.now.executable).segments _ _ c.in-Some.field-0 _ _ c.requires.loadable is c.in-Some.is c.requires.length c.requires.small,
+      rw (length_at texts 0) (block_copied _ (executable_facts c.args.kernel.now.executable).segments _ _ c.in-Some.field-0 _ _ c.requires.loadable is c.in-Some.is c.requires.length c.requires.small),
       block_ascends _ (executable_facts c.args.kernel.now.executable).segments _ c.requires.loadable is,
     )
 

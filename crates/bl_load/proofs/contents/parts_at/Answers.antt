@@ -4,11 +4,12 @@ use Rattle.std.proofs.lemmas.List.Elements.{All-push}
 use Rattle.bl_plan.specs.declared.place.Place.{Place}
 use Rattle.bl_plan.specs.declared.role.Role.TheVariants.{Kernel}
 use Rattle.bl_load.specs.declared.plan.Planned.{Planned}
-use Rattle.bl_load.specs.KernelRead.{kernel_by}
+use Rattle.bl_load.specs.KernelKept.{kernel_by}
 use Rattle.bl_load.specs.Handover.{Part, part_at, filled}
 use Rattle.bl_load.specs.Parts.{part_from}
 use Rattle.bl_load.specs.Place.{place_of}
-use Rattle.bl_load.specs.Planned.{part_by, file_text, IsBacked, StaysInFiles}
+use Rattle.bl_load.specs.Planned.{part_by, file_text}
+use Rattle.bl_load.specs.Kept.{lengths_of, IsBacked, StaysInFiles}
 use Rattle.bl_load.proofs.contents.parts_at.Goals as goal
 
 pub loop-place-preserved : goal.loop-place-preserved
@@ -30,7 +31,7 @@ loop-place-preserved g c =
       parts = ap (map by) items ∙ map-append by c.loop-place.parts.items (new ∷ [])
           ∙ ap₂ (λ (xs : List Part) (x : Part). xs ++ x ∷ []) i.parts (ap (λ (bytes : List ℕ). part_at place (filled place.length bytes)) c.in_ok-content.ensures.content)
           ∙ sym (map-append from (take k all) (place ∷ [])) ∙ ap (map from) (sym more);
-      backed = rw items (All-push (IsBacked texts) c.loop-place.parts.items new i.backed record { there = c.in_ok-content.ensures.there; short = c.in_ok-content.ensures.short });
+      backed = rw items (All-push (IsBacked (lengths_of texts)) c.loop-place.parts.items new i.backed record { there = c.in_ok-content.ensures.there; short = c.in_ok-content.ensures.short });
       lean = rw items (All-push stays c.loop-place.parts.items new i.lean c.in_ok-content.ensures.lean);
       places = ap (map place_in) items ∙ map-append place_in c.loop-place.parts.items (new ∷ []) ∙ ap (λ (xs : List Place). xs ++ place ∷ []) i.places ∙ sym more;
     }

@@ -1,8 +1,9 @@
 use Rattle.std.proofs.Common.{◌≡◌, take, map, All}
-use Rattle.bl_load.specs.KernelRead.{kernel_by}
+use Rattle.bl_load.specs.KernelKept.{kernel_by}
 use Rattle.bl_load.specs.Parts.{part_from}
 use Rattle.bl_load.specs.Place.{place_of}
-use Rattle.bl_load.specs.Planned.{part_by, file_text, IsBacked, IsLean}
+use Rattle.bl_load.specs.Planned.{part_by, file_text}
+use Rattle.bl_load.specs.Kept.{lengths_of, IsBacked, IsLean}
 use Rattle.bl_load.proofs.contents.parts_at.Given as goal
 
 -- the parts so far are those at the places so far
@@ -11,7 +12,7 @@ invariant-loop-place g l =
     let texts = map g.V.ByteView.bytes l.files in
     record {
       parts : map (part_by texts) l.parts.items ≡ map (part_from l.machine l.line (file_text texts 0) (kernel_by l.kernel) l.base) (take l.place-index l.places);
-      backed : All (IsBacked texts) l.parts.items;
+      backed : All (IsBacked (lengths_of texts)) l.parts.items;
       lean : IsLean l.parts.items;
       places : map place_of l.parts.items ≡ take l.place-index l.places;
     }

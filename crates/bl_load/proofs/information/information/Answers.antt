@@ -1,4 +1,5 @@
 use Rattle.std.proofs.Common.{◌<◌, ◌^◌, ℕ, None, length, arith, sym, ◌∙◌, All, subst}
+use Rattle.std.proofs.lemmas.List.Elements.{All-from_get_or}
 use Rattle.std.specs.Prelude.{map, is_some}
 use Rattle.bl_mbi.specs.InformationFacts.{IsText, ModuleInfo}
 use Rattle.bl_mbi.specs.Size.{size_of}
@@ -8,12 +9,12 @@ use Rattle.bl_load.proofs.information.information.Goals as goal
 
 pub new-facts-requires : goal.new-facts-requires
 new-facts-requires g c =
-    let line = c.in_ok-line.ensures.copy in
+    let line = c.in_ok-line.ensures.ok in
     let runs = c.in_ok-runs.ensures.items ∙ c.normal.ensures.runs in
     let facts = c.normal.ensures.facts in
     record {
       told = record {
-        line = subst IsText (sym line) (sound_text c.args.line.now c.requires.sound (subst (All (λ (b : ℕ). b < 256)) line c.in_ok-line.ensures.fits));
+        line = subst IsText (sym line) (sound_text c.args.line.now c.requires.sound (All-from_get_or (λ (b : ℕ). b < 256) c.args.line.now 0 (λ i _. (c.type_inv.line i).fits)));
         modules = rw c.new-modules.ensures.items (λ k d within. absurd (omega arith));
         mem_lower = c.low_kib-mem_lower.ensures.most;
         mem_upper = c.high_kib-mem_upper.ensures.most;

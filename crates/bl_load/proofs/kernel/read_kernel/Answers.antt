@@ -3,7 +3,7 @@ use Rattle.std.specs.Option.{option_or}
 use Rattle.std.proofs.lemmas.Result.{err_from_is_err_and}
 use Rattle.bl_mem.specs.declared.segment.Segment.{Segment}
 use Rattle.bl_load.specs.Kernel.{entry_fault}
-use Rattle.bl_load.specs.KernelRead.{executable_facts}
+use Rattle.bl_load.specs.KernelKept.{executable_facts}
 use Rattle.bl_load.proofs.KernelLaws.{kernel_loadable, load_refused}
 use Rattle.bl_load.proofs.kernel.read_kernel.Goals as goal
 

@@ -10,7 +10,7 @@ pub load_parts-requires : goal.load_parts-requires
 load_parts-requires g c = rw c.as_slice.ensures.value (can_load (map g.V.ByteView.bytes c.args.files.now) _ c.args.plan c.requires.loadable (g.M.PhysMem.room c.args.memory.now) c.requires.room)
 
 -- the plan's parts are written
-is_written : (g : _) (c : goal.After-drop-plan g) → g.M.PhysMem.bytes c.load_parts.new.memory ≡ written (map (part_by (map g.V.ByteView.bytes c.args.files.now)) c.args.plan.parts.items) (g.M.PhysMem.bytes c.args.memory.now)
+is_written : (g : _) (c : goal.After-load_parts g) → g.M.PhysMem.bytes c.load_parts.new.memory ≡ written (map (part_by (map g.V.ByteView.bytes c.args.files.now)) c.args.plan.parts.items) (g.M.PhysMem.bytes c.args.memory.now)
 is_written g c = c.load_parts.ensures.after ∙ ap (λ (ps : List (Planned g.row.A.Denot)). written (map (part_by (map g.V.ByteView.bytes c.args.files.now)) ps) (g.M.PhysMem.bytes c.args.memory.now)) c.as_slice.ensures.value
 
 pub returns-clause-handed : goal.returns-clause-handed

@@ -1,11 +1,15 @@
-use Rattle.std.proofs.Common.{length, map, refl}
+use Rattle.std.proofs.Common.{◌≤◌, length, map, refl, sym, ◌∙◌, arith}
 use Rattle.bl_load.specs.Planned.{content_by}
+use Rattle.bl_load.proofs.HeldLemmas.{length-content_by}
 use Rattle.bl_load.proofs.WrittenLemmas.{zeros_behind}
 use Rattle.bl_load.proofs.loading.load_part.Goals as goal
 
 pub returns-clause-after : goal.returns-clause-after
 returns-clause-after g c =
     let part = c.args.part.now in
-    let content = content_by (map g.V.ByteView.bytes c.args.files.now) part.content in
-    rw (c.zero.ensures.after, c.load_content-count.ensures.after, c.load_content-count.ensures.count)
-    (zeros_behind _ content part.place.address (length content) part.place.length refl c.requires.short c.requires.inside)
+    let texts = map g.V.ByteView.bytes c.args.files.now in
+    let content = content_by texts part.content in
+    let own = length-content_by texts part.content c.requires.there in
+    let short : length content ≤ part.place.length = omega (arith, own, c.requires.short) in
+    rw (c.zero.ensures.after, c.load_content-count.ensures.after, c.load_content-count.ensures.count ∙ sym own)
+    (zeros_behind _ content part.place.address (length content) part.place.length refl short c.requires.inside)

@@ -12,7 +12,7 @@ loop-part-preserved g c =
     let i = c.loop-part.part-index in
     let here = c.loop-part-test.true in
     let can = rw (← c.part-item.is) at (c.requires i part here) in
-    let wide = length-bytes_by texts part can.short in
+    let wide = length-bytes_by texts part record { there = can.there; short = can.short } in
     let whole = rw (drop_more c.args.parts.now i part here, ← c.part-item.is) at c.loop-part.invariant.rest in
     record {
       size = rw c.load_part.ensures.after (length-overwrite (g.M.PhysMem.bytes c.loop-part.memory) part.place.address (bytes_by texts part) (omega arith) ∙ c.loop-part.invariant.size);

@@ -2,16 +2,19 @@ use Rattle.std.proofs.Common.{◌≡◌, ◌≤◌, ◌<◌, ◌+◌, ◌^◌, L
 use Rattle.bl_plan.specs.declared.place.Place.{Place}
 use Rattle.bl_plan.specs.declared.row.Row.{Row}
 use Rattle.bl_plan.specs.Placed.{ArePlaced, IsRow, IsPlacingFault}
-use Rattle.bl_load.specs.KernelRead.{kernel_by}
+use Rattle.bl_load.specs.KernelKept.{kernel_by}
 use Rattle.bl_plan.specs.Order.{in_order, place_key}
 use Rattle.bl_load.specs.Parts.{base_of, information_at, entry_at}
 use Rattle.bl_load.specs.Place.{place_of}
-use Rattle.bl_load.specs.Planned.{file_text, AreRecords}
-use Rattle.bl_load.specs.Rowed.{IsRowed}
+use Rattle.bl_load.specs.Planned.{file_text}
+use Rattle.bl_load.specs.HandoffFacts.{AreRecords}
+use Rattle.bl_load.specs.PlacingKept.{IsRowed}
 use Rattle.bl_load.specs.Rows.{rows_of}
 use Rattle.bl_plan.proofs.OrderLemmas.{in_order_all}
-use Rattle.bl_load.proofs.PlacingLemmas.{refused_place, not_overlap, small_base, small_last}
-use Rattle.bl_load.proofs.RowLemmas.{rows_are_rows, each_rowed, few_places, are_inside, records, entry_small}
+use Rattle.bl_load.proofs.PlacingLemmas.{refused_place, not_overlap}
+use Rattle.bl_load.proofs.RowLemmas.{rows_are_rows, few_places}
+use Rattle.bl_load.proofs.RowPlaceLemmas.{each_rowed, are_inside, records}
+use Rattle.bl_load.proofs.EntryLemmas.{entry_small, small_base, small_last}
 use Rattle.bl_load.proofs.placing.plan_parts.Goals as goal
 
 pub place_rows-requires : goal.place_rows-requires

@@ -1,7 +1,7 @@
 use Rattle.std.proofs.Common.{◌≤◌, ℕ, List, length, map, arith, subst, sym, ◌∙◌}
 use Rattle.std.proofs.lemmas.Result.{IfOk-weaker, IfErr-weaker, err_from_is_err_and}
-use Rattle.bl_load.specs.KernelRead.{kernel_by}
-use Rattle.bl_load.specs.Kernel.{IsKernel, AreLoadable, IsKernelFault}
+use Rattle.bl_load.specs.KernelKept.{kernel_by, AreLoadable, IsKernelFault}
+use Rattle.bl_load.specs.Kernel.{IsKernel}
 use Rattle.bl_load.specs.Planned.{file_text, handover_by}
 use Rattle.bl_load.specs.Value.{value_of}
 use Rattle.bl_load.proofs.LineLemmas.{sound_short}

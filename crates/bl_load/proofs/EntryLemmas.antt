@@ -1,0 +1,107 @@
+-- Where the kernel is entered.
+use Rattle.std.proofs.Common.{◌≡◌, ◌<◌, ◌≤◌, ◌+◌, ◌-◌, ◌^◌, ℕ, suc, true, false, List, [], ◌∷◌, ◌++◌, length, get_or, Option, Some, None, arith, refl, sym, ap, subst, ◌∙◌, All, AllPairs, inl, inr, nat_eq, length-append}
+use Rattle.std.specs.Prelude.{◌||◌}
+use Rattle.std.specs.List.{list_any}
+use Rattle.std.proofs.lemmas.List.{get_or_default}
+use Rattle.std.proofs.lemmas.List.Elements.{All-nil, All-cons, All-head, All-tail, All-append}
+use Rattle.std.proofs.lemmas.Bool.{cond_both, cases_lt}
+use Rattle.std.proofs.lemmas.Bool.Decides.{nat_tests}
+use Rattle.std.specs.declared.ops.Range.{Range}
+use Rattle.bl_mem.specs.declared.segment.Segment.{Segment}
+use Rattle.bl_mem.specs.Contents.{holds}
+use Rattle.bl_mem.specs.Memory.{IsIn}
+use Rattle.bl_map.specs.MachineFacts.{MachineFacts}
+use Rattle.bl_elf.specs.Elf.{AreApart}
+use Rattle.bl_mb2head.specs.declared.relocation.Relocation.{Relocation}
+use Rattle.bl_mbi.specs.InformationFacts.{InformationFacts, info_size}
+use Rattle.bl_plan.specs.Permitted.{AllOpen}
+use Rattle.bl_plan.specs.Planned.{put_in}
+use Rattle.bl_plan.specs.Placed.{ArePlaced, IsFirstFault, HasFault, IsChoice, IsRow, IsApart, place_at, range_of}
+use Rattle.bl_plan.specs.declared.choice.Choice.TheVariants.{Fixed, Lowest, Highest, Preferred}
+use Rattle.bl_plan.specs.declared.fault.PlanFault.TheVariants.{Overlap}
+use Rattle.bl_plan.specs.declared.row.Row.{Row}
+use Rattle.bl_plan.specs.declared.place.Place.{Place}
+use Rattle.bl_plan.specs.declared.role.Role.TheVariants.{Kernel}
+use Rattle.bl_plan.proofs.PutLemmas.{All-put_in}
+use Rattle.bl_plan.proofs.PlaceLaws.{as_many, all_usable, all_apart}
+use Rattle.bl_load.specs.Kernel.{KernelFacts, IsKernel, holds_at, entry_fault, counted_entry}
+use Rattle.bl_load.specs.KernelKept.{AreLoadable}
+use Rattle.bl_load.specs.Blocks.{low_of, high_of, span_of}
+use Rattle.bl_map.specs.Room.{whole_frames}
+use Rattle.bl_load.specs.Rows.{segment_rows, align_of, block_choice, kernel_rows, information_of, information_row, rows_of}
+use Rattle.bl_load.specs.Parts.{no_segment, base_of, information_at, entry_at}
+use Rattle.bl_load.specs.PlacingKept.{HasKernelLength, IsRowed}
+use Rattle.bl_plan.specs.Order.{place_key, in_order}
+use Rattle.bl_load.specs.HandoffFacts.{Ascends, AreRecords}
+use Rattle.bl_plan.proofs.OrderLemmas.{AreRelated, pairs_related, in_order_all, in_order_pairs, in_order_sorted, length-in_order}
+use Rattle.bl_load.proofs.KernelLaws.{entry_held, held_within, high_below}
+use Rattle.bl_load.proofs.SortedLemmas.{low_below, high_above_all}
+
+-- an address that a segment holds lies within the bounds of all
+held_between : (segments : List Segment) (a low high : ℕ) → All (λ s. low ≤ s.address) segments → All (λ s. s.address + s.memsz ≤ high) segments → list_any (holds_at a) segments ≡ true → (low ≤ a) × (a < high)
+held_between [] a low high above below held = absurd cc
+held_between (s ∷ segments) a low high above below held =
+    elim (holds s a) as (λ b. holds s a ≡ b → (b || list_any (holds_at a) segments) ≡ true → (low ≤ a) × (a < high)) [
+      | true ↦ λ e h.
+          let w = held_within s a e in
+          let first = above 0 s (omega arith) in
+          let last = below 0 s (omega arith) in
+          (omega (arith, w.0), omega (arith, w.1))
+      | false ↦ λ e h. held_between segments a low high (All-tail (λ (t : Segment). low ≤ t.address) s segments above) (All-tail (λ (t : Segment). t.address + t.memsz ≤ high) s segments below) h
+    ] refl held
+
+-- the entry of a kernel lies within the bounds of its segments
+pub entry_within : (file : List ℕ) (kernel : KernelFacts) → IsKernel file kernel → (low_of kernel.segments ≤ kernel.entry) × (kernel.entry < high_of kernel.segments)
+entry_within file kernel is =
+    let sound : entry_fault kernel.segments (Some kernel.entry) ≡ None =
+    subst (λ (e : Option ℕ). entry_fault kernel.segments e ≡ None) is.entry (subst (λ (ss : List Segment). entry_fault ss (counted_entry is.header is.facts) ≡ None) (sym is.segments) is.sound) in
+    held_between kernel.segments kernel.entry (low_of kernel.segments) (high_of kernel.segments) (low_below kernel.segments) (high_above_all kernel.segments) (entry_held kernel.segments kernel.entry sound)
+
+-- segments at their own addresses end no higher than their places
+segments_below : (facts : MachineFacts) (taken : List (Range ℕ)) (k n : ℕ) (segments : List Segment) (rest : List Row) (places : List Place) → ArePlaced facts taken (segment_rows k segments ++ rest) places → All (λ p. p.address + p.length ≤ n) places
+    → All (λ s. s.address + s.memsz ≤ n) segments
+segments_below facts taken k n [] rest places placed below = All-nil (λ (s : Segment). s.address + s.memsz ≤ n)
+segments_below facts taken k n (s ∷ segments) rest [] placed below = absurd placed
+segments_below facts taken k n (s ∷ segments) rest (p ∷ places) placed below =
+    let here = All-head (λ (q : Place). q.address + q.length ≤ n) p places below in
+    let at : p.address ≡ s.address = placed.0.0 in
+    let size : p.length ≡ s.memsz = ap (λ (q : Place). q.length) placed.1 in
+    All-cons (λ (t : Segment). t.address + t.memsz ≤ n) s segments (omega arith)
+    (segments_below facts (put_in (range_of p) taken) (suc k) n segments rest places placed.2 (All-tail (λ (q : Place). q.address + q.length ≤ n) p places below))
+
+abbrev EndsUpTo : ℕ → Place → Type 0
+EndsUpTo n p = p.address + p.length ≤ n
+
+-- the first and the last stand no higher than any part may end
+pub small_base : (places : List Place) (n : ℕ) → All (EndsUpTo n) places → base_of places ≤ n
+small_base [] n h = omega arith
+small_base (p ∷ places) n h = let first = All-head (EndsUpTo n) p places h in omega arith
+
+pub small_last : (places : List Place) (n : ℕ) → All (EndsUpTo n) places → information_at places ≤ n
+small_last [] n h = omega arith
+small_last (p ∷ []) n h = let first = All-head (EndsUpTo n) p [] h in omega arith
+small_last (p ∷ q ∷ places) n h = small_last (q ∷ places) n (All-tail (EndsUpTo n) p (q ∷ places) h)
+
+entry_small_by : (facts : MachineFacts) (file line : List ℕ) (segments : List Segment) (relocation : Option Relocation) (entry : ℕ) (places : List Place) → AreLoadable file segments → low_of segments ≤ entry → entry < high_of segments
+    → ArePlaced facts [] (kernel_rows segments relocation ++ information_row facts line relocation ∷ []) places → All (λ p. p.address + p.length ≤ 0xFFFFF000) places
+    → (entry + base_of places < 2 ^ 64) × (entry_at entry segments relocation (base_of places) < 2 ^ 32)
+entry_small_by facts file line segments None entry places loadable above under placed below =
+    let high = high_below segments 0xFFFFF000 (segments_below facts [] 0 0xFFFFF000 segments (information_row facts line None ∷ []) places placed below) in
+    let base = small_base places 0xFFFFF000 below in
+    (omega arith, omega arith)
+entry_small_by facts file line segments (Some r) entry [] loadable above under placed below = absurd placed
+entry_small_by facts file line segments (Some r) entry (p ∷ places) loadable above under placed below =
+    let here = All-head (λ (q : Place). q.address + q.length ≤ 0xFFFFF000) p places below in
+    let size : p.length ≡ span_of segments = ap (λ (q : Place). q.length) placed.1 in
+    let first = low_below segments 0 (record { offset = 0; address = 0; filesz = 0; memsz = 0 }) loadable.some in
+    let small = loadable.low 0 (record { offset = 0; address = 0; filesz = 0; memsz = 0 }) loadable.some in
+    (omega arith, omega arith)
+
+-- the entry lies in the block, and its sums stay small
+pub entry_small : (file : List ℕ) (facts : MachineFacts) (line : List ℕ) (kernel : KernelFacts) (places : List Place) → IsKernel file kernel → AreLoadable file kernel.segments → ArePlaced facts [] (rows_of facts line kernel) places
+    → All (λ p. p.address + p.length ≤ 0xFFFFF000) places
+    → (low_of kernel.segments ≤ kernel.entry) × (kernel.entry + base_of places < 2 ^ 64) × (entry_at kernel.entry kernel.segments kernel.relocation (base_of places) < 2 ^ 32)
+entry_small file facts line kernel places is loadable placed below =
+    let within = entry_within file kernel is in
+    let small = entry_small_by facts file line kernel.segments kernel.relocation kernel.entry places loadable within.0 within.1 placed below in
+    (within.0, small.0, small.1)
