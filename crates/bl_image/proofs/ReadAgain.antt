@@ -10,9 +10,11 @@ use Rattle.bl_plan.specs.declared.protocol.Protocol.TheVariants.{Multiboot2, Lin
 use Rattle.bl_load.specs.declared.registers.Registers.{Registers}
 use Rattle.bl_plan.specs.Protocols as protocols
 use Rattle.bl_load.specs.Handover.{Part, Handover}
-use Rattle.bl_image.specs.Image.{u32_bytes, u64_bytes, magic, register_numbers, part_record, spelling}
+use Rattle.bl_mem.specs.Words.{u32_bytes, u64_bytes}
+use Rattle.bl_mem.proofs.WordLaws.{length-u32_bytes, length-u64_bytes}
+use Rattle.bl_image.specs.Image.{magic, register_numbers, part_record, spelling}
 use Rattle.bl_image.specs.Spellable.{FitsRecord, IsSpellable}
-use Rattle.bl_image.proofs.NumberLemmas.{front_same, back_same, length-u32_bytes, length-u64_bytes, u32_same, u64_same}
+use Rattle.bl_image.proofs.NumberLemmas.{front_same, back_same, length-u32s, u32_same, u64_same, u32s_same}
 
 -- the role, the protocol and the registers of their numbers
 role_of : ℕ → Role
@@ -94,24 +96,19 @@ role_fits Initrd = lit< tt
 
 record_same : (p q : Part) → FitsRecord p → FitsRecord q → part_record p ≡ part_record q → IsAlike p q
 record_same p q hp hq e =
-    let ps : List ℕ = roles.role_number p.role ∷ p.index ∷ [] in
-    let qs : List ℕ = roles.role_number q.role ∷ q.index ∷ [] in
-    let wide : length (u32_bytes ps) ≡ length (u32_bytes qs) = length-u32_bytes ps ∙ sym (length-u32_bytes qs) in
-    let front : ps ≡ qs = u32_same ps qs (pair_fits (2 ^ 32) _ _ (role_fits p.role) hp.index) (pair_fits (2 ^ 32) _ _ (role_fits q.role) hq.index) refl (front_same _ _ _ _ wide e) in
-    let back : (p.address ∷ length p.bytes ∷ []) ≡ (q.address ∷ length q.bytes ∷ []) =
-    u64_same _ _ (pair_fits (2 ^ 64) _ _ hp.address hp.count) (pair_fits (2 ^ 64) _ _ hq.address hq.count) refl (back_same _ _ _ _ wide e) in
+    let u32s : (m n : ℕ) → length (u32_bytes m) ≡ length (u32_bytes n) = λ m n. length-u32_bytes m ∙ sym (length-u32_bytes n) in
+    let u64s : (m n : ℕ) → length (u64_bytes m) ≡ length (u64_bytes n) = λ m n. length-u64_bytes m ∙ sym (length-u64_bytes n) in
+    let behind_role = back_same _ _ _ _ (u32s _ _) e in
+    let behind_index = back_same _ _ _ _ (u32s _ _) behind_role in
     record {
-      role = role_same p.role q.role (ap (λ (l : List ℕ). get_or l 0 0) front);
-      index = ap (λ (l : List ℕ). get_or l 1 0) front;
-      address = ap (λ (l : List ℕ). get_or l 0 0) back;
-      count = ap (λ (l : List ℕ). get_or l 1 0) back;
+      role = role_same p.role q.role (u32_same _ _ (role_fits p.role) (role_fits q.role) (front_same _ _ _ _ (u32s _ _) e));
+      index = u32_same _ _ hp.index hq.index (front_same _ _ _ _ (u32s _ _) behind_role);
+      address = u64_same _ _ hp.address hq.address (front_same _ _ _ _ (u64s _ _) behind_index);
+      count = u64_same _ _ hp.count hq.count (back_same _ _ _ _ (u64s _ _) behind_index);
     }
 
 length-part_record : (p : Part) → length (part_record p) ≡ 24
-length-part_record p =
-    let front = length-u32_bytes (roles.role_number p.role ∷ p.index ∷ []) in
-    let back = length-u64_bytes (p.address ∷ length p.bytes ∷ []) in
-    length-append (u32_bytes (roles.role_number p.role ∷ p.index ∷ [])) (u64_bytes (p.address ∷ length p.bytes ∷ [])) ∙ omega (arith, front, back)
+length-part_record p = omega (arith, length-append {A = ℕ}, length-u32_bytes, length-u64_bytes)
 
 part_same : (p q : Part) → IsAlike p q → p.bytes ≡ q.bytes → p ≡ q
 part_same p q a e =
@@ -169,14 +166,14 @@ words_fit h s =
     (All-cons fits (protocols.protocol_number h.protocol) rest (protocol_fits h.protocol)
     (All-append fits (register_numbers h.registers) last s.registers end))
 
-words_same : (h k : Handover) → IsSpellable h → IsSpellable k → (x y : List ℕ) → (magic ++ u32_bytes (words h)) ++ x ≡ (magic ++ u32_bytes (words k)) ++ y
+words_same : (h k : Handover) → IsSpellable h → IsSpellable k → (x y : List ℕ) → (magic ++ flat_map u32_bytes (words h)) ++ x ≡ (magic ++ flat_map u32_bytes (words k)) ++ y
     → (words h ≡ words k) × (x ≡ y)
 words_same h k sh sk x y e =
-    let wide : length (u32_bytes (words h)) ≡ length (u32_bytes (words k)) = length-u32_bytes (words h) ∙ sym (length-u32_bytes (words k)) in
-    let front : length (magic ++ u32_bytes (words h)) ≡ length (magic ++ u32_bytes (words k)) =
-    length-append magic (u32_bytes (words h)) ∙ ap (λ (n : ℕ). length magic + n) wide ∙ sym (length-append magic (u32_bytes (words k))) in
-    let heads : magic ++ u32_bytes (words h) ≡ magic ++ u32_bytes (words k) = front_same (magic ++ u32_bytes (words h)) (magic ++ u32_bytes (words k)) x y front e in
-    (u32_same (words h) (words k) (words_fit h sh) (words_fit k sk) refl (back_same magic magic (u32_bytes (words h)) (u32_bytes (words k)) refl heads), back_same (magic ++ u32_bytes (words h)) (magic ++ u32_bytes (words k)) x y front e)
+    let wide : length (flat_map u32_bytes (words h)) ≡ length (flat_map u32_bytes (words k)) = length-u32s (words h) ∙ sym (length-u32s (words k)) in
+    let front : length (magic ++ flat_map u32_bytes (words h)) ≡ length (magic ++ flat_map u32_bytes (words k)) =
+    length-append magic (flat_map u32_bytes (words h)) ∙ ap (λ (n : ℕ). length magic + n) wide ∙ sym (length-append magic (flat_map u32_bytes (words k))) in
+    let heads : magic ++ flat_map u32_bytes (words h) ≡ magic ++ flat_map u32_bytes (words k) = front_same (magic ++ flat_map u32_bytes (words h)) (magic ++ flat_map u32_bytes (words k)) x y front e in
+    (u32s_same (words h) (words k) (words_fit h sh) (words_fit k sk) refl (back_same magic magic (flat_map u32_bytes (words h)) (flat_map u32_bytes (words k)) refl heads), back_same (magic ++ flat_map u32_bytes (words h)) (magic ++ flat_map u32_bytes (words k)) x y front e)
 
 handover_same : (h k : Handover) → h.protocol ≡ k.protocol → h.registers ≡ k.registers → h.parts ≡ k.parts → h ≡ k
 handover_same h k protocol registers parts =

@@ -1,7 +1,7 @@
 -- The image of a handover, version 1: its one spelling. All numbers are little-endian. Own.
 use Rattle.std.specs.Prelude.{ℕ, ◌+◌, List, [], ◌∷◌, ◌++◌, length, codes, slice_range}
 use Rattle.std.specs.List.{flat_map}
-use Rattle.byteorder.specs.Endian.{little_bytes}
+use Rattle.bl_mem.specs.Words.{u32_bytes, u64_bytes}
 use Rattle.bl_plan.specs.declared.place.Place.{Place}
 use Rattle.bl_plan.specs.declared.role.Role.{Role}
 use Rattle.bl_plan.specs.Roles as roles
@@ -9,13 +9,6 @@ use Rattle.bl_plan.specs.declared.protocol.Protocol.{Protocol}
 use Rattle.bl_load.specs.declared.registers.Registers.{Registers}
 use Rattle.bl_plan.specs.Protocols as protocols
 use Rattle.bl_load.specs.Handover.{Part, Handover}
-
--- numbers of 32 and of 64 bits, one behind the other
-unfoldable pub u32_bytes : List ℕ → List ℕ
-u32_bytes numbers = flat_map (little_bytes 4) numbers
-
-unfoldable pub u64_bytes : List ℕ → List ℕ
-u64_bytes numbers = flat_map (little_bytes 8) numbers
 
 -- `BLIMAGE` and a zero byte
 abbrev pub magic : List ℕ
@@ -27,15 +20,15 @@ register_numbers r =
     r.eip ∷ r.eax ∷ r.ebx ∷ r.ecx ∷ r.edx ∷ r.esi ∷ r.edi ∷ r.ebp ∷ r.esp ∷ r.eflags
     ∷ r.cr0 ∷ r.cs ∷ r.ds ∷ r.es ∷ r.fs ∷ r.gs ∷ r.ss ∷ r.gdt_base ∷ r.gdt_limit ∷ r.a20 ∷ []
 
--- the magic; version, protocol; the registers; the number of parts, a zero word
+-- the magic; version, protocol; the registers; the number of parts, a zero word: each number in 32 bits
 abbrev pub head : Protocol → Registers → ℕ → List ℕ
 head protocol registers count =
-    magic ++ u32_bytes (1 ∷ protocols.protocol_number protocol ∷ (register_numbers registers ++ count ∷ 0 ∷ []))
+    magic ++ flat_map u32_bytes (1 ∷ protocols.protocol_number protocol ∷ (register_numbers registers ++ count ∷ 0 ∷ []))
 
--- a record: role, index; address, length
+-- a record: role and index in 32 bits, address and length in 64
 abbrev pub record_of : Role → ℕ → ℕ → ℕ → List ℕ
 record_of role index address count =
-    u32_bytes (roles.role_number role ∷ index ∷ []) ++ u64_bytes (address ∷ count ∷ [])
+    u32_bytes (roles.role_number role) ++ (u32_bytes index ++ (u64_bytes address ++ u64_bytes count))
 
 abbrev pub part_record : Part → List ℕ
 part_record part = record_of part.role part.index part.address (length part.bytes)

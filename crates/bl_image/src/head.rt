@@ -2,13 +2,13 @@
 ghost use Rattle.std.specs.Prelude.{◌≡◌, ◌+◌, ◌*◌, ◌<◌, ◌≤◌, ◌^◌, ◌++◌, length, take, All, OnOk, OnErr};
 ghost use Rattle.std.specs.List.{flat_map};
 ghost use Rattle.bl_image.specs.Begun.{IsBegun};
-ghost use Rattle.bl_image.specs.Image.{u32_bytes, head, place_record, register_numbers};
+ghost use Rattle.bl_image.specs.Image.{head, place_record, register_numbers};
 ghost use Rattle.bl_image.specs.Spellable.{AreSpellable};
 
 use crate::sink::{DeviceFault, Sink, write_all};
 use bl_load::{Handoff, Protocol, Registers};
+use bl_mem::{write_u32s, write_u64s};
 use bl_plan::Place;
-use byteorder::{ByteOrder, LittleEndian};
 use std::alloc::Allocator;
 
 /// What an image begins with.
@@ -16,16 +16,6 @@ const MAGIC: [u8; 8] = *b"BLIMAGE\0";
 
 /// The version of the format.
 const VERSION: u32 = 1;
-
-/// Puts words into bytes, the lowest byte of each first.
-#[tactic(auto, unfolding(crate::specs::Image::u32_bytes))]
-fn put_words(words: &[u32], bytes: &mut [u8])
-    requires { length bytes.old ≡ 4 * length words.now }
-    ensures bytes { bytes.new ≡ u32_bytes words.now }
-    ensures fit { All (λ word. word < 2 ^ 32) words.now }
-{
-    LittleEndian::write_u32_into(words, bytes);
-}
 
 /// The head of an image with so many parts.
 fn head_bytes(protocol: Protocol, r: &Registers, count: u32) -> [u8; 104]
@@ -60,19 +50,18 @@ fn head_bytes(protocol: Protocol, r: &Registers, count: u32) -> [u8; 104]
     ];
     let mut bytes = [0u8; 104];
     bytes[..8].copy_from_slice(&MAGIC);
-    put_words(&words, &mut bytes[8..]);
+    write_u32s(&words, &mut bytes[8..]);
     bytes
 }
 
 /// The record of a part.
-#[tactic(auto, unfolding(crate::specs::Image::u32_bytes, crate::specs::Image::u64_bytes))]
 fn record_bytes(place: &Place) -> [u8; 24]
     ensures bytes { result ≡ place_record place.now }
     ensures index { place.now.index < 2 ^ 32 }
 {
     let mut bytes = [0u8; 24];
-    put_words(&[place.role.number(), place.index], &mut bytes[..8]);
-    LittleEndian::write_u64_into(&[place.address, place.length], &mut bytes[8..]);
+    write_u32s(&[place.role.number(), place.index], &mut bytes[..8]);
+    write_u64s(&[place.address, place.length], &mut bytes[8..]);
     bytes
 }
 

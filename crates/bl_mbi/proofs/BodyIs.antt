@@ -10,11 +10,12 @@ use Rattle.std.proofs.Math.Seq.{drop-cons}
 use Rattle.bl_map.specs.declared.kind.Kind.{Kind}
 use Rattle.bl_map.specs.declared.kind.Kind.TheVariants.{Usable, Reserved, Acpi, Nvs, Bad}
 use Rattle.bl_map.specs.declared.region.Region.{Region}
-use Rattle.bl_map.specs.Kinds.{kind_number, end_of}
+use Rattle.bl_map.specs.Kinds.{kind_number, kind_of, end_of}
 use Rattle.bl_mbi.specs.InformationFacts.{ModuleInfo, IsModule, IsText, AreBytes}
-use Rattle.bl_mbi.specs.Tags.{u32_bytes, u64_bytes, text_body, module_body, memory_body, run_bytes, map_body}
+use Rattle.bl_mem.specs.Words.{u32_bytes, u64_bytes}
+use Rattle.bl_mbi.specs.Tags.{text_body, module_body, memory_body, run_bytes, map_body}
 use Rattle.bl_mbi.specs.Fields.{word, long}
-use Rattle.bl_mbi.specs.Bodies.{text_of, module_of, memory_of, kind_of, run_of, runs_of, map_of, load_base_of}
+use Rattle.bl_mbi.specs.Bodies.{text_of, module_of, memory_of, run_of, runs_of, map_of, load_base_of}
 use Rattle.bl_mbi.proofs.Inverse.{passed_some, mapped, then, same_some}
 use Rattle.bl_mbi.proofs.WordLaws.{word_then, long_then, word_small}
 use Rattle.bl_mbi.proofs.TagIs.{drop_small, take_small}
@@ -53,12 +54,12 @@ module_is body m small h =
     let line = text_is (drop 8 body) s3.0 (drop_small 8 body small) s3.1 in
     let front : u32_bytes (word body) ++ drop 4 body ≡ body = word_then body small (omega arith) in
     let second : u32_bytes (word (drop 4 body)) ++ drop 4 (drop 4 body) ≡ drop 4 body = word_then (drop 4 body) (drop_small 4 body small) (omega (arith, length-drop 4 body)) in
-    let told : ModuleInfo = record { mod_start = word body; mod_end = word (drop 4 body); line = s3.0 } in
-    let spelled : body ≡ module_body told =
+    let read : ModuleInfo = record { mod_start = word body; mod_end = word (drop 4 body); line = s3.0 } in
+    let spelled : body ≡ module_body read =
     sym front ∙ ap (λ (xs : List ℕ). u32_bytes (word body) ++ xs) (sym second)
     ∙ ap (λ (xs : List ℕ). u32_bytes (word body) ++ (u32_bytes (word (drop 4 body)) ++ xs)) (drop-drop 4 4 body ∙ line.0) in
-    let ranges : IsModule told = record { forward = forward; small = word_small (drop 4 body) (drop_small 4 body small); line = line.1 } in
-    let is : (body ≡ module_body told) × IsModule told = (spelled, ranges) in
+    let ranges : IsModule read = record { forward = forward; small = word_small (drop 4 body) (drop_small 4 body small); line = line.1 } in
+    let is : (body ≡ module_body read) × IsModule read = (spelled, ranges) in
     rw (← s3.2) is
 
 pub memory_is : (body : List ℕ) (sizes : ℕ × ℕ) → AreBytes body → memory_of body ≡ Some sizes → (body ≡ memory_body sizes.0 sizes.1) × (sizes.0 ≤ 640) × (sizes.1 < 2 ^ 32)
@@ -66,7 +67,7 @@ unfolding memory_of
 memory_is body sizes small h =
     let s1 = passed_some (not (nat_eq (length body) 8)) _ sizes h in
     let s2 = passed_some (nat_lt 640 (word body)) _ sizes s1.1 in
-    let told = same_some _ sizes s2.1 in
+    let read = same_some _ sizes s2.1 in
     let len : length body ≡ 8 = grind (arith, nat_tests, not-false _ s1.0) in
     let low : word body ≤ 640 = grind (arith, nat_tests, s2.0) in
     let front : u32_bytes (word body) ++ drop 4 body ≡ body = word_then body small (omega arith) in
@@ -75,7 +76,7 @@ memory_is body sizes small h =
     let spelled : body ≡ memory_body (word body) (word (drop 4 body)) =
     sym front ∙ ap (λ (xs : List ℕ). u32_bytes (word body) ++ xs) (sym second ∙ ap (λ (xs : List ℕ). u32_bytes (word (drop 4 body)) ++ xs) nothing ∙ append-nil (u32_bytes (word (drop 4 body)))) in
     let is : (body ≡ memory_body (word body) (word (drop 4 body))) × (word body ≤ 640) × (word (drop 4 body) < 2 ^ 32) = (spelled, low, word_small (drop 4 body) (drop_small 4 body small)) in
-    rw (← told) is
+    rw (← read) is
 
 -- a number that is this kind's, or is looked for among the others
 kind_if : (n m : ℕ) (this : Kind) (others : Option Kind) (kind : Kind) → cond (nat_eq n m) (Some this) others ≡ Some kind → m ≡ kind_number this → (others ≡ Some kind → n ≡ kind_number kind) → n ≡ kind_number kind
@@ -108,7 +109,7 @@ run_is bytes run small enough h =
     let low : base + len ≤ 2 ^ 52 = grind (arith, nat_tests, s1.0) in
     let reserved : word (drop 20 bytes) ≡ 0 = grind (arith, nat_tests, not-false _ s2.0) in
     let kind = kind_is (word (drop 16 bytes)) s3.0 s3.1 in
-    let told : Region = record { base = base; length = len; kind = s3.0 } in
+    let read : Region = record { base = base; length = len; kind = s3.0 } in
     let first : u64_bytes base ++ drop 8 bytes ≡ bytes = long_then bytes small (omega arith) in
     let second : u64_bytes len ++ drop 8 (drop 8 bytes) ≡ drop 8 bytes = long_then (drop 8 bytes) (drop_small 8 bytes small) (omega (arith, length-drop 8 bytes)) in
     let third : u32_bytes (word (drop 16 bytes)) ++ drop 4 (drop 16 bytes) ≡ drop 16 bytes = word_then (drop 16 bytes) (drop_small 16 bytes small) (omega (arith, length-drop 16 bytes)) in
@@ -116,21 +117,21 @@ run_is bytes run small enough h =
     let at_16 : drop 8 (drop 8 bytes) ≡ drop 16 bytes = drop-drop 8 8 bytes in
     let at_20 : drop 4 (drop 16 bytes) ≡ drop 20 bytes = drop-drop 4 16 bytes in
     let at_24 : drop 4 (drop 20 bytes) ≡ drop 24 bytes = drop-drop 4 20 bytes in
-    let spelled : bytes ≡ run_bytes told ++ drop 24 bytes =
+    let spelled : bytes ≡ run_bytes read ++ drop 24 bytes =
     sym first ∙ ap (λ (xs : List ℕ). u64_bytes base ++ xs) (sym second)
     ∙ ap (λ (xs : List ℕ). u64_bytes base ++ (u64_bytes len ++ xs)) (at_16 ∙ sym third)
     ∙ ap₂ (λ (n : ℕ) (xs : List ℕ). u64_bytes base ++ (u64_bytes len ++ (u32_bytes n ++ xs))) kind (at_20 ∙ sym fourth)
     ∙ ap₂ (λ (n : ℕ) (xs : List ℕ). u64_bytes base ++ (u64_bytes len ++ (u32_bytes (kind_number s3.0) ++ (u32_bytes n ++ xs)))) reserved at_24
     ∙ simp append_assoc in
-    let is : (bytes ≡ run_bytes told ++ drop 24 bytes) × (end_of told ≤ 2 ^ 52) = (spelled, low) in
+    let is : (bytes ≡ run_bytes read ++ drop 24 bytes) × (end_of read ≤ 2 ^ 52) = (spelled, low) in
     rw (← s3.2) is
 
 runs_are : (n : ℕ) (bytes : List ℕ) (runs : List Region) → AreBytes bytes → length bytes ≡ 24 * n → runs_of n bytes ≡ Some runs → (bytes ≡ flat_map run_bytes runs) × All (λ run. end_of run ≤ 2 ^ 52) runs
 runs_are zero bytes runs small len h =
-    let told = same_some [] runs h in
+    let read = same_some [] runs h in
     let nothing : bytes ≡ [] = drop_all 0 bytes (omega arith) in
     let is : (bytes ≡ flat_map run_bytes []) × All (λ run. end_of run ≤ 2 ^ 52) [] = (nothing, All-nil (λ (run : Region). end_of run ≤ 2 ^ 52)) in
-    rw (← told) is
+    rw (← read) is
 runs_are (suc n) bytes runs small len h =
     let s1 = then _ (run_of bytes) runs h in
     let s2 = mapped _ (runs_of n (drop 24 bytes)) runs s1.2 in
@@ -166,10 +167,10 @@ pub load_base_is : (body : List ℕ) (base : ℕ) → AreBytes body → load_bas
 unfolding load_base_of
 load_base_is body base small h =
     let s1 = passed_some (not (nat_eq (length body) 4)) _ base h in
-    let told = same_some _ base s1.1 in
+    let read = same_some _ base s1.1 in
     let len : length body ≡ 4 = grind (arith, nat_tests, not-false _ s1.0) in
     let nothing : drop 4 body ≡ [] = drop_all 4 body (omega arith) in
     let front : u32_bytes (word body) ++ drop 4 body ≡ body = word_then body small (omega arith) in
     let spelled : body ≡ u32_bytes (word body) = sym front ∙ ap (λ (xs : List ℕ). u32_bytes (word body) ++ xs) nothing ∙ append-nil (u32_bytes (word body)) in
     let is : (body ≡ u32_bytes (word body)) × (word body < 2 ^ 32) = (spelled, word_small body small) in
-    rw (← told) is
+    rw (← read) is

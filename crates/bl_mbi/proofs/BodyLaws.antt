@@ -10,12 +10,14 @@ use Rattle.std.proofs.Math.Seq.{get_or-append_seam}
 use Rattle.bl_map.specs.declared.kind.Kind.{Kind}
 use Rattle.bl_map.specs.declared.kind.Kind.TheVariants.{Usable, Reserved, Acpi, Nvs, Bad}
 use Rattle.bl_map.specs.declared.region.Region.{Region}
-use Rattle.bl_map.specs.Kinds.{kind_number, end_of}
+use Rattle.bl_map.specs.Kinds.{kind_number, kind_of, end_of}
 use Rattle.bl_mbi.specs.InformationFacts.{ModuleInfo, IsModule, IsText}
-use Rattle.bl_mbi.specs.Tags.{u32_bytes, u64_bytes, text_body, module_body, memory_body, run_bytes, map_body}
+use Rattle.bl_mem.specs.Words.{u32_bytes, u64_bytes}
+use Rattle.bl_mbi.specs.Tags.{text_body, module_body, memory_body, run_bytes, map_body}
 use Rattle.bl_mbi.specs.Fields.{word, long}
-use Rattle.bl_mbi.specs.Bodies.{text_of, module_of, memory_of, kind_of, run_of, runs_of, map_of, load_base_of}
-use Rattle.bl_mbi.proofs.Sizes.{length-u32_bytes, length-text_body, length-module_body, length-run_bytes, length-map_body}
+use Rattle.bl_mbi.specs.Bodies.{text_of, module_of, memory_of, run_of, runs_of, map_of, load_base_of}
+use Rattle.bl_mem.proofs.WordLaws.{length-u32_bytes}
+use Rattle.bl_mbi.proofs.Sizes.{length-text_body, length-module_body, length-run_bytes, length-map_body}
 use Rattle.bl_mbi.proofs.WordLaws.{word_front, word_alone, long_front, behind_word, behind_words, behind_long}
 
 no_zero : (text : List ℕ) → IsText text → list_any (λ c. nat_eq c 0) text ≡ false

@@ -27,9 +27,9 @@ pub made : {A B : Type 0} (x : Result A InfoFault) (f : A → Result B InfoFault
 made (Ok a) f y h = (a, refl, h)
 made (Err e) f y h = absurd (cc)
 
-pub told_by : {A : Type 0} (at : ℕ) (x : Option A) (y : A) → or_bad at x ≡ Ok y → x ≡ Some y
-told_by at (Some x) y h = cc
-told_by at None y h = absurd (cc)
+pub not_bad : {A : Type 0} (at : ℕ) (x : Option A) (y : A) → or_bad at x ≡ Ok y → x ≡ Some y
+not_bad at (Some x) y h = cc
+not_bad at None y h = absurd (cc)
 
 pub mapped : {A B : Type 0} (f : A → B) (x : Option A) (y : B) → option_map f x ≡ Some y → (a : A) × (x ≡ Some a) × (f a ≡ y)
 mapped f (Some a) y h = (a, refl, cc)

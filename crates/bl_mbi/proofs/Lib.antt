@@ -9,6 +9,7 @@ pub mod ReadIs
 pub mod ReadLaws
 pub mod RunLemmas
 pub mod Sizes
+pub mod SumLemmas
 pub mod TagIs
 pub mod TagLaws
 pub mod WordLaws

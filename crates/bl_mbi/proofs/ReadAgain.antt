@@ -8,12 +8,14 @@ use Rattle.std.proofs.lemmas.List.Elements.{All-head, All-tail}
 use Rattle.bl_map.specs.declared.region.Region.{Region}
 use Rattle.bl_map.specs.Kinds.{end_of}
 use Rattle.bl_mbi.specs.declared.fault.InfoFault.{InfoFault}
-use Rattle.bl_mbi.specs.InformationFacts.{InformationFacts, ModuleInfo, IsModule, IsText, IsTold}
-use Rattle.bl_mbi.specs.Tags.{u32_bytes, tag, text_body, module_body, module_tag, memory_body, map_body, copy_tag, load_base_tag}
+use Rattle.bl_mbi.specs.InformationFacts.{InformationFacts, ModuleInfo, IsModule, IsText, FitsFields}
+use Rattle.bl_mem.specs.Words.{u32_bytes}
+use Rattle.bl_mbi.specs.Tags.{tag, text_body, module_body, module_tag, memory_body, map_body, copy_tag, load_base_tag}
 use Rattle.bl_mbi.specs.Spelling.{tags, spelling}
 use Rattle.bl_mbi.specs.Fields.{◌>>=◌, Left, word, is_next, tag_at}
 use Rattle.bl_mbi.specs.Reading.{text_tag_at, module_at, modules_upto, modules_at, memory_at, map_at, copy_at, load_base_at, end_at, tags_of, info_of}
-use Rattle.bl_mbi.proofs.Sizes.{length-u32_bytes, length-tag, length-tags, length-text_body, length-module_body, length-map_body, length-module_tag}
+use Rattle.bl_mem.proofs.WordLaws.{length-u32_bytes}
+use Rattle.bl_mbi.proofs.Sizes.{length-tag, length-tags, length-text_body, length-module_body, length-map_body, length-module_tag}
 use Rattle.bl_mbi.proofs.WordLaws.{word_front, behind_word, behind_words}
 use Rattle.bl_mbi.proofs.ModuleLemmas.{no_more, one_more}
 use Rattle.bl_mbi.proofs.TagLaws.{tag_again, next_tag}
@@ -125,24 +127,24 @@ no_old at None None = next_end 14 at
 no_old at None (Some base) = next_tag 14 21 at (u32_bytes base) (tag 0 []) (lit< tt)
 
 -- the tags, one behind the other
-in_order : (l0 l1 l2 l3 l4 l5 l6 l7 l8 : Left) (name : List ℕ) (info : InformationFacts)
-    → text_tag_at 1 l0 ≡ Ok (info.line, l1) → text_tag_at 2 l1 ≡ Ok (name, l2) → modules_at l2 ≡ Ok (info.modules, l3)
-    → memory_at l3 ≡ Ok ((info.mem_lower, info.mem_upper), l4) → map_at l4 ≡ Ok (info.runs, l5)
-    → copy_at 14 l5 ≡ Ok (info.rsdp_old, l6) → copy_at 15 l6 ≡ Ok (info.rsdp_new, l7) → load_base_at l7 ≡ Ok (info.load_base, l8) → end_at l8 ≡ Ok tt
-    → tags_of l0 ≡ Ok record { name = name; facts = info }
+in_order : (l0 l1 l2 l3 l4 l5 l6 l7 l8 : Left) (name : List ℕ) (facts : InformationFacts)
+    → text_tag_at 1 l0 ≡ Ok (facts.line, l1) → text_tag_at 2 l1 ≡ Ok (name, l2) → modules_at l2 ≡ Ok (facts.modules, l3)
+    → memory_at l3 ≡ Ok ((facts.mem_lower, facts.mem_upper), l4) → map_at l4 ≡ Ok (facts.runs, l5)
+    → copy_at 14 l5 ≡ Ok (facts.rsdp_old, l6) → copy_at 15 l6 ≡ Ok (facts.rsdp_new, l7) → load_base_at l7 ≡ Ok (facts.load_base, l8) → end_at l8 ≡ Ok tt
+    → tags_of l0 ≡ Ok record { name = name; facts = facts }
 unfolding tags_of
-in_order l0 l1 l2 l3 l4 l5 l6 l7 l8 name info line loader modules memory map old new base end = rw (line, loader, modules, memory, map, old, new, base, end) refl
+in_order l0 l1 l2 l3 l4 l5 l6 l7 l8 name facts line loader modules memory map old new base end = rw (line, loader, modules, memory, map, old, new, base, end) refl
 
-pub tags_again : (at : ℕ) (name : List ℕ) (info : InformationFacts) → IsText name → IsTold info → 8 + length (tags name info) < 2 ^ 32 → tags_of (from at (tags name info)) ≡ Ok record { name = name; facts = info }
-tags_again at name info name_is is fits =
-    let line = tag 1 (text_body info.line) in
+pub tags_again : (at : ℕ) (name : List ℕ) (facts : InformationFacts) → IsText name → FitsFields facts → 8 + length (tags name facts) < 2 ^ 32 → tags_of (from at (tags name facts)) ≡ Ok record { name = name; facts = facts }
+tags_again at name facts name_is is fits =
+    let line = tag 1 (text_body facts.line) in
     let loader = tag 2 (text_body name) in
-    let modules = flat_map module_tag info.modules in
-    let memory = tag 4 (memory_body info.mem_lower info.mem_upper) in
-    let map = tag 6 (map_body info.runs) in
-    let old = copy_tag 14 info.rsdp_old in
-    let new = copy_tag 15 info.rsdp_new in
-    let base = load_base_tag info.load_base in
+    let modules = flat_map module_tag facts.modules in
+    let memory = tag 4 (memory_body facts.mem_lower facts.mem_upper) in
+    let map = tag 6 (map_body facts.runs) in
+    let old = copy_tag 14 facts.rsdp_old in
+    let new = copy_tag 15 facts.rsdp_new in
+    let base = load_base_tag facts.load_base in
     let r8 = tag 0 [] in
     let r7 = base ++ r8 in
     let r6 = new ++ r7 in
@@ -159,32 +161,32 @@ tags_again at name info name_is is fits =
     let l6 = past l5.at old r6 in
     let l7 = past l6.at new r7 in
     let l8 = past l7.at base r8 in
-    let sum : length line + (length loader + (length modules + (length memory + (length map + (length old + (length new + (length base + length r8))))))) ≡ length (tags name info) = omega (arith, length-append line r1, length-append loader r2, length-append modules r3, length-append memory r4, length-append map r5, length-append old r6, length-append new r7, length-append base r8) in
-    let line_fits : length info.line < 2 ^ 32 - 9 = omega (arith, length-tag 1 (text_body info.line), length-text_body info.line) in
+    let sum : length line + (length loader + (length modules + (length memory + (length map + (length old + (length new + (length base + length r8))))))) ≡ length (tags name facts) = omega (arith, length-append line r1, length-append loader r2, length-append modules r3, length-append memory r4, length-append map r5, length-append old r6, length-append new r7, length-append base r8) in
+    let line_fits : length facts.line < 2 ^ 32 - 9 = omega (arith, length-tag 1 (text_body facts.line), length-text_body facts.line) in
     let name_fits : length name < 2 ^ 32 - 9 = omega (arith, length-tag 2 (text_body name), length-text_body name) in
-    let map_fits : 24 * length info.runs < 2 ^ 32 - 16 = omega (arith, length-tag 6 (map_body info.runs), length-map_body info.runs) in
-    in_order (from at (tags name info)) l1 l2 l3 l4 l5 l6 l7 l8 name info
-    (text_tag_at_again 1 at info.line r1 (lit< tt) line_fits is.line)
+    let map_fits : 24 * length facts.runs < 2 ^ 32 - 16 = omega (arith, length-tag 6 (map_body facts.runs), length-map_body facts.runs) in
+    in_order (from at (tags name facts)) l1 l2 l3 l4 l5 l6 l7 l8 name facts
+    (text_tag_at_again 1 at facts.line r1 (lit< tt) line_fits is.line)
     (text_tag_at_again 2 l1.at name r2 (lit< tt) name_fits name_is)
-    (modules_at_again l2.at info.modules r3 (omega arith) is.modules (λ there. next_tag 3 4 there (memory_body info.mem_lower info.mem_upper) r4 (lit< tt)))
-    (memory_at_again l3.at info.mem_lower info.mem_upper r4 is.mem_lower is.mem_upper)
-    (map_at_again l4.at info.runs r5 map_fits is.runs)
-    (copy_at_again 14 l5.at info.rsdp_old r6 (lit< tt) (omega arith) (no_old l6.at info.rsdp_new info.load_base))
-    (copy_at_again 15 l6.at info.rsdp_new r7 (lit< tt) (omega arith) (no_new l7.at info.load_base))
-    (load_base_at_again l7.at info.load_base r8 is.load_base (no_base l8.at))
+    (modules_at_again l2.at facts.modules r3 (omega arith) is.modules (λ there. next_tag 3 4 there (memory_body facts.mem_lower facts.mem_upper) r4 (lit< tt)))
+    (memory_at_again l3.at facts.mem_lower facts.mem_upper r4 is.mem_lower is.mem_upper)
+    (map_at_again l4.at facts.runs r5 map_fits is.runs)
+    (copy_at_again 14 l5.at facts.rsdp_old r6 (lit< tt) (omega arith) (no_old l6.at facts.rsdp_new facts.load_base))
+    (copy_at_again 15 l6.at facts.rsdp_new r7 (lit< tt) (omega arith) (no_new l7.at facts.load_base))
+    (load_base_at_again l7.at facts.load_base r8 is.load_base (no_base l8.at))
     (end_at_again l8.at)
 
-pub spelled_is_read : (name : List ℕ) (info : InformationFacts) → IsText name → IsTold info → length (spelling name info) < 2 ^ 32 → info_of (spelling name info) ≡ Ok record { name = name; facts = info }
+pub spelled_is_read : (name : List ℕ) (facts : InformationFacts) → IsText name → FitsFields facts → length (spelling name facts) < 2 ^ 32 → info_of (spelling name facts) ≡ Ok record { name = name; facts = facts }
 unfolding info_of spelling
-spelled_is_read name info name_is is fits =
-    let all = tags name info in
+spelled_is_read name facts name_is is fits =
+    let all = tags name facts in
     let total = 8 + length all in
     let bytes = u32_bytes total ++ (u32_bytes 0 ++ all) in
     let len : length bytes ≡ total = omega (arith, length-append (u32_bytes total) (u32_bytes 0 ++ all), length-append (u32_bytes 0) all, length-u32_bytes) in
-    let long : 16 ≤ total = omega (arith, length-tags name info) in
+    let long : 16 ≤ total = omega (arith, length-tags name facts) in
     let not_short : nat_lt (length bytes) 16 ≡ false = grind (arith, nat_tests) in
     let whole : word bytes ≡ total = word_front total _ (omega arith) in
     let same : nat_eq total (length bytes) ≡ true = grind (arith, nat_tests) in
     let reserved : word (drop 4 bytes) ≡ 0 = rw behind_word (word_front 0 all (lit< tt)) in
     let rest : drop 8 bytes ≡ all = behind_words total 0 all in
-    rw (not_short, whole, same, reserved, rest) (tags_again 8 name info name_is is (omega arith))
+    rw (not_short, whole, same, reserved, rest) (tags_again 8 name facts name_is is (omega arith))

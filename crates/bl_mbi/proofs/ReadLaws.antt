@@ -5,7 +5,7 @@ use Rattle.std.proofs.lemmas.List.Elements.{All-from_get_or}
 use Rattle.bl_mbi.specs.declared.fault.InfoFault.{InfoFault}
 use Rattle.bl_mbi.specs.declared.fault.InfoFault.TheVariants.{WrongLength, BadReserved, BadTag, BadOrder, NoMemory}
 use Rattle.bl_mbi.specs.InformationFacts.{AreBytes}
-use Rattle.bl_mbi.specs.InfoFacts.{InfoFacts, IsSpelled}
+use Rattle.bl_mbi.specs.InfoFacts.{InfoFacts, IsSpelling}
 use Rattle.bl_mbi.specs.Fields.{Gives}
 use Rattle.bl_mbi.specs.Reading.{info_of}
 use Rattle.bl_mbi.proofs.Inverse.{same_ok}
@@ -15,19 +15,19 @@ use Rattle.bl_mbi.proofs.ReadIs.{read_is_spelled}
 pub are_bytes : (bytes : List ℕ) → ((i : ℕ) → get_or bytes i 0 < 256) → AreBytes bytes
 are_bytes bytes small = All-from_get_or (λ b. b < 256) bytes 0 (λ i inside. small i)
 
-pub spelled_by : (result : Result InfoFacts InfoFault) (bytes : List ℕ) → AreBytes bytes → Gives (λ told. told) result (info_of bytes) → IfOk result (IsSpelled bytes)
-spelled_by (Ok told) bytes small gives = read_is_spelled bytes told small gives
-spelled_by (Err fault) bytes small gives = tt
+pub spelling_by : (result : Result InfoFacts InfoFault) (bytes : List ℕ) → AreBytes bytes → Gives (λ info. info) result (info_of bytes) → IfOk result (IsSpelling bytes)
+spelling_by (Ok info) bytes small gives = read_is_spelled bytes info small gives
+spelling_by (Err fault) bytes small gives = tt
 
-spelling_read : (bytes : List ℕ) (told : InfoFacts) → IsSpelled bytes told → length bytes < 2 ^ 32 → info_of bytes ≡ Ok told
-spelling_read bytes told is fits =
-    let e = is.spelled in
-    rw e (spelled_is_read told.name told.facts is.name is.facts (rw (← e) fits))
+spelling_read : (bytes : List ℕ) (info : InfoFacts) → IsSpelling bytes info → length bytes < 2 ^ 32 → info_of bytes ≡ Ok info
+spelling_read bytes info is fits =
+    let e = is.exact in
+    rw e (spelled_is_read info.name info.facts is.name is.facts (rw (← e) fits))
 
-pub accepted_by : (result : Result InfoFacts InfoFault) (bytes : List ℕ) (told : InfoFacts) → Gives (λ read. read) result (info_of bytes) → IsSpelled bytes told → length bytes < 2 ^ 32 → MatchResult result (λ read. read ≡ told) (λ fault. fault ≡ NoMemory)
-accepted_by (Ok read) bytes told gives is fits = same_ok read told (sym gives ∙ spelling_read bytes told is fits)
-accepted_by (Err NoMemory) bytes told gives is fits = refl
-accepted_by (Err WrongLength) bytes told gives is fits = let read = spelling_read bytes told is fits in absurd (cc)
-accepted_by (Err BadReserved) bytes told gives is fits = let read = spelling_read bytes told is fits in absurd (cc)
-accepted_by (Err (BadTag at)) bytes told gives is fits = let read = spelling_read bytes told is fits in absurd (cc)
-accepted_by (Err (BadOrder at)) bytes told gives is fits = let read = spelling_read bytes told is fits in absurd (cc)
+pub accepted_by : (result : Result InfoFacts InfoFault) (bytes : List ℕ) (info : InfoFacts) → Gives (λ read. read) result (info_of bytes) → IsSpelling bytes info → length bytes < 2 ^ 32 → MatchResult result (λ read. read ≡ info) (λ fault. fault ≡ NoMemory)
+accepted_by (Ok read) bytes info gives is fits = same_ok read info (sym gives ∙ spelling_read bytes info is fits)
+accepted_by (Err NoMemory) bytes info gives is fits = refl
+accepted_by (Err WrongLength) bytes info gives is fits = let read = spelling_read bytes info is fits in absurd (cc)
+accepted_by (Err BadReserved) bytes info gives is fits = let read = spelling_read bytes info is fits in absurd (cc)
+accepted_by (Err (BadTag at)) bytes info gives is fits = let read = spelling_read bytes info is fits in absurd (cc)
+accepted_by (Err (BadOrder at)) bytes info gives is fits = let read = spelling_read bytes info is fits in absurd (cc)

@@ -5,18 +5,12 @@ use Rattle.std.specs.List.{flat_map}
 use Rattle.std.proofs.lemmas.List.{length-replicate}
 use Rattle.std.proofs.lemmas.List.Sums.{sum_by-cons}
 use Rattle.bl_map.specs.declared.region.Region.{Region}
+use Rattle.bl_mem.proofs.WordLaws.{length-u32_bytes, length-u64_bytes}
 use Rattle.bl_mbi.specs.Size.{tag_size, copy_size, load_base_size}
 use Rattle.bl_mbi.specs.InformationFacts.{InformationFacts, ModuleInfo, info_size}
-use Rattle.bl_mbi.specs.Tags.{u32_bytes, u64_bytes, padding, tag, text_body, module_body, module_tag, memory_body, run_bytes, map_body, copy_tag, load_base_tag}
+use Rattle.bl_mem.specs.Words.{u32_bytes, u64_bytes}
+use Rattle.bl_mbi.specs.Tags.{padding, tag, text_body, module_body, module_tag, memory_body, run_bytes, map_body, copy_tag, load_base_tag}
 use Rattle.bl_mbi.specs.Spelling.{tags, spelling}
-
-pub length-u32_bytes : (n : ℕ) → length (u32_bytes n) ≡ 4
-unfolding u32_bytes
-length-u32_bytes n = refl
-
-pub length-u64_bytes : (n : ℕ) → length (u64_bytes n) ≡ 8
-unfolding u64_bytes
-length-u64_bytes n = refl
 
 pub length-padding : (n : ℕ) → length (padding n) ≡ (8 - n % 8) % 8
 length-padding n = length-replicate ((8 - n % 8) % 8) 0
@@ -57,23 +51,23 @@ pub length-load_base_tag : (base : Option ℕ) → length (load_base_tag base) �
 length-load_base_tag None = refl
 length-load_base_tag (Some base) = length-tag 21 (u32_bytes base) ∙ ap tag_size (length-u32_bytes base)
 
-pub length-tags : (name : List ℕ) (info : InformationFacts) → length (tags name info) + 32 ≡ info_size info + tag_size (length name + 1)
-length-tags name info =
-    let line = length-tag 1 (text_body info.line) ∙ ap tag_size (length-text_body info.line) in
+pub length-tags : (name : List ℕ) (facts : InformationFacts) → length (tags name facts) + 32 ≡ info_size facts + tag_size (length name + 1)
+length-tags name facts =
+    let line = length-tag 1 (text_body facts.line) ∙ ap tag_size (length-text_body facts.line) in
     let loader = length-tag 2 (text_body name) ∙ ap tag_size (length-text_body name) in
-    let memory = length-tag 4 (memory_body info.mem_lower info.mem_upper) in
-    let map = length-tag 6 (map_body info.runs) ∙ ap tag_size (length-map_body info.runs) in
+    let memory = length-tag 4 (memory_body facts.mem_lower facts.mem_upper) in
+    let map = length-tag 6 (map_body facts.runs) ∙ ap tag_size (length-map_body facts.runs) in
     let last = length-tag 0 [] in
-    omega (arith, length-append {A = ℕ}, line, loader, memory, map, last, length-u32_bytes, length-modules info.modules, length-copy_tag 14 info.rsdp_old, length-copy_tag 15 info.rsdp_new, length-load_base_tag info.load_base)
+    omega (arith, length-append {A = ℕ}, line, loader, memory, map, last, length-u32_bytes, length-modules facts.modules, length-copy_tag 14 facts.rsdp_old, length-copy_tag 15 facts.rsdp_new, length-load_base_tag facts.load_base)
 
 -- by any loader's name
-pub length-spelling_by : (name : List ℕ) (info : InformationFacts) → length (spelling name info) + 24 ≡ info_size info + tag_size (length name + 1)
+pub length-spelling_by : (name : List ℕ) (facts : InformationFacts) → length (spelling name facts) + 24 ≡ info_size facts + tag_size (length name + 1)
 unfolding spelling
-length-spelling_by name info = omega (arith, length-append {A = ℕ}, length-u32_bytes, length-tags name info)
+length-spelling_by name facts = omega (arith, length-append {A = ℕ}, length-u32_bytes, length-tags name facts)
 
 -- with the name that is written
-pub length-spelling : (info : InformationFacts) → length (spelling (codes "bootcore") info) ≡ info_size info
-length-spelling info = omega (arith, length-spelling_by (codes "bootcore") info)
+pub length-spelling : (facts : InformationFacts) → length (spelling (codes "bootcore") facts) ≡ info_size facts
+length-spelling facts = omega (arith, length-spelling_by (codes "bootcore") facts)
 
 -- no address and no number has a part in the size
 pub same_size : (i j : InformationFacts) → length i.line ≡ length j.line → map (λ m. length m.line) i.modules ≡ map (λ m. length m.line) j.modules → length i.runs ≡ length j.runs

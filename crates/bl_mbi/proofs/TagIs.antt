@@ -8,7 +8,8 @@ use Rattle.std.proofs.lemmas.List.{drop-drop, places, take-append-drop}
 use Rattle.std.proofs.lemmas.List.Elements.{All-take, All-drop}
 use Rattle.bl_mbi.specs.Size.{padded}
 use Rattle.bl_mbi.specs.InformationFacts.{AreBytes}
-use Rattle.bl_mbi.specs.Tags.{u32_bytes, padding, tag}
+use Rattle.bl_mem.specs.Words.{u32_bytes}
+use Rattle.bl_mbi.specs.Tags.{padding, tag}
 use Rattle.bl_mbi.specs.Fields.{Left, word, tag_at}
 use Rattle.bl_mbi.proofs.Inverse.{passed, same_ok}
 use Rattle.bl_mbi.proofs.WordLaws.{word_then}

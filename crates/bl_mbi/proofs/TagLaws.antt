@@ -5,7 +5,8 @@ use Rattle.std.specs.List.{list_all}
 use Rattle.std.proofs.lemmas.Bool.Decides.{nat_tests}
 use Rattle.std.proofs.lemmas.List.{take_at, drop_at, drop-drop}
 use Rattle.bl_mbi.specs.Size.{padded}
-use Rattle.bl_mbi.specs.Tags.{u32_bytes, padding, tag}
+use Rattle.bl_mem.specs.Words.{u32_bytes}
+use Rattle.bl_mbi.specs.Tags.{padding, tag}
 use Rattle.bl_mbi.specs.Fields.{Left, word, is_next, tag_at}
 use Rattle.bl_mbi.proofs.Sizes.{length-padding, length-tag}
 use Rattle.bl_mbi.proofs.WordLaws.{word_front, behind_word}

@@ -1,9 +1,10 @@
--- What the body of each tag tells, where it fits its type (Multiboot2 3.6 "Boot information format").
+-- What the body of each tag tells, where it fits its type (Multiboot2 3.6 "Boot information
+-- format").
 use Rattle.std.specs.Prelude.{◌+◌, ◌-◌, ◌/◌, ◌%◌, ◌^◌, ℕ, zero, suc, not, if◌then◌else◌, ◌==◌, nat_lt, List, [], ◌∷◌, length, take, drop, slice_index, Option, Some, None, option_map, option_and_then}
 use Rattle.std.specs.List.{list_any}
-use Rattle.bl_map.specs.declared.kind.Kind.{Kind}
-use Rattle.bl_map.specs.declared.kind.Kind.TheVariants.{Usable, Reserved, Acpi, Nvs, Bad}
 use Rattle.bl_map.specs.declared.region.Region.{Region}
+use Rattle.bl_map.specs.Kinds.{kind_of}
+use Rattle.bl_map.specs.Limits.{region_limit}
 use Rattle.bl_mbi.specs.InformationFacts.{ModuleInfo}
 use Rattle.bl_mbi.specs.Fields.{word, long}
 
@@ -21,7 +22,8 @@ unfoldable pub module_of : List ℕ → Option ModuleInfo
 module_of body =
     if nat_lt (length body) 8 then None else
     if nat_lt (word (drop 4 body)) (word body) then None else
-    option_map (λ line. record { mod_start = word body; mod_end = word (drop 4 body); line = line }) (text_of (drop 8 body))
+    option_map (λ line. record { mod_start = word body; mod_end = word (drop 4 body); line = line })
+    (text_of (drop 8 body))
 
 -- 3.6.3 "Basic memory information": mem_lower, mem_upper
 unfoldable pub memory_of : List ℕ → Option (ℕ × ℕ)
@@ -30,26 +32,19 @@ memory_of body =
     if nat_lt 640 (word body) then None else
     Some (word body, word (drop 4 body))
 
--- the kind of a number
-unfoldable pub kind_of : ℕ → Option Kind
-kind_of n =
-    if n == 1 then Some Usable else
-    if n == 2 then Some Reserved else
-    if n == 3 then Some Acpi else
-    if n == 4 then Some Nvs else
-    if n == 5 then Some Bad else None
-
 -- an entry of the memory map, 3.6.8, in 24 bytes: base_addr, length, type, reserved
 unfoldable pub run_of : List ℕ → Option Region
 run_of bytes =
-    if nat_lt (2 ^ 52) (long bytes + long (drop 8 bytes)) then None else
+    if nat_lt region_limit (long bytes + long (drop 8 bytes)) then None else
     if not (word (drop 20 bytes) == 0) then None else
-    option_map (λ kind. record { base = long bytes; length = long (drop 8 bytes); kind = kind }) (kind_of (word (drop 16 bytes)))
+    option_map (λ kind. record { base = long bytes; length = long (drop 8 bytes); kind = kind })
+    (kind_of (word (drop 16 bytes)))
 
 -- so many entries, one behind the other
 abbrev pub runs_of : ℕ → List ℕ → Option (List Region)
 runs_of zero bytes = Some []
-runs_of (suc n) bytes = option_and_then (λ run. option_map (λ runs. run ∷ runs) (runs_of n (drop 24 bytes))) (run_of bytes)
+runs_of (suc n) bytes =
+    option_and_then (λ run. option_map (λ runs. run ∷ runs) (runs_of n (drop 24 bytes))) (run_of bytes)
 
 -- 3.6.8 "Memory map": entry_size, entry_version, entries
 unfoldable pub map_of : List ℕ → Option (List Region)

@@ -1,7 +1,7 @@
 -- What reading gives, the numbers and the tag at a place (Multiboot2 3.6.2 "Basic tags structure").
 use Rattle.std.specs.Prelude.{◌≡◌, ◌+◌, ℕ, Bool, not, ◌&&◌, if◌then◌else◌, ◌==◌, nat_lt, nat_le, List, length, take, drop, slice_range, Option, Some, None, Result, Ok, Err}
 use Rattle.std.specs.List.{list_all}
-use Rattle.std.specs.Int.{w32, w64, from_le_bytes}
+use Rattle.bl_mem.specs.Words.{u32_at, u64_at}
 use Rattle.bl_mbi.specs.declared.fault.InfoFault.{InfoFault}
 use Rattle.bl_mbi.specs.declared.fault.InfoFault.TheVariants.{BadTag, BadOrder, NoMemory}
 use Rattle.bl_mbi.specs.declared.rest.Rest.{Rest}
@@ -13,7 +13,8 @@ abbrev pub ◌>>=◌ : {A B : Type 0} → Result A InfoFault → (A → Result B
 (Ok x) >>= f = f x
 (Err e) >>= f = Err e
 
--- what a function returned, seen by a view, is what reading gives; but memory may run out at any growth
+-- what a function returned, seen by a view, is what reading gives; but memory may run out at any
+-- growth
 abbrev pub Fails : {Y : Type 0} → InfoFault → Result Y InfoFault → Type 0
 Fails NoMemory read = Unit {0}
 Fails fault read = read ≡ Err fault
@@ -24,10 +25,10 @@ Gives view (Err e) read = Fails e read
 
 -- the little-endian number at the front
 abbrev pub word : List ℕ → ℕ
-word bytes = from_le_bytes w32 (take 4 bytes)
+word bytes = u32_at bytes 0
 
 abbrev pub long : List ℕ → ℕ
-long bytes = from_le_bytes w64 (take 8 bytes)
+long bytes = u64_at bytes 0
 
 -- the bytes that are left, and the offset at which they stand
 pub record Left : Type 0 where
@@ -42,8 +43,8 @@ left_of rest = record { at = rest.at; bytes = rest.bytes.now }
 abbrev pub is_next : ℕ → Left → Bool
 is_next kind left = nat_le 8 (length left.bytes) && (word left.bytes == kind)
 
--- the body of the tag there, which must be of this type, and what is left behind it: type and size take 8 bytes, the
--- size counts them and the body, zeros follow up to a multiple of 8
+-- the body of the tag there, which must be of this type, and what is left behind it: type and size
+-- take 8 bytes, the size counts them and the body, zeros follow up to a multiple of 8
 unfoldable pub tag_at : ℕ → Left → Result (List ℕ × Left) InfoFault
 tag_at kind left =
     if length left.bytes == 0 then Err (BadOrder left.at) else
@@ -52,8 +53,10 @@ tag_at kind left =
     let size = word (drop 4 left.bytes) in
     if nat_lt size 8 then Err (BadTag left.at) else
     if nat_lt (length left.bytes) (padded size) then Err (BadTag left.at) else
-    if not (list_all (λ b. b == 0) (slice_range left.bytes size (padded size))) then Err (BadTag left.at) else
-    Ok (slice_range left.bytes 8 size, record { at = left.at + padded size; bytes = drop (padded size) left.bytes })
+    let padding = slice_range left.bytes size (padded size) in
+    if not (list_all (λ b. b == 0) padding) then Err (BadTag left.at) else
+    let after : Left = record { at = left.at + padded size; bytes = drop (padded size) left.bytes } in
+    Ok (slice_range left.bytes 8 size, after)
 
 -- what a body tells, or that its tag is bad
 abbrev pub or_bad : {A : Type 0} → ℕ → Option A → Result A InfoFault

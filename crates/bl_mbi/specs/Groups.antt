@@ -5,14 +5,15 @@ use Rattle.bl_mbi.specs.InformationFacts.{InformationFacts}
 
 -- types 1, 2 and 3, with the loader's name `bootcore`
 abbrev pub texts_size : InformationFacts → ℕ
-texts_size info = tag_size (length info.line + 1) + 24 + sum_by (λ m. tag_size (length m.line + 9)) info.modules
+texts_size facts =
+    tag_size (length facts.line + 1) + 24 + sum_by (λ m. tag_size (length m.line + 9)) facts.modules
 
 -- types 4 and 6
 abbrev pub map_size : InformationFacts → ℕ
-map_size info = 32 + 24 * length info.runs
+map_size facts = 32 + 24 * length facts.runs
 
 -- types 14, 15, 21 and 0
 abbrev pub last_size : InformationFacts → ℕ
-last_size info =
-    copy_size (option_map length info.rsdp_old) + copy_size (option_map length info.rsdp_new)
-    + load_base_size (is_some info.load_base) + 8
+last_size facts =
+    copy_size (option_map length facts.rsdp_old) + copy_size (option_map length facts.rsdp_new)
+    + load_base_size (is_some facts.load_base) + 8

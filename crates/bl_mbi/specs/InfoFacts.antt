@@ -1,14 +1,14 @@
--- What boot information tells to its reader: the loader's name too.
+-- What boot information says to its reader: the facts, and the loader's name too.
 use Rattle.std.specs.Prelude.{◌≡◌, ℕ, List}
-use Rattle.bl_mbi.specs.InformationFacts.{InformationFacts, IsText, IsTold}
+use Rattle.bl_mbi.specs.InformationFacts.{InformationFacts, IsText, FitsFields}
 use Rattle.bl_mbi.specs.Spelling.{spelling}
 
 pub record InfoFacts : Type 0 where
   pub name : List ℕ
   pub facts : InformationFacts
 
--- these bytes tell it, and each number is in the range of its field
-pub record IsSpelled (bytes : List ℕ) (told : InfoFacts) : Type 0 where
-  pub spelled : bytes ≡ spelling told.name told.facts
-  pub name : IsText told.name
-  pub facts : IsTold told.facts
+-- these bytes spell it: its name is a text, and its facts fit their fields
+pub record IsSpelling (bytes : List ℕ) (info : InfoFacts) : Type 0 where
+  pub exact : bytes ≡ spelling info.name info.facts
+  pub name : IsText info.name
+  pub facts : FitsFields info.facts

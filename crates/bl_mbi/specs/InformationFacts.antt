@@ -1,6 +1,8 @@
--- What boot information tells (Multiboot2 3.6 "Boot information format"), and what is kept of it.
+-- The facts of boot information (Multiboot2 3.6 "Boot information format"), and what of them has a
+-- spelling.
 use Rattle.std.specs.Prelude.{◌≢◌, ◌^◌, ◌<◌, ◌≤◌, ℕ, List, length, map, All, Option, option_map, is_some, IfSome}
 use Rattle.bl_map.specs.declared.region.Region.{Region}
+use Rattle.bl_map.specs.Limits.{region_limit}
 use Rattle.bl_map.specs.Kinds.{end_of}
 use Rattle.bl_mbi.specs.Size.{size_of}
 
@@ -10,8 +12,9 @@ pub record ModuleInfo : Type 0 where
   pub mod_end : ℕ
   pub line : List ℕ
 
--- the kernel's line, the modules in their order, KiB of memory below and above 1 MiB, the memory map's runs, the copies
--- of the ACPI tables' roots, the address that a relocated kernel was loaded at
+-- the kernel's line, the modules in their order, KiB of memory below and above 1 MiB, the memory
+-- map's runs, the copies of the ACPI tables' roots, the address that a relocated kernel was loaded
+-- at
 pub record InformationFacts : Type 0 where
   pub line : List ℕ
   pub modules : List ModuleInfo
@@ -35,23 +38,24 @@ pub record IsModule (m : ModuleInfo) : Type 0 where
   pub line : IsText m.line
 
 -- each number is in the range of its field, each text has no zero
-pub record IsTold (info : InformationFacts) : Type 0 where
-  pub line : IsText info.line
-  pub modules : All IsModule info.modules
-  pub mem_lower : info.mem_lower ≤ 640
-  pub mem_upper : info.mem_upper < 2 ^ 32
-  pub runs : All (λ run. end_of run ≤ 2 ^ 52) info.runs
-  pub rsdp_old : IfSome info.rsdp_old AreBytes
-  pub rsdp_new : IfSome info.rsdp_new AreBytes
-  pub load_base : IfSome info.load_base (λ base. base < 2 ^ 32)
+pub record FitsFields (facts : InformationFacts) : Type 0 where
+  pub line : IsText facts.line
+  pub modules : All IsModule facts.modules
+  pub mem_lower : facts.mem_lower ≤ 640
+  pub mem_upper : facts.mem_upper < 2 ^ 32
+  pub runs : All (λ run. end_of run ≤ region_limit) facts.runs
+  pub rsdp_old : IfSome facts.rsdp_old AreBytes
+  pub rsdp_new : IfSome facts.rsdp_new AreBytes
+  pub load_base : IfSome facts.load_base (λ base. base < 2 ^ 32)
 
--- how many bytes it takes
+-- how many bytes the facts take, with the loader's name `bootcore`
 abbrev pub info_size : InformationFacts → ℕ
-info_size info =
-    size_of (length info.line) (map (λ m. length m.line) info.modules) (length info.runs)
-    (option_map length info.rsdp_old) (option_map length info.rsdp_new) (is_some info.load_base)
+info_size facts =
+    size_of (length facts.line) (map (λ m. length m.line) facts.modules) (length facts.runs)
+    (option_map length facts.rsdp_old) (option_map length facts.rsdp_new) (is_some facts.load_base)
 
--- what has a spelling with the loader's name `bootcore`: its total size fits its field too
-pub record IsInfo (info : InformationFacts) : Type 0 where
-  pub told : IsTold info
-  pub small : info_size info < 2 ^ 32
+-- facts that have a spelling with the loader's name `bootcore`: each fits its field, and the total
+-- size fits its own
+pub record HasSpelling (facts : InformationFacts) : Type 0 where
+  pub told : FitsFields facts
+  pub small : info_size facts < 2 ^ 32

@@ -1,5 +1,5 @@
--- Reading boot information: what bytes tell, or the first fault and where it stands (Multiboot2 3.6 "Boot information
--- format"; the order of tags and of faults is own).
+-- Reading boot information: what bytes tell, or the first fault and where it stands (Multiboot2 3.6
+-- "Boot information format"; the order of tags and of faults is own).
 use Rattle.std.specs.Prelude.{◌==◌, ℕ, zero, suc, not, if◌then◌else◌, nat_lt, List, [], ◌∷◌, length, drop, Option, Some, None, Result, Ok, Err}
 use Rattle.bl_map.specs.declared.region.Region.{Region}
 use Rattle.bl_mbi.specs.declared.fault.InfoFault.{InfoFault}
@@ -18,8 +18,8 @@ text_tag_at kind left = do
 unfoldable pub module_at : Left → Result (ModuleInfo × Left) InfoFault
 module_at left = do
   tag ← tag_at 3 left
-  told ← or_bad left.at (module_of tag.0)
-  Ok (told, tag.1)
+  m ← or_bad left.at (module_of tag.0)
+  Ok (m, tag.1)
 
 -- the modules up to the first tag of another type, but no more than so many
 abbrev pub modules_upto : ℕ → Left → Result (List ModuleInfo × Left) InfoFault
@@ -64,7 +64,8 @@ load_base_at left =
 unfoldable pub end_at : Left → Result (Unit {0}) InfoFault
 end_at left = do
   tag ← tag_at 0 left
-  if not (length tag.0 == 0) then Err (BadTag left.at) else if length tag.1.bytes == 0 then Ok tt else Err (BadOrder tag.1.at)
+  if not (length tag.0 == 0) then Err (BadTag left.at) else
+      if length tag.1.bytes == 0 then Ok tt else Err (BadOrder tag.1.at)
 
 -- the tags in their order
 unfoldable pub tags_of : Left → Result InfoFacts InfoFault

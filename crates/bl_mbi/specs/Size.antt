@@ -1,4 +1,5 @@
--- How many bytes boot information takes, by the lengths of what it tells (Multiboot2 3.6 "Boot information format").
+-- How many bytes boot information takes, by the lengths of what it tells (Multiboot2 3.6 "Boot
+-- information format").
 use Rattle.std.specs.Prelude.{◌+◌, ◌*◌, ◌/◌, ℕ, Bool, if◌then◌else◌, List, sum_by, Option, Some, None}
 
 -- a size up to the next multiple of 8
@@ -18,9 +19,10 @@ copy_size (Some length) = tag_size length
 abbrev pub load_base_size : Bool → ℕ
 load_base_size given = if given then 16 else 0
 
--- all of it, by the lengths of the line and of each module's line, the number of runs, the lengths of the copies, and
--- whether a load base is given; the loader's name takes 24. No address and no number has a part in it.
+-- all of it, by the lengths of the line and of each module's line, the number of runs, the lengths
+-- of the copies, and whether a load base is given; the loader's name takes 24. No address and no
+-- number has a part in it.
 abbrev pub size_of : ℕ → List ℕ → ℕ → Option ℕ → Option ℕ → Bool → ℕ
 size_of line lines runs rsdp_old rsdp_new load_base =
-    8 + tag_size (line + 1) + 24 + sum_by (λ length. tag_size (length + 9)) lines + 16 + (16 + 24 * runs)
-    + copy_size rsdp_old + copy_size rsdp_new + load_base_size load_base + 8
+    8 + tag_size (line + 1) + 24 + sum_by (λ length. tag_size (length + 9)) lines
+    + 16 + (16 + 24 * runs) + copy_size rsdp_old + copy_size rsdp_new + load_base_size load_base + 8

@@ -1,17 +1,10 @@
 -- The tags of boot information (Multiboot2 3.6.2 "Basic tags structure"), each by its body.
 use Rattle.std.specs.Prelude.{◌+◌, ◌-◌, ◌%◌, ℕ, List, [], ◌∷◌, ◌++◌, length, replicate, Option, Some, None}
 use Rattle.std.specs.List.{flat_map}
-use Rattle.std.specs.Int.{w32, w64, to_le_bytes}
 use Rattle.bl_map.specs.declared.region.Region.{Region}
 use Rattle.bl_map.specs.Kinds.{kind_number}
+use Rattle.bl_mem.specs.Words.{u32_bytes, u64_bytes}
 use Rattle.bl_mbi.specs.InformationFacts.{ModuleInfo}
-
--- little-endian numbers
-unfoldable pub u32_bytes : ℕ → List ℕ
-u32_bytes n = to_le_bytes w32 n
-
-unfoldable pub u64_bytes : ℕ → List ℕ
-u64_bytes n = to_le_bytes w64 n
 
 -- zeros behind so many bytes, up to the next multiple of 8
 abbrev pub padding : ℕ → List ℕ
@@ -38,7 +31,8 @@ memory_body mem_lower mem_upper = u32_bytes mem_lower ++ u32_bytes mem_upper
 
 -- an entry of the memory map, 3.6.8: base_addr, length, type, reserved
 abbrev pub run_bytes : Region → List ℕ
-run_bytes run = u64_bytes run.base ++ (u64_bytes run.length ++ (u32_bytes (kind_number run.kind) ++ u32_bytes 0))
+run_bytes run =
+    u64_bytes run.base ++ (u64_bytes run.length ++ (u32_bytes (kind_number run.kind) ++ u32_bytes 0))
 
 -- 3.6.8 "Memory map" (type 6): entry_size, entry_version, entries
 abbrev pub map_body : List Region → List ℕ
@@ -49,7 +43,8 @@ abbrev pub copy_tag : ℕ → Option (List ℕ) → List ℕ
 copy_tag kind None = []
 copy_tag kind (Some copy) = tag kind copy
 
--- 3.6, section "Image load base physical address" (type 21): load_base_addr, where a relocated kernel was loaded
+-- 3.6, section "Image load base physical address" (type 21): load_base_addr, where a relocated
+-- kernel was loaded
 abbrev pub load_base_tag : Option ℕ → List ℕ
 load_base_tag None = []
 load_base_tag (Some base) = tag 21 (u32_bytes base)

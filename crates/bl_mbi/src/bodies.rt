@@ -9,23 +9,21 @@ use crate::fault::InfoFault;
 use crate::format::{ENTRY_SIZE, MEM_LOWER_LIMIT};
 use crate::module::Module;
 use bl_map::{Kind, REGION_LIMIT, Region};
-use bl_mem::Bytes;
+use bl_mem::{Bytes, SliceView, u32_at, u64_at};
 use std::alloc::Allocator;
 
 pub(crate) fn word(bytes: &[u8]) -> u32
     requires { 4 ≤ length bytes.now }
     ensures { result ≡ fields.word bytes.now }
 {
-    u32::from_le_bytes([bytes[0], bytes[1], bytes[2], bytes[3]])
+    u32_at(&SliceView::new(bytes), 0)
 }
 
 fn long(bytes: &[u8]) -> u64
     requires { 8 ≤ length bytes.now }
     ensures { result ≡ fields.long bytes.now }
 {
-    u64::from_le_bytes([
-        bytes[0], bytes[1], bytes[2], bytes[3], bytes[4], bytes[5], bytes[6], bytes[7],
-    ])
+    u64_at(&SliceView::new(bytes), 0)
 }
 
 pub(crate) fn are_zeros(bytes: &[u8]) -> bool
@@ -65,7 +63,7 @@ pub(crate) fn module_of<A: Allocator>(
     at: u64,
     body: &[u8],
 ) -> Result<Module<A>, InfoFault>
-    ensures { Gives (λ told. told) result (or_bad at (spec.module_of body.now)) }
+    ensures { Gives (λ m. m) result (or_bad at (spec.module_of body.now)) }
 {
     if body.len() < 8 {
         return Err(InfoFault::BadTag(at));
@@ -81,7 +79,7 @@ pub(crate) fn module_of<A: Allocator>(
     Ok(Module {
         mod_start,
         mod_end,
-        line: Bytes::from(Vec::from_slice(alloc, line)?),
+        line: Bytes::copy(alloc, line)?,
     })
 }
 
@@ -100,20 +98,6 @@ pub(crate) fn memory_of(body: &[u8]) -> Option<(u32, u32)>
     Some((mem_lower, word(&body[4..])))
 }
 
-#[tactic(auto, unfolding(crate::specs::Bodies::kind_of))]
-fn kind_of(number: u32) -> Option<Kind>
-    ensures { result ≡ spec.kind_of number }
-{
-    match number {
-        1 => Some(Kind::Usable),
-        2 => Some(Kind::Reserved),
-        3 => Some(Kind::Acpi),
-        4 => Some(Kind::Nvs),
-        5 => Some(Kind::Bad),
-        _ => None,
-    }
-}
-
 /// The entry of the memory map in 24 bytes.
 #[tactic(auto, unfolding(crate::specs::Bodies::run_of))]
 fn run_of(bytes: &[u8]) -> Option<Region>
@@ -128,14 +112,15 @@ fn run_of(bytes: &[u8]) -> Option<Region>
     if word(&bytes[20..]) != 0 {
         return None;
     }
-    let kind = kind_of(word(&bytes[16..]))?;
+    let kind = Kind::from_number(word(&bytes[16..]))?;
     Some(Region { base, length, kind })
 }
 
 /// The entries of a memory map, one behind the other.
 fn runs_of<A: Allocator>(alloc: A, at: u64, bytes: &[u8]) -> Result<Vec<Region, A>, InfoFault>
     requires { length bytes.now % 24 ≡ 0 }
-    ensures { Gives (λ runs. runs.items) result (or_bad at (spec.runs_of (length bytes.now / 24) bytes.now)) }
+    ensures { Gives (λ runs. runs.items) result
+        (or_bad at (spec.runs_of (length bytes.now / 24) bytes.now)) }
 {
     let mut runs = Vec::new(alloc);
     let count = bytes.len() / ENTRY_SIZE as usize;

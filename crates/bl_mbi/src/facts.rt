@@ -1,13 +1,13 @@
-//! What boot information tells.
+//! The facts of boot information.
 use crate::module::Module;
 use bl_map::Region;
 use bl_mem::Bytes;
 use std::alloc::Allocator;
 use std::marker::Model;
 
-/// What boot information tells, but for the loader's name (Multiboot2 3.6 "Boot information format"). It is kept that
-/// it has a spelling: texts without a zero byte, `mod_start` at most `mod_end`, at most 640 KiB of lower memory, runs
-/// that end at most at 2^52, a total size below 2^32.
+/// The facts of boot information, all but the loader's name (Multiboot2 3.6 "Boot information
+/// format"). They always have a spelling: texts without a zero byte, `mod_start` at most `mod_end`,
+/// at most 640 KiB of lower memory, runs that end at most at 2^52, a total size below 2^32.
 #[derive(Drop)]
 pub struct Facts<A: Allocator> {
     pub(crate) line: Bytes<A>,
@@ -21,7 +21,7 @@ pub struct Facts<A: Allocator> {
 }
 
 impl<A: Allocator> Model for Facts<A> {
-    ghost use Rattle.bl_mbi.specs.InformationFacts.{InformationFacts, IsInfo};
+    ghost use Rattle.bl_mbi.specs.InformationFacts.{InformationFacts, HasSpelling};
 
     ghost Value = { InformationFacts };
 
@@ -36,7 +36,7 @@ impl<A: Allocator> Model for Facts<A> {
       load_base = f.load_base;
     } };
 
-    ghost invariant = { λ f. IsInfo record {
+    ghost invariant = { λ f. HasSpelling record {
       line = f.line;
       modules = f.modules.items;
       mem_lower = f.mem_lower;
@@ -50,9 +50,10 @@ impl<A: Allocator> Model for Facts<A> {
 
 impl<A: Allocator> Facts<A> {
     ghost use Rattle.std.specs.Prelude.{◌≡◌};
-    ghost use Rattle.bl_mbi.specs.InformationFacts.{IsInfo};
+    ghost use Rattle.bl_mbi.specs.InformationFacts.{HasSpelling};
 
-    /// The facts of these parts. Sizes of memory are in KiB.
+    /// The facts of these parts, which must have a spelling. Sizes of memory are in KiB. It takes
+    /// no memory.
     #[allow(clippy::too_many_arguments)]
     pub fn new(
         line: Bytes<A>,
@@ -64,7 +65,7 @@ impl<A: Allocator> Facts<A> {
         rsdp_new: Option<Bytes<A>>,
         load_base: Option<u32>,
     ) -> Facts<A>
-        requires { IsInfo record {
+        requires { HasSpelling record {
           line = line;
           modules = modules.items;
           mem_lower = mem_lower;

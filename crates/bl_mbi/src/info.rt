@@ -1,11 +1,12 @@
-//! What boot information tells to its reader.
+//! What boot information says to its reader.
 use crate::module::Module;
 use bl_map::Region;
 use bl_mem::Bytes;
 use std::alloc::Allocator;
 use std::marker::Model;
 
-/// What boot information tells, as it was read, with the name that the loader gave itself. Sizes of memory are in KiB.
+/// Boot information as it was read, with the name that the loader gave itself. Sizes of memory are
+/// in KiB.
 #[derive(Drop)]
 pub struct Info<A: Allocator> {
     pub name: Bytes<A>,

@@ -1,7 +1,9 @@
-//! The boot information that a Multiboot2 kernel is handed: what it tells, written as bytes and read from them.
+//! The boot information that a Multiboot2 kernel is handed: its facts, written as bytes and read
+//! from them.
 //!
-//! Two things are called `Info`. The struct `Info`, what was read, has the loader's name too, and contracts see it as the
-//! record `InfoFacts`. The record `Info` of the contracts is what they see of `Facts`, and has no name of a loader.
+//! `Facts` is what is written, always with the loader's name `bootcore`: contracts see it as the
+//! record `InformationFacts`. `Info` is what was read, with the name of whatever loader wrote it:
+//! contracts see it as the record `InfoFacts`, which is a name and the facts.
 #![tactic(auto)]
 
 mod bodies;
@@ -11,7 +13,6 @@ mod format;
 mod info;
 mod laws;
 mod module;
-mod put;
 mod read;
 mod reader;
 mod rest;

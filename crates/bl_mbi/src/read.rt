@@ -23,7 +23,8 @@ fn is_next(kind: u32, rest: Rest) -> bool
 /// The body of the tag there, which must be of this type, and what is left behind it.
 #[tactic(auto, unfolding(crate::specs::Fields::tag_at))]
 fn tag_at<'a>(kind: u32, rest: Rest<'a>) -> Result<(&'a [u8], Rest<'a>), InfoFault>
-    ensures read { Gives (λ x. (x.0.now, left_of x.1)) result (fields.tag_at kind (left_of rest.entry)) }
+    ensures read { Gives (λ x. (x.0.now, left_of x.1)) result
+        (fields.tag_at kind (left_of rest.entry)) }
     ensures shorter { IfOk result (λ x. length x.1.bytes.now + 8 ≤ length rest.entry.bytes.now) }
 {
     if rest.bytes.is_empty() {
@@ -66,7 +67,7 @@ pub(crate) fn text_tag_at<'a, A: Allocator>(
     let Some(text) = text_of(body) else {
         return Err(InfoFault::BadTag(rest.at));
     };
-    Ok((Bytes::from(Vec::from_slice(alloc, text)?), after))
+    Ok((Bytes::copy(alloc, text)?, after))
 }
 
 /// The module in the tag there.
@@ -89,8 +90,8 @@ pub(crate) fn modules_at<'a, A: Allocator + Copy>(
     let mut modules = Vec::new(alloc);
     let mut left = rest;
     'tags: while is_next(TAG_MODULE, left) {
-        let (told, after) = module_at(alloc, left)?;
-        modules.push(told)?;
+        let (module, after) = module_at(alloc, left)?;
+        modules.push(module)?;
         left = after;
     }
     Ok((modules, left))
@@ -133,7 +134,7 @@ pub(crate) fn copy_at<'a, A: Allocator>(
         return Ok((None, rest));
     }
     let (body, after) = tag_at(kind, rest)?;
-    Ok((Some(Bytes::from(Vec::from_slice(alloc, body)?)), after))
+    Ok((Some(Bytes::copy(alloc, body)?), after))
 }
 
 /// The load base in the tag there, which may be missing.

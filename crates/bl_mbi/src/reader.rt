@@ -1,6 +1,6 @@
 //! Boot information, read.
 ghost use Rattle.std.specs.Prelude.{◌≡◌, ◌^◌, ◌<◌, length, IfOk, MatchResult};
-ghost use Rattle.bl_mbi.specs.InfoFacts.{InfoFacts, IsSpelled};
+ghost use Rattle.bl_mbi.specs.InfoFacts.{InfoFacts, IsSpelling};
 ghost use Rattle.bl_mbi.specs.declared.fault.InfoFault.TheVariants.{NoMemory};
 ghost use Rattle.bl_mbi.specs.Fields.{Gives, left_of};
 ghost use Rattle.bl_mbi.specs.Reading as spec;
@@ -16,7 +16,7 @@ use std::alloc::Allocator;
 /// What the tags tell.
 #[tactic(auto, unfolding(crate::specs::Reading::tags_of))]
 fn tags_of<A: Allocator + Copy>(alloc: A, rest: Rest) -> Result<Info<A>, InfoFault>
-    ensures { Gives (λ told. told) result (spec.tags_of (left_of rest.entry)) }
+    ensures { Gives (λ info. info) result (spec.tags_of (left_of rest.entry)) }
 {
     let (line, rest) = text_tag_at(alloc, TAG_COMMAND_LINE, rest)?;
     let (name, rest) = text_tag_at(alloc, TAG_BOOT_LOADER_NAME, rest)?;
@@ -43,7 +43,7 @@ fn tags_of<A: Allocator + Copy>(alloc: A, rest: Rest) -> Result<Info<A>, InfoFau
 /// What the bytes tell.
 #[tactic(auto, unfolding(crate::specs::Reading::info_of))]
 fn info_of<A: Allocator + Copy>(alloc: A, bytes: &[u8]) -> Result<Info<A>, InfoFault>
-    ensures { Gives (λ told. told) result (spec.info_of bytes.now) }
+    ensures { Gives (λ info. info) result (spec.info_of bytes.now) }
 {
     if bytes.len() < 16 {
         return Err(InfoFault::WrongLength);
@@ -61,15 +61,15 @@ fn info_of<A: Allocator + Copy>(alloc: A, bytes: &[u8]) -> Result<Info<A>, InfoF
     tags_of(alloc, rest)
 }
 
-/// What the bytes tell, which are exactly `total_size`, or the first fault. Each spelling is accepted, by a loader of any
-/// name, and nothing else.
+/// What the bytes tell, which are exactly `total_size`, or the first fault. Each spelling is
+/// accepted, by a loader of any name, and nothing else.
 pub fn read_info<A: Allocator + Copy>(alloc: A, bytes: &[u8]) -> Result<Info<A>, InfoFault>
-    ensures spelled { IfOk result (IsSpelled bytes.now) }
+    ensures spelled { IfOk result (IsSpelling bytes.now) }
 
     // Only memory can be wanting where the bytes are a spelling.
-    ensures accepts { (told : InfoFacts) → IsSpelled bytes.now told → length bytes.now < 2 ^ 32
-        → MatchResult result (λ read. read ≡ told) (λ fault. fault ≡ NoMemory) }
-    ensures first_fault { Gives (λ told. told) result (spec.info_of bytes.now) }
+    ensures accepts { (info : InfoFacts) → IsSpelling bytes.now info → length bytes.now < 2 ^ 32
+        → MatchResult result (λ read. read ≡ info) (λ fault. fault ≡ NoMemory) }
+    ensures first_fault { Gives (λ info. info) result (spec.info_of bytes.now) }
 {
     info_of(alloc, bytes)
 }

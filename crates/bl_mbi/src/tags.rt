@@ -1,19 +1,35 @@
 //! Each tag of boot information, appended where there is room for it.
-ghost use Rattle.std.specs.Prelude.{◌≡◌, ◌≤◌, ◌+◌, ◌*◌, ◌^◌, ◌<◌, ◌++◌, [], length, is_some, sum_by, option_map, vec_len, vec_capacity};
+ghost use Rattle.std.specs.Prelude.{◌≡◌, ◌≤◌, ◌+◌, ◌-◌, ◌*◌, ◌%◌, ◌^◌, ◌<◌, ◌++◌, [], length};
+ghost use Rattle.std.specs.Prelude.{is_some, sum_by};
+ghost use Rattle.std.specs.Prelude.{option_map, vec_len, vec_capacity};
 ghost use Rattle.std.specs.List.{flat_map};
 ghost use Rattle.bl_mbi.specs.Size.{tag_size, copy_size, load_base_size};
-ghost use Rattle.bl_mbi.specs.Tags.{tag, text_body, module_tag, memory_body, run_bytes, map_body, copy_tag, load_base_tag};
+ghost use Rattle.bl_mbi.specs.Tags.{padding, tag, text_body, module_tag, memory_body, run_bytes};
+ghost use Rattle.bl_mbi.specs.Tags.{map_body};
+ghost use Rattle.bl_mbi.specs.Tags.{copy_tag, load_base_tag};
 
 use crate::format::{
     ENTRY_SIZE, TAG_BASIC_MEMORY, TAG_END, TAG_LOAD_BASE, TAG_MEMORY_MAP, TAG_MODULE,
 };
 use crate::module::Module;
-use crate::put::{put, put_padding, put_u32, put_u64};
 use bl_map::Region;
-use bl_mem::Bytes;
+use bl_mem::{Bytes, put_bytes, put_u32, put_u64};
 use std::alloc::Allocator;
 
-/// Appends a tag whose body is a text and its zero (3.6.5 "Boot command line", 3.6.9 "Boot loader name").
+/// Appends zeros behind `len` bytes of a body, up to the next multiple of 8.
+fn put_padding<A: Allocator>(out: &mut Vec<u8, A>, len: u64)
+    requires { vec_len out.old + (8 - len % 8) % 8 ≤ vec_capacity out.old }
+    ensures items { out.new.items ≡ out.old.items ++ padding len }
+    ensures len { vec_len out.new ≡ vec_len out.old + (8 - len % 8) % 8 }
+    ensures capacity { vec_capacity out.old ≤ vec_capacity out.new }
+{
+    let zeros = [0u8; 8];
+    let count = ((8 - len % 8) % 8) as usize;
+    put_bytes(out, &zeros[..count]);
+}
+
+/// Appends a tag whose body is a text and its zero (3.6.5 "Boot command line", 3.6.9 "Boot loader
+/// name").
 pub(crate) fn put_text<A: Allocator>(out: &mut Vec<u8, A>, kind: u32, text: &[u8])
     requires room { vec_len out.old + tag_size (length text.now + 1) ≤ vec_capacity out.old }
     requires small { tag_size (length text.now + 1) < 2 ^ 32 }
@@ -23,8 +39,8 @@ pub(crate) fn put_text<A: Allocator>(out: &mut Vec<u8, A>, kind: u32, text: &[u8
 {
     put_u32(out, kind);
     put_u32(out, text.len() as u32 + 9);
-    put(out, text);
-    put(out, &[0]);
+    put_bytes(out, text);
+    put_bytes(out, &[0]);
     put_padding(out, text.len() as u64 + 1);
 }
 
@@ -41,17 +57,19 @@ fn put_module<A: Allocator, B: Allocator>(out: &mut Vec<u8, B>, loaded: &Module<
     put_u32(out, line.len() as u32 + 17);
     put_u32(out, loaded.mod_start);
     put_u32(out, loaded.mod_end);
-    put(out, line);
-    put(out, &[0]);
+    put_bytes(out, line);
+    put_bytes(out, &[0]);
     put_padding(out, line.len() as u64 + 9);
 }
 
 /// Appends the tags of modules, in their order.
 pub(crate) fn put_modules<A: Allocator, B: Allocator>(out: &mut Vec<u8, B>, modules: &[Module<A>])
-    requires room { vec_len out.old + sum_by (λ m. tag_size (length m.line + 9)) modules.now ≤ vec_capacity out.old }
+    requires room { vec_len out.old + sum_by (λ m. tag_size (length m.line + 9)) modules.now
+        ≤ vec_capacity out.old }
     requires small { sum_by (λ m. tag_size (length m.line + 9)) modules.now < 2 ^ 32 }
     ensures items { out.new.items ≡ out.old.items ++ flat_map module_tag modules.now }
-    ensures len { vec_len out.new ≡ vec_len out.old + sum_by (λ m. tag_size (length m.line + 9)) modules.now }
+    ensures len { vec_len out.new
+        ≡ vec_len out.old + sum_by (λ m. tag_size (length m.line + 9)) modules.now }
     ensures capacity { vec_capacity out.old ≤ vec_capacity out.new }
 {
     for module in modules {
@@ -116,7 +134,8 @@ pub(crate) fn put_copy<A: Allocator, B: Allocator>(
     kind: u32,
     copy: &Option<Bytes<A>>,
 )
-    requires room { vec_len out.old + copy_size (option_map length copy.now) ≤ vec_capacity out.old }
+    requires room { vec_len out.old + copy_size (option_map length copy.now)
+        ≤ vec_capacity out.old }
     requires small { copy_size (option_map length copy.now) < 2 ^ 32 }
     ensures items { out.new.items ≡ out.old.items ++ copy_tag kind copy.now }
     ensures len { vec_len out.new ≡ vec_len out.old + copy_size (option_map length copy.now) }
@@ -125,7 +144,7 @@ pub(crate) fn put_copy<A: Allocator, B: Allocator>(
     if let Some(copy) = copy {
         put_u32(out, kind);
         put_u32(out, copy.len() as u32 + 8);
-        put(out, copy.as_slice());
+        put_bytes(out, copy.as_slice());
         put_padding(out, copy.len() as u64);
     }
 }

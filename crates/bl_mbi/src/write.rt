@@ -1,10 +1,12 @@
 //! Boot information as bytes.
-ghost use Rattle.std.specs.Prelude.{◌≡◌, ◌≤◌, ◌+◌, ◌^◌, ◌<◌, ◌++◌, [], codes, length, sum_by, option_map, vec_len, vec_capacity, IsOk, OnOk, OnErr};
+ghost use Rattle.std.specs.Prelude.{◌≡◌, ◌≤◌, ◌+◌, ◌^◌, ◌<◌, ◌++◌, [], codes, length, sum_by};
+ghost use Rattle.std.specs.Prelude.{option_map, vec_len, vec_capacity, IsOk, OnOk, OnErr};
 ghost use Rattle.std.specs.List.{flat_map};
 ghost use Rattle.bl_mbi.specs.Size.{tag_size, copy_size};
-ghost use Rattle.bl_mbi.specs.InformationFacts.{info_size as size_told};
+ghost use Rattle.bl_mbi.specs.InformationFacts.{info_size as size_of_info};
 ghost use Rattle.bl_mbi.specs.Spelling.{spelling};
-ghost use Rattle.bl_mbi.specs.Tags.{tag, text_body, module_tag, memory_body, map_body, copy_tag, load_base_tag};
+ghost use Rattle.bl_mbi.specs.Tags.{tag, text_body, module_tag, memory_body, map_body, copy_tag};
+ghost use Rattle.bl_mbi.specs.Tags.{load_base_tag};
 ghost use Rattle.bl_mbi.specs.Groups.{texts_size, map_size, last_size};
 
 use crate::facts::Facts;
@@ -12,9 +14,8 @@ use crate::format::{
     ENTRY_SIZE, TAG_ACPI_NEW, TAG_ACPI_OLD, TAG_BOOT_LOADER_NAME, TAG_COMMAND_LINE,
 };
 use crate::module::Module;
-use crate::put::put_u32;
 use crate::tags::{put_copy, put_end, put_load_base, put_map, put_memory, put_modules, put_text};
-use bl_mem::Bytes;
+use bl_mem::{Bytes, put_u32};
 use std::alloc::{AllocError, Allocator};
 
 /// How many bytes a tag takes whose body has so many.
@@ -48,19 +49,34 @@ fn copy_len<A: Allocator>(copy: &Option<Bytes<A>>) -> u64
     }
 }
 
-/// How many bytes the information takes: its `total_size`, with the loader's name `bootcore`.
-pub fn info_size<A: Allocator>(facts: &Facts<A>) -> u64
-    ensures size { result ≡ length (spelling (codes "bootcore") facts.now) }
-    ensures told { result ≡ size_told facts.now }
-    ensures small { result < 2 ^ 32 }
+/// How many bytes the tags of texts take: the line, the loader's name, the modules.
+fn texts_len<A: Allocator>(facts: &Facts<A>) -> u64
+    requires { texts_size facts.now < 2 ^ 32 }
+    ensures { result ≡ texts_size facts.now }
 {
     let line = tag_len(facts.line.len() as u64 + 1);
     let name = tag_len(b"bootcore".len() as u64 + 1);
-    let modules = modules_len(&facts.modules);
-    let runs = 16 + ENTRY_SIZE as u64 * facts.runs.len() as u64;
-    let copies = copy_len(&facts.rsdp_old) + copy_len(&facts.rsdp_new);
+    line + name + modules_len(&facts.modules)
+}
+
+/// How many bytes the last tags take: those that do not always stand, and the one that ends the
+/// information.
+fn last_len<A: Allocator>(facts: &Facts<A>) -> u64
+    requires { last_size facts.now < 2 ^ 32 }
+    ensures { result ≡ last_size facts.now }
+{
     let load_base = if facts.load_base.is_some() { 16 } else { 0 };
-    8 + line + name + modules + 16 + runs + copies + load_base + 8
+    copy_len(&facts.rsdp_old) + copy_len(&facts.rsdp_new) + load_base + 8
+}
+
+/// How many bytes the information takes: its `total_size`, with the loader's name `bootcore`.
+pub fn info_size<A: Allocator>(facts: &Facts<A>) -> u64
+    ensures size { result ≡ length (spelling (codes "bootcore") facts.now) }
+    ensures by_lengths { result ≡ size_of_info facts.now }
+    ensures small { result < 2 ^ 32 }
+{
+    let map = 32 + ENTRY_SIZE as u64 * facts.runs.len() as u64;
+    8 + texts_len(facts) + map + last_len(facts)
 }
 
 /// Appends the tags of texts: the line, the loader's name, the modules.
@@ -79,7 +95,8 @@ fn put_texts<A: Allocator, B: Allocator>(facts: &Facts<A>, out: &mut Vec<u8, B>)
 /// Appends the tags of memory: its sizes, its map.
 fn put_map_tags<A: Allocator, B: Allocator>(facts: &Facts<A>, out: &mut Vec<u8, B>)
     requires { vec_len out.old + map_size facts.now ≤ vec_capacity out.old }
-    ensures items { out.new.items ≡ out.old.items ++ (tag 4 (memory_body facts.now.mem_lower facts.now.mem_upper)
+    ensures items { out.new.items ≡ out.old.items
+        ++ (tag 4 (memory_body facts.now.mem_lower facts.now.mem_upper)
         ++ tag 6 (map_body facts.now.runs)) }
     ensures len { vec_len out.new ≡ vec_len out.old + map_size facts.now }
     ensures capacity { vec_capacity out.old ≤ vec_capacity out.new }
@@ -91,8 +108,8 @@ fn put_map_tags<A: Allocator, B: Allocator>(facts: &Facts<A>, out: &mut Vec<u8, 
 /// Appends the tags that do not always stand, and the one that ends the information.
 fn put_last<A: Allocator, B: Allocator>(facts: &Facts<A>, out: &mut Vec<u8, B>)
     requires { vec_len out.old + last_size facts.now ≤ vec_capacity out.old }
-    ensures { out.new.items ≡ out.old.items ++ (copy_tag 14 facts.now.rsdp_old ++ (copy_tag 15 facts.now.rsdp_new
-        ++ (load_base_tag facts.now.load_base ++ tag 0 []))) }
+    ensures { out.new.items ≡ out.old.items ++ (copy_tag 14 facts.now.rsdp_old
+        ++ (copy_tag 15 facts.now.rsdp_new ++ (load_base_tag facts.now.load_base ++ tag 0 []))) }
 {
     put_copy(out, TAG_ACPI_OLD, &facts.rsdp_old);
     put_copy(out, TAG_ACPI_NEW, &facts.rsdp_new);
@@ -105,9 +122,11 @@ pub fn write_info<A: Allocator, B: Allocator>(
     facts: &Facts<A>,
     out: &mut Vec<u8, B>,
 ) -> Result<(), AllocError>
-    ensures ok { OnOk result (out.new.items ≡ out.old.items ++ spelling (codes "bootcore") facts.now) }
+    ensures ok { OnOk result
+        (out.new.items ≡ out.old.items ++ spelling (codes "bootcore") facts.now) }
     ensures err { OnErr result (out.new.items ≡ out.old.items) }
-    ensures succeeds { vec_len out.old + size_told facts.now ≤ vec_capacity out.old → IsOk result }
+    ensures succeeds { vec_len out.old + size_of_info facts.now ≤ vec_capacity out.old
+        → IsOk result }
 {
     let total_size = info_size(facts);
     out.reserve(total_size as usize)?;

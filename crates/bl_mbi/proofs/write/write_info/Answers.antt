@@ -1,8 +1,8 @@
 use Rattle.std.proofs.Common.{List, ℕ, ◌++◌, ◌∙◌, ap}
-use Rattle.bl_mbi.specs.Tags.{u32_bytes}
+use Rattle.bl_mem.specs.Words.{u32_bytes}
 use Rattle.bl_mbi.proofs.GroupLemmas.{spelled}
 use Rattle.bl_mbi.proofs.write.write_info.Goals as goal
 
 pub returns-clause-ok : goal.returns-clause-ok
 returns-clause-ok g c =
-    spelled c.args.out.now.items _ _ _ _ _ c.args.facts.now _ c.info_size-total_size.ensures.told (c.put_u32.ensures.items ∙ ap (λ (x : List ℕ). x ++ u32_bytes c.info_size-total_size.result) c.reserve.ensures.items) c.put_u32-2.ensures.items c.put_texts.ensures.items c.put_map_tags.ensures.items c.put_last.ensures
+    spelled c.args.out.now.items _ _ _ _ _ c.args.facts.now _ c.info_size-total_size.ensures.by_lengths (c.put_u32.ensures.items ∙ ap (λ (x : List ℕ). x ++ u32_bytes c.info_size-total_size.result) c.reserve.ensures.items) c.put_u32-2.ensures.items c.put_texts.ensures.items c.put_map_tags.ensures.items c.put_last.ensures
