@@ -14,14 +14,14 @@ use Rattle.bl_load.proofs.HandoverLaws as load
 use Rattle.bl_image.specs.Image.{spelling}
 use Rattle.bl_boot.specs.Attempt.{IsAttemptHandover, IsAttemptRefusal, LacksRoom, HasRoomBeside, entry_value, value_found}
 use Rattle.bl_desc.specs.Described.{Described, Entry}
-use Rattle.bl_boot.specs.Ends.{AreAlike, IsBooted, IsMachineOf, IsRefused}
+use Rattle.bl_boot.specs.Ends.{AreAlike, Attempted, IsBooted, IsMachineOf, IsRefused, Surroundings}
 use Rattle.bl_boot.specs.Files.{Answer, missing, too_long, bytes}
 
-pub one_handover : (facts : MachineFacts) (entry : Entry) (answer : Answer) (h k : Handover)
+one_handover_of : (facts : MachineFacts) (entry : Entry) (answer : Answer) (h k : Handover)
     → IsAttemptHandover facts entry answer h → IsAttemptHandover facts entry answer k → h ≡ k
-one_handover facts entry missing h k a b = absurd a
-one_handover facts entry (too_long n) h k a b = absurd a
-one_handover facts entry (bytes kernel) h k a b = load.one_handover facts (entry_value entry kernel) h k a.1 b.1
+one_handover_of facts entry missing h k a b = absurd a
+one_handover_of facts entry (too_long n) h k a b = absurd a
+one_handover_of facts entry (bytes kernel) h k a b = load.one_handover facts (entry_value entry kernel) h k a.1 b.1
 
 -- what lacks room is what would be handed over
 still_lacking : (facts : MachineFacts) (entry : Entry) (kernel : List ℕ) (h : Handover) → LacksRoom facts entry kernel → IsAttemptHandover facts entry (bytes kernel) h → ⊥
@@ -29,29 +29,29 @@ still_lacking facts entry kernel h lacks b =
     lacks.lacking (subst (λ (x : Handover). HasRoomBeside facts kernel x)
     (load.one_handover facts (entry_value entry kernel) h lacks.handover b.1 lacks.handed) b.2)
 
-pub not_both : (facts : MachineFacts) (entry : Entry) (answer : Answer) (r : Refusal) (h : Handover)
+not_both_of : (facts : MachineFacts) (entry : Entry) (answer : Answer) (r : Refusal) (h : Handover)
     → IsAttemptRefusal facts entry answer r → IsAttemptHandover facts entry answer h → ⊥
-not_both facts entry missing r h a b = b
-not_both facts entry (too_long n) r h a b = b
-not_both facts entry (bytes kernel) r h (inl (big, is)) b = big b.0
-not_both facts entry (bytes kernel) r h (inr (inl (fits, refused))) b = load.not_both facts (entry_value entry kernel) h r b.1 refused
-not_both facts entry (bytes kernel) r h (inr (inr (fits, lacks, is))) b = still_lacking facts entry kernel h lacks b
+not_both_of facts entry missing r h a b = b
+not_both_of facts entry (too_long n) r h a b = b
+not_both_of facts entry (bytes kernel) r h (inl (big, is)) b = big b.0
+not_both_of facts entry (bytes kernel) r h (inr (inl (fits, refused))) b = load.not_both facts (entry_value entry kernel) h r b.1 refused
+not_both_of facts entry (bytes kernel) r h (inr (inr (fits, lacks, is))) b = still_lacking facts entry kernel h lacks b
 
-pub one_refusal : (facts : MachineFacts) (entry : Entry) (answer : Answer) (r q : Refusal)
+one_refusal_of : (facts : MachineFacts) (entry : Entry) (answer : Answer) (r q : Refusal)
     → IsAttemptRefusal facts entry answer r → IsAttemptRefusal facts entry answer q → r ≡ q
-one_refusal facts entry missing r q a b = a ∙ sym b
-one_refusal facts entry (too_long n) r q a b = a ∙ sym b
-one_refusal facts entry (bytes kernel) r q (inl (big, a)) (inl (large, b)) = a ∙ sym b
-one_refusal facts entry (bytes kernel) r q (inl (big, a)) (inr (inl (fits, b))) = absurd (big fits)
-one_refusal facts entry (bytes kernel) r q (inl (big, a)) (inr (inr (fits, lacks, b))) = absurd (big fits)
-one_refusal facts entry (bytes kernel) r q (inr (inl (fits, a))) (inl (big, b)) = absurd (big fits)
-one_refusal facts entry (bytes kernel) r q (inr (inl (fits, a))) (inr (inl (same, b))) = load.one_refusal facts (entry_value entry kernel) r q a b
-one_refusal facts entry (bytes kernel) r q (inr (inl (fits, a))) (inr (inr (same, lacks, b))) =
+one_refusal_of facts entry missing r q a b = a ∙ sym b
+one_refusal_of facts entry (too_long n) r q a b = a ∙ sym b
+one_refusal_of facts entry (bytes kernel) r q (inl (big, a)) (inl (large, b)) = a ∙ sym b
+one_refusal_of facts entry (bytes kernel) r q (inl (big, a)) (inr (inl (fits, b))) = absurd (big fits)
+one_refusal_of facts entry (bytes kernel) r q (inl (big, a)) (inr (inr (fits, lacks, b))) = absurd (big fits)
+one_refusal_of facts entry (bytes kernel) r q (inr (inl (fits, a))) (inl (big, b)) = absurd (big fits)
+one_refusal_of facts entry (bytes kernel) r q (inr (inl (fits, a))) (inr (inl (same, b))) = load.one_refusal facts (entry_value entry kernel) r q a b
+one_refusal_of facts entry (bytes kernel) r q (inr (inl (fits, a))) (inr (inr (same, lacks, b))) =
     absurd (load.not_both facts (entry_value entry kernel) lacks.handover r lacks.handed a)
-one_refusal facts entry (bytes kernel) r q (inr (inr (fits, lacks, a))) (inl (big, b)) = absurd (big fits)
-one_refusal facts entry (bytes kernel) r q (inr (inr (fits, lacks, a))) (inr (inl (same, b))) =
+one_refusal_of facts entry (bytes kernel) r q (inr (inr (fits, lacks, a))) (inl (big, b)) = absurd (big fits)
+one_refusal_of facts entry (bytes kernel) r q (inr (inr (fits, lacks, a))) (inr (inl (same, b))) =
     absurd (load.not_both facts (entry_value entry kernel) lacks.handover q lacks.handed b)
-one_refusal facts entry (bytes kernel) r q (inr (inr (fits, lacks, a))) (inr (inr (same, lacking, b))) = a ∙ sym b
+one_refusal_of facts entry (bytes kernel) r q (inr (inr (fits, lacks, a))) (inr (inr (same, lacking, b))) = a ∙ sym b
 
 -- an entry of an equal value hands over the same, and is refused for the same
 like_handover : (facts : MachineFacts) (entry other : Entry) (answer : Answer) (h : Handover)
@@ -82,30 +82,47 @@ like_refusal facts entry other (bytes kernel) r same (inr (inr (fits, lacks, is)
       is,
     ))
 
--- what one hands over, as the other sees it
-module _ {desc other : List ℕ} {answers others : List ℕ → Answer → Type 0} where
-  pub one_image : (s t u v m n p q : List ℕ) (a : IsBooted desc answers s t u v) (b : IsBooted other others m n p q)
-      → AreAlike a.attempted b.attempted → (image : List ℕ) × (t ≡ s ++ image) × (n ≡ m ++ image)
-  one_image s t u v m n p q a b alike =
-      let value = alike.value in
-      let same : value_found a.attempted.entry b.attempted.answer ≡ value_found b.attempted.entry b.attempted.answer =
-      rw alike.answer at value in
-      let here : IsAttemptHandover b.attempted.facts a.attempted.entry b.attempted.answer a.handover =
-      rw (← alike.facts, ← alike.answer) a.handed in
-      let seen = like_handover b.attempted.facts a.attempted.entry b.attempted.entry b.attempted.answer a.handover same here in
-      let one = one_handover b.attempted.facts b.attempted.entry b.attempted.answer b.handover a.handover b.handed seen in
-      (spelling a.handover, a.image, b.image ∙ ap (λ (h : Handover). m ++ spelling h) one)
+-- of two attempts that are alike
+module _ {F G : Type 0} {answers : F → List ℕ → Answer → Type 0} {faults : F → ℕ} {desc : List ℕ} {before after : F}
+    {replies : G → List ℕ → Answer → Type 0} {wants : G → ℕ} {other : List ℕ} {began ended : G}
+    (a : Attempted answers faults desc before after) (b : Attempted replies wants other began ended) (alike : AreAlike a b) where
+  same_value : value_found a.entry b.answer ≡ value_found b.entry b.answer
+  same_value = let value = alike.value in rw alike.answer at value
 
-  pub no_boot : (s t u v m n p q : List ℕ) (a : IsRefused desc answers s t u v) (b : IsBooted other others m n p q)
+  -- what one hands over, or is refused for, as the other sees it
+  handed_there : (h : Handover) → IsAttemptHandover a.facts a.entry a.answer h → IsAttemptHandover b.facts b.entry b.answer h
+  handed_there h handed =
+      like_handover b.facts a.entry b.entry b.answer h same_value (rw (← alike.facts, ← alike.answer) handed)
+
+  refused_there : (r : Refusal) → IsAttemptRefusal a.facts a.entry a.answer r → IsAttemptRefusal b.facts b.entry b.answer r
+  refused_there r refused =
+      like_refusal b.facts a.entry b.entry b.answer r same_value (rw (← alike.facts, ← alike.answer) refused)
+
+  pub one_handover : (h k : Handover) → IsAttemptHandover a.facts a.entry a.answer h → IsAttemptHandover b.facts b.entry b.answer k → h ≡ k
+  one_handover h k handed held = one_handover_of b.facts b.entry b.answer h k (handed_there h handed) held
+
+  pub one_refusal : (r q : Refusal) → IsAttemptRefusal a.facts a.entry a.answer r → IsAttemptRefusal b.facts b.entry b.answer q → r ≡ q
+  one_refusal r q refused denied = one_refusal_of b.facts b.entry b.answer r q (refused_there r refused) denied
+
+  pub not_both : (r : Refusal) (h : Handover) → IsAttemptRefusal a.facts a.entry a.answer r → IsAttemptHandover b.facts b.entry b.answer h → ⊥
+  not_both r h refused handed = not_both_of b.facts b.entry b.answer r h (refused_there r refused) handed
+
+-- of two boots that are alike
+module _ {F G : Type 0} {answers : F → List ℕ → Answer → Type 0} {faults : F → ℕ} {desc : List ℕ} {before after : Surroundings F}
+    {replies : G → List ℕ → Answer → Type 0} {wants : G → ℕ} {other : List ℕ} {began ended : Surroundings G} where
+  pub one_image : (a : IsBooted answers faults desc before after) (b : IsBooted replies wants other began ended)
+      → AreAlike a.attempted b.attempted → (image : List ℕ) × (after.sink ≡ before.sink ++ image) × (ended.sink ≡ began.sink ++ image)
+  one_image a b alike =
+      let one = one_handover a.attempted b.attempted alike a.handover b.handover a.handed b.handed in
+      (spelling a.handover, a.image, b.image ∙ ap (λ (h : Handover). began.sink ++ spelling h) (sym one))
+
+  pub both_refused : (a : IsRefused answers faults desc before after) (b : IsRefused replies wants other began ended)
+      → AreAlike a.attempted b.attempted → a.refusal ≡ b.refusal
+  both_refused a b alike = one_refusal a.attempted b.attempted alike a.refusal b.refusal a.refused b.refused
+
+  pub no_boot : (a : IsRefused answers faults desc before after) (b : IsBooted replies wants other began ended)
       → AreAlike a.attempted b.attempted → ⊥
-  no_boot s t u v m n p q a b alike =
-      let value = alike.value in
-      let same : value_found a.attempted.entry b.attempted.answer ≡ value_found b.attempted.entry b.attempted.answer =
-      rw alike.answer at value in
-      let here : IsAttemptRefusal b.attempted.facts a.attempted.entry b.attempted.answer a.refusal =
-      rw (← alike.facts, ← alike.answer) a.refused in
-      let seen = like_refusal b.attempted.facts a.attempted.entry b.attempted.entry b.attempted.answer a.refusal same here in
-      not_both b.attempted.facts b.attempted.entry b.attempted.answer a.refusal b.handover seen b.handed
+  no_boot a b alike = not_both a.attempted b.attempted alike a.refusal b.handover a.refused b.handed
 
 facts_of : (s t : ℕ) (x y : List Region) (p q : Range ℕ) → s ≡ t → x ≡ y → p ≡ q
     → ◌≡◌ {A = MachineFacts} record { size = s; runs = x; pool = p } record { size = t; runs = y; pool = q }

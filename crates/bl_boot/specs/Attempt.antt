@@ -1,19 +1,15 @@
 -- What an attempt to boot one entry comes to. Own.
-use Rattle.std.specs.Prelude.{◌≡◌, ◌⊎◌, ℕ, ◌+◌, ◌≤◌, List, [], ◌∷◌, length, map, replicate, Option, Some, None, All, MatchOption}
+use Rattle.std.specs.Prelude.{◌≡◌, ◌⊎◌, ℕ, ◌+◌, ◌≤◌, List, [], ◌∷◌, length, map, Option, Some, None}
 use Rattle.std.specs.declared.ops.Range.{Range}
 use Rattle.bl_map.specs.MachineFacts.{MachineFacts}
 use Rattle.bl_load.specs.declared.refusal.Refusal.{Refusal}
 use Rattle.bl_load.specs.declared.refusal.Refusal.TheVariants.{NoFile, FileTooLong, NoPool}
 use Rattle.bl_load.specs.Value.{EntryValue}
-use Rattle.bl_load.specs.Handover.{Part, Handover, written}
+use Rattle.bl_load.specs.Handover.{Part, Handover}
 use Rattle.bl_load.specs.Parts.{IsHandover, IsRefusal}
-use Rattle.bl_load.specs.Planned.{handover_in}
 use Rattle.bl_map.specs.Room.{frames_of, frames_in, HasRoomFor}
-use Rattle.bl_boot.specs.declared.attempting.attempt.Attempt.{Attempt}
-use Rattle.bl_boot.specs.declared.attempting.attempt.Attempt.TheVariants as attempt
-use Rattle.bl_boot.specs.declared.attempting.attempt.Loaded.{Loaded}
-use Rattle.bl_desc.specs.Described.{Entry, File, file_named}
-use Rattle.bl_boot.specs.Files.{Answer, missing, too_long, bytes, answer_for}
+use Rattle.bl_desc.specs.Described.{Entry}
+use Rattle.bl_boot.specs.Files.{Answer, missing, too_long, bytes}
 
 -- the value of an entry, which has no modules, with this kernel's file
 abbrev pub entry_value : Entry → List ℕ → EntryValue
@@ -62,25 +58,3 @@ IsAttemptHandover facts entry missing h = ⊥
 IsAttemptHandover facts entry (too_long n) h = ⊥
 IsAttemptHandover facts entry (bytes kernel) h =
     FitsPool facts kernel × IsHandover facts (entry_value entry kernel) h × HasRoomBeside facts kernel h
-
--- what is found for the name of a file: that of the description, and else what the files answer
-abbrev pub IsFound : List File → (List ℕ → Answer → Type 0) → List ℕ → Answer → Type 0
-IsFound files answers name answer = MatchOption (file_named name files) (answers name answer) (λ file. answer ≡ answer_for file)
-
--- ---- what the code keeps
-
--- what memory hands over
-abbrev pub handover_loaded : {A : Type 0} → Loaded A → Handover
-handover_loaded loaded = handover_in loaded.memory loaded.handoff.protocol loaded.handoff.registers loaded.handoff.places
-
--- memory that was filled with one byte holds what is handed over, and nothing else is changed
-pub record IsLoaded {A : Type 0} (size fill : ℕ) (handover : Handover) (loaded : Loaded A) : Type 0 where
-  pub memory : loaded.memory ≡ written handover.parts (replicate size fill)
-  pub handed : handover_loaded loaded ≡ handover
-  pub inside : All (λ place. place.address + place.length ≤ length loaded.memory) loaded.handoff.places
-
--- what came of an attempt
-abbrev pub IsAttempt : {A : Type 0} → ℕ → MachineFacts → Entry → Answer → Attempt A → Type 0
-IsAttempt fill facts entry answer (attempt.Refused refused) = IsAttemptRefusal facts entry answer refused
-IsAttempt fill facts entry answer (attempt.Loaded loaded) =
-    (h : Handover) × IsAttemptHandover facts entry answer h × IsLoaded facts.size fill h loaded

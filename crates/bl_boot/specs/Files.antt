@@ -27,6 +27,18 @@ answer_if (Some file) = answer_for file
 abbrev pub answer_in : List File → List ℕ → Answer
 answer_in files name = answer_if (file_named name files)
 
+-- a file is too long only above the limit, and its bytes are given only up to it
+abbrev pub KeepsLimit : Answer → Type 0
+KeepsLimit missing = Unit {0}
+KeepsLimit (too_long n) = file_limit < n
+KeepsLimit (bytes file) = length file ≤ file_limit
+
+-- there is one fault more exactly where the file is missing
+abbrev pub CountsFault : ℕ → ℕ → Answer → Type 0
+CountsFault before after missing = after ≡ before + 1
+CountsFault before after (too_long n) = after ≡ before
+CountsFault before after (bytes file) = after ≡ before
+
 -- files in memory, and how many names were missing so far
 pub record MemFilesFacts : Type 0 where
   pub files : List File
@@ -38,18 +50,6 @@ abbrev pub answer_of : {A : Type 0} → Fetched A → Answer
 answer_of fetched.Missing = missing
 answer_of (fetched.TooLong n) = too_long n
 answer_of (fetched.Bytes file) = bytes file
-
--- a file is told as too long only above the limit, and its bytes are given only up to it
-abbrev pub KeepsLimit : {A : Type 0} → Fetched A → Type 0
-KeepsLimit fetched.Missing = Unit {0}
-KeepsLimit (fetched.TooLong n) = file_limit < n
-KeepsLimit (fetched.Bytes file) = length file ≤ file_limit
-
--- there is one fault more exactly where the file is missing
-abbrev pub CountsFault : {A : Type 0} → ℕ → ℕ → Fetched A → Type 0
-CountsFault old new fetched.Missing = new ≡ old + 1
-CountsFault old new (fetched.TooLong n) = new ≡ old
-CountsFault old new (fetched.Bytes file) = new ≡ old
 
 -- a file that stands there was read whole, or not at all where it is longer than a limit
 abbrev pub IsRead : {A : Type 0} → ℕ → Fetched A → Type 0

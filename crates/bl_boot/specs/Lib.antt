@@ -1,5 +1,7 @@
 pub mod Says
 pub mod Files
+pub mod Found
 pub mod Attempt
-pub mod Faults
+pub mod Loaded
 pub mod Ends
+pub mod Kept

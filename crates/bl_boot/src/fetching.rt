@@ -13,8 +13,8 @@ pub use mem_files::MemFiles;
 /// The greatest length of a file, in bytes. A longer one is not read.
 pub const FILE_LIMIT: u64 = 0x4000_0000;
 
-/// Files by their names. They count their own faults, so that whoever is told that a file is missing
-/// can be shown it.
+/// Files by their names. They count their own faults, so that whoever is told that a file is
+/// missing can be shown it.
 pub trait Files {
     /// What may be answered for a name from now on.
     ghost answers: { Self → List ℕ → Answer → Type 0 };
@@ -28,8 +28,9 @@ pub trait Files {
         ensures told { IfOk result (λ file. answers self.old name.now (answer_of file)) }
         ensures same { (file : List ℕ) (answer : Answer) →
             answers self.new file answer → answers self.old file answer }
-        ensures limit { IfOk result KeepsLimit }
-        ensures missing { IfOk result (CountsFault (faults self.old) (faults self.new)) }
+        ensures limit { IfOk result (λ file. KeepsLimit (answer_of file)) }
+        ensures missing { IfOk result (λ file.
+            CountsFault (faults self.old) (faults self.new) (answer_of file)) }
         ensures err { OnErr result (faults self.new ≡ faults self.old) };
 
     /// How many faults there were.

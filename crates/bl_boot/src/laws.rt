@@ -5,29 +5,46 @@ ghost use Rattle.bl_map.specs.Kinds.{kind_at};
 ghost use Rattle.bl_load.specs.Handover.{Handover};
 ghost use Rattle.bl_load.specs.declared.refusal.Refusal.{Refusal};
 ghost use Rattle.bl_boot.specs.Attempt.{IsAttemptHandover, IsAttemptRefusal};
-ghost use Rattle.bl_desc.specs.Described.{Described, Entry};
-ghost use Rattle.bl_boot.specs.Ends.{AreAlike, IsBooted, IsMachineOf, IsRefused};
-ghost use Rattle.bl_boot.specs.Files.{Answer};
+ghost use Rattle.bl_desc.specs.Described.{Described};
+ghost use Rattle.bl_boot.specs.Ends.{AreAlike, Attempted, IsBooted, IsMachineOf, IsRefused};
+ghost use Rattle.bl_boot.specs.Ends.{Surroundings};
 
 use crate::fetching::Files;
 
-/// Two boots of one kernel by one protocol with one line, on machines of equal size, map and pool, write one image,
-/// whatever memory held, whatever the titles, the names and the other files are, and wherever the kernel came from.
-/// Of two such boots none is refused while the other is not, and both are refused for one thing.
-pub fn two_boots<F: Files, G: Files>(_files: &F, _others: &G)
-    ensures one_handover { (facts : MachineFacts) (entry : Entry) (answer : Answer) (h k : Handover) →
-        IsAttemptHandover facts entry answer h → IsAttemptHandover facts entry answer k → h ≡ k }
-    ensures one_refusal { (facts : MachineFacts) (entry : Entry) (answer : Answer) (r q : Refusal) →
-        IsAttemptRefusal facts entry answer r → IsAttemptRefusal facts entry answer q → r ≡ q }
-    ensures one_image { (desc other s t u v m n p q : List ℕ)
-        (a : IsBooted desc (F.answers _files.now) s t u v) (b : IsBooted other (G.answers _others.now) m n p q) →
-        AreAlike a.attempted b.attempted → (image : List ℕ) × (t ≡ s ++ image) × (n ≡ m ++ image) }
-    ensures no_boot { (desc other s t u v m n p q : List ℕ)
-        (a : IsRefused desc (F.answers _files.now) s t u v) (b : IsBooted other (G.answers _others.now) m n p q) →
+/// Two boots are two calls of `boot` with no more in common than this: their machines have equal
+/// facts (size, map and pool), and what was found for their entries' kernels gives the entries
+/// equal values (protocol, line and kernel). Memory, sinks, titles, names, other files, and where
+/// each kernel came from may differ.
+///
+/// Where both end in 0 or 1 they end alike: both write one image, or both are refused for one thing.
+pub fn two_boots<F: Files, G: Files>()
+    ensures one_handover { (desc other : List ℕ) (before after : F) (began ended : G)
+        (a : Attempted F.answers F.faults desc before after)
+        (b : Attempted G.answers G.faults other began ended) → AreAlike a b → (h k : Handover) →
+        IsAttemptHandover a.facts a.entry a.answer h →
+        IsAttemptHandover b.facts b.entry b.answer k → h ≡ k }
+    ensures one_refusal { (desc other : List ℕ) (before after : F) (began ended : G)
+        (a : Attempted F.answers F.faults desc before after)
+        (b : Attempted G.answers G.faults other began ended) → AreAlike a b → (r q : Refusal) →
+        IsAttemptRefusal a.facts a.entry a.answer r →
+        IsAttemptRefusal b.facts b.entry b.answer q → r ≡ q }
+    ensures one_image { (desc other : List ℕ) (before after : Surroundings F)
+        (began ended : Surroundings G) (a : IsBooted F.answers F.faults desc before after)
+        (b : IsBooted G.answers G.faults other began ended) → AreAlike a.attempted b.attempted →
+        (image : List ℕ)
+        × (after.sink ≡ before.sink ++ image) × (ended.sink ≡ began.sink ++ image) }
+    ensures both_refused { (desc other : List ℕ) (before after : Surroundings F)
+        (began ended : Surroundings G) (a : IsRefused F.answers F.faults desc before after)
+        (b : IsRefused G.answers G.faults other began ended) → AreAlike a.attempted b.attempted →
+        a.refusal ≡ b.refusal }
+    ensures no_boot { (desc other : List ℕ) (before after : Surroundings F)
+        (began ended : Surroundings G) (a : IsRefused F.answers F.faults desc before after)
+        (b : IsBooted G.answers G.faults other began ended) →
         AreAlike a.attempted b.attempted → ⊥ }
 
-    // Machines have equal facts where size and pool are equal and each address has one kind in both.
-    ensures same_facts { (one two : Described) (f g : MachineFacts) → IsMachineOf one f → IsMachineOf two g →
-        one.size ≡ two.size → one.pool ≡ two.pool →
+    // Machines have equal facts where size and pool are equal and each address has one kind in
+    // the two.
+    ensures same_facts { (one two : Described) (f g : MachineFacts) →
+        IsMachineOf one f → IsMachineOf two g → one.size ≡ two.size → one.pool ≡ two.pool →
         ((a : ℕ) → kind_at one.regions a ≡ kind_at two.regions a) → f ≡ g }
 {}

@@ -8,9 +8,7 @@ mod laws;
 mod mapping;
 mod saying;
 
-pub use attempting::{Attempt, Loaded, attempt_entry};
-pub use booting::{EndFault, Ended, boot, machine_of};
+pub use booting::boot;
 pub use fetching::{FILE_LIMIT, Fetched, Files, MemFiles};
 pub use laws::two_boots;
 pub use mapping::map_to;
-pub use saying::{say_booted, say_map, say_no_entry_left, say_refused};

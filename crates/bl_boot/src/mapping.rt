@@ -1,6 +1,7 @@
 //! The map of a description's machine, as it is said.
 ghost use Rattle.std.specs.Prelude.{◌≡◌, ◌⊎◌, ◌++◌};
-ghost use Rattle.bl_boot.specs.Ends.{IsMapped, IsBadDescription, MapEnds};
+ghost use Rattle.bl_boot.specs.Ends.{IsMapped, IsBadDescription};
+ghost use Rattle.bl_boot.specs.Kept.{MapEnds};
 
 use crate::booting::{EndFault, machine_of};
 use crate::saying::say_map;
@@ -32,9 +33,9 @@ fn run_map<A: Allocator + Copy, B: Allocator>(
 
 /// Appends the lines of the normal map of a description's machine to `say`.
 ///
-/// The status is 0, 2 where the description is bad, which is where `boot` answers it, or 4 where memory
-/// ran out; with 2 and 4 nothing is said. No file is asked for. `global` is what the TOML reader takes
-/// its memory from.
+/// The status is 0, 2 where the description is bad, which is where `boot` answers it, or 4 where
+/// memory ran out; with 2 and 4 nothing is said. No file is asked for. `global` is what the TOML
+/// reader takes its memory from.
 pub fn map_to<A: Allocator + Copy, B: Allocator>(
     alloc: A,
     global: Global,

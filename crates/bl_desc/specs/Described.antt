@@ -1,6 +1,6 @@
 -- What a boot description says: for each of its tables a function from the table's keys to a record,
 -- or to none where the table is a bad one. Own.
-use Rattle.std.specs.Prelude.{◌≡◌, ◌==◌, ℕ, Bool, true, ◌&&◌, not, if◌then◌else◌, nat_le, List, [], ◌∷◌, length, map, Option, Some, None, Result, Ok, Err, codes}
+use Rattle.std.specs.Prelude.{◌==◌, ℕ, Bool, true, ◌&&◌, not, if◌then◌else◌, nat_le, List, [], ◌∷◌, length, Option, Some, None, codes}
 use Rattle.std.specs.Str.{bytes_eq, is_utf8}
 use Rattle.std.specs.List.{list_any, list_all}
 use Rattle.std.specs.declared.ops.Range.{Range}
@@ -13,11 +13,6 @@ use Rattle.bl_desc.specs.Kinds.{kind_name}
 use Rattle.bl_desc.specs.Values.{◌>>=◌, passing, number_of, byte_of, text_of, bytes_of, range_of, has_only, at_key, at_key_or, in_tables}
 use Rattle.bl_plan.specs.declared.protocol.Protocol.{Protocol}
 use Rattle.bl_plan.specs.declared.protocol.Protocol.TheVariants.{Multiboot2}
-use Rattle.bl_desc.specs.declared.desc.FileRow.{FileRow}
-use Rattle.bl_desc.specs.declared.desc.EntryRow.{EntryRow}
-use Rattle.bl_desc.specs.declared.desc.Description.{Description}
-use Rattle.bl_desc.specs.declared.fault.DescFault.{DescFault}
-use Rattle.bl_desc.specs.declared.fault.DescFault.TheVariants.{BadDescription, NoMemory}
 
 -- a file that stands in the description
 pub record File : Type 0 where
@@ -154,30 +149,3 @@ described bytes = if is_utf8 bytes then parse_document bytes >>= described_in el
 abbrev pub file_named : List ℕ → List File → Option (List ℕ)
 file_named name [] = None
 file_named name (f ∷ fs) = if bytes_eq f.name name then Some f.bytes else file_named name fs
-
--- ---- what the code keeps
-
-abbrev pub file_view : {A : Type 0} → FileRow A → File
-file_view f = record { name = f.name; bytes = f.bytes }
-
-abbrev pub entry_view : {A : Type 0} → EntryRow A → Entry
-entry_view e = record { title = e.title; protocol = e.protocol; kernel = e.kernel; line = e.line }
-
-abbrev pub view : {A : Type 0} → Description A → Described
-view d = record {
-  size = d.size;
-  pool = d.pool;
-  fill = d.fill;
-  regions = d.regions.items;
-  files = map file_view d.files.items;
-  entries = map entry_view d.entries.items;
-}
-
--- what a reader returned, seen by view, is what the definition gives, unless memory ran out
-abbrev pub Fails : {Y : Type 0} → DescFault → Option Y → Type 0
-Fails NoMemory read = Unit {0}
-Fails BadDescription read = read ≡ None
-
-abbrev pub Gives : {X Y : Type 0} → (X → Y) → Result X DescFault → Option Y → Type 0
-Gives view (Ok x) read = read ≡ Some (view x)
-Gives view (Err e) read = Fails e read

@@ -1,7 +1,7 @@
 //! What a description says.
 ghost use Rattle.std.specs.Prelude.{◌≡◌, map, option_copied};
 ghost use Rattle.bl_desc.specs.Described as spec;
-ghost use Rattle.bl_desc.specs.Described.{file_view, view};
+ghost use Rattle.bl_desc.specs.Kept.{file_view, view};
 
 use crate::text::Text;
 use bl_map::Region;
@@ -29,8 +29,9 @@ pub struct EntryRow<A: Allocator> {
 
 /// What a description says: the machine, files and the menu, which has exactly one entry.
 ///
-/// `size` is in bytes, `fill` is what each byte of memory holds before the boot, and the regions may
-/// come in any order. Whether they make a machine is not asked here. No two files have one name.
+/// `size` is in bytes, `fill` is what each byte of memory holds before the boot, and the regions
+/// may come in any order. Whether they make a machine is not asked here. No two files have one
+/// name.
 #[derive(Drop)]
 pub struct Description<A: Allocator> {
     pub size: u64,

@@ -3,7 +3,7 @@ ghost use Rattle.std.specs.Prelude.{◌≡◌, [], map, codes, vec_len, IfOk};
 ghost use Rattle.toml.specs.View.{view, table_view, items_view};
 ghost use Rattle.bl_desc.specs.Values as values;
 ghost use Rattle.bl_desc.specs.Described as spec;
-ghost use Rattle.bl_desc.specs.Described.{Gives, entry_view};
+ghost use Rattle.bl_desc.specs.Kept.{Gives, entry_view};
 
 use crate::desc::EntryRow;
 use crate::fault::DescFault;

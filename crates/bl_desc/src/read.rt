@@ -3,7 +3,7 @@ ghost use Rattle.std.specs.Prelude.{◌≡◌, codes, vec_len, IfOk};
 ghost use Rattle.toml.specs.View.{table_view};
 ghost use Rattle.bl_desc.specs.Values as values;
 ghost use Rattle.bl_desc.specs.Described as spec;
-ghost use Rattle.bl_desc.specs.Described.{Gives, view};
+ghost use Rattle.bl_desc.specs.Kept.{Gives, view};
 
 use crate::desc::Description;
 use crate::entries::entries_at;
@@ -60,8 +60,9 @@ fn described_in<A: Allocator + Copy>(alloc: A, table: &Table) -> Result<Descript
     })
 }
 
-/// What these bytes describe. They are a bad description where they are not UTF-8, where the text is
-/// not TOML, where a key is unknown, missing or of another type, and where a value is not allowed.
+/// What these bytes describe. They are a bad description where they are not UTF-8, where the text
+/// is not TOML, where a key is unknown, missing or of another type, and where a value is not
+/// allowed.
 ///
 /// `global` is what the TOML reader takes its memory from; the description is made in `alloc`.
 #[tactic(auto, unfolding(crate::specs::Described::described))]

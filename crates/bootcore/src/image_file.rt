@@ -4,8 +4,8 @@ use std::fs;
 use std::fs::File;
 use std::marker::Model;
 
-/// A sink that creates its file, or empties an older one, at its first write. A file that can't be created
-/// is a fault of that write. A file that was begun stays after a fault.
+/// A sink that creates its file, or empties an older one, at its first write. A file that can't be
+/// created is a fault of that write. A file that was begun stays after a fault.
 #[derive(Drop)]
 pub struct ImageFile<'a> {
     rt: &'a HostRuntime,
@@ -20,7 +20,8 @@ impl<'a> Model for ImageFile<'a> {
 
     ghost Value = { ImageFileFacts };
 
-    ghost view = { λ f. record { contents = contents_of f.sink; faults = f.not_created + faults_of f.sink } };
+    ghost view = { λ f.
+        record { contents = contents_of f.sink; faults = f.not_created + faults_of f.sink } };
 }
 
 impl<'a> ImageFile<'a> {

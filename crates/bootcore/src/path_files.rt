@@ -11,9 +11,9 @@ use std::{fs, io, rt};
 
 /// Reads the regular file at a path whole, unless it is longer than `limit` bytes.
 ///
-/// The length is taken first: above the limit nothing is read, and of a file that grows meanwhile at most
-/// one byte more than the limit. A path at which no regular file stands is an error, since a device may
-/// never end and a pipe may never begin.
+/// The length is taken first: above the limit nothing is read, and of a file that grows meanwhile
+/// at most one byte more than the limit. A path at which no regular file stands is an error, since
+/// a device may never end and a pipe may never begin.
 pub fn read_file<R: rt::Files, A: Allocator>(
     rt: &R,
     alloc: A,
@@ -40,8 +40,8 @@ pub fn read_file<R: rt::Files, A: Allocator>(
     Ok(Fetched::Bytes(Bytes::from(bytes)))
 }
 
-/// Files by their paths, as the operating system reads them relative to the current folder. Each one
-/// that can't be read, and each path at which no regular file stands, is a fault.
+/// Files by their paths, as the operating system reads them relative to the current folder. Each
+/// one that can't be read, and each path at which no regular file stands, is a fault.
 ///
 /// What a real file holds is not claimed: anything may be answered for a path.
 #[derive(Drop)]

@@ -1,7 +1,9 @@
 //! An attempt with an entry of a description.
-ghost use Rattle.std.specs.Prelude.{ℕ, List, ◌+◌, ◌<◌, ◌≤◌, ◌^◌, IfOk};
-ghost use Rattle.bl_boot.specs.Attempt.{IsAttempt, IsFound};
-ghost use Rattle.bl_desc.specs.Described.{entry_view, view};
+ghost use Rattle.std.specs.Prelude.{◌≡◌, ℕ, List, ◌+◌, ◌<◌, ◌≤◌, ◌^◌, IfOk, IsSome};
+ghost use Rattle.bl_boot.specs.Loaded.{IsAttempt};
+ghost use Rattle.bl_boot.specs.Found.{IsFound};
+ghost use Rattle.bl_desc.specs.Described.{file_named};
+ghost use Rattle.bl_desc.specs.Kept.{entry_view, view};
 ghost use Rattle.bl_boot.specs.Files.{Answer, answer_for, answer_of};
 
 use crate::attempting::attempt::Attempt;
@@ -20,7 +22,8 @@ fn attempt_inline<A: Allocator + Copy>(
     entry: &EntryRow<A>,
     kernel: &[u8],
 ) -> Result<Attempt<A>, AllocError>
-    ensures { IfOk result (IsAttempt fill machine.now (entry_view entry.now) (answer_for kernel.now)) }
+    ensures { IfOk result
+        (IsAttempt fill machine.now (entry_view entry.now) (answer_for kernel.now)) }
 {
     if kernel.len() as u64 > FILE_LIMIT {
         return Ok(Attempt::Refused(Refusal::FileTooLong(0)));
@@ -36,7 +39,8 @@ fn attempt_fetched<A: Allocator + Copy>(
     entry: &EntryRow<A>,
     fetched: &Fetched<A>,
 ) -> Result<Attempt<A>, AllocError>
-    ensures { IfOk result (IsAttempt fill machine.now (entry_view entry.now) (answer_of fetched.now)) }
+    ensures { IfOk result
+        (IsAttempt fill machine.now (entry_view entry.now) (answer_of fetched.now)) }
 {
     match fetched {
         Fetched::Missing => Ok(Attempt::Refused(Refusal::NoFile(0))),
@@ -45,8 +49,8 @@ fn attempt_fetched<A: Allocator + Copy>(
     }
 }
 
-/// Attempts to boot an entry of a description on its machine. The kernel is the description's own file of
-/// that name, and else is fetched.
+/// Attempts to boot an entry of a description on its machine. The kernel is the description's own
+/// file of that name, and else is fetched.
 pub fn attempt_entry<A: Allocator + Copy, F: Files>(
     alloc: A,
     machine: &Machine<A>,
@@ -56,13 +60,19 @@ pub fn attempt_entry<A: Allocator + Copy, F: Files>(
 ) -> Result<Attempt<A>, AllocError>
     requires { F.faults files.old < 2 ^ 63 }
     ensures came { IfOk result (λ attempt. (answer : Answer)
-        × IsFound (view description.now).files (F.answers files.old) entry.now.kernel answer
+        × IsFound F.answers F.faults (view description.now).files entry.now.kernel
+        files.old files.new answer
         × IsAttempt description.now.fill machine.now (entry_view entry.now) answer attempt) }
+
+    // A kernel that stands in the description is not asked for.
+    ensures inline { IsSome (file_named entry.now.kernel (view description.now).files) →
+        files.new ≡ files.old }
 
     // The files answer as before, and at most one of them was missing.
     ensures same { (file : List ℕ) (answer : Answer) →
         F.answers files.new file answer → F.answers files.old file answer }
-    ensures faults { F.faults files.new ≤ F.faults files.old + 1 }
+    ensures missing { (F.faults files.old ≤ F.faults files.new)
+        × (F.faults files.new ≤ F.faults files.old + 1) }
 {
     let fill = description.fill;
     let name = entry.kernel.as_str();

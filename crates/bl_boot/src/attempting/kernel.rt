@@ -6,8 +6,9 @@ ghost use Rattle.bl_load.specs.Kept.{lengths_of, IsLoadable};
 ghost use Rattle.bl_map.specs.Room.{frames_in, AreAscending};
 ghost use Rattle.bl_map.specs.Room as room;
 ghost use Rattle.bl_load.specs.Value.{value_of, file_count, HasFewModules};
-ghost use Rattle.bl_boot.specs.Attempt.{entry_value, IsAttempt, IsLoaded};
-ghost use Rattle.bl_desc.specs.Described.{entry_view};
+ghost use Rattle.bl_boot.specs.Attempt.{entry_value};
+ghost use Rattle.bl_boot.specs.Loaded.{IsAttempt, IsLoaded};
+ghost use Rattle.bl_desc.specs.Kept.{entry_view};
 ghost use Rattle.bl_boot.specs.Files.{bytes};
 
 use crate::attempting::attempt::{Attempt, Loaded};
@@ -73,7 +74,8 @@ fn load_plan<A: Allocator + Copy, V: ByteView>(
     Ok(Loaded { handoff, memory })
 }
 
-/// Attempts to boot an entry with the bytes of its kernel, in memory each byte of which is `fill` before.
+/// Attempts to boot an entry with the bytes of its kernel, in memory each byte of which is `fill`
+/// before.
 pub fn attempt_kernel<A: Allocator + Copy>(
     alloc: A,
     machine: &Machine<A>,

@@ -1,7 +1,7 @@
 //! How a boot ends.
 ghost use Rattle.std.specs.Prelude.{◌≡◌};
 ghost use Rattle.bl_boot.specs.declared.booting.fault.EndFault.TheVariants as boot_fault;
-ghost use Rattle.bl_boot.specs.Faults.{fault_of};
+ghost use Rattle.bl_boot.specs.Kept.{fault_of};
 
 use bl_desc::DescFault;
 use std::alloc::{AllocError, AllocFailed};
@@ -17,17 +17,14 @@ pub enum Ended {
     NoEntryLeft,
 }
 
-/// Why a boot, or a map, is not told to its end.
+/// Why a boot, or a map, is not told to its end: the description breaks a rule of its form or one
+/// of machines, the sink had a fault, or memory ran out.
 #[derive(Clone, Copy, Debug, PartialEq, Eq, Error)]
 pub enum EndFault {
-    /// The description breaks a rule of its form, or one of machines.
     #[error("bad description")]
     BadDescription,
-
-    /// The sink had a fault.
     #[error("device fault")]
     Device,
-
     #[error("no memory")]
     NoMemory,
 }

@@ -2,8 +2,8 @@
 ghost use Rattle.std.specs.Prelude.{◌≡◌, ◌+◌, ◌<◌, ◌≤◌, ◌^◌, ◌++◌, length, All, OnOk, OnErr, IfErr};
 ghost use Rattle.bl_load.specs.Numbers.{refusal_number};
 ghost use Rattle.bl_image.specs.Image.{spelling};
-ghost use Rattle.bl_boot.specs.Attempt.{handover_loaded};
-ghost use Rattle.bl_boot.specs.Ends.{IsHandFault};
+ghost use Rattle.bl_boot.specs.Loaded.{handover_loaded};
+ghost use Rattle.bl_boot.specs.Kept.{IsHandFault};
 ghost use Rattle.bl_boot.specs.Says.{booted_line, refused_line, no_entry_line};
 
 use crate::attempting::Loaded;
@@ -19,7 +19,8 @@ pub fn say_refusal<A: Allocator + Copy, B: Allocator>(
     refusal: Refusal,
     say: &mut Vec<u8, B>,
 ) -> Result<(), AllocError>
-    ensures ok { OnOk result (say.new.items ≡ say.old.items ++ (refused_line 0 (refusal_number refusal) ++ no_entry_line)) }
+    ensures ok { OnOk result (say.new.items ≡ say.old.items
+        ++ (refused_line 0 (refusal_number refusal) ++ no_entry_line)) }
     ensures err { OnErr result (say.new.items ≡ say.old.items) }
 {
     let mut lines = Vec::new(alloc);
@@ -28,8 +29,8 @@ pub fn say_refusal<A: Allocator + Copy, B: Allocator>(
     say.extend_from_slice(&lines)
 }
 
-/// Writes the image of what was loaded, and appends the line of the boot. The line is formed and has its
-/// place before the image is begun, so that a fault leaves the text as it was.
+/// Writes the image of what was loaded, and appends the line of the boot. The line is formed and
+/// has its place before the image is begun, so that a fault leaves the text as it was.
 pub fn hand_over<A: Allocator + Copy, S: Sink, B: Allocator>(
     alloc: A,
     loaded: &Loaded<A>,
@@ -37,9 +38,11 @@ pub fn hand_over<A: Allocator + Copy, S: Sink, B: Allocator>(
     out: &mut S,
     say: &mut Vec<u8, B>,
 ) -> Result<(), EndFault>
-    requires inside { All (λ place. place.address + place.length ≤ length loaded.now.memory) loaded.now.handoff.places }
+    requires inside { All (λ place. place.address + place.length ≤ length loaded.now.memory)
+        loaded.now.handoff.places }
     requires faults { S.faults out.old < 2 ^ 63 }
-    ensures image { OnOk result (S.contents out.new ≡ S.contents out.old ++ spelling (handover_loaded loaded.now)) }
+    ensures image { OnOk result
+        (S.contents out.new ≡ S.contents out.old ++ spelling (handover_loaded loaded.now)) }
     ensures said { OnOk result (say.new.items ≡ say.old.items ++ booted_line 0 title.now) }
     ensures sound { OnOk result (S.faults out.new ≡ S.faults out.old) }
     ensures unsaid { OnErr result (say.new.items ≡ say.old.items) }

@@ -1,7 +1,8 @@
 //! The machine of a description.
 ghost use Rattle.std.specs.Prelude.{◌≡◌, IfOk, IfErr};
-ghost use Rattle.bl_desc.specs.Described.{view};
-ghost use Rattle.bl_boot.specs.Ends.{IsMachineOf, IsMachineFault};
+ghost use Rattle.bl_desc.specs.Kept.{view};
+ghost use Rattle.bl_boot.specs.Ends.{IsMachineOf};
+ghost use Rattle.bl_boot.specs.Kept.{IsMachineFault};
 
 use crate::booting::fault::EndFault;
 use bl_desc::Description;

@@ -1,6 +1,7 @@
 //! One boot.
 ghost use Rattle.std.specs.Prelude.{◌≡◌, ◌≢◌, ℕ, List, ◌+◌, ◌<◌, ◌≤◌, ◌^◌};
-ghost use Rattle.bl_boot.specs.Ends.{Ends, HasFaults, IsBooted, IsRefused, IsBadDescription, IsBroken};
+ghost use Rattle.bl_boot.specs.Ends.{HasInlineKernel, IsBooted, IsRefused, IsBadDescription, IsBroken};
+ghost use Rattle.bl_boot.specs.Kept.{Ends, HasFaults};
 ghost use Rattle.bl_boot.specs.Files.{Answer};
 
 use crate::attempting::{Attempt, attempt_entry};
@@ -24,12 +25,15 @@ fn run_boot<A: Allocator + Copy, F: Files, S: Sink, B: Allocator>(
 ) -> Result<Ended, EndFault>
     requires files { F.faults files.old < 2 ^ 63 }
     requires sink { S.faults out.old < 2 ^ 63 }
-    ensures ends { Ends desc.now (F.answers files.old) (S.contents out.old) (S.contents out.new)
-        say.old.items say.new.items result }
+    ensures ends { Ends F.answers F.faults desc.now
+        (record { files = files.old; sink = S.contents out.old; said = say.old.items })
+        (record { files = files.new; sink = S.contents out.new; said = say.new.items }) result }
     ensures faults { HasFaults (S.faults out.old) (S.faults out.new) result }
+    ensures inline { HasInlineKernel desc.now → files.new ≡ files.old }
     ensures same_files { (file : List ℕ) (answer : Answer) →
         F.answers files.new file answer → F.answers files.old file answer }
-    ensures missing { F.faults files.new ≤ F.faults files.old + 1 }
+    ensures missing { (F.faults files.old ≤ F.faults files.new)
+        × (F.faults files.new ≤ F.faults files.old + 1) }
 {
     let description = read_description(alloc, global, desc)?;
     let machine = machine_of(alloc, &description)?;
@@ -46,13 +50,15 @@ fn run_boot<A: Allocator + Copy, F: Files, S: Sink, B: Allocator>(
     }
 }
 
-/// Boots the entry of a description, and writes the image of the handover to `out`. A file that is not
-/// in the description is asked of `files`. What the boot came to is appended to `say`, line by line.
+/// Boots the entry of a description, and writes the image of the handover to `out`. A kernel that
+/// is not in the description is asked of `files`, once, and nothing else is. What the boot came to
+/// is appended to `say`, line by line.
 ///
-/// The status is 0 where the entry was booted, 1 where it was refused, 2 where the description is bad,
-/// 3 where the sink had a fault, and 4 where memory ran out; with 2, 3 and 4 nothing is said. `global` is
-/// what the TOML reader takes its memory from. The order in which pieces come has no effect yet, since
-/// each file is read whole.
+/// The status is 0 where the entry was booted, 1 where it was refused, 2 where the description is
+/// bad, 3 where the sink had a fault, and 4 where memory ran out; with 2, 3 and 4 nothing is said.
+/// The entry is refused for want of its file only where `files` counted a fault more. `global` is
+/// what the TOML reader takes its memory from. The order in which pieces come has no effect yet,
+/// since each file is read whole.
 pub fn boot<A: Allocator + Copy, F: Files, S: Sink, B: Allocator>(
     alloc: A,
     global: Global,
@@ -65,14 +71,17 @@ pub fn boot<A: Allocator + Copy, F: Files, S: Sink, B: Allocator>(
     requires files { F.faults files.old < 2 ^ 63 }
     requires sink { S.faults out.old < 2 ^ 63 }
     ensures status { result ≤ 4 }
-    ensures booted { result ≡ 0 → IsBooted desc.now (F.answers files.old)
-        (S.contents out.old) (S.contents out.new) say.old.items say.new.items }
-    ensures refused { result ≡ 1 → IsRefused desc.now (F.answers files.old)
-        (S.contents out.old) (S.contents out.new) say.old.items say.new.items }
-    ensures described { result ≡ 2 → IsBadDescription desc.now
+    ensures booted { result ≡ 0 → IsBooted F.answers F.faults desc.now
+        (record { files = files.old; sink = S.contents out.old; said = say.old.items })
+        (record { files = files.new; sink = S.contents out.new; said = say.new.items }) }
+    ensures refused { result ≡ 1 → IsRefused F.answers F.faults desc.now
+        (record { files = files.old; sink = S.contents out.old; said = say.old.items })
+        (record { files = files.new; sink = S.contents out.new; said = say.new.items }) }
+    ensures described { result ≡ 2 → IsBadDescription desc.now × (files.new ≡ files.old)
         × (S.contents out.new ≡ S.contents out.old) × (say.new.items ≡ say.old.items) }
-    ensures device { result ≡ 3 → IsBroken desc.now (F.answers files.old)
-        (S.contents out.old) (S.contents out.new) say.old.items say.new.items }
+    ensures device { result ≡ 3 → IsBroken F.answers F.faults desc.now
+        (record { files = files.old; sink = S.contents out.old; said = say.old.items })
+        (record { files = files.new; sink = S.contents out.new; said = say.new.items }) }
     ensures memory { result ≡ 4 →
         (S.contents out.new ≡ S.contents out.old) × (say.new.items ≡ say.old.items) }
 
@@ -80,10 +89,13 @@ pub fn boot<A: Allocator + Copy, F: Files, S: Sink, B: Allocator>(
     ensures fault { result ≡ 3 → S.faults out.new ≡ S.faults out.old + 1 }
     ensures sound { result ≢ 3 → S.faults out.new ≡ S.faults out.old }
 
-    // The files answer as before, and at most one of them was missing.
+    // A kernel that stands in the description is not asked for. The files answer as before, and at
+    // most one of them was missing.
+    ensures inline { HasInlineKernel desc.now → files.new ≡ files.old }
     ensures same_files { (file : List ℕ) (answer : Answer) →
         F.answers files.new file answer → F.answers files.old file answer }
-    ensures missing { F.faults files.new ≤ F.faults files.old + 1 }
+    ensures missing { (F.faults files.old ≤ F.faults files.new)
+        × (F.faults files.new ≤ F.faults files.old + 1) }
 {
     match run_boot(alloc, global, desc, files, out, say) {
         Ok(Ended::Booted) => 0,

@@ -1,6 +1,7 @@
 use Rattle.std.proofs.Common.{◌∙◌}
 use Rattle.bl_desc.specs.Values.{in_table}
-use Rattle.bl_desc.specs.Described.{entry_in, entry_view}
+use Rattle.bl_desc.specs.Described.{entry_in}
+use Rattle.bl_desc.specs.Kept.{entry_view}
 use Rattle.bl_desc.proofs.ItemLemmas.{one_more}
 use Rattle.bl_desc.proofs.entries.entries_in.Goals as goal
 

@@ -1,6 +1,6 @@
 use Rattle.std.proofs.Common.{◌≡◌, ◌∙◌, sym, length}
 use Rattle.std.proofs.lemmas.Result.{err_from_is_err_and}
-use Rattle.bl_boot.proofs.EndLemmas.{refused_by, booted_by, not_handed_by}
+use Rattle.bl_boot.proofs.EndLemmas.{inline_in, refused_by, booted_by, not_handed_by}
 use Rattle.bl_boot.proofs.booting.running.run_boot.Goals as goal
 
 pub returns-in-Refused-clause-ends : goal.returns-in-Refused-clause-ends
@@ -8,8 +8,8 @@ returns-in-Refused-clause-ends g c =
     let d = c.in_ok-description.description in
     let one : length d.entries.items ≡ 1 = sym d.entries.ok.0 ∙ c.in_ok-description.ensures.one_entry in
     let came = rw c.in-Refused.is at c.in_ok-refusal.ensures.came in
-    refused_by c.args.desc.now (g.F.Files.answers c.args.files.now) d c.in_ok-machine.machine c.index-entry.result.now
-    c.in_ok-description.ensures.given c.in_ok-machine.ensures.machine one c.index-entry.ensures
+    refused_by c.args.desc.now d c.index-entry.result.now c.in_ok-description.ensures.given one c.index-entry.ensures
+    g.F.Files.answers g.F.Files.faults c.in_ok-machine.machine c.in_ok-machine.ensures.machine _ _
     c.in-Refused.refusal came _ _ _ c.in_ok-say_refusal-in-Refused.ensures.ok
 
 pub returns-in_err-hand_over-in-Loaded-clause-ends : goal.returns-in_err-hand_over-in-Loaded-clause-ends
@@ -18,8 +18,8 @@ returns-in_err-hand_over-in-Loaded-clause-ends g c =
     let one : length d.entries.items ≡ 1 = sym d.entries.ok.0 ∙ c.in_ok-description.ensures.one_entry in
     let came = rw c.in-Loaded.is at c.in_ok-refusal.ensures.came in
     let p = err_from_is_err_and c.from_residual-in_err-hand_over-in-Loaded.result c.from_residual-in_err-hand_over-in-Loaded.ensures.1 in
-    rw (p.1, p.2) (not_handed_by c.args.desc.now (g.F.Files.answers c.args.files.now) d c.in_ok-machine.machine c.index-entry.result.now
-    c.in_ok-description.ensures.given c.in_ok-machine.ensures.machine one c.index-entry.ensures
+    rw (p.1, p.2) (not_handed_by c.args.desc.now d c.index-entry.result.now c.in_ok-description.ensures.given one c.index-entry.ensures
+    g.F.Files.answers g.F.Files.faults c.in_ok-machine.machine c.in_ok-machine.ensures.machine _ _
     c.in-Loaded.loaded came _ _ _ _ _ _ _ c.in_err-hand_over-in-Loaded.ensures.fault c.in_err-hand_over-in-Loaded.ensures.unsaid)
 
 pub returns-clause-ends : goal.returns-clause-ends
@@ -27,7 +27,13 @@ returns-clause-ends g c =
     let d = c.in_ok-description.description in
     let one : length d.entries.items ≡ 1 = sym d.entries.ok.0 ∙ c.in_ok-description.ensures.one_entry in
     let came = rw c.in-Loaded.is at c.in_ok-refusal.ensures.came in
-    booted_by c.args.desc.now (g.F.Files.answers c.args.files.now) d c.in_ok-machine.machine c.index-entry.result.now
-    c.in_ok-description.ensures.given c.in_ok-machine.ensures.machine one c.index-entry.ensures
+    booted_by c.args.desc.now d c.index-entry.result.now c.in_ok-description.ensures.given one c.index-entry.ensures
+    g.F.Files.answers g.F.Files.faults c.in_ok-machine.machine c.in_ok-machine.ensures.machine _ _
     c.in-Loaded.loaded came _ _ _ _ c.in_ok-hand_over-in-Loaded.ensures.image
     (rw c.as_str.ensures at c.in_ok-hand_over-in-Loaded.ensures.said)
+
+pub returns-in_err-refusal-clause-inline : goal.returns-in_err-refusal-clause-inline
+returns-in_err-refusal-clause-inline g c =
+    let d = c.in_ok-description.description in
+    let one : length d.entries.items ≡ 1 = sym d.entries.ok.0 ∙ c.in_ok-description.ensures.one_entry in
+    λ has. c.in_err-refusal.ensures.inline (inline_in c.args.desc.now d c.index-entry.result.now c.in_ok-description.ensures.given one c.index-entry.ensures has)

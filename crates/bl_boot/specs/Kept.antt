@@ -1,0 +1,52 @@
+-- What the code keeps of how a call ends, by its result. Own.
+use Rattle.std.specs.Prelude.{◌≡◌, ℕ, ◌+◌, List, Result, Ok, Err}
+use Rattle.bl_image.specs.Begun.{IsBegun}
+use Rattle.bl_desc.specs.Described.{Described}
+use Rattle.bl_desc.specs.declared.fault.DescFault.{DescFault}
+use Rattle.bl_desc.specs.declared.fault.DescFault.TheVariants as desc_fault
+use Rattle.bl_boot.specs.Files.{Answer}
+use Rattle.bl_boot.specs.Ends.{IsBadMachine, IsBadDescription, IsBooted, IsRefused, IsBroken, IsMapped, Surroundings}
+use Rattle.bl_boot.specs.declared.booting.fault.EndFault.{EndFault}
+use Rattle.bl_boot.specs.declared.booting.fault.EndFault.TheVariants.{BadDescription, Device, NoMemory}
+use Rattle.bl_boot.specs.declared.booting.fault.Ended.{Ended}
+use Rattle.bl_boot.specs.declared.booting.fault.Ended.TheVariants.{Booted, NoEntryLeft}
+
+-- a fault of the description as one of a boot
+abbrev pub fault_of : DescFault → EndFault
+fault_of desc_fault.BadDescription = BadDescription
+fault_of desc_fault.NoMemory = NoMemory
+
+-- why there is no such machine: a rule is broken, or memory ran out
+abbrev pub IsMachineFault : Described → EndFault → Type 0
+IsMachineFault description BadDescription = IsBadMachine description
+IsMachineFault description Device = ⊥
+IsMachineFault description NoMemory = Unit {0}
+
+-- why an image was not handed over whole to a sink: the sink had a fault and took a beginning, or memory ran out before
+abbrev pub IsHandFault : ℕ → ℕ → List ℕ → List ℕ → List ℕ → EndFault → Type 0
+IsHandFault faults_before faults_after before after image BadDescription = ⊥
+IsHandFault faults_before faults_after before after image Device = (faults_after ≡ faults_before + 1) × IsBegun before after image
+IsHandFault faults_before faults_after before after image NoMemory = (faults_after ≡ faults_before) × (after ≡ before)
+
+-- a boot ends so
+abbrev pub Ends : {F : Type 0} → (F → List ℕ → Answer → Type 0) → (F → ℕ) → List ℕ → Surroundings F → Surroundings F
+    → Result Ended EndFault → Type 0
+Ends answers faults desc before after (Ok Booted) = IsBooted answers faults desc before after
+Ends answers faults desc before after (Ok NoEntryLeft) = IsRefused answers faults desc before after
+Ends answers faults desc before after (Err BadDescription) = IsBadDescription desc × (after ≡ before)
+Ends answers faults desc before after (Err Device) = IsBroken answers faults desc before after
+Ends answers faults desc before after (Err NoMemory) = (after.sink ≡ before.sink) × (after.said ≡ before.said)
+
+-- the sink has one fault more exactly where the boot ends in a fault of the sink
+abbrev pub HasFaults : ℕ → ℕ → Result Ended EndFault → Type 0
+HasFaults before after (Err Device) = after ≡ before + 1
+HasFaults before after (Err BadDescription) = after ≡ before
+HasFaults before after (Err NoMemory) = after ≡ before
+HasFaults before after (Ok ended) = after ≡ before
+
+-- a map ends so
+abbrev pub MapEnds : List ℕ → List ℕ → List ℕ → Result (Unit {0}) EndFault → Type 0
+MapEnds desc before after (Ok done) = IsMapped desc before after
+MapEnds desc before after (Err BadDescription) = IsBadDescription desc × (after ≡ before)
+MapEnds desc before after (Err Device) = ⊥
+MapEnds desc before after (Err NoMemory) = after ≡ before

@@ -1,0 +1,33 @@
+-- How the code keeps what a description says, and how its readers answer. Own.
+use Rattle.std.specs.Prelude.{◌≡◌, map, Option, Some, None, Result, Ok, Err}
+use Rattle.bl_desc.specs.Described.{File, Entry, Described}
+use Rattle.bl_desc.specs.declared.desc.FileRow.{FileRow}
+use Rattle.bl_desc.specs.declared.desc.EntryRow.{EntryRow}
+use Rattle.bl_desc.specs.declared.desc.Description.{Description}
+use Rattle.bl_desc.specs.declared.fault.DescFault.{DescFault}
+use Rattle.bl_desc.specs.declared.fault.DescFault.TheVariants.{BadDescription, NoMemory}
+
+abbrev pub file_view : {A : Type 0} → FileRow A → File
+file_view f = record { name = f.name; bytes = f.bytes }
+
+abbrev pub entry_view : {A : Type 0} → EntryRow A → Entry
+entry_view e = record { title = e.title; protocol = e.protocol; kernel = e.kernel; line = e.line }
+
+abbrev pub view : {A : Type 0} → Description A → Described
+view d = record {
+  size = d.size;
+  pool = d.pool;
+  fill = d.fill;
+  regions = d.regions.items;
+  files = map file_view d.files.items;
+  entries = map entry_view d.entries.items;
+}
+
+-- what a reader returned, seen by view, is what the definition gives, unless memory ran out
+abbrev pub Fails : {Y : Type 0} → DescFault → Option Y → Type 0
+Fails NoMemory read = Unit {0}
+Fails BadDescription read = read ≡ None
+
+abbrev pub Gives : {X Y : Type 0} → (X → Y) → Result X DescFault → Option Y → Type 0
+Gives view (Ok x) read = read ≡ Some (view x)
+Gives view (Err e) read = Fails e read
