@@ -6,6 +6,7 @@ mod describe;
 mod entry;
 mod handoff;
 mod image;
+mod laws;
 mod line;
 mod long_files;
 mod pairs;
@@ -20,6 +21,7 @@ use crate::fault::RowFault;
 use crate::parse::split_word;
 use crate::session::Session;
 use bl_refusing::Refusing;
+pub use laws::call_laws;
 use std::alloc::Global;
 
 /// Whether the words behind this name are bytes, and nothing else.

@@ -40,7 +40,8 @@ fn written<'h>(
     limit: u64,
     step: u64,
 ) -> Result<(String, MemSink<&'h Refusing>), Unprepared>
-    requires { All (λ place. place.address + place.length ≤ length loaded.now.memory) loaded.now.handoff.places }
+    requires { All (λ place. place.address + place.length ≤ length loaded.now.memory)
+        loaded.now.handoff.places }
 {
     if step == 0 {
         return Err(Unprepared::BadRow);
@@ -60,7 +61,8 @@ fn image_text(
     limit: u64,
     step: u64,
 ) -> Result<String, Unprepared>
-    requires { All (λ place. place.address + place.length ≤ length loaded.now.memory) loaded.now.handoff.places }
+    requires { All (λ place. place.address + place.length ≤ length loaded.now.memory)
+        loaded.now.handoff.places }
 {
     let (mut text, sink) = written(alloc, heap, loaded, limit, step)?;
     let bytes = bytes_text(alloc, sink.contents())?;
@@ -80,7 +82,8 @@ fn images_text(
     limits: Range<u64>,
     step: u64,
 ) -> Result<String, Unprepared>
-    requires { All (λ place. place.address + place.length ≤ length loaded.now.memory) loaded.now.handoff.places }
+    requires { All (λ place. place.address + place.length ≤ length loaded.now.memory)
+        loaded.now.handoff.places }
 {
     let (_, ample) = written(alloc, heap, loaded, AMPLE, AMPLE)?;
     let whole = ample.contents();
@@ -106,7 +109,8 @@ fn limits_text(
     limit: &str,
     step: u64,
 ) -> Result<String, Unprepared>
-    requires { All (λ place. place.address + place.length ≤ length loaded.now.memory) loaded.now.handoff.places }
+    requires { All (λ place. place.address + place.length ≤ length loaded.now.memory)
+        loaded.now.handoff.places }
 {
     if let Ok(limit) = number_field(limit, "limit") {
         return image_text(alloc, heap, loaded, limit, step);

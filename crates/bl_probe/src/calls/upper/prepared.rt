@@ -1,6 +1,6 @@
 //! Entries of rows, prepared and loaded.
 ghost use Rattle.std.specs.Prelude.{◌≡◌, ◌+◌, ◌≤◌, length, map, All, IfOk};
-ghost use Rattle.bl_load.specs.Planned.{IsLoadable};
+ghost use Rattle.bl_load.specs.Kept.{lengths_of, IsLoadable};
 
 use crate::calls::upper::unprepared::Unprepared;
 use bl_load::{Entry, Handoff, Module, Plan, load, prepare};
@@ -34,7 +34,8 @@ fn prepare_multiboot2<'h>(
     lines: &[Vec<u8>],
     files: &[SliceView<'_>],
 ) -> Result<Plan<&'h Refusing>, Unprepared>
-    ensures { IfOk result (IsLoadable (map (λ file. file.bytes.now) files.now) machine.now.size) }
+    ensures { IfOk result (IsLoadable
+        (lengths_of (map (λ file. file.bytes.now) files.now)) machine.now.size) }
 {
     let Some((line, rest)) = lines.split_first() else {
         return Err(Unprepared::BadRow);
@@ -59,7 +60,8 @@ fn prepare_linux<'h>(
     lines: &[Vec<u8>],
     files: &[SliceView<'_>],
 ) -> Result<Plan<&'h Refusing>, Unprepared>
-    ensures { IfOk result (IsLoadable (map (λ file. file.bytes.now) files.now) machine.now.size) }
+    ensures { IfOk result (IsLoadable
+        (lengths_of (map (λ file. file.bytes.now) files.now)) machine.now.size) }
 {
     let [line] = lines else {
         return Err(Unprepared::BadRow);
@@ -86,7 +88,8 @@ pub fn prepare_entry<'h>(
     lines: &[Vec<u8>],
     files: &[SliceView<'_>],
 ) -> Result<Plan<&'h Refusing>, Unprepared>
-    ensures { IfOk result (IsLoadable (map (λ file. file.bytes.now) files.now) machine.now.size) }
+    ensures { IfOk result (IsLoadable
+        (lengths_of (map (λ file. file.bytes.now) files.now)) machine.now.size) }
 {
     match protocol {
         Protocol::Multiboot2 => prepare_multiboot2(heap, machine, lines, files),
@@ -111,7 +114,8 @@ pub fn load_entry<'h>(
     lines: &[Vec<u8>],
     files: &[SliceView<'_>],
 ) -> Result<LoadedEntry<'h>, Unprepared>
-    ensures { IfOk result (λ made. All (λ place. place.address + place.length ≤ length made.memory) made.handoff.places) }
+    ensures { IfOk result (λ made. All
+        (λ place. place.address + place.length ≤ length made.memory) made.handoff.places) }
 {
     let plan = prepare_entry(heap, machine, protocol, lines, files)?;
     let mut memory = Flat::new(heap, machine.size(), fill)?;
