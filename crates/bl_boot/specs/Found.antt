@@ -1,5 +1,5 @@
 -- What is found for the name of a file. Own.
-use Rattle.std.specs.Prelude.{◌≡◌, ℕ, List, Option, Some, MatchOption}
+use Rattle.std.specs.Prelude.{◌≡◌, ℕ, List, MatchOption}
 use Rattle.bl_desc.specs.Described.{File, file_named}
 use Rattle.bl_boot.specs.Files.{Answer, answer_for, KeepsLimit, CountsFault}
 

@@ -1,14 +1,16 @@
 -- What a sink took. Own.
 use Rattle.std.specs.Prelude.{◌≡◌, ℕ, List, ◌++◌, Option, IsSome}
 
--- what contracts see of a `MemSink`: what it took, its faults so far, how many bytes it has room for, and how many it takes at once
+-- what contracts see of a `MemSink`: what it took, its faults so far, how many bytes it has room
+-- for, and how many it takes at once
 pub record MemSinkFacts : Type 0 where
   pub contents : List ℕ
   pub faults : ℕ
   pub limit : ℕ
   pub step : ℕ
 
--- what contracts see of an `IoSink`: what its writer told that it held at the start, then what the writer said it took; its faults so far
+-- what contracts see of an `IoSink`: what its writer told that it held at the start, then what the
+-- writer said it took; its faults so far
 pub record IoSinkFacts : Type 0 where
   pub contents : List ℕ
   pub faults : ℕ

@@ -20,20 +20,24 @@ register_numbers r =
     r.eip ∷ r.eax ∷ r.ebx ∷ r.ecx ∷ r.edx ∷ r.esi ∷ r.edi ∷ r.ebp ∷ r.esp ∷ r.eflags
     ∷ r.cr0 ∷ r.cs ∷ r.ds ∷ r.es ∷ r.fs ∷ r.gs ∷ r.ss ∷ r.gdt_base ∷ r.gdt_limit ∷ r.a20 ∷ []
 
--- the magic; version, protocol; the registers; the number of parts, a zero word: each number in 32 bits
+-- the magic; version, protocol; the registers; the number of parts, a zero word: each number in 32
+-- bits
 abbrev pub head : Protocol → Registers → ℕ → List ℕ
 head protocol registers count =
-    magic ++ flat_map u32_bytes (1 ∷ protocols.protocol_number protocol ∷ (register_numbers registers ++ count ∷ 0 ∷ []))
+    magic ++ flat_map u32_bytes
+    (1 ∷ protocols.protocol_number protocol ∷ (register_numbers registers ++ count ∷ 0 ∷ []))
 
 -- a record: role and index in 32 bits, address and length in 64
 abbrev pub record_of : Role → ℕ → ℕ → ℕ → List ℕ
 record_of role index address count =
-    u32_bytes (roles.role_number role) ++ (u32_bytes index ++ (u64_bytes address ++ u64_bytes count))
+    u32_bytes (roles.role_number role) ++ (u32_bytes index
+    ++ (u64_bytes address ++ u64_bytes count))
 
 abbrev pub part_record : Part → List ℕ
 part_record part = record_of part.role part.index part.address (length part.bytes)
 
--- the head, a record for each part in the order of addresses, the bytes of the parts in the same order
+-- the head, a record for each part in the order of addresses, the bytes of the parts in the same
+-- order
 abbrev pub spelling : Handover → List ℕ
 spelling h =
     head h.protocol h.registers (length h.parts)

@@ -1,5 +1,6 @@
 //! The head of an image, and its records.
-ghost use Rattle.std.specs.Prelude.{◌≡◌, ◌+◌, ◌*◌, ◌<◌, ◌≤◌, ◌^◌, ◌++◌, length, take, All, OnOk, OnErr};
+ghost use Rattle.std.specs.Prelude.{◌≡◌, ◌+◌, ◌*◌, ◌<◌, ◌≤◌, ◌^◌, ◌++◌, length, take, All, OnOk};
+ghost use Rattle.std.specs.Prelude.{OnErr};
 ghost use Rattle.std.specs.List.{flat_map};
 ghost use Rattle.bl_image.specs.Begun.{IsBegun};
 ghost use Rattle.bl_image.specs.Image.{head, place_record, register_numbers};
@@ -74,12 +75,13 @@ fn put(buffer: &mut [u8], at: usize, bytes: &[u8])
     buffer[at..end].copy_from_slice(bytes);
 }
 
-/// Puts all that stands before the parts' bytes into the buffer, and says how many bytes it has: 104, and 24
-/// for each of at most 256 parts.
+/// Puts all that stands before the parts' bytes into the buffer, and says how many bytes it has:
+/// 104, and 24 for each of at most 256 parts.
 fn put_front<A: Allocator>(buffer: &mut [u8], handoff: &Handoff<A>) -> usize
     requires { 6248 ≤ length buffer.old }
     ensures within { result ≤ length buffer.new }
-    ensures front { take result buffer.new ≡ head handoff.now.protocol handoff.now.registers (length handoff.now.places)
+    ensures front { take result buffer.new
+        ≡ head handoff.now.protocol handoff.now.registers (length handoff.now.places)
         ++ flat_map place_record handoff.now.places }
     ensures fit { AreSpellable handoff.now.registers handoff.now.places }
 {

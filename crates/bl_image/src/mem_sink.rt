@@ -3,8 +3,8 @@ use crate::sink::{DeviceFault, Sink};
 use std::alloc::{AllocError, Allocator};
 use std::marker::Model;
 
-/// A sink that keeps what it takes: at most `limit` bytes in all, and at most `step` bytes at each write.
-/// Once it is full, each part that is not empty is a fault.
+/// A sink that keeps what it takes: at most `limit` bytes in all, and at most `step` bytes at each
+/// write. Once it is full, each part that is not empty is a fault.
 #[derive(Drop)]
 pub struct MemSink<A: Allocator> {
     held: Vec<u8, A>,
@@ -19,9 +19,15 @@ impl<A: Allocator> Model for MemSink<A> {
 
     ghost Value = { MemSinkFacts };
 
-    ghost view = { λ s. record { contents = s.held.items; faults = s.faults; limit = s.limit; step = s.step } };
+    ghost view = { λ s. record {
+      contents = s.held.items;
+      faults = s.faults;
+      limit = s.limit;
+      step = s.step;
+    } };
 
-    ghost invariant = { λ s. (vec_len s.held ≤ s.limit) × (s.limit ≤ vec_capacity s.held) × (1 ≤ s.step) };
+    ghost invariant = { λ s.
+        (vec_len s.held ≤ s.limit) × (s.limit ≤ vec_capacity s.held) × (1 ≤ s.step) };
 }
 
 impl<A: Allocator> MemSink<A> {
@@ -30,7 +36,8 @@ impl<A: Allocator> MemSink<A> {
     /// An empty sink, with the memory for all that it may take.
     pub fn new(alloc: A, limit: usize, step: usize) -> Result<MemSink<A>, AllocError>
         requires { 1 ≤ step }
-        ensures ok { IfOk result (λ sink. sink ≡ record { contents = []; faults = 0; limit = limit; step = step }) }
+        ensures ok { IfOk result
+            (λ sink. sink ≡ record { contents = []; faults = 0; limit = limit; step = step }) }
     {
         Ok(MemSink {
             held: Vec::with_capacity(alloc, limit)?,
@@ -49,7 +56,8 @@ impl<A: Allocator> MemSink<A> {
 }
 
 impl<A: Allocator> Sink for MemSink<A> {
-    ghost use Rattle.std.specs.Prelude.{◌≡◌, ◌+◌, ◌-◌, ◌<◌, ◌≤◌, ◌^◌, ◌++◌, length, min, take, IfOk, OnOk, OnErr, MatchResult};
+    ghost use Rattle.std.specs.Prelude.{◌≡◌, ◌+◌, ◌-◌, ◌<◌, ◌≤◌, ◌^◌, ◌++◌, length, min, take};
+    ghost use Rattle.std.specs.Prelude.{IfOk, OnOk, OnErr, MatchResult};
 
     ghost contents = { λ s. s.contents };
 
@@ -59,14 +67,16 @@ impl<A: Allocator> Sink for MemSink<A> {
         requires { self.old.faults < 2 ^ 64 - 1 }
         ensures within { IfOk result (λ count. count ≤ length part.now) }
         ensures some { IfOk result (λ count. 1 ≤ length part.now → 1 ≤ count) }
-        ensures took { IfOk result (λ count. self.new.contents ≡ self.old.contents ++ take count part.now) }
+        ensures took { IfOk result
+            (λ count. self.new.contents ≡ self.old.contents ++ take count part.now) }
         ensures sound { OnOk result (self.new.faults ≡ self.old.faults) }
         ensures nothing { OnErr result (self.new.contents ≡ self.old.contents) }
         ensures fault { OnErr result (self.new.faults ≡ self.old.faults + 1) }
 
         // As much as fits; a fault only where the sink is full.
         ensures most { MatchResult result
-            (λ count. count ≡ min (length part.now) (min (self.old.limit - length self.old.contents) self.old.step))
+            (λ count. count
+            ≡ min (length part.now) (min (self.old.limit - length self.old.contents) self.old.step))
             (λ _. (1 ≤ length part.now) × (length self.old.contents ≡ self.old.limit)) }
         ensures same { (self.new.limit ≡ self.old.limit) × (self.new.step ≡ self.old.step) }
     {

@@ -1,5 +1,6 @@
 //! The bytes of the parts, from memory to a sink.
-ghost use Rattle.std.specs.Prelude.{◌≡◌, ◌+◌, ◌≤◌, ◌<◌, ◌^◌, ◌++◌, length, slice_range, All, OnOk, OnErr};
+ghost use Rattle.std.specs.Prelude.{◌≡◌, ◌+◌, ◌≤◌, ◌<◌, ◌^◌, ◌++◌, length, slice_range, All, OnOk};
+ghost use Rattle.std.specs.Prelude.{OnErr};
 ghost use Rattle.std.specs.List.{flat_map};
 ghost use Rattle.bl_image.specs.Begun.{IsBegun};
 ghost use Rattle.bl_image.specs.Image.{place_bytes};
@@ -67,7 +68,8 @@ pub(crate) fn write_parts<M: PhysMem, S: Sink, A: Allocator>(
     handoff: &Handoff<A>,
     buffer: &mut [u8],
 ) -> Result<(), DeviceFault>
-    requires inside { All (λ place. place.address + place.length ≤ length (M.bytes memory.now)) handoff.now.places }
+    requires inside { All (λ place. place.address + place.length ≤ length (M.bytes memory.now))
+        handoff.now.places }
     requires room { 1 ≤ length buffer.old }
     requires faults { S.faults sink.old < 2 ^ 63 }
     ensures ok { OnOk result (S.contents sink.new ≡ S.contents sink.old

@@ -1,5 +1,6 @@
 //! Where bytes are written to.
-ghost use Rattle.std.specs.Prelude.{◌≡◌, ℕ, List, ◌+◌, ◌-◌, ◌≤◌, ◌<◌, ◌^◌, ◌++◌, length, take, IfOk, OnOk, OnErr};
+ghost use Rattle.std.specs.Prelude.{◌≡◌, ℕ, List, ◌+◌, ◌-◌, ◌≤◌, ◌<◌, ◌^◌, ◌++◌, length, take};
+ghost use Rattle.std.specs.Prelude.{IfOk, OnOk, OnErr};
 ghost use Rattle.bl_image.specs.Begun.{IsBegun};
 
 use thiserror::Error;
@@ -9,8 +10,8 @@ use thiserror::Error;
 #[error("device fault")]
 pub struct DeviceFault;
 
-/// Somewhere that bytes are written to. It counts its own faults, so that whoever is told of one can be
-/// shown it.
+/// Somewhere that bytes are written to. It counts its own faults, so that whoever is told of one
+/// can be shown it.
 pub trait Sink {
     /// The bytes that were taken so far.
     ghost contents: { Self → List ℕ };
@@ -18,13 +19,14 @@ pub trait Sink {
     /// How many faults there were.
     ghost faults: { Self → ℕ };
 
-    /// Takes a beginning of `part`, of one byte or more where `part` is not empty, and answers its length.
-    /// At a fault it takes nothing.
+    /// Takes a beginning of `part`, of one byte or more where `part` is not empty, and answers its
+    /// length. At a fault it takes nothing.
     fn write(&mut self, part: &[u8]) -> Result<usize, DeviceFault>
         requires { faults self.old < 2 ^ 64 - 1 }
         ensures within { IfOk result (λ count. count ≤ length part.now) }
         ensures some { IfOk result (λ count. 1 ≤ length part.now → 1 ≤ count) }
-        ensures took { IfOk result (λ count. contents self.new ≡ contents self.old ++ take count part.now) }
+        ensures took { IfOk result
+            (λ count. contents self.new ≡ contents self.old ++ take count part.now) }
         ensures sound { OnOk result (faults self.new ≡ faults self.old) }
         ensures nothing { OnErr result (contents self.new ≡ contents self.old) }
         ensures fault { OnErr result (faults self.new ≡ faults self.old + 1) };

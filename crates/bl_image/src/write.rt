@@ -16,26 +16,30 @@ use std::alloc::Allocator;
 /// How many bytes go from memory to a sink at once.
 const BUFFER: usize = 65536;
 
-/// Writes the image of what memory hands over: the head, a record for each part, the parts' bytes, and
-/// nothing else. It takes no memory. Its one error is a fault of the sink, which then took a beginning of
-/// the image.
+/// Writes the image of what memory hands over: the head, a record for each part, the parts' bytes,
+/// and nothing else. It takes no memory. Its one error is a fault of the sink, which then took a
+/// beginning of the image.
 pub fn write_image<M: PhysMem, S: Sink, A: Allocator>(
     handoff: &Handoff<A>,
     memory: &M,
     sink: &mut S,
 ) -> Result<(), ImageFault>
-    requires inside { All (λ place. place.address + place.length ≤ length (M.bytes memory.now)) handoff.now.places }
+    requires inside { All (λ place. place.address + place.length ≤ length (M.bytes memory.now))
+        handoff.now.places }
     requires faults { S.faults sink.old < 2 ^ 63 }
     ensures ok { OnOk result (S.contents sink.new ≡ S.contents sink.old
-        ++ spelling (handover_in (M.bytes memory.now) handoff.now.protocol handoff.now.registers handoff.now.places)) }
+        ++ spelling (handover_in (M.bytes memory.now)
+        handoff.now.protocol handoff.now.registers handoff.now.places)) }
     ensures sound { OnOk result (S.faults sink.new ≡ S.faults sink.old) }
     ensures begun { OnErr result (IsBegun (S.contents sink.old) (S.contents sink.new)
-        (spelling (handover_in (M.bytes memory.now) handoff.now.protocol handoff.now.registers handoff.now.places))) }
+        (spelling (handover_in (M.bytes memory.now)
+        handoff.now.protocol handoff.now.registers handoff.now.places))) }
     ensures fault { OnErr result (S.faults sink.new ≡ S.faults sink.old + 1) }
     ensures device { IfErr result (λ fault. fault ≡ ImageFault.DeviceFault) }
 
     // Whatever is handed over fits, so that its image tells all of it: `image_tells_all`.
-    ensures spellable { IsSpellable (handover_in (M.bytes memory.now) handoff.now.protocol handoff.now.registers handoff.now.places) }
+    ensures spellable { IsSpellable (handover_in (M.bytes memory.now)
+        handoff.now.protocol handoff.now.registers handoff.now.places) }
 {
     let mut buffer = [0u8; BUFFER];
     write_front(sink, handoff, &mut buffer)?;

@@ -1,7 +1,5 @@
 -- Where a pool lies.
-use Rattle.std.proofs.Common.{◌<◌, ◌≤◌, ◌-◌, ℕ, List, arith}
-use Rattle.std.specs.declared.ops.Range.{Range}
-use Rattle.bl_map.specs.declared.region.Region.{Region}
+use Rattle.std.proofs.Common.{◌<◌, ◌≤◌, ◌-◌, arith}
 use Rattle.bl_map.specs.MachineFacts.{MachineFacts, AreMachineFacts}
 
 -- a pool that is not empty ends in memory; an empty one may lie anywhere, since nothing is reserved for it

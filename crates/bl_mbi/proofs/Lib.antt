@@ -1,6 +1,7 @@
 pub mod BodyIs
 pub mod BodyLaws
 pub mod GroupLemmas
+pub mod InfoIs
 pub mod Inverse
 pub mod ModuleLemmas
 pub mod Pieces

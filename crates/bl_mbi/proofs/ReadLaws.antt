@@ -10,7 +10,7 @@ use Rattle.bl_mbi.specs.Fields.{Gives}
 use Rattle.bl_mbi.specs.Reading.{info_of}
 use Rattle.bl_mbi.proofs.Inverse.{same_ok}
 use Rattle.bl_mbi.proofs.ReadAgain.{spelled_is_read}
-use Rattle.bl_mbi.proofs.ReadIs.{read_is_spelled}
+use Rattle.bl_mbi.proofs.InfoIs.{read_is_spelled}
 
 pub are_bytes : (bytes : List ℕ) → ((i : ℕ) → get_or bytes i 0 < 256) → AreBytes bytes
 are_bytes bytes small = All-from_get_or (λ b. b < 256) bytes 0 (λ i inside. small i)

@@ -8,7 +8,7 @@ use Rattle.bl_map.specs.declared.region.Region.{Region}
 use Rattle.bl_mem.proofs.WordLaws.{length-u32_bytes, length-u64_bytes}
 use Rattle.bl_mbi.specs.Size.{tag_size, copy_size, load_base_size}
 use Rattle.bl_mbi.specs.InformationFacts.{InformationFacts, ModuleInfo, info_size}
-use Rattle.bl_mem.specs.Words.{u32_bytes, u64_bytes}
+use Rattle.bl_mem.specs.Words.{u32_bytes}
 use Rattle.bl_mbi.specs.Tags.{padding, tag, text_body, module_body, module_tag, memory_body, run_bytes, map_body, copy_tag, load_base_tag}
 use Rattle.bl_mbi.specs.Spelling.{tags, spelling}
 

@@ -1,5 +1,5 @@
 -- What reading gives, the numbers and the tag at a place (Multiboot2 3.6.2 "Basic tags structure").
-use Rattle.std.specs.Prelude.{◌≡◌, ◌+◌, ℕ, Bool, not, ◌&&◌, if◌then◌else◌, ◌==◌, nat_lt, nat_le, List, length, take, drop, slice_range, Option, Some, None, Result, Ok, Err}
+use Rattle.std.specs.Prelude.{◌≡◌, ◌+◌, ℕ, Bool, not, ◌&&◌, if◌then◌else◌, ◌==◌, nat_lt, nat_le, List, length, drop, slice_range, Option, Some, None, Result, Ok, Err}
 use Rattle.std.specs.List.{list_all}
 use Rattle.bl_mem.specs.Words.{u32_at, u64_at}
 use Rattle.bl_mbi.specs.declared.fault.InfoFault.{InfoFault}

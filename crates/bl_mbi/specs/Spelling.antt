@@ -10,7 +10,8 @@ abbrev pub tags : List ℕ → InformationFacts → List ℕ
 tags name facts =
     tag 1 (text_body facts.line) ++ (tag 2 (text_body name) ++ (flat_map module_tag facts.modules
     ++ (tag 4 (memory_body facts.mem_lower facts.mem_upper) ++ (tag 6 (map_body facts.runs)
-    ++ (copy_tag 14 facts.rsdp_old ++ (copy_tag 15 facts.rsdp_new ++ (load_base_tag facts.load_base ++ tag 0 [])))))))
+    ++ (copy_tag 14 facts.rsdp_old ++ (copy_tag 15 facts.rsdp_new
+    ++ (load_base_tag facts.load_base ++ tag 0 [])))))))
 
 -- "Basic structure": total_size, reserved, the tags; by the loader's name and the facts
 unfoldable pub spelling : List ℕ → InformationFacts → List ℕ

@@ -27,7 +27,8 @@ fn push_numbers(bytes: &mut Vec<u8>, kind: &str, list: &str) -> Result<(), RowFa
     Ok(())
 }
 
-/// Appends a piece: a name's bytes, those of numbers (`u16:N,N`, `u32:N`, `u64:N`), or those of hexadecimal digits.
+/// Appends a piece: a name's bytes, those of numbers (`u16:N,N`, `u32:N`, `u64:N`), or those of
+/// hexadecimal digits.
 fn push_piece(
     alloc: Global,
     names: &Names,

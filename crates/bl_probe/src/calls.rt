@@ -22,7 +22,8 @@ use crate::session::Session;
 use bl_refusing::Refusing;
 use std::alloc::Global;
 
-/// What a call is made with: bytes, which were read from their pieces, or the words behind its name.
+/// What a call is made with: bytes, which were read from their pieces, or the words behind its
+/// name.
 #[derive(Clone, Copy)]
 pub enum Argument<'a> {
     Bytes(&'a [u8]),

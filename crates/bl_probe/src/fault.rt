@@ -4,7 +4,7 @@ use hex::FromHexError;
 use std::alloc::{AllocError, AllocFailed};
 
 /// Why a line gets no answer of a library.
-#[derive(Clone, Copy, Debug, PartialEq, Eq)]
+#[derive(Clone, Copy)]
 pub enum RowFault {
     /// It can't be read, or the call that it asks for may not be made.
     BadRow,

@@ -1,7 +1,7 @@
 //! What a line is.
 
 /// What a line is. All of it is a part of the line, without the blanks around it.
-#[derive(Clone, Copy, Debug)]
+#[derive(Clone, Copy)]
 pub enum Line<'a> {
     /// Empty, or a comment.
     Plain,

@@ -1,7 +1,8 @@
-//! Tests as data: reads rows, makes the library call that each one names, and writes it with the answer.
+//! Tests as data: reads rows, makes the library call that each one names, and writes it with the
+//! answer.
 //!
-//! The answer that a row already has is dropped and the call's own put there, so a file of rows is the
-//! input and the wanted output at once. The language of rows stands in README.md.
+//! The answer that a row already has is dropped and the call's own put there, so a file of rows
+//! is the input and the wanted output at once. The language of rows stands in README.md.
 #![tactic(auto)]
 
 mod bytes;

@@ -13,22 +13,22 @@ pub fn split_word(text: &str) -> (&str, &str) {
 
 /// The number of these hexadecimal digits.
 pub fn number(digits: &str) -> Result<u64, RowFault> {
-    u64::from_str_radix(digits, 16).map_err(|_| RowFault::BadRow)
+    u64::from_str_radix(digits, 16).ok().ok_or(RowFault::BadRow)
 }
 
 /// The number of these hexadecimal digits, which must be one of 16 bits.
 pub fn number16(digits: &str) -> Result<u16, RowFault> {
-    u16::from_str_radix(digits, 16).map_err(|_| RowFault::BadRow)
+    u16::from_str_radix(digits, 16).ok().ok_or(RowFault::BadRow)
 }
 
 /// The number of these hexadecimal digits, which must be one of 32 bits.
 pub fn number32(digits: &str) -> Result<u32, RowFault> {
-    u32::from_str_radix(digits, 16).map_err(|_| RowFault::BadRow)
+    u32::from_str_radix(digits, 16).ok().ok_or(RowFault::BadRow)
 }
 
 /// The byte of these hexadecimal digits.
 pub fn byte(digits: &str) -> Result<u8, RowFault> {
-    u8::from_str_radix(digits, 16).map_err(|_| RowFault::BadRow)
+    u8::from_str_radix(digits, 16).ok().ok_or(RowFault::BadRow)
 }
 
 /// What stands behind `NAME=`.

@@ -8,7 +8,8 @@ use crate::sweep::answer_call;
 use std::alloc::{AllocError, Global};
 use std::collections::BTreeMap;
 
-/// The bytes that have names, the name of the text whose lines may follow, and the last machine that was accepted.
+/// The bytes that have names, the name of the text whose lines may follow, and the last machine
+/// that was accepted.
 #[derive(Drop)]
 pub struct Session {
     alloc: Global,

@@ -20,8 +20,8 @@ struct Said {
     was_refused: bool,
 }
 
-/// Makes the call where its `nth` request is refused and all after it; at 0 none is. Its answer tells if memory ran out
-/// though nothing was refused, and if a block was not given back.
+/// Makes the call where its `nth` request is refused and all after it; at 0 none is. Its answer
+/// tells if memory ran out though nothing was refused, and if a block was not given back.
 fn once(
     alloc: Global,
     session: &mut Session,
@@ -117,7 +117,7 @@ fn read_way(call: &str) -> Result<(Way, &str), RowFault> {
     match split_word(call) {
         ("refuse", rest) => {
             let (nth, call) = split_word(rest);
-            let nth = nth.parse::<u64>().map_err(|_| RowFault::BadRow)?;
+            let nth = nth.parse::<u64>().ok().ok_or(RowFault::BadRow)?;
             Ok((Way::Once { nth }, call))
         }
         ("each", rest) => match split_word(rest) {

@@ -1,4 +1,5 @@
-//! `facts ADDRESS .. START..END ..`: the machine's size and pool, the kind at an address, whether a range is usable.
+//! `facts ADDRESS .. START..END ..`: the machine's size and pool, the kind at an address,
+//! whether a range is usable.
 
 use crate::calls::machine::kind_name;
 use crate::fault::RowFault;

@@ -1,4 +1,5 @@
-//! `frames for LENGTH`, `frames whole LENGTH`, `frames in START..END`, `frames open START..END RANGE ..`: counts of frames.
+//! `frames for LENGTH`, `frames whole LENGTH`, `frames in START..END`,
+//! `frames open START..END RANGE ..`: counts of frames.
 ghost use Rattle.std.specs.Prelude.{IsTrue, All, ◌≤◌};
 ghost use Rattle.bl_map.specs.Room.{AreAscending};
 

@@ -1,6 +1,8 @@
-//! `machine size=SIZE pool=START..END region=BASE+LENGTH:KIND ..`: the machine that later rows are about.
+//! `machine size=SIZE pool=START..END region=BASE+LENGTH:KIND ..`: the machine that later rows
+//! are about.
 //!
-//! A region may stand there several times: `BASE+LENGTH:KIND*COUNT`, or each a step behind the last: `..*COUNT/STEP`.
+//! A region may stand there several times: `BASE+LENGTH:KIND*COUNT`, or each a step behind the
+//! last: `..*COUNT/STEP`.
 
 use crate::fault::RowFault;
 use crate::parse::{field, number, number_field, range};
@@ -70,7 +72,8 @@ pub fn region(word: &str) -> Result<Region, RowFault> {
     })
 }
 
-/// How often a region stands there, and how far each lies behind the one before: `COUNT`, or `COUNT/STEP`.
+/// How often a region stands there, and how far each lies behind the one before: `COUNT`, or
+/// `COUNT/STEP`.
 fn repeats(text: &str) -> Result<(u64, u64), RowFault> {
     match text.split_once('/') {
         Some((count, step)) => Ok((number(count)?, number(step)?)),

@@ -1,6 +1,7 @@
 //! `memory size=SIZE fill=BYTE STEP; STEP ..`: one step after the other on new memory.
 //!
-//! A step is `size`, `read AT LENGTH`, `write AT BYTES`, `zero START..END` or `reserve START..END ..`.
+//! A step is `size`, `read AT LENGTH`, `write AT BYTES`, `zero START..END` or
+//! `reserve START..END ..`.
 
 ghost use Rattle.std.specs.Prelude.{All, IsTrue, ◌≤◌};
 

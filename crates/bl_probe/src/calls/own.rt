@@ -5,7 +5,8 @@ use bl_mem::Bytes;
 use bl_refusing::Refusing;
 use std::alloc::{AllocError, Global};
 
-/// What is seen of the bytes, and what the vector has that they are taken back to, and wrapped again.
+/// What is seen of the bytes, and what the vector has that they are taken back to, and wrapped
+/// again.
 fn own_text(alloc: Global, bytes: Bytes<&Refusing>) -> Result<String, AllocError> {
     let length = bytes.len();
     let is_empty = bytes.is_empty();

@@ -1,7 +1,7 @@
 //! `places ROW; ROW ..`: the places of a table of parts on the machine.
 //!
-//! A row is `ROLE INDEX len=N at=N`, or `ROLE INDEX len=N align=N low=N high=N` and then `lowest`, `highest` or `at=N`
-//! for a preferred address.
+//! A row is `ROLE INDEX len=N at=N`, or `ROLE INDEX len=N align=N low=N high=N` and then
+//! `lowest`, `highest` or `at=N` for a preferred address.
 ghost use Rattle.std.specs.Prelude.{All, IsTrue};
 ghost use Rattle.bl_plan.specs.Placed.{IsRow};
 
@@ -117,7 +117,8 @@ fn places_text(alloc: Global, places: &[Place]) -> Result<String, AllocError> {
     Ok(text)
 }
 
-/// Places the rows over the heap. The machine stands over another one, so that its requests are not refused.
+/// Places the rows over the heap. The machine stands over another one, so that its requests are
+/// not refused.
 pub fn answer(
     alloc: Global,
     heap: &Refusing,

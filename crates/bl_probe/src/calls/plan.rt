@@ -131,7 +131,8 @@ fn step(
     }
 }
 
-/// Makes the steps over the heap. The machine stands over another one, so that its requests are not refused.
+/// Makes the steps over the heap. The machine stands over another one, so that its requests are
+/// not refused.
 pub fn answer(
     alloc: Global,
     heap: &Refusing,

@@ -1,4 +1,5 @@
-//! `holds SEGMENT ADDRESS ..` and `order SEGMENT ..`, where a segment is `OFFSET,ADDRESS,FILESZ,MEMSZ`.
+//! `holds SEGMENT ADDRESS ..` and `order SEGMENT ..`, where a segment is
+//! `OFFSET,ADDRESS,FILESZ,MEMSZ`.
 
 use crate::calls::elf::segments_text;
 use crate::fault::RowFault;

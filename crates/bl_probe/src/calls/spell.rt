@@ -1,4 +1,5 @@
-//! `spell N BYTES`: the bytes that the writers append and fill for a number, and behind them those of BYTES.
+//! `spell N BYTES`: the bytes that the writers append and fill for a number, and behind them
+//! those of BYTES.
 
 use crate::bytes::bytes_of;
 use crate::fault::RowFault;

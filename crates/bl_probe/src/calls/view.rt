@@ -1,4 +1,5 @@
-//! `view AT LENGTH BYTES`: so many bytes of a file from an offset on, and the numbers of each width there.
+//! `view AT LENGTH BYTES`: so many bytes of a file from an offset on, and the numbers of each
+//! width there.
 
 use crate::bytes::bytes_of;
 use crate::fault::RowFault;

@@ -1,4 +1,4 @@
-use Rattle.bl_mbi.proofs.ReadIs.{read_is_spelled}
+use Rattle.bl_mbi.proofs.InfoIs.{read_is_spelled}
 use Rattle.bl_mbi.proofs.laws.read_is_spelled.Goals as goal
 
 pub returns : goal.returns

@@ -1,4 +1,4 @@
-use Rattle.std.proofs.Common.{arith, ap, length, sym}
+use Rattle.std.proofs.Common.{arith, ap, length}
 use Rattle.bl_mbi.proofs.Sizes.{length-spelling}
 use Rattle.bl_mbi.proofs.GroupLemmas.{groups_below, info_size_is}
 use Rattle.bl_mbi.specs.InformationFacts.{InformationFacts}
