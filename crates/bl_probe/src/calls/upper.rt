@@ -13,9 +13,9 @@ mod pairs;
 mod prepared;
 mod read_info;
 mod refusal;
-mod say;
 mod sink;
 mod unprepared;
+mod write_info;
 
 use crate::fault::RowFault;
 use crate::parse::split_word;
@@ -45,7 +45,6 @@ pub fn make_plain(
         "sink" => sink::answer(alloc, heap, session, words),
         "line" => line::answer(alloc, words),
         "fetch" => boot::answer_fetch(alloc, heap, session, words),
-        "say" => say::answer(alloc, heap, words),
         _ => Err(RowFault::BadRow),
     }
 }
@@ -60,6 +59,7 @@ pub fn make_over(
 ) -> Result<String, RowFault> {
     match split_word(call) {
         ("read_info", "") => read_info::answer(alloc, heap, bytes),
+        ("write_info", words) => write_info::answer(alloc, heap, session, words, bytes),
         ("prepare", words) => handoff::answer_prepare(alloc, heap, session, words, bytes),
         ("load", words) => handoff::answer_load(alloc, heap, session, words, bytes),
         ("image", words) => image::answer(alloc, heap, session, words, bytes),
