@@ -14,6 +14,7 @@ mod plan;
 mod segments;
 mod spell;
 mod table;
+mod upper;
 mod view;
 
 use crate::fault::RowFault;
@@ -33,7 +34,7 @@ pub enum Argument<'a> {
 pub fn takes_bytes(name: &str) -> bool {
     match name {
         "elf" | "header" | "own" => true,
-        _ => false,
+        _ => upper::takes_bytes(name),
     }
 }
 
@@ -63,6 +64,7 @@ pub fn make(
         ("view", Argument::Words(words)) => view::answer(alloc, session, words),
         ("own", Argument::Bytes(bytes)) => own::answer(alloc, heap, bytes),
         ("laws", Argument::Words("")) => laws::answer(alloc),
-        _ => Err(RowFault::BadRow),
+        (name, Argument::Words(words)) => upper::make_plain(alloc, heap, session, name, words),
+        (name, Argument::Bytes(bytes)) => upper::make_over(alloc, heap, session, name, bytes),
     }
 }

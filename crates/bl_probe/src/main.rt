@@ -12,6 +12,7 @@ mod line;
 mod parse;
 mod runs;
 mod session;
+mod show;
 mod sweep;
 mod unasked;
 

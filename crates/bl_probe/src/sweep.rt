@@ -183,6 +183,9 @@ fn answer_bytes(
 /// What a row's call answers.
 pub fn answer_call(alloc: Global, session: &mut Session, call: &str) -> Result<String, RowFault> {
     let (way, call) = read_way(call)?;
+    if let Some((name, words)) = call.split_once(" of ") {
+        return answer_bytes(alloc, session, way, name, words);
+    }
     let (name, words) = split_word(call);
     if takes_bytes(name) {
         return answer_bytes(alloc, session, way, name, words);

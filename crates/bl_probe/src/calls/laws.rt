@@ -1,5 +1,6 @@
 //! `laws`: the laws of the definitions, which are functions that do nothing.
 
+use crate::calls::upper::call_laws;
 use crate::fault::RowFault;
 use bl_elf::{elf_is_determined, overlap_is_shared};
 use bl_map::normal_maps_are_determined;
@@ -18,5 +19,6 @@ pub fn answer(alloc: Global) -> Result<String, RowFault> {
     tags_are_determined();
     headers_are_determined();
     headers_fit();
+    call_laws();
     Ok(String::from_str(alloc, "called")?)
 }

@@ -1,0 +1,18 @@
+//! The laws of the definitions, which are functions that do nothing.
+
+use bl_boot::{MemFiles, two_boots};
+use bl_image::image_tells_all;
+use bl_load::{handovers_are_determined, handovers_are_legal, parts_are_apart_and_usable};
+use bl_mbi::{read_is_spelled, spelled_is_read};
+use std::alloc::Global;
+
+/// Calls each law.
+pub fn call_laws() {
+    spelled_is_read();
+    read_is_spelled();
+    handovers_are_determined();
+    handovers_are_legal();
+    parts_are_apart_and_usable();
+    image_tells_all();
+    two_boots::<MemFiles<Global>, MemFiles<Global>>();
+}

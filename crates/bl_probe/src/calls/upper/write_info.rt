@@ -1,0 +1,233 @@
+//! `write_info line=BYTES FIELD .. of BYTES`: boot information behind bytes that stand there already, on a machine of 636
+//! and 3072 KiB with three runs.
+//!
+//! A FIELD is `module=START..END:BYTES` (at most two), `old=BYTES`, `new=BYTES` or `base=ADDRESS`. Texts and copies have
+//! at most 512 bytes.
+ghost use Rattle.std.specs.Prelude.{◌≡◌, ◌≢◌, ◌≤◌, ◌<◌, ◌^◌, ◌+◌, length, sum_by, option_map, All, IfOk, IfSome, IsTrue};
+ghost use Rattle.bl_mbi.specs.InformationFacts.{IsText, IsModule, AreBytes};
+ghost use Rattle.bl_mbi.specs.Size.{tag_size, copy_size};
+
+use crate::bytes::{Names, bytes_of};
+use crate::calls::upper::refusal::unprepared_text;
+use crate::calls::upper::unprepared::Unprepared;
+use crate::fault::RowFault;
+use crate::parse::number32;
+use crate::session::Session;
+use crate::show::bytes_text;
+use bl_map::{Kind, Region};
+use bl_mbi::{Facts, Module, info_size, write_info};
+use bl_mem::Bytes;
+use bl_refusing::Refusing;
+use std::alloc::{AllocError, Global};
+
+/// A module as its row has it.
+#[derive(Drop)]
+struct ModuleRow {
+    start: u32,
+    end: u32,
+    line: Vec<u8>,
+}
+
+/// What is told, as its row has it.
+#[derive(Drop)]
+struct InfoRow {
+    line: Vec<u8>,
+    modules: Vec<ModuleRow>,
+    old: Option<Vec<u8>>,
+    new: Option<Vec<u8>>,
+    base: Option<u32>,
+}
+
+impl InfoRow {
+    fn add_module(&mut self, alloc: Global, names: &Names, words: &str) -> Result<(), RowFault> {
+        let (range, line) = words.split_once(':').ok_or(RowFault::BadRow)?;
+        let (start, end) = range.split_once("..").ok_or(RowFault::BadRow)?;
+        let line = bytes_of(alloc, names, line)?;
+        self.modules.push(ModuleRow {
+            start: number32(start)?,
+            end: number32(end)?,
+            line,
+        })?;
+        Ok(())
+    }
+
+    fn add(&mut self, alloc: Global, names: &Names, word: &str) -> Result<(), RowFault> {
+        match word.split_once('=') {
+            Some(("line", line)) => self.line = bytes_of(alloc, names, line)?,
+            Some(("module", module)) => self.add_module(alloc, names, module)?,
+            Some(("old", copy)) => self.old = Some(bytes_of(alloc, names, copy)?),
+            Some(("new", copy)) => self.new = Some(bytes_of(alloc, names, copy)?),
+            Some(("base", base)) => self.base = Some(number32(base)?),
+            _ => return Err(RowFault::BadRow),
+        }
+        Ok(())
+    }
+}
+
+fn read_row(alloc: Global, names: &Names, words: &str) -> Result<InfoRow, RowFault> {
+    let mut row = InfoRow {
+        line: Vec::new(alloc),
+        modules: Vec::new(alloc),
+        old: None,
+        new: None,
+        base: None,
+    };
+    for word in words.split_whitespace() {
+        row.add(alloc, names, word)?;
+    }
+    Ok(row)
+}
+
+/// The most bytes that a text or a copy of a row has.
+const SHORT: usize = 512;
+
+/// Whether no byte is zero.
+fn is_text(bytes: &[u8]) -> bool
+    ensures { IsTrue result → All (λ c. (c ≢ 0) × (c < 256)) bytes.now }
+{
+    for byte in bytes {
+        if *byte == 0 {
+            return false;
+        }
+    }
+    true
+}
+
+/// A short text.
+fn text_of<'h>(heap: &'h Refusing, bytes: &[u8]) -> Result<Bytes<&'h Refusing>, Unprepared>
+    ensures text { IfOk result IsText }
+    ensures short { IfOk result (λ text. length text ≤ 512) }
+{
+    if bytes.len() > SHORT {
+        return Err(Unprepared::BadRow);
+    }
+    if !is_text(bytes) {
+        return Err(Unprepared::BadRow);
+    }
+    Ok(Bytes::from(Vec::from_slice(heap, bytes)?))
+}
+
+/// A short copy, if there is one.
+fn copy_of<'h>(
+    heap: &'h Refusing,
+    copy: &Option<Vec<u8>>,
+) -> Result<Option<Bytes<&'h Refusing>>, Unprepared>
+    ensures bytes { IfOk result (λ copy. IfSome copy AreBytes) }
+    ensures short { IfOk result (λ copy. copy_size (option_map length copy) ≤ 520) }
+{
+    let Some(bytes) = copy else {
+        return Ok(None);
+    };
+    if bytes.len() > SHORT {
+        return Err(Unprepared::BadRow);
+    }
+    Ok(Some(Bytes::from(Vec::from_slice(heap, bytes.as_slice())?)))
+}
+
+/// A module, which may not end before it starts.
+fn module_of<'h>(heap: &'h Refusing, row: &ModuleRow) -> Result<Module<&'h Refusing>, Unprepared>
+    ensures module { IfOk result IsModule }
+    ensures short { IfOk result (λ m. length m.line ≤ 512) }
+{
+    if row.end < row.start {
+        return Err(Unprepared::BadRow);
+    }
+    let line = text_of(heap, row.line.as_slice())?;
+    Ok(Module {
+        mod_start: row.start,
+        mod_end: row.end,
+        line,
+    })
+}
+
+/// At most two modules.
+fn modules_of<'h>(
+    heap: &'h Refusing,
+    rows: &[ModuleRow],
+) -> Result<Vec<Module<&'h Refusing>, &'h Refusing>, Unprepared>
+    ensures modules { IfOk result (λ modules. All IsModule modules.items) }
+    ensures short { IfOk result (λ modules.
+        sum_by (λ m. tag_size (length m.line + 9)) modules.items ≤ 1100) }
+{
+    let mut modules = Vec::new(heap);
+    if rows.len() > 2 {
+        return Err(Unprepared::BadRow);
+    }
+    if let Some(row) = rows.first() {
+        modules.push(module_of(heap, row)?)?;
+    }
+    if let Some(row) = rows.get(1) {
+        modules.push(module_of(heap, row)?)?;
+    }
+    Ok(modules)
+}
+
+/// 636 KiB, the firmware's 64 KiB, and 3 MiB from 1 MiB on.
+fn runs<'h>(heap: &'h Refusing) -> Result<Vec<Region, &'h Refusing>, AllocError>
+    ensures few { IfOk result (λ runs. length runs.items ≡ 3) }
+    ensures low { IfOk result (λ runs. All (λ run. run.base + run.length ≤ 2 ^ 52) runs.items) }
+{
+    let runs = [
+        Region {
+            base: 0,
+            length: 0x9F000,
+            kind: Kind::Usable,
+        },
+        Region {
+            base: 0xF0000,
+            length: 0x10000,
+            kind: Kind::Reserved,
+        },
+        Region {
+            base: 0x100000,
+            length: 0x300000,
+            kind: Kind::Usable,
+        },
+    ];
+    Vec::from_slice(heap, &runs)
+}
+
+/// The facts of a row, on a machine of 636 and 3072 KiB.
+fn facts_of<'h>(heap: &'h Refusing, row: &InfoRow) -> Result<Facts<&'h Refusing>, Unprepared> {
+    let line = text_of(heap, row.line.as_slice())?;
+    let modules = modules_of(heap, row.modules.as_slice())?;
+    let runs = runs(heap)?;
+    let old = copy_of(heap, &row.old)?;
+    let new = copy_of(heap, &row.new)?;
+    Ok(Facts::new(line, modules, 636, 3072, runs, old, new, row.base))
+}
+
+/// Writes the information over the heap, behind bytes that stand there.
+fn written(
+    alloc: Global,
+    heap: &Refusing,
+    row: &InfoRow,
+    bytes: &[u8],
+) -> Result<String, Unprepared> {
+    let facts = facts_of(heap, row)?;
+    let mut out = Vec::from_slice(heap, bytes)?;
+    let said = match write_info(&facts, &mut out) {
+        Ok(()) => {
+            let size = info_size(&facts);
+            format!(in alloc; "size {size:x}")?
+        }
+        Err(AllocError) => String::from_str(alloc, "no memory")?,
+    };
+    let bytes = bytes_text(alloc, out.as_slice())?;
+    Ok(format!(in alloc; "{said}, {bytes}")?)
+}
+
+/// Writes the facts of the words behind the bytes.
+pub fn answer(
+    alloc: Global,
+    heap: &Refusing,
+    session: &Session,
+    words: &str,
+    bytes: &[u8],
+) -> Result<String, RowFault> {
+    let row = read_row(alloc, &session.names, words)?;
+    match written(alloc, heap, &row, bytes) {
+        Ok(text) => Ok(text),
+        Err(fault) => unprepared_text(alloc, fault),
+    }
+}

@@ -1,0 +1,13 @@
+use Rattle.std.proofs.Common.{◌≡◌, ℕ, ◌+◌, [], ◌∷◌, arith}
+use Rattle.std.proofs.lemmas.Grind.{common_steps}
+use Rattle.bl_plan.specs.declared.place.Place.{Place}
+use Rattle.bl_plan.specs.declared.role.Role.TheVariants.{Kernel, Module}
+use Rattle.bl_tests.proofs.PlanLemmas.{part_of, two_loadable}
+use Rattle.bl_tests.proofs.images.loaded.plan_of.Goals as goal
+
+pub returns : goal.returns
+returns g c = λ size low wide some.
+    let p : Place = record { role = Module; index = 3; address = 7; length = 5 } in
+    let q : Place = record { role = Kernel; index = 1; address = 16; length = c.args.long } in
+    let items : c.push-2.new.self.items ≡ part_of p 90 ∷ part_of q 0 ∷ [] = grind (arith, common_steps) in
+    two_loadable size (16 + c.args.long) _ p q 90 0 items (omega arith) (omega arith) (omega arith) some (omega arith) (omega arith) (omega arith)

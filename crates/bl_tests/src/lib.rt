@@ -1,0 +1,10 @@
+//! Tests of what no row of bl_probe can say: the allocator that refuses, and images of handovers that
+//! no description leads to yet.
+#![tactic(auto)]
+
+#[cfg(test)]
+mod images;
+#[cfg(test)]
+mod refusing;
+#[cfg(test)]
+mod texts;
