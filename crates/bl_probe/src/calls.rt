@@ -5,6 +5,7 @@ mod facts;
 mod frames;
 mod header;
 mod laws;
+mod linux;
 pub mod machine;
 mod memory;
 mod normal;
@@ -34,6 +35,7 @@ pub enum Argument<'a> {
 pub fn takes_bytes(name: &str) -> bool {
     match name {
         "elf" | "header" | "own" => true,
+        "read_setup" | "setup_fault" | "read_params" => true,
         _ => upper::takes_bytes(name),
     }
 }
@@ -64,6 +66,10 @@ pub fn make(
         ("view", Argument::Words(words)) => view::answer(alloc, session, words),
         ("own", Argument::Bytes(bytes)) => own::answer(alloc, heap, bytes),
         ("laws", Argument::Words("")) => laws::answer(alloc),
+        ("read_setup", Argument::Bytes(file)) => linux::answer_setup(alloc, file),
+        ("setup_fault", Argument::Bytes(file)) => linux::answer_fault(alloc, file),
+        ("read_params", Argument::Bytes(bytes)) => linux::answer_read(alloc, heap, bytes),
+        ("gdt", Argument::Words("")) => linux::answer_gdt(alloc),
         (name, Argument::Words(words)) => upper::make_plain(alloc, heap, session, name, words),
         (name, Argument::Bytes(bytes)) => upper::make_over(alloc, heap, session, name, bytes),
     }

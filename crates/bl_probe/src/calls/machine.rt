@@ -62,7 +62,7 @@ pub fn kind_name(kind: Kind) -> &'static str {
 }
 
 /// The region that `BASE+LENGTH:KIND` is.
-fn region(word: &str) -> Result<Region, RowFault> {
+pub fn region(word: &str) -> Result<Region, RowFault> {
     let (base, rest) = word.split_once('+').ok_or(RowFault::BadRow)?;
     let (length, name) = rest.split_once(':').ok_or(RowFault::BadRow)?;
     Ok(Region {

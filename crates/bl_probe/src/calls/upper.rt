@@ -17,6 +17,7 @@ mod sink;
 mod unprepared;
 mod write_info;
 
+use crate::calls::linux;
 use crate::fault::RowFault;
 use crate::parse::split_word;
 use crate::session::Session;
@@ -60,6 +61,7 @@ pub fn make_over(
     match split_word(call) {
         ("read_info", "") => read_info::answer(alloc, heap, bytes),
         ("write_info", words) => write_info::answer(alloc, heap, session, words, bytes),
+        ("write_params", words) => linux::answer_write(alloc, words, bytes),
         ("prepare", words) => handoff::answer_prepare(alloc, heap, session, words, bytes),
         ("load", words) => handoff::answer_load(alloc, heap, session, words, bytes),
         ("image", words) => image::answer(alloc, heap, session, words, bytes),
