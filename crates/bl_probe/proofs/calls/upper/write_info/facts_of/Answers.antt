@@ -1,5 +1,5 @@
-use Rattle.std.proofs.Common.{◌≤◌, ◌<◌, ◌^◌, Bool, true, false, arith, length}
-use Rattle.std.specs.Prelude.{map, is_some}
+use Rattle.std.proofs.Common.{◌≤◌, Bool, true, false, arith}
+use Rattle.std.specs.Prelude.{is_some}
 use Rattle.bl_mbi.specs.Size.{load_base_size}
 use Rattle.bl_probe.proofs.calls.upper.write_info.facts_of.Goals as goal
 
