@@ -3,7 +3,7 @@
 //!
 //! A FIELD is `module=START..END:BYTES` (at most two), `old=BYTES`, `new=BYTES` or `base=ADDRESS`. Texts and copies have
 //! at most 512 bytes.
-ghost use Rattle.std.specs.Prelude.{◌≡◌, ◌≢◌, ◌≤◌, ◌<◌, ◌^◌, ◌+◌, length, sum_by, option_map, All, IfOk, IfSome, IsTrue};
+ghost use Rattle.std.specs.Prelude.{◌≡◌, ◌≢◌, ◌≤◌, ◌<◌, ◌^◌, ◌+◌, length, sum_by, map, option_map, All, IfOk, IfSome, IsTrue};
 ghost use Rattle.bl_mbi.specs.InformationFacts.{IsText, IsModule, AreBytes};
 ghost use Rattle.bl_mbi.specs.Size.{tag_size, copy_size};
 
@@ -11,7 +11,7 @@ use crate::bytes::{Names, bytes_of};
 use crate::calls::upper::refusal::unprepared_text;
 use crate::calls::upper::unprepared::Unprepared;
 use crate::fault::RowFault;
-use crate::parse::number32;
+use crate::parse::{number, number32};
 use crate::session::Session;
 use crate::show::bytes_text;
 use bl_map::{Kind, Region};
@@ -35,7 +35,7 @@ struct InfoRow {
     modules: Vec<ModuleRow>,
     old: Option<Vec<u8>>,
     new: Option<Vec<u8>>,
-    base: Option<u32>,
+    base: Option<u64>,
 }
 
 impl InfoRow {
@@ -57,7 +57,7 @@ impl InfoRow {
             Some(("module", module)) => self.add_module(alloc, names, module)?,
             Some(("old", copy)) => self.old = Some(bytes_of(alloc, names, copy)?),
             Some(("new", copy)) => self.new = Some(bytes_of(alloc, names, copy)?),
-            Some(("base", base)) => self.base = Some(number32(base)?),
+            Some(("base", base)) => self.base = Some(number(base)?),
             _ => return Err(RowFault::BadRow),
         }
         Ok(())
@@ -83,7 +83,7 @@ const SHORT: usize = 512;
 
 /// Whether no byte is zero.
 fn is_text(bytes: &[u8]) -> bool
-    ensures { IsTrue result → All (λ c. (c ≢ 0) × (c < 256)) bytes.now }
+    ensures { IsTrue result → All (λ c. c ≢ 0) bytes.now }
 {
     for byte in bytes {
         if *byte == 0 {
@@ -91,6 +91,14 @@ fn is_text(bytes: &[u8]) -> bool
         }
     }
     true
+}
+
+/// A copy of bytes.
+fn copied<'h>(heap: &'h Refusing, bytes: &[u8]) -> Result<Bytes<&'h Refusing>, AllocError>
+    ensures copy { IfOk result (λ copy. copy ≡ bytes.now) }
+    ensures fits { IfOk result AreBytes }
+{
+    Ok(Bytes::from(Vec::from_slice(heap, bytes)?))
 }
 
 /// A short text.
@@ -104,7 +112,7 @@ fn text_of<'h>(heap: &'h Refusing, bytes: &[u8]) -> Result<Bytes<&'h Refusing>, 
     if !is_text(bytes) {
         return Err(Unprepared::BadRow);
     }
-    Ok(Bytes::from(Vec::from_slice(heap, bytes)?))
+    Ok(copied(heap, bytes)?)
 }
 
 /// A short copy, if there is one.
@@ -121,7 +129,7 @@ fn copy_of<'h>(
     if bytes.len() > SHORT {
         return Err(Unprepared::BadRow);
     }
-    Ok(Some(Bytes::from(Vec::from_slice(heap, bytes.as_slice())?)))
+    Ok(Some(copied(heap, bytes.as_slice())?))
 }
 
 /// A module, which may not end before it starts.
@@ -147,19 +155,25 @@ fn modules_of<'h>(
 ) -> Result<Vec<Module<&'h Refusing>, &'h Refusing>, Unprepared>
     ensures modules { IfOk result (λ modules. All IsModule modules.items) }
     ensures short { IfOk result (λ modules.
-        sum_by (λ m. tag_size (length m.line + 9)) modules.items ≤ 1100) }
+        sum_by (λ length. tag_size (length + 9)) (map (λ m. length m.line) modules.items) ≤ 1100) }
 {
     let mut modules = Vec::new(heap);
-    if rows.len() > 2 {
-        return Err(Unprepared::BadRow);
+    match rows {
+        [] => Ok(modules),
+        [only] => {
+            let only = module_of(heap, only)?;
+            modules.push(only)?;
+            Ok(modules)
+        }
+        [first, second] => {
+            let first = module_of(heap, first)?;
+            let second = module_of(heap, second)?;
+            modules.push(first)?;
+            modules.push(second)?;
+            Ok(modules)
+        }
+        _ => Err(Unprepared::BadRow),
     }
-    if let Some(row) = rows.first() {
-        modules.push(module_of(heap, row)?)?;
-    }
-    if let Some(row) = rows.get(1) {
-        modules.push(module_of(heap, row)?)?;
-    }
-    Ok(modules)
 }
 
 /// 636 KiB, the firmware's 64 KiB, and 3 MiB from 1 MiB on.
@@ -187,6 +201,19 @@ fn runs<'h>(heap: &'h Refusing) -> Result<Vec<Region, &'h Refusing>, AllocError>
     Vec::from_slice(heap, &runs)
 }
 
+/// The load base of a row, which has 32 bits.
+fn base_of(row: &InfoRow) -> Result<Option<u32>, Unprepared>
+    ensures { IfOk result (λ base. IfSome base (λ base. base < 2 ^ 32)) }
+{
+    let Some(base) = row.base else {
+        return Ok(None);
+    };
+    if base > 0xFFFF_FFFF {
+        return Err(Unprepared::BadRow);
+    }
+    Ok(Some(base as u32))
+}
+
 /// The facts of a row, on a machine of 636 and 3072 KiB.
 fn facts_of<'h>(heap: &'h Refusing, row: &InfoRow) -> Result<Facts<&'h Refusing>, Unprepared> {
     let line = text_of(heap, row.line.as_slice())?;
@@ -194,7 +221,8 @@ fn facts_of<'h>(heap: &'h Refusing, row: &InfoRow) -> Result<Facts<&'h Refusing>
     let runs = runs(heap)?;
     let old = copy_of(heap, &row.old)?;
     let new = copy_of(heap, &row.new)?;
-    Ok(Facts::new(line, modules, 636, 3072, runs, old, new, row.base))
+    let base = base_of(row)?;
+    Ok(Facts::new(line, modules, 636, 3072, runs, old, new, base))
 }
 
 /// Writes the information over the heap, behind bytes that stand there.
