@@ -1,0 +1,5 @@
+pub mod Staged
+pub mod Pieces
+pub mod Ranges
+pub mod Cells
+pub mod Kept
