@@ -10,9 +10,9 @@ use Rattle.bl_mem.specs.Memory.{overwrite}
 use Rattle.bl_mem.proofs.Overwrites.{length-overwrite, get_or-overwrite_in, get_or-overwrite_below, get_or-overwrite_above}
 use Rattle.bl_mem.proofs.SparseLemmas.{values, length-values, get_or-values}
 use Rattle.bl_map.specs.Room.{frames_of}
-use Rattle.bl_stage.specs.Cells.{cell_at, AreInside}
+use Rattle.bl_stage.specs.Cells.{cell_at, AreInside, ReadsAs}
 use Rattle.bl_stage.specs.Ranges.{IsSameOutside}
-use Rattle.bl_stage.specs.Staged.{place_of, staged, first_of, frames_for, AreApart, Staging, AreStaged, file_of, HasPool}
+use Rattle.bl_stage.specs.Staged.{place_of, staged, first_of, frames_for, AreApart, Staging, AreStaged, file_of, HasPool, with_frames}
 use Rattle.bl_stage.specs.Pieces.{is_piece, slot_in}
 use Rattle.std.specs.declared.ops.Range.{Range}
 use Rattle.bl_stage.specs.declared.cell.Cell.{Cell}
@@ -196,3 +196,18 @@ kept_staged base pool sizes starts frames came cells waiting kept = record {
 pub found_piece : (test : Bool) (n slot : ℕ) → Some slot ≡ cond test (Some n) None → (test ≡ true) × (slot ≡ n)
 found_piece true n slot e = (refl, cc)
 found_piece false n slot e = cc
+
+-- a file reads as before if each frame does
+file_moved : (old new old_frames frames : List ℕ) (a n size : ℕ) → ReadsAs old old_frames new frames → length frames ≡ length old_frames → a + n ≤ length old_frames → size ≤ 4096 * n
+    → staged new (slice_range frames a (a + n)) size ≡ staged old (slice_range old_frames a (a + n)) size
+file_moved old new old_frames frames a n size same long within enough =
+    same_below (λ i. get_or new (place_of (slice_range frames a (a + n)) i) 0) (λ i. get_or old (place_of (slice_range old_frames a (a + n)) i) 0) size (λ i h.
+    rw (read_part frames a n (i / 4096) (omega arith) (omega arith), read_part old_frames a n (i / 4096) (omega arith) within) (same (a + i / 4096) (i % 4096) (omega arith) (omega arith)))
+
+pub file_evacuated : (old new : List ℕ) (stage : Staging) (frames : List ℕ) (file : ℕ) → AreStaged stage → ReadsAs old stage.frames new frames → length frames ≡ length stage.frames → file < length stage.sizes
+    → file_of new (with_frames stage frames) file ≡ file_of old stage file
+file_evacuated old new stage frames file kept same long h =
+    let size = get_or stage.sizes file 0 in
+    let w = file_within stage.sizes file h in
+    let a = kept.all in
+    file_moved old new stage.frames frames (first_of stage.sizes file) (frames_of size) size same long (omega arith) (omega arith)

@@ -1,3 +1,6 @@
 pub mod FrameLemmas
 pub mod TableLemmas
 pub mod FileLemmas
+pub mod CountLemmas
+pub mod MoveLemmas
+pub mod WayLemmas

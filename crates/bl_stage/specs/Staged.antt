@@ -69,3 +69,12 @@ AllCame stage = All (λ came. came ≡ true) stage.came
 -- memory has the pool, unless that is empty: such a one may lie anywhere
 abbrev pub HasPool : List ℕ → Range ℕ → Type 0
 HasPool bytes pool = pool.start < pool.end → pool.end ≤ length bytes
+
+-- the stage with its frames elsewhere
+abbrev pub with_frames : Staging → List ℕ → Staging
+with_frames stage frames = record {
+  pool = stage.pool;
+  sizes = stage.sizes;
+  frames = frames;
+  came = stage.came;
+}

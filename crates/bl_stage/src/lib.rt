@@ -3,12 +3,16 @@
 
 mod cell;
 mod fault;
+mod marks;
+mod moves;
 mod put;
+mod scrubbing;
 mod stage;
 mod tables;
 mod view;
 
 pub use fault::StageFault;
 pub use put::Put;
+pub use scrubbing::scrub;
 pub use stage::Stage;
 pub use view::FrameView;
