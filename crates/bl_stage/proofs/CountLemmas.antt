@@ -1,11 +1,11 @@
 -- Counting cells: what is open is held and to stay, or spare.
-use Rattle.std.proofs.Common.{◌≡◌, ℕ, ◌+◌, ◌-◌, ◌<◌, ◌≤◌, List, [], ◌∷◌, length, get_or, set, drop, Bool, true, false, cond, Option, Some, None, is_some, not, ◌&&◌, arith, rules, refl, sym, ap, ◌∙◌, inl, inr}
-use Rattle.std.specs.List.{count_by, sum_by}
+use Rattle.std.proofs.Common.{◌≡◌, ℕ, ◌+◌, ◌-◌, ◌<◌, List, [], ◌∷◌, length, get_or, set, drop, Bool, true, false, cond, Option, Some, None, is_some, not, ◌&&◌, arith, refl, sym, ap, ◌∙◌, inl, inr}
+use Rattle.std.specs.List.{count_by}
 use Rattle.std.proofs.lemmas.Bool.{cases_lt}
-use Rattle.std.proofs.lemmas.List.{drop-set-lt, drop-set-add, get_or-drop, length-drop, drop_all, set_past}
+use Rattle.std.proofs.lemmas.List.{drop-set-lt, drop-set-add, get_or-drop, length-drop, drop_all}
 use Rattle.std.proofs.lemmas.List.Sums.{sum_by-set, sum_by-cons, sum_by-drop_more}
 use Rattle.bl_stage.specs.declared.cell.Cell.{Cell}
-use Rattle.bl_stage.specs.Cells.{is_open_cell, is_held_cell, is_spare_cell, is_stranded_cell, cell_at}
+use Rattle.bl_stage.specs.Cells.{is_open_cell, is_held_cell, is_spare_cell, is_stranded_cell}
 
 -- one cell in each count
 split_parts : (shut : Bool) (holder : Option ℕ) → cond {A = ℕ} (not shut) 1 0 + cond (shut && is_some holder) 1 0 ≡ cond (is_some holder) 1 0 + cond (not shut && not (is_some holder)) 1 0

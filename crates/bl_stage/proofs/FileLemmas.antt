@@ -1,23 +1,23 @@
 -- What a file reads as, when its frames move or a piece of it comes.
-use Rattle.std.proofs.Common.{◌≡◌, ◌≢◌, ℕ, suc, ◌+◌, ◌-◌, ◌*◌, ◌/◌, ◌%◌, ◌<◌, ◌≤◌, ◌⊎◌, List, [], ◌∷◌, length, get_or, set, take, slice_range, min, Bool, true, false, not, cond, Some, None, arith, rules, refl, sym, ap, ◌∙◌, inl, inr, ◌==◌}
-use Rattle.std.specs.List.{count_by, sum_by, All, range_with_len}
+use Rattle.std.proofs.Common.{◌≡◌, ◌≢◌, ℕ, suc, ◌+◌, ◌-◌, ◌*◌, ◌/◌, ◌%◌, ◌<◌, ◌≤◌, ◌⊎◌, List, [], ◌∷◌, length, get_or, set, take, slice_range, min, Bool, true, false, not, cond, Some, None, arith, refl, sym, ap, ◌∙◌, inl, inr, ◌==◌}
+use Rattle.std.specs.List.{count_by, sum_by, All}
 use Rattle.std.proofs.lemmas.Bool.{cases_eq, cases_lt}
 use Rattle.std.proofs.lemmas.List.{places, take-take, ext_get_or}
 use Rattle.std.specs.Bool.{IsTrue}
 use Rattle.std.proofs.lemmas.Bool.Decides.{nat_tests}
-use Rattle.std.proofs.lemmas.List.Sums.{sum_by-set, sum_by_more, sum_by_more_le, sum_by-take-le, get_or-le-sum_by, sum_by-cons, sum_by-le}
+use Rattle.std.proofs.lemmas.List.Sums.{sum_by-set, sum_by_more, sum_by_more_le, sum_by-take-le, get_or-le-sum_by, sum_by-cons}
 use Rattle.bl_mem.specs.Memory.{overwrite}
 use Rattle.bl_mem.proofs.Overwrites.{length-overwrite, get_or-overwrite_in, get_or-overwrite_below, get_or-overwrite_above}
 use Rattle.bl_mem.proofs.SparseLemmas.{values, length-values, get_or-values}
 use Rattle.bl_map.specs.Room.{frames_of}
 use Rattle.bl_stage.specs.Cells.{cell_at, AreInside, ReadsAs}
 use Rattle.bl_stage.specs.Ranges.{IsSameOutside}
-use Rattle.bl_stage.specs.Staged.{place_of, staged, first_of, frames_for, AreApart, Staging, AreStaged, file_of, HasPool, with_frames}
+use Rattle.bl_stage.specs.Staged.{place_of, staged, first_of, AreApart, Staging, AreStaged, file_of, HasPool, with_frames}
 use Rattle.bl_stage.specs.Pieces.{is_piece, slot_in}
 use Rattle.std.specs.declared.ops.Range.{Range}
 use Rattle.bl_stage.specs.declared.cell.Cell.{Cell}
 use Rattle.bl_stage.specs.Kept.{IsKept}
-use Rattle.bl_stage.proofs.FrameLemmas.{same_below, staged_length}
+use Rattle.bl_stage.proofs.FrameLemmas.{same_below}
 
 -- a file's frames lie within the list of all
 pub file_within : (sizes : List ℕ) (file : ℕ) → file < length sizes → first_of sizes file + frames_of (get_or sizes file 0) ≤ sum_by frames_of sizes

@@ -1,6 +1,6 @@
 -- One frame is moved.
-use Rattle.std.proofs.Common.{◌≡◌, ◌≢◌, ℕ, ◌+◌, ◌-◌, ◌*◌, ◌<◌, ◌≤◌, ◌⊎◌, List, [], ◌∷◌, length, get_or, set, drop, slice_range, Bool, true, false, cond, Option, Some, None, is_some, not, ◌&&◌, arith, rules, refl, sym, ap, ◌∙◌, inl, inr}
-use Rattle.std.specs.List.{count_by, sum_by}
+use Rattle.std.proofs.Common.{◌≡◌, ◌≢◌, ℕ, ◌+◌, ◌-◌, ◌*◌, ◌<◌, ◌≤◌, ◌⊎◌, List, length, get_or, set, drop, slice_range, Bool, true, false, cond, Option, Some, None, is_some, not, ◌&&◌, arith, rules, refl, sym, ap, ◌∙◌, inl, inr}
+use Rattle.std.specs.List.{count_by}
 use Rattle.std.proofs.lemmas.Bool.{cases_lt, cases_eq}
 use Rattle.std.proofs.lemmas.List.{places, get_or-set_same, get_or-set_other, length-set, drop-set-lt}
 use Rattle.std.proofs.lemmas.List.Sums.{sum_by-set}

@@ -1,6 +1,6 @@
 -- The cells are filled in from a list of frames.
-use Rattle.std.proofs.Common.{◌≡◌, ◌≢◌, ℕ, suc, ◌+◌, ◌-◌, ◌*◌, ◌<◌, ◌≤◌, ◌⊎◌, List, [], ◌∷◌, length, get_or, set, take, map, ◌/◌, ◌%◌, Bool, true, false, cond, Option, Some, None, is_some, arith, rules, refl, sym, ap, ◌∙◌, inl, inr}
-use Rattle.std.specs.List.{count_by, sum_by, All}
+use Rattle.std.proofs.Common.{◌≡◌, ◌≢◌, ℕ, suc, ◌+◌, ◌-◌, ◌<◌, ◌≤◌, ◌⊎◌, List, [], ◌∷◌, length, get_or, set, take, map, ◌/◌, ◌%◌, Bool, false, cond, Option, Some, None, is_some, arith, refl, sym, ap, ◌∙◌, inl, inr}
+use Rattle.std.specs.List.{count_by, All}
 use Rattle.std.proofs.lemmas.Bool.{cases_eq}
 use Rattle.std.proofs.lemmas.List.{get_or-set_same, get_or-set_other, length-set, length-take-le, get_or-take, get_or-map, length-map}
 use Rattle.std.proofs.lemmas.List.Sums.{sum_by-set, sum_by-cons, count_by-le-length}

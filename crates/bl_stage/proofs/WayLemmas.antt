@@ -1,6 +1,6 @@
 -- What marking keeps, and how many frames it leaves open.
-use Rattle.std.proofs.Common.{◌≡◌, ℕ, zero, suc, take, ◌||◌, ◌&&◌, inl, inr, ◌+◌, ◌-◌, ◌*◌, ◌<◌, ◌≤◌, List, [], ◌∷◌, length, get_or, Bool, true, false, not, cond, Option, Some, None, is_some, arith, rules, refl, sym, ap, ◌∙◌}
-use Rattle.std.specs.List.{count_by, sum_by}
+use Rattle.std.proofs.Common.{◌≡◌, ℕ, zero, suc, take, ◌||◌, ◌&&◌, inl, inr, ◌+◌, ◌-◌, ◌*◌, ◌<◌, ◌≤◌, List, [], ◌∷◌, length, get_or, Bool, true, false, not, cond, Option, is_some, arith, refl, sym, ap, ◌∙◌}
+use Rattle.std.specs.List.{count_by}
 use Rattle.std.specs.declared.ops.Range.{Range}
 use Rattle.std.proofs.lemmas.List.Sums.{sum_by-cons, sum_by_more}
 use Rattle.bl_stage.specs.declared.cell.Cell.{Cell}

@@ -1,5 +1,5 @@
 -- What the code keeps of each frame of the pool, and what moving frames leaves.
-use Rattle.std.specs.Prelude.{◌≡◌, ℕ, ◌+◌, ◌*◌, ◌-◌, ◌<◌, ◌≤◌, List, length, slice_index, slice_index_or, Bool, true, false, not, ◌&&◌, is_some, Option, Some, None}
+use Rattle.std.specs.Prelude.{◌≡◌, ℕ, ◌+◌, ◌*◌, ◌-◌, ◌<◌, ◌≤◌, List, length, slice_index, slice_index_or, Bool, true, false, not, ◌&&◌, is_some, Some, None}
 use Rattle.std.specs.List.{count_by}
 use Rattle.std.specs.declared.ops.Range.{Range}
 use Rattle.bl_stage.specs.declared.cell.Cell.{Cell}

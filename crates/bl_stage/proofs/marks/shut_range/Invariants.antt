@@ -1,4 +1,4 @@
-use Rattle.std.proofs.Common.{◌≡◌, ℕ, ◌+◌, ◌<◌, ◌≤◌, length, true}
+use Rattle.std.proofs.Common.{◌≡◌, ℕ, ◌<◌, ◌≤◌, length, true}
 use Rattle.bl_stage.specs.Cells.{cell_at}
 use Rattle.bl_stage.proofs.marks.shut_range.Given as goal
 

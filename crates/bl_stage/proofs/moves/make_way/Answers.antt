@@ -1,4 +1,4 @@
-use Rattle.std.proofs.Common.{◌≡◌, ◌*◌, ◌≤◌, length, arith, rules, ap, ◌∙◌, sym}
+use Rattle.std.proofs.Common.{◌≡◌, ◌*◌, length, arith, rules, ap, ◌∙◌, sym}
 use Rattle.std.specs.List.{count_by}
 use Rattle.std.proofs.lemmas.List.{take_all}
 use Rattle.bl_map.specs.Room.{open_among}

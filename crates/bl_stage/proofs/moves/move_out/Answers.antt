@@ -1,4 +1,4 @@
-use Rattle.std.proofs.Common.{◌≡◌, ◌+◌, ◌*◌, ◌<◌, ◌≤◌, length, get_or, set, drop, slice_range, List, ℕ, Some, None, true, false, arith, rules, refl, sym, ap, ◌∙◌}
+use Rattle.std.proofs.Common.{◌≡◌, ◌+◌, ◌*◌, ◌<◌, ◌≤◌, length, drop, slice_range, Some, true, false, arith, rules, sym, ap, ◌∙◌}
 use Rattle.std.specs.List.{count_by}
 use Rattle.bl_mem.specs.Memory.{overwrite}
 use Rattle.bl_stage.specs.Cells.{cell_at, is_spare_cell, is_stranded_cell}

@@ -1,5 +1,4 @@
 use Rattle.std.proofs.Common.{◌≡◌, ℕ, ◌<◌, ◌≤◌, ◌-◌, length, get_or}
-use Rattle.std.specs.declared.ops.Range.{Range}
 use Rattle.bl_mem.specs.Memory.{KeepsRoom}
 use Rattle.bl_stage.specs.Ranges.{scrubbed}
 use Rattle.bl_stage.proofs.scrubbing.scrub_range.Given as goal

@@ -1,10 +1,9 @@
-use Rattle.std.proofs.Common.{◌≡◌, ◌*◌, ◌+◌, ◌≤◌, length, get_or, ℕ, List, rules, arith, sym, ap, ◌∙◌, true, Err, Ok}
+use Rattle.std.proofs.Common.{◌≡◌, length, rules, ap, ◌∙◌}
 use Rattle.std.specs.Vec.{with_items}
 use Rattle.std.proofs.lemmas.List.{with_items_is}
 use Rattle.bl_stage.specs.Staged.{Staging, AreStaged, file_of, with_frames}
 use Rattle.bl_stage.specs.Cells.{ReadsAs, MadeWay}
 use Rattle.bl_stage.proofs.FileLemmas.{kept_staged, file_evacuated}
-use Rattle.bl_stage.proofs.WayLemmas.{pool_frames, same_outside}
 use Rattle.bl_stage.proofs.stage.Stage.evacuate.Goals as goal
 use Rattle.bl_stage.proofs.stage.Stage.evacuate.Goals.{then-made, else-made}
 

@@ -1,6 +1,6 @@
-use Rattle.std.proofs.Common.{◌≡◌, ◌*◌, ◌+◌, ◌≤◌, length, get_or, ℕ, List, set, true, refl, subst, rules, arith, sym, ap, ◌∙◌}
+use Rattle.std.proofs.Common.{◌≡◌, ◌*◌, length, get_or, ap, ◌∙◌}
 use Rattle.bl_mem.specs.Memory.{overwrite}
-use Rattle.bl_stage.specs.Staged.{Staging, AreStaged, file_of}
+use Rattle.bl_stage.specs.Staged.{AreStaged, file_of}
 use Rattle.bl_stage.specs.Pieces.{slot_in, is_piece}
 use Rattle.bl_stage.proofs.FileLemmas.{IsPiece, kept_staged, found_piece, piece_is, piece_in_file, piece_in_others}
 use Rattle.bl_stage.proofs.stage.Stage.put.Goals as goal

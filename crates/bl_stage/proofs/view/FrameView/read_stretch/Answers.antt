@@ -1,6 +1,6 @@
-use Rattle.std.proofs.Common.{◌≡◌, ◌+◌, ◌*◌, ◌/◌, ◌%◌, ◌≤◌, length, slice_range, get_or, arith, rules, ap, ◌∙◌, sym}
+use Rattle.std.proofs.Common.{◌≡◌, ◌+◌, ◌*◌, ◌/◌, ◌%◌, length, slice_range, get_or, arith, rules, ap, ◌∙◌, sym}
 use Rattle.bl_stage.specs.Staged.{staged}
-use Rattle.bl_stage.proofs.FrameLemmas.{IsStretch, read_staged, stretch_inside}
+use Rattle.bl_stage.proofs.FrameLemmas.{read_staged, stretch_inside}
 use Rattle.bl_stage.proofs.view.FrameView.read_stretch.Goals as goal
 
 pub read-requires : goal.read-requires
