@@ -53,6 +53,7 @@ impl<A: Allocator> Stage<A> {
     ghost use Rattle.bl_stage.specs.Staged.{staged, file_of, frames_for, with_frames};
     ghost use Rattle.bl_stage.specs.Staged.{AreStaged, AllCame, HasPool};
     ghost use Rattle.bl_stage.specs.Pieces.{is_piece, slot_in, put_answer, with_piece};
+    ghost use Rattle.bl_stage.specs.Spots.{spots, put_spot};
     ghost use Rattle.bl_stage.specs.Ranges.{meets, IsSameOutside};
 
     /// Whether each piece of each file came.
@@ -111,6 +112,9 @@ impl<A: Allocator> Stage<A> {
             → (other : ℕ) → other < length self.old.sizes → other ≢ file
             → file_of (M.bytes memory.new) self.new other
             ≡ file_of (M.bytes memory.old) self.old other }
+        ensures spots { result ≡ Put.Stored
+            → spots (M.bytes memory.new) self.new
+                ≡ put_spot (M.bytes memory.old) self.old file index bytes.now }
         ensures unchanged { result ≢ Put.Stored
             → (self.new ≡ self.old) × (M.bytes memory.new ≡ M.bytes memory.old) }
         ensures outside { IsSameOutside self.old.pool (M.bytes memory.old) (M.bytes memory.new) }
@@ -174,6 +178,8 @@ impl<A: Allocator> Stage<A> {
         ensures files { OnOk result ((file : ℕ) → file < length self.old.sizes
             → file_of (M.bytes memory.new) self.new file
             ≡ file_of (M.bytes memory.old) self.old file) }
+        ensures spots { OnOk result (spots (M.bytes memory.new) self.new
+            ≡ spots (M.bytes memory.old) self.old) }
         ensures outside { IsSameOutside self.old.pool (M.bytes memory.old) (M.bytes memory.new) }
         ensures size { length (M.bytes memory.new) ≡ length (M.bytes memory.old) }
         ensures kept { KeepsRoom (M.room memory.old) (M.room memory.new) }
