@@ -1,0 +1,7 @@
+pub mod FrameLemmas
+pub mod TableLemmas
+pub mod FileLemmas
+pub mod SpotLemmas
+pub mod CountLemmas
+pub mod MoveLemmas
+pub mod WayLemmas

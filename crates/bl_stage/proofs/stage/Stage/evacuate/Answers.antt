@@ -1,0 +1,51 @@
+use Rattle.std.proofs.Common.{◌≡◌, length, rules, ap, ◌∙◌}
+use Rattle.std.specs.Vec.{with_items}
+use Rattle.std.proofs.lemmas.List.{with_items_is}
+use Rattle.bl_stage.specs.Staged.{Staging, AreStaged, file_of, with_frames}
+use Rattle.bl_stage.specs.Cells.{ReadsAs, MadeWay}
+use Rattle.bl_stage.specs.Spots.{spots}
+use Rattle.bl_stage.proofs.FileLemmas.{kept_staged, file_evacuated}
+use Rattle.bl_stage.proofs.SpotLemmas.{spots_same}
+use Rattle.bl_stage.proofs.stage.Stage.evacuate.Goals as goal
+use Rattle.bl_stage.proofs.stage.Stage.evacuate.Goals.{then-made, else-made}
+
+pub returns-clause-files : goal.returns-clause-files
+returns-clause-files g c =
+    let inside = c.self.inside in
+    let stage = c.args.self.now in
+    let bytes = g.M.PhysMem.bytes c.args.memory.now in
+    let new = g.M.PhysMem.bytes c.make_way-made.new.memory in
+    let frames = c.make_way-made.new.frames in
+    let kept : AreStaged stage = rw (← c.self.view_is) (kept_staged inside.base inside.pool inside.sizes.items inside.starts.items inside.frames.items inside.came.items inside.cells.items inside.waiting c.self.invariant) in
+    elim c.if-made.branch [
+      | then-made w ↦
+          let way : MadeWay inside.base (length inside.cells.items) c.args.ranges.now bytes new inside.frames.items frames = search rules in
+          let items : (with_items inside.frames frames).items ≡ frames = with_items_is inside.frames frames (search rules) in
+          let before : inside.frames.items ≡ stage.frames = ap (λ s. s.frames) c.self.view_is in
+          let same : ReadsAs bytes stage.frames new frames = rw (← before) way.same in
+          let long : length frames ≡ length stage.frames = way.long ∙ ap length before in
+          let view : Staging = record { pool = inside.pool; sizes = inside.sizes.items; frames = inside.frames.items; came = inside.came.items } in
+          rw w.result-is (λ file h. ap (λ fs. file_of new (with_frames view fs) file) items ∙ ap (λ s. file_of new (with_frames s frames) file) c.self.view_is ∙ file_evacuated bytes new stage frames file kept same long h)
+      | else-made w ↦ rw w.result-is tt
+    ]
+
+pub returns-clause-spots : goal.returns-clause-spots
+returns-clause-spots g c =
+    let inside = c.self.inside in
+    let stage = c.args.self.now in
+    let bytes = g.M.PhysMem.bytes c.args.memory.now in
+    let new = g.M.PhysMem.bytes c.make_way-made.new.memory in
+    let frames = c.make_way-made.new.frames in
+    let kept : AreStaged stage = rw (← c.self.view_is) (kept_staged inside.base inside.pool inside.sizes.items inside.starts.items inside.frames.items inside.came.items inside.cells.items inside.waiting c.self.invariant) in
+    elim c.if-made.branch [
+      | then-made w ↦
+          let way : MadeWay inside.base (length inside.cells.items) c.args.ranges.now bytes new inside.frames.items frames = search rules in
+          let items : (with_items inside.frames frames).items ≡ frames = with_items_is inside.frames frames (search rules) in
+          let before : inside.frames.items ≡ stage.frames = ap (λ s. s.frames) c.self.view_is in
+          let same : ReadsAs bytes stage.frames new frames = rw (← before) way.same in
+          let long : length frames ≡ length stage.frames = way.long ∙ ap length before in
+          let view : Staging = record { pool = inside.pool; sizes = inside.sizes.items; frames = inside.frames.items; came = inside.came.items } in
+          rw w.result-is (ap (λ fs. spots new (with_frames view fs)) items ∙ ap (λ s. spots new (with_frames s frames)) c.self.view_is
+          ∙ spots_same stage frames bytes new (λ file h. file_evacuated bytes new stage frames file kept same long h))
+      | else-made w ↦ rw w.result-is tt
+    ]

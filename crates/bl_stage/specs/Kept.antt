@@ -1,0 +1,18 @@
+-- What a stage keeps of its tables.
+use Rattle.std.specs.Prelude.{◌≡◌, ℕ, ◌+◌, ◌*◌, ◌<◌, ◌^◌, List, length, slice_index, Bool, not}
+use Rattle.std.specs.List.{count_by}
+use Rattle.std.specs.declared.ops.Range.{Range}
+use Rattle.bl_stage.specs.declared.cell.Cell.{Cell}
+use Rattle.bl_stage.specs.Cells.{AreHeld}
+use Rattle.bl_stage.specs.Staged.{frames_for, first_of}
+
+pub record IsKept (base : ℕ) (pool : Range ℕ) (sizes starts frames : List ℕ) (came : List Bool) (cells : List Cell) (waiting : ℕ) : Type 0 where
+  pub held : AreHeld base frames cells
+  pub all : length frames ≡ frames_for sizes
+  pub flags : length came ≡ length frames
+  pub files : length starts ≡ length sizes
+  pub each : (file : ℕ) → file < length sizes → slice_index starts file ≡ first_of sizes file
+  pub waits : waiting ≡ count_by not came
+  pub start : pool.start ≡ 4096 * base
+  pub end : pool.end ≡ 4096 * (base + length cells)
+  pub small : pool.end < 2 ^ 64

@@ -1,0 +1,18 @@
+//! Files that lie in frames of a machine's pool.
+#![tactic(auto)]
+
+mod cell;
+mod fault;
+mod marks;
+mod moves;
+mod put;
+mod scrubbing;
+mod stage;
+mod tables;
+mod view;
+
+pub use fault::StageFault;
+pub use put::Put;
+pub use scrubbing::scrub;
+pub use stage::Stage;
+pub use view::FrameView;

@@ -1,0 +1,113 @@
+//! Files' frames that are to be left are moved into spare ones.
+ghost use Rattle.std.specs.Prelude.{◌≡◌, ◌+◌, ◌*◌, ◌<◌, ◌≤◌, ◌^◌, ◌↔◌, IsTrue, length};
+ghost use Rattle.std.specs.Prelude.{slice_range, slice_set, true, false, Some, None};
+ghost use Rattle.std.specs.List.{count_by};
+ghost use Rattle.std.specs.Bool.{OnTrue, OnFalse};
+ghost use Rattle.bl_map.specs.Room.{open_among};
+ghost use Rattle.bl_mem.specs.Memory.{overwrite, HasRoom, KeepsRoom};
+ghost use Rattle.bl_stage.specs.Cells.{is_open_cell, AreHeld, Moved, MadeWay, HasFrames};
+
+use crate::cell::{Cell, next_spare};
+use crate::marks::{count_open, mark};
+use bl_map::FRAME;
+use bl_mem::PhysMem;
+use std::ops::Range;
+
+/// Moves one frame of a file into a spare one.
+fn move_cell<M: PhysMem>(
+    memory: &mut M,
+    base: u64,
+    frames: &mut [u64],
+    cells: &mut [Cell],
+    from: usize,
+    to: usize,
+    slot: u32,
+    buffer: &mut [u8; 4096],
+)
+    requires slot { slot < length frames.old }
+    requires from { from < length cells.old }
+    requires to { to < length cells.old }
+    requires inside { HasFrames (M.bytes memory.old) base (length cells.old) }
+    requires room { HasRoom (M.room memory.old) (4096 * base) (4096 * (base + length cells.old)) }
+    ensures frames { frames.new ≡ slice_set frames.old slot (base + to) }
+    ensures cells { cells.new
+        ≡ slice_set (slice_set cells.old from (record { holder = None; shut = true })) to
+        (record { holder = Some slot; shut = false }) }
+    ensures bytes { M.bytes memory.new
+        ≡ overwrite (M.bytes memory.old) (4096 * (base + to))
+        (slice_range (M.bytes memory.old) (4096 * (base + from)) (4096 * (base + from) + 4096)) }
+    ensures kept { KeepsRoom (M.room memory.old) (M.room memory.new) }
+{
+    let _size = memory.size();
+    memory.read(FRAME * (base + from as u64), buffer);
+    memory.write(FRAME * (base + to as u64), buffer);
+    frames[slot as usize] = base + to as u64;
+    cells[from] = Cell {
+        holder: None,
+        shut: true,
+    };
+    cells[to] = Cell {
+        holder: Some(slot),
+        shut: false,
+    };
+}
+
+/// Moves each frame of a file whose cell is shut into a spare one, in one pass over the cells.
+fn move_out<M: PhysMem>(
+    memory: &mut M,
+    base: u64,
+    frames: &mut [u64],
+    cells: &mut [Cell],
+    buffer: &mut [u8; 4096],
+)
+    requires held { AreHeld base frames.old cells.old }
+    requires enough { length frames.old ≤ count_by is_open_cell cells.old }
+    requires inside { HasFrames (M.bytes memory.old) base (length cells.old) }
+    requires room { HasRoom (M.room memory.old) (4096 * base) (4096 * (base + length cells.old)) }
+    ensures moved { Moved base (M.bytes memory.old) (M.bytes memory.new) frames.old frames.new
+        cells.old cells.new (length cells.old) }
+    ensures kept { KeepsRoom (M.room memory.old) (M.room memory.new) }
+{
+    let mut to = 0;
+    for from in 0..cells.len() {
+        let cell = cells[from];
+        if cell.shut {
+            if let Some(slot) = cell.holder {
+                to = next_spare(cells, to);
+                move_cell(memory, base, frames, cells, from, to, slot, buffer);
+                to += 1;
+            }
+        }
+    }
+}
+
+/// Moves each frame of a file that a range meets, if the frames that none meets are enough for all files.
+/// Else it answers false, and nothing is changed.
+pub fn make_way<M: PhysMem>(
+    memory: &mut M,
+    base: u64,
+    frames: &mut [u64],
+    cells: &mut [Cell],
+    ranges: &[Range<u64>],
+) -> bool
+    requires held { AreHeld base frames.old cells.old }
+    requires small { 4096 * (base + length cells.old) < 2 ^ 64 }
+    requires inside { HasFrames (M.bytes memory.old) base (length cells.old) }
+    requires room { HasRoom (M.room memory.old) (4096 * base) (4096 * (base + length cells.old)) }
+    ensures exact { IsTrue result
+        ↔ (length frames.old ≤ open_among ranges.now (4096 * base) (length cells.old)) }
+    ensures held { AreHeld base frames.new cells.new }
+    ensures yes { OnTrue result (MadeWay base (length cells.old) ranges.now
+        (M.bytes memory.old) (M.bytes memory.new) frames.old frames.new) }
+    ensures no { OnFalse result
+        ((frames.new ≡ frames.old) × (M.bytes memory.new ≡ M.bytes memory.old)) }
+    ensures kept { KeepsRoom (M.room memory.old) (M.room memory.new) }
+{
+    mark(cells, base, ranges);
+    if count_open(cells) < frames.len() {
+        return false;
+    }
+    let mut buffer = [0; 4096];
+    move_out(memory, base, frames, cells, &mut buffer);
+    true
+}

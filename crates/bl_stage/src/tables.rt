@@ -1,0 +1,85 @@
+//! The tables that a stage keeps.
+ghost use Rattle.std.specs.Prelude.{◌≡◌, ℕ, ◌+◌, ◌/◌, ◌<◌, ◌≤◌, ◌^◌, ◌↔◌, IfOk, IfSome, IsNone};
+ghost use Rattle.std.specs.Prelude.{length, slice_index, None, map};
+ghost use Rattle.bl_stage.specs.Cells.{cell_at, AreHeld};
+ghost use Rattle.bl_stage.specs.Staged.{frames_for, first_of, AreApart};
+
+use crate::cell::Cell;
+use bl_map::{FRAME, frames_of};
+use std::alloc::{AllocError, Allocator};
+
+/// How many frames these files need, unless more than `most`.
+pub fn frames_within(sizes: &[u64], most: u64) -> Option<u64>
+    ensures none { IsNone result ↔ (most < frames_for sizes.now) }
+    ensures some { IfSome result (λ all. all ≡ frames_for sizes.now) }
+{
+    let mut all = 0;
+    for size in sizes {
+        let more = frames_of(*size);
+        if most - all < more {
+            return None;
+        }
+        all += more;
+    }
+    Some(all)
+}
+
+/// How many frames stand before each file's own.
+pub fn starts_of<A: Allocator>(alloc: A, sizes: &[u64]) -> Result<Vec<u64, A>, AllocError>
+    requires { frames_for sizes.now < 2 ^ 64 }
+    ensures len { IfOk result (λ starts. length starts.items ≡ length sizes.now) }
+    ensures each { IfOk result (λ starts. (file : ℕ) → file < length sizes.now
+        → slice_index starts.items file ≡ first_of sizes.now file) }
+{
+    let mut starts = Vec::with_capacity(alloc, sizes.len())?;
+    let mut all = 0;
+    for size in sizes {
+        starts.push(all)?;
+        all += frames_of(*size);
+    }
+    Ok(starts)
+}
+
+/// Notes each of these frames in its cell, by its place in their list.
+pub fn hold_all(cells: &mut [Cell], base: u64, frames: &[u64])
+    requires empty { (j : ℕ) → (cell_at cells.old j).holder ≡ None }
+    requires few { length cells.old < 2 ^ 32 }
+    requires low { (k : ℕ) → k < length frames.now → base ≤ slice_index frames.now k }
+    requires high { (k : ℕ) → k < length frames.now
+        → slice_index frames.now k < base + length cells.old }
+    requires apart { AreApart frames.now }
+    ensures { AreHeld base frames.now cells.new }
+{
+    for slot in 0..frames.len() {
+        cells[(frames[slot] - base) as usize].holder = Some(slot as u32);
+    }
+}
+
+/// The numbers of `count` frames from frame `start` on.
+pub fn first_frames<A: Allocator>(
+    alloc: A,
+    start: u64,
+    count: u64,
+) -> Result<Vec<u64, A>, AllocError>
+    requires { start + count < 2 ^ 64 }
+    ensures long { IfOk result (λ frames. length frames.items ≡ count) }
+    ensures each { IfOk result (λ frames. (k : ℕ) → k < count
+        → slice_index frames.items k ≡ start + k) }
+{
+    let mut frames = Vec::with_capacity(alloc, count as usize)?;
+    for frame in start..start + count {
+        frames.push(frame)?;
+    }
+    Ok(frames)
+}
+
+/// The numbers of the frames at these addresses.
+pub fn numbers_of<A: Allocator>(alloc: A, addresses: &[u64]) -> Result<Vec<u64, A>, AllocError>
+    ensures { IfOk result (λ frames. frames.items ≡ map (λ address. address / 4096) addresses.now) }
+{
+    let mut frames = Vec::with_capacity(alloc, addresses.len())?;
+    for address in addresses {
+        frames.push(address / FRAME)?;
+    }
+    Ok(frames)
+}
