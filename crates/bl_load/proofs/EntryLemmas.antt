@@ -21,7 +21,7 @@ use Rattle.bl_load.specs.Reading.{multiboot2}
 use Rattle.bl_load.specs.Kernel.{KernelFacts, IsKernel, holds_at, entry_fault, counted_entry}
 use Rattle.bl_load.specs.KernelKept.{AreLoadable}
 use Rattle.bl_load.specs.Blocks.{low_of, high_of, span_of}
-use Rattle.bl_load.specs.Rows.{segment_rows, block_choice, kernel_rows, information_row, rows_of}
+use Rattle.bl_load.specs.Rows.{segment_rows, block_choice, kernel_rows, information_row, rows_of, module_rows}
 use Rattle.bl_load.specs.Parts.{entry_at}
 use Rattle.bl_load.specs.Addresses.{address_of}
 use Rattle.bl_load.proofs.KernelLaws.{entry_held, held_within, high_below}
@@ -76,10 +76,10 @@ block_address : (r : Relocation) (segments : List Segment) (p : Place) (places :
 block_address r segments p places is = ap (λ (q : Place). address_of Kernel 0 (q ∷ places)) is
 
 entry_small_by : (facts : MachineFacts) (file : List ℕ) (value : EntryValue) (segments : List Segment) (relocation : Option Relocation) (entry : ℕ) (places : List Place) → AreLoadable file segments → low_of segments ≤ entry → entry < high_of segments
-    → ArePlaced facts [] (kernel_rows segments relocation ++ information_row facts value relocation ∷ []) places → All (λ p. p.address + p.length ≤ 0xFFFFF000) places
+    → ArePlaced facts [] (kernel_rows segments relocation ++ (module_rows value.files 0 value.module_lines ++ information_row facts value relocation ∷ [])) places → All (λ p. p.address + p.length ≤ 0xFFFFF000) places
     → (entry + address_of Kernel 0 places < 2 ^ 64) × (entry_at entry segments relocation (address_of Kernel 0 places) < 2 ^ 32)
 entry_small_by facts file value segments None entry places loadable above under placed below =
-    let high = high_below segments 0xFFFFF000 (segments_below facts [] 0 0xFFFFF000 segments (information_row facts value None ∷ []) places placed below) in
+    let high = high_below segments 0xFFFFF000 (segments_below facts [] 0 0xFFFFF000 segments (module_rows value.files 0 value.module_lines ++ information_row facts value None ∷ []) places placed below) in
     let base = small_address Kernel 0 places 0xFFFFF000 below in
     (omega arith, omega arith)
 entry_small_by facts file value segments (Some r) entry [] loadable above under placed below = absurd placed

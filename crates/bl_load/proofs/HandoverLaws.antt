@@ -152,7 +152,7 @@ one_late facts value r s (inr (k, is_k, a)) (inr (l, is_l, b)) =
 -- or have one first refusal
 pub one_refusal : (facts : MachineFacts) (value : EntryValue) (r s : Refusal) → IsRefusal facts value r → IsRefusal facts value s → r ≡ s
 one_refusal facts value r s a b =
-    one_then (form_fault value.protocol value.module_lines) (Then (lines_fault (lines_of value)) (IsLateRefusal facts value)) r s
+    one_then (form_fault value.protocol) (Then (lines_fault (lines_of value)) (IsLateRefusal facts value)) r s
     (one_then (lines_fault (lines_of value)) (IsLateRefusal facts value) r s (one_late facts value r s)) a b
 
 -- and never both

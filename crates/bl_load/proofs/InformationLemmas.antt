@@ -1,10 +1,12 @@
 -- How long the information is.
-use Rattle.std.proofs.Common.{◌≡◌, ◌≤◌, ◌<◌, ◌^◌, ℕ, List, [], length, Bool, true, false, Option, Some, None, arith, refl, ap}
-use Rattle.std.specs.Prelude.{codes, is_some, option_map}
+use Rattle.std.proofs.Common.{◌≡◌, ◌≤◌, ◌<◌, ◌+◌, ◌*◌, ◌^◌, ℕ, suc, List, [], ◌∷◌, length, All, Bool, true, false, Option, Some, None, arith, refl, ap, ◌∙◌}
+use Rattle.std.specs.Prelude.{codes, is_some, option_map, map, sum_by}
+use Rattle.std.proofs.lemmas.List.Sums.{sum_by-cons}
+use Rattle.std.proofs.lemmas.List.Elements.{All-head, All-tail}
 use Rattle.bl_map.specs.MachineFacts.{MachineFacts}
 use Rattle.bl_mb2head.specs.declared.relocation.Relocation.{Relocation}
-use Rattle.bl_mbi.specs.InformationFacts.{info_size}
-use Rattle.bl_mbi.specs.Size.{size_of, load_base_size}
+use Rattle.bl_mbi.specs.InformationFacts.{ModuleInfo, info_size}
+use Rattle.bl_mbi.specs.Size.{size_of, tag_size, load_base_size}
 use Rattle.bl_mbi.specs.Spelling.{spelling}
 use Rattle.bl_mbi.proofs.Sizes.{length-spelling}
 use Rattle.bl_plan.specs.declared.place.Place.{Place}
@@ -12,7 +14,8 @@ use Rattle.bl_plan.specs.declared.role.Role.TheVariants.{Kernel}
 use Rattle.bl_load.specs.Addresses.{address_of}
 use Rattle.bl_load.specs.Value.{EntryValue}
 use Rattle.bl_map.specs.Room.{whole_frames}
-use Rattle.bl_load.specs.Rows.{information_of}
+use Rattle.bl_load.specs.Rows.{modules_of, information_of}
+use Rattle.bl_load.specs.PlacingKept.{tags_size}
 
 most_load_base : (b : Bool) → load_base_size b ≤ 16
 most_load_base true = omega arith
@@ -22,20 +25,39 @@ most_load_base false = omega arith
 pub size_below : (line runs : ℕ) (given : Bool) → line ≤ 4095 → runs ≤ 256 → size_of line [] runs None None given < 2 ^ 16
 size_below line runs given l r = let b = most_load_base given in omega arith
 
-same_given : (relocation : Option Relocation) (base other : ℕ) → is_some (option_map (λ r. base) relocation) ≡ is_some (option_map (λ r. other) relocation)
-same_given (Some r) base other = refl
-same_given None base other = refl
+same_given : (relocation : Option Relocation) (base : ℕ) → is_some (option_map (λ r. base) relocation) ≡ is_some relocation
+same_given (Some r) base = refl
+same_given None base = refl
 
--- its size does not depend on where the kernel stands
-pub same_size : (facts : MachineFacts) (value : EntryValue) (relocation : Option Relocation) (places others : List Place)
-    → info_size (information_of facts value relocation places) ≡ info_size (information_of facts value relocation others)
-same_size facts value relocation places others =
-    ap (λ (b : Bool). size_of (length value.line) [] (length facts.runs) None None b) (same_given relocation (address_of Kernel 0 places) (address_of Kernel 0 others))
+-- the tags of modules take what their lines ask for, wherever the modules stand
+pub tags_size_is : (files : List (List ℕ)) (places : List Place) (k : ℕ) (lines : List (List ℕ))
+    → sum_by (λ n. tag_size (n + 9)) (map (λ m. length m.line) (modules_of files places k lines)) ≡ tags_size lines
+tags_size_is files places k [] = refl
+tags_size_is files places k (line ∷ lines) =
+    let more = modules_of files places (suc k) lines in
+    sum_by-cons (λ (n : ℕ). tag_size (n + 9)) (length line) (map (λ (m : ModuleInfo). length m.line) more) ∙ ap (λ (n : ℕ). tag_size (length line + 9) + n) (tags_size_is files places (suc k) lines)
+
+-- at most 4120 bytes for each
+pub tags_small : (lines : List (List ℕ)) → All (λ line. length line ≤ 4095) lines → tags_size lines ≤ 4120 * length lines
+tags_small [] short = omega arith
+tags_small (line ∷ lines) short =
+    let first = All-head (λ (l : List ℕ). length l ≤ 4095) line lines short in
+    let rest = tags_small lines (All-tail (λ (l : List ℕ). length l ≤ 4095) line lines short) in
+    omega arith
+
+-- its size does not depend on any place
+pub info_size_is : (facts : MachineFacts) (value : EntryValue) (relocation : Option Relocation) (places : List Place)
+    → info_size (information_of facts value relocation places) ≡ size_of (length value.line) [] (length facts.runs) None None (is_some relocation) + tags_size value.module_lines
+info_size_is facts value relocation places =
+    let tags = tags_size_is value.files places 0 value.module_lines in
+    let given = same_given relocation (address_of Kernel 0 places) in
+    rw given (omega (arith, tags))
 
 -- it is no longer than its place
 pub information_short : (facts : MachineFacts) (value : EntryValue) (relocation : Option Relocation) (places : List Place) (count : ℕ) → count ≡ whole_frames (info_size (information_of facts value relocation []))
     → length (spelling (codes "bootcore") (information_of facts value relocation places)) ≤ count
 information_short facts value relocation places count is =
     let e = length-spelling (information_of facts value relocation places) in
-    let f = same_size facts value relocation places [] in
-    omega (arith, e, f, is)
+    let f = info_size_is facts value relocation places in
+    let g = info_size_is facts value relocation [] in
+    omega (arith, e, f, g, is)

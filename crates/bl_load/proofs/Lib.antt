@@ -7,6 +7,7 @@ pub mod WrittenLemmas
 pub mod HeldLemmas
 pub mod LineLemmas
 pub mod RowLemmas
+pub mod ModuleLemmas
 pub mod OverlapLemmas
 pub mod RowPlaceLemmas
 pub mod EntryLemmas

@@ -20,7 +20,7 @@ use Rattle.bl_load.specs.Value.{EntryValue}
 use Rattle.bl_load.specs.Reading.{multiboot2}
 use Rattle.bl_load.specs.Kernel.{KernelFacts}
 use Rattle.bl_load.specs.Blocks.{low_of, span_of}
-use Rattle.bl_load.specs.Rows.{segment_rows, align_of, block_choice, kernel_rows, information_row, rows_of}
+use Rattle.bl_load.specs.Rows.{segment_rows, align_of, block_choice, kernel_rows, information_row, rows_of, module_rows}
 use Rattle.bl_plan.proofs.OrderLemmas.{AreRelated, pairs_related}
 
 -- no address of a segment is taken
@@ -48,18 +48,25 @@ information_no_overlap : (facts : MachineFacts) (value : EntryValue) (relocation
 information_no_overlap facts value relocation taken (inl here) = here
 information_no_overlap facts value relocation taken (inr later) = later.2
 
+-- what is placed at the lowest address overlaps nothing
+tail_no_overlap : (facts : MachineFacts) (value : EntryValue) (relocation : Option Relocation) (k : ℕ) (lines : List (List ℕ)) (taken : List (Range ℕ))
+    → IsFirstFault facts taken (module_rows value.files k lines ++ information_row facts value relocation ∷ []) Overlap → ⊥
+tail_no_overlap facts value relocation k [] taken h = information_no_overlap facts value relocation taken h
+tail_no_overlap facts value relocation k (line ∷ lines) taken (inl here) = here
+tail_no_overlap facts value relocation k (line ∷ lines) taken (inr later) = tail_no_overlap facts value relocation (suc k) lines _ later.2
+
 block_no_overlap : (facts : MachineFacts) (taken : List (Range ℕ)) (count : ℕ) (r : Relocation) (linked : ℕ) → HasFault facts taken count (block_choice r linked) Overlap → ⊥
 block_no_overlap facts taken count r linked =
     cond_both (nat_eq r.preference 1) (Lowest (align_of r) r.min_addr r.max_addr) _ (λ choice. HasFault facts taken count choice Overlap → ⊥) (λ _ h. h)
     (λ _. cond_both (nat_eq r.preference 2) (Highest (align_of r) r.min_addr r.max_addr) (Preferred linked (align_of r) r.min_addr r.max_addr) (λ choice. HasFault facts taken count choice Overlap → ⊥) (λ _ h. h) (λ _ h. h))
 
 rows_no_overlap : (facts : MachineFacts) (value : EntryValue) (segments : List Segment) (relocation : Option Relocation) → AllPairs AreApart segments
-    → IsFirstFault facts [] (kernel_rows segments relocation ++ information_row facts value relocation ∷ []) Overlap → ⊥
+    → IsFirstFault facts [] (kernel_rows segments relocation ++ (module_rows value.files 0 value.module_lines ++ information_row facts value relocation ∷ [])) Overlap → ⊥
 rows_no_overlap facts value segments None apart h =
-    segments_no_overlap facts [] 0 segments (information_row facts value None ∷ []) (λ k d within a low high. All-nil (λ r. ¬ IsIn r a)) (pairs_related AreApart segments apart)
-    (information_no_overlap facts value None) h
+    segments_no_overlap facts [] 0 segments (module_rows value.files 0 value.module_lines ++ information_row facts value None ∷ []) (λ k d within a low high. All-nil (λ r. ¬ IsIn r a)) (pairs_related AreApart segments apart)
+    (tail_no_overlap facts value None 0 value.module_lines) h
 rows_no_overlap facts value segments (Some r) apart (inl here) = block_no_overlap facts [] (span_of segments) r (low_of segments) here
-rows_no_overlap facts value segments (Some r) apart (inr later) = information_no_overlap facts value (Some r) _ later.2
+rows_no_overlap facts value segments (Some r) apart (inr later) = tail_no_overlap facts value (Some r) 0 value.module_lines _ later.2
 
 -- so the first fault of a kernel whose segments share no byte is no overlap
 pub no_overlap : (facts : MachineFacts) (value : EntryValue) (kernel : KernelFacts) → AllPairs AreApart kernel.segments → IsFirstFault facts [] (rows_of facts value (multiboot2 kernel)) Overlap → ⊥

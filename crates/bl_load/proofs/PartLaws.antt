@@ -1,4 +1,5 @@
 -- The parts that are handed over are not empty, usable, and apart.
+use Rattle.std.specs.Prelude.{max}
 use Rattle.std.proofs.Common.{◌≡◌, ◌≤◌, ◌+◌, ℕ, Bool, true, false, if◌then◌else◌, List, [], ◌∷◌, length, get_or, map, Option, Some, None, IfSome, arith, rules, refl, sym, ap, subst, All, AllPairs, slice_range, length-append}
 use Rattle.std.proofs.lemmas.Bool.Decides.{nat_tests}
 use Rattle.std.proofs.lemmas.List.{places, length-replicate}
@@ -19,10 +20,10 @@ use Rattle.bl_mb2head.specs.declared.tag.Tag.{Tag}
 use Rattle.bl_plan.specs.Placed.{ArePlaced, IsPlaceable, IsRow}
 use Rattle.bl_plan.specs.declared.place.Place.{Place}
 use Rattle.bl_plan.specs.declared.role.Role.{Role}
-use Rattle.bl_plan.specs.declared.role.Role.TheVariants.{Kernel, Information}
+use Rattle.bl_plan.specs.declared.role.Role.TheVariants.{Kernel, Module, Information}
 use Rattle.bl_plan.specs.declared.row.Row.{Row}
 use Rattle.bl_plan.proofs.PlaceLaws as places_laws
-use Rattle.bl_load.specs.Value.{EntryValue, kernel_file}
+use Rattle.bl_load.specs.Value.{EntryValue, kernel_file, module_file}
 use Rattle.bl_load.specs.Kernel.{KernelFacts, IsKernel, IsLoadedBy, entry_fault, counted_entry}
 use Rattle.bl_load.specs.Rows.{rows_of}
 use Rattle.bl_load.specs.PlacingKept.{HasKernelLength, HasLength, IsRowed}
@@ -35,7 +36,7 @@ use Rattle.bl_load.proofs.BlockLemmas.{length-block_of}
 use Rattle.bl_load.proofs.InformationLemmas.{information_short}
 use Rattle.bl_load.proofs.HeldLemmas.{AllPairs-map}
 use Rattle.bl_plan.proofs.OrderLemmas.{in_order_all}
-use Rattle.bl_load.proofs.RowLemmas.{kernel_rows_are_rows}
+use Rattle.bl_load.proofs.RowLemmas.{kernel_rows_are_rows, some_frames}
 use Rattle.bl_load.proofs.RowPlaceLemmas.{each_rowed, are_filled, in_order_ascends}
 
 -- ---- the segments of a kernel, whatever numbers its file's bytes are
@@ -94,6 +95,7 @@ content_short : (facts : MachineFacts) (value : EntryValue) (kernel : KernelFact
     → length (content_of facts value (multiboot2 kernel) places role i) ≤ count
 content_short facts value kernel places Kernel i count full has = kernel_short (kernel_file value) kernel.segments kernel.relocation i count full has
 content_short facts value kernel places Information i count full has = information_short facts value kernel.relocation places count has
+content_short facts value kernel places Module i count full has = let size = has.1 in let frames = some_frames (max (length (module_file value.files i)) 1) (omega arith) in omega arith
 content_short facts value kernel places _ i count full has = absurd has
 
 length-filled : (count : ℕ) (content : List ℕ) → length content ≤ count → length (filled count content) ≡ count

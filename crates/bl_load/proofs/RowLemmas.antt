@@ -1,5 +1,5 @@
 -- What the rows of an entry have.
-use Rattle.std.proofs.Common.{◌≡◌, ◌<◌, ◌≤◌, ℕ, suc, List, [], ◌∷◌, length, Option, Some, None, arith, refl, ap, All, nat_eq, length-append}
+use Rattle.std.proofs.Common.{◌++◌, ◌≡◌, ◌<◌, ◌≤◌, ℕ, suc, List, [], ◌∷◌, length, Option, Some, None, arith, refl, ap, All, nat_eq, length-append}
 use Rattle.std.proofs.lemmas.List.Elements.{All-nil, All-cons, All-head, All-tail, All-append}
 use Rattle.std.proofs.lemmas.Bool.{cond_both}
 use Rattle.std.proofs.lemmas.Bool.Decides.{nat_tests}
@@ -13,13 +13,16 @@ use Rattle.bl_plan.specs.declared.choice.Choice.TheVariants.{Fixed, Lowest, High
 use Rattle.bl_plan.specs.declared.place.Place.{Place}
 use Rattle.bl_plan.specs.declared.role.Role.TheVariants.{Kernel}
 use Rattle.bl_plan.proofs.PlaceLaws.{as_many}
-use Rattle.bl_load.specs.Value.{EntryValue}
+use Rattle.std.specs.Prelude.{min, max}
+use Rattle.bl_plan.specs.declared.row.Row.{Row}
+use Rattle.bl_load.specs.Value.{EntryValue, module_file}
+use Rattle.bl_load.specs.PlacingKept.{most_told, told_rows, told_rows_of}
 use Rattle.bl_load.specs.Reading.{multiboot2}
 use Rattle.bl_load.specs.Kernel.{KernelFacts}
 use Rattle.bl_load.specs.KernelKept.{AreLoadable}
 use Rattle.bl_load.specs.Blocks.{low_of, high_of, span_of}
 use Rattle.bl_map.specs.Room.{whole_frames}
-use Rattle.bl_load.specs.Rows.{segment_rows, align_of, block_choice, kernel_rows, information_of, information_row, rows_of}
+use Rattle.bl_load.specs.Rows.{segment_rows, align_of, block_choice, kernel_rows, information_of, information_row, rows_of, module_rows}
 use Rattle.bl_load.proofs.SortedLemmas.{low_below, high_above_all}
 
 -- ---- each row has some bytes and a choice
@@ -68,12 +71,37 @@ information_row_is facts value relocation =
     let frames = some_frames (info_size (information_of facts value relocation [])) size in
     record { filled = omega arith; choice = omega arith }
 
+module_rows_are : (files : List (List ℕ)) (k : ℕ) (lines : List (List ℕ)) → All IsRow (module_rows files k lines)
+module_rows_are files k [] = All-nil IsRow
+module_rows_are files k (line ∷ lines) =
+    let frames = some_frames (max (length (module_file files k)) 1) (omega arith) in
+    All-cons IsRow _ (module_rows files (suc k) lines) (record { filled = omega arith; choice = omega arith }) (module_rows_are files (suc k) lines)
+
+told_rows_are : (files : List (List ℕ)) (k : ℕ) (lines : List (List ℕ)) → All IsRow (told_rows files k lines)
+told_rows_are files k [] = All-nil IsRow
+told_rows_are files k (line ∷ lines) =
+    let frames = some_frames (max (min (length (module_file files k)) most_told) 1) (omega arith) in
+    All-cons IsRow _ (told_rows files (suc k) lines) (record { filled = omega arith; choice = omega arith }) (told_rows_are files (suc k) lines)
+
+-- modules and the information
+behind_kernel : (facts : MachineFacts) (value : EntryValue) (relocation : Option Relocation) (rows : List Row) → All IsRow rows → All IsRow (rows ++ information_row facts value relocation ∷ [])
+behind_kernel facts value relocation rows are =
+    All-append IsRow rows (information_row facts value relocation ∷ []) are
+    (All-cons IsRow (information_row facts value relocation) [] (information_row_is facts value relocation) (All-nil IsRow))
+
 -- the rows of a kernel whose segments take memory are rows of some bytes
 pub kernel_rows_are_rows : (facts : MachineFacts) (value : EntryValue) (kernel : KernelFacts) → 1 ≤ length kernel.segments → All (λ s. 1 ≤ s.memsz) kernel.segments → All IsRow (rows_of facts value (multiboot2 kernel))
 kernel_rows_are_rows facts value kernel some filled =
-    All-append IsRow (kernel_rows kernel.segments kernel.relocation) (information_row facts value kernel.relocation ∷ [])
+    All-append IsRow (kernel_rows kernel.segments kernel.relocation) (module_rows value.files 0 value.module_lines ++ information_row facts value kernel.relocation ∷ [])
     (kernel_rows_are kernel.segments kernel.relocation some filled)
-    (All-cons IsRow (information_row facts value kernel.relocation) [] (information_row_is facts value kernel.relocation) (All-nil IsRow))
+    (behind_kernel facts value kernel.relocation (module_rows value.files 0 value.module_lines) (module_rows_are value.files 0 value.module_lines))
+
+-- and so are the rows as the code tells them
+pub told_rows_are_rows : (file : List ℕ) (facts : MachineFacts) (value : EntryValue) (kernel : KernelFacts) → AreLoadable file kernel.segments → All IsRow (told_rows_of facts value kernel)
+told_rows_are_rows file facts value kernel loadable =
+    All-append IsRow (kernel_rows kernel.segments kernel.relocation) (told_rows value.files 0 value.module_lines ++ information_row facts value kernel.relocation ∷ [])
+    (kernel_rows_are kernel.segments kernel.relocation loadable.some loadable.filled)
+    (behind_kernel facts value kernel.relocation (told_rows value.files 0 value.module_lines) (told_rows_are value.files 0 value.module_lines))
 
 pub rows_are_rows : (file : List ℕ) (facts : MachineFacts) (value : EntryValue) (kernel : KernelFacts) → AreLoadable file kernel.segments → All IsRow (rows_of facts value (multiboot2 kernel))
 rows_are_rows file facts value kernel loadable = kernel_rows_are_rows facts value kernel loadable.some loadable.filled
@@ -88,21 +116,17 @@ few_kernel_rows : (segments : List Segment) (relocation : Option Relocation) →
 few_kernel_rows segments None some few = let e = length-segment_rows 0 segments in (omega arith, omega arith)
 few_kernel_rows segments (Some r) some few = (omega arith, omega arith)
 
--- there are at least two rows, and at most 129
-pub few_rows : (file : List ℕ) (facts : MachineFacts) (value : EntryValue) (kernel : KernelFacts) → AreLoadable file kernel.segments → (2 ≤ length (rows_of facts value (multiboot2 kernel))) × (length (rows_of facts value (multiboot2 kernel)) ≤ 129)
-few_rows file facts value kernel loadable =
+length-module_rows : (files : List (List ℕ)) (k : ℕ) (lines : List (List ℕ)) → length (module_rows files k lines) ≡ length lines
+length-module_rows files k [] = refl
+length-module_rows files k (line ∷ lines) = ap (λ (n : ℕ). suc n) (length-module_rows files (suc k) lines)
+
+-- there are at most 193 rows, and as many places
+pub few_places : (file : List ℕ) (facts : MachineFacts) (value : EntryValue) (kernel : KernelFacts) (taken : List (Range ℕ)) (places : List Place) → AreLoadable file kernel.segments → length value.module_lines ≤ 64
+    → ArePlaced facts taken (rows_of facts value (multiboot2 kernel)) places → length places ≤ 193
+few_places file facts value kernel taken places loadable few placed =
     let e = few_kernel_rows kernel.segments kernel.relocation loadable.some loadable.few in
-    let sum = length-append (kernel_rows kernel.segments kernel.relocation) (information_row facts value kernel.relocation ∷ []) in
-    (omega (arith, e.0, e.1, sum), omega (arith, e.0, e.1, sum))
-
--- there are as many places as rows
-pub count : (facts : MachineFacts) (value : EntryValue) (kernel : KernelFacts) (taken : List (Range ℕ)) (places : List Place) → ArePlaced facts taken (rows_of facts value (multiboot2 kernel)) places → length places ≡ length (rows_of facts value (multiboot2 kernel))
-count facts value kernel taken places placed = as_many facts taken (rows_of facts value (multiboot2 kernel)) places placed
-
--- so there are at least two, and at most 129
-pub few_places : (file : List ℕ) (facts : MachineFacts) (value : EntryValue) (kernel : KernelFacts) (taken : List (Range ℕ)) (places : List Place) → AreLoadable file kernel.segments → ArePlaced facts taken (rows_of facts value (multiboot2 kernel)) places
-    → (2 ≤ length places) × (length places ≤ 129)
-few_places file facts value kernel taken places loadable placed =
-    let e = few_rows file facts value kernel loadable in
-    let same = count facts value kernel taken places placed in
-    (omega (arith, e.0, same), omega (arith, e.1, same))
+    let m = length-module_rows value.files 0 value.module_lines in
+    let behind = length-append (module_rows value.files 0 value.module_lines) (information_row facts value kernel.relocation ∷ []) in
+    let sum = length-append (kernel_rows kernel.segments kernel.relocation) (module_rows value.files 0 value.module_lines ++ information_row facts value kernel.relocation ∷ []) in
+    let same = as_many facts taken (rows_of facts value (multiboot2 kernel)) places placed in
+    omega (arith, e.0, e.1, m, behind, sum, same, few)

@@ -1,5 +1,5 @@
 -- What the places of an entry's rows have.
-use Rattle.std.proofs.Common.{◌≡◌, ◌<◌, ◌≤◌, ◌+◌, ◌-◌, ◌^◌, ℕ, suc, List, [], ◌∷◌, length, get_or, Option, Some, None, arith, refl, sym, ap, subst, ◌∙◌, All, AllPairs, inl, inr}
+use Rattle.std.proofs.Common.{◌++◌, ◌≡◌, ◌<◌, ◌≤◌, ◌+◌, ◌-◌, ◌^◌, ℕ, suc, List, [], ◌∷◌, length, get_or, Option, Some, None, arith, refl, sym, ap, subst, ◌∙◌, All, AllPairs, inl, inr}
 use Rattle.std.proofs.lemmas.List.{get_or_default}
 use Rattle.std.proofs.lemmas.List.Elements.{All-nil, All-cons, All-head, All-tail, All-append}
 use Rattle.std.proofs.lemmas.Bool.{cases_lt}
@@ -19,7 +19,7 @@ use Rattle.bl_load.specs.Reading.{multiboot2}
 use Rattle.bl_load.specs.Kernel.{KernelFacts}
 use Rattle.bl_load.specs.KernelKept.{AreLoadable}
 use Rattle.bl_load.specs.Blocks.{low_of, span_of}
-use Rattle.bl_load.specs.Rows.{segment_rows, block_choice, kernel_rows, information_row, rows_of}
+use Rattle.bl_load.specs.Rows.{segment_rows, block_choice, kernel_rows, information_row, rows_of, module_rows}
 use Rattle.bl_load.specs.Parts.{no_segment}
 use Rattle.bl_load.specs.PlacingKept.{HasKernelLength, IsRowed}
 use Rattle.bl_plan.specs.Order.{place_key, in_order}
@@ -69,11 +69,19 @@ kernel_rows_rowed facts value kernel (Some r) is =
     All-cons (Anywhere (IsRowed facts value (multiboot2 kernel))) (record { role = Kernel; index = 0; length = span_of kernel.segments; choice = block_choice r (low_of kernel.segments) }) []
     (λ a. subst (λ (o : Option Relocation). HasKernelLength kernel.segments o 0 (span_of kernel.segments)) (sym is) refl) (All-nil (Anywhere (IsRowed facts value (multiboot2 kernel))))
 
+module_rows_rowed : (facts : MachineFacts) (value : EntryValue) (kernel : KernelFacts) (k : ℕ) (lines : List (List ℕ)) → k + length lines ≤ length value.module_lines
+    → All (Anywhere (IsRowed facts value (multiboot2 kernel))) (module_rows value.files k lines)
+module_rows_rowed facts value kernel k [] most = All-nil (Anywhere (IsRowed facts value (multiboot2 kernel)))
+module_rows_rowed facts value kernel k (line ∷ lines) most =
+    All-cons (Anywhere (IsRowed facts value (multiboot2 kernel))) _ (module_rows value.files (suc k) lines) (λ a. (omega (arith, most), refl)) (module_rows_rowed facts value kernel (suc k) lines (omega (arith, most)))
+
 rows_rowed : (facts : MachineFacts) (value : EntryValue) (kernel : KernelFacts) → All (Anywhere (IsRowed facts value (multiboot2 kernel))) (rows_of facts value (multiboot2 kernel))
 rows_rowed facts value kernel =
-    All-append (Anywhere (IsRowed facts value (multiboot2 kernel))) (kernel_rows kernel.segments kernel.relocation) (information_row facts value kernel.relocation ∷ [])
+    All-append (Anywhere (IsRowed facts value (multiboot2 kernel))) (kernel_rows kernel.segments kernel.relocation) (module_rows value.files 0 value.module_lines ++ information_row facts value kernel.relocation ∷ [])
     (kernel_rows_rowed facts value kernel kernel.relocation refl)
-    (All-cons (Anywhere (IsRowed facts value (multiboot2 kernel))) (information_row facts value kernel.relocation) [] (λ a. refl) (All-nil (Anywhere (IsRowed facts value (multiboot2 kernel)))))
+    (All-append (Anywhere (IsRowed facts value (multiboot2 kernel))) (module_rows value.files 0 value.module_lines) (information_row facts value kernel.relocation ∷ [])
+    (module_rows_rowed facts value kernel 0 value.module_lines (omega arith))
+    (All-cons (Anywhere (IsRowed facts value (multiboot2 kernel))) (information_row facts value kernel.relocation) [] (λ a. refl) (All-nil (Anywhere (IsRowed facts value (multiboot2 kernel))))))
 
 -- each place has the length that its role and its index ask for
 pub each_rowed : (facts : MachineFacts) (value : EntryValue) (kernel : KernelFacts) (taken : List (Range ℕ)) (places : List Place) → ArePlaced facts taken (rows_of facts value (multiboot2 kernel)) places → All (IsRowed facts value (multiboot2 kernel)) places
@@ -125,32 +133,16 @@ in_order_ascends places filled apart i j d ij within =
     ]
 
 -- the places of a kernel that can be loaded are those of records
-pub records : (file : List ℕ) (facts : MachineFacts) (value : EntryValue) (kernel : KernelFacts) (places : List Place) → AreLoadable file kernel.segments → ArePlaced facts [] (rows_of facts value (multiboot2 kernel)) places → AreRecords (in_order places)
-records file facts value kernel places loadable placed =
+pub records : (file : List ℕ) (facts : MachineFacts) (value : EntryValue) (kernel : KernelFacts) (places : List Place) → AreLoadable file kernel.segments → length value.module_lines ≤ 64 → ArePlaced facts [] (rows_of facts value (multiboot2 kernel)) places → AreRecords (in_order places)
+records file facts value kernel places loadable few_lines placed =
     let are = rows_are_rows file facts value kernel loadable in
     let rows = rows_of facts value (multiboot2 kernel) in
     let filled = are_filled facts [] rows places placed are in
-    let few = few_places file facts value kernel [] places loadable placed in
+    let few = few_places file facts value kernel [] places loadable few_lines placed in
     let same = length-in_order place_key places in
     record {
-      few = omega (arith, few.1, same);
+      few = omega (arith, few, same);
       filled = in_order_all place_key IsFilled places filled;
       below = in_order_all place_key (λ (p : Place). p.address + p.length ≤ 2 ^ 32) places (λ i d within. let low = are_below facts [] rows places placed are i d within in omega arith);
       ascending = in_order_ascends places filled (all_apart facts [] rows places placed);
     }
-
--- in order each place has the length that its role and its index ask for
-pub in_order_rowed : (facts : MachineFacts) (value : EntryValue) (kernel : KernelFacts) (places : List Place) → ArePlaced facts [] (rows_of facts value (multiboot2 kernel)) places → All (IsRowed facts value (multiboot2 kernel)) (in_order places)
-in_order_rowed facts value kernel places placed = in_order_all place_key (IsRowed facts value (multiboot2 kernel)) places (each_rowed facts value kernel [] places placed)
-
--- each lies inside memory
-pub in_order_inside : (file : List ℕ) (facts : MachineFacts) (value : EntryValue) (kernel : KernelFacts) (places : List Place) → AreLoadable file kernel.segments → ArePlaced facts [] (rows_of facts value (multiboot2 kernel)) places
-    → All (λ p. p.address + p.length ≤ facts.size) (in_order places)
-in_order_inside file facts value kernel places loadable placed =
-    in_order_all place_key (λ (p : Place). p.address + p.length ≤ facts.size) places (are_inside facts [] (rows_of facts value (multiboot2 kernel)) places placed (rows_are_rows file facts value kernel loadable))
-
--- and is no longer than memory
-pub in_order_short : (file : List ℕ) (facts : MachineFacts) (value : EntryValue) (kernel : KernelFacts) (places : List Place) → AreLoadable file kernel.segments → ArePlaced facts [] (rows_of facts value (multiboot2 kernel)) places
-    → All (λ p. p.length ≤ 2 ^ 32) (in_order places)
-in_order_short file facts value kernel places loadable placed i d within =
-    let below = (records file facts value kernel places loadable placed).below i d within in omega arith

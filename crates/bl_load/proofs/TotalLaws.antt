@@ -84,13 +84,13 @@ kernel_apart file kernel is = subst (λ (ss : List Segment). AllPairs AreApart s
 
 -- ---- what a protocol adds
 
-form_is : (p : Protocol) (lines : List (List ℕ)) → form_fault p lines ≡ None → p ≡ protocol.Multiboot2
-form_is protocol.Multiboot2 lines sound = refl
-form_is protocol.Linux lines sound = absurd cc
+form_is : (p : Protocol) → form_fault p ≡ None → p ≡ protocol.Multiboot2
+form_is protocol.Multiboot2 sound = refl
+form_is protocol.Linux sound = absurd cc
 
-read_or_fault : (value : EntryValue) → form_fault value.protocol value.module_lines ≡ None → ((reading : Reading) × IsRead value reading) ⊎ ((r : Refusal) × HasReadFault value r)
+read_or_fault : (value : EntryValue) → form_fault value.protocol ≡ None → ((reading : Reading) × IsRead value reading) ⊎ ((r : Refusal) × HasReadFault value r)
 read_or_fault value form =
-    let is = form_is value.protocol value.module_lines form in
+    let is = form_is value.protocol form in
     elim (kernel_or_fault (kernel_file value)) [
       | inl (kernel, is_kernel) ↦ inl (multiboot2 kernel, (is, is_kernel))
       | inr (r, has) ↦ inr (r, (is, has))
@@ -111,7 +111,7 @@ row_refused facts value reading plan_fault.NoMemory is some has = absurd (some r
 
 pub handover_or_refusal : (facts : MachineFacts) (value : EntryValue) → ((handover : Handover) × IsHandover facts value handover) ⊎ ((r : Refusal) × IsRefusal facts value r)
 handover_or_refusal facts value =
-    elim (some_or_none (form_fault value.protocol value.module_lines)) [
+    elim (some_or_none (form_fault value.protocol)) [
       | inl (r, faulty) ↦ inr (r, inl faulty)
       | inr form ↦ elim (some_or_none (lines_fault (lines_of value))) [
         | inl (r, faulty) ↦ inr (r, inr (form, inl faulty))

@@ -8,6 +8,7 @@ use Rattle.bl_load.specs.declared.plan.Content.{Content}
 use Rattle.bl_load.specs.declared.plan.Content.TheVariants.{Own, File, Block}
 use Rattle.bl_load.specs.declared.plan.Planned.{Planned}
 use Rattle.bl_load.specs.declared.plan.Plan.{Plan}
+use Rattle.bl_load.specs.declared.entry.Module.{Module}
 use Rattle.bl_load.specs.Blocks.{span_of}
 use Rattle.bl_load.specs.HandoffFacts.{AreRecords}
 use Rattle.bl_load.specs.Planned.{places_of}
@@ -70,3 +71,7 @@ pub record CanLoad {A : Type 0} (lengths : List ℕ) (size : ℕ) (room : ℕ �
   pub short : content_length part.content ≤ part.place.length
   pub inside : part.place.address + part.place.length ≤ size
   pub writable : HasRoom room part.place.address (part.place.address + part.place.length)
+
+-- the lines of modules
+abbrev pub lines_by : {A : Type 0} → List (Module A) → List (List ℕ)
+lines_by modules = map (λ m. m.line) modules

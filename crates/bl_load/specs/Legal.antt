@@ -37,7 +37,7 @@ AreAllowed facts rows places = (i : ℕ) (row : Row) (place : Place) → slice_g
 pub record IsLegal (facts : MachineFacts) (value : EntryValue) (handover : Handover) : Type 0 where
   pub reading : Reading
   pub places : List Place
-  pub form : form_fault value.protocol value.module_lines ≡ None
+  pub form : form_fault value.protocol ≡ None
   pub lines : lines_fault (lines_of value) ≡ None
   pub read : IsRead value reading
   pub of_rows : AllZip IsPlaceOf (rows_of facts value reading) places

@@ -16,7 +16,7 @@ use Rattle.bl_load.specs.declared.refusal.Refusal.{Refusal}
 use Rattle.bl_load.specs.declared.refusal.Refusal.TheVariants as refusal
 use Rattle.bl_load.specs.declared.registers.Registers.{Registers}
 use Rattle.bl_load.specs.Addresses.{address_of}
-use Rattle.bl_load.specs.Value.{EntryValue, kernel_file, form_fault, lines_fault, lines_of}
+use Rattle.bl_load.specs.Value.{EntryValue, kernel_file, module_file, form_fault, lines_fault, lines_of}
 use Rattle.bl_load.specs.Reading.{Reading, multiboot2, IsRead, HasReadFault}
 use Rattle.bl_load.specs.Blocks.{low_of, block_of}
 use Rattle.bl_load.specs.Rows.{rows_of, information_of}
@@ -40,7 +40,7 @@ kernel_content file segments (Some r) i = block_of file segments
 abbrev pub content_of : MachineFacts → EntryValue → Reading → List Place → Role → ℕ → List ℕ
 content_of facts value (multiboot2 kernel) places Kernel i =
     kernel_content (kernel_file value) kernel.segments kernel.relocation i
-content_of facts value (multiboot2 kernel) places Module i = []
+content_of facts value (multiboot2 kernel) places Module i = module_file value.files i
 content_of facts value (multiboot2 kernel) places Information i =
     spelling (codes "bootcore") (information_of facts value kernel.relocation places)
 content_of facts value (multiboot2 kernel) places BootParams i = []
@@ -77,7 +77,7 @@ handover_of facts value reading places = record {
 pub record IsHandover (facts : MachineFacts) (value : EntryValue) (handover : Handover) : Type 0 where
   pub reading : Reading
   pub places : List Place
-  pub form : form_fault value.protocol value.module_lines ≡ None
+  pub form : form_fault value.protocol ≡ None
   pub lines : lines_fault (lines_of value) ≡ None
   pub read : IsRead value reading
   pub placed : ArePlaced facts [] (rows_of facts value reading) places
@@ -108,7 +108,7 @@ Then first rest refused = (first ≡ Some refused) ⊎ ((first ≡ None) × rest
 -- this is its first refusal: of its form, its lines, its kernel, its places
 abbrev pub IsRefusal : MachineFacts → EntryValue → Refusal → Type 0
 IsRefusal facts value =
-    Then (form_fault value.protocol value.module_lines)
+    Then (form_fault value.protocol)
     (Then (lines_fault (lines_of value)) (λ r. HasReadFault value r ⊎ HasPlaceFault facts value r))
 
 -- why an entry is not prepared, unless memory ran out

@@ -1,12 +1,16 @@
 -- What the code keeps of an entry's rows and their places.
-use Rattle.std.specs.Prelude.{◌≡◌, ◌+◌, ◌<◌, ◌≤◌, ℕ, List, [], length, slice_index_or, Option, Some, None, option_map}
+use Rattle.std.specs.Prelude.{◌≡◌, ◌+◌, ◌<◌, ◌≤◌, ℕ, List, [], ◌∷◌, ◌++◌, ◌^◌, suc, min, max, length, slice_index_or, Option, Some, None, option_map}
 use Rattle.bl_mem.specs.declared.segment.Segment.{Segment}
 use Rattle.bl_map.specs.MachineFacts.{MachineFacts}
 use Rattle.bl_map.specs.Room.{whole_frames}
 use Rattle.bl_mb2head.specs.declared.relocation.Relocation.{Relocation}
 use Rattle.bl_mbi.specs.InformationFacts.{info_size}
 use Rattle.bl_plan.specs.declared.role.Role.{Role}
-use Rattle.bl_plan.specs.declared.role.Role.TheVariants.{Kernel, Information}
+use Rattle.bl_plan.specs.declared.role.Role.TheVariants.{Kernel, Module, Information}
+use Rattle.bl_plan.specs.declared.choice.Choice.TheVariants.{Lowest}
+use Rattle.bl_map.specs.Limits.{frame_size, most_size}
+use Rattle.bl_mbi.specs.Size.{tag_size}
+use Rattle.bl_load.specs.Kernel.{KernelFacts}
 use Rattle.bl_plan.specs.declared.row.Row.{Row}
 use Rattle.bl_plan.specs.declared.place.Place.{Place}
 use Rattle.bl_plan.specs.declared.fault.PlanFault.{PlanFault}
@@ -14,10 +18,11 @@ use Rattle.bl_plan.specs.declared.fault.PlanFault.TheVariants as plan_fault
 use Rattle.bl_plan.specs.Placed.{ArePlaced}
 use Rattle.bl_load.specs.declared.refusal.PrepFault.{PrepFault}
 use Rattle.bl_load.specs.declared.refusal.PrepFault.TheVariants as prep_fault
-use Rattle.bl_load.specs.Value.{EntryValue}
+use Rattle.bl_load.specs.Addresses.{address_of}
+use Rattle.bl_load.specs.Value.{EntryValue, module_file}
 use Rattle.bl_load.specs.Reading.{Reading, multiboot2}
 use Rattle.bl_load.specs.Blocks.{span_of}
-use Rattle.bl_load.specs.Rows.{rows_of, information_of}
+use Rattle.bl_load.specs.Rows.{kernel_rows, module_length, information_row, rows_of, information_of}
 use Rattle.bl_load.specs.Handover.{Handover}
 use Rattle.bl_load.specs.Parts.{no_segment, handover_of, HasRowFault, placing_refusal}
 
@@ -34,6 +39,8 @@ HasKernelLength segments (Some r) i count = count ≡ span_of segments
 abbrev pub HasLength : MachineFacts → EntryValue → Reading → Role → ℕ → ℕ → Type 0
 HasLength facts value (multiboot2 kernel) Kernel i count = HasKernelLength kernel.segments kernel.relocation i count
 HasLength facts value (multiboot2 kernel) Information i count = count ≡ whole_frames (info_size (information_of facts value kernel.relocation []))
+HasLength facts value (multiboot2 kernel) Module i count =
+    (i < length value.module_lines) × (count ≡ module_length (module_file value.files i))
 HasLength facts value (multiboot2 kernel) _ i count = ⊥
 
 abbrev pub IsRowed : MachineFacts → EntryValue → Reading → Place → Type 0
@@ -54,3 +61,39 @@ pub record IsPlacedHandover (facts : MachineFacts) (value : EntryValue) (reading
   pub places : List Place
   pub placed : ArePlaced facts [] (rows_of facts value reading) places
   pub is : handover ≡ handover_of facts value reading places
+
+-- ---- what the code tells of a file that no machine can hold
+
+-- the most bytes of a file that the code tells of
+abbrev pub most_told : ℕ
+most_told = 2 ^ 40
+
+abbrev pub told_length : ℕ → ℕ
+told_length size = whole_frames (max (min size most_told) 1)
+
+-- the rows of modules as the code tells them
+abbrev pub told_rows : List (List ℕ) → ℕ → List (List ℕ) → List Row
+told_rows files k [] = []
+told_rows files k (line ∷ lines) = record {
+  role = Module;
+  index = k;
+  length = told_length (length (module_file files k));
+  choice = Lowest frame_size 0x100000 most_size;
+} ∷ told_rows files (suc k) lines
+
+-- the rows of an entry as the code tells them
+abbrev pub told_rows_of : MachineFacts → EntryValue → KernelFacts → List Row
+told_rows_of facts value kernel =
+    kernel_rows kernel.segments kernel.relocation
+    ++ (told_rows value.files 0 value.module_lines
+    ++ information_row facts value kernel.relocation ∷ [])
+
+-- ---- how long the tags of modules are
+
+abbrev pub tags_size : List (List ℕ) → ℕ
+tags_size [] = 0
+tags_size (line ∷ lines) = tag_size (length line + 9) + tags_size lines
+
+-- each of so many modules ends below the last frame of 4 GiB
+abbrev pub ModulesEndLow : List (List ℕ) → List Place → ℕ → Type 0
+ModulesEndLow files places count = (k : ℕ) → k < count → address_of Module k places + length (module_file files k) ≤ 0xFFFFF000

@@ -1,20 +1,20 @@
 -- The table of places of a Multiboot2 entry's parts. Own; the kernel's row with a relocatable header tag is
 -- Multiboot2 3.1.13.
-use Rattle.std.specs.Prelude.{ℕ, suc, if◌then◌else◌, ◌==◌, List, [], ◌∷◌, ◌++◌, Option, Some, None, option_map}
+use Rattle.std.specs.Prelude.{ℕ, suc, ◌+◌, max, length, if◌then◌else◌, ◌==◌, List, [], ◌∷◌, ◌++◌, Option, Some, None, option_map}
 use Rattle.bl_mem.specs.declared.segment.Segment.{Segment}
 use Rattle.bl_map.specs.MachineFacts.{MachineFacts}
 use Rattle.bl_map.specs.Kinds.{low_kib, high_kib}
 use Rattle.bl_map.specs.Limits.{frame_size, first_usable, most_size}
 use Rattle.bl_map.specs.Room.{whole_frames}
 use Rattle.bl_mb2head.specs.declared.relocation.Relocation.{Relocation}
-use Rattle.bl_mbi.specs.InformationFacts.{InformationFacts, info_size}
+use Rattle.bl_mbi.specs.InformationFacts.{ModuleInfo, InformationFacts, info_size}
 use Rattle.bl_plan.specs.declared.row.Row.{Row}
 use Rattle.bl_plan.specs.declared.place.Place.{Place}
-use Rattle.bl_plan.specs.declared.role.Role.TheVariants.{Kernel, Information}
+use Rattle.bl_plan.specs.declared.role.Role.TheVariants.{Kernel, Module, Information}
 use Rattle.bl_plan.specs.declared.choice.Choice.{Choice}
 use Rattle.bl_plan.specs.declared.choice.Choice.TheVariants.{Fixed, Lowest, Highest, Preferred}
 use Rattle.bl_load.specs.Addresses.{address_of}
-use Rattle.bl_load.specs.Value.{EntryValue}
+use Rattle.bl_load.specs.Value.{EntryValue, module_file}
 use Rattle.bl_load.specs.Reading.{Reading, multiboot2}
 use Rattle.bl_load.specs.Blocks.{low_of, span_of}
 
@@ -39,11 +39,35 @@ abbrev pub kernel_rows : List Segment → Option Relocation → List Row
 kernel_rows segments None = segment_rows 0 segments
 kernel_rows segments (Some r) = record { role = Kernel; index = 0; length = span_of segments; choice = block_choice r (low_of segments) } ∷ []
 
+-- a module takes whole frames, and at least one
+abbrev pub module_length : List ℕ → ℕ
+module_length file = whole_frames (max (length file) 1)
+
+-- each module in order, numbered from k on, at the lowest place from 1 MiB on
+abbrev pub module_rows : List (List ℕ) → ℕ → List (List ℕ) → List Row
+module_rows files k [] = []
+module_rows files k (line ∷ lines) = record {
+  role = Module;
+  index = k;
+  length = module_length (module_file files k);
+  choice = Lowest frame_size 0x100000 most_size;
+} ∷ module_rows files (suc k) lines
+
+-- what the information tells of each module in order, numbered from k on, where the parts have these places: it ends where
+-- its file ends, and not with its frame
+abbrev pub modules_of : List (List ℕ) → List Place → ℕ → List (List ℕ) → List ModuleInfo
+modules_of files places k [] = []
+modules_of files places k (line ∷ lines) = record {
+  mod_start = address_of Module k places;
+  mod_end = address_of Module k places + length (module_file files k);
+  line = line;
+} ∷ modules_of files places (suc k) lines
+
 -- what the information tells, where the parts have these places: the load base only with a relocatable tag
 abbrev pub information_of : MachineFacts → EntryValue → Option Relocation → List Place → InformationFacts
 information_of facts value relocation places = record {
   line = value.line;
-  modules = [];
+  modules = modules_of value.files places 0 value.module_lines;
   mem_lower = low_kib facts.runs;
   mem_upper = high_kib facts.runs;
   runs = facts.runs;
@@ -65,4 +89,5 @@ information_row facts value relocation = record {
 abbrev pub rows_of : MachineFacts → EntryValue → Reading → List Row
 rows_of facts value (multiboot2 kernel) =
     kernel_rows kernel.segments kernel.relocation
-    ++ information_row facts value kernel.relocation ∷ []
+    ++ (module_rows value.files 0 value.module_lines
+    ++ information_row facts value kernel.relocation ∷ [])

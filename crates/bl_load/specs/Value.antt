@@ -1,5 +1,5 @@
 -- What is booted, told apart from where it lies: an entry's value. Own.
-use Rattle.std.specs.Prelude.{◌≡◌, ℕ, ◌+◌, ◌≤◌, if◌then◌else◌, ◌==◌, nat_lt, List, [], ◌∷◌, length, map, slice_index_or, Option, Some, None, option_to_list}
+use Rattle.std.specs.Prelude.{ℕ, ◌+◌, ◌≤◌, if◌then◌else◌, ◌==◌, nat_lt, List, [], ◌∷◌, length, map, slice_index_or, Option, Some, None, option_to_list}
 use Rattle.std.specs.List.{list_any}
 use Rattle.std.specs.Option.{option_or}
 use Rattle.bl_plan.specs.declared.protocol.Protocol.{Protocol}
@@ -29,10 +29,14 @@ value_of texts (Linux kernel line initrd) = record { protocol = protocol.Linux; 
 abbrev pub kernel_file : EntryValue → List ℕ
 kernel_file value = slice_index_or value.files 0 []
 
--- Linux entries and modules have not come
-abbrev pub form_fault : Protocol → List (List ℕ) → Option Refusal
-form_fault protocol.Multiboot2 lines = if length lines == 0 then None else Some NotYet
-form_fault protocol.Linux lines = Some NotYet
+-- the bytes of the file of module k, which comes behind the kernel's
+abbrev pub module_file : List (List ℕ) → ℕ → List ℕ
+module_file files k = slice_index_or files (k + 1) []
+
+-- Linux entries have not come
+abbrev pub form_fault : Protocol → Option Refusal
+form_fault protocol.Multiboot2 = None
+form_fault protocol.Linux = Some NotYet
 
 -- how many files an entry has: the kernel, and the modules or the initial ramdisk
 abbrev pub file_count : {A : Type 0} → Entry A → ℕ
@@ -66,11 +70,3 @@ lines_fault (line ∷ lines) = option_or (line_fault line) (lines_fault lines)
 -- the lines of an entry: the kernel's, and then those of its modules
 abbrev pub lines_of : EntryValue → List (List ℕ)
 lines_of value = value.line ∷ value.module_lines
-
--- whatever the files hold, this is the value of an entry of a form that has come, with this line
-abbrev pub HasLine : {A : Type 0} → Entry A → List ℕ → Type 0
-HasLine entry line = (texts : List (List ℕ)) → value_of texts entry ≡ multiboot2_value texts line []
-
--- whatever the files hold, the entry's form is refused so
-abbrev pub HasFormFault : {A : Type 0} → Entry A → Refusal → Type 0
-HasFormFault entry refused = (texts : List (List ℕ)) → form_fault (value_of texts entry).protocol (value_of texts entry).module_lines ≡ Some refused

@@ -1,21 +1,22 @@
 //! The contents of an entry's parts, at their places.
-ghost use Rattle.std.specs.Prelude.{◌≡◌, ◌≤◌, ◌<◌, ◌^◌, ◌+◌, [], None, All, IfOk, IfSome, length, map, option_map};
-ghost use Rattle.bl_load.specs.Value.{multiboot2_value, line_fault};
+ghost use Rattle.std.specs.Prelude.{◌≡◌, ◌≤◌, ◌<◌, ◌^◌, ◌+◌, None, All, IfOk, length, map};
+ghost use Rattle.bl_load.specs.Value.{multiboot2_value, module_file, line_fault};
 ghost use Rattle.bl_load.specs.Reading.{multiboot2};
 ghost use Rattle.bl_load.specs.KernelKept.{AreLoadable, kernel_by};
+ghost use Rattle.bl_plan.specs.declared.role.Role.TheVariants as role;
+ghost use Rattle.bl_load.specs.Rows.{module_length};
 ghost use Rattle.bl_load.specs.Parts as parts;
 ghost use Rattle.bl_load.specs.Parts.{content_of, part_from};
 ghost use Rattle.bl_load.specs.Place.{place_of};
 ghost use Rattle.bl_load.specs.Planned.{content_by, part_by, file_text};
-ghost use Rattle.bl_load.specs.Kept.{lengths_of, content_length, IsThere, IsBacked, StaysInFiles, IsLean};
-ghost use Rattle.bl_load.specs.PlacingKept.{HasKernelLength, IsRowed, IsLow};
+ghost use Rattle.bl_load.specs.Kept.{lengths_of, content_length, IsThere, IsBacked, StaysInFiles, IsLean, lines_by};
+ghost use Rattle.bl_load.specs.PlacingKept.{HasKernelLength, IsRowed, IsLow, ModulesEndLow};
 
-use crate::addresses::address_of;
+use crate::entry::Module;
 use crate::information::information;
 use crate::kernel::Kernel;
 use crate::plan::{Content, Planned};
 use bl_map::Machine;
-use bl_mb2head::Relocation;
 use bl_mem::ByteView;
 use bl_plan::{Place, Role, in_order};
 use std::alloc::{AllocError, Allocator};
@@ -57,14 +58,20 @@ fn kernel_content<A: Allocator + Copy, V: ByteView>(
     }
 }
 
-/// The load base that the information tells: only where the kernel has a relocatable header tag.
-fn load_base_of(relocation: &Option<Relocation>, base: u32) -> Option<u32>
-    ensures value { result ≡ option_map (λ r. base) relocation.now }
-    ensures below { IfSome result (λ base. base < 2 ^ 32) }
+/// The content of a module's part at a place: its whole file.
+fn module_content<A: Allocator, V: ByteView>(files: &[V], place: &Place) -> Content<A>
+    requires within { place.now.index + 1 < length files.now }
+    requires length { place.now.length ≡ module_length (module_file (map V.bytes files.now) place.now.index) }
+    ensures content { content_by (map V.bytes files.now) result ≡ module_file (map V.bytes files.now) place.now.index }
+    ensures there { IsThere (lengths_of (map V.bytes files.now)) result }
+    ensures short { content_length result ≤ place.now.length }
+    ensures lean { StaysInFiles role.Module result }
 {
-    match relocation {
-        Some(_) => Some(base),
-        None => None,
+    let file = place.index as usize + 1;
+    Content::File {
+        file,
+        offset: 0,
+        count: files[file].len(),
     }
 }
 
@@ -73,6 +80,7 @@ fn content_at<A: Allocator + Copy, V: ByteView>(
     alloc: A,
     machine: &Machine<A>,
     line: &[u8],
+    modules: &[Module<A>],
     kernel: &Kernel<A>,
     files: &[V],
     places: &[Place],
@@ -80,23 +88,29 @@ fn content_at<A: Allocator + Copy, V: ByteView>(
 ) -> Result<Content<A>, AllocError>
     requires sound { line_fault line.now ≡ None }
     requires line { length line.now ≤ 4095 }
-    requires file { 1 ≤ length files.now }
+    requires sound_modules { All (λ m. line_fault m.line ≡ None) modules.now }
+    requires few { length modules.now ≤ 64 }
+    requires files { length files.now ≡ 1 + length modules.now }
     requires loadable { AreLoadable (file_text (map V.bytes files.now) 0) (kernel_by kernel.now).segments }
+    requires ends { ModulesEndLow (map V.bytes files.now) places.now (length modules.now) }
     requires low { All IsLow places.now }
-    requires rowed { IsRowed machine.now (multiboot2_value [] line.now []) (multiboot2 (kernel_by kernel.now)) place.now }
+    requires rowed { IsRowed machine.now (multiboot2_value (map V.bytes files.now) line.now
+        (lines_by modules.now)) (multiboot2 (kernel_by kernel.now)) place.now }
     requires small { place.now.length ≤ 2 ^ 32 }
     ensures content { IfOk result (λ content. content_by (map V.bytes files.now) content
-        ≡ content_of machine.now (multiboot2_value (map V.bytes files.now) line.now []) (multiboot2 (kernel_by kernel.now)) places.now place.now.role place.now.index) }
+        ≡ content_of machine.now (multiboot2_value (map V.bytes files.now) line.now
+        (lines_by modules.now)) (multiboot2 (kernel_by kernel.now)) places.now place.now.role place.now.index) }
     ensures there { IfOk result (λ content. IsThere (lengths_of (map V.bytes files.now)) content) }
     ensures short { IfOk result (λ content. content_length content ≤ place.now.length) }
     ensures lean { IfOk result (StaysInFiles place.now.role) }
 {
     match place.role {
         Role::Kernel => kernel_content(alloc, kernel, files, place),
+        Role::Module => Ok(module_content(files, place)),
         Role::Information => {
-            let base = address_of(Role::Kernel, 0, places);
-            let load_base = load_base_of(&kernel.relocation, base);
-            Ok(Content::Own(information(alloc, machine, line, load_base)?))
+            let relocation = &kernel.relocation;
+            let bytes = information(alloc, machine, line, modules, relocation, files, places)?;
+            Ok(Content::Own(bytes))
         }
         _ => unreachable!(),
     }
@@ -107,6 +121,7 @@ pub fn parts_at<A: Allocator + Copy, V: ByteView>(
     alloc: A,
     machine: &Machine<A>,
     line: &[u8],
+    modules: &[Module<A>],
     kernel: &Kernel<A>,
     files: &[V],
     places: &[Place],
@@ -114,20 +129,25 @@ pub fn parts_at<A: Allocator + Copy, V: ByteView>(
 ) -> Result<Vec<Planned<A>, A>, AllocError>
     requires sound { line_fault line.now ≡ None }
     requires line { length line.now ≤ 4095 }
-    requires file { 1 ≤ length files.now }
+    requires sound_modules { All (λ m. line_fault m.line ≡ None) modules.now }
+    requires few { length modules.now ≤ 64 }
+    requires files { length files.now ≡ 1 + length modules.now }
     requires loadable { AreLoadable (file_text (map V.bytes files.now) 0) (kernel_by kernel.now).segments }
+    requires ends { ModulesEndLow (map V.bytes files.now) places.now (length modules.now) }
     requires low { All IsLow places.now }
-    requires rowed { All (IsRowed machine.now (multiboot2_value [] line.now []) (multiboot2 (kernel_by kernel.now))) sorted.now }
+    requires rowed { All (IsRowed machine.now (multiboot2_value (map V.bytes files.now) line.now
+        (lines_by modules.now)) (multiboot2 (kernel_by kernel.now))) sorted.now }
     requires small { All (λ place. place.length ≤ 2 ^ 32) sorted.now }
     ensures parts { IfOk result (λ parts. map (part_by (map V.bytes files.now)) parts.items
-        ≡ map (part_from machine.now (multiboot2_value (map V.bytes files.now) line.now []) (multiboot2 (kernel_by kernel.now)) places.now) sorted.now) }
+        ≡ map (part_from machine.now (multiboot2_value (map V.bytes files.now) line.now
+        (lines_by modules.now)) (multiboot2 (kernel_by kernel.now)) places.now) sorted.now) }
     ensures backed { IfOk result (λ parts. All (IsBacked (lengths_of (map V.bytes files.now))) parts.items) }
     ensures lean { IfOk result (λ parts. IsLean parts.items) }
     ensures places { IfOk result (λ parts. map place_of parts.items ≡ sorted.now) }
 {
     let mut parts = Vec::with_capacity(alloc, sorted.len())?;
     for place in sorted {
-        let content = content_at(alloc, machine, line, kernel, files, places, place)?;
+        let content = content_at(alloc, machine, line, modules, kernel, files, places, place)?;
         parts.push(Planned {
             place: *place,
             content,

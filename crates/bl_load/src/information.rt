@@ -1,27 +1,94 @@
 //! The information that a Multiboot2 kernel is handed.
-ghost use Rattle.std.specs.Prelude.{◌≡◌, ◌≤◌, ◌<◌, ◌^◌, [], None, All, length, codes, IfOk, IfSome};
+ghost use Rattle.std.specs.Prelude.{◌≡◌, ◌≤◌, ◌<◌, ◌+◌, ◌^◌, None, All, length, map, sum_by, codes, option_map, IfOk, IfSome};
 ghost use Rattle.bl_map.specs.Kinds.{low_kib, high_kib};
-ghost use Rattle.bl_load.specs.Value.{line_fault};
+ghost use Rattle.bl_mbi.specs.InformationFacts.{IsModule};
+ghost use Rattle.bl_mbi.specs.Size.{tag_size};
 ghost use Rattle.bl_mbi.specs.Spelling.{spelling};
+ghost use Rattle.bl_plan.specs.declared.role.Role.TheVariants as role;
+ghost use Rattle.bl_load.specs.Addresses.{address_of};
+ghost use Rattle.bl_load.specs.Value.{multiboot2_value, line_fault};
+ghost use Rattle.bl_load.specs.Rows.{modules_of, information_of};
+ghost use Rattle.bl_load.specs.Kept.{lines_by};
+ghost use Rattle.bl_load.specs.PlacingKept.{IsLow, ModulesEndLow};
 
+use crate::addresses;
+use crate::entry::Module;
 use bl_map::Machine;
-use bl_mbi::{Facts, write_info};
-use bl_mem::Bytes;
+use bl_mb2head::Relocation;
+use bl_mbi::{Facts, Module as ModuleInfo, write_info};
+use bl_mem::{ByteView, Bytes};
+use bl_plan::{Place, Role};
 use std::alloc::{AllocError, Allocator};
 
-/// The information's bytes, with this line and no module.
-pub fn information<A: Allocator + Copy>(
+/// What the information tells of the module of this line, whose file has `size` bytes, where the
+/// parts have these places.
+fn module_at<A: Allocator + Copy>(
+    alloc: A,
+    index: u32,
+    line: &[u8],
+    size: u64,
+    places: &[Place],
+) -> Result<ModuleInfo<A>, AllocError>
+    requires sound { line_fault line.now ≡ None }
+    requires low { All IsLow places.now }
+    requires end { address_of role.Module index places.now + size ≤ 0xFFFFF000 }
+    ensures told { IfOk result (λ told. told ≡ record {
+      mod_start = address_of role.Module index places.now;
+      mod_end = address_of role.Module index places.now + size;
+      line = line.now;
+    }) }
+    ensures fits { IfOk result IsModule }
+{
+    let mod_start = addresses::address_of(Role::Module, index, places);
+    let line = Bytes::copy(alloc, line)?;
+    Ok(ModuleInfo {
+        mod_start,
+        mod_end: mod_start + size as u32,
+        line,
+    })
+}
+
+/// What the information tells of the modules, where the parts have these places.
+fn modules_at<A: Allocator + Copy, V: ByteView>(
+    alloc: A,
+    modules: &[Module<A>],
+    files: &[V],
+    places: &[Place],
+) -> Result<Vec<ModuleInfo<A>, A>, AllocError>
+    requires sound { All (λ m. line_fault m.line ≡ None) modules.now }
+    requires few { length modules.now ≤ 64 }
+    requires files { length files.now ≡ 1 + length modules.now }
+    requires low { All IsLow places.now }
+    requires ends { ModulesEndLow (map V.bytes files.now) places.now (length modules.now) }
+    ensures told { IfOk result (λ told. told.items
+        ≡ modules_of (map V.bytes files.now) places.now 0 (lines_by modules.now)) }
+    ensures fits { IfOk result (λ told. All IsModule told.items) }
+{
+    let mut told = Vec::with_capacity(alloc, modules.len())?;
+    for (index, module) in modules.iter().enumerate() {
+        let line = module.line.as_slice();
+        let size = files[index + 1].len();
+        told.push(module_at(alloc, index as u32, line, size, places)?)?;
+    }
+    Ok(told)
+}
+
+/// The information's bytes, with this line and these modules.
+fn spell<A: Allocator + Copy>(
     alloc: A,
     machine: &Machine<A>,
     line: &[u8],
+    modules: Vec<ModuleInfo<A>, A>,
     load_base: Option<u32>,
 ) -> Result<Bytes<A>, AllocError>
     requires sound { line_fault line.now ≡ None }
     requires short { length line.now ≤ 4095 }
+    requires modules { All IsModule modules.items }
+    requires small { sum_by (λ n. tag_size (n + 9)) (map (λ m. length m.line) modules.items) < 2 ^ 20 }
     requires base { IfSome load_base (λ base. base < 2 ^ 32) }
     ensures { IfOk result (λ bytes. bytes ≡ spelling (codes "bootcore") record {
       line = line.now;
-      modules = [];
+      modules = modules.items;
       mem_lower = low_kib machine.now.runs;
       mem_upper = high_kib machine.now.runs;
       runs = machine.now.runs;
@@ -34,11 +101,48 @@ pub fn information<A: Allocator + Copy>(
     let mem_upper = machine.high_kib() as u32;
     let line = Bytes::copy(alloc, line)?;
     let runs = Vec::from_slice(alloc, machine.normal())?;
-    let modules = Vec::new(alloc);
     let facts = Facts::new(
         line, modules, mem_lower, mem_upper, runs, None, None, load_base,
     );
     let mut out = Vec::new(alloc);
     write_info(&facts, &mut out)?;
     Ok(Bytes::from(out))
+}
+
+/// The load base that the information tells: only where the kernel has a relocatable header tag.
+fn load_base_of(relocation: &Option<Relocation>, base: u32) -> Option<u32>
+    ensures value { result ≡ option_map (λ r. base) relocation.now }
+    ensures below { IfSome result (λ base. base < 2 ^ 32) }
+{
+    match relocation {
+        Some(_) => Some(base),
+        None => None,
+    }
+}
+
+/// The information's bytes, where the parts have these places.
+pub fn information<A: Allocator + Copy, V: ByteView>(
+    alloc: A,
+    machine: &Machine<A>,
+    line: &[u8],
+    modules: &[Module<A>],
+    relocation: &Option<Relocation>,
+    files: &[V],
+    places: &[Place],
+) -> Result<Bytes<A>, AllocError>
+    requires sound { line_fault line.now ≡ None }
+    requires short { length line.now ≤ 4095 }
+    requires sound_modules { All (λ m. line_fault m.line ≡ None) modules.now }
+    requires few { length modules.now ≤ 64 }
+    requires files { length files.now ≡ 1 + length modules.now }
+    requires low { All IsLow places.now }
+    requires ends { ModulesEndLow (map V.bytes files.now) places.now (length modules.now) }
+    ensures { IfOk result (λ bytes. bytes ≡ spelling (codes "bootcore") (information_of machine.now
+        (multiboot2_value (map V.bytes files.now) line.now (lines_by modules.now))
+        relocation.now places.now)) }
+{
+    let base = addresses::address_of(Role::Kernel, 0, places);
+    let load_base = load_base_of(relocation, base);
+    let told = modules_at(alloc, modules, files, places)?;
+    spell(alloc, machine, line, told, load_base)
 }

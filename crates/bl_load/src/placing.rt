@@ -1,5 +1,5 @@
 //! The parts of a kernel that was read, at their places.
-ghost use Rattle.std.specs.Prelude.{◌≡◌, ◌≢◌, ◌≤◌, ◌<◌, ◌+◌, ◌^◌, [], Some, None, All, IfOk, IfErr, length, map, slice_index_or};
+ghost use Rattle.std.specs.Prelude.{◌≡◌, ◌≢◌, ◌≤◌, ◌<◌, ◌+◌, ◌^◌, Some, None, All, IfOk, IfErr, length, map, slice_index_or};
 ghost use Rattle.bl_plan.specs.declared.role.Role.TheVariants as role;
 ghost use Rattle.bl_load.specs.Addresses as addresses;
 ghost use Rattle.bl_load.specs.Value.{multiboot2_value, line_fault};
@@ -16,10 +16,11 @@ ghost use Rattle.bl_load.specs.PlacingKept as kept;
 ghost use Rattle.bl_load.specs.PlacingKept.{IsLow, IsPlacedHandover, IsPlaceFault};
 ghost use Rattle.bl_load.specs.Place.{place_of};
 ghost use Rattle.bl_load.specs.Planned.{handover_by, file_text};
-ghost use Rattle.bl_load.specs.Kept.{lengths_of, IsLoadable, IsLean};
+ghost use Rattle.bl_load.specs.Kept.{lengths_of, IsLoadable, IsLean, lines_by};
 
 use crate::addresses::address_of;
 use crate::contents::parts_at;
+use crate::entry::Module;
 use crate::kernel::Kernel;
 use crate::plan::{Plan, Planned};
 use crate::refusal::{PrepFault, Refusal};
@@ -122,20 +123,25 @@ pub fn plan_parts<A: Allocator + Copy, V: ByteView>(
     alloc: A,
     machine: &Machine<A>,
     line: &[u8],
+    modules: &[Module<A>],
     kernel: &Kernel<A>,
     files: &[V],
 ) -> Result<Plan<A>, PrepFault>
     requires sound { line_fault line.now ≡ None }
     requires short { length line.now ≤ 4095 }
-    requires file { 1 ≤ length files.now }
+    requires sound_modules { All (λ m. line_fault m.line ≡ None) modules.now }
+    requires few { length modules.now ≤ 64 }
+    requires files { length files.now ≡ 1 + length modules.now }
     requires kernel { IsKernel (file_text (map V.bytes files.now) 0) (kernel_by kernel.now) }
     requires loadable { AreLoadable (file_text (map V.bytes files.now) 0) (kernel_by kernel.now).segments }
-    ensures handover { IfOk result (λ plan. IsPlacedHandover machine.now (multiboot2_value (map V.bytes files.now) line.now []) (multiboot2 (kernel_by kernel.now)) (handover_by (map V.bytes files.now) plan)) }
+    ensures handover { IfOk result (λ plan. IsPlacedHandover machine.now (multiboot2_value (map V.bytes files.now) line.now
+        (lines_by modules.now)) (multiboot2 (kernel_by kernel.now)) (handover_by (map V.bytes files.now) plan)) }
     ensures loadable { IfOk result (λ plan. IsLoadable (lengths_of (map V.bytes files.now)) machine.now.size plan) }
     ensures lean { IfOk result (λ plan. IsLean plan.parts.items) }
-    ensures fault { IfErr result (λ fault. IsPlaceFault machine.now (table.rows_of machine.now (multiboot2_value (map V.bytes files.now) line.now []) (multiboot2 (kernel_by kernel.now))) fault) }
+    ensures fault { IfErr result (λ fault. IsPlaceFault machine.now (table.rows_of machine.now (multiboot2_value (map V.bytes files.now) line.now
+        (lines_by modules.now)) (multiboot2 (kernel_by kernel.now))) fault) }
 {
-    let rows = rows_of(alloc, machine, line, kernel)?;
+    let rows = rows_of(alloc, machine, line, modules, kernel, files)?;
     let places = match place_rows(alloc, machine, rows.as_slice()) {
         Ok(places) => places,
         Err(fault) => return Err(fault_of(fault)),
@@ -146,6 +152,7 @@ pub fn plan_parts<A: Allocator + Copy, V: ByteView>(
         alloc,
         machine,
         line,
+        modules,
         kernel,
         files,
         places.as_slice(),

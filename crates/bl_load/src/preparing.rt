@@ -1,34 +1,19 @@
 //! What is loaded for an entry on a machine, or its first refusal.
-ghost use Rattle.std.specs.Prelude.{◌≡◌, ◌==◌, ◌≤◌, ◌<◌, Some, None, IfOk, IfErr, MatchResult, length, map};
+ghost use Rattle.std.specs.Prelude.{◌≡◌, ◌==◌, ◌≤◌, ◌<◌, ◌+◌, ◌∷◌, Some, None, IfOk, IfErr, MatchResult, length, map};
 ghost use Rattle.std.specs.List.{list_any};
-ghost use Rattle.bl_load.specs.Value.{value_of, line_fault, file_count, HasFewModules, HasLine, HasFormFault};
+ghost use Rattle.bl_load.specs.Value.{value_of, multiboot2_value, line_fault, lines_fault, file_count, HasFewModules};
 ghost use Rattle.bl_load.specs.Parts.{IsHandover, IsPrepFault};
 ghost use Rattle.bl_load.specs.Planned.{handover_by};
-ghost use Rattle.bl_load.specs.Kept.{lengths_of, IsLoadable, IsLean};
+ghost use Rattle.bl_load.specs.Kept.{lengths_of, IsLoadable, IsLean, lines_by};
 
-use crate::entry::{Entry, MOST_LINE};
+use crate::entry::{Entry, MOST_LINE, Module};
 use crate::kernel::read_kernel;
 use crate::placing::plan_parts;
 use crate::plan::Plan;
 use crate::refusal::{PrepFault, Refusal};
 use bl_map::Machine;
-use bl_mem::{ByteView, Bytes};
+use bl_mem::ByteView;
 use std::alloc::Allocator;
-
-/// The line of an entry of a form that has come.
-fn line_of<A: Allocator>(entry: &Entry<A>) -> Result<&Bytes<A>, Refusal>
-    ensures { MatchResult result
-        (λ line. HasLine entry.now line.now)
-        (λ refusal. HasFormFault entry.now refusal) }
-{
-    match entry {
-        Entry::Multiboot2 { line, modules, .. } => match modules.as_slice() {
-            [] => Ok(line),
-            _ => Err(Refusal::NotYet),
-        },
-        Entry::Linux { .. } => Err(Refusal::NotYet),
-    }
-}
 
 /// Whether a line has a zero byte.
 fn has_zero(line: &[u8]) -> bool
@@ -53,10 +38,59 @@ fn check_line(line: &[u8]) -> Result<(), Refusal>
     Ok(())
 }
 
+/// Checks the lines of modules, one after the other.
+fn check_module_lines<A: Allocator>(modules: &[Module<A>]) -> Result<(), Refusal>
+    ensures { MatchResult result
+        (λ _. lines_fault (lines_by modules.now) ≡ None)
+        (λ refusal. lines_fault (lines_by modules.now) ≡ Some refusal) }
+{
+    match modules {
+        [] => Ok(()),
+        [module, rest @ ..] => {
+            check_line(module.line.as_slice())?;
+            check_module_lines(rest)
+        }
+    }
+}
+
+/// Checks the lines of an entry: the kernel's, and then those of its modules.
+fn check_lines<A: Allocator>(line: &[u8], modules: &[Module<A>]) -> Result<(), Refusal>
+    ensures { MatchResult result
+        (λ _. lines_fault (line.now ∷ lines_by modules.now) ≡ None)
+        (λ refusal. lines_fault (line.now ∷ lines_by modules.now) ≡ Some refusal) }
+{
+    check_line(line)?;
+    check_module_lines(modules)
+}
+
+/// What is loaded for a Multiboot2 entry of this line and these modules, or its first refusal.
+fn prepare_multiboot2<A: Allocator + Copy, V: ByteView>(
+    alloc: A,
+    machine: &Machine<A>,
+    line: &[u8],
+    modules: &[Module<A>],
+    files: &[V],
+) -> Result<Plan<A>, PrepFault>
+    requires files { length files.now ≡ 1 + length modules.now }
+    requires few { length modules.now ≤ 64 }
+    ensures handover { IfOk result (λ plan. IsHandover machine.now
+        (multiboot2_value (map V.bytes files.now) line.now (lines_by modules.now))
+        (handover_by (map V.bytes files.now) plan)) }
+    ensures loadable { IfOk result (λ plan. IsLoadable
+        (lengths_of (map V.bytes files.now)) machine.now.size plan) }
+    ensures lean { IfOk result (λ plan. IsLean plan.parts.items) }
+    ensures fault { IfErr result (λ fault. IsPrepFault machine.now
+        (multiboot2_value (map V.bytes files.now) line.now (lines_by modules.now)) fault) }
+{
+    check_lines(line, modules)?;
+    let kernel = read_kernel(alloc, &files[0])?;
+    plan_parts(alloc, machine, line, modules, &kernel, files)
+}
+
 /// What is loaded for an entry on a machine, or its first refusal. `files` are the entry's files in
 /// order, the kernel first. The machine, the entry and the files stay as they are in each outcome.
 ///
-/// The refusals come in the order: the entry's form, its line, the kernel's header, its ELF header
+/// The refusals come in the order: the entry's form, its lines, the kernel's header, its ELF header
 /// and segments, its entry, and then the parts' places, part by part. Want of memory may be
 /// answered at any growth, in the place of a refusal that would have come later; it is never told
 /// as a refusal.
@@ -79,8 +113,10 @@ pub fn prepare<A: Allocator + Copy, V: ByteView>(
     ensures fault { IfErr result (λ fault. IsPrepFault machine.now
         (value_of (map V.bytes files.now) entry.now) fault) }
 {
-    let line = line_of(entry)?.as_slice();
-    check_line(line)?;
-    let kernel = read_kernel(alloc, &files[0])?;
-    plan_parts(alloc, machine, line, &kernel, files)
+    match entry {
+        Entry::Multiboot2 { line, modules, .. } => {
+            prepare_multiboot2(alloc, machine, line.as_slice(), modules.as_slice(), files)
+        }
+        Entry::Linux { .. } => Err(PrepFault::Refused(Refusal::NotYet)),
+    }
 }

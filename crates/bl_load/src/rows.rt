@@ -1,16 +1,18 @@
 //! The table of places of a Multiboot2 entry's parts.
-ghost use Rattle.std.specs.Prelude.{◌≡◌, ◌≤◌, ◌<◌, ◌+◌, ◌^◌, ◌++◌, [], None, length, IfOk, is_some};
+ghost use Rattle.std.specs.Prelude.{◌≡◌, ◌≤◌, ◌<◌, ◌+◌, ◌^◌, ◌++◌, ◌*◌, ℕ, List, [], None, All, length, map, IfOk, is_some};
 ghost use Rattle.bl_mbi.specs.Size.{size_of};
 ghost use Rattle.bl_load.specs.Blocks as blocks;
 ghost use Rattle.bl_load.specs.Rows as table;
 ghost use Rattle.bl_load.specs.Value.{multiboot2_value};
-ghost use Rattle.bl_load.specs.Reading.{multiboot2};
+ghost use Rattle.bl_load.specs.Kept.{lines_by};
+ghost use Rattle.bl_load.specs.PlacingKept as kept;
 ghost use Rattle.bl_load.specs.KernelKept.{AreLoadable, kernel_by};
 
+use crate::entry::Module;
 use crate::kernel::Kernel;
-use bl_map::{FIRST_USABLE, FRAME, MOST_SIZE, Machine, whole_frames};
+use bl_map::{FIRST_USABLE, FRAME, HIGH_START, MOST_SIZE, Machine, whole_frames};
 use bl_mb2head::Relocation;
-use bl_mem::Segment;
+use bl_mem::{ByteView, Segment};
 use bl_plan::{Choice, Role, Row};
 use std::alloc::{AllocError, Allocator};
 
@@ -119,25 +121,82 @@ fn push_kernel_rows<A: Allocator, B: Allocator>(
     }
 }
 
-/// How many bytes the information takes, by the lengths of the line and of the map.
-fn info_length(line: u64, runs: u64, is_relocatable: bool) -> u64
+/// How many bytes a module's part takes, by the length of its file. A file that no machine can hold
+/// is told as one of 2^40 bytes, which no machine can hold either, so that no sum wraps.
+fn told_length(size: u64) -> u64
+    ensures { result ≡ kept.told_length size }
+{
+    whole_frames(size.min(1 << 40).max(1))
+}
+
+/// Appends a row for each module.
+fn push_module_rows<A: Allocator, B: Allocator, V: ByteView>(
+    rows: &mut Vec<Row, A>,
+    modules: &[Module<B>],
+    files: &[V],
+) -> Result<(), AllocError>
+    requires few { length modules.now ≤ 64 }
+    requires files { length files.now ≡ 1 + length modules.now }
+    ensures { IfOk result (λ _. rows.new.items
+        ≡ rows.old.items ++ kept.told_rows (map V.bytes files.now) 0 (lines_by modules.now)) }
+{
+    for (index, _) in modules.iter().enumerate() {
+        rows.push(Row {
+            role: Role::Module,
+            index: index as u32,
+            length: told_length(files[index + 1].len()),
+            choice: Choice::Lowest {
+                align: FRAME,
+                low: HIGH_START,
+                high: MOST_SIZE,
+            },
+        })?;
+    }
+    Ok(())
+}
+
+/// How many bytes the tags of modules take.
+fn tags_size<A: Allocator>(modules: &[Module<A>]) -> u64
+    requires short { All (λ m. length m.line ≤ 4095) modules.now }
+    requires few { length modules.now ≤ 64 }
+    ensures value { result ≡ kept.tags_size (lines_by modules.now) }
+    ensures small { result ≤ 4120 * length modules.now }
+{
+    match modules {
+        [] => 0,
+        [module, rest @ ..] => { 8 + (module.line.len() as u64 + 16) / 8 * 8 + tags_size(rest) }
+    }
+}
+
+/// How many bytes the information takes, by the lengths of the line, of the modules' tags and of the map.
+fn info_length(line: u64, tags: u64, runs: u64, is_relocatable: bool) -> u64
     requires line { line ≤ 4095 }
+    requires tags { tags < 2 ^ 20 }
     requires runs { runs ≤ 256 }
-    ensures value { result ≡ size_of line [] runs None None is_relocatable }
-    ensures small { result < 2 ^ 16 }
+    ensures value { result ≡ size_of line [] runs None None is_relocatable + tags }
+    ensures small { result < 2 ^ 21 }
 {
     let load_base = if is_relocatable { 16 } else { 0 };
     let line_tag = 8 + (line + 8) / 8 * 8;
-    8 + line_tag + 24 + 16 + (16 + 24 * runs) + load_base + 8
+    8 + line_tag + 24 + tags + 16 + (16 + 24 * runs) + load_base + 8
 }
 
 /// The row of the information.
-fn information_row<A: Allocator>(machine: &Machine<A>, line: &[u8], kernel: &Kernel<A>) -> Row
-    requires { length line.now ≤ 4095 }
-    ensures { result ≡ table.information_row machine.now (multiboot2_value [] line.now []) kernel.now.relocation }
+fn information_row<A: Allocator>(
+    machine: &Machine<A>,
+    line: &[u8],
+    modules: &[Module<A>],
+    kernel: &Kernel<A>,
+) -> Row
+    requires line { length line.now ≤ 4095 }
+    requires short { All (λ m. length m.line ≤ 4095) modules.now }
+    requires few { length modules.now ≤ 64 }
+    ensures { (texts : List (List ℕ)) → result ≡ table.information_row machine.now
+        (multiboot2_value texts line.now (lines_by modules.now)) kernel.now.relocation }
 {
     let runs = machine.normal().len() as u64;
-    let length = info_length(line.len() as u64, runs, kernel.relocation.is_some());
+    let tags = tags_size(modules);
+    let length = info_length(line.len() as u64, tags, runs, kernel.relocation.is_some());
     Row {
         role: Role::Information,
         index: 0,
@@ -150,20 +209,28 @@ fn information_row<A: Allocator>(machine: &Machine<A>, line: &[u8], kernel: &Ker
     }
 }
 
-/// The rows of an entry's parts: the kernel's, and that of the information.
-pub fn rows_of<A: Allocator>(
+/// The rows of an entry's parts: the kernel's, those of its modules, and that of the information.
+pub fn rows_of<A: Allocator, V: ByteView>(
     alloc: A,
     machine: &Machine<A>,
     line: &[u8],
+    modules: &[Module<A>],
     kernel: &Kernel<A>,
+    files: &[V],
 ) -> Result<Vec<Row, A>, AllocError>
     requires line { length line.now ≤ 4095 }
+    requires short { All (λ m. length m.line ≤ 4095) modules.now }
+    requires few_modules { length modules.now ≤ 64 }
+    requires files { length files.now ≡ 1 + length modules.now }
     requires few { length (kernel_by kernel.now).segments ≤ 128 }
     requires span { blocks.span_of (kernel_by kernel.now).segments < 2 ^ 64 }
-    ensures { IfOk result (λ rows. rows.items ≡ table.rows_of machine.now (multiboot2_value [] line.now []) (multiboot2 (kernel_by kernel.now))) }
+    ensures { IfOk result (λ rows. rows.items ≡ kept.told_rows_of machine.now
+        (multiboot2_value (map V.bytes files.now) line.now (lines_by modules.now))
+        (kernel_by kernel.now)) }
 {
     let mut rows = Vec::new(alloc);
     push_kernel_rows(&mut rows, kernel)?;
-    rows.push(information_row(machine, line, kernel))?;
+    push_module_rows(&mut rows, modules, files)?;
+    rows.push(information_row(machine, line, modules, kernel))?;
     Ok(rows)
 }

@@ -11,13 +11,13 @@ use Rattle.bl_load.specs.Handover.{Part, part_at, filled}
 use Rattle.bl_load.specs.Parts.{part_from}
 use Rattle.bl_load.specs.Place.{place_of}
 use Rattle.bl_load.specs.Planned.{part_by}
-use Rattle.bl_load.specs.Kept.{lengths_of, IsBacked, StaysInFiles}
+use Rattle.bl_load.specs.Kept.{lines_by, lengths_of, IsBacked, StaysInFiles}
 use Rattle.bl_load.proofs.contents.parts_at.Goals as goal
 
 pub loop-place-preserved : goal.loop-place-preserved
 loop-place-preserved g c =
     let texts = map g.V.ByteView.bytes c.args.files.now in
-    let from : Place → Part = part_from c.args.machine.now (multiboot2_value texts c.args.line.now []) (multiboot2 (kernel_by c.args.kernel.now)) c.args.places.now in
+    let from : Place → Part = part_from c.args.machine.now (multiboot2_value texts c.args.line.now (lines_by c.args.modules.now)) (multiboot2 (kernel_by c.args.kernel.now)) c.args.places.now in
     let by : Planned g.row.A.Denot → Part = part_by texts in
     let stays : Planned g.row.A.Denot → Type 0 = λ part. StaysInFiles part.place.role part.content in
     let place_in : Planned g.row.A.Denot → Place = place_of in

@@ -1,31 +1,18 @@
-use Rattle.std.proofs.Common.{◌<◌, ◌^◌, ℕ, None, length, arith, sym, ◌∙◌, subst}
-use Rattle.std.proofs.lemmas.List.Elements.{All-from_get_or}
-use Rattle.std.specs.Prelude.{map, is_some}
-use Rattle.bl_mbi.specs.InformationFacts.{IsText, ModuleInfo}
-use Rattle.bl_mbi.specs.Size.{size_of}
-use Rattle.bl_load.proofs.LineLemmas.{sound_text}
-use Rattle.bl_load.proofs.InformationLemmas.{size_below}
+use Rattle.std.proofs.Common.{◌≤◌, ℕ, List, length, map, arith}
+use Rattle.std.proofs.lemmas.List.{length-map}
+use Rattle.std.proofs.lemmas.List.Elements.{All-map}
+use Rattle.bl_load.specs.Kept.{lines_by}
+use Rattle.bl_load.proofs.LineLemmas.{all_short}
+use Rattle.bl_load.proofs.InformationLemmas.{tags_size_is, tags_small}
 use Rattle.bl_load.proofs.information.information.Goals as goal
 
-pub new-facts-requires : goal.new-facts-requires
-new-facts-requires g c =
-    let line = c.in_ok-line.ensures.ok in
-    let runs = c.in_ok-runs.ensures.items ∙ c.normal.ensures.runs in
-    let facts = c.normal.ensures.facts in
-    record {
-      told = record {
-        line = subst IsText (sym line) (sound_text c.args.line.now c.requires.sound (All-from_get_or (λ (b : ℕ). b < 256) c.args.line.now 0 (λ i _. (c.type_inv.line i).fits)));
-        modules = rw c.new-modules.ensures.items (λ k d within. absurd (omega arith));
-        mem_lower = c.low_kib-mem_lower.ensures.most;
-        mem_upper = c.high_kib-mem_upper.ensures.most;
-        runs = rw runs facts.runs.low;
-        rsdp_old = tt;
-        rsdp_new = tt;
-        load_base = c.requires.base;
-      };
-      small =
-          let short = size_below (length c.args.line.now) (length c.args.machine.now.runs) (is_some c.args.load_base) c.requires.short facts.few in
-          let size : size_of (length c.in_ok-line.line) (map (λ (m : ModuleInfo). length m.line) c.new-modules.result.items) (length c.in_ok-runs.runs.items) None None (is_some c.args.load_base) < 2 ^ 16 =
-          rw (line, c.new-modules.ensures.items, runs) short in
-          omega (arith, size);
-    }
+pub spell-requires-clause-small : goal.spell-requires-clause-small
+spell-requires-clause-small g c =
+    let modules = c.args.modules.now in
+    let files = map g.V.ByteView.bytes c.args.files.now in
+    let short = all_short modules c.requires.sound_modules in
+    let small = tags_small (lines_by modules) (All-map (λ (line : List ℕ). length line ≤ 4095) (λ m. m.line) modules short) in
+    let count = length-map modules (λ m. m.line) in
+    let few = c.requires.few in
+    let is = tags_size_is files c.args.places.now 0 (lines_by modules) in
+    rw c.in_ok-told.ensures.told (omega (arith, small, count, few, is))

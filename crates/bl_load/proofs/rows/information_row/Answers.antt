@@ -1,0 +1,25 @@
+use Rattle.std.proofs.Common.{◌≡◌, ℕ, [], ap, ◌∙◌}
+use Rattle.bl_map.specs.Room.{whole_frames}
+use Rattle.bl_mbi.specs.InformationFacts.{info_size}
+use Rattle.bl_plan.specs.declared.choice.Choice.TheVariants.{Lowest}
+use Rattle.bl_plan.specs.declared.role.Role.TheVariants.{Information}
+use Rattle.bl_plan.specs.declared.row.Row.{Row}
+use Rattle.bl_load.specs.Kept.{lines_by}
+use Rattle.bl_load.specs.Rows.{information_of}
+use Rattle.bl_load.specs.Value.{multiboot2_value}
+use Rattle.bl_load.proofs.InformationLemmas.{info_size_is}
+use Rattle.bl_load.proofs.rows.information_row.Goals as goal
+
+row_of : ℕ → Row
+row_of length = record { role = Information; index = 0; length = length; choice = Lowest 4096 4096 0x100000000 }
+
+pub returns : goal.returns
+unfolding row_of
+returns g c = λ texts.
+    let facts = c.args.machine.now in
+    let value = multiboot2_value texts c.args.line.now (lines_by c.args.modules.now) in
+    let relocation = c.args.kernel.now.relocation in
+    let e = info_size_is facts value relocation [] in
+    let size : c.info_length-length.result ≡ info_size (information_of facts value relocation []) =
+    rw (e, ← c.normal.ensures.runs, ← c.is_some.ensures, ← c.tags_size-tags.ensures.value) c.info_length-length.ensures.value in
+    ap row_of (c.whole_frames.ensures ∙ ap whole_frames size)
