@@ -45,7 +45,7 @@ other_slot stage f g i j hf hg differ hi hj e =
     ]
 
 -- the length of a piece and its bytes, in its file
-piece_long : (file : List ℕ) (k : ℕ) → length (piece_of file k) ≡ min 4096 (length file - 4096 * k)
+pub piece_long : (file : List ℕ) (k : ℕ) → length (piece_of file k) ≡ min 4096 (length file - 4096 * k)
 piece_long file k = length-take 4096 (drop (4096 * k) file) ∙ ap (min 4096) (length-drop (4096 * k) file)
 
 piece_read : (file : List ℕ) (k j d : ℕ) → j < 4096 → get_or (piece_of file k) j d ≡ get_or file (4096 * k + j) d
