@@ -14,10 +14,6 @@ pub trait FileSet {
     /// The addresses of memory that the files lie on.
     ghost holds: { Self → ℕ → Type 0 };
 
-    /// A write beside these addresses changes no file.
-    ghost same: { (files : Self) (old new : List ℕ) → Agree (holds files) old new
-        → texts files new ≡ texts files old };
-
     /// Copies bytes of a file from offset `at` on, as many as `out` holds.
     fn read<M: PhysMem>(&self, memory: &M, file: usize, at: u64, out: &mut [u8])
         requires held { AreBelow (holds self.now) (length (M.bytes memory.now)) }
@@ -26,6 +22,10 @@ pub trait FileSet {
             ≤ length (text_at (texts self.now (M.bytes memory.now)) file) }
         ensures { out.new ≡ slice_range (text_at (texts self.now (M.bytes memory.now)) file)
             at (at + length out.old) };
+
+    /// A write beside the files' addresses changes none of them.
+    ghost same: { (files : Self) (old new : List ℕ) → Agree (holds files) old new
+        → texts files new ≡ texts files old };
 }
 
 /// Files beside memory: each is a view.
@@ -39,9 +39,9 @@ impl<V: ByteView> FileSet for Views<'_, V> {
 
     ghost holds = { λ _ _. ⊥ };
 
-    ghost same = { λ files old new agree. refl };
-
     fn read<M: PhysMem>(&self, _memory: &M, file: usize, at: u64, out: &mut [u8]) {
         self.views[file].read(at, out);
     }
+
+    ghost same = { λ files old new agree. refl };
 }

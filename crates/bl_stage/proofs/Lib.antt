@@ -1,6 +1,7 @@
 pub mod FrameLemmas
 pub mod TableLemmas
 pub mod FileLemmas
+pub mod TextLemmas
 pub mod SpotLemmas
 pub mod SpotLaws
 pub mod CountLemmas

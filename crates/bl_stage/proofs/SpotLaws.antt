@@ -14,7 +14,8 @@ use Rattle.bl_stage.specs.Pieces.{slot_in}
 use Rattle.bl_stage.specs.Spots.{Spot, waits, has, spot_of, spot_at, spots_of, spots, piece_of, waiting_spots, bytes_of}
 use Rattle.bl_stage.proofs.FrameLemmas.{staged_length}
 use Rattle.bl_stage.proofs.FileLemmas.{file_within, file_evacuated}
-use Rattle.bl_stage.proofs.SpotLemmas.{same_firsts, piece_long}
+use Rattle.bl_stage.specs.TextLaws.{same_firsts}
+use Rattle.bl_stage.proofs.SpotLemmas.{piece_long}
 
 -- files need as many frames as by their bytes
 pub frames_for_files : (files : List (List ℕ)) → frames_needed files ≡ frames_for (map length files)

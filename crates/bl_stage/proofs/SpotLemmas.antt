@@ -10,17 +10,12 @@ use Rattle.bl_mem.specs.Memory.{overwrite}
 use Rattle.bl_mem.proofs.Overwrites.{length-overwrite, get_or-overwrite_in, get_or-overwrite_below, get_or-overwrite_above}
 use Rattle.bl_stage.specs.Staged.{Staging, AreStaged, file_of, table_of, with_frames}
 use Rattle.bl_stage.specs.Pieces.{is_piece, slot_in, with_piece}
+use Rattle.bl_stage.specs.TextLaws.{same_firsts}
 use Rattle.bl_stage.specs.Spots.{Spot, has, spot_of, spot_at, spots_of, spots, piece_of, put_spot}
 use Rattle.bl_stage.proofs.FrameLemmas.{staged_length}
 use Rattle.bl_stage.proofs.FileLemmas.{IsPiece, piece_is, file_within, file_before}
 
--- functions that agree below n have the same first n values, of any type
-pub same_firsts : {X : Type 0} (d : X) (f g : ℕ → X) (n : ℕ) → ((a : ℕ) → a < n → f a ≡ g a) → map f (range_with_len 0 n) ≡ map g (range_with_len 0 n)
-same_firsts d f g n same = ext_get_or d _ _ (length-map-range_with_len f 0 n ∙ sym (length-map-range_with_len g 0 n)) (λ a h.
-    let below : a < n = let e = length-map-range_with_len f 0 n in omega arith in
-    get_or-map-range_with_len f 0 n a a d below (omega arith) ∙ same a below ∙ sym (get_or-map-range_with_len g 0 n a a d below (omega arith)))
-
--- and those that differ at one number differ in that place
+-- functions that differ at one number have lists of values that differ in that place
 pub one_changed : {X : Type 0} (d : X) (f g : ℕ → X) (n k : ℕ) (x : X) → k < n → g k ≡ x → ((a : ℕ) → a < n → a ≢ k → g a ≡ f a) → map g (range_with_len 0 n) ≡ set (map f (range_with_len 0 n)) k x
 one_changed d f g n k x h here others =
     let old = map f (range_with_len 0 n) in

@@ -78,3 +78,16 @@ with_frames stage frames = record {
   frames = frames;
   came = stage.came;
 }
+
+-- the bytes of each file
+abbrev pub texts_of : List ℕ → Staging → List (List ℕ)
+texts_of bytes stage = map (λ file. file_of bytes stage file) (range_with_len 0 (length stage.sizes))
+
+-- the address lies in a frame of a file
+pub record IsStagedOn (stage : Staging) (a : ℕ) : Type 0 where
+  pub file : ℕ
+  pub index : ℕ
+  pub of_stage : file < length stage.sizes
+  pub of_file : index < frames_of (slice_index stage.sizes file)
+  pub low : 4096 * slice_index (table_of stage file) index ≤ a
+  pub high : a < 4096 * slice_index (table_of stage file) index + 4096

@@ -50,9 +50,10 @@ impl<A: Allocator> Stage<A> {
     ghost use Rattle.bl_mem.specs.Memory.{overwrite, HasRoom, KeepsRoom};
     ghost use Rattle.std.specs.Prelude.{IsErr, IfErr, OnErr, OnOk, false};
     ghost use Rattle.bl_map.specs.Room as room;
-    ghost use Rattle.bl_stage.specs.Staged.{staged, file_of, frames_for, with_frames};
+    ghost use Rattle.bl_stage.specs.Staged.{staged, file_of, table_of, frames_for, with_frames};
     ghost use Rattle.bl_stage.specs.Staged.{AreStaged, AllCame, HasPool};
     ghost use Rattle.bl_stage.specs.Pieces.{is_piece, slot_in, put_answer, with_piece};
+    ghost use Rattle.bl_stage.specs.Cells.{AreInside};
     ghost use Rattle.bl_stage.specs.Spots.{spots, put_spot};
     ghost use Rattle.bl_stage.specs.Ranges.{meets, IsSameOutside};
 
@@ -142,8 +143,20 @@ impl<A: Allocator> Stage<A> {
         ensures { staged (M.bytes result.memory.now) result.frames.now result.size
             ≡ file_of (M.bytes memory.now) self.now file }
     {
-        let size = self.sizes[file as usize];
-        let first = self.starts[file as usize];
+        // what this ensures says where the file's frames lie
+        self.complete();
+        self.lies_in(memory, file as usize)
+    }
+
+    /// A file where it lies, whether it is complete or not.
+    pub(crate) fn lies_in<'a, M: PhysMem>(&'a self, memory: &'a M, file: usize) -> FrameView<'a, M>
+        requires file { file < length self.now.sizes }
+        requires inside { AreInside (table_of self.now file) (length (M.bytes memory.now)) }
+        ensures { staged (M.bytes result.memory.now) result.frames.now result.size
+            ≡ file_of (M.bytes memory.now) self.now file }
+    {
+        let size = self.sizes[file];
+        let first = self.starts[file];
         FrameView {
             memory,
             frames: &self.frames[first as usize..(first + frames_of(size)) as usize],
