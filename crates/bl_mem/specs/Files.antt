@@ -1,5 +1,5 @@
 -- Files that memory may hold. Own.
-use Rattle.std.specs.Prelude.{◌≡◌, ℕ, ◌<◌, ◌≤◌, List, [], length, slice_index, slice_index_or}
+use Rattle.std.specs.Prelude.{◌≡◌, ℕ, ◌<◌, ◌≤◌, List, [], slice_index, slice_index_or}
 
 -- the bytes of a file of a list
 abbrev pub text_at : List (List ℕ) → ℕ → List ℕ

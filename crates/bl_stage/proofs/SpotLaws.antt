@@ -1,17 +1,17 @@
 -- Laws of a stage's meaning, for the crates above: at first each spot waits, at last the spots have the file's bytes, and files
 -- read as before if their frames do.
-use Rattle.std.proofs.Common.{◌≡◌, ℕ, zero, suc, ◌+◌, ◌-◌, ◌*◌, ◌/◌, ◌%◌, ◌<◌, ◌≤◌, List, [], ◌∷◌, ◌++◌, length, get_or, take, take-add, drop, min, map, replicate, true, false, arith, refl, sym, ap, ◌∙◌, inl, inr}
-use Rattle.std.specs.List.{range_with_len, sum_by}
+use Rattle.std.proofs.Common.{◌≡◌, ℕ, zero, suc, ◌+◌, ◌-◌, ◌*◌, ◌<◌, List, [], ◌∷◌, ◌++◌, length, get_or, take, take-add, drop, min, map, replicate, false, arith, refl, sym, ap, ◌∙◌, inl, inr}
+use Rattle.std.specs.List.{range_with_len}
 use Rattle.std.specs.declared.ops.Range.{Range}
 use Rattle.std.proofs.lemmas.Bool.{cases_lt}
-use Rattle.std.proofs.lemmas.List.{same_lists, take_all, append_assoc, append-nil, get_or-replicate, length-replicate, get_or_past, length-take, length-drop}
+use Rattle.std.proofs.lemmas.List.{take_all, append_assoc, append-nil, get_or-replicate, length-replicate, get_or_past}
 use Rattle.std.proofs.lemmas.List.Sums.{sum_by-cons}
 use Rattle.std.proofs.lemmas.List.FromFn.{map-range_with_len_more}
 use Rattle.bl_map.specs.Room.{frames_of, frames_needed}
 use Rattle.bl_stage.specs.Cells.{ReadsAs}
-use Rattle.bl_stage.specs.Staged.{Staging, AreStaged, AllCame, file_of, fresh, frames_for, first_of, table_of, with_frames}
+use Rattle.bl_stage.specs.Staged.{Staging, AreStaged, AllCame, file_of, fresh, frames_for, table_of}
 use Rattle.bl_stage.specs.Pieces.{slot_in}
-use Rattle.bl_stage.specs.Spots.{Spot, waits, has, spot_of, spot_at, spots_of, spots, piece_of, waiting_spots, bytes_of}
+use Rattle.bl_stage.specs.Spots.{Spot, waits, has, spot_at, spots_of, spots, piece_of, waiting_spots, bytes_of}
 use Rattle.bl_stage.proofs.FrameLemmas.{staged_length}
 use Rattle.bl_stage.proofs.FileLemmas.{file_within, file_evacuated}
 use Rattle.bl_stage.specs.TextLaws.{same_firsts}

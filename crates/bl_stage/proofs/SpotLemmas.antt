@@ -1,5 +1,5 @@
 -- The spots of files, after a piece came and after frames moved.
-use Rattle.std.proofs.Common.{◌≡◌, ◌≢◌, ℕ, ◌+◌, ◌-◌, ◌*◌, ◌<◌, ◌≤◌, List, [], length, get_or, set, take, drop, min, map, Bool, true, false, arith, refl, sym, ap, ◌∙◌, inl, inr, ◌==◌}
+use Rattle.std.proofs.Common.{◌≡◌, ◌≢◌, ℕ, ◌+◌, ◌-◌, ◌*◌, ◌<◌, ◌≤◌, List, [], length, get_or, set, drop, min, map, true, false, arith, refl, sym, ap, ◌∙◌, inl, inr}
 use Rattle.std.specs.List.{range_with_len}
 use Rattle.std.proofs.lemmas.Bool.{cases_eq, cases_lt}
 use Rattle.std.proofs.lemmas.Bool.Decides.{nat_tests}
@@ -76,7 +76,6 @@ module _ (file piece : List ℕ) (index : ℕ) (inside : 4096 * index + length p
 module _ (stage : Staging) (old new piece : List ℕ) (file index : ℕ) (staged_ : AreStaged stage) (test : is_piece stage file index (length piece) ≡ true)
     (in_file : file_of new (with_piece stage file index) file ≡ overwrite (file_of old stage file) (4096 * index) piece)
     (in_others : (other : ℕ) → other < length stage.sizes → other ≢ file → file_of new (with_piece stage file index) other ≡ file_of old stage other) where
-
   abbrev now : Staging
   now = with_piece stage file index
 

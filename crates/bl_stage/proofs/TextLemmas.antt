@@ -1,12 +1,11 @@
 -- The texts of a stage's files, and the memory that they lie in.
-use Rattle.std.proofs.Common.{◌≡◌, ℕ, ◌+◌, ◌*◌, ◌/◌, ◌%◌, ◌<◌, ◌≤◌, List, [], length, get_or, map, slice_range, arith, rules, refl, sym, ap, ◌∙◌}
-use Rattle.std.specs.List.{range_with_len}
+use Rattle.std.proofs.Common.{◌≡◌, ℕ, ◌+◌, ◌*◌, ◌<◌, List, [], length, get_or, arith, rules}
 use Rattle.std.proofs.lemmas.List.{places}
 use Rattle.std.proofs.lemmas.List.FromFn.{length-map-range_with_len, get_or-map-range_with_len}
 use Rattle.bl_map.specs.Room.{frames_of}
 use Rattle.bl_mem.specs.Files.{AreBelow, text_at}
 use Rattle.bl_stage.specs.Cells.{AreInside}
-use Rattle.bl_stage.specs.Staged.{Staging, AreStaged, HasPool, file_of, table_of, first_of, texts_of, place_of, IsStagedOn}
+use Rattle.bl_stage.specs.Staged.{Staging, AreStaged, HasPool, file_of, table_of, first_of, texts_of, IsStagedOn}
 use Rattle.bl_stage.proofs.FileLemmas.{file_within, read_part}
 
 -- a file's own frames are as many as it needs

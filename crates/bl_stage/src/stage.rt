@@ -115,7 +115,7 @@ impl<A: Allocator> Stage<A> {
             ≡ file_of (M.bytes memory.old) self.old other }
         ensures spots { result ≡ Put.Stored
             → spots (M.bytes memory.new) self.new
-                ≡ put_spot (M.bytes memory.old) self.old file index bytes.now }
+            ≡ put_spot (M.bytes memory.old) self.old file index bytes.now }
         ensures unchanged { result ≢ Put.Stored
             → (self.new ≡ self.old) × (M.bytes memory.new ≡ M.bytes memory.old) }
         ensures outside { IsSameOutside self.old.pool (M.bytes memory.old) (M.bytes memory.new) }

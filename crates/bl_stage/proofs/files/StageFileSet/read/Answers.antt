@@ -1,5 +1,4 @@
-use Rattle.std.proofs.Common.{◌≡◌, ◌+◌, ◌≤◌, length, slice_range, arith, rules, ap, sym, ◌∙◌}
-use Rattle.bl_stage.specs.Staged.{file_of}
+use Rattle.std.proofs.Common.{◌+◌, length, slice_range, ap, sym, ◌∙◌}
 use Rattle.bl_stage.proofs.TextLemmas.{table_below, text_of_file}
 use Rattle.bl_stage.proofs.files.StageFileSet.read.Goals as goal
 
