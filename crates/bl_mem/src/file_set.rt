@@ -5,8 +5,8 @@ ghost use Rattle.bl_mem.specs.Files.{text_at, AreBelow, Agree};
 use crate::memory::PhysMem;
 use crate::view::ByteView;
 
-/// An entry's files, which may lie in the memory that the entry is loaded into. They go by their place, from
-/// 0 on.
+/// An entry's files, which may lie in the memory that the entry is loaded into. They go by their
+/// place, from 0 on.
 pub trait FileSet {
     /// The bytes of each file, where memory has these bytes.
     ghost texts: { Self → List ℕ → List (List ℕ) };

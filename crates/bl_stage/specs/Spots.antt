@@ -20,12 +20,14 @@ spot_of false piece = waits (length piece)
 
 abbrev pub spot_at : List ℕ → Staging → ℕ → ℕ → Spot
 spot_at bytes stage file index =
-    spot_of (slice_index_or stage.came (slot_in stage file index) false) (piece_of (file_of bytes stage file) index)
+    spot_of (slice_index_or stage.came (slot_in stage file index) false)
+    (piece_of (file_of bytes stage file) index)
 
 -- the spots of a file
 abbrev pub spots_of : List ℕ → Staging → ℕ → List Spot
 spots_of bytes stage file =
-    map (λ index. spot_at bytes stage file index) (range_with_len 0 (frames_of (slice_index stage.sizes file)))
+    map (λ index. spot_at bytes stage file index)
+    (range_with_len 0 (frames_of (slice_index stage.sizes file)))
 
 -- those of each file
 abbrev pub spots : List ℕ → Staging → List (List Spot)
@@ -38,7 +40,8 @@ put_spot bytes stage file index piece =
 
 -- the spots of a file of this size of which no piece came
 abbrev pub waiting_spots : ℕ → List Spot
-waiting_spots size = map (λ index. waits (min 4096 (size - 4096 * index))) (range_with_len 0 (frames_of size))
+waiting_spots size =
+    map (λ index. waits (min 4096 (size - 4096 * index))) (range_with_len 0 (frames_of size))
 
 -- the bytes that came, in the file's order
 abbrev pub bytes_of : List Spot → List ℕ
