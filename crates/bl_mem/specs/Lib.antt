@@ -3,3 +3,4 @@ pub mod Words
 pub mod Least
 pub mod Contents
 pub mod Sparse
+pub mod Files

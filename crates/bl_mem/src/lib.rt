@@ -2,6 +2,7 @@
 #![tactic(auto)]
 
 mod bytes;
+mod file_set;
 mod flat;
 mod frame;
 mod memory;
@@ -12,6 +13,7 @@ mod view;
 mod words;
 
 pub use bytes::Bytes;
+pub use file_set::{FileSet, Views};
 pub use flat::Flat;
 pub use memory::PhysMem;
 pub use put::{put_bytes, put_u32, put_u64, write_u32s, write_u64s};

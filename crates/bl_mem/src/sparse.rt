@@ -10,11 +10,11 @@ use std::alloc::{AllocError, Allocator};
 use std::collections::BTreeMap;
 use std::ops::Range;
 
-/// A machine's memory that keeps only the frames of 4096 bytes which have room. An address of any other
-/// frame reads as `fill`, so that a machine of 4 GiB costs what is reserved of it.
+/// A machine's memory that keeps only the frames of 4096 bytes which have room. An address of any
+/// other frame reads as `fill`, so that a machine of 4 GiB costs what is reserved of it.
 ///
-/// `reserve` gives room to each frame that a range meets, and its bytes read as before. After a refused
-/// growth the frames that got room until then keep it.
+/// `reserve` gives room to each frame that a range meets, and its bytes read as before. After a
+/// refused growth the frames that got room until then keep it.
 #[derive(Drop)]
 pub struct Sparse<A: Allocator> {
     size: u64,
@@ -24,7 +24,8 @@ pub struct Sparse<A: Allocator> {
 }
 
 impl<A: Allocator + Copy> Sparse<A> {
-    /// `size` bytes of memory, which all read as `fill`. No address has room, and no memory is taken.
+    /// `size` bytes of memory, which all read as `fill`. No address has room, and no memory is
+    /// taken.
     pub fn new(alloc: A, size: u64, fill: u8) -> Result<Sparse<A>, AllocError>
         ensures ok { IsOk result }
         ensures exact { IfOk result

@@ -1,5 +1,5 @@
 -- The spots of files, after a piece came and after frames moved.
-use Rattle.std.proofs.Common.{◌≡◌, ◌≢◌, ℕ, ◌+◌, ◌-◌, ◌*◌, ◌<◌, ◌≤◌, List, [], length, get_or, set, take, drop, min, map, Bool, true, false, arith, refl, sym, ap, ◌∙◌, inl, inr, ◌==◌}
+use Rattle.std.proofs.Common.{◌≡◌, ◌≢◌, ℕ, ◌+◌, ◌-◌, ◌*◌, ◌<◌, ◌≤◌, List, [], length, get_or, set, drop, min, map, true, false, arith, refl, sym, ap, ◌∙◌, inl, inr}
 use Rattle.std.specs.List.{range_with_len}
 use Rattle.std.proofs.lemmas.Bool.{cases_eq, cases_lt}
 use Rattle.std.proofs.lemmas.Bool.Decides.{nat_tests}
@@ -10,17 +10,12 @@ use Rattle.bl_mem.specs.Memory.{overwrite}
 use Rattle.bl_mem.proofs.Overwrites.{length-overwrite, get_or-overwrite_in, get_or-overwrite_below, get_or-overwrite_above}
 use Rattle.bl_stage.specs.Staged.{Staging, AreStaged, file_of, table_of, with_frames}
 use Rattle.bl_stage.specs.Pieces.{is_piece, slot_in, with_piece}
+use Rattle.bl_stage.specs.TextLaws.{same_firsts}
 use Rattle.bl_stage.specs.Spots.{Spot, has, spot_of, spot_at, spots_of, spots, piece_of, put_spot}
 use Rattle.bl_stage.proofs.FrameLemmas.{staged_length}
 use Rattle.bl_stage.proofs.FileLemmas.{IsPiece, piece_is, file_within, file_before}
 
--- functions that agree below n have the same first n values, of any type
-pub same_firsts : {X : Type 0} (d : X) (f g : ℕ → X) (n : ℕ) → ((a : ℕ) → a < n → f a ≡ g a) → map f (range_with_len 0 n) ≡ map g (range_with_len 0 n)
-same_firsts d f g n same = ext_get_or d _ _ (length-map-range_with_len f 0 n ∙ sym (length-map-range_with_len g 0 n)) (λ a h.
-    let below : a < n = let e = length-map-range_with_len f 0 n in omega arith in
-    get_or-map-range_with_len f 0 n a a d below (omega arith) ∙ same a below ∙ sym (get_or-map-range_with_len g 0 n a a d below (omega arith)))
-
--- and those that differ at one number differ in that place
+-- functions that differ at one number have lists of values that differ in that place
 pub one_changed : {X : Type 0} (d : X) (f g : ℕ → X) (n k : ℕ) (x : X) → k < n → g k ≡ x → ((a : ℕ) → a < n → a ≢ k → g a ≡ f a) → map g (range_with_len 0 n) ≡ set (map f (range_with_len 0 n)) k x
 one_changed d f g n k x h here others =
     let old = map f (range_with_len 0 n) in
@@ -45,7 +40,7 @@ other_slot stage f g i j hf hg differ hi hj e =
     ]
 
 -- the length of a piece and its bytes, in its file
-piece_long : (file : List ℕ) (k : ℕ) → length (piece_of file k) ≡ min 4096 (length file - 4096 * k)
+pub piece_long : (file : List ℕ) (k : ℕ) → length (piece_of file k) ≡ min 4096 (length file - 4096 * k)
 piece_long file k = length-take 4096 (drop (4096 * k) file) ∙ ap (min 4096) (length-drop (4096 * k) file)
 
 piece_read : (file : List ℕ) (k j d : ℕ) → j < 4096 → get_or (piece_of file k) j d ≡ get_or file (4096 * k + j) d
@@ -81,7 +76,6 @@ module _ (file piece : List ℕ) (index : ℕ) (inside : 4096 * index + length p
 module _ (stage : Staging) (old new piece : List ℕ) (file index : ℕ) (staged_ : AreStaged stage) (test : is_piece stage file index (length piece) ≡ true)
     (in_file : file_of new (with_piece stage file index) file ≡ overwrite (file_of old stage file) (4096 * index) piece)
     (in_others : (other : ℕ) → other < length stage.sizes → other ≢ file → file_of new (with_piece stage file index) other ≡ file_of old stage other) where
-
   abbrev now : Staging
   now = with_piece stage file index
 

@@ -27,7 +27,8 @@ no_cell = record { holder = None; shut = false }
 abbrev pub cell_at : List Cell → ℕ → Cell
 cell_at cells place = slice_index_or cells place no_cell
 
--- the cells name each of these frames as the holder's, by its place in their list, and no other frame
+-- the cells name each of these frames as the holder's, by its place in their list, and no other
+-- frame
 pub record AreHeld (base : ℕ) (frames : List ℕ) (cells : List Cell) : Type 0 where
   pub low : (k : ℕ) → k < length frames → base ≤ slice_index frames k
   pub high : (k : ℕ) → k < length frames → slice_index frames k < base + length cells
@@ -44,7 +45,8 @@ AreInside frames size = (k : ℕ) → k < length frames → 4096 * slice_index f
 abbrev pub ReadsAs : List ℕ → List ℕ → List ℕ → List ℕ → Type 0
 ReadsAs old_bytes old_frames bytes frames =
     (k i : ℕ) → k < length old_frames → i < 4096
-    → slice_index bytes (4096 * slice_index frames k + i) ≡ slice_index old_bytes (4096 * slice_index old_frames k + i)
+    → slice_index bytes (4096 * slice_index frames k + i)
+    ≡ slice_index old_bytes (4096 * slice_index old_frames k + i)
 
 -- the addresses of so many frames
 abbrev pub frames_range : ℕ → ℕ → Range ℕ
@@ -62,7 +64,8 @@ pub record Moved (base : ℕ) (old new : List ℕ) (old_frames frames : List ℕ
   pub stays : (k : ℕ) → k < length old_frames → (cell_at old_cells (slice_index old_frames k - base)).shut ≡ false → slice_index frames k ≡ slice_index old_frames k
   pub outside : IsSameOutside (frames_range base (length old_cells)) old new
 
--- no frame meets a range, one that met none stays, each reads as before, and nothing outside the pool changed
+-- no frame meets a range, one that met none stays, each reads as before, and nothing outside the
+-- pool changed
 pub record MadeWay (base count : ℕ) (ranges : List (Range ℕ)) (old new old_frames frames : List ℕ) : Type 0 where
   pub long : length frames ≡ length old_frames
   pub clear : (k : ℕ) → k < length frames → meets ranges (slice_index frames k) ≡ false

@@ -4,3 +4,4 @@ pub mod Spots
 pub mod Ranges
 pub mod Cells
 pub mod Kept
+pub mod TextLaws

@@ -14,9 +14,13 @@ has ranges a = list_any (λ range. nat_le range.start a && nat_lt a range.end) r
 
 -- each byte outside the pool is as before
 abbrev pub IsSameOutside : Range ℕ → List ℕ → List ℕ → Type 0
-IsSameOutside pool old new = (a : ℕ) → (a < pool.start) ⊎ (pool.end ≤ a) → slice_index new a ≡ slice_index old a
+IsSameOutside pool old new =
+    (a : ℕ) → (a < pool.start) ⊎ (pool.end ≤ a) → slice_index new a ≡ slice_index old a
 
--- the byte at an address after the pool was scrubbed: 0 in the pool and outside keep, else as before
+-- the byte at an address after the pool was scrubbed: 0 in the pool and outside keep, else as
+-- before
 abbrev pub scrubbed : Range ℕ → List (Range ℕ) → List ℕ → ℕ → ℕ
 scrubbed pool keep bytes a =
-    if nat_le pool.start a && (nat_lt a pool.end && not (has keep a)) then 0 else slice_index bytes a
+    if nat_le pool.start a && (nat_lt a pool.end && not (has keep a))
+    then 0
+    else slice_index bytes a

@@ -1,5 +1,5 @@
 -- What a stage means: for each file the list of its spots, one a piece, as memory has them. Own.
-use Rattle.std.specs.Prelude.{ℕ, ◌*◌, List, length, take, drop, map, slice_index, slice_index_or, slice_set, Bool, true, false}
+use Rattle.std.specs.Prelude.{ℕ, ◌*◌, ◌-◌, ◌++◌, min, List, [], ◌∷◌, length, take, drop, map, slice_index, slice_index_or, slice_set, Bool, true, false}
 use Rattle.std.specs.List.{range_with_len}
 use Rattle.bl_map.specs.Room.{frames_of}
 use Rattle.bl_stage.specs.Staged.{Staging, file_of}
@@ -20,12 +20,14 @@ spot_of false piece = waits (length piece)
 
 abbrev pub spot_at : List ℕ → Staging → ℕ → ℕ → Spot
 spot_at bytes stage file index =
-    spot_of (slice_index_or stage.came (slot_in stage file index) false) (piece_of (file_of bytes stage file) index)
+    spot_of (slice_index_or stage.came (slot_in stage file index) false)
+    (piece_of (file_of bytes stage file) index)
 
 -- the spots of a file
 abbrev pub spots_of : List ℕ → Staging → ℕ → List Spot
 spots_of bytes stage file =
-    map (λ index. spot_at bytes stage file index) (range_with_len 0 (frames_of (slice_index stage.sizes file)))
+    map (λ index. spot_at bytes stage file index)
+    (range_with_len 0 (frames_of (slice_index stage.sizes file)))
 
 -- those of each file
 abbrev pub spots : List ℕ → Staging → List (List Spot)
@@ -35,3 +37,14 @@ spots bytes stage = map (λ file. spots_of bytes stage file) (range_with_len 0 (
 abbrev pub put_spot : List ℕ → Staging → ℕ → ℕ → List ℕ → List (List Spot)
 put_spot bytes stage file index piece =
     slice_set (spots bytes stage) file (slice_set (spots_of bytes stage file) index (has piece))
+
+-- the spots of a file of this size of which no piece came
+abbrev pub waiting_spots : ℕ → List Spot
+waiting_spots size =
+    map (λ index. waits (min 4096 (size - 4096 * index))) (range_with_len 0 (frames_of size))
+
+-- the bytes that came, in the file's order
+abbrev pub bytes_of : List Spot → List ℕ
+bytes_of [] = []
+bytes_of (waits size ∷ spots) = bytes_of spots
+bytes_of (has bytes ∷ spots) = bytes ++ bytes_of spots

@@ -1,5 +1,5 @@
--- Files whose bytes lie in frames of the pool. A frame of 4096 bytes goes by its number: frame n has the addresses from
--- 4096 * n on. Own.
+-- Files whose bytes lie in frames of the pool. A frame of 4096 bytes goes by its number: frame n
+-- has the addresses from 4096 * n on. Own.
 use Rattle.std.specs.Prelude.{◌≡◌, ℕ, ◌+◌, ◌*◌, ◌/◌, ◌%◌, ◌<◌, ◌≤◌, List, length, take, map, slice_index, slice_range, replicate, Bool, true, false, All}
 use Rattle.std.specs.List.{range_with_len, sum_by}
 use Rattle.std.specs.declared.ops.Range.{Range}
@@ -13,8 +13,8 @@ place_of frames i = 4096 * slice_index frames (i / 4096) + i % 4096
 abbrev pub staged : List ℕ → List ℕ → ℕ → List ℕ
 staged bytes frames size = map (λ i. slice_index bytes (place_of frames i)) (range_with_len 0 size)
 
--- a stage: the pool's addresses, the files' sizes in bytes, the frames of all files, one file's behind the other's, and for
--- each of these frames whether its piece came
+-- a stage: the pool's addresses, the files' sizes in bytes, the frames of all files, one file's
+-- behind the other's, and for each of these frames whether its piece came
 pub record Staging : Type 0 where
   pub pool : Range ℕ
   pub sizes : List ℕ
@@ -78,3 +78,17 @@ with_frames stage frames = record {
   frames = frames;
   came = stage.came;
 }
+
+-- the bytes of each file
+abbrev pub texts_of : List ℕ → Staging → List (List ℕ)
+texts_of bytes stage =
+    map (λ file. file_of bytes stage file) (range_with_len 0 (length stage.sizes))
+
+-- the address lies in a frame of a file
+pub record IsStagedOn (stage : Staging) (a : ℕ) : Type 0 where
+  pub file : ℕ
+  pub index : ℕ
+  pub of_stage : file < length stage.sizes
+  pub of_file : index < frames_of (slice_index stage.sizes file)
+  pub low : 4096 * slice_index (table_of stage file) index ≤ a
+  pub high : a < 4096 * slice_index (table_of stage file) index + 4096

@@ -3,7 +3,8 @@ ghost use Rattle.std.specs.Prelude.{◌≡◌, ◌+◌, ◌<◌, ◌≤◌, leng
 ghost use Rattle.std.specs.List.{count_by};
 ghost use Rattle.bl_stage.specs.Cells.{is_spare_cell, cell_at};
 
-/// One frame of the pool: which place of the list of all files' frames it has, and whether it is to be left.
+/// One frame of the pool: which place of the list of all files' frames it has, and whether it is
+/// to be left.
 #[derive(Clone, Copy, Debug, PartialEq, Eq)]
 pub struct Cell {
     pub holder: Option<u32>,

@@ -3,6 +3,7 @@
 
 mod cell;
 mod fault;
+mod files;
 mod marks;
 mod moves;
 mod put;

@@ -81,8 +81,8 @@ fn move_out<M: PhysMem>(
     }
 }
 
-/// Moves each frame of a file that a range meets, if the frames that none meets are enough for all files.
-/// Else it answers false, and nothing is changed.
+/// Moves each frame of a file that a range meets, if the frames that none meets are enough for
+/// all files. Else it answers false, and nothing is changed.
 pub fn make_way<M: PhysMem>(
     memory: &mut M,
     base: u64,

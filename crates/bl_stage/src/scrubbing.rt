@@ -58,8 +58,9 @@ fn scrub_range<M: PhysMem>(memory: &mut M, pool: Range<u64>, keep: &[Range<u64>]
     }
 }
 
-/// Clears to 0 each byte of the machine's pool that lies in none of the ranges to keep, and changes no other
-/// byte. The ranges may lie anywhere, overlap or have no byte. It takes no memory and needs no stage.
+/// Clears to 0 each byte of the machine's pool that lies in none of the ranges to keep, and
+/// changes no other byte. The ranges may lie anywhere, overlap or have no byte. It takes no
+/// memory and needs no stage.
 pub fn scrub<A: Allocator, M: PhysMem>(machine: &Machine<A>, memory: &mut M, keep: &[Range<u64>])
     requires inside { HasPool (M.bytes memory.old) machine.now.pool }
     requires room { HasRoom (M.room memory.old) machine.now.pool.start machine.now.pool.end }

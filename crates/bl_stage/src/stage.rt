@@ -11,8 +11,8 @@ use std::alloc::Allocator;
 use std::marker::Model;
 use std::ops::Range;
 
-/// An entry's files, whose bytes lie in frames of the machine's pool, or will. Files go by their place in
-/// the list of sizes, from 0 on, and a file's pieces of 4096 bytes likewise.
+/// An entry's files, whose bytes lie in frames of the machine's pool, or will. Files go by their
+/// place in the list of sizes, from 0 on, and a file's pieces of 4096 bytes likewise.
 ///
 /// All tables are made when the stage is begun; no later call takes memory.
 #[derive(Drop)]
@@ -45,14 +45,15 @@ impl<A: Allocator> Model for Stage<A> {
 }
 
 impl<A: Allocator> Stage<A> {
-    ghost use Rattle.std.specs.Prelude.{◌≡◌, ◌≢◌, ℕ, ◌+◌, ◌*◌, ◌<◌, ◌≤◌, ◌↔◌, IsTrue, IfSome, length};
-    ghost use Rattle.std.specs.Prelude.{slice_index, if◌then◌else◌, Some, None};
+    ghost use Rattle.std.specs.Prelude.{◌≡◌, ◌≢◌, ℕ, ◌+◌, ◌*◌, ◌<◌, ◌≤◌, ◌↔◌, IsTrue, IfSome};
+    ghost use Rattle.std.specs.Prelude.{length, slice_index, if◌then◌else◌, Some, None};
     ghost use Rattle.bl_mem.specs.Memory.{overwrite, HasRoom, KeepsRoom};
     ghost use Rattle.std.specs.Prelude.{IsErr, IfErr, OnErr, OnOk, false};
     ghost use Rattle.bl_map.specs.Room as room;
-    ghost use Rattle.bl_stage.specs.Staged.{staged, file_of, frames_for, with_frames};
+    ghost use Rattle.bl_stage.specs.Staged.{staged, file_of, table_of, frames_for, with_frames};
     ghost use Rattle.bl_stage.specs.Staged.{AreStaged, AllCame, HasPool};
     ghost use Rattle.bl_stage.specs.Pieces.{is_piece, slot_in, put_answer, with_piece};
+    ghost use Rattle.bl_stage.specs.Cells.{AreInside};
     ghost use Rattle.bl_stage.specs.Spots.{spots, put_spot};
     ghost use Rattle.bl_stage.specs.Ranges.{meets, IsSameOutside};
 
@@ -67,7 +68,9 @@ impl<A: Allocator> Stage<A> {
     /// The place of a piece of this length in the list of all frames, if it is a piece of a file.
     fn slot_of(&self, file: u32, index: u32, len: usize) -> Option<usize>
         ensures value { result
-            ≡ (if is_piece self.now file index len then Some (slot_in self.now file index) else None) }
+            ≡ (if is_piece self.now file index len
+            then Some (slot_in self.now file index)
+            else None) }
         ensures within { IfSome result (λ slot. slot < length self.now.frames) }
         ensures short { IfSome result (λ _. len ≤ 4096) }
     {
@@ -94,8 +97,8 @@ impl<A: Allocator> Stage<A> {
         FRAME * self.frames[slot]
     }
 
-    /// Takes piece `index` of a file, and stores the first of right length that comes. A piece has 4096
-    /// bytes, a file's last one what is left. It takes no memory.
+    /// Takes piece `index` of a file, and stores the first of right length that comes. A piece
+    /// has 4096 bytes, a file's last one what is left. It takes no memory.
     ///
     /// - `Stored`: the file has the piece's bytes at their place; nothing else of any file changed.
     /// - `Repeated`: that piece came already; nothing changed, whatever the bytes are.
@@ -114,7 +117,7 @@ impl<A: Allocator> Stage<A> {
             ≡ file_of (M.bytes memory.old) self.old other }
         ensures spots { result ≡ Put.Stored
             → spots (M.bytes memory.new) self.new
-                ≡ put_spot (M.bytes memory.old) self.old file index bytes.now }
+            ≡ put_spot (M.bytes memory.old) self.old file index bytes.now }
         ensures unchanged { result ≢ Put.Stored
             → (self.new ≡ self.old) × (M.bytes memory.new ≡ M.bytes memory.old) }
         ensures outside { IsSameOutside self.old.pool (M.bytes memory.old) (M.bytes memory.new) }
@@ -142,8 +145,20 @@ impl<A: Allocator> Stage<A> {
         ensures { staged (M.bytes result.memory.now) result.frames.now result.size
             ≡ file_of (M.bytes memory.now) self.now file }
     {
-        let size = self.sizes[file as usize];
-        let first = self.starts[file as usize];
+        // what this ensures says where the file's frames lie
+        self.complete();
+        self.lies_in(memory, file as usize)
+    }
+
+    /// A file where it lies, whether it is complete or not.
+    pub(crate) fn lies_in<'a, M: PhysMem>(&'a self, memory: &'a M, file: usize) -> FrameView<'a, M>
+        requires file { file < length self.now.sizes }
+        requires inside { AreInside (table_of self.now file) (length (M.bytes memory.now)) }
+        ensures { staged (M.bytes result.memory.now) result.frames.now result.size
+            ≡ file_of (M.bytes memory.now) self.now file }
+    {
+        let size = self.sizes[file];
+        let first = self.starts[file];
         FrameView {
             memory,
             frames: &self.frames[first as usize..(first + frames_of(size)) as usize],
@@ -151,12 +166,12 @@ impl<A: Allocator> Stage<A> {
         }
     }
 
-    /// Makes way for ranges: moves the files' frames that they meet into free ones that they do not. It takes
-    /// no memory.
+    /// Makes way for ranges: moves the files' frames that they meet into free ones that they do
+    /// not. It takes no memory.
     ///
-    /// `NoPool`, exactly if the pool's frames that meet no range are too few for the files; then nothing
-    /// changed. Else no file's frame meets a range, one that met none stays where it was, each file reads as
-    /// before, and no byte outside the pool changed.
+    /// `NoPool`, exactly if the pool's frames that meet no range are too few for the files; then
+    /// nothing changed. Else no file's frame meets a range, one that met none stays where it was,
+    /// each file reads as before, and no byte outside the pool changed.
     pub fn evacuate<M: PhysMem>(
         &mut self,
         memory: &mut M,
@@ -200,8 +215,8 @@ impl<A: Allocator> Stage<A> {
 }
 
 impl<A: Allocator + Copy> Stage<A> {
-    ghost use Rattle.std.specs.Prelude.{◌≡◌, ℕ, ◌+◌, ◌*◌, ◌/◌, ◌%◌, ◌<◌, ◌≤◌, ◌^◌, ◌↔◌, IfOk, IfErr};
-    ghost use Rattle.std.specs.Prelude.{length, slice_index, All, List, Err, map};
+    ghost use Rattle.std.specs.Prelude.{◌≡◌, ℕ, ◌+◌, ◌*◌, ◌/◌, ◌%◌, ◌<◌, ◌≤◌, ◌^◌, ◌↔◌};
+    ghost use Rattle.std.specs.Prelude.{IfOk, IfErr, length, slice_index, All, List, Err, map};
     ghost use Rattle.bl_map.specs.Room as room;
     ghost use Rattle.bl_stage.specs.Staged.{frames_for, fresh, AreApart, AreStaged};
 
@@ -245,9 +260,9 @@ impl<A: Allocator + Copy> Stage<A> {
         })
     }
 
-    /// A stage in these frames, by their addresses, the first file's first: a call for tests. The frames
-    /// are whole ones of the pool, none named twice, as many as the files need. Its only fault is
-    /// `NoMemory`.
+    /// A stage in these frames, by their addresses, the first file's first: a call for tests. The
+    /// frames are whole ones of the pool, none named twice, as many as the files need. Its only
+    /// fault is `NoMemory`.
     pub fn begin_at<B: Allocator>(
         alloc: A,
         machine: &Machine<B>,

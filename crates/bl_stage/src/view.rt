@@ -7,7 +7,8 @@ ghost use Rattle.bl_stage.specs.Cells.{AreInside};
 use bl_map::FRAME;
 use bl_mem::{ByteView, PhysMem};
 
-/// A file in scattered frames of memory. It borrows the memory, so that none lives across a change of it.
+/// A file in scattered frames of memory. It borrows the memory, so that none lives across a
+/// change of it.
 #[derive(Drop)]
 pub struct FrameView<'a, M: PhysMem> {
     pub memory: &'a M,

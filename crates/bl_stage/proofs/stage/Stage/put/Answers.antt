@@ -51,8 +51,8 @@ returns-clause-spots g c =
     let is : IsPiece stage file index (length piece) = piece_is stage file index (length piece) found.0 in
     let wrote : new ≡ overwrite bytes (4096 * get_or stage.frames (slot_in stage file index) 0) piece = c.write.ensures.after ∙ ap (λ a. overwrite bytes a piece) (c.address_of-at.ensures.is ∙ ap (λ k. 4096 * get_or stage.frames k 0) found.1) in
     let all = spots_put stage bytes new piece file index kept found.0
-      (ap (λ m. file_of m stage file) wrote ∙ piece_in_file stage kept bytes piece file index is c.requires.inside)
-      (λ other h differ. ap (λ m. file_of m stage other) wrote ∙ piece_in_others stage kept bytes piece file index is c.requires.inside other h differ) in
+    (ap (λ m. file_of m stage file) wrote ∙ piece_in_file stage kept bytes piece file index is c.requires.inside)
+    (λ other h differ. ap (λ m. file_of m stage other) wrote ∙ piece_in_others stage kept bytes piece file index is c.requires.inside other h differ) in
     let put : Staging → ℕ → Staging = λ s k. record { pool = s.pool; sizes = s.sizes; frames = s.frames; came = set s.came k true } in
     let view : Staging = record { pool = inside.pool; sizes = inside.sizes.items; frames = inside.frames.items; came = inside.came.items } in
     let same : put view c.in-Some.slot ≡ put stage (slot_in stage file index) = ap (λ s. put s c.in-Some.slot) c.self.view_is ∙ ap (λ k. put stage k) found.1 in

@@ -1,0 +1,18 @@
+-- Files that memory may hold. Own.
+use Rattle.std.specs.Prelude.{◌≡◌, ℕ, ◌<◌, ◌≤◌, List, [], slice_index, slice_index_or}
+
+-- the bytes of a file of a list
+abbrev pub text_at : List (List ℕ) → ℕ → List ℕ
+text_at texts file = slice_index_or texts file []
+
+-- memory of this size has each of these addresses
+abbrev pub AreBelow : (ℕ → Type 0) → ℕ → Type 0
+AreBelow holds size = (a : ℕ) → holds a → a < size
+
+-- none of the addresses from start on is one of these, up to end
+abbrev pub IsBeside : (ℕ → Type 0) → ℕ → ℕ → Type 0
+IsBeside holds start end = (a : ℕ) → start ≤ a → a < end → ¬ holds a
+
+-- two memories have the same byte at each of these addresses
+abbrev pub Agree : (ℕ → Type 0) → List ℕ → List ℕ → Type 0
+Agree holds old new = (a : ℕ) → holds a → slice_index new a ≡ slice_index old a

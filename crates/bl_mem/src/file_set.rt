@@ -1,0 +1,47 @@
+//! Files that memory may hold.
+ghost use Rattle.std.specs.Prelude.{◌≡◌, ℕ, ◌+◌, ◌<◌, ◌≤◌, List, length, map, slice_range, refl};
+ghost use Rattle.bl_mem.specs.Files.{text_at, AreBelow, Agree};
+
+use crate::memory::PhysMem;
+use crate::view::ByteView;
+
+/// An entry's files, which may lie in the memory that the entry is loaded into. They go by their
+/// place, from 0 on.
+pub trait FileSet {
+    /// The bytes of each file, where memory has these bytes.
+    ghost texts: { Self → List ℕ → List (List ℕ) };
+
+    /// The addresses of memory that the files lie on.
+    ghost holds: { Self → ℕ → Type 0 };
+
+    /// Copies bytes of a file from offset `at` on, as many as `out` holds.
+    fn read<M: PhysMem>(&self, memory: &M, file: usize, at: u64, out: &mut [u8])
+        requires held { AreBelow (holds self.now) (length (M.bytes memory.now)) }
+        requires file { file < length (texts self.now (M.bytes memory.now)) }
+        requires inside { at + length out.old
+            ≤ length (text_at (texts self.now (M.bytes memory.now)) file) }
+        ensures { out.new ≡ slice_range (text_at (texts self.now (M.bytes memory.now)) file)
+            at (at + length out.old) };
+
+    /// A write beside the files' addresses changes none of them.
+    ghost same: { (files : Self) (old new : List ℕ) → Agree (holds files) old new
+        → texts files new ≡ texts files old };
+}
+
+/// Files beside memory: each is a view.
+#[derive(Clone, Copy, Debug)]
+pub struct Views<'a, V: ByteView> {
+    pub views: &'a [V],
+}
+
+impl<V: ByteView> FileSet for Views<'_, V> {
+    ghost texts = { λ files _. map V.bytes files.views.now };
+
+    ghost holds = { λ _ _. ⊥ };
+
+    fn read<M: PhysMem>(&self, _memory: &M, file: usize, at: u64, out: &mut [u8]) {
+        self.views[file].read(at, out);
+    }
+
+    ghost same = { λ files old new agree. refl };
+}

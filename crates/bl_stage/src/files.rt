@@ -1,0 +1,21 @@
+//! The files of a stage, for what is loaded into the memory that holds them.
+ghost use Rattle.bl_stage.specs.Staged.{texts_of, IsStagedOn};
+ghost use Rattle.bl_stage.specs.TextLaws.{same_texts};
+
+use crate::stage::Stage;
+use bl_mem::{ByteView, FileSet, PhysMem};
+use std::alloc::Allocator;
+
+impl<A: Allocator> FileSet for Stage<A> {
+    ghost texts = { λ stage bytes. texts_of bytes stage };
+
+    ghost holds = { λ stage a. IsStagedOn stage a };
+
+    fn read<M: PhysMem>(&self, memory: &M, file: usize, at: u64, out: &mut [u8]) {
+        // what this ensures says where the file's frames lie
+        self.complete();
+        self.lies_in(memory, file).read(at, out);
+    }
+
+    ghost same = { λ stage old new agree. same_texts stage old new agree };
+}
