@@ -21,7 +21,8 @@ fn find_address(role: Role, index: u32, places: &[Place]) -> u64
     }
 }
 
-/// The address of the part of a role and an index among places that end below 4 GiB, 0 where there is none.
+/// The address of the part of a role and an index among places that end below 4 GiB, 0 where there
+/// is none.
 pub fn address_of(role: Role, index: u32, places: &[Place]) -> u32
     requires { All IsLow places.now }
     ensures { result ≡ addresses.address_of role index places.now }

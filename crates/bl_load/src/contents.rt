@@ -61,8 +61,10 @@ fn kernel_content<A: Allocator + Copy, V: ByteView>(
 /// The content of a module's part at a place: its whole file.
 fn module_content<A: Allocator, V: ByteView>(files: &[V], place: &Place) -> Content<A>
     requires within { place.now.index + 1 < length files.now }
-    requires length { place.now.length ≡ module_length (module_file (map V.bytes files.now) place.now.index) }
-    ensures content { content_by (map V.bytes files.now) result ≡ module_file (map V.bytes files.now) place.now.index }
+    requires length { place.now.length
+        ≡ module_length (module_file (map V.bytes files.now) place.now.index) }
+    ensures content { content_by (map V.bytes files.now) result
+        ≡ module_file (map V.bytes files.now) place.now.index }
     ensures there { IsThere (lengths_of (map V.bytes files.now)) result }
     ensures short { content_length result ≤ place.now.length }
     ensures lean { StaysInFiles role.Module result }
@@ -91,7 +93,8 @@ fn content_at<A: Allocator + Copy, V: ByteView>(
     requires sound_modules { All (λ m. line_fault m.line ≡ None) modules.now }
     requires few { length modules.now ≤ 64 }
     requires files { length files.now ≡ 1 + length modules.now }
-    requires loadable { AreLoadable (file_text (map V.bytes files.now) 0) (kernel_by kernel.now).segments }
+    requires loadable { AreLoadable (file_text (map V.bytes files.now) 0)
+        (kernel_by kernel.now).segments }
     requires ends { ModulesEndLow (map V.bytes files.now) places.now (length modules.now) }
     requires low { All IsLow places.now }
     requires rowed { IsRowed machine.now (multiboot2_value (map V.bytes files.now) line.now
@@ -99,7 +102,8 @@ fn content_at<A: Allocator + Copy, V: ByteView>(
     requires small { place.now.length ≤ 2 ^ 32 }
     ensures content { IfOk result (λ content. content_by (map V.bytes files.now) content
         ≡ content_of machine.now (multiboot2_value (map V.bytes files.now) line.now
-        (lines_by modules.now)) (multiboot2 (kernel_by kernel.now)) places.now place.now.role place.now.index) }
+        (lines_by modules.now)) (multiboot2 (kernel_by kernel.now)) places.now
+        place.now.role place.now.index) }
     ensures there { IfOk result (λ content. IsThere (lengths_of (map V.bytes files.now)) content) }
     ensures short { IfOk result (λ content. content_length content ≤ place.now.length) }
     ensures lean { IfOk result (StaysInFiles place.now.role) }
@@ -132,7 +136,8 @@ pub fn parts_at<A: Allocator + Copy, V: ByteView>(
     requires sound_modules { All (λ m. line_fault m.line ≡ None) modules.now }
     requires few { length modules.now ≤ 64 }
     requires files { length files.now ≡ 1 + length modules.now }
-    requires loadable { AreLoadable (file_text (map V.bytes files.now) 0) (kernel_by kernel.now).segments }
+    requires loadable { AreLoadable (file_text (map V.bytes files.now) 0)
+        (kernel_by kernel.now).segments }
     requires ends { ModulesEndLow (map V.bytes files.now) places.now (length modules.now) }
     requires low { All IsLow places.now }
     requires rowed { All (IsRowed machine.now (multiboot2_value (map V.bytes files.now) line.now
@@ -141,7 +146,8 @@ pub fn parts_at<A: Allocator + Copy, V: ByteView>(
     ensures parts { IfOk result (λ parts. map (part_by (map V.bytes files.now)) parts.items
         ≡ map (part_from machine.now (multiboot2_value (map V.bytes files.now) line.now
         (lines_by modules.now)) (multiboot2 (kernel_by kernel.now)) places.now) sorted.now) }
-    ensures backed { IfOk result (λ parts. All (IsBacked (lengths_of (map V.bytes files.now))) parts.items) }
+    ensures backed { IfOk result (λ parts. All (IsBacked
+        (lengths_of (map V.bytes files.now))) parts.items) }
     ensures lean { IfOk result (λ parts. IsLean parts.items) }
     ensures places { IfOk result (λ parts. map place_of parts.items ≡ sorted.now) }
 {

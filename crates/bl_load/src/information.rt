@@ -84,7 +84,8 @@ fn spell<A: Allocator + Copy>(
     requires sound { line_fault line.now ≡ None }
     requires short { length line.now ≤ 4095 }
     requires modules { All IsModule modules.items }
-    requires small { sum_by (λ n. tag_size (n + 9)) (map (λ m. length m.line) modules.items) < 2 ^ 20 }
+    requires small { sum_by (λ n. tag_size (n + 9)) (map (λ m. length m.line) modules.items)
+        < 2 ^ 20 }
     requires base { IfSome load_base (λ base. base < 2 ^ 32) }
     ensures { IfOk result (λ bytes. bytes ≡ spelling (codes "bootcore") record {
       line = line.now;
@@ -137,7 +138,8 @@ pub fn information<A: Allocator + Copy, V: ByteView>(
     requires files { length files.now ≡ 1 + length modules.now }
     requires low { All IsLow places.now }
     requires ends { ModulesEndLow (map V.bytes files.now) places.now (length modules.now) }
-    ensures { IfOk result (λ bytes. bytes ≡ spelling (codes "bootcore") (information_of machine.now
+    ensures { IfOk result (λ bytes. bytes
+        ≡ spelling (codes "bootcore") (information_of machine.now
         (multiboot2_value (map V.bytes files.now) line.now (lines_by modules.now))
         relocation.now places.now)) }
 {

@@ -18,11 +18,12 @@ pub fn handovers_are_determined()
         → IsHandover facts value h → IsRefusal facts value r → ⊥ }
 {}
 
-/// Each entry has a handover or a first refusal, so by the law above it has exactly one of them. Want of memory is all that
-/// the contract of `prepare` leaves open.
+/// Each entry has a handover or a first refusal, so by the law above it has exactly one of them.
+/// Want of memory is all that the contract of `prepare` leaves open.
 pub fn each_entry_has_an_answer()
     ensures { (facts : MachineFacts) (value : EntryValue)
-        → ((handover : Handover) × IsHandover facts value handover) ⊎ ((r : Refusal) × IsRefusal facts value r) }
+        → ((handover : Handover) × IsHandover facts value handover)
+        ⊎ ((r : Refusal) × IsRefusal facts value r) }
 {}
 
 /// What is handed over is legal.

@@ -95,8 +95,8 @@ fn registers_of<A: Allocator>(kernel: &Kernel<A>, places: &[Place]) -> Registers
     requires low { All IsLow places.now }
     requires above { blocks.low_of (kernel_by kernel.now).segments ≤ kernel.now.entry }
     requires below { kernel.now.entry + addresses.address_of role.Kernel 0 places.now < 2 ^ 64 }
-    requires entry { parts.entry_at kernel.now.entry (kernel_by kernel.now).segments kernel.now.relocation
-        (addresses.address_of role.Kernel 0 places.now) < 2 ^ 32 }
+    requires entry { parts.entry_at kernel.now.entry (kernel_by kernel.now).segments
+        kernel.now.relocation (addresses.address_of role.Kernel 0 places.now) < 2 ^ 32 }
     ensures { result ≡ parts.registers_of (multiboot2 (kernel_by kernel.now)) places.now }
 {
     let entry = entry_at(kernel, address_of(Role::Kernel, 0, places) as u64);
@@ -133,13 +133,17 @@ pub fn plan_parts<A: Allocator + Copy, V: ByteView>(
     requires few { length modules.now ≤ 64 }
     requires files { length files.now ≡ 1 + length modules.now }
     requires kernel { IsKernel (file_text (map V.bytes files.now) 0) (kernel_by kernel.now) }
-    requires loadable { AreLoadable (file_text (map V.bytes files.now) 0) (kernel_by kernel.now).segments }
-    ensures handover { IfOk result (λ plan. IsPlacedHandover machine.now (multiboot2_value (map V.bytes files.now) line.now
-        (lines_by modules.now)) (multiboot2 (kernel_by kernel.now)) (handover_by (map V.bytes files.now) plan)) }
-    ensures loadable { IfOk result (λ plan. IsLoadable (lengths_of (map V.bytes files.now)) machine.now.size plan) }
+    requires loadable { AreLoadable (file_text (map V.bytes files.now) 0)
+        (kernel_by kernel.now).segments }
+    ensures handover { IfOk result (λ plan. IsPlacedHandover machine.now
+        (multiboot2_value (map V.bytes files.now) line.now (lines_by modules.now))
+        (multiboot2 (kernel_by kernel.now)) (handover_by (map V.bytes files.now) plan)) }
+    ensures loadable { IfOk result (λ plan. IsLoadable
+        (lengths_of (map V.bytes files.now)) machine.now.size plan) }
     ensures lean { IfOk result (λ plan. IsLean plan.parts.items) }
-    ensures fault { IfErr result (λ fault. IsPlaceFault machine.now (table.rows_of machine.now (multiboot2_value (map V.bytes files.now) line.now
-        (lines_by modules.now)) (multiboot2 (kernel_by kernel.now))) fault) }
+    ensures fault { IfErr result (λ fault. IsPlaceFault machine.now (table.rows_of machine.now
+        (multiboot2_value (map V.bytes files.now) line.now (lines_by modules.now))
+        (multiboot2 (kernel_by kernel.now))) fault) }
 {
     let rows = rows_of(alloc, machine, line, modules, kernel, files)?;
     let places = match place_rows(alloc, machine, rows.as_slice()) {

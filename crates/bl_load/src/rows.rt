@@ -168,7 +168,8 @@ fn tags_size<A: Allocator>(modules: &[Module<A>]) -> u64
     }
 }
 
-/// How many bytes the information takes, by the lengths of the line, of the modules' tags and of the map.
+/// How many bytes the information takes, by the lengths of the line, of the modules' tags and of the
+/// map.
 fn info_length(line: u64, tags: u64, runs: u64, is_relocatable: bool) -> u64
     requires line { line ≤ 4095 }
     requires tags { tags < 2 ^ 20 }
