@@ -65,6 +65,20 @@ impl<A: Allocator> Stage<A> {
         self.waiting == 0
     }
 
+    /// The addresses of the pool.
+    pub fn pool(&self) -> Range<u64>
+        ensures { result ≡ self.now.pool }
+    {
+        self.pool.start..self.pool.end
+    }
+
+    /// How many files there are.
+    pub fn files(&self) -> usize
+        ensures { result ≡ length self.now.sizes }
+    {
+        self.sizes.len()
+    }
+
     /// The place of a piece of this length in the list of all frames, if it is a piece of a file.
     fn slot_of(&self, file: u32, index: u32, len: usize) -> Option<usize>
         ensures value { result
