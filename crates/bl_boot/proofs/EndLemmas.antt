@@ -1,12 +1,14 @@
 -- How boots end.
-use Rattle.std.proofs.Common.{◌≡◌, ℕ, List, [], ◌∷◌, ◌++◌, ◌∙◌, Some, Err, IsSome, All, length, map, get_or, arith, refl, sym, ap, subst}
-use Rattle.std.proofs.lemmas.List.{append-nil}
+use Rattle.std.proofs.Common.{◌≡◌, ℕ, List, [], ◌∷◌, ◌++◌, ◌∙◌, ◌≤◌, Some, None, Err, IsSome, All, length, map, get_or, arith, refl, sym, ap, subst}
+use Rattle.std.proofs.lemmas.List.{append-nil, length-map}
 use Rattle.std.proofs.lemmas.Option.{same_Some}
 use Rattle.bl_map.specs.MachineFacts.{MachineFacts}
 use Rattle.bl_load.specs.Numbers.{refusal_number}
 use Rattle.bl_load.specs.declared.refusal.Refusal.{Refusal}
 use Rattle.bl_image.specs.Image.{spelling}
 use Rattle.bl_desc.specs.declared.desc.Description.{Description}
+use Rattle.bl_desc.specs.declared.form.EntryForm.{EntryForm}
+use Rattle.bl_desc.specs.declared.form.EntryForm.TheVariants.{Multiboot2, Linux}
 use Rattle.bl_desc.specs.declared.desc.EntryRow.{EntryRow}
 use Rattle.bl_boot.specs.declared.attempting.attempt.Attempt.{Attempt}
 use Rattle.bl_boot.specs.declared.attempting.attempt.Attempt.TheVariants as attempt
@@ -14,10 +16,10 @@ use Rattle.bl_boot.specs.declared.attempting.attempt.LoadedEntry.{LoadedEntry}
 use Rattle.bl_boot.specs.declared.booting.fault.EndFault.{EndFault}
 use Rattle.bl_boot.specs.declared.booting.fault.EndFault.TheVariants.{BadDescription, Device, NoMemory}
 use Rattle.bl_desc.specs.Described.{Described, Entry, described, file_named}
-use Rattle.bl_desc.specs.Kept.{view, entry_view}
+use Rattle.bl_desc.specs.Kept.{view, entry_view, form_view}
 use Rattle.bl_boot.specs.Files.{Answer}
 use Rattle.bl_boot.specs.Found.{AreFound}
-use Rattle.bl_boot.specs.Attempt.{IsAttemptHandover, file_names}
+use Rattle.bl_boot.specs.Attempt.{IsAttemptHandover, file_names, names_beside, most_files}
 use Rattle.bl_boot.specs.LoadedEntry.{IsAttempt, handover_loaded}
 use Rattle.bl_boot.specs.Says.{booted_line, refused_line, no_entry_line}
 use Rattle.bl_boot.specs.Ends.{IsMachineOf, BootCase, HasInlineFiles, names_in, IsBooted, IsRefused, Surroundings}
@@ -39,6 +41,17 @@ pub faults_by : (old new : ℕ) (s t image : List ℕ) (fault : EndFault) → Is
 faults_by old new s t image BadDescription never = absurd never
 faults_by old new s t image Device broken = broken.0
 faults_by old new s t image NoMemory kept = kept.0
+
+-- an entry has few files
+few_beside : {A : Type 0} (form : EntryForm A) → length (names_beside (form_view form)) ≤ 64
+few_beside (Multiboot2 modules) =
+    let few = modules.few in
+    rw (length-map, length-map) few
+few_beside (Linux None) = omega arith
+few_beside (Linux (Some file)) = omega arith
+
+pub few_files : {A : Type 0} (row : EntryRow A) → length (file_names (entry_view row)) ≤ most_files
+few_files row = let few = few_beside row.form in omega (arith, few)
 
 -- the bytes describe d, whose one entry is this row
 module _ {A : Type 0} (desc : List ℕ) (d : Description A) (row : EntryRow A)

@@ -22,6 +22,10 @@ names_beside (linux initrd) = option_to_list initrd
 abbrev pub file_names : Entry → List (List ℕ)
 file_names entry = entry.kernel ∷ names_beside entry.form
 
+-- an entry has at most so many files: its kernel and 64 modules
+abbrev pub most_files : ℕ
+most_files = 65
+
 -- a file before the others, if these can be read
 abbrev pub with_file : List ℕ → Result (List (List ℕ)) Refusal → Result (List (List ℕ)) Refusal
 with_file file (Ok files) = Ok (file ∷ files)

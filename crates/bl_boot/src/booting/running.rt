@@ -2,6 +2,7 @@
 ghost use Rattle.std.specs.Prelude.{◌≡◌, ◌≢◌, ℕ, List, ◌+◌, ◌<◌, ◌≤◌, ◌^◌, length};
 ghost use Rattle.bl_boot.specs.Ends.{HasInlineFiles, names_in, IsBooted, IsRefused, IsBadDescription, IsBroken};
 ghost use Rattle.bl_boot.specs.Kept.{Ends, HasFaults};
+ghost use Rattle.bl_boot.specs.Attempt.{most_files};
 ghost use Rattle.bl_boot.specs.Files.{Answer};
 ghost use Rattle.bl_desc.specs.Described.{described};
 
@@ -34,7 +35,8 @@ fn run_boot<A: Allocator + Copy, F: Files, S: Sink, B: Allocator>(
     ensures same_files { (file : List ℕ) (answer : Answer) →
         F.answers files.new file answer → F.answers files.old file answer }
     ensures missing { (F.faults files.old ≤ F.faults files.new)
-        × (F.faults files.new ≤ F.faults files.old + length (names_in (described desc.now))) }
+        × (F.faults files.new ≤ F.faults files.old + length (names_in (described desc.now)))
+        × (F.faults files.new ≤ F.faults files.old + most_files) }
 {
     let description = read_description(alloc, global, desc)?;
     let machine = machine_of(alloc, &description)?;
@@ -96,7 +98,8 @@ pub fn boot<A: Allocator + Copy, F: Files, S: Sink, B: Allocator>(
     ensures same_files { (file : List ℕ) (answer : Answer) →
         F.answers files.new file answer → F.answers files.old file answer }
     ensures missing { (F.faults files.old ≤ F.faults files.new)
-        × (F.faults files.new ≤ F.faults files.old + length (names_in (described desc.now))) }
+        × (F.faults files.new ≤ F.faults files.old + length (names_in (described desc.now)))
+        × (F.faults files.new ≤ F.faults files.old + most_files) }
 {
     match run_boot(alloc, global, desc, files, out, say) {
         Ok(End::Booted) => 0,
