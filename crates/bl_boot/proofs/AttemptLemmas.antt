@@ -7,7 +7,7 @@ use Rattle.bl_load.specs.declared.plan.Planned.{Planned}
 use Rattle.bl_load.specs.Handover.{Handover}
 use Rattle.bl_load.specs.Planned.{part_by}
 use Rattle.bl_load.specs.Kept.{lengths_of, IsBacked}
-use Rattle.bl_map.specs.Room.{frames_of, open_frames}
+use Rattle.bl_map.specs.Room.{frames_needed, open_frames}
 use Rattle.bl_load.proofs.HeldLemmas.{length-bytes_by}
 use Rattle.bl_boot.specs.Attempt.{part_range, ranges_of, HasRoomBeside}
 
@@ -23,11 +23,11 @@ ranges_are texts (p ∷ parts) backed =
     ∙ ap (λ (rs : List (Range ℕ)). range_of p.place ∷ rs) (ranges_are texts parts (λ k d within. backed (suc k) d (omega arith)))
 
 -- the count of open frames is that beside the parts
-pub room_beside : (facts : MachineFacts) (kernel : List ℕ) (h : Handover) (ranges : List (Range ℕ)) (frames : ℕ)
-    → ranges_of h ≡ ranges → frames ≡ frames_of (length kernel) → frames ≤ open_frames facts.pool ranges → HasRoomBeside facts kernel h
-room_beside facts kernel h ranges frames same count room = rw same (omega (arith, room, count))
+pub room_beside : (facts : MachineFacts) (files : List (List ℕ)) (h : Handover) (ranges : List (Range ℕ)) (frames : ℕ)
+    → ranges_of h ≡ ranges → frames ≡ frames_needed files → frames ≤ open_frames facts.pool ranges → HasRoomBeside facts files h
+room_beside facts files h ranges frames same count room = rw same (omega (arith, room, count))
 
-pub no_room_beside : (facts : MachineFacts) (kernel : List ℕ) (h : Handover) (ranges : List (Range ℕ)) (frames : ℕ)
-    → ranges_of h ≡ ranges → frames ≡ frames_of (length kernel) → ¬ (frames ≤ open_frames facts.pool ranges) → ¬ HasRoomBeside facts kernel h
-no_room_beside facts kernel h ranges frames same count full room =
+pub no_room_beside : (facts : MachineFacts) (files : List (List ℕ)) (h : Handover) (ranges : List (Range ℕ)) (frames : ℕ)
+    → ranges_of h ≡ ranges → frames ≡ frames_needed files → ¬ (frames ≤ open_frames facts.pool ranges) → ¬ HasRoomBeside facts files h
+no_room_beside facts files h ranges frames same count full room =
     full (let seen = rw same at room in omega (arith, seen, count))

@@ -1,4 +1,5 @@
 pub mod HexLemmas
 pub mod AttemptLemmas
+pub mod FileLemmas
 pub mod EndLemmas
 pub mod EndLaws

@@ -1,5 +1,5 @@
--- What is found for the name of a file. Own.
-use Rattle.std.specs.Prelude.{◌≡◌, ℕ, List, MatchOption}
+-- What is found for the names of files. Own.
+use Rattle.std.specs.Prelude.{◌≡◌, ℕ, List, [], ◌∷◌, MatchOption}
 use Rattle.bl_desc.specs.Described.{File, file_named}
 use Rattle.bl_boot.specs.Files.{Answer, answer_for, KeepsLimit, CountsFault}
 
@@ -18,3 +18,11 @@ module _ {F : Type 0} (answers : F → List ℕ → Answer → Type 0) (faults :
       MatchOption (file_named name inline)
       (IsFetched name before after answer)
       (λ file. (answer ≡ answer_for file) × (after ≡ before))
+
+  -- what is found for names, one after the other; a file is asked for each time that it is named
+  abbrev pub AreFound : List File → List (List ℕ) → F → F → List Answer → Type 0
+  AreFound inline [] before after [] = after ≡ before
+  AreFound inline [] before after (answer ∷ answers) = ⊥
+  AreFound inline (name ∷ names) before after [] = ⊥
+  AreFound inline (name ∷ names) before after (answer ∷ answers) =
+      (between : F) × IsFound inline name before between answer × AreFound inline names between after answers

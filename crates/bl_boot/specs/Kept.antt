@@ -4,7 +4,12 @@ use Rattle.bl_image.specs.Begun.{IsBegun}
 use Rattle.bl_desc.specs.Described.{Described}
 use Rattle.bl_desc.specs.declared.fault.DescFault.{DescFault}
 use Rattle.bl_desc.specs.declared.fault.DescFault.TheVariants as desc_fault
-use Rattle.bl_boot.specs.Files.{Answer}
+use Rattle.bl_load.specs.declared.refusal.Refusal.{Refusal}
+use Rattle.bl_load.specs.declared.refusal.Refusal.TheVariants.{NoFile, FileTooLong}
+use Rattle.bl_load.specs.declared.refusal.PrepFault.{PrepFault}
+use Rattle.bl_load.specs.declared.refusal.PrepFault.TheVariants.{Refused}
+use Rattle.bl_load.specs.declared.refusal.PrepFault.TheVariants as prep_fault
+use Rattle.bl_boot.specs.Files.{Answer, missing, too_long, bytes}
 use Rattle.bl_boot.specs.Ends.{IsBadMachine, IsBadDescription, IsBooted, IsRefused, IsBroken, IsMapped, Surroundings}
 use Rattle.bl_boot.specs.declared.booting.fault.EndFault.{EndFault}
 use Rattle.bl_boot.specs.declared.booting.fault.EndFault.TheVariants.{BadDescription, Device, NoMemory}
@@ -15,6 +20,17 @@ use Rattle.bl_boot.specs.declared.booting.fault.End.TheVariants.{Booted, NoEntry
 abbrev pub fault_of : DescFault → EndFault
 fault_of desc_fault.BadDescription = BadDescription
 fault_of desc_fault.NoMemory = NoMemory
+
+-- what the file of an answer is refused for at a place, if it can't be read
+abbrev pub AnswerFault : ℕ → Answer → Refusal → Type 0
+AnswerFault place missing refused = refused ≡ NoFile place
+AnswerFault place (too_long n) refused = refused ≡ FileTooLong place
+AnswerFault place (bytes file) refused = ⊥
+
+-- why files were not read: one of them can't be read, or memory ran out
+abbrev pub IsUnread : Result (List (List ℕ)) Refusal → PrepFault → Type 0
+IsUnread read (Refused unread) = read ≡ Err unread
+IsUnread read prep_fault.NoMemory = Unit {0}
 
 -- why there is no such machine: a rule is broken, or memory ran out
 abbrev pub IsMachineFault : Described → EndFault → Type 0

@@ -1,9 +1,10 @@
 -- What memory holds after an attempt. Own.
-use Rattle.std.specs.Prelude.{◌≡◌, ℕ, ◌+◌, ◌-◌, ◌<◌, ◌≤◌, length, replicate, slice_index, All}
+use Rattle.std.specs.Prelude.{◌≡◌, ℕ, ◌+◌, ◌-◌, ◌<◌, ◌≤◌, List, Result, length, replicate, slice_index, All}
 use Rattle.bl_map.specs.MachineFacts.{MachineFacts}
 use Rattle.bl_load.specs.Handover.{Part, Handover, written}
 use Rattle.bl_load.specs.Planned.{handover_in}
-use Rattle.bl_boot.specs.Attempt.{IsAttemptHandover, IsAttemptRefusal}
+use Rattle.bl_load.specs.declared.refusal.Refusal.{Refusal}
+use Rattle.bl_boot.specs.Attempt.{IsRefusedOf, IsHandedOf, files_read}
 use Rattle.bl_boot.specs.Files.{Answer}
 use Rattle.bl_boot.specs.declared.attempting.attempt.Attempt.{Attempt}
 use Rattle.bl_boot.specs.declared.attempting.attempt.Attempt.TheVariants as attempt
@@ -27,8 +28,12 @@ pub record IsLoaded {A : Type 0} (size fill : ℕ) (handover : Handover) (loaded
   pub handed : handover_loaded loaded ≡ handover
   pub inside : All (λ place. place.address + place.length ≤ length loaded.memory) loaded.handoff.places
 
--- what came of an attempt
-abbrev pub IsAttempt : {A : Type 0} → ℕ → MachineFacts → Entry → Answer → Attempt A → Type 0
-IsAttempt fill facts entry answer (attempt.Refused refused) = IsAttemptRefusal facts entry answer refused
-IsAttempt fill facts entry answer (attempt.Loaded loaded) =
-    (h : Handover) × IsAttemptHandover facts entry answer h × IsLoaded facts.size fill h loaded
+-- what came of an attempt, by what was read of the entry's files
+abbrev pub IsAttemptOf : {A : Type 0} → ℕ → MachineFacts → Entry → Result (List (List ℕ)) Refusal → Attempt A → Type 0
+IsAttemptOf fill facts entry read (attempt.Refused refused) = IsRefusedOf facts entry read refused
+IsAttemptOf fill facts entry read (attempt.Loaded loaded) =
+    (h : Handover) × IsHandedOf facts entry read h × IsLoaded facts.size fill h loaded
+
+-- the same by what was answered for them
+abbrev pub IsAttempt : {A : Type 0} → ℕ → MachineFacts → Entry → List Answer → Attempt A → Type 0
+IsAttempt fill facts entry answers attempt = IsAttemptOf fill facts entry (files_read answers) attempt

@@ -2,7 +2,10 @@
 
 mod attempt;
 mod entry;
-mod kernel;
+mod files;
+mod finding;
+mod names;
+mod reading;
 
 pub use attempt::{Attempt, LoadedEntry};
 pub use entry::attempt_entry;

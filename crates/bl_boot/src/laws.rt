@@ -12,22 +12,22 @@ ghost use Rattle.bl_boot.specs.Ends.{Surroundings};
 use crate::fetching::Files;
 
 /// Two boots are two calls of `boot` with no more in common than this: their machines have equal
-/// facts (size, map and pool), and what was found for their entries' kernels gives the entries
-/// equal values (protocol, line and kernel). Memory, sinks, titles, names, other files, and where
-/// each kernel came from may differ.
+/// facts (size, map and pool), and what was found for their entries' files gives the entries
+/// equal values (protocol, line, files and the modules' lines). Memory, sinks, titles, names, other
+/// files, and where each file came from may differ.
 ///
 /// Where both end in 0 or 1 they end alike: both write one image, or both are refused for one thing.
 pub fn two_boots<F: Files, G: Files>()
     ensures one_handover { (desc other : List ℕ) (before after : F) (began ended : G)
         (a : BootCase F.answers F.faults desc before after)
         (b : BootCase G.answers G.faults other began ended) → AreAlike a b → (h k : Handover) →
-        IsAttemptHandover a.facts a.entry a.answer h →
-        IsAttemptHandover b.facts b.entry b.answer k → h ≡ k }
+        IsAttemptHandover a.facts a.entry a.answered h →
+        IsAttemptHandover b.facts b.entry b.answered k → h ≡ k }
     ensures one_refusal { (desc other : List ℕ) (before after : F) (began ended : G)
         (a : BootCase F.answers F.faults desc before after)
         (b : BootCase G.answers G.faults other began ended) → AreAlike a b → (r q : Refusal) →
-        IsAttemptRefusal a.facts a.entry a.answer r →
-        IsAttemptRefusal b.facts b.entry b.answer q → r ≡ q }
+        IsAttemptRefusal a.facts a.entry a.answered r →
+        IsAttemptRefusal b.facts b.entry b.answered q → r ≡ q }
     ensures one_image { (desc other : List ℕ) (before after : Surroundings F)
         (began ended : Surroundings G) (a : IsBooted F.answers F.faults desc before after)
         (b : IsBooted G.answers G.faults other began ended) → AreAlike a.attempted b.attempted →

@@ -1,10 +1,13 @@
 -- Reading the items of an array one after the other.
 use Rattle.std.proofs.Common.{◌≡◌, ℕ, ◌+◌, ◌<◌, ◌≤◌, Option, Some, None, List, [], ◌∷◌, ◌++◌, length, map, drop, get_or, refl, sym, ap, ◌∙◌, arith, append_assoc}
-use Rattle.std.proofs.lemmas.List.{map-append}
+use Rattle.std.proofs.lemmas.List.{map-append, drop_all, append-nil}
 use Rattle.toml.specs.Data.{Data, item}
 use Rattle.toml.specs.View.{view, items_view}
 use Rattle.toml.specs.declared.value.Value.{Value}
 use Rattle.toml.proofs.Views.{items_view-drop}
+use Rattle.bl_desc.specs.declared.fault.DescFault.{DescFault}
+use Rattle.bl_desc.specs.declared.fault.DescFault.TheVariants.{BadDescription, NoMemory}
+use Rattle.bl_desc.specs.Kept.{Fails}
 use Rattle.bl_desc.specs.Values.{◌>>=◌, range_in, each_item}
 
 -- what was read before, and what is still read
@@ -39,3 +42,25 @@ one_more seen read vs i v front after x within at_i here same =
     let there : items_view (drop i vs) ≡ item (view v) rest =
     items_view-drop vs i v within ∙ ap (λ (w : Value). item (view w) rest) (sym at_i) in
     rw (same, map-append, there, here) (front_grows (map seen front) (seen x) (each_item read rest))
+
+-- behind the last item all is read
+pub all_read : {Y : Type 0} (read : Data → Option Y) (vs : List Value) (i : ℕ) (front : List Y)
+    → length vs ≤ i → with_front front (each_item read (items_view (drop i vs))) ≡ each_item read (items_view vs)
+    → each_item read (items_view vs) ≡ Some front
+all_read read vs i front past so_far =
+    let none : drop i vs ≡ [] = drop_all i vs past in
+    let now = rw (none, append-nil) at so_far in
+    sym now
+
+-- an item that fails makes all fail
+pub one_fails : {Y : Type 0} (read : Data → Option Y) (vs : List Value) (i : ℕ) (v : Value) (front : List Y) (fault : DescFault)
+    → i < length vs → v ≡ get_or vs i v → Fails fault (read (view v))
+    → with_front front (each_item read (items_view (drop i vs))) ≡ each_item read (items_view vs)
+    → Fails fault (each_item read (items_view vs))
+one_fails read vs i v front NoMemory within at_i fails so_far = tt
+one_fails read vs i v front BadDescription within at_i fails so_far =
+    let rest = items_view (drop (i + 1) vs) in
+    let there : items_view (drop i vs) ≡ item (view v) rest =
+    items_view-drop vs i v within ∙ ap (λ (w : Value). item (view w) rest) (sym at_i) in
+    let now = rw (there, fails) at so_far in
+    sym now

@@ -10,21 +10,36 @@ use Rattle.bl_map.specs.declared.kind.Kind.{Kind}
 use Rattle.bl_map.specs.declared.kind.Kind.TheVariants.{Usable, Reserved, Acpi, Nvs, Bad}
 use Rattle.bl_map.specs.declared.region.Region.{Region}
 use Rattle.bl_desc.specs.Kinds.{kind_name}
-use Rattle.bl_desc.specs.Values.{◌>>=◌, passing, number_of, byte_of, text_of, bytes_of, range_of, has_only, at_key, at_key_or, in_tables}
+use Rattle.bl_desc.specs.Values.{◌>>=◌, passing, number_of, byte_of, text_of, bytes_of, range_of, has_only, at_key, at_key_or, at_key_if, in_tables}
 use Rattle.bl_plan.specs.declared.protocol.Protocol.{Protocol}
-use Rattle.bl_plan.specs.declared.protocol.Protocol.TheVariants.{Multiboot2}
+use Rattle.bl_plan.specs.declared.protocol.Protocol.TheVariants.{Multiboot2, Linux}
 
 -- a file that stands in the description
 pub record File : Type 0 where
   pub name : List ℕ
   pub bytes : List ℕ
 
+-- a module of an entry: the name of a file, and the module's line
+pub record Module : Type 0 where
+  pub file : List ℕ
+  pub line : List ℕ
+
+-- what an entry has beside its kernel, by its protocol: modules, or perhaps an initial ramdisk, which is the name of a file
+pub data Form : Type 0 where
+  multiboot2 : List Module → Form
+  linux : Option (List ℕ) → Form
+
+-- the protocol that a form is of
+abbrev pub form_protocol : Form → Protocol
+form_protocol (multiboot2 modules) = Multiboot2
+form_protocol (linux initrd) = Linux
+
 -- an entry of the menu; kernel is the name of a file
 pub record Entry : Type 0 where
   pub title : List ℕ
-  pub protocol : Protocol
   pub kernel : List ℕ
   pub line : List ℕ
+  pub form : Form
 
 -- what the whole says
 pub record Described : Type 0 where
@@ -81,6 +96,16 @@ names_differ (f ∷ fs) = not (has_file f.name fs) && names_differ fs
 unfoldable pub files_of : Data → Option (List File)
 files_of d = in_tables file_in d >>= passing names_differ
 
+-- ---- module
+
+unfoldable pub module_in : Members → Option Module
+module_in ms =
+    if has_only (codes "file" ∷ codes "line" ∷ []) ms then (do
+      file ← at_key text_of (codes "file") ms
+      line ← at_key_or [] text_of (codes "line") ms
+      Some record { file = file; line = line })
+    else None
+
 -- ---- entry
 
 -- each byte is printable ASCII
@@ -94,22 +119,55 @@ is_title text = (nat_le 1 (length text) && nat_le (length text) 64) && is_printa
 abbrev pub title_of : Data → Option (List ℕ)
 title_of d = text_of d >>= passing is_title
 
+-- an entry has at most so many modules
+abbrev pub most_modules : ℕ
+most_modules = 64
+
+abbrev pub has_few_modules : List Module → Bool
+has_few_modules modules = nat_le (length modules) most_modules
+
+unfoldable pub modules_of : Data → Option (List Module)
+modules_of d = in_tables module_in d >>= passing has_few_modules
+
+-- an entry of the protocol multiboot2: it may have modules
+unfoldable pub multiboot2_in : Members → Option Entry
+multiboot2_in ms =
+    if has_only (codes "title" ∷ codes "protocol" ∷ codes "kernel" ∷ codes "line" ∷ codes "module" ∷ []) ms
+    then (do
+      title ← at_key title_of (codes "title") ms
+      kernel ← at_key text_of (codes "kernel") ms
+      line ← at_key_or [] text_of (codes "line") ms
+      modules ← at_key_or [] modules_of (codes "module") ms
+      Some record { title = title; kernel = kernel; line = line; form = multiboot2 modules })
+    else None
+
+-- an entry of the protocol linux: it may have an initial ramdisk
+unfoldable pub linux_in : Members → Option Entry
+linux_in ms =
+    if has_only (codes "title" ∷ codes "protocol" ∷ codes "kernel" ∷ codes "line" ∷ codes "initrd" ∷ []) ms
+    then (do
+      title ← at_key title_of (codes "title") ms
+      kernel ← at_key text_of (codes "kernel") ms
+      line ← at_key_or [] text_of (codes "line") ms
+      initrd ← at_key_if text_of (codes "initrd") ms
+      Some record { title = title; kernel = kernel; line = line; form = linux initrd })
+    else None
+
 abbrev pub protocol_named : List ℕ → Option Protocol
-protocol_named name = if bytes_eq name (codes "multiboot2") then Some Multiboot2 else None
+protocol_named name =
+    if bytes_eq name (codes "multiboot2") then Some Multiboot2 else
+    if bytes_eq name (codes "linux") then Some Linux else
+    None
 
 abbrev pub protocol_of : Data → Option Protocol
 protocol_of d = text_of d >>= protocol_named
 
+abbrev pub entry_by : Members → Protocol → Option Entry
+entry_by ms Multiboot2 = multiboot2_in ms
+entry_by ms Linux = linux_in ms
+
 unfoldable pub entry_in : Members → Option Entry
-entry_in ms =
-    if has_only (codes "title" ∷ codes "protocol" ∷ codes "kernel" ∷ codes "line" ∷ []) ms
-    then (do
-      title ← at_key title_of (codes "title") ms
-      protocol ← at_key protocol_of (codes "protocol") ms
-      kernel ← at_key text_of (codes "kernel") ms
-      line ← at_key_or [] text_of (codes "line") ms
-      Some record { title = title; protocol = protocol; kernel = kernel; line = line })
-    else None
+entry_in ms = at_key protocol_of (codes "protocol") ms >>= entry_by ms
 
 -- a menu has exactly one entry
 abbrev pub is_one : List Entry → Bool

@@ -1,8 +1,11 @@
 -- How the code keeps what a description says, and how its readers answer. Own.
 use Rattle.std.specs.Prelude.{◌≡◌, map, Option, Some, None, Result, Ok, Err}
-use Rattle.bl_desc.specs.Described.{File, Entry, Described}
+use Rattle.bl_desc.specs.Described.{File, Module, Form, multiboot2, linux, Entry, Described}
 use Rattle.bl_desc.specs.declared.desc.FileRow.{FileRow}
 use Rattle.bl_desc.specs.declared.desc.EntryRow.{EntryRow}
+use Rattle.bl_desc.specs.declared.form.EntryForm.{EntryForm}
+use Rattle.bl_desc.specs.declared.form.EntryForm.TheVariants.{Multiboot2, Linux}
+use Rattle.bl_desc.specs.declared.form.ModuleRow.{ModuleRow}
 use Rattle.bl_desc.specs.declared.desc.Description.{Description}
 use Rattle.bl_desc.specs.declared.fault.DescFault.{DescFault}
 use Rattle.bl_desc.specs.declared.fault.DescFault.TheVariants.{BadDescription, NoMemory}
@@ -10,8 +13,15 @@ use Rattle.bl_desc.specs.declared.fault.DescFault.TheVariants.{BadDescription, N
 abbrev pub file_view : {A : Type 0} → FileRow A → File
 file_view f = record { name = f.name; bytes = f.bytes }
 
+abbrev pub module_view : {A : Type 0} → ModuleRow A → Module
+module_view m = record { file = m.file; line = m.line }
+
+abbrev pub form_view : {A : Type 0} → EntryForm A → Form
+form_view (Multiboot2 modules) = multiboot2 (map module_view modules.rows.items)
+form_view (Linux initrd) = linux initrd
+
 abbrev pub entry_view : {A : Type 0} → EntryRow A → Entry
-entry_view e = record { title = e.title; protocol = e.protocol; kernel = e.kernel; line = e.line }
+entry_view e = record { title = e.title; kernel = e.kernel; line = e.line; form = form_view e.form }
 
 abbrev pub view : {A : Type 0} → Description A → Described
 view d = record {

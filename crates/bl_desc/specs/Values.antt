@@ -66,11 +66,19 @@ abbrev pub optional : {A : Type 0} → (Data → Option A) → A → Option Data
 optional read x None = Some x
 optional read x (Some d) = read d
 
+-- the same, where no value stands for one that is left out
+abbrev pub if_given : {A : Type 0} → (Data → Option A) → Option Data → Option (Option A)
+if_given read None = Some None
+if_given read (Some d) = read d >>= λ x. Some (Some x)
+
 abbrev pub at_key : {A : Type 0} → (Data → Option A) → List ℕ → Members → Option A
 at_key read key ms = required read (get_member key ms)
 
 abbrev pub at_key_or : {A : Type 0} → A → (Data → Option A) → List ℕ → Members → Option A
 at_key_or x read key ms = optional read x (get_member key ms)
+
+abbrev pub at_key_if : {A : Type 0} → (Data → Option A) → List ℕ → Members → Option (Option A)
+at_key_if read key ms = if_given read (get_member key ms)
 
 -- ---- arrays of tables
 

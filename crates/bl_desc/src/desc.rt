@@ -3,10 +3,10 @@ ghost use Rattle.std.specs.Prelude.{◌≡◌, map, option_copied};
 ghost use Rattle.bl_desc.specs.Described as spec;
 ghost use Rattle.bl_desc.specs.Kept.{file_view, view};
 
+use crate::form::EntryForm;
 use crate::text::Text;
 use bl_map::Region;
 use bl_mem::Bytes;
-use bl_plan::Protocol;
 use std::alloc::Allocator;
 use std::ops::Range;
 
@@ -22,9 +22,9 @@ pub struct FileRow<A: Allocator> {
 #[derive(Drop)]
 pub struct EntryRow<A: Allocator> {
     pub title: Text<A>,
-    pub protocol: Protocol,
     pub kernel: Text<A>,
     pub line: Text<A>,
+    pub form: EntryForm<A>,
 }
 
 /// What a description says: the machine, files and the menu, which has exactly one entry.

@@ -1,5 +1,5 @@
 //! The entries of a description.
-ghost use Rattle.std.specs.Prelude.{◌≡◌, [], map, codes, vec_len, IfOk};
+ghost use Rattle.std.specs.Prelude.{◌≡◌, map, codes, option_map, vec_len, IfOk};
 ghost use Rattle.toml.specs.View.{view, table_view, items_view};
 ghost use Rattle.bl_desc.specs.Values as values;
 ghost use Rattle.bl_desc.specs.Described as spec;
@@ -7,10 +7,12 @@ ghost use Rattle.bl_desc.specs.Kept.{Gives, entry_view};
 
 use crate::desc::EntryRow;
 use crate::fault::DescFault;
-use crate::keys::{at_key, has_only, text_at};
+use crate::form::EntryForm;
+use crate::keys::{at_key, has_only, text_at, text_if, text_or_empty};
+use crate::modules::modules_at;
 use crate::text::Text;
 use bl_plan::Protocol;
-use std::alloc::Allocator;
+use std::alloc::{AllocError, Allocator};
 use toml::{Table, Value};
 
 /// Whether each byte of a text is printable ASCII.
@@ -47,6 +49,7 @@ fn protocol_named(name: &str) -> Option<Protocol>
 {
     match name {
         "multiboot2" => Some(Protocol::Multiboot2),
+        "linux" => Some(Protocol::Linux),
         _ => None,
     }
 }
@@ -59,33 +62,64 @@ fn protocol_in(table: &Table) -> Result<Protocol, DescFault>
     protocol_named(name).ok_or(DescFault::BadDescription)
 }
 
-fn line_in(table: &Table) -> Result<&str, DescFault>
-    ensures { Gives (λ s. s.now) result
-        (values.at_key_or [] values.text_of (codes "line") (table_view table.now)) }
+/// A text of one's own, of one that may be left out.
+fn own_text<A: Allocator>(alloc: A, text: Option<&str>) -> Result<Option<Text<A>>, AllocError>
+    ensures { IfOk result (λ own. own ≡ option_map (λ s. s.now) text.entry) }
 {
-    match at_key(table, "line") {
-        Some(value) => value.as_str().ok_or(DescFault::BadDescription),
-        None => Ok(""),
+    match text {
+        Some(text) => Ok(Some(Text::from(String::from_str(alloc, text)?))),
+        None => Ok(None),
     }
+}
+
+#[tactic(auto, unfolding(crate::specs::Described::multiboot2_in))]
+fn multiboot2_in<A: Allocator + Copy>(alloc: A, table: &Table) -> Result<EntryRow<A>, DescFault>
+    ensures { Gives entry_view result (spec.multiboot2_in (table_view table.now)) }
+{
+    if !has_only(table, &["title", "protocol", "kernel", "line", "module"]) {
+        return Err(DescFault::BadDescription);
+    }
+    let title = title_in(table)?;
+    let kernel = text_at(table, "kernel")?;
+    let line = text_or_empty(table, "line")?;
+    let modules = modules_at(alloc, table)?;
+    Ok(EntryRow {
+        title: Text::from(String::from_str(alloc, title)?),
+        kernel: Text::from(String::from_str(alloc, kernel)?),
+        line: Text::from(String::from_str(alloc, line)?),
+        form: EntryForm::Multiboot2 { modules },
+    })
+}
+
+#[tactic(auto, unfolding(crate::specs::Described::linux_in))]
+fn linux_in<A: Allocator + Copy>(alloc: A, table: &Table) -> Result<EntryRow<A>, DescFault>
+    ensures { Gives entry_view result (spec.linux_in (table_view table.now)) }
+{
+    if !has_only(table, &["title", "protocol", "kernel", "line", "initrd"]) {
+        return Err(DescFault::BadDescription);
+    }
+    let title = title_in(table)?;
+    let kernel = text_at(table, "kernel")?;
+    let line = text_or_empty(table, "line")?;
+    let initrd = text_if(table, "initrd")?;
+    Ok(EntryRow {
+        title: Text::from(String::from_str(alloc, title)?),
+        kernel: Text::from(String::from_str(alloc, kernel)?),
+        line: Text::from(String::from_str(alloc, line)?),
+        form: EntryForm::Linux {
+            initrd: own_text(alloc, initrd)?,
+        },
+    })
 }
 
 #[tactic(auto, unfolding(crate::specs::Described::entry_in))]
 fn entry_in<A: Allocator + Copy>(alloc: A, table: &Table) -> Result<EntryRow<A>, DescFault>
     ensures { Gives entry_view result (spec.entry_in (table_view table.now)) }
 {
-    if !has_only(table, &["title", "protocol", "kernel", "line"]) {
-        return Err(DescFault::BadDescription);
+    match protocol_in(table)? {
+        Protocol::Multiboot2 => multiboot2_in(alloc, table),
+        Protocol::Linux => linux_in(alloc, table),
     }
-    let title = title_in(table)?;
-    let protocol = protocol_in(table)?;
-    let kernel = text_at(table, "kernel")?;
-    let line = line_in(table)?;
-    Ok(EntryRow {
-        title: Text::from(String::from_str(alloc, title)?),
-        protocol,
-        kernel: Text::from(String::from_str(alloc, kernel)?),
-        line: Text::from(String::from_str(alloc, line)?),
-    })
 }
 
 /// An entry, from an item of an array of tables.

@@ -1,5 +1,5 @@
 //! The keys of a description's tables.
-ghost use Rattle.std.specs.Prelude.{◌≡◌, map, option_map, string_bytes};
+ghost use Rattle.std.specs.Prelude.{◌≡◌, [], map, option_map, string_bytes};
 ghost use Rattle.std.specs.List.{list_any, list_all};
 ghost use Rattle.std.specs.Str.{bytes_eq};
 ghost use Rattle.std.specs.BTreeMap.{keys};
@@ -36,6 +36,31 @@ pub fn text_at<'a>(table: &'a Table, key: &str) -> Result<&'a str, DescFault>
     match at_key(table, key) {
         Some(value) => value.as_str().ok_or(DescFault::BadDescription),
         None => Err(DescFault::BadDescription),
+    }
+}
+
+/// The text at a key that may be left out, which is then empty.
+pub fn text_or_empty<'a>(table: &'a Table, key: &str) -> Result<&'a str, DescFault>
+    ensures { Gives (λ s. s.now) result
+        (spec.at_key_or [] spec.text_of key.now (table_view table.now)) }
+{
+    match at_key(table, key) {
+        Some(value) => value.as_str().ok_or(DescFault::BadDescription),
+        None => Ok(""),
+    }
+}
+
+/// The text at a key that may be left out.
+pub fn text_if<'a>(table: &'a Table, key: &str) -> Result<Option<&'a str>, DescFault>
+    ensures { Gives (option_map (λ s. s.now)) result
+        (spec.at_key_if spec.text_of key.now (table_view table.now)) }
+{
+    match at_key(table, key) {
+        Some(value) => match value.as_str() {
+            Some(text) => Ok(Some(text)),
+            None => Err(DescFault::BadDescription),
+        },
+        None => Ok(None),
     }
 }
 

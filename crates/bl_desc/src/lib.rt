@@ -5,7 +5,9 @@ mod desc;
 mod entries;
 mod fault;
 mod files;
+mod form;
 mod keys;
+mod modules;
 mod read;
 mod regions;
 mod text;
@@ -13,5 +15,6 @@ mod values;
 
 pub use desc::{Description, EntryRow, FileRow, file_named};
 pub use fault::DescFault;
+pub use form::{EntryForm, MOST_MODULES, ModuleRow, Modules};
 pub use read::read_description;
 pub use text::Text;

@@ -1,8 +1,10 @@
 //! One boot.
-ghost use Rattle.std.specs.Prelude.{◌≡◌, ◌≢◌, ℕ, List, ◌+◌, ◌<◌, ◌≤◌, ◌^◌};
-ghost use Rattle.bl_boot.specs.Ends.{HasInlineKernel, IsBooted, IsRefused, IsBadDescription, IsBroken};
+ghost use Rattle.std.specs.Prelude.{◌≡◌, ◌≢◌, ℕ, List, ◌+◌, ◌<◌, ◌≤◌, ◌^◌, length};
+ghost use Rattle.bl_boot.specs.Ends.{HasInlineFiles, names_in, IsBooted, IsRefused, IsBadDescription, IsBroken};
 ghost use Rattle.bl_boot.specs.Kept.{Ends, HasFaults};
+ghost use Rattle.bl_boot.specs.Attempt.{most_files};
 ghost use Rattle.bl_boot.specs.Files.{Answer};
+ghost use Rattle.bl_desc.specs.Described.{described};
 
 use crate::attempting::{Attempt, attempt_entry};
 use crate::booting::fault::{End, EndFault};
@@ -29,11 +31,12 @@ fn run_boot<A: Allocator + Copy, F: Files, S: Sink, B: Allocator>(
         (record { files = files.old; sink = S.contents out.old; said = say.old.items })
         (record { files = files.new; sink = S.contents out.new; said = say.new.items }) result }
     ensures faults { HasFaults (S.faults out.old) (S.faults out.new) result }
-    ensures inline { HasInlineKernel desc.now → files.new ≡ files.old }
+    ensures inline { HasInlineFiles desc.now → files.new ≡ files.old }
     ensures same_files { (file : List ℕ) (answer : Answer) →
         F.answers files.new file answer → F.answers files.old file answer }
     ensures missing { (F.faults files.old ≤ F.faults files.new)
-        × (F.faults files.new ≤ F.faults files.old + 1) }
+        × (F.faults files.new ≤ F.faults files.old + length (names_in (described desc.now)))
+        × (F.faults files.new ≤ F.faults files.old + most_files) }
 {
     let description = read_description(alloc, global, desc)?;
     let machine = machine_of(alloc, &description)?;
@@ -50,13 +53,13 @@ fn run_boot<A: Allocator + Copy, F: Files, S: Sink, B: Allocator>(
     }
 }
 
-/// Boots the entry of a description, and writes the image of the handover to `out`. A kernel that
-/// is not in the description is asked of `files`, once, and nothing else is. What the boot came to
-/// is appended to `say`, line by line.
+/// Boots the entry of a description, and writes the image of the handover to `out`. Each of the
+/// entry's files that is not in the description is asked of `files`, once each time that it is
+/// named, and nothing else is. What the boot came to is appended to `say`, line by line.
 ///
 /// The status is 0 where the entry was booted, 1 where it was refused, 2 where the description is
 /// bad, 3 where the sink had a fault, and 4 where memory ran out; with 2, 3 and 4 nothing is said.
-/// The entry is refused for want of its file only where `files` counted a fault more. `global` is
+/// The entry is refused for want of a file only where `files` counted a fault more. `global` is
 /// what the TOML reader takes its memory from. The order in which pieces come has no effect yet,
 /// since each file is read whole.
 pub fn boot<A: Allocator + Copy, F: Files, S: Sink, B: Allocator>(
@@ -89,13 +92,14 @@ pub fn boot<A: Allocator + Copy, F: Files, S: Sink, B: Allocator>(
     ensures fault { result ≡ 3 → S.faults out.new ≡ S.faults out.old + 1 }
     ensures sound { result ≢ 3 → S.faults out.new ≡ S.faults out.old }
 
-    // A kernel that stands in the description is not asked for. The files answer as before, and at
-    // most one of them was missing.
-    ensures inline { HasInlineKernel desc.now → files.new ≡ files.old }
+    // Files that stand in the description are not asked for. The files answer as before, and each
+    // name in the description is missing once at most.
+    ensures inline { HasInlineFiles desc.now → files.new ≡ files.old }
     ensures same_files { (file : List ℕ) (answer : Answer) →
         F.answers files.new file answer → F.answers files.old file answer }
     ensures missing { (F.faults files.old ≤ F.faults files.new)
-        × (F.faults files.new ≤ F.faults files.old + 1) }
+        × (F.faults files.new ≤ F.faults files.old + length (names_in (described desc.now)))
+        × (F.faults files.new ≤ F.faults files.old + most_files) }
 {
     match run_boot(alloc, global, desc, files, out, say) {
         Ok(End::Booted) => 0,

@@ -3,7 +3,7 @@
 use crate::calls::machine::kind_name;
 use crate::fault::RowFault;
 use crate::show::bytes_text;
-use bl_desc::{DescFault, Description, EntryRow, FileRow, read_description};
+use bl_desc::{DescFault, Description, EntryForm, EntryRow, FileRow, ModuleRow, read_description};
 use bl_map::Region;
 use bl_refusing::Refusing;
 use std::alloc::{AllocError, Global};
@@ -27,16 +27,41 @@ fn push_file(
     write!(text, " file {name:?} {bytes}")
 }
 
-/// Appends an entry as ` entry "TITLE" protocol N "KERNEL" "LINE"`.
+/// Appends a module as ` module "FILE" "LINE"`.
+fn push_module(text: &mut String, module: &ModuleRow<&Refusing>) -> Result<(), AllocError> {
+    let file = module.file.as_str();
+    let line = module.line.as_str();
+    write!(text, " module {file:?} {line:?}")
+}
+
+/// Appends what an entry has beside its kernel: its modules, or ` initrd "FILE"`.
+fn push_form(text: &mut String, form: &EntryForm<&Refusing>) -> Result<(), AllocError> {
+    match form {
+        EntryForm::Multiboot2 { modules } => {
+            for module in &modules.rows {
+                push_module(text, module)?;
+            }
+            Ok(())
+        }
+        EntryForm::Linux { initrd: Some(file) } => {
+            let file = file.as_str();
+            write!(text, " initrd {file:?}")
+        }
+        EntryForm::Linux { initrd: None } => Ok(()),
+    }
+}
+
+/// Appends an entry as ` entry "TITLE" protocol N "KERNEL" "LINE"`, and what it has beside them.
 fn push_entry(text: &mut String, entry: &EntryRow<&Refusing>) -> Result<(), AllocError> {
     let title = entry.title.as_str();
-    let protocol = entry.protocol.number();
+    let protocol = entry.form.protocol().number();
     let kernel = entry.kernel.as_str();
     let line = entry.line.as_str();
     write!(
         text,
         " entry {title:?} protocol {protocol} {kernel:?} {line:?}"
-    )
+    )?;
+    push_form(text, &entry.form)
 }
 
 fn description_text(

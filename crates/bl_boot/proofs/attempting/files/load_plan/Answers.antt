@@ -7,7 +7,7 @@ use Rattle.bl_load.specs.Handover.{written}
 use Rattle.bl_load.specs.Planned.{handover_by, places_of}
 use Rattle.bl_load.proofs.HeldLemmas.{all_end_within}
 use Rattle.bl_load.proofs.WrittenLemmas.{written_elsewhere}
-use Rattle.bl_boot.proofs.attempting.kernel.load_plan.Goals as goal
+use Rattle.bl_boot.proofs.attempting.files.load_plan.Goals as goal
 
 pub reserve-requires-clause-forward : goal.reserve-requires-clause-forward
 reserve-requires-clause-forward g c = rw c.ranges-2.ensures

@@ -1,0 +1,12 @@
+use Rattle.std.proofs.Common.{◌≡◌, drop, map}
+use Rattle.toml.specs.View.{items_view}
+use Rattle.bl_desc.specs.Values.{each_item, in_table}
+use Rattle.bl_desc.specs.Described.{module_in}
+use Rattle.bl_desc.specs.Kept.{module_view}
+use Rattle.bl_desc.proofs.ItemLemmas.{with_front}
+use Rattle.bl_desc.proofs.modules.modules_in.Given as goal
+
+abbrev pub invariant-loop-item : goal.invariant-loop-item
+invariant-loop-item g l =
+    with_front (map module_view l.modules.items) (each_item (in_table module_in) (items_view (drop l.item-index l.items)))
+    ≡ each_item (in_table module_in) (items_view l.items)

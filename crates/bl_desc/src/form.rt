@@ -1,0 +1,47 @@
+//! What an entry has beside its kernel.
+ghost use Rattle.std.specs.Prelude.{◌≤◌, length};
+
+use crate::text::Text;
+use bl_plan::Protocol;
+use std::alloc::Allocator;
+
+/// The most modules that an entry has.
+pub const MOST_MODULES: usize = 64;
+
+/// A module of an entry: `file` names a file, and `line` is the module's line, perhaps empty.
+#[derive(Drop)]
+pub struct ModuleRow<A: Allocator> {
+    pub file: Text<A>,
+    pub line: Text<A>,
+}
+
+/// The modules of an entry, in order: at most 64.
+#[derive(Drop)]
+pub struct Modules<A: Allocator> {
+    pub rows: Vec<ModuleRow<A>, A>,
+    ghost few: { length rows.items ≤ 64 },
+}
+
+/// What an entry has beside its kernel, by its protocol: modules, or perhaps an initial ramdisk,
+/// which is the name of a file.
+#[derive(Drop)]
+pub enum EntryForm<A: Allocator> {
+    Multiboot2 { modules: Modules<A> },
+    Linux { initrd: Option<Text<A>> },
+}
+
+impl<A: Allocator> EntryForm<A> {
+    ghost use Rattle.std.specs.Prelude.{◌≡◌};
+    ghost use Rattle.bl_desc.specs.Described.{form_protocol};
+    ghost use Rattle.bl_desc.specs.Kept.{form_view};
+
+    /// The protocol.
+    pub fn protocol(&self) -> Protocol
+        ensures { result ≡ form_protocol (form_view self.now) }
+    {
+        match self {
+            EntryForm::Multiboot2 { .. } => Protocol::Multiboot2,
+            EntryForm::Linux { .. } => Protocol::Linux,
+        }
+    }
+}

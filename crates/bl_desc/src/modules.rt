@@ -1,0 +1,80 @@
+//! The modules of an entry.
+ghost use Rattle.std.specs.Prelude.{◌≡◌, [], map, codes};
+ghost use Rattle.toml.specs.View.{view, table_view, items_view};
+ghost use Rattle.bl_desc.specs.Values as values;
+ghost use Rattle.bl_desc.specs.Described as spec;
+ghost use Rattle.bl_desc.specs.Kept.{Gives, module_view};
+
+use crate::fault::DescFault;
+use crate::form::{MOST_MODULES, ModuleRow, Modules};
+use crate::keys::{at_key, has_only, text_at, text_or_empty};
+use crate::text::Text;
+use std::alloc::Allocator;
+use toml::{Table, Value};
+
+#[tactic(auto, unfolding(crate::specs::Described::module_in))]
+fn module_in<A: Allocator + Copy>(alloc: A, table: &Table) -> Result<ModuleRow<A>, DescFault>
+    ensures { Gives module_view result (spec.module_in (table_view table.now)) }
+{
+    if !has_only(table, &["file", "line"]) {
+        return Err(DescFault::BadDescription);
+    }
+    let file = text_at(table, "file")?;
+    let line = text_or_empty(table, "line")?;
+    Ok(ModuleRow {
+        file: Text::from(String::from_str(alloc, file)?),
+        line: Text::from(String::from_str(alloc, line)?),
+    })
+}
+
+/// A module, from an item of an array of tables.
+fn module_of<A: Allocator + Copy>(alloc: A, value: &Value) -> Result<ModuleRow<A>, DescFault>
+    ensures { Gives module_view result (values.in_table spec.module_in (view value.now)) }
+{
+    match value.as_table() {
+        Some(table) => module_in(alloc, table),
+        None => Err(DescFault::BadDescription),
+    }
+}
+
+fn modules_in<A: Allocator + Copy>(
+    alloc: A,
+    items: &[Value],
+) -> Result<Vec<ModuleRow<A>, A>, DescFault>
+    ensures { Gives (λ v. map module_view v.items) result
+        (values.each_item (values.in_table spec.module_in) (items_view items.now)) }
+{
+    let mut modules = Vec::new(alloc);
+    for item in items {
+        let module = module_of(alloc, item)?;
+        modules.push(module)?;
+    }
+    Ok(modules)
+}
+
+#[tactic(auto, unfolding(crate::specs::Described::modules_of))]
+fn modules_of<A: Allocator + Copy>(alloc: A, value: &Value) -> Result<Modules<A>, DescFault>
+    ensures { Gives (λ m. map module_view m.rows.items) result (spec.modules_of (view value.now)) }
+{
+    let Some(items) = value.as_array() else {
+        return Err(DescFault::BadDescription);
+    };
+    let rows = modules_in(alloc, items)?;
+    if rows.len() > MOST_MODULES {
+        return Err(DescFault::BadDescription);
+    }
+    Ok(Modules { rows })
+}
+
+/// The modules of an entry, none where it has no such key.
+pub fn modules_at<A: Allocator + Copy>(alloc: A, table: &Table) -> Result<Modules<A>, DescFault>
+    ensures { Gives (λ m. map module_view m.rows.items) result
+        (values.at_key_or [] spec.modules_of (codes "module") (table_view table.now)) }
+{
+    match at_key(table, "module") {
+        Some(value) => modules_of(alloc, value),
+        None => Ok(Modules {
+            rows: Vec::new(alloc),
+        }),
+    }
+}
