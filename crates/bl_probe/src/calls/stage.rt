@@ -161,7 +161,7 @@ fn step(
     Ok(String::from_str(alloc, said)?)
 }
 
-/// Whether the frame before `at` in the list is another one.
+/// Whether no frame is named twice.
 fn are_apart(frames: &[u64]) -> bool
     ensures { IsTrue result → AreApart frames.now }
 {
@@ -175,7 +175,7 @@ fn are_apart(frames: &[u64]) -> bool
     true
 }
 
-/// How many frames these files need, unless more than `most`.
+/// Whether these are as many frames as the files need.
 fn are_enough(sizes: &[u64], frames: &[u64]) -> bool
     ensures { IsTrue result → length frames.now ≡ frames_for sizes.now }
 {
@@ -224,8 +224,8 @@ fn begin<'h>(
     Ok(Stage::begin_at(heap, machine, sizes, frames.as_slice()))
 }
 
-/// Makes the steps. The machine and the memory stand over other heaps, so that their requests are not
-/// refused.
+/// Makes the steps. The machine and the memory stand over another heap, so that their requests are
+/// not refused.
 pub fn answer(
     alloc: Global,
     heap: &Refusing,
