@@ -14,6 +14,7 @@ mod places;
 mod plan;
 mod segments;
 mod spell;
+mod stage;
 mod table;
 mod upper;
 mod view;
@@ -62,6 +63,7 @@ pub fn make(
         ("memory", Argument::Words(words)) => memory::answer(alloc, heap, session, words),
         ("holds", Argument::Words(words)) => segments::answer_holds(alloc, words),
         ("order", Argument::Words(words)) => segments::answer_order(alloc, heap, words),
+        ("stage", Argument::Words(words)) => stage::answer(alloc, heap, session, words),
         ("spell", Argument::Words(words)) => spell::answer(alloc, session, words),
         ("view", Argument::Words(words)) => view::answer(alloc, session, words),
         ("own", Argument::Bytes(bytes)) => own::answer(alloc, heap, bytes),
