@@ -3,16 +3,16 @@ use Rattle.std.proofs.Common.{◌≡◌, ◌+◌, ◌≤◌, ◌∙◌, ℕ, suc
 use Rattle.std.specs.declared.ops.Range.{Range}
 use Rattle.bl_map.specs.MachineFacts.{MachineFacts}
 use Rattle.bl_plan.specs.Placed.{range_of}
-use Rattle.bl_load.specs.declared.plan.Planned.{Planned}
+use Rattle.bl_load.specs.declared.plan.PlannedPart.{PlannedPart}
 use Rattle.bl_load.specs.Handover.{Handover}
-use Rattle.bl_load.specs.Planned.{part_by}
+use Rattle.bl_load.specs.PlanFacts.{part_by}
 use Rattle.bl_load.specs.Kept.{lengths_of, IsBacked}
 use Rattle.bl_map.specs.Room.{frames_needed, open_frames}
 use Rattle.bl_load.proofs.HeldLemmas.{length-bytes_by}
 use Rattle.bl_boot.specs.Attempt.{part_range, ranges_of, HasRoomBeside}
 
 -- the ranges of what a plan hands over are those of its places
-pub ranges_are : {A : Type 0} (texts : List (List ℕ)) (parts : List (Planned A)) → All (IsBacked (lengths_of texts)) parts
+pub ranges_are : {A : Type 0} (texts : List (List ℕ)) (parts : List (PlannedPart A)) → All (IsBacked (lengths_of texts)) parts
     → map part_range (map (part_by texts) parts) ≡ map range_of (map (λ part. part.place) parts)
 ranges_are texts [] backed = refl
 ranges_are texts (p ∷ parts) backed =

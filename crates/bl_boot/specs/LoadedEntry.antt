@@ -2,7 +2,7 @@
 use Rattle.std.specs.Prelude.{◌≡◌, ℕ, ◌+◌, ◌-◌, ◌<◌, ◌≤◌, List, Result, length, replicate, slice_index, All}
 use Rattle.bl_map.specs.MachineFacts.{MachineFacts}
 use Rattle.bl_load.specs.Handover.{Part, Handover, written}
-use Rattle.bl_load.specs.Planned.{handover_in}
+use Rattle.bl_load.specs.PlanFacts.{handover_in}
 use Rattle.bl_load.specs.declared.refusal.Refusal.{Refusal}
 use Rattle.bl_boot.specs.Attempt.{IsRefusedOf, IsHandedOf, files_read}
 use Rattle.bl_boot.specs.Files.{Answer}

@@ -6,7 +6,7 @@ use Rattle.bl_plan.specs.declared.place.Place.{Place}
 use Rattle.bl_plan.specs.declared.protocol.Protocol.{Protocol}
 use Rattle.bl_load.specs.declared.registers.Registers.{Registers}
 use Rattle.bl_load.specs.HandoffFacts.{AreRecords}
-use Rattle.bl_load.specs.Planned.{part_in, handover_in}
+use Rattle.bl_load.specs.PlanFacts.{part_in, handover_in}
 use Rattle.bl_image.specs.Image.{register_numbers}
 use Rattle.bl_image.specs.Spellable.{FitsRecord, IsSpellable, PlaceFits, AreSpellable}
 use Rattle.bl_image.proofs.Spelled.{EndsIn, length-place_bytes}

@@ -11,7 +11,7 @@ use Rattle.bl_plan.specs.declared.place.Place.{Place}
 use Rattle.bl_plan.specs.declared.protocol.Protocol.{Protocol}
 use Rattle.bl_load.specs.declared.registers.Registers.{Registers}
 use Rattle.bl_load.specs.Handover.{Part}
-use Rattle.bl_load.specs.Planned.{part_in, handover_in}
+use Rattle.bl_load.specs.PlanFacts.{part_in, handover_in}
 use Rattle.bl_image.specs.Image.{head, record_of, part_record, place_record, place_bytes, spelling}
 
 -- the place ends inside memory

@@ -1,6 +1,6 @@
 //! Writes the image of a handoff.
 ghost use Rattle.std.specs.Prelude.{◌≡◌, ◌+◌, ◌≤◌, ◌<◌, ◌^◌, ◌++◌, length, All, OnOk, OnErr, IfErr};
-ghost use Rattle.bl_load.specs.Planned.{handover_in};
+ghost use Rattle.bl_load.specs.PlanFacts.{handover_in};
 ghost use Rattle.bl_image.specs.Begun.{IsBegun};
 ghost use Rattle.bl_image.specs.Image.{spelling};
 ghost use Rattle.bl_image.specs.Spellable.{IsSpellable};

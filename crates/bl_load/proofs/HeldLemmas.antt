@@ -11,11 +11,11 @@ use Rattle.bl_plan.specs.declared.place.Place.{Place}
 use Rattle.bl_plan.specs.Placed.{Covers, range_of}
 use Rattle.bl_load.specs.declared.plan.Content.{Content}
 use Rattle.bl_load.specs.declared.plan.Content.TheVariants.{Own, File, Block}
-use Rattle.bl_load.specs.declared.plan.Planned.{Planned}
+use Rattle.bl_load.specs.declared.plan.PlannedPart.{PlannedPart}
 use Rattle.bl_load.specs.declared.plan.Plan.{Plan}
 use Rattle.bl_load.specs.Handover.{part_at, written}
 use Rattle.bl_load.specs.Place.{place_of}
-use Rattle.bl_load.specs.Planned.{file_text, content_by, bytes_by, part_by, part_in, places_of}
+use Rattle.bl_load.specs.PlanFacts.{file_text, content_by, bytes_by, part_by, part_in, places_of}
 use Rattle.bl_load.specs.HandoffFacts.{Ascends}
 use Rattle.bl_load.specs.Kept.{lengths_of, content_length, IsThere, IsBacked, IsLoadable, CanLoad}
 use Rattle.bl_load.proofs.BlockLemmas.{length-block_of}
@@ -68,7 +68,7 @@ length-content_by texts (File file offset count) there =
 length-content_by texts (Block file segments) there = length-block_of (file_text texts file) segments.items
 
 -- a part has as many bytes as its place
-pub length-bytes_by : {A : Type 0} (texts : List (List ℕ)) (part : Planned A) → IsBacked (lengths_of texts) part → length (bytes_by texts part) ≡ part.place.length
+pub length-bytes_by : {A : Type 0} (texts : List (List ℕ)) (part : PlannedPart A) → IsBacked (lengths_of texts) part → length (bytes_by texts part) ≡ part.place.length
 length-bytes_by texts part backed =
     let own = length-content_by texts part.content backed.there in
     let short = backed.short in
@@ -100,7 +100,7 @@ module _ {A : Type 0} (texts : List (List ℕ)) (size : ℕ) (plan : Plan A) (lo
       omega arith)
 
   -- memory reads back as each part
-  held_at : (m : List ℕ) (k : ℕ) (d : Planned A) → length m ≡ size → k < length plan.parts.items
+  held_at : (m : List ℕ) (k : ℕ) (d : PlannedPart A) → length m ≡ size → k < length plan.parts.items
       → part_in (written (map (part_by texts) plan.parts.items) m) (get_or plan.parts.items k d).place ≡ part_by texts (get_or plan.parts.items k d)
   held_at m k d is within =
       let parts = map (part_by texts) plan.parts.items in

@@ -12,7 +12,7 @@ use Rattle.bl_load.specs.KernelKept.{IsKernelFault}
 use Rattle.bl_load.specs.Rows.{rows_of}
 use Rattle.bl_load.specs.Parts.{IsHandover, IsPrepFault}
 use Rattle.bl_load.specs.PlacingKept.{IsPlaceFault, IsPlacedHandover}
-use Rattle.bl_load.specs.Planned.{file_text}
+use Rattle.bl_load.specs.PlanFacts.{file_text}
 
 -- the kernel's file is the first
 pub first_text : {V : Type 0} (bytes : V → List ℕ) (files : List V) (file : V) → 1 ≤ length files → file ≡ get_or files 0 file → bytes file ≡ file_text (map bytes files) 0

@@ -6,12 +6,12 @@ use Rattle.bl_plan.specs.declared.role.Role.{Role}
 use Rattle.bl_plan.specs.declared.role.Role.TheVariants.{Information}
 use Rattle.bl_load.specs.declared.plan.Content.{Content}
 use Rattle.bl_load.specs.declared.plan.Content.TheVariants.{Own, File, Block}
-use Rattle.bl_load.specs.declared.plan.Planned.{Planned}
+use Rattle.bl_load.specs.declared.plan.PlannedPart.{PlannedPart}
 use Rattle.bl_load.specs.declared.plan.Plan.{Plan}
 use Rattle.bl_load.specs.declared.entry.Module.{Module}
 use Rattle.bl_load.specs.Blocks.{span_of}
 use Rattle.bl_load.specs.HandoffFacts.{AreRecords}
-use Rattle.bl_load.specs.Planned.{places_of}
+use Rattle.bl_load.specs.PlanFacts.{places_of}
 
 -- the lengths of files
 abbrev pub lengths_of : List (List ℕ) → List ℕ
@@ -44,7 +44,7 @@ content_length (File file offset count) = count
 content_length (Block file segments) = span_of segments.items
 
 -- the content is there and no longer than its place
-pub record IsBacked {A : Type 0} (lengths : List ℕ) (part : Planned A) : Type 0 where
+pub record IsBacked {A : Type 0} (lengths : List ℕ) (part : PlannedPart A) : Type 0 where
   pub there : IsThere lengths part.content
   pub short : content_length part.content ≤ part.place.length
 
@@ -55,7 +55,7 @@ StaysInFiles role (File file offset count) = Unit {0}
 StaysInFiles role (Block file segments) = Unit {0}
 
 -- a plan holds none of the files' bytes, so it takes no memory in proportion to what a header claims
-abbrev pub IsLean : {A : Type 0} → List (Planned A) → Type 0
+abbrev pub IsLean : {A : Type 0} → List (PlannedPart A) → Type 0
 IsLean parts = All (λ part. StaysInFiles part.place.role part.content) parts
 
 -- a plan can be loaded out of files of these lengths into memory of this size: its contents are there, and its places
@@ -66,7 +66,7 @@ pub record IsLoadable {A : Type 0} (lengths : List ℕ) (size : ℕ) (plan : Pla
   pub records : AreRecords (places_of plan)
 
 -- a part can be loaded: it is backed, and memory has its place with room
-pub record CanLoad {A : Type 0} (lengths : List ℕ) (size : ℕ) (room : ℕ → Type 0) (part : Planned A) : Type 0 where
+pub record CanLoad {A : Type 0} (lengths : List ℕ) (size : ℕ) (room : ℕ → Type 0) (part : PlannedPart A) : Type 0 where
   pub there : IsThere lengths part.content
   pub short : content_length part.content ≤ part.place.length
   pub inside : part.place.address + part.place.length ≤ size

@@ -1,7 +1,7 @@
 pub mod Place
 pub mod Handover
 pub mod Blocks
-pub mod Planned
+pub mod PlanFacts
 pub mod Kept
 pub mod HandoffFacts
 pub mod Value

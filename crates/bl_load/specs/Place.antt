@@ -1,6 +1,6 @@
 -- The place of what is planned.
 use Rattle.bl_plan.specs.declared.place.Place.{Place}
-use Rattle.bl_load.specs.declared.plan.Planned.{Planned}
+use Rattle.bl_load.specs.declared.plan.PlannedPart.{PlannedPart}
 
-abbrev pub place_of : {A : Type 0} → Planned A → Place
+abbrev pub place_of : {A : Type 0} → PlannedPart A → Place
 place_of part = part.place

@@ -8,14 +8,14 @@ ghost use Rattle.bl_load.specs.Rows.{module_length};
 ghost use Rattle.bl_load.specs.Parts as parts;
 ghost use Rattle.bl_load.specs.Parts.{content_of, part_from};
 ghost use Rattle.bl_load.specs.Place.{place_of};
-ghost use Rattle.bl_load.specs.Planned.{content_by, part_by, file_text};
+ghost use Rattle.bl_load.specs.PlanFacts.{content_by, part_by, file_text};
 ghost use Rattle.bl_load.specs.Kept.{lengths_of, content_length, IsThere, IsBacked, StaysInFiles, IsLean, lines_by};
 ghost use Rattle.bl_load.specs.PlacingKept.{HasKernelLength, IsRowed, IsLow, ModulesEndLow};
 
 use crate::entry::Module;
 use crate::information::information;
 use crate::kernel::Kernel;
-use crate::plan::{Content, Planned};
+use crate::plan::{Content, PlannedPart};
 use bl_map::Machine;
 use bl_mem::ByteView;
 use bl_plan::{Place, Role, in_order};
@@ -130,7 +130,7 @@ pub fn parts_at<A: Allocator + Copy, V: ByteView>(
     files: &[V],
     places: &[Place],
     sorted: &[Place],
-) -> Result<Vec<Planned<A>, A>, AllocError>
+) -> Result<Vec<PlannedPart<A>, A>, AllocError>
     requires sound { line_fault line.now ≡ None }
     requires line { length line.now ≤ 4095 }
     requires sound_modules { All (λ m. line_fault m.line ≡ None) modules.now }
@@ -154,7 +154,7 @@ pub fn parts_at<A: Allocator + Copy, V: ByteView>(
     let mut parts = Vec::with_capacity(alloc, sorted.len())?;
     for place in sorted {
         let content = content_at(alloc, machine, line, modules, kernel, files, places, place)?;
-        parts.push(Planned {
+        parts.push(PlannedPart {
             place: *place,
             content,
         })?;

@@ -1,5 +1,5 @@
 //! What a kernel is handed.
-use crate::plan::Planned;
+use crate::plan::PlannedPart;
 use crate::registers::Registers;
 use bl_plan::{Place, Protocol};
 use std::alloc::Allocator;
@@ -12,7 +12,7 @@ use std::ops::Range;
 pub struct Handoff<A: Allocator> {
     pub(crate) protocol: Protocol,
     pub(crate) registers: Registers,
-    pub(crate) parts: Vec<Planned<A>, A>,
+    pub(crate) parts: Vec<PlannedPart<A>, A>,
     pub(crate) ranges: Vec<Range<u64>, A>,
 }
 

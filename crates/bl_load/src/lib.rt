@@ -26,7 +26,7 @@ pub use laws::{
     parts_are_apart_and_usable,
 };
 pub use loading::load;
-pub use plan::{Content, Plan, Planned};
+pub use plan::{Content, Plan, PlannedPart};
 pub use preparing::prepare;
 pub use refusal::{PrepFault, Refusal};
 pub use registers::Registers;

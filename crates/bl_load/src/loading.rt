@@ -3,13 +3,13 @@ ghost use Rattle.std.specs.Prelude.{◌≡◌, ℕ, ◌+◌, ◌-◌, ◌<◌, �
 ghost use Rattle.bl_mem.specs.Memory.{overwrite, HasRoom, AllHaveRoom, KeepsRoom};
 ghost use Rattle.bl_plan.specs.Placed.{Covers, range_of};
 ghost use Rattle.bl_load.specs.Handover.{written};
-ghost use Rattle.bl_load.specs.Planned.{content_by, bytes_by, part_by, handover_by, handover_in, places_of};
+ghost use Rattle.bl_load.specs.PlanFacts.{content_by, bytes_by, part_by, handover_by, handover_in, places_of};
 ghost use Rattle.bl_load.specs.Kept.{lengths_of, content_length, IsThere, CanLoad, IsLoadable};
 
 use crate::blocks::load_block;
 use crate::copying::copy;
 use crate::handoff::Handoff;
-use crate::plan::{Content, Plan, Planned};
+use crate::plan::{Content, Plan, PlannedPart};
 use bl_mem::{ByteView, PhysMem};
 use std::alloc::Allocator;
 
@@ -48,7 +48,7 @@ fn load_content<M: PhysMem, V: ByteView, A: Allocator>(
 }
 
 /// Writes a part.
-fn load_part<M: PhysMem, V: ByteView, A: Allocator>(memory: &mut M, part: &Planned<A>, files: &[V])
+fn load_part<M: PhysMem, V: ByteView, A: Allocator>(memory: &mut M, part: &PlannedPart<A>, files: &[V])
     requires { CanLoad (lengths_of (map V.bytes files.now)) (length (M.bytes memory.old))
         (M.room memory.old) part.now }
     ensures after { M.bytes memory.new ≡ overwrite (M.bytes memory.old) part.now.place.address
@@ -66,7 +66,7 @@ fn load_part<M: PhysMem, V: ByteView, A: Allocator>(memory: &mut M, part: &Plann
 /// Writes the parts, one after the other.
 fn load_parts<M: PhysMem, V: ByteView, A: Allocator>(
     memory: &mut M,
-    parts: &[Planned<A>],
+    parts: &[PlannedPart<A>],
     files: &[V],
 )
     requires { All (CanLoad (lengths_of (map V.bytes files.now)) (length (M.bytes memory.old))

@@ -15,14 +15,14 @@ ghost use Rattle.bl_load.specs.Registers as state;
 ghost use Rattle.bl_load.specs.PlacingKept as kept;
 ghost use Rattle.bl_load.specs.PlacingKept.{IsLow, IsPlacedHandover, IsPlaceFault};
 ghost use Rattle.bl_load.specs.Place.{place_of};
-ghost use Rattle.bl_load.specs.Planned.{handover_by, file_text};
+ghost use Rattle.bl_load.specs.PlanFacts.{handover_by, file_text};
 ghost use Rattle.bl_load.specs.Kept.{lengths_of, IsLoadable, IsLean, lines_by};
 
 use crate::addresses::address_of;
 use crate::contents::parts_at;
 use crate::entry::Module;
 use crate::kernel::Kernel;
-use crate::plan::{Plan, Planned};
+use crate::plan::{Plan, PlannedPart};
 use crate::refusal::{PrepFault, Refusal};
 use crate::registers::Registers;
 use crate::rows::{low_of, rows_of};
@@ -106,7 +106,7 @@ fn registers_of<A: Allocator>(kernel: &Kernel<A>, places: &[Place]) -> Registers
 /// The ranges of parts.
 fn ranges_of<A: Allocator + Copy>(
     alloc: A,
-    parts: &[Planned<A>],
+    parts: &[PlannedPart<A>],
 ) -> Result<Vec<Range<u64>, A>, AllocError>
     requires { All (λ place. place.address + place.length < 2 ^ 64) (map place_of parts.now) }
     ensures { IfOk result (λ ranges. ranges.items ≡ map range_of (map place_of parts.now)) }

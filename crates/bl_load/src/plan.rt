@@ -31,7 +31,7 @@ pub enum Content<A: Allocator> {
 
 /// A place with its content. Behind its content it has zeros.
 #[derive(Drop)]
-pub struct Planned<A: Allocator> {
+pub struct PlannedPart<A: Allocator> {
     pub place: Place,
     pub content: Content<A>,
 }
@@ -41,7 +41,7 @@ pub struct Planned<A: Allocator> {
 pub struct Plan<A: Allocator> {
     pub protocol: Protocol,
     pub registers: Registers,
-    pub parts: Vec<Planned<A>, A>,
+    pub parts: Vec<PlannedPart<A>, A>,
     pub ranges: Vec<Range<u64>, A>,
     ghost ranges_are: { ranges.items ≡ map range_of (map place_of parts.items) },
 }
@@ -49,7 +49,7 @@ pub struct Plan<A: Allocator> {
 impl<A: Allocator> Plan<A> {
     ghost use Rattle.std.specs.Prelude.{◌≡◌, map};
     ghost use Rattle.bl_plan.specs.Placed.{range_of};
-    ghost use Rattle.bl_load.specs.Planned.{places_of};
+    ghost use Rattle.bl_load.specs.PlanFacts.{places_of};
 
     /// The ranges of the parts, in address order.
     pub fn ranges(&self) -> &[Range<u64>]

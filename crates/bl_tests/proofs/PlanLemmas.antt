@@ -3,7 +3,7 @@ use Rattle.std.proofs.Common.{◌≡◌, ℕ, ◌+◌, ◌≤◌, ◌^◌, List,
 use Rattle.std.proofs.lemmas.List.Elements.{All-cons, All-nil}
 use Rattle.bl_plan.specs.declared.place.Place.{Place}
 use Rattle.bl_load.specs.declared.plan.Content.TheVariants.{File}
-use Rattle.bl_load.specs.declared.plan.Planned.{Planned}
+use Rattle.bl_load.specs.declared.plan.PlannedPart.{PlannedPart}
 use Rattle.bl_load.specs.declared.plan.Plan.{Plan}
 use Rattle.bl_load.specs.HandoffFacts.{Ascends, AreRecords}
 use Rattle.bl_load.specs.Kept.{IsBacked, IsLoadable}
@@ -20,7 +20,7 @@ pairs_two : {X : Type 0} (R : X → X → Type 0) (a b : X) → R a b → AllPai
 pairs_two R a b ab = pairs_more R a (b ∷ []) (All-cons (R a) b [] ab (All-nil (R a))) (λ i j e ij within. absurd (omega arith))
 
 -- as many bytes of the file as the place has
-abbrev pub part_of : {A : Type 0} → Place → ℕ → Planned A
+abbrev pub part_of : {A : Type 0} → Place → ℕ → PlannedPart A
 part_of place offset = record { place = place; content = File 0 offset place.length }
 
 file_backed : {A : Type 0} (size : ℕ) (place : Place) (offset : ℕ) → offset + place.length ≤ size → IsBacked {A = A} (size ∷ []) (part_of place offset)

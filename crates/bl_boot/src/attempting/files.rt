@@ -1,6 +1,6 @@
 //! An attempt with the files of an entry.
 ghost use Rattle.std.specs.Prelude.{◌≡◌, ℕ, ◌≤◌, ◌^◌, List, [], Ok, IfOk, MatchBool, MatchOption, length, map};
-ghost use Rattle.bl_load.specs.Planned.{handover_by};
+ghost use Rattle.bl_load.specs.PlanFacts.{handover_by};
 ghost use Rattle.bl_load.specs.Kept.{lengths_of, IsLoadable};
 ghost use Rattle.bl_map.specs.Room.{frames_in, frames_needed, AreAscending};
 ghost use Rattle.bl_map.specs.Room as room;

@@ -3,7 +3,7 @@ ghost use Rattle.std.specs.Prelude.{◌≡◌, ℕ, ◌+◌, ◌≤◌, ◌^◌,
 ghost use Rattle.bl_load.specs.declared.plan.Content.TheVariants.{File};
 ghost use Rattle.bl_load.specs.Kept.{IsLoadable};
 
-use bl_load::{Content, Handoff, Plan, Planned, Protocol, Registers, load};
+use bl_load::{Content, Handoff, Plan, PlannedPart, Protocol, Registers, load};
 use bl_mem::{Flat, SliceView};
 use bl_plan::{Place, Role};
 use std::alloc::{AllocError, Allocator};
@@ -44,13 +44,13 @@ fn file_of<A: Allocator>(alloc: A, count: u64) -> Result<Vec<u8, A>, AllocError>
 }
 
 // A part of as many bytes of the file, from an offset on.
-fn part<A: Allocator>(role: Role, index: u32, address: u64, offset: u64, count: u64) -> Planned<A>
+fn part<A: Allocator>(role: Role, index: u32, address: u64, offset: u64, count: u64) -> PlannedPart<A>
     ensures { result ≡ record {
       place = record { role = role; index = index; address = address; length = count };
       content = File 0 offset count;
     } }
 {
-    Planned {
+    PlannedPart {
         place: Place {
             role,
             index,

@@ -3,14 +3,14 @@ use Rattle.std.proofs.lemmas.List.{map-append, take_more}
 use Rattle.std.proofs.lemmas.List.Elements.{All-push}
 use Rattle.bl_plan.specs.declared.place.Place.{Place}
 use Rattle.bl_plan.specs.declared.role.Role.TheVariants.{Kernel}
-use Rattle.bl_load.specs.declared.plan.Planned.{Planned}
+use Rattle.bl_load.specs.declared.plan.PlannedPart.{PlannedPart}
 use Rattle.bl_load.specs.Value.{multiboot2_value}
 use Rattle.bl_load.specs.Reading.{multiboot2}
 use Rattle.bl_load.specs.KernelKept.{kernel_by}
 use Rattle.bl_load.specs.Handover.{Part, part_at, filled}
 use Rattle.bl_load.specs.Parts.{part_from}
 use Rattle.bl_load.specs.Place.{place_of}
-use Rattle.bl_load.specs.Planned.{part_by}
+use Rattle.bl_load.specs.PlanFacts.{part_by}
 use Rattle.bl_load.specs.Kept.{lines_by, lengths_of, IsBacked, StaysInFiles}
 use Rattle.bl_load.proofs.contents.parts_at.Goals as goal
 
@@ -18,14 +18,14 @@ pub loop-place-preserved : goal.loop-place-preserved
 loop-place-preserved g c =
     let texts = map g.V.ByteView.bytes c.args.files.now in
     let from : Place → Part = part_from c.args.machine.now (multiboot2_value texts c.args.line.now (lines_by c.args.modules.now)) (multiboot2 (kernel_by c.args.kernel.now)) c.args.places.now in
-    let by : Planned g.row.A.Denot → Part = part_by texts in
-    let stays : Planned g.row.A.Denot → Type 0 = λ part. StaysInFiles part.place.role part.content in
-    let place_in : Planned g.row.A.Denot → Place = place_of in
+    let by : PlannedPart g.row.A.Denot → Part = part_by texts in
+    let stays : PlannedPart g.row.A.Denot → Type 0 = λ part. StaysInFiles part.place.role part.content in
+    let place_in : PlannedPart g.row.A.Denot → Place = place_of in
     let k = c.loop-place.place-index in
     let all = c.args.sorted.now in
     let none : Place = record { role = Kernel; index = 0; address = 0; length = 0 } in
     let place = get_or all k none in
-    let new : Planned g.row.A.Denot = record { place = place; content = c.in_ok-content.content } in
+    let new : PlannedPart g.row.A.Denot = record { place = place; content = c.in_ok-content.content } in
     let more = take_more all k none c.loop-place-test.true in
     let i = c.loop-place.invariant in
     let items = c.in_ok-push.ensures.items in

@@ -4,7 +4,7 @@ use Rattle.bl_load.specs.Reading.{multiboot2}
 use Rattle.bl_load.specs.KernelKept.{kernel_by}
 use Rattle.bl_load.specs.Parts.{part_from}
 use Rattle.bl_load.specs.Place.{place_of}
-use Rattle.bl_load.specs.Planned.{part_by}
+use Rattle.bl_load.specs.PlanFacts.{part_by}
 use Rattle.bl_load.specs.Kept.{lines_by, lengths_of, IsBacked, IsLean}
 use Rattle.bl_load.proofs.contents.parts_at.Given as goal
 

@@ -1,7 +1,7 @@
 use Rattle.std.proofs.Common.{◌≡◌, List, map, length, refl, ap, ◌∙◌, slice_index}
-use Rattle.bl_load.specs.declared.plan.Planned.{Planned}
+use Rattle.bl_load.specs.declared.plan.PlannedPart.{PlannedPart}
 use Rattle.bl_load.specs.Handover.{Part, Handover, written}
-use Rattle.bl_load.specs.Planned.{part_by}
+use Rattle.bl_load.specs.PlanFacts.{part_by}
 use Rattle.bl_load.proofs.HeldLemmas.{can_load, all_end_within, all_are_before, held, held_elsewhere}
 use Rattle.bl_load.proofs.WrittenLemmas.{written_in}
 use Rattle.bl_load.proofs.loading.load.Goals as goal
@@ -11,7 +11,7 @@ load_parts-requires g c = rw c.as_slice.ensures.value (can_load (map g.V.ByteVie
 
 -- the plan's parts are written
 is_written : (g : _) (c : goal.After-load_parts g) → g.M.PhysMem.bytes c.load_parts.new.memory ≡ written (map (part_by (map g.V.ByteView.bytes c.args.files.now)) c.args.plan.parts.items) (g.M.PhysMem.bytes c.args.memory.now)
-is_written g c = c.load_parts.ensures.after ∙ ap (λ (ps : List (Planned g.row.A.Denot)). written (map (part_by (map g.V.ByteView.bytes c.args.files.now)) ps) (g.M.PhysMem.bytes c.args.memory.now)) c.as_slice.ensures.value
+is_written g c = c.load_parts.ensures.after ∙ ap (λ (ps : List (PlannedPart g.row.A.Denot)). written (map (part_by (map g.V.ByteView.bytes c.args.files.now)) ps) (g.M.PhysMem.bytes c.args.memory.now)) c.as_slice.ensures.value
 
 pub returns-clause-handed : goal.returns-clause-handed
 returns-clause-handed g c =

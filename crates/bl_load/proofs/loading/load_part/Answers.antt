@@ -1,5 +1,5 @@
 use Rattle.std.proofs.Common.{◌≤◌, length, map, refl, sym, ◌∙◌, arith}
-use Rattle.bl_load.specs.Planned.{content_by}
+use Rattle.bl_load.specs.PlanFacts.{content_by}
 use Rattle.bl_load.proofs.HeldLemmas.{length-content_by}
 use Rattle.bl_load.proofs.WrittenLemmas.{zeros_behind}
 use Rattle.bl_load.proofs.loading.load_part.Goals as goal

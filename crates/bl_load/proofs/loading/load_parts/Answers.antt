@@ -1,7 +1,7 @@
 use Rattle.std.proofs.Common.{map, ◌∙◌, arith}
 use Rattle.std.proofs.lemmas.List.{drop_more}
 use Rattle.bl_mem.proofs.Overwrites.{length-overwrite}
-use Rattle.bl_load.specs.Planned.{bytes_by}
+use Rattle.bl_load.specs.PlanFacts.{bytes_by}
 use Rattle.bl_load.proofs.HeldLemmas.{length-bytes_by}
 use Rattle.bl_load.proofs.loading.load_parts.Goals as goal
 

@@ -1,7 +1,7 @@
 use Rattle.std.proofs.Common.{◌≡◌, length, drop, map}
 use Rattle.bl_mem.specs.Memory.{KeepsRoom}
 use Rattle.bl_load.specs.Handover.{written}
-use Rattle.bl_load.specs.Planned.{part_by}
+use Rattle.bl_load.specs.PlanFacts.{part_by}
 use Rattle.bl_load.proofs.loading.load_parts.Given as goal
 
 -- what is left to write leads to what all of it leads to

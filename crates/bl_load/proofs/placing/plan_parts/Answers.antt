@@ -13,7 +13,7 @@ use Rattle.bl_plan.specs.Order.{in_order, place_key}
 use Rattle.bl_load.specs.Value.{multiboot2_value}
 use Rattle.bl_load.specs.Reading.{multiboot2}
 use Rattle.bl_load.specs.Place.{place_of}
-use Rattle.bl_load.specs.Planned.{file_text}
+use Rattle.bl_load.specs.PlanFacts.{file_text}
 use Rattle.bl_load.specs.HandoffFacts.{AreRecords}
 use Rattle.bl_load.specs.PlacingKept.{IsRowed}
 use Rattle.bl_load.specs.Rows.{rows_of}

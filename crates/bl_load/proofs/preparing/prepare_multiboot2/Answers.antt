@@ -3,7 +3,7 @@ use Rattle.std.proofs.lemmas.Result.{IfOk-weaker, IfErr-weaker, err_from_is_err_
 use Rattle.bl_load.specs.KernelKept.{kernel_by, AreLoadable, IsKernelFault}
 use Rattle.bl_load.specs.Kernel.{IsKernel}
 use Rattle.bl_load.specs.Kept.{lines_by}
-use Rattle.bl_load.specs.Planned.{handover_by}
+use Rattle.bl_load.specs.PlanFacts.{handover_by}
 use Rattle.bl_load.specs.Value.{line_fault, lines_fault}
 use Rattle.bl_load.proofs.LineLemmas.{sound_short, first_sound, all_sound}
 use Rattle.bl_load.proofs.PrepareLemmas.{first_text, prepared, refused_kernel, refused_places}

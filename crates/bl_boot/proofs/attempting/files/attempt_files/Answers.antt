@@ -1,5 +1,5 @@
 use Rattle.std.proofs.Common.{◌∙◌, ℕ, List, map, rules, sym, refl, inl, inr}
-use Rattle.bl_load.specs.Planned.{handover_by, places_of}
+use Rattle.bl_load.specs.PlanFacts.{handover_by, places_of}
 use Rattle.bl_load.proofs.RangeLemmas.{ranges_ascend}
 use Rattle.bl_boot.specs.Attempt.{FitsPool}
 use Rattle.bl_boot.proofs.AttemptLemmas.{ranges_are, room_beside, no_room_beside}

@@ -4,7 +4,7 @@ use Rattle.std.proofs.lemmas.List.Elements.{All-map}
 use Rattle.std.specs.declared.ops.Range.{Range}
 use Rattle.bl_plan.specs.Placed.{range_of}
 use Rattle.bl_load.specs.Handover.{written}
-use Rattle.bl_load.specs.Planned.{handover_by, places_of}
+use Rattle.bl_load.specs.PlanFacts.{handover_by, places_of}
 use Rattle.bl_load.proofs.HeldLemmas.{all_end_within}
 use Rattle.bl_load.proofs.WrittenLemmas.{written_elsewhere}
 use Rattle.bl_boot.proofs.attempting.files.load_plan.Goals as goal

@@ -3,7 +3,7 @@ use Rattle.std.specs.Prelude.{ℕ, ◌+◌, List, [], map, slice_range, slice_in
 use Rattle.bl_plan.specs.declared.place.Place.{Place}
 use Rattle.bl_load.specs.declared.plan.Content.{Content}
 use Rattle.bl_load.specs.declared.plan.Content.TheVariants.{Own, File, Block}
-use Rattle.bl_load.specs.declared.plan.Planned.{Planned}
+use Rattle.bl_load.specs.declared.plan.PlannedPart.{PlannedPart}
 use Rattle.bl_load.specs.declared.plan.Plan.{Plan}
 use Rattle.bl_plan.specs.declared.protocol.Protocol.{Protocol}
 use Rattle.bl_load.specs.declared.registers.Registers.{Registers}
@@ -20,10 +20,10 @@ content_by texts (Own bytes) = bytes
 content_by texts (File file offset count) = slice_range (file_text texts file) offset (offset + count)
 content_by texts (Block file segments) = block_of (file_text texts file) segments.items
 
-abbrev pub bytes_by : {A : Type 0} → List (List ℕ) → Planned A → List ℕ
+abbrev pub bytes_by : {A : Type 0} → List (List ℕ) → PlannedPart A → List ℕ
 bytes_by texts part = filled part.place.length (content_by texts part.content)
 
-abbrev pub part_by : {A : Type 0} → List (List ℕ) → Planned A → Part
+abbrev pub part_by : {A : Type 0} → List (List ℕ) → PlannedPart A → Part
 part_by texts part = part_at part.place (bytes_by texts part)
 
 -- what a plan hands over
