@@ -8,7 +8,7 @@ use Rattle.bl_mem.specs.declared.segment.Segment.{Segment}
 use Rattle.bl_mem.specs.Contents.{holds}
 use Rattle.bl_map.specs.MachineFacts.{MachineFacts}
 use Rattle.bl_mb2head.specs.declared.relocation.Relocation.{Relocation}
-use Rattle.bl_plan.specs.PlannedPart.{put_in}
+use Rattle.bl_plan.specs.Planned.{put_in}
 use Rattle.std.proofs.lemmas.Bool.{cond_both}
 use Rattle.bl_plan.specs.Placed.{ArePlaced, place_at, range_of}
 use Rattle.bl_plan.specs.declared.row.Row.{Row}

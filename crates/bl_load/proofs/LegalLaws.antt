@@ -11,7 +11,7 @@ use Rattle.bl_mem.specs.Memory.{IsIn}
 use Rattle.bl_map.specs.MachineFacts.{MachineFacts}
 use Rattle.bl_plan.specs.Permitted.{AllOpen, IsPermitted, IsPreferred}
 use Rattle.bl_plan.specs.Placed.{ArePlaced, IsChosen, IsApart, range_of}
-use Rattle.bl_plan.specs.PlannedPart.{put_in}
+use Rattle.bl_plan.specs.Planned.{put_in}
 use Rattle.bl_plan.specs.declared.choice.Choice.{Choice}
 use Rattle.bl_plan.specs.declared.choice.Choice.TheVariants.{Fixed, Lowest, Highest, Preferred}
 use Rattle.bl_plan.specs.declared.row.Row.{Row}

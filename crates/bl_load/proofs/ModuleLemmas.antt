@@ -13,7 +13,7 @@ use Rattle.bl_map.specs.MachineFacts.{MachineFacts}
 use Rattle.bl_map.specs.Limits.{most_size}
 use Rattle.bl_map.specs.Room.{whole_frames}
 use Rattle.bl_plan.specs.Placed.{ArePlaced, IsFirstFault, IsChosen, HasFault, IsPlacingFault, place_at, range_of}
-use Rattle.bl_plan.specs.PlannedPart.{put_in}
+use Rattle.bl_plan.specs.Planned.{put_in}
 use Rattle.bl_plan.specs.Roles.{role_number}
 use Rattle.bl_plan.specs.declared.choice.Choice.TheVariants.{Lowest}
 use Rattle.bl_plan.specs.declared.fault.PlanFault.{PlanFault}

@@ -9,7 +9,7 @@ use Rattle.bl_map.specs.MachineFacts.{MachineFacts}
 use Rattle.bl_elf.specs.Elf.{AreApart}
 use Rattle.bl_mb2head.specs.declared.relocation.Relocation.{Relocation}
 use Rattle.bl_plan.specs.Permitted.{AllOpen}
-use Rattle.bl_plan.specs.PlannedPart.{put_in}
+use Rattle.bl_plan.specs.Planned.{put_in}
 use Rattle.bl_plan.specs.Placed.{IsFirstFault, HasFault, place_at, range_of}
 use Rattle.bl_plan.specs.declared.choice.Choice.TheVariants.{Fixed, Lowest, Highest, Preferred}
 use Rattle.bl_plan.specs.declared.fault.PlanFault.TheVariants.{Overlap}
