@@ -13,9 +13,9 @@ use Rattle.bl_line.specs.declared.fault.LineFault.TheVariants.{Help, Refused, No
 use Rattle.bl_line.specs.declared.job.Order.{Order}
 use Rattle.bl_line.specs.declared.job.Order.TheVariants.{Forward, Reverse}
 use Rattle.bl_line.specs.declared.job.Job.{Job}
-use Rattle.bl_line.specs.declared.job.Job.TheVariants.{Boot, Map}
+use Rattle.bl_line.specs.declared.job.Job.TheVariants.{Boot, Map, Walk}
 
--- ---- the command: boot DESC --out IMAGE [--order forward|reverse], or map DESC
+-- ---- the command: boot DESC --out IMAGE [--order forward|reverse], map DESC, or walk IMAGE
 
 -- the parser takes the two orders by name
 abbrev pub IsOrderParser : ValueParser → Type 0
@@ -43,6 +43,13 @@ boot_app parser =
 abbrev pub map_app : App
 map_app = with_rule (new_app (codes "map")) desc_rule
 
+-- the image, which must be given
+abbrev pub image_rule : Rule
+image_rule = record (new_rule (codes "image")) { required = true }
+
+abbrev pub walk_app : App
+walk_app = with_rule (new_app (codes "walk")) image_rule
+
 -- a subcommand must be given, and `help` is none
 abbrev pub top_app : App
 top_app = record {
@@ -51,7 +58,8 @@ top_app = record {
 }
 
 abbrev pub line_app : ValueParser → App
-line_app parser = with_subcommand (with_subcommand top_app (boot_app parser).top) map_app.top
+line_app parser =
+    with_subcommand (with_subcommand (with_subcommand top_app (boot_app parser).top) map_app.top) walk_app.top
 
 -- ---- the job
 
@@ -69,6 +77,8 @@ IsJobOf chosen (Boot description image order) = (bytes_eq chosen.0 (codes "boot"
     × (order ≡ order_named (text_of (codes "order") chosen.1))
 IsJobOf chosen (Map description) = (bytes_eq chosen.0 (codes "map") ≡ true)
     × (description.now ≡ text_of (codes "desc") chosen.1)
+IsJobOf chosen (Walk image) = (bytes_eq chosen.0 (codes "walk") ≡ true)
+    × (image.now ≡ text_of (codes "image") chosen.1)
 
 -- clap's own definition has no fault for the words, and its matches tell the job
 abbrev pub Tells : List Text → Job → Type 0

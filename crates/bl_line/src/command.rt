@@ -2,7 +2,7 @@
 ghost use Rattle.std.specs.Prelude.{◌≡◌, false, IfOk};
 ghost use Rattle.clap.specs.Words.{app_of};
 ghost use Rattle.clap.specs.declared.builder.command.Command.TheViews.{out-Command as fields_of};
-ghost use Rattle.bl_line.specs.Lines.{WithOrders, boot_app, map_app, line_app};
+ghost use Rattle.bl_line.specs.Lines.{WithOrders, boot_app, map_app, walk_app, line_app};
 
 use clap::{Arg, Command};
 use std::alloc::{AllocError, Global};
@@ -29,14 +29,23 @@ fn map_command<'a>(global: Global) -> Result<Command<'a>, AllocError>
     Command::new(global, "map").arg(desc)
 }
 
+fn walk_command<'a>(global: Global) -> Result<Command<'a>, AllocError>
+    ensures local { IfOk result (λ c. (fields_of c).has_globals ≡ false) }
+    ensures app { IfOk result (λ c. app_of c ≡ walk_app) }
+{
+    let image = Arg::new(global, "image").required(true);
+    Command::new(global, "walk").arg(image)
+}
+
 /// The program's command, with its subcommands.
 pub fn line_command<'a>(global: Global) -> Result<Command<'a>, AllocError>
     ensures { IfOk result (λ c. WithOrders (λ parser. app_of c ≡ line_app parser)) }
 {
     let boot = boot_command(global)?;
     let map = map_command(global)?;
+    let walk = walk_command(global)?;
     let top = Command::new(global, "bootcore")
         .subcommand_required(true)
         .disable_help_subcommand(true);
-    top.subcommand(boot)?.subcommand(map)
+    top.subcommand(boot)?.subcommand(map)?.subcommand(walk)
 }

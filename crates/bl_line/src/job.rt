@@ -20,4 +20,8 @@ pub enum Job<'a> {
     Map {
         description: &'a str,
     },
+    /// Say what a kernel sees in an image.
+    Walk {
+        image: &'a str,
+    },
 }

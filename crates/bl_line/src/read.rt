@@ -36,17 +36,22 @@ fn order_named(text: &str) -> Order
 /// The job of a subcommand with its matches, if the program has one of that name.
 fn job_of<'a>(name: &str, matches: &ArgMatches<'a>) -> Option<Job<'a>>
     ensures { MatchOption result
-        ((bytes_eq name.now (codes "boot") ≡ false) × (bytes_eq name.now (codes "map") ≡ false))
+        ((bytes_eq name.now (codes "boot") ≡ false) × (bytes_eq name.now (codes "map") ≡ false)
+        × (bytes_eq name.now (codes "walk") ≡ false))
         (IsJobOf (name.now, rows_of (found_of matches.now))) }
 {
-    let description = text_of(matches, "desc");
     match name {
         "boot" => Some(Job::Boot {
-            description,
+            description: text_of(matches, "desc"),
             image: text_of(matches, "out"),
             order: order_named(text_of(matches, "order")),
         }),
-        "map" => Some(Job::Map { description }),
+        "map" => Some(Job::Map {
+            description: text_of(matches, "desc"),
+        }),
+        "walk" => Some(Job::Walk {
+            image: text_of(matches, "image"),
+        }),
         _ => None,
     }
 }
