@@ -1,0 +1,5 @@
+pub mod Inside
+pub mod State
+pub mod SeenFacts
+pub mod Seen
+pub mod Faults

@@ -1,0 +1,44 @@
+//! Why an image shows a kernel nothing.
+ghost use Rattle.std.specs.Prelude.{◌≡◌};
+ghost use Rattle.bl_walk.specs.declared.fault.WalkFault.TheVariants as faults;
+
+use std::alloc::{AllocError, AllocFailed};
+use thiserror::Error;
+
+/// Why an image shows a kernel nothing.
+///
+/// - `OutsideImage`: the kernel is entered outside of its parts, or a range of at least one byte
+///   that it follows does not lie in one part.
+/// - `BadInfo`: the boot information or the boot parameters are none, or no zero ends the line.
+/// - `BadState`: a register has another number than its protocol gives it, or the descriptors of a
+///   Linux kernel are other ones.
+/// - `NoMemory`: memory ran out. This says nothing of the image, and may come at any growth.
+///
+/// Of several faults that stand any may be answered.
+#[derive(Clone, Copy, Debug, PartialEq, Eq, Error)]
+pub enum WalkFault {
+    #[error("outside the image")]
+    OutsideImage,
+    #[error("bad information")]
+    BadInfo,
+    #[error("bad state")]
+    BadState,
+    #[error("no memory")]
+    NoMemory,
+}
+
+impl From<AllocError> for WalkFault {
+    ghost from_gives = { λ _ fault. fault ≡ faults.NoMemory };
+
+    fn from(_: AllocError) -> WalkFault {
+        WalkFault::NoMemory
+    }
+}
+
+impl<T: Drop> From<AllocFailed<T>> for WalkFault {
+    ghost from_gives = { λ _ fault. fault ≡ faults.NoMemory };
+
+    fn from(_: AllocFailed<T>) -> WalkFault {
+        WalkFault::NoMemory
+    }
+}

@@ -1,0 +1,1 @@
+//! Bytes by address, in the parts of an image.

@@ -1,0 +1,16 @@
+//! What a kernel sees in an image, when it follows the addresses in its registers.
+#![tactic(auto)]
+
+mod fault;
+mod image;
+mod inside;
+mod seen;
+mod seen_module;
+mod seen_file;
+mod seen_part;
+
+pub use fault::WalkFault;
+pub use seen::Seen;
+pub use seen_file::SeenFile;
+pub use seen_module::SeenModule;
+pub use seen_part::SeenPart;
