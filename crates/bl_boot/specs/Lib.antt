@@ -5,3 +5,4 @@ pub mod Attempt
 pub mod LoadedEntry
 pub mod Ends
 pub mod Kept
+pub mod WalkSays

@@ -2,6 +2,8 @@
 
 mod map;
 mod outcome;
+mod walk;
 
 pub use map::say_map;
 pub use outcome::{say_booted, say_no_entry_left, say_refused};
+pub use walk::say_walk;

@@ -1,0 +1,199 @@
+//! What a kernel sees in an image, line by line.
+ghost use Rattle.std.specs.Prelude.{◌≡◌, ◌++◌, ◌+◌, ◌<◌, ◌^◌, All, OnOk, OnErr};
+ghost use Rattle.std.specs.List.{flat_map};
+ghost use Rattle.bl_boot.specs.WalkSays as says;
+ghost use Rattle.bl_boot.specs.WalkSays.{kernel_line, module_line, seen_run_line};
+
+use bl_load::Protocol;
+use bl_map::Region;
+use bl_walk::{Seen, SeenFile, SeenModule, SeenPart};
+use std::alloc::{AllocError, Allocator};
+
+/// Appends a text as a line has it: its length, and its bytes in hexadecimal digits if there are any.
+#[tactic(auto, unfolding(crate::specs::WalkSays::text_word))]
+fn say_text<A: Allocator + Copy>(out: &mut Vec<u8, A>, text: &[u8]) -> Result<(), AllocError>
+    ensures { OnOk result (out.new.items ≡ out.old.items ++ says.text_word text.now) }
+{
+    let count = text.len();
+    if count == 0 {
+        return out.extend_from_slice(b"0");
+    }
+    let alloc = *out.allocator();
+    let digits = hex::encode(alloc, text)?;
+    let word = format!(in alloc; "{count} {digits}")?;
+    out.extend_from_slice(word.as_bytes())
+}
+
+fn protocol_word(protocol: Protocol) -> &'static str
+    ensures { result.now ≡ says.protocol_word protocol }
+{
+    match protocol {
+        Protocol::Multiboot2 => "multiboot2",
+        Protocol::Linux => "linux",
+    }
+}
+
+fn say_protocol<A: Allocator + Copy>(
+    out: &mut Vec<u8, A>,
+    protocol: Protocol,
+) -> Result<(), AllocError>
+    ensures { OnOk result (out.new.items ≡ out.old.items ++ says.protocol_line protocol) }
+{
+    let alloc = *out.allocator();
+    let word = protocol_word(protocol);
+    let line = format!(in alloc; "protocol {word}\n")?;
+    out.extend_from_slice(line.as_bytes())
+}
+
+fn say_entry<A: Allocator + Copy>(out: &mut Vec<u8, A>, entry: u32) -> Result<(), AllocError>
+    ensures { OnOk result (out.new.items ≡ out.old.items ++ says.entry_line entry) }
+{
+    let alloc = *out.allocator();
+    let line = format!(in alloc; "entry {entry:08x}\n")?;
+    out.extend_from_slice(line.as_bytes())
+}
+
+fn say_line<A: Allocator + Copy>(out: &mut Vec<u8, A>, text: &[u8]) -> Result<(), AllocError>
+    ensures { OnOk result (out.new.items ≡ out.old.items ++ says.line_line text.now) }
+{
+    out.extend_from_slice(b"line ")?;
+    say_text(out, text)?;
+    out.extend_from_slice(b"\n")
+}
+
+fn say_kernel<A: Allocator + Copy>(out: &mut Vec<u8, A>, part: &SeenPart) -> Result<(), AllocError>
+    ensures { OnOk result (out.new.items ≡ out.old.items ++ says.kernel_line part.now) }
+{
+    let alloc = *out.allocator();
+    let address = part.address;
+    let length = part.length;
+    let line = format!(in alloc; "kernel {address:08x} {length}\n")?;
+    out.extend_from_slice(line.as_bytes())
+}
+
+fn say_kernels<A: Allocator + Copy>(
+    out: &mut Vec<u8, A>,
+    parts: &[SeenPart],
+) -> Result<(), AllocError>
+    ensures { OnOk result (out.new.items ≡ out.old.items ++ flat_map kernel_line parts.now) }
+{
+    for part in parts {
+        say_kernel(out, part)?;
+    }
+    Ok(())
+}
+
+/// Appends what stands before a module's line: its address and its length.
+fn say_module_front<A: Allocator + Copy, B: Allocator>(
+    out: &mut Vec<u8, A>,
+    module: &SeenModule<B>,
+) -> Result<(), AllocError>
+    ensures { OnOk result (out.new.items ≡ out.old.items ++ says.module_front module.now) }
+{
+    let alloc = *out.allocator();
+    let address = module.mod_start;
+    let length = module.bytes.len();
+    let line = format!(in alloc; "module {address:08x} {length} ")?;
+    out.extend_from_slice(line.as_bytes())
+}
+
+fn say_module<A: Allocator + Copy, B: Allocator>(
+    out: &mut Vec<u8, A>,
+    module: &SeenModule<B>,
+) -> Result<(), AllocError>
+    ensures { OnOk result (out.new.items ≡ out.old.items ++ says.module_line module.now) }
+{
+    say_module_front(out, module)?;
+    say_text(out, module.line.as_slice())?;
+    out.extend_from_slice(b"\n")
+}
+
+fn say_modules<A: Allocator + Copy, B: Allocator>(
+    out: &mut Vec<u8, A>,
+    modules: &[SeenModule<B>],
+) -> Result<(), AllocError>
+    ensures { OnOk result (out.new.items ≡ out.old.items ++ flat_map module_line modules.now) }
+{
+    for module in modules {
+        say_module(out, module)?;
+    }
+    Ok(())
+}
+
+fn say_file<A: Allocator + Copy, B: Allocator>(
+    out: &mut Vec<u8, A>,
+    file: &SeenFile<B>,
+) -> Result<(), AllocError>
+    ensures { OnOk result (out.new.items ≡ out.old.items ++ says.file_line file.now) }
+{
+    let alloc = *out.allocator();
+    let address = file.address;
+    let length = file.bytes.len();
+    let line = format!(in alloc; "initrd {address:08x} {length}\n")?;
+    out.extend_from_slice(line.as_bytes())
+}
+
+fn say_initrd<A: Allocator + Copy, B: Allocator>(
+    out: &mut Vec<u8, A>,
+    initrd: &Option<SeenFile<B>>,
+) -> Result<(), AllocError>
+    ensures { OnOk result (out.new.items ≡ out.old.items ++ says.initrd_line initrd.now) }
+{
+    match initrd {
+        None => Ok(()),
+        Some(file) => say_file(out, file),
+    }
+}
+
+fn say_run<A: Allocator + Copy>(out: &mut Vec<u8, A>, run: &Region) -> Result<(), AllocError>
+    requires { run.now.base + run.now.length < 2 ^ 64 }
+    ensures { OnOk result (out.new.items ≡ out.old.items ++ says.seen_run_line run.now) }
+{
+    let alloc = *out.allocator();
+    let start = run.base;
+    let end = run.base + run.length;
+    let kind = run.kind.number();
+    let line = format!(in alloc; "map {start:016x} {end:016x} {kind}\n")?;
+    out.extend_from_slice(line.as_bytes())
+}
+
+fn say_runs<A: Allocator + Copy>(out: &mut Vec<u8, A>, runs: &[Region]) -> Result<(), AllocError>
+    requires { All (λ run. run.base + run.length < 2 ^ 64) runs.now }
+    ensures { OnOk result (out.new.items ≡ out.old.items ++ flat_map seen_run_line runs.now) }
+{
+    for run in runs {
+        say_run(out, run)?;
+    }
+    Ok(())
+}
+
+fn say_map<A: Allocator + Copy, B: Allocator>(
+    out: &mut Vec<u8, A>,
+    seen: &Seen<B>,
+) -> Result<(), AllocError>
+    requires { All (λ run. run.base + run.length < 2 ^ 64) seen.now.map }
+    ensures { OnOk result (out.new.items ≡ out.old.items ++ flat_map seen_run_line seen.now.map) }
+{
+    say_runs(out, seen.map.as_slice())
+}
+
+/// Appends the lines of what a kernel sees: its protocol, where it is entered, its line, its parts,
+/// the modules, the initial ramdisk, the memory map. An error leaves the text as it was.
+pub fn say_walk<A: Allocator + Copy, B: Allocator>(
+    out: &mut Vec<u8, A>,
+    seen: &Seen<B>,
+) -> Result<(), AllocError>
+    requires { All (λ run. run.base + run.length < 2 ^ 64) seen.now.map }
+    ensures ok { OnOk result (out.new.items ≡ out.old.items ++ says.walk_lines seen.now) }
+    ensures err { OnErr result (out.new.items ≡ out.old.items) }
+{
+    let mut lines = Vec::new(*out.allocator());
+    say_protocol(&mut lines, seen.protocol)?;
+    say_entry(&mut lines, seen.entry)?;
+    say_line(&mut lines, seen.line.as_slice())?;
+    say_kernels(&mut lines, seen.kernel.as_slice())?;
+    say_modules(&mut lines, seen.modules.as_slice())?;
+    say_initrd(&mut lines, &seen.initrd)?;
+    say_map(&mut lines, seen)?;
+    out.extend_from_slice(&lines)
+}
