@@ -6,7 +6,7 @@ use Rattle.bl_map.specs.Room.{whole_frames}
 use Rattle.bl_mb2head.specs.declared.relocation.Relocation.{Relocation}
 use Rattle.bl_mbi.specs.InformationFacts.{info_size}
 use Rattle.bl_plan.specs.declared.role.Role.{Role}
-use Rattle.bl_plan.specs.declared.role.Role.TheVariants.{Kernel, Module, Information}
+use Rattle.bl_plan.specs.declared.role.Role.TheVariants.{Kernel, Module, Information, BootParams, CommandLine, Gdt, Initrd}
 use Rattle.bl_plan.specs.declared.choice.Choice.TheVariants.{Lowest}
 use Rattle.bl_map.specs.Limits.{frame_size, most_size}
 use Rattle.bl_mbi.specs.Size.{tag_size}
@@ -19,8 +19,9 @@ use Rattle.bl_plan.specs.Placed.{ArePlaced}
 use Rattle.bl_load.specs.declared.refusal.PrepFault.{PrepFault}
 use Rattle.bl_load.specs.declared.refusal.PrepFault.TheVariants as prep_fault
 use Rattle.bl_load.specs.Addresses.{address_of}
-use Rattle.bl_load.specs.Value.{EntryValue, module_file}
-use Rattle.bl_load.specs.Reading.{Reading, multiboot2}
+use Rattle.bl_load.specs.Value.{EntryValue, module_file, initrd_file}
+use Rattle.bl_load.specs.Reading.{Reading, multiboot2, linux}
+use Rattle.bl_load.specs.LinuxRows.{linux_kernel_row}
 use Rattle.bl_load.specs.Blocks.{span_of}
 use Rattle.bl_load.specs.Rows.{kernel_rows, module_length, information_row, rows_of, information_of}
 use Rattle.bl_load.specs.Handover.{Handover}
@@ -42,6 +43,13 @@ HasLength facts value (multiboot2 kernel) Information i count = count ≡ whole_
 HasLength facts value (multiboot2 kernel) Module i count =
     (i < length value.module_lines) × (count ≡ module_length (module_file value.files i))
 HasLength facts value (multiboot2 kernel) _ i count = ⊥
+HasLength facts value (linux setup) Kernel i count = count ≡ (linux_kernel_row setup).length
+HasLength facts value (linux setup) BootParams i count = count ≡ frame_size
+HasLength facts value (linux setup) CommandLine i count = count ≡ frame_size
+HasLength facts value (linux setup) Gdt i count = count ≡ frame_size
+HasLength facts value (linux setup) Initrd i count =
+    (1 ≤ length (initrd_file value.files)) × (count ≡ whole_frames (length (initrd_file value.files)))
+HasLength facts value (linux setup) _ i count = ⊥
 
 abbrev pub IsRowed : MachineFacts → EntryValue → Reading → Place → Type 0
 IsRowed facts value reading place = HasLength facts value reading place.role place.index place.length
