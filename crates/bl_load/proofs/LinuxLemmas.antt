@@ -1,13 +1,13 @@
 -- What the rows of a Linux entry have, and their places.
-use Rattle.std.specs.Prelude.{max, not, ◌||◌, if◌then◌else◌, nat_lt, count_ones}
+use Rattle.std.specs.Prelude.{max, not, ◌||◌, ◌&&◌, if◌then◌else◌, nat_lt, nat_le, count_ones, slice_index}
 use Rattle.std.specs.Int.{is_power_of_two}
-use Rattle.std.proofs.Common.{◌≡◌, ◌<◌, ◌≤◌, ◌+◌, ◌^◌, ℕ, Bool, true, false, List, [], ◌∷◌, length, Option, Some, None, cond, arith, refl, sym, subst, All, inl, inr, nat_eq}
+use Rattle.std.proofs.Common.{◌≡◌, ◌<◌, ◌≤◌, ◌+◌, ◌^◌, ℕ, Bool, true, false, List, [], ◌∷◌, length, Option, Some, None, cond, arith, refl, sym, subst, ◌∙◌, All, inl, inr, nat_eq}
 use Rattle.std.proofs.lemmas.Nat.{ones_le_self}
 use Rattle.std.proofs.lemmas.Bool.{cond_both}
 use Rattle.std.proofs.lemmas.Bool.Decides.{nat_tests}
 use Rattle.std.proofs.lemmas.List.Elements.{All-nil, All-cons}
 use Rattle.std.specs.declared.ops.Range.{Range}
-use Rattle.bl_mem.specs.Words.{u16_at}
+use Rattle.bl_mem.specs.Words.{u16_at, u64_at}
 use Rattle.bl_map.specs.Limits.{most_size}
 use Rattle.bl_map.specs.MachineFacts.{MachineFacts}
 use Rattle.bl_map.specs.Room.{whole_frames}
@@ -74,6 +74,27 @@ some_alignment file setup is moved =
     let test = (last_checks file is.sound).0 in
     let field : nat_eq _ 0 ≡ false = subst (λ (n : ℕ). nat_eq n 0 ≡ false) fields.relocatable_kernel moved in
     subst (λ (n : ℕ). 1 ≤ n) (sym fields.kernel_alignment) (some_power _ (aligned_where _ _ test field))
+
+preferred_where : (zero_field above below : Bool) → (not zero_field || (above && below)) ≡ true → zero_field ≡ true → (above ≡ true) × (below ≡ true)
+preferred_where true true true test e = (refl, refl)
+preferred_where true true false test e = absurd cc
+preferred_where true false below test e = absurd cc
+preferred_where false above below test e = absurd cc
+
+le_from : (m n : ℕ) → nat_le m n ≡ true → m ≤ n
+le_from m n test = grind (arith, nat_tests)
+
+-- another one runs from 1 MiB on, within 32 bits
+pub fixed_preferred : (file : List ℕ) (setup : Setup) → IsSetup file setup → setup.relocatable_kernel ≡ 0 → (0x100000 ≤ setup.pref_address) × (setup.pref_address < 2 ^ 32)
+fixed_preferred file setup is fixed =
+    let fields = fields_are file setup is in
+    let test = (last_checks file is.sound).1 in
+    let field : nat_eq (slice_index file 0x234) 0 ≡ true = subst (λ (n : ℕ). nat_eq n 0 ≡ true) (sym fixed ∙ fields.relocatable_kernel) refl in
+    let within = preferred_where _ (nat_le 0x100000 (u64_at file 0x258)) (nat_le (u64_at file 0x258) 0xFFFFFFFF) test field in
+    let above = le_from 0x100000 (u64_at file 0x258) within.0 in
+    let below = le_from (u64_at file 0x258) 0xFFFFFFFF within.1 in
+    let same = fields.pref_address in
+    (omega arith, omega arith)
 
 -- ---- they are rows
 
