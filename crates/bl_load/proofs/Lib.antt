@@ -16,6 +16,7 @@ pub mod ReadingLaws
 pub mod EntryLemmas
 pub mod PlacingLemmas
 pub mod PrepareLemmas
+pub mod OneReadingLaws
 pub mod HandoverLaws
 pub mod LegalLaws
 pub mod DecidedLaws

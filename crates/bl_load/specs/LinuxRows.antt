@@ -18,8 +18,8 @@ use Rattle.bl_load.specs.Value.{EntryValue, initrd_file}
 abbrev pub high_start : ℕ
 high_start = 0x100000
 
--- a relocatable kernel that is loaded below "pref_address" moves itself up to it, so it never is; it needs "init_size"
--- bytes where it lies
+-- a relocatable kernel that is loaded below "pref_address" moves itself up to it, so it is not placed below; it needs
+-- "init_size" bytes where it lies
 abbrev pub moved_row : Setup → Row
 moved_row setup = record {
   role = Kernel;

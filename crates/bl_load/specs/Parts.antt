@@ -44,7 +44,7 @@ kernel_content file segments (Some r) i = block_of file segments
 abbrev pub payload_of : List ℕ → Setup → List ℕ
 payload_of file setup = slice_range file setup.payload_offset (setup.payload_offset + setup.payload_size)
 
--- what a part holds before its zeros, where the parts have these places: a line has at least the zero that ends it there
+-- what a part holds before its zeros, where the parts have these places; the zeros of a line's part end the line
 abbrev pub content_of : MachineFacts → EntryValue → Reading → List Place → Role → ℕ → List ℕ
 content_of facts value (multiboot2 kernel) places Kernel i =
     kernel_content (kernel_file value) kernel.segments kernel.relocation i
