@@ -19,7 +19,6 @@ pub mod PrepareLemmas
 pub mod OneReadingLaws
 pub mod HandoverLaws
 pub mod LegalLaws
-pub mod DecidedLaws
 pub mod TotalLaws
 pub mod PartLaws
 pub mod RangeLemmas

@@ -13,6 +13,7 @@ use Rattle.bl_mb2head.specs.Header.{IsHeader}
 use Rattle.bl_mb2head.specs.declared.header.Header.{Header}
 use Rattle.bl_mb2head.proofs.TotalLaws.{header_or_fault}
 use Rattle.bl_plan.specs.Placed.{IsFirstFault}
+use Rattle.bl_plan.proofs.TotalLaws.{placed_or_fault}
 use Rattle.bl_plan.specs.declared.fault.PlanFault.{PlanFault}
 use Rattle.bl_plan.specs.declared.fault.PlanFault.TheVariants as plan_fault
 use Rattle.bl_plan.specs.declared.protocol.Protocol.{Protocol}
@@ -26,7 +27,6 @@ use Rattle.bl_load.specs.Linux.{IsLinuxKernel, HasLinuxFault, setup_refusal, tel
 use Rattle.bl_load.specs.Rows.{rows_of}
 use Rattle.bl_load.specs.Handover.{Handover}
 use Rattle.bl_load.specs.Parts.{IsHandover, IsRefusal, HasRowFault, handover_of}
-use Rattle.bl_load.proofs.DecidedLaws.{placed_or_fault}
 use Rattle.bl_load.proofs.ReadingLaws.{reading_no_overlap}
 
 some_or_none : {X : Type 0} (o : Option X) → ((x : X) × (o ≡ Some x)) ⊎ (o ≡ None)
