@@ -3,6 +3,10 @@ use Rattle.std.proofs.Common.{◌≡◌, ℕ, List, [], Option, Some, None, sym,
 use Rattle.std.proofs.lemmas.Option.{same_Some}
 use Rattle.bl_mem.specs.declared.segment.Segment.{Segment}
 use Rattle.bl_map.specs.MachineFacts.{MachineFacts}
+use Rattle.bl_map.specs.declared.region.Region.{Region}
+use Rattle.bl_bzimage.specs.Setup.{IsSetup, setup_fault}
+use Rattle.bl_bzimage.specs.declared.fault.SetupFault.{SetupFault}
+use Rattle.bl_bzimage.specs.declared.setup.Setup.{Setup}
 use Rattle.bl_elf.specs.Elf.{ElfFacts}
 use Rattle.bl_elf.specs.declared.fault.ElfFault.{ElfFault}
 use Rattle.bl_elf.specs.declared.fault.ElfFault.TheVariants as elf_fault
@@ -14,12 +18,15 @@ use Rattle.bl_mb2head.proofs.HeaderLaws as headers
 use Rattle.bl_plan.specs.Placed.{ArePlaced}
 use Rattle.bl_plan.proofs.PlaceLaws as places
 use Rattle.bl_load.specs.declared.refusal.Refusal.{Refusal}
-use Rattle.bl_load.specs.Value.{EntryValue, kernel_file, form_fault, lines_fault, lines_of}
-use Rattle.bl_load.specs.Reading.{Reading, multiboot2, IsRead, HasReadFault}
+use Rattle.bl_load.specs.Value.{EntryValue, kernel_file, lines_fault, lines_of}
+use Rattle.bl_load.specs.Reading.{Reading, multiboot2, linux, IsRead, HasReadFault}
 use Rattle.bl_load.specs.Kernel.{KernelFacts, IsLoadedBy, IsKernel, HasLoadFault, HasKernelFault, entry_fault, counted_entry, head_refusal, elf_refusal}
+use Rattle.bl_load.specs.Linux.{IsLinuxKernel, HasLinuxFault, setup_refusal, telling_fault}
 use Rattle.bl_load.specs.Rows.{rows_of}
 use Rattle.bl_load.specs.Handover.{Handover}
 use Rattle.bl_load.specs.Parts.{IsHandover, IsRefusal, HasRowFault, HasPlaceFault, Then, handover_of, placing_refusal}
+use Rattle.bl_plan.specs.declared.protocol.Protocol.{Protocol}
+use Rattle.bl_plan.specs.declared.protocol.Protocol.TheVariants as protocol
 use Rattle.bl_plan.specs.declared.row.Row.{Row}
 
 -- ---- a kernel's file
@@ -106,23 +113,61 @@ kernel_not_fault file kernel r is (inr (inl (h, is_h, a))) = sound_no_fault file
 kernel_not_fault file kernel r is (inr (inr (h, f, is_h, f_is, a))) =
     let bad : None ≡ Some r = sym is.sound ∙ same_entry_fault file is.header h is.facts f is.is_header is_h is.loaded f_is ∙ a in absurd cc
 
+-- ---- a Linux kernel's file
+
+-- a file has one setup
+one_setup : (runs : List Region) (line file : List ℕ) (a b : Setup) → IsLinuxKernel runs line file a → IsLinuxKernel runs line file b → a ≡ b
+one_setup runs line file a b is_a is_b = is_a.is_setup.is ∙ sym is_b.is_setup.is
+
+-- a file with a setup has no fault of one
+setup_not_fault : (file : List ℕ) (setup : Setup) (fault : SetupFault) → IsSetup file setup → setup_fault file ≡ Some fault → ⊥
+setup_not_fault file setup fault is has = let bad : None ≡ Some fault = sym is.sound ∙ has in absurd cc
+
+same_telling : (runs : List Region) (line file : List ℕ) (a b : Setup) → IsSetup file a → IsSetup file b → telling_fault runs line a ≡ telling_fault runs line b
+same_telling runs line file a b is_a is_b = ap (telling_fault runs line) (is_a.is ∙ sym is_b.is)
+
+-- or it has one first fault
+one_linux_fault : (runs : List Region) (line file : List ℕ) (r s : Refusal) → HasLinuxFault runs line file r → HasLinuxFault runs line file s → r ≡ s
+one_linux_fault runs line file r s (inl (f, a, r_is)) (inl (g, b, s_is)) = r_is ∙ ap setup_refusal (same_Some f g (sym a ∙ b)) ∙ sym s_is
+one_linux_fault runs line file r s (inl (f, a, r_is)) (inr (setup, is, b)) = absurd (setup_not_fault file setup f is a)
+one_linux_fault runs line file r s (inr (setup, is, a)) (inl (g, b, s_is)) = absurd (setup_not_fault file setup g is b)
+one_linux_fault runs line file r s (inr (x, is_x, a)) (inr (y, is_y, b)) = same_Some r s (sym a ∙ same_telling runs line file x y is_x is_y ∙ b)
+
+-- and never both
+linux_not_fault : (runs : List Region) (line file : List ℕ) (setup : Setup) (r : Refusal) → IsLinuxKernel runs line file setup → HasLinuxFault runs line file r → ⊥
+linux_not_fault runs line file setup r is (inl (f, a, r_is)) = setup_not_fault file setup f is.is_setup a
+linux_not_fault runs line file setup r is (inr (other, is_other, a)) =
+    let bad : None ≡ Some r = sym is.told ∙ same_telling runs line file setup other is.is_setup is_other ∙ a in absurd cc
+
 -- ---- what a protocol adds: its reading
 
-one_reading : (value : EntryValue) (a b : Reading) → IsRead value a → IsRead value b → a ≡ b
-one_reading value (multiboot2 k) (multiboot2 l) a b = ap multiboot2 (one_kernel (kernel_file value) k l a.1 b.1)
+not_two : (p : Protocol) → p ≡ protocol.Multiboot2 → p ≡ protocol.Linux → ⊥
+not_two p multiboot linux_is = let bad : protocol.Multiboot2 ≡ protocol.Linux = sym multiboot ∙ linux_is in absurd cc
 
-one_read_fault : (value : EntryValue) (r s : Refusal) → HasReadFault value r → HasReadFault value s → r ≡ s
-one_read_fault value r s a b = one_kernel_fault (kernel_file value) r s a.1 b.1
+one_reading : (facts : MachineFacts) (value : EntryValue) (a b : Reading) → IsRead facts value a → IsRead facts value b → a ≡ b
+one_reading facts value (multiboot2 k) (multiboot2 l) a b = ap multiboot2 (one_kernel (kernel_file value) k l a.1 b.1)
+one_reading facts value (multiboot2 k) (linux y) a b = absurd (not_two value.protocol a.0 b.0)
+one_reading facts value (linux x) (multiboot2 l) a b = absurd (not_two value.protocol b.0 a.0)
+one_reading facts value (linux x) (linux y) a b = ap linux (one_setup facts.runs value.line (kernel_file value) x y a.1 b.1)
 
-read_not_fault : (value : EntryValue) (reading : Reading) (r : Refusal) → IsRead value reading → HasReadFault value r → ⊥
-read_not_fault value (multiboot2 kernel) r is fault = kernel_not_fault (kernel_file value) kernel r is.1 fault.1
+one_read_fault : (facts : MachineFacts) (value : EntryValue) (r s : Refusal) → HasReadFault facts value r → HasReadFault facts value s → r ≡ s
+one_read_fault facts value r s (inl a) (inl b) = one_kernel_fault (kernel_file value) r s a.1 b.1
+one_read_fault facts value r s (inl a) (inr b) = absurd (not_two value.protocol a.0 b.0)
+one_read_fault facts value r s (inr a) (inl b) = absurd (not_two value.protocol b.0 a.0)
+one_read_fault facts value r s (inr a) (inr b) = one_linux_fault facts.runs value.line (kernel_file value) r s a.1 b.1
+
+read_not_fault : (facts : MachineFacts) (value : EntryValue) (reading : Reading) (r : Refusal) → IsRead facts value reading → HasReadFault facts value r → ⊥
+read_not_fault facts value (multiboot2 kernel) r is (inl fault) = kernel_not_fault (kernel_file value) kernel r is.1 fault.1
+read_not_fault facts value (multiboot2 kernel) r is (inr fault) = not_two value.protocol is.0 fault.0
+read_not_fault facts value (linux setup) r is (inl fault) = not_two value.protocol fault.0 is.0
+read_not_fault facts value (linux setup) r is (inr fault) = linux_not_fault facts.runs value.line (kernel_file value) setup r is.1 fault.1
 
 -- ---- an entry
 
 -- equal facts and equal values hand over the same
 pub one_handover : (facts : MachineFacts) (value : EntryValue) (h k : Handover) → IsHandover facts value h → IsHandover facts value k → h ≡ k
 one_handover facts value h k a b =
-    let reading : b.reading ≡ a.reading = one_reading value b.reading a.reading b.read a.read in
+    let reading : b.reading ≡ a.reading = one_reading facts value b.reading a.reading b.read a.read in
     let moved : ArePlaced facts [] (rows_of facts value a.reading) b.places = subst (λ (x : Reading). ArePlaced facts [] (rows_of facts value x) b.places) reading b.placed in
     let same : a.places ≡ b.places = places.one_list facts [] (rows_of facts value a.reading) a.places b.places a.placed moved in
     a.is ∙ ap (handover_of facts value a.reading) same ∙ ap (λ (x : Reading). handover_of facts value x b.places) (sym reading) ∙ sym b.is
@@ -140,27 +185,24 @@ one_then first rest r s one (inr a) (inr b) = one a.1 b.1
 
 -- the kernel is refused, or one of the rows
 abbrev IsLateRefusal : MachineFacts → EntryValue → Refusal → Type 0
-IsLateRefusal facts value r = HasReadFault value r ⊎ HasPlaceFault facts value r
+IsLateRefusal facts value r = HasReadFault facts value r ⊎ HasPlaceFault facts value r
 
 one_late : (facts : MachineFacts) (value : EntryValue) (r s : Refusal) → IsLateRefusal facts value r → IsLateRefusal facts value s → r ≡ s
-one_late facts value r s (inl a) (inl b) = one_read_fault value r s a b
-one_late facts value r s (inl a) (inr (k, is, b)) = absurd (read_not_fault value k r is a)
-one_late facts value r s (inr (k, is, a)) (inl b) = absurd (read_not_fault value k s is b)
+one_late facts value r s (inl a) (inl b) = one_read_fault facts value r s a b
+one_late facts value r s (inl a) (inr (k, is, b)) = absurd (read_not_fault facts value k r is a)
+one_late facts value r s (inr (k, is, a)) (inl b) = absurd (read_not_fault facts value k s is b)
 one_late facts value r s (inr (k, is_k, a)) (inr (l, is_l, b)) =
-    one_row_fault facts (rows_of facts value k) r s a (subst (λ (x : Reading). HasRowFault facts (rows_of facts value x) s) (one_reading value l k is_l is_k) b)
+    one_row_fault facts (rows_of facts value k) r s a (subst (λ (x : Reading). HasRowFault facts (rows_of facts value x) s) (one_reading facts value l k is_l is_k) b)
 
 -- or have one first refusal
 pub one_refusal : (facts : MachineFacts) (value : EntryValue) (r s : Refusal) → IsRefusal facts value r → IsRefusal facts value s → r ≡ s
-one_refusal facts value r s a b =
-    one_then (form_fault value.protocol) (Then (lines_fault (lines_of value)) (IsLateRefusal facts value)) r s
-    (one_then (lines_fault (lines_of value)) (IsLateRefusal facts value) r s (one_late facts value r s)) a b
+one_refusal facts value r s a b = one_then (lines_fault (lines_of value)) (IsLateRefusal facts value) r s (one_late facts value r s) a b
 
 -- and never both
 pub not_both : (facts : MachineFacts) (value : EntryValue) (h : Handover) (r : Refusal) → IsHandover facts value h → IsRefusal facts value r → ⊥
-not_both facts value h r is (inl form) = let bad : None ≡ Some r = sym is.form ∙ form in absurd cc
-not_both facts value h r is (inr (form, inl lines)) = let bad : None ≡ Some r = sym is.lines ∙ lines in absurd cc
-not_both facts value h r is (inr (form, inr (lines, inl read))) = read_not_fault value is.reading r is.read read
-not_both facts value h r is (inr (form, inr (lines, inr (k, is_k, (f, a, f_is))))) =
+not_both facts value h r is (inl lines) = let bad : None ≡ Some r = sym is.lines ∙ lines in absurd cc
+not_both facts value h r is (inr (lines, inl read)) = read_not_fault facts value is.reading r is.read read
+not_both facts value h r is (inr (lines, inr (k, is_k, (f, a, f_is)))) =
     let placed : ArePlaced facts [] (rows_of facts value k) is.places =
-    subst (λ (x : Reading). ArePlaced facts [] (rows_of facts value x) is.places) (one_reading value is.reading k is.read is_k) is.placed in
+    subst (λ (x : Reading). ArePlaced facts [] (rows_of facts value x) is.places) (one_reading facts value is.reading k is.read is_k) is.placed in
     places.not_both facts [] (rows_of facts value k) is.places f placed a

@@ -10,6 +10,7 @@ pub mod RowLemmas
 pub mod ModuleLemmas
 pub mod OverlapLemmas
 pub mod RowPlaceLemmas
+pub mod LinuxLemmas
 pub mod EntryLemmas
 pub mod PlacingLemmas
 pub mod PrepareLemmas

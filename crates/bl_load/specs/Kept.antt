@@ -3,7 +3,7 @@ use Rattle.std.specs.Prelude.{◌≡◌, ℕ, ◌+◌, ◌<◌, ◌≤◌, ◌^�
 use Rattle.bl_mem.specs.Memory.{HasRoom}
 use Rattle.bl_mem.specs.declared.segment.Segment.{Segment}
 use Rattle.bl_plan.specs.declared.role.Role.{Role}
-use Rattle.bl_plan.specs.declared.role.Role.TheVariants.{Kernel, Module, Information, BootParams, CommandLine, Gdt, Initrd}
+use Rattle.bl_plan.specs.declared.role.Role.TheVariants as role
 use Rattle.bl_load.specs.declared.plan.Content.{Content}
 use Rattle.bl_load.specs.declared.plan.Content.TheVariants.{Own, File, Block}
 use Rattle.bl_load.specs.declared.plan.PlannedPart.{PlannedPart}
@@ -50,19 +50,19 @@ pub record IsBacked {A : Type 0} (lengths : List ℕ) (part : PlannedPart A) : T
 
 -- what a part of this role holds is made by the loader, and no file's bytes
 abbrev pub IsMade : Role → Type 0
-IsMade Kernel = ⊥
-IsMade Module = ⊥
-IsMade Information = Unit {0}
-IsMade BootParams = Unit {0}
-IsMade CommandLine = Unit {0}
-IsMade Gdt = Unit {0}
-IsMade Initrd = ⊥
+IsMade role.Kernel = ⊥
+IsMade role.Module = ⊥
+IsMade role.Information = Unit {0}
+IsMade role.BootParams = Unit {0}
+IsMade role.CommandLine = Unit {0}
+IsMade role.Gdt = Unit {0}
+IsMade role.Initrd = ⊥
 
 -- a content's bytes stay in the files until it is loaded; only what the loader makes has bytes of its own
 abbrev pub StaysInFiles : {A : Type 0} → Role → Content A → Type 0
-StaysInFiles role (Own bytes) = IsMade role
-StaysInFiles role (File file offset count) = Unit {0}
-StaysInFiles role (Block file segments) = Unit {0}
+StaysInFiles r (Own bytes) = IsMade r
+StaysInFiles r (File file offset count) = Unit {0}
+StaysInFiles r (Block file segments) = Unit {0}
 
 -- a plan holds none of the files' bytes, so it takes no memory in proportion to what a header claims
 abbrev pub IsLean : {A : Type 0} → List (PlannedPart A) → Type 0

@@ -19,7 +19,7 @@ use Rattle.bl_load.specs.PlacingKept.{IsRowed}
 use Rattle.bl_load.specs.Rows.{rows_of}
 use Rattle.bl_plan.proofs.OrderLemmas.{in_order_all}
 use Rattle.bl_load.proofs.PlacingLemmas.{refused_place, not_overlap}
-use Rattle.bl_load.proofs.RowLemmas.{rows_are_rows}
+use Rattle.bl_load.proofs.RowLemmas.{rows_are_rows, few_places}
 use Rattle.bl_load.proofs.RowPlaceLemmas.{each_rowed, are_inside, records}
 use Rattle.bl_load.proofs.EntryLemmas.{entry_small}
 use Rattle.bl_load.proofs.LineLemmas.{all_short}
@@ -83,7 +83,8 @@ ranges_of-requires g c =
     let sorted : c.as_slice-5.result.now ≡ in_order c.in-Ok.places.items = c.as_slice-5.ensures.value ∙ c.in_ok-sorted.ensures ∙ ap in_order c.as_slice-3.ensures.value in
     let places : map place_of c.in_ok-parts.parts.items ≡ in_order c.in-Ok.places.items = c.in_ok-parts.ensures.places ∙ sorted in
     let count = length-map c.args.modules.now (λ m. m.line) in
-    let kept = records file facts value kernel c.in-Ok.places.items c.requires.loadable (omega (arith, count, c.requires.few)) placed in
+    let few = few_places file facts value kernel [] c.in-Ok.places.items c.requires.loadable (omega (arith, count, c.requires.few)) placed in
+    let kept = records facts (rows_of facts value (multiboot2 kernel)) c.in-Ok.places.items (rows_are_rows file facts value kernel c.requires.loadable) (omega arith) placed in
     let small : All (λ p. p.address + p.length < 2 ^ 64) (in_order c.in-Ok.places.items) = λ k d within. let low = kept.below k d within in omega arith in
     rw (c.as_slice-6.ensures.value, places) small
 
@@ -98,7 +99,8 @@ returns-clause-loadable g c =
     let sorted : c.as_slice-5.result.now ≡ in_order c.in-Ok.places.items = c.as_slice-5.ensures.value ∙ c.in_ok-sorted.ensures ∙ ap in_order c.as_slice-3.ensures.value in
     let places : map place_of c.in_ok-parts.parts.items ≡ in_order c.in-Ok.places.items = c.in_ok-parts.ensures.places ∙ sorted in
     let count = length-map c.args.modules.now (λ m. m.line) in
-    let kept = records file facts value kernel c.in-Ok.places.items c.requires.loadable (omega (arith, count, c.requires.few)) placed in
+    let few = few_places file facts value kernel [] c.in-Ok.places.items c.requires.loadable (omega (arith, count, c.requires.few)) placed in
+    let kept = records facts (rows_of facts value (multiboot2 kernel)) c.in-Ok.places.items (rows_are_rows file facts value kernel c.requires.loadable) (omega arith) placed in
     let inside = in_order_all place_key (λ (p : Place). p.address + p.length ≤ facts.size) c.in-Ok.places.items (are_inside facts [] (rows_of facts value (multiboot2 kernel)) c.in-Ok.places.items placed (rows_are_rows file facts value kernel c.requires.loadable)) in
     record {
       backed = c.in_ok-parts.ensures.backed;
