@@ -12,6 +12,8 @@ pub mod OverlapLemmas
 pub mod RowPlaceLemmas
 pub mod LinuxLemmas
 pub mod EntryLemmas
+pub mod LinuxToldLemmas
+pub mod ReadingLemmas
 pub mod PlacingLemmas
 pub mod PrepareLemmas
 pub mod HandoverLaws

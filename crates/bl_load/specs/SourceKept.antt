@@ -1,5 +1,6 @@
 -- What the code keeps of an entry that was read.
 use Rattle.std.specs.Prelude.{◌≡◌, ◌+◌, ◌<◌, ◌≤◌, ◌^◌, ℕ, List, length, map}
+use Rattle.bl_mem.specs.declared.view.ByteView.{Ghosts}
 use Rattle.bl_map.specs.declared.region.Region.{Region}
 use Rattle.bl_bzimage.specs.declared.setup.Setup.{Setup}
 use Rattle.bl_plan.specs.declared.place.Place.{Place}
@@ -32,15 +33,15 @@ protocol_by (multiboot2 kernel) = protocol.Multiboot2
 protocol_by (linux setup) = protocol.Linux
 
 -- the files' bytes
-abbrev pub texts_in : {A : Type 0} → {V : Type 0} → (V → List ℕ) → Source A V → List (List ℕ)
-texts_in bytes source = map bytes source.files.now
+abbrev pub texts_in : {A : Type 0} → {V : Type 0} → {view : Ghosts V} → Source A V view → List (List ℕ)
+texts_in {view = view} source = map view.bytes source.files.now
 
 -- the entry's value
-abbrev pub value_in : {A : Type 0} → {V : Type 0} → (V → List ℕ) → Reading → Source A V → EntryValue
-value_in bytes reading source = record {
+abbrev pub value_in : {A : Type 0} → {V : Type 0} → {view : Ghosts V} → Reading → Source A V view → EntryValue
+value_in reading source = record {
   protocol = protocol_by reading;
   line = source.line.now;
-  files = texts_in bytes source;
+  files = texts_in source;
   module_lines = lines_by source.modules.now;
 }
 

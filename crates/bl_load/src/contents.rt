@@ -85,21 +85,21 @@ pub fn multiboot2_content<A: Allocator + Copy, V: ByteView>(
     place: &Place,
 ) -> Result<Content<A>, AllocError>
     requires files { length source.now.files.now ≡ 1 + length source.now.modules.now }
-    requires loadable { AreLoadable (file_text (texts_in V.bytes source.now) 0)
+    requires loadable { AreLoadable (file_text (texts_in source.now) 0)
         (kernel_by kernel.now).segments }
-    requires ends { ModulesEndLow (texts_in V.bytes source.now) places.now
+    requires ends { ModulesEndLow (texts_in source.now) places.now
         (length source.now.modules.now) }
     requires low { All IsLow places.now }
     requires rowed { IsRowed source.now.machine.now
-        (value_in V.bytes (multiboot2 (kernel_by kernel.now)) source.now)
+        (value_in (multiboot2 (kernel_by kernel.now)) source.now)
         (multiboot2 (kernel_by kernel.now)) place.now }
     requires small { place.now.length ≤ 2 ^ 32 }
-    ensures content { IfOk result (λ content. content_by (texts_in V.bytes source.now) content
+    ensures content { IfOk result (λ content. content_by (texts_in source.now) content
         ≡ content_of source.now.machine.now
-        (value_in V.bytes (multiboot2 (kernel_by kernel.now)) source.now)
+        (value_in (multiboot2 (kernel_by kernel.now)) source.now)
         (multiboot2 (kernel_by kernel.now)) places.now place.now.role place.now.index) }
     ensures there { IfOk result (λ content. IsThere
-        (lengths_of (texts_in V.bytes source.now)) content) }
+        (lengths_of (texts_in source.now)) content) }
     ensures short { IfOk result (λ content. content_length content ≤ place.now.length) }
     ensures lean { IfOk result (StaysInFiles place.now.role) }
 {

@@ -132,11 +132,11 @@ pub fn information<A: Allocator + Copy, V: ByteView>(
 ) -> Result<Bytes<A>, AllocError>
     requires files { length source.now.files.now ≡ 1 + length source.now.modules.now }
     requires low { All IsLow places.now }
-    requires ends { ModulesEndLow (texts_in V.bytes source.now) places.now
+    requires ends { ModulesEndLow (texts_in source.now) places.now
         (length source.now.modules.now) }
     ensures { IfOk result (λ bytes. bytes
         ≡ spelling (codes "bootcore") (information_of source.now.machine.now
-        (multiboot2_value (texts_in V.bytes source.now) source.now.line.now
+        (multiboot2_value (texts_in source.now) source.now.line.now
         (lines_by source.now.modules.now)) relocation.now places.now)) }
 {
     let base = addresses::address_of(Role::Kernel, 0, places);

@@ -61,10 +61,10 @@ fn boot_params<A: Allocator + Copy, V: ByteView>(
     places: &[Place],
 ) -> Result<Bytes<A>, AllocError>
     requires few { length source.now.machine.now.runs ≤ 128 }
-    requires size { length (initrd_file (texts_in V.bytes source.now)) < 2 ^ 32 }
+    requires size { length (initrd_file (texts_in source.now)) < 2 ^ 32 }
     requires low { All IsLow places.now }
     ensures { IfOk result (λ bytes. bytes ≡ params.boot_params setup.now.header
-        (table.told_of source.now.machine.now (value_in V.bytes (linux setup.now) source.now)
+        (table.told_of source.now.machine.now (value_in (linux setup.now) source.now)
         places.now)) }
 {
     let facts = told_of(alloc, source.machine, initrd_size(source.files), places)?;
@@ -116,16 +116,16 @@ pub fn linux_content<A: Allocator + Copy, V: ByteView>(
 ) -> Result<Content<A>, AllocError>
     requires some { 1 ≤ length source.now.files.now }
     requires kernel { IsLinuxKernel source.now.machine.now.runs source.now.line.now
-        (file_text (texts_in V.bytes source.now) 0) setup.now }
-    requires size { length (initrd_file (texts_in V.bytes source.now)) < 2 ^ 32 }
+        (file_text (texts_in source.now) 0) setup.now }
+    requires size { length (initrd_file (texts_in source.now)) < 2 ^ 32 }
     requires low { All IsLow places.now }
-    requires rowed { IsRowed source.now.machine.now (value_in V.bytes (linux setup.now) source.now)
+    requires rowed { IsRowed source.now.machine.now (value_in (linux setup.now) source.now)
         (linux setup.now) place.now }
-    ensures content { IfOk result (λ content. content_by (texts_in V.bytes source.now) content
-        ≡ content_of source.now.machine.now (value_in V.bytes (linux setup.now) source.now)
+    ensures content { IfOk result (λ content. content_by (texts_in source.now) content
+        ≡ content_of source.now.machine.now (value_in (linux setup.now) source.now)
         (linux setup.now) places.now place.now.role place.now.index) }
     ensures there { IfOk result (λ content. IsThere
-        (lengths_of (texts_in V.bytes source.now)) content) }
+        (lengths_of (texts_in source.now)) content) }
     ensures short { IfOk result (λ content. content_length content ≤ place.now.length) }
     ensures lean { IfOk result (StaysInFiles place.now.role) }
 {

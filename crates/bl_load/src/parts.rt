@@ -25,22 +25,22 @@ fn content_at<A: Allocator + Copy, V: ByteView>(
     places: &[Place],
     place: &Place,
 ) -> Result<Content<A>, AllocError>
-    requires files { HasFiles (texts_in V.bytes source.now) (length source.now.modules.now)
+    requires files { HasFiles (texts_in source.now) (length source.now.modules.now)
         (reading_by kernel.now) }
     requires read { IsRead source.now.machine.now
-        (value_in V.bytes (reading_by kernel.now) source.now) (reading_by kernel.now) }
-    requires fits { FitsTold (value_in V.bytes (reading_by kernel.now) source.now)
+        (value_in (reading_by kernel.now) source.now) (reading_by kernel.now) }
+    requires fits { FitsTold (value_in (reading_by kernel.now) source.now)
         (reading_by kernel.now) places.now }
     requires low { All IsLow places.now }
     requires rowed { IsRowed source.now.machine.now
-        (value_in V.bytes (reading_by kernel.now) source.now) (reading_by kernel.now) place.now }
+        (value_in (reading_by kernel.now) source.now) (reading_by kernel.now) place.now }
     requires small { place.now.length ≤ 2 ^ 32 }
-    ensures content { IfOk result (λ content. content_by (texts_in V.bytes source.now) content
+    ensures content { IfOk result (λ content. content_by (texts_in source.now) content
         ≡ content_of source.now.machine.now
-        (value_in V.bytes (reading_by kernel.now) source.now) (reading_by kernel.now) places.now
+        (value_in (reading_by kernel.now) source.now) (reading_by kernel.now) places.now
         place.now.role place.now.index) }
     ensures there { IfOk result (λ content. IsThere
-        (lengths_of (texts_in V.bytes source.now)) content) }
+        (lengths_of (texts_in source.now)) content) }
     ensures short { IfOk result (λ content. content_length content ≤ place.now.length) }
     ensures lean { IfOk result (StaysInFiles place.now.role) }
 {
@@ -58,22 +58,22 @@ pub fn parts_at<A: Allocator + Copy, V: ByteView>(
     places: &[Place],
     sorted: &[Place],
 ) -> Result<Vec<PlannedPart<A>, A>, AllocError>
-    requires files { HasFiles (texts_in V.bytes source.now) (length source.now.modules.now)
+    requires files { HasFiles (texts_in source.now) (length source.now.modules.now)
         (reading_by kernel.now) }
     requires read { IsRead source.now.machine.now
-        (value_in V.bytes (reading_by kernel.now) source.now) (reading_by kernel.now) }
-    requires fits { FitsTold (value_in V.bytes (reading_by kernel.now) source.now)
+        (value_in (reading_by kernel.now) source.now) (reading_by kernel.now) }
+    requires fits { FitsTold (value_in (reading_by kernel.now) source.now)
         (reading_by kernel.now) places.now }
     requires low { All IsLow places.now }
     requires rowed { All (IsRowed source.now.machine.now
-        (value_in V.bytes (reading_by kernel.now) source.now) (reading_by kernel.now)) sorted.now }
+        (value_in (reading_by kernel.now) source.now) (reading_by kernel.now)) sorted.now }
     requires small { All (λ place. place.length ≤ 2 ^ 32) sorted.now }
-    ensures parts { IfOk result (λ parts. map (part_by (texts_in V.bytes source.now)) parts.items
+    ensures parts { IfOk result (λ parts. map (part_by (texts_in source.now)) parts.items
         ≡ map (part_from source.now.machine.now
-        (value_in V.bytes (reading_by kernel.now) source.now) (reading_by kernel.now) places.now)
+        (value_in (reading_by kernel.now) source.now) (reading_by kernel.now) places.now)
         sorted.now) }
     ensures backed { IfOk result (λ parts. All (IsBacked
-        (lengths_of (texts_in V.bytes source.now))) parts.items) }
+        (lengths_of (texts_in source.now))) parts.items) }
     ensures lean { IfOk result (λ parts. IsLean parts.items) }
     ensures places { IfOk result (λ parts. map place_of parts.items ≡ sorted.now) }
 {

@@ -80,12 +80,12 @@ fn rows_of<A: Allocator, V: ByteView>(
     source: &Source<'_, A, V>,
     kernel: &KernelFile<A>,
 ) -> Result<Vec<Row, A>, AllocError>
-    requires files { HasFiles (texts_in V.bytes source.now) (length source.now.modules.now)
+    requires files { HasFiles (texts_in source.now) (length source.now.modules.now)
         (reading_by kernel.now) }
     requires read { IsRead source.now.machine.now
-        (value_in V.bytes (reading_by kernel.now) source.now) (reading_by kernel.now) }
+        (value_in (reading_by kernel.now) source.now) (reading_by kernel.now) }
     ensures { IfOk result (λ rows. rows.items ≡ kept.told_rows_by source.now.machine.now
-        (value_in V.bytes (reading_by kernel.now) source.now) (reading_by kernel.now)) }
+        (value_in (reading_by kernel.now) source.now) (reading_by kernel.now)) }
 {
     match kernel {
         KernelFile::Multiboot2(kernel) => multiboot2_rows(alloc, source, kernel),
@@ -124,19 +124,19 @@ pub fn plan_parts<A: Allocator + Copy, V: ByteView>(
     source: &Source<'_, A, V>,
     kernel: &KernelFile<A>,
 ) -> Result<Plan<A>, PrepFault>
-    requires files { HasFiles (texts_in V.bytes source.now) (length source.now.modules.now)
+    requires files { HasFiles (texts_in source.now) (length source.now.modules.now)
         (reading_by kernel.now) }
     requires read { IsRead source.now.machine.now
-        (value_in V.bytes (reading_by kernel.now) source.now) (reading_by kernel.now) }
+        (value_in (reading_by kernel.now) source.now) (reading_by kernel.now) }
     ensures handover { IfOk result (λ plan. IsPlacedHandover source.now.machine.now
-        (value_in V.bytes (reading_by kernel.now) source.now) (reading_by kernel.now)
-        (handover_by (texts_in V.bytes source.now) plan)) }
+        (value_in (reading_by kernel.now) source.now) (reading_by kernel.now)
+        (handover_by (texts_in source.now) plan)) }
     ensures loadable { IfOk result (λ plan. IsLoadable
-        (lengths_of (texts_in V.bytes source.now)) source.now.machine.now.size plan) }
+        (lengths_of (texts_in source.now)) source.now.machine.now.size plan) }
     ensures lean { IfOk result (λ plan. IsLean plan.parts.items) }
     ensures fault { IfErr result (λ fault. IsPlaceFault source.now.machine.now
         (table.rows_of source.now.machine.now
-        (value_in V.bytes (reading_by kernel.now) source.now) (reading_by kernel.now)) fault) }
+        (value_in (reading_by kernel.now) source.now) (reading_by kernel.now)) fault) }
 {
     let rows = rows_of(alloc, source, kernel)?;
     let places = match place_rows(alloc, source.machine, rows.as_slice()) {

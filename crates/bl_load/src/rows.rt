@@ -224,7 +224,7 @@ pub fn multiboot2_rows<A: Allocator, V: ByteView>(
     requires few { length (kernel_by kernel.now).segments ≤ 128 }
     requires span { blocks.span_of (kernel_by kernel.now).segments < 2 ^ 64 }
     ensures { IfOk result (λ rows. rows.items ≡ kept.told_rows_of source.now.machine.now
-        (value_in V.bytes (multiboot2 (kernel_by kernel.now)) source.now)
+        (value_in (multiboot2 (kernel_by kernel.now)) source.now)
         (kernel_by kernel.now)) }
 {
     let mut rows = Vec::new(alloc);
