@@ -11,6 +11,8 @@ pub mod ModuleLemmas
 pub mod OverlapLemmas
 pub mod RowPlaceLemmas
 pub mod LinuxLemmas
+pub mod FullLemmas
+pub mod ReadingLaws
 pub mod EntryLemmas
 pub mod LinuxToldLemmas
 pub mod ReadingLemmas

@@ -1,13 +1,13 @@
 -- What the rows of a Linux entry have, and their places.
-use Rattle.std.specs.Prelude.{max, not, ◌||◌, if◌then◌else◌, nat_lt, count_ones}
+use Rattle.std.specs.Prelude.{max, not, ◌||◌, ◌&&◌, if◌then◌else◌, nat_lt, nat_le, count_ones, slice_index}
 use Rattle.std.specs.Int.{is_power_of_two}
-use Rattle.std.proofs.Common.{◌≡◌, ◌<◌, ◌≤◌, ◌+◌, ◌^◌, ℕ, Bool, true, false, List, [], ◌∷◌, length, Option, Some, None, cond, arith, refl, sym, subst, ◌∙◌, All, nat_eq}
+use Rattle.std.proofs.Common.{◌≡◌, ◌<◌, ◌≤◌, ◌+◌, ◌^◌, ℕ, Bool, true, false, List, [], ◌∷◌, length, Option, Some, None, cond, arith, refl, sym, subst, ◌∙◌, All, inl, inr, nat_eq}
 use Rattle.std.proofs.lemmas.Nat.{ones_le_self}
 use Rattle.std.proofs.lemmas.Bool.{cond_both}
 use Rattle.std.proofs.lemmas.Bool.Decides.{nat_tests}
 use Rattle.std.proofs.lemmas.List.Elements.{All-nil, All-cons}
 use Rattle.std.specs.declared.ops.Range.{Range}
-use Rattle.bl_mem.specs.Words.{u16_at}
+use Rattle.bl_mem.specs.Words.{u16_at, u64_at}
 use Rattle.bl_map.specs.Limits.{most_size}
 use Rattle.bl_map.specs.MachineFacts.{MachineFacts}
 use Rattle.bl_map.specs.Room.{whole_frames}
@@ -16,19 +16,24 @@ use Rattle.bl_bzimage.specs.declared.fault.SetupFault.TheVariants.{NotBzImage, O
 use Rattle.bl_bzimage.specs.declared.setup.Setup.{Setup}
 use Rattle.bl_bzimage.specs.Setup.{IsSetup, setup_fault, is_bz_image, is_loaded_high, is_whole, has_alignment, has_preferred}
 use Rattle.bl_bzimage.proofs.SetupLaws.{fields_are, payload_is_tail}
-use Rattle.bl_plan.specs.Placed.{ArePlaced, IsRow}
+use Rattle.bl_mem.specs.Memory.{IsIn}
+use Rattle.bl_plan.specs.Permitted.{AllOpen}
+use Rattle.bl_plan.specs.Placed.{ArePlaced, IsRow, IsFirstFault, HasFault}
+use Rattle.bl_plan.specs.Order.{in_order}
+use Rattle.bl_plan.specs.declared.fault.PlanFault.TheVariants.{Overlap}
 use Rattle.bl_plan.specs.declared.place.Place.{Place}
 use Rattle.bl_plan.specs.declared.role.Role.{Role}
 use Rattle.bl_plan.specs.declared.role.Role.TheVariants.{Kernel, BootParams, CommandLine, Gdt, Initrd}
 use Rattle.bl_plan.specs.declared.row.Row.{Row}
 use Rattle.bl_plan.proofs.PlaceLaws.{as_many}
-use Rattle.bl_load.specs.LinuxRows.{moved_row, fixed_row, linux_kernel_row, frame_row, line_limit, initrd_rows, linux_rows}
+use Rattle.bl_load.specs.HandoffFacts.{AreRecords}
+use Rattle.bl_load.specs.LinuxRows.{high_start, moved_row, fixed_row, linux_kernel_row, frame_row, line_limit, initrd_rows, linux_rows}
 use Rattle.bl_load.specs.PlacingKept.{HasLength, IsRowed}
 use Rattle.bl_load.specs.Reading.{linux}
 use Rattle.bl_load.specs.Rows.{rows_of}
 use Rattle.bl_load.specs.Value.{EntryValue, initrd_file}
 use Rattle.bl_load.proofs.RowLemmas.{some_frames}
-use Rattle.bl_load.proofs.RowPlaceLemmas.{Anywhere, each_place}
+use Rattle.bl_load.proofs.RowPlaceLemmas.{Anywhere, each_place, records}
 
 -- ---- a setup without a fault
 
@@ -69,6 +74,27 @@ some_alignment file setup is moved =
     let test = (last_checks file is.sound).0 in
     let field : nat_eq _ 0 ≡ false = subst (λ (n : ℕ). nat_eq n 0 ≡ false) fields.relocatable_kernel moved in
     subst (λ (n : ℕ). 1 ≤ n) (sym fields.kernel_alignment) (some_power _ (aligned_where _ _ test field))
+
+preferred_where : (zero_field above below : Bool) → (not zero_field || (above && below)) ≡ true → zero_field ≡ true → (above ≡ true) × (below ≡ true)
+preferred_where true true true test e = (refl, refl)
+preferred_where true true false test e = absurd cc
+preferred_where true false below test e = absurd cc
+preferred_where false above below test e = absurd cc
+
+le_from : (m n : ℕ) → nat_le m n ≡ true → m ≤ n
+le_from m n test = grind (arith, nat_tests)
+
+-- another one runs from 1 MiB on, within 32 bits
+pub fixed_preferred : (file : List ℕ) (setup : Setup) → IsSetup file setup → setup.relocatable_kernel ≡ 0 → (0x100000 ≤ setup.pref_address) × (setup.pref_address < 2 ^ 32)
+fixed_preferred file setup is fixed =
+    let fields = fields_are file setup is in
+    let test = (last_checks file is.sound).1 in
+    let field : nat_eq (slice_index file 0x234) 0 ≡ true = subst (λ (n : ℕ). nat_eq n 0 ≡ true) (sym fixed ∙ fields.relocatable_kernel) refl in
+    let within = preferred_where _ (nat_le 0x100000 (u64_at file 0x258)) (nat_le (u64_at file 0x258) 0xFFFFFFFF) test field in
+    let above = le_from 0x100000 (u64_at file 0x258) within.0 in
+    let below = le_from (u64_at file 0x258) 0xFFFFFFFF within.1 in
+    let same = fields.pref_address in
+    (omega arith, omega arith)
 
 -- ---- they are rows
 
@@ -139,3 +165,36 @@ module _ (facts : MachineFacts) (value : EntryValue) (setup : Setup) where
       each_place facts (IsRowed facts value (linux setup)) taken (rows_of facts value (linux setup)) places
       (each_row (Anywhere (IsRowed facts value (linux setup))) setup (initrd_file value.files) kernel_row_rowed (λ a. refl) (λ a. refl) (λ a. refl) (initrd_rows_rowed (initrd_file value.files) refl))
       placed
+
+-- ---- they are those of records
+
+pub linux_records : (file : List ℕ) (facts : MachineFacts) (value : EntryValue) (setup : Setup) (places : List Place) → IsSetup file setup → ArePlaced facts [] (rows_of facts value (linux setup)) places → AreRecords (in_order places)
+linux_records file facts value setup places is placed =
+    let few = linux_few facts setup (initrd_file value.files) [] places placed in
+    records facts (rows_of facts value (linux setup)) places (linux_rows_are_rows file setup (initrd_file value.files) is) (omega (arith, few)) placed
+
+-- ---- none overlaps another: the first alone has a fixed place
+
+nothing_taken : (start end : ℕ) → AllOpen [] start end
+nothing_taken start end a low high = All-nil (λ (range : Range ℕ). ¬ IsIn range a)
+
+kernel_no_overlap : (facts : MachineFacts) (setup : Setup) → HasFault facts [] (linux_kernel_row setup).length (linux_kernel_row setup).choice Overlap → ⊥
+kernel_no_overlap facts setup =
+    cond_both (nat_eq setup.relocatable_kernel 0) (fixed_row setup) (moved_row setup) (λ row. HasFault facts [] row.length row.choice Overlap → ⊥)
+    (λ _ here. here.1 (nothing_taken high_start (high_start + (fixed_row setup).length)))
+    (λ _ here. here)
+
+initrd_no_overlap : (facts : MachineFacts) (taken : List (Range ℕ)) (setup : Setup) (initrd : List ℕ) → IsFirstFault facts taken (initrd_rows setup initrd) Overlap → ⊥
+initrd_no_overlap facts taken setup [] has = has
+initrd_no_overlap facts taken setup (byte ∷ bytes) (inl here) = here
+initrd_no_overlap facts taken setup (byte ∷ bytes) (inr later) = later.2
+
+rows_no_overlap : (facts : MachineFacts) (setup : Setup) (initrd : List ℕ) → IsFirstFault facts [] (linux_rows setup initrd) Overlap → ⊥
+rows_no_overlap facts setup initrd (inl here) = kernel_no_overlap facts setup here
+rows_no_overlap facts setup initrd (inr (a, _, inl here)) = here
+rows_no_overlap facts setup initrd (inr (a, _, inr (b, _, inl here))) = here
+rows_no_overlap facts setup initrd (inr (a, _, inr (b, _, inr (c, _, inl here)))) = here
+rows_no_overlap facts setup initrd (inr (a, _, inr (b, _, inr (c, _, inr (d, _, later))))) = initrd_no_overlap facts _ setup initrd later
+
+pub linux_no_overlap : (facts : MachineFacts) (value : EntryValue) (setup : Setup) → IsFirstFault facts [] (rows_of facts value (linux setup)) Overlap → ⊥
+linux_no_overlap facts value setup has = rows_no_overlap facts setup (initrd_file value.files) has

@@ -66,7 +66,7 @@ parts_at-requires-clause-fits g c =
     let told : ArePlaced facts [] (told_rows_by facts value reading) c.in-Ok.places.items = subst (λ (rs : List Row). ArePlaced facts [] rs c.in-Ok.places.items) rows c.in-Ok.ensures.placed in
     let placed = told_placed facts value reading c.in-Ok.places.items told in
     subst (λ (ps : List Place). FitsTold value reading ps) (sym c.as_slice-4.ensures.value)
-    (fits_told facts value reading c.in-Ok.places.items placed (reading_rowed facts value reading [] c.in-Ok.places.items placed) c.in-Ok.ensures.below)
+    (fits_told facts value reading c.in-Ok.places.items placed (reading_rowed facts value reading c.in-Ok.places.items placed) c.in-Ok.ensures.below)
 
 pub parts_at-requires-clause-rowed : goal.parts_at-requires-clause-rowed
 parts_at-requires-clause-rowed g c =
@@ -78,7 +78,7 @@ parts_at-requires-clause-rowed g c =
     let placed = told_placed facts value reading c.in-Ok.places.items told in
     let sorted : c.as_slice-5.result.now ≡ in_order c.in-Ok.places.items = c.as_slice-5.ensures.value ∙ c.in_ok-sorted.ensures ∙ ap in_order c.as_slice-3.ensures.value in
     subst (λ (ps : List Place). All (IsRowed facts value reading) ps) (sym sorted)
-    (in_order_all place_key (IsRowed facts value reading) c.in-Ok.places.items (reading_rowed facts value reading [] c.in-Ok.places.items placed))
+    (in_order_all place_key (IsRowed facts value reading) c.in-Ok.places.items (reading_rowed facts value reading c.in-Ok.places.items placed))
 
 pub parts_at-requires-clause-small : goal.parts_at-requires-clause-small
 parts_at-requires-clause-small g c =
