@@ -1,11 +1,14 @@
 -- What the code needs of an entry's rows and places, by what was read of its kernel.
 use Rattle.std.proofs.Common.{◌≡◌, ◌<◌, ◌≤◌, ℕ, List, [], length, arith, All}
+use Rattle.std.proofs.lemmas.List.{length-map}
 use Rattle.bl_map.specs.MachineFacts.{MachineFacts}
 use Rattle.bl_plan.specs.Placed.{ArePlaced, IsFirstFault, IsPlacingFault, IsRow}
 use Rattle.bl_plan.specs.declared.fault.PlanFault.{PlanFault}
 use Rattle.bl_plan.specs.declared.fault.PlanFault.TheVariants.{NotUsable, Overlap, NoRoom, NoMemory}
 use Rattle.bl_plan.specs.declared.place.Place.{Place}
-use Rattle.bl_load.specs.PlacingKept.{IsLow, IsRowed, told_rows_by}
+use Rattle.bl_load.specs.declared.entry.Module.{Module}
+use Rattle.bl_load.specs.Kept.{lines_by}
+use Rattle.bl_load.specs.PlacingKept.{IsLow, IsRowed, ModulesEndLow, told_rows_by}
 use Rattle.bl_load.specs.Reading.{Reading, multiboot2, linux, IsRead}
 use Rattle.bl_load.specs.Rows.{rows_of}
 use Rattle.bl_load.specs.SourceKept.{HasFiles, FitsTold, CanEnter}
@@ -43,3 +46,9 @@ module _ (facts : MachineFacts) (value : EntryValue) where
   pub can_enter : (reading : Reading) (modules : ℕ) (places : List Place) → IsRead facts value reading → HasFiles value.files modules reading → ArePlaced facts [] (rows_of facts value reading) places → All IsLow places → CanEnter reading places
   can_enter (multiboot2 kernel) modules places is has placed low = entry_small (kernel_file value) facts value kernel places is.1 has.1 placed low
   can_enter (linux setup) modules places is has placed low = tt
+
+-- there are as many lines as modules
+pub modules_fit : {A : Type 0} (modules : List (Module A)) (texts : List (List ℕ)) (places : List Place) → ModulesEndLow texts places (length (lines_by modules)) → ModulesEndLow texts places (length modules)
+modules_fit {A = A} modules texts places ends =
+    let count = length-map modules (λ (m : Module A). m.line) in
+    λ k within. ends k (omega (arith, count, within))
