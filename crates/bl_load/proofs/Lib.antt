@@ -14,6 +14,8 @@ pub mod LinuxLemmas
 pub mod FullLemmas
 pub mod ReadingLaws
 pub mod EntryLemmas
+pub mod LinuxToldLemmas
+pub mod ReadingLemmas
 pub mod PlacingLemmas
 pub mod PrepareLemmas
 pub mod OneReadingLaws

@@ -16,4 +16,5 @@ pub mod Rows
 pub mod Registers
 pub mod Parts
 pub mod PlacingKept
+pub mod SourceKept
 pub mod Legal

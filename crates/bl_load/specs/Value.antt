@@ -20,10 +20,14 @@ pub record EntryValue : Type 0 where
 abbrev pub multiboot2_value : List (List ℕ) → List ℕ → List (List ℕ) → EntryValue
 multiboot2_value texts line lines = record { protocol = protocol.Multiboot2; line = line; files = texts; module_lines = lines }
 
+-- the value of a Linux entry with this line
+abbrev pub linux_value : List (List ℕ) → List ℕ → EntryValue
+linux_value texts line = record { protocol = protocol.Linux; line = line; files = texts; module_lines = [] }
+
 -- the value of an entry whose files hold these texts
 abbrev pub value_of : {A : Type 0} → List (List ℕ) → Entry A → EntryValue
 value_of texts (Multiboot2 kernel line modules) = multiboot2_value texts line (map (λ m. m.line) modules.items)
-value_of texts (Linux kernel line initrd) = record { protocol = protocol.Linux; line = line; files = texts; module_lines = [] }
+value_of texts (Linux kernel line initrd) = linux_value texts line
 
 -- the bytes of the kernel's file
 abbrev pub kernel_file : EntryValue → List ℕ
