@@ -11,7 +11,7 @@ use Rattle.bl_load.specs.Kept.{lines_by}
 use Rattle.bl_load.specs.PlacingKept.{IsLow, IsRowed, ModulesEndLow, told_rows_by}
 use Rattle.bl_load.specs.Reading.{Reading, multiboot2, linux, IsRead}
 use Rattle.bl_load.specs.Rows.{rows_of}
-use Rattle.bl_load.specs.SourceKept.{HasFiles, FitsTold, CanEnter}
+use Rattle.bl_load.specs.ReadKept.{HasFiles, FitsTold, CanEnter}
 use Rattle.bl_load.specs.Value.{EntryValue, kernel_file, initrd_file}
 use Rattle.bl_load.proofs.EntryLemmas.{entry_small}
 use Rattle.bl_load.proofs.LinuxToldLemmas.{linux_as_placed, linux_as_fault, initrd_fits, told_linux_rows_are}
