@@ -1,8 +1,8 @@
 -- What the code needs of an entry's rows and places, by what was read of its kernel.
-use Rattle.std.proofs.Common.{◌≡◌, ◌<◌, ◌≤◌, ℕ, List, [], length, arith, All}
+use Rattle.std.proofs.Common.{ℕ, List, [], length, arith, All}
 use Rattle.std.proofs.lemmas.List.{length-map}
 use Rattle.bl_map.specs.MachineFacts.{MachineFacts}
-use Rattle.bl_plan.specs.Placed.{ArePlaced, IsFirstFault, IsPlacingFault, IsRow}
+use Rattle.bl_plan.specs.Placed.{ArePlaced, IsPlacingFault, IsRow}
 use Rattle.bl_plan.specs.declared.fault.PlanFault.{PlanFault}
 use Rattle.bl_plan.specs.declared.fault.PlanFault.TheVariants.{NotUsable, Overlap, NoRoom, NoMemory}
 use Rattle.bl_plan.specs.declared.place.Place.{Place}

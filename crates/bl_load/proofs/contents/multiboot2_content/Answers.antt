@@ -1,4 +1,4 @@
-use Rattle.std.proofs.Common.{◌≡◌, ℕ, List, [], length, map, arith, ap, subst}
+use Rattle.std.proofs.Common.{◌≡◌, ℕ, List, [], length, arith, ap, subst}
 use Rattle.bl_mbi.specs.InformationFacts.{info_size}
 use Rattle.bl_plan.specs.declared.role.Role.{Role}
 use Rattle.bl_load.specs.Reading.{multiboot2}

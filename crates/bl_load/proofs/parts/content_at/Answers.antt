@@ -1,5 +1,5 @@
 use Rattle.std.proofs.Common.{◌≡◌, IfOk, subst, sym, ap}
-use Rattle.bl_load.specs.Reading.{Reading, multiboot2}
+use Rattle.bl_load.specs.Reading.{Reading}
 use Rattle.bl_load.specs.KernelKept.{kernel_by}
 use Rattle.bl_load.specs.Parts.{content_of}
 use Rattle.bl_load.specs.PlanFacts.{content_by}

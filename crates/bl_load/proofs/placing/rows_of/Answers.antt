@@ -1,6 +1,5 @@
-use Rattle.std.proofs.Common.{◌≡◌, List, IfOk, subst, sym, ap}
-use Rattle.bl_load.specs.Reading.{Reading, multiboot2, linux, IsRead}
-use Rattle.bl_load.specs.KernelKept.{kernel_by}
+use Rattle.std.proofs.Common.{◌≡◌, IfOk, subst, sym, ap}
+use Rattle.bl_load.specs.Reading.{Reading, linux, IsRead}
 use Rattle.bl_load.specs.PlacingKept.{told_rows_by}
 use Rattle.bl_load.specs.ReadKept.{reading_by}
 use Rattle.bl_load.specs.SourceKept.{value_as}

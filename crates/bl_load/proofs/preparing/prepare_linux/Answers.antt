@@ -1,4 +1,4 @@
-use Rattle.std.proofs.Common.{◌≤◌, ℕ, List, length, map, arith, refl, subst}
+use Rattle.std.proofs.Common.{ℕ, List, map, arith, refl, subst}
 use Rattle.std.proofs.lemmas.List.{length-map}
 use Rattle.std.proofs.lemmas.Result.{IfOk-weaker, IfErr-weaker}
 use Rattle.bl_load.specs.Linux.{IsLinuxKernel}

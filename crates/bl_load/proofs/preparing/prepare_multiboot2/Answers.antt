@@ -1,4 +1,4 @@
-use Rattle.std.proofs.Common.{◌≤◌, ℕ, List, length, map, arith, refl, subst, inl}
+use Rattle.std.proofs.Common.{◌≤◌, ℕ, List, length, map, arith, refl, subst}
 use Rattle.std.proofs.lemmas.List.{length-map}
 use Rattle.std.proofs.lemmas.Result.{IfOk-weaker, IfErr-weaker, err_from_is_err_and}
 use Rattle.bl_load.specs.KernelKept.{kernel_by, AreLoadable, IsKernelFault}
