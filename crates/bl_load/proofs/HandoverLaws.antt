@@ -7,7 +7,7 @@ use Rattle.bl_plan.specs.declared.row.Row.{Row}
 use Rattle.bl_plan.proofs.PlaceLaws as places
 use Rattle.bl_load.specs.declared.refusal.Refusal.{Refusal}
 use Rattle.bl_load.specs.Value.{EntryValue, lines_fault, lines_of}
-use Rattle.bl_load.specs.Reading.{Reading, IsRead, HasReadFault}
+use Rattle.bl_load.specs.Reading.{Reading, HasReadFault}
 use Rattle.bl_load.specs.Rows.{rows_of}
 use Rattle.bl_load.specs.Handover.{Handover}
 use Rattle.bl_load.specs.Parts.{IsHandover, IsRefusal, HasRowFault, HasPlaceFault, Then, handover_of, placing_refusal}

@@ -1,5 +1,5 @@
 -- What the rows of a Linux entry have, and their places.
-use Rattle.std.specs.Prelude.{max, not, ◌||◌, ◌&&◌, if◌then◌else◌, nat_lt, nat_le, count_ones, slice_index}
+use Rattle.std.specs.Prelude.{not, ◌||◌, ◌&&◌, if◌then◌else◌, nat_lt, nat_le, count_ones, slice_index}
 use Rattle.std.specs.Int.{is_power_of_two}
 use Rattle.std.proofs.Common.{◌≡◌, ◌<◌, ◌≤◌, ◌+◌, ◌^◌, ℕ, Bool, true, false, List, [], ◌∷◌, length, Option, Some, None, cond, arith, refl, sym, subst, ◌∙◌, All, inl, inr, nat_eq}
 use Rattle.std.proofs.lemmas.Nat.{ones_le_self}
@@ -23,7 +23,7 @@ use Rattle.bl_plan.specs.Order.{in_order}
 use Rattle.bl_plan.specs.declared.fault.PlanFault.TheVariants.{Overlap}
 use Rattle.bl_plan.specs.declared.place.Place.{Place}
 use Rattle.bl_plan.specs.declared.role.Role.{Role}
-use Rattle.bl_plan.specs.declared.role.Role.TheVariants.{Kernel, BootParams, CommandLine, Gdt, Initrd}
+use Rattle.bl_plan.specs.declared.role.Role.TheVariants.{Kernel, BootParams, CommandLine, Gdt}
 use Rattle.bl_plan.specs.declared.row.Row.{Row}
 use Rattle.bl_plan.proofs.PlaceLaws.{as_many}
 use Rattle.bl_load.specs.HandoffFacts.{AreRecords}

@@ -1,5 +1,5 @@
 -- The parts that are handed over are not empty, usable, and apart.
-use Rattle.std.proofs.Common.{◌≡◌, ◌≤◌, ◌+◌, ℕ, List, [], length, get_or, map, arith, sym, ap, subst, All, AllPairs, length-append}
+use Rattle.std.proofs.Common.{◌≡◌, ◌≤◌, ℕ, List, [], length, get_or, map, arith, sym, ap, subst, All, AllPairs, length-append}
 use Rattle.std.proofs.lemmas.List.{length-replicate}
 use Rattle.std.proofs.lemmas.List.Elements.{All-map}
 use Rattle.bl_map.specs.MachineFacts.{MachineFacts, AllUsable}

@@ -6,7 +6,7 @@ use Rattle.bl_load.specs.declared.refusal.PrepFault.{PrepFault}
 use Rattle.bl_load.specs.declared.refusal.PrepFault.TheVariants as prep
 use Rattle.bl_load.specs.Handover.{Handover}
 use Rattle.bl_load.specs.KernelKept.{IsKernelFault}
-use Rattle.bl_load.specs.SourceKept.{IsLinuxFault}
+use Rattle.bl_load.specs.ReadKept.{IsLinuxFault}
 use Rattle.bl_load.specs.Value.{EntryValue, multiboot2_value, linux_value, lines_fault, lines_of}
 use Rattle.bl_load.specs.Reading.{Reading, IsRead}
 use Rattle.bl_load.specs.Rows.{rows_of}

@@ -1,8 +1,8 @@
 -- What the code needs of an entry's rows and places, by what was read of its kernel.
-use Rattle.std.proofs.Common.{◌≡◌, ◌<◌, ◌≤◌, ℕ, List, [], length, arith, All}
+use Rattle.std.proofs.Common.{ℕ, List, [], length, arith, All}
 use Rattle.std.proofs.lemmas.List.{length-map}
 use Rattle.bl_map.specs.MachineFacts.{MachineFacts}
-use Rattle.bl_plan.specs.Placed.{ArePlaced, IsFirstFault, IsPlacingFault, IsRow}
+use Rattle.bl_plan.specs.Placed.{ArePlaced, IsPlacingFault, IsRow}
 use Rattle.bl_plan.specs.declared.fault.PlanFault.{PlanFault}
 use Rattle.bl_plan.specs.declared.fault.PlanFault.TheVariants.{NotUsable, Overlap, NoRoom, NoMemory}
 use Rattle.bl_plan.specs.declared.place.Place.{Place}
@@ -11,7 +11,7 @@ use Rattle.bl_load.specs.Kept.{lines_by}
 use Rattle.bl_load.specs.PlacingKept.{IsLow, IsRowed, ModulesEndLow, told_rows_by}
 use Rattle.bl_load.specs.Reading.{Reading, multiboot2, linux, IsRead}
 use Rattle.bl_load.specs.Rows.{rows_of}
-use Rattle.bl_load.specs.SourceKept.{HasFiles, FitsTold, CanEnter}
+use Rattle.bl_load.specs.ReadKept.{HasFiles, FitsTold, CanEnter}
 use Rattle.bl_load.specs.Value.{EntryValue, kernel_file, initrd_file}
 use Rattle.bl_load.proofs.EntryLemmas.{entry_small}
 use Rattle.bl_load.proofs.LinuxToldLemmas.{linux_as_placed, linux_as_fault, initrd_fits, told_linux_rows_are}

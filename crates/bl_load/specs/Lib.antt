@@ -16,5 +16,6 @@ pub mod Rows
 pub mod Registers
 pub mod Parts
 pub mod PlacingKept
+pub mod ReadKept
 pub mod SourceKept
 pub mod Legal

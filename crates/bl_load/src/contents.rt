@@ -9,7 +9,7 @@ ghost use Rattle.bl_load.specs.Parts as parts;
 ghost use Rattle.bl_load.specs.Parts.{content_of};
 ghost use Rattle.bl_load.specs.PlanFacts.{content_by, file_text};
 ghost use Rattle.bl_load.specs.Kept.{lengths_of, content_length, IsThere, StaysInFiles};
-ghost use Rattle.bl_load.specs.SourceKept.{texts_in, value_in};
+ghost use Rattle.bl_load.specs.SourceKept.{texts_in, value_as};
 ghost use Rattle.bl_load.specs.PlacingKept.{HasKernelLength, IsRowed, IsLow, ModulesEndLow};
 
 use crate::information::information;
@@ -91,15 +91,14 @@ pub fn multiboot2_content<A: Allocator + Copy, V: ByteView>(
         (length source.now.modules.now) }
     requires low { All IsLow places.now }
     requires rowed { IsRowed source.now.machine.now
-        (value_in (multiboot2 (kernel_by kernel.now)) source.now)
+        (value_as (multiboot2 (kernel_by kernel.now)) source.now)
         (multiboot2 (kernel_by kernel.now)) place.now }
     requires small { place.now.length ≤ 2 ^ 32 }
     ensures content { IfOk result (λ content. content_by (texts_in source.now) content
         ≡ content_of source.now.machine.now
-        (value_in (multiboot2 (kernel_by kernel.now)) source.now)
+        (value_as (multiboot2 (kernel_by kernel.now)) source.now)
         (multiboot2 (kernel_by kernel.now)) places.now place.now.role place.now.index) }
-    ensures there { IfOk result (λ content. IsThere
-        (lengths_of (texts_in source.now)) content) }
+    ensures there { IfOk result (λ content. IsThere (lengths_of (texts_in source.now)) content) }
     ensures short { IfOk result (λ content. content_length content ≤ place.now.length) }
     ensures lean { IfOk result (StaysInFiles place.now.role) }
 {

@@ -12,7 +12,7 @@ ghost use Rattle.bl_bzimage.specs.Setup.{IsSetup};
 ghost use Rattle.bl_load.specs.PlanFacts.{content_by, file_text};
 ghost use Rattle.bl_load.specs.Kept.{lengths_of, content_length, IsThere, StaysInFiles};
 ghost use Rattle.bl_load.specs.PlacingKept.{IsRowed, IsLow};
-ghost use Rattle.bl_load.specs.SourceKept.{texts_in, value_in};
+ghost use Rattle.bl_load.specs.SourceKept.{texts_in, value_as};
 
 use crate::addresses::address_of;
 use crate::linux_rows::initrd_size;
@@ -64,7 +64,7 @@ fn boot_params<A: Allocator + Copy, V: ByteView>(
     requires size { length (initrd_file (texts_in source.now)) < 2 ^ 32 }
     requires low { All IsLow places.now }
     ensures { IfOk result (λ bytes. bytes ≡ params.boot_params setup.now.header
-        (table.told_of source.now.machine.now (value_in (linux setup.now) source.now)
+        (table.told_of source.now.machine.now (value_as (linux setup.now) source.now)
         places.now)) }
 {
     let facts = told_of(alloc, source.machine, initrd_size(source.files), places)?;
@@ -119,13 +119,12 @@ pub fn linux_content<A: Allocator + Copy, V: ByteView>(
         (file_text (texts_in source.now) 0) setup.now }
     requires size { length (initrd_file (texts_in source.now)) < 2 ^ 32 }
     requires low { All IsLow places.now }
-    requires rowed { IsRowed source.now.machine.now (value_in (linux setup.now) source.now)
+    requires rowed { IsRowed source.now.machine.now (value_as (linux setup.now) source.now)
         (linux setup.now) place.now }
     ensures content { IfOk result (λ content. content_by (texts_in source.now) content
-        ≡ content_of source.now.machine.now (value_in (linux setup.now) source.now)
+        ≡ content_of source.now.machine.now (value_as (linux setup.now) source.now)
         (linux setup.now) places.now place.now.role place.now.index) }
-    ensures there { IfOk result (λ content. IsThere
-        (lengths_of (texts_in source.now)) content) }
+    ensures there { IfOk result (λ content. IsThere (lengths_of (texts_in source.now)) content) }
     ensures short { IfOk result (λ content. content_length content ≤ place.now.length) }
     ensures lean { IfOk result (StaysInFiles place.now.role) }
 {

@@ -1,6 +1,5 @@
 //! The parts of an entry whose kernel was read, at their places.
 ghost use Rattle.std.specs.Prelude.{◌≡◌, ◌≢◌, ◌≤◌, ◌<◌, ◌+◌, ◌^◌, Some, All, IfOk, IfErr, length, map};
-ghost use Rattle.bl_load.specs.Reading.{IsRead};
 ghost use Rattle.bl_load.specs.Rows as table;
 ghost use Rattle.bl_plan.specs.Placed.{range_of};
 ghost use Rattle.bl_plan.specs.declared.fault.PlanFault.TheVariants.{Overlap};
@@ -12,7 +11,8 @@ ghost use Rattle.bl_load.specs.PlacingKept.{IsLow, IsPlacedHandover, IsPlaceFaul
 ghost use Rattle.bl_load.specs.Place.{place_of};
 ghost use Rattle.bl_load.specs.PlanFacts.{handover_by};
 ghost use Rattle.bl_load.specs.Kept.{lengths_of, IsLoadable, IsLean};
-ghost use Rattle.bl_load.specs.SourceKept.{reading_by, protocol_by, texts_in, value_in, HasFiles, CanEnter};
+ghost use Rattle.bl_load.specs.ReadKept.{reading_by, protocol_by, CanEnter};
+ghost use Rattle.bl_load.specs.SourceKept.{texts_in, reading_in, value_in, IsReady};
 
 use crate::addresses::address_of;
 use crate::kernel::Kernel;
@@ -78,16 +78,12 @@ fn registers_of<A: Allocator>(kernel: &KernelFile<A>, places: &[Place]) -> Regis
 fn rows_of<A: Allocator, V: ByteView>(
     alloc: A,
     source: &Source<'_, A, V>,
-    kernel: &KernelFile<A>,
 ) -> Result<Vec<Row, A>, AllocError>
-    requires files { HasFiles (texts_in source.now) (length source.now.modules.now)
-        (reading_by kernel.now) }
-    requires read { IsRead source.now.machine.now
-        (value_in (reading_by kernel.now) source.now) (reading_by kernel.now) }
+    requires { IsReady source.now }
     ensures { IfOk result (λ rows. rows.items ≡ kept.told_rows_by source.now.machine.now
-        (value_in (reading_by kernel.now) source.now) (reading_by kernel.now)) }
+        (value_in source.now) (reading_in source.now)) }
 {
-    match kernel {
+    match source.kernel {
         KernelFile::Multiboot2(kernel) => multiboot2_rows(alloc, source, kernel),
         KernelFile::Linux(setup) => linux_rows(alloc, setup, source.files),
     }
@@ -122,33 +118,28 @@ fn ranges_of<A: Allocator + Copy>(
 pub fn plan_parts<A: Allocator + Copy, V: ByteView>(
     alloc: A,
     source: &Source<'_, A, V>,
-    kernel: &KernelFile<A>,
 ) -> Result<Plan<A>, PrepFault>
-    requires files { HasFiles (texts_in source.now) (length source.now.modules.now)
-        (reading_by kernel.now) }
-    requires read { IsRead source.now.machine.now
-        (value_in (reading_by kernel.now) source.now) (reading_by kernel.now) }
+    requires { IsReady source.now }
     ensures handover { IfOk result (λ plan. IsPlacedHandover source.now.machine.now
-        (value_in (reading_by kernel.now) source.now) (reading_by kernel.now)
-        (handover_by (texts_in source.now) plan)) }
+        (value_in source.now) (reading_in source.now) (handover_by (texts_in source.now) plan)) }
     ensures loadable { IfOk result (λ plan. IsLoadable
         (lengths_of (texts_in source.now)) source.now.machine.now.size plan) }
     ensures lean { IfOk result (λ plan. IsLean plan.parts.items) }
     ensures fault { IfErr result (λ fault. IsPlaceFault source.now.machine.now
-        (table.rows_of source.now.machine.now
-        (value_in (reading_by kernel.now) source.now) (reading_by kernel.now)) fault) }
+        (table.rows_of source.now.machine.now (value_in source.now) (reading_in source.now))
+        fault) }
 {
-    let rows = rows_of(alloc, source, kernel)?;
+    let rows = rows_of(alloc, source)?;
     let places = match place_rows(alloc, source.machine, rows.as_slice()) {
         Ok(places) => places,
         Err(fault) => return Err(fault_of(fault)),
     };
-    let registers = registers_of(kernel, places.as_slice());
+    let registers = registers_of(source.kernel, places.as_slice());
     let sorted = in_order(alloc, places.as_slice())?;
-    let parts = parts_at(alloc, source, kernel, places.as_slice(), sorted.as_slice())?;
+    let parts = parts_at(alloc, source, places.as_slice(), sorted.as_slice())?;
     let ranges = ranges_of(alloc, parts.as_slice())?;
     Ok(Plan {
-        protocol: protocol_of(kernel),
+        protocol: protocol_of(source.kernel),
         registers,
         parts,
         ranges,

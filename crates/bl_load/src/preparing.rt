@@ -92,8 +92,9 @@ fn prepare_multiboot2<A: Allocator + Copy, V: ByteView>(
         line,
         modules,
         files,
+        kernel: &kernel,
     };
-    plan_parts(alloc, &source, &kernel)
+    plan_parts(alloc, &source)
 }
 
 /// What is loaded for a Linux entry of this line, or its first refusal.
@@ -120,8 +121,9 @@ fn prepare_linux<A: Allocator + Copy, V: ByteView>(
         line,
         modules: &[],
         files,
+        kernel: &kernel,
     };
-    plan_parts(alloc, &source, &kernel)
+    plan_parts(alloc, &source)
 }
 
 /// What is loaded for an entry on a machine, or its first refusal. `files` are the entry's files in

@@ -9,15 +9,14 @@ use Rattle.bl_load.specs.Parts.{part_from}
 use Rattle.bl_load.specs.Place.{place_of}
 use Rattle.bl_load.specs.PlanFacts.{part_by}
 use Rattle.bl_load.specs.Kept.{lengths_of, IsBacked, StaysInFiles}
-use Rattle.bl_load.specs.SourceKept.{reading_by, texts_in, value_in}
+use Rattle.bl_load.specs.SourceKept.{reading_in, texts_in, value_in}
 use Rattle.bl_load.proofs.parts.parts_at.Goals as goal
 
 pub loop-place-preserved : goal.loop-place-preserved
 loop-place-preserved g c =
     let source = c.args.source.now in
     let texts = texts_in source in
-    let reading = reading_by c.args.kernel.now in
-    let from : Place → Part = part_from source.machine.now (value_in reading source) reading c.args.places.now in
+    let from : Place → Part = part_from source.machine.now (value_in source) (reading_in source) c.args.places.now in
     let by : PlannedPart g.row.A.Denot → Part = part_by texts in
     let stays : PlannedPart g.row.A.Denot → Type 0 = λ part. StaysInFiles part.place.role part.content in
     let place_in : PlannedPart g.row.A.Denot → Place = place_of in

@@ -8,9 +8,10 @@ use Rattle.bl_plan.specs.Order.{in_order, place_key}
 use Rattle.bl_plan.proofs.OrderLemmas.{in_order_all}
 use Rattle.bl_load.specs.Place.{place_of}
 use Rattle.bl_load.specs.HandoffFacts.{AreRecords}
-use Rattle.bl_load.specs.PlacingKept.{IsRowed, IsPlaceFault, told_rows_by}
+use Rattle.bl_load.specs.PlacingKept.{IsRowed, told_rows_by}
 use Rattle.bl_load.specs.Rows.{rows_of}
-use Rattle.bl_load.specs.SourceKept.{reading_by, value_in, FitsTold, CanEnter}
+use Rattle.bl_load.specs.ReadKept.{FitsTold, CanEnter}
+use Rattle.bl_load.specs.SourceKept.{reading_in, value_in}
 use Rattle.bl_load.proofs.PlacingLemmas.{refused_place}
 use Rattle.bl_load.proofs.ReadingLaws.{reading_rows, reading_rowed, reading_records, reading_not_overlap}
 use Rattle.bl_load.proofs.ReadingLemmas.{told_are_rows, told_placed, told_fault, fits_told, can_enter}
@@ -20,16 +21,16 @@ use Rattle.bl_load.proofs.placing.plan_parts.Goals as goal
 pub place_rows-requires : goal.place_rows-requires
 place_rows-requires g c =
     let facts = c.args.source.now.machine.now in
-    let reading = reading_by c.args.kernel.now in
-    let value = value_in reading c.args.source.now in
+    let reading = reading_in c.args.source.now in
+    let value = value_in c.args.source.now in
     let rows : c.as_slice.result.now ≡ told_rows_by facts value reading = c.as_slice.ensures.value ∙ c.in_ok-rows.ensures in
     subst (λ (rs : List Row). All IsRow rs) (sym rows) (told_are_rows facts value reading _ c.requires.read c.requires.files)
 
 pub fault_of-requires : goal.fault_of-requires
 fault_of-requires g c =
     let facts = c.args.source.now.machine.now in
-    let reading = reading_by c.args.kernel.now in
-    let value = value_in reading c.args.source.now in
+    let reading = reading_in c.args.source.now in
+    let value = value_in c.args.source.now in
     let rows : c.as_slice.result.now ≡ told_rows_by facts value reading = c.as_slice.ensures.value ∙ c.in_ok-rows.ensures in
     reading_not_overlap facts value reading c.in-Err.fault c.requires.read
     (told_fault facts value reading c.in-Err.fault (subst (λ (rs : List Row). IsPlacingFault facts rs c.in-Err.fault) rows c.in-Err.ensures.fault))
@@ -37,8 +38,8 @@ fault_of-requires g c =
 pub returns-in-Err-clause-fault : goal.returns-in-Err-clause-fault
 returns-in-Err-clause-fault g c =
     let facts = c.args.source.now.machine.now in
-    let reading = reading_by c.args.kernel.now in
-    let value = value_in reading c.args.source.now in
+    let reading = reading_in c.args.source.now in
+    let value = value_in c.args.source.now in
     let rows : c.as_slice.result.now ≡ told_rows_by facts value reading = c.as_slice.ensures.value ∙ c.in_ok-rows.ensures in
     refused_place facts (rows_of facts value reading) c.in-Err.fault c.fault_of.result
     (told_fault facts value reading c.in-Err.fault (subst (λ (rs : List Row). IsPlacingFault facts rs c.in-Err.fault) rows c.in-Err.ensures.fault)) c.fault_of.ensures
@@ -49,8 +50,8 @@ registers_of-registers-requires-clause-low g c = rw c.as_slice-2.ensures.value c
 pub registers_of-registers-requires-clause-enter : goal.registers_of-registers-requires-clause-enter
 registers_of-registers-requires-clause-enter g c =
     let facts = c.args.source.now.machine.now in
-    let reading = reading_by c.args.kernel.now in
-    let value = value_in reading c.args.source.now in
+    let reading = reading_in c.args.source.now in
+    let value = value_in c.args.source.now in
     let rows : c.as_slice.result.now ≡ told_rows_by facts value reading = c.as_slice.ensures.value ∙ c.in_ok-rows.ensures in
     let told : ArePlaced facts [] (told_rows_by facts value reading) c.in-Ok.places.items = subst (λ (rs : List Row). ArePlaced facts [] rs c.in-Ok.places.items) rows c.in-Ok.ensures.placed in
     let placed = told_placed facts value reading c.in-Ok.places.items told in
@@ -60,8 +61,8 @@ registers_of-registers-requires-clause-enter g c =
 pub parts_at-requires-clause-fits : goal.parts_at-requires-clause-fits
 parts_at-requires-clause-fits g c =
     let facts = c.args.source.now.machine.now in
-    let reading = reading_by c.args.kernel.now in
-    let value = value_in reading c.args.source.now in
+    let reading = reading_in c.args.source.now in
+    let value = value_in c.args.source.now in
     let rows : c.as_slice.result.now ≡ told_rows_by facts value reading = c.as_slice.ensures.value ∙ c.in_ok-rows.ensures in
     let told : ArePlaced facts [] (told_rows_by facts value reading) c.in-Ok.places.items = subst (λ (rs : List Row). ArePlaced facts [] rs c.in-Ok.places.items) rows c.in-Ok.ensures.placed in
     let placed = told_placed facts value reading c.in-Ok.places.items told in
@@ -71,8 +72,8 @@ parts_at-requires-clause-fits g c =
 pub parts_at-requires-clause-rowed : goal.parts_at-requires-clause-rowed
 parts_at-requires-clause-rowed g c =
     let facts = c.args.source.now.machine.now in
-    let reading = reading_by c.args.kernel.now in
-    let value = value_in reading c.args.source.now in
+    let reading = reading_in c.args.source.now in
+    let value = value_in c.args.source.now in
     let rows : c.as_slice.result.now ≡ told_rows_by facts value reading = c.as_slice.ensures.value ∙ c.in_ok-rows.ensures in
     let told : ArePlaced facts [] (told_rows_by facts value reading) c.in-Ok.places.items = subst (λ (rs : List Row). ArePlaced facts [] rs c.in-Ok.places.items) rows c.in-Ok.ensures.placed in
     let placed = told_placed facts value reading c.in-Ok.places.items told in
@@ -88,8 +89,8 @@ parts_at-requires-clause-small g c =
 pub ranges_of-requires : goal.ranges_of-requires
 ranges_of-requires g c =
     let facts = c.args.source.now.machine.now in
-    let reading = reading_by c.args.kernel.now in
-    let value = value_in reading c.args.source.now in
+    let reading = reading_in c.args.source.now in
+    let value = value_in c.args.source.now in
     let rows : c.as_slice.result.now ≡ told_rows_by facts value reading = c.as_slice.ensures.value ∙ c.in_ok-rows.ensures in
     let told : ArePlaced facts [] (told_rows_by facts value reading) c.in-Ok.places.items = subst (λ (rs : List Row). ArePlaced facts [] rs c.in-Ok.places.items) rows c.in-Ok.ensures.placed in
     let placed = told_placed facts value reading c.in-Ok.places.items told in
@@ -103,8 +104,8 @@ ranges_of-requires g c =
 pub returns-clause-loadable : goal.returns-clause-loadable
 returns-clause-loadable g c =
     let facts = c.args.source.now.machine.now in
-    let reading = reading_by c.args.kernel.now in
-    let value = value_in reading c.args.source.now in
+    let reading = reading_in c.args.source.now in
+    let value = value_in c.args.source.now in
     let rows : c.as_slice.result.now ≡ told_rows_by facts value reading = c.as_slice.ensures.value ∙ c.in_ok-rows.ensures in
     let told : ArePlaced facts [] (told_rows_by facts value reading) c.in-Ok.places.items = subst (λ (rs : List Row). ArePlaced facts [] rs c.in-Ok.places.items) rows c.in-Ok.ensures.placed in
     let placed = told_placed facts value reading c.in-Ok.places.items told in
@@ -123,8 +124,8 @@ returns-clause-loadable g c =
 pub returns-clause-handover : goal.returns-clause-handover
 returns-clause-handover g c =
     let facts = c.args.source.now.machine.now in
-    let reading = reading_by c.args.kernel.now in
-    let value = value_in reading c.args.source.now in
+    let reading = reading_in c.args.source.now in
+    let value = value_in c.args.source.now in
     let rows : c.as_slice.result.now ≡ told_rows_by facts value reading = c.as_slice.ensures.value ∙ c.in_ok-rows.ensures in
     let told : ArePlaced facts [] (told_rows_by facts value reading) c.in-Ok.places.items = subst (λ (rs : List Row). ArePlaced facts [] rs c.in-Ok.places.items) rows c.in-Ok.ensures.placed in
     record {

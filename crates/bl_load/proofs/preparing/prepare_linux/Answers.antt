@@ -1,4 +1,5 @@
-use Rattle.std.proofs.Common.{◌≤◌, ℕ, List, length, map, arith, refl, subst}
+use Rattle.std.proofs.Common.{ℕ, List, map, arith, refl, subst}
+use Rattle.std.proofs.lemmas.List.{length-map}
 use Rattle.std.proofs.lemmas.Result.{IfOk-weaker, IfErr-weaker}
 use Rattle.bl_load.specs.Linux.{IsLinuxKernel}
 use Rattle.bl_load.specs.PlanFacts.{handover_by}
@@ -15,6 +16,15 @@ invariant_of-source g c = record {
   sound_modules = λ k d within. absurd (omega arith);
   few = omega arith;
 }
+
+pub plan_parts-requires : goal.plan_parts-requires
+plan_parts-requires g c =
+    let facts = c.args.machine.now in
+    let line = c.args.line.now in
+    let file = first_text g.V.ByteView.bytes c.args.files.now c.index-files-0.result c.requires.files c.index-files-0.is in
+    let setup = c.in_ok-read_linux.field-0 in
+    let is = subst (λ (f : List ℕ). IsLinuxKernel facts.runs line f setup) file (subst (λ rs. IsLinuxKernel rs line (g.V.ByteView.bytes c.index-files-0.result) setup) c.normal.ensures.runs c.in_ok-read_linux.ensures.kernel) in
+    record { read = (refl, is); files = omega (arith, c.requires.files, length-map c.args.files.now g.V.ByteView.bytes) }
 
 pub returns-clause-handover : goal.returns-clause-handover
 returns-clause-handover g c =

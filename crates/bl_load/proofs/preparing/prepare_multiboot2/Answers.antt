@@ -1,4 +1,4 @@
-use Rattle.std.proofs.Common.{◌≤◌, ℕ, List, length, map, arith, refl, subst, inl}
+use Rattle.std.proofs.Common.{◌≤◌, ℕ, List, length, map, arith, refl, subst}
 use Rattle.std.proofs.lemmas.List.{length-map}
 use Rattle.std.proofs.lemmas.Result.{IfOk-weaker, IfErr-weaker, err_from_is_err_and}
 use Rattle.bl_load.specs.KernelKept.{kernel_by, AreLoadable, IsKernelFault}
@@ -21,6 +21,19 @@ invariant_of-source g c =
       few = c.requires.few;
     }
 
+pub plan_parts-requires : goal.plan_parts-requires
+plan_parts-requires g c =
+    let some : 1 ≤ length c.args.files.now = omega (arith, c.requires.files) in
+    let file = first_text g.V.ByteView.bytes c.args.files.now c.index-files-0.result some c.index-files-0.is in
+    let kernel = kernel_by c.in_ok-read_kernel.field-0 in
+    record {
+      read = (refl, subst (λ (f : List ℕ). IsKernel f kernel) file c.in_ok-read_kernel.ensures.kernel);
+      files = (
+        omega (arith, c.requires.files, length-map c.args.files.now g.V.ByteView.bytes),
+        subst (λ (f : List ℕ). AreLoadable f kernel.segments) file c.in_ok-read_kernel.ensures.loadable,
+      );
+    }
+
 pub returns-in_err-read_kernel-clause-fault : goal.returns-in_err-read_kernel-clause-fault
 returns-in_err-read_kernel-clause-fault g c =
     let p = err_from_is_err_and c.from_residual-in_err-read_kernel.result c.from_residual-in_err-read_kernel.ensures.1 in
@@ -29,19 +42,6 @@ returns-in_err-read_kernel-clause-fault g c =
     let some : 1 ≤ length c.args.files.now = omega (arith, c.requires.files) in
     let file = first_text g.V.ByteView.bytes c.args.files.now c.index-files-0.result some c.index-files-0.is in
     rw (p.1, p.2) (refused_multiboot2 c.args.machine.now texts c.args.line.now (lines_by c.args.modules.now) c.in_ok-check_lines.ensures fault (subst (λ (f : List ℕ). IsKernelFault f fault) file c.in_err-read_kernel.ensures.fault))
-
-pub plan_parts-requires-clause-read : goal.plan_parts-requires-clause-read
-plan_parts-requires-clause-read g c =
-    let some : 1 ≤ length c.args.files.now = omega (arith, c.requires.files) in
-    let file = first_text g.V.ByteView.bytes c.args.files.now c.index-files-0.result some c.index-files-0.is in
-    (refl, subst (λ (f : List ℕ). IsKernel f (kernel_by c.in_ok-read_kernel.field-0)) file c.in_ok-read_kernel.ensures.kernel)
-
-pub plan_parts-requires-clause-files : goal.plan_parts-requires-clause-files
-plan_parts-requires-clause-files g c =
-    let texts = map g.V.ByteView.bytes c.args.files.now in
-    let some : 1 ≤ length c.args.files.now = omega (arith, c.requires.files) in
-    let file = first_text g.V.ByteView.bytes c.args.files.now c.index-files-0.result some c.index-files-0.is in
-    (omega (arith, c.requires.files, length-map c.args.files.now g.V.ByteView.bytes), subst (λ (f : List ℕ). AreLoadable f (kernel_by c.in_ok-read_kernel.field-0).segments) file c.in_ok-read_kernel.ensures.loadable)
 
 pub returns-clause-handover : goal.returns-clause-handover
 returns-clause-handover g c =
