@@ -4,20 +4,19 @@ use Rattle.std.proofs.lemmas.List.Elements.{All-push}
 use Rattle.bl_plan.specs.declared.place.Place.{Place}
 use Rattle.bl_plan.specs.declared.role.Role.TheVariants.{Kernel}
 use Rattle.bl_load.specs.declared.plan.PlannedPart.{PlannedPart}
-use Rattle.bl_load.specs.Value.{multiboot2_value}
-use Rattle.bl_load.specs.Reading.{multiboot2}
-use Rattle.bl_load.specs.KernelKept.{kernel_by}
 use Rattle.bl_load.specs.Handover.{Part, part_at, filled}
 use Rattle.bl_load.specs.Parts.{part_from}
 use Rattle.bl_load.specs.Place.{place_of}
 use Rattle.bl_load.specs.PlanFacts.{part_by}
-use Rattle.bl_load.specs.Kept.{lines_by, lengths_of, IsBacked, StaysInFiles}
-use Rattle.bl_load.proofs.contents.parts_at.Goals as goal
+use Rattle.bl_load.specs.Kept.{lengths_of, IsBacked, StaysInFiles}
+use Rattle.bl_load.specs.SourceKept.{reading_in, texts_in, value_in}
+use Rattle.bl_load.proofs.parts.parts_at.Goals as goal
 
 pub loop-place-preserved : goal.loop-place-preserved
 loop-place-preserved g c =
-    let texts = map g.V.ByteView.bytes c.args.files.now in
-    let from : Place → Part = part_from c.args.machine.now (multiboot2_value texts c.args.line.now (lines_by c.args.modules.now)) (multiboot2 (kernel_by c.args.kernel.now)) c.args.places.now in
+    let source = c.args.source.now in
+    let texts = texts_in source in
+    let from : Place → Part = part_from source.machine.now (value_in source) (reading_in source) c.args.places.now in
     let by : PlannedPart g.row.A.Denot → Part = part_by texts in
     let stays : PlannedPart g.row.A.Denot → Type 0 = λ part. StaysInFiles part.place.role part.content in
     let place_in : PlannedPart g.row.A.Denot → Place = place_of in
