@@ -3,8 +3,8 @@
 #
 #   make_bzimage.sh FILE BYTES
 #
-# One sector of setup stands behind the boot sector. The setup header is of version 2.12 and ends at 0x268; the kernel may be
-# moved by 2 MiB, prefers 16 MiB, and needs twice its payload there; its initial ramdisk may lie below 2 GiB.
+# One sector of setup stands behind the boot sector. The setup header is of version 2.12 and ends at 0x268; the kernel may lie
+# at multiples of 2 MiB, prefers 16 MiB, and needs twice its payload there; its initial ramdisk lies below 2 GiB.
 set -eu
 
 file=$1

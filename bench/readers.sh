@@ -18,7 +18,6 @@ source "$(dirname "${BASH_SOURCE[0]}")/measure.sh"
 segments=5
 segment_bytes=0xC96000
 payload_bytes=$((10 << 20))
-calls=2000000
 
 reader=${READER:+$(realpath -m "$READER")}
 crates=(bl_refusing bl_mem bl_map bl_elf bl_mb2head bl_bzimage)
@@ -139,9 +138,9 @@ fi
 
 printf '%-16s %12s %12s   %s\n' 'parses a second' plain proved 'plain / proved'
 for part in elf header setup; do
-    file=kernel.elf
+    file=kernel.elf calls=2000000
     if [ "$part" = setup ]; then
-        file=bzimage
+        file=bzimage calls=20000000
     fi
     rate_reader ./plain_reader "$part" "$file"
     plain=$rate proved=- times=-
