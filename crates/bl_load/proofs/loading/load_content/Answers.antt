@@ -1,4 +1,6 @@
 use Rattle.std.proofs.Common.{◌≡◌, ◌<◌, ◌≤◌, ◌+◌, ℕ, length, slice_index, refl, subst, arith, All, AllPairs}
+use Rattle.bl_mem.specs.Files.{IsBeside}
+use Rattle.bl_mem.proofs.Overwrites.{beside_write}
 use Rattle.bl_load.specs.Blocks.{span_of}
 use Rattle.bl_load.specs.Kept.{lengths_of, content_length, IsCopied, SegmentsAscend}
 use Rattle.bl_load.proofs.HeldLemmas.{within_texts, length_at}
@@ -50,3 +52,11 @@ load_block-requires-clause-room g c = rw (block_length g c) c.requires.room
 
 pub load_block-requires-clause-beside : goal.load_block-requires-clause-beside
 load_block-requires-clause-beside g c = rw (block_length g c) c.requires.beside
+
+pub returns-in-Own-clause-texts : goal.returns-in-Own-clause-texts
+returns-in-Own-clause-texts g c =
+    let old = g.M.PhysMem.bytes c.args.memory.now in
+    let bytes = c.in-Own.bytes in
+    let beside : IsBeside (g.F.FileSet.holds c.args.files.now) c.args.at (c.args.at + length bytes) = rw c.in-Own.is at c.requires.beside in
+    let inside : c.args.at + length bytes ≤ length old = rw c.in-Own.is at c.requires.inside in
+    rw (c.write.ensures.after, c.as_slice.ensures) (g.met.F.FileSet.same c.args.files.now old _ (beside_write (g.F.FileSet.holds c.args.files.now) old c.args.at bytes inside beside))
