@@ -1,4 +1,4 @@
-use Rattle.std.proofs.Common.{◌≡◌, ◌+◌, ◌-◌, ◌<◌, ◌≤◌, length, arith, refl, sym, ◌∙◌, get_or, drop, ◌∷◌, add-zero, zero-add}
+use Rattle.std.proofs.Common.{◌≡◌, ◌+◌, ◌<◌, ◌≤◌, length, arith, refl, sym, ◌∙◌, get_or, drop, ◌∷◌, add-zero, zero-add}
 use Rattle.std.proofs.lemmas.List.{drop_more, get_or_default}
 use Rattle.bl_mem.specs.Files.{text_at}
 use Rattle.bl_load.specs.Blocks.{span_of}

@@ -1,4 +1,4 @@
-use Rattle.std.proofs.Common.{map, ◌∙◌, arith}
+use Rattle.std.proofs.Common.{◌∙◌, arith}
 use Rattle.std.proofs.lemmas.List.{drop_more}
 use Rattle.bl_mem.proofs.Overwrites.{length-overwrite}
 use Rattle.bl_load.specs.PlanFacts.{bytes_by}
