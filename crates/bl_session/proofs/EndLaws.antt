@@ -1,5 +1,5 @@
 -- Each attempt has exactly one end.
-use Rattle.std.proofs.Common.{◌≡◌, ℕ, ◌≤◌, List, Option, Some, None, ◌⊎◌, inl, inr, sym, ap, subst, ◌∙◌, refl, option_map, arith, map}
+use Rattle.std.proofs.Common.{◌≡◌, ℕ, List, Option, Some, None, ◌⊎◌, inl, inr, sym, ap, subst, ◌∙◌, refl, option_map, arith, map}
 use Rattle.std.proofs.lemmas.Bool.{cases_lt}
 use Rattle.bl_map.specs.MachineFacts.{MachineFacts}
 use Rattle.bl_map.specs.Room.{frames_needed, open_frames}
@@ -7,7 +7,6 @@ use Rattle.bl_load.specs.declared.refusal.Refusal.{Refusal}
 use Rattle.bl_load.specs.declared.refusal.Refusal.TheVariants.{FileFault, NoPool}
 use Rattle.bl_load.specs.Value.{EntryValue}
 use Rattle.bl_load.specs.Handover.{Handover}
-use Rattle.bl_load.specs.Parts.{IsHandover, IsRefusal}
 use Rattle.bl_load.proofs.HandoverLaws.{one_handover, one_refusal, not_both}
 use Rattle.bl_load.proofs.TotalLaws.{handover_or_refusal}
 use Rattle.bl_session.specs.Ends.{End, handed, refused, range_of, HasRoomBeside, LacksRoom, EndsIn, Else, Ends, size_refusal}

@@ -71,5 +71,5 @@ Else (Some refusal) rest end = end ≡ refused refusal
 -- what an attempt ends in: with these sizes of its files, the place of a file of which a fault came, or None, and this
 -- value of its entry
 abbrev pub Ends : MachineFacts → List (Option ℕ) → Option ℕ → EntryValue → End → Type 0
-Ends facts sizes fault value =
-    Else (size_refusal facts sizes) (Else (option_map FileFault fault) (EndsIn facts value))
+Ends facts sizes faulty value =
+    Else (size_refusal facts sizes) (Else (option_map FileFault faulty) (EndsIn facts value))
