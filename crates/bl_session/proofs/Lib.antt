@@ -1,0 +1,4 @@
+pub mod EndLaws
+pub mod BootLaws
+pub mod GatherLemmas
+pub mod OutcomeLaws
