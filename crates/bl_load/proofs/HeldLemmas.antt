@@ -23,7 +23,7 @@ use Rattle.bl_load.proofs.BlockLemmas.{length-block_of}
 use Rattle.bl_load.proofs.WrittenLemmas.{EndsWithin, IsBefore, Has, length-written, written_in, written_elsewhere}
 
 -- two functions that agree on a list
-map_same : {X Y : Type 0} (f g : X → Y) (xs : List X) → ((k : ℕ) (d : X) → k < length xs → f (get_or xs k d) ≡ g (get_or xs k d)) → map f xs ≡ map g xs
+pub map_same : {X Y : Type 0} (f g : X → Y) (xs : List X) → ((k : ℕ) (d : X) → k < length xs → f (get_or xs k d) ≡ g (get_or xs k d)) → map f xs ≡ map g xs
 map_same f g [] h = refl
 map_same {Y = Y} f g (x ∷ xs) h = ap (λ (y : Y). y ∷ map f xs) (h 0 x (omega arith)) ∙ ap (λ (ys : List Y). g x ∷ ys) (map_same f g xs (λ k d within. h (suc k) d (omega arith)))
 
