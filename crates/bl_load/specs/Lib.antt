@@ -19,3 +19,4 @@ pub mod PlacingKept
 pub mod ReadKept
 pub mod SourceKept
 pub mod Legal
+pub mod After

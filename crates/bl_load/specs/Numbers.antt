@@ -1,10 +1,11 @@
 -- The numbers of refusals. Own.
 use Rattle.std.specs.Prelude.{ℕ}
 use Rattle.bl_load.specs.declared.refusal.Refusal.{Refusal}
-use Rattle.bl_load.specs.declared.refusal.Refusal.TheVariants.{NoFile, FileTooLong, NoHeader, HeaderCut, BadArchitecture, BadTag, UnsupportedTag, UnsupportedRequest, NoConsole, NotElf, BadElf, SegmentCut, AddressTooHigh, SegmentsOverlap, NoEntry, EntryOutside, BadAlign, NotUsable, NoRoom, NoPool, NotBzImage, OldProtocol, NotHigh, SetupCut, BadPreferred, LineTooLong, LineHasNul, MapTooLong}
+use Rattle.bl_load.specs.declared.refusal.Refusal.TheVariants.{NoFile, FileFault, FileTooLong, NoHeader, HeaderCut, BadArchitecture, BadTag, UnsupportedTag, UnsupportedRequest, NoConsole, NotElf, BadElf, SegmentCut, AddressTooHigh, SegmentsOverlap, NoEntry, EntryOutside, BadAlign, NotUsable, NoRoom, NoPool, NotBzImage, OldProtocol, NotHigh, SetupCut, BadPreferred, LineTooLong, LineHasNul, MapTooLong}
 
 abbrev pub refusal_number : Refusal → ℕ
 refusal_number (NoFile file) = 1
+refusal_number (FileFault file) = 2
 refusal_number (FileTooLong file) = 3
 refusal_number NoHeader = 4
 refusal_number HeaderCut = 5

@@ -12,6 +12,8 @@ use thiserror::Error;
 pub enum Refusal {
     #[error("file {0} can't be read")]
     NoFile(u32),
+    #[error("file {0} did not come")]
+    FileFault(u32),
     #[error("file {0} is too long")]
     FileTooLong(u32),
     #[error("no Multiboot2 header")]
@@ -75,6 +77,7 @@ impl Refusal {
     {
         match self {
             Refusal::NoFile(_) => 1,
+            Refusal::FileFault(_) => 2,
             Refusal::FileTooLong(_) => 3,
             Refusal::NoHeader => 4,
             Refusal::HeaderCut => 5,
