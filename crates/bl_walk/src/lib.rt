@@ -2,7 +2,6 @@
 #![tactic(auto)]
 
 mod fault;
-mod image;
 mod inside;
 mod seen;
 mod seen_module;
