@@ -22,10 +22,10 @@ no_part = record { role = Kernel; index = 0; address = 0; bytes = [] }
 ascending : (parts : List Part) → AreImageParts parts → IsNonDecreasingBy (λ (p : Part). p.address) parts
 ascending parts kept i j d le within =
     elim (cases_order i j) [
-      inl same ↦ (let equal : (get_or parts i d).address ≡ (get_or parts j d).address = ap (λ k. (get_or parts k d).address) same in omega arith)
-    | inr other ↦ elim other [
-        inl before ↦ (let behind = kept.ascending i j d before within in omega arith)
-      | inr after ↦ absurd (omega arith)
+      | inl same ↦ (let equal : (get_or parts i d).address ≡ (get_or parts j d).address = ap (λ k. (get_or parts k d).address) same in omega arith)
+      | inr other ↦ elim other [
+        | inl before ↦ (let behind = kept.ascending i j d before within in omega arith)
+        | inr after ↦ absurd (omega arith)
       ]
     ]
 
@@ -47,8 +47,8 @@ unfolding part_with
 found_none parts address count point =
     let p = lies_in address count in
     let last : position_or_len p parts ≡ length parts = position_or_len_is p parts (length parts) no_part (omega arith)
-        (λ k lt. lies-above address count (get_or parts k no_part) (point.1 k no_part (omega arith) lt))
-        (λ lt. absurd (omega arith)) in
+    (λ k lt. lies-above address count (get_or parts k no_part) (point.1 k no_part (omega arith) lt))
+    (λ lt. absurd (omega arith)) in
     find_at p parts ∙ ap (slice_get parts) last ∙ slice_get_past parts (length parts) (omega arith)
 
 module _ (parts : List Part) (address count begun at : ℕ) (d : Part) (kept : AreImageParts parts) (some : 1 ≤ count)
@@ -75,8 +75,8 @@ module _ (parts : List Part) (address count begun at : ℕ) (d : Part) (kept : A
   each_fails : lies_in address count (get_or parts at d) ≡ false → (k : ℕ) → k < length parts → lies_in address count (get_or parts k d) ≡ false
   each_fails fails k lt =
       elim (cases_order k at) [
-        inl same ↦ (ap (λ i. lies_in address count (get_or parts i d)) same ∙ fails)
-      | inr other ↦ elim other [ inl before ↦ below_fails k before | inr after ↦ above_fails k after lt ]
+        | inl same ↦ (ap (λ i. lies_in address count (get_or parts i d)) same ∙ fails)
+        | inr other ↦ elim other [ inl before ↦ below_fails k before | inr after ↦ above_fails k after lt ]
       ]
 
   -- and else none

@@ -27,6 +27,22 @@ pub enum WalkFault {
     NoMemory,
 }
 
+impl WalkFault {
+    ghost use Rattle.bl_walk.specs.Faults.{walk_fault_number};
+
+    /// The fault's number, 81 to 84.
+    pub fn number(self) -> u32
+        ensures { result ≡ walk_fault_number self }
+    {
+        match self {
+            WalkFault::OutsideImage => 81,
+            WalkFault::BadInfo => 82,
+            WalkFault::BadState => 83,
+            WalkFault::NoMemory => 84,
+        }
+    }
+}
+
 impl From<AllocError> for WalkFault {
     ghost from_gives = { λ _ fault. fault ≡ faults.NoMemory };
 

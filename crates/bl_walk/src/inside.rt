@@ -32,7 +32,11 @@ fn is_within<A: Allocator>(part: &ImagePart<A>, address: u64, count: u64) -> boo
 
 /// The part in which so many bytes from an address on lie, found in as many steps as the number of
 /// parts can be halved.
-fn part_with<A: Allocator>(image: &Image<A>, address: u64, count: u64) -> Option<&ImagePart<A>>
+pub(crate) fn part_with<A: Allocator>(
+    image: &Image<A>,
+    address: u64,
+    count: u64,
+) -> Option<&ImagePart<A>>
     requires some { 1 ≤ count }
     requires small { address + count < 2 ^ 64 }
     ensures exact { option_copied result ≡ inside.part_with image.now.parts address count }

@@ -2,11 +2,13 @@
 #![tactic(auto)]
 
 mod fault;
+mod follow;
 mod inside;
 mod seen;
-mod seen_module;
 mod seen_file;
+mod seen_module;
 mod seen_part;
+mod state;
 
 pub use fault::WalkFault;
 pub use seen::Seen;
