@@ -1,5 +1,6 @@
 //! What a kernel follows.
 ghost use Rattle.std.specs.Prelude.{◌≡◌, ◌==◌, Some, IfOk, IfErr, option_copied};
+ghost use Rattle.std.specs.List.{position};
 ghost use Rattle.bl_walk.specs.Faults.{IsFollowed, HasFault};
 ghost use Rattle.bl_walk.specs.Inside.{bytes_in};
 ghost use Rattle.bl_walk.specs.Seen as seen;
@@ -26,12 +27,19 @@ pub(crate) fn follow<A: Allocator>(
     }
 }
 
+/// Where the first zero stands.
+fn zero_at(bytes: &[u8]) -> Option<usize>
+    ensures { result ≡ position (λ b. b == 0) bytes.now }
+{
+    bytes.iter().position(|byte| *byte == 0)
+}
+
 /// A text up to its zero.
 #[tactic(auto, unfolding(crate::specs::Seen::text_of))]
 pub(crate) fn text_of(bytes: &[u8]) -> Option<&[u8]>
     ensures { option_copied result ≡ seen.text_of bytes.now }
 {
-    match bytes.iter().position(|byte| *byte == 0) {
+    match zero_at(bytes) {
         Some(count) => Some(&bytes[..count]),
         None => None,
     }

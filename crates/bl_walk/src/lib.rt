@@ -3,15 +3,21 @@
 
 mod fault;
 mod follow;
+mod information;
 mod inside;
+mod kernel;
+mod module;
+mod parameters;
 mod seen;
 mod seen_file;
 mod seen_module;
 mod seen_part;
 mod state;
+mod walking;
 
 pub use fault::WalkFault;
 pub use seen::Seen;
 pub use seen_file::SeenFile;
 pub use seen_module::SeenModule;
 pub use seen_part::SeenPart;
+pub use walking::walk;

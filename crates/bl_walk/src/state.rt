@@ -1,5 +1,5 @@
 //! The state that a kernel is entered in.
-ghost use Rattle.std.specs.Prelude.{◌≡◌, ◌==◌, Some, true, OnOk, IfErr};
+ghost use Rattle.std.specs.Prelude.{◌≡◌, ◌==◌, ◌↔◌, Some, true, IsTrue, OnOk, IfErr};
 ghost use Rattle.bl_plan.specs.declared.protocol.Protocol.TheVariants as protocol;
 ghost use Rattle.bl_params.specs.Gdt as gdt;
 ghost use Rattle.bl_walk.specs.Faults.{HasFault};
@@ -87,16 +87,34 @@ pub(crate) fn is_kernel<A: Allocator>(part: &ImagePart<A>) -> bool
     part.role().number() == Role::Kernel.number()
 }
 
+/// Whether an address lies in a part of the kernel.
+fn is_in_kernel<A: Allocator>(image: &Image<A>, address: u32) -> bool
+    ensures { result ≡ state.is_in_kernel image.now.parts address }
+{
+    match part_with(image, address as u64, 1) {
+        Some(part) => is_kernel(part),
+        None => false,
+    }
+}
+
 /// The kernel is entered in one of its parts.
 fn check_entry<A: Allocator>(image: &Image<A>) -> Result<(), WalkFault>
     ensures ok { OnOk result
         (state.is_in_kernel image.now.parts image.now.registers.eip ≡ true) }
     ensures fault { IfErr result (HasFault image.now) }
 {
-    match part_with(image, image.registers().eip as u64, 1) {
-        Some(part) if is_kernel(part) => Ok(()),
-        _ => Err(WalkFault::OutsideImage),
+    if !is_in_kernel(image, image.registers().eip) {
+        return Err(WalkFault::OutsideImage);
     }
+    Ok(())
+}
+
+/// Whether bytes are the descriptors that a Linux kernel asks for.
+fn are_descriptors(bytes: &[u8]) -> bool
+    ensures { IsTrue result ↔ (bytes.now ≡ gdt.gdt) }
+{
+    let wanted = gdt();
+    bytes == wanted.as_slice()
 }
 
 /// A Linux kernel is handed the descriptors that it asks for.
@@ -107,8 +125,7 @@ fn check_descriptors<A: Allocator>(image: &Image<A>) -> Result<(), WalkFault>
     ensures fault { IfErr result (HasFault image.now) }
 {
     let descriptors = follow(image, image.registers().gdt_base, GDT_SIZE)?;
-    let wanted = gdt();
-    if descriptors != wanted.as_slice() {
+    if !are_descriptors(descriptors) {
         return Err(WalkFault::BadState);
     }
     Ok(())
