@@ -143,3 +143,22 @@ some_rest_in parts address part is = rw is
 -- the whole rest, as a slice without an end reads it
 pub all_of : (bytes : List ℕ) (from : ℕ) → take (length bytes - from) (drop from bytes) ≡ drop from bytes
 all_of bytes from = ap (λ n. take n (drop from bytes)) (sym (length-drop from bytes)) ∙ take-length (drop from bytes)
+
+no_bytes : {X Y : Type 0} (found : Option X) (f g : X → Y) → option_map f found ≡ None → option_map g found ≡ None
+no_bytes None f g none = refl
+no_bytes (Some x) f g none = absurd (cc)
+
+-- an address that lies in no part has no rest, and its byte lies in none
+pub rest_is_outside : (parts : List Part) (address : ℕ) → rest_in parts address ≡ None → bytes_in parts address 1 ≡ None
+unfolding rest_in bytes_in
+rest_is_outside parts address none =
+    no_bytes (part_with parts address 1) (λ part. drop (address - part.address) part.bytes) (λ part. slice_range part.bytes (address - part.address) (address - part.address + 1)) none
+
+not_no_bytes : {X Y : Type 0} (found : Option X) (f g : X → Y) (y : Y) → option_map f found ≡ Some y → option_map g found ≡ None → ⊥
+not_no_bytes None f g y some none = cc
+not_no_bytes (Some x) f g y some none = cc
+
+pub rest_is_inside : (parts : List Part) (address : ℕ) (rest : List ℕ) → rest_in parts address ≡ Some rest → bytes_in parts address 1 ≡ None → ⊥
+unfolding rest_in bytes_in
+rest_is_inside parts address rest some none =
+    not_no_bytes (part_with parts address 1) (λ part. drop (address - part.address) part.bytes) (λ part. slice_range part.bytes (address - part.address) (address - part.address + 1)) rest some none

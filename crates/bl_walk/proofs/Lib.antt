@@ -1,2 +1,6 @@
 pub mod InsideLemmas
 pub mod StateLemmas
+pub mod ModuleLemmas
+pub mod RefusalLemmas
+pub mod LengthLemmas
+pub mod SoundLemmas

@@ -2,6 +2,8 @@
 ghost use Rattle.std.specs.Prelude.{◌≡◌};
 ghost use Rattle.bl_walk.specs.declared.fault.WalkFault.TheVariants as faults;
 
+use bl_mbi::InfoFault;
+use bl_params::ParamFault;
 use std::alloc::{AllocError, AllocFailed};
 use thiserror::Error;
 
@@ -56,5 +58,31 @@ impl<T: Drop> From<AllocFailed<T>> for WalkFault {
 
     fn from(_: AllocFailed<T>) -> WalkFault {
         WalkFault::NoMemory
+    }
+}
+
+impl From<InfoFault> for WalkFault {
+    ghost use Rattle.bl_walk.specs.Kept.{information_refusal};
+
+    ghost from_gives = { λ fault walk. walk ≡ information_refusal fault };
+
+    fn from(fault: InfoFault) -> WalkFault {
+        match fault {
+            InfoFault::NoMemory => WalkFault::NoMemory,
+            _ => WalkFault::BadInfo,
+        }
+    }
+}
+
+impl From<ParamFault> for WalkFault {
+    ghost use Rattle.bl_walk.specs.Kept.{parameters_refusal};
+
+    ghost from_gives = { λ fault walk. walk ≡ parameters_refusal fault };
+
+    fn from(fault: ParamFault) -> WalkFault {
+        match fault {
+            ParamFault::NoMemory => WalkFault::NoMemory,
+            _ => WalkFault::BadInfo,
+        }
     }
 }

@@ -1,5 +1,5 @@
 //! What a kernel follows.
-ghost use Rattle.std.specs.Prelude.{◌≡◌, ◌==◌, Some, IfOk, IfErr, option_copied};
+ghost use Rattle.std.specs.Prelude.{◌≡◌, ◌==◌, length, Some, IfOk, IfErr, option_copied};
 ghost use Rattle.std.specs.List.{position};
 ghost use Rattle.bl_walk.specs.Faults.{IsFollowed, HasFault};
 ghost use Rattle.bl_walk.specs.Inside.{bytes_in};
@@ -19,6 +19,7 @@ pub(crate) fn follow<A: Allocator>(
     requires { IsFollowed image.now address count }
     ensures ok { IfOk result
         (λ bytes. bytes_in image.now.parts address count ≡ Some bytes.now) }
+    ensures long { IfOk result (λ bytes. length bytes.now ≡ count) }
     ensures fault { IfErr result (HasFault image.now) }
 {
     match bytes_at(image, address, count) {

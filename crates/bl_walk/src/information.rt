@@ -10,7 +10,7 @@ use crate::kernel::kernel_of;
 use crate::module::modules_at;
 use crate::seen::Seen;
 use bl_image::Image;
-use bl_mbi::{Info, InfoFault, read_info};
+use bl_mbi::{Info, read_info};
 use bl_mem::{SliceView, u32_at};
 use std::alloc::Allocator;
 
@@ -44,11 +44,7 @@ fn information<A: Allocator + Copy>(alloc: A, image: &Image<A>) -> Result<Info<A
 {
     let size = total_size(image)?;
     let bytes = follow(image, image.registers().ebx, size)?;
-    match read_info(alloc, bytes) {
-        Ok(info) => Ok(info),
-        Err(InfoFault::NoMemory) => Err(WalkFault::NoMemory),
-        Err(_) => Err(WalkFault::BadInfo),
-    }
+    Ok(read_info(alloc, bytes)?)
 }
 
 /// What the information shows.

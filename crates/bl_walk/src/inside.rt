@@ -58,7 +58,8 @@ pub(crate) fn part_with<A: Allocator>(
 
 /// The bytes of a range, if they lie in one part. A range of no byte is followed nowhere.
 pub(crate) fn bytes_at<A: Allocator>(image: &Image<A>, address: u32, count: u32) -> Option<&[u8]>
-    ensures { option_copied result ≡ inside.bytes_in image.now.parts address count }
+    ensures exact { option_copied result ≡ inside.bytes_in image.now.parts address count }
+    ensures long { IfSome result (λ bytes. length bytes.now ≡ count) }
 {
     if count == 0 {
         return Some(&[]);

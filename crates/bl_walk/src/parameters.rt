@@ -12,7 +12,7 @@ use crate::seen::Seen;
 use crate::seen_file::SeenFile;
 use bl_image::Image;
 use bl_mem::Bytes;
-use bl_params::{ParamFault, Params, read_params};
+use bl_params::{Params, read_params};
 use std::alloc::Allocator;
 
 /// How many bytes boot parameters have (Linux/x86 boot protocol, "Zero Page").
@@ -25,11 +25,7 @@ fn parameters<A: Allocator + Copy>(alloc: A, image: &Image<A>) -> Result<Params<
     ensures fault { IfErr result (HasFault image.now) }
 {
     let bytes = follow(image, image.registers().esi, PARAMS_SIZE)?;
-    match read_params(alloc, bytes) {
-        Ok(params) => Ok(params),
-        Err(ParamFault::NoMemory) => Err(WalkFault::NoMemory),
-        Err(_) => Err(WalkFault::BadInfo),
-    }
+    Ok(read_params(alloc, bytes)?)
 }
 
 /// The line, up to its zero.
