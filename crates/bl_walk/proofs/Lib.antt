@@ -4,3 +4,4 @@ pub mod ModuleLemmas
 pub mod RefusalLemmas
 pub mod LengthLemmas
 pub mod SoundLemmas
+pub mod SeenLaws

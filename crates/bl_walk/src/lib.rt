@@ -6,6 +6,7 @@ mod follow;
 mod information;
 mod inside;
 mod kernel;
+mod laws;
 mod module;
 mod parameters;
 mod seen;
@@ -16,6 +17,7 @@ mod state;
 mod walking;
 
 pub use fault::WalkFault;
+pub use laws::{seen_is_determined, seen_is_sound};
 pub use seen::Seen;
 pub use seen_file::SeenFile;
 pub use seen_module::SeenModule;
