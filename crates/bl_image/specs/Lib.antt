@@ -1,4 +1,5 @@
 pub mod Begun
 pub mod Faults
 pub mod Image
+pub mod ImageParts
 pub mod Spellable

@@ -4,6 +4,7 @@
 mod fault;
 mod head;
 mod history;
+mod image;
 mod io_sink;
 mod laws;
 mod mem_sink;
@@ -12,6 +13,7 @@ mod sink;
 mod write;
 
 pub use fault::ImageFault;
+pub use image::{Image, ImagePart};
 pub use io_sink::IoSink;
 pub use laws::image_tells_all;
 pub use mem_sink::MemSink;

@@ -1,0 +1,15 @@
+-- What the parts of an image keep. Own.
+use Rattle.std.specs.Prelude.{◌≤◌, ◌^◌, List, length, All, AllPairs}
+use Rattle.bl_load.specs.HandoffFacts.{most_parts}
+use Rattle.bl_load.specs.Handover.{Part, end_of}
+
+-- the second part begins at the end of the first, or behind it
+abbrev pub PartAscends : Part → Part → Type 0
+PartAscends p q = end_of p ≤ q.address
+
+-- they are few, none is empty, each ends at most at 4 GiB, and they ascend
+pub record AreImageParts (parts : List Part) : Type 0 where
+  pub few : length parts ≤ most_parts
+  pub filled : All (λ part. 1 ≤ length part.bytes) parts
+  pub below : All (λ part. end_of part ≤ 2 ^ 32) parts
+  pub ascending : AllPairs PartAscends parts

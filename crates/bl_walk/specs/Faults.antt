@@ -1,0 +1,75 @@
+-- Why an image shows a kernel nothing. Own.
+use Rattle.std.specs.Prelude.{◌≡◌, ◌-◌, ◌<◌, ◌≤◌, ℕ, List, Some, None, Err, false}
+use Rattle.std.specs.List.{Contains}
+use Rattle.bl_mem.specs.Words.{u32_at}
+use Rattle.bl_mbi.specs.InformationFacts.{ModuleInfo}
+use Rattle.bl_mbi.specs.InfoFacts.{InfoFacts}
+use Rattle.bl_mbi.specs.Reading.{info_of}
+use Rattle.bl_mbi.specs.declared.fault.InfoFault.{InfoFault}
+use Rattle.bl_params.specs.Gdt.{gdt}
+use Rattle.bl_params.specs.ParamsFacts.{ParamsFacts}
+use Rattle.bl_params.specs.Reading.{HasFirstFault}
+use Rattle.bl_params.specs.declared.fault.ParamFault.{ParamFault}
+use Rattle.bl_params.specs.declared.fault.ParamFault.TheVariants as param_fault
+use Rattle.bl_plan.specs.declared.protocol.Protocol.TheVariants.{Multiboot2, Linux}
+use Rattle.bl_load.specs.Handover.{Handover}
+use Rattle.bl_walk.specs.declared.fault.WalkFault.{WalkFault}
+use Rattle.bl_walk.specs.declared.fault.WalkFault.TheVariants.{OutsideImage, BadInfo, BadState, NoMemory}
+use Rattle.bl_walk.specs.Inside.{bytes_in, rest_in}
+use Rattle.bl_walk.specs.State.{entry_registers, is_in_kernel}
+use Rattle.bl_walk.specs.Seen.{HasTotalSize, IsInformation, InformationSays, AreParameters, ParametersSay, text_of}
+
+abbrev pub walk_fault_number : WalkFault → ℕ
+walk_fault_number OutsideImage = 81
+walk_fault_number BadInfo = 82
+walk_fault_number BadState = 83
+walk_fault_number NoMemory = 84
+
+-- the ranges that a kernel follows, each an address and a number of bytes
+pub data IsFollowed (h : Handover) : ℕ → ℕ → Type 0 where
+  -- Multiboot2: total_size and the reserved word, all of the information, each module
+  fixed_part : h.protocol ≡ Multiboot2 → IsFollowed h h.registers.ebx 8
+  information : (size : ℕ) → HasTotalSize h size → 16 ≤ size → IsFollowed h h.registers.ebx size
+  loaded_module : (info : InfoFacts) (m : ModuleInfo) → InformationSays h info
+      → Contains info.facts.modules m → IsFollowed h m.mod_start (m.mod_end - m.mod_start)
+  -- Linux: the descriptors, the boot parameters, the line's first byte, the initial ramdisk
+  descriptors : h.protocol ≡ Linux → IsFollowed h h.registers.gdt_base 32
+  boot_params : h.protocol ≡ Linux → IsFollowed h h.registers.esi 4096
+  command_line : (params : ParamsFacts) → ParametersSay h params → IsFollowed h params.cmd_line_ptr 1
+  initrd : (params : ParamsFacts) → ParametersSay h params
+      → IsFollowed h params.ramdisk_image params.ramdisk_size
+
+-- 81: the kernel is entered outside of its parts, or a range that it follows lies in no one part
+pub data IsOutside (h : Handover) : Type 0 where
+  outside_kernel : is_in_kernel h.parts h.registers.eip ≡ false → IsOutside h
+  outside_parts : (address count : ℕ) → IsFollowed h address count
+      → bytes_in h.parts address count ≡ None → IsOutside h
+
+-- 82: the information or the boot parameters are refused by their reader, or no zero ends the line
+pub data HasBadInfo (h : Handover) : Type 0 where
+  short_information : (size : ℕ) → HasTotalSize h size → size < 16 → HasBadInfo h
+  other_information : (bytes : List ℕ) (fault : InfoFault) → IsInformation h bytes
+      → info_of bytes ≡ Err fault → HasBadInfo h
+  other_parameters : (bytes : List ℕ) (fault : ParamFault) → AreParameters h bytes
+      → ¬ (fault ≡ param_fault.NoMemory) → HasFirstFault bytes fault → HasBadInfo h
+  endless_line : (params : ParamsFacts) (rest : List ℕ) → ParametersSay h params
+      → rest_in h.parts params.cmd_line_ptr ≡ Some rest → text_of rest ≡ None → HasBadInfo h
+
+-- 83: a register that does not hold an address has another number, or a Linux kernel is handed other descriptors
+pub data HasBadState (h : Handover) : Type 0 where
+  other_registers : ¬ (h.registers ≡ entry_registers h.protocol h.registers) → HasBadState h
+  other_descriptors : (bytes : List ℕ) → h.protocol ≡ Linux
+      → bytes_in h.parts h.registers.gdt_base 32 ≡ Some bytes → ¬ (bytes ≡ gdt) → HasBadState h
+
+-- a fault stands; want of memory says nothing of the image
+abbrev pub HasFault : Handover → WalkFault → Type 0
+HasFault h OutsideImage = IsOutside h
+HasFault h BadInfo = HasBadInfo h
+HasFault h BadState = HasBadState h
+HasFault h NoMemory = Unit {0}
+
+-- none of the three stands
+pub record IsSound (h : Handover) : Type 0 where
+  pub inside : ¬ IsOutside h
+  pub info : ¬ HasBadInfo h
+  pub state : ¬ HasBadState h

@@ -1,0 +1,27 @@
+-- What a kernel sees in an image.
+use Rattle.std.specs.Prelude.{ℕ, List, Option}
+use Rattle.bl_map.specs.declared.region.Region.{Region}
+use Rattle.bl_plan.specs.declared.protocol.Protocol.{Protocol}
+use Rattle.bl_walk.specs.declared.seen_part.SeenPart.{SeenPart}
+
+-- a module: the address of its first byte, its bytes, its line
+pub record SeenModuleFacts : Type 0 where
+  pub mod_start : ℕ
+  pub bytes : List ℕ
+  pub line : List ℕ
+
+-- an initial ramdisk: the address of its first byte, its bytes
+pub record SeenFileFacts : Type 0 where
+  pub address : ℕ
+  pub bytes : List ℕ
+
+-- the protocol, the address that the kernel is entered at, its line, its parts in address order, the modules in
+-- order, the initial ramdisk, the memory map
+pub record SeenFacts : Type 0 where
+  pub protocol : Protocol
+  pub entry : ℕ
+  pub line : List ℕ
+  pub kernel : List SeenPart
+  pub modules : List SeenModuleFacts
+  pub initrd : Option SeenFileFacts
+  pub map : List Region
