@@ -1,6 +1,7 @@
-//! The Multiboot2 boot information of a kernel without modules.
+//! The Multiboot2 boot information.
 
 use crate::machine::{Machine, Region};
+use std::ops::Range;
 
 const LOADER: &[u8] = b"bootcore\0";
 
@@ -23,12 +24,25 @@ fn memory_map(regions: &[Region]) -> Vec<u8> {
     body
 }
 
-pub fn information(machine: &Machine, line: &str) -> Vec<u8> {
+/// A module has no line.
+fn module(range: &Range<u64>) -> Vec<u8> {
+    let mut body = [range.start as u32, range.end as u32]
+        .map(u32::to_le_bytes)
+        .concat();
+    body.push(0);
+    body
+}
+
+/// Modules are told by where their files begin and end.
+pub fn information(machine: &Machine, line: &str, modules: &[Range<u64>]) -> Vec<u8> {
     let lower = machine.kib_from(0, 640);
     let upper = machine.kib_from(0x10_0000, u32::MAX as u64);
     let mut out = vec![0; 8];
     put_tag(&mut out, 1, &[line.as_bytes(), &[0]].concat());
     put_tag(&mut out, 2, LOADER);
+    for range in modules {
+        put_tag(&mut out, 3, &module(range));
+    }
     put_tag(&mut out, 4, &[lower, upper].map(u32::to_le_bytes).concat());
     put_tag(&mut out, 6, &memory_map(&machine.regions));
     put_tag(&mut out, 0, &[]);

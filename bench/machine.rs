@@ -22,10 +22,14 @@ pub struct Machine {
 }
 
 impl Machine {
+    /// The end of the memory that may be usable.
+    pub fn end(&self) -> u64 {
+        self.size.min(ADDRESS_END)
+    }
+
     pub fn is_usable(&self, range: &Range<u64>) -> bool {
-        let end = self.size.min(ADDRESS_END);
         FRAME as u64 <= range.start
-            && range.end <= end
+            && range.end <= self.end()
             && self.regions.iter().any(|region| {
                 region.kind == USABLE
                     && region.base <= range.start

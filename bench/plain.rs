@@ -1,28 +1,29 @@
-//! The boot of one Multiboot2 kernel in plain Rust, without a proof: the yardstick of `bootcore boot`.
+//! The boot of one entry in plain Rust, without a proof: the yardstick of `bootcore boot`.
 //!
-//!     plain straight|pool KERNEL IMAGE LINE SIZE FILL POOL_START POOL_END (BASE LENGTH KIND)..
-//!     plain copy FROM TO
+//!     plain straight|pool multiboot2|linux IMAGE LINE KERNEL FILE.. -- SIZE FILL POOL_START POOL_END (BASE LENGTH KIND)..
+//!     plain copy TO FROM..
 //!
-//! The numbers are those of a boot description, decimal or hexadecimal; the regions are ascending, apart, and
-//! none adjoins one of its kind, so that they are the machine's map as they stand. `pool` stages the file in
-//! frames of a pool and loads the kernel from there, `straight` loads it from where the file was read. The
-//! image is, byte for byte, the one that `bootcore boot` writes. A kernel that may be moved is refused: it is
-//! no part of what is measured.
+//! FILEs are the modules, which have no lines, or the initial ramdisk. The numbers are those of a boot description, decimal
+//! or hexadecimal; the regions are ascending, apart, and none adjoins one of its kind, so that they are the machine's map
+//! as they stand. `pool` stages the files in frames of a pool and loads them from there, `straight` loads them from where
+//! they were read. The image is, byte for byte, the one that `bootcore boot` writes. A Multiboot2 kernel that may be moved
+//! is refused: it is no part of what is measured.
 
 mod elf;
 mod header;
 mod image;
 mod information;
+mod linux;
 mod machine;
+mod multiboot2;
 mod places;
+mod setup;
 mod staging;
 mod words;
 
-use elf::Segment;
 use image::write_image;
-use information::information;
-use machine::{Machine, Region, FRAME};
-use places::{check_room, place_parts};
+use machine::{Machine, Region};
+use places::{check_room, Content, Part};
 use staging::{Source, Staged};
 use std::fs::{self, File};
 use std::io::{self, Read, Write};
@@ -30,81 +31,72 @@ use std::{env, process};
 
 type Answer<T> = Result<T, String>;
 
-/// What a kernel asks to be loaded, and its entry.
-fn read_kernel(file: &[u8]) -> Answer<(Vec<Segment>, u64)> {
-    let header = header::find_header(file).map_err(|fault| format!("{fault:?}"))?;
-    if header.relocation.is_some() {
-        return Err("a kernel that may be moved".into());
-    }
-    let (segments, entry) = match header.segment {
-        Some(segment) => (vec![segment], header.entry),
-        None => {
-            let elf = elf::read_elf(file).map_err(|fault| format!("{fault:?}"))?;
-            (elf.segments, header.entry.or(elf.entry))
+/// Writes what a part holds, and zeros behind it.
+fn load<S: Source + ?Sized>(memory: &mut [u8], source: &S, part: &Part) {
+    let range = part.range();
+    let out = &mut memory[range.start as usize..range.end as usize];
+    let count = match &part.content {
+        Content::Own(bytes) => {
+            out[..bytes.len()].copy_from_slice(bytes);
+            bytes.len()
+        }
+        Content::File { file, offset, count } => {
+            source.read(*file, *offset as usize, &mut out[..*count as usize]);
+            *count as usize
         }
     };
-    let entry = entry.ok_or("no entry")?;
-    let is_inside = segments
-        .iter()
-        .any(|s| words::holds(s.address, s.memsz, entry));
-    if !is_inside {
-        return Err("the entry lies outside".into());
-    }
-    Ok((segments, entry))
+    out[count..].fill(0);
 }
 
-/// Writes a segment's bytes of the file at its address, and zeros behind them.
-fn load<S: Source + ?Sized>(memory: &mut [u8], source: &S, segment: &Segment) {
-    let start = segment.address as usize;
-    let data = start + segment.filesz as usize;
-    source.read(segment.offset as usize, &mut memory[start..data]);
-    memory[data..start + segment.memsz as usize].fill(0);
-}
-
-fn load_kernel(memory: &mut [u8], file: &[u8], pool: Option<usize>, segments: &[Segment]) {
-    let staged = pool.map(|size| Staged::new(file, size));
-    for segment in segments {
-        match &staged {
-            Some(staged) => load(memory, staged, segment),
-            None => load(memory, file, segment),
-        }
+fn load_parts<S: Source + ?Sized>(memory: &mut [u8], source: &S, parts: &[Part]) {
+    for part in parts {
+        load(memory, source, part);
     }
 }
 
-fn boot(is_staged: bool, kernel: &str, image: &str, line: &str, machine: &Machine) -> Answer<()> {
-    let file = fs::read(kernel).map_err(|error| format!("{kernel}: {error}"))?;
-    let (segments, entry) = read_kernel(&file)?;
-    let info = information(machine, line);
-    let length = info.len().next_multiple_of(FRAME) as u64;
-    let mut parts = place_parts(machine, &segments, length)?;
-    check_room(machine, &parts, file.len())?;
-    let place = Segment {
-        offset: 0,
-        address: parts[segments.len()].address,
-        filesz: info.len() as u64,
-        memsz: length,
+/// What is booted: a protocol, its line and the paths of its files.
+struct Entry<'a> {
+    protocol: &'a str,
+    line: &'a str,
+    files: &'a [&'a str],
+}
+
+fn boot(is_staged: bool, entry: &Entry<'_>, image: &str, machine: &Machine) -> Answer<()> {
+    let read = |path: &&str| fs::read(path).map_err(|error| format!("{path}: {error}"));
+    let files = entry.files.iter().map(read).collect::<Answer<Vec<_>>>()?;
+    let (mut parts, state) = match entry.protocol {
+        "multiboot2" => multiboot2::parts_of(machine, entry.line, &files)?,
+        "linux" => linux::parts_of(machine, entry.line, &files)?,
+        other => return Err(format!("{other}: no such protocol")),
     };
+    check_room(machine, &parts, &files)?;
 
     let mut memory = vec![machine.fill; machine.size as usize];
-    let pool = is_staged.then_some((machine.pool.end - machine.pool.start) as usize);
-    load_kernel(&mut memory, &file, pool, &segments);
-    load(&mut memory, info.as_slice(), &place);
+    if is_staged {
+        let pool = (machine.pool.end - machine.pool.start) as usize;
+        load_parts(&mut memory, &Staged::new(&files, pool), &parts);
+    } else {
+        load_parts(&mut memory, files.as_slice(), &parts);
+    }
 
     parts.sort_by_key(|part| part.address);
-    write_image(image, &parts, entry as u32, place.address as u32, &memory)
-        .map_err(|error| format!("{image}: {error}"))
+    write_image(image, &parts, &state, &memory).map_err(|error| format!("{image}: {error}"))
 }
 
-fn copy(from: &str, to: &str) -> io::Result<()> {
-    let (mut from, mut to) = (File::open(from)?, File::create(to)?);
+fn copy(to: &str, from: &[&str]) -> io::Result<()> {
+    let mut to = File::create(to)?;
     let mut buffer = vec![0; 65536];
-    loop {
-        let count = from.read(&mut buffer)?;
-        if count == 0 {
-            return Ok(());
+    for path in from {
+        let mut from = File::open(path)?;
+        loop {
+            let count = from.read(&mut buffer)?;
+            if count == 0 {
+                break;
+            }
+            to.write_all(&buffer[..count])?;
         }
-        to.write_all(&buffer[..count])?;
     }
+    Ok(())
 }
 
 fn number(word: &str) -> Answer<u64> {
@@ -134,13 +126,25 @@ fn machine_of(words: &[&str]) -> Answer<Machine> {
     })
 }
 
+const USAGE: &str = "plain straight|pool PROTOCOL IMAGE LINE FILE.. -- NUMBERS.., plain copy TO FROM..";
+
 fn run(words: &[&str]) -> Answer<()> {
     match words {
-        ["copy", from, to] => copy(from, to).map_err(|error| error.to_string()),
-        [way @ ("straight" | "pool"), kernel, image, line, numbers @ ..] => {
-            boot(*way == "pool", kernel, image, line, &machine_of(numbers)?)
+        ["copy", to, from @ ..] => copy(to, from).map_err(|error| error.to_string()),
+        [way @ ("straight" | "pool"), protocol, image, line, rest @ ..] => {
+            let ends = rest.iter().position(|word| *word == "--").ok_or(USAGE)?;
+            let (files, numbers) = (&rest[..ends], &rest[ends + 1..]);
+            if files.is_empty() {
+                return Err(USAGE.into());
+            }
+            let entry = Entry {
+                protocol,
+                line,
+                files,
+            };
+            boot(*way == "pool", &entry, image, &machine_of(numbers)?)
         }
-        _ => Err("plain straight|pool KERNEL IMAGE LINE NUMBERS.., plain copy FROM TO".into()),
+        _ => Err(USAGE.into()),
     }
 }
 

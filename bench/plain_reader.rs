@@ -1,11 +1,12 @@
 //! Calls a plain reader on one file, many times.
 //!
-//!     plain_reader elf|header FILE COUNT
+//!     plain_reader elf|header|setup FILE COUNT
 //!
 //! The file is read once. The time of one call is what COUNT calls take above none.
 
 mod elf;
 mod header;
+mod setup;
 mod words;
 
 use std::hint::black_box;
@@ -13,7 +14,7 @@ use std::{env, fs, process};
 
 fn run(words: &[String]) -> Result<(), String> {
     let [reader, file, count] = words else {
-        return Err("plain_reader elf|header FILE COUNT".into());
+        return Err("plain_reader elf|header|setup FILE COUNT".into());
     };
     let count: u64 = count
         .parse()
@@ -27,6 +28,9 @@ fn run(words: &[String]) -> Result<(), String> {
             }
             "header" => {
                 black_box(header::find_header(file).map_err(|fault| format!("{fault:?}"))?);
+            }
+            "setup" => {
+                black_box(setup::read_setup(file).map_err(|fault| format!("{fault:?}"))?);
             }
             _ => return Err(format!("{reader}: no such reader")),
         }

@@ -1,25 +1,26 @@
 #!/usr/bin/env bash
-# How many times in a second a kernel file of 66 MB with five program headers is read: its ELF and its Multiboot2
-# header, by the plain readers (plain_reader.rs) and by a program that calls the proved ones.
+# How many times in a second a kernel file is read, by the plain readers (plain_reader.rs) and by a program that calls the
+# proved ones: the ELF and the Multiboot2 header of a file of 66 MB with five program headers, and the setup header of a
+# Linux kernel of 10 MiB.
 #
 #   [READER=PROGRAM] bench/readers.sh
 #
 # Both have the same command line,
 #
-#   READER elf|header FILE COUNT
+#   READER elf|header|setup FILE COUNT
 #
-# read FILE once and call read_elf or find_header COUNT times over its bytes. They are timed here from outside: COUNT
-# calls less the time of none. The proved program is the crate written by write_reader below. Where the variable
-# READER does not name one it is proved and built here, beside copies of the crates that it calls with what of them
-# is built already; without rt its column is left out. Needs bash 5, coreutils, awk and rustc.
+# read FILE once and call read_elf, find_header or read_setup COUNT times over its bytes. They are timed here from
+# outside: COUNT calls less the time of none. The proved program is the crate written by write_reader below. Where the
+# variable READER does not name one it is proved and built here, beside copies of the crates that it calls with what of
+# them is built already; without rt its column is left out. Needs bash 5, coreutils, awk and rustc.
 source "$(dirname "${BASH_SOURCE[0]}")/measure.sh"
 
 segments=5
 segment_bytes=0xC96000
-calls=2000000
+payload_bytes=$((10 << 20))
 
 reader=${READER:+$(realpath -m "$READER")}
-crates=(bl_refusing bl_mem bl_map bl_elf bl_mb2head)
+crates=(bl_refusing bl_mem bl_map bl_elf bl_mb2head bl_bzimage)
 cd "$work"
 
 # Writes the crate of the proved program.
@@ -30,11 +31,12 @@ write_reader() {
         cp -R "$here/../crates/$crate" "reader/crates/$crate"
         grep "^$crate:" "$here/../crates.txt"
     done > reader/crates.txt
-    echo 'reader: bl_elf bl_mb2head bl_mem' >> reader/crates.txt
+    echo 'reader: bl_bzimage bl_elf bl_mb2head bl_mem' >> reader/crates.txt
     cat > reader/crates/reader/src/main.rt << 'RATTLE'
-//! Reads a kernel's file many times: its ELF or its Multiboot2 header.
+//! Reads a kernel's file many times: its ELF, its Multiboot2 header or its setup header.
 #![tactic(auto)]
 
+use bl_bzimage::read_setup;
 use bl_elf::read_elf;
 use bl_mb2head::find_header;
 use bl_mem::SliceView;
@@ -57,7 +59,12 @@ fn run(rt: &HostRuntime, part: &str, path: &str, count: u64) -> u8 {
     let view = SliceView::new(bytes.as_slice());
     let mut sum = 0u64;
     for _ in 0..count {
-        if part == "elf" {
+        if part == "setup" {
+            let Ok(setup) = read_setup(&view) else {
+                return 1;
+            };
+            sum = sum.wrapping_add(setup.payload_size);
+        } else if part == "elf" {
             let Ok(elf) = read_elf(rt.alloc(), &view) else {
                 return 1;
             };
@@ -109,12 +116,12 @@ time_calls() {
     done
 }
 
-# Sets `rate`, the calls in a second.
+# Sets `rate`, the calls in a second of a reader of a file.
 rate_reader() {
     local none
-    time_calls "$1" "$2" kernel.elf 0
+    time_calls "$1" "$2" "$3" 0
     none=$least
-    time_calls "$1" "$2" kernel.elf "$calls"
+    time_calls "$1" "$2" "$3" "$calls"
     rate=$(awk -v n="$calls" -v t=$((least - none)) 'BEGIN { if (t > 0) printf "%d", n / t * 1e6; else print 0 }')
 }
 
@@ -127,13 +134,18 @@ if [ -z "$reader" ] && command -v rt > /dev/null 2>&1; then
     build_reader
 fi
 "$here/make_kernel.sh" kernel.elf "$segments" "$segment_bytes"
+"$here/make_bzimage.sh" bzimage "$payload_bytes"
 
 printf '%-16s %12s %12s   %s\n' 'parses a second' plain proved 'plain / proved'
-for part in elf header; do
-    rate_reader ./plain_reader "$part"
+for part in elf header setup; do
+    file=kernel.elf calls=2000000
+    if [ "$part" = setup ]; then
+        file=bzimage calls=20000000
+    fi
+    rate_reader ./plain_reader "$part" "$file"
     plain=$rate proved=- times=-
     if [ -n "$reader" ]; then
-        rate_reader "$reader" "$part"
+        rate_reader "$reader" "$part" "$file"
         proved=$rate
         times=$(ratio "$plain" "$proved")
     fi

@@ -1,35 +1,91 @@
 #!/usr/bin/env bash
 # Seconds and peak memory of `bootcore boot` beside plain programs that do the same work, all in one run.
 #
-#   bench/run.sh [BOOTCORE]
+#   bench/run.sh [BOOTCORE [ENTRY..]]
+#
+# An ENTRY is one of these, and without one all are measured:
+#
+#   kernel    a Multiboot2 kernel of 60 MiB
+#   modules   a small Multiboot2 kernel with 64 modules of 4 MiB
+#   linux     a Linux kernel of 10 MiB with an initial ramdisk of 200 MiB and a byte
 #
 # The program under test is the argument, else the variable BOOTCORE, else crates/bootcore/out/bootcore; where it
 # does not stand its row is left out. Needs bash 5, coreutils and awk; the plain programs need rustc, without which
 # their rows are left out. Peak memory is told by GNU time, else seen in /proc, there of the program alone and not of
-# one that it starts. Inputs and images lie in a new folder under TMPDIR, about 400 MB, which is removed at the end.
+# one that it starts. Inputs and images lie in a new folder under TMPDIR, about 1.1 GB, which is removed at the end.
 #
-#   cp                a copy of the kernel file, by coreutils
+#   cp                a copy of the entry's files, by coreutils
 #   plain copy        the same by a loop in Rust
-#   plain, straight   a boot in plain Rust that loads the kernel from where the file was read (plain.rs)
+#   plain, straight   a boot in plain Rust that loads the files from where they were read (plain.rs)
 #   plain, pool       the same, by way of a pool of frames
 #   bootcore          the program under test
 #
 # The programs take turns, so that what else the machine does meets each of them; the best of all rounds counts. There
-# are two tables: with fill 0 Rust takes pages that are zero already and touches none of them, with another fill every
-# program writes the whole memory. The images are compared with each other, and a difference ends the run with status
-# 1. A goal that is missed is told and does not end it: a busy machine misses goals too. At the end readers.sh runs.
+# are two tables for each entry: with fill 0 Rust takes pages that are zero already and touches none of them, with another
+# fill every program writes the whole memory. The images are compared with each other, and a difference ends the run with
+# status 1. A goal that is missed is told and does not end it: a busy machine misses goals too. Where all entries were
+# measured, readers.sh runs at the end.
 source "$(dirname "${BASH_SOURCE[0]}")/measure.sh"
 
-kernel_bytes=$((60 << 20))
-size=0x10000000
-pool_start=0x8000000
-pool_end=0xF000000
-base=0x1000
-length=0xFFFF000
 goal=1.2
+module_count=64
+module_bytes=$((4 << 20))
+initrd_bytes=$(((200 << 20) + 1))
 
 bootcore=$(realpath -m "${1:-${BOOTCORE:-$here/../crates/bootcore/out/bootcore}}")
+entries=("${@:2}")
+if [ "$#" -lt 2 ]; then
+    entries=(kernel modules linux)
+fi
 cd "$work"
+
+# Numbers, so that no two pieces are the same: one that is misplaced shows in the image.
+numbers() {
+    # head ends seq by a signal
+    { seq 10000000 99999999 || true; } | head -c "$1"
+}
+
+# Makes an entry's files, the kernel first, and sets what its machine is: all of it usable but for the first frame.
+make_kernel() {
+    protocol=multiboot2 size=0x10000000 pool_start=0x8000000 pool_end=0xF000000
+    "$here/make_kernel.sh" kernel.elf 1 $((60 << 20))
+    files=(kernel.elf)
+}
+
+make_modules() {
+    protocol=multiboot2 size=0x28000000 pool_start=0x14000000 pool_end=0x26000000
+    "$here/make_kernel.sh" kernel.elf 1 0x10000
+    numbers $((module_count * module_bytes)) | split -b "$module_bytes" -d -a 2 - module.
+    files=(kernel.elf module.*)
+    [ "${#files[@]}" = $((1 + module_count)) ] || fail "${#files[@]} files"
+}
+
+make_linux() {
+    protocol=linux size=0x20000000 pool_start=0x2400000 pool_end=0x10000000
+    "$here/make_bzimage.sh" vmlinuz $((10 << 20))
+    numbers "$initrd_bytes" > initrd.img
+    files=(vmlinuz initrd.img)
+}
+
+# Makes the entry, and sets the `base` and `length` of its machine's region and the bytes of its files.
+make_entry() {
+    "make_$1"
+    base=0x1000
+    length=$((size - base))
+    input=$(cat "${files[@]}" | wc -c)
+}
+
+# What follows an entry's line.
+describe_files() {
+    local file
+    for file in "${files[@]:1}"; do
+        if [ "$protocol" = linux ]; then
+            printf 'initrd = "%s"\n' "$file"
+        else
+            printf '[[entry.module]]\nfile = "%s"\n' "$file"
+        fi
+    done
+}
 
 describe() {
     cat << TOML
@@ -44,29 +100,38 @@ kind = "usable"
 
 [[entry]]
 title = "bench"
-protocol = "multiboot2"
-kernel = "kernel.elf"
+protocol = "$protocol"
+kernel = "${files[0]}"
 line = "bench"
+$(describe_files)
 TOML
 }
 
 # Sets `command` and the `name` of a row. What the command writes is out.ROW.
 set_row() {
     local row=$1 fill=$2
-    local machine=(bench "$size" "$fill" "$pool_start" "$pool_end" "$base" "$length" 1)
+    local machine=("$size" "$fill" "$pool_start" "$pool_end" "$base" "$length" 1)
     name=$row
     case $row in
-        cp) command=(cp --reflink=never kernel.elf out.cp) ;;
+        cp) command=(cp --reflink=never -t out.cp "${files[@]}") ;;
         copy)
             name='plain copy'
-            command=(./plain copy kernel.elf out.copy)
+            command=(./plain copy out.copy "${files[@]}")
             ;;
         straight | pool)
             name="plain, $row"
-            command=(./plain "$row" kernel.elf "out.$row" "${machine[@]}")
+            command=(./plain "$row" "$protocol" "out.$row" bench "${files[@]}" -- "${machine[@]}")
             ;;
         bootcore) command=("$bootcore" boot "$fill.toml" --out out.bootcore) ;;
     esac
+}
+
+# Makes way for what a row writes.
+clear_row() {
+    rm -rf "out.$1"
+    if [ "$1" = cp ]; then
+        mkdir out.cp
+    fi
 }
 
 # Round 0 weighs each program, and brings the files into the page cache.
@@ -74,7 +139,7 @@ run_round() {
     local round=$1 fill=$2 row
     for row in "${rows[@]}"; do
         set_row "$row" "$fill"
-        rm -f "out.$row"
+        clear_row "$row"
         if [ "$round" = 0 ]; then
             weigh_command "${command[@]}"
             peak[$row]=$kib
@@ -87,6 +152,8 @@ run_round() {
         if [ "$row" = bootcore ]; then
             [ "$(cat said)" = 'booted 0 bench' ] || fail "bootcore said: $(cat said)"
         fi
+        # a copy is compared with nothing, and takes room on the disk
+        case $row in cp | copy) rm -rf "out.$row" ;; esac
     done
 }
 
@@ -133,7 +200,7 @@ print_goals() {
         fi
     done
     if [ "${peak[bootcore]}" != - ]; then
-        print_goal $((peak[bootcore] >> 10)) $(((3 * kernel_bytes + size) >> 20)) 'MiB, three kernels and the machine'
+        print_goal $((peak[bootcore] >> 10)) $(((3 * input + size) >> 20)) 'MiB, three times the files and the machine'
     fi
 }
 
@@ -147,7 +214,18 @@ measure_boots() {
     compare_images
     print_rows "$fill"
     print_goals
-    rm -f out.*
+    rm -rf out.*
+}
+
+measure_entry() {
+    local fill
+    make_entry "$1"
+    printf '\n%s: %s MiB of files, machine of %s MiB, best of %s\n' \
+        "$1" $((input >> 20)) $((size >> 20)) "$rounds"
+    for fill in 0 0xA5; do
+        measure_boots "$fill"
+    done
+    rm -f "${files[@]}"
 }
 
 rows=(cp)
@@ -167,12 +245,10 @@ if [ -z "$gnu_time" ]; then
     echo 'no GNU time: peak memory is what was seen in /proc'
 fi
 
-"$here/make_kernel.sh" kernel.elf 1 "$kernel_bytes"
-echo "kernel of $((kernel_bytes >> 20)) MiB, machine of $((size >> 20)) MiB, best of $rounds"
-for fill in 0 0xA5; do
-    measure_boots "$fill"
+for entry in "${entries[@]}"; do
+    measure_entry "$entry"
 done
-rm -f kernel.elf
-
-echo
-"$here/readers.sh"
+if [ "$#" -lt 2 ]; then
+    echo
+    "$here/readers.sh"
+fi

@@ -1,128 +1,22 @@
 -- Equal facts and equal values give one handover, or one first refusal, and never both.
-use Rattle.std.proofs.Common.{◌≡◌, ℕ, List, [], Option, Some, None, sym, ap, subst, ◌∙◌, ◌⊎◌, inl, inr}
+use Rattle.std.proofs.Common.{◌≡◌, List, [], Option, Some, None, sym, ap, subst, ◌∙◌, ◌⊎◌, inl, inr}
 use Rattle.std.proofs.lemmas.Option.{same_Some}
-use Rattle.bl_mem.specs.declared.segment.Segment.{Segment}
 use Rattle.bl_map.specs.MachineFacts.{MachineFacts}
-use Rattle.bl_elf.specs.Elf.{ElfFacts}
-use Rattle.bl_elf.specs.declared.fault.ElfFault.{ElfFault}
-use Rattle.bl_elf.specs.declared.fault.ElfFault.TheVariants as elf_fault
-use Rattle.bl_elf.proofs.ElfLaws.{elf_is_determined, fault_is_determined, elf_not_fault}
-use Rattle.bl_mb2head.specs.Header.{IsHeader}
-use Rattle.bl_mb2head.specs.declared.header.Header.{Header}
-use Rattle.bl_mb2head.specs.declared.relocation.Relocation.{Relocation}
-use Rattle.bl_mb2head.proofs.HeaderLaws as headers
 use Rattle.bl_plan.specs.Placed.{ArePlaced}
+use Rattle.bl_plan.specs.declared.row.Row.{Row}
 use Rattle.bl_plan.proofs.PlaceLaws as places
 use Rattle.bl_load.specs.declared.refusal.Refusal.{Refusal}
-use Rattle.bl_load.specs.Value.{EntryValue, kernel_file, form_fault, lines_fault, lines_of}
-use Rattle.bl_load.specs.Reading.{Reading, multiboot2, IsRead, HasReadFault}
-use Rattle.bl_load.specs.Kernel.{KernelFacts, IsLoadedBy, IsKernel, HasLoadFault, HasKernelFault, entry_fault, counted_entry, head_refusal, elf_refusal}
+use Rattle.bl_load.specs.Value.{EntryValue, lines_fault, lines_of}
+use Rattle.bl_load.specs.Reading.{Reading, HasReadFault}
 use Rattle.bl_load.specs.Rows.{rows_of}
 use Rattle.bl_load.specs.Handover.{Handover}
 use Rattle.bl_load.specs.Parts.{IsHandover, IsRefusal, HasRowFault, HasPlaceFault, Then, handover_of, placing_refusal}
-use Rattle.bl_plan.specs.declared.row.Row.{Row}
-
--- ---- a kernel's file
-
--- a header leads to one list of segments and one entry
-one_loaded : (file : List ℕ) (segment : Option Segment) (f g : ElfFacts) → IsLoadedBy file segment f → IsLoadedBy file segment g → f ≡ g
-one_loaded file (Some segment) f g a b = a ∙ sym b
-one_loaded file None f g a b = elf_is_determined file f g a b
-
--- two headers of a file are one, and so is what they lead to
-same_header : (file : List ℕ) (h k : Header) → IsHeader file h → IsHeader file k → k ≡ h
-same_header file h k a b = headers.one_header file k h b a
-
-same_loaded : (file : List ℕ) (h k : Header) (f g : ElfFacts) → IsHeader file h → IsHeader file k → IsLoadedBy file h.segment f → IsLoadedBy file k.segment g → g ≡ f
-same_loaded file h k f g is_h is_k a b =
-    one_loaded file h.segment g f (subst (λ (x : Header). IsLoadedBy file x.segment g) (same_header file h k is_h is_k) b) a
-
-kernel_from : List Segment → ℕ → Option Relocation → KernelFacts
-kernel_from segments entry relocation = record { segments = segments; entry = entry; relocation = relocation }
-
-same_kernel : (a b : KernelFacts) → a.segments ≡ b.segments → a.entry ≡ b.entry → a.relocation ≡ b.relocation → a ≡ b
-unfolding kernel_from
-same_kernel a b segments entry relocation =
-    ap (λ (s : List Segment). kernel_from s a.entry a.relocation) segments
-    ∙ ap (λ (e : ℕ). kernel_from b.segments e a.relocation) entry
-    ∙ ap (λ (r : Option Relocation). kernel_from b.segments b.entry r) relocation
-
--- a file is one kernel
-pub one_kernel : (file : List ℕ) (a b : KernelFacts) → IsKernel file a → IsKernel file b → a ≡ b
-one_kernel file a b is_a is_b =
-    let header : is_b.header ≡ is_a.header = same_header file is_a.header is_b.header is_a.is_header is_b.is_header in
-    let facts : is_b.facts ≡ is_a.facts = same_loaded file is_a.header is_b.header is_a.facts is_b.facts is_a.is_header is_b.is_header is_a.loaded is_b.loaded in
-    let entry : counted_entry is_a.header is_a.facts ≡ Some b.entry =
-    sym (ap (λ (h : Header). counted_entry h is_a.facts) header) ∙ sym (ap (λ (f : ElfFacts). counted_entry is_b.header f) facts) ∙ is_b.entry in
-    same_kernel a b
-    (is_a.segments ∙ sym (ap (λ (f : ElfFacts). f.segments) facts) ∙ sym is_b.segments)
-    (same_Some a.entry b.entry (sym is_a.entry ∙ entry))
-    (is_a.relocation ∙ sym (ap (λ (h : Header). h.relocation) header) ∙ sym is_b.relocation)
-
--- a fault that refuses is no want of memory
-refuses : (fault : ElfFault) (r : Refusal) → elf_refusal fault ≡ Some r → ¬ (fault ≡ elf_fault.NoMemory)
-refuses fault r h = λ none. let bad : None ≡ Some r = sym (ap elf_refusal none) ∙ h in absurd cc
-
-one_load_fault : (file : List ℕ) (segment : Option Segment) (r s : Refusal) → HasLoadFault file segment r → HasLoadFault file segment s → r ≡ s
-one_load_fault file (Some segment) r s a b = absurd a
-one_load_fault file None r s (f, f_is, a) (g, g_is, b) =
-    let same = fault_is_determined file f g (refuses f r f_is) (refuses g s g_is) a b in
-    same_Some r s (sym f_is ∙ ap elf_refusal same ∙ g_is)
-
--- what is loaded has no fault
-loaded_no_fault : (file : List ℕ) (segment : Option Segment) (facts : ElfFacts) (r : Refusal) → IsLoadedBy file segment facts → HasLoadFault file segment r → ⊥
-loaded_no_fault file (Some segment) facts r is has = has
-loaded_no_fault file None facts r is (f, f_is, a) = elf_not_fault file facts f (refuses f r f_is) is a
-
--- where its header leads to a fault, a file has nothing to load
-sound_no_fault : (file : List ℕ) (h k : Header) (facts : ElfFacts) (r : Refusal) → IsHeader file h → IsHeader file k → IsLoadedBy file h.segment facts → HasLoadFault file k.segment r → ⊥
-sound_no_fault file h k facts r is_h is_k is has =
-    loaded_no_fault file h.segment facts r is (subst (λ (x : Header). HasLoadFault file x.segment r) (same_header file h k is_h is_k) has)
-
-same_entry_fault : (file : List ℕ) (h k : Header) (f g : ElfFacts) → IsHeader file h → IsHeader file k → IsLoadedBy file h.segment f → IsLoadedBy file k.segment g
-    → entry_fault f.segments (counted_entry h f) ≡ entry_fault g.segments (counted_entry k g)
-same_entry_fault file h k f g is_h is_k a b =
-    ap (λ (x : Header). entry_fault f.segments (counted_entry x f)) (sym (same_header file h k is_h is_k))
-    ∙ ap (λ (x : ElfFacts). entry_fault x.segments (counted_entry k x)) (sym (same_loaded file h k f g is_h is_k a b))
-
--- or it has one first fault
-pub one_kernel_fault : (file : List ℕ) (r s : Refusal) → HasKernelFault file r → HasKernelFault file s → r ≡ s
-one_kernel_fault file r s (inl (f, a, r_is)) (inl (g, b, s_is)) = r_is ∙ ap head_refusal (headers.one_fault file f g a b) ∙ sym s_is
-one_kernel_fault file r s (inl (f, a, r_is)) (inr (inl (h, is, load))) = absurd (headers.not_both file h f is a)
-one_kernel_fault file r s (inl (f, a, r_is)) (inr (inr (h, facts, is, loaded, b))) = absurd (headers.not_both file h f is a)
-one_kernel_fault file r s (inr (inl (h, is, load))) (inl (g, b, s_is)) = absurd (headers.not_both file h g is b)
-one_kernel_fault file r s (inr (inl (h, is_h, a))) (inr (inl (k, is_k, b))) =
-    one_load_fault file h.segment r s a (subst (λ (x : Header). HasLoadFault file x.segment s) (same_header file h k is_h is_k) b)
-one_kernel_fault file r s (inr (inl (h, is_h, a))) (inr (inr (k, facts, is_k, loaded, b))) = absurd (sound_no_fault file k h facts r is_k is_h loaded a)
-one_kernel_fault file r s (inr (inr (h, facts, is, loaded, a))) (inl (g, b, s_is)) = absurd (headers.not_both file h g is b)
-one_kernel_fault file r s (inr (inr (h, facts, is_h, loaded, a))) (inr (inl (k, is_k, b))) = absurd (sound_no_fault file h k facts s is_h is_k loaded b)
-one_kernel_fault file r s (inr (inr (h, f, is_h, f_is, a))) (inr (inr (k, g, is_k, g_is, b))) =
-    same_Some r s (sym a ∙ same_entry_fault file h k f g is_h is_k f_is g_is ∙ b)
-
--- and never both
-pub kernel_not_fault : (file : List ℕ) (kernel : KernelFacts) (r : Refusal) → IsKernel file kernel → HasKernelFault file r → ⊥
-kernel_not_fault file kernel r is (inl (f, a, r_is)) = headers.not_both file is.header f is.is_header a
-kernel_not_fault file kernel r is (inr (inl (h, is_h, a))) = sound_no_fault file is.header h is.facts r is.is_header is_h is.loaded a
-kernel_not_fault file kernel r is (inr (inr (h, f, is_h, f_is, a))) =
-    let bad : None ≡ Some r = sym is.sound ∙ same_entry_fault file is.header h is.facts f is.is_header is_h is.loaded f_is ∙ a in absurd cc
-
--- ---- what a protocol adds: its reading
-
-one_reading : (value : EntryValue) (a b : Reading) → IsRead value a → IsRead value b → a ≡ b
-one_reading value (multiboot2 k) (multiboot2 l) a b = ap multiboot2 (one_kernel (kernel_file value) k l a.1 b.1)
-
-one_read_fault : (value : EntryValue) (r s : Refusal) → HasReadFault value r → HasReadFault value s → r ≡ s
-one_read_fault value r s a b = one_kernel_fault (kernel_file value) r s a.1 b.1
-
-read_not_fault : (value : EntryValue) (reading : Reading) (r : Refusal) → IsRead value reading → HasReadFault value r → ⊥
-read_not_fault value (multiboot2 kernel) r is fault = kernel_not_fault (kernel_file value) kernel r is.1 fault.1
-
--- ---- an entry
+use Rattle.bl_load.proofs.OneReadingLaws.{one_reading, one_read_fault, read_not_fault}
 
 -- equal facts and equal values hand over the same
 pub one_handover : (facts : MachineFacts) (value : EntryValue) (h k : Handover) → IsHandover facts value h → IsHandover facts value k → h ≡ k
 one_handover facts value h k a b =
-    let reading : b.reading ≡ a.reading = one_reading value b.reading a.reading b.read a.read in
+    let reading : b.reading ≡ a.reading = one_reading facts value b.reading a.reading b.read a.read in
     let moved : ArePlaced facts [] (rows_of facts value a.reading) b.places = subst (λ (x : Reading). ArePlaced facts [] (rows_of facts value x) b.places) reading b.placed in
     let same : a.places ≡ b.places = places.one_list facts [] (rows_of facts value a.reading) a.places b.places a.placed moved in
     a.is ∙ ap (handover_of facts value a.reading) same ∙ ap (λ (x : Reading). handover_of facts value x b.places) (sym reading) ∙ sym b.is
@@ -140,27 +34,24 @@ one_then first rest r s one (inr a) (inr b) = one a.1 b.1
 
 -- the kernel is refused, or one of the rows
 abbrev IsLateRefusal : MachineFacts → EntryValue → Refusal → Type 0
-IsLateRefusal facts value r = HasReadFault value r ⊎ HasPlaceFault facts value r
+IsLateRefusal facts value r = HasReadFault facts value r ⊎ HasPlaceFault facts value r
 
 one_late : (facts : MachineFacts) (value : EntryValue) (r s : Refusal) → IsLateRefusal facts value r → IsLateRefusal facts value s → r ≡ s
-one_late facts value r s (inl a) (inl b) = one_read_fault value r s a b
-one_late facts value r s (inl a) (inr (k, is, b)) = absurd (read_not_fault value k r is a)
-one_late facts value r s (inr (k, is, a)) (inl b) = absurd (read_not_fault value k s is b)
+one_late facts value r s (inl a) (inl b) = one_read_fault facts value r s a b
+one_late facts value r s (inl a) (inr (k, is, b)) = absurd (read_not_fault facts value k r is a)
+one_late facts value r s (inr (k, is, a)) (inl b) = absurd (read_not_fault facts value k s is b)
 one_late facts value r s (inr (k, is_k, a)) (inr (l, is_l, b)) =
-    one_row_fault facts (rows_of facts value k) r s a (subst (λ (x : Reading). HasRowFault facts (rows_of facts value x) s) (one_reading value l k is_l is_k) b)
+    one_row_fault facts (rows_of facts value k) r s a (subst (λ (x : Reading). HasRowFault facts (rows_of facts value x) s) (one_reading facts value l k is_l is_k) b)
 
 -- or have one first refusal
 pub one_refusal : (facts : MachineFacts) (value : EntryValue) (r s : Refusal) → IsRefusal facts value r → IsRefusal facts value s → r ≡ s
-one_refusal facts value r s a b =
-    one_then (form_fault value.protocol) (Then (lines_fault (lines_of value)) (IsLateRefusal facts value)) r s
-    (one_then (lines_fault (lines_of value)) (IsLateRefusal facts value) r s (one_late facts value r s)) a b
+one_refusal facts value r s a b = one_then (lines_fault (lines_of value)) (IsLateRefusal facts value) r s (one_late facts value r s) a b
 
 -- and never both
 pub not_both : (facts : MachineFacts) (value : EntryValue) (h : Handover) (r : Refusal) → IsHandover facts value h → IsRefusal facts value r → ⊥
-not_both facts value h r is (inl form) = let bad : None ≡ Some r = sym is.form ∙ form in absurd cc
-not_both facts value h r is (inr (form, inl lines)) = let bad : None ≡ Some r = sym is.lines ∙ lines in absurd cc
-not_both facts value h r is (inr (form, inr (lines, inl read))) = read_not_fault value is.reading r is.read read
-not_both facts value h r is (inr (form, inr (lines, inr (k, is_k, (f, a, f_is))))) =
+not_both facts value h r is (inl lines) = let bad : None ≡ Some r = sym is.lines ∙ lines in absurd cc
+not_both facts value h r is (inr (lines, inl read)) = read_not_fault facts value is.reading r is.read read
+not_both facts value h r is (inr (lines, inr (k, is_k, (f, a, f_is)))) =
     let placed : ArePlaced facts [] (rows_of facts value k) is.places =
-    subst (λ (x : Reading). ArePlaced facts [] (rows_of facts value x) is.places) (one_reading value is.reading k is.read is_k) is.placed in
+    subst (λ (x : Reading). ArePlaced facts [] (rows_of facts value x) is.places) (one_reading facts value is.reading k is.read is_k) is.placed in
     places.not_both facts [] (rows_of facts value k) is.places f placed a

@@ -92,7 +92,6 @@ handover_legal facts value h is =
     record {
       reading = is.reading;
       places = is.places;
-      form = is.form;
       lines = is.lines;
       read = is.read;
       of_rows = of_rows facts [] rows is.places is.placed;

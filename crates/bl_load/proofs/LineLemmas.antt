@@ -1,5 +1,5 @@
 -- A line with no fault.
-use Rattle.std.proofs.Common.{◌≡◌, ◌≢◌, ◌<◌, ◌≤◌, ℕ, zero, suc, Bool, true, false, List, [], ◌∷◌, length, get_or, Option, Some, None, All, cond, arith, refl, nat_lt, nat_eq}
+use Rattle.std.proofs.Common.{◌≡◌, ◌≢◌, ◌<◌, ◌≤◌, ℕ, zero, suc, Bool, true, false, List, [], ◌∷◌, length, get_or, Option, Some, None, All, cond, arith, refl, ap, nat_lt, nat_eq}
 use Rattle.std.specs.Prelude.{◌==◌}
 use Rattle.std.specs.List.{list_any}
 use Rattle.std.proofs.lemmas.Bool.{or_parts}
@@ -48,3 +48,7 @@ all_sound {A = A} (m ∷ modules) h =
 
 pub all_short : {A : Type 0} (modules : List (Module A)) → All (λ m. line_fault m.line ≡ None) modules → All (λ m. length m.line ≤ 4095) modules
 all_short modules sound = λ k d within. sound_short (get_or modules k d).line (sound k d within)
+
+-- a line alone has no fault where it has none
+pub one_sound : (line : List ℕ) → line_fault line ≡ None → lines_fault (line ∷ []) ≡ None
+one_sound line sound = ap (λ (fault : Option Refusal). option_or fault None) sound

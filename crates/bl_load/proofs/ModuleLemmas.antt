@@ -31,10 +31,10 @@ use Rattle.bl_load.specs.PlacingKept.{IsLow, IsRowed, ModulesEndLow, HasLength, 
 
 -- ---- rows that no machine has room for
 
-abbrev Alike : ℕ → ℕ → Type 0
+abbrev pub Alike : ℕ → ℕ → Type 0
 Alike told length = (told ≡ length) ⊎ ((most_size < told) × (most_size < length))
 
-alike_lengths : (size : ℕ) → Alike (told_length size) (whole_frames (max size 1))
+pub alike_lengths : (size : ℕ) → Alike (told_length size) (whole_frames (max size 1))
 alike_lengths size =
     elim (cases_lt most_told size) [
       | inl above ↦ inr (omega arith, omega arith)
@@ -89,13 +89,13 @@ module _ (facts : MachineFacts) where
       ]
 
   -- rows with the same ones before them
-  behind_placed : (first told rest : List Row) → ((taken : List (Range ℕ)) (places : List Place) → ArePlaced facts taken told places → ArePlaced facts taken rest places)
+  pub behind_placed : (first told rest : List Row) → ((taken : List (Range ℕ)) (places : List Place) → ArePlaced facts taken told places → ArePlaced facts taken rest places)
       → (taken : List (Range ℕ)) (places : List Place) → ArePlaced facts taken (first ++ told) places → ArePlaced facts taken (first ++ rest) places
   behind_placed [] told rest each taken places placed = each taken places placed
   behind_placed (row ∷ first) told rest each taken [] placed = absurd placed
   behind_placed (row ∷ first) told rest each taken (p ∷ places) placed = (placed.0, placed.1, behind_placed first told rest each (put_in (range_of p) taken) places placed.2)
 
-  behind_fault : (fault : PlanFault) (first told rest : List Row) → ((taken : List (Range ℕ)) → IsFirstFault facts taken told fault → IsFirstFault facts taken rest fault)
+  pub behind_fault : (fault : PlanFault) (first told rest : List Row) → ((taken : List (Range ℕ)) → IsFirstFault facts taken told fault → IsFirstFault facts taken rest fault)
       → (taken : List (Range ℕ)) → IsFirstFault facts taken (first ++ told) fault → IsFirstFault facts taken (first ++ rest) fault
   behind_fault fault [] told rest each taken has = each taken has
   behind_fault fault (row ∷ first) told rest each taken (inl here) = inl here

@@ -1,26 +1,16 @@
 -- A fault of placing refuses the entry.
-use Rattle.std.proofs.Common.{◌≡◌, ◌≢◌, ℕ, List, Some, refl, subst}
+use Rattle.std.proofs.Common.{◌≡◌, List, Some, refl, subst}
 use Rattle.std.proofs.lemmas.Option.{same_Some}
 use Rattle.bl_map.specs.MachineFacts.{MachineFacts}
 use Rattle.bl_plan.specs.declared.fault.PlanFault.{PlanFault}
 use Rattle.bl_plan.specs.declared.fault.PlanFault.TheVariants as plan_fault
 use Rattle.bl_plan.specs.Placed.{IsPlacingFault}
 use Rattle.bl_load.specs.declared.refusal.PrepFault.{PrepFault}
-use Rattle.bl_load.specs.Value.{EntryValue}
-use Rattle.bl_load.specs.Reading.{multiboot2}
-use Rattle.bl_load.specs.Kernel.{KernelFacts}
-use Rattle.bl_load.specs.KernelKept.{AreLoadable}
-use Rattle.bl_load.specs.Rows.{rows_of}
 use Rattle.bl_plan.specs.declared.row.Row.{Row}
 use Rattle.bl_load.specs.PlacingKept.{fault_of, IsPlaceFault}
-use Rattle.bl_load.proofs.OverlapLemmas.{no_overlap}
 
 pub refused_place : (facts : MachineFacts) (rows : List Row) (fault : PlanFault) (result : PrepFault) → IsPlacingFault facts rows fault → fault_of fault ≡ Some result → IsPlaceFault facts rows result
 refused_place facts rows plan_fault.NotUsable result h e = subst (IsPlaceFault facts rows) (same_Some _ _ e) (plan_fault.NotUsable, h, refl)
 refused_place facts rows plan_fault.Overlap result h e = absurd cc
 refused_place facts rows plan_fault.NoRoom result h e = subst (IsPlaceFault facts rows) (same_Some _ _ e) (plan_fault.NoRoom, h, refl)
 refused_place facts rows plan_fault.NoMemory result h e = subst (IsPlaceFault facts rows) (same_Some _ _ e) tt
-
--- and it is no overlap
-pub not_overlap : (file : List ℕ) (facts : MachineFacts) (value : EntryValue) (kernel : KernelFacts) (fault : PlanFault) → AreLoadable file kernel.segments → IsPlacingFault facts (rows_of facts value (multiboot2 kernel)) fault → fault ≢ plan_fault.Overlap
-not_overlap file facts value kernel fault loadable h = λ e. no_overlap facts value kernel loadable.apart (subst (IsPlacingFault facts (rows_of facts value (multiboot2 kernel))) e h)

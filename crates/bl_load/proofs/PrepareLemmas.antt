@@ -1,14 +1,14 @@
--- What is prepared of an entry by its line and its kernel.
+-- What is prepared of an entry by its lines and its kernel.
 use Rattle.std.proofs.Common.{◌≡◌, ◌≤◌, ℕ, List, [], ◌∷◌, length, get_or, map, None, arith, refl, sym, ap, ◌∙◌, inl, inr}
 use Rattle.std.proofs.lemmas.List.{get_or-map}
 use Rattle.bl_map.specs.MachineFacts.{MachineFacts}
 use Rattle.bl_load.specs.declared.refusal.PrepFault.{PrepFault}
 use Rattle.bl_load.specs.declared.refusal.PrepFault.TheVariants as prep
 use Rattle.bl_load.specs.Handover.{Handover}
-use Rattle.bl_load.specs.Value.{multiboot2_value, lines_fault}
-use Rattle.bl_load.specs.Reading.{multiboot2}
-use Rattle.bl_load.specs.Kernel.{KernelFacts, IsKernel}
 use Rattle.bl_load.specs.KernelKept.{IsKernelFault}
+use Rattle.bl_load.specs.ReadKept.{IsLinuxFault}
+use Rattle.bl_load.specs.Value.{EntryValue, multiboot2_value, linux_value, lines_fault, lines_of}
+use Rattle.bl_load.specs.Reading.{Reading, IsRead}
 use Rattle.bl_load.specs.Rows.{rows_of}
 use Rattle.bl_load.specs.Parts.{IsHandover, IsPrepFault}
 use Rattle.bl_load.specs.PlacingKept.{IsPlaceFault, IsPlacedHandover}
@@ -18,28 +18,31 @@ use Rattle.bl_load.specs.PlanFacts.{file_text}
 pub first_text : {V : Type 0} (bytes : V → List ℕ) (files : List V) (file : V) → 1 ≤ length files → file ≡ get_or files 0 file → bytes file ≡ file_text (map bytes files) 0
 first_text bytes files file some is = ap bytes is ∙ sym (get_or-map bytes files 0 file [] (omega arith))
 
--- a Multiboot2 value whose lines have no fault
-module _ (facts : MachineFacts) (texts : List (List ℕ)) (line : List ℕ) (lines : List (List ℕ)) (sound : lines_fault (line ∷ lines) ≡ None) where
+-- a value whose lines have no fault
+module _ (facts : MachineFacts) (value : EntryValue) (sound : lines_fault (lines_of value) ≡ None) where
   -- what its parts hand over, it hands over
-  pub prepared : (kernel : KernelFacts) (handover : Handover) → IsKernel (file_text texts 0) kernel → IsPlacedHandover facts (multiboot2_value texts line lines) (multiboot2 kernel) handover
-      → IsHandover facts (multiboot2_value texts line lines) handover
-  prepared kernel handover is placed = record {
-    reading = multiboot2 kernel;
+  pub prepared : (reading : Reading) (handover : Handover) → IsRead facts value reading → IsPlacedHandover facts value reading handover → IsHandover facts value handover
+  prepared reading handover is placed = record {
+    reading = reading;
     places = placed.places;
-    form = refl;
     lines = sound;
-    read = (refl, is);
+    read = is;
     placed = placed.placed;
     is = placed.is;
   }
 
-  -- a fault of its kernel refuses it
-  pub refused_kernel : (fault : PrepFault) → IsKernelFault (file_text texts 0) fault → IsPrepFault facts (multiboot2_value texts line lines) fault
-  refused_kernel (prep.Refused refusal) h = inr (refl, inr (sound, inl (refl, h)))
-  refused_kernel prep.NoMemory h = tt
-
   -- and so does a fault of its places
-  pub refused_places : (kernel : KernelFacts) (fault : PrepFault) → IsKernel (file_text texts 0) kernel
-      → IsPlaceFault facts (rows_of facts (multiboot2_value texts line lines) (multiboot2 kernel)) fault → IsPrepFault facts (multiboot2_value texts line lines) fault
-  refused_places kernel (prep.Refused refusal) is h = inr (refl, inr (sound, inr (multiboot2 kernel, (refl, is), h)))
-  refused_places kernel prep.NoMemory is h = tt
+  pub refused_places : (reading : Reading) (fault : PrepFault) → IsRead facts value reading → IsPlaceFault facts (rows_of facts value reading) fault → IsPrepFault facts value fault
+  refused_places reading (prep.Refused refused) is has = inr (sound, inr (reading, is, has))
+  refused_places reading prep.NoMemory is has = tt
+
+-- a fault of its kernel refuses an entry whose lines have none
+pub refused_multiboot2 : (facts : MachineFacts) (texts : List (List ℕ)) (line : List ℕ) (lines : List (List ℕ)) → lines_fault (line ∷ lines) ≡ None → (fault : PrepFault) → IsKernelFault (file_text texts 0) fault
+    → IsPrepFault facts (multiboot2_value texts line lines) fault
+refused_multiboot2 facts texts line lines sound (prep.Refused refused) has = inr (sound, inl (inl (refl, has)))
+refused_multiboot2 facts texts line lines sound prep.NoMemory has = tt
+
+pub refused_linux : (facts : MachineFacts) (texts : List (List ℕ)) (line : List ℕ) → lines_fault (line ∷ []) ≡ None → (fault : PrepFault) → IsLinuxFault facts.runs line (file_text texts 0) fault
+    → IsPrepFault facts (linux_value texts line) fault
+refused_linux facts texts line sound (prep.Refused refused) has = inr (sound, inl (inr (refl, has)))
+refused_linux facts texts line sound prep.NoMemory has = tt

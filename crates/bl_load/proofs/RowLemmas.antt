@@ -121,10 +121,10 @@ length-module_rows files k [] = refl
 length-module_rows files k (line ∷ lines) = ap (λ (n : ℕ). suc n) (length-module_rows files (suc k) lines)
 
 -- there are at most 193 rows, and as many places
-pub few_places : (file : List ℕ) (facts : MachineFacts) (value : EntryValue) (kernel : KernelFacts) (taken : List (Range ℕ)) (places : List Place) → AreLoadable file kernel.segments → length value.module_lines ≤ 64
+pub few_places : (facts : MachineFacts) (value : EntryValue) (kernel : KernelFacts) (taken : List (Range ℕ)) (places : List Place) → 1 ≤ length kernel.segments → length kernel.segments ≤ 128 → length value.module_lines ≤ 64
     → ArePlaced facts taken (rows_of facts value (multiboot2 kernel)) places → length places ≤ 193
-few_places file facts value kernel taken places loadable few placed =
-    let e = few_kernel_rows kernel.segments kernel.relocation loadable.some loadable.few in
+few_places facts value kernel taken places some segments few placed =
+    let e = few_kernel_rows kernel.segments kernel.relocation some segments in
     let m = length-module_rows value.files 0 value.module_lines in
     let behind = length-append (module_rows value.files 0 value.module_lines) (information_row facts value kernel.relocation ∷ []) in
     let sum = length-append (kernel_rows kernel.segments kernel.relocation) (module_rows value.files 0 value.module_lines ++ information_row facts value kernel.relocation ∷ []) in

@@ -17,23 +17,21 @@ use Rattle.bl_plan.proofs.PlaceLaws.{all_usable, all_apart}
 use Rattle.bl_load.specs.Value.{EntryValue}
 use Rattle.bl_load.specs.Reading.{multiboot2}
 use Rattle.bl_load.specs.Kernel.{KernelFacts}
-use Rattle.bl_load.specs.KernelKept.{AreLoadable}
 use Rattle.bl_load.specs.Blocks.{low_of, span_of}
 use Rattle.bl_load.specs.Rows.{segment_rows, block_choice, kernel_rows, information_row, rows_of, module_rows}
 use Rattle.bl_load.specs.Parts.{no_segment}
 use Rattle.bl_load.specs.PlacingKept.{HasKernelLength, IsRowed}
 use Rattle.bl_plan.specs.Order.{place_key, in_order}
-use Rattle.bl_load.specs.HandoffFacts.{Ascends, AreRecords}
+use Rattle.bl_load.specs.HandoffFacts.{Ascends, AreRecords, most_parts}
 use Rattle.bl_plan.proofs.OrderLemmas.{in_order_all, in_order_pairs, in_order_sorted, length-in_order}
-use Rattle.bl_load.proofs.RowLemmas.{rows_are_rows, few_places}
 
 -- ---- each place has what its row has
 
 -- what holds of a row wherever it is placed
-abbrev Anywhere : (Place → Type 0) → Row → Type 0
+abbrev pub Anywhere : (Place → Type 0) → Row → Type 0
 Anywhere P row = (a : ℕ) → P (place_at row a)
 
-each_place : (facts : MachineFacts) (P : Place → Type 0) (taken : List (Range ℕ)) (rows : List Row) (places : List Place) → All (Anywhere P) rows → ArePlaced facts taken rows places → All P places
+pub each_place : (facts : MachineFacts) (P : Place → Type 0) (taken : List (Range ℕ)) (rows : List Row) (places : List Place) → All (Anywhere P) rows → ArePlaced facts taken rows places → All P places
 each_place facts P taken [] [] each placed = All-nil P
 each_place facts P taken [] (p ∷ places) each placed = absurd placed
 each_place facts P taken (row ∷ rows) [] each placed = absurd placed
@@ -132,13 +130,10 @@ in_order_ascends places filled apart i j d ij within =
       | inr free ↦ free
     ]
 
--- the places of a kernel that can be loaded are those of records
-pub records : (file : List ℕ) (facts : MachineFacts) (value : EntryValue) (kernel : KernelFacts) (places : List Place) → AreLoadable file kernel.segments → length value.module_lines ≤ 64 → ArePlaced facts [] (rows_of facts value (multiboot2 kernel)) places → AreRecords (in_order places)
-records file facts value kernel places loadable few_lines placed =
-    let are = rows_are_rows file facts value kernel loadable in
-    let rows = rows_of facts value (multiboot2 kernel) in
+-- at most 256 places of rows are those of records
+pub records : (facts : MachineFacts) (rows : List Row) (places : List Place) → All IsRow rows → length places ≤ most_parts → ArePlaced facts [] rows places → AreRecords (in_order places)
+records facts rows places are few placed =
     let filled = are_filled facts [] rows places placed are in
-    let few = few_places file facts value kernel [] places loadable few_lines placed in
     let same = length-in_order place_key places in
     record {
       few = omega (arith, few, same);

@@ -1,30 +1,33 @@
 -- Each entry has a handover or a first refusal.
-use Rattle.std.proofs.Common.{◌≡◌, ◌≢◌, ℕ, List, [], ◌∷◌, Option, Some, None, ◌⊎◌, inl, inr, arith, sym, refl, subst, AllPairs}
+use Rattle.std.proofs.Common.{◌≡◌, ◌≢◌, ℕ, List, [], ◌∷◌, Option, Some, None, ◌⊎◌, inl, inr, refl}
 use Rattle.bl_mem.specs.declared.segment.Segment.{Segment}
 use Rattle.bl_map.specs.MachineFacts.{MachineFacts}
-use Rattle.bl_elf.specs.Elf.{ElfFacts, AreApart}
+use Rattle.bl_map.specs.declared.region.Region.{Region}
+use Rattle.bl_bzimage.specs.Setup.{IsSetup, setup_fault, setup_of}
+use Rattle.bl_bzimage.specs.declared.setup.Setup.{Setup}
+use Rattle.bl_elf.specs.Elf.{ElfFacts}
 use Rattle.bl_elf.specs.declared.fault.ElfFault.{ElfFault}
 use Rattle.bl_elf.specs.declared.fault.ElfFault.TheVariants as elf_fault
-use Rattle.bl_elf.proofs.ElfLaws.{elf_apart}
 use Rattle.bl_elf.proofs.TotalLaws.{elf_or_fault}
 use Rattle.bl_mb2head.specs.Header.{IsHeader}
 use Rattle.bl_mb2head.specs.declared.header.Header.{Header}
 use Rattle.bl_mb2head.proofs.TotalLaws.{header_or_fault}
 use Rattle.bl_plan.specs.Placed.{IsFirstFault}
+use Rattle.bl_plan.proofs.TotalLaws.{placed_or_fault}
 use Rattle.bl_plan.specs.declared.fault.PlanFault.{PlanFault}
 use Rattle.bl_plan.specs.declared.fault.PlanFault.TheVariants as plan_fault
 use Rattle.bl_plan.specs.declared.protocol.Protocol.{Protocol}
 use Rattle.bl_plan.specs.declared.protocol.Protocol.TheVariants as protocol
 use Rattle.bl_load.specs.declared.refusal.Refusal.{Refusal}
 use Rattle.bl_load.specs.declared.refusal.Refusal.TheVariants as refusal
-use Rattle.bl_load.specs.Value.{EntryValue, kernel_file, form_fault, lines_fault, lines_of}
+use Rattle.bl_load.specs.Value.{EntryValue, kernel_file, lines_fault, lines_of}
 use Rattle.bl_load.specs.Kernel.{KernelFacts, IsLoadedBy, IsKernel, HasLoadFault, HasKernelFault, entry_fault, counted_entry, head_refusal, elf_refusal}
-use Rattle.bl_load.specs.Reading.{Reading, multiboot2, IsRead, HasReadFault}
+use Rattle.bl_load.specs.Reading.{Reading, multiboot2, linux, IsRead, HasReadFault}
+use Rattle.bl_load.specs.Linux.{IsLinuxKernel, HasLinuxFault, setup_refusal, telling_fault}
 use Rattle.bl_load.specs.Rows.{rows_of}
 use Rattle.bl_load.specs.Handover.{Handover}
 use Rattle.bl_load.specs.Parts.{IsHandover, IsRefusal, HasRowFault, handover_of}
-use Rattle.bl_load.proofs.DecidedLaws.{placed_or_fault}
-use Rattle.bl_load.proofs.OverlapLemmas.{no_overlap}
+use Rattle.bl_load.proofs.ReadingLaws.{reading_no_overlap}
 
 some_or_none : {X : Type 0} (o : Option X) → ((x : X) × (o ≡ Some x)) ⊎ (o ≡ None)
 some_or_none None = inr refl
@@ -74,35 +77,43 @@ kernel_or_fault file =
       ]
     ]
 
-loaded_apart : (file : List ℕ) (segment : Option Segment) (facts : ElfFacts) → IsLoadedBy file segment facts → AllPairs AreApart facts.segments
-loaded_apart file (Some segment) facts loaded = subst (λ (f : ElfFacts). AllPairs AreApart f.segments) (sym loaded) (λ i j d ij within. absurd (omega arith))
-loaded_apart file None facts loaded = elf_apart file facts loaded
+-- ---- a Linux kernel's file
 
--- the segments of a kernel share no byte
-kernel_apart : (file : List ℕ) (kernel : KernelFacts) → IsKernel file kernel → AllPairs AreApart kernel.segments
-kernel_apart file kernel is = subst (λ (ss : List Segment). AllPairs AreApart ss) (sym is.segments) (loaded_apart file is.header.segment is.facts is.loaded)
-
--- ---- what a protocol adds
-
-form_is : (p : Protocol) → form_fault p ≡ None → p ≡ protocol.Multiboot2
-form_is protocol.Multiboot2 sound = refl
-form_is protocol.Linux sound = absurd cc
-
-read_or_fault : (value : EntryValue) → form_fault value.protocol ≡ None → ((reading : Reading) × IsRead value reading) ⊎ ((r : Refusal) × HasReadFault value r)
-read_or_fault value form =
-    let is = form_is value.protocol form in
-    elim (kernel_or_fault (kernel_file value)) [
-      | inl (kernel, is_kernel) ↦ inl (multiboot2 kernel, (is, is_kernel))
-      | inr (r, has) ↦ inr (r, (is, has))
+linux_or_fault : (runs : List Region) (line file : List ℕ) → ((setup : Setup) × IsLinuxKernel runs line file setup) ⊎ ((r : Refusal) × HasLinuxFault runs line file r)
+linux_or_fault runs line file =
+    elim (some_or_none (setup_fault file)) [
+      | inl (fault, has) ↦ inr (setup_refusal fault, inl (fault, has, refl))
+      | inr sound ↦
+          let is : IsSetup file (setup_of file) = record { sound = sound; is = refl } in
+          elim (some_or_none (telling_fault runs line (setup_of file))) [
+            | inl (r, has) ↦ inr (r, inr (setup_of file, is, has))
+            | inr told ↦ inl (setup_of file, record { is_setup = is; told = told })
+          ]
     ]
 
--- the rows of what was read don't overlap one another
-reading_no_overlap : (facts : MachineFacts) (value : EntryValue) (reading : Reading) → IsRead value reading → IsFirstFault facts [] (rows_of facts value reading) plan_fault.Overlap → ⊥
-reading_no_overlap facts value (multiboot2 kernel) is has = no_overlap facts value kernel (kernel_apart (kernel_file value) kernel is.1) has
+-- ---- what a protocol adds: its reading
+
+-- the entry has one of two protocols
+is_either : (p : Protocol) → (p ≡ protocol.Multiboot2) ⊎ (p ≡ protocol.Linux)
+is_either protocol.Multiboot2 = inl refl
+is_either protocol.Linux = inr refl
+
+read_or_fault : (facts : MachineFacts) (value : EntryValue) → ((reading : Reading) × IsRead facts value reading) ⊎ ((r : Refusal) × HasReadFault facts value r)
+read_or_fault facts value =
+    elim (is_either value.protocol) [
+      | inl is ↦ elim (kernel_or_fault (kernel_file value)) [
+        | inl (kernel, is_kernel) ↦ inl (multiboot2 kernel, (is, is_kernel))
+        | inr (r, has) ↦ inr (r, inl (is, has))
+      ]
+      | inr is ↦ elim (linux_or_fault facts.runs value.line (kernel_file value)) [
+        | inl (setup, is_kernel) ↦ inl (linux setup, (is, is_kernel))
+        | inr (r, has) ↦ inr (r, inr (is, has))
+      ]
+    ]
 
 -- ---- the rest names none
 
-row_refused : (facts : MachineFacts) (value : EntryValue) (reading : Reading) (fault : PlanFault) → IsRead value reading → fault ≢ plan_fault.NoMemory → IsFirstFault facts [] (rows_of facts value reading) fault
+row_refused : (facts : MachineFacts) (value : EntryValue) (reading : Reading) (fault : PlanFault) → IsRead facts value reading → fault ≢ plan_fault.NoMemory → IsFirstFault facts [] (rows_of facts value reading) fault
     → (r : Refusal) × HasRowFault facts (rows_of facts value reading) r
 row_refused facts value reading plan_fault.NotUsable is some has = (refusal.NotUsable, (plan_fault.NotUsable, has, refl))
 row_refused facts value reading plan_fault.Overlap is some has = absurd (reading_no_overlap facts value reading is has)
@@ -111,16 +122,13 @@ row_refused facts value reading plan_fault.NoMemory is some has = absurd (some r
 
 pub handover_or_refusal : (facts : MachineFacts) (value : EntryValue) → ((handover : Handover) × IsHandover facts value handover) ⊎ ((r : Refusal) × IsRefusal facts value r)
 handover_or_refusal facts value =
-    elim (some_or_none (form_fault value.protocol)) [
+    elim (some_or_none (lines_fault (lines_of value))) [
       | inl (r, faulty) ↦ inr (r, inl faulty)
-      | inr form ↦ elim (some_or_none (lines_fault (lines_of value))) [
-        | inl (r, faulty) ↦ inr (r, inr (form, inl faulty))
-        | inr lines ↦ elim (read_or_fault value form) [
-          | inr (r, has) ↦ inr (r, inr (form, inr (lines, inl has)))
-          | inl (reading, read) ↦ elim (placed_or_fault facts [] (rows_of facts value reading)) [
-            | inr (fault, some, has) ↦ let refused = row_refused facts value reading fault read some has in inr (refused.0, inr (form, inr (lines, inr (reading, read, refused.1))))
-            | inl (places, placed) ↦ inl (handover_of facts value reading places, record { reading = reading; places = places; form = form; lines = lines; read = read; placed = placed; is = refl })
-          ]
+      | inr lines ↦ elim (read_or_fault facts value) [
+        | inr (r, has) ↦ inr (r, inr (lines, inl has))
+        | inl (reading, read) ↦ elim (placed_or_fault facts [] (rows_of facts value reading)) [
+          | inr (fault, some, has) ↦ let refused = row_refused facts value reading fault read some has in inr (refused.0, inr (lines, inr (reading, read, refused.1)))
+          | inl (places, placed) ↦ inl (handover_of facts value reading places, record { reading = reading; places = places; lines = lines; read = read; placed = placed; is = refl })
         ]
       ]
     ]

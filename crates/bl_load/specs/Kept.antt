@@ -1,9 +1,10 @@
 -- What the code keeps of a plan. It speaks of the files' lengths alone, and not of their bytes.
-use Rattle.std.specs.Prelude.{◌≡◌, ℕ, ◌+◌, ◌<◌, ◌≤◌, ◌^◌, List, length, map, slice_index, All, AllPairs}
+use Rattle.std.specs.Prelude.{ℕ, ◌+◌, ◌<◌, ◌≤◌, ◌^◌, List, length, map, slice_index, All, AllPairs}
+use Rattle.bl_mem.specs.Files.{IsBeside}
 use Rattle.bl_mem.specs.Memory.{HasRoom}
 use Rattle.bl_mem.specs.declared.segment.Segment.{Segment}
 use Rattle.bl_plan.specs.declared.role.Role.{Role}
-use Rattle.bl_plan.specs.declared.role.Role.TheVariants.{Information}
+use Rattle.bl_plan.specs.declared.role.Role.TheVariants as role
 use Rattle.bl_load.specs.declared.plan.Content.{Content}
 use Rattle.bl_load.specs.declared.plan.Content.TheVariants.{Own, File, Block}
 use Rattle.bl_load.specs.declared.plan.PlannedPart.{PlannedPart}
@@ -48,11 +49,21 @@ pub record IsBacked {A : Type 0} (lengths : List ℕ) (part : PlannedPart A) : T
   pub there : IsThere lengths part.content
   pub short : content_length part.content ≤ part.place.length
 
--- a content's bytes stay in the files until it is loaded; the information alone has bytes of its own
+-- what a part of this role holds is made by the loader, and no file's bytes
+abbrev pub IsMade : Role → Type 0
+IsMade role.Kernel = ⊥
+IsMade role.Module = ⊥
+IsMade role.Information = Unit {0}
+IsMade role.BootParams = Unit {0}
+IsMade role.CommandLine = Unit {0}
+IsMade role.Gdt = Unit {0}
+IsMade role.Initrd = ⊥
+
+-- a content's bytes stay in the files until it is loaded; only what the loader makes has bytes of its own
 abbrev pub StaysInFiles : {A : Type 0} → Role → Content A → Type 0
-StaysInFiles role (Own bytes) = role ≡ Information
-StaysInFiles role (File file offset count) = Unit {0}
-StaysInFiles role (Block file segments) = Unit {0}
+StaysInFiles r (Own bytes) = IsMade r
+StaysInFiles r (File file offset count) = Unit {0}
+StaysInFiles r (Block file segments) = Unit {0}
 
 -- a plan holds none of the files' bytes, so it takes no memory in proportion to what a header claims
 abbrev pub IsLean : {A : Type 0} → List (PlannedPart A) → Type 0
@@ -65,12 +76,13 @@ pub record IsLoadable {A : Type 0} (lengths : List ℕ) (size : ℕ) (plan : Pla
   pub inside : All (λ place. place.address + place.length ≤ size) (places_of plan)
   pub records : AreRecords (places_of plan)
 
--- a part can be loaded: it is backed, and memory has its place with room
-pub record CanLoad {A : Type 0} (lengths : List ℕ) (size : ℕ) (room : ℕ → Type 0) (part : PlannedPart A) : Type 0 where
+-- a part can be loaded: it is backed, memory has its place with room, and no file lies there
+pub record CanLoad {A : Type 0} (lengths : List ℕ) (size : ℕ) (room holds : ℕ → Type 0) (part : PlannedPart A) : Type 0 where
   pub there : IsThere lengths part.content
   pub short : content_length part.content ≤ part.place.length
   pub inside : part.place.address + part.place.length ≤ size
   pub writable : HasRoom room part.place.address (part.place.address + part.place.length)
+  pub beside : IsBeside holds part.place.address (part.place.address + part.place.length)
 
 -- the lines of modules
 abbrev pub lines_by : {A : Type 0} → List (Module A) → List (List ℕ)

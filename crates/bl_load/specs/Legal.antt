@@ -9,7 +9,7 @@ use Rattle.bl_plan.specs.declared.choice.Choice.{Choice}
 use Rattle.bl_plan.specs.declared.choice.Choice.TheVariants.{Fixed, Lowest, Highest, Preferred}
 use Rattle.bl_plan.specs.declared.row.Row.{Row}
 use Rattle.bl_plan.specs.declared.place.Place.{Place}
-use Rattle.bl_load.specs.Value.{EntryValue, form_fault, lines_fault, lines_of}
+use Rattle.bl_load.specs.Value.{EntryValue, lines_fault, lines_of}
 use Rattle.bl_load.specs.Reading.{Reading, IsRead}
 use Rattle.bl_load.specs.Rows.{rows_of}
 use Rattle.bl_load.specs.Handover.{Handover}
@@ -37,9 +37,8 @@ AreAllowed facts rows places = (i : ℕ) (row : Row) (place : Place) → slice_g
 pub record IsLegal (facts : MachineFacts) (value : EntryValue) (handover : Handover) : Type 0 where
   pub reading : Reading
   pub places : List Place
-  pub form : form_fault value.protocol ≡ None
   pub lines : lines_fault (lines_of value) ≡ None
-  pub read : IsRead value reading
+  pub read : IsRead facts value reading
   pub of_rows : AllZip IsPlaceOf (rows_of facts value reading) places
   pub allowed : AreAllowed facts (rows_of facts value reading) places
   pub is : handover ≡ handover_of facts value reading places

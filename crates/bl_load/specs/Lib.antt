@@ -8,10 +8,15 @@ pub mod Value
 pub mod Numbers
 pub mod Kernel
 pub mod KernelKept
+pub mod Linux
 pub mod Addresses
 pub mod Reading
+pub mod LinuxRows
 pub mod Rows
 pub mod Registers
 pub mod Parts
 pub mod PlacingKept
+pub mod ReadKept
+pub mod SourceKept
 pub mod Legal
+pub mod After

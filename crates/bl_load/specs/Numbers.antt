@@ -1,10 +1,11 @@
 -- The numbers of refusals. Own.
 use Rattle.std.specs.Prelude.{ℕ}
 use Rattle.bl_load.specs.declared.refusal.Refusal.{Refusal}
-use Rattle.bl_load.specs.declared.refusal.Refusal.TheVariants.{NoFile, FileTooLong, NoHeader, HeaderCut, BadArchitecture, BadTag, UnsupportedTag, UnsupportedRequest, NoConsole, NotElf, BadElf, SegmentCut, AddressTooHigh, SegmentsOverlap, NoEntry, EntryOutside, NotUsable, NoRoom, NoPool, LineTooLong, LineHasNul, NotYet}
+use Rattle.bl_load.specs.declared.refusal.Refusal.TheVariants.{NoFile, FileFault, FileTooLong, NoHeader, HeaderCut, BadArchitecture, BadTag, UnsupportedTag, UnsupportedRequest, NoConsole, NotElf, BadElf, SegmentCut, AddressTooHigh, SegmentsOverlap, NoEntry, EntryOutside, BadAlign, NotUsable, NoRoom, NoPool, NotBzImage, OldProtocol, NotHigh, SetupCut, BadPreferred, LineTooLong, LineHasNul, MapTooLong}
 
 abbrev pub refusal_number : Refusal → ℕ
 refusal_number (NoFile file) = 1
+refusal_number (FileFault file) = 2
 refusal_number (FileTooLong file) = 3
 refusal_number NoHeader = 4
 refusal_number HeaderCut = 5
@@ -20,9 +21,15 @@ refusal_number (AddressTooHigh i) = 14
 refusal_number (SegmentsOverlap i j) = 15
 refusal_number NoEntry = 16
 refusal_number EntryOutside = 17
+refusal_number BadAlign = 18
 refusal_number NotUsable = 19
 refusal_number NoRoom = 20
 refusal_number NoPool = 21
+refusal_number NotBzImage = 22
+refusal_number OldProtocol = 23
+refusal_number NotHigh = 24
+refusal_number SetupCut = 25
+refusal_number BadPreferred = 26
 refusal_number LineTooLong = 27
 refusal_number LineHasNul = 28
-refusal_number NotYet = 90
+refusal_number MapTooLong = 29

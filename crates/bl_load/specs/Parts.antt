@@ -1,5 +1,5 @@
 -- What an entry hands over on a machine, or its first refusal.
-use Rattle.std.specs.Prelude.{◌≡◌, ℕ, ◌+◌, ◌-◌, List, [], map, slice_index_or, ◌⊎◌, Option, Some, None, codes}
+use Rattle.std.specs.Prelude.{◌≡◌, ℕ, ◌+◌, ◌-◌, List, [], map, slice_index_or, slice_range, ◌⊎◌, Option, Some, None, codes}
 use Rattle.bl_mem.specs.Contents.{file_part}
 use Rattle.bl_mem.specs.declared.segment.Segment.{Segment}
 use Rattle.bl_map.specs.MachineFacts.{MachineFacts}
@@ -16,11 +16,15 @@ use Rattle.bl_load.specs.declared.refusal.Refusal.{Refusal}
 use Rattle.bl_load.specs.declared.refusal.Refusal.TheVariants as refusal
 use Rattle.bl_load.specs.declared.registers.Registers.{Registers}
 use Rattle.bl_load.specs.Addresses.{address_of}
-use Rattle.bl_load.specs.Value.{EntryValue, kernel_file, module_file, form_fault, lines_fault, lines_of}
-use Rattle.bl_load.specs.Reading.{Reading, multiboot2, IsRead, HasReadFault}
+use Rattle.bl_bzimage.specs.declared.setup.Setup.{Setup}
+use Rattle.bl_params.specs.BootParams.{boot_params}
+use Rattle.bl_params.specs.Gdt.{gdt}
+use Rattle.bl_load.specs.Value.{EntryValue, kernel_file, module_file, initrd_file, lines_fault, lines_of}
+use Rattle.bl_load.specs.Reading.{Reading, multiboot2, linux, IsRead, HasReadFault}
 use Rattle.bl_load.specs.Blocks.{low_of, block_of}
 use Rattle.bl_load.specs.Rows.{rows_of, information_of}
-use Rattle.bl_load.specs.Registers.{multiboot2_registers}
+use Rattle.bl_load.specs.LinuxRows.{told_of}
+use Rattle.bl_load.specs.Registers.{multiboot2_registers, linux_registers}
 use Rattle.bl_plan.specs.Order.{in_order}
 use Rattle.bl_load.specs.Handover.{Part, Handover, part_at, filled}
 use Rattle.bl_load.specs.declared.refusal.PrepFault.{PrepFault}
@@ -36,7 +40,11 @@ abbrev pub kernel_content : List ℕ → List Segment → Option Relocation → 
 kernel_content file segments None i = file_part file (slice_index_or segments i no_segment)
 kernel_content file segments (Some r) i = block_of file segments
 
--- what a part holds before its zeros, where the parts have these places
+-- what is loaded of a Linux kernel's file, up to its end (Linux/x86 Boot Protocol, "Loading The Rest of The Kernel")
+abbrev pub payload_of : List ℕ → Setup → List ℕ
+payload_of file setup = slice_range file setup.payload_offset (setup.payload_offset + setup.payload_size)
+
+-- what a part holds before its zeros, where the parts have these places; the zeros of a line's part end the line
 abbrev pub content_of : MachineFacts → EntryValue → Reading → List Place → Role → ℕ → List ℕ
 content_of facts value (multiboot2 kernel) places Kernel i =
     kernel_content (kernel_file value) kernel.segments kernel.relocation i
@@ -47,6 +55,13 @@ content_of facts value (multiboot2 kernel) places BootParams i = []
 content_of facts value (multiboot2 kernel) places CommandLine i = []
 content_of facts value (multiboot2 kernel) places Gdt i = []
 content_of facts value (multiboot2 kernel) places Initrd i = []
+content_of facts value (linux setup) places Kernel i = payload_of (kernel_file value) setup
+content_of facts value (linux setup) places Module i = []
+content_of facts value (linux setup) places Information i = []
+content_of facts value (linux setup) places BootParams i = boot_params setup.header (told_of facts value places)
+content_of facts value (linux setup) places CommandLine i = value.line
+content_of facts value (linux setup) places Gdt i = gdt
+content_of facts value (linux setup) places Initrd i = initrd_file value.files
 
 -- the part of an entry at one of its places
 abbrev pub part_from : MachineFacts → EntryValue → Reading → List Place → Place → Part
@@ -64,6 +79,8 @@ registers_of (multiboot2 kernel) places =
     multiboot2_registers
     (entry_at kernel.entry kernel.segments kernel.relocation (address_of Kernel 0 places))
     (address_of Information 0 places)
+registers_of (linux setup) places =
+    linux_registers (address_of Kernel 0 places) (address_of BootParams 0 places) (address_of Gdt 0 places)
 
 -- what an entry hands over, where its rows have these places
 abbrev pub handover_of : MachineFacts → EntryValue → Reading → List Place → Handover
@@ -77,9 +94,8 @@ handover_of facts value reading places = record {
 pub record IsHandover (facts : MachineFacts) (value : EntryValue) (handover : Handover) : Type 0 where
   pub reading : Reading
   pub places : List Place
-  pub form : form_fault value.protocol ≡ None
   pub lines : lines_fault (lines_of value) ≡ None
-  pub read : IsRead value reading
+  pub read : IsRead facts value reading
   pub placed : ArePlaced facts [] (rows_of facts value reading) places
   pub is : handover ≡ handover_of facts value reading places
 
@@ -98,18 +114,17 @@ HasRowFault facts rows refused =
 -- the kernel is read, and one of the entry's rows is refused so
 abbrev pub HasPlaceFault : MachineFacts → EntryValue → Refusal → Type 0
 HasPlaceFault facts value refused =
-    (reading : Reading) × IsRead value reading
+    (reading : Reading) × IsRead facts value reading
     × HasRowFault facts (rows_of facts value reading) refused
 
 -- a check that refuses, or what comes behind it
 abbrev pub Then : Option Refusal → (Refusal → Type 0) → Refusal → Type 0
 Then first rest refused = (first ≡ Some refused) ⊎ ((first ≡ None) × rest refused)
 
--- this is its first refusal: of its form, its lines, its kernel, its places
+-- this is its first refusal: of its lines, its kernel, its places
 abbrev pub IsRefusal : MachineFacts → EntryValue → Refusal → Type 0
 IsRefusal facts value =
-    Then (form_fault value.protocol)
-    (Then (lines_fault (lines_of value)) (λ r. HasReadFault value r ⊎ HasPlaceFault facts value r))
+    Then (lines_fault (lines_of value)) (λ r. HasReadFault facts value r ⊎ HasPlaceFault facts value r)
 
 -- why an entry is not prepared, unless memory ran out
 abbrev pub IsPrepFault : MachineFacts → EntryValue → PrepFault → Type 0

@@ -6,9 +6,9 @@ use Rattle.bl_map.specs.Room.{whole_frames}
 use Rattle.bl_mb2head.specs.declared.relocation.Relocation.{Relocation}
 use Rattle.bl_mbi.specs.InformationFacts.{info_size}
 use Rattle.bl_plan.specs.declared.role.Role.{Role}
-use Rattle.bl_plan.specs.declared.role.Role.TheVariants.{Kernel, Module, Information}
-use Rattle.bl_plan.specs.declared.choice.Choice.TheVariants.{Lowest}
-use Rattle.bl_map.specs.Limits.{frame_size, most_size}
+use Rattle.bl_plan.specs.declared.role.Role.TheVariants.{Kernel, Module, Information, BootParams, CommandLine, Gdt, Initrd}
+use Rattle.bl_plan.specs.declared.choice.Choice.TheVariants.{Lowest, Highest}
+use Rattle.bl_map.specs.Limits.{frame_size, first_usable, most_size}
 use Rattle.bl_mbi.specs.Size.{tag_size}
 use Rattle.bl_load.specs.Kernel.{KernelFacts}
 use Rattle.bl_plan.specs.declared.row.Row.{Row}
@@ -19,8 +19,10 @@ use Rattle.bl_plan.specs.Placed.{ArePlaced}
 use Rattle.bl_load.specs.declared.refusal.PrepFault.{PrepFault}
 use Rattle.bl_load.specs.declared.refusal.PrepFault.TheVariants as prep_fault
 use Rattle.bl_load.specs.Addresses.{address_of}
-use Rattle.bl_load.specs.Value.{EntryValue, module_file}
-use Rattle.bl_load.specs.Reading.{Reading, multiboot2}
+use Rattle.bl_load.specs.Value.{EntryValue, module_file, initrd_file}
+use Rattle.bl_load.specs.Reading.{Reading, multiboot2, linux}
+use Rattle.bl_bzimage.specs.declared.setup.Setup.{Setup}
+use Rattle.bl_load.specs.LinuxRows.{linux_kernel_row, frame_row, line_limit}
 use Rattle.bl_load.specs.Blocks.{span_of}
 use Rattle.bl_load.specs.Rows.{kernel_rows, module_length, information_row, rows_of, information_of}
 use Rattle.bl_load.specs.Handover.{Handover}
@@ -42,6 +44,13 @@ HasLength facts value (multiboot2 kernel) Information i count = count ≡ whole_
 HasLength facts value (multiboot2 kernel) Module i count =
     (i < length value.module_lines) × (count ≡ module_length (module_file value.files i))
 HasLength facts value (multiboot2 kernel) _ i count = ⊥
+HasLength facts value (linux setup) Kernel i count = count ≡ (linux_kernel_row setup).length
+HasLength facts value (linux setup) BootParams i count = count ≡ frame_size
+HasLength facts value (linux setup) CommandLine i count = count ≡ frame_size
+HasLength facts value (linux setup) Gdt i count = count ≡ frame_size
+HasLength facts value (linux setup) Initrd i count =
+    (1 ≤ length (initrd_file value.files)) × (count ≡ whole_frames (length (initrd_file value.files)))
+HasLength facts value (linux setup) _ i count = ⊥
 
 abbrev pub IsRowed : MachineFacts → EntryValue → Reading → Place → Type 0
 IsRowed facts value reading place = HasLength facts value reading place.role place.index place.length
@@ -87,6 +96,33 @@ told_rows_of facts value kernel =
     kernel_rows kernel.segments kernel.relocation
     ++ (told_rows value.files 0 value.module_lines
     ++ information_row facts value kernel.relocation ∷ [])
+
+-- the row of an initrd of so many bytes as the code tells it
+abbrev pub told_initrd_row : Setup → ℕ → Row
+told_initrd_row setup size = record {
+  role = Initrd;
+  index = 0;
+  length = told_length size;
+  choice = Highest frame_size first_usable (setup.initrd_addr_max + 1);
+}
+
+abbrev pub told_initrd_rows : Setup → List ℕ → List Row
+told_initrd_rows setup [] = []
+told_initrd_rows setup (byte ∷ bytes) = told_initrd_row setup (length (byte ∷ bytes)) ∷ []
+
+-- the rows of a Linux entry as the code tells them
+abbrev pub told_linux_rows : Setup → List ℕ → List Row
+told_linux_rows setup initrd =
+    linux_kernel_row setup
+    ∷ frame_row BootParams most_size
+    ∷ frame_row CommandLine line_limit
+    ∷ frame_row Gdt most_size
+    ∷ told_initrd_rows setup initrd
+
+-- by what was read of the kernel
+abbrev pub told_rows_by : MachineFacts → EntryValue → Reading → List Row
+told_rows_by facts value (multiboot2 kernel) = told_rows_of facts value kernel
+told_rows_by facts value (linux setup) = told_linux_rows setup (initrd_file value.files)
 
 -- ---- how long the tags of modules are
 

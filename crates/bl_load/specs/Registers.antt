@@ -1,4 +1,5 @@
--- The registers as a kernel begins (Multiboot2 3.3 "I386 machine state"). What the text leaves open is own.
+-- The registers as a kernel begins (Multiboot2 3.3 "I386 machine state"; Linux/x86 Boot Protocol, "32-bit Boot Protocol").
+-- What the texts leave open is own.
 use Rattle.std.specs.Prelude.{ℕ}
 use Rattle.bl_load.specs.declared.registers.Registers.{Registers}
 
@@ -28,5 +29,30 @@ multiboot2_registers entry information = record {
   ss = 0x18;
   gdt_base = 0;
   gdt_limit = 0;
+  a20 = 1;
+}
+
+-- by the address where a Linux kernel lies and is entered, and by those of its boot parameters and its descriptors
+abbrev pub linux_registers : ℕ → ℕ → ℕ → Registers
+linux_registers kernel boot_params gdt = record {
+  eip = kernel;
+  eax = 0;
+  ebx = 0;
+  ecx = 0;
+  edx = 0;
+  esi = boot_params;
+  edi = 0;
+  ebp = 0;
+  esp = 0;
+  eflags = 2;
+  cr0 = 0x11;
+  cs = 0x10;
+  ds = 0x18;
+  es = 0x18;
+  fs = 0x18;
+  gs = 0x18;
+  ss = 0x18;
+  gdt_base = gdt;
+  gdt_limit = 31;
   a20 = 1;
 }

@@ -1,4 +1,4 @@
--- The table of places of a Multiboot2 entry's parts. Own; the kernel's row with a relocatable header tag is
+-- The table of places of an entry's parts; here those of Multiboot2. Own; the kernel's row with a relocatable header tag is
 -- Multiboot2 3.1.13.
 use Rattle.std.specs.Prelude.{ℕ, suc, ◌+◌, max, length, if◌then◌else◌, ◌==◌, List, [], ◌∷◌, ◌++◌, Option, Some, None, option_map}
 use Rattle.bl_mem.specs.declared.segment.Segment.{Segment}
@@ -14,8 +14,9 @@ use Rattle.bl_plan.specs.declared.role.Role.TheVariants.{Kernel, Module, Informa
 use Rattle.bl_plan.specs.declared.choice.Choice.{Choice}
 use Rattle.bl_plan.specs.declared.choice.Choice.TheVariants.{Fixed, Lowest, Highest, Preferred}
 use Rattle.bl_load.specs.Addresses.{address_of}
-use Rattle.bl_load.specs.Value.{EntryValue, module_file}
-use Rattle.bl_load.specs.Reading.{Reading, multiboot2}
+use Rattle.bl_load.specs.Value.{EntryValue, module_file, initrd_file}
+use Rattle.bl_load.specs.Reading.{Reading, multiboot2, linux}
+use Rattle.bl_load.specs.LinuxRows.{linux_rows}
 use Rattle.bl_load.specs.Blocks.{low_of, span_of}
 
 -- segments at their own addresses, numbered from k on
@@ -91,3 +92,4 @@ rows_of facts value (multiboot2 kernel) =
     kernel_rows kernel.segments kernel.relocation
     ++ (module_rows value.files 0 value.module_lines
     ++ information_row facts value kernel.relocation ∷ [])
+rows_of facts value (linux setup) = linux_rows setup (initrd_file value.files)

@@ -7,7 +7,7 @@ use Rattle.bl_plan.specs.declared.protocol.Protocol.TheVariants as protocol
 use Rattle.bl_load.specs.declared.entry.Entry.{Entry}
 use Rattle.bl_load.specs.declared.entry.Entry.TheVariants.{Multiboot2, Linux}
 use Rattle.bl_load.specs.declared.refusal.Refusal.{Refusal}
-use Rattle.bl_load.specs.declared.refusal.Refusal.TheVariants.{LineHasNul, LineTooLong, NotYet}
+use Rattle.bl_load.specs.declared.refusal.Refusal.TheVariants.{LineHasNul, LineTooLong}
 
 -- an entry's value: its protocol, its line, its files' bytes in order (the kernel first), its modules' lines
 pub record EntryValue : Type 0 where
@@ -20,10 +20,14 @@ pub record EntryValue : Type 0 where
 abbrev pub multiboot2_value : List (List ℕ) → List ℕ → List (List ℕ) → EntryValue
 multiboot2_value texts line lines = record { protocol = protocol.Multiboot2; line = line; files = texts; module_lines = lines }
 
+-- the value of a Linux entry with this line
+abbrev pub linux_value : List (List ℕ) → List ℕ → EntryValue
+linux_value texts line = record { protocol = protocol.Linux; line = line; files = texts; module_lines = [] }
+
 -- the value of an entry whose files hold these texts
 abbrev pub value_of : {A : Type 0} → List (List ℕ) → Entry A → EntryValue
 value_of texts (Multiboot2 kernel line modules) = multiboot2_value texts line (map (λ m. m.line) modules.items)
-value_of texts (Linux kernel line initrd) = record { protocol = protocol.Linux; line = line; files = texts; module_lines = [] }
+value_of texts (Linux kernel line initrd) = linux_value texts line
 
 -- the bytes of the kernel's file
 abbrev pub kernel_file : EntryValue → List ℕ
@@ -33,10 +37,9 @@ kernel_file value = slice_index_or value.files 0 []
 abbrev pub module_file : List (List ℕ) → ℕ → List ℕ
 module_file files k = slice_index_or files (k + 1) []
 
--- Linux entries have not come
-abbrev pub form_fault : Protocol → Option Refusal
-form_fault protocol.Multiboot2 = None
-form_fault protocol.Linux = Some NotYet
+-- the bytes of the initial ramdisk of a Linux entry, which comes behind the kernel's; none if there is no such file
+abbrev pub initrd_file : List (List ℕ) → List ℕ
+initrd_file files = slice_index_or files 1 []
 
 -- how many files an entry has: the kernel, and the modules or the initial ramdisk
 abbrev pub file_count : {A : Type 0} → Entry A → ℕ

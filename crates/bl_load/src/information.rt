@@ -10,9 +10,11 @@ ghost use Rattle.bl_load.specs.Value.{multiboot2_value, line_fault};
 ghost use Rattle.bl_load.specs.Rows.{modules_of, information_of};
 ghost use Rattle.bl_load.specs.Kept.{lines_by};
 ghost use Rattle.bl_load.specs.PlacingKept.{IsLow, ModulesEndLow};
+ghost use Rattle.bl_load.specs.SourceKept.{texts_in};
 
 use crate::addresses;
 use crate::entry::Module;
+use crate::source::Source;
 use bl_map::Machine;
 use bl_mb2head::Relocation;
 use bl_mbi::{Facts, Module as ModuleInfo, write_info};
@@ -124,27 +126,21 @@ fn load_base_of(relocation: &Option<Relocation>, base: u32) -> Option<u32>
 /// The information's bytes, where the parts have these places.
 pub fn information<A: Allocator + Copy, V: ByteView>(
     alloc: A,
-    machine: &Machine<A>,
-    line: &[u8],
-    modules: &[Module<A>],
+    source: &Source<'_, A, V>,
     relocation: &Option<Relocation>,
-    files: &[V],
     places: &[Place],
 ) -> Result<Bytes<A>, AllocError>
-    requires sound { line_fault line.now ≡ None }
-    requires short { length line.now ≤ 4095 }
-    requires sound_modules { All (λ m. line_fault m.line ≡ None) modules.now }
-    requires few { length modules.now ≤ 64 }
-    requires files { length files.now ≡ 1 + length modules.now }
+    requires files { length source.now.files.now ≡ 1 + length source.now.modules.now }
     requires low { All IsLow places.now }
-    requires ends { ModulesEndLow (map V.bytes files.now) places.now (length modules.now) }
+    requires ends { ModulesEndLow (texts_in source.now) places.now
+        (length source.now.modules.now) }
     ensures { IfOk result (λ bytes. bytes
-        ≡ spelling (codes "bootcore") (information_of machine.now
-        (multiboot2_value (map V.bytes files.now) line.now (lines_by modules.now))
-        relocation.now places.now)) }
+        ≡ spelling (codes "bootcore") (information_of source.now.machine.now
+        (multiboot2_value (texts_in source.now) source.now.line.now
+        (lines_by source.now.modules.now)) relocation.now places.now)) }
 {
     let base = addresses::address_of(Role::Kernel, 0, places);
     let load_base = load_base_of(relocation, base);
-    let told = modules_at(alloc, modules, files, places)?;
-    spell(alloc, machine, line, told, load_base)
+    let told = modules_at(alloc, source.modules, source.files, places)?;
+    spell(alloc, source.machine, source.line, told, load_base)
 }

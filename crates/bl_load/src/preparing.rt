@@ -1,16 +1,19 @@
 //! What is loaded for an entry on a machine, or its first refusal.
 ghost use Rattle.std.specs.Prelude.{◌≡◌, ◌==◌, ◌≤◌, ◌<◌, ◌+◌, ◌∷◌, Some, None, IfOk, IfErr, MatchResult, length, map};
 ghost use Rattle.std.specs.List.{list_any};
-ghost use Rattle.bl_load.specs.Value.{value_of, multiboot2_value, line_fault, lines_fault, file_count, HasFewModules};
+ghost use Rattle.bl_load.specs.Value.{value_of, multiboot2_value, linux_value, line_fault, lines_fault, file_count, HasFewModules};
 ghost use Rattle.bl_load.specs.Parts.{IsHandover, IsPrepFault};
 ghost use Rattle.bl_load.specs.PlanFacts.{handover_by};
 ghost use Rattle.bl_load.specs.Kept.{lengths_of, IsLoadable, IsLean, lines_by};
 
 use crate::entry::{Entry, MOST_LINE, Module};
 use crate::kernel::read_kernel;
+use crate::kernel_file::KernelFile;
+use crate::linux::read_linux;
 use crate::placing::plan_parts;
 use crate::plan::Plan;
 use crate::refusal::{PrepFault, Refusal};
+use crate::source::Source;
 use bl_map::Machine;
 use bl_mem::ByteView;
 use std::alloc::Allocator;
@@ -83,17 +86,54 @@ fn prepare_multiboot2<A: Allocator + Copy, V: ByteView>(
         (multiboot2_value (map V.bytes files.now) line.now (lines_by modules.now)) fault) }
 {
     check_lines(line, modules)?;
-    let kernel = read_kernel(alloc, &files[0])?;
-    plan_parts(alloc, machine, line, modules, &kernel, files)
+    let kernel = KernelFile::Multiboot2(read_kernel(alloc, &files[0])?);
+    let source = Source {
+        machine,
+        line,
+        modules,
+        files,
+        kernel: &kernel,
+    };
+    plan_parts(alloc, &source)
+}
+
+/// What is loaded for a Linux entry of this line, or its first refusal.
+fn prepare_linux<A: Allocator + Copy, V: ByteView>(
+    alloc: A,
+    machine: &Machine<A>,
+    line: &[u8],
+    files: &[V],
+) -> Result<Plan<A>, PrepFault>
+    requires files { 1 ≤ length files.now }
+    ensures handover { IfOk result (λ plan. IsHandover machine.now
+        (linux_value (map V.bytes files.now) line.now)
+        (handover_by (map V.bytes files.now) plan)) }
+    ensures loadable { IfOk result (λ plan. IsLoadable
+        (lengths_of (map V.bytes files.now)) machine.now.size plan) }
+    ensures lean { IfOk result (λ plan. IsLean plan.parts.items) }
+    ensures fault { IfErr result (λ fault. IsPrepFault machine.now
+        (linux_value (map V.bytes files.now) line.now) fault) }
+{
+    check_line(line)?;
+    let kernel = KernelFile::Linux(read_linux(&files[0], line, machine.normal())?);
+    let source = Source {
+        machine,
+        line,
+        modules: &[],
+        files,
+        kernel: &kernel,
+    };
+    plan_parts(alloc, &source)
 }
 
 /// What is loaded for an entry on a machine, or its first refusal. `files` are the entry's files in
 /// order, the kernel first. The machine, the entry and the files stay as they are in each outcome.
 ///
-/// The refusals come in the order: the entry's form, its lines, the kernel's header, its ELF header
-/// and segments, its entry, and then the parts' places, part by part. Want of memory may be
-/// answered at any growth, in the place of a refusal that would have come later; it is never told
-/// as a refusal.
+/// The refusals come in the order: the entry's lines, what is read of its kernel, and then the
+/// parts' places, part by part. Of a Multiboot2 kernel are read the header, the ELF header and
+/// segments, and the entry; of a Linux kernel the setup, and then come a line that is longer than
+/// `cmdline_size` and a memory map of more than 128 runs. Want of memory may be answered at any
+/// growth, in the place of a refusal that would have come later; it is never told as a refusal.
 pub fn prepare<A: Allocator + Copy, V: ByteView>(
     alloc: A,
     machine: &Machine<A>,
@@ -107,7 +147,7 @@ pub fn prepare<A: Allocator + Copy, V: ByteView>(
     ensures loadable { IfOk result (λ plan. IsLoadable
         (lengths_of (map V.bytes files.now)) machine.now.size plan) }
 
-    // Of the files' bytes a plan holds none: only the information has bytes of its own.
+    // Of the files' bytes a plan holds none: only what the loader makes has bytes of its own.
     ensures lean { IfOk result (λ plan. IsLean plan.parts.items) }
 
     ensures fault { IfErr result (λ fault. IsPrepFault machine.now
@@ -117,6 +157,6 @@ pub fn prepare<A: Allocator + Copy, V: ByteView>(
         Entry::Multiboot2 { line, modules, .. } => {
             prepare_multiboot2(alloc, machine, line.as_slice(), modules.as_slice(), files)
         }
-        Entry::Linux { .. } => Err(PrepFault::Refused(Refusal::NotYet)),
+        Entry::Linux { line, .. } => prepare_linux(alloc, machine, line.as_slice(), files),
     }
 }

@@ -12,6 +12,8 @@ use thiserror::Error;
 pub enum Refusal {
     #[error("file {0} can't be read")]
     NoFile(u32),
+    #[error("file {0} did not come")]
+    FileFault(u32),
     #[error("file {0} is too long")]
     FileTooLong(u32),
     #[error("no Multiboot2 header")]
@@ -42,18 +44,30 @@ pub enum Refusal {
     NoEntry,
     #[error("the entry lies in no segment")]
     EntryOutside,
+    #[error("the alignment is no power of two")]
+    BadAlign,
     #[error("a fixed part is not usable memory")]
     NotUsable,
     #[error("no address is permitted for a part")]
     NoRoom,
     #[error("the pool is too small")]
     NoPool,
+    #[error("not a bzImage")]
+    NotBzImage,
+    #[error("the boot protocol is older than 2.10")]
+    OldProtocol,
+    #[error("the kernel is not loaded high")]
+    NotHigh,
+    #[error("the setup is cut")]
+    SetupCut,
+    #[error("no preferred address from 1 MiB to 4 GiB")]
+    BadPreferred,
     #[error("a line is too long")]
     LineTooLong,
     #[error("a line has a zero byte")]
     LineHasNul,
-    #[error("not supported yet")]
-    NotYet,
+    #[error("the memory map has too many runs")]
+    MapTooLong,
 }
 
 impl Refusal {
@@ -63,6 +77,7 @@ impl Refusal {
     {
         match self {
             Refusal::NoFile(_) => 1,
+            Refusal::FileFault(_) => 2,
             Refusal::FileTooLong(_) => 3,
             Refusal::NoHeader => 4,
             Refusal::HeaderCut => 5,
@@ -78,12 +93,18 @@ impl Refusal {
             Refusal::SegmentsOverlap(_, _) => 15,
             Refusal::NoEntry => 16,
             Refusal::EntryOutside => 17,
+            Refusal::BadAlign => 18,
             Refusal::NotUsable => 19,
             Refusal::NoRoom => 20,
             Refusal::NoPool => 21,
+            Refusal::NotBzImage => 22,
+            Refusal::OldProtocol => 23,
+            Refusal::NotHigh => 24,
+            Refusal::SetupCut => 25,
+            Refusal::BadPreferred => 26,
             Refusal::LineTooLong => 27,
             Refusal::LineHasNul => 28,
-            Refusal::NotYet => 90,
+            Refusal::MapTooLong => 29,
         }
     }
 }

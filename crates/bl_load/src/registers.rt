@@ -1,4 +1,6 @@
 //! The state of the processor as a kernel begins.
+ghost use Rattle.std.specs.Prelude.{◌≡◌};
+ghost use Rattle.bl_load.specs.Registers as state;
 
 /// The registers as a kernel begins (Multiboot2 3.3 "I386 machine state"; Linux/x86 boot protocol,
 /// "32-bit boot protocol"). A segment register's number is its selector; A20 is 1 where the gate is
@@ -25,4 +27,67 @@ pub struct Registers {
     pub gdt_base: u32,
     pub gdt_limit: u32,
     pub a20: u32,
+}
+
+/// What `eax` tells a kernel: it was loaded by a boot loader of Multiboot2 (3.3 "I386 machine
+/// state").
+const BOOTLOADER_MAGIC: u32 = 0x36D7_6289;
+
+/// The registers that a Multiboot2 kernel begins with.
+pub fn multiboot2_registers(entry: u32, information: u32) -> Registers
+    ensures { result ≡ state.multiboot2_registers entry information }
+{
+    Registers {
+        eip: entry,
+        eax: BOOTLOADER_MAGIC,
+        ebx: information,
+        ecx: 0,
+        edx: 0,
+        esi: 0,
+        edi: 0,
+        ebp: 0,
+        esp: 0,
+        eflags: 2,
+        cr0: 0x11,
+        cs: 0x10,
+        ds: 0x18,
+        es: 0x18,
+        fs: 0x18,
+        gs: 0x18,
+        ss: 0x18,
+        gdt_base: 0,
+        gdt_limit: 0,
+        a20: 1,
+    }
+}
+
+/// The last byte of the descriptors, counted from the first.
+const GDT_LIMIT: u32 = 31;
+
+/// The registers that a Linux kernel begins with.
+pub fn linux_registers(kernel: u32, boot_params: u32, gdt: u32) -> Registers
+    ensures { result ≡ state.linux_registers kernel boot_params gdt }
+{
+    Registers {
+        eip: kernel,
+        eax: 0,
+        ebx: 0,
+        ecx: 0,
+        edx: 0,
+        esi: boot_params,
+        edi: 0,
+        ebp: 0,
+        esp: 0,
+        eflags: 2,
+        cr0: 0x11,
+        cs: 0x10,
+        ds: 0x18,
+        es: 0x18,
+        fs: 0x18,
+        gs: 0x18,
+        ss: 0x18,
+        gdt_base: gdt,
+        gdt_limit: GDT_LIMIT,
+        a20: 1,
+    }
 }

@@ -6,10 +6,13 @@ ghost use Rattle.bl_load.specs.Rows as table;
 ghost use Rattle.bl_load.specs.Value.{multiboot2_value};
 ghost use Rattle.bl_load.specs.Kept.{lines_by};
 ghost use Rattle.bl_load.specs.PlacingKept as kept;
-ghost use Rattle.bl_load.specs.KernelKept.{AreLoadable, kernel_by};
+ghost use Rattle.bl_load.specs.KernelKept.{kernel_by};
+ghost use Rattle.bl_load.specs.Reading.{multiboot2};
+ghost use Rattle.bl_load.specs.SourceKept.{value_as};
 
 use crate::entry::Module;
 use crate::kernel::Kernel;
+use crate::source::Source;
 use bl_map::{FIRST_USABLE, FRAME, HIGH_START, MOST_SIZE, Machine, whole_frames};
 use bl_mb2head::Relocation;
 use bl_mem::{ByteView, Segment};
@@ -121,9 +124,10 @@ fn push_kernel_rows<A: Allocator, B: Allocator>(
     }
 }
 
-/// How many bytes a module's part takes, by the length of its file. A file that no machine can hold
-/// is told as one of 2^40 bytes, which no machine can hold either, so that no sum wraps.
-fn told_length(size: u64) -> u64
+/// How many bytes the part of a module or an initrd takes, by the length of its file. A file that no
+/// machine can hold is told as one of 2^40 bytes, which no machine can hold either, so that no sum
+/// wraps.
+pub fn told_length(size: u64) -> u64
     ensures { result ≡ kept.told_length size }
 {
     whole_frames(size.min(1 << 40).max(1))
@@ -211,27 +215,21 @@ fn information_row<A: Allocator>(
 }
 
 /// The rows of an entry's parts: the kernel's, those of its modules, and that of the information.
-pub fn rows_of<A: Allocator, V: ByteView>(
+pub fn multiboot2_rows<A: Allocator, V: ByteView>(
     alloc: A,
-    machine: &Machine<A>,
-    line: &[u8],
-    modules: &[Module<A>],
+    source: &Source<'_, A, V>,
     kernel: &Kernel<A>,
-    files: &[V],
 ) -> Result<Vec<Row, A>, AllocError>
-    requires line { length line.now ≤ 4095 }
-    requires short { All (λ m. length m.line ≤ 4095) modules.now }
-    requires few_modules { length modules.now ≤ 64 }
-    requires files { length files.now ≡ 1 + length modules.now }
+    requires files { length source.now.files.now ≡ 1 + length source.now.modules.now }
     requires few { length (kernel_by kernel.now).segments ≤ 128 }
     requires span { blocks.span_of (kernel_by kernel.now).segments < 2 ^ 64 }
-    ensures { IfOk result (λ rows. rows.items ≡ kept.told_rows_of machine.now
-        (multiboot2_value (map V.bytes files.now) line.now (lines_by modules.now))
+    ensures { IfOk result (λ rows. rows.items ≡ kept.told_rows_of source.now.machine.now
+        (value_as (multiboot2 (kernel_by kernel.now)) source.now)
         (kernel_by kernel.now)) }
 {
     let mut rows = Vec::new(alloc);
     push_kernel_rows(&mut rows, kernel)?;
-    push_module_rows(&mut rows, modules, files)?;
-    rows.push(information_row(machine, line, modules, kernel))?;
+    push_module_rows(&mut rows, source.modules, source.files)?;
+    rows.push(information_row(source.machine, source.line, source.modules, kernel))?;
     Ok(rows)
 }

@@ -7,3 +7,5 @@ pub mod OrderLemmas
 pub mod PutLemmas
 pub mod PlaceLemmas
 pub mod PlaceLaws
+pub mod DecidedLemmas
+pub mod TotalLaws

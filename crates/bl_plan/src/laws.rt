@@ -1,9 +1,10 @@
 //! Laws of the definitions.
-ghost use Rattle.std.specs.Prelude.{◌≡◌, ℕ, List, [], length, All, AllPairs};
+ghost use Rattle.std.specs.Prelude.{◌≡◌, ◌≢◌, ◌⊎◌, ℕ, List, [], length, All, AllPairs};
 ghost use Rattle.std.specs.List.{AllZip};
 ghost use Rattle.std.specs.declared.ops.Range.{Range};
 ghost use Rattle.bl_map.specs.MachineFacts.{MachineFacts};
 ghost use Rattle.bl_plan.specs.declared.fault.PlanFault.{PlanFault};
+ghost use Rattle.bl_plan.specs.declared.fault.PlanFault.TheVariants.{NoMemory};
 ghost use Rattle.bl_plan.specs.declared.row.Row.{Row};
 ghost use Rattle.bl_plan.specs.declared.place.Place.{Place};
 ghost use Rattle.bl_plan.specs.Placed.{ArePlaced, IsFirstFault, IsApart, IsPlaceable, IsOpen, IsPlaceOf};
@@ -25,6 +26,14 @@ pub fn places_are_determined()
         → ArePlaced facts taken rows ps
         → IsFirstFault facts taken rows f
         → ⊥ }
+{}
+
+/// Rows have places or a first fault, so by the law above exactly one of both. Want of memory is all
+/// that the contract of `place_rows` leaves open.
+pub fn rows_have_places_or_a_fault()
+    ensures { (facts : MachineFacts) (taken : List (Range ℕ)) (rows : List Row)
+        → ((places : List Place) × ArePlaced facts taken rows places)
+        ⊎ ((f : PlanFault) × (f ≢ NoMemory) × IsFirstFault facts taken rows f) }
 {}
 
 /// The places of rows are usable and meet neither one another nor what was taken before.

@@ -18,7 +18,9 @@ mod side;
 
 pub use choice::Choice;
 pub use fault::PlanFault;
-pub use laws::{places_are_determined, places_are_legal, places_are_of_rows};
+pub use laws::{
+    places_are_determined, places_are_legal, places_are_of_rows, rows_have_places_or_a_fault,
+};
 pub use order::{Addressed, in_order};
 pub use place::Place;
 pub use placing::place_rows;

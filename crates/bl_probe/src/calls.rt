@@ -15,6 +15,7 @@ mod plan;
 mod segments;
 mod spell;
 mod stage;
+mod staging;
 mod table;
 mod upper;
 mod view;
@@ -61,9 +62,13 @@ pub fn make(
         ("kind", Argument::Words(digits)) => table::answer_kind(alloc, digits),
         ("numbers", Argument::Words("")) => table::answer(alloc),
         ("memory", Argument::Words(words)) => memory::answer(alloc, heap, session, words),
+        ("sparse", Argument::Words(words)) => memory::answer_sparse(alloc, heap, session, words),
         ("holds", Argument::Words(words)) => segments::answer_holds(alloc, words),
         ("order", Argument::Words(words)) => segments::answer_order(alloc, heap, words),
         ("stage", Argument::Words(words)) => stage::answer(alloc, heap, session, words),
+        ("sparse_stage", Argument::Words(words)) => {
+            stage::answer_sparse(alloc, heap, session, words)
+        }
         ("spell", Argument::Words(words)) => spell::answer(alloc, session, words),
         ("view", Argument::Words(words)) => view::answer(alloc, session, words),
         ("own", Argument::Bytes(bytes)) => own::answer(alloc, heap, bytes),

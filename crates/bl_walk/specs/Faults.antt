@@ -31,35 +31,35 @@ pub data IsFollowed (h : Handover) : ℕ → ℕ → Type 0 where
   fixed_part : h.protocol ≡ Multiboot2 → IsFollowed h h.registers.ebx 8
   information : (size : ℕ) → HasTotalSize h size → 16 ≤ size → IsFollowed h h.registers.ebx size
   loaded_module : (info : InfoFacts) (m : ModuleInfo) → InformationSays h info
-    → Contains info.facts.modules m → IsFollowed h m.mod_start (m.mod_end - m.mod_start)
+      → Contains info.facts.modules m → IsFollowed h m.mod_start (m.mod_end - m.mod_start)
   -- Linux: the descriptors, the boot parameters, the line's first byte, the initial ramdisk
   descriptors : h.protocol ≡ Linux → IsFollowed h h.registers.gdt_base 32
   boot_params : h.protocol ≡ Linux → IsFollowed h h.registers.esi 4096
   command_line : (params : ParamsFacts) → ParametersSay h params → IsFollowed h params.cmd_line_ptr 1
   initrd : (params : ParamsFacts) → ParametersSay h params
-    → IsFollowed h params.ramdisk_image params.ramdisk_size
+      → IsFollowed h params.ramdisk_image params.ramdisk_size
 
 -- 81: the kernel is entered outside of its parts, or a range that it follows lies in no one part
 pub data IsOutside (h : Handover) : Type 0 where
   outside_kernel : is_in_kernel h.parts h.registers.eip ≡ false → IsOutside h
   outside_parts : (address count : ℕ) → IsFollowed h address count
-    → bytes_in h.parts address count ≡ None → IsOutside h
+      → bytes_in h.parts address count ≡ None → IsOutside h
 
 -- 82: the information or the boot parameters are refused by their reader, or no zero ends the line
 pub data HasBadInfo (h : Handover) : Type 0 where
   short_information : (size : ℕ) → HasTotalSize h size → size < 16 → HasBadInfo h
   other_information : (bytes : List ℕ) (fault : InfoFault) → IsInformation h bytes
-    → info_of bytes ≡ Err fault → HasBadInfo h
+      → info_of bytes ≡ Err fault → HasBadInfo h
   other_parameters : (bytes : List ℕ) (fault : ParamFault) → AreParameters h bytes
-    → ¬ (fault ≡ param_fault.NoMemory) → HasFirstFault bytes fault → HasBadInfo h
+      → ¬ (fault ≡ param_fault.NoMemory) → HasFirstFault bytes fault → HasBadInfo h
   endless_line : (params : ParamsFacts) (rest : List ℕ) → ParametersSay h params
-    → rest_in h.parts params.cmd_line_ptr ≡ Some rest → text_of rest ≡ None → HasBadInfo h
+      → rest_in h.parts params.cmd_line_ptr ≡ Some rest → text_of rest ≡ None → HasBadInfo h
 
 -- 83: a register that does not hold an address has another number, or a Linux kernel is handed other descriptors
 pub data HasBadState (h : Handover) : Type 0 where
   other_registers : ¬ (h.registers ≡ entry_registers h.protocol h.registers) → HasBadState h
   other_descriptors : (bytes : List ℕ) → h.protocol ≡ Linux
-    → bytes_in h.parts h.registers.gdt_base 32 ≡ Some bytes → ¬ (bytes ≡ gdt) → HasBadState h
+      → bytes_in h.parts h.registers.gdt_base 32 ≡ Some bytes → ¬ (bytes ≡ gdt) → HasBadState h
 
 -- a fault stands; want of memory says nothing of the image
 abbrev pub HasFault : Handover → WalkFault → Type 0

@@ -3,3 +3,4 @@ pub mod State
 pub mod SeenFacts
 pub mod Seen
 pub mod Faults
+pub mod Kept

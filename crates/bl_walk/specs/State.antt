@@ -1,15 +1,16 @@
 -- The state that a kernel is entered in (Multiboot2 3.3 "I386 machine state"; Linux/x86 boot protocol, "32-bit Boot
 -- Protocol"). What the texts leave open is own.
-use Rattle.std.specs.Prelude.{ℕ, ◌==◌, Bool, ◌&&◌, List}
-use Rattle.std.specs.List.{list_any}
+use Rattle.std.specs.Prelude.{◌≡◌, ℕ, ◌==◌, Bool, true, false, List, Some}
+use Rattle.std.specs.Option.{option_map_or}
+use Rattle.bl_params.specs.Gdt.{gdt}
 use Rattle.bl_plan.specs.declared.protocol.Protocol.{Protocol}
 use Rattle.bl_plan.specs.declared.protocol.Protocol.TheVariants.{Multiboot2, Linux}
 use Rattle.bl_plan.specs.declared.role.Role.TheVariants.{Kernel}
 use Rattle.bl_plan.specs.Roles.{role_number}
 use Rattle.bl_load.specs.declared.registers.Registers.{Registers}
 use Rattle.bl_load.specs.Registers.{multiboot2_registers}
-use Rattle.bl_load.specs.Handover.{Part}
-use Rattle.bl_walk.specs.Inside.{lies_in}
+use Rattle.bl_load.specs.Handover.{Part, Handover}
+use Rattle.bl_walk.specs.Inside.{part_with, bytes_in}
 
 -- by the addresses of the kernel, of the boot parameters and of the descriptors
 abbrev pub linux_registers : ℕ → ℕ → ℕ → Registers
@@ -45,5 +46,11 @@ abbrev pub is_kernel : Part → Bool
 is_kernel part = role_number part.role == role_number Kernel
 
 -- whether an address lies in a part of the kernel
-abbrev pub is_in_kernel : List Part → ℕ → Bool
-is_in_kernel parts address = list_any (λ part. is_kernel part && lies_in address 1 part) parts
+unfoldable pub is_in_kernel : List Part → ℕ → Bool
+is_in_kernel parts address = option_map_or is_kernel (part_with parts address 1) false
+
+-- the kernel is entered in one of its parts, with these registers, and under Linux with the descriptors
+pub record IsEntered (h : Handover) : Type 0 where
+  pub registers : h.registers ≡ entry_registers h.protocol h.registers
+  pub kernel : is_in_kernel h.parts h.registers.eip ≡ true
+  pub descriptors : h.protocol ≡ Linux → bytes_in h.parts h.registers.gdt_base 32 ≡ Some gdt

@@ -2,6 +2,8 @@
 ghost use Rattle.std.specs.Prelude.{◌≡◌};
 ghost use Rattle.bl_walk.specs.declared.fault.WalkFault.TheVariants as faults;
 
+use bl_mbi::InfoFault;
+use bl_params::ParamFault;
 use std::alloc::{AllocError, AllocFailed};
 use thiserror::Error;
 
@@ -27,6 +29,22 @@ pub enum WalkFault {
     NoMemory,
 }
 
+impl WalkFault {
+    ghost use Rattle.bl_walk.specs.Faults.{walk_fault_number};
+
+    /// The fault's number, 81 to 84.
+    pub fn number(self) -> u32
+        ensures { result ≡ walk_fault_number self }
+    {
+        match self {
+            WalkFault::OutsideImage => 81,
+            WalkFault::BadInfo => 82,
+            WalkFault::BadState => 83,
+            WalkFault::NoMemory => 84,
+        }
+    }
+}
+
 impl From<AllocError> for WalkFault {
     ghost from_gives = { λ _ fault. fault ≡ faults.NoMemory };
 
@@ -40,5 +58,31 @@ impl<T: Drop> From<AllocFailed<T>> for WalkFault {
 
     fn from(_: AllocFailed<T>) -> WalkFault {
         WalkFault::NoMemory
+    }
+}
+
+impl From<InfoFault> for WalkFault {
+    ghost use Rattle.bl_walk.specs.Kept.{information_refusal};
+
+    ghost from_gives = { λ fault walk. walk ≡ information_refusal fault };
+
+    fn from(fault: InfoFault) -> WalkFault {
+        match fault {
+            InfoFault::NoMemory => WalkFault::NoMemory,
+            _ => WalkFault::BadInfo,
+        }
+    }
+}
+
+impl From<ParamFault> for WalkFault {
+    ghost use Rattle.bl_walk.specs.Kept.{parameters_refusal};
+
+    ghost from_gives = { λ fault walk. walk ≡ parameters_refusal fault };
+
+    fn from(fault: ParamFault) -> WalkFault {
+        match fault {
+            ParamFault::NoMemory => WalkFault::NoMemory,
+            _ => WalkFault::BadInfo,
+        }
     }
 }

@@ -2,15 +2,24 @@
 #![tactic(auto)]
 
 mod fault;
-mod image;
+mod follow;
+mod information;
 mod inside;
+mod kernel;
+mod laws;
+mod module;
+mod parameters;
 mod seen;
-mod seen_module;
 mod seen_file;
+mod seen_module;
 mod seen_part;
+mod state;
+mod walking;
 
 pub use fault::WalkFault;
+pub use laws::{seen_is_determined, seen_is_sound};
 pub use seen::Seen;
 pub use seen_file::SeenFile;
 pub use seen_module::SeenModule;
 pub use seen_part::SeenPart;
+pub use walking::walk;

@@ -1,16 +1,19 @@
-//! `memory size=SIZE fill=BYTE STEP; STEP ..`: one step after the other on new memory.
+//! `memory size=SIZE fill=BYTE STEP; STEP ..`: one step after the other on new memory in one
+//! block; `sparse ..`: on memory that keeps only the frames which have room.
 //!
-//! A step is `size`, `read AT LENGTH`, `write AT BYTES`, `zero START..END` or
-//! `reserve START..END ..`.
+//! A step is `size`, `read AT LENGTH`, `write AT,AT BYTES`, `zero START..END` or
+//! `reserve START..END ..`. What is written or cleared is given room first.
 
-ghost use Rattle.std.specs.Prelude.{All, IsTrue, ◌≤◌};
+ghost use Rattle.std.specs.Prelude.{All, IfOk, IsTrue, OnOk, length, ◌≤◌};
+ghost use Rattle.bl_mem.specs.Memory.{HasRoom};
 
 use crate::bytes::{Names, bytes_of};
 use crate::fault::RowFault;
 use crate::parse::{byte, field, number, number_field, range, split_word};
 use crate::session::Session;
+use crate::show::bytes_text;
 use crate::unasked::mark_unasked;
-use bl_mem::{Flat, PhysMem};
+use bl_mem::{Flat, PhysMem, Sparse};
 use bl_refusing::Refusing;
 use std::alloc::Global;
 use std::ops::Range;
@@ -25,38 +28,70 @@ fn are_inside(size: u64, ranges: &[Range<u64>]) -> bool
         .all(|range| range.start <= range.end && range.end <= size)
 }
 
-fn read(alloc: Global, memory: &Flat<&Refusing>, at: u64, length: u64) -> Result<String, RowFault> {
+/// Gives room to a range, and says whether memory sufficed.
+pub fn give_room<M: PhysMem>(memory: &mut M, range: &Range<u64>) -> Result<bool, RowFault>
+    ensures forward { OnOk result (range.now.start ≤ range.now.end) }
+    ensures inside { OnOk result (range.now.end ≤ length (M.bytes memory.new)) }
+    ensures room { IfOk result (λ given. IsTrue given
+        → HasRoom (M.room memory.new) range.now.start range.now.end) }
+{
+    if range.end < range.start || memory.size() < range.end {
+        return Err(RowFault::BadRow);
+    }
+    let ranges = [range.start..range.end];
+    Ok(memory.reserve(&ranges).is_ok())
+}
+
+fn read<M: PhysMem>(
+    alloc: Global,
+    memory: &M,
+    at: u64,
+    length: u64,
+) -> Result<String, RowFault> {
     let size = memory.size();
     if size < at || size - at < length {
         return Err(RowFault::BadRow);
     }
     let mut out = Vec::from_elem(alloc, 0u8, length as usize)?;
     memory.read(at, out.as_mut_slice());
-    Ok(hex::encode(alloc, out.as_slice())?)
+    Ok(bytes_text(alloc, out.as_slice())?)
 }
 
-fn write(memory: &mut Flat<&Refusing>, at: u64, part: &[u8]) -> Result<&'static str, RowFault> {
-    let size = memory.size();
-    if size < at || size - at < part.len() as u64 {
-        return Err(RowFault::BadRow);
+fn write<M: PhysMem>(memory: &mut M, at: u64, part: &[u8]) -> Result<bool, RowFault> {
+    let end = at.checked_add(part.len() as u64).ok_or(RowFault::BadRow)?;
+    if !give_room(memory, &(at..end))? {
+        return Ok(false);
     }
     memory.write(at, part);
-    Ok("ok")
+    Ok(true)
 }
 
-fn zero(memory: &mut Flat<&Refusing>, range: Range<u64>) -> Result<&'static str, RowFault> {
-    if range.end < range.start || memory.size() < range.end {
-        return Err(RowFault::BadRow);
+/// Writes the bytes at each of the places, until memory runs out.
+fn write_words<M: PhysMem>(
+    alloc: Global,
+    names: &Names,
+    memory: &mut M,
+    words: &str,
+) -> Result<bool, RowFault> {
+    let (places, pieces) = split_word(words);
+    let part = bytes_of(alloc, names, pieces)?;
+    for at in places.split(',') {
+        if !write(memory, number(at)?, part.as_slice())? {
+            return Ok(false);
+        }
+    }
+    Ok(true)
+}
+
+fn zero<M: PhysMem>(memory: &mut M, range: Range<u64>) -> Result<bool, RowFault> {
+    if !give_room(memory, &range)? {
+        return Ok(false);
     }
     memory.zero(range);
-    Ok("ok")
+    Ok(true)
 }
 
-fn reserve(
-    alloc: Global,
-    memory: &mut Flat<&Refusing>,
-    words: &str,
-) -> Result<&'static str, RowFault> {
+fn reserve<M: PhysMem>(alloc: Global, memory: &mut M, words: &str) -> Result<bool, RowFault> {
     let mut ranges = Vec::new(alloc);
     for word in words.split_whitespace() {
         ranges.push(range(word)?)?;
@@ -64,72 +99,87 @@ fn reserve(
     if !are_inside(memory.size(), ranges.as_slice()) {
         return Err(RowFault::BadRow);
     }
-    match memory.reserve(ranges.as_slice()) {
-        Ok(()) => Ok("ok"),
-        Err(_) => Ok("no memory"),
-    }
+    Ok(memory.reserve(ranges.as_slice()).is_ok())
 }
 
-fn write_words(
+/// Makes a step.
+pub fn step<M: PhysMem>(
     alloc: Global,
     names: &Names,
-    memory: &mut Flat<&Refusing>,
-    words: &str,
-) -> Result<&'static str, RowFault> {
-    let (at, pieces) = split_word(words);
-    let part = bytes_of(alloc, names, pieces)?;
-    write(memory, number(at)?, part.as_slice())
-}
-
-fn read_words(alloc: Global, memory: &Flat<&Refusing>, words: &str) -> Result<String, RowFault> {
-    let (at, length) = split_word(words);
-    read(alloc, memory, number(at)?, number(length)?)
-}
-
-fn size_text(alloc: Global, memory: &Flat<&Refusing>) -> Result<String, RowFault> {
-    let size = memory.size();
-    Ok(format!(in alloc; "{size:x}")?)
-}
-
-fn step(
-    alloc: Global,
-    names: &Names,
-    memory: &mut Flat<&Refusing>,
+    memory: &mut M,
     text: &str,
 ) -> Result<String, RowFault> {
-    let said = match split_word(text) {
-        ("size", "") => return size_text(alloc, memory),
-        ("read", words) => return read_words(alloc, memory, words),
+    let sufficed = match split_word(text) {
+        ("size", "") => {
+            let size = memory.size();
+            return Ok(format!(in alloc; "{size:x}")?);
+        }
+        ("read", words) => {
+            let (at, length) = split_word(words);
+            return read(alloc, memory, number(at)?, number(length)?);
+        }
         ("write", words) => write_words(alloc, names, memory, words)?,
         ("zero", word) => zero(memory, range(word)?)?,
         ("reserve", words) => reserve(alloc, memory, words)?,
         _ => return Err(RowFault::BadRow),
     };
+    let said = if sufficed { "ok" } else { "no memory" };
     Ok(String::from_str(alloc, said)?)
 }
 
-/// Makes the memory over the heap, and the steps on it.
-pub fn answer(
+/// Makes the steps on memory over the heap.
+fn answer_on<M: PhysMem>(
     alloc: Global,
     heap: &Refusing,
     session: &Session,
-    words: &str,
+    memory: &mut M,
+    steps: &str,
 ) -> Result<String, RowFault> {
-    let (size, rest) = split_word(words);
-    let (fill, steps) = split_word(rest);
-    let fill = byte(field(fill, "fill")?)?;
-    let Ok(mut memory) = Flat::new(heap, number_field(size, "size")?, fill) else {
-        return Ok(String::from_str(alloc, "no memory")?);
-    };
     let mut text = String::new(alloc);
     for words in steps.split(';') {
         if !text.is_empty() {
             text.push_str("; ")?;
         }
         let before = heap.refused();
-        let mut said = step(alloc, &session.names, &mut memory, words.trim())?;
+        let mut said = step(alloc, &session.names, memory, words.trim())?;
         mark_unasked(heap, before, &mut said)?;
         text.push_str(&said)?;
     }
     Ok(text)
+}
+
+/// The size, what all of memory reads as, and the steps.
+fn read_words(words: &str) -> Result<(u64, u8, &str), RowFault> {
+    let (size, rest) = split_word(words);
+    let (fill, steps) = split_word(rest);
+    let size = number_field(size, "size")?;
+    Ok((size, byte(field(fill, "fill")?)?, steps))
+}
+
+/// The answer for memory in one block.
+pub fn answer(
+    alloc: Global,
+    heap: &Refusing,
+    session: &Session,
+    words: &str,
+) -> Result<String, RowFault> {
+    let (size, fill, steps) = read_words(words)?;
+    match Flat::new(heap, size, fill) {
+        Ok(mut memory) => answer_on(alloc, heap, session, &mut memory, steps),
+        Err(_) => Ok(String::from_str(alloc, "no memory")?),
+    }
+}
+
+/// The answer for memory that keeps only some frames.
+pub fn answer_sparse(
+    alloc: Global,
+    heap: &Refusing,
+    session: &Session,
+    words: &str,
+) -> Result<String, RowFault> {
+    let (size, fill, steps) = read_words(words)?;
+    match Sparse::new(heap, size, fill) {
+        Ok(mut memory) => answer_on(alloc, heap, session, &mut memory, steps),
+        Err(_) => Ok(String::from_str(alloc, "no memory")?),
+    }
 }

@@ -1,18 +1,20 @@
-use Rattle.std.proofs.Common.{◌≤◌, ℕ, List, length, map, arith}
+use Rattle.std.proofs.Common.{◌≤◌, ℕ, List, length, arith}
 use Rattle.std.proofs.lemmas.List.{length-map}
 use Rattle.std.proofs.lemmas.List.Elements.{All-map}
 use Rattle.bl_load.specs.Kept.{lines_by}
+use Rattle.bl_load.specs.SourceKept.{texts_in}
 use Rattle.bl_load.proofs.LineLemmas.{all_short}
 use Rattle.bl_load.proofs.InformationLemmas.{tags_size_is, tags_small}
 use Rattle.bl_load.proofs.information.information.Goals as goal
 
 pub spell-requires-clause-small : goal.spell-requires-clause-small
 spell-requires-clause-small g c =
-    let modules = c.args.modules.now in
-    let files = map g.V.ByteView.bytes c.args.files.now in
-    let short = all_short modules c.requires.sound_modules in
+    let source = c.args.source.now in
+    let modules = source.modules.now in
+    let files = texts_in source in
+    let short = all_short modules source.sound_modules in
     let small = tags_small (lines_by modules) (All-map (λ (line : List ℕ). length line ≤ 4095) (λ m. m.line) modules short) in
     let count = length-map modules (λ m. m.line) in
-    let few = c.requires.few in
+    let few = source.few in
     let is = tags_size_is files c.args.places.now 0 (lines_by modules) in
     rw c.in_ok-told.ensures.told (omega (arith, small, count, few, is))

@@ -14,6 +14,7 @@ pub fn refusal_text(alloc: Global, refusal: Refusal) -> Result<String, AllocErro
         Refusal::UnsupportedTag(kind) => format!(in alloc; "refused {number} {kind:x}"),
         Refusal::UnsupportedRequest(kind) => format!(in alloc; "refused {number} {kind:x}"),
         Refusal::NoFile(i) => format!(in alloc; "refused {number} {i:x}"),
+        Refusal::FileFault(i) => format!(in alloc; "refused {number} {i:x}"),
         Refusal::FileTooLong(i) => format!(in alloc; "refused {number} {i:x}"),
         Refusal::SegmentCut(i) => format!(in alloc; "refused {number} {i:x}"),
         Refusal::AddressTooHigh(i) => format!(in alloc; "refused {number} {i:x}"),
@@ -37,6 +38,7 @@ fn refusal_named(name: &str, words: &str) -> Result<Refusal, RowFault> {
     let i = number32(first);
     Ok(match name {
         "NoFile" => Refusal::NoFile(i?),
+        "FileFault" => Refusal::FileFault(i?),
         "FileTooLong" => Refusal::FileTooLong(i?),
         "BadTag" => Refusal::BadTag(number(first)?),
         "UnsupportedTag" => Refusal::UnsupportedTag(number16(first)?),
@@ -59,12 +61,18 @@ fn plain_refusal(name: &str) -> Result<Refusal, RowFault> {
         "BadElf" => Ok(Refusal::BadElf),
         "NoEntry" => Ok(Refusal::NoEntry),
         "EntryOutside" => Ok(Refusal::EntryOutside),
+        "BadAlign" => Ok(Refusal::BadAlign),
         "NotUsable" => Ok(Refusal::NotUsable),
         "NoRoom" => Ok(Refusal::NoRoom),
         "NoPool" => Ok(Refusal::NoPool),
+        "NotBzImage" => Ok(Refusal::NotBzImage),
+        "OldProtocol" => Ok(Refusal::OldProtocol),
+        "NotHigh" => Ok(Refusal::NotHigh),
+        "SetupCut" => Ok(Refusal::SetupCut),
+        "BadPreferred" => Ok(Refusal::BadPreferred),
         "LineTooLong" => Ok(Refusal::LineTooLong),
         "LineHasNul" => Ok(Refusal::LineHasNul),
-        "NotYet" => Ok(Refusal::NotYet),
+        "MapTooLong" => Ok(Refusal::MapTooLong),
         _ => Err(RowFault::BadRow),
     }
 }

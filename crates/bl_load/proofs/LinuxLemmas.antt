@@ -1,0 +1,200 @@
+-- What the rows of a Linux entry have, and their places.
+use Rattle.std.specs.Prelude.{not, ◌||◌, ◌&&◌, if◌then◌else◌, nat_lt, nat_le, count_ones, slice_index}
+use Rattle.std.specs.Int.{is_power_of_two}
+use Rattle.std.proofs.Common.{◌≡◌, ◌<◌, ◌≤◌, ◌+◌, ◌^◌, ℕ, Bool, true, false, List, [], ◌∷◌, length, Option, Some, None, cond, arith, refl, sym, subst, ◌∙◌, All, inl, inr, nat_eq}
+use Rattle.std.proofs.lemmas.Nat.{ones_le_self}
+use Rattle.std.proofs.lemmas.Bool.{cond_both}
+use Rattle.std.proofs.lemmas.Bool.Decides.{nat_tests}
+use Rattle.std.proofs.lemmas.List.Elements.{All-nil, All-cons}
+use Rattle.std.specs.declared.ops.Range.{Range}
+use Rattle.bl_mem.specs.Words.{u16_at, u64_at}
+use Rattle.bl_map.specs.Limits.{most_size}
+use Rattle.bl_map.specs.MachineFacts.{MachineFacts}
+use Rattle.bl_map.specs.Room.{whole_frames}
+use Rattle.bl_bzimage.specs.declared.fault.SetupFault.{SetupFault}
+use Rattle.bl_bzimage.specs.declared.fault.SetupFault.TheVariants.{NotBzImage, OldProtocol, NotHigh, SetupCut, BadAlign, BadPreferred}
+use Rattle.bl_bzimage.specs.declared.setup.Setup.{Setup}
+use Rattle.bl_bzimage.specs.Setup.{IsSetup, setup_fault, is_bz_image, is_loaded_high, is_whole, has_alignment, has_preferred}
+use Rattle.bl_bzimage.proofs.SetupLaws.{fields_are, payload_is_tail}
+use Rattle.bl_mem.specs.Memory.{IsIn}
+use Rattle.bl_plan.specs.Permitted.{AllOpen}
+use Rattle.bl_plan.specs.Placed.{ArePlaced, IsRow, IsFirstFault, HasFault}
+use Rattle.bl_plan.specs.Order.{in_order}
+use Rattle.bl_plan.specs.declared.fault.PlanFault.TheVariants.{Overlap}
+use Rattle.bl_plan.specs.declared.place.Place.{Place}
+use Rattle.bl_plan.specs.declared.role.Role.{Role}
+use Rattle.bl_plan.specs.declared.role.Role.TheVariants.{Kernel, BootParams, CommandLine, Gdt}
+use Rattle.bl_plan.specs.declared.row.Row.{Row}
+use Rattle.bl_plan.proofs.PlaceLaws.{as_many}
+use Rattle.bl_load.specs.HandoffFacts.{AreRecords}
+use Rattle.bl_load.specs.LinuxRows.{high_start, moved_row, fixed_row, linux_kernel_row, frame_row, line_limit, initrd_rows, linux_rows}
+use Rattle.bl_load.specs.PlacingKept.{HasLength, IsRowed}
+use Rattle.bl_load.specs.Reading.{linux}
+use Rattle.bl_load.specs.Rows.{rows_of}
+use Rattle.bl_load.specs.Value.{EntryValue, initrd_file}
+use Rattle.bl_load.proofs.RowLemmas.{some_frames}
+use Rattle.bl_load.proofs.RowPlaceLemmas.{Anywhere, each_place, records}
+
+-- ---- a setup without a fault
+
+passed : (broken : Bool) (fault : SetupFault) (rest : Option SetupFault) → (if broken then Some fault else rest) ≡ None → (broken ≡ false) × (rest ≡ None)
+passed true fault rest e = absurd cc
+passed false fault rest e = (refl, e)
+
+holds : (b : Bool) → not b ≡ false → b ≡ true
+holds true e = refl
+holds false e = absurd cc
+
+-- its checks of a relocatable kernel and of another one
+last_checks : (file : List ℕ) → setup_fault file ≡ None → (has_alignment file ≡ true) × (has_preferred file ≡ true)
+unfolding setup_fault
+last_checks file sound =
+    let image = passed (not (is_bz_image file)) NotBzImage _ sound in
+    let version = passed (nat_lt (u16_at file 0x206) 0x020A) OldProtocol _ image.1 in
+    let high = passed (not (is_loaded_high file)) NotHigh _ version.1 in
+    let whole = passed (not (is_whole file)) SetupCut _ high.1 in
+    let align = passed (not (has_alignment file)) BadAlign _ whole.1 in
+    let preferred = passed (not (has_preferred file)) BadPreferred _ align.1 in
+    (holds (has_alignment file) align.0, holds (has_preferred file) preferred.0)
+
+some_power : (n : ℕ) → is_power_of_two n ≡ true → 1 ≤ n
+some_power n is =
+    let few = ones_le_self n in
+    let one : count_ones n ≡ 1 = grind (arith, nat_tests) in
+    omega arith
+
+aligned_where : (zero_field power : Bool) → (not (not zero_field) || power) ≡ true → zero_field ≡ false → power ≡ true
+aligned_where true power test e = absurd cc
+aligned_where false power test e = test
+
+-- a relocatable kernel is aligned to one byte at least
+pub some_alignment : (file : List ℕ) (setup : Setup) → IsSetup file setup → nat_eq setup.relocatable_kernel 0 ≡ false → 1 ≤ setup.kernel_alignment
+some_alignment file setup is moved =
+    let fields = fields_are file setup is in
+    let test = (last_checks file is.sound).0 in
+    let field : nat_eq _ 0 ≡ false = subst (λ (n : ℕ). nat_eq n 0 ≡ false) fields.relocatable_kernel moved in
+    subst (λ (n : ℕ). 1 ≤ n) (sym fields.kernel_alignment) (some_power _ (aligned_where _ _ test field))
+
+preferred_where : (zero_field above below : Bool) → (not zero_field || (above && below)) ≡ true → zero_field ≡ true → (above ≡ true) × (below ≡ true)
+preferred_where true true true test e = (refl, refl)
+preferred_where true true false test e = absurd cc
+preferred_where true false below test e = absurd cc
+preferred_where false above below test e = absurd cc
+
+le_from : (m n : ℕ) → nat_le m n ≡ true → m ≤ n
+le_from m n test = grind (arith, nat_tests)
+
+-- another one runs from 1 MiB on, within 32 bits
+pub fixed_preferred : (file : List ℕ) (setup : Setup) → IsSetup file setup → setup.relocatable_kernel ≡ 0 → (0x100000 ≤ setup.pref_address) × (setup.pref_address < 2 ^ 32)
+fixed_preferred file setup is fixed =
+    let fields = fields_are file setup is in
+    let test = (last_checks file is.sound).1 in
+    let field : nat_eq (slice_index file 0x234) 0 ≡ true = subst (λ (n : ℕ). nat_eq n 0 ≡ true) (sym fixed ∙ fields.relocatable_kernel) refl in
+    let within = preferred_where _ (nat_le 0x100000 (u64_at file 0x258)) (nat_le (u64_at file 0x258) 0xFFFFFFFF) test field in
+    let above = le_from 0x100000 (u64_at file 0x258) within.0 in
+    let below = le_from (u64_at file 0x258) 0xFFFFFFFF within.1 in
+    let same = fields.pref_address in
+    (omega arith, omega arith)
+
+-- ---- they are rows
+
+kernel_row_is : (file : List ℕ) (setup : Setup) → IsSetup file setup → IsRow (linux_kernel_row setup)
+kernel_row_is file setup is =
+    let payload = (payload_is_tail file setup is).1 in
+    cond_both (nat_eq setup.relocatable_kernel 0) (fixed_row setup) (moved_row setup) IsRow
+    (λ _. record { filled = omega arith; choice = tt })
+    (λ moved. record { filled = omega arith; choice = some_alignment file setup is moved })
+
+frame_row_is : (role : Role) (high : ℕ) → IsRow (frame_row role high)
+frame_row_is role high = record { filled = omega arith; choice = omega arith }
+
+initrd_rows_are : (setup : Setup) (initrd : List ℕ) → All IsRow (initrd_rows setup initrd)
+initrd_rows_are setup [] = All-nil IsRow
+initrd_rows_are setup (byte ∷ bytes) =
+    let frames = some_frames (length (byte ∷ bytes)) (omega arith) in
+    All-cons IsRow _ [] (record { filled = omega arith; choice = omega arith }) (All-nil IsRow)
+
+-- what holds of each row of the table holds of all
+each_row : (P : Row → Type 0) (setup : Setup) (initrd : List ℕ) → P (linux_kernel_row setup) → P (frame_row BootParams most_size) → P (frame_row CommandLine line_limit) → P (frame_row Gdt most_size)
+    → All P (initrd_rows setup initrd) → All P (linux_rows setup initrd)
+each_row P setup initrd kernel params line gdt rest =
+    All-cons P (linux_kernel_row setup) (frame_row BootParams most_size ∷ frame_row CommandLine line_limit ∷ frame_row Gdt most_size ∷ initrd_rows setup initrd) kernel
+    (All-cons P (frame_row BootParams most_size) (frame_row CommandLine line_limit ∷ frame_row Gdt most_size ∷ initrd_rows setup initrd) params
+    (All-cons P (frame_row CommandLine line_limit) (frame_row Gdt most_size ∷ initrd_rows setup initrd) line
+    (All-cons P (frame_row Gdt most_size) (initrd_rows setup initrd) gdt rest)))
+
+-- the rows of a setup have some bytes and a choice
+pub linux_rows_are_rows : (file : List ℕ) (setup : Setup) (initrd : List ℕ) → IsSetup file setup → All IsRow (linux_rows setup initrd)
+linux_rows_are_rows file setup initrd is =
+    each_row IsRow setup initrd (kernel_row_is file setup is) (frame_row_is BootParams most_size) (frame_row_is CommandLine line_limit) (frame_row_is Gdt most_size) (initrd_rows_are setup initrd)
+
+-- ---- how many they are
+
+few_initrd_rows : (setup : Setup) (initrd : List ℕ) → length (initrd_rows setup initrd) ≤ 1
+few_initrd_rows setup [] = omega arith
+few_initrd_rows setup (byte ∷ bytes) = omega arith
+
+-- there are at most five rows, and as many places
+pub linux_few : (facts : MachineFacts) (setup : Setup) (initrd : List ℕ) (taken : List (Range ℕ)) (places : List Place) → ArePlaced facts taken (linux_rows setup initrd) places → length places ≤ 5
+linux_few facts setup initrd taken places placed =
+    let few = few_initrd_rows setup initrd in
+    let same = as_many facts taken (linux_rows setup initrd) places placed in
+    omega (arith, few, same)
+
+-- ---- each place has the length that its role and its index ask for
+
+kernel_role : (fixed : Bool) (setup : Setup) → (cond fixed (fixed_row setup) (moved_row setup)).role ≡ Kernel
+kernel_role true setup = refl
+kernel_role false setup = refl
+
+module _ (facts : MachineFacts) (value : EntryValue) (setup : Setup) where
+  kernel_row_rowed : Anywhere (IsRowed facts value (linux setup)) (linux_kernel_row setup)
+  kernel_row_rowed a =
+      let row = linux_kernel_row setup in
+      subst (λ (r : Role). HasLength facts value (linux setup) r row.index row.length) (sym (kernel_role (nat_eq setup.relocatable_kernel 0) setup)) refl
+
+  initrd_rows_rowed : (initrd : List ℕ) → initrd_file value.files ≡ initrd → All (Anywhere (IsRowed facts value (linux setup))) (initrd_rows setup initrd)
+  initrd_rows_rowed [] is = All-nil (Anywhere (IsRowed facts value (linux setup)))
+  initrd_rows_rowed (byte ∷ bytes) is =
+      All-cons (Anywhere (IsRowed facts value (linux setup))) _ []
+      (λ a. subst (λ (all : List ℕ). (1 ≤ length all) × (whole_frames (length (byte ∷ bytes)) ≡ whole_frames (length all))) (sym is) (omega arith, refl))
+      (All-nil (Anywhere (IsRowed facts value (linux setup))))
+
+  pub linux_rowed : (taken : List (Range ℕ)) (places : List Place) → ArePlaced facts taken (rows_of facts value (linux setup)) places → All (IsRowed facts value (linux setup)) places
+  linux_rowed taken places placed =
+      each_place facts (IsRowed facts value (linux setup)) taken (rows_of facts value (linux setup)) places
+      (each_row (Anywhere (IsRowed facts value (linux setup))) setup (initrd_file value.files) kernel_row_rowed (λ a. refl) (λ a. refl) (λ a. refl) (initrd_rows_rowed (initrd_file value.files) refl))
+      placed
+
+-- ---- they are those of records
+
+pub linux_records : (file : List ℕ) (facts : MachineFacts) (value : EntryValue) (setup : Setup) (places : List Place) → IsSetup file setup → ArePlaced facts [] (rows_of facts value (linux setup)) places → AreRecords (in_order places)
+linux_records file facts value setup places is placed =
+    let few = linux_few facts setup (initrd_file value.files) [] places placed in
+    records facts (rows_of facts value (linux setup)) places (linux_rows_are_rows file setup (initrd_file value.files) is) (omega (arith, few)) placed
+
+-- ---- none overlaps another: the first alone has a fixed place
+
+nothing_taken : (start end : ℕ) → AllOpen [] start end
+nothing_taken start end a low high = All-nil (λ (range : Range ℕ). ¬ IsIn range a)
+
+kernel_no_overlap : (facts : MachineFacts) (setup : Setup) → HasFault facts [] (linux_kernel_row setup).length (linux_kernel_row setup).choice Overlap → ⊥
+kernel_no_overlap facts setup =
+    cond_both (nat_eq setup.relocatable_kernel 0) (fixed_row setup) (moved_row setup) (λ row. HasFault facts [] row.length row.choice Overlap → ⊥)
+    (λ _ here. here.1 (nothing_taken high_start (high_start + (fixed_row setup).length)))
+    (λ _ here. here)
+
+initrd_no_overlap : (facts : MachineFacts) (taken : List (Range ℕ)) (setup : Setup) (initrd : List ℕ) → IsFirstFault facts taken (initrd_rows setup initrd) Overlap → ⊥
+initrd_no_overlap facts taken setup [] has = has
+initrd_no_overlap facts taken setup (byte ∷ bytes) (inl here) = here
+initrd_no_overlap facts taken setup (byte ∷ bytes) (inr later) = later.2
+
+rows_no_overlap : (facts : MachineFacts) (setup : Setup) (initrd : List ℕ) → IsFirstFault facts [] (linux_rows setup initrd) Overlap → ⊥
+rows_no_overlap facts setup initrd (inl here) = kernel_no_overlap facts setup here
+rows_no_overlap facts setup initrd (inr (a, _, inl here)) = here
+rows_no_overlap facts setup initrd (inr (a, _, inr (b, _, inl here))) = here
+rows_no_overlap facts setup initrd (inr (a, _, inr (b, _, inr (c, _, inl here)))) = here
+rows_no_overlap facts setup initrd (inr (a, _, inr (b, _, inr (c, _, inr (d, _, later))))) = initrd_no_overlap facts _ setup initrd later
+
+pub linux_no_overlap : (facts : MachineFacts) (value : EntryValue) (setup : Setup) → IsFirstFault facts [] (rows_of facts value (linux setup)) Overlap → ⊥
+linux_no_overlap facts value setup has = rows_no_overlap facts setup (initrd_file value.files) has

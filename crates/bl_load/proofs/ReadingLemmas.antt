@@ -1,0 +1,54 @@
+-- What the code needs of an entry's rows and places, by what was read of its kernel.
+use Rattle.std.proofs.Common.{ℕ, List, [], length, arith, All}
+use Rattle.std.proofs.lemmas.List.{length-map}
+use Rattle.bl_map.specs.MachineFacts.{MachineFacts}
+use Rattle.bl_plan.specs.Placed.{ArePlaced, IsPlacingFault, IsRow}
+use Rattle.bl_plan.specs.declared.fault.PlanFault.{PlanFault}
+use Rattle.bl_plan.specs.declared.fault.PlanFault.TheVariants.{NotUsable, Overlap, NoRoom, NoMemory}
+use Rattle.bl_plan.specs.declared.place.Place.{Place}
+use Rattle.bl_load.specs.declared.entry.Module.{Module}
+use Rattle.bl_load.specs.Kept.{lines_by}
+use Rattle.bl_load.specs.PlacingKept.{IsLow, IsRowed, ModulesEndLow, told_rows_by}
+use Rattle.bl_load.specs.Reading.{Reading, multiboot2, linux, IsRead}
+use Rattle.bl_load.specs.Rows.{rows_of}
+use Rattle.bl_load.specs.ReadKept.{HasFiles, FitsTold, CanEnter}
+use Rattle.bl_load.specs.Value.{EntryValue, kernel_file, initrd_file}
+use Rattle.bl_load.proofs.EntryLemmas.{entry_small}
+use Rattle.bl_load.proofs.LinuxToldLemmas.{linux_as_placed, linux_as_fault, initrd_fits, told_linux_rows_are}
+use Rattle.bl_load.proofs.ModuleLemmas.{as_placed, placing_fault, modules_end_low}
+use Rattle.bl_load.proofs.RowLemmas.{told_rows_are_rows}
+
+module _ (facts : MachineFacts) (value : EntryValue) where
+  -- the rows as the code tells them are rows
+  pub told_are_rows : (reading : Reading) (modules : ℕ) → IsRead facts value reading → HasFiles value.files modules reading → All IsRow (told_rows_by facts value reading)
+  told_are_rows (multiboot2 kernel) modules is has = told_rows_are_rows (kernel_file value) facts value kernel has.1
+  told_are_rows (linux setup) modules is has = told_linux_rows_are (kernel_file value) setup (initrd_file value.files) is.1.is_setup
+
+  -- their places are those of the entry's rows
+  pub told_placed : (reading : Reading) (places : List Place) → ArePlaced facts [] (told_rows_by facts value reading) places → ArePlaced facts [] (rows_of facts value reading) places
+  told_placed (multiboot2 kernel) places placed = as_placed facts value kernel places placed
+  told_placed (linux setup) places placed = linux_as_placed facts setup (initrd_file value.files) places placed
+
+  -- and so is their fault
+  pub told_fault : (reading : Reading) (fault : PlanFault) → IsPlacingFault facts (told_rows_by facts value reading) fault → IsPlacingFault facts (rows_of facts value reading) fault
+  told_fault (multiboot2 kernel) fault has = placing_fault facts value kernel fault has
+  told_fault (linux setup) NotUsable has = linux_as_fault facts setup NotUsable (initrd_file value.files) has
+  told_fault (linux setup) Overlap has = linux_as_fault facts setup Overlap (initrd_file value.files) has
+  told_fault (linux setup) NoRoom has = linux_as_fault facts setup NoRoom (initrd_file value.files) has
+  told_fault (linux setup) NoMemory has = tt
+
+  -- what is told of the parts fits 32 bits
+  pub fits_told : (reading : Reading) (places : List Place) → ArePlaced facts [] (rows_of facts value reading) places → All (IsRowed facts value reading) places → All IsLow places → FitsTold value reading places
+  fits_told (multiboot2 kernel) places placed rowed low = modules_end_low facts value kernel places placed rowed low
+  fits_told (linux setup) places placed rowed low = initrd_fits facts setup (initrd_file value.files) places placed low
+
+  -- and so does the entry
+  pub can_enter : (reading : Reading) (modules : ℕ) (places : List Place) → IsRead facts value reading → HasFiles value.files modules reading → ArePlaced facts [] (rows_of facts value reading) places → All IsLow places → CanEnter reading places
+  can_enter (multiboot2 kernel) modules places is has placed low = entry_small (kernel_file value) facts value kernel places is.1 has.1 placed low
+  can_enter (linux setup) modules places is has placed low = tt
+
+-- there are as many lines as modules
+pub modules_fit : {A : Type 0} (modules : List (Module A)) (texts : List (List ℕ)) (places : List Place) → ModulesEndLow texts places (length (lines_by modules)) → ModulesEndLow texts places (length modules)
+modules_fit {A = A} modules texts places ends =
+    let count = length-map modules (λ (m : Module A). m.line) in
+    λ k within. ends k (omega (arith, count, within))

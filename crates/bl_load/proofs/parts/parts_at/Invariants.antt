@@ -1,0 +1,18 @@
+use Rattle.std.proofs.Common.{◌≡◌, take, map, All}
+use Rattle.bl_load.specs.Parts.{part_from}
+use Rattle.bl_load.specs.Place.{place_of}
+use Rattle.bl_load.specs.PlanFacts.{part_by}
+use Rattle.bl_load.specs.Kept.{lengths_of, IsBacked, IsLean}
+use Rattle.bl_load.specs.SourceKept.{reading_in, texts_in, value_in}
+use Rattle.bl_load.proofs.parts.parts_at.Given as goal
+
+-- the parts so far are those at the places so far
+abbrev pub invariant-loop-place : goal.invariant-loop-place
+invariant-loop-place g l =
+    let texts = texts_in l.source in
+    record {
+      parts : map (part_by texts) l.parts.items ≡ map (part_from l.source.machine.now (value_in l.source) (reading_in l.source) l.places) (take l.place-index l.sorted);
+      backed : All (IsBacked (lengths_of texts)) l.parts.items;
+      lean : IsLean l.parts.items;
+      places : map place_of l.parts.items ≡ take l.place-index l.sorted;
+    }

@@ -1,0 +1,83 @@
+-- The table of places of a Linux entry's parts (Linux/x86 Boot Protocol: "kernel_alignment", "pref_address", "init_size",
+-- "initrd_addr_max"; what the text leaves open is own), and what the kernel is told of them.
+use Rattle.std.specs.Prelude.{ℕ, ◌+◌, ◌-◌, max, if◌then◌else◌, ◌==◌, List, [], ◌∷◌, length}
+use Rattle.bl_map.specs.MachineFacts.{MachineFacts}
+use Rattle.bl_map.specs.Limits.{frame_size, first_usable, most_size}
+use Rattle.bl_map.specs.Room.{whole_frames}
+use Rattle.bl_bzimage.specs.declared.setup.Setup.{Setup}
+use Rattle.bl_params.specs.BootParamsFacts.{BootParamsFacts}
+use Rattle.bl_plan.specs.declared.row.Row.{Row}
+use Rattle.bl_plan.specs.declared.place.Place.{Place}
+use Rattle.bl_plan.specs.declared.role.Role.{Role}
+use Rattle.bl_plan.specs.declared.role.Role.TheVariants.{Kernel, BootParams, CommandLine, Gdt, Initrd}
+use Rattle.bl_plan.specs.declared.choice.Choice.TheVariants.{Fixed, Lowest, Highest}
+use Rattle.bl_load.specs.Addresses.{address_of}
+use Rattle.bl_load.specs.Value.{EntryValue, initrd_file}
+
+-- a kernel that is loaded high lies from here on ("loadflags", LOADED_HIGH)
+abbrev pub high_start : ℕ
+high_start = 0x100000
+
+-- a relocatable kernel that is loaded below "pref_address" moves itself up to it, so it is not placed below; it needs
+-- "init_size" bytes where it lies
+abbrev pub moved_row : Setup → Row
+moved_row setup = record {
+  role = Kernel;
+  index = 0;
+  length = max setup.payload_size setup.init_size;
+  choice = Lowest setup.kernel_alignment (max high_start setup.pref_address) most_size;
+}
+
+-- another one lies at 1 MiB, and needs "init_size" bytes from "pref_address" on
+abbrev pub fixed_row : Setup → Row
+fixed_row setup = record {
+  role = Kernel;
+  index = 0;
+  length = max (high_start + setup.payload_size) (setup.pref_address + setup.init_size) - high_start;
+  choice = Fixed high_start;
+}
+
+abbrev pub linux_kernel_row : Setup → Row
+linux_kernel_row setup = if setup.relocatable_kernel == 0 then fixed_row setup else moved_row setup
+
+-- a part of one frame, at the lowest place below a limit
+abbrev pub frame_row : Role → ℕ → Row
+frame_row role high = record {
+  role = role;
+  index = 0;
+  length = frame_size;
+  choice = Lowest frame_size first_usable high;
+}
+
+-- the line lies below 0xA0000 ("cmd_line_ptr")
+abbrev pub line_limit : ℕ
+line_limit = 0xA0000
+
+-- the initrd, in whole frames, at the highest place of which no byte lies above "initrd_addr_max"; an empty one is no part
+abbrev pub initrd_rows : Setup → List ℕ → List Row
+initrd_rows setup [] = []
+initrd_rows setup (byte ∷ bytes) = record {
+  role = Initrd;
+  index = 0;
+  length = whole_frames (length (byte ∷ bytes));
+  choice = Highest frame_size first_usable (setup.initrd_addr_max + 1);
+} ∷ []
+
+-- the rows of a Linux entry whose initial ramdisk has these bytes
+abbrev pub linux_rows : Setup → List ℕ → List Row
+linux_rows setup initrd =
+    linux_kernel_row setup
+    ∷ frame_row BootParams most_size
+    ∷ frame_row CommandLine line_limit
+    ∷ frame_row Gdt most_size
+    ∷ initrd_rows setup initrd
+
+-- what boot parameters tell, where the parts have these places: without an initrd its address and its length are 0
+abbrev pub told_of : MachineFacts → EntryValue → List Place → BootParamsFacts
+told_of facts value places = record {
+  code32_start = address_of Kernel 0 places;
+  ramdisk_image = address_of Initrd 0 places;
+  ramdisk_size = length (initrd_file value.files);
+  cmd_line_ptr = address_of CommandLine 0 places;
+  runs = facts.runs;
+}

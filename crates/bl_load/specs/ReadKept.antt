@@ -1,0 +1,52 @@
+-- What the code keeps of what was read of an entry's kernel.
+use Rattle.std.specs.Prelude.{◌≡◌, ◌+◌, ◌<◌, ◌≤◌, ◌^◌, ℕ, List, length}
+use Rattle.bl_map.specs.declared.region.Region.{Region}
+use Rattle.bl_plan.specs.declared.place.Place.{Place}
+use Rattle.bl_plan.specs.declared.protocol.Protocol.{Protocol}
+use Rattle.bl_plan.specs.declared.protocol.Protocol.TheVariants as protocol
+use Rattle.bl_plan.specs.declared.role.Role.TheVariants as role
+use Rattle.bl_load.specs.declared.kernel_file.KernelFile.{KernelFile}
+use Rattle.bl_load.specs.declared.kernel_file.KernelFile.TheVariants.{Multiboot2, Linux}
+use Rattle.bl_load.specs.declared.refusal.PrepFault.{PrepFault}
+use Rattle.bl_load.specs.declared.refusal.PrepFault.TheVariants as prep_fault
+use Rattle.bl_load.specs.Addresses.{address_of}
+use Rattle.bl_load.specs.Blocks.{low_of}
+use Rattle.bl_load.specs.KernelKept.{AreLoadable, kernel_by}
+use Rattle.bl_load.specs.Linux.{HasLinuxFault}
+use Rattle.bl_load.specs.Parts.{entry_at}
+use Rattle.bl_load.specs.PlacingKept.{ModulesEndLow}
+use Rattle.bl_load.specs.PlanFacts.{file_text}
+use Rattle.bl_load.specs.Reading.{Reading, multiboot2, linux}
+use Rattle.bl_load.specs.Value.{EntryValue, initrd_file}
+
+-- what was read of a kernel's file
+abbrev pub reading_by : {A : Type 0} → KernelFile A → Reading
+reading_by (Multiboot2 kernel) = multiboot2 (kernel_by kernel)
+reading_by (Linux setup) = linux setup
+
+abbrev pub protocol_by : Reading → Protocol
+protocol_by (multiboot2 kernel) = protocol.Multiboot2
+protocol_by (linux setup) = protocol.Linux
+
+-- there are files for what was read, and so many modules; a Multiboot2 kernel's segments can be loaded
+abbrev pub HasFiles : List (List ℕ) → ℕ → Reading → Type 0
+HasFiles texts modules (multiboot2 kernel) = (length texts ≡ 1 + modules) × AreLoadable (file_text texts 0) kernel.segments
+HasFiles texts modules (linux setup) = 1 ≤ length texts
+
+-- what is told of the parts fits 32 bits
+abbrev pub FitsTold : EntryValue → Reading → List Place → Type 0
+FitsTold value (multiboot2 kernel) places = ModulesEndLow value.files places (length value.module_lines)
+FitsTold value (linux setup) places = length (initrd_file value.files) < 2 ^ 32
+
+-- where the kernel is entered fits 32 bits, and is reckoned without wrapping
+abbrev pub CanEnter : Reading → List Place → Type 0
+CanEnter (multiboot2 kernel) places =
+    (low_of kernel.segments ≤ kernel.entry)
+    × (kernel.entry + address_of role.Kernel 0 places < 2 ^ 64)
+    × (entry_at kernel.entry kernel.segments kernel.relocation (address_of role.Kernel 0 places) < 2 ^ 32)
+CanEnter (linux setup) places = Unit {0}
+
+-- a Linux kernel's fault as one of preparing: it stands, or memory ran out
+abbrev pub IsLinuxFault : List Region → List ℕ → List ℕ → PrepFault → Type 0
+IsLinuxFault runs line file (prep_fault.Refused refused) = HasLinuxFault runs line file refused
+IsLinuxFault runs line file prep_fault.NoMemory = Unit {0}

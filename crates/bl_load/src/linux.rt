@@ -1,0 +1,63 @@
+//! A Linux kernel's file.
+ghost use Rattle.std.specs.Prelude.{◌≡◌, Some, None, IfOk, IfErr, MatchResult};
+ghost use Rattle.bl_load.specs.Linux as linux;
+ghost use Rattle.bl_load.specs.Linux.{IsLinuxKernel, telling_fault};
+ghost use Rattle.bl_load.specs.ReadKept.{IsLinuxFault};
+ghost use Rattle.bl_load.specs.declared.refusal.PrepFault.TheVariants.{Refused};
+
+use crate::refusal::{PrepFault, Refusal};
+use bl_bzimage::{Setup, SetupFault, read_setup};
+use bl_map::Region;
+use bl_mem::ByteView;
+
+/// How many runs of the memory map boot parameters have room for ("Zero Page", `e820_table`).
+const MOST_RUNS: usize = 128;
+
+/// A setup's fault as a refusal.
+fn setup_refusal(fault: SetupFault) -> Refusal
+    ensures { result ≡ linux.setup_refusal fault }
+{
+    match fault {
+        SetupFault::NotBzImage => Refusal::NotBzImage,
+        SetupFault::OldProtocol => Refusal::OldProtocol,
+        SetupFault::NotHigh => Refusal::NotHigh,
+        SetupFault::SetupCut => Refusal::SetupCut,
+        SetupFault::BadAlign => Refusal::BadAlign,
+        SetupFault::BadPreferred => Refusal::BadPreferred,
+    }
+}
+
+impl From<SetupFault> for PrepFault {
+    ghost from_gives = { λ fault prep. prep ≡ Refused (linux.setup_refusal fault) };
+
+    fn from(fault: SetupFault) -> PrepFault {
+        PrepFault::Refused(setup_refusal(fault))
+    }
+}
+
+/// Checks what a kernel is told: first that `cmdline_size` allows the line, then that boot
+/// parameters have room for the memory map.
+fn check_told(setup: &Setup, line: &[u8], runs: &[Region]) -> Result<(), Refusal>
+    ensures { MatchResult result
+        (λ _. telling_fault runs.now line.now setup.now ≡ None)
+        (λ refusal. telling_fault runs.now line.now setup.now ≡ Some refusal) }
+{
+    if line.len() > setup.cmdline_size as usize {
+        return Err(Refusal::LineTooLong);
+    }
+    if runs.len() > MOST_RUNS {
+        return Err(Refusal::MapTooLong);
+    }
+    Ok(())
+}
+
+/// What is read of a Linux kernel's file, which is told this line and this memory map, or the first
+/// fault.
+pub fn read_linux<V: ByteView>(file: &V, line: &[u8], runs: &[Region]) -> Result<Setup, PrepFault>
+    ensures kernel { IfOk result (IsLinuxKernel runs.now line.now (V.bytes file.now)) }
+    ensures fault { IfErr result (IsLinuxFault runs.now line.now (V.bytes file.now)) }
+{
+    let setup = read_setup(file)?;
+    check_told(&setup, line, runs)?;
+    Ok(setup)
+}

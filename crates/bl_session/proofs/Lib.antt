@@ -1,0 +1,7 @@
+pub mod EndLaws
+pub mod BootLaws
+pub mod GatherLemmas
+pub mod OutcomeLaws
+pub mod StageLemmas
+pub mod AfterLemmas
+pub mod FinishLemmas

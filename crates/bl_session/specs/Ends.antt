@@ -1,0 +1,75 @@
+-- What an attempt to boot an entry ends in: the entry is handed over, or refused. Own.
+use Rattle.std.specs.Prelude.{◌≡◌, ◌⊎◌, ℕ, ◌+◌, List, [], ◌∷◌, map, Option, Some, None, option_map, unwrap_or, if◌then◌else◌, nat_lt}
+use Rattle.std.specs.Option.{option_or}
+use Rattle.std.specs.declared.ops.Range.{Range}
+use Rattle.bl_map.specs.MachineFacts.{MachineFacts}
+use Rattle.bl_map.specs.Room.{frames_in, HasRoomFor}
+use Rattle.bl_stage.specs.Staged.{frames_for}
+use Rattle.bl_load.specs.declared.refusal.Refusal.{Refusal}
+use Rattle.bl_load.specs.declared.refusal.Refusal.TheVariants.{NoFile, FileFault, FileTooLong, NoPool}
+use Rattle.bl_load.specs.Value.{EntryValue}
+use Rattle.bl_load.specs.Handover.{Part, Handover, end_of}
+use Rattle.bl_load.specs.Parts.{IsHandover, IsRefusal}
+
+pub data End : Type 0 where
+  handed : Handover → End
+  refused : Refusal → End
+
+-- ---- before any piece comes: by the sizes of the entry's files, in order, the kernel's first; None is a missing file
+
+-- a file has at most so many bytes
+abbrev pub most_bytes : ℕ
+most_bytes = 0x40000000
+
+-- the first file that is missing or has too many bytes, from this place on
+abbrev pub file_refusal : ℕ → List (Option ℕ) → Option Refusal
+file_refusal place [] = None
+file_refusal place (None ∷ sizes) = Some (NoFile place)
+file_refusal place (Some size ∷ sizes) =
+    if nat_lt most_bytes size then Some (FileTooLong place) else file_refusal (place + 1) sizes
+
+abbrev pub lengths_of : List (Option ℕ) → List ℕ
+lengths_of sizes = map (λ size. unwrap_or size 0) sizes
+
+-- files of these lengths, each in frames of its own, need more frames than the pool has
+abbrev pub pool_refusal : MachineFacts → List ℕ → Option Refusal
+pool_refusal facts lengths =
+    if nat_lt (frames_in facts.pool) (frames_for lengths) then Some NoPool else None
+
+-- what the sizes refuse an entry for: a file, and else the pool
+abbrev pub size_refusal : MachineFacts → List (Option ℕ) → Option Refusal
+size_refusal facts sizes = option_or (file_refusal 0 sizes) (pool_refusal facts (lengths_of sizes))
+
+-- ---- once each file is whole: by the entry's value
+
+abbrev pub range_of : Part → Range ℕ
+range_of part = record { start = part.address; end = end_of part }
+
+-- beside the parts the pool has frames enough for the files, each file in frames of its own
+abbrev pub HasRoomBeside : MachineFacts → EntryValue → Handover → Type 0
+HasRoomBeside facts value handover = HasRoomFor facts.pool (map range_of handover.parts) value.files
+
+-- the entry could be handed over, but there is no room beside its parts
+pub record LacksRoom (facts : MachineFacts) (value : EntryValue) : Type 0 where
+  pub handover : Handover
+  pub is : IsHandover facts value handover
+  pub lacking : ¬ HasRoomBeside facts value handover
+
+abbrev pub EndsIn : MachineFacts → EntryValue → End → Type 0
+EndsIn facts value (handed handover) =
+    IsHandover facts value handover × HasRoomBeside facts value handover
+EndsIn facts value (refused refusal) =
+    IsRefusal facts value refusal ⊎ (LacksRoom facts value × (refusal ≡ NoPool))
+
+-- ---- a whole attempt
+
+-- a check that refuses, or what comes behind it
+abbrev pub Else : Option Refusal → (End → Type 0) → End → Type 0
+Else None rest end = rest end
+Else (Some refusal) rest end = end ≡ refused refusal
+
+-- what an attempt ends in: with these sizes of its files, the place of a file of which a fault came, or None, and this
+-- value of its entry
+abbrev pub Ends : MachineFacts → List (Option ℕ) → Option ℕ → EntryValue → End → Type 0
+Ends facts sizes faulty value =
+    Else (size_refusal facts sizes) (Else (option_map FileFault faulty) (EndsIn facts value))

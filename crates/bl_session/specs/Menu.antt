@@ -1,0 +1,29 @@
+-- A menu as contracts see it. Own.
+use Rattle.std.specs.Prelude.{ℕ, List, [], ◌∷◌, map, slice_index_or, option_to_list}
+use Rattle.bl_load.specs.declared.entry.Entry.{Entry}
+use Rattle.bl_load.specs.declared.entry.Entry.TheVariants.{Multiboot2, Linux}
+use Rattle.bl_load.specs.Value.{EntryValue, value_of, multiboot2_value}
+
+-- an entry: its files by their index, the kernel's first, and its value once these hold given texts
+pub record EntryFacts : Type 0 where
+  pub files : List ℕ
+  pub value : List (List ℕ) → EntryValue
+
+abbrev pub files_of : {A : Type 0} → Entry A → List ℕ
+files_of (Multiboot2 kernel line modules) = kernel ∷ map (λ m. m.file) modules.items
+files_of (Linux kernel line initrd) = kernel ∷ option_to_list initrd
+
+abbrev pub facts_of : {A : Type 0} → Entry A → EntryFacts
+facts_of entry = record { files = files_of entry; value = λ texts. value_of texts entry }
+
+-- a menu: its entries, and the indices of those that are attempted, in order
+pub record MenuFacts : Type 0 where
+  pub entries : List EntryFacts
+  pub attempts : List ℕ
+
+-- what is read behind the last entry
+abbrev pub no_entry : EntryFacts
+no_entry = record { files = []; value = λ texts. multiboot2_value texts [] [] }
+
+abbrev pub entry_at : MenuFacts → ℕ → EntryFacts
+entry_at menu entry = slice_index_or menu.entries entry no_entry

@@ -1,0 +1,92 @@
+-- What a boot comes to: the first entry that is not refused, for every schedule that is genuine. Own.
+use Rattle.std.specs.Prelude.{◌≡◌, ℕ, ◌+◌, true, List, [], ◌∷◌, length, map, slice_index_or, Option, None, Some, if◌then◌else◌}
+use Rattle.bl_load.specs.Value.{EntryValue}
+use Rattle.bl_stage.specs.Spots.{Spot, piece_of}
+use Rattle.bl_session.specs.declared.words.RefusedEntry.{RefusedEntry}
+use Rattle.bl_session.specs.Ends.{End, Ends, most_bytes}
+use Rattle.bl_session.specs.Menu.{entry_at}
+use Rattle.bl_session.specs.Pieces.{are_whole, with_piece}
+use Rattle.bl_session.specs.Boot.{BootFacts, EventFacts, piece, fault, State, unstarted, running, handed_over, none_left, out_of_memory, sizes_of, fresh, GoesOn, is_wanted, Steps}
+
+-- ---- the files of a menu
+
+-- a file is missing, has more than the most bytes, by one and so many, or has these bytes
+pub data File : Type 0 where
+  missing : File
+  too_long : (over : ℕ) → File
+  whole : (bytes : List ℕ) → File
+
+abbrev pub size_of : File → Option ℕ
+size_of missing = None
+size_of (too_long over) = Some (most_bytes + 1 + over)
+size_of (whole bytes) = Some (length bytes)
+
+abbrev pub text_of : File → List ℕ
+text_of missing = []
+text_of (too_long over) = []
+text_of (whole bytes) = bytes
+
+-- what an entry's files hold
+abbrev pub texts_of : BootFacts → List File → ℕ → List (List ℕ)
+texts_of facts files entry =
+    map (λ file. text_of (slice_index_or files file missing)) (entry_at facts.menu entry).files
+
+-- an entry's value
+abbrev pub value_in : BootFacts → List File → ℕ → EntryValue
+value_in facts files entry = (entry_at facts.menu entry).value (texts_of facts files entry)
+
+-- ---- schedules; faults has for each attempt, by its number, the place of the file of which a fault comes, or None
+
+-- a piece holds its file's bytes at its place, and completes its attempt only if no fault comes of it; a fault is the one
+-- that comes
+abbrev pub IsTrueOf : BootFacts → List File → (faults : ℕ → Option ℕ) → ℕ → List RefusedEntry → List (List Spot) → EventFacts → Type 0
+IsTrueOf facts files faults entry earlier spots (piece ticket bytes) =
+    (bytes ≡ piece_of (slice_index_or (texts_of facts files entry) ticket.file []) ticket.piece)
+    × (are_whole (with_piece spots ticket.file ticket.piece bytes) ≡ true → faults (length earlier) ≡ None)
+IsTrueOf facts files faults entry earlier spots (fault ticket) = faults (length earlier) ≡ Some ticket.file
+
+-- an event that is not wanted may be anything
+abbrev pub IsGenuineAt : BootFacts → List File → (faults : ℕ → Option ℕ) → State → EventFacts → Type 0
+IsGenuineAt facts files faults (running entry rest earlier spots) event =
+    is_wanted earlier spots event ≡ true → IsTrueOf facts files faults entry earlier spots event
+IsGenuineAt facts files faults unstarted event = Unit {0}
+IsGenuineAt facts files faults (handed_over entry earlier handover) event = Unit {0}
+IsGenuineAt facts files faults (none_left earlier) event = Unit {0}
+IsGenuineAt facts files faults out_of_memory event = Unit {0}
+
+-- each event is so where it comes
+abbrev pub IsGenuine : BootFacts → List File → (faults : ℕ → Option ℕ) → State → List EventFacts → Type 0
+IsGenuine facts files faults state [] = Unit {0}
+IsGenuine facts files faults state (event ∷ events) =
+    IsGenuineAt facts files faults state event
+    × ((next : State) → Steps facts state event next → IsGenuine facts files faults next events)
+
+-- ---- the outcome
+
+-- the file of which a fault comes, if the files have pieces; those without pieces are whole as the attempt begins
+abbrev pub faulty_in : BootFacts → ℕ → Option ℕ → Option ℕ
+faulty_in facts entry faulty = if are_whole (fresh facts entry) then None else faulty
+
+-- what the attempt of an entry ends in
+abbrev pub EntryEnds : BootFacts → List File → Option ℕ → ℕ → End → Type 0
+EntryEnds facts files faulty entry =
+    Ends facts.machine (sizes_of facts entry) (faulty_in facts entry faulty) (value_in facts files entry)
+
+-- the first of these entries that is not refused is handed over, with the refusals before it; or none is left
+abbrev pub IsFirst : BootFacts → List File → (faults : ℕ → Option ℕ) → List ℕ → List RefusedEntry → State → Type 0
+IsFirst facts files faults [] earlier state = state ≡ none_left earlier
+IsFirst facts files faults (entry ∷ rest) earlier state =
+    (end : End) × EntryEnds facts files (faults (length earlier)) entry end
+    × GoesOn (IsFirst facts files faults rest) entry earlier end state
+
+-- the outcome of a boot with these files and faults
+abbrev pub IsOutcome : BootFacts → List File → (faults : ℕ → Option ℕ) → State → Type 0
+IsOutcome facts files faults state = IsFirst facts files faults facts.menu.attempts [] state
+
+-- an entry was handed over, or none is left
+abbrev pub HasEnded : State → Type 0
+HasEnded unstarted = ⊥
+HasEnded (running entry rest earlier files) = ⊥
+HasEnded (handed_over entry earlier handover) = Unit {0}
+HasEnded (none_left earlier) = Unit {0}
+HasEnded out_of_memory = ⊥

@@ -1,0 +1,75 @@
+//! Laws of the definitions.
+ghost use Rattle.std.specs.Prelude.{◌≡◌, ℕ, List, [], Option, map};
+ghost use Rattle.bl_map.specs.MachineFacts.{MachineFacts};
+ghost use Rattle.bl_load.specs.Value.{EntryValue};
+ghost use Rattle.bl_session.specs.Ends.{End, Ends, EndsIn};
+ghost use Rattle.bl_session.specs.Boot.{BootFacts, EventFacts, State, Starts, Steps};
+ghost use Rattle.bl_session.specs.Boot.{Begins, LeadsTo, handed_over};
+ghost use Rattle.bl_session.specs.Outcome.{File, size_of, value_in, IsGenuine, IsOutcome};
+ghost use Rattle.bl_session.specs.Outcome.{HasEnded};
+ghost use Rattle.bl_session.specs.declared.words.RefusedEntry.{RefusedEntry};
+ghost use Rattle.bl_load.specs.Handover.{Handover};
+ghost use Rattle.bl_load.specs.Parts.{IsHandover};
+
+/// An attempt has at most one end: it is handed over, or refused, by the machine's facts, the
+/// files' sizes, a fault that came or none, and the entry's value. Nothing else decides.
+pub fn ends_are_determined()
+    ensures whole { (facts : MachineFacts) (value : EntryValue) (e f : End)
+        → EndsIn facts value e → EndsIn facts value f → e ≡ f }
+    ensures attempt { (facts : MachineFacts) (sizes : List (Option ℕ)) (faulty : Option ℕ)
+        (value : EntryValue) (e f : End)
+        → Ends facts sizes faulty value e → Ends facts sizes faulty value f → e ≡ f }
+{}
+
+/// An attempt has an end, so by the law above exactly one.
+pub fn each_attempt_ends()
+    ensures whole { (facts : MachineFacts) (value : EntryValue) → (end : End) × EndsIn facts value end }
+    ensures attempt { (facts : MachineFacts) (sizes : List (Option ℕ)) (faulty : Option ℕ)
+        (value : EntryValue) → (end : End) × Ends facts sizes faulty value end }
+{}
+
+/// From each state the start and each event lead to at most one state, apart from want of memory.
+pub fn steps_are_determined()
+    ensures start { (facts : BootFacts) (old a b : State)
+        → Starts facts old a → Starts facts old b → a ≡ b }
+    ensures event { (facts : BootFacts) (old : State) (event : EventFacts) (a b : State)
+        → Steps facts old event a → Steps facts old event b → a ≡ b }
+{}
+
+/// From each state the start and each event lead on, so by the law above to exactly one state.
+pub fn each_step_leads_on()
+    ensures start { (facts : BootFacts) (old : State) → (new : State) × Starts facts old new }
+    ensures event { (facts : BootFacts) (old : State) (event : EventFacts)
+        → (new : State) × Steps facts old event new }
+{}
+
+/// Each schedule that is genuine for these files and faults and ends a boot ends it with the first
+/// entry that is not refused, and with the refusals before it, in whatever order its pieces come,
+/// with whatever events beside them that are not wanted: repeated pieces, strange ones, and late
+/// ones of refused attempts. Where each entry is refused, it ends with all refusals.
+pub fn first_entry_not_refused()
+    ensures exact { (facts : BootFacts) (files : List File) (faults : ℕ → Option ℕ)
+        (events : List EventFacts) (begun end : State) → facts.sizes ≡ map size_of files
+        → Begins facts facts.menu.attempts [] begun
+        → IsGenuine facts files faults begun events
+        → LeadsTo facts begun events end → HasEnded end
+        → IsOutcome facts files faults end }
+    ensures one { (facts : BootFacts) (files : List File) (faults : ℕ → Option ℕ) (a b : State)
+        → IsOutcome facts files faults a → IsOutcome facts files faults b → a ≡ b }
+{}
+
+/// Two boots on machines of equal facts that hand over entries of equal values hand over the same.
+/// Everything else may differ: memory, the order of pieces, the menus with their other entries, the
+/// files' indices, and what was refused before.
+pub fn two_boots()
+    ensures handover { (facts : BootFacts) (files : List File) (faults : ℕ → Option ℕ)
+        (entry : ℕ) (earlier : List RefusedEntry) (h : Handover)
+        → IsOutcome facts files faults (handed_over entry earlier h)
+        → IsHandover facts.machine (value_in facts files entry) h }
+    ensures same { (facts other : BootFacts) (files those : List File) (faults fails : ℕ → Option ℕ)
+        (entry index : ℕ) (earlier before : List RefusedEntry) (h k : Handover)
+        → facts.machine ≡ other.machine
+        → value_in facts files entry ≡ value_in other those index
+        → IsOutcome facts files faults (handed_over entry earlier h)
+        → IsOutcome other those fails (handed_over index before k) → h ≡ k }
+{}

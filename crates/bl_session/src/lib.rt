@@ -1,0 +1,13 @@
+//! The boot of a menu's first entry that is not refused.
+#![tactic(auto)]
+
+mod finishing;
+mod laws;
+mod words;
+
+pub use finishing::finish;
+pub use laws::{
+    each_attempt_ends, each_step_leads_on, ends_are_determined, first_entry_not_refused,
+    steps_are_determined, two_boots,
+};
+pub use words::{BootFault, Event, Outcome, Progress, RefusedEntry, Ticket};

@@ -1,0 +1,15 @@
+-- The modules, one more after those that are there.
+use Rattle.std.proofs.Common.{◌≡◌, ◌-◌, ℕ, suc, List, [], ◌∷◌, ◌++◌, get_or, length, ◌<◌, None, Some, arith}
+use Rattle.std.specs.List.{Contains}
+use Rattle.bl_mbi.specs.InformationFacts.{ModuleInfo}
+use Rattle.bl_load.specs.Handover.{Part}
+use Rattle.bl_walk.specs.SeenFacts.{SeenModuleFacts}
+use Rattle.bl_walk.specs.Inside.{bytes_in}
+use Rattle.bl_walk.specs.Seen.{IsSeenModule, AreSeenModules}
+
+pub one_more : (parts : List Part) (ms : List ModuleInfo) (ss : List SeenModuleFacts) (m : ModuleInfo) (s : SeenModuleFacts)
+    → AreSeenModules parts ms ss → IsSeenModule parts m s → AreSeenModules parts (ms ++ m ∷ []) (ss ++ s ∷ [])
+one_more parts [] [] m s are is = (is, tt)
+one_more parts [] (t ∷ ss) m s are is = absurd are
+one_more parts (n ∷ ms) [] m s are is = absurd are
+one_more parts (n ∷ ms) (t ∷ ss) m s are is = (are.0, one_more parts ms ss m s are.1 is)

@@ -1,0 +1,13 @@
+use Rattle.std.proofs.Common.{rules}
+use Rattle.bl_walk.specs.Seen.{HasTotalSize}
+use Rattle.bl_walk.specs.Faults.{fixed_part, short_information}
+use Rattle.bl_walk.proofs.information.total_size.Goals as goal
+
+pub follow-requires : goal.follow-requires
+follow-requires g c = rw c.registers.ensures (fixed_part c.requires)
+
+pub returns-then-size-lt-LEAST_SIZE-clause-fault :
+    goal.returns-then-size-lt-LEAST_SIZE-clause-fault
+returns-then-size-lt-LEAST_SIZE-clause-fault g c =
+    let is : HasTotalSize c.args.image.now c.u32_at-size.result = search rules in
+    short_information c.u32_at-size.result is c.if-size-lt-LEAST_SIZE.true

@@ -1,0 +1,26 @@
+-- What the code keeps as it looks for a part, and the faults of others as it answers them.
+use Rattle.std.specs.Prelude.{ℕ, nat_le, Bool}
+use Rattle.bl_mbi.specs.declared.fault.InfoFault.{InfoFault}
+use Rattle.bl_mbi.specs.declared.fault.InfoFault.TheVariants as info_fault
+use Rattle.bl_params.specs.declared.fault.ParamFault.{ParamFault}
+use Rattle.bl_params.specs.declared.fault.ParamFault.TheVariants as param_fault
+use Rattle.bl_load.specs.Handover.{Part}
+use Rattle.bl_walk.specs.declared.fault.WalkFault.{WalkFault}
+use Rattle.bl_walk.specs.declared.fault.WalkFault.TheVariants.{BadInfo, NoMemory}
+
+-- whether a part begins at an address or below it
+abbrev pub begins_upto : ℕ → Part → Bool
+begins_upto address part = nat_le part.address address
+
+-- how a fault of the information, or of the boot parameters, is answered
+abbrev pub information_refusal : InfoFault → WalkFault
+information_refusal info_fault.WrongLength = BadInfo
+information_refusal info_fault.BadReserved = BadInfo
+information_refusal (info_fault.BadTag at) = BadInfo
+information_refusal (info_fault.BadOrder at) = BadInfo
+information_refusal info_fault.NoMemory = NoMemory
+
+abbrev pub parameters_refusal : ParamFault → WalkFault
+parameters_refusal param_fault.WrongLength = BadInfo
+parameters_refusal (param_fault.BadParams at) = BadInfo
+parameters_refusal param_fault.NoMemory = NoMemory

@@ -1,0 +1,70 @@
+//! What boot information shows a Multiboot2 kernel.
+ghost use Rattle.std.specs.Prelude.{◌≡◌, ◌-◌, ◌≤◌, IfOk, IfErr};
+ghost use Rattle.bl_plan.specs.declared.protocol.Protocol.TheVariants as protocol;
+ghost use Rattle.bl_walk.specs.Faults.{HasFault};
+ghost use Rattle.bl_walk.specs.Seen.{HasTotalSize, InformationSays, IsSeen};
+
+use crate::fault::WalkFault;
+use crate::follow::follow;
+use crate::kernel::kernel_of;
+use crate::module::modules_at;
+use crate::seen::Seen;
+use bl_image::Image;
+use bl_mbi::{Info, read_info};
+use bl_mem::{SliceView, u32_at};
+use std::alloc::Allocator;
+
+/// How many bytes total_size and the reserved word behind it take (Multiboot2 3.6 "Boot information
+/// format").
+const FIXED_PART: u32 = 8;
+
+/// The least total_size: the fixed part, and the tag that ends the information.
+const LEAST_SIZE: u32 = 16;
+
+/// The total_size.
+fn total_size<A: Allocator>(image: &Image<A>) -> Result<u32, WalkFault>
+    requires { image.now.protocol ≡ protocol.Multiboot2 }
+    ensures ok { IfOk result (HasTotalSize image.now) }
+    ensures least { IfOk result (λ size. 16 ≤ size) }
+    ensures fault { IfErr result (HasFault image.now) }
+{
+    let fixed_part = follow(image, image.registers().ebx, FIXED_PART)?;
+    let size = u32_at(&SliceView::new(fixed_part), 0);
+    if size < LEAST_SIZE {
+        return Err(WalkFault::BadInfo);
+    }
+    Ok(size)
+}
+
+/// What the information says.
+fn information<A: Allocator + Copy>(alloc: A, image: &Image<A>) -> Result<Info<A>, WalkFault>
+    requires { image.now.protocol ≡ protocol.Multiboot2 }
+    ensures ok { IfOk result (InformationSays image.now) }
+    ensures fault { IfErr result (HasFault image.now) }
+{
+    let size = total_size(image)?;
+    let bytes = follow(image, image.registers().ebx, size)?;
+    Ok(read_info(alloc, bytes)?)
+}
+
+/// What the information shows.
+pub(crate) fn shown_by_information<A: Allocator + Copy>(
+    alloc: A,
+    image: &Image<A>,
+) -> Result<Seen<A>, WalkFault>
+    requires { image.now.protocol ≡ protocol.Multiboot2 }
+    ensures ok { IfOk result (IsSeen image.now) }
+    ensures fault { IfErr result (HasFault image.now) }
+{
+    let info = information(alloc, image)?;
+    let modules = modules_at(alloc, image, info.modules.as_slice())?;
+    Ok(Seen {
+        protocol: image.protocol(),
+        entry: image.registers().eip,
+        line: info.line,
+        kernel: kernel_of(alloc, image)?,
+        modules,
+        initrd: None,
+        map: info.runs,
+    })
+}

@@ -1,0 +1,52 @@
+//! The modules of a Multiboot2 kernel.
+ghost use Rattle.std.specs.Prelude.{◌≡◌, ◌-◌, ◌≤◌, ℕ, length, IfOk, IfErr, All};
+ghost use Rattle.std.specs.List.{Contains};
+ghost use Rattle.bl_mbi.specs.InformationFacts.{IsModule};
+ghost use Rattle.bl_walk.specs.Faults.{IsFollowed, HasFault};
+ghost use Rattle.bl_walk.specs.Seen.{IsSeenModule, AreSeenModules};
+
+use crate::fault::WalkFault;
+use crate::follow::follow;
+use crate::seen_module::SeenModule;
+use bl_image::Image;
+use bl_mbi::Module;
+use bl_mem::Bytes;
+use std::alloc::Allocator;
+
+/// A module with its bytes.
+fn module_at<A: Allocator + Copy>(
+    alloc: A,
+    image: &Image<A>,
+    told: &Module<A>,
+) -> Result<SeenModule<A>, WalkFault>
+    requires forward { told.now.mod_start ≤ told.now.mod_end }
+    requires followed { IsFollowed image.now told.now.mod_start (told.now.mod_end - told.now.mod_start) }
+    ensures ok { IfOk result (IsSeenModule image.now.parts told.now) }
+    ensures fault { IfErr result (HasFault image.now) }
+{
+    let bytes = follow(image, told.mod_start, told.mod_end - told.mod_start)?;
+    Ok(SeenModule {
+        mod_start: told.mod_start,
+        bytes: Bytes::copy(alloc, bytes)?,
+        line: Bytes::copy(alloc, told.line.as_slice())?,
+    })
+}
+
+/// The modules with their bytes.
+pub(crate) fn modules_at<A: Allocator + Copy>(
+    alloc: A,
+    image: &Image<A>,
+    modules: &[Module<A>],
+) -> Result<Vec<SeenModule<A>, A>, WalkFault>
+    requires forward { All IsModule modules.now }
+    requires followed { All (λ m. IsFollowed image.now m.mod_start (m.mod_end - m.mod_start))
+        modules.now }
+    ensures ok { IfOk result (λ seen. AreSeenModules image.now.parts modules.now seen.items) }
+    ensures fault { IfErr result (HasFault image.now) }
+{
+    let mut seen = Vec::with_capacity(alloc, modules.len())?;
+    for told in modules {
+        seen.push(module_at(alloc, image, told)?)?;
+    }
+    Ok(seen)
+}

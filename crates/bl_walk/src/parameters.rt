@@ -1,0 +1,91 @@
+//! What boot parameters show a Linux kernel.
+ghost use Rattle.std.specs.Prelude.{◌≡◌, ◌-◌, ◌≤◌, IfOk, IfErr};
+ghost use Rattle.bl_plan.specs.declared.protocol.Protocol.TheVariants as protocol;
+ghost use Rattle.bl_walk.specs.Faults.{HasFault};
+ghost use Rattle.bl_walk.specs.Seen.{ParametersSay, IsLine, IsInitrd, IsSeen};
+
+use crate::fault::WalkFault;
+use crate::follow::{follow, text_of};
+use crate::inside::rest_at;
+use crate::kernel::kernel_of;
+use crate::seen::Seen;
+use crate::seen_file::SeenFile;
+use bl_image::Image;
+use bl_mem::Bytes;
+use bl_params::{Params, read_params};
+use std::alloc::Allocator;
+
+/// How many bytes boot parameters have (Linux/x86 boot protocol, "Zero Page").
+const PARAMS_SIZE: u32 = 4096;
+
+/// What the boot parameters say.
+fn parameters<A: Allocator + Copy>(alloc: A, image: &Image<A>) -> Result<Params<A>, WalkFault>
+    requires { image.now.protocol ≡ protocol.Linux }
+    ensures ok { IfOk result (ParametersSay image.now) }
+    ensures fault { IfErr result (HasFault image.now) }
+{
+    let bytes = follow(image, image.registers().esi, PARAMS_SIZE)?;
+    Ok(read_params(alloc, bytes)?)
+}
+
+/// The line, up to its zero.
+fn line<A: Allocator + Copy>(
+    alloc: A,
+    image: &Image<A>,
+    params: &Params<A>,
+) -> Result<Bytes<A>, WalkFault>
+    requires { ParametersSay image.now params.now }
+    ensures ok { IfOk result (IsLine image.now.parts params.now.cmd_line_ptr) }
+    ensures fault { IfErr result (HasFault image.now) }
+{
+    let Some(rest) = rest_at(image, params.cmd_line_ptr) else {
+        return Err(WalkFault::OutsideImage);
+    };
+    match text_of(rest) {
+        Some(text) => Ok(Bytes::copy(alloc, text)?),
+        None => Err(WalkFault::BadInfo),
+    }
+}
+
+/// The initial ramdisk, if it has a byte.
+fn initrd<A: Allocator + Copy>(
+    alloc: A,
+    image: &Image<A>,
+    params: &Params<A>,
+) -> Result<Option<SeenFile<A>>, WalkFault>
+    requires { ParametersSay image.now params.now }
+    ensures ok { IfOk result (IsInitrd image.now.parts params.now) }
+    ensures fault { IfErr result (HasFault image.now) }
+{
+    if params.ramdisk_size == 0 {
+        return Ok(None);
+    }
+    let bytes = follow(image, params.ramdisk_image, params.ramdisk_size)?;
+    Ok(Some(SeenFile {
+        address: params.ramdisk_image,
+        bytes: Bytes::copy(alloc, bytes)?,
+    }))
+}
+
+/// What the boot parameters show.
+pub(crate) fn shown_by_parameters<A: Allocator + Copy>(
+    alloc: A,
+    image: &Image<A>,
+) -> Result<Seen<A>, WalkFault>
+    requires { image.now.protocol ≡ protocol.Linux }
+    ensures ok { IfOk result (IsSeen image.now) }
+    ensures fault { IfErr result (HasFault image.now) }
+{
+    let params = parameters(alloc, image)?;
+    let line = line(alloc, image, &params)?;
+    let initrd = initrd(alloc, image, &params)?;
+    Ok(Seen {
+        protocol: image.protocol(),
+        entry: image.registers().eip,
+        line,
+        kernel: kernel_of(alloc, image)?,
+        modules: Vec::new(alloc),
+        initrd,
+        map: params.runs,
+    })
+}
