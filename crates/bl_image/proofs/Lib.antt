@@ -1,3 +1,4 @@
+pub mod Inputs
 pub mod Ways
 pub mod Spelled
 pub mod NumberLemmas

@@ -10,6 +10,7 @@ mod laws;
 mod mem_sink;
 mod parts;
 mod sink;
+mod source;
 mod write;
 
 pub use fault::ImageFault;
@@ -18,4 +19,5 @@ pub use io_sink::IoSink;
 pub use laws::image_tells_all;
 pub use mem_sink::MemSink;
 pub use sink::{DeviceFault, Sink, write_all};
+pub use source::Source;
 pub use write::write_image;
