@@ -1,3 +1,5 @@
+mod FieldLemmas
+mod Listed
 pub mod Inputs
 pub mod Ways
 pub mod Spelled

@@ -2,7 +2,9 @@
 #![tactic(auto)]
 
 mod fault;
+mod fields;
 mod head;
+mod head_reader;
 mod history;
 mod image;
 mod io_sink;
