@@ -1,4 +1,5 @@
 mod FieldLemmas
+mod HeadLemmas
 mod Listed
 pub mod Inputs
 pub mod Ways

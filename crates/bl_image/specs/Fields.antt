@@ -68,6 +68,6 @@ unfoldable pub length_field : ℕ → ℕ → Field
 length_field part address =
     long (λ count. nat_le 1 count && nat_le (address + count) (2 ^ 32)) (BadPart part)
 
-abbrev pub record_fields : ℕ → ℕ → ℕ → List Field
-record_fields part before address =
-    role_field part ∷ index_field part ∷ address_field part before ∷ length_field part address ∷ []
+-- the fields of a record but its length, which must fit the address
+abbrev pub record_fields : ℕ → ℕ → List Field
+record_fields part before = role_field part ∷ index_field part ∷ address_field part before ∷ []

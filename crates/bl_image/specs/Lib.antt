@@ -4,6 +4,7 @@ pub mod Fields
 pub mod Image
 pub mod ImageFaults
 pub mod ImageParts
+pub mod RecordsKept
 pub mod Source
 pub mod SourceKept
 pub mod Spellable

@@ -1,7 +1,7 @@
 -- What the code keeps as it reads a source. Own.
 use Rattle.std.specs.Prelude.{◌≡◌, ◌<◌, ℕ, true, List, ◌∷◌, length, Result, MatchResult}
 use Rattle.bl_image.specs.declared.fault.ImageFault.{ImageFault}
-use Rattle.bl_image.specs.declared.fault.ImageFault.TheVariants.{WrongLength, DeviceFault}
+use Rattle.bl_image.specs.declared.fault.ImageFault.TheVariants.{WrongLength, DeviceFault, NoMemory}
 use Rattle.bl_image.specs.Fields.{Field, fields_fault}
 use Rattle.bl_image.specs.Source.{Input, Comes, IsEnded, Refuses}
 
@@ -12,10 +12,11 @@ pub record Ends (old new : Input) (count : ℕ) : Type 0 where
   pub short : length came < count
   pub ended : IsEnded new
 
--- why fewer came: the input ended, or the device failed
+-- why fewer came: the input ended; or the device failed, or memory ran out
 abbrev pub IsCut : Input → Input → ℕ → ImageFault → Type 0
 IsCut old new count WrongLength = Ends old new count
 IsCut old new count DeviceFault = Unit {0}
+IsCut old new count NoMemory = Unit {0}
 IsCut old new count fault = ⊥
 
 -- the field came, and is as it must be

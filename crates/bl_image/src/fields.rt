@@ -1,5 +1,6 @@
 //! Fields of an image, read one after the other.
-ghost use Rattle.std.specs.Prelude.{◌≡◌, ◌+◌, ◌<◌, ◌^◌, length, IfOk, OnOk, IfErr};
+ghost use Rattle.std.specs.Prelude.{◌≡◌, ◌+◌, ◌*◌, ◌<◌, ◌^◌, length, All, IfOk, OnOk, IfErr};
+ghost use Rattle.std.specs.List.{flat_map};
 ghost use Rattle.bl_mem.specs.Words.{u32_bytes, u64_bytes};
 ghost use Rattle.bl_image.specs.Source.{Comes, faults_met};
 ghost use Rattle.bl_image.specs.SourceKept.{IsCut};
@@ -63,4 +64,20 @@ pub(crate) fn read_u64<S: Source>(source: &mut S) -> Result<u64, ImageFault>
     let mut field = [0u8; 8];
     read_exact(source, &mut field)?;
     Ok(u64_of(field))
+}
+
+/// Reads as many numbers of 32 bits as `out` holds.
+pub(crate) fn read_u32s<S: Source>(source: &mut S, out: &mut [u32]) -> Result<(), ImageFault>
+    requires { S.faults source.old < 2 ^ 63 }
+    ensures ok { OnOk result
+        (Comes (S.input source.old) (S.input source.new) (flat_map u32_bytes out.new)) }
+    ensures fit { OnOk result (All (λ n. n < 2 ^ 32) out.new) }
+    ensures cut { IfErr result
+        (IsCut (S.input source.old) (S.input source.new) (4 * length out.new)) }
+    ensures faults { S.faults source.new ≡ S.faults source.old + faults_met result }
+{
+    for i in 0..out.len() {
+        out[i] = read_u32(source)?;
+    }
+    Ok(())
 }

@@ -11,7 +11,7 @@ ghost use Rattle.bl_image.specs.Source.{Comes, Refuses, faults_met};
 ghost use Rattle.bl_image.specs.SourceKept.{Reads};
 
 use crate::fault::ImageFault;
-use crate::fields::{read_exact, read_u32};
+use crate::fields::{read_exact, read_u32, read_u32s};
 use crate::head::{MAGIC, VERSION};
 use crate::source::Source;
 use bl_load::{Protocol, Registers};
@@ -117,9 +117,7 @@ fn read_registers<S: Source>(source: &mut S) -> Result<Registers, ImageFault>
     ensures faults { S.faults source.new ≡ S.faults source.old + faults_met result }
 {
     let mut numbers = [0u32; REGISTERS];
-    for i in 0..REGISTERS {
-        numbers[i] = read_u32(source)?;
-    }
+    read_u32s(source, &mut numbers)?;
     Ok(registers_of(&numbers))
 }
 

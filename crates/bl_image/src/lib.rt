@@ -11,6 +11,7 @@ mod io_sink;
 mod laws;
 mod mem_sink;
 mod parts;
+mod record_reader;
 mod sink;
 mod source;
 mod write;

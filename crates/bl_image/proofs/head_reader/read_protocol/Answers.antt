@@ -8,7 +8,8 @@ use Rattle.bl_mem.proofs.WordLaws.{length-u32_bytes}
 use Rattle.bl_image.specs.declared.fault.ImageFault.TheVariants.{BadHeader}
 use Rattle.bl_image.specs.Fields.{protocol_field}
 use Rattle.bl_image.proofs.Inputs.{comes_as}
-use Rattle.bl_image.proofs.FieldLemmas.{field_cut, field_shows, word_tells}
+use Rattle.bl_image.proofs.FieldLemmas.{field_cut, field_shows, word_tells, not_between}
+use Rattle.bl_image.proofs.ReadAgain.{protocol_fits, protocol_between}
 use Rattle.bl_image.proofs.head_reader.read_protocol.Goals as goal
 
 pub returns-in_err-number-clause-field : goal.returns-in_err-number-clause-field
@@ -21,7 +22,7 @@ pub returns-in_default-clause-field : goal.returns-in_default-clause-field
 unfolding protocol_field
 returns-in_default-clause-field g c =
     let n = c.in_ok-number.number in
-    let fails = word_tells (λ k. nat_le 1 k && nat_le k 2) BadHeader n false c.in_ok-number.ensures.fits ? in
+    let fails = word_tells (λ k. nat_le 1 k && nat_le k 2) BadHeader n false c.in_ok-number.ensures.fits (not_between 1 n 2 c.in_default.ensures) in
     λ fields. field_shows protocol_field fields _ _ (u32_bytes n) c.in_ok-number.ensures.ok (length-u32_bytes n) fails
 
 pub returns-clause-field : goal.returns-clause-field
@@ -32,5 +33,5 @@ returns-clause-field g c =
     record {
       comes = comes_as (ap u32_bytes (sym is)) c.in_ok-number.ensures.ok;
       size = length-u32_bytes _;
-      passes = ?;
+      passes = word_tells (λ k. nat_le 1 k && nat_le k 2) BadHeader _ true (protocol_fits c.in-Some.protocol) (protocol_between c.in-Some.protocol);
     }
