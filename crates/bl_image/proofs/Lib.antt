@@ -1,6 +1,7 @@
 mod FieldLemmas
 mod HeadLemmas
 mod Listed
+mod RecordLemmas
 pub mod Inputs
 pub mod Ways
 pub mod Spelled
