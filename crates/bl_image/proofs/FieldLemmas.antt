@@ -130,18 +130,14 @@ differs : (answer : Bool) → true ≡ not answer → ¬ (answer ≡ true)
 differs true e h = cc
 differs false e h = cc
 
-pub is_true : (answer : Bool) → false ≡ not answer → answer ≡ true
+is_true : (answer : Bool) → false ≡ not answer → answer ≡ true
 is_true true e = refl
 is_true false e = cc
 
 between_tells : (low n high : ℕ) → nat_le low n && nat_le n high ≡ true → (low ≤ n) × (n ≤ high)
 between_tells low n high e = grind (arith, nat_tests)
 
-pub not_is_true : (answer : Bool) → true ≡ not answer → answer ≡ false
-not_is_true true e = cc
-not_is_true false e = refl
-
-pub is_false : (answer : Bool) → ¬ (answer ≡ true) → answer ≡ false
+is_false : (answer : Bool) → ¬ (answer ≡ true) → answer ≡ false
 is_false true h = absurd (h refl)
 is_false false h = refl
 

@@ -172,8 +172,8 @@ sound_more ps end p sound next =
     let behind : All (λ (q : Place). Ascends q p) ps = λ k d within. let upto = sound.upto k d within in omega arith in
     let old : All (λ (q : Place). q.address + q.length ≤ p.address + p.length) ps = λ k d within. let upto = sound.upto k d within in omega arith in
     record {
-      filled = one_more _ ps p sound.filled next.filled;
-      below = one_more _ ps p sound.below next.below;
+      filled = one_more (λ (q : Place). 1 ≤ q.length) ps p sound.filled next.filled;
+      below = one_more (λ (q : Place). q.address + q.length ≤ 2 ^ 32) ps p sound.below next.below;
       upto = one_more (λ (q : Place). q.address + q.length ≤ p.address + p.length) ps p old (omega arith);
       ascending = related_pairs Ascends (ps ++ p ∷ []) (related_more Ascends ps p (pairs_related Ascends ps sound.ascending) behind);
       fit = one_more PlaceFits ps p sound.fit (record { index = next.index; address = omega arith; count = omega arith });

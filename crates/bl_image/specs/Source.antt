@@ -35,6 +35,12 @@ Refuses fault_in old new DeviceFault = Unit {0}
 Refuses fault_in old new NoMemory = Unit {0}
 Refuses fault_in old new fault = Shows fault_in old new fault
 
+-- the same of bytes that are known
+abbrev pub Fails : (List ℕ → Option ImageFault) → List ℕ → ImageFault → Type 0
+Fails fault_in bytes DeviceFault = Unit {0}
+Fails fault_in bytes NoMemory = Unit {0}
+Fails fault_in bytes fault = fault_in bytes ≡ Some fault
+
 -- how many faults of the source a reader met
 abbrev pub faults_met : {T : Type 0} → Result T ImageFault → ℕ
 faults_met (Ok value) = 0

@@ -23,6 +23,7 @@ const MOST_PARTS: u32 = 256;
 const REGISTERS: usize = 20;
 
 /// What the head of an image says.
+#[derive(Clone, Copy)]
 pub(crate) struct Head {
     pub(crate) protocol: Protocol,
     pub(crate) registers: Registers,

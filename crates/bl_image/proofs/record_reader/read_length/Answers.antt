@@ -9,7 +9,7 @@ use Rattle.bl_image.specs.declared.fault.ImageFault.TheVariants.{BadPart}
 use Rattle.bl_image.specs.Fields.{role_field, index_field, address_field, length_field}
 use Rattle.bl_image.proofs.Inputs.{comes_as}
 use Rattle.bl_image.proofs.ReadAgain.{role_fits, role_between}
-use Rattle.bl_image.proofs.FieldLemmas.{field_cut, field_shows, word_tells, long_tells, is_true, not_is_true}
+use Rattle.bl_image.proofs.FieldLemmas.{field_cut, field_shows, word_tells, long_tells}
 use Rattle.bl_image.proofs.record_reader.read_length.Goals as goal
 
 pub returns-in_err-count-clause-field : goal.returns-in_err-count-clause-field
@@ -22,7 +22,7 @@ pub returns-then-not-may_have-clause-field : goal.returns-then-not-may_have-clau
 unfolding length_field
 returns-then-not-may_have-clause-field g c =
     let n = c.in_ok-count.count in
-    let fails = long_tells (λ k. nat_le 1 k && nat_le (c.args.address + k) (2 ^ 32)) (BadPart c.args.part) n false c.in_ok-count.ensures.fits (not_is_true _ c.if-not-may_have.ensures) in
+    let fails = long_tells (λ k. nat_le 1 k && nat_le (c.args.address + k) (2 ^ 32)) (BadPart c.args.part) n false c.in_ok-count.ensures.fits (sym c.if-not-may_have.ensures) in
     λ fields. field_shows (length_field c.args.part c.args.address) fields _ _ (u64_bytes n) c.in_ok-count.ensures.ok (length-u64_bytes n) fails
 
 pub returns-clause-field : goal.returns-clause-field
@@ -32,5 +32,5 @@ returns-clause-field g c =
     record {
       comes = c.in_ok-count.ensures.ok;
       size = length-u64_bytes n;
-      passes = long_tells (λ k. nat_le 1 k && nat_le (c.args.address + k) (2 ^ 32)) (BadPart c.args.part) n true c.in_ok-count.ensures.fits (is_true _ c.if-not-may_have.ensures);
+      passes = long_tells (λ k. nat_le 1 k && nat_le (c.args.address + k) (2 ^ 32)) (BadPart c.args.part) n true c.in_ok-count.ensures.fits (sym c.if-not-may_have.ensures);
     }
