@@ -1,3 +1,8 @@
+mod FieldLemmas
+mod HeadLemmas
+mod Listed
+mod RecordLemmas
+pub mod Inputs
 pub mod Ways
 pub mod Spelled
 pub mod NumberLemmas

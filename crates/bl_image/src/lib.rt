@@ -2,14 +2,21 @@
 #![tactic(auto)]
 
 mod fault;
+mod fields;
 mod head;
+mod head_reader;
 mod history;
 mod image;
 mod io_sink;
 mod laws;
 mod mem_sink;
+mod memory_image;
+mod part_reader;
 mod parts;
+mod read;
+mod record_reader;
 mod sink;
+mod source;
 mod write;
 
 pub use fault::ImageFault;
@@ -17,5 +24,7 @@ pub use image::{Image, ImagePart};
 pub use io_sink::IoSink;
 pub use laws::image_tells_all;
 pub use mem_sink::MemSink;
+pub use read::read_image;
 pub use sink::{DeviceFault, Sink, write_all};
+pub use source::Source;
 pub use write::write_image;
