@@ -56,9 +56,15 @@ initrd_line None = []
 initrd_line (Some file) = file_line file
 
 -- a run of the memory map: its start, its end, its kind's number
+abbrev pub run_start : ℕ → List ℕ
+run_start start = codes "map " ++ hex16 start ++ codes " "
+
+abbrev pub run_kind : ℕ → List ℕ
+run_kind kind = codes " " ++ decimal kind ++ codes "\n"
+
 abbrev pub seen_run_line : Region → List ℕ
-seen_run_line run = codes "map " ++ hex16 run.base ++ codes " " ++ hex16 (run.base + run.length)
-    ++ codes " " ++ decimal (kind_number run.kind) ++ codes "\n"
+seen_run_line run =
+    run_start run.base ++ hex16 (run.base + run.length) ++ run_kind (kind_number run.kind)
 
 -- the lines of what a kernel sees, in order
 abbrev pub walk_lines : SeenFacts → List ℕ

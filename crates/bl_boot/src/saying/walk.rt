@@ -1,6 +1,7 @@
 //! What a kernel sees in an image, line by line.
-ghost use Rattle.std.specs.Prelude.{◌≡◌, ◌++◌, ◌+◌, ◌<◌, ◌^◌, All, OnOk, OnErr};
+ghost use Rattle.std.specs.Prelude.{◌≡◌, ◌++◌, OnOk, OnErr};
 ghost use Rattle.std.specs.List.{flat_map};
+ghost use Rattle.bl_boot.specs.Says.{hex16};
 ghost use Rattle.bl_boot.specs.WalkSays as says;
 ghost use Rattle.bl_boot.specs.WalkSays.{kernel_line, module_line, seen_run_line};
 
@@ -145,20 +146,42 @@ fn say_initrd<A: Allocator + Copy, B: Allocator>(
     }
 }
 
-fn say_run<A: Allocator + Copy>(out: &mut Vec<u8, A>, run: &Region) -> Result<(), AllocError>
-    requires { run.now.base + run.now.length < 2 ^ 64 }
-    ensures { OnOk result (out.new.items ≡ out.old.items ++ says.seen_run_line run.now) }
+/// Appends the start of a run.
+fn say_start<A: Allocator + Copy>(out: &mut Vec<u8, A>, start: u64) -> Result<(), AllocError>
+    ensures { OnOk result (out.new.items ≡ out.old.items ++ says.run_start start) }
 {
     let alloc = *out.allocator();
-    let start = run.base;
-    let end = run.base + run.length;
-    let kind = run.kind.number();
-    let line = format!(in alloc; "map {start:016x} {end:016x} {kind}\n")?;
+    let line = format!(in alloc; "map {start:016x} ")?;
     out.extend_from_slice(line.as_bytes())
 }
 
+/// Appends the end of a run. It may lie above 2^64, for all that this function knows.
+fn say_end<A: Allocator + Copy>(out: &mut Vec<u8, A>, end: u128) -> Result<(), AllocError>
+    ensures { OnOk result (out.new.items ≡ out.old.items ++ hex16 end) }
+{
+    let alloc = *out.allocator();
+    let line = format!(in alloc; "{end:016x}")?;
+    out.extend_from_slice(line.as_bytes())
+}
+
+/// Appends a run's kind.
+fn say_kind<A: Allocator + Copy>(out: &mut Vec<u8, A>, kind: u32) -> Result<(), AllocError>
+    ensures { OnOk result (out.new.items ≡ out.old.items ++ says.run_kind kind) }
+{
+    let alloc = *out.allocator();
+    let line = format!(in alloc; " {kind}\n")?;
+    out.extend_from_slice(line.as_bytes())
+}
+
+fn say_run<A: Allocator + Copy>(out: &mut Vec<u8, A>, run: &Region) -> Result<(), AllocError>
+    ensures { OnOk result (out.new.items ≡ out.old.items ++ says.seen_run_line run.now) }
+{
+    say_start(out, run.base)?;
+    say_end(out, run.base as u128 + run.length as u128)?;
+    say_kind(out, run.kind.number())
+}
+
 fn say_runs<A: Allocator + Copy>(out: &mut Vec<u8, A>, runs: &[Region]) -> Result<(), AllocError>
-    requires { All (λ run. run.base + run.length < 2 ^ 64) runs.now }
     ensures { OnOk result (out.new.items ≡ out.old.items ++ flat_map seen_run_line runs.now) }
 {
     for run in runs {
@@ -167,23 +190,12 @@ fn say_runs<A: Allocator + Copy>(out: &mut Vec<u8, A>, runs: &[Region]) -> Resul
     Ok(())
 }
 
-fn say_map<A: Allocator + Copy, B: Allocator>(
-    out: &mut Vec<u8, A>,
-    seen: &Seen<B>,
-) -> Result<(), AllocError>
-    requires { All (λ run. run.base + run.length < 2 ^ 64) seen.now.map }
-    ensures { OnOk result (out.new.items ≡ out.old.items ++ flat_map seen_run_line seen.now.map) }
-{
-    say_runs(out, seen.map.as_slice())
-}
-
 /// Appends the lines of what a kernel sees: its protocol, where it is entered, its line, its parts,
 /// the modules, the initial ramdisk, the memory map. An error leaves the text as it was.
 pub fn say_walk<A: Allocator + Copy, B: Allocator>(
     out: &mut Vec<u8, A>,
     seen: &Seen<B>,
 ) -> Result<(), AllocError>
-    requires { All (λ run. run.base + run.length < 2 ^ 64) seen.now.map }
     ensures ok { OnOk result (out.new.items ≡ out.old.items ++ says.walk_lines seen.now) }
     ensures err { OnErr result (out.new.items ≡ out.old.items) }
 {
@@ -194,6 +206,6 @@ pub fn say_walk<A: Allocator + Copy, B: Allocator>(
     say_kernels(&mut lines, seen.kernel.as_slice())?;
     say_modules(&mut lines, seen.modules.as_slice())?;
     say_initrd(&mut lines, &seen.initrd)?;
-    say_map(&mut lines, seen)?;
+    say_runs(&mut lines, seen.map.as_slice())?;
     out.extend_from_slice(&lines)
 }
