@@ -1,6 +1,8 @@
 mod FieldLemmas
 mod HeadLemmas
 mod Listed
+mod KnownLemmas
+mod PartLemmas
 mod RecordLemmas
 pub mod Inputs
 pub mod Ways
