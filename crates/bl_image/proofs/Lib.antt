@@ -1,6 +1,7 @@
 mod FieldLemmas
 mod HeadLemmas
 mod Listed
+mod ImageLaws
 mod KnownLemmas
 mod PartLemmas
 mod RecordLemmas
