@@ -1,3 +1,11 @@
+mod FieldLemmas
+mod HeadLemmas
+mod Listed
+mod ImageLaws
+mod KnownLemmas
+mod PartLemmas
+mod RecordLemmas
+pub mod Inputs
 pub mod Ways
 pub mod Spelled
 pub mod NumberLemmas

@@ -1,5 +1,6 @@
 -- An image is read again: the handover that it spells is one.
 use Rattle.std.proofs.Common.{◌≡◌, ◌+◌, ◌^◌, ◌<◌, ℕ, List, [], ◌∷◌, ◌++◌, length, get_or, take, drop, All, refl, sym, ap, ◌∙◌, arith, lit<, length-append, append_assoc}
+use Rattle.std.specs.Prelude.{nat_le, ◌&&◌, true}
 use Rattle.std.proofs.lemmas.List.Elements.{All-cons, All-append, All-tail, All-nil}
 use Rattle.std.specs.List.{flat_map}
 use Rattle.bl_plan.specs.declared.role.Role.{Role}
@@ -85,7 +86,16 @@ record IsAlike (p q : Part) : Type 0 where
 pair_fits : (top m n : ℕ) → m < top → n < top → All (λ k. k < top) (m ∷ n ∷ [])
 pair_fits top m n hm hn = All-cons (λ k. k < top) m (n ∷ []) hm (All-cons (λ k. k < top) n [] hn (All-nil (λ k. k < top)))
 
-role_fits : (r : Role) → roles.role_number r < 2 ^ 32
+pub role_between : (r : Role) → nat_le 1 (roles.role_number r) && nat_le (roles.role_number r) 7 ≡ true
+role_between Kernel = refl
+role_between Module = refl
+role_between Information = refl
+role_between BootParams = refl
+role_between CommandLine = refl
+role_between Gdt = refl
+role_between Initrd = refl
+
+pub role_fits : (r : Role) → roles.role_number r < 2 ^ 32
 role_fits Kernel = lit< tt
 role_fits Module = lit< tt
 role_fits Information = lit< tt
@@ -152,9 +162,13 @@ parts_same (p ∷ ps) (q ∷ qs) alike e =
 abbrev words : Handover → List ℕ
 words h = 1 ∷ protocols.protocol_number h.protocol ∷ (register_numbers h.registers ++ length h.parts ∷ 0 ∷ [])
 
-protocol_fits : (p : Protocol) → protocols.protocol_number p < 2 ^ 32
+pub protocol_fits : (p : Protocol) → protocols.protocol_number p < 2 ^ 32
 protocol_fits Multiboot2 = lit< tt
 protocol_fits Linux = lit< tt
+
+pub protocol_between : (p : Protocol) → nat_le 1 (protocols.protocol_number p) && nat_le (protocols.protocol_number p) 2 ≡ true
+protocol_between Multiboot2 = refl
+protocol_between Linux = refl
 
 words_fit : (h : Handover) → IsSpellable h → All (λ n. n < 2 ^ 32) (words h)
 words_fit h s =

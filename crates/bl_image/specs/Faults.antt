@@ -1,7 +1,13 @@
 -- The numbers of faults of an image. Own.
 use Rattle.std.specs.Prelude.{ℕ}
 use Rattle.bl_image.specs.declared.fault.ImageFault.{ImageFault}
-use Rattle.bl_image.specs.declared.fault.ImageFault.TheVariants.{DeviceFault}
+use Rattle.bl_image.specs.declared.fault.ImageFault.TheVariants.{BadMagic, BadVersion, BadHeader, BadPart, WrongLength, DeviceFault, NoMemory}
 
 abbrev pub image_fault_number : ImageFault → ℕ
+image_fault_number BadMagic = 71
+image_fault_number BadVersion = 72
+image_fault_number BadHeader = 73
+image_fault_number (BadPart index) = 74
+image_fault_number WrongLength = 75
 image_fault_number DeviceFault = 76
+image_fault_number NoMemory = 77

@@ -1,5 +1,11 @@
 pub mod Begun
 pub mod Faults
+pub mod Fields
 pub mod Image
+pub mod ImageFaults
 pub mod ImageParts
+pub mod RecordsKept
+pub mod Source
+pub mod SourceKept
+pub mod Sources
 pub mod Spellable

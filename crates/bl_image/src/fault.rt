@@ -1,25 +1,60 @@
-//! Why an image is not written.
+//! Why an image is not written, or not read.
 ghost use Rattle.std.specs.Prelude.{◌≡◌};
 ghost use Rattle.bl_image.specs.declared.fault.ImageFault.TheVariants as faults;
 ghost use Rattle.bl_image.specs.Faults.{image_fault_number};
 
 use crate::sink::DeviceFault;
+use std::alloc::{AllocError, AllocFailed};
 use thiserror::Error;
 
-/// Why an image is not written: the sink had a fault.
+/// Why an image is not read: the first fault in the order of reading, found as soon as the field
+/// that shows it came. To write one has but a fault of the device.
 #[derive(Clone, Copy, Debug, PartialEq, Eq, Error)]
 pub enum ImageFault {
+    /// The first 8 bytes are not `BLIMAGE` and a zero byte.
+    #[error("bad magic")]
+    BadMagic,
+
+    /// The version is not 1.
+    #[error("bad version")]
+    BadVersion,
+
+    /// The protocol is neither 1 nor 2, there are more than 256 parts, or the word behind their
+    /// number is not 0.
+    #[error("bad header")]
+    BadHeader,
+
+    /// The record with this number, from 0, has a role outside 1 to 7, an address below the end of
+    /// the record before, a length of 0, or an end above 2^32.
+    #[error("bad part {0}")]
+    BadPart(u32),
+
+    /// The input ends before the image does, perhaps inside a field, or it goes on after it.
+    #[error("wrong length")]
+    WrongLength,
+
+    /// The sink or the source had a fault.
     #[error("device fault")]
     DeviceFault,
+
+    /// A growth was refused before any fault was found.
+    #[error("no memory")]
+    NoMemory,
 }
 
 impl ImageFault {
-    /// The fault's number.
+    /// The fault's number, 71 to 77.
     pub fn number(self) -> u32
         ensures { result ≡ image_fault_number self }
     {
         match self {
+            ImageFault::BadMagic => 71,
+            ImageFault::BadVersion => 72,
+            ImageFault::BadHeader => 73,
+            ImageFault::BadPart(_) => 74,
+            ImageFault::WrongLength => 75,
             ImageFault::DeviceFault => 76,
+            ImageFault::NoMemory => 77,
         }
     }
 }
@@ -29,5 +64,21 @@ impl From<DeviceFault> for ImageFault {
 
     fn from(_: DeviceFault) -> ImageFault {
         ImageFault::DeviceFault
+    }
+}
+
+impl From<AllocError> for ImageFault {
+    ghost from_gives = { λ _ fault. fault ≡ faults.NoMemory };
+
+    fn from(_: AllocError) -> ImageFault {
+        ImageFault::NoMemory
+    }
+}
+
+impl<T: Drop> From<AllocFailed<T>> for ImageFault {
+    ghost from_gives = { λ _ fault. fault ≡ faults.NoMemory };
+
+    fn from(_: AllocFailed<T>) -> ImageFault {
+        ImageFault::NoMemory
     }
 }

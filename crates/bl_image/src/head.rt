@@ -13,10 +13,10 @@ use bl_plan::Place;
 use std::alloc::Allocator;
 
 /// What an image begins with.
-const MAGIC: [u8; 8] = *b"BLIMAGE\0";
+pub(crate) const MAGIC: [u8; 8] = *b"BLIMAGE\0";
 
 /// The version of the format.
-const VERSION: u32 = 1;
+pub(crate) const VERSION: u32 = 1;
 
 /// The head of an image with so many parts.
 fn head_bytes(protocol: Protocol, r: &Registers, count: u32) -> [u8; 104]

@@ -2,20 +2,33 @@
 #![tactic(auto)]
 
 mod fault;
+mod fields;
 mod head;
+mod head_reader;
 mod history;
 mod image;
 mod io_sink;
+mod io_source;
 mod laws;
 mod mem_sink;
+mod mem_source;
+mod memory_image;
+mod part_reader;
 mod parts;
+mod read;
+mod record_reader;
 mod sink;
+mod source;
 mod write;
 
 pub use fault::ImageFault;
 pub use image::{Image, ImagePart};
 pub use io_sink::IoSink;
-pub use laws::image_tells_all;
+pub use io_source::IoSource;
+pub use laws::{image_tells_all, images_have_no_fault};
 pub use mem_sink::MemSink;
+pub use mem_source::MemSource;
+pub use read::read_image;
 pub use sink::{DeviceFault, Sink, write_all};
+pub use source::Source;
 pub use write::write_image;

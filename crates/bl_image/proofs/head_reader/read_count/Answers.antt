@@ -1,0 +1,36 @@
+use Rattle.std.proofs.Common.{◌≡◌, ◌≤◌, ◌<◌, ℕ, ◌∙◌, true, false, arith, refl, sym, ap}
+use Rattle.std.specs.Prelude.{nat_le}
+use Rattle.std.proofs.lemmas.Result.{err_from_is_err_and}
+use Rattle.std.proofs.lemmas.Bool.Decides.{nat_tests}
+use Rattle.bl_mem.specs.Words.{u32_bytes}
+use Rattle.bl_mem.proofs.WordLaws.{length-u32_bytes}
+use Rattle.bl_image.specs.declared.fault.ImageFault.TheVariants.{BadHeader}
+use Rattle.bl_image.specs.Fields.{count_field}
+use Rattle.bl_image.proofs.Inputs.{comes_as}
+use Rattle.bl_image.proofs.FieldLemmas.{field_cut, field_shows, word_tells}
+use Rattle.bl_image.proofs.head_reader.read_count.Goals as goal
+
+pub returns-in_err-count-clause-field : goal.returns-in_err-count-clause-field
+unfolding count_field
+returns-in_err-count-clause-field g c =
+    let p = err_from_is_err_and c.from_residual.result c.from_residual.ensures.1 in
+    rw (p.1, p.2) (λ fields. field_cut count_field fields _ _ _ c.in_err-count.ensures.cut)
+
+pub returns-then-count-gt-MOST_PARTS-clause-field : goal.returns-then-count-gt-MOST_PARTS-clause-field
+unfolding count_field
+returns-then-count-gt-MOST_PARTS-clause-field g c =
+    let n = c.in_ok-count.count in
+    let many : 256 < n = c.if-count-gt-MOST_PARTS.true in
+    let fails = word_tells (λ k. nat_le k 256) BadHeader n false c.in_ok-count.ensures.fits (grind (arith, nat_tests)) in
+    λ fields. field_shows count_field fields _ _ (u32_bytes n) c.in_ok-count.ensures.ok (length-u32_bytes n) fails
+
+pub returns-clause-field : goal.returns-clause-field
+unfolding count_field
+returns-clause-field g c =
+    let n = c.in_ok-count.count in
+    let few : n ≤ 256 = omega arith in
+    record {
+      comes = c.in_ok-count.ensures.ok;
+      size = length-u32_bytes n;
+      passes = word_tells (λ k. nat_le k 256) BadHeader n true c.in_ok-count.ensures.fits (grind (arith, nat_tests));
+    }

@@ -1,0 +1,33 @@
+use Rattle.std.proofs.Common.{◌≡◌, ◌≤◌, ◌<◌, ℕ, ◌∙◌, true, false, arith, refl, sym, ap}
+use Rattle.std.specs.Prelude.{◌==◌}
+use Rattle.std.proofs.lemmas.Result.{err_from_is_err_and}
+use Rattle.std.proofs.lemmas.Bool.Decides.{nat_tests}
+use Rattle.bl_mem.specs.Words.{u32_bytes}
+use Rattle.bl_mem.proofs.WordLaws.{length-u32_bytes}
+use Rattle.bl_image.specs.declared.fault.ImageFault.TheVariants.{BadVersion}
+use Rattle.bl_image.specs.Fields.{version_field}
+use Rattle.bl_image.proofs.Inputs.{comes_as}
+use Rattle.bl_image.proofs.FieldLemmas.{field_cut, field_shows, word_tells}
+use Rattle.bl_image.proofs.head_reader.read_version.Goals as goal
+
+pub returns-in_err-read_u32-clause-field : goal.returns-in_err-read_u32-clause-field
+unfolding version_field
+returns-in_err-read_u32-clause-field g c =
+    let p = err_from_is_err_and c.from_residual.result c.from_residual.ensures.1 in
+    rw (p.1, p.2) (λ fields. field_cut version_field fields _ _ _ c.in_err-read_u32.ensures.cut)
+
+pub returns-then-branch-ne-VERSION-clause-field : goal.returns-then-branch-ne-VERSION-clause-field
+unfolding version_field
+returns-then-branch-ne-VERSION-clause-field g c =
+    let n = c.in_ok-read_u32.field-0 in
+    let other : n ≡ 1 → ⊥ = c.if-branch-ne-VERSION.true in
+    let fails = word_tells (λ k. k == 1) BadVersion n false c.in_ok-read_u32.ensures.fits (grind (arith, nat_tests)) in
+    λ fields. field_shows version_field fields _ _ (u32_bytes n) c.in_ok-read_u32.ensures.ok (length-u32_bytes n) fails
+
+pub returns-clause-field : goal.returns-clause-field
+unfolding version_field
+returns-clause-field g c = record {
+  comes = comes_as (ap u32_bytes c.if-branch-ne-VERSION.false) c.in_ok-read_u32.ensures.ok;
+  size = length-u32_bytes 1;
+  passes = word_tells (λ k. k == 1) BadVersion 1 true (omega arith) refl;
+}

@@ -1,0 +1,33 @@
+use Rattle.std.proofs.Common.{◌≡◌, ◌≤◌, ◌<◌, ℕ, ◌∙◌, true, false, arith, refl, sym, ap}
+use Rattle.std.specs.Prelude.{◌==◌}
+use Rattle.std.proofs.lemmas.Result.{err_from_is_err_and}
+use Rattle.std.proofs.lemmas.Bool.Decides.{nat_tests}
+use Rattle.bl_mem.specs.Words.{u32_bytes}
+use Rattle.bl_mem.proofs.WordLaws.{length-u32_bytes}
+use Rattle.bl_image.specs.declared.fault.ImageFault.TheVariants.{BadHeader}
+use Rattle.bl_image.specs.Fields.{zero_field}
+use Rattle.bl_image.proofs.Inputs.{comes_as}
+use Rattle.bl_image.proofs.FieldLemmas.{field_cut, field_shows, word_tells}
+use Rattle.bl_image.proofs.head_reader.read_zero.Goals as goal
+
+pub returns-in_err-read_u32-clause-field : goal.returns-in_err-read_u32-clause-field
+unfolding zero_field
+returns-in_err-read_u32-clause-field g c =
+    let p = err_from_is_err_and c.from_residual.result c.from_residual.ensures.1 in
+    rw (p.1, p.2) (λ fields. field_cut zero_field fields _ _ _ c.in_err-read_u32.ensures.cut)
+
+pub returns-then-branch-ne0-clause-field : goal.returns-then-branch-ne0-clause-field
+unfolding zero_field
+returns-then-branch-ne0-clause-field g c =
+    let n = c.in_ok-read_u32.field-0 in
+    let other : n ≡ 0 → ⊥ = c.if-branch-ne0.true in
+    let fails = word_tells (λ k. k == 0) BadHeader n false c.in_ok-read_u32.ensures.fits (grind (arith, nat_tests)) in
+    λ fields. field_shows zero_field fields _ _ (u32_bytes n) c.in_ok-read_u32.ensures.ok (length-u32_bytes n) fails
+
+pub returns-clause-field : goal.returns-clause-field
+unfolding zero_field
+returns-clause-field g c = record {
+  comes = comes_as (ap u32_bytes c.if-branch-ne0.false) c.in_ok-read_u32.ensures.ok;
+  size = length-u32_bytes 0;
+  passes = word_tells (λ k. k == 0) BadHeader 0 true (omega arith) refl;
+}

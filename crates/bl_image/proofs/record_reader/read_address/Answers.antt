@@ -1,0 +1,38 @@
+use Rattle.std.proofs.Common.{◌≡◌, ◌+◌, ◌≤◌, ◌<◌, ◌^◌, true, false, arith, refl, sym, ap}
+use Rattle.std.specs.Prelude.{nat_le, ◌&&◌}
+use Rattle.std.proofs.lemmas.Result.{err_from_is_err_and}
+use Rattle.std.proofs.lemmas.Bool.Decides.{nat_tests}
+use Rattle.bl_mem.specs.Words.{u32_bytes, u64_bytes}
+use Rattle.bl_mem.proofs.WordLaws.{length-u32_bytes, length-u64_bytes}
+use Rattle.bl_plan.specs.Roles as roles
+use Rattle.bl_image.specs.declared.fault.ImageFault.TheVariants.{BadPart}
+use Rattle.bl_image.specs.Fields.{role_field, index_field, address_field, length_field}
+use Rattle.bl_image.proofs.Inputs.{comes_as}
+use Rattle.bl_image.proofs.ReadAgain.{role_fits, role_between}
+use Rattle.bl_image.proofs.FieldLemmas.{field_cut, field_shows, word_tells, long_tells, not_between}
+use Rattle.bl_image.proofs.record_reader.read_address.Goals as goal
+
+pub returns-in_err-address-clause-field : goal.returns-in_err-address-clause-field
+unfolding address_field
+returns-in_err-address-clause-field g c =
+    let p = err_from_is_err_and c.from_residual.result c.from_residual.ensures.1 in
+    rw (p.1, p.2) (λ fields. field_cut (address_field c.args.part c.args.before) fields _ _ _ c.in_err-address.ensures.cut)
+
+pub returns-then-address-before-clause-field : goal.returns-then-address-before-clause-field
+unfolding address_field
+returns-then-address-before-clause-field g c =
+    let n = c.in_ok-address.address in
+    let low : n < c.args.before = c.if-address-before.true in
+    let fails = long_tells (nat_le c.args.before) (BadPart c.args.part) n false c.in_ok-address.ensures.fits (grind (arith, nat_tests)) in
+    λ fields. field_shows (address_field c.args.part c.args.before) fields _ _ (u64_bytes n) c.in_ok-address.ensures.ok (length-u64_bytes n) fails
+
+pub returns-clause-field : goal.returns-clause-field
+unfolding address_field
+returns-clause-field g c =
+    let n = c.in_ok-address.address in
+    let above : c.args.before ≤ n = omega arith in
+    record {
+      comes = c.in_ok-address.ensures.ok;
+      size = length-u64_bytes n;
+      passes = long_tells (nat_le c.args.before) (BadPart c.args.part) n true c.in_ok-address.ensures.fits (grind (arith, nat_tests));
+    }

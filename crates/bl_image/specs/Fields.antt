@@ -1,0 +1,73 @@
+-- The fields of an image, in their order, and the first fault among them. Own.
+use Rattle.std.specs.Prelude.{ℕ, ◌+◌, ◌^◌, Bool, true, not, ◌&&◌, if◌then◌else◌, ◌==◌, nat_lt, nat_le, List, [], ◌∷◌, length, take, drop, bytes_eq, Option, Some, None}
+use Rattle.bl_mem.specs.Words.{u32_at, u64_at}
+use Rattle.bl_load.specs.HandoffFacts.{most_parts}
+use Rattle.bl_image.specs.declared.fault.ImageFault.{ImageFault}
+use Rattle.bl_image.specs.declared.fault.ImageFault.TheVariants.{BadMagic, BadVersion, BadHeader, BadPart, WrongLength}
+use Rattle.bl_image.specs.Image.{magic}
+
+-- a field: how many bytes it has, what they must pass, and the fault if they don't
+pub record Field : Type 0 where
+  pub size : ℕ
+  pub passes : List ℕ → Bool
+  pub fault : ImageFault
+
+-- a number of 32 bits, and one of 64, of which a test holds
+abbrev pub word : (ℕ → Bool) → ImageFault → Field
+word test fault = record { size = 4; passes = λ bytes. test (u32_at bytes 0); fault = fault }
+
+abbrev pub long : (ℕ → Bool) → ImageFault → Field
+long test fault = record { size = 8; passes = λ bytes. test (u64_at bytes 0); fault = fault }
+
+-- the first fault where these fields must begin: bytes that end inside a field have the wrong length
+abbrev pub fields_fault : List Field → List ℕ → Option ImageFault
+fields_fault [] bytes = None
+fields_fault (field ∷ fields) bytes =
+    if nat_lt (length bytes) field.size then Some WrongLength else
+    if not (field.passes (take field.size bytes)) then Some field.fault else
+    fields_fault fields (drop field.size bytes)
+
+-- the fields of the head
+unfoldable pub magic_field : Field
+magic_field = record { size = 8; passes = bytes_eq magic; fault = BadMagic }
+
+unfoldable pub version_field : Field
+version_field = word (λ version. version == 1) BadVersion
+
+-- 1 is Multiboot2, 2 is Linux
+unfoldable pub protocol_field : Field
+protocol_field = word (λ protocol. nat_le 1 protocol && nat_le protocol 2) BadHeader
+
+-- 20 numbers of 32 bits, of any value
+unfoldable pub registers_field : Field
+registers_field = record { size = 80; passes = λ bytes. true; fault = BadHeader }
+
+unfoldable pub count_field : Field
+count_field = word (λ count. nat_le count most_parts) BadHeader
+
+unfoldable pub zero_field : Field
+zero_field = word (λ zero. zero == 0) BadHeader
+
+abbrev pub head_fields : List Field
+head_fields =
+    magic_field ∷ version_field ∷ protocol_field ∷ registers_field ∷ count_field ∷ zero_field ∷ []
+
+-- the fields of a record
+unfoldable pub role_field : ℕ → Field
+role_field part = word (λ role. nat_le 1 role && nat_le role 7) (BadPart part)
+
+unfoldable pub index_field : ℕ → Field
+index_field part = word (λ index. true) (BadPart part)
+
+-- not below the end of the record before
+unfoldable pub address_field : ℕ → ℕ → Field
+address_field part before = long (nat_le before) (BadPart part)
+
+-- of a part at this address, which ends at most at 4 GiB
+unfoldable pub length_field : ℕ → ℕ → Field
+length_field part address =
+    long (λ count. nat_le 1 count && nat_le (address + count) (2 ^ 32)) (BadPart part)
+
+-- the fields of a record but its length, which must fit the address
+abbrev pub record_fields : ℕ → ℕ → List Field
+record_fields part before = role_field part ∷ index_field part ∷ address_field part before ∷ []

@@ -1,0 +1,35 @@
+-- What the code keeps as it reads records. Own.
+use Rattle.std.specs.Prelude.{ℕ, ◌+◌, ◌<◌, ◌≤◌, ◌^◌, List, [], ◌∷◌, length, All, AllPairs}
+use Rattle.bl_plan.specs.declared.place.Place.{Place}
+use Rattle.bl_load.specs.Handover.{Part}
+use Rattle.bl_load.specs.HandoffFacts.{Ascends}
+use Rattle.bl_image.specs.Spellable.{PlaceFits}
+
+-- a record that may follow, where the part before ends there
+pub record IsNext (before : ℕ) (place : Place) : Type 0 where
+  pub index : place.index < 2 ^ 32
+  pub above : before ≤ place.address
+  pub filled : 1 ≤ place.length
+  pub below : place.address + place.length ≤ 2 ^ 32
+
+-- records that may stand one behind the other, up to that end
+pub record AreSound (places : List Place) (end : ℕ) : Type 0 where
+  pub filled : All (λ place. 1 ≤ place.length) places
+  pub below : All (λ place. place.address + place.length ≤ 2 ^ 32) places
+  pub upto : All (λ place. place.address + place.length ≤ end) places
+  pub ascending : AllPairs Ascends places
+  pub fit : All PlaceFits places
+
+-- how many bytes the parts at these places have
+abbrev pub bytes_at : List Place → ℕ
+bytes_at [] = 0
+bytes_at (place ∷ places) = place.length + bytes_at places
+
+-- the place of a part
+abbrev pub place_of : Part → Place
+place_of part = record {
+  role = part.role;
+  index = part.index;
+  address = part.address;
+  length = length part.bytes;
+}

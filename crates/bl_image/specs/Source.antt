@@ -1,0 +1,54 @@
+-- What came from a source. Own.
+use Rattle.std.specs.Prelude.{◌≡◌, ℕ, List, [], ◌++◌, Option, Some, None, Result, Ok, Err}
+use Rattle.std.specs.Io.KnownBytes.{Consumes}
+use Rattle.bl_image.specs.declared.fault.ImageFault.{ImageFault}
+use Rattle.bl_image.specs.declared.fault.ImageFault.TheVariants.{DeviceFault, NoMemory}
+
+-- the bytes that reads gave so far; those that they will give from here on, where that is known
+pub record Input : Type 0 where
+  pub given : List ℕ
+  pub rest : Option (List ℕ)
+
+-- these bytes came, and no others; where it was known what was to come, it begins with them
+pub record Comes (old new : Input) (bytes : List ℕ) : Type 0 where
+  pub given_is : new.given ≡ old.given ++ bytes
+  pub rest_is : Consumes old.rest new.rest bytes
+
+-- nothing is to come
+abbrev pub IsEnded : Input → Type 0
+IsEnded input = input.rest ≡ Some []
+
+-- these bytes may be all that is to come
+abbrev pub MayFollow : Option (List ℕ) → List ℕ → Type 0
+MayFollow None bytes = Unit {0}
+MayFollow (Some rest) bytes = bytes ≡ rest
+
+-- what came shows this fault, whatever may follow
+pub record Shows (fault_in : List ℕ → Option ImageFault) (old new : Input) (fault : ImageFault) : Type 0 where
+  pub came : List ℕ
+  pub comes : Comes old new came
+  pub shown : (bytes : List ℕ) → MayFollow new.rest bytes → fault_in (came ++ bytes) ≡ Some fault
+
+-- a fault of what came; but a device may fail and memory run out at any time
+abbrev pub Refuses : (List ℕ → Option ImageFault) → Input → Input → ImageFault → Type 0
+Refuses fault_in old new DeviceFault = Unit {0}
+Refuses fault_in old new NoMemory = Unit {0}
+Refuses fault_in old new fault = Shows fault_in old new fault
+
+-- the same of bytes that are known
+abbrev pub Fails : (List ℕ → Option ImageFault) → List ℕ → ImageFault → Type 0
+Fails fault_in bytes DeviceFault = Unit {0}
+Fails fault_in bytes NoMemory = Unit {0}
+Fails fault_in bytes fault = fault_in bytes ≡ Some fault
+
+-- a fault that says nothing of the bytes
+abbrev pub IsOfTheMoment : ImageFault → Type 0
+IsOfTheMoment DeviceFault = Unit {0}
+IsOfTheMoment NoMemory = Unit {0}
+IsOfTheMoment fault = ⊥
+
+-- how many faults of the source a reader met
+abbrev pub faults_met : {T : Type 0} → Result T ImageFault → ℕ
+faults_met (Ok value) = 0
+faults_met (Err DeviceFault) = 1
+faults_met (Err fault) = 0

@@ -1,0 +1,32 @@
+-- What the code keeps as it reads a source. Own.
+use Rattle.std.specs.Prelude.{◌≡◌, ◌<◌, ℕ, true, List, ◌∷◌, length, Result, MatchResult}
+use Rattle.bl_image.specs.declared.fault.ImageFault.{ImageFault}
+use Rattle.bl_image.specs.declared.fault.ImageFault.TheVariants.{WrongLength, DeviceFault, NoMemory}
+use Rattle.bl_image.specs.Fields.{Field, fields_fault}
+use Rattle.bl_image.specs.Source.{Input, Comes, IsEnded, Refuses}
+
+-- fewer bytes came than so many, and then the input ended
+pub record Ends (old new : Input) (count : ℕ) : Type 0 where
+  pub came : List ℕ
+  pub comes : Comes old new came
+  pub short : length came < count
+  pub ended : IsEnded new
+
+-- why fewer came: the input ended; or the device failed, or memory ran out
+abbrev pub IsCut : Input → Input → ℕ → ImageFault → Type 0
+IsCut old new count WrongLength = Ends old new count
+IsCut old new count DeviceFault = Unit {0}
+IsCut old new count NoMemory = Unit {0}
+IsCut old new count fault = ⊥
+
+-- the field came, and is as it must be
+pub record Passes (field : Field) (old new : Input) (bytes : List ℕ) : Type 0 where
+  pub comes : Comes old new bytes
+  pub size : length bytes ≡ field.size
+  pub passes : field.passes bytes ≡ true
+
+-- what was read is the field; or it has a fault, whatever fields follow
+abbrev pub Reads : {X : Type 0} → Field → Input → Input → (X → List ℕ) → Result X ImageFault → Type 0
+Reads field old new spelled result =
+    MatchResult result (λ value. Passes field old new (spelled value))
+    (λ fault. (fields : List Field) → Refuses (fields_fault (field ∷ fields)) old new fault)

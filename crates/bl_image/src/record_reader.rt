@@ -1,0 +1,161 @@
+//! The records of an image, read.
+ghost use Rattle.std.specs.Prelude.{◌≡◌, ◌+◌, ◌≤◌, ◌<◌, ◌^◌, List, ℕ, ◌++◌, length, nat_le};
+ghost use Rattle.std.specs.Prelude.{◌&&◌, All, IfOk, IfErr, MatchOption};
+ghost use Rattle.std.specs.List.{flat_map};
+ghost use Rattle.bl_mem.specs.Words.{u32_bytes, u64_bytes};
+ghost use Rattle.bl_plan.specs.Roles as roles;
+ghost use Rattle.bl_load.specs.HandoffFacts.{AreRecords, most_parts};
+ghost use Rattle.bl_image.specs.Fields as fields;
+ghost use Rattle.bl_image.specs.Image.{place_record};
+ghost use Rattle.bl_image.specs.ImageFaults.{record_fault, parts_fault, end_fault, none_before};
+ghost use Rattle.bl_image.specs.RecordsKept.{IsNext, bytes_at};
+ghost use Rattle.bl_image.specs.Source.{Comes, Refuses, faults_met};
+ghost use Rattle.bl_image.specs.SourceKept.{Reads};
+ghost use Rattle.bl_image.specs.Spellable.{PlaceFits};
+
+use crate::fault::ImageFault;
+use crate::fields::{read_u32, read_u64};
+use crate::source::Source;
+use bl_plan::{Place, Role};
+use std::alloc::Allocator;
+
+/// Where a part ends at most: 4 GiB.
+const MOST_END: u64 = 0x1_0000_0000;
+
+fn role_of(number: u32) -> Option<Role>
+    ensures { MatchOption result
+        ((1 ≤ number) × (number ≤ 7) → ⊥)
+        (λ role. roles.role_number role ≡ number) }
+{
+    match number {
+        1 => Some(Role::Kernel),
+        2 => Some(Role::Module),
+        3 => Some(Role::Information),
+        4 => Some(Role::BootParams),
+        5 => Some(Role::CommandLine),
+        6 => Some(Role::Gdt),
+        7 => Some(Role::Initrd),
+        _ => None,
+    }
+}
+
+fn read_role<S: Source>(source: &mut S, part: u32) -> Result<Role, ImageFault>
+    requires { S.faults source.old < 2 ^ 63 }
+    ensures field { Reads (fields.role_field part) (S.input source.old) (S.input source.new)
+        (λ role. u32_bytes (roles.role_number role)) result }
+    ensures faults { S.faults source.new ≡ S.faults source.old + faults_met result }
+{
+    let number = read_u32(source)?;
+    let Some(role) = role_of(number) else {
+        return Err(ImageFault::BadPart(part));
+    };
+    Ok(role)
+}
+
+fn read_index<S: Source>(source: &mut S, _part: u32) -> Result<u32, ImageFault>
+    requires { S.faults source.old < 2 ^ 63 }
+    ensures field { Reads (fields.index_field _part) (S.input source.old) (S.input source.new)
+        u32_bytes result }
+    ensures fits { IfOk result (λ index. index < 2 ^ 32) }
+    ensures faults { S.faults source.new ≡ S.faults source.old + faults_met result }
+{
+    let index = read_u32(source)?;
+    Ok(index)
+}
+
+/// Reads an address, which is not below the end of the part before.
+fn read_address<S: Source>(source: &mut S, part: u32, before: u64) -> Result<u64, ImageFault>
+    requires { S.faults source.old < 2 ^ 63 }
+    ensures field { Reads (fields.address_field part before)
+        (S.input source.old) (S.input source.new) u64_bytes result }
+    ensures fits { IfOk result (λ address. address < 2 ^ 64) }
+    ensures above { IfOk result (λ address. before ≤ address) }
+    ensures faults { S.faults source.new ≡ S.faults source.old + faults_met result }
+{
+    let address = read_u64(source)?;
+    if address < before {
+        return Err(ImageFault::BadPart(part));
+    }
+    Ok(address)
+}
+
+/// Reads the length of a part at this address.
+fn read_length<S: Source>(source: &mut S, part: u32, address: u64) -> Result<u64, ImageFault>
+    requires { S.faults source.old < 2 ^ 63 }
+    ensures field { Reads (fields.length_field part address)
+        (S.input source.old) (S.input source.new) u64_bytes result }
+    ensures filled { IfOk result (λ count. 1 ≤ count) }
+    ensures below { IfOk result (λ count. address + count ≤ 2 ^ 32) }
+    ensures faults { S.faults source.new ≡ S.faults source.old + faults_met result }
+{
+    let count = read_u64(source)?;
+    if !may_have(address, count) {
+        return Err(ImageFault::BadPart(part));
+    }
+    Ok(count)
+}
+
+/// Whether a part at this address may have so many bytes.
+fn may_have(address: u64, count: u64) -> bool
+    ensures { result ≡ (nat_le 1 count && nat_le (address + count) (2 ^ 32)) }
+{
+    if count == 0 {
+        return false;
+    }
+    if address > MOST_END {
+        return false;
+    }
+    count <= MOST_END - address
+}
+
+/// Reads a record; the part before ends at `before`.
+fn read_record<S: Source>(source: &mut S, part: u32, before: u64) -> Result<Place, ImageFault>
+    requires { S.faults source.old < 2 ^ 63 }
+    ensures ok { IfOk result
+        (λ place. Comes (S.input source.old) (S.input source.new) (place_record place)) }
+    ensures next { IfOk result (IsNext before) }
+    ensures refused { IfErr result
+        (Refuses (record_fault part before) (S.input source.old) (S.input source.new)) }
+    ensures faults { S.faults source.new ≡ S.faults source.old + faults_met result }
+{
+    let role = read_role(source, part)?;
+    let index = read_index(source, part)?;
+    let address = read_address(source, part, before)?;
+    let length = read_length(source, part, address)?;
+    Ok(Place {
+        role,
+        index,
+        address,
+        length,
+    })
+}
+
+/// Reads so many records.
+pub(crate) fn read_records<S: Source, A: Allocator>(
+    alloc: A,
+    source: &mut S,
+    count: u32,
+) -> Result<Vec<Place, A>, ImageFault>
+    requires faults { S.faults source.old < 2 ^ 63 }
+    requires few { count ≤ most_parts }
+    ensures ok { IfOk result (λ places. Comes (S.input source.old) (S.input source.new)
+        (flat_map place_record places.items)) }
+    ensures count { IfOk result (λ places. length places.items ≡ count) }
+    ensures records { IfOk result (λ places. AreRecords places.items) }
+    ensures fit { IfOk result (λ places. All PlaceFits places.items) }
+    ensures judged { IfOk result (λ places. (bytes : List ℕ)
+        → parts_fault count none_before (flat_map place_record places.items ++ bytes)
+        ≡ end_fault (bytes_at places.items) bytes) }
+    ensures refused { IfErr result (Refuses (parts_fault count none_before)
+        (S.input source.old) (S.input source.new)) }
+    ensures faults { S.faults source.new ≡ S.faults source.old + faults_met result }
+{
+    let mut places = Vec::new(alloc);
+    let mut before = 0u64;
+    for part in 0..count {
+        let place = read_record(source, part, before)?;
+        before = place.address + place.length;
+        places.push(place)?;
+    }
+    Ok(places)
+}
