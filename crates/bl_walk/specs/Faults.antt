@@ -1,7 +1,6 @@
 -- Why an image shows a kernel nothing. Own.
 use Rattle.std.specs.Prelude.{◌≡◌, ◌-◌, ◌<◌, ◌≤◌, ℕ, List, Some, None, Err, false}
 use Rattle.std.specs.List.{Contains}
-use Rattle.bl_mem.specs.Words.{u32_at}
 use Rattle.bl_mbi.specs.InformationFacts.{ModuleInfo}
 use Rattle.bl_mbi.specs.InfoFacts.{InfoFacts}
 use Rattle.bl_mbi.specs.Reading.{info_of}
