@@ -36,7 +36,7 @@ partitioned parts address kept = IsPartitionedBy-leb (λ (p : Part). p.address) 
 lies-above : (address count : ℕ) (part : Part) → begins_upto address part ≡ false → lies_in address count part ≡ false
 lies-above address count part above = rw above
 
-lies-below : (address count : ℕ) (part : Part) → 1 ≤ count → end_of part ≤ address → lies_in address count part ≡ false
+pub lies-below : (address count : ℕ) (part : Part) → 1 ≤ count → end_of part ≤ address → lies_in address count part ≡ false
 lies-below address count part some below = grind (arith, nat_tests)
 
 -- where no part begins at an address or below it
