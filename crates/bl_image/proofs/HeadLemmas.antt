@@ -14,6 +14,9 @@ use Rattle.bl_image.specs.declared.fault.ImageFault.TheVariants.{BadVersion, Bad
 use Rattle.bl_image.specs.Image.{magic, head, register_numbers}
 use Rattle.bl_image.specs.Fields.{Field, fields_fault, head_fields, magic_field, version_field, protocol_field, registers_field, count_field, zero_field}
 use Rattle.bl_image.specs.ImageFaults.{image_fault, parts_fault, none_before}
+use Rattle.bl_image.specs.Source.{Input, Refuses}
+use Rattle.bl_image.specs.declared.fault.ImageFault.{ImageFault}
+use Rattle.bl_image.proofs.RecordLemmas.{first_refuses}
 use Rattle.bl_image.proofs.NumberLemmas.{length-u32s}
 use Rattle.bl_image.proofs.ReadAgain.{protocol_fits, protocol_between}
 use Rattle.bl_image.proofs.FieldLemmas.{field_passes, word_tells}
@@ -76,3 +79,8 @@ pub head_front : (p : Protocol) (r : Registers) (count : ℕ) (x : List ℕ) →
 unfolding image_fault
 head_front p r count x few =
     rw (head_passes p r count x few, count_stands p r count x (omega arith), behind_head p r count x) refl
+
+-- a fault of the head is the image's
+pub head_refuses : (old new : Input) (fault : ImageFault) → Refuses (fields_fault head_fields) old new fault → Refuses image_fault old new fault
+unfolding image_fault
+head_refuses old new fault s = first_refuses (fields_fault head_fields) (λ bytes. parts_fault (u32_at bytes 96) none_before (drop 104 bytes)) old new fault s

@@ -1,8 +1,8 @@
 -- What came from a source, piece after piece.
-use Rattle.std.proofs.Common.{◌≡◌, ◌+◌, ◌-◌, ◌≤◌, ◌<◌, ℕ, List, [], ◌++◌, length, take, Option, Some, None, refl, sym, ap, ◌∙◌, arith, rules, append_assoc, subst}
+use Rattle.std.proofs.Common.{◌≡◌, ◌+◌, ◌-◌, ◌≤◌, ◌<◌, ℕ, List, [], ◌++◌, length, take, drop, slice_range, Option, Some, None, refl, sym, ap, ◌∙◌, arith, rules, append_assoc, subst}
 use borrow.Rule.Slice.PartMut.{put_mid, post_of}
 use Rattle.std.proofs.Math.Seq.{take-append-add}
-use Rattle.std.proofs.lemmas.List.{append-nil, length-take-le, take-append-le}
+use Rattle.std.proofs.lemmas.List.{append-nil, length-take-le, take-append-le, same_lists, places, take_at}
 use Rattle.std.specs.Io.KnownBytes.{Consumes}
 use Rattle.bl_image.specs.Source.{Input, Comes}
 
@@ -39,3 +39,21 @@ take_piece done k n out piece h within =
     ap (λ (m : ℕ). take (m + n) (put_mid done k out piece)) (sym size)
     ∙ take-append-add front (piece ++ post_of done k out) n
     ∙ ap (λ (l : List ℕ). front ++ l) (take-append-le n piece (post_of done k out) within)
+
+-- a part of bytes, behind those before it and before those behind it
+pub part_given : (bytes : List ℕ) (at n : ℕ) → at + n ≤ length bytes → take (at + n) bytes ≡ take at bytes ++ slice_range bytes at (at + n)
+part_given bytes at n h = same_lists _ _ (search (rules, places)) (λ k d within. grind (arith, places))
+
+pub part_left : (bytes : List ℕ) (at n : ℕ) → at + n ≤ length bytes → drop at bytes ≡ slice_range bytes at (at + n) ++ drop (at + n) bytes
+part_left bytes at n h = same_lists _ _ (search (rules, places)) (λ k d within. grind (arith, places))
+
+-- a part of bytes that are known came
+pub part_came : (bytes : List ℕ) (at n : ℕ) (piece rest : List ℕ) → at + n ≤ length bytes → piece ≡ slice_range bytes at (at + n)
+    → Comes (record { given = take at bytes; rest = Some (drop at bytes) }) (record { given = take (at + n) bytes; rest = Some (drop (at + n) bytes) }) (take n (piece ++ rest))
+part_came bytes at n piece rest h is =
+    let long : length (slice_range bytes at (at + n)) ≡ n = search (rules, places) in
+    let front : take n (piece ++ rest) ≡ slice_range bytes at (at + n) = take_at piece rest n (ap length is ∙ long) ∙ is in
+    record {
+      given_is = part_given bytes at n h ∙ ap (λ (l : List ℕ). take at bytes ++ l) (sym front);
+      rest_is = part_left bytes at n h ∙ ap (λ (l : List ℕ). l ++ drop (at + n) bytes) (sym front);
+    }

@@ -1,6 +1,9 @@
 mod FieldLemmas
 mod HeadLemmas
 mod Listed
+mod ImageLaws
+mod KnownLemmas
+mod PartLemmas
 mod RecordLemmas
 pub mod Inputs
 pub mod Ways

@@ -133,7 +133,7 @@ came_more ps p =
     ∙ ap (λ (l : List ℕ). flat_map place_record ps ++ l) (flat_map-cons place_record p [] ∙ append-nil (place_record p))
 
 -- what the records so far say
-abbrev so_far : ℕ → ℕ → List Place → Before
+abbrev pub so_far : ℕ → ℕ → List Place → Before
 so_far count end ps = record { count = count; end = end; bytes = bytes_at ps }
 
 pub judged_more : (count part : ℕ) (ps : List Place) (end : ℕ) (p : Place) → part < count → IsNext end p

@@ -7,4 +7,5 @@ pub mod ImageParts
 pub mod RecordsKept
 pub mod Source
 pub mod SourceKept
+pub mod Sources
 pub mod Spellable

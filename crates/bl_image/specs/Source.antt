@@ -41,6 +41,12 @@ Fails fault_in bytes DeviceFault = Unit {0}
 Fails fault_in bytes NoMemory = Unit {0}
 Fails fault_in bytes fault = fault_in bytes ≡ Some fault
 
+-- a fault that says nothing of the bytes
+abbrev pub IsOfTheMoment : ImageFault → Type 0
+IsOfTheMoment DeviceFault = Unit {0}
+IsOfTheMoment NoMemory = Unit {0}
+IsOfTheMoment fault = ⊥
+
 -- how many faults of the source a reader met
 abbrev pub faults_met : {T : Type 0} → Result T ImageFault → ℕ
 faults_met (Ok value) = 0

@@ -1,10 +1,17 @@
 //! Laws of the definitions.
-ghost use Rattle.std.specs.Prelude.{◌≡◌};
+ghost use Rattle.std.specs.Prelude.{◌≡◌, None};
 ghost use Rattle.bl_load.specs.Handover.{Handover};
 ghost use Rattle.bl_image.specs.Image.{spelling};
+ghost use Rattle.bl_image.specs.ImageFaults.{image_fault};
+ghost use Rattle.bl_image.specs.ImageParts.{IsKept};
 ghost use Rattle.bl_image.specs.Spellable.{IsSpellable};
 
 /// Two handovers whose numbers fit have one image only where they are one.
 pub fn image_tells_all()
     ensures { (h k : Handover) → IsSpellable h → IsSpellable k → spelling h ≡ spelling k → h ≡ k }
+{}
+
+/// The image of what an image keeps has no fault.
+pub fn images_have_no_fault()
+    ensures { (h : Handover) → IsKept h → image_fault (spelling h) ≡ None }
 {}

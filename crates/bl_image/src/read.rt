@@ -4,9 +4,8 @@ ghost use Rattle.std.specs.Prelude.{MatchResult};
 ghost use Rattle.bl_load.specs.Handover.{Handover};
 ghost use Rattle.bl_image.specs.Image.{spelling};
 ghost use Rattle.bl_image.specs.ImageFaults.{image_fault, end_fault};
-ghost use Rattle.bl_image.specs.ImageParts.{AreImageParts};
-ghost use Rattle.bl_image.specs.Source.{Comes, IsEnded, Refuses, Fails, faults_met};
-ghost use Rattle.bl_image.specs.Spellable.{IsSpellable};
+ghost use Rattle.bl_image.specs.ImageParts.{IsKept, IsImage};
+ghost use Rattle.bl_image.specs.Source.{Comes, IsEnded, Refuses, Fails, IsOfTheMoment, faults_met};
 
 use crate::fault::ImageFault;
 use crate::head_reader::read_head;
@@ -35,9 +34,31 @@ fn read_end<S: Source>(source: &mut S) -> Result<(), ImageFault>
     Ok(())
 }
 
+/// Reads an image, part by part.
+fn read_whole<S: Source, A: Allocator + Copy>(
+    alloc: A,
+    source: &mut S,
+) -> Result<Image<A>, ImageFault>
+    requires { S.faults source.old < 2 ^ 63 }
+    ensures ok { IfOk result
+        (λ image. Comes (S.input source.old) (S.input source.new) (spelling image)) }
+    ensures ended { OnOk result (IsEnded (S.input source.new)) }
+    ensures kept { IfOk result IsKept }
+    ensures refused { IfErr result
+        (Refuses image_fault (S.input source.old) (S.input source.new)) }
+    ensures faults { S.faults source.new ≡ S.faults source.old + faults_met result }
+{
+    let head = read_head(source)?;
+    let places = read_records(alloc, source, head.count)?;
+    let mut buffer = [0u8; BUFFER];
+    let parts = read_parts(alloc, source, &places, &mut buffer)?;
+    read_end(source)?;
+    Ok(Image::new(head.protocol, head.registers, parts))
+}
+
 /// Reads an image to the end of the source, or answers why that is none: the first fault in the
 /// order of reading, each field judged as soon as it came. It reads no further than it must, and
-/// takes memory only for what came. A fault of the source can come at any read, and a growth can be
+/// takes memory only for what came. The source may have a fault at any read, and memory may be
 /// refused at any growth.
 pub fn read_image<S: Source, A: Allocator + Copy>(
     alloc: A,
@@ -49,8 +70,7 @@ pub fn read_image<S: Source, A: Allocator + Copy>(
     ensures ok { IfOk result
         (λ image. Comes (S.input source.old) (S.input source.new) (spelling image)) }
     ensures ended { OnOk result (IsEnded (S.input source.new)) }
-    ensures parts { IfOk result (λ image. AreImageParts image.parts) }
-    ensures spellable { IfOk result IsSpellable }
+    ensures kept { IfOk result IsKept }
 
     // What came has that first fault, whatever may follow.
     ensures refused { IfErr result
@@ -61,12 +81,10 @@ pub fn read_image<S: Source, A: Allocator + Copy>(
 
     // Where it is known what is to come, that decides.
     ensures known { (bytes : List ℕ) → (S.input source.old).rest ≡ Some bytes
-        → MatchResult result (λ image. bytes ≡ spelling image) (Fails image_fault bytes) }
+        → MatchResult result (IsImage bytes) (Fails image_fault bytes) }
+    ensures accepts { (bytes : List ℕ) → (S.input source.old).rest ≡ Some bytes
+        → (handover : Handover) → IsImage bytes handover
+        → MatchResult result (λ image. image ≡ handover) IsOfTheMoment }
 {
-    let head = read_head(source)?;
-    let places = read_records(alloc, source, head.count)?;
-    let mut buffer = [0u8; BUFFER];
-    let parts = read_parts(alloc, source, &places, &mut buffer)?;
-    read_end(source)?;
-    Ok(Image::new(head.protocol, head.registers, parts))
+    read_whole(alloc, source)
 }

@@ -5,7 +5,7 @@ use Rattle.std.specs.declared.ops.Range.{Range}
 use Rattle.bl_mem.specs.Least.{IsLeast, IsGreatest}
 use Rattle.bl_mem.proofs.LeastLaws.{least_below}
 use Rattle.bl_map.specs.MachineFacts.{MachineFacts}
-use Rattle.bl_plan.specs.Permitted.{IsPermitted, IsPreferred}
+use Rattle.bl_plan.specs.Permitted.{IsPreferred}
 use Rattle.bl_plan.specs.Placed.{ArePlaced, IsFirstFault, IsChosen, HasFault, place_at, range_of}
 use Rattle.bl_plan.specs.Planned.{put_in}
 use Rattle.bl_plan.specs.declared.choice.Choice.{Choice}

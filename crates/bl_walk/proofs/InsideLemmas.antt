@@ -1,6 +1,6 @@
 -- The one part in which a range can lie, among parts that ascend.
-use Rattle.std.proofs.Common.{◌≡◌, ◌+◌, ◌-◌, ◌<◌, ◌≤◌, ◌⊎◌, inl, inr, ◌&&◌, ℕ, suc, nat_le, ◌==◌, Bool, true, false, List, [], length, take, drop, get_or, slice_range, Option, Some, None, option_map, refl, sym, ap, ◌∙◌, arith, subst, length-drop}
-use Rattle.std.specs.List.{find, slice_get, position_or_len}
+use Rattle.std.proofs.Common.{◌≡◌, ◌+◌, ◌-◌, ◌<◌, ◌≤◌, inl, inr, ℕ, ◌==◌, true, false, List, [], length, take, drop, get_or, slice_range, Option, Some, None, option_map, refl, sym, ap, ◌∙◌, arith, subst, length-drop}
+use Rattle.std.specs.List.{slice_get, position_or_len}
 use Rattle.std.specs.List.Sorted.{IsNonDecreasingBy, IsPartitionedBy, IsPartitionPoint}
 use Rattle.std.proofs.lemmas.Bool.{leb-true, ne_eqb, cases_order}
 use Rattle.std.proofs.lemmas.Bool.Decides.{nat_tests}
@@ -36,7 +36,7 @@ partitioned parts address kept = IsPartitionedBy-leb (λ (p : Part). p.address) 
 lies-above : (address count : ℕ) (part : Part) → begins_upto address part ≡ false → lies_in address count part ≡ false
 lies-above address count part above = rw above
 
-lies-below : (address count : ℕ) (part : Part) → 1 ≤ count → end_of part ≤ address → lies_in address count part ≡ false
+pub lies-below : (address count : ℕ) (part : Part) → 1 ≤ count → end_of part ≤ address → lies_in address count part ≡ false
 lies-below address count part some below = grind (arith, nat_tests)
 
 -- where no part begins at an address or below it

@@ -1,5 +1,5 @@
 -- The bytes of a range are as many as are asked for.
-use Rattle.std.proofs.Common.{◌≡◌, ◌+◌, ◌-◌, ◌<◌, ◌≤◌, ◌&&◌, ℕ, Bool, true, false, List, [], ◌∷◌, length, take, drop, slice_range, Option, Some, None, option_map, cond, refl, sym, ap, ◌∙◌, arith, ⊎_elim, length-take, length-drop}
+use Rattle.std.proofs.Common.{◌≡◌, ◌+◌, ◌-◌, ◌<◌, ◌≤◌, ◌&&◌, ℕ, Bool, true, false, List, [], ◌∷◌, length, slice_range, Option, Some, None, option_map, cond, refl, sym, ap, ◌∙◌, arith, ⊎_elim, length-take, length-drop}
 use Rattle.std.specs.List.{find}
 use Rattle.std.proofs.lemmas.Bool.{leb-true, cases_order}
 use Rattle.bl_load.specs.Handover.{Part, end_of}
@@ -19,8 +19,8 @@ passes : {X : Type 0} (p : X → Bool) (xs : List X) (x : X) → find p xs ≡ S
 passes p [] x found = absurd (cc)
 passes p (y ∷ ys) x found =
     elim (p y) as (λ b. p y ≡ b → cond b (Some y) (find p ys) ≡ Some x → p x ≡ true) [
-      true ↦ λ e first. ap p (sym (same_some y x first)) ∙ e
-    | false ↦ λ e later. passes p ys x later
+      | true ↦ λ e first. ap p (sym (same_some y x first)) ∙ e
+      | false ↦ λ e later. passes p ys x later
     ] refl found
 
 -- the part that is found holds the range

@@ -5,3 +5,4 @@ pub mod RefusalLemmas
 pub mod LengthLemmas
 pub mod SoundLemmas
 pub mod SeenLaws
+pub mod PartLemmas

@@ -1,10 +1,8 @@
 -- The modules, one more after those that are there.
-use Rattle.std.proofs.Common.{◌≡◌, ◌-◌, ℕ, suc, List, [], ◌∷◌, ◌++◌, get_or, length, ◌<◌, None, Some, arith}
-use Rattle.std.specs.List.{Contains}
+use Rattle.std.proofs.Common.{List, [], ◌∷◌, ◌++◌}
 use Rattle.bl_mbi.specs.InformationFacts.{ModuleInfo}
 use Rattle.bl_load.specs.Handover.{Part}
 use Rattle.bl_walk.specs.SeenFacts.{SeenModuleFacts}
-use Rattle.bl_walk.specs.Inside.{bytes_in}
 use Rattle.bl_walk.specs.Seen.{IsSeenModule, AreSeenModules}
 
 pub one_more : (parts : List Part) (ms : List ModuleInfo) (ss : List SeenModuleFacts) (m : ModuleInfo) (s : SeenModuleFacts)

@@ -1,5 +1,5 @@
 -- Where something is seen in an image that is entered as it must be, no fault stands.
-use Rattle.std.proofs.Common.{◌≡◌, ◌-◌, ◌<◌, ◌≤◌, ◌^◌, ℕ, zero, suc, List, [], ◌∷◌, length, get_or, Option, Some, None, Result, Ok, Err, true, false, refl, sym, ap, ◌∙◌, arith, subst, ⊎_elim}
+use Rattle.std.proofs.Common.{◌≡◌, ◌-◌, ◌<◌, ◌^◌, ℕ, zero, suc, List, [], ◌∷◌, length, get_or, Option, Some, None, Result, Ok, Err, sym, ap, ◌∙◌, arith, subst, ⊎_elim}
 use Rattle.std.specs.Prelude.{IfOk, OnOk}
 use Rattle.std.specs.List.{Contains}
 use Rattle.bl_mem.specs.Words.{u32_at}
@@ -16,7 +16,7 @@ use Rattle.bl_plan.specs.declared.protocol.Protocol.TheVariants.{Multiboot2, Lin
 use Rattle.bl_load.specs.Handover.{Part, Handover}
 use Rattle.bl_walk.specs.Faults.{IsFollowed, IsOutside, HasBadInfo, HasBadState, IsSound, fixed_part, information, loaded_module, descriptors, boot_params, command_line, initrd, outside_kernel, outside_parts, short_information, other_information, other_parameters, endless_line, other_registers, other_descriptors}
 use Rattle.bl_walk.specs.Inside.{bytes_in, rest_in}
-use Rattle.bl_walk.specs.Seen.{HasTotalSize, IsInformation, InformationSays, IsSeenModule, AreSeenModules, InformationShows, AreParameters, ParametersSay, IsLine, IsInitrd, ParametersShow, IsSeen, text_of}
+use Rattle.bl_walk.specs.Seen.{HasTotalSize, IsInformation, InformationSays, AreSeenModules, InformationShows, AreParameters, ParametersSay, IsLine, IsInitrd, ParametersShow, IsSeen, text_of}
 use Rattle.bl_walk.specs.SeenFacts.{SeenModuleFacts, SeenFileFacts, SeenFacts}
 use Rattle.bl_walk.specs.State.{IsEntered}
 use Rattle.bl_walk.proofs.InsideLemmas.{nothing_in, rest_is_inside}

@@ -1,5 +1,5 @@
 -- The part that the kernel is entered in.
-use Rattle.std.proofs.Common.{◌≡◌, ◌<◌, ◌≤◌, ℕ, Bool, true, false, List, Option, Some, None, sym, ap, ◌∙◌}
+use Rattle.std.proofs.Common.{◌≡◌, ℕ, false, List, Some, None, sym}
 use Rattle.bl_load.specs.Handover.{Part}
 use Rattle.bl_walk.specs.Inside.{part_with}
 use Rattle.bl_walk.specs.State.{is_kernel, is_in_kernel}

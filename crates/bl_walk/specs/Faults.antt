@@ -1,7 +1,6 @@
 -- Why an image shows a kernel nothing. Own.
 use Rattle.std.specs.Prelude.{◌≡◌, ◌-◌, ◌<◌, ◌≤◌, ℕ, List, Some, None, Err, false}
 use Rattle.std.specs.List.{Contains}
-use Rattle.bl_mem.specs.Words.{u32_at}
 use Rattle.bl_mbi.specs.InformationFacts.{ModuleInfo}
 use Rattle.bl_mbi.specs.InfoFacts.{InfoFacts}
 use Rattle.bl_mbi.specs.Reading.{info_of}
@@ -35,7 +34,8 @@ pub data IsFollowed (h : Handover) : ℕ → ℕ → Type 0 where
   -- Linux: the descriptors, the boot parameters, the line's first byte, the initial ramdisk
   descriptors : h.protocol ≡ Linux → IsFollowed h h.registers.gdt_base 32
   boot_params : h.protocol ≡ Linux → IsFollowed h h.registers.esi 4096
-  command_line : (params : ParamsFacts) → ParametersSay h params → IsFollowed h params.cmd_line_ptr 1
+  command_line : (params : ParamsFacts) → ParametersSay h params
+      → IsFollowed h params.cmd_line_ptr 1
   initrd : (params : ParamsFacts) → ParametersSay h params
       → IsFollowed h params.ramdisk_image params.ramdisk_size
 
@@ -55,7 +55,8 @@ pub data HasBadInfo (h : Handover) : Type 0 where
   endless_line : (params : ParamsFacts) (rest : List ℕ) → ParametersSay h params
       → rest_in h.parts params.cmd_line_ptr ≡ Some rest → text_of rest ≡ None → HasBadInfo h
 
--- 83: a register that does not hold an address has another number, or a Linux kernel is handed other descriptors
+-- 83: a register that does not hold an address has another number, or a Linux kernel is handed
+-- other descriptors
 pub data HasBadState (h : Handover) : Type 0 where
   other_registers : ¬ (h.registers ≡ entry_registers h.protocol h.registers) → HasBadState h
   other_descriptors : (bytes : List ℕ) → h.protocol ≡ Linux

@@ -7,7 +7,8 @@ use Rattle.bl_load.specs.Handover.{Part, end_of}
 abbrev pub lies_in : ℕ → ℕ → Part → Bool
 lies_in address count part = nat_le part.address address && nat_le (address + count) (end_of part)
 
--- the part that they lie in, of whatever role; bytes that reach from one part into the next lie in none
+-- the part that they lie in, of whatever role; bytes that reach from one part into the next lie in
+-- none
 unfoldable pub part_with : List Part → ℕ → ℕ → Option Part
 part_with parts address count = find (lies_in address count) parts
 

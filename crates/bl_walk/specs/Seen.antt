@@ -1,5 +1,6 @@
--- What a kernel sees that follows the addresses in its registers (Multiboot2 3.3 "I386 machine state", 3.6 "Boot
--- information format"; Linux/x86 boot protocol, "32-bit Boot Protocol", "Details of Header Fields").
+-- What a kernel sees that follows the addresses in its registers (Multiboot2 3.3 "I386 machine
+-- state", 3.6 "Boot information format"; Linux/x86 boot protocol, "32-bit Boot Protocol", "Details of
+-- Header Fields").
 use Rattle.std.specs.Prelude.{◌≡◌, ◌-◌, ◌<◌, ◌≤◌, ◌^◌, ◌⊎◌, ℕ, List, [], ◌∷◌, length, map, take, ◌==◌, Option, Some, None, option_map}
 use Rattle.std.specs.List.{filter, position}
 use Rattle.bl_mem.specs.Words.{u32_at}
@@ -16,7 +17,9 @@ use Rattle.bl_walk.specs.SeenFacts.{SeenModuleFacts, SeenFileFacts, SeenFacts}
 
 -- the parts of the kernel, by address and length
 abbrev pub kernel_in : List Part → List SeenPart
-kernel_in parts = map (λ part. record { address = part.address; length = length part.bytes }) (filter is_kernel parts)
+kernel_in parts =
+    map (λ part. record { address = part.address; length = length part.bytes })
+    (filter is_kernel parts)
 
 -- ---- Multiboot2
 
@@ -28,7 +31,8 @@ pub record HasTotalSize (h : Handover) (size : ℕ) : Type 0 where
   pub told : size ≡ u32_at fixed_part 0
   pub small : size < 2 ^ 32
 
--- the information's bytes: as many from that address on, and at least the fixed part and the tag that ends it
+-- the information's bytes: as many from that address on, and at least the fixed part and the tag
+-- that ends it
 pub record IsInformation (h : Handover) (bytes : List ℕ) : Type 0 where
   pub size : ℕ
   pub total_size : HasTotalSize h size
@@ -52,7 +56,8 @@ abbrev pub AreSeenModules : List Part → List ModuleInfo → List SeenModuleFac
 AreSeenModules parts [] [] = Unit {0}
 AreSeenModules parts [] (seen ∷ more) = ⊥
 AreSeenModules parts (m ∷ modules) [] = ⊥
-AreSeenModules parts (m ∷ modules) (seen ∷ more) = IsSeenModule parts m seen × AreSeenModules parts modules more
+AreSeenModules parts (m ∷ modules) (seen ∷ more) =
+    IsSeenModule parts m seen × AreSeenModules parts modules more
 
 -- what the information shows
 pub record InformationShows (h : Handover) (seen : SeenFacts) : Type 0 where

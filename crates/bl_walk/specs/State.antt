@@ -1,5 +1,5 @@
--- The state that a kernel is entered in (Multiboot2 3.3 "I386 machine state"; Linux/x86 boot protocol, "32-bit Boot
--- Protocol"). What the texts leave open is own.
+-- The state that a kernel is entered in (Multiboot2 3.3 "I386 machine state"; Linux/x86 boot
+-- protocol, "32-bit Boot Protocol"). What the texts leave open is own.
 use Rattle.std.specs.Prelude.{◌≡◌, ℕ, ◌==◌, Bool, true, false, List, Some}
 use Rattle.std.specs.Option.{option_map_or}
 use Rattle.bl_params.specs.Gdt.{gdt}
@@ -49,7 +49,8 @@ is_kernel part = role_number part.role == role_number Kernel
 unfoldable pub is_in_kernel : List Part → ℕ → Bool
 is_in_kernel parts address = option_map_or is_kernel (part_with parts address 1) false
 
--- the kernel is entered in one of its parts, with these registers, and under Linux with the descriptors
+-- the kernel is entered in one of its parts, with these registers, and under Linux with the
+-- descriptors
 pub record IsEntered (h : Handover) : Type 0 where
   pub registers : h.registers ≡ entry_registers h.protocol h.registers
   pub kernel : is_in_kernel h.parts h.registers.eip ≡ true

@@ -1,7 +1,8 @@
 //! Laws of the definitions.
-ghost use Rattle.std.specs.Prelude.{◌≡◌};
-ghost use Rattle.bl_load.specs.Handover.{Handover};
+ghost use Rattle.std.specs.Prelude.{◌≡◌, ◌+◌, ◌<◌, ◌≤◌, ℕ, List, length, AllPairs, Some, slice_index_or};
+ghost use Rattle.bl_load.specs.Handover.{Handover, Part, end_of};
 ghost use Rattle.bl_walk.specs.Faults.{IsSound};
+ghost use Rattle.bl_walk.specs.Inside.{part_with};
 ghost use Rattle.bl_walk.specs.Seen.{IsSeen};
 ghost use Rattle.bl_walk.specs.SeenFacts.{SeenFacts};
 ghost use Rattle.bl_walk.specs.State.{IsEntered};
@@ -14,4 +15,13 @@ pub fn seen_is_determined()
 /// Where something is seen in an image whose kernel is entered as it must be, no fault stands.
 pub fn seen_is_sound()
     ensures { (h : Handover) (seen : SeenFacts) → IsEntered h → IsSeen h seen → IsSound h }
+{}
+
+/// A part that holds a range of at least one byte is the one in which it lies, where parts ascend.
+pub fn ranges_lie_in_one_part()
+    ensures { (parts : List Part) (address count k : ℕ) (d : Part)
+        → AllPairs (λ p q. end_of p ≤ q.address) parts → k < length parts → 1 ≤ count
+        → (slice_index_or parts k d).address ≤ address
+        → address + count ≤ end_of (slice_index_or parts k d)
+        → part_with parts address count ≡ Some (slice_index_or parts k d) }
 {}

@@ -17,7 +17,7 @@ mod state;
 mod walking;
 
 pub use fault::WalkFault;
-pub use laws::{seen_is_determined, seen_is_sound};
+pub use laws::{ranges_lie_in_one_part, seen_is_determined, seen_is_sound};
 pub use seen::Seen;
 pub use seen_file::SeenFile;
 pub use seen_module::SeenModule;

@@ -20,7 +20,8 @@ fn module_at<A: Allocator + Copy>(
     told: &Module<A>,
 ) -> Result<SeenModule<A>, WalkFault>
     requires forward { told.now.mod_start ≤ told.now.mod_end }
-    requires followed { IsFollowed image.now told.now.mod_start (told.now.mod_end - told.now.mod_start) }
+    requires followed { let m = told.now in
+        IsFollowed image.now m.mod_start (m.mod_end - m.mod_start) }
     ensures ok { IfOk result (IsSeenModule image.now.parts told.now) }
     ensures fault { IfErr result (HasFault image.now) }
 {

@@ -39,15 +39,13 @@ pub fn give_room<M: PhysMem>(memory: &mut M, range: &Range<u64>) -> Result<bool,
         return Err(RowFault::BadRow);
     }
     let ranges = [range.start..range.end];
-    Ok(memory.reserve(&ranges).is_ok())
+    match memory.reserve(&ranges) {
+        Ok(()) => Ok(true),
+        Err(_) => Ok(false),
+    }
 }
 
-fn read<M: PhysMem>(
-    alloc: Global,
-    memory: &M,
-    at: u64,
-    length: u64,
-) -> Result<String, RowFault> {
+fn read<M: PhysMem>(alloc: Global, memory: &M, at: u64, length: u64) -> Result<String, RowFault> {
     let size = memory.size();
     if size < at || size - at < length {
         return Err(RowFault::BadRow);

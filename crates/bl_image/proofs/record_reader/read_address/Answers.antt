@@ -9,7 +9,7 @@ use Rattle.bl_image.specs.declared.fault.ImageFault.TheVariants.{BadPart}
 use Rattle.bl_image.specs.Fields.{role_field, index_field, address_field, length_field}
 use Rattle.bl_image.proofs.Inputs.{comes_as}
 use Rattle.bl_image.proofs.ReadAgain.{role_fits, role_between}
-use Rattle.bl_image.proofs.FieldLemmas.{field_cut, field_shows, word_tells, long_tells, not_between, is_true, is_false}
+use Rattle.bl_image.proofs.FieldLemmas.{field_cut, field_shows, word_tells, long_tells, not_between}
 use Rattle.bl_image.proofs.record_reader.read_address.Goals as goal
 
 pub returns-in_err-address-clause-field : goal.returns-in_err-address-clause-field

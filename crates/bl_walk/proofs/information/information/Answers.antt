@@ -1,4 +1,3 @@
-use Rattle.std.proofs.Common.{sym, ap}
 use Rattle.bl_walk.specs.Faults.{information}
 use Rattle.bl_walk.specs.Kept.{information_refusal}
 use Rattle.bl_walk.specs.Seen.{IsInformation}

@@ -1,4 +1,4 @@
-use Rattle.std.proofs.Common.{◌≡◌, get_or, take, sym, subst, arith, ◌<◌, length}
+use Rattle.std.proofs.Common.{take, sym, arith, ◌<◌, length}
 use Rattle.std.proofs.lemmas.List.{take_more}
 use Rattle.bl_walk.proofs.ModuleLemmas.{one_more}
 use Rattle.bl_walk.proofs.module.modules_at.Goals as goal

@@ -1,6 +1,3 @@
-use Rattle.std.proofs.Common.{◌≡◌, Some, sym, ap, subst, true, false}
-use Rattle.std.specs.Bool.{IsTrue}
-use Rattle.bl_params.specs.Gdt.{gdt}
 use Rattle.bl_walk.specs.Faults.{descriptors, other_descriptors}
 use Rattle.bl_walk.proofs.state.check_descriptors.Goals as goal
 

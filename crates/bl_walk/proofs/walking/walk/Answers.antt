@@ -1,4 +1,3 @@
-use Rattle.std.proofs.Common.{rules, Ok, Err, OnOk}
 use Rattle.bl_walk.proofs.SoundLemmas.{sound_by}
 use Rattle.bl_walk.proofs.walking.walk.Goals as goal
 
