@@ -32,9 +32,9 @@ only_one (y ∷ []) x one is = ap (λ y. y ∷ []) (sym is)
 only_one (y ∷ z ∷ xs) x one is = absurd (omega arith)
 
 -- what was loaded is what is handed over
-handed_by : {A : Type 0} (facts : MachineFacts) (entry : Entry) (answers : List Answer) (old new : List ℕ) (handoff : HandoffFacts)
+handed_by : (A : Type 0) (facts : MachineFacts) (entry : Entry) (answers : List Answer) (old new : List ℕ) (handoff : HandoffFacts)
     → IsAttempt {A = A} facts entry answers old new (attempt.Loaded handoff) → IsAttemptHandover facts entry answers (handover_held handoff new)
-handed_by facts entry answers old new handoff came = rw came.2.handed came.1
+handed_by A facts entry answers old new handoff came = rw came.2.handed came.1
 
 -- the sink has one fault more exactly if it had one while the image was written
 pub faults_by : (old new : ℕ) (s t image : List ℕ) (fault : EndFault) → IsHandFault old new s t image fault → HasFaults old new (Err fault)
@@ -105,7 +105,7 @@ module _ {A : Type 0} (desc : List ℕ) (d : Description A) (row : EntryRow A)
     booted_by handoff came s t u v image said = record {
       attempted = attempted came.0 came.1;
       handover = handover_held handoff new;
-      handed = handed_by {A = A} facts (entry_view row) came.0 old new handoff came.2;
+      handed = handed_by A facts (entry_view row) came.0 old new handoff came.2;
       image = image;
       said = said;
     }
@@ -117,7 +117,7 @@ module _ {A : Type 0} (desc : List ℕ) (d : Description A) (row : EntryRow A)
     not_handed_by handoff came least most s t u v Device broken unsaid = record {
       attempted = attempted came.0 came.1;
       handover = handover_held handoff new;
-      handed = handed_by {A = A} facts (entry_view row) came.0 old new handoff came.2;
+      handed = handed_by A facts (entry_view row) came.0 old new handoff came.2;
       begun = broken.1;
       unsaid = unsaid;
     }
