@@ -2,3 +2,4 @@ pub mod EndLaws
 pub mod BootLaws
 pub mod GatherLemmas
 pub mod OutcomeLaws
+pub mod OnceLemmas

@@ -2,10 +2,12 @@
 #![tactic(auto)]
 
 mod laws;
+mod menu;
 mod words;
 
 pub use laws::{
     each_attempt_ends, each_step_leads_on, ends_are_determined, first_entry_not_refused,
     steps_are_determined, two_boots,
 };
+pub use menu::{MOST_ENTRIES, MOST_MODULES, Menu, MenuFault};
 pub use words::{BootFault, Event, Outcome, Progress, RefusedEntry, Ticket};
