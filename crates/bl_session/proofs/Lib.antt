@@ -3,3 +3,4 @@ pub mod BootLaws
 pub mod GatherLemmas
 pub mod OutcomeLaws
 pub mod OnceLemmas
+pub mod StageLemmas
