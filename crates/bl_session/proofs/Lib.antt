@@ -4,3 +4,5 @@ pub mod GatherLemmas
 pub mod OutcomeLaws
 pub mod OnceLemmas
 pub mod StageLemmas
+pub mod AttemptLemmas
+pub mod AdvanceLemmas

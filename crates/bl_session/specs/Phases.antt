@@ -1,5 +1,5 @@
 -- Where a session stands, by its fields and by what memory holds.
-use Rattle.std.specs.Prelude.{◌≡◌, ℕ, List, drop, Option, Some}
+use Rattle.std.specs.Prelude.{◌≡◌, ℕ, ◌<◌, ◌≤◌, List, length, drop, Option, Some}
 use Rattle.bl_map.specs.MachineFacts.{MachineFacts}
 use Rattle.bl_load.specs.declared.refusal.PrepFault.{PrepFault}
 use Rattle.bl_load.specs.declared.refusal.PrepFault.TheVariants as prep_fault
@@ -14,7 +14,8 @@ use Rattle.bl_session.specs.declared.words.Outcome.{Outcome}
 use Rattle.bl_session.specs.declared.phase.Phase.{Phase}
 use Rattle.bl_session.specs.declared.phase.Phase.TheVariants.{Unstarted, Waits, HandedOver, Failed}
 use Rattle.bl_session.specs.Ends.{file_refusal, size_refusal, lengths_of}
-use Rattle.bl_session.specs.Boot.{State, unstarted, running, handed_over, none_left, out_of_memory}
+use Rattle.bl_session.specs.Menu.{MenuFacts, entry_at}
+use Rattle.bl_session.specs.Boot.{BootFacts, State, unstarted, running, handed_over, none_left, out_of_memory}
 
 -- what memory of these bytes hands over
 abbrev pub handover_held : List ℕ → HandoffFacts → Handover
@@ -47,3 +48,19 @@ IsSizeFault facts sizes prep_fault.NoMemory = Unit {0}
 -- a stage to which no piece came, for files of these sizes
 abbrev pub IsFresh : MachineFacts → List (Option ℕ) → Staging → Type 0
 IsFresh facts sizes stage = (frames : List ℕ) × (stage ≡ fresh facts.pool (lengths_of sizes) frames)
+
+-- what does not change in a boot, by the machine, the menu and the files' sizes
+abbrev pub boot_facts : MachineFacts → MenuFacts → List (Option ℕ) → BootFacts
+boot_facts machine menu sizes = record { machine = machine; menu = menu; sizes = sizes }
+
+-- what a session keeps of an attempt that waits
+abbrev pub IsKept : {A : Type 0} → MachineFacts → MenuFacts → Phase A → Type 0
+IsKept machine menu Unstarted = Unit {0}
+IsKept machine menu (Waits r) =
+    (r.entry < length menu.entries)
+    × (r.stage.pool ≡ machine.pool)
+    × (length r.stage.sizes ≡ length (entry_at menu r.entry).files)
+    × (length r.earlier.items < r.next)
+    × (r.next ≤ length menu.attempts)
+IsKept machine menu (HandedOver outcome) = Unit {0}
+IsKept machine menu (Failed fault) = Unit {0}

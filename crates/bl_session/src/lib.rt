@@ -1,13 +1,21 @@
 //! The boot of a menu's first entry that is not refused.
 #![tactic(auto)]
 
+mod attempt;
+mod attempting;
 mod beginning;
+mod advancing;
+mod finishing;
 mod laws;
 mod menu;
 mod phase;
 mod words;
 
+pub use advancing::begin;
+pub use attempt::Attempt;
+pub use attempting::{begin_attempt, go_on};
 pub use beginning::{MOST_BYTES, begin_stage};
+pub use finishing::finish;
 pub use laws::{
     each_attempt_ends, each_step_leads_on, ends_are_determined, first_entry_not_refused,
     steps_are_determined, two_boots,
