@@ -5,7 +5,8 @@ use Rattle.std.proofs.lemmas.List.Elements.{All-cons}
 use Rattle.std.proofs.lemmas.Bool.{cases_lt}
 use Rattle.std.proofs.lemmas.Bool.Decides.{nat_tests}
 use Rattle.bl_mem.specs.Memory.{overwrite}
-use Rattle.bl_mem.proofs.Overwrites.{length-overwrite, overwrite_more}
+use Rattle.bl_mem.specs.Files.{IsBeside, Agree}
+use Rattle.bl_mem.proofs.Overwrites.{length-overwrite, overwrite_more, beside_zeros}
 use Rattle.bl_mem.specs.declared.segment.Segment.{Segment}
 use Rattle.bl_mem.specs.Contents.{contents_of, holds}
 use Rattle.bl_load.specs.Blocks.{low_of, high_of, span_of, byte_at, first_values, block_of}
@@ -144,6 +145,18 @@ module _ (text m : List ℕ) (at low done : ℕ) (s : Segment) (rest : List Segm
   left_behind =
       let end : low + (s.address - low + s.memsz) ≡ s.address + s.memsz = omega arith in
       rw (end, length-append, length-append, length-replicate, length-contents_of text s copied) (omega arith)
+
+  -- the gap lies beside what the whole block lies beside
+  pub gap_beside : (holds : ℕ → Type 0) → IsBeside holds at (at + (done + length (block_from text (low + done) (s ∷ rest)))) → Agree holds m (overwrite m (at + done) (replicate (at + (s.address - low) - (at + done)) 0))
+  gap_beside holds beside =
+      let left : s.address - low + s.memsz + length (block_from text (low + (s.address - low + s.memsz)) rest) ≡ done + length (block_from text (low + done) (s ∷ rest)) = left_behind in
+      beside_zeros holds m (at + done) (at + (s.address - low)) (omega arith) (omega arith) (λ a from to. beside a (omega arith) (omega arith))
+
+  -- and so does the segment
+  pub segment_beside : (holds : ℕ → Type 0) → IsBeside holds at (at + (done + length (block_from text (low + done) (s ∷ rest)))) → IsBeside holds (at + (s.address - low)) (at + (s.address - low) + s.memsz)
+  segment_beside holds beside a from to =
+      let left : s.address - low + s.memsz + length (block_from text (low + (s.address - low + s.memsz)) rest) ≡ done + length (block_from text (low + done) (s ∷ rest)) = left_behind in
+      beside a (omega arith) (omega arith)
 
   -- memory keeps its size
   pub step_size : length (overwrite (overwrite m (at + done) (replicate (at + (s.address - low) - (at + done)) 0)) (at + (s.address - low)) (contents_of text s)) ≡ length m

@@ -6,6 +6,7 @@ use Rattle.std.proofs.lemmas.List.Elements.{All-map}
 use Rattle.std.proofs.lemmas.Bool.{cases_lt}
 use Rattle.std.proofs.lemmas.Simd.{map-map}
 use Rattle.std.specs.declared.ops.Range.{Range}
+use Rattle.bl_mem.specs.Files.{AllBeside, IsBeside}
 use Rattle.bl_mem.specs.Memory.{AllHaveRoom, HasRoom}
 use Rattle.bl_plan.specs.declared.place.Place.{Place}
 use Rattle.bl_plan.specs.Placed.{Covers, range_of}
@@ -22,7 +23,7 @@ use Rattle.bl_load.proofs.BlockLemmas.{length-block_of}
 use Rattle.bl_load.proofs.WrittenLemmas.{EndsWithin, IsBefore, Has, length-written, written_in, written_elsewhere}
 
 -- two functions that agree on a list
-map_same : {X Y : Type 0} (f g : X → Y) (xs : List X) → ((k : ℕ) (d : X) → k < length xs → f (get_or xs k d) ≡ g (get_or xs k d)) → map f xs ≡ map g xs
+pub map_same : {X Y : Type 0} (f g : X → Y) (xs : List X) → ((k : ℕ) (d : X) → k < length xs → f (get_or xs k d) ≡ g (get_or xs k d)) → map f xs ≡ map g xs
 map_same f g [] h = refl
 map_same {Y = Y} f g (x ∷ xs) h = ap (λ (y : Y). y ∷ map f xs) (h 0 x (omega arith)) ∙ ap (λ (ys : List Y). g x ∷ ys) (map_same f g xs (λ k d within. h (suc k) d (omega arith)))
 
@@ -45,16 +46,9 @@ AllPairs-map R f (x ∷ xs) h i j d ij within =
 pub length_at : (texts : List (List ℕ)) (file : ℕ) → slice_index (lengths_of texts) file ≡ length (file_text texts file)
 length_at texts file = get_or-map (λ (text : List ℕ). length text) texts file []
 
--- so each view's length is there
-pub within_files : {V : Type 0} (bytes : V → List ℕ) (files : List V) (file : ℕ) → file < length (lengths_of (map bytes files)) → file < length files
-within_files bytes files file h =
-    let e = length-map (map bytes files) (λ (text : List ℕ). length text) in
-    let f = length-map files bytes in
-    omega (arith, h, e, f)
-
-pub view_length : {V : Type 0} (bytes : V → List ℕ) (files : List V) (file : ℕ) (view : V) → view ≡ get_or files file view → file < length files → slice_index (lengths_of (map bytes files)) file ≡ length (bytes view)
-view_length bytes files file view is within =
-    length_at (map bytes files) file ∙ ap (λ (text : List ℕ). length text) (get_or-map_at bytes files file view [] within ∙ ap bytes (sym is))
+-- a file of the list of lengths is one of the texts
+pub within_texts : (texts : List (List ℕ)) (file : ℕ) → file < length (lengths_of texts) → file < length texts
+within_texts texts file h = let e = length-map texts (λ (text : List ℕ). length text) in omega (arith, h, e)
 
 -- a content that is there has as many bytes as it says
 pub length-content_by : {A : Type 0} (texts : List (List ℕ)) (content : Content A) → IsThere (lengths_of texts) content → length (content_by texts content) ≡ content_length content
@@ -76,8 +70,8 @@ length-bytes_by texts part backed =
 
 module _ {A : Type 0} (texts : List (List ℕ)) (size : ℕ) (plan : Plan A) (loadable : IsLoadable (lengths_of texts) size plan) where
   -- a loadable plan can be loaded once its places have room
-  pub can_load : (room : ℕ → Type 0) → AllHaveRoom room (map range_of (places_of plan)) → All (CanLoad (lengths_of texts) size room) plan.parts.items
-  can_load room has k d within =
+  pub can_load : (room holds : ℕ → Type 0) → AllHaveRoom room (map range_of (places_of plan)) → AllBeside holds (map range_of (places_of plan)) → All (CanLoad (lengths_of texts) size room holds) plan.parts.items
+  can_load room holds has beside k d within =
       let backed = loadable.backed k d within in
       record {
         there = backed.there;
@@ -85,6 +79,8 @@ module _ {A : Type 0} (texts : List (List ℕ)) (size : ℕ) (plan : Plan A) (lo
         inside = all_under (λ (place : Place). place.address + place.length ≤ size) place_of plan.parts.items loadable.inside k d within;
         writable = all_under (λ (place : Place). HasRoom room (range_of place).start (range_of place).end) place_of plan.parts.items
             (all_under (λ (r : Range ℕ). HasRoom room r.start r.end) range_of (places_of plan) has) k d within;
+        beside = all_under (λ (place : Place). IsBeside holds (range_of place).start (range_of place).end) place_of plan.parts.items
+            (all_under (λ (r : Range ℕ). IsBeside holds r.start r.end) range_of (places_of plan) beside) k d within;
       }
 
   pub all_end_within : All (EndsWithin size) (map (part_by texts) plan.parts.items)

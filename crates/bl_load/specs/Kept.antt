@@ -1,5 +1,6 @@
 -- What the code keeps of a plan. It speaks of the files' lengths alone, and not of their bytes.
 use Rattle.std.specs.Prelude.{◌≡◌, ℕ, ◌+◌, ◌<◌, ◌≤◌, ◌^◌, List, length, map, slice_index, All, AllPairs}
+use Rattle.bl_mem.specs.Files.{IsBeside}
 use Rattle.bl_mem.specs.Memory.{HasRoom}
 use Rattle.bl_mem.specs.declared.segment.Segment.{Segment}
 use Rattle.bl_plan.specs.declared.role.Role.{Role}
@@ -65,12 +66,13 @@ pub record IsLoadable {A : Type 0} (lengths : List ℕ) (size : ℕ) (plan : Pla
   pub inside : All (λ place. place.address + place.length ≤ size) (places_of plan)
   pub records : AreRecords (places_of plan)
 
--- a part can be loaded: it is backed, and memory has its place with room
-pub record CanLoad {A : Type 0} (lengths : List ℕ) (size : ℕ) (room : ℕ → Type 0) (part : PlannedPart A) : Type 0 where
+-- a part can be loaded: it is backed, memory has its place with room, and no file lies there
+pub record CanLoad {A : Type 0} (lengths : List ℕ) (size : ℕ) (room holds : ℕ → Type 0) (part : PlannedPart A) : Type 0 where
   pub there : IsThere lengths part.content
   pub short : content_length part.content ≤ part.place.length
   pub inside : part.place.address + part.place.length ≤ size
   pub writable : HasRoom room part.place.address (part.place.address + part.place.length)
+  pub beside : IsBeside holds part.place.address (part.place.address + part.place.length)
 
 -- the lines of modules
 abbrev pub lines_by : {A : Type 0} → List (Module A) → List (List ℕ)

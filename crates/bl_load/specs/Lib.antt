@@ -15,3 +15,4 @@ pub mod Registers
 pub mod Parts
 pub mod PlacingKept
 pub mod Legal
+pub mod After

@@ -1,45 +1,65 @@
 //! A relocatable kernel's image comes into memory.
-ghost use Rattle.std.specs.Prelude.{◌≡◌, ◌+◌, ◌≤◌, length, All, AllPairs};
+ghost use Rattle.std.specs.Prelude.{◌≡◌, ◌+◌, ◌<◌, ◌≤◌, length, All, AllPairs};
 ghost use Rattle.bl_mem.specs.Contents.{contents_of};
+ghost use Rattle.bl_mem.specs.Files.{text_at, AreBelow, IsBeside};
 ghost use Rattle.bl_mem.specs.Memory.{overwrite, HasRoom, KeepsRoom};
 ghost use Rattle.bl_load.specs.Blocks.{span_of, block_of};
 ghost use Rattle.bl_load.specs.Kept.{IsCopied, SegmentsAscend};
 
 use crate::copying::copy;
-use bl_mem::{ByteView, PhysMem, Segment};
+use bl_mem::{FileSet, PhysMem, Segment};
 
 /// Writes a segment at `at`: its bytes of the file, and zeros behind them.
-fn load_segment<M: PhysMem, V: ByteView>(memory: &mut M, at: u64, view: &V, segment: &Segment)
-    requires copied { IsCopied (length (V.bytes view.now)) segment.now }
+fn load_segment<M: PhysMem, F: FileSet>(
+    memory: &mut M,
+    at: u64,
+    files: &F,
+    file: usize,
+    segment: &Segment,
+)
+    requires held { AreBelow (F.holds files.now) (length (M.bytes memory.old)) }
+    requires file { file < length (F.texts files.now (M.bytes memory.old)) }
+    requires copied { IsCopied (length (text_at (F.texts files.now (M.bytes memory.old)) file))
+        segment.now }
     requires inside { at + segment.now.memsz ≤ length (M.bytes memory.old) }
     requires room { HasRoom (M.room memory.old) at (at + segment.now.memsz) }
+    requires beside { IsBeside (F.holds files.now) at (at + segment.now.memsz) }
     ensures after { M.bytes memory.new ≡ overwrite (M.bytes memory.old) at
-        (contents_of (V.bytes view.now) segment.now) }
+        (contents_of (text_at (F.texts files.now (M.bytes memory.old)) file) segment.now) }
+    ensures texts { F.texts files.now (M.bytes memory.new)
+        ≡ F.texts files.now (M.bytes memory.old) }
     ensures kept { KeepsRoom (M.room memory.old) (M.room memory.new) }
 {
     // Memory's size is known to be below 2^64, so that no sum here wraps, only once it was asked
     // for.
     let _size = memory.size();
-    copy(memory, at, view, segment.offset, segment.filesz);
+    copy(memory, at, files, file, segment.offset, segment.filesz);
     memory.zero(at + segment.filesz..at + segment.memsz);
 }
 
 /// Writes the block of these segments at `at`, and says how long it is. Each of its bytes is
 /// written once: zeros go into the gaps and behind the bytes of the file alone.
-pub(crate) fn load_block<M: PhysMem, V: ByteView>(
+pub(crate) fn load_block<M: PhysMem, F: FileSet>(
     memory: &mut M,
     at: u64,
-    view: &V,
+    files: &F,
+    file: usize,
     segments: &[Segment],
 ) -> u64
+    requires held { AreBelow (F.holds files.now) (length (M.bytes memory.old)) }
+    requires file { file < length (F.texts files.now (M.bytes memory.old)) }
     requires some { 1 ≤ length segments.now }
-    requires copied { All (IsCopied (length (V.bytes view.now))) segments.now }
+    requires copied { All (IsCopied
+        (length (text_at (F.texts files.now (M.bytes memory.old)) file))) segments.now }
     requires ascending { AllPairs SegmentsAscend segments.now }
     requires inside { at + span_of segments.now ≤ length (M.bytes memory.old) }
     requires room { HasRoom (M.room memory.old) at (at + span_of segments.now) }
+    requires beside { IsBeside (F.holds files.now) at (at + span_of segments.now) }
     ensures count { result ≡ span_of segments.now }
     ensures after { M.bytes memory.new ≡ overwrite (M.bytes memory.old) at
-        (block_of (V.bytes view.now) segments.now) }
+        (block_of (text_at (F.texts files.now (M.bytes memory.old)) file) segments.now) }
+    ensures texts { F.texts files.now (M.bytes memory.new)
+        ≡ F.texts files.now (M.bytes memory.old) }
     ensures kept { KeepsRoom (M.room memory.old) (M.room memory.new) }
 {
     // Memory's size is known to be below 2^64, so that no sum here wraps, only once it was asked
@@ -50,7 +70,7 @@ pub(crate) fn load_block<M: PhysMem, V: ByteView>(
     for segment in segments {
         let start = segment.address - low;
         memory.zero(at + done..at + start);
-        load_segment(memory, at + start, view, segment);
+        load_segment(memory, at + start, files, file, segment);
         done = start + segment.memsz;
     }
     done

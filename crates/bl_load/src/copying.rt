@@ -1,48 +1,64 @@
-//! A file's bytes come into memory.
-ghost use Rattle.std.specs.Prelude.{◌≡◌, ◌+◌, ◌≤◌, length, slice_range};
+//! A file's bytes come into memory, which may hold the file.
+ghost use Rattle.std.specs.Prelude.{◌≡◌, ◌+◌, ◌<◌, ◌≤◌, length, slice_range};
+ghost use Rattle.bl_mem.specs.Files.{text_at, AreBelow, IsBeside};
 ghost use Rattle.bl_mem.specs.Memory.{overwrite, HasRoom, KeepsRoom};
 
-use bl_mem::{ByteView, PhysMem};
+use bl_mem::{FileSet, PhysMem};
 
 /// Copies from `offset` of the file to `at` as many bytes as the buffer has.
-fn copy_piece<M: PhysMem, V: ByteView>(
+fn copy_piece<M: PhysMem, F: FileSet>(
     memory: &mut M,
     at: u64,
-    view: &V,
+    files: &F,
+    file: usize,
     offset: u64,
     buffer: &mut [u8],
 )
-    requires source { offset + length buffer.old ≤ length (V.bytes view.now) }
+    requires held { AreBelow (F.holds files.now) (length (M.bytes memory.old)) }
+    requires file { file < length (F.texts files.now (M.bytes memory.old)) }
+    requires source { offset + length buffer.old
+        ≤ length (text_at (F.texts files.now (M.bytes memory.old)) file) }
     requires inside { at + length buffer.old ≤ length (M.bytes memory.old) }
     requires room { HasRoom (M.room memory.old) at (at + length buffer.old) }
+    requires beside { IsBeside (F.holds files.now) at (at + length buffer.old) }
     ensures after { M.bytes memory.new ≡ overwrite (M.bytes memory.old) at (slice_range
-        (V.bytes view.now) offset (offset + length buffer.old)) }
+        (text_at (F.texts files.now (M.bytes memory.old)) file)
+        offset (offset + length buffer.old)) }
+    ensures texts { F.texts files.now (M.bytes memory.new)
+        ≡ F.texts files.now (M.bytes memory.old) }
     ensures kept { KeepsRoom (M.room memory.old) (M.room memory.new) }
 {
-    view.read(offset, buffer);
+    files.read(memory, file, offset, buffer);
     memory.write(at, buffer);
 }
 
 /// Copies `count` bytes of the file, from `offset` on, to `at`. They go through one buffer, which
 /// stays in the processor's cache. Where `count` is 0 nothing is read, and `offset` may lie outside
 /// the file.
-pub(crate) fn copy<M: PhysMem, V: ByteView>(
+pub(crate) fn copy<M: PhysMem, F: FileSet>(
     memory: &mut M,
     at: u64,
-    view: &V,
+    files: &F,
+    file: usize,
     offset: u64,
     count: u64,
 )
-    requires source { 1 ≤ count → offset + count ≤ length (V.bytes view.now) }
+    requires held { AreBelow (F.holds files.now) (length (M.bytes memory.old)) }
+    requires file { file < length (F.texts files.now (M.bytes memory.old)) }
+    requires source { 1 ≤ count → offset + count
+        ≤ length (text_at (F.texts files.now (M.bytes memory.old)) file) }
     requires inside { at + count ≤ length (M.bytes memory.old) }
     requires room { HasRoom (M.room memory.old) at (at + count) }
+    requires beside { IsBeside (F.holds files.now) at (at + count) }
     ensures after { M.bytes memory.new ≡ overwrite (M.bytes memory.old) at (slice_range
-        (V.bytes view.now) offset (offset + count)) }
+        (text_at (F.texts files.now (M.bytes memory.old)) file) offset (offset + count)) }
+    ensures texts { F.texts files.now (M.bytes memory.new)
+        ≡ F.texts files.now (M.bytes memory.old) }
     ensures kept { KeepsRoom (M.room memory.old) (M.room memory.new) }
 {
     // Both lengths are known to be below 2^64, so that no sum here wraps, only once they were asked
     // for.
-    let _source = view.len();
+    let _source = files.len(memory, file);
     let _target = memory.size();
     let mut buffer = [0u8; 4096];
     let mut done = 0u64;
@@ -51,7 +67,8 @@ pub(crate) fn copy<M: PhysMem, V: ByteView>(
         copy_piece(
             memory,
             at + done,
-            view,
+            files,
+            file,
             offset + done,
             &mut buffer[..next as usize],
         );

@@ -1,31 +1,37 @@
 //! The parts of a plan come into memory.
 ghost use Rattle.std.specs.Prelude.{◌≡◌, ℕ, ◌+◌, ◌-◌, ◌<◌, ◌≤◌, length, map, slice_index, All};
+ghost use Rattle.bl_mem.specs.Files.{AreBelow, IsBeside, AllBeside};
 ghost use Rattle.bl_mem.specs.Memory.{overwrite, HasRoom, AllHaveRoom, KeepsRoom};
 ghost use Rattle.bl_plan.specs.Placed.{Covers, range_of};
 ghost use Rattle.bl_load.specs.Handover.{written};
-ghost use Rattle.bl_load.specs.PlanFacts.{content_by, bytes_by, part_by, handover_by, handover_in, places_of};
+ghost use Rattle.bl_load.specs.PlanFacts.{content_by, bytes_by, part_by, handover_by};
+ghost use Rattle.bl_load.specs.PlanFacts.{handover_in, places_of};
 ghost use Rattle.bl_load.specs.Kept.{lengths_of, content_length, IsThere, CanLoad, IsLoadable};
 
 use crate::blocks::load_block;
 use crate::copying::copy;
 use crate::handoff::Handoff;
 use crate::plan::{Content, Plan, PlannedPart};
-use bl_mem::{ByteView, PhysMem};
+use bl_mem::{FileSet, PhysMem};
 use std::alloc::Allocator;
 
 /// Writes a content at `at`, and says how long it is.
-fn load_content<M: PhysMem, V: ByteView, A: Allocator>(
+fn load_content<M: PhysMem, F: FileSet, A: Allocator>(
     memory: &mut M,
     at: u64,
     content: &Content<A>,
-    files: &[V],
+    files: &F,
 ) -> u64
-    requires there { IsThere (lengths_of (map V.bytes files.now)) content.now }
+    requires held { AreBelow (F.holds files.now) (length (M.bytes memory.old)) }
+    requires there { IsThere (lengths_of (F.texts files.now (M.bytes memory.old))) content.now }
     requires inside { at + content_length content.now ≤ length (M.bytes memory.old) }
     requires room { HasRoom (M.room memory.old) at (at + content_length content.now) }
+    requires beside { IsBeside (F.holds files.now) at (at + content_length content.now) }
     ensures count { result ≡ content_length content.now }
-    ensures after { M.bytes memory.new ≡ overwrite (M.bytes memory.old) at (content_by
-        (map V.bytes files.now) content.now) }
+    ensures after { M.bytes memory.new ≡ overwrite (M.bytes memory.old) at
+        (content_by (F.texts files.now (M.bytes memory.old)) content.now) }
+    ensures texts { F.texts files.now (M.bytes memory.new)
+        ≡ F.texts files.now (M.bytes memory.old) }
     ensures kept { KeepsRoom (M.room memory.old) (M.room memory.new) }
 {
     match content {
@@ -38,21 +44,28 @@ fn load_content<M: PhysMem, V: ByteView, A: Allocator>(
             offset,
             count,
         } => {
-            copy(memory, at, &files[*file], *offset, *count);
+            copy(memory, at, files, *file, *offset, *count);
             *count
         }
         Content::Block { file, segments } => {
-            load_block(memory, at, &files[*file], segments.as_slice())
+            load_block(memory, at, files, *file, segments.as_slice())
         }
     }
 }
 
 /// Writes a part.
-fn load_part<M: PhysMem, V: ByteView, A: Allocator>(memory: &mut M, part: &PlannedPart<A>, files: &[V])
-    requires { CanLoad (lengths_of (map V.bytes files.now)) (length (M.bytes memory.old))
-        (M.room memory.old) part.now }
+fn load_part<M: PhysMem, F: FileSet, A: Allocator>(
+    memory: &mut M,
+    part: &PlannedPart<A>,
+    files: &F,
+)
+    requires held { AreBelow (F.holds files.now) (length (M.bytes memory.old)) }
+    requires can { CanLoad (lengths_of (F.texts files.now (M.bytes memory.old)))
+        (length (M.bytes memory.old)) (M.room memory.old) (F.holds files.now) part.now }
     ensures after { M.bytes memory.new ≡ overwrite (M.bytes memory.old) part.now.place.address
-        (bytes_by (map V.bytes files.now) part.now) }
+        (bytes_by (F.texts files.now (M.bytes memory.old)) part.now) }
+    ensures texts { F.texts files.now (M.bytes memory.new)
+        ≡ F.texts files.now (M.bytes memory.old) }
     ensures kept { KeepsRoom (M.room memory.old) (M.room memory.new) }
 {
     // Memory's size is known to be below 2^64, so that no sum here wraps, only once it was asked
@@ -64,15 +77,19 @@ fn load_part<M: PhysMem, V: ByteView, A: Allocator>(memory: &mut M, part: &Plann
 }
 
 /// Writes the parts, one after the other.
-fn load_parts<M: PhysMem, V: ByteView, A: Allocator>(
+fn load_parts<M: PhysMem, F: FileSet, A: Allocator>(
     memory: &mut M,
     parts: &[PlannedPart<A>],
-    files: &[V],
+    files: &F,
 )
-    requires { All (CanLoad (lengths_of (map V.bytes files.now)) (length (M.bytes memory.old))
-        (M.room memory.old)) parts.now }
-    ensures after { M.bytes memory.new ≡ written (map (part_by (map V.bytes files.now)) parts.now)
+    requires held { AreBelow (F.holds files.now) (length (M.bytes memory.old)) }
+    requires can { All (CanLoad (lengths_of (F.texts files.now (M.bytes memory.old)))
+        (length (M.bytes memory.old)) (M.room memory.old) (F.holds files.now)) parts.now }
+    ensures after { M.bytes memory.new ≡ written
+        (map (part_by (F.texts files.now (M.bytes memory.old))) parts.now)
         (M.bytes memory.old) }
+    ensures texts { F.texts files.now (M.bytes memory.new)
+        ≡ F.texts files.now (M.bytes memory.old) }
     ensures size { length (M.bytes memory.new) ≡ length (M.bytes memory.old) }
     ensures kept { KeepsRoom (M.room memory.old) (M.room memory.new) }
 {
@@ -84,34 +101,40 @@ fn load_parts<M: PhysMem, V: ByteView, A: Allocator>(
 /// Writes the parts of a plan into memory, each byte of them once, and says what the kernel is
 /// handed.
 ///
-/// The files are those that the plan was made from, in their order. Each address of the plan's
-/// ranges has room, as after `reserve`, and lies in memory. No memory is taken, and nothing can
+/// The files are those that the plan was made from, in their order; only their lengths count. They
+/// may lie in this very memory, but in none of the plan's ranges, as after `evacuate`. Each address
+/// of those has room, as after `reserve`, and lies in memory. No memory is taken, and nothing can
 /// fail: the list of parts becomes that of the handoff, and so does that of ranges. What lies in no
-/// part stays as it was, and no address loses its room.
-pub fn load<M: PhysMem, V: ByteView, A: Allocator>(
+/// part stays as it was, each file too, and no address loses its room.
+pub fn load<M: PhysMem, F: FileSet, A: Allocator>(
     memory: &mut M,
     plan: Plan<A>,
-    files: &[V],
+    files: &F,
 ) -> Handoff<A>
-    requires loadable { IsLoadable (lengths_of (map V.bytes files.now))
+    requires held { AreBelow (F.holds files.now) (length (M.bytes memory.old)) }
+    requires loadable { IsLoadable (lengths_of (F.texts files.now (M.bytes memory.old)))
         (length (M.bytes memory.old)) plan }
     requires room { AllHaveRoom (M.room memory.old) (map range_of (places_of plan)) }
-    ensures after { M.bytes memory.new ≡ written (handover_by (map V.bytes files.now) plan).parts
-        (M.bytes memory.old) }
+    requires beside { AllBeside (F.holds files.now) (map range_of (places_of plan)) }
+    ensures after { M.bytes memory.new ≡ written
+        (handover_by (F.texts files.now (M.bytes memory.old)) plan).parts (M.bytes memory.old) }
     ensures protocol { result.protocol ≡ plan.protocol }
     ensures registers { result.registers ≡ plan.registers }
     ensures places { result.places ≡ places_of plan }
     ensures handed { handover_in (M.bytes memory.new) result.protocol result.registers result.places
-        ≡ handover_by (map V.bytes files.now) plan }
+        ≡ handover_by (F.texts files.now (M.bytes memory.old)) plan }
 
     // Each address of a part has the part's byte, and every other one what it had.
     ensures in_parts { All (λ part. (a : ℕ) → part.address ≤ a
         → a < part.address + length part.bytes
         → slice_index (M.bytes memory.new) a ≡ slice_index part.bytes (a - part.address))
-        (handover_by (map V.bytes files.now) plan).parts }
+        (handover_by (F.texts files.now (M.bytes memory.old)) plan).parts }
     ensures elsewhere { (a : ℕ) → All (λ place. ¬ Covers place a) (places_of plan)
         → slice_index (M.bytes memory.new) a ≡ slice_index (M.bytes memory.old) a }
 
+    // Each file reads as before, so none was overwritten before it was read.
+    ensures texts { F.texts files.now (M.bytes memory.new)
+        ≡ F.texts files.now (M.bytes memory.old) }
     ensures size { length (M.bytes memory.new) ≡ length (M.bytes memory.old) }
     ensures kept { KeepsRoom (M.room memory.old) (M.room memory.new) }
 {

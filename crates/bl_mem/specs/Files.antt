@@ -1,5 +1,6 @@
 -- Files that memory may hold. Own.
-use Rattle.std.specs.Prelude.{◌≡◌, ℕ, ◌<◌, ◌≤◌, List, [], slice_index, slice_index_or}
+use Rattle.std.specs.Prelude.{◌≡◌, ℕ, ◌<◌, ◌≤◌, List, [], slice_index, slice_index_or, All}
+use Rattle.std.specs.declared.ops.Range.{Range}
 
 -- the bytes of a file of a list
 abbrev pub text_at : List (List ℕ) → ℕ → List ℕ
@@ -12,6 +13,10 @@ AreBelow holds size = (a : ℕ) → holds a → a < size
 -- none of the addresses from start on is one of these, up to end
 abbrev pub IsBeside : (ℕ → Type 0) → ℕ → ℕ → Type 0
 IsBeside holds start end = (a : ℕ) → start ≤ a → a < end → ¬ holds a
+
+-- none of the addresses of all these ranges is one of these
+abbrev pub AllBeside : (ℕ → Type 0) → List (Range ℕ) → Type 0
+AllBeside holds ranges = All (λ range. IsBeside holds range.start range.end) ranges
 
 -- two memories have the same byte at each of these addresses
 abbrev pub Agree : (ℕ → Type 0) → List ℕ → List ℕ → Type 0

@@ -14,6 +14,11 @@ pub trait FileSet {
     /// The addresses of memory that the files lie on.
     ghost holds: { Self → ℕ → Type 0 };
 
+    /// A file's length in bytes.
+    fn len<M: PhysMem>(&self, memory: &M, file: usize) -> u64
+        requires file { file < length (texts self.now (M.bytes memory.now)) }
+        ensures { result ≡ length (text_at (texts self.now (M.bytes memory.now)) file) };
+
     /// Copies bytes of a file from offset `at` on, as many as `out` holds.
     fn read<M: PhysMem>(&self, memory: &M, file: usize, at: u64, out: &mut [u8])
         requires held { AreBelow (holds self.now) (length (M.bytes memory.now)) }
@@ -38,6 +43,10 @@ impl<V: ByteView> FileSet for Views<'_, V> {
     ghost texts = { λ files _. map V.bytes files.views.now };
 
     ghost holds = { λ _ _. ⊥ };
+
+    fn len<M: PhysMem>(&self, _memory: &M, file: usize) -> u64 {
+        self.views[file].len()
+    }
 
     fn read<M: PhysMem>(&self, _memory: &M, file: usize, at: u64, out: &mut [u8]) {
         self.views[file].read(at, out);

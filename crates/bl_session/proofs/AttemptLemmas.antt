@@ -14,7 +14,7 @@ use Rattle.bl_session.specs.Pieces.{are_whole, awaited}
 use Rattle.bl_session.specs.Phases.{IsFresh}
 use Rattle.bl_session.specs.Attempt.{IsAttempt, IsBegun, IsRefusedFor}
 use Rattle.bl_session.specs.declared.attempt.Attempt.{Attempt}
-use Rattle.bl_session.proofs.StageLemmas.{first_awaited, whole_came, whole_texts}
+use Rattle.bl_session.proofs.SpotLemmas.{first_awaited, whole_came, whole_texts}
 
 -- its value once its files hold these texts
 pub value_is : {A : Type 0} (entry : Entry A) (texts : List (List ℕ)) → value_with (facts_of entry) texts ≡ value_of texts entry
@@ -35,7 +35,7 @@ pub ends_by_spots : {A : Type 0} (facts : MachineFacts) (entry : Entry A) (bytes
     → EndsIn facts (value_of (texts_of bytes stage) entry) end → EndsIn facts (value_with (facts_of entry) (map bytes_of (spots bytes stage))) end
 ends_by_spots facts entry bytes stage end kept came ends =
     let value : value_of (texts_of bytes stage) entry ≡ value_with (facts_of entry) (map bytes_of (spots bytes stage)) =
-      sym (ap (value_with (facts_of entry)) (whole_texts bytes stage kept came) ∙ value_is entry (texts_of bytes stage)) in
+    sym (ap (value_with (facts_of entry)) (whole_texts bytes stage kept came) ∙ value_is entry (texts_of bytes stage)) in
     subst (λ (v : EntryValue). EndsIn facts v end) value ends
 
 -- an attempt whose stage was begun

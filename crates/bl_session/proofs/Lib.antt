@@ -3,6 +3,9 @@ pub mod BootLaws
 pub mod GatherLemmas
 pub mod OutcomeLaws
 pub mod OnceLemmas
-pub mod StageLemmas
+pub mod SpotLemmas
 pub mod AttemptLemmas
 pub mod AdvanceLemmas
+pub mod StageLemmas
+pub mod AfterLemmas
+pub mod FinishLemmas

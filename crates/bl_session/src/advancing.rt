@@ -45,6 +45,8 @@ pub fn begin<M: PhysMem, A: Allocator + Copy>(
     ensures kept { KeepsRoom (M.room memory.old) (M.room memory.new) }
 {
     if next >= menu.attempts() {
+        // what this ensures says where the pool lies
+        machine.pool();
         scrub(machine, memory, &[]);
         return Ok(Phase::Failed(BootFault::NoEntryLeft(earlier)));
     }

@@ -1,10 +1,10 @@
 //! The boot of a menu's first entry that is not refused.
 #![tactic(auto)]
 
+mod advancing;
 mod attempt;
 mod attempting;
 mod beginning;
-mod advancing;
 mod finishing;
 mod laws;
 mod menu;

@@ -11,6 +11,10 @@ impl<A: Allocator> FileSet for Stage<A> {
 
     ghost holds = { λ stage a. IsStagedOn stage a };
 
+    fn len<M: PhysMem>(&self, _memory: &M, file: usize) -> u64 {
+        self.size_of(file)
+    }
+
     fn read<M: PhysMem>(&self, memory: &M, file: usize, at: u64, out: &mut [u8]) {
         // what this ensures says where the file's frames lie
         self.complete();

@@ -79,6 +79,14 @@ impl<A: Allocator> Stage<A> {
         self.sizes.len()
     }
 
+    /// The size in bytes of a file.
+    pub(crate) fn size_of(&self, file: usize) -> u64
+        requires { file < length self.now.sizes }
+        ensures { result ≡ slice_index self.now.sizes file }
+    {
+        self.sizes[file]
+    }
+
     /// The place of a piece of this length in the list of all frames, if it is a piece of a file.
     fn slot_of(&self, file: u32, index: u32, len: usize) -> Option<usize>
         ensures value { result

@@ -13,7 +13,7 @@ use crate::attempting::attempt::{Attempt, LoadedEntry};
 use bl_desc::{EntryForm, EntryRow, ModuleRow};
 use bl_load::{Entry, Module, Plan, PrepFault, Refusal, load, prepare};
 use bl_map::{Machine, frames_in, frames_of, open_frames};
-use bl_mem::{ByteView, Bytes, Flat, PhysMem};
+use bl_mem::{ByteView, Bytes, Flat, PhysMem, Views};
 use std::alloc::{AllocError, Allocator};
 use std::ops::Range;
 
@@ -112,7 +112,7 @@ fn load_plan<A: Allocator + Copy, V: ByteView>(
 {
     let mut memory = Flat::new(alloc, size, fill)?;
     memory.reserve(plan.ranges())?;
-    let handoff = load(&mut memory, plan, files);
+    let handoff = load(&mut memory, plan, &Views { views: files });
     Ok(LoadedEntry { handoff, memory })
 }
 

@@ -4,7 +4,7 @@ ghost use Rattle.bl_load.specs.declared.plan.Content.TheVariants.{File};
 ghost use Rattle.bl_load.specs.Kept.{IsLoadable};
 
 use bl_load::{Content, Handoff, Plan, PlannedPart, Protocol, Registers, load};
-use bl_mem::{Flat, SliceView};
+use bl_mem::{Flat, SliceView, Views};
 use bl_plan::{Place, Role};
 use std::alloc::{AllocError, Allocator};
 
@@ -99,7 +99,13 @@ fn loaded_from<A: Allocator + Copy>(
 {
     let mut memory = Flat::new(alloc, 16 + long, 0xA5)?;
     let plan = plan_of(alloc, long)?;
-    let handoff = load(&mut memory, plan, &[SliceView::new(file)]);
+    let handoff = load(
+        &mut memory,
+        plan,
+        &Views {
+            views: &[SliceView::new(file)],
+        },
+    );
     Ok((memory, handoff))
 }
 

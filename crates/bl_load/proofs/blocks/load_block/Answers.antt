@@ -1,61 +1,111 @@
-use Rattle.std.proofs.Common.{◌+◌, ◌<◌, ◌≤◌, length, arith, refl, sym, ◌∙◌, get_or, drop, ◌∷◌, add-zero, zero-add}
+use Rattle.std.proofs.Common.{◌≡◌, ◌+◌, ◌<◌, ◌≤◌, length, arith, refl, sym, ◌∙◌, get_or, drop, ◌∷◌, add-zero, zero-add}
 use Rattle.std.proofs.lemmas.List.{drop_more, get_or_default}
-use Rattle.bl_mem.specs.declared.segment.Segment.{Segment}
+use Rattle.bl_mem.specs.Files.{text_at}
 use Rattle.bl_load.specs.Blocks.{span_of}
-use Rattle.bl_load.proofs.BlockLemmas.{block_from, block_from_first, first_below, left_behind, step_size, block_step}
+use Rattle.bl_load.specs.Parts.{no_segment}
+use Rattle.bl_load.proofs.BlockLemmas.{block_from, block_from_first, first_below, left_behind, gap_beside, segment_beside, step_size, block_step}
 use Rattle.bl_load.proofs.blocks.load_block.Goals as goal
 
 pub loop-segment-init : goal.loop-segment-init
 loop-segment-init g c =
-    let z : Segment = record { offset = 0; address = 0; filesz = 0; memsz = 0 } in
     let segments = c.args.segments.now in
-    let first = block_from_first (g.V.ByteView.bytes c.args.view.now) segments z c.requires.some c.requires.copied c.requires.ascending in
+    let first = block_from_first (text_at (g.F.FileSet.texts c.args.files.now (g.M.PhysMem.bytes c.args.memory.now)) c.args.file) segments no_segment c.requires.some c.requires.copied c.requires.ascending in
     record {
       size = refl;
-      above = λ k d from within. let low = first_below segments z c.requires.ascending k d within in omega arith;
+      same = refl;
+      above = λ k d from within. let low = first_below segments no_segment c.requires.ascending k d within in omega arith;
       count = simp (add-zero, zero-add) (sym first.0);
       rest = simp (add-zero, first.1);
       kept = λ a had. had;
     }
 
-pub load_segment-requires-clause-room : goal.load_segment-requires-clause-room
-load_segment-requires-clause-room g c = λ a low high.
-    let z : Segment = record { offset = 0; address = 0; filesz = 0; memsz = 0 } in
+-- the files are as they were once zeros fill the gap
+files_kept : (g : _) (c : goal.After-load_segment-arg-1 g) → g.F.FileSet.texts c.args.files.now (g.M.PhysMem.bytes c.zero.new.self) ≡ g.F.FileSet.texts c.args.files.now (g.M.PhysMem.bytes c.args.memory.now)
+files_kept g c =
     let segments = c.args.segments.now in
     let i = c.loop-segment.segment-index in
-    let s = get_or segments i z in
+    let s = get_or segments i no_segment in
+    let low = (get_or segments 0 no_segment).address in
     let done = c.loop-segment.done in
-    let from = (get_or segments 0 z).address + done in
-    let text = g.V.ByteView.bytes c.args.view.now in
+    let old = g.M.PhysMem.bytes c.loop-segment.memory in
+    let text = text_at (g.F.FileSet.texts c.args.files.now (g.M.PhysMem.bytes c.args.memory.now)) c.args.file in
     let here = c.loop-segment-test.true in
-    let up = c.loop-segment.invariant.above i z (omega arith) here in
-    let left = rw (drop_more segments i z here) at c.loop-segment.invariant.count in
-    let inside : c.args.at + (done + length (block_from text ((get_or segments 0 z).address + done) (s ∷ drop (i + 1) segments))) ≤ length (g.M.PhysMem.bytes c.loop-segment.memory) = omega arith in
-    let same = left_behind text (g.M.PhysMem.bytes c.loop-segment.memory) c.args.at (get_or segments 0 z).address done s (drop (i + 1) segments) (c.requires.copied i z here) up inside in
+    let rest = drop (i + 1) segments in
+    let copied = c.requires.copied i no_segment here in
+    let up = c.loop-segment.invariant.above i no_segment (omega arith) here in
+    let left = rw (drop_more segments i no_segment here) at c.loop-segment.invariant.count in
+    let inside : c.args.at + (done + length (block_from text (low + done) (s ∷ rest))) ≤ length old = omega arith in
+    let gap = gap_beside text old c.args.at low done s rest copied up inside (g.F.FileSet.holds c.args.files.now) (λ a from to. c.requires.beside a from (omega arith)) in
+    let same = g.met.F.FileSet.same c.args.files.now old _ gap ∙ c.loop-segment.invariant.same in
+    rw c.zero.ensures.after same
+
+pub load_segment-requires-clause-file : goal.load_segment-requires-clause-file
+load_segment-requires-clause-file g c = rw (files_kept g c) c.requires.file
+
+pub load_segment-requires-clause-copied : goal.load_segment-requires-clause-copied
+load_segment-requires-clause-copied g c = rw (files_kept g c) (c.requires.copied c.loop-segment.segment-index no_segment c.loop-segment-test.true)
+
+pub load_segment-requires-clause-beside : goal.load_segment-requires-clause-beside
+load_segment-requires-clause-beside g c =
+    let segments = c.args.segments.now in
+    let i = c.loop-segment.segment-index in
+    let s = get_or segments i no_segment in
+    let low = (get_or segments 0 no_segment).address in
+    let done = c.loop-segment.done in
+    let old = g.M.PhysMem.bytes c.loop-segment.memory in
+    let text = text_at (g.F.FileSet.texts c.args.files.now (g.M.PhysMem.bytes c.args.memory.now)) c.args.file in
+    let here = c.loop-segment-test.true in
+    let rest = drop (i + 1) segments in
+    let copied = c.requires.copied i no_segment here in
+    let up = c.loop-segment.invariant.above i no_segment (omega arith) here in
+    let left = rw (drop_more segments i no_segment here) at c.loop-segment.invariant.count in
+    let inside : c.args.at + (done + length (block_from text (low + done) (s ∷ rest))) ≤ length old = omega arith in
+    segment_beside text old c.args.at low done s rest copied up inside (g.F.FileSet.holds c.args.files.now) (λ a from to. c.requires.beside a from (omega arith))
+
+pub load_segment-requires-clause-room : goal.load_segment-requires-clause-room
+load_segment-requires-clause-room g c =
+    let segments = c.args.segments.now in
+    let i = c.loop-segment.segment-index in
+    let s = get_or segments i no_segment in
+    let low = (get_or segments 0 no_segment).address in
+    let done = c.loop-segment.done in
+    let old = g.M.PhysMem.bytes c.loop-segment.memory in
+    let text = text_at (g.F.FileSet.texts c.args.files.now (g.M.PhysMem.bytes c.args.memory.now)) c.args.file in
+    let here = c.loop-segment-test.true in
+    let rest = drop (i + 1) segments in
+    let copied = c.requires.copied i no_segment here in
+    let up = c.loop-segment.invariant.above i no_segment (omega arith) here in
+    let left = rw (drop_more segments i no_segment here) at c.loop-segment.invariant.count in
+    let inside : c.args.at + (done + length (block_from text (low + done) (s ∷ rest))) ≤ length old = omega arith in
+    let behind = left_behind text old c.args.at low done s rest copied up inside in
+    λ a from to.
     let bound : a < c.args.at + span_of segments = omega arith in
     c.zero.ensures.kept a (c.loop-segment.invariant.kept a (c.requires.room a (omega arith) bound))
 
 pub loop-segment-preserved : goal.loop-segment-preserved
 loop-segment-preserved g c =
-    let z : Segment = record { offset = 0; address = 0; filesz = 0; memsz = 0 } in
-    let text = g.V.ByteView.bytes c.args.view.now in
-    let old = g.M.PhysMem.bytes c.loop-segment.memory in
     let segments = c.args.segments.now in
     let i = c.loop-segment.segment-index in
-    let s = get_or segments i z in
-    let low = (get_or segments 0 z).address in
+    let s = get_or segments i no_segment in
+    let low = (get_or segments 0 no_segment).address in
     let done = c.loop-segment.done in
+    let old = g.M.PhysMem.bytes c.loop-segment.memory in
+    let text = text_at (g.F.FileSet.texts c.args.files.now (g.M.PhysMem.bytes c.args.memory.now)) c.args.file in
     let here = c.loop-segment-test.true in
     let rest = drop (i + 1) segments in
-    let copied = c.requires.copied i z here in
-    let up = c.loop-segment.invariant.above i z (omega arith) here in
-    let left = rw (drop_more segments i z here) at c.loop-segment.invariant.count in
-    let whole = rw (drop_more segments i z here) at c.loop-segment.invariant.rest in
+    let copied = c.requires.copied i no_segment here in
+    let up = c.loop-segment.invariant.above i no_segment (omega arith) here in
+    let left = rw (drop_more segments i no_segment here) at c.loop-segment.invariant.count in
     let inside : c.args.at + (done + length (block_from text (low + done) (s ∷ rest))) ≤ length old = omega arith in
+    let whole = rw (drop_more segments i no_segment here) at c.loop-segment.invariant.rest in
+    let gap = gap_beside text old c.args.at low done s rest copied up inside (g.F.FileSet.holds c.args.files.now) (λ a from to. c.requires.beside a from (omega arith)) in
+    let same = g.met.F.FileSet.same c.args.files.now old _ gap ∙ c.loop-segment.invariant.same in
+    let kept : g.F.FileSet.texts c.args.files.now (g.M.PhysMem.bytes c.zero.new.self) ≡ g.F.FileSet.texts c.args.files.now (g.M.PhysMem.bytes c.args.memory.now) = rw c.zero.ensures.after same in
     record {
-      size = rw (c.load_segment.ensures.after, c.zero.ensures.after) (step_size text old c.args.at low done s rest copied up inside ∙ c.loop-segment.invariant.size);
-      above = λ k d next within. let ahead = rw (get_or_default segments i d z here) at (c.requires.ascending i k d (omega arith) within) in omega arith;
+      size = rw (c.load_segment.ensures.after, kept, c.zero.ensures.after) (step_size text old c.args.at low done s rest copied up inside ∙ c.loop-segment.invariant.size);
+      same = c.load_segment.ensures.texts ∙ kept;
+      above = λ k d next within. let ahead = rw (get_or_default segments i d no_segment here) at (c.requires.ascending i k d (omega arith) within) in omega arith;
       count = left_behind text old c.args.at low done s rest copied up inside ∙ left;
-      rest = rw (c.load_segment.ensures.after, c.zero.ensures.after) (block_step text old c.args.at low done s rest copied up inside ∙ whole);
+      rest = rw (c.load_segment.ensures.after, kept, c.zero.ensures.after) (block_step text old c.args.at low done s rest copied up inside ∙ whole);
       kept = λ a had. c.load_segment.ensures.kept a (c.zero.ensures.kept a (c.loop-segment.invariant.kept a had));
     }

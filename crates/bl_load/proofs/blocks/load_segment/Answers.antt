@@ -1,4 +1,6 @@
-use Rattle.std.proofs.Common.{◌+◌, arith, slice_range}
+use Rattle.std.proofs.Common.{◌≡◌, ◌+◌, length, arith, slice_range, ◌∙◌}
+use Rattle.bl_mem.specs.Files.{text_at}
+use Rattle.bl_mem.proofs.Overwrites.{beside_zeros, length-overwrite}
 use Rattle.bl_load.proofs.BlockLemmas.{length-filed}
 use Rattle.bl_load.proofs.WrittenLemmas.{zeros_behind}
 use Rattle.bl_load.proofs.blocks.load_segment.Goals as goal
@@ -6,6 +8,20 @@ use Rattle.bl_load.proofs.blocks.load_segment.Goals as goal
 pub returns-clause-after : goal.returns-clause-after
 returns-clause-after g c =
     let segment = c.args.segment.now in
-    let text = g.V.ByteView.bytes c.args.view.now in
+    let text = text_at (g.F.FileSet.texts c.args.files.now (g.M.PhysMem.bytes c.args.memory.now)) c.args.file in
     rw (c.zero.ensures.after, c.copy.ensures.after)
     (zeros_behind _ (slice_range text segment.offset (segment.offset + segment.filesz)) c.args.at segment.filesz segment.memsz (length-filed text segment c.requires.copied) (omega arith) (omega arith))
+
+pub returns-clause-texts : goal.returns-clause-texts
+returns-clause-texts g c =
+    let segment = c.args.segment.now in
+    let old = g.M.PhysMem.bytes c.args.memory.now in
+    let copied = g.M.PhysMem.bytes c.copy.new.memory in
+    let text = text_at (g.F.FileSet.texts c.args.files.now old) c.args.file in
+    let piece = slice_range text segment.offset (segment.offset + segment.filesz) in
+    let count = length-filed text segment c.requires.copied in
+    let size : length copied ≡ length old = rw c.copy.ensures.after (length-overwrite old c.args.at piece (omega arith)) in
+    rw c.zero.ensures.after
+    (g.met.F.FileSet.same c.args.files.now copied _ (beside_zeros (g.F.FileSet.holds c.args.files.now) copied (c.args.at + segment.filesz) (c.args.at + segment.memsz) (omega arith) (omega arith)
+    (λ a low high. c.requires.beside a (omega arith) high))
+    ∙ c.copy.ensures.texts)

@@ -1,4 +1,5 @@
-use Rattle.std.proofs.Common.{◌≤◌, length, map, refl, sym, ◌∙◌, arith}
+use Rattle.std.proofs.Common.{◌≡◌, ◌≤◌, ◌+◌, length, refl, sym, ◌∙◌, arith}
+use Rattle.bl_mem.proofs.Overwrites.{beside_zeros, length-overwrite}
 use Rattle.bl_load.specs.PlanFacts.{content_by}
 use Rattle.bl_load.proofs.HeldLemmas.{length-content_by}
 use Rattle.bl_load.proofs.WrittenLemmas.{zeros_behind}
@@ -7,9 +8,27 @@ use Rattle.bl_load.proofs.loading.load_part.Goals as goal
 pub returns-clause-after : goal.returns-clause-after
 returns-clause-after g c =
     let part = c.args.part.now in
-    let texts = map g.V.ByteView.bytes c.args.files.now in
+    let texts = g.F.FileSet.texts c.args.files.now (g.M.PhysMem.bytes c.args.memory.now) in
     let content = content_by texts part.content in
-    let own = length-content_by texts part.content c.requires.there in
-    let short : length content ≤ part.place.length = omega (arith, own, c.requires.short) in
+    let own = length-content_by texts part.content c.requires.can.there in
+    let short : length content ≤ part.place.length = omega (arith, own, c.requires.can.short) in
     rw (c.zero.ensures.after, c.load_content-count.ensures.after, c.load_content-count.ensures.count ∙ sym own)
-    (zeros_behind _ content part.place.address (length content) part.place.length refl short c.requires.inside)
+    (zeros_behind _ content part.place.address (length content) part.place.length refl short c.requires.can.inside)
+
+pub returns-clause-texts : goal.returns-clause-texts
+returns-clause-texts g c =
+    let part = c.args.part.now in
+    let old = g.M.PhysMem.bytes c.args.memory.now in
+    let held = g.M.PhysMem.bytes c.load_content-count.new.memory in
+    let texts = g.F.FileSet.texts c.args.files.now old in
+    let content = content_by texts part.content in
+    let own = length-content_by texts part.content c.requires.can.there in
+    let short = c.requires.can.short in
+    let inside = c.requires.can.inside in
+    let count = c.load_content-count.result in
+    let counted = c.load_content-count.ensures.count in
+    let size : length held ≡ length old = rw c.load_content-count.ensures.after (length-overwrite old part.place.address content (omega arith)) in
+    rw c.zero.ensures.after
+    (g.met.F.FileSet.same c.args.files.now held _ (beside_zeros (g.F.FileSet.holds c.args.files.now) held (part.place.address + count) (part.place.address + part.place.length) (omega arith) (omega arith)
+    (λ a low high. c.requires.can.beside a (omega arith) high))
+    ∙ c.load_content-count.ensures.texts)

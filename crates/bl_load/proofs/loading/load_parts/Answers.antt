@@ -1,4 +1,4 @@
-use Rattle.std.proofs.Common.{map, ◌∙◌, arith}
+use Rattle.std.proofs.Common.{◌∙◌, arith}
 use Rattle.std.proofs.lemmas.List.{drop_more}
 use Rattle.bl_mem.proofs.Overwrites.{length-overwrite}
 use Rattle.bl_load.specs.PlanFacts.{bytes_by}
@@ -7,15 +7,17 @@ use Rattle.bl_load.proofs.loading.load_parts.Goals as goal
 
 pub loop-part-preserved : goal.loop-part-preserved
 loop-part-preserved g c =
-    let texts = map g.V.ByteView.bytes c.args.files.now in
+    let before = c.loop-part.invariant in
+    let texts = g.F.FileSet.texts c.args.files.now (g.M.PhysMem.bytes c.args.memory.now) in
     let part = c.part-item.result in
     let i = c.loop-part.part-index in
     let here = c.loop-part-test.true in
-    let can = rw (← c.part-item.is) at (c.requires i part here) in
+    let can = rw (← c.part-item.is) at (c.requires.can i part here) in
     let wide = length-bytes_by texts part record { there = can.there; short = can.short } in
-    let whole = rw (drop_more c.args.parts.now i part here, ← c.part-item.is) at c.loop-part.invariant.rest in
+    let whole = rw (drop_more c.args.parts.now i part here, ← c.part-item.is) at before.rest in
     record {
-      size = rw c.load_part.ensures.after (length-overwrite (g.M.PhysMem.bytes c.loop-part.memory) part.place.address (bytes_by texts part) (omega arith) ∙ c.loop-part.invariant.size);
-      rest = rw c.load_part.ensures.after whole;
-      kept = λ a had. c.load_part.ensures.kept a (c.loop-part.invariant.kept a had);
+      size = rw (c.load_part.ensures.after, before.same) (length-overwrite (g.M.PhysMem.bytes c.loop-part.memory) part.place.address (bytes_by texts part) (omega arith) ∙ before.size);
+      same = c.load_part.ensures.texts ∙ before.same;
+      rest = rw (c.load_part.ensures.after, before.same) whole;
+      kept = λ a had. c.load_part.ensures.kept a (before.kept a had);
     }

@@ -4,14 +4,16 @@ use Rattle.bl_load.specs.Handover.{written}
 use Rattle.bl_load.specs.PlanFacts.{part_by}
 use Rattle.bl_load.proofs.loading.load_parts.Given as goal
 
--- what is left to write leads to what all of it leads to
+-- what is left to write leads to what all of it leads to; the files are as they were
 abbrev pub invariant-loop-part : goal.invariant-loop-part
 invariant-loop-part g l =
     let bytes = g.M.PhysMem.bytes in
     let room = g.M.PhysMem.room in
-    let texts = map g.V.ByteView.bytes l.files in
+    let texts = g.F.FileSet.texts l.files in
+    let part = part_by (texts (bytes l.fn.memory)) in
     record {
       size : length (bytes l.memory) ≡ length (bytes l.fn.memory);
-      rest : written (map (part_by texts) (drop l.part-index l.parts)) (bytes l.memory) ≡ written (map (part_by texts) l.parts) (bytes l.fn.memory);
+      same : texts (bytes l.memory) ≡ texts (bytes l.fn.memory);
+      rest : written (map part (drop l.part-index l.parts)) (bytes l.memory) ≡ written (map part l.parts) (bytes l.fn.memory);
       kept : KeepsRoom (room l.fn.memory) (room l.memory);
     }

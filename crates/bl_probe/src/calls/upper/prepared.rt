@@ -5,7 +5,7 @@ ghost use Rattle.bl_load.specs.Kept.{lengths_of, IsLoadable};
 use crate::calls::upper::unprepared::Unprepared;
 use bl_load::{Entry, Handoff, Module, Plan, load, prepare};
 use bl_map::Machine;
-use bl_mem::{Bytes, Flat, SliceView};
+use bl_mem::{Bytes, Flat, SliceView, Views};
 use bl_plan::Protocol;
 use bl_refusing::Refusing;
 use std::alloc::AllocError;
@@ -120,7 +120,7 @@ pub fn load_entry<'h>(
     let plan = prepare_entry(heap, machine, protocol, lines, files)?;
     let mut memory = Flat::new(heap, machine.size(), fill)?;
     let before = heap.asked();
-    let handoff = load(&mut memory, plan, files);
+    let handoff = load(&mut memory, plan, &Views { views: files });
     Ok(LoadedEntry {
         memory,
         handoff,

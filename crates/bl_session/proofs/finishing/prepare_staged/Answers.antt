@@ -1,0 +1,18 @@
+use Rattle.std.proofs.Common.{◌≡◌, List, ℕ, length, map, ap, sym, ◌∙◌}
+use Rattle.std.proofs.lemmas.List.{length-map}
+use Rattle.std.proofs.lemmas.List.FromFn.{length-map-range_with_len}
+use Rattle.bl_stage.specs.Staged.{staged, file_of}
+use Rattle.bl_session.proofs.finishing.prepare_staged.Goals as goal
+
+pub prepare-requires-clause-files : goal.prepare-requires-clause-files
+prepare-requires-clause-files g c =
+    let bytes = g.M.PhysMem.bytes in
+    let stage = c.args.stage.now in
+    ap length c.deref.ensures.value
+    ∙ sym (length-map c.in_ok-views.views.items (λ view. staged (bytes view.memory.now) view.frames.now view.size))
+    ∙ ap (λ (texts : List (List ℕ)). length texts) c.in_ok-views.ensures
+    ∙ length-map-range_with_len (λ file. file_of (bytes c.args.memory.now) stage file) 0 (length stage.sizes)
+    ∙ c.requires.files
+
+pub returns-clause-fault : goal.returns-clause-fault
+returns-clause-fault g c = rw (← c.in_ok-views.ensures, ← c.deref.ensures.value) c.prepare.ensures.fault
