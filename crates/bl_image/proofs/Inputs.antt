@@ -5,6 +5,7 @@ use Rattle.std.proofs.Math.Seq.{take-append-add}
 use Rattle.std.proofs.lemmas.List.{append-nil, length-take-le, take-append-le, same_lists, places, take_at}
 use Rattle.std.specs.Io.KnownBytes.{Consumes}
 use Rattle.bl_image.specs.Source.{Input, Comes}
+use Rattle.bl_image.specs.Sources.{MemSourceFacts, input_of}
 
 consumes_nothing : (rest : Option (List ℕ)) → Consumes rest rest []
 consumes_nothing None = tt
@@ -57,3 +58,7 @@ part_came bytes at n piece rest h is =
       given_is = part_given bytes at n h ∙ ap (λ (l : List ℕ). take at bytes ++ l) (sym front);
       rest_is = part_left bytes at n h ∙ ap (λ (l : List ℕ). l ++ drop (at + n) bytes) (sym front);
     }
+
+-- the same where the state is seen in another way
+pub came_from : {new : Input} {bytes : List ℕ} (made facts : MemSourceFacts) → made ≡ facts → Comes (input_of made) new bytes → Comes (input_of facts) new bytes
+came_from {new = new} {bytes = bytes} made facts e h = let P : MemSourceFacts → Type 0 = λ f. Comes (input_of f) new bytes in subst P e h

@@ -52,7 +52,7 @@ pub record_refuses : (n : ℕ) (before : Before) (old new : Input) (fault : Imag
 record_refuses n before old new fault s =
     first_refuses (record_fault before.count before.end) (λ bytes. parts_fault n (and_record before (u64_at bytes 8) (u64_at bytes 16)) (drop 24 bytes)) old new fault s
 
-four_pieces : (a b c x : List ℕ) → ((a ++ b) ++ c) ++ x ≡ a ++ (b ++ (c ++ x))
+pub four_pieces : (a b c x : List ℕ) → ((a ++ b) ++ c) ++ x ≡ a ++ (b ++ (c ++ x))
 four_pieces a b c x = simp append_assoc
 
 three_pass : (fa fb fc : Field) (a b c x : List ℕ) → length a ≡ fa.size → fa.passes a ≡ true → length b ≡ fb.size → fb.passes b ≡ true → length c ≡ fc.size → fc.passes c ≡ true

@@ -52,10 +52,10 @@ fn read_role<S: Source>(source: &mut S, part: u32) -> Result<Role, ImageFault>
     Ok(role)
 }
 
-fn read_index<S: Source>(source: &mut S, _part: u32) -> Result<u32, ImageFault>
+fn read_index<S: Source>(source: &mut S) -> Result<u32, ImageFault>
     requires { S.faults source.old < 2 ^ 63 }
-    ensures field { Reads (fields.index_field _part) (S.input source.old) (S.input source.new)
-        u32_bytes result }
+    ensures field { (part : ℕ) → Reads (fields.index_field part)
+        (S.input source.old) (S.input source.new) u32_bytes result }
     ensures fits { IfOk result (λ index. index < 2 ^ 32) }
     ensures faults { S.faults source.new ≡ S.faults source.old + faults_met result }
 {
@@ -119,7 +119,7 @@ fn read_record<S: Source>(source: &mut S, part: u32, before: u64) -> Result<Plac
     ensures faults { S.faults source.new ≡ S.faults source.old + faults_met result }
 {
     let role = read_role(source, part)?;
-    let index = read_index(source, part)?;
+    let index = read_index(source)?;
     let address = read_address(source, part, before)?;
     let length = read_length(source, part, address)?;
     Ok(Place {

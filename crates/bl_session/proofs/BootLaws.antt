@@ -5,7 +5,7 @@ use Rattle.bl_load.specs.declared.refusal.Refusal.TheVariants.{FileFault}
 use Rattle.bl_stage.specs.Spots.{Spot, bytes_of}
 use Rattle.bl_session.specs.declared.words.RefusedEntry.{RefusedEntry}
 use Rattle.bl_session.specs.Ends.{End, handed, refused, size_refusal}
-use Rattle.bl_session.specs.Menu.{entry_at}
+use Rattle.bl_session.specs.Menu.{entry_at, value_with}
 use Rattle.bl_session.specs.Pieces.{are_whole, with_piece}
 use Rattle.bl_session.specs.Boot.{BootFacts, EventFacts, piece, fault, State, unstarted, running, handed_over, none_left, out_of_memory, sizes_of, fresh, EntryEndsIn, GoesOn, Continues, BeginsUnless, Begins, is_wanted, Takes, Steps, Starts}
 use Rattle.bl_session.proofs.EndLaws.{one_end_in, some_end_in}
@@ -31,7 +31,7 @@ one_goes next entry earlier (refused r) (refused s) one same a b p q =
 one_whole : (facts : BootFacts) (next : List RefusedEntry → State → Type 0) (entry : ℕ) (earlier : List RefusedEntry) (texts : List (List ℕ)) → ((r : List RefusedEntry) → IsOne (next r))
     → IsOne (λ new. (end : End) × EntryEndsIn facts entry texts end × GoesOn next entry earlier end new)
 one_whole facts next entry earlier texts one = λ a b (e, p, x) (f, q, y).
-    one_goes next entry earlier e f one (one_end_in facts.machine ((entry_at facts.menu entry).value texts) e f p q) a b x y
+    one_goes next entry earlier e f one (one_end_in facts.machine (value_with (entry_at facts.menu entry) texts) e f p q) a b x y
 
 one_continues : (facts : BootFacts) (next : List RefusedEntry → State → Type 0) (entry : ℕ) (rest : List ℕ) (earlier : List RefusedEntry) (files : List (List Spot)) → ((r : List RefusedEntry) → IsOne (next r))
     → IsOne (Continues facts next entry rest earlier files)
@@ -81,7 +81,7 @@ some_goes next entry earlier (refused r) some = some (earlier ++ record { entry 
 some_whole : (facts : BootFacts) (next : List RefusedEntry → State → Type 0) (entry : ℕ) (earlier : List RefusedEntry) (texts : List (List ℕ)) → ((r : List RefusedEntry) → HasOne (next r))
     → HasOne (λ new. (end : End) × EntryEndsIn facts entry texts end × GoesOn next entry earlier end new)
 some_whole facts next entry earlier texts some =
-    let end = some_end_in facts.machine ((entry_at facts.menu entry).value texts) in
+    let end = some_end_in facts.machine (value_with (entry_at facts.menu entry) texts) in
     let new = some_goes next entry earlier end.0 some in
     (new.0, (end.0, end.1, new.1))
 

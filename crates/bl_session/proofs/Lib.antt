@@ -2,6 +2,10 @@ pub mod EndLaws
 pub mod BootLaws
 pub mod GatherLemmas
 pub mod OutcomeLaws
+pub mod OnceLemmas
+pub mod SpotLemmas
+pub mod AttemptLemmas
+pub mod AdvanceLemmas
 pub mod StageLemmas
 pub mod AfterLemmas
 pub mod FinishLemmas

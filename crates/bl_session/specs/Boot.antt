@@ -8,7 +8,7 @@ use Rattle.bl_stage.specs.Spots.{Spot, bytes_of}
 use Rattle.bl_session.specs.declared.words.Ticket.{Ticket}
 use Rattle.bl_session.specs.declared.words.RefusedEntry.{RefusedEntry}
 use Rattle.bl_session.specs.Ends.{End, handed, refused, EndsIn, size_refusal, lengths_of}
-use Rattle.bl_session.specs.Menu.{MenuFacts, entry_at}
+use Rattle.bl_session.specs.Menu.{MenuFacts, entry_at, value_with}
 use Rattle.bl_session.specs.Pieces.{is_awaited, awaits, spot_of, with_piece, are_whole, awaited}
 
 -- what does not change in a boot: the machine, the menu, and the size of each file of the menu, None if it is missing
@@ -42,7 +42,7 @@ fresh facts entry = awaited (lengths_of (sizes_of facts entry))
 
 -- what it ends in once its files hold these texts
 abbrev pub EntryEndsIn : BootFacts → ℕ → List (List ℕ) → End → Type 0
-EntryEndsIn facts entry texts = EndsIn facts.machine ((entry_at facts.menu entry).value texts)
+EntryEndsIn facts entry texts = EndsIn facts.machine (value_with (entry_at facts.menu entry) texts)
 
 -- ---- attempts, one after the other
 

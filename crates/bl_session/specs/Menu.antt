@@ -4,17 +4,21 @@ use Rattle.bl_load.specs.declared.entry.Entry.{Entry}
 use Rattle.bl_load.specs.declared.entry.Entry.TheVariants.{Multiboot2, Linux}
 use Rattle.bl_load.specs.Value.{EntryValue, value_of, multiboot2_value}
 
--- an entry: its files by their index, the kernel's first, and its value once these hold given texts
+-- an entry: its files by their index, the kernel's first, and its value, but for what these hold
 pub record EntryFacts : Type 0 where
   pub files : List ℕ
-  pub value : List (List ℕ) → EntryValue
+  pub blank : EntryValue
+
+-- its value once its files hold these texts
+abbrev pub value_with : EntryFacts → List (List ℕ) → EntryValue
+value_with entry texts = record entry.blank { files = texts }
 
 abbrev pub files_of : {A : Type 0} → Entry A → List ℕ
 files_of (Multiboot2 kernel line modules) = kernel ∷ map (λ m. m.file) modules.items
 files_of (Linux kernel line initrd) = kernel ∷ option_to_list initrd
 
 abbrev pub facts_of : {A : Type 0} → Entry A → EntryFacts
-facts_of entry = record { files = files_of entry; value = λ texts. value_of texts entry }
+facts_of entry = record { files = files_of entry; blank = value_of [] entry }
 
 -- a menu: its entries, and the indices of those that are attempted, in order
 pub record MenuFacts : Type 0 where
@@ -23,7 +27,7 @@ pub record MenuFacts : Type 0 where
 
 -- what is read behind the last entry
 abbrev pub no_entry : EntryFacts
-no_entry = record { files = []; value = λ texts. multiboot2_value texts [] [] }
+no_entry = record { files = []; blank = multiboot2_value [] [] [] }
 
 abbrev pub entry_at : MenuFacts → ℕ → EntryFacts
 entry_at menu entry = slice_index_or menu.entries entry no_entry

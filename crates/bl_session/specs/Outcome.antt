@@ -4,7 +4,7 @@ use Rattle.bl_load.specs.Value.{EntryValue}
 use Rattle.bl_stage.specs.Spots.{Spot, piece_of}
 use Rattle.bl_session.specs.declared.words.RefusedEntry.{RefusedEntry}
 use Rattle.bl_session.specs.Ends.{End, Ends, most_bytes}
-use Rattle.bl_session.specs.Menu.{entry_at}
+use Rattle.bl_session.specs.Menu.{entry_at, value_with}
 use Rattle.bl_session.specs.Pieces.{are_whole, with_piece}
 use Rattle.bl_session.specs.Boot.{BootFacts, EventFacts, piece, fault, State, unstarted, running, handed_over, none_left, out_of_memory, sizes_of, fresh, GoesOn, is_wanted, Steps}
 
@@ -33,7 +33,7 @@ texts_of facts files entry =
 
 -- an entry's value
 abbrev pub value_in : BootFacts → List File → ℕ → EntryValue
-value_in facts files entry = (entry_at facts.menu entry).value (texts_of facts files entry)
+value_in facts files entry = value_with (entry_at facts.menu entry) (texts_of facts files entry)
 
 -- ---- schedules; faults has for each attempt, by its number, the place of the file of which a fault comes, or None
 

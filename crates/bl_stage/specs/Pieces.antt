@@ -1,5 +1,5 @@
 -- The pieces of files: each has 4096 bytes, and a file's last piece what is left. Own.
-use Rattle.std.specs.Prelude.{ℕ, ◌+◌, ◌-◌, ◌*◌, min, length, slice_index, slice_index_or, slice_set, Bool, true, false, ◌&&◌, nat_lt, ◌==◌, if◌then◌else◌}
+use Rattle.std.specs.Prelude.{ℕ, ◌+◌, ◌-◌, ◌*◌, min, length, slice_index, slice_index_or, slice_set, Bool, true, false, not, ◌&&◌, nat_lt, ◌==◌, if◌then◌else◌}
 use Rattle.bl_map.specs.Room.{frames_of}
 use Rattle.bl_stage.specs.declared.put.Put.{Put}
 use Rattle.bl_stage.specs.declared.put.Put.TheVariants.{Stored, Repeated, Strange}
@@ -15,6 +15,13 @@ is_piece stage file index len =
 -- a piece's place in the list of all frames
 abbrev pub slot_in : Staging → ℕ → ℕ → ℕ
 slot_in stage file index = first_of stage.sizes file + index
+
+-- there is such a file and piece, and the piece did not come
+abbrev pub is_missing : Staging → ℕ → ℕ → Bool
+is_missing stage file index =
+    nat_lt file (length stage.sizes)
+    && (nat_lt index (frames_of (slice_index stage.sizes file))
+    && not (slice_index_or stage.came (slot_in stage file index) false))
 
 -- what a piece is answered: one that is none is strange, whether that index came or not
 abbrev pub put_answer : Staging → ℕ → ℕ → ℕ → Put

@@ -52,7 +52,7 @@ impl<A: Allocator> Stage<A> {
     ghost use Rattle.bl_map.specs.Room as room;
     ghost use Rattle.bl_stage.specs.Staged.{staged, file_of, table_of, frames_for, with_frames};
     ghost use Rattle.bl_stage.specs.Staged.{AreStaged, AllCame, HasPool};
-    ghost use Rattle.bl_stage.specs.Pieces.{is_piece, slot_in, put_answer, with_piece};
+    ghost use Rattle.bl_stage.specs.Pieces.{is_piece, is_missing, slot_in, put_answer, with_piece};
     ghost use Rattle.bl_stage.specs.Cells.{AreInside};
     ghost use Rattle.bl_stage.specs.Spots.{spots, put_spot};
     ghost use Rattle.bl_stage.specs.Ranges.{meets, IsSameOutside};
@@ -107,6 +107,19 @@ impl<A: Allocator> Stage<A> {
             return None;
         }
         Some((self.starts[file as usize] + index as u64) as usize)
+    }
+
+    /// Whether there is such a file and piece, and the piece did not come.
+    pub fn is_missing(&self, file: u32, index: u32) -> bool
+        ensures { result ≡ is_missing self.now file index }
+    {
+        if file as usize >= self.sizes.len() {
+            return false;
+        }
+        if index as u64 >= frames_of(self.sizes[file as usize]) {
+            return false;
+        }
+        !self.came[(self.starts[file as usize] + index as u64) as usize]
     }
 
     /// The address of a frame of the list of all.

@@ -6,3 +6,5 @@ pub mod LengthLemmas
 pub mod SoundLemmas
 pub mod SeenLaws
 pub mod PartLemmas
+pub mod LegalLemmas
+pub mod LegalLaws

@@ -4,3 +4,4 @@ pub mod SeenFacts
 pub mod Seen
 pub mod Faults
 pub mod Kept
+pub mod Shown

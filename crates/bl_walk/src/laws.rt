@@ -1,10 +1,15 @@
 //! Laws of the definitions.
 ghost use Rattle.std.specs.Prelude.{◌≡◌, ◌+◌, ◌<◌, ◌≤◌, ℕ, List, length, AllPairs, Some, slice_index_or};
+ghost use Rattle.bl_map.specs.MachineFacts.{MachineFacts, AreMachineFacts};
+ghost use Rattle.bl_plan.specs.declared.protocol.Protocol.TheVariants.{Multiboot2};
 ghost use Rattle.bl_load.specs.Handover.{Handover, Part, end_of};
+ghost use Rattle.bl_load.specs.Parts.{IsHandover};
+ghost use Rattle.bl_load.specs.Value.{EntryValue, most_modules};
 ghost use Rattle.bl_walk.specs.Faults.{IsSound};
 ghost use Rattle.bl_walk.specs.Inside.{part_with};
 ghost use Rattle.bl_walk.specs.Seen.{IsSeen};
 ghost use Rattle.bl_walk.specs.SeenFacts.{SeenFacts};
+ghost use Rattle.bl_walk.specs.Shown.{ShowsModules, HasByteLines};
 ghost use Rattle.bl_walk.specs.State.{IsEntered};
 
 /// What is seen in an image is one thing.
@@ -24,4 +29,14 @@ pub fn ranges_lie_in_one_part()
         → (slice_index_or parts k d).address ≤ address
         → address + count ≤ end_of (slice_index_or parts k d)
         → part_with parts address count ≡ Some (slice_index_or parts k d) }
+{}
+
+/// The image of what a Multiboot2 entry hands over shows its kernel the entry: its line, its modules
+/// with their lines and bytes, and the machine's runs.
+pub fn multiboot2_handovers_are_seen()
+    ensures { (facts : MachineFacts) (value : EntryValue) (h : Handover)
+        → AreMachineFacts facts → HasByteLines value
+        → length value.module_lines ≤ most_modules → value.protocol ≡ Multiboot2
+        → IsHandover facts value h
+        → (seen : SeenFacts) × IsSeen h seen × ShowsModules facts value seen }
 {}

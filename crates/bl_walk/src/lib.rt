@@ -17,7 +17,9 @@ mod state;
 mod walking;
 
 pub use fault::WalkFault;
-pub use laws::{ranges_lie_in_one_part, seen_is_determined, seen_is_sound};
+pub use laws::{
+    multiboot2_handovers_are_seen, ranges_lie_in_one_part, seen_is_determined, seen_is_sound,
+};
 pub use seen::Seen;
 pub use seen_file::SeenFile;
 pub use seen_module::SeenModule;

@@ -18,6 +18,15 @@ use bl_refusing::Refusing;
 use std::alloc::Global;
 use std::ops::Range;
 
+/// The ranges that these words are.
+pub fn ranges(alloc: Global, words: &str) -> Result<Vec<Range<u64>>, RowFault> {
+    let mut ranges = Vec::new(alloc);
+    for word in words.split_whitespace() {
+        ranges.push(range(word)?)?;
+    }
+    Ok(ranges)
+}
+
 /// Whether these ranges go forward, and end at most at the size.
 fn are_inside(size: u64, ranges: &[Range<u64>]) -> bool
     ensures forward { IsTrue result → All (λ range. range.start ≤ range.end) ranges.now }
@@ -90,10 +99,7 @@ fn zero<M: PhysMem>(memory: &mut M, range: Range<u64>) -> Result<bool, RowFault>
 }
 
 fn reserve<M: PhysMem>(alloc: Global, memory: &mut M, words: &str) -> Result<bool, RowFault> {
-    let mut ranges = Vec::new(alloc);
-    for word in words.split_whitespace() {
-        ranges.push(range(word)?)?;
-    }
+    let ranges = ranges(alloc, words)?;
     if !are_inside(memory.size(), ranges.as_slice()) {
         return Err(RowFault::BadRow);
     }

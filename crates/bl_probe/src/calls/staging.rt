@@ -6,8 +6,9 @@ ghost use Rattle.bl_stage.specs.Staged.{HasPool};
 
 use crate::bytes::{Names, bytes_of};
 use crate::calls::memory;
+use crate::calls::memory::ranges;
 use crate::fault::RowFault;
-use crate::parse::{number32, range, split_word};
+use crate::parse::{number32, split_word};
 use crate::show::bytes_text;
 use bl_map::Machine;
 use bl_mem::{ByteView, PhysMem};
@@ -59,14 +60,10 @@ fn put<M: PhysMem + Drop>(
     file: u32,
     index: u32,
     bytes: &[u8],
-) -> Result<&'static str, RowFault> {
+) -> Result<Put, RowFault> {
     let pool = staging.stage.pool();
     give_pool(&mut staging.memory, &pool)?;
-    match staging.stage.put(&mut staging.memory, file, index, bytes) {
-        Put::Stored => Ok("stored"),
-        Put::Repeated => Ok("repeated"),
-        Put::Strange => Ok("strange"),
-    }
+    Ok(staging.stage.put(&mut staging.memory, file, index, bytes))
 }
 
 fn put_words<M: PhysMem + Drop>(
@@ -78,11 +75,15 @@ fn put_words<M: PhysMem + Drop>(
     let (file, rest) = split_word(words);
     let (index, pieces) = split_word(rest);
     let bytes = bytes_of(alloc, names, pieces)?;
-    put(staging, number32(file)?, number32(index)?, bytes.as_slice())
+    match put(staging, number32(file)?, number32(index)?, bytes.as_slice())? {
+        Put::Stored => Ok("stored"),
+        Put::Repeated => Ok("repeated"),
+        Put::Strange => Ok("strange"),
+    }
 }
 
-/// Puts one piece after the other: what each is answered, by its first letter and the `x` of
-/// a strange one.
+/// Puts one piece after the other. What each is answered is one letter: `s` for stored, `r` for
+/// repeated, `x` for strange.
 fn put_all<M: PhysMem + Drop>(
     alloc: Global,
     names: &Names,
@@ -96,9 +97,9 @@ fn put_all<M: PhysMem + Drop>(
         let bytes = bytes_of(alloc, names, piece)?;
         let said = put(staging, number32(file)?, number32(index)?, bytes.as_slice())?;
         text.push_str(match said {
-            "stored" => "s",
-            "repeated" => "r",
-            _ => "x",
+            Put::Stored => "s",
+            Put::Repeated => "r",
+            Put::Strange => "x",
         })?;
     }
     Ok(text)
@@ -145,14 +146,6 @@ fn scrub_all<M: PhysMem + Drop>(
     give_pool(&mut staging.memory, &pool)?;
     scrub(&staging.machine, &mut staging.memory, keep);
     Ok("ok")
-}
-
-fn ranges(alloc: Global, words: &str) -> Result<Vec<Range<u64>>, RowFault> {
-    let mut ranges = Vec::new(alloc);
-    for word in words.split_whitespace() {
-        ranges.push(range(word)?)?;
-    }
-    Ok(ranges)
 }
 
 /// Makes a step.

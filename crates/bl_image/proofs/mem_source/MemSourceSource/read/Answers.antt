@@ -1,7 +1,5 @@
-use Rattle.std.proofs.Common.{◌≡◌, ◌+◌, ◌≤◌, ℕ, List, length, slice_range, drop, ap, ◌∙◌, subst, arith}
-use Rattle.bl_image.specs.Source.{Comes}
-use Rattle.bl_image.specs.Sources.{MemSourceFacts, input_of}
-use Rattle.bl_image.proofs.Inputs.{part_came}
+use Rattle.std.proofs.Common.{◌≡◌, ◌+◌, ◌≤◌, ℕ, List, length, slice_range, drop, ap, ◌∙◌, arith}
+use Rattle.bl_image.proofs.Inputs.{part_came, came_from}
 use Rattle.bl_image.proofs.mem_source.MemSourceSource.read.Goals as goal
 
 pub returns-clause-gave : goal.returns-clause-gave
@@ -11,4 +9,4 @@ returns-clause-gave g c =
     let n = c.min-count.result in
     let within : at + n ≤ length bytes = omega (arith, c.min-count.ensures, c.min-most.ensures, c.len.ensures, c.self.invariant) in
     let is = c.copy_from_slice.ensures.after ∙ ap (λ (l : List ℕ). slice_range l at (at + n)) c.deref.ensures.value in
-    subst (λ (facts : MemSourceFacts). Comes (input_of facts) _ _) c.self.view_is (part_came bytes at n c.copy_from_slice.new.self (drop n c.args.out.now) within is)
+    came_from _ _ c.self.view_is (part_came bytes at n c.copy_from_slice.new.self (drop n c.args.out.now) within is)

@@ -1,0 +1,50 @@
+-- The attempts of a menu, and what refuses a menu. Own.
+use Rattle.std.specs.Prelude.{ℕ, ◌+◌, ◌<◌, ◌≤◌, ◌==◌, max, List, [], ◌∷◌, ◌++◌, length, All, if◌then◌else◌}
+use Rattle.std.specs.List.{list_any}
+use Rattle.bl_load.specs.declared.entry.Entry.{Entry}
+use Rattle.bl_load.specs.Value.{HasFewModules}
+use Rattle.bl_session.specs.Menu.{EntryFacts}
+use Rattle.bl_session.specs.declared.menu.MenuFault.{MenuFault}
+use Rattle.bl_session.specs.declared.menu.MenuFault.TheVariants.{BadIndex, TooMany, NoMemory}
+
+-- of these indices each one that is not among the earlier ones, once
+abbrev pub once_after : List ℕ → List ℕ → List ℕ
+once_after earlier [] = []
+once_after earlier (index ∷ indices) =
+    if list_any (λ i. i == index) earlier
+    then once_after earlier indices
+    else index ∷ once_after (earlier ++ index ∷ []) indices
+
+-- the default, then the fallbacks; one that was named before is left out
+abbrev pub attempts_of : ℕ → List ℕ → List ℕ
+attempts_of default fallbacks = once_after [] (default ∷ fallbacks)
+
+-- a menu has at most so many entries
+abbrev pub most_entries : ℕ
+most_entries = 32
+
+-- few entries, with few modules each
+abbrev pub IsSmall : {A : Type 0} → List (Entry A) → Type 0
+IsSmall entries = (length entries ≤ most_entries) × All HasFewModules entries
+
+-- each index names one of so many entries
+abbrev pub NameEntries : ℕ → ℕ → List ℕ → Type 0
+NameEntries count default fallbacks = (default < count) × All (λ index. index < count) fallbacks
+
+-- the first fault of a menu, in the order of these lines; memory may run out if it has none
+abbrev pub HasMenuFault : {A : Type 0} → List (Entry A) → ℕ → List ℕ → MenuFault → Type 0
+HasMenuFault entries default fallbacks TooMany = ¬ IsSmall entries
+HasMenuFault entries default fallbacks BadIndex =
+    IsSmall entries × (¬ NameEntries (length entries) default fallbacks)
+HasMenuFault entries default fallbacks NoMemory =
+    IsSmall entries × NameEntries (length entries) default fallbacks
+
+-- the greatest of these indices plus 1, or 0 if there is none
+abbrev pub count_to : List ℕ → ℕ
+count_to [] = 0
+count_to (index ∷ indices) = max (index + 1) (count_to indices)
+
+-- how many files entries name, up to the greatest index
+abbrev pub files_named : List EntryFacts → ℕ
+files_named [] = 0
+files_named (entry ∷ entries) = max (count_to entry.files) (files_named entries)

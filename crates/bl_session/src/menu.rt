@@ -1,0 +1,238 @@
+//! The menu, and the order in which its entries are attempted.
+ghost use Rattle.std.specs.Prelude.{◌≡◌, ◌↔◌, ◌∷◌, ◌++◌, ◌==◌, ◌+◌, ◌<◌, ◌≤◌, ℕ, [], length, map};
+ghost use Rattle.std.specs.Prelude.{All, IsTrue, IfErr, IfOk, OnOk, slice_index_or, if◌then◌else◌};
+ghost use Rattle.std.specs.List.{list_any};
+ghost use Rattle.bl_load.specs.Value.{HasFewModules};
+ghost use Rattle.bl_session.specs.Menu.{files_of, facts_of, entry_at};
+ghost use Rattle.bl_session.specs.Attempts.{attempts_of, IsSmall, NameEntries, HasMenuFault};
+ghost use Rattle.bl_session.specs.Attempts.{count_to};
+ghost use Rattle.bl_session.specs.Attempts as attempts;
+ghost use Rattle.bl_session.specs.declared.menu.MenuFault.TheVariants.{NoMemory};
+
+use bl_load::{Entry, Module};
+use std::alloc::{AllocError, AllocFailed, Allocator};
+use std::marker::Model;
+use thiserror::Error;
+
+/// The most entries of a menu.
+pub const MOST_ENTRIES: usize = 32;
+
+/// The most modules of an entry.
+pub const MOST_MODULES: usize = 64;
+
+/// Why there is no menu: the first fault in the order `TooMany`, `BadIndex`. Memory may run out if
+/// there is none.
+#[derive(Clone, Copy, Debug, PartialEq, Eq, Error)]
+pub enum MenuFault {
+    #[error("an index names no entry")]
+    BadIndex,
+    #[error("too many entries or modules")]
+    TooMany,
+    #[error("no memory")]
+    NoMemory,
+}
+
+impl From<AllocError> for MenuFault {
+    ghost from_gives = { λ _ fault. fault ≡ NoMemory };
+
+    fn from(_: AllocError) -> MenuFault {
+        MenuFault::NoMemory
+    }
+}
+
+impl<T: Drop> From<AllocFailed<T>> for MenuFault {
+    ghost from_gives = { λ _ fault. fault ≡ NoMemory };
+
+    fn from(_: AllocFailed<T>) -> MenuFault {
+        MenuFault::NoMemory
+    }
+}
+
+/// Entries, and the order in which they are attempted.
+#[derive(Drop)]
+pub struct Menu<A: Allocator> {
+    entries: Vec<Entry<A>, A>,
+    attempts: Vec<u32, A>,
+}
+
+impl<A: Allocator> Model for Menu<A> {
+    ghost use Rattle.std.specs.Prelude.{◌<◌, ◌≤◌, length, map, All};
+    ghost use Rattle.bl_load.specs.Value.{HasFewModules};
+    ghost use Rattle.bl_session.specs.Menu.{MenuFacts, facts_of};
+    ghost use Rattle.bl_session.specs.Attempts.{most_entries};
+
+    ghost Value = { MenuFacts };
+
+    ghost view = { λ menu. record {
+      entries = map facts_of menu.entries.items;
+      attempts = menu.attempts.items;
+    } };
+
+    ghost invariant = { λ menu.
+        All (λ entry. entry < length menu.entries.items) menu.attempts.items
+        × All HasFewModules menu.entries.items
+        × (length menu.attempts.items ≤ most_entries) };
+}
+
+/// Whether an entry has at most 64 modules.
+fn has_few_modules<A: Allocator>(entry: &Entry<A>) -> bool
+    ensures { IsTrue result ↔ HasFewModules entry.now }
+{
+    match entry {
+        Entry::Multiboot2 { modules, .. } => modules.len() <= MOST_MODULES,
+        Entry::Linux { .. } => true,
+    }
+}
+
+fn is_small<A: Allocator>(entries: &[Entry<A>]) -> bool
+    ensures { IsTrue result ↔ IsSmall entries.now }
+{
+    entries.len() <= MOST_ENTRIES && entries.iter().all(|entry| has_few_modules(entry))
+}
+
+fn name_entries<A: Allocator>(entries: &[Entry<A>], default: u32, fallbacks: &[u32]) -> bool
+    ensures { IsTrue result ↔ NameEntries (length entries.now) default fallbacks.now }
+{
+    let count = entries.len();
+    (default as usize) < count && fallbacks.iter().all(|index| (*index as usize) < count)
+}
+
+fn is_among(index: u32, earlier: &[u32]) -> bool
+    ensures { result ≡ list_any (λ i. i == index) earlier.now }
+{
+    earlier.iter().any(|i| *i == index)
+}
+
+/// Appends an index, if it is not among the earlier ones.
+fn add_once<A: Allocator>(attempts: &mut Vec<u32, A>, index: u32) -> Result<(), AllocError>
+    ensures { OnOk result (attempts.new.items
+        ≡ (if list_any (λ i. i == index) attempts.old.items
+        then attempts.old.items
+        else attempts.old.items ++ index ∷ [])) }
+{
+    if !is_among(index, attempts) {
+        attempts.push(index)?;
+    }
+    Ok(())
+}
+
+fn order_attempts<A: Allocator>(
+    alloc: A,
+    default: u32,
+    fallbacks: &[u32],
+) -> Result<Vec<u32, A>, AllocError>
+    ensures { IfOk result (λ attempts. attempts.items ≡ attempts_of default fallbacks.now) }
+{
+    let mut attempts = Vec::new(alloc);
+    attempts.push(default)?;
+    for index in fallbacks {
+        add_once(&mut attempts, *index)?;
+    }
+    Ok(attempts)
+}
+
+impl<A: Allocator + Copy> Menu<A> {
+    /// A menu of these entries, by their index from 0: the default is attempted first, and then the
+    /// fallbacks in order, one that was named before left out.
+    ///
+    /// - `TooMany`: there are more than 32 entries, or more than 64 modules in one.
+    /// - `BadIndex`: the default or a fallback names no entry, as each index does if there is none.
+    /// - `NoMemory`: there was no memory for the list of attempts.
+    pub fn new(
+        alloc: A,
+        entries: Vec<Entry<A>, A>,
+        default: u32,
+        fallbacks: &[u32],
+    ) -> Result<Menu<A>, MenuFault>
+        ensures ok { IfOk result (λ menu. menu ≡ record {
+          entries = map facts_of entries.items;
+          attempts = attempts_of default fallbacks.now;
+        }) }
+        ensures allowed { OnOk result (IsSmall entries.items
+            × NameEntries (length entries.items) default fallbacks.now) }
+        ensures first_fault { IfErr result (HasMenuFault entries.items default fallbacks.now) }
+    {
+        let offered = entries.as_slice();
+        if !is_small(offered) {
+            return Err(MenuFault::TooMany);
+        }
+        if !name_entries(offered, default, fallbacks) {
+            return Err(MenuFault::BadIndex);
+        }
+        let attempts = order_attempts(alloc, default, fallbacks)?;
+        Ok(Menu { entries, attempts })
+    }
+}
+
+/// The greatest index of a file of modules plus 1, or 0 if there is none.
+fn module_files<A: Allocator>(modules: &[Module<A>]) -> usize
+    ensures { result ≡ count_to (map (λ m. m.file) modules.now) }
+{
+    match modules {
+        [] => 0,
+        [module, rest @ ..] => (module.file as usize + 1).max(module_files(rest)),
+    }
+}
+
+/// The greatest index of a file of an entry plus 1.
+fn entry_files<A: Allocator>(entry: &Entry<A>) -> usize
+    ensures { result ≡ count_to (files_of entry.now) }
+{
+    match entry {
+        Entry::Multiboot2 {
+            kernel,
+            modules,
+            ..
+        } => (*kernel as usize + 1).max(module_files(modules)),
+        Entry::Linux { kernel, initrd, .. } => match initrd {
+            Some(file) => (*kernel as usize + 1).max(*file as usize + 1),
+            None => *kernel as usize + 1,
+        },
+    }
+}
+
+/// The greatest index of a file of entries plus 1, or 0 if there is none.
+fn files_named<A: Allocator>(entries: &[Entry<A>]) -> usize
+    ensures { result ≡ attempts.files_named (map facts_of entries.now) }
+{
+    match entries {
+        [] => 0,
+        [entry, rest @ ..] => entry_files(entry).max(files_named(rest)),
+    }
+}
+
+impl<A: Allocator> Menu<A> {
+    /// How many files the menu names: the greatest index of a file plus 1, or 0 if no entry names
+    /// a file.
+    pub fn files(&self) -> usize
+        ensures { result ≡ attempts.files_named self.now.entries }
+    {
+        files_named(&self.entries)
+    }
+
+    /// How many attempts there are, at most 32.
+    pub fn attempts(&self) -> usize
+        ensures count { result ≡ length self.now.attempts }
+        ensures few { result ≤ 32 }
+    {
+        self.attempts.len()
+    }
+
+    /// The index of the entry of an attempt.
+    pub fn entry_of(&self, attempt: usize) -> u32
+        requires { attempt < length self.now.attempts }
+        ensures entry { (d : ℕ) → result ≡ slice_index_or self.now.attempts attempt d }
+        ensures inside { result < length self.now.entries }
+    {
+        self.attempts[attempt]
+    }
+
+    /// An entry, by its index.
+    pub fn entry(&self, index: u32) -> &Entry<A>
+        requires { index < length self.now.entries }
+        ensures entry { facts_of result.now ≡ entry_at self.now index }
+        ensures few { HasFewModules result.now }
+    {
+        &self.entries[index as usize]
+    }
+}
