@@ -6,3 +6,5 @@ pub mod AfterAttempt
 pub mod Ends
 pub mod Kept
 pub mod WalkSays
+pub mod Walked
+pub mod WalkKept

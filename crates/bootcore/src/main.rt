@@ -1,4 +1,5 @@
-//! The program: from a boot description to the image of a handover, or to the map of a machine.
+//! The program: from a boot description to the image of a handover, or to the map of a machine; from an
+//! image to what a kernel sees in it.
 #![tactic(auto)]
 
 ghost use Rattle.std.specs.Prelude.{◌≡◌, ◌⊎◌, ◌≤◌};
@@ -7,11 +8,11 @@ mod image_file;
 mod path_files;
 mod program;
 
-pub use bl_boot::{FILE_LIMIT, Fetched, Files, MemFiles, boot, map_to};
+pub use bl_boot::{FILE_LIMIT, Fetched, Files, MemFiles, boot, map_to, walk_to};
 pub use bl_line::{Job, LineFault, Order, read_line};
 pub use image_file::ImageFile;
 pub use path_files::{PathFiles, read_file};
-use program::{run_line, word_of};
+use program::{run_line, tell_status};
 use std::process::ExitCode;
 use std::{env, io};
 
@@ -21,25 +22,21 @@ fn run_words(rt: &HostRuntime) -> u8
 {
     let args = match env::args(rt) {
         Ok(args) => args,
-        Err(error) if error.kind() == io::ErrorKind::OutOfMemory => return 4,
-        Err(_) => return 64,
+        Err(error) if error.kind() == io::ErrorKind::OutOfMemory => return tell_status(rt, 4),
+        Err(_) => return tell_status(rt, 64),
     };
     let Ok(words) = args.collect::<Vec<String>>(rt.alloc()) else {
-        return 4;
+        return tell_status(rt, 4);
     };
     let mut texts = Vec::new(rt.alloc());
     for word in &words {
         if texts.push(word.as_str()).is_err() {
-            return 4;
+            return tell_status(rt, 4);
         }
     }
     run_line(rt, &texts)
 }
 
 fn main(rt: HostRuntime) -> ExitCode {
-    let status = run_words(&rt);
-    if let Some(word) = word_of(status) {
-        let _ = rt.eprintln(word);
-    }
-    ExitCode::from(status)
+    ExitCode::from(run_words(&rt))
 }

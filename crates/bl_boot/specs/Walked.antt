@@ -1,0 +1,60 @@
+-- How a walk of an image ends. Own.
+use Rattle.std.specs.Prelude.{◌≡◌, ◌≢◌, ◌⊎◌, ℕ, List, ◌++◌, codes, decimal}
+use Rattle.bl_load.specs.Handover.{Handover}
+use Rattle.bl_image.specs.Image.{spelling}
+use Rattle.bl_image.specs.ImageFaults.{image_fault}
+use Rattle.bl_image.specs.Faults.{image_fault_number}
+use Rattle.bl_image.specs.Source.{Input, Comes, IsEnded, Refuses}
+use Rattle.bl_image.specs.declared.fault.ImageFault.{ImageFault}
+use Rattle.bl_image.specs.declared.fault.ImageFault.TheVariants as image
+use Rattle.bl_walk.specs.Seen.{IsSeen}
+use Rattle.bl_walk.specs.SeenFacts.{SeenFacts}
+use Rattle.bl_walk.specs.Faults.{HasFault, IsSound, walk_fault_number}
+use Rattle.bl_walk.specs.declared.fault.WalkFault.{WalkFault}
+use Rattle.bl_walk.specs.declared.fault.WalkFault.TheVariants as walking
+use Rattle.bl_boot.specs.WalkSays.{walk_lines}
+
+-- the image of a handover came from the source, and then its end
+pub record IsRead (before after : Input) (handover : Handover) : Type 0 where
+  pub came : Comes before after (spelling handover)
+  pub ended : IsEnded after
+
+-- what is seen in the image that came was said
+pub record IsWalked (before after : Input) (said_before said_after : List ℕ) : Type 0 where
+  pub handover : Handover
+  pub read : IsRead before after handover
+  pub seen : SeenFacts
+  pub is_seen : IsSeen handover seen
+  pub sound : IsSound handover
+  pub said : said_after ≡ said_before ++ walk_lines seen
+
+-- what came is no image, for a fault of this number
+pub record IsNoImage (before after : Input) (number : ℕ) : Type 0 where
+  pub fault : ImageFault
+  pub no_device : fault ≢ image.DeviceFault
+  pub no_memory : fault ≢ image.NoMemory
+  pub shown : Refuses image_fault before after fault
+  pub numbered : number ≡ image_fault_number fault
+
+-- an image came in which a kernel sees nothing, for a fault of this number
+pub record ShowsNothing (before after : Input) (number : ℕ) : Type 0 where
+  pub handover : Handover
+  pub read : IsRead before after handover
+  pub fault : WalkFault
+  pub no_memory : fault ≢ walking.NoMemory
+  pub stands : HasFault handover fault
+  pub numbered : number ≡ walk_fault_number fault
+
+-- the image is refused with this number
+abbrev pub IsBadImage : Input → Input → ℕ → Type 0
+IsBadImage before after number = IsNoImage before after number ⊎ ShowsNothing before after number
+
+-- what is said of such an image, on standard error
+abbrev pub bad_image_line : ℕ → List ℕ
+bad_image_line number = codes "bad image " ++ decimal number ++ codes "\n"
+
+-- the image is refused, and that was said
+pub record IsBlamed (before after : Input) (blamed_before blamed_after : List ℕ) : Type 0 where
+  pub number : ℕ
+  pub bad : IsBadImage before after number
+  pub blamed : blamed_after ≡ blamed_before ++ bad_image_line number
