@@ -17,7 +17,7 @@ returns-clause-held g c =
     let cleared = rw (c.ranges-2.ensures) at c.scrub.ensures.after in
     let inside = c.requires.loadable.inside in
     let same = held_on c.args.machine.now.pool handoff.places loaded new c.scrub.ensures.size cleared
-        (rw (c.load-handoff.ensures.places, c.load-handoff.ensures.size) inside) in
+    (rw (c.load-handoff.ensures.places, c.load-handoff.ensures.size) inside) in
     ap (λ (ps : List Part). let h : Handover = record { protocol = handoff.protocol; registers = handoff.registers; parts = ps } in h) same
     ∙ c.load-handoff.ensures.handed
 
