@@ -1,5 +1,5 @@
 -- Pieces that come one after the other, and files that are staged so.
-use Rattle.std.proofs.Common.{◌≡◌, ℕ, zero, suc, replicate, ◌+◌, ◌-◌, ◌*◌, ◌<◌, ◌≤◌, ◌≢◌, List, length, get_or, slice_range, min, set, Bool, true, false, arith, rules, refl, sym, ◌∙◌, inl, inr, All, map, [], ◌∷◌}
+use Rattle.std.proofs.Common.{◌≡◌, ℕ, zero, suc, replicate, ◌+◌, ◌-◌, ◌*◌, ◌<◌, ◌≤◌, List, length, get_or, slice_range, min, set, Bool, true, false, arith, rules, refl, sym, ◌∙◌, inl, inr, All, map, [], ◌∷◌}
 use Rattle.std.specs.List.{range_with_len}
 use Rattle.std.proofs.lemmas.Bool.{cases_eq, cases_lt}
 use Rattle.std.proofs.lemmas.Bool.Decides.{nat_tests}

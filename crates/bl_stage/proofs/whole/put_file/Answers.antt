@@ -1,4 +1,4 @@
-use Rattle.std.proofs.Common.{◌≡◌, ℕ, ◌+◌, ◌-◌, ◌*◌, ◌<◌, ◌≤◌, List, Bool, length, take, set, true, min, arith, rules, ap, ◌∙◌}
+use Rattle.std.proofs.Common.{◌≡◌, ◌+◌, ◌*◌, ◌<◌, List, Bool, length, take, set, true, arith, rules, ap, ◌∙◌}
 use Rattle.std.proofs.lemmas.List.{places, ext_get_or, length-set}
 use Rattle.bl_stage.specs.Filled.{with_came}
 use Rattle.bl_stage.specs.Pieces.{slot_in}

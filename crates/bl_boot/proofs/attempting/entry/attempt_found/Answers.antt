@@ -8,8 +8,7 @@ scrub-requires-clause-inside g c = rw (c.load_found.ensures.size, c.requires.siz
 
 pub returns-in-Err-Refused : goal.returns-in-Err-Refused
 returns-in-Err-Refused g c =
-    let fault = rw c.in-Err-Refused.field-0-is at c.in-Err-Refused.ensures.fault in
-    (
+    let fault = rw c.in-Err-Refused.field-0-is at c.in-Err-Refused.ensures.fault in (
       fault,
       cleared c.args.machine.now.pool (g.M.PhysMem.bytes c.args.memory.now) (g.M.PhysMem.bytes c.load_found.new.memory) (g.M.PhysMem.bytes c.scrub.new.memory) c.in-Err-Refused.ensures.outside c.scrub.ensures.after,
     )

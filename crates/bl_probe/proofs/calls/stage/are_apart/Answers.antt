@@ -1,4 +1,4 @@
-use Rattle.std.proofs.Common.{◌≡◌, ap, sym, ◌∙◌, arith, get_or, inl, inr}
+use Rattle.std.proofs.Common.{ap, sym, ◌∙◌, arith, get_or, inl, inr}
 use Rattle.std.proofs.lemmas.Bool.{cases_eq, cases_lt}
 use Rattle.bl_probe.proofs.calls.stage.are_apart.Goals as goal
 
