@@ -1,7 +1,8 @@
 -- The image of a Multiboot2 entry's handover shows the entry.
-use Rattle.std.proofs.Common.{◌≡◌, ◌+◌, ◌-◌, ◌<◌, ◌≤◌, ◌^◌, ◌∷◌, ◌++◌, ℕ, Bool, true, false, List, [], map, length, take, Some, None, Option, refl, sym, ap, ◌∙◌, inl, inr, arith, subst, All, AllPairs, lit<}
+use Rattle.std.proofs.Common.{◌≡◌, ◌≢◌, ◌+◌, ◌-◌, ◌&&◌, nat_le, nat_lt, zero-add, ◌<◌, ◌≤◌, ◌^◌, ◌∷◌, ◌++◌, ℕ, Bool, true, false, List, [], map, length, take, Some, None, Option, refl, sym, ap, ◌∙◌, inl, inr, arith, subst, All, AllPairs, lit<}
 use Rattle.std.specs.Prelude.{IfSome, option_map, is_some, codes}
-use Rattle.std.specs.List.{list_any}
+use Rattle.std.specs.List.{list_any, list_all}
+use Rattle.std.proofs.lemmas.Bool.{leb-true, ltb-true}
 use Rattle.std.proofs.lemmas.List.Elements.{All-head, All-tail, All-cons, All-nil}
 use Rattle.std.proofs.Math.Seq.{take-length}
 use Rattle.bl_map.specs.MachineFacts.{MachineFacts, AreMachineFacts}
@@ -20,7 +21,7 @@ use Rattle.bl_load.specs.Addresses.{address_of}
 use Rattle.bl_load.specs.Handover.{Part, Handover, end_of}
 use Rattle.bl_load.specs.Kernel.{KernelFacts, IsKernel}
 use Rattle.bl_load.specs.Parts.{IsHandover, content_of, handover_of}
-use Rattle.bl_load.specs.Reading.{multiboot2}
+use Rattle.bl_load.specs.Reading.{Reading, multiboot2, IsRead}
 use Rattle.bl_load.specs.Rows.{rows_of, kernel_rows, module_rows, information_row, information_of, modules_of}
 use Rattle.bl_load.specs.Value.{EntryValue, kernel_file, module_file, line_fault, lines_fault, lines_of}
 use Rattle.bl_load.proofs.EntryLemmas.{small_address}
@@ -34,7 +35,7 @@ use Rattle.bl_walk.specs.Inside.{bytes_in}
 use Rattle.bl_walk.specs.Seen.{HasTotalSize, IsInformation, InformationSays, InformationShows, IsSeen, kernel_in}
 use Rattle.bl_walk.specs.SeenFacts.{SeenModuleFacts, SeenFacts}
 use Rattle.bl_walk.specs.Shown.{ShowsModules, HasByteLines}
-use Rattle.bl_walk.proofs.PartLemmas.{is_of, held_front}
+use Rattle.bl_walk.proofs.PartLemmas.{is_of, held_front, both_true}
 use Rattle.bl_walk.proofs.LegalLemmas.{row_held, behind, before, module_row, first_word, modules_fit, shown_modules, modules_seen, lines_shown, files_shown}
 
 -- lines that are sound are short
@@ -47,6 +48,18 @@ lines_short (line ∷ lines) sound =
 base_fits : {X : Type 0} (given : Option X) (base : ℕ) → base < 2 ^ 32 → IfSome (option_map (λ x. base) given) (λ b. b < 2 ^ 32)
 base_fits None base small = tt
 base_fits (Some x) base small = small
+
+-- a text, by a test of each byte
+text_by : (text : List ℕ) → list_all (λ c. nat_le 1 c && nat_lt c 256) text ≡ true → IsText text
+text_by [] is = All-nil (λ (c : ℕ). (c ≢ 0) × (c < 256))
+text_by (c ∷ text) is =
+    let split = both_true _ _ is in
+    let first = both_true _ _ split.0 in
+    let low = leb-true 1 c first.0 in
+    All-cons (λ (b : ℕ). (b ≢ 0) × (b < 256)) c text (omega arith, ltb-true c 256 first.1) (text_by text split.1)
+
+name_is : IsText (codes "bootcore")
+name_is = text_by (codes "bootcore") refl
 
 module _ (facts : MachineFacts) (value : EntryValue) (kernel : KernelFacts) (places : List Place) (machine : AreMachineFacts facts) (bytes : HasByteLines value)
     (few : length value.module_lines ≤ 64) (lines : lines_fault (lines_of value) ≡ None) (is_kernel : IsKernel (kernel_file value) kernel)
@@ -114,13 +127,89 @@ module _ (facts : MachineFacts) (value : EntryValue) (kernel : KernelFacts) (pla
       let sum = info_size_is facts value kernel.relocation places in
       omega (arith, own, tags, whole, sum)
 
-  name_is : IsText (codes "bootcore")
-  name_is = ?
+  abbrev handover : Handover
+  handover = handover_of facts value (multiboot2 kernel) places
 
-  information : InfoFacts
-  information = record { name = codes "bootcore"; facts = told }
+  abbrev text : List ℕ
+  text = spelling (codes "bootcore") told
+
+  long : 16 ≤ length text
+  long = let size = length-spelling told in omega (arith, size)
+
+  module _ (protocol : value.protocol ≡ Multiboot2) where
+    total : HasTotalSize handover (length text)
+    total = record {
+      protocol = protocol;
+      fixed_part = take 8 text;
+      front = let least = long in held Information 0 8 information_held (omega arith);
+      told = first_word (codes "bootcore") told size_is;
+      small = size_is;
+    }
+
+    is_information : IsInformation handover text
+    is_information = record {
+      size = length text;
+      total_size = total;
+      least = long;
+      whole = held Information 0 (length text) information_held (omega arith) ∙ ap Some (take-length text);
+    }
+
+    says : InformationSays handover record { name = codes "bootcore"; facts = told }
+    says = record {
+      bytes = text;
+      information = is_information;
+      spelling = record { exact = refl; name = name_is; facts = fits };
+    }
+
+    abbrev seen : SeenFacts
+    seen = record {
+      protocol = value.protocol;
+      entry = handover.registers.eip;
+      line = value.line;
+      kernel = kernel_in handover.parts;
+      modules = shown_modules value.files places 0 value.module_lines;
+      initrd = None;
+      map = facts.runs;
+    }
+
+    shows : InformationShows handover seen
+    shows = record {
+      info = record { name = codes "bootcore"; facts = told };
+      says = says;
+      line = refl;
+      modules = modules_seen parts value.files places 0 value.module_lines
+          (λ i from upto. held Module i (length (module_file value.files i)) (module_held i (omega arith)) (omega arith) ∙ ap Some (take-length (module_file value.files i)));
+      initrd = refl;
+      runs = refl;
+    }
+
+    is_seen : IsSeen handover seen
+    is_seen = record { protocol = refl; entry = refl; kernel = refl; shown = inl shows }
+
+    its_own : ShowsModules facts value seen
+    its_own = record {
+      protocol = refl;
+      line = refl;
+      lines = lines_shown value.files places 0 value.module_lines;
+      files = λ k within. files_shown value.files places 0 value.module_lines k within ∙ ap (module_file value.files) (zero-add k);
+      initrd = refl;
+      runs = refl;
+    }
+
+-- by what is read of the kernel
+by_reading : (facts : MachineFacts) (value : EntryValue) (h : Handover) (places : List Place) (reading : Reading) → AreMachineFacts facts → HasByteLines value
+    → length value.module_lines ≤ 64 → value.protocol ≡ Multiboot2 → lines_fault (lines_of value) ≡ None → IsRead value reading
+    → ArePlaced facts [] (rows_of facts value reading) places → h ≡ handover_of facts value reading places
+    → AllPairs (λ p q. end_of p ≤ q.address) h.parts → (seen : SeenFacts) × IsSeen h seen × ShowsModules facts value seen
+by_reading facts value h places (multiboot2 kernel) machine bytes few protocol lines read placed same apart =
+    let above = subst (λ (x : Handover). AllPairs (λ (p q : Part). end_of p ≤ q.address) x.parts) same apart in
+    subst (λ (x : Handover). (seen : SeenFacts) × IsSeen x seen × ShowsModules facts value seen) (sym same)
+    (seen facts value kernel places machine bytes few lines read.1 placed above protocol,
+    is_seen facts value kernel places machine bytes few lines read.1 placed above protocol,
+    its_own facts value kernel places machine bytes few lines read.1 placed above protocol)
 
 pub multiboot2_seen : (facts : MachineFacts) (value : EntryValue) (h : Handover) → AreMachineFacts facts → HasByteLines value
     → length value.module_lines ≤ 64 → value.protocol ≡ Multiboot2 → IsHandover facts value h
     → (seen : SeenFacts) × IsSeen h seen × ShowsModules facts value seen
-multiboot2_seen facts value h machine bytes few protocol is = ?
+multiboot2_seen facts value h machine bytes few protocol is =
+    by_reading facts value h is.places is.reading machine bytes few protocol is.lines is.read is.placed is.is (all_apart facts value h is)
