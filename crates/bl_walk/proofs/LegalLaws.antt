@@ -13,6 +13,7 @@ use Rattle.bl_mbi.specs.Spelling.{spelling}
 use Rattle.bl_mbi.proofs.Sizes.{length-spelling}
 use Rattle.bl_plan.specs.Placed.{ArePlaced}
 use Rattle.bl_plan.specs.declared.place.Place.{Place}
+use Rattle.bl_plan.specs.declared.protocol.Protocol.{Protocol}
 use Rattle.bl_plan.specs.declared.protocol.Protocol.TheVariants.{Multiboot2}
 use Rattle.bl_plan.specs.declared.role.Role.{Role}
 use Rattle.bl_plan.specs.declared.role.Role.TheVariants.{Kernel, Module, Information}
@@ -35,7 +36,11 @@ use Rattle.bl_walk.specs.Inside.{bytes_in}
 use Rattle.bl_walk.specs.Seen.{HasTotalSize, IsInformation, InformationSays, InformationShows, IsSeen, kernel_in}
 use Rattle.bl_walk.specs.SeenFacts.{SeenModuleFacts, SeenFacts}
 use Rattle.bl_walk.specs.Shown.{ShowsModules, HasByteLines}
-use Rattle.bl_walk.proofs.PartLemmas.{is_of, held_front, both_true}
+use Rattle.bl_walk.specs.Faults.{IsSound}
+use Rattle.bl_walk.specs.State.{IsEntered, entry_registers}
+use Rattle.bl_walk.proofs.EnteredLemmas.{entered_place}
+use Rattle.bl_walk.proofs.SoundLemmas.{seen_is_sound}
+use Rattle.bl_walk.proofs.PartLemmas.{is_of, held_front, entered_in, both_true}
 use Rattle.bl_walk.proofs.LegalLemmas.{row_held, behind, before, module_row, first_word, modules_fit, shown_modules, modules_seen, lines_shown, files_shown}
 
 -- lines that are sound are short
@@ -196,20 +201,44 @@ module _ (facts : MachineFacts) (value : EntryValue) (kernel : KernelFacts) (pla
       runs = refl;
     }
 
+    entered : IsEntered handover
+    entered =
+        let address = handover.registers.eip in
+        let rest = module_rows value.files 0 value.module_lines ++ last in
+        record {
+          registers = subst (λ (p : Protocol). handover.registers ≡ entry_registers p handover.registers) (sym protocol) refl;
+          kernel = entered_in places content apart address (entered_place facts (kernel_file value) kernel rest is_kernel places placed);
+          descriptors = λ linux. absurd (cc);
+        }
+
 -- by what is read of the kernel
 by_reading : (facts : MachineFacts) (value : EntryValue) (h : Handover) (places : List Place) (reading : Reading) → AreMachineFacts facts → HasByteLines value
     → length value.module_lines ≤ 64 → value.protocol ≡ Multiboot2 → lines_fault (lines_of value) ≡ None → IsRead value reading
     → ArePlaced facts [] (rows_of facts value reading) places → h ≡ handover_of facts value reading places
-    → AllPairs (λ p q. end_of p ≤ q.address) h.parts → (seen : SeenFacts) × IsSeen h seen × ShowsModules facts value seen
+    → AllPairs (λ p q. end_of p ≤ q.address) h.parts → (seen : SeenFacts) × IsSeen h seen × ShowsModules facts value seen × IsEntered h
 by_reading facts value h places (multiboot2 kernel) machine bytes few protocol lines read placed same apart =
     let above = subst (λ (x : Handover). AllPairs (λ (p q : Part). end_of p ≤ q.address) x.parts) same apart in
-    subst (λ (x : Handover). (seen : SeenFacts) × IsSeen x seen × ShowsModules facts value seen) (sym same)
+    subst (λ (x : Handover). (seen : SeenFacts) × IsSeen x seen × ShowsModules facts value seen × IsEntered x) (sym same)
     (seen facts value kernel places machine bytes few lines read.1 placed above protocol,
     is_seen facts value kernel places machine bytes few lines read.1 placed above protocol,
-    its_own facts value kernel places machine bytes few lines read.1 placed above protocol)
+    its_own facts value kernel places machine bytes few lines read.1 placed above protocol,
+    entered facts value kernel places machine bytes few lines read.1 placed above protocol)
+
+multiboot2_all : (facts : MachineFacts) (value : EntryValue) (h : Handover) → AreMachineFacts facts → HasByteLines value
+    → length value.module_lines ≤ 64 → value.protocol ≡ Multiboot2 → IsHandover facts value h
+    → (seen : SeenFacts) × IsSeen h seen × ShowsModules facts value seen × IsEntered h
+multiboot2_all facts value h machine bytes few protocol is =
+    by_reading facts value h is.places is.reading machine bytes few protocol is.lines is.read is.placed is.is (all_apart facts value h is)
 
 pub multiboot2_seen : (facts : MachineFacts) (value : EntryValue) (h : Handover) → AreMachineFacts facts → HasByteLines value
     → length value.module_lines ≤ 64 → value.protocol ≡ Multiboot2 → IsHandover facts value h
     → (seen : SeenFacts) × IsSeen h seen × ShowsModules facts value seen
 multiboot2_seen facts value h machine bytes few protocol is =
-    by_reading facts value h is.places is.reading machine bytes few protocol is.lines is.read is.placed is.is (all_apart facts value h is)
+    let all = multiboot2_all facts value h machine bytes few protocol is in
+    (all.0, all.1, all.2)
+
+pub multiboot2_sound : (facts : MachineFacts) (value : EntryValue) (h : Handover) → AreMachineFacts facts → HasByteLines value
+    → length value.module_lines ≤ 64 → value.protocol ≡ Multiboot2 → IsHandover facts value h → IsSound h
+multiboot2_sound facts value h machine bytes few protocol is =
+    let all = multiboot2_all facts value h machine bytes few protocol is in
+    seen_is_sound h all.0 all.3 all.1

@@ -32,11 +32,15 @@ pub fn ranges_lie_in_one_part()
 {}
 
 /// The image of what a Multiboot2 entry hands over shows its kernel the entry: its line, its modules
-/// with their lines and bytes, and the machine's runs.
+/// with their lines and bytes, and the machine's runs; and no fault stands in it.
 pub fn multiboot2_handovers_are_seen()
-    ensures { (facts : MachineFacts) (value : EntryValue) (h : Handover)
+    ensures seen { (facts : MachineFacts) (value : EntryValue) (h : Handover)
         → AreMachineFacts facts → HasByteLines value
         → length value.module_lines ≤ most_modules → value.protocol ≡ Multiboot2
         → IsHandover facts value h
         → (seen : SeenFacts) × IsSeen h seen × ShowsModules facts value seen }
+    ensures sound { (facts : MachineFacts) (value : EntryValue) (h : Handover)
+        → AreMachineFacts facts → HasByteLines value
+        → length value.module_lines ≤ most_modules → value.protocol ≡ Multiboot2
+        → IsHandover facts value h → IsSound h }
 {}
