@@ -1,5 +1,5 @@
 -- A Multiboot2 kernel is entered in one of its places.
-use Rattle.std.proofs.Common.{◌≡◌, ◌+◌, ◌-◌, ◌<◌, ◌≤◌, ◌||◌, ◌++◌, ◌∷◌, ℕ, suc, Bool, true, false, List, [], Option, Some, None, refl, sym, ap, ◌∙◌, arith, subst}
+use Rattle.std.proofs.Common.{◌≡◌, ◌+◌, ◌-◌, ◌||◌, ◌++◌, ◌∷◌, ℕ, suc, true, false, List, [], Option, Some, None, refl, sym, ap, arith, subst}
 use Rattle.std.specs.List.{list_any}
 use Rattle.std.proofs.Math.Bool.{or-true}
 use Rattle.std.specs.declared.ops.Range.{Range}
@@ -12,7 +12,7 @@ use Rattle.bl_plan.specs.declared.place.Place.{Place}
 use Rattle.bl_plan.specs.declared.role.Role.TheVariants.{Kernel}
 use Rattle.bl_plan.specs.declared.row.Row.{Row}
 use Rattle.bl_load.specs.Addresses.{address_of}
-use Rattle.bl_load.specs.Blocks.{low_of, high_of, span_of}
+use Rattle.bl_load.specs.Blocks.{low_of, span_of}
 use Rattle.bl_load.specs.Kernel.{KernelFacts, IsKernel, holds_at, entry_fault, counted_entry}
 use Rattle.bl_load.specs.Parts.{entry_at}
 use Rattle.bl_load.specs.Rows.{segment_rows, kernel_rows}
@@ -30,13 +30,13 @@ segments_enter facts taken k entry (s ∷ segments) rest (p ∷ places) placed h
     let size : p.length ≡ s.memsz = ap (λ (q : Place). q.length) placed.1 in
     let role : p.role ≡ Kernel = ap (λ (q : Place). q.role) placed.1 in
     elim (holds s entry) as (λ b. holds s entry ≡ b → (b || list_any (holds_at entry) segments) ≡ true → (kernel_holds entry p || list_any (kernel_holds entry) places) ≡ true) [
-      true ↦ λ e h. (
-        let within = held_within s entry e in
-        let here = holds_by entry p role (omega (arith, within.0, at)) (omega (arith, within.1, at, size)) in
-        rw here)
-    | false ↦ λ e h. (
-        let later = segments_enter facts (put_in (range_of p) taken) (suc k) entry segments rest places placed.2 h in
-        rw later (or-true (kernel_holds entry p)))
+      | true ↦ λ e h. (
+          let within = held_within s entry e in
+          let here = holds_by entry p role (omega (arith, within.0, at)) (omega (arith, within.1, at, size)) in
+          rw here)
+      | false ↦ λ e h. (
+          let later = segments_enter facts (put_in (range_of p) taken) (suc k) entry segments rest places placed.2 h in
+          rw later (or-true (kernel_holds entry p)))
     ] refl held
 
 -- the entry is that of a segment
@@ -62,15 +62,15 @@ module _ (facts : MachineFacts) (file : List ℕ) (kernel : KernelFacts) (rest :
   entered_place places placed =
       elim kernel.relocation as (λ given. ArePlaced facts [] (kernel_rows kernel.segments given ++ rest) places
       → list_any (kernel_holds (entry_at kernel.entry kernel.segments given (address_of Kernel 0 places))) places ≡ true) [
-        None ↦ λ at. segments_enter facts [] 0 kernel.entry kernel.segments rest places at (entry_is_held file kernel is)
-      | Some r ↦ λ at. elim places as (λ ps. ArePlaced facts [] (kernel_rows kernel.segments (Some r) ++ rest) ps
-        → list_any (kernel_holds (entry_at kernel.entry kernel.segments (Some r) (address_of Kernel 0 ps))) ps ≡ true) [
-          [] ↦ λ none. absurd none
-        | (p ∷ ps) ↦ λ block. (
-            let base : address_of Kernel 0 (p ∷ ps) ≡ p.address = ap (λ (q : Place). address_of Kernel 0 (q ∷ ps)) block.1 in
-            let role : p.role ≡ Kernel = ap (λ (q : Place). q.role) block.1 in
-            let size : p.length ≡ span_of kernel.segments = ap (λ (q : Place). q.length) block.1 in
-            let here = block_holds (address_of Kernel 0 (p ∷ ps)) p role (sym base) size in
-            rw here)
-        ] at
+        | None ↦ λ at. segments_enter facts [] 0 kernel.entry kernel.segments rest places at (entry_is_held file kernel is)
+        | Some r ↦ λ at. elim places as (λ ps. ArePlaced facts [] (kernel_rows kernel.segments (Some r) ++ rest) ps
+            → list_any (kernel_holds (entry_at kernel.entry kernel.segments (Some r) (address_of Kernel 0 ps))) ps ≡ true) [
+              | [] ↦ λ none. absurd none
+              | (p ∷ ps) ↦ λ block. (
+                  let base : address_of Kernel 0 (p ∷ ps) ≡ p.address = ap (λ (q : Place). address_of Kernel 0 (q ∷ ps)) block.1 in
+                  let role : p.role ≡ Kernel = ap (λ (q : Place). q.role) block.1 in
+                  let size : p.length ≡ span_of kernel.segments = ap (λ (q : Place). q.length) block.1 in
+                  let here = block_holds (address_of Kernel 0 (p ∷ ps)) p role (sym base) size in
+                  rw here)
+            ] at
       ] placed

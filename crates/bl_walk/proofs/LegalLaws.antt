@@ -1,14 +1,12 @@
 -- The image of a Multiboot2 entry's handover shows the entry.
-use Rattle.std.proofs.Common.{◌≡◌, ◌≢◌, ◌+◌, ◌-◌, ◌&&◌, nat_le, nat_lt, zero-add, ◌<◌, ◌≤◌, ◌^◌, ◌∷◌, ◌++◌, ℕ, Bool, true, false, List, [], map, length, take, Some, None, Option, refl, sym, ap, ◌∙◌, inl, inr, arith, subst, All, AllPairs, lit<}
+use Rattle.std.proofs.Common.{◌≡◌, ◌≢◌, ◌+◌, ◌&&◌, nat_le, nat_lt, zero-add, ◌<◌, ◌≤◌, ◌^◌, ◌∷◌, ◌++◌, ℕ, true, List, [], length, take, Some, None, Option, refl, sym, ap, ◌∙◌, inl, arith, subst, All, AllPairs}
 use Rattle.std.specs.Prelude.{IfSome, option_map, is_some, codes}
 use Rattle.std.specs.List.{list_any, list_all}
 use Rattle.std.proofs.lemmas.Bool.{leb-true, ltb-true}
 use Rattle.std.proofs.lemmas.List.Elements.{All-head, All-tail, All-cons, All-nil}
 use Rattle.std.proofs.Math.Seq.{take-length}
 use Rattle.bl_map.specs.MachineFacts.{MachineFacts, AreMachineFacts}
-use Rattle.bl_mem.specs.declared.segment.Segment.{Segment}
-use Rattle.bl_mbi.specs.InformationFacts.{InformationFacts, IsText, AreBytes, IsModule, FitsFields, info_size}
-use Rattle.bl_mbi.specs.InfoFacts.{InfoFacts, IsSpelling}
+use Rattle.bl_mbi.specs.InformationFacts.{InformationFacts, IsText, AreBytes, FitsFields}
 use Rattle.bl_mbi.specs.Spelling.{spelling}
 use Rattle.bl_mbi.proofs.Sizes.{length-spelling}
 use Rattle.bl_plan.specs.Placed.{ArePlaced}
@@ -23,7 +21,7 @@ use Rattle.bl_load.specs.Handover.{Part, Handover, end_of}
 use Rattle.bl_load.specs.Kernel.{KernelFacts, IsKernel}
 use Rattle.bl_load.specs.Parts.{IsHandover, content_of, handover_of}
 use Rattle.bl_load.specs.Reading.{Reading, multiboot2, IsRead}
-use Rattle.bl_load.specs.Rows.{rows_of, kernel_rows, module_rows, information_row, information_of, modules_of}
+use Rattle.bl_load.specs.Rows.{rows_of, kernel_rows, module_rows, information_row, information_of}
 use Rattle.bl_load.specs.Value.{EntryValue, kernel_file, module_file, line_fault, lines_fault, lines_of}
 use Rattle.bl_load.proofs.EntryLemmas.{small_address}
 use Rattle.bl_load.proofs.InformationLemmas.{info_size_is, tags_small, size_below}
@@ -34,7 +32,7 @@ use Rattle.bl_load.proofs.RowLemmas.{kernel_rows_are_rows}
 use Rattle.bl_load.proofs.RowPlaceLemmas.{each_rowed, are_below}
 use Rattle.bl_walk.specs.Inside.{bytes_in}
 use Rattle.bl_walk.specs.Seen.{HasTotalSize, IsInformation, InformationSays, InformationShows, IsSeen, kernel_in}
-use Rattle.bl_walk.specs.SeenFacts.{SeenModuleFacts, SeenFacts}
+use Rattle.bl_walk.specs.SeenFacts.{SeenFacts}
 use Rattle.bl_walk.specs.Shown.{ShowsModules, HasByteLines}
 use Rattle.bl_walk.specs.Faults.{IsSound}
 use Rattle.bl_walk.specs.State.{IsEntered, entry_registers}
@@ -218,11 +216,12 @@ by_reading : (facts : MachineFacts) (value : EntryValue) (h : Handover) (places 
     → AllPairs (λ p q. end_of p ≤ q.address) h.parts → (seen : SeenFacts) × IsSeen h seen × ShowsModules facts value seen × IsEntered h
 by_reading facts value h places (multiboot2 kernel) machine bytes few protocol lines read placed same apart =
     let above = subst (λ (x : Handover). AllPairs (λ (p q : Part). end_of p ≤ q.address) x.parts) same apart in
-    subst (λ (x : Handover). (seen : SeenFacts) × IsSeen x seen × ShowsModules facts value seen × IsEntered x) (sym same)
-    (seen facts value kernel places machine bytes few lines read.1 placed above protocol,
-    is_seen facts value kernel places machine bytes few lines read.1 placed above protocol,
-    its_own facts value kernel places machine bytes few lines read.1 placed above protocol,
-    entered facts value kernel places machine bytes few lines read.1 placed above protocol)
+    subst (λ (x : Handover). (seen : SeenFacts) × IsSeen x seen × ShowsModules facts value seen × IsEntered x) (sym same) (
+      seen facts value kernel places machine bytes few lines read.1 placed above protocol,
+      is_seen facts value kernel places machine bytes few lines read.1 placed above protocol,
+      its_own facts value kernel places machine bytes few lines read.1 placed above protocol,
+      entered facts value kernel places machine bytes few lines read.1 placed above protocol,
+    )
 
 multiboot2_all : (facts : MachineFacts) (value : EntryValue) (h : Handover) → AreMachineFacts facts → HasByteLines value
     → length value.module_lines ≤ 64 → value.protocol ≡ Multiboot2 → IsHandover facts value h

@@ -1,6 +1,6 @@
 -- The bytes of the part of a role and an index, where parts stand at places in address order.
-use Rattle.std.proofs.Common.{◌≡◌, ◌+◌, ◌-◌, ◌<◌, ◌≤◌, ◌&&◌, ◌||◌, ℕ, Bool, true, false, List, [], ◌∷◌, ◌++◌, map, length, take, drop, get_or, slice_range, replicate, Option, Some, None, option_map, nat_eq, nat_le, nat_lt, cond, refl, sym, ap, ap₂, ◌∙◌, inl, inr, arith, subst, ⊎_elim, All, AllPairs, length-append}
-use Rattle.std.specs.List.{find, slice_get, position_or_len, list_any}
+use Rattle.std.proofs.Common.{◌≡◌, ◌+◌, ◌-◌, ◌<◌, ◌≤◌, ◌&&◌, ◌||◌, ℕ, Bool, true, false, List, [], ◌∷◌, ◌++◌, map, length, take, get_or, slice_range, replicate, Some, nat_eq, nat_le, nat_lt, cond, refl, sym, ap, ap₂, ◌∙◌, inl, inr, arith, AllPairs, length-append}
+use Rattle.std.specs.List.{slice_get, position_or_len, list_any}
 use Rattle.std.proofs.lemmas.Bool.{le-leb, leb-true, ltb-true, lt-ltb, eq-eqb, eqb-true, cases_order}
 use Rattle.std.proofs.lemmas.List.{take-append-le, get_or-map, length-map, length-replicate}
 use Rattle.std.proofs.lemmas.List.Folds.{find_at, Any-from_list_any}
@@ -48,8 +48,8 @@ address_held role index (p ∷ places) held =
     let here = eq-eqb p.address p.address refl in
     elim (is_of role index p) as (λ b. is_of role index p ≡ b → (b || list_any (is_of role index) places) ≡ true
     → ((b && nat_eq p.address (cond b p.address rest)) || list_any (is_at role index (cond b p.address rest)) places) ≡ true) [
-      true ↦ λ e h. rw here
-    | false ↦ λ e h. address_held role index places h
+      | true ↦ λ e h. rw here
+      | false ↦ λ e h. address_held role index places h
     ] refl held
 
 pub both_true : (a b : Bool) → (a && b) ≡ true → (a ≡ true) × (b ≡ true)
@@ -127,10 +127,10 @@ module _ (places : List Place) (content : Role → ℕ → List ℕ) (apart : Al
       → bytes_in (parts_of places content) (address_of role index places) n ≡ Some (take n (content role index))
   held_front role index n held fits =
       elim (cases_order n 0) [
-        inl none ↦ (nothing_in (parts_of places content) (address_of role index places) n none ∙ ap (λ k. Some (take k (content role index))) (sym none))
-      | inr other ↦ elim other [
-          inl below ↦ absurd (omega arith)
-        | inr above ↦ some_held role index n held (omega arith) fits
+        | inl none ↦ (nothing_in (parts_of places content) (address_of role index places) n none ∙ ap (λ k. Some (take k (content role index))) (sym none))
+        | inr other ↦ elim other [
+          | inl below ↦ absurd (omega arith)
+          | inr above ↦ some_held role index n held (omega arith) fits
         ]
       ]
 

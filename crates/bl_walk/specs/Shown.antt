@@ -1,5 +1,5 @@
 -- What an entry's own kernel sees. Own.
-use Rattle.std.specs.Prelude.{◌≡◌, ◌<◌, ℕ, List, [], length, map, slice_index_or, All, None}
+use Rattle.std.specs.Prelude.{◌≡◌, ◌<◌, ℕ, [], length, map, slice_index_or, All, None}
 use Rattle.bl_map.specs.MachineFacts.{MachineFacts}
 use Rattle.bl_mbi.specs.InformationFacts.{AreBytes}
 use Rattle.bl_load.specs.Value.{EntryValue, module_file, lines_of}
