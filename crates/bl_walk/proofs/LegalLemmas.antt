@@ -1,35 +1,32 @@
 -- What a Multiboot2 kernel sees in the image of its entry's handover.
-use Rattle.std.proofs.Common.{◌≡◌, ◌+◌, ◌-◌, ◌*◌, ◌<◌, ◌≤◌, ◌^◌, ◌&&◌, ◌||◌, ℕ, zero, suc, Bool, true, false, List, [], ◌∷◌, ◌++◌, map, length, take, drop, get_or, Option, Some, None, nat_eq, cond, refl, sym, ap, ap₂, ◌∙◌, inl, inr, arith, subst, All, AllPairs, length-append, lit<}
-use Rattle.std.specs.Prelude.{IfSome, option_map, is_some, codes}
+use Rattle.std.proofs.Common.{◌≡◌, ◌+◌, ◌-◌, ◌<◌, ◌≤◌, ◌^◌, ◌&&◌, ◌||◌, ℕ, zero, suc, Bool, true, false, List, [], ◌∷◌, ◌++◌, map, length, take, get_or, Some, None, nat_eq, refl, sym, ap, ◌∙◌, inl, inr, arith, All, length-append}
 use Rattle.std.specs.List.{list_any}
 use Rattle.std.proofs.lemmas.Bool.{eq-eqb, cases_lt}
 use Rattle.std.proofs.Math.Bool.{or-true}
 use Rattle.std.proofs.lemmas.List.{append_assoc, take_at}
 use Rattle.std.proofs.lemmas.List.Elements.{All-head, All-tail, All-cons, All-nil}
 use Rattle.std.proofs.lemmas.List.Folds.{list_any-append}
-use Rattle.std.proofs.Math.Seq.{take-length}
 use Rattle.std.specs.declared.ops.Range.{Range}
-use Rattle.bl_map.specs.MachineFacts.{MachineFacts, AreMachineFacts}
+use Rattle.bl_map.specs.MachineFacts.{MachineFacts}
 use Rattle.bl_mem.specs.Words.{u32_at, u32_bytes}
 use Rattle.bl_mem.proofs.WordLaws.{length-u32_bytes, u32_again}
-use Rattle.bl_mbi.specs.InformationFacts.{ModuleInfo, InformationFacts, IsText, AreBytes, IsModule, FitsFields, info_size}
-use Rattle.bl_mbi.specs.InfoFacts.{InfoFacts, IsSpelling}
+use Rattle.bl_mbi.specs.InformationFacts.{InformationFacts, AreBytes, IsModule}
 use Rattle.bl_mbi.specs.Spelling.{spelling, tags}
-use Rattle.bl_plan.specs.Placed.{ArePlaced, range_of, place_at}
+use Rattle.bl_plan.specs.Placed.{ArePlaced, range_of}
 use Rattle.bl_plan.specs.Planned.{put_in}
 use Rattle.bl_plan.specs.Roles.{role_number}
 use Rattle.bl_plan.specs.declared.place.Place.{Place}
 use Rattle.bl_plan.specs.declared.role.Role.{Role}
-use Rattle.bl_plan.specs.declared.role.Role.TheVariants.{Kernel, Module, Information}
+use Rattle.bl_plan.specs.declared.role.Role.TheVariants.{Module}
 use Rattle.bl_plan.specs.declared.row.Row.{Row}
 use Rattle.bl_load.specs.Addresses.{address_of}
-use Rattle.bl_load.specs.Handover.{Part, Handover, end_of}
+use Rattle.bl_load.specs.Handover.{Part}
 use Rattle.bl_load.specs.Rows.{module_rows, modules_of}
-use Rattle.bl_load.specs.Value.{EntryValue, module_file, line_fault, lines_fault}
+use Rattle.bl_load.specs.Value.{module_file, line_fault, lines_fault}
 use Rattle.bl_load.proofs.LineLemmas.{sound_text, first_sound}
 use Rattle.bl_walk.specs.Inside.{bytes_in}
-use Rattle.bl_walk.specs.Seen.{HasTotalSize, IsInformation, InformationSays, IsSeenModule, AreSeenModules}
-use Rattle.bl_walk.specs.SeenFacts.{SeenModuleFacts, SeenFacts}
+use Rattle.bl_walk.specs.Seen.{AreSeenModules}
+use Rattle.bl_walk.specs.SeenFacts.{SeenModuleFacts}
 use Rattle.bl_walk.proofs.PartLemmas.{is_of}
 
 -- ---- each row has its place
@@ -45,8 +42,8 @@ row_held facts role index taken (row ∷ rows) [] placed held = absurd placed
 row_held facts role index taken (row ∷ rows) (p ∷ places) placed held =
     let same : is_of role index p ≡ is_row role index row = ap (is_of role index) placed.1 in
     elim (is_row role index row) as (λ b. is_row role index row ≡ b → (b || list_any (is_row role index) rows) ≡ true → (is_of role index p || list_any (is_of role index) places) ≡ true) [
-      true ↦ λ e h. (let here = same ∙ e in rw here)
-    | false ↦ λ e h. (let here = same ∙ e in let later = row_held facts role index (put_in (range_of p) taken) rows places placed.2 h in rw here later)
+      | true ↦ λ e h. (let here = same ∙ e in rw here)
+      | false ↦ λ e h. (let here = same ∙ e in let later = row_held facts role index (put_in (range_of p) taken) rows places placed.2 h in rw here later)
     ] refl held
 
 -- a row behind others
@@ -62,8 +59,8 @@ pub module_row : (files : List (List ℕ)) (k index : ℕ) (lines : List (List �
 module_row files k index [] low high = absurd (omega arith)
 module_row files k index (line ∷ lines) low high =
     elim (cases_lt k index) [
-      inl later ↦ (let held = module_row files (suc k) index lines later (omega arith) in rw held (or-true (nat_eq k index)))
-    | inr here ↦ (let same = eq-eqb k index (omega arith) in rw same)
+      | inl later ↦ (let held = module_row files (suc k) index lines later (omega arith) in rw held (or-true (nat_eq k index)))
+      | inr here ↦ (let same = eq-eqb k index (omega arith) in rw same)
     ]
 
 -- ---- the information

@@ -8,3 +8,4 @@ pub mod SeenLaws
 pub mod PartLemmas
 pub mod LegalLemmas
 pub mod LegalLaws
+pub mod EnteredLemmas

@@ -15,8 +15,8 @@ pub record SeenFileFacts : Type 0 where
   pub address : ℕ
   pub bytes : List ℕ
 
--- the protocol, the address that the kernel is entered at, its line, its parts in address order, the
--- modules in order, the initial ramdisk, the memory map
+-- the protocol, the address that the kernel is entered at, its line, its parts in address order,
+-- the modules in order, the initial ramdisk, the memory map
 pub record SeenFacts : Type 0 where
   pub protocol : Protocol
   pub entry : ℕ

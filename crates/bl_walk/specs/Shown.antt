@@ -1,5 +1,5 @@
 -- What an entry's own kernel sees. Own.
-use Rattle.std.specs.Prelude.{◌≡◌, ◌<◌, ℕ, List, [], length, map, slice_index_or, All, None}
+use Rattle.std.specs.Prelude.{◌≡◌, ◌<◌, ℕ, [], length, map, slice_index_or, All, None}
 use Rattle.bl_map.specs.MachineFacts.{MachineFacts}
 use Rattle.bl_mbi.specs.InformationFacts.{AreBytes}
 use Rattle.bl_load.specs.Value.{EntryValue, module_file, lines_of}
@@ -7,7 +7,8 @@ use Rattle.bl_walk.specs.SeenFacts.{SeenFacts}
 
 -- a Multiboot2 kernel sees the entry's line, its modules with their lines and the bytes of their
 -- files, no initial ramdisk, and the machine's runs
-pub record ShowsModules (facts : MachineFacts) (value : EntryValue) (seen : SeenFacts) : Type 0 where
+pub record ShowsModules (facts : MachineFacts) (value : EntryValue) (seen : SeenFacts)
+    : Type 0 where
   pub protocol : seen.protocol ≡ value.protocol
   pub line : seen.line ≡ value.line
   pub lines : map (λ m. m.line) seen.modules ≡ value.module_lines

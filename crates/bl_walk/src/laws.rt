@@ -1,5 +1,6 @@
 //! Laws of the definitions.
-ghost use Rattle.std.specs.Prelude.{◌≡◌, ◌+◌, ◌<◌, ◌≤◌, ℕ, List, length, AllPairs, Some, slice_index_or};
+ghost use Rattle.std.specs.Prelude.{◌≡◌, ◌+◌, ◌<◌, ◌≤◌, ℕ, List, length, AllPairs, Some};
+ghost use Rattle.std.specs.Prelude.{slice_index_or};
 ghost use Rattle.bl_map.specs.MachineFacts.{MachineFacts, AreMachineFacts};
 ghost use Rattle.bl_plan.specs.declared.protocol.Protocol.TheVariants.{Multiboot2};
 ghost use Rattle.bl_load.specs.Handover.{Handover, Part, end_of};
@@ -31,12 +32,16 @@ pub fn ranges_lie_in_one_part()
         → part_with parts address count ≡ Some (slice_index_or parts k d) }
 {}
 
-/// The image of what a Multiboot2 entry hands over shows its kernel the entry: its line, its modules
-/// with their lines and bytes, and the machine's runs.
+/// What a Multiboot2 entry hands over shows its kernel the entry: its line, its modules with their
+/// lines and bytes, and the machine's runs; and no fault stands in it.
 pub fn multiboot2_handovers_are_seen()
-    ensures { (facts : MachineFacts) (value : EntryValue) (h : Handover)
+    ensures seen { (facts : MachineFacts) (value : EntryValue) (h : Handover)
         → AreMachineFacts facts → HasByteLines value
         → length value.module_lines ≤ most_modules → value.protocol ≡ Multiboot2
         → IsHandover facts value h
         → (seen : SeenFacts) × IsSeen h seen × ShowsModules facts value seen }
+    ensures sound { (facts : MachineFacts) (value : EntryValue) (h : Handover)
+        → AreMachineFacts facts → HasByteLines value
+        → length value.module_lines ≤ most_modules → value.protocol ≡ Multiboot2
+        → IsHandover facts value h → IsSound h }
 {}
