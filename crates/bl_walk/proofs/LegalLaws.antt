@@ -12,7 +12,7 @@ use Rattle.bl_mbi.proofs.Sizes.{length-spelling}
 use Rattle.bl_plan.specs.Placed.{ArePlaced}
 use Rattle.bl_plan.specs.declared.place.Place.{Place}
 use Rattle.bl_plan.specs.declared.protocol.Protocol.{Protocol}
-use Rattle.bl_plan.specs.declared.protocol.Protocol.TheVariants.{Multiboot2}
+use Rattle.bl_plan.specs.declared.protocol.Protocol.TheVariants.{Multiboot2, Linux}
 use Rattle.bl_plan.specs.declared.role.Role.{Role}
 use Rattle.bl_plan.specs.declared.role.Role.TheVariants.{Kernel, Module, Information}
 use Rattle.bl_plan.specs.declared.row.Row.{Row}
@@ -224,7 +224,7 @@ by_reading facts value h places (multiboot2 kernel) machine bytes few protocol l
       entered facts value kernel places machine bytes few lines read.1 placed above protocol,
     )
 by_reading facts value h places (linux setup) machine bytes few protocol lines read placed same apart =
-    let other : protocol.Linux ≡ protocol.Multiboot2 = sym read.0 ∙ protocol in absurd (cc)
+    let other : Linux ≡ Multiboot2 = sym read.0 ∙ protocol in absurd (cc)
 
 multiboot2_all : (facts : MachineFacts) (value : EntryValue) (h : Handover) → AreMachineFacts facts → HasByteLines value
     → length value.module_lines ≤ 64 → value.protocol ≡ Multiboot2 → IsHandover facts value h
