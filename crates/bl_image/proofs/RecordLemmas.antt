@@ -89,7 +89,7 @@ pub record_front : (part before : ℕ) (role : Role) (index address : ℕ) (x : 
 record_front part before role index address x hi ha above =
     rw (front_passes part before role index address x hi ha above, address_stands role index address x ha, behind_front role index address x) refl
 
-regroup : (r i a n x : List ℕ) → (r ++ (i ++ (a ++ n))) ++ x ≡ ((r ++ i) ++ a) ++ (n ++ x)
+pub regroup : (r i a n x : List ℕ) → (r ++ (i ++ (a ++ n))) ++ x ≡ ((r ++ i) ++ a) ++ (n ++ x)
 regroup r i a n x = simp append_assoc
 
 record_passes : (part before : ℕ) (p : Place) (x : List ℕ) → IsNext before p → record_fault part before (place_record p ++ x) ≡ None
