@@ -1,13 +1,12 @@
 -- Bytes that have no fault are an image.
-use Rattle.std.proofs.Common.{◌≡◌, ◌+◌, ◌*◌, ◌≤◌, ◌<◌, ◌^◌, ℕ, zero, suc, Bool, true, false, List, [], ◌∷◌, ◌++◌, length, get_or, slice_index, take, drop, map, All, Option, Some, None, refl, sym, ap, ◌∙◌, subst, arith, rules, append_assoc, length-append, ⊎_elim}
+use Rattle.std.proofs.Common.{◌≡◌, ◌+◌, ◌*◌, ◌≤◌, ◌<◌, ◌^◌, ℕ, zero, suc, Bool, true, false, List, [], ◌∷◌, ◌++◌, length, get_or, slice_index, take, drop, map, All, Option, Some, None, refl, sym, ap, ◌∙◌, subst, arith, append_assoc, ⊎_elim}
 use Rattle.std.specs.Prelude.{nat_lt, nat_le, not, ◌&&◌, ◌==◌, if◌then◌else◌}
-use Rattle.std.specs.Int.{w32, w64, from_le_bytes}
 use Rattle.std.specs.List.{flat_map}
 use Rattle.std.proofs.lemmas.Nat.{le_bytes_4, le_bytes_8}
 use Rattle.std.proofs.lemmas.Bool.{ltb-false, cases_lt}
 use Rattle.std.proofs.lemmas.Bool.Decides.{nat_tests, Decides-eqb}
 use Rattle.std.proofs.lemmas.Slice.Eq.{bytes_eq-Decides}
-use Rattle.std.proofs.lemmas.List.{append-nil, places, take-append-drop, get_or-drop, get_or-take, get_or_past, length-take, length-take-le, length-drop, drop_all}
+use Rattle.std.proofs.lemmas.List.{append-nil, take-append-drop, get_or-drop, get_or-take, get_or_past, length-take, length-take-le, length-drop, drop_all}
 use Rattle.std.proofs.lemmas.List.Elements.{All-cons, All-nil}
 use Rattle.std.proofs.lemmas.List.Concat.{flat_map-cons}
 use Rattle.bl_mem.proofs.WordLaws.{u32_at-lt}
@@ -26,7 +25,7 @@ use Rattle.bl_load.specs.HandoffFacts.{Ascends, AreRecords}
 use Rattle.bl_image.specs.declared.fault.ImageFault.{ImageFault}
 use Rattle.bl_image.specs.declared.fault.ImageFault.TheVariants.{WrongLength}
 use Rattle.bl_image.specs.Image.{magic, head, register_numbers, place_record}
-use Rattle.bl_image.specs.Fields.{Field, fields_fault, head_fields, record_fields, magic_field, version_field, protocol_field, registers_field, count_field, zero_field, role_field, index_field, address_field, length_field}
+use Rattle.bl_image.specs.Fields.{Field, fields_fault, head_fields, magic_field, version_field, protocol_field, registers_field, count_field, zero_field, role_field, index_field, address_field, length_field}
 use Rattle.bl_image.specs.ImageFaults.{first, image_fault, record_fault, parts_fault, Before, and_record, none_before, end_fault}
 use Rattle.bl_image.specs.ImageParts.{IsImage}
 use Rattle.bl_image.specs.RecordsKept.{IsNext, bytes_at, place_of}
