@@ -1,5 +1,5 @@
 -- The head of an image, field by field.
-use Rattle.std.proofs.Common.{◌≡◌, ◌≤◌, ◌<◌, ◌^◌, ℕ, true, List, [], ◌∷◌, ◌++◌, length, drop, All, None, refl, sym, ap, ◌∙◌, arith, append_assoc, lit<}
+use Rattle.std.proofs.Common.{◌≡◌, ◌≤◌, ◌<◌, ◌^◌, ℕ, true, List, [], ◌∷◌, ◌++◌, length, drop, None, refl, sym, ap, ◌∙◌, arith, append_assoc}
 use Rattle.std.specs.Prelude.{nat_le, ◌==◌, ◌&&◌}
 use Rattle.std.proofs.lemmas.List.{append-nil}
 use Rattle.std.proofs.lemmas.Bool.Decides.{nat_tests}
@@ -35,7 +35,7 @@ head_is p r count =
     six_pieces magic (u32_bytes 1) (u32_bytes (protocols.protocol_number p)) (flat_map u32_bytes (register_numbers r)) (u32_bytes count) (u32_bytes 0)
     ∙ ap (λ (l : List ℕ). magic ++ (u32_bytes 1 ++ (u32_bytes (protocols.protocol_number p) ++ l))) (head_end (register_numbers r) count)
 
-seven_pieces : (a b c d e f x : List ℕ) → (((((a ++ b) ++ c) ++ d) ++ e) ++ f) ++ x ≡ a ++ (b ++ (c ++ (d ++ (e ++ (f ++ x)))))
+pub seven_pieces : (a b c d e f x : List ℕ) → (((((a ++ b) ++ c) ++ d) ++ e) ++ f) ++ x ≡ a ++ (b ++ (c ++ (d ++ (e ++ (f ++ x)))))
 seven_pieces a b c d e f x = simp append_assoc
 
 six_pass : (fa fb fc fd fe ff : Field) (a b c d e f x : List ℕ)

@@ -1,11 +1,10 @@
 -- An image has no fault, and is read.
-use Rattle.std.proofs.Common.{◌≡◌, ◌+◌, ◌≤◌, ◌<◌, ◌^◌, ℕ, suc, List, [], ◌∷◌, ◌++◌, length, All, Option, Some, None, Result, Ok, Err, refl, sym, ap, ◌∙◌, arith, append_assoc, length-append, subst}
+use Rattle.std.proofs.Common.{◌≡◌, ◌+◌, ◌≤◌, ◌<◌, ◌^◌, ℕ, suc, List, [], ◌∷◌, ◌++◌, length, All, Some, None, Result, Ok, Err, refl, sym, ap, ◌∙◌, arith, append_assoc, length-append}
 use Rattle.std.specs.Prelude.{MatchResult, ◌==◌, true}
 use Rattle.std.proofs.lemmas.Bool.Decides.{nat_tests}
 use Rattle.std.proofs.lemmas.List.Elements.{All-tail}
 use Rattle.std.proofs.lemmas.List.Concat.{flat_map-cons}
 use Rattle.std.specs.List.{flat_map}
-use Rattle.bl_plan.specs.declared.place.Place.{Place}
 use Rattle.bl_plan.proofs.OrderLemmas.{AreRelated, pairs_related}
 use Rattle.bl_load.specs.Handover.{Part, Handover, end_of}
 use Rattle.bl_image.specs.declared.fault.ImageFault.{ImageFault}
@@ -15,7 +14,6 @@ use Rattle.bl_image.specs.ImageFaults.{Before, and_record, parts_fault, end_faul
 use Rattle.bl_image.specs.ImageParts.{PartAscends, IsKept, IsImage}
 use Rattle.bl_image.specs.RecordsKept.{IsNext, place_of}
 use Rattle.bl_image.specs.Source.{Fails, IsOfTheMoment}
-use Rattle.bl_image.specs.Spellable.{FitsRecord}
 use Rattle.bl_image.proofs.HeadLemmas.{head_front}
 use Rattle.bl_image.proofs.PartLemmas.{all_bytes}
 use Rattle.bl_image.proofs.ReadAgain.{image_is_read_again}

@@ -5,6 +5,7 @@ mod ImageLaws
 mod KnownLemmas
 mod PartLemmas
 mod RecordLemmas
+mod TotalLaws
 pub mod Inputs
 pub mod Ways
 pub mod Spelled

@@ -1,5 +1,5 @@
 -- Records, one behind the other.
-use Rattle.std.proofs.Common.{◌≡◌, ◌+◌, ◌-◌, ◌≤◌, ◌<◌, ◌^◌, ℕ, suc, true, List, [], ◌∷◌, ◌++◌, length, drop, All, AllPairs, Option, Some, None, refl, sym, ap, ◌∙◌, subst, arith, append_assoc, lit<}
+use Rattle.std.proofs.Common.{◌≡◌, ◌+◌, ◌-◌, ◌≤◌, ◌<◌, ◌^◌, ℕ, suc, true, List, [], ◌∷◌, ◌++◌, length, drop, All, Option, Some, None, refl, sym, ap, ◌∙◌, arith, append_assoc}
 use Rattle.std.specs.Prelude.{nat_le, ◌&&◌}
 use Rattle.std.proofs.lemmas.List.{append-nil}
 use Rattle.std.proofs.lemmas.List.Elements.{All-append, All-cons, All-nil}
@@ -20,7 +20,7 @@ use Rattle.bl_image.specs.Image.{place_record}
 use Rattle.bl_image.specs.Fields.{Field, fields_fault, record_fields, role_field, index_field, address_field, length_field}
 use Rattle.bl_image.specs.ImageFaults.{first, record_fault, Before, and_record, parts_fault, none_before}
 use Rattle.bl_image.specs.RecordsKept.{IsNext, AreSound, bytes_at}
-use Rattle.bl_image.specs.Source.{Input, MayFollow, Shows, Refuses}
+use Rattle.bl_image.specs.Source.{Input, Shows, Refuses}
 use Rattle.bl_image.specs.Spellable.{PlaceFits}
 use Rattle.bl_image.proofs.ReadAgain.{role_fits, role_between}
 use Rattle.bl_image.proofs.FieldLemmas.{field_passes, word_tells, long_tells}
@@ -89,7 +89,7 @@ pub record_front : (part before : ℕ) (role : Role) (index address : ℕ) (x : 
 record_front part before role index address x hi ha above =
     rw (front_passes part before role index address x hi ha above, address_stands role index address x ha, behind_front role index address x) refl
 
-regroup : (r i a n x : List ℕ) → (r ++ (i ++ (a ++ n))) ++ x ≡ ((r ++ i) ++ a) ++ (n ++ x)
+pub regroup : (r i a n x : List ℕ) → (r ++ (i ++ (a ++ n))) ++ x ≡ ((r ++ i) ++ a) ++ (n ++ x)
 regroup r i a n x = simp append_assoc
 
 record_passes : (part before : ℕ) (p : Place) (x : List ℕ) → IsNext before p → record_fault part before (place_record p ++ x) ≡ None

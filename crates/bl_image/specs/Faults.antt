@@ -1,7 +1,9 @@
 -- The numbers of faults of an image. Own.
 use Rattle.std.specs.Prelude.{ℕ}
 use Rattle.bl_image.specs.declared.fault.ImageFault.{ImageFault}
-use Rattle.bl_image.specs.declared.fault.ImageFault.TheVariants.{BadMagic, BadVersion, BadHeader, BadPart, WrongLength, DeviceFault, NoMemory}
+use Rattle.bl_image.specs.declared.fault.ImageFault.TheVariants.{BadMagic, BadVersion, BadHeader}
+use Rattle.bl_image.specs.declared.fault.ImageFault.TheVariants.{BadPart, WrongLength}
+use Rattle.bl_image.specs.declared.fault.ImageFault.TheVariants.{DeviceFault, NoMemory}
 
 abbrev pub image_fault_number : ImageFault → ℕ
 image_fault_number BadMagic = 71

@@ -1,9 +1,12 @@
 -- The fields of an image, in their order, and the first fault among them. Own.
-use Rattle.std.specs.Prelude.{ℕ, ◌+◌, ◌^◌, Bool, true, not, ◌&&◌, if◌then◌else◌, ◌==◌, nat_lt, nat_le, List, [], ◌∷◌, length, take, drop, bytes_eq, Option, Some, None}
+use Rattle.std.specs.Prelude.{ℕ, ◌+◌, ◌^◌, Bool, true, not, ◌&&◌, if◌then◌else◌, ◌==◌}
+use Rattle.std.specs.Prelude.{nat_lt, nat_le, List, [], ◌∷◌, length, take, drop, bytes_eq}
+use Rattle.std.specs.Prelude.{Option, Some, None}
 use Rattle.bl_mem.specs.Words.{u32_at, u64_at}
 use Rattle.bl_load.specs.HandoffFacts.{most_parts}
 use Rattle.bl_image.specs.declared.fault.ImageFault.{ImageFault}
-use Rattle.bl_image.specs.declared.fault.ImageFault.TheVariants.{BadMagic, BadVersion, BadHeader, BadPart, WrongLength}
+use Rattle.bl_image.specs.declared.fault.ImageFault.TheVariants.{BadMagic, BadVersion, BadHeader}
+use Rattle.bl_image.specs.declared.fault.ImageFault.TheVariants.{BadPart, WrongLength}
 use Rattle.bl_image.specs.Image.{magic}
 
 -- a field: how many bytes it has, what they must pass, and the fault if they don't
@@ -19,7 +22,8 @@ word test fault = record { size = 4; passes = λ bytes. test (u32_at bytes 0); f
 abbrev pub long : (ℕ → Bool) → ImageFault → Field
 long test fault = record { size = 8; passes = λ bytes. test (u64_at bytes 0); fault = fault }
 
--- the first fault where these fields must begin: bytes that end inside a field have the wrong length
+-- the first fault where these fields must begin; bytes that end inside a field have the wrong
+-- length
 abbrev pub fields_fault : List Field → List ℕ → Option ImageFault
 fields_fault [] bytes = None
 fields_fault (field ∷ fields) bytes =

@@ -23,20 +23,24 @@ abbrev pub MayFollow : Option (List ℕ) → List ℕ → Type 0
 MayFollow None bytes = Unit {0}
 MayFollow (Some rest) bytes = bytes ≡ rest
 
+-- a definition of the first fault of bytes
+abbrev pub FaultIn : Type 0
+FaultIn = List ℕ → Option ImageFault
+
 -- what came shows this fault, whatever may follow
-pub record Shows (fault_in : List ℕ → Option ImageFault) (old new : Input) (fault : ImageFault) : Type 0 where
+pub record Shows (fault_in : FaultIn) (old new : Input) (fault : ImageFault) : Type 0 where
   pub came : List ℕ
   pub comes : Comes old new came
   pub shown : (bytes : List ℕ) → MayFollow new.rest bytes → fault_in (came ++ bytes) ≡ Some fault
 
 -- a fault of what came; but a device may fail and memory run out at any time
-abbrev pub Refuses : (List ℕ → Option ImageFault) → Input → Input → ImageFault → Type 0
+abbrev pub Refuses : FaultIn → Input → Input → ImageFault → Type 0
 Refuses fault_in old new DeviceFault = Unit {0}
 Refuses fault_in old new NoMemory = Unit {0}
 Refuses fault_in old new fault = Shows fault_in old new fault
 
 -- the same of bytes that are known
-abbrev pub Fails : (List ℕ → Option ImageFault) → List ℕ → ImageFault → Type 0
+abbrev pub Fails : FaultIn → List ℕ → ImageFault → Type 0
 Fails fault_in bytes DeviceFault = Unit {0}
 Fails fault_in bytes NoMemory = Unit {0}
 Fails fault_in bytes fault = fault_in bytes ≡ Some fault

@@ -26,7 +26,8 @@ pub record Passes (field : Field) (old new : Input) (bytes : List ℕ) : Type 0 
   pub passes : field.passes bytes ≡ true
 
 -- what was read is the field; or it has a fault, whatever fields follow
-abbrev pub Reads : {X : Type 0} → Field → Input → Input → (X → List ℕ) → Result X ImageFault → Type 0
+abbrev pub Reads : {X : Type 0} → Field → Input → Input → (X → List ℕ) → Result X ImageFault
+    → Type 0
 Reads field old new spelled result =
     MatchResult result (λ value. Passes field old new (spelled value))
     (λ fault. (fields : List Field) → Refuses (fields_fault (field ∷ fields)) old new fault)

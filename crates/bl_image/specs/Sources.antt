@@ -22,4 +22,7 @@ pub record MemSourceFacts : Type 0 where
   pub faults : ℕ
 
 abbrev pub input_of : MemSourceFacts → Input
-input_of source = record { given = take source.at source.bytes; rest = Some (drop source.at source.bytes) }
+input_of source = record {
+  given = take source.at source.bytes;
+  rest = Some (drop source.at source.bytes);
+}

@@ -1,9 +1,9 @@
 //! Laws of the definitions.
-ghost use Rattle.std.specs.Prelude.{◌≡◌, None};
+ghost use Rattle.std.specs.Prelude.{◌≡◌, ◌<◌, ℕ, List, slice_index, None};
 ghost use Rattle.bl_load.specs.Handover.{Handover};
 ghost use Rattle.bl_image.specs.Image.{spelling};
 ghost use Rattle.bl_image.specs.ImageFaults.{image_fault};
-ghost use Rattle.bl_image.specs.ImageParts.{IsKept};
+ghost use Rattle.bl_image.specs.ImageParts.{IsKept, IsImage};
 ghost use Rattle.bl_image.specs.Spellable.{IsSpellable};
 
 /// Two handovers whose numbers fit have one image only where they are one.
@@ -14,4 +14,10 @@ pub fn image_tells_all()
 /// The image of what an image keeps has no fault.
 pub fn images_have_no_fault()
     ensures { (h : Handover) → IsKept h → image_fault (spelling h) ≡ None }
+{}
+
+/// Bytes that have no fault are an image.
+pub fn what_has_no_fault_is_an_image()
+    ensures { (bytes : List ℕ) → ((k : ℕ) → slice_index bytes k < 256) → image_fault bytes ≡ None
+        → (handover : Handover) × IsImage bytes handover }
 {}

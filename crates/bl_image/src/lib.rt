@@ -25,7 +25,7 @@ pub use fault::ImageFault;
 pub use image::{Image, ImagePart};
 pub use io_sink::IoSink;
 pub use io_source::IoSource;
-pub use laws::{image_tells_all, images_have_no_fault};
+pub use laws::{image_tells_all, images_have_no_fault, what_has_no_fault_is_an_image};
 pub use mem_sink::MemSink;
 pub use mem_source::MemSource;
 pub use read::read_image;

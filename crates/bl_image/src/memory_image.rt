@@ -26,7 +26,8 @@ fn part_of<M: PhysMem, A: Allocator>(
 }
 
 impl<A: Allocator + Copy> Image<A> {
-    /// The image of what memory holds at the places of a handoff, or that memory for it was refused.
+    /// The image of what memory holds at the places of a handoff, or that memory for the copy was
+    /// refused.
     pub fn of<M: PhysMem>(
         alloc: A,
         handoff: &Handoff<A>,

@@ -12,7 +12,7 @@ use Rattle.bl_mbi.proofs.Sizes.{length-spelling}
 use Rattle.bl_plan.specs.Placed.{ArePlaced}
 use Rattle.bl_plan.specs.declared.place.Place.{Place}
 use Rattle.bl_plan.specs.declared.protocol.Protocol.{Protocol}
-use Rattle.bl_plan.specs.declared.protocol.Protocol.TheVariants.{Multiboot2}
+use Rattle.bl_plan.specs.declared.protocol.Protocol.TheVariants.{Multiboot2, Linux}
 use Rattle.bl_plan.specs.declared.role.Role.{Role}
 use Rattle.bl_plan.specs.declared.role.Role.TheVariants.{Kernel, Module, Information}
 use Rattle.bl_plan.specs.declared.row.Row.{Row}
@@ -20,14 +20,15 @@ use Rattle.bl_load.specs.Addresses.{address_of}
 use Rattle.bl_load.specs.Handover.{Part, Handover, end_of}
 use Rattle.bl_load.specs.Kernel.{KernelFacts, IsKernel}
 use Rattle.bl_load.specs.Parts.{IsHandover, content_of, handover_of}
-use Rattle.bl_load.specs.Reading.{Reading, multiboot2, IsRead}
+use Rattle.bl_load.specs.Reading.{Reading, multiboot2, linux, IsRead}
 use Rattle.bl_load.specs.Rows.{rows_of, kernel_rows, module_rows, information_row, information_of}
 use Rattle.bl_load.specs.Value.{EntryValue, kernel_file, module_file, line_fault, lines_fault, lines_of}
 use Rattle.bl_load.proofs.EntryLemmas.{small_address}
 use Rattle.bl_load.proofs.InformationLemmas.{info_size_is, tags_small, size_below}
 use Rattle.bl_load.proofs.LineLemmas.{sound_text, sound_short, first_sound}
 use Rattle.bl_load.proofs.ModuleLemmas.{modules_end_low}
-use Rattle.bl_load.proofs.PartLaws.{kernel_full, all_apart}
+use Rattle.bl_load.proofs.FullLemmas.{kernel_full}
+use Rattle.bl_load.proofs.PartLaws.{all_apart}
 use Rattle.bl_load.proofs.RowLemmas.{kernel_rows_are_rows}
 use Rattle.bl_load.proofs.RowPlaceLemmas.{each_rowed, are_below}
 use Rattle.bl_walk.specs.Inside.{bytes_in}
@@ -211,7 +212,7 @@ module _ (facts : MachineFacts) (value : EntryValue) (kernel : KernelFacts) (pla
 
 -- by what is read of the kernel
 by_reading : (facts : MachineFacts) (value : EntryValue) (h : Handover) (places : List Place) (reading : Reading) → AreMachineFacts facts → HasByteLines value
-    → length value.module_lines ≤ 64 → value.protocol ≡ Multiboot2 → lines_fault (lines_of value) ≡ None → IsRead value reading
+    → length value.module_lines ≤ 64 → value.protocol ≡ Multiboot2 → lines_fault (lines_of value) ≡ None → IsRead facts value reading
     → ArePlaced facts [] (rows_of facts value reading) places → h ≡ handover_of facts value reading places
     → AllPairs (λ p q. end_of p ≤ q.address) h.parts → (seen : SeenFacts) × IsSeen h seen × ShowsModules facts value seen × IsEntered h
 by_reading facts value h places (multiboot2 kernel) machine bytes few protocol lines read placed same apart =
@@ -222,6 +223,8 @@ by_reading facts value h places (multiboot2 kernel) machine bytes few protocol l
       its_own facts value kernel places machine bytes few lines read.1 placed above protocol,
       entered facts value kernel places machine bytes few lines read.1 placed above protocol,
     )
+by_reading facts value h places (linux setup) machine bytes few protocol lines read placed same apart =
+    let other : Linux ≡ Multiboot2 = sym read.0 ∙ protocol in absurd (cc)
 
 multiboot2_all : (facts : MachineFacts) (value : EntryValue) (h : Handover) → AreMachineFacts facts → HasByteLines value
     → length value.module_lines ≤ 64 → value.protocol ≡ Multiboot2 → IsHandover facts value h

@@ -8,34 +8,9 @@ use Rattle.bl_plan.specs.declared.protocol.Protocol.TheVariants.{Multiboot2, Lin
 use Rattle.bl_plan.specs.declared.role.Role.TheVariants.{Kernel}
 use Rattle.bl_plan.specs.Roles.{role_number}
 use Rattle.bl_load.specs.declared.registers.Registers.{Registers}
-use Rattle.bl_load.specs.Registers.{multiboot2_registers}
+use Rattle.bl_load.specs.Registers.{multiboot2_registers, linux_registers}
 use Rattle.bl_load.specs.Handover.{Part, Handover}
 use Rattle.bl_walk.specs.Inside.{part_with, bytes_in}
-
--- by the addresses of the kernel, of the boot parameters and of the descriptors
-abbrev pub linux_registers : ℕ → ℕ → ℕ → Registers
-linux_registers entry boot_params gdt = record {
-  eip = entry;
-  eax = 0;
-  ebx = 0;
-  ecx = 0;
-  edx = 0;
-  esi = boot_params;
-  edi = 0;
-  ebp = 0;
-  esp = 0;
-  eflags = 2;
-  cr0 = 0x11;
-  cs = 0x10;
-  ds = 0x18;
-  es = 0x18;
-  fs = 0x18;
-  gs = 0x18;
-  ss = 0x18;
-  gdt_base = gdt;
-  gdt_limit = 31;
-  a20 = 1;
-}
 
 -- the registers that a kernel is entered with, where the ones that hold addresses hold those of `r`
 abbrev pub entry_registers : Protocol → Registers → Registers

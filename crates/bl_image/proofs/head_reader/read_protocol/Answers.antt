@@ -1,8 +1,7 @@
-use Rattle.std.proofs.Common.{◌≡◌, ◌≤◌, ◌<◌, ℕ, ◌∙◌, true, false, arith, refl, sym, ap}
+use Rattle.std.proofs.Common.{◌≡◌, true, false, sym, ap}
 use Rattle.std.specs.Prelude.{nat_le, ◌&&◌}
 use Rattle.bl_plan.specs.Protocols as protocols
 use Rattle.std.proofs.lemmas.Result.{err_from_is_err_and}
-use Rattle.std.proofs.lemmas.Bool.Decides.{nat_tests}
 use Rattle.bl_mem.specs.Words.{u32_bytes}
 use Rattle.bl_mem.proofs.WordLaws.{length-u32_bytes}
 use Rattle.bl_image.specs.declared.fault.ImageFault.TheVariants.{BadHeader}

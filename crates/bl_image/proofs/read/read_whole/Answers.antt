@@ -1,11 +1,10 @@
-use Rattle.std.proofs.Common.{◌≡◌, ◌≤◌, [], length, map, sym, ap, ◌∙◌, arith, subst}
-use Rattle.std.specs.List.{flat_map}
+use Rattle.std.proofs.Common.{◌≡◌, length, sym, ap, ◌∙◌, subst}
 use Rattle.std.proofs.lemmas.Result.{err_from_is_err_and}
 use Rattle.bl_load.specs.HandoffFacts.{AreRecords}
 use Rattle.bl_image.specs.Image.{spelling}
 use Rattle.bl_image.specs.ImageParts.{IsKept}
 use Rattle.bl_image.specs.ImageFaults.{image_fault, parts_fault, none_before, end_fault}
-use Rattle.bl_image.specs.RecordsKept.{bytes_at, place_of}
+use Rattle.bl_image.specs.RecordsKept.{bytes_at}
 use Rattle.bl_image.proofs.Inputs.{comes_more, comes_as}
 use Rattle.bl_image.proofs.FieldLemmas.{Passed, passed_more, passed_refuses, cut_refuses}
 use Rattle.bl_image.proofs.HeadLemmas.{head_front, head_refuses}

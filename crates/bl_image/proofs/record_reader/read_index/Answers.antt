@@ -1,15 +1,8 @@
-use Rattle.std.proofs.Common.{◌≡◌, ◌+◌, ◌≤◌, ◌<◌, ◌^◌, true, false, arith, refl, sym, ap}
-use Rattle.std.specs.Prelude.{nat_le, ◌&&◌}
+use Rattle.std.proofs.Common.{refl}
 use Rattle.std.proofs.lemmas.Result.{err_from_is_err_and}
-use Rattle.std.proofs.lemmas.Bool.Decides.{nat_tests}
-use Rattle.bl_mem.specs.Words.{u32_bytes, u64_bytes}
-use Rattle.bl_mem.proofs.WordLaws.{length-u32_bytes, length-u64_bytes}
-use Rattle.bl_plan.specs.Roles as roles
-use Rattle.bl_image.specs.declared.fault.ImageFault.TheVariants.{BadPart}
-use Rattle.bl_image.specs.Fields.{role_field, index_field, address_field, length_field}
-use Rattle.bl_image.proofs.Inputs.{comes_as}
-use Rattle.bl_image.proofs.ReadAgain.{role_fits, role_between}
-use Rattle.bl_image.proofs.FieldLemmas.{field_cut, field_shows, word_tells, long_tells, not_between}
+use Rattle.bl_mem.proofs.WordLaws.{length-u32_bytes}
+use Rattle.bl_image.specs.Fields.{index_field}
+use Rattle.bl_image.proofs.FieldLemmas.{field_cut}
 use Rattle.bl_image.proofs.record_reader.read_index.Goals as goal
 
 pub returns-in_err-index-clause-field : goal.returns-in_err-index-clause-field

@@ -1,4 +1,4 @@
-use Rattle.std.proofs.Common.{◌+◌, ◌++◌, List, ℕ, [], ◌∷◌, Option}
+use Rattle.std.proofs.Common.{List, ℕ, [], ◌∷◌, Option}
 use Rattle.bl_image.specs.declared.fault.ImageFault.{ImageFault}
 use Rattle.bl_image.specs.ImageFaults.{record_fault}
 use Rattle.std.proofs.lemmas.Result.{err_from_is_err_and}

@@ -1,4 +1,4 @@
-use Rattle.std.proofs.Common.{◌+◌, ◌-◌, ◌≤◌, ◌≡◌, length, take, ◌∙◌, sym, arith, rules}
+use Rattle.std.proofs.Common.{◌-◌, ◌≤◌, ◌≡◌, length, ◌∙◌, sym, rules}
 use Rattle.std.proofs.lemmas.List.{places}
 use Rattle.bl_image.proofs.Inputs.{comes_more, comes_as, take_piece}
 use Rattle.bl_image.proofs.source.fill.Goals as goal

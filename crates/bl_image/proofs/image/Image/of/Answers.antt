@@ -1,6 +1,5 @@
-use Rattle.std.proofs.Common.{◌≡◌, ◌≤◌, length, take, map, List, sym, ap, ◌∙◌, arith, subst}
+use Rattle.std.proofs.Common.{◌≡◌, ◌≤◌, length, take, map, sym, ap, ◌∙◌, arith, subst}
 use Rattle.std.proofs.lemmas.List.{take_all}
-use Rattle.bl_plan.specs.declared.place.Place.{Place}
 use Rattle.bl_load.specs.PlanFacts.{part_in}
 use Rattle.bl_image.specs.ImageParts.{AreImageParts}
 use Rattle.bl_image.proofs.PartLemmas.{memory_parts}

@@ -1,4 +1,4 @@
-use Rattle.std.proofs.Common.{◌≡◌, ◌+◌, ◌≤◌, ℕ, List, length, slice_range, drop, ap, ◌∙◌, arith}
+use Rattle.std.proofs.Common.{◌+◌, ◌≤◌, ℕ, List, length, slice_range, drop, ap, ◌∙◌, arith}
 use Rattle.bl_image.proofs.Inputs.{part_came, came_from}
 use Rattle.bl_image.proofs.mem_source.MemSourceSource.read.Goals as goal
 
