@@ -155,8 +155,8 @@ fn say_start<A: Allocator + Copy>(out: &mut Vec<u8, A>, start: u64) -> Result<()
     out.extend_from_slice(line.as_bytes())
 }
 
-/// Appends the end of a run. It may lie above 2^64, for all that this function knows.
-fn say_end<A: Allocator + Copy>(out: &mut Vec<u8, A>, end: u128) -> Result<(), AllocError>
+/// Appends the end of a run.
+fn say_end<A: Allocator + Copy>(out: &mut Vec<u8, A>, end: u64) -> Result<(), AllocError>
     ensures { OnOk result (out.new.items ≡ out.old.items ++ hex16 end) }
 {
     let alloc = *out.allocator();
@@ -177,7 +177,7 @@ fn say_run<A: Allocator + Copy>(out: &mut Vec<u8, A>, run: &Region) -> Result<()
     ensures { OnOk result (out.new.items ≡ out.old.items ++ says.seen_run_line run.now) }
 {
     say_start(out, run.base)?;
-    say_end(out, run.base as u128 + run.length as u128)?;
+    say_end(out, run.base.saturating_add(run.length))?;
     say_kind(out, run.kind.number())
 }
 
