@@ -143,3 +143,20 @@ after_scrub pool old new scrubs = record {
   in_pool = λ a none within. scrubs a ∙ scrubbed_in pool old a within;
   elsewhere = λ a none out. scrubs a ∙ scrubbed_out pool old a out;
 }
+
+-- an attempt that is refused, where the next ones lead on
+pub continues_later : {A P E : Type 0} (facts : BootFacts) (next : List RefusedEntry → State → Type 0) (entry : ℕ) (rest : List ℕ) (earlier : List RefusedEntry) (files : List (List Spot)) (bytes : List ℕ) (got : Attempt A) (refusal : Refusal)
+    (result : Result P E) (state : P → State)
+    → IsAttempt facts.machine (entry_at facts.menu entry) files bytes got → got ≡ attempt.Refused refusal
+    → IfOk result (λ phase. next (earlier ++ record { entry = entry; refusal = refusal } ∷ []) (state phase))
+    → IfOk result (λ phase. Continues facts next entry rest earlier files (state phase))
+continues_later facts next entry rest earlier files bytes got refusal (Err e) state is got_is leads = tt
+continues_later {A} facts next entry rest earlier files bytes got refusal (Ok phase) state is got_is leads =
+    let mine = subst (λ (x : Attempt A). IsAttempt facts.machine (entry_at facts.menu entry) files bytes x) got_is is in
+    continues {A = A} facts next entry rest earlier files bytes (state phase) (attempt.Refused refusal) mine leads
+
+-- an attempt as its entry is offered
+pub attempt_of_entry : {A : Type 0} (facts : MachineFacts) (menu : MenuFacts) (entry : ℕ) (offered : EntryFacts) (files : List (List Spot)) (bytes : List ℕ) (got one : Attempt A)
+    → offered ≡ entry_at menu entry → IsAttempt facts offered files bytes got → got ≡ one → IsAttempt facts (entry_at menu entry) files bytes one
+attempt_of_entry {A} facts menu entry offered files bytes got one same is got_is =
+    subst (λ (e : EntryFacts). IsAttempt facts e files bytes one) same (subst (λ (x : Attempt A). IsAttempt facts offered files bytes x) got_is is)

@@ -1,5 +1,5 @@
 -- Where a boot stands, and what one event does. Own.
-use Rattle.std.specs.Prelude.{◌≡◌, ℕ, ◌==◌, ◌&&◌, Bool, MatchBool, List, [], ◌∷◌, ◌++◌, length, map, slice_index_or, Option, None, Some}
+use Rattle.std.specs.Prelude.{◌≡◌, ◌⊎◌, ℕ, ◌==◌, ◌&&◌, Bool, true, false, MatchBool, if◌then◌else◌, List, [], ◌∷◌, ◌++◌, length, map, slice_index_or, Option, None, Some}
 use Rattle.bl_map.specs.MachineFacts.{MachineFacts}
 use Rattle.bl_load.specs.declared.refusal.Refusal.{Refusal}
 use Rattle.bl_load.specs.declared.refusal.Refusal.TheVariants.{FileFault}
@@ -7,6 +7,8 @@ use Rattle.bl_load.specs.Handover.{Handover}
 use Rattle.bl_stage.specs.Spots.{Spot, bytes_of}
 use Rattle.bl_session.specs.declared.words.Ticket.{Ticket}
 use Rattle.bl_session.specs.declared.words.RefusedEntry.{RefusedEntry}
+use Rattle.bl_session.specs.declared.words.Progress.{Progress}
+use Rattle.bl_session.specs.declared.words.Progress.TheVariants.{Waiting, Next, Done, Failed}
 use Rattle.bl_session.specs.Ends.{End, handed, refused, EndsIn, size_refusal, lengths_of}
 use Rattle.bl_session.specs.Menu.{MenuFacts, entry_at, value_with}
 use Rattle.bl_session.specs.Pieces.{is_awaited, awaits, spot_of, with_piece, are_whole, awaited}
@@ -97,6 +99,29 @@ Steps facts (handed_over entry earlier handover) event new = new ≡ handed_over
 Steps facts (none_left earlier) event new = new ≡ none_left earlier
 Steps facts out_of_memory event new = new ≡ out_of_memory
 
+-- the event is one that the attempt which runs waits for
+abbrev pub is_taken : State → EventFacts → Bool
+is_taken (running entry rest earlier files) event = is_wanted earlier files event
+is_taken unstarted event = false
+is_taken (handed_over entry earlier handover) event = false
+is_taken (none_left earlier) event = false
+is_taken out_of_memory event = false
+
+-- the event ends the attempt that runs: its last piece, or a fault
+abbrev pub ends_attempt : State → EventFacts → Bool
+ends_attempt (running entry rest earlier files) (piece ticket bytes) =
+    is_wanted earlier files (piece ticket bytes) && are_whole (with_piece files ticket.file ticket.piece bytes)
+ends_attempt (running entry rest earlier files) (fault ticket) = is_wanted earlier files (fault ticket)
+ends_attempt unstarted event = false
+ends_attempt (handed_over entry earlier handover) event = false
+ends_attempt (none_left earlier) event = false
+ends_attempt out_of_memory event = false
+
+-- one step, or want of memory, which only an event meets that ends an attempt
+abbrev pub StepsOrFails : BootFacts → State → EventFacts → State → Type 0
+StepsOrFails facts old event new =
+    Steps facts old event new ⊎ ((new ≡ out_of_memory) × (ends_attempt old event ≡ true))
+
 -- the start acts once
 abbrev pub Starts : BootFacts → State → State → Type 0
 Starts facts unstarted new = Begins facts facts.menu.attempts [] new
@@ -104,6 +129,27 @@ Starts facts (running entry rest earlier files) new = new ≡ running entry rest
 Starts facts (handed_over entry earlier handover) new = new ≡ handed_over entry earlier handover
 Starts facts (none_left earlier) new = new ≡ none_left earlier
 Starts facts out_of_memory new = new ≡ out_of_memory
+
+-- the start, or want of memory, which only the first start meets
+abbrev pub StartsOrFails : BootFacts → State → State → Type 0
+StartsOrFails facts old new = Starts facts old new ⊎ ((new ≡ out_of_memory) × (old ≡ unstarted))
+
+-- the number of the attempt that runs
+abbrev pub attempt_of : State → ℕ
+attempt_of unstarted = 0
+attempt_of (running entry rest earlier files) = length earlier
+attempt_of (handed_over entry earlier handover) = length earlier
+attempt_of (none_left earlier) = length earlier
+attempt_of out_of_memory = 0
+
+-- what a call answers that leads from the attempt of this number to that state
+abbrev pub progress : ℕ → State → Progress
+progress attempt unstarted = Waiting
+progress attempt (running entry rest earlier files) =
+    if length earlier == attempt then Waiting else Next (length earlier)
+progress attempt (handed_over entry earlier handover) = Done
+progress attempt (none_left earlier) = Failed
+progress attempt out_of_memory = Failed
 
 -- a schedule: one event after the other
 abbrev pub LeadsTo : BootFacts → State → List EventFacts → State → Type 0

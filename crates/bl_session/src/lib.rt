@@ -9,9 +9,10 @@ mod finishing;
 mod laws;
 mod menu;
 mod phase;
+mod stepping;
 mod words;
 
-pub use advancing::begin;
+pub use advancing::{begin, refuse, settle};
 pub use attempt::Attempt;
 pub use attempting::{begin_attempt, go_on};
 pub use beginning::{MOST_BYTES, begin_stage};
@@ -22,4 +23,5 @@ pub use laws::{
 };
 pub use menu::{MOST_ENTRIES, MOST_MODULES, Menu, MenuFault};
 pub use phase::{Phase, Running};
+pub use stepping::{take_fault, take_piece};
 pub use words::{BootFault, Event, Outcome, Progress, RefusedEntry, Ticket};
