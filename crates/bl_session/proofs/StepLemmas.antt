@@ -14,7 +14,7 @@ use Rattle.bl_session.specs.declared.words.RefusedEntry.{RefusedEntry}
 use Rattle.bl_session.specs.declared.words.Ticket.{Ticket}
 use Rattle.bl_session.specs.Ends.{refused}
 use Rattle.bl_session.specs.Pieces.{awaits, spot_of, with_piece, are_whole}
-use Rattle.bl_session.specs.Boot.{BootFacts, EventFacts, piece, fault, State, running, Begins, Continues, Steps, is_wanted, is_taken, ends_attempt}
+use Rattle.bl_session.specs.Boot.{BootFacts, EventFacts, piece, fault, State, unstarted, running, handed_over, none_left, out_of_memory, Begins, Continues, Steps, is_wanted, is_taken, ends_attempt}
 use Rattle.bl_session.specs.Memory.{IsMemoryIn}
 use Rattle.bl_session.proofs.AdvanceLemmas.{memory_on, same_on}
 use Rattle.bl_session.proofs.SpotLemmas.{stored, not_stored, put_with}
@@ -115,3 +115,22 @@ lacks_fault entry rest earlier files ticket (Err e) wanted = wanted
 
 pub same_itself : (pool : Range ℕ) (old : List ℕ) → IsSameOutside pool old old
 same_itself pool old = λ a outside. refl
+
+-- ---- want of memory
+
+-- an event that ends an attempt is one that it waits for
+pub ends_taken : (state : State) (event : EventFacts) → ends_attempt state event ≡ true → is_taken state event ≡ true
+ends_taken unstarted event e = absurd cc
+ends_taken (running entry rest earlier files) (piece ticket bytes) e = first (is_wanted earlier files (piece ticket bytes)) (are_whole (with_piece files ticket.file ticket.piece bytes)) e
+  where
+    first : (a b : Bool) → (a && b) ≡ true → a ≡ true
+    first true b e = refl
+    first false b e = absurd cc
+ends_taken (running entry rest earlier files) (fault ticket) e = e
+ends_taken (handed_over entry earlier handover) event e = absurd cc
+ends_taken (none_left earlier) event e = absurd cc
+ends_taken out_of_memory event e = absurd cc
+
+pub memory_lacking : (pool : Range ℕ) (state : State) (event : EventFacts) (old new : List ℕ) → ends_attempt state event ≡ true → IsSameOutside pool old new
+    → MatchBool (is_taken state event) (IsMemoryIn pool out_of_memory old new) (new ≡ old)
+memory_lacking pool state event old new e outside = by_test true (is_taken state event) (IsMemoryIn pool out_of_memory old new) (new ≡ old) (ends_taken state event e) outside

@@ -9,6 +9,7 @@ mod finishing;
 mod laws;
 mod menu;
 mod phase;
+mod session;
 mod stepping;
 mod words;
 
@@ -23,5 +24,6 @@ pub use laws::{
 };
 pub use menu::{MOST_ENTRIES, MOST_MODULES, Menu, MenuFault};
 pub use phase::{Phase, Running};
-pub use stepping::{take_fault, take_piece};
+pub use session::Session;
+pub use stepping::{advance, begin_first, take_fault, take_piece};
 pub use words::{BootFault, Event, Outcome, Progress, RefusedEntry, Ticket};

@@ -1,17 +1,20 @@
 //! One event of an attempt that waits.
-ghost use Rattle.std.specs.Prelude.{◌≡◌, ◌≢◌, ◌==◌, ℕ, List, true, IfOk, OnErr, MatchBool, length};
+ghost use Rattle.std.specs.Prelude.{◌≡◌, ◌≢◌, ◌==◌, ℕ, List, [], true, IfOk, OnErr, OnOk};
+ghost use Rattle.std.specs.Prelude.{MatchBool, length};
 ghost use Rattle.bl_mem.specs.Memory.{HasRoom, KeepsRoom};
 ghost use Rattle.bl_stage.specs.Ranges.{IsSameOutside};
 ghost use Rattle.bl_stage.specs.Spots.{spots};
 ghost use Rattle.bl_session.specs.Boot.{Steps, piece, fault, is_wanted, is_taken, ends_attempt};
+ghost use Rattle.bl_session.specs.Boot.{Begins, StepsOrFails, StartsOrFails};
+ghost use Rattle.bl_session.specs.Phases.{event_facts, phase_facts, is_waiting, not_started};
 ghost use Rattle.bl_session.specs.Memory.{IsMemoryIn};
 ghost use Rattle.bl_session.specs.Phases.{boot_facts, running_state, state_of};
 ghost use Rattle.bl_session.specs.Phases.{IsKept, IsWaiting};
 
-use crate::advancing::{refuse, settle};
+use crate::advancing::{begin, refuse, settle};
 use crate::menu::Menu;
 use crate::phase::{Phase, Running};
-use crate::words::{RefusedEntry, Ticket};
+use crate::words::{BootFault, Event, RefusedEntry, Ticket};
 use bl_load::Refusal;
 use bl_map::Machine;
 use bl_mem::PhysMem;
@@ -142,4 +145,165 @@ pub fn take_fault<M: PhysMem, A: Allocator + Copy>(
         refusal: Refusal::FileFault(ticket.file),
     };
     refuse(alloc, machine, menu, sizes, memory, next, earlier, refused)
+}
+
+/// Takes an event.
+fn take<M: PhysMem, A: Allocator + Copy>(
+    alloc: A,
+    machine: &Machine<A>,
+    menu: &Menu<A>,
+    sizes: &[Option<u64>],
+    memory: &mut M,
+    waiting: Running<A>,
+    event: Event,
+) -> Result<Phase<A>, AllocError>
+    requires waiting { IsWaiting machine.now menu.now waiting }
+    requires size { length (M.bytes memory.old) ≡ machine.now.size }
+    requires room { HasRoom (M.room memory.old) machine.now.pool.start machine.now.pool.end }
+    ensures step { IfOk result (λ phase. Steps (boot_facts machine.now menu.now sizes.now)
+        (running_state menu.now.attempts (M.bytes memory.old) waiting) (event_facts event.entry)
+        (state_of menu.now.attempts (M.bytes memory.new) phase)) }
+    ensures lacking { OnErr result (ends_attempt
+        (running_state menu.now.attempts (M.bytes memory.old) waiting) (event_facts event.entry)
+        ≡ true) }
+    ensures memory { IfOk result (λ phase. MatchBool
+        (is_taken (running_state menu.now.attempts (M.bytes memory.old) waiting)
+        (event_facts event.entry))
+        (IsMemoryIn machine.now.pool (state_of menu.now.attempts (M.bytes memory.new) phase)
+        (M.bytes memory.old) (M.bytes memory.new))
+        (M.bytes memory.new ≡ M.bytes memory.old)) }
+    ensures phase { IfOk result (IsKept machine.now menu.now) }
+    ensures err { OnErr result
+        (IsSameOutside machine.now.pool (M.bytes memory.old) (M.bytes memory.new)) }
+    ensures size { length (M.bytes memory.new) ≡ length (M.bytes memory.old) }
+    ensures kept { KeepsRoom (M.room memory.old) (M.room memory.new) }
+{
+    match event {
+        Event::Piece(ticket, bytes) => {
+            take_piece(alloc, machine, menu, sizes, memory, waiting, ticket, bytes)
+        }
+        Event::Fault(ticket) => take_fault(alloc, machine, menu, sizes, memory, waiting, ticket),
+    }
+}
+
+/// The phase after an event.
+pub fn advance<M: PhysMem, A: Allocator + Copy>(
+    alloc: A,
+    machine: &Machine<A>,
+    menu: &Menu<A>,
+    sizes: &[Option<u64>],
+    memory: &mut M,
+    phase: Phase<A>,
+    event: Event,
+) -> Phase<A>
+    requires phase { IsKept machine.now menu.now phase }
+    requires size { length (M.bytes memory.old) ≡ machine.now.size }
+    requires room { is_waiting (phase_facts menu.now.attempts phase) ≡ true
+        → HasRoom (M.room memory.old) machine.now.pool.start machine.now.pool.end }
+    ensures step { StepsOrFails (boot_facts machine.now menu.now sizes.now)
+        (state_of menu.now.attempts (M.bytes memory.old) phase) (event_facts event.entry)
+        (state_of menu.now.attempts (M.bytes memory.new) result) }
+    ensures memory { MatchBool
+        (is_taken (state_of menu.now.attempts (M.bytes memory.old) phase)
+        (event_facts event.entry))
+        (IsMemoryIn machine.now.pool (state_of menu.now.attempts (M.bytes memory.new) result)
+        (M.bytes memory.old) (M.bytes memory.new))
+        (M.bytes memory.new ≡ M.bytes memory.old) }
+    ensures phase { IsKept machine.now menu.now result }
+    ensures size { length (M.bytes memory.new) ≡ length (M.bytes memory.old) }
+    ensures kept { KeepsRoom (M.room memory.old) (M.room memory.new) }
+{
+    match phase {
+        Phase::Waits(waiting) => {
+            match take(alloc, machine, menu, sizes, memory, waiting, event) {
+                Ok(phase) => phase,
+                Err(_) => Phase::Failed(BootFault::NoMemory),
+            }
+        }
+        Phase::Unstarted => Phase::Unstarted,
+        Phase::HandedOver(outcome) => Phase::HandedOver(outcome),
+        Phase::Failed(fault) => Phase::Failed(fault),
+    }
+}
+
+/// Gives room to the pool.
+fn reserve_pool<M: PhysMem, A: Allocator>(
+    machine: &Machine<A>,
+    memory: &mut M,
+) -> Result<(), AllocError>
+    requires { length (M.bytes memory.old) ≡ machine.now.size }
+    ensures same { M.bytes memory.new ≡ M.bytes memory.old }
+    ensures room { OnOk result
+        (HasRoom (M.room memory.new) machine.now.pool.start machine.now.pool.end) }
+    ensures kept { KeepsRoom (M.room memory.old) (M.room memory.new) }
+{
+    let pool = machine.pool();
+    // A pool of no frames may lie anywhere.
+    if pool.start < pool.end {
+        memory.reserve(&[pool])?;
+    }
+    Ok(())
+}
+
+/// Gives room to the pool, and begins the first attempt.
+fn begin_all<M: PhysMem, A: Allocator + Copy>(
+    alloc: A,
+    machine: &Machine<A>,
+    menu: &Menu<A>,
+    sizes: &[Option<u64>],
+    memory: &mut M,
+) -> Result<Phase<A>, AllocError>
+    requires { length (M.bytes memory.old) ≡ machine.now.size }
+    ensures begun { IfOk result (λ phase. Begins (boot_facts machine.now menu.now sizes.now)
+        menu.now.attempts [] (state_of menu.now.attempts (M.bytes memory.new) phase)) }
+    ensures memory { IfOk result (λ phase. IsMemoryIn machine.now.pool
+        (state_of menu.now.attempts (M.bytes memory.new) phase)
+        (M.bytes memory.old) (M.bytes memory.new)) }
+    ensures phase { IfOk result (IsKept machine.now menu.now) }
+    ensures err { OnErr result
+        (IsSameOutside machine.now.pool (M.bytes memory.old) (M.bytes memory.new)) }
+    ensures room { OnOk result
+        (HasRoom (M.room memory.new) machine.now.pool.start machine.now.pool.end) }
+    ensures size { length (M.bytes memory.new) ≡ length (M.bytes memory.old) }
+    ensures kept { KeepsRoom (M.room memory.old) (M.room memory.new) }
+{
+    reserve_pool(machine, memory)?;
+    begin(alloc, machine, menu, sizes, memory, 0, Vec::new(alloc))
+}
+
+/// The phase after the start.
+pub fn begin_first<M: PhysMem, A: Allocator + Copy>(
+    alloc: A,
+    machine: &Machine<A>,
+    menu: &Menu<A>,
+    sizes: &[Option<u64>],
+    memory: &mut M,
+    phase: Phase<A>,
+) -> Phase<A>
+    requires phase { IsKept machine.now menu.now phase }
+    requires size { length (M.bytes memory.old) ≡ machine.now.size }
+    ensures step { StartsOrFails (boot_facts machine.now menu.now sizes.now)
+        (state_of menu.now.attempts (M.bytes memory.old) phase)
+        (state_of menu.now.attempts (M.bytes memory.new) result) }
+    ensures memory { phase_facts menu.now.attempts phase ≡ not_started
+        → IsMemoryIn machine.now.pool (state_of menu.now.attempts (M.bytes memory.new) result)
+        (M.bytes memory.old) (M.bytes memory.new) }
+    ensures same { phase_facts menu.now.attempts phase ≢ not_started
+        → M.bytes memory.new ≡ M.bytes memory.old }
+    ensures room { phase_facts menu.now.attempts phase ≡ not_started
+        → is_waiting (phase_facts menu.now.attempts result) ≡ true
+        → HasRoom (M.room memory.new) machine.now.pool.start machine.now.pool.end }
+    ensures phase { IsKept machine.now menu.now result }
+    ensures size { length (M.bytes memory.new) ≡ length (M.bytes memory.old) }
+    ensures kept { KeepsRoom (M.room memory.old) (M.room memory.new) }
+{
+    match phase {
+        Phase::Unstarted => match begin_all(alloc, machine, menu, sizes, memory) {
+            Ok(phase) => phase,
+            Err(_) => Phase::Failed(BootFault::NoMemory),
+        },
+        Phase::Waits(waiting) => Phase::Waits(waiting),
+        Phase::HandedOver(outcome) => Phase::HandedOver(outcome),
+        Phase::Failed(fault) => Phase::Failed(fault),
+    }
 }
