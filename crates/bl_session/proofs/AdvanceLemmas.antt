@@ -1,5 +1,5 @@
 -- From one attempt to the next.
-use Rattle.std.proofs.Common.{◌≡◌, ℕ, ◌+◌, ◌<◌, ◌≤◌, Bool, true, false, MatchBool, MatchOption, ◌&&◌, if◌then◌else◌, nat_le, nat_lt, List, [], ◌∷◌, ◌++◌, length, drop, map, get_or, Option, None, Some, Result, Ok, Err, IfOk, All, refl, sym, ap, subst, ◌∙◌, ◌⊎◌, inl, inr, arith}
+use Rattle.std.proofs.Common.{◌≡◌, ℕ, ◌+◌, ◌<◌, ◌≤◌, Bool, true, false, MatchBool, MatchOption, ◌&&◌, if◌then◌else◌, nat_le, nat_lt, List, [], ◌∷◌, ◌++◌, length, drop, map, get_or, Option, None, Some, Result, Ok, Err, IfOk, refl, sym, ap, subst, ◌∙◌, ◌⊎◌, inl, inr, arith}
 use Rattle.std.specs.declared.ops.Range.{Range}
 use Rattle.std.proofs.lemmas.Bool.{cases_lt}
 use Rattle.std.proofs.lemmas.Bool.Decides.{nat_tests}
@@ -7,19 +7,17 @@ use Rattle.std.proofs.lemmas.List.{drop_more, drop_all}
 use Rattle.bl_mem.specs.Memory.{IsIn}
 use Rattle.bl_map.specs.MachineFacts.{MachineFacts}
 use Rattle.bl_load.specs.After.{IsAfter}
-use Rattle.bl_load.specs.Handover.{Part, Handover}
-use Rattle.bl_load.specs.HandoffFacts.{HandoffFacts}
+use Rattle.bl_load.specs.Handover.{Part}
 use Rattle.bl_load.specs.declared.refusal.Refusal.{Refusal}
 use Rattle.bl_stage.specs.Ranges.{IsSameOutside, scrubbed}
-use Rattle.bl_stage.specs.Staged.{Staging}
-use Rattle.bl_stage.specs.Spots.{Spot, spots, bytes_of}
+use Rattle.bl_stage.specs.Spots.{Spot, spots}
 use Rattle.bl_session.specs.declared.attempt.Attempt.{Attempt}
 use Rattle.bl_session.specs.declared.attempt.Attempt.TheVariants as attempt
 use Rattle.bl_session.specs.declared.words.RefusedEntry.{RefusedEntry}
-use Rattle.bl_session.specs.Ends.{End, handed, refused, EndsIn, size_refusal, lengths_of}
-use Rattle.bl_session.specs.Menu.{EntryFacts, MenuFacts, entry_at, value_with}
-use Rattle.bl_session.specs.Pieces.{are_whole, awaited}
-use Rattle.bl_session.specs.Boot.{BootFacts, State, running, handed_over, none_left, unstarted, out_of_memory, sizes_of, fresh, EntryEndsIn, GoesOn, Continues, BeginsUnless, Begins}
+use Rattle.bl_session.specs.Ends.{handed, refused, size_refusal}
+use Rattle.bl_session.specs.Menu.{EntryFacts, MenuFacts, entry_at}
+use Rattle.bl_session.specs.Pieces.{are_whole}
+use Rattle.bl_session.specs.Boot.{BootFacts, State, running, handed_over, none_left, unstarted, out_of_memory, sizes_of, fresh, Continues, BeginsUnless, Begins}
 use Rattle.bl_session.specs.Attempt.{IsAttempt, IsBegun, IsRefusedFor}
 use Rattle.bl_session.specs.Phases.{handover_held}
 use Rattle.bl_session.specs.Memory.{IsMemoryIn}

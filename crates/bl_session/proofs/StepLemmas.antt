@@ -1,18 +1,17 @@
 -- One event of an attempt that waits.
-use Rattle.std.proofs.Common.{◌≡◌, ◌≢◌, ℕ, ◌<◌, ◌==◌, ◌&&◌, Bool, true, false, MatchBool, nat_lt, if◌then◌else◌, List, [], ◌∷◌, ◌++◌, length, Result, Ok, Err, IfOk, OnErr, refl, sym, ap, subst, ◌∙◌, inl, inr, arith}
+use Rattle.std.proofs.Common.{◌≡◌, ◌≢◌, ℕ, ◌<◌, ◌==◌, ◌&&◌, Bool, true, false, MatchBool, nat_lt, List, [], ◌∷◌, ◌++◌, length, Result, Ok, Err, IfOk, OnErr, refl, sym, ap, subst, ◌∙◌, inl, inr, arith}
 use Rattle.std.specs.declared.ops.Range.{Range}
 use Rattle.std.proofs.lemmas.Bool.{cases_lt}
 use Rattle.std.proofs.lemmas.Bool.Decides.{nat_tests}
 use Rattle.bl_load.specs.declared.refusal.Refusal.TheVariants.{FileFault}
 use Rattle.bl_stage.specs.Ranges.{IsSameOutside}
 use Rattle.bl_stage.specs.Staged.{Staging}
-use Rattle.bl_stage.specs.Pieces.{is_piece, put_answer, slot_in}
+use Rattle.bl_stage.specs.Pieces.{put_answer}
 use Rattle.bl_stage.specs.declared.put.Put.{Put}
-use Rattle.bl_stage.specs.declared.put.Put.TheVariants.{Stored, Repeated, Strange}
+use Rattle.bl_stage.specs.declared.put.Put.TheVariants.{Stored, Strange}
 use Rattle.bl_stage.specs.Spots.{Spot, spots, put_spot}
 use Rattle.bl_session.specs.declared.words.RefusedEntry.{RefusedEntry}
 use Rattle.bl_session.specs.declared.words.Ticket.{Ticket}
-use Rattle.bl_session.specs.Ends.{refused}
 use Rattle.bl_session.specs.Pieces.{awaits, spot_of, with_piece, are_whole}
 use Rattle.bl_session.specs.Boot.{BootFacts, EventFacts, piece, fault, State, unstarted, running, handed_over, none_left, out_of_memory, Begins, Continues, Steps, is_wanted, is_taken, ends_attempt}
 use Rattle.bl_session.specs.Memory.{IsMemoryIn}

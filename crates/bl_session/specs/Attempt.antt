@@ -1,15 +1,14 @@
 -- Where an attempt stands, and what memory holds then.
-use Rattle.std.specs.Prelude.{◌≡◌, ℕ, List, [], map, length, true, false, Option, MatchOption}
+use Rattle.std.specs.Prelude.{◌≡◌, ℕ, List, map, length, true, false, Option, MatchOption}
 use Rattle.std.specs.declared.ops.Range.{Range}
 use Rattle.bl_map.specs.MachineFacts.{MachineFacts}
 use Rattle.bl_load.specs.After.{IsAfter}
 use Rattle.bl_load.specs.declared.refusal.Refusal.{Refusal}
 use Rattle.bl_stage.specs.Ranges.{IsSameOutside}
-use Rattle.bl_stage.specs.Staged.{Staging}
 use Rattle.bl_stage.specs.Spots.{Spot, spots, bytes_of}
 use Rattle.bl_session.specs.declared.attempt.Attempt.{Attempt}
 use Rattle.bl_session.specs.declared.attempt.Attempt.TheVariants.{Waits, HandedOver, Refused}
-use Rattle.bl_session.specs.Ends.{End, handed, refused, EndsIn, size_refusal, lengths_of}
+use Rattle.bl_session.specs.Ends.{handed, refused, EndsIn, size_refusal, lengths_of}
 use Rattle.bl_session.specs.Menu.{EntryFacts, value_with}
 use Rattle.bl_session.specs.Pieces.{are_whole, awaited}
 use Rattle.bl_session.specs.Phases.{handover_held}

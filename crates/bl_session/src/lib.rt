@@ -13,17 +13,12 @@ mod session;
 mod stepping;
 mod words;
 
-pub use advancing::{begin, refuse, settle};
-pub use attempt::Attempt;
-pub use attempting::{begin_attempt, go_on};
-pub use beginning::{MOST_BYTES, begin_stage};
+pub use beginning::MOST_BYTES;
 pub use finishing::finish;
 pub use laws::{
     each_attempt_ends, each_step_leads_on, ends_are_determined, first_entry_not_refused,
     steps_are_determined, two_boots,
 };
 pub use menu::{MOST_ENTRIES, MOST_MODULES, Menu, MenuFault};
-pub use phase::{Phase, Running};
 pub use session::Session;
-pub use stepping::{advance, begin_first, take_fault, take_piece};
 pub use words::{BootFault, Event, Outcome, Progress, RefusedEntry, Ticket};

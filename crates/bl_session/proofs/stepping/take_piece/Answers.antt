@@ -1,4 +1,4 @@
-use Rattle.std.proofs.Common.{drop, length, rules, ◌&&◌, ◌==◌}
+use Rattle.std.proofs.Common.{drop, rules}
 use Rattle.bl_stage.specs.Spots.{spots}
 use Rattle.bl_session.specs.Boot.{piece, is_wanted}
 use Rattle.bl_session.specs.Phases.{boot_facts, state_of}
