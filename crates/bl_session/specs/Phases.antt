@@ -34,11 +34,13 @@ pub data PhaseFacts : Type 0 where
   has_none : (earlier : List RefusedEntry) → PhaseFacts
   lacks_memory : PhaseFacts
 
--- the state of the boot, where memory has these bytes: a stage's spots and the parts of a handover are what it holds
+-- the state of the boot, where memory has these bytes: a stage's spots and the parts of a handover
+-- are what it holds
 abbrev pub state_at : List ℕ → PhaseFacts → State
 state_at bytes not_started = unstarted
 state_at bytes (waits entry rest earlier stage) = running entry rest earlier (spots bytes stage)
-state_at bytes (hands_over entry earlier handoff) = handed_over entry earlier (handover_held bytes handoff)
+state_at bytes (hands_over entry earlier handoff) =
+    handed_over entry earlier (handover_held bytes handoff)
 state_at bytes (has_none earlier) = none_left earlier
 state_at bytes lacks_memory = out_of_memory
 
@@ -81,7 +83,8 @@ end_facts (has_none earlier) = Some (has_none earlier)
 end_facts lacks_memory = Some lacks_memory
 
 -- the end that is told
-abbrev pub told : {A : Type 0} → Option (Result (Bor (Outcome A)) (Bor (BootFault A))) → Option PhaseFacts
+abbrev pub told :
+    {A : Type 0} → Option (Result (Bor (Outcome A)) (Bor (BootFault A))) → Option PhaseFacts
 told None = None
 told (Some (Ok outcome)) = Some (outcome_facts outcome.now)
 told (Some (Err why)) = Some (fault_facts why.now)
