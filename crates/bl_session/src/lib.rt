@@ -5,15 +5,18 @@ mod advancing;
 mod attempt;
 mod attempting;
 mod beginning;
+mod completion;
 mod finishing;
 mod laws;
 mod menu;
 mod phase;
 mod session;
 mod stepping;
+mod store;
 mod words;
 
 pub use beginning::MOST_BYTES;
+pub use completion::Completion;
 pub use finishing::finish;
 pub use laws::{
     each_attempt_ends, each_step_leads_on, ends_are_determined, first_entry_not_refused,
@@ -21,4 +24,5 @@ pub use laws::{
 };
 pub use menu::{MOST_ENTRIES, MOST_MODULES, Menu, MenuFault};
 pub use session::Session;
+pub use store::Store;
 pub use words::{BootFault, Event, Outcome, Progress, RefusedEntry, Ticket};
