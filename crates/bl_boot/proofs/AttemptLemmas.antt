@@ -1,33 +1,72 @@
--- What the code keeps of an attempt.
-use Rattle.std.proofs.Common.{◌≡◌, ◌+◌, ◌≤◌, ◌∙◌, ℕ, suc, List, [], ◌∷◌, length, map, refl, ap, All, arith}
+-- What an attempt comes to, by what `finish` ends in.
+use Rattle.std.proofs.Common.{◌≡◌, ◌≢◌, ◌∙◌, ◌<◌, ◌≤◌, ◌^◌, ◌/◌, ◌-◌, ◌⊎◌, ℕ, suc, List, [], ◌∷◌, Result, Ok, Err, length, map, slice_index, refl, sym, ap, subst, inl, inr, All, arith}
+use Rattle.std.proofs.lemmas.Bool.{cases_lt}
+use Rattle.std.proofs.lemmas.List.Elements.{All-nil}
+use Rattle.std.proofs.lemmas.Simd.{map-map}
 use Rattle.std.specs.declared.ops.Range.{Range}
-use Rattle.bl_map.specs.MachineFacts.{MachineFacts}
-use Rattle.bl_plan.specs.Placed.{range_of}
-use Rattle.bl_load.specs.declared.plan.PlannedPart.{PlannedPart}
-use Rattle.bl_load.specs.Handover.{Handover}
-use Rattle.bl_load.specs.PlanFacts.{part_by}
-use Rattle.bl_load.specs.Kept.{lengths_of, IsBacked}
-use Rattle.bl_map.specs.Room.{frames_needed, open_frames}
-use Rattle.bl_load.proofs.HeldLemmas.{length-bytes_by}
-use Rattle.bl_boot.specs.Attempt.{part_range, ranges_of, HasRoomBeside}
+use Rattle.bl_map.specs.MachineFacts.{MachineFacts, AreMachineFacts}
+use Rattle.bl_map.specs.Room.{frames_in, frames_needed}
+use Rattle.bl_map.proofs.PoolLemmas.{pool_in_memory}
+use Rattle.bl_stage.specs.Ranges.{IsSameOutside, scrubbed}
+use Rattle.bl_stage.specs.Staged.{frames_for}
+use Rattle.bl_load.specs.After.{IsAfter, Spans}
+use Rattle.bl_load.specs.HandoffFacts.{HandoffFacts}
+use Rattle.bl_load.specs.Handover.{Part, Handover}
+use Rattle.bl_load.specs.declared.refusal.PrepFault.{PrepFault}
+use Rattle.bl_load.specs.declared.refusal.PrepFault.TheVariants.{Refused, NoMemory}
+use Rattle.bl_load.specs.declared.refusal.Refusal.{Refusal}
+use Rattle.bl_session.specs.Finished.{IsHandedOver, IsNotHandedOver}
+use Rattle.bl_session.proofs.AfterLemmas.{after_scrub, after_before}
+use Rattle.bl_session.proofs.StageLemmas.{needed_by_lengths}
+use Rattle.bl_boot.specs.AfterAttempt.{IsLoaded}
+use Rattle.bl_boot.specs.Attempt.{FitsPool, IsHandedOf, IsRefusedOf, entry_value}
+use Rattle.bl_boot.specs.Kept.{IsAttemptFault, IsStageFault, IsUnread}
+use Rattle.bl_desc.specs.Described.{Entry}
 
--- the ranges of what a plan hands over are those of its places
-pub ranges_are : {A : Type 0} (texts : List (List ℕ)) (parts : List (PlannedPart A)) → All (IsBacked (lengths_of texts)) parts
-    → map part_range (map (part_by texts) parts) ≡ map range_of (map (λ part. part.place) parts)
-ranges_are texts [] backed = refl
-ranges_are texts (p ∷ parts) backed =
-    let size = length-bytes_by texts p (backed 0 p (omega arith)) in
-    let here : part_range (part_by texts p) ≡ range_of p.place =
-    ap (λ n. let r : Range ℕ = record { start = p.place.address; end = p.place.address + n } in r) size in
-    ap (λ (r : Range ℕ). r ∷ map part_range (map (part_by texts) parts)) here
-    ∙ ap (λ (rs : List (Range ℕ)). range_of p.place ∷ rs) (ranges_are texts parts (λ k d within. backed (suc k) d (omega arith)))
+-- files need as many frames as their lengths do
+pub needed_by_sizes : {V : Type 0} (bytes : V → List ℕ) (files : List V) → frames_needed (map bytes files) ≡ frames_for (map (λ file. length (bytes file)) files)
+needed_by_sizes bytes files = needed_by_lengths (map bytes files) ∙ ap frames_for (map-map (λ (text : List ℕ). length text) bytes files)
 
--- the count of open frames is that beside the parts
-pub room_beside : (facts : MachineFacts) (files : List (List ℕ)) (h : Handover) (ranges : List (Range ℕ)) (frames : ℕ)
-    → ranges_of h ≡ ranges → frames ≡ frames_needed files → frames ≤ open_frames facts.pool ranges → HasRoomBeside facts files h
-room_beside facts files h ranges frames same count room = rw same (omega (arith, room, count))
+-- a pool has few frames
+pub few_frames : (facts : MachineFacts) → AreMachineFacts facts → frames_in facts.pool < 2 ^ 32
+few_frames facts are =
+    elim (cases_lt facts.pool.start facts.pool.end) [
+      | inl some ↦ let end = pool_in_memory facts are some in let most = are.size.most in omega (arith, end, most)
+      | inr none ↦ omega (arith, none)
+    ]
 
-pub no_room_beside : (facts : MachineFacts) (files : List (List ℕ)) (h : Handover) (ranges : List (Range ℕ)) (frames : ℕ)
-    → ranges_of h ≡ ranges → frames ≡ frames_needed files → ¬ (frames ≤ open_frames facts.pool ranges) → ¬ HasRoomBeside facts files h
-no_room_beside facts files h ranges frames same count full room =
-    full (let seen = rw same at room in omega (arith, seen, count))
+-- a file that can't be read refuses the entry
+pub unread : (facts : MachineFacts) (entry : Entry) (read : Result (List (List ℕ)) Refusal) (fault : PrepFault) → IsUnread read fault → IsAttemptFault facts entry read fault
+unread facts entry read (Refused refused) is = subst (λ (r : Result (List (List ℕ)) Refusal). IsRefusedOf facts entry r refused) (sym is) refl
+unread facts entry read NoMemory is = tt
+
+-- and so do files that are too many for the pool
+pub unstaged : (facts : MachineFacts) (entry : Entry) (files : List (List ℕ)) (fault : PrepFault) → IsStageFault facts files fault → IsAttemptFault facts entry (Ok files) fault
+unstaged facts entry files (Refused refused) is = inl is
+unstaged facts entry files NoMemory is = tt
+
+module _ (facts : MachineFacts) (entry : Entry) (files : List (List ℕ)) (old staged new : List ℕ) (fits : FitsPool facts files) (outside : IsSameOutside facts.pool old staged) where
+  pub handed_so : (handoff : HandoffFacts) → IsHandedOver facts (entry_value entry files) handoff staged new → (h : Handover) × IsHandedOf facts entry (Ok files) h × IsLoaded facts.pool h handoff old new
+  handed_so handoff is = (
+    is.handover,
+    (fits, is.ends.0, is.ends.1),
+    record {
+      handed = is.held;
+      inside = is.inside;
+      after = after_before facts.pool is.handover.parts old staged new outside is.after;
+    },
+  )
+
+  pub refused_so : (fault : PrepFault) → IsNotHandedOver facts (entry_value entry files) fault staged new → IsAttemptFault facts entry (Ok files) fault
+  refused_so (Refused refused) (inl is, same) = inr (inl (fits, is))
+  refused_so (Refused refused) (inr (lacks, no_pool), same) = inr (inr (fits, record { handover = lacks.handover; handed = lacks.is; lacking = lacks.lacking }, no_pool))
+  refused_so NoMemory is = tt
+
+  pub kept_so : (fault : PrepFault) → IsNotHandedOver facts (entry_value entry files) fault staged new → IsSameOutside facts.pool old new
+  kept_so (Refused refused) (is, same) = λ a out. ap (λ (m : List ℕ). slice_index m a) same ∙ outside a out
+  kept_so NoMemory is = λ a out. is a out ∙ outside a out
+
+-- a pool that is cleared after a refusal
+pub cleared : (pool : Range ℕ) (old mid new : List ℕ) → IsSameOutside pool old mid → ((a : ℕ) → slice_index new a ≡ scrubbed pool [] mid a) → IsAfter pool [] old new
+cleared pool old mid new outside after =
+    after_before pool [] old mid new outside (after_scrub pool [] mid mid new (All-nil _) (λ a out. refl) after)

@@ -12,7 +12,7 @@ use Rattle.bl_desc.specs.declared.form.EntryForm.TheVariants.{Multiboot2, Linux}
 use Rattle.bl_desc.specs.declared.desc.EntryRow.{EntryRow}
 use Rattle.bl_boot.specs.declared.attempting.attempt.Attempt.{Attempt}
 use Rattle.bl_boot.specs.declared.attempting.attempt.Attempt.TheVariants as attempt
-use Rattle.bl_boot.specs.declared.attempting.attempt.LoadedEntry.{LoadedEntry}
+use Rattle.bl_load.specs.HandoffFacts.{HandoffFacts}
 use Rattle.bl_boot.specs.declared.booting.fault.EndFault.{EndFault}
 use Rattle.bl_boot.specs.declared.booting.fault.EndFault.TheVariants.{BadDescription, Device, NoMemory}
 use Rattle.bl_desc.specs.Described.{Described, Entry, described, file_named}
@@ -20,7 +20,7 @@ use Rattle.bl_desc.specs.Kept.{view, entry_view, form_view}
 use Rattle.bl_boot.specs.Files.{Answer}
 use Rattle.bl_boot.specs.Found.{AreFound}
 use Rattle.bl_boot.specs.Attempt.{IsAttemptHandover, file_names, names_beside, most_files}
-use Rattle.bl_boot.specs.LoadedEntry.{IsAttempt, handover_loaded}
+use Rattle.bl_boot.specs.AfterAttempt.{IsAttempt, handover_held}
 use Rattle.bl_boot.specs.Says.{booted_line, refused_line, no_entry_line}
 use Rattle.bl_boot.specs.Ends.{IsMachineOf, BootCase, HasInlineFiles, names_in, IsBooted, IsRefused, Surroundings}
 use Rattle.bl_boot.specs.Kept.{IsHandFault, HasFaults, Ends}
@@ -32,9 +32,9 @@ only_one (y ∷ []) x one is = ap (λ y. y ∷ []) (sym is)
 only_one (y ∷ z ∷ xs) x one is = absurd (omega arith)
 
 -- what was loaded is what is handed over
-handed_by : {A : Type 0} (fill : ℕ) (facts : MachineFacts) (entry : Entry) (answers : List Answer) (loaded : LoadedEntry A)
-    → IsAttempt fill facts entry answers (attempt.Loaded loaded) → IsAttemptHandover facts entry answers (handover_loaded loaded)
-handed_by fill facts entry answers loaded came = rw came.2.handed came.1
+handed_by : (A : Type 0) (facts : MachineFacts) (entry : Entry) (answers : List Answer) (old new : List ℕ) (handoff : HandoffFacts)
+    → IsAttempt {A = A} facts entry answers old new (attempt.Loaded handoff) → IsAttemptHandover facts entry answers (handover_held handoff new)
+handed_by A facts entry answers old new handoff came = rw came.2.handed came.1
 
 -- the sink has one fault more exactly if it had one while the image was written
 pub faults_by : (old new : ℕ) (s t image : List ℕ) (fault : EndFault) → IsHandFault old new s t image fault → HasFaults old new (Err fault)
@@ -74,10 +74,10 @@ module _ {A : Type 0} (desc : List ℕ) (d : Description A) (row : EntryRow A)
 
   -- its machine has these facts, and with these files this came of the attempt
   module _ {F : Type 0} (answers : F → List ℕ → Answer → Type 0) (faults : F → ℕ) (facts : MachineFacts)
-      (machine : IsMachineOf (view d) facts) (before after : F) where
+      (machine : IsMachineOf (view d) facts) (before after : F) (old new : List ℕ) where
     abbrev Came : Attempt A → Type 0
     Came a = (answered : List Answer) × AreFound answers faults (view d).files (file_names (entry_view row)) before after answered
-        × IsAttempt d.fill facts (entry_view row) answered a
+        × IsAttempt facts (entry_view row) answered old new a
 
     abbrev attempted : (answered : List Answer) → AreFound answers faults (view d).files (file_names (entry_view row)) before after answered
         → BootCase answers faults desc before after
@@ -98,27 +98,27 @@ module _ {A : Type 0} (desc : List ℕ) (d : Description A) (row : EntryRow A)
 
     pub refused_by : (refusal : Refusal) → Came (attempt.Refused refusal) → (s u v : List ℕ)
         → v ≡ u ++ (refused_line 0 (refusal_number refusal) ++ no_entry_line) → IsRefused answers faults desc (around before s u) (around after s v)
-    refused_by refusal came s u v said = record { attempted = attempted came.0 came.1; refusal = refusal; refused = came.2; nothing = refl; said = said }
+    refused_by refusal came s u v said = record { attempted = attempted came.0 came.1; refusal = refusal; refused = came.2.0; nothing = refl; said = said }
 
-    pub booted_by : (loaded : LoadedEntry A) → Came (attempt.Loaded loaded) → (s t u v : List ℕ)
-        → t ≡ s ++ spelling (handover_loaded loaded) → v ≡ u ++ booted_line 0 row.title → IsBooted answers faults desc (around before s u) (around after t v)
-    booted_by loaded came s t u v image said = record {
+    pub booted_by : (handoff : HandoffFacts) → Came (attempt.Loaded handoff) → (s t u v : List ℕ)
+        → t ≡ s ++ spelling (handover_held handoff new) → v ≡ u ++ booted_line 0 row.title → IsBooted answers faults desc (around before s u) (around after t v)
+    booted_by handoff came s t u v image said = record {
       attempted = attempted came.0 came.1;
-      handover = handover_loaded loaded;
-      handed = handed_by d.fill facts (entry_view row) came.0 loaded came.2;
+      handover = handover_held handoff new;
+      handed = handed_by A facts (entry_view row) came.0 old new handoff came.2;
       image = image;
       said = said;
     }
 
     -- an entry that is not handed over after all
-    pub not_handed_by : (loaded : LoadedEntry A) → Came (attempt.Loaded loaded) → (old new : ℕ) (s t u v : List ℕ) (fault : EndFault)
-        → IsHandFault old new s t (spelling (handover_loaded loaded)) fault → v ≡ u → Ends answers faults desc (around before s u) (around after t v) (Err fault)
-    not_handed_by loaded came old new s t u v BadDescription never unsaid = absurd never
-    not_handed_by loaded came old new s t u v Device broken unsaid = record {
+    pub not_handed_by : (handoff : HandoffFacts) → Came (attempt.Loaded handoff) → (least most : ℕ) (s t u v : List ℕ) (fault : EndFault)
+        → IsHandFault least most s t (spelling (handover_held handoff new)) fault → v ≡ u → Ends answers faults desc (around before s u) (around after t v) (Err fault)
+    not_handed_by handoff came least most s t u v BadDescription never unsaid = absurd never
+    not_handed_by handoff came least most s t u v Device broken unsaid = record {
       attempted = attempted came.0 came.1;
-      handover = handover_loaded loaded;
-      handed = handed_by d.fill facts (entry_view row) came.0 loaded came.2;
+      handover = handover_held handoff new;
+      handed = handed_by A facts (entry_view row) came.0 old new handoff came.2;
       begun = broken.1;
       unsaid = unsaid;
     }
-    not_handed_by loaded came old new s t u v NoMemory kept unsaid = (kept.1, unsaid)
+    not_handed_by handoff came least most s t u v NoMemory kept unsaid = (kept.1, unsaid)

@@ -1,5 +1,5 @@
 -- The files of an entry, one after the other.
-use Rattle.std.proofs.Common.{◌≡◌, ◌∙◌, ◌+◌, ℕ, List, [], ◌∷◌, ◌++◌, Result, Ok, Err, IfOk, length, map, refl, sym, ap, subst, arith, append_assoc}
+use Rattle.std.proofs.Common.{◌≡◌, ◌∙◌, ◌+◌, ℕ, List, [], ◌∷◌, ◌++◌, Result, Ok, Err, IfOk, length, map, refl, sym, ap, subst, arith, append_assoc, OnOk, OnErr, IfErr}
 use Rattle.std.proofs.Common.{All, Bor, get_or, take, ◌<◌}
 use Rattle.std.proofs.lemmas.List.{get_or-map, map-append, length-map, take_more}
 use Rattle.bl_load.specs.declared.refusal.Refusal.{Refusal}
@@ -94,3 +94,11 @@ names_grow names i within = rw (take_more names i no_name within, map-append) re
 pub all_ok : {T E : Type 0} (P Q : T → Type 0) (r : Result T E) → IfOk r P → ((x : T) → P x → Q x) → IfOk r Q
 all_ok P Q (Ok x) h f = f x h
 all_ok P Q (Err e) h f = tt
+
+pub on_ok : {T E : Type 0} {P Q : Type 0} (r : Result T E) → OnOk r P → (P → Q) → OnOk r Q
+on_ok (Ok x) h f = f h
+on_ok (Err e) h f = tt
+
+pub on_err : {T E : Type 0} {Q : Type 0} (P : E → Type 0) (r : Result T E) → IfErr r P → ((e : E) → P e → Q) → OnErr r Q
+on_err P (Ok x) h f = tt
+on_err P (Err e) h f = f e h

@@ -1,11 +1,13 @@
 -- What the code keeps of how a call ends, by its result. Own.
 use Rattle.std.specs.Prelude.{◌≡◌, ℕ, ◌+◌, List, Result, Ok, Err}
 use Rattle.bl_image.specs.Begun.{IsBegun}
-use Rattle.bl_desc.specs.Described.{Described}
+use Rattle.bl_map.specs.MachineFacts.{MachineFacts}
+use Rattle.bl_desc.specs.Described.{Described, Entry}
+use Rattle.bl_boot.specs.Attempt.{FitsPool, IsRefusedOf}
 use Rattle.bl_desc.specs.declared.fault.DescFault.{DescFault}
 use Rattle.bl_desc.specs.declared.fault.DescFault.TheVariants as desc_fault
 use Rattle.bl_load.specs.declared.refusal.Refusal.{Refusal}
-use Rattle.bl_load.specs.declared.refusal.Refusal.TheVariants.{NoFile, FileTooLong}
+use Rattle.bl_load.specs.declared.refusal.Refusal.TheVariants.{NoFile, FileTooLong, NoPool}
 use Rattle.bl_load.specs.declared.refusal.PrepFault.{PrepFault}
 use Rattle.bl_load.specs.declared.refusal.PrepFault.TheVariants.{Refused}
 use Rattle.bl_load.specs.declared.refusal.PrepFault.TheVariants as prep_fault
@@ -31,6 +33,16 @@ AnswerFault place (bytes file) refused = ⊥
 abbrev pub IsUnread : Result (List (List ℕ)) Refusal → PrepFault → Type 0
 IsUnread read (Refused unread) = read ≡ Err unread
 IsUnread read prep_fault.NoMemory = Unit {0}
+
+-- why files are not staged: the pool has too few frames for them, or memory ran out
+abbrev pub IsStageFault : MachineFacts → List (List ℕ) → PrepFault → Type 0
+IsStageFault facts files (Refused refused) = (¬ FitsPool facts files) × (refused ≡ NoPool)
+IsStageFault facts files prep_fault.NoMemory = Unit {0}
+
+-- why an entry is not handed over: its first refusal, by what was read of its files, or memory ran out
+abbrev pub IsAttemptFault : MachineFacts → Entry → Result (List (List ℕ)) Refusal → PrepFault → Type 0
+IsAttemptFault facts entry read (Refused refused) = IsRefusedOf facts entry read refused
+IsAttemptFault facts entry read prep_fault.NoMemory = Unit {0}
 
 -- why there is no such machine: a rule is broken, or memory ran out
 abbrev pub IsMachineFault : Described → EndFault → Type 0

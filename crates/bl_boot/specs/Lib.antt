@@ -2,6 +2,6 @@ pub mod Says
 pub mod Files
 pub mod Found
 pub mod Attempt
-pub mod LoadedEntry
+pub mod AfterAttempt
 pub mod Ends
 pub mod Kept

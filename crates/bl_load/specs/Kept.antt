@@ -67,7 +67,8 @@ pub record IsLoadable {A : Type 0} (lengths : List ℕ) (size : ℕ) (plan : Pla
   pub records : AreRecords (places_of plan)
 
 -- a part can be loaded: it is backed, memory has its place with room, and no file lies there
-pub record CanLoad {A : Type 0} (lengths : List ℕ) (size : ℕ) (room holds : ℕ → Type 0) (part : PlannedPart A) : Type 0 where
+pub record CanLoad {A : Type 0} (lengths : List ℕ) (size : ℕ) (room holds : ℕ → Type 0)
+    (part : PlannedPart A) : Type 0 where
   pub there : IsThere lengths part.content
   pub short : content_length part.content ≤ part.place.length
   pub inside : part.place.address + part.place.length ≤ size

@@ -54,11 +54,7 @@ fn load_content<M: PhysMem, F: FileSet, A: Allocator>(
 }
 
 /// Writes a part.
-fn load_part<M: PhysMem, F: FileSet, A: Allocator>(
-    memory: &mut M,
-    part: &PlannedPart<A>,
-    files: &F,
-)
+fn load_part<M: PhysMem, F: FileSet, A: Allocator>(memory: &mut M, part: &PlannedPart<A>, files: &F)
     requires held { AreBelow (F.holds files.now) (length (M.bytes memory.old)) }
     requires can { CanLoad (lengths_of (F.texts files.now (M.bytes memory.old)))
         (length (M.bytes memory.old)) (M.room memory.old) (F.holds files.now) part.now }

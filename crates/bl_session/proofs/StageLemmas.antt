@@ -21,7 +21,7 @@ use Rattle.bl_stage.proofs.FrameLemmas.{staged_length}
 -- ---- how many frames
 
 -- as many as their lengths need
-needed_by_lengths : (texts : List (List ℕ)) → frames_needed texts ≡ frames_for (map (λ text. length text) texts)
+pub needed_by_lengths : (texts : List (List ℕ)) → frames_needed texts ≡ frames_for (map (λ text. length text) texts)
 needed_by_lengths [] = refl
 needed_by_lengths (text ∷ texts) =
     ap (λ n. frames_of (length text) + n) (needed_by_lengths texts)

@@ -7,3 +7,4 @@ pub mod SpotLaws
 pub mod CountLemmas
 pub mod MoveLemmas
 pub mod WayLemmas
+pub mod FilledLemmas

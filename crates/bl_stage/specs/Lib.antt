@@ -5,3 +5,4 @@ pub mod Ranges
 pub mod Cells
 pub mod Kept
 pub mod TextLaws
+pub mod Filled

@@ -11,9 +11,11 @@ mod scrubbing;
 mod stage;
 mod tables;
 mod view;
+mod whole;
 
 pub use fault::StageFault;
 pub use put::Put;
 pub use scrubbing::scrub;
 pub use stage::Stage;
 pub use view::FrameView;
+pub use whole::put_files;

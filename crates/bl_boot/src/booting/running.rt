@@ -14,6 +14,7 @@ use crate::fetching::Files;
 use bl_desc::read_description;
 use bl_image::Sink;
 use bl_line::Order;
+use bl_mem::Sparse;
 use std::alloc::{Allocator, Global};
 
 /// The same as `boot`, with its end in place of the status.
@@ -41,13 +42,14 @@ fn run_boot<A: Allocator + Copy, F: Files, S: Sink, B: Allocator>(
     let description = read_description(alloc, global, desc)?;
     let machine = machine_of(alloc, &description)?;
     let entry = &description.entries[0];
-    match attempt_entry(alloc, &machine, &description, entry, files)? {
+    let mut memory = Sparse::new(alloc, machine.size(), description.fill)?;
+    match attempt_entry(alloc, &machine, &description, entry, files, &mut memory)? {
         Attempt::Refused(refusal) => {
             say_refusal(alloc, refusal, say)?;
             Ok(End::NoEntryLeft)
         }
-        Attempt::Loaded(loaded) => {
-            hand_over(alloc, &loaded, entry.title.as_str(), out, say)?;
+        Attempt::Loaded(handoff) => {
+            hand_over(alloc, &handoff, &memory, entry.title.as_str(), out, say)?;
             Ok(End::Booted)
         }
     }

@@ -6,8 +6,8 @@ use Rattle.bl_boot.specs.Files.{answer_given}
 use Rattle.bl_boot.proofs.FileLemmas.{answers_for_all, all_ok}
 use Rattle.bl_boot.proofs.attempting.entry.attempt_entry.Goals as goal
 
-pub attempt_found-requires : goal.attempt_found-requires
-attempt_found-requires g c =
+pub attempt_found-requires-clause-files : goal.attempt_found-requires-clause-files
+attempt_found-requires-clause-files g c =
     let names : map (λ n. n.now) c.deref.result.now ≡ file_names (entry_view c.args.entry.now) =
     ap (λ (ns : List (Bor (List ℕ))). map (λ n. n.now) ns) c.deref.ensures.value ∙ c.in_ok-names.ensures in
     let found = c.in_ok-found.found.items in
@@ -21,7 +21,7 @@ returns-clause-came g c =
     ap (λ (ns : List (Bor (List ℕ))). map (λ n. n.now) ns) c.deref.ensures.value ∙ c.in_ok-names.ensures in
     let found = rw names at c.in_ok-found.ensures.found in
     all_ok _ _ c.attempt_found.result c.attempt_found.ensures
-    (λ attempt is. (map answer_given c.in_ok-found.found.items, found, rw c.deref-2.ensures.value at is))
+    (λ attempt is. (map answer_given c.in_ok-found.found.items, found, rw (c.deref-2.ensures.value, c.reserve_pool.ensures.same) at is))
 
 pub returns-clause-inline : goal.returns-clause-inline
 returns-clause-inline g c =

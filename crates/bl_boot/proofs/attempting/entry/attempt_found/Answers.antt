@@ -1,13 +1,14 @@
-use Rattle.std.proofs.Common.{◌≡◌, ◌∙◌, length, map, ap, sym}
-use Rattle.std.proofs.lemmas.List.{length-map}
-use Rattle.bl_boot.specs.Files.{answer_given}
-use Rattle.bl_boot.proofs.FileLemmas.{as_many_read}
+use Rattle.std.proofs.Common.{◌≡◌, ◌∙◌, length, map, arith}
+use Rattle.bl_map.proofs.PoolLemmas.{pool_in_memory}
+use Rattle.bl_boot.proofs.AttemptLemmas.{cleared}
 use Rattle.bl_boot.proofs.attempting.entry.attempt_found.Goals as goal
 
-pub attempt_files-requires : goal.attempt_files-requires
-attempt_files-requires g c =
-    let found = c.args.found.now in
-    let many = as_many_read 0 (map answer_given found) in
-    let read = rw c.in-Ok.ensures.ok at many in
-    let views = c.in-Ok.views.items in
-    ap length c.deref.ensures.value ∙ sym (length-map views (λ view. view.bytes.now)) ∙ read ∙ length-map found answer_given ∙ c.requires
+pub scrub-requires-clause-inside : goal.scrub-requires-clause-inside
+scrub-requires-clause-inside g c = rw (c.load_found.ensures.size, c.requires.size) (pool_in_memory c.args.machine.now c.pool.ensures.facts)
+
+pub returns-in-Err-Refused : goal.returns-in-Err-Refused
+returns-in-Err-Refused g c =
+    let fault = rw c.in-Err-Refused.field-0-is at c.in-Err-Refused.ensures.fault in (
+      fault,
+      cleared c.args.machine.now.pool (g.M.PhysMem.bytes c.args.memory.now) (g.M.PhysMem.bytes c.load_found.new.memory) (g.M.PhysMem.bytes c.scrub.new.memory) c.in-Err-Refused.ensures.outside c.scrub.ensures.after,
+    )

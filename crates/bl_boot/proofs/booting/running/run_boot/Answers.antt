@@ -9,7 +9,7 @@ returns-in-Refused-clause-ends g c =
     let one : length d.entries.items ≡ 1 = sym d.entries.ok.0 ∙ c.in_ok-description.ensures.one_entry in
     let came = rw c.in-Refused.is at c.in_ok-refusal.ensures.came in
     refused_by c.args.desc.now d c.index-entry.result.now c.in_ok-description.ensures.given one c.index-entry.ensures
-    g.F.Files.answers g.F.Files.faults c.in_ok-machine.machine c.in_ok-machine.ensures.machine _ _
+    g.F.Files.answers g.F.Files.faults c.in_ok-machine.machine c.in_ok-machine.ensures.machine _ _ _ _
     c.in-Refused.refusal came _ _ _ c.in_ok-say_refusal-in-Refused.ensures.ok
 
 pub returns-in_err-hand_over-in-Loaded-clause-ends : goal.returns-in_err-hand_over-in-Loaded-clause-ends
@@ -19,8 +19,8 @@ returns-in_err-hand_over-in-Loaded-clause-ends g c =
     let came = rw c.in-Loaded.is at c.in_ok-refusal.ensures.came in
     let p = err_from_is_err_and c.from_residual-in_err-hand_over-in-Loaded.result c.from_residual-in_err-hand_over-in-Loaded.ensures.1 in
     rw (p.1, p.2) (not_handed_by c.args.desc.now d c.index-entry.result.now c.in_ok-description.ensures.given one c.index-entry.ensures
-    g.F.Files.answers g.F.Files.faults c.in_ok-machine.machine c.in_ok-machine.ensures.machine _ _
-    c.in-Loaded.loaded came _ _ _ _ _ _ _ c.in_err-hand_over-in-Loaded.ensures.fault c.in_err-hand_over-in-Loaded.ensures.unsaid)
+    g.F.Files.answers g.F.Files.faults c.in_ok-machine.machine c.in_ok-machine.ensures.machine _ _ _ _
+    c.in-Loaded.handoff came _ _ _ _ _ _ _ c.in_err-hand_over-in-Loaded.ensures.fault c.in_err-hand_over-in-Loaded.ensures.unsaid)
 
 pub returns-clause-ends : goal.returns-clause-ends
 returns-clause-ends g c =
@@ -28,8 +28,8 @@ returns-clause-ends g c =
     let one : length d.entries.items ≡ 1 = sym d.entries.ok.0 ∙ c.in_ok-description.ensures.one_entry in
     let came = rw c.in-Loaded.is at c.in_ok-refusal.ensures.came in
     booted_by c.args.desc.now d c.index-entry.result.now c.in_ok-description.ensures.given one c.index-entry.ensures
-    g.F.Files.answers g.F.Files.faults c.in_ok-machine.machine c.in_ok-machine.ensures.machine _ _
-    c.in-Loaded.loaded came _ _ _ _ c.in_ok-hand_over-in-Loaded.ensures.image
+    g.F.Files.answers g.F.Files.faults c.in_ok-machine.machine c.in_ok-machine.ensures.machine _ _ _ _
+    c.in-Loaded.handoff came _ _ _ _ c.in_ok-hand_over-in-Loaded.ensures.image
     (rw c.as_str.ensures at c.in_ok-hand_over-in-Loaded.ensures.said)
 
 pub returns-in_err-refusal-clause-inline : goal.returns-in_err-refusal-clause-inline

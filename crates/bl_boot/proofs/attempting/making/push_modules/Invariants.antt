@@ -1,6 +1,6 @@
 use Rattle.std.proofs.Common.{◌≡◌, take, map}
 use Rattle.bl_desc.specs.Kept.{module_view}
-use Rattle.bl_boot.proofs.attempting.files.push_modules.Given as goal
+use Rattle.bl_boot.proofs.attempting.making.push_modules.Given as goal
 
 abbrev pub invariant-loop-i : goal.invariant-loop-i
 invariant-loop-i g l =
