@@ -1,5 +1,5 @@
 -- From one attempt to the next.
-use Rattle.std.proofs.Common.{◌≡◌, ℕ, ◌+◌, ◌<◌, ◌≤◌, Bool, true, false, MatchBool, MatchOption, ◌&&◌, if◌then◌else◌, nat_le, nat_lt, List, [], ◌∷◌, ◌++◌, length, drop, map, get_or, Option, None, Some, Result, Ok, Err, IfOk, All, refl, sym, ap, subst, ◌∙◌, ◌⊎◌, inl, inr, arith}
+use Rattle.std.proofs.Common.{◌≡◌, ℕ, ◌+◌, ◌<◌, ◌≤◌, Bool, true, false, MatchBool, MatchOption, ◌&&◌, if◌then◌else◌, nat_le, nat_lt, List, [], ◌∷◌, ◌++◌, length, drop, map, get_or, Option, None, Some, Result, Ok, Err, IfOk, refl, sym, ap, subst, ◌∙◌, ◌⊎◌, inl, inr, arith}
 use Rattle.std.specs.declared.ops.Range.{Range}
 use Rattle.std.proofs.lemmas.Bool.{cases_lt}
 use Rattle.std.proofs.lemmas.Bool.Decides.{nat_tests}
@@ -7,19 +7,17 @@ use Rattle.std.proofs.lemmas.List.{drop_more, drop_all}
 use Rattle.bl_mem.specs.Memory.{IsIn}
 use Rattle.bl_map.specs.MachineFacts.{MachineFacts}
 use Rattle.bl_load.specs.After.{IsAfter}
-use Rattle.bl_load.specs.Handover.{Part, Handover}
-use Rattle.bl_load.specs.HandoffFacts.{HandoffFacts}
+use Rattle.bl_load.specs.Handover.{Part}
 use Rattle.bl_load.specs.declared.refusal.Refusal.{Refusal}
 use Rattle.bl_stage.specs.Ranges.{IsSameOutside, scrubbed}
-use Rattle.bl_stage.specs.Staged.{Staging}
-use Rattle.bl_stage.specs.Spots.{Spot, spots, bytes_of}
+use Rattle.bl_stage.specs.Spots.{Spot, spots}
 use Rattle.bl_session.specs.declared.attempt.Attempt.{Attempt}
 use Rattle.bl_session.specs.declared.attempt.Attempt.TheVariants as attempt
 use Rattle.bl_session.specs.declared.words.RefusedEntry.{RefusedEntry}
-use Rattle.bl_session.specs.Ends.{End, handed, refused, EndsIn, size_refusal, lengths_of}
-use Rattle.bl_session.specs.Menu.{EntryFacts, MenuFacts, entry_at, value_with}
-use Rattle.bl_session.specs.Pieces.{are_whole, awaited}
-use Rattle.bl_session.specs.Boot.{BootFacts, State, running, handed_over, none_left, unstarted, out_of_memory, sizes_of, fresh, EntryEndsIn, GoesOn, Continues, BeginsUnless, Begins}
+use Rattle.bl_session.specs.Ends.{handed, refused, size_refusal}
+use Rattle.bl_session.specs.Menu.{EntryFacts, MenuFacts, entry_at}
+use Rattle.bl_session.specs.Pieces.{are_whole}
+use Rattle.bl_session.specs.Boot.{BootFacts, State, running, handed_over, none_left, unstarted, out_of_memory, sizes_of, fresh, Continues, BeginsUnless, Begins}
 use Rattle.bl_session.specs.Attempt.{IsAttempt, IsBegun, IsRefusedFor}
 use Rattle.bl_session.specs.Phases.{handover_held}
 use Rattle.bl_session.specs.Memory.{IsMemoryIn}
@@ -143,3 +141,20 @@ after_scrub pool old new scrubs = record {
   in_pool = λ a none within. scrubs a ∙ scrubbed_in pool old a within;
   elsewhere = λ a none out. scrubs a ∙ scrubbed_out pool old a out;
 }
+
+-- an attempt that is refused, where the next ones lead on
+pub continues_later : {A P E : Type 0} (facts : BootFacts) (next : List RefusedEntry → State → Type 0) (entry : ℕ) (rest : List ℕ) (earlier : List RefusedEntry) (files : List (List Spot)) (bytes : List ℕ) (got : Attempt A) (refusal : Refusal)
+    (result : Result P E) (state : P → State)
+    → IsAttempt facts.machine (entry_at facts.menu entry) files bytes got → got ≡ attempt.Refused refusal
+    → IfOk result (λ phase. next (earlier ++ record { entry = entry; refusal = refusal } ∷ []) (state phase))
+    → IfOk result (λ phase. Continues facts next entry rest earlier files (state phase))
+continues_later facts next entry rest earlier files bytes got refusal (Err e) state is got_is leads = tt
+continues_later {A} facts next entry rest earlier files bytes got refusal (Ok phase) state is got_is leads =
+    let mine = subst (λ (x : Attempt A). IsAttempt facts.machine (entry_at facts.menu entry) files bytes x) got_is is in
+    continues {A = A} facts next entry rest earlier files bytes (state phase) (attempt.Refused refusal) mine leads
+
+-- an attempt as its entry is offered
+pub attempt_of_entry : {A : Type 0} (facts : MachineFacts) (menu : MenuFacts) (entry : ℕ) (offered : EntryFacts) (files : List (List Spot)) (bytes : List ℕ) (got one : Attempt A)
+    → offered ≡ entry_at menu entry → IsAttempt facts offered files bytes got → got ≡ one → IsAttempt facts (entry_at menu entry) files bytes one
+attempt_of_entry {A} facts menu entry offered files bytes got one same is got_is =
+    subst (λ (e : EntryFacts). IsAttempt facts e files bytes one) same (subst (λ (x : Attempt A). IsAttempt facts offered files bytes x) got_is is)

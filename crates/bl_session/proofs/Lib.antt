@@ -9,3 +9,4 @@ pub mod AdvanceLemmas
 pub mod StageLemmas
 pub mod AfterLemmas
 pub mod FinishLemmas
+pub mod StepLemmas

@@ -1,27 +1,30 @@
 -- Where an attempt stands, and what memory holds then.
-use Rattle.std.specs.Prelude.{◌≡◌, ℕ, List, [], map, length, true, false, Option, MatchOption}
+use Rattle.std.specs.Prelude.{◌≡◌, ℕ, List, map, length, true, false, Option, MatchOption}
 use Rattle.std.specs.declared.ops.Range.{Range}
 use Rattle.bl_map.specs.MachineFacts.{MachineFacts}
 use Rattle.bl_load.specs.After.{IsAfter}
 use Rattle.bl_load.specs.declared.refusal.Refusal.{Refusal}
 use Rattle.bl_stage.specs.Ranges.{IsSameOutside}
-use Rattle.bl_stage.specs.Staged.{Staging}
 use Rattle.bl_stage.specs.Spots.{Spot, spots, bytes_of}
 use Rattle.bl_session.specs.declared.attempt.Attempt.{Attempt}
 use Rattle.bl_session.specs.declared.attempt.Attempt.TheVariants.{Waits, HandedOver, Refused}
-use Rattle.bl_session.specs.Ends.{End, handed, refused, EndsIn, size_refusal, lengths_of}
+use Rattle.bl_session.specs.Ends.{handed, refused, EndsIn, size_refusal, lengths_of}
 use Rattle.bl_session.specs.Menu.{EntryFacts, value_with}
 use Rattle.bl_session.specs.Pieces.{are_whole, awaited}
 use Rattle.bl_session.specs.Phases.{handover_held}
 
 -- with these spots of its files it waits for what is missing, or ends by its entry's value
-abbrev pub IsAttempt : {A : Type 0} → MachineFacts → EntryFacts → List (List Spot) → (bytes : List ℕ) → Attempt A → Type 0
+abbrev pub IsAttempt :
+    {A : Type 0} → MachineFacts → EntryFacts → List (List Spot) → (bytes : List ℕ) → Attempt A
+    → Type 0
 IsAttempt facts entry files bytes (Waits stage) =
     (are_whole files ≡ false) × (spots bytes stage ≡ files)
 IsAttempt facts entry files bytes (HandedOver handoff) =
-    (are_whole files ≡ true) × EndsIn facts (value_with entry (map bytes_of files)) (handed (handover_held bytes handoff))
+    (are_whole files ≡ true)
+    × EndsIn facts (value_with entry (map bytes_of files)) (handed (handover_held bytes handoff))
 IsAttempt facts entry files bytes (Refused refusal) =
-    (are_whole files ≡ true) × EndsIn facts (value_with entry (map bytes_of files)) (refused refusal)
+    (are_whole files ≡ true)
+    × EndsIn facts (value_with entry (map bytes_of files)) (refused refusal)
 
 -- it is refused for this
 abbrev pub IsRefusedFor : {A : Type 0} → Attempt A → Refusal → Type 0
@@ -30,7 +33,9 @@ IsRefusedFor (HandedOver handoff) refusal = ⊥
 IsRefusedFor (Refused r) refusal = r ≡ refusal
 
 -- it begins, if its files' sizes don't refuse it
-abbrev pub IsBegun : {A : Type 0} → MachineFacts → EntryFacts → List (Option ℕ) → (bytes : List ℕ) → Attempt A → Type 0
+abbrev pub IsBegun :
+    {A : Type 0} → MachineFacts → EntryFacts → List (Option ℕ) → (bytes : List ℕ) → Attempt A
+    → Type 0
 IsBegun facts entry sizes bytes attempt =
     MatchOption (size_refusal facts sizes)
     (IsAttempt facts entry (awaited (lengths_of sizes)) bytes attempt)
@@ -42,8 +47,10 @@ KeepsStage pool count (Waits stage) = (stage.pool ≡ pool) × (length stage.siz
 KeepsStage pool count (HandedOver handoff) = Unit {0}
 KeepsStage pool count (Refused refusal) = Unit {0}
 
--- memory beside: after a handover it is that which is handed over; else no byte outside the pool changed
+-- memory beside: after a handover it is that which is handed over; else no byte outside the pool
+-- changed
 abbrev pub IsMemoryOf : {A : Type 0} → Range ℕ → (old new : List ℕ) → Attempt A → Type 0
 IsMemoryOf pool old new (Waits stage) = IsSameOutside pool old new
-IsMemoryOf pool old new (HandedOver handoff) = IsAfter pool (handover_held new handoff).parts old new
+IsMemoryOf pool old new (HandedOver handoff) =
+    IsAfter pool (handover_held new handoff).parts old new
 IsMemoryOf pool old new (Refused refusal) = IsSameOutside pool old new

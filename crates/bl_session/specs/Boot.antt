@@ -1,5 +1,5 @@
 -- Where a boot stands, and what one event does. Own.
-use Rattle.std.specs.Prelude.{◌≡◌, ℕ, ◌==◌, ◌&&◌, Bool, MatchBool, List, [], ◌∷◌, ◌++◌, length, map, slice_index_or, Option, None, Some}
+use Rattle.std.specs.Prelude.{◌≡◌, ◌⊎◌, ℕ, ◌==◌, ◌&&◌, Bool, true, false, MatchBool, if◌then◌else◌, List, [], ◌∷◌, ◌++◌, length, map, slice_index_or, Option, None, Some}
 use Rattle.bl_map.specs.MachineFacts.{MachineFacts}
 use Rattle.bl_load.specs.declared.refusal.Refusal.{Refusal}
 use Rattle.bl_load.specs.declared.refusal.Refusal.TheVariants.{FileFault}
@@ -7,11 +7,14 @@ use Rattle.bl_load.specs.Handover.{Handover}
 use Rattle.bl_stage.specs.Spots.{Spot, bytes_of}
 use Rattle.bl_session.specs.declared.words.Ticket.{Ticket}
 use Rattle.bl_session.specs.declared.words.RefusedEntry.{RefusedEntry}
+use Rattle.bl_session.specs.declared.words.Progress.{Progress}
+use Rattle.bl_session.specs.declared.words.Progress.TheVariants.{Waiting, Next, Done, Failed}
 use Rattle.bl_session.specs.Ends.{End, handed, refused, EndsIn, size_refusal, lengths_of}
 use Rattle.bl_session.specs.Menu.{MenuFacts, entry_at, value_with}
 use Rattle.bl_session.specs.Pieces.{is_awaited, awaits, spot_of, with_piece, are_whole, awaited}
 
--- what does not change in a boot: the machine, the menu, and the size of each file of the menu, None if it is missing
+-- what does not change in a boot: the machine, the menu, and the size of each file of the menu,
+-- None if it is missing
 pub record BootFacts : Type 0 where
   pub machine : MachineFacts
   pub menu : MenuFacts
@@ -25,7 +28,9 @@ pub data EventFacts : Type 0 where
 -- where a boot stands: the attempt that runs has as number how many entries were refused earlier
 pub data State : Type 0 where
   unstarted : State
-  running : (entry : ℕ) → (rest : List ℕ) → (earlier : List RefusedEntry) → (files : List (List Spot)) → State
+  running :
+      (entry : ℕ) → (rest : List ℕ) → (earlier : List RefusedEntry) → (files : List (List Spot))
+      → State
   handed_over : (entry : ℕ) → (earlier : List RefusedEntry) → Handover → State
   none_left : (earlier : List RefusedEntry) → State
   out_of_memory : State
@@ -34,7 +39,8 @@ pub data State : Type 0 where
 
 -- the sizes of its files
 abbrev pub sizes_of : BootFacts → ℕ → List (Option ℕ)
-sizes_of facts entry = map (λ file. slice_index_or facts.sizes file None) (entry_at facts.menu entry).files
+sizes_of facts entry =
+    map (λ file. slice_index_or facts.sizes file None) (entry_at facts.menu entry).files
 
 -- its pieces, of which none came
 abbrev pub fresh : BootFacts → ℕ → List (List Spot)
@@ -46,43 +52,57 @@ EntryEndsIn facts entry texts = EndsIn facts.machine (value_with (entry_at facts
 
 -- ---- attempts, one after the other
 
+-- what comes behind an attempt: with these refusals, this state
+abbrev pub Sequel : Type 1
+Sequel = List RefusedEntry → State → Type 0
+
 -- the attempt of an entry ended so: it is handed over, or the boot goes on with one more refusal
-abbrev pub GoesOn : (next : List RefusedEntry → State → Type 0) → ℕ → List RefusedEntry → End → State → Type 0
+abbrev pub GoesOn : Sequel → ℕ → List RefusedEntry → End → State → Type 0
 GoesOn next entry earlier (handed handover) state = state ≡ handed_over entry earlier handover
 GoesOn next entry earlier (refused refusal) state =
     next (earlier ++ record { entry = entry; refusal = refusal } ∷ []) state
 
 -- the attempt has these spots: it waits for what is missing; if each piece came, it ends
-abbrev pub Continues : BootFacts → (next : List RefusedEntry → State → Type 0) → ℕ → List ℕ → List RefusedEntry → List (List Spot) → State → Type 0
+abbrev pub Continues :
+    BootFacts → Sequel → ℕ → List ℕ → List RefusedEntry → List (List Spot) → State → Type 0
 Continues facts next entry rest earlier files state =
     MatchBool (are_whole files)
-    ((end : End) × EntryEndsIn facts entry (map bytes_of files) end × GoesOn next entry earlier end state)
+    ((end : End) × EntryEndsIn facts entry (map bytes_of files) end
+    × GoesOn next entry earlier end state)
     (state ≡ running entry rest earlier files)
 
 -- the attempt begins, if the sizes of its files don't refuse it
-abbrev pub BeginsUnless : BootFacts → (next : List RefusedEntry → State → Type 0) → ℕ → List ℕ → List RefusedEntry → Option Refusal → State → Type 0
-BeginsUnless facts next entry rest earlier (Some refusal) state = GoesOn next entry earlier (refused refusal) state
-BeginsUnless facts next entry rest earlier None state = Continues facts next entry rest earlier (fresh facts entry) state
+abbrev pub BeginsUnless :
+    BootFacts → Sequel → ℕ → List ℕ → List RefusedEntry → Option Refusal → State → Type 0
+BeginsUnless facts next entry rest earlier (Some refusal) state =
+    GoesOn next entry earlier (refused refusal) state
+BeginsUnless facts next entry rest earlier None state =
+    Continues facts next entry rest earlier (fresh facts entry) state
 
 -- the first of these attempts begins
 abbrev pub Begins : BootFacts → List ℕ → List RefusedEntry → State → Type 0
 Begins facts [] earlier state = state ≡ none_left earlier
 Begins facts (entry ∷ rest) earlier state =
-    BeginsUnless facts (Begins facts rest) entry rest earlier (size_refusal facts.machine (sizes_of facts entry)) state
+    BeginsUnless facts (Begins facts rest) entry rest earlier
+    (size_refusal facts.machine (sizes_of facts entry)) state
 
 -- ---- one event
 
--- the event is of the attempt that runs, which awaits the piece that it names, and a piece has the right length
+-- the event is of the attempt that runs, which awaits the piece that it names, and a piece has the
+-- right length
 abbrev pub is_wanted : List RefusedEntry → List (List Spot) → EventFacts → Bool
 is_wanted earlier files (piece ticket bytes) =
-    (ticket.attempt == length earlier) && awaits (spot_of files ticket.file ticket.piece) (length bytes)
+    (ticket.attempt == length earlier)
+    && awaits (spot_of files ticket.file ticket.piece) (length bytes)
 is_wanted earlier files (fault ticket) =
     (ticket.attempt == length earlier) && is_awaited (spot_of files ticket.file ticket.piece)
 
 -- what a wanted event does: a piece is stored, a fault refuses the entry
-abbrev pub Takes : BootFacts → ℕ → List ℕ → List RefusedEntry → List (List Spot) → EventFacts → State → Type 0
+abbrev pub Takes :
+    BootFacts → ℕ → List ℕ → List RefusedEntry → List (List Spot) → EventFacts → State → Type 0
 Takes facts entry rest earlier files (piece ticket bytes) state =
-    Continues facts (Begins facts rest) entry rest earlier (with_piece files ticket.file ticket.piece bytes) state
+    Continues facts (Begins facts rest) entry rest earlier
+    (with_piece files ticket.file ticket.piece bytes) state
 Takes facts entry rest earlier files (fault ticket) state =
     GoesOn (Begins facts rest) entry earlier (refused (FileFault ticket.file)) state
 
@@ -93,9 +113,35 @@ Steps facts (running entry rest earlier files) event new =
     (Takes facts entry rest earlier files event new)
     (new ≡ running entry rest earlier files)
 Steps facts unstarted event new = new ≡ unstarted
-Steps facts (handed_over entry earlier handover) event new = new ≡ handed_over entry earlier handover
+Steps facts (handed_over entry earlier handover) event new =
+    new ≡ handed_over entry earlier handover
 Steps facts (none_left earlier) event new = new ≡ none_left earlier
 Steps facts out_of_memory event new = new ≡ out_of_memory
+
+-- the event is one that the attempt which runs waits for
+abbrev pub is_taken : State → EventFacts → Bool
+is_taken (running entry rest earlier files) event = is_wanted earlier files event
+is_taken unstarted event = false
+is_taken (handed_over entry earlier handover) event = false
+is_taken (none_left earlier) event = false
+is_taken out_of_memory event = false
+
+-- the event ends the attempt that runs: its last piece, or a fault
+abbrev pub ends_attempt : State → EventFacts → Bool
+ends_attempt (running entry rest earlier files) (piece ticket bytes) =
+    is_wanted earlier files (piece ticket bytes)
+    && are_whole (with_piece files ticket.file ticket.piece bytes)
+ends_attempt (running entry rest earlier files) (fault ticket) =
+    is_wanted earlier files (fault ticket)
+ends_attempt unstarted event = false
+ends_attempt (handed_over entry earlier handover) event = false
+ends_attempt (none_left earlier) event = false
+ends_attempt out_of_memory event = false
+
+-- one step, or want of memory, which only an event meets that ends an attempt
+abbrev pub StepsOrFails : BootFacts → State → EventFacts → State → Type 0
+StepsOrFails facts old event new =
+    Steps facts old event new ⊎ ((new ≡ out_of_memory) × (ends_attempt old event ≡ true))
 
 -- the start acts once
 abbrev pub Starts : BootFacts → State → State → Type 0
@@ -104,6 +150,27 @@ Starts facts (running entry rest earlier files) new = new ≡ running entry rest
 Starts facts (handed_over entry earlier handover) new = new ≡ handed_over entry earlier handover
 Starts facts (none_left earlier) new = new ≡ none_left earlier
 Starts facts out_of_memory new = new ≡ out_of_memory
+
+-- the start, or want of memory, which only the first start meets
+abbrev pub StartsOrFails : BootFacts → State → State → Type 0
+StartsOrFails facts old new = Starts facts old new ⊎ ((new ≡ out_of_memory) × (old ≡ unstarted))
+
+-- the number of the attempt that runs
+abbrev pub attempt_of : State → ℕ
+attempt_of unstarted = 0
+attempt_of (running entry rest earlier files) = length earlier
+attempt_of (handed_over entry earlier handover) = length earlier
+attempt_of (none_left earlier) = length earlier
+attempt_of out_of_memory = 0
+
+-- what a call answers that leads from the attempt of this number to that state
+abbrev pub progress : ℕ → State → Progress
+progress attempt unstarted = Waiting
+progress attempt (running entry rest earlier files) =
+    if length earlier == attempt then Waiting else Next (length earlier)
+progress attempt (handed_over entry earlier handover) = Done
+progress attempt (none_left earlier) = Failed
+progress attempt out_of_memory = Failed
 
 -- a schedule: one event after the other
 abbrev pub LeadsTo : BootFacts → State → List EventFacts → State → Type 0

@@ -15,7 +15,8 @@ pub data End : Type 0 where
   handed : Handover → End
   refused : Refusal → End
 
--- ---- before any piece comes: by the sizes of the entry's files, in order, the kernel's first; None is a missing file
+-- ---- before any piece comes: by the sizes of the entry's files, in order, the kernel's first; None
+-- is a missing file
 
 -- a file has at most so many bytes
 abbrev pub most_bytes : ℕ
@@ -68,8 +69,8 @@ abbrev pub Else : Option Refusal → (End → Type 0) → End → Type 0
 Else None rest end = rest end
 Else (Some refusal) rest end = end ≡ refused refusal
 
--- what an attempt ends in: with these sizes of its files, the place of a file of which a fault came, or None, and this
--- value of its entry
+-- what an attempt ends in: with these sizes of its files, the place of a file of which a fault came,
+-- or None, and this value of its entry
 abbrev pub Ends : MachineFacts → List (Option ℕ) → Option ℕ → EntryValue → End → Type 0
 Ends facts sizes faulty value =
     Else (size_refusal facts sizes) (Else (option_map FileFault faulty) (EndsIn facts value))

@@ -1,4 +1,4 @@
--- What a boot comes to: the first entry that is not refused, for every schedule that is genuine. Own.
+-- What a boot comes to: the first entry that is not refused, for every genuine schedule. Own.
 use Rattle.std.specs.Prelude.{◌≡◌, ℕ, ◌+◌, true, List, [], ◌∷◌, length, map, slice_index_or, Option, None, Some, if◌then◌else◌}
 use Rattle.bl_load.specs.Value.{EntryValue}
 use Rattle.bl_stage.specs.Spots.{Spot, piece_of}
@@ -35,18 +35,25 @@ texts_of facts files entry =
 abbrev pub value_in : BootFacts → List File → ℕ → EntryValue
 value_in facts files entry = value_with (entry_at facts.menu entry) (texts_of facts files entry)
 
--- ---- schedules; faults has for each attempt, by its number, the place of the file of which a fault comes, or None
+-- ---- schedules
 
--- a piece holds its file's bytes at its place, and completes its attempt only if no fault comes of it; a fault is the one
--- that comes
-abbrev pub IsTrueOf : BootFacts → List File → (faults : ℕ → Option ℕ) → ℕ → List RefusedEntry → List (List Spot) → EventFacts → Type 0
+-- for each attempt, by its number, the place of the file of which a fault comes, or None
+abbrev pub Faults : Type 0
+Faults = ℕ → Option ℕ
+
+-- a piece holds its file's bytes at its place, and completes its attempt only if no fault comes of
+-- it; a fault is the one that comes
+abbrev pub IsTrueOf :
+    BootFacts → List File → Faults → ℕ → List RefusedEntry → List (List Spot) → EventFacts → Type 0
 IsTrueOf facts files faults entry earlier spots (piece ticket bytes) =
     (bytes ≡ piece_of (slice_index_or (texts_of facts files entry) ticket.file []) ticket.piece)
-    × (are_whole (with_piece spots ticket.file ticket.piece bytes) ≡ true → faults (length earlier) ≡ None)
-IsTrueOf facts files faults entry earlier spots (fault ticket) = faults (length earlier) ≡ Some ticket.file
+    × (are_whole (with_piece spots ticket.file ticket.piece bytes) ≡ true
+    → faults (length earlier) ≡ None)
+IsTrueOf facts files faults entry earlier spots (fault ticket) =
+    faults (length earlier) ≡ Some ticket.file
 
 -- an event that is not wanted may be anything
-abbrev pub IsGenuineAt : BootFacts → List File → (faults : ℕ → Option ℕ) → State → EventFacts → Type 0
+abbrev pub IsGenuineAt : BootFacts → List File → Faults → State → EventFacts → Type 0
 IsGenuineAt facts files faults (running entry rest earlier spots) event =
     is_wanted earlier spots event ≡ true → IsTrueOf facts files faults entry earlier spots event
 IsGenuineAt facts files faults unstarted event = Unit {0}
@@ -55,7 +62,7 @@ IsGenuineAt facts files faults (none_left earlier) event = Unit {0}
 IsGenuineAt facts files faults out_of_memory event = Unit {0}
 
 -- each event is so where it comes
-abbrev pub IsGenuine : BootFacts → List File → (faults : ℕ → Option ℕ) → State → List EventFacts → Type 0
+abbrev pub IsGenuine : BootFacts → List File → Faults → State → List EventFacts → Type 0
 IsGenuine facts files faults state [] = Unit {0}
 IsGenuine facts files faults state (event ∷ events) =
     IsGenuineAt facts files faults state event
@@ -63,24 +70,28 @@ IsGenuine facts files faults state (event ∷ events) =
 
 -- ---- the outcome
 
--- the file of which a fault comes, if the files have pieces; those without pieces are whole as the attempt begins
+-- the file of which a fault comes, if the files have pieces; those without pieces are whole as the
+-- attempt begins
 abbrev pub faulty_in : BootFacts → ℕ → Option ℕ → Option ℕ
 faulty_in facts entry faulty = if are_whole (fresh facts entry) then None else faulty
 
 -- what the attempt of an entry ends in
 abbrev pub EntryEnds : BootFacts → List File → Option ℕ → ℕ → End → Type 0
 EntryEnds facts files faulty entry =
-    Ends facts.machine (sizes_of facts entry) (faulty_in facts entry faulty) (value_in facts files entry)
+    Ends facts.machine (sizes_of facts entry) (faulty_in facts entry faulty)
+    (value_in facts files entry)
 
--- the first of these entries that is not refused is handed over, with the refusals before it; or none is left
-abbrev pub IsFirst : BootFacts → List File → (faults : ℕ → Option ℕ) → List ℕ → List RefusedEntry → State → Type 0
+-- the first of these entries that is not refused is handed over, with the refusals before it; or
+-- none is left
+abbrev pub IsFirst :
+    BootFacts → List File → Faults → List ℕ → List RefusedEntry → State → Type 0
 IsFirst facts files faults [] earlier state = state ≡ none_left earlier
 IsFirst facts files faults (entry ∷ rest) earlier state =
     (end : End) × EntryEnds facts files (faults (length earlier)) entry end
     × GoesOn (IsFirst facts files faults rest) entry earlier end state
 
 -- the outcome of a boot with these files and faults
-abbrev pub IsOutcome : BootFacts → List File → (faults : ℕ → Option ℕ) → State → Type 0
+abbrev pub IsOutcome : BootFacts → List File → Faults → State → Type 0
 IsOutcome facts files faults state = IsFirst facts files faults facts.menu.attempts [] state
 
 -- an entry was handed over, or none is left

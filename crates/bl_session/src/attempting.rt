@@ -1,11 +1,12 @@
 //! One attempt: it begins, and ends once each piece of its files came.
-ghost use Rattle.std.specs.Prelude.{◌≡◌, None, IfOk, OnErr, length, map, slice_index_or};
+ghost use Rattle.std.specs.Prelude.{◌≡◌, None, IfOk, OnErr, length, map, slice_index_or, true};
 ghost use Rattle.bl_mem.specs.Memory.{HasRoom, KeepsRoom};
 ghost use Rattle.bl_load.specs.Value.{HasFewModules};
 ghost use Rattle.bl_stage.specs.Ranges.{IsSameOutside};
 ghost use Rattle.bl_stage.specs.Spots.{spots};
 ghost use Rattle.bl_session.specs.Attempt.{IsAttempt, IsBegun, IsMemoryOf, KeepsStage};
 ghost use Rattle.bl_session.specs.Menu.{facts_of, files_of};
+ghost use Rattle.bl_session.specs.Pieces.{are_whole};
 
 use crate::attempt::Attempt;
 use crate::beginning::begin_stage;
@@ -37,6 +38,7 @@ pub fn go_on<M: PhysMem, A: Allocator + Copy>(
         (IsMemoryOf machine.now.pool (M.bytes memory.old) (M.bytes memory.new)) }
     ensures err { OnErr result
         (IsSameOutside machine.now.pool (M.bytes memory.old) (M.bytes memory.new)) }
+    ensures whole { OnErr result (are_whole (spots (M.bytes memory.old) stage) ≡ true) }
     ensures size { length (M.bytes memory.new) ≡ length (M.bytes memory.old) }
     ensures kept { KeepsRoom (M.room memory.old) (M.room memory.new) }
 {

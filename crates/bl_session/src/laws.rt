@@ -23,7 +23,8 @@ pub fn ends_are_determined()
 
 /// An attempt has an end, so by the law above exactly one.
 pub fn each_attempt_ends()
-    ensures whole { (facts : MachineFacts) (value : EntryValue) → (end : End) × EndsIn facts value end }
+    ensures whole { (facts : MachineFacts) (value : EntryValue)
+        → (end : End) × EndsIn facts value end }
     ensures attempt { (facts : MachineFacts) (sizes : List (Option ℕ)) (faulty : Option ℕ)
         (value : EntryValue) → (end : End) × Ends facts sizes faulty value end }
 {}

@@ -5,21 +5,24 @@ mod advancing;
 mod attempt;
 mod attempting;
 mod beginning;
+mod completion;
 mod finishing;
 mod laws;
 mod menu;
 mod phase;
+mod session;
+mod stepping;
+mod store;
 mod words;
 
-pub use advancing::begin;
-pub use attempt::Attempt;
-pub use attempting::{begin_attempt, go_on};
-pub use beginning::{MOST_BYTES, begin_stage};
+pub use beginning::MOST_BYTES;
+pub use completion::Completion;
 pub use finishing::finish;
 pub use laws::{
     each_attempt_ends, each_step_leads_on, ends_are_determined, first_entry_not_refused,
     steps_are_determined, two_boots,
 };
 pub use menu::{MOST_ENTRIES, MOST_MODULES, Menu, MenuFault};
-pub use phase::{Phase, Running};
+pub use session::Session;
+pub use store::Store;
 pub use words::{BootFault, Event, Outcome, Progress, RefusedEntry, Ticket};

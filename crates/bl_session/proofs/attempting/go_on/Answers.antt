@@ -39,3 +39,7 @@ returns-in-Err-Refused-clause-attempt g c =
     let same : c.in-Err-Refused.field-0 ≡ Refused c.in-Err-Refused.refusal = cc in
     let told = subst (λ (fault : PrepFault). IsNotHandedOver c.args.machine.now value fault bytes new) same c.in-Err-Refused.ensures.err in
     (came_whole bytes stage kept came, ends_by_spots c.args.machine.now c.args.entry.now bytes stage (refused c.in-Err-Refused.refusal) kept came told.0)
+
+pub returns-clause-whole : goal.returns-clause-whole
+returns-clause-whole g c =
+    came_whole (g.M.PhysMem.bytes c.args.memory.now) c.args.stage c.complete.ensures.staged (c.if-not-complete.ensures.exact.0 refl)

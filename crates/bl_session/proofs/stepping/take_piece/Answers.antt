@@ -1,0 +1,63 @@
+use Rattle.std.proofs.Common.{drop, rules}
+use Rattle.bl_stage.specs.Spots.{spots}
+use Rattle.bl_session.specs.Boot.{piece, is_wanted}
+use Rattle.bl_session.specs.Phases.{boot_facts, state_of}
+use Rattle.bl_session.proofs.StepLemmas.{wanted_not, steps_unchanged, wanted_stored, spots_after, steps_piece, lacks_piece, memory_taken}
+use Rattle.bl_session.proofs.stepping.take_piece.Goals as goal
+
+pub returns-then-not-is_stored-clause-step : goal.returns-then-not-is_stored-clause-step
+returns-then-not-is_stored-clause-step g c =
+    let menu = c.args.menu.now in
+    let w = c.args.waiting in
+    let old = g.M.PhysMem.bytes c.args.memory.now in
+    let new = g.M.PhysMem.bytes c.put-answer.new.memory in
+    let bytes = c.args.bytes.now in
+    let same = c.put-answer.ensures.unchanged c.if-not-is_stored.ensures in
+    steps_unchanged (boot_facts c.args.machine.now menu c.args.sizes.now) w.entry (drop w.next menu.attempts) w.earlier.items old new w.stage c.put-answer.new.self (piece c.args.ticket bytes) same.0 same.1
+    (wanted_not old w.stage w.earlier.items c.args.ticket bytes c.put-answer.result c.put-answer.ensures.answer c.if-not-is_stored.ensures)
+
+pub returns-clause-step : goal.returns-clause-step
+returns-clause-step g c =
+    let menu = c.args.menu.now in
+    let w = c.args.waiting in
+    let old = g.M.PhysMem.bytes c.args.memory.now in
+    let mid = g.M.PhysMem.bytes c.put-answer.new.memory in
+    let new = g.M.PhysMem.bytes c.settle.new.memory in
+    let bytes = c.args.bytes.now in
+    let ticket = c.args.ticket in
+    let answer = c.put-answer.result in
+    let told = c.put-answer.ensures.answer in
+    let stored = c.if-not-is_stored.ensures in
+    steps_piece (boot_facts c.args.machine.now menu c.args.sizes.now) w.entry (drop w.next menu.attempts) w.earlier.items (spots old w.stage) (spots mid c.put-answer.new.self) ticket bytes c.settle.result (λ phase. state_of menu.attempts new phase)
+    (wanted_stored old w.stage w.earlier.items ticket bytes c.is_of.result answer c.is_of.ensures c.if-not-is_of.false told stored)
+    (spots_after old mid w.stage c.put-answer.new.self ticket bytes answer told stored (c.put-answer.ensures.spots stored)) c.settle.ensures.continues
+
+pub returns-clause-lacking : goal.returns-clause-lacking
+returns-clause-lacking g c =
+    let menu = c.args.menu.now in
+    let w = c.args.waiting in
+    let old = g.M.PhysMem.bytes c.args.memory.now in
+    let mid = g.M.PhysMem.bytes c.put-answer.new.memory in
+    let bytes = c.args.bytes.now in
+    let ticket = c.args.ticket in
+    let answer = c.put-answer.result in
+    let told = c.put-answer.ensures.answer in
+    let stored = c.if-not-is_stored.ensures in
+    lacks_piece w.entry (drop w.next menu.attempts) w.earlier.items (spots old w.stage) (spots mid c.put-answer.new.self) ticket bytes c.settle.result
+    (wanted_stored old w.stage w.earlier.items ticket bytes c.is_of.result answer c.is_of.ensures c.if-not-is_of.false told stored)
+    (spots_after old mid w.stage c.put-answer.new.self ticket bytes answer told stored (c.put-answer.ensures.spots stored)) c.settle.ensures.whole
+
+pub returns-clause-memory : goal.returns-clause-memory
+returns-clause-memory g c =
+    let menu = c.args.menu.now in
+    let w = c.args.waiting in
+    let old = g.M.PhysMem.bytes c.args.memory.now in
+    let mid = g.M.PhysMem.bytes c.put-answer.new.memory in
+    let new = g.M.PhysMem.bytes c.settle.new.memory in
+    let bytes = c.args.bytes.now in
+    let ticket = c.args.ticket in
+    let answer = c.put-answer.result in
+    let told = c.put-answer.ensures.answer in
+    let stored = c.if-not-is_stored.ensures in
+    memory_taken c.args.machine.now.pool (is_wanted w.earlier.items (spots old w.stage) (piece ticket bytes)) old mid new c.settle.result (λ phase. state_of menu.attempts new phase)
+    (wanted_stored old w.stage w.earlier.items ticket bytes c.is_of.result answer c.is_of.ensures c.if-not-is_of.false told stored) (search rules) c.settle.ensures.memory

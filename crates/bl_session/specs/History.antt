@@ -1,0 +1,44 @@
+-- What a store was asked, and what it answered. Own.
+use Rattle.std.specs.Prelude.{◌≡◌, ◌↔◌, ℕ, ◌==◌, ◌&&◌, Bool, true, if◌then◌else◌, List, [], ◌∷◌, length, slice_index_or, Option, None, Some}
+use Rattle.bl_stage.specs.Spots.{piece_of}
+use Rattle.bl_session.specs.declared.words.Ticket.{Ticket}
+use Rattle.bl_session.specs.declared.completion.Completion.{Completion}
+use Rattle.bl_session.specs.declared.completion.Completion.TheVariants.{Piece, Fault}
+use Rattle.bl_session.specs.Outcome.{File, missing, text_of}
+
+-- a file was asked for under a ticket; or an answer: so many bytes came, with a mark whether they
+-- are those of the file at the place of the piece; a fault; nothing more to come
+pub data Item : Type 0 where
+  submitted : (file : ℕ) → Ticket → Item
+  came : Ticket → (count : ℕ) → (genuine : Bool) → Item
+  failed : Ticket → Item
+  nothing : Item
+
+abbrev pub is_same : Ticket → Ticket → Bool
+is_same s t = (s.attempt == t.attempt) && ((s.file == t.file) && (s.piece == t.piece))
+
+-- the file that was last asked for under a ticket, after one that was found before
+abbrev pub file_after : Option ℕ → List Item → Ticket → Option ℕ
+file_after found [] ticket = found
+file_after found (submitted file t ∷ items) ticket =
+    file_after (if is_same t ticket then Some file else found) items ticket
+file_after found (came t count genuine ∷ items) ticket = file_after found items ticket
+file_after found (failed t ∷ items) ticket = file_after found items ticket
+file_after found (nothing ∷ items) ticket = file_after found items ticket
+
+abbrev pub file_under : List Item → Ticket → Option ℕ
+file_under given ticket = file_after None given ticket
+
+-- the bytes are those of a file at the place of a piece
+abbrev pub IsPieceOf : List File → Option ℕ → ℕ → List ℕ → Type 0
+IsPieceOf files None index bytes = ⊥
+IsPieceOf files (Some file) index bytes =
+    bytes ≡ piece_of (text_of (slice_index_or files file missing)) index
+
+-- what an answer adds to the history so far
+abbrev pub IsItemOf : {A : Type 0} → List File → List Item → Option (Completion A) → Item → Type 0
+IsItemOf files given None item = item ≡ nothing
+IsItemOf files given (Some (Fault ticket)) item = item ≡ failed ticket
+IsItemOf files given (Some (Piece ticket bytes)) item =
+    (genuine : Bool) × (item ≡ came ticket (length bytes.items) genuine)
+    × ((genuine ≡ true) ↔ IsPieceOf files (file_under given ticket) ticket.piece bytes.items)
