@@ -17,6 +17,7 @@ fn job_text(alloc: Global, job: Job<'_>) -> Result<String, AllocError> {
             order: Order::Reverse,
         } => format!(in alloc; "boot {description} to {image} reverse"),
         Job::Map { description } => format!(in alloc; "map {description}"),
+        Job::Walk { image } => format!(in alloc; "walk {image}"),
     }
 }
 
