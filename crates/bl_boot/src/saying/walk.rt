@@ -87,25 +87,25 @@ fn say_kernels<A: Allocator + Copy>(
 /// Appends what stands before a module's line: its address and its length.
 fn say_module_front<A: Allocator + Copy, B: Allocator>(
     out: &mut Vec<u8, A>,
-    module: &SeenModule<B>,
+    file: &SeenModule<B>,
 ) -> Result<(), AllocError>
-    ensures { OnOk result (out.new.items ≡ out.old.items ++ says.module_front module.now) }
+    ensures { OnOk result (out.new.items ≡ out.old.items ++ says.module_front file.now) }
 {
     let alloc = *out.allocator();
-    let address = module.mod_start;
-    let length = module.bytes.len();
+    let address = file.mod_start;
+    let length = file.bytes.len();
     let line = format!(in alloc; "module {address:08x} {length} ")?;
     out.extend_from_slice(line.as_bytes())
 }
 
 fn say_module<A: Allocator + Copy, B: Allocator>(
     out: &mut Vec<u8, A>,
-    module: &SeenModule<B>,
+    file: &SeenModule<B>,
 ) -> Result<(), AllocError>
-    ensures { OnOk result (out.new.items ≡ out.old.items ++ says.module_line module.now) }
+    ensures { OnOk result (out.new.items ≡ out.old.items ++ says.module_line file.now) }
 {
-    say_module_front(out, module)?;
-    say_text(out, module.line.as_slice())?;
+    say_module_front(out, file)?;
+    say_text(out, file.line.as_slice())?;
     out.extend_from_slice(b"\n")
 }
 
