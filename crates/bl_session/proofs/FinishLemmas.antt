@@ -1,10 +1,8 @@
 -- What an attempt ends in, by its plan and the room beside it.
 use Rattle.std.proofs.Common.{◌≡◌, ℕ, List, map, refl, inl, inr, All}
-use Rattle.std.specs.declared.ops.Range.{Range}
 use Rattle.bl_map.specs.MachineFacts.{MachineFacts}
 use Rattle.bl_map.specs.Room.{HasRoomFor}
 use Rattle.bl_plan.specs.Placed.{range_of as place_range}
-use Rattle.bl_stage.specs.Ranges.{IsSameOutside}
 use Rattle.bl_load.specs.declared.entry.Entry.{Entry}
 use Rattle.bl_load.specs.declared.entry.Entry.TheVariants.{Multiboot2, Linux}
 use Rattle.bl_load.specs.declared.plan.Plan.{Plan}

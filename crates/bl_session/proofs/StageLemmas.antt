@@ -1,11 +1,11 @@
 -- The files of a stage: how many frames they need, where they lie, and that they read as before.
-use Rattle.std.proofs.Common.{◌≡◌, ℕ, suc, ◌+◌, ◌*◌, ◌<◌, ◌≤◌, List, [], ◌∷◌, ◌++◌, length, map, get_or, arith, refl, sym, ap, ◌∙◌, Bool, true, false, All}
-use Rattle.std.specs.List.{range_with_len, sum_by}
+use Rattle.std.proofs.Common.{◌≡◌, ℕ, ◌+◌, ◌*◌, ◌<◌, ◌≤◌, List, [], ◌∷◌, length, map, get_or, arith, refl, sym, ap, ◌∙◌, true, false}
+use Rattle.std.specs.List.{range_with_len}
 use Rattle.std.specs.declared.ops.Range.{Range}
 use Rattle.std.proofs.lemmas.Bool.{false≢true}
 use Rattle.std.proofs.lemmas.Bool.Decides.{nat_tests}
 use Rattle.std.proofs.lemmas.List.Folds.{list_all_at}
-use Rattle.std.proofs.lemmas.List.FromFn.{length-map-range_with_len, get_or-map-range_with_len, map-range_with_len_more}
+use Rattle.std.proofs.lemmas.List.FromFn.{length-map-range_with_len, get_or-map-range_with_len}
 use Rattle.std.proofs.lemmas.List.{ext_get_or}
 use Rattle.std.proofs.lemmas.Simd.{map-map}
 use Rattle.std.proofs.lemmas.List.Sums.{sum_by-cons}
@@ -17,7 +17,6 @@ use Rattle.bl_stage.specs.Staged.{Staging, AreStaged, HasPool, IsStagedOn, file_
 use Rattle.bl_stage.specs.TextLaws.{same_firsts}
 use Rattle.bl_stage.proofs.FileLemmas.{file_within, read_part}
 use Rattle.bl_stage.proofs.FrameLemmas.{staged_length}
-use Rattle.bl_stage.proofs.TextLemmas.{table_in_pool}
 
 -- ---- how many frames
 

@@ -1,10 +1,8 @@
-use Rattle.std.proofs.Common.{◌≡◌, ◌∙◌, List, length, map, slice_index, ap, sym, refl}
-use Rattle.bl_load.specs.declared.plan.PlannedPart.{PlannedPart}
-use Rattle.bl_load.specs.Handover.{Part, Handover, written}
-use Rattle.bl_load.specs.PlanFacts.{part_by, handover_by, places_of}
+use Rattle.std.proofs.Common.{◌∙◌, List, length, map, slice_index, ap, sym, refl}
+use Rattle.bl_load.specs.Handover.{Part, Handover}
+use Rattle.bl_load.specs.PlanFacts.{handover_by}
 use Rattle.bl_load.proofs.HeldLemmas.{all_end_within}
 use Rattle.bl_load.proofs.WrittenLemmas.{written_elsewhere}
-use Rattle.bl_stage.specs.Ranges.{scrubbed}
 use Rattle.bl_stage.specs.Staged.{texts_of}
 use Rattle.bl_session.proofs.AfterLemmas.{ranges_are, after_scrub, held_on}
 use Rattle.bl_session.proofs.finishing.hand_over.Goals as goal

@@ -1,4 +1,4 @@
-use Rattle.std.proofs.Common.{◌≡◌, ◌<◌, ℕ, List, length, refl, ap, inl, inr, arith, rules}
+use Rattle.std.proofs.Common.{◌<◌, refl, ap, inl, inr, arith, rules}
 use Rattle.std.proofs.lemmas.Bool.{cases_lt}
 use Rattle.bl_map.specs.Room.{open_frames}
 use Rattle.bl_stage.specs.Staged.{Staging, frames_for}

@@ -1,7 +1,7 @@
-use Rattle.std.proofs.Common.{◌≡◌, ℕ, ◌++◌, [], ◌∷◌, map, refl, sym, ap, ◌∙◌, arith}
+use Rattle.std.proofs.Common.{ℕ, refl, arith}
 use Rattle.std.proofs.lemmas.List.{map-append}
 use Rattle.std.proofs.lemmas.List.FromFn.{map-range_with_len_more}
-use Rattle.bl_stage.specs.Staged.{staged, file_of}
+use Rattle.bl_stage.specs.Staged.{file_of}
 use Rattle.bl_session.proofs.finishing.views_of.Goals as goal
 
 pub loop-file-preserved : goal.loop-file-preserved
