@@ -44,7 +44,13 @@ fn file_of<A: Allocator>(alloc: A, count: u64) -> Result<Vec<u8, A>, AllocError>
 }
 
 // A part of as many bytes of the file, from an offset on.
-fn part<A: Allocator>(role: Role, index: u32, address: u64, offset: u64, count: u64) -> PlannedPart<A>
+fn part<A: Allocator>(
+    role: Role,
+    index: u32,
+    address: u64,
+    offset: u64,
+    count: u64,
+) -> PlannedPart<A>
     ensures { result ≡ record {
       place = record { role = role; index = index; address = address; length = count };
       content = File 0 offset count;
