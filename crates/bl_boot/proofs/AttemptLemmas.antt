@@ -1,5 +1,5 @@
 -- What an attempt comes to, by what `finish` ends in.
-use Rattle.std.proofs.Common.{◌≡◌, ◌≢◌, ◌∙◌, ◌<◌, ◌≤◌, ◌^◌, ◌/◌, ◌-◌, ◌⊎◌, ℕ, suc, List, [], ◌∷◌, Result, Ok, Err, length, map, slice_index, refl, sym, ap, subst, inl, inr, All, arith}
+use Rattle.std.proofs.Common.{◌≡◌, ◌∙◌, ◌<◌, ◌^◌, ℕ, List, [], Result, Ok, length, map, slice_index, refl, sym, ap, subst, inl, inr, arith}
 use Rattle.std.proofs.lemmas.Bool.{cases_lt}
 use Rattle.std.proofs.lemmas.List.Elements.{All-nil}
 use Rattle.std.proofs.lemmas.Simd.{map-map}
@@ -9,9 +9,9 @@ use Rattle.bl_map.specs.Room.{frames_in, frames_needed}
 use Rattle.bl_map.proofs.PoolLemmas.{pool_in_memory}
 use Rattle.bl_stage.specs.Ranges.{IsSameOutside, scrubbed}
 use Rattle.bl_stage.specs.Staged.{frames_for}
-use Rattle.bl_load.specs.After.{IsAfter, Spans}
+use Rattle.bl_load.specs.After.{IsAfter}
 use Rattle.bl_load.specs.HandoffFacts.{HandoffFacts}
-use Rattle.bl_load.specs.Handover.{Part, Handover}
+use Rattle.bl_load.specs.Handover.{Handover}
 use Rattle.bl_load.specs.declared.refusal.PrepFault.{PrepFault}
 use Rattle.bl_load.specs.declared.refusal.PrepFault.TheVariants.{Refused, NoMemory}
 use Rattle.bl_load.specs.declared.refusal.Refusal.{Refusal}

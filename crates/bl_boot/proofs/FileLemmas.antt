@@ -1,5 +1,5 @@
 -- The files of an entry, one after the other.
-use Rattle.std.proofs.Common.{◌≡◌, ◌∙◌, ◌+◌, ℕ, List, [], ◌∷◌, ◌++◌, Result, Ok, Err, IfOk, length, map, refl, sym, ap, subst, arith, append_assoc, OnOk, OnErr, IfErr}
+use Rattle.std.proofs.Common.{◌≡◌, ◌+◌, ℕ, List, [], ◌∷◌, ◌++◌, Result, Ok, Err, IfOk, length, map, refl, sym, ap, subst, arith, append_assoc, OnOk, OnErr, IfErr}
 use Rattle.std.proofs.Common.{All, Bor, get_or, take, ◌<◌}
 use Rattle.std.proofs.lemmas.List.{get_or-map, map-append, length-map, take_more}
 use Rattle.bl_load.specs.declared.refusal.Refusal.{Refusal}

@@ -1,4 +1,3 @@
-use Rattle.std.proofs.Common.{◌≡◌, ◌∙◌, length, map, arith}
 use Rattle.bl_map.proofs.PoolLemmas.{pool_in_memory}
 use Rattle.bl_boot.proofs.AttemptLemmas.{cleared}
 use Rattle.bl_boot.proofs.attempting.entry.attempt_found.Goals as goal

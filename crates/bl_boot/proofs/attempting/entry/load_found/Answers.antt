@@ -1,4 +1,4 @@
-use Rattle.std.proofs.Common.{◌≡◌, ◌∙◌, length, map, ap, sym}
+use Rattle.std.proofs.Common.{◌∙◌, length, map, ap, sym}
 use Rattle.std.proofs.lemmas.List.{length-map}
 use Rattle.bl_boot.specs.Files.{answer_given}
 use Rattle.bl_boot.proofs.FileLemmas.{as_many_read}

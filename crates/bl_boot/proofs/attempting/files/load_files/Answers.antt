@@ -1,4 +1,4 @@
-use Rattle.std.proofs.Common.{◌≡◌, ◌∙◌, ℕ, List, length, map, ap, arith}
+use Rattle.std.proofs.Common.{ℕ, List, map, ap, arith}
 use Rattle.std.proofs.lemmas.Result.{IfOk-weaker, IfErr-weaker}
 use Rattle.bl_map.proofs.PoolLemmas.{pool_in_memory}
 use Rattle.bl_stage.specs.Staged.{Staging}
