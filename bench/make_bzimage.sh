@@ -10,24 +10,7 @@ set -eu
 file=$1
 bytes=$(($2))
 
-half() {
-    local n escaped
-    for n; do
-        printf -v escaped '\\x%02x' $((n & 255)) $((n >> 8 & 255))
-        printf '%b' "$escaped"
-    done
-}
-
-word() {
-    local n
-    for n; do
-        half $((n & 0xFFFF)) $((n >> 16 & 0xFFFF))
-    done
-}
-
-zeros() {
-    head -c "$1" /dev/zero
-}
+source "$(dirname "${BASH_SOURCE[0]}")/numbers.sh"
 
 # From 0x1f1 on: setup_sects, .. vid_mode, root_dev, boot_flag, jump, HdrS, version, .. loadflags, .. initrd_addr_max,
 # kernel_alignment, relocatable_kernel and min_alignment, xloadflags, cmdline_size, .. pref_address, init_size.

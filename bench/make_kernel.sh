@@ -15,24 +15,7 @@ bytes=$(($3))
 base=0x200000
 bss=0x100000
 
-half() {
-    local n escaped
-    for n; do
-        printf -v escaped '\\x%02x' $((n & 255)) $((n >> 8 & 255))
-        printf '%b' "$escaped"
-    done
-}
-
-word() {
-    local n
-    for n; do
-        half $((n & 0xFFFF)) $((n >> 16 & 0xFFFF))
-    done
-}
-
-zeros() {
-    head -c "$1" /dev/zero
-}
+source "$(dirname "${BASH_SOURCE[0]}")/numbers.sh"
 
 elf_header() {
     printf '\x7fELF\x01\x01\x01'

@@ -34,17 +34,20 @@ use Rattle.bl_load.specs.declared.refusal.PrepFault.TheVariants as prep_fault
 abbrev pub no_segment : Segment
 no_segment = record { offset = 0; address = 0; filesz = 0; memsz = 0 }
 
--- what the kernel's part i holds before its zeros: the bytes of the file that its segment i names; with a relocatable
--- tag the whole block
+-- what the kernel's part i holds before its zeros: the bytes of the file that its segment i names;
+-- with a relocatable tag the whole block
 abbrev pub kernel_content : List ℕ → List Segment → Option Relocation → ℕ → List ℕ
 kernel_content file segments None i = file_part file (slice_index_or segments i no_segment)
 kernel_content file segments (Some r) i = block_of file segments
 
--- what is loaded of a Linux kernel's file, up to its end (Linux/x86 Boot Protocol, "Loading The Rest of The Kernel")
+-- what is loaded of a Linux kernel's file, up to its end (Linux/x86 Boot Protocol, "Loading The
+-- Rest of The Kernel")
 abbrev pub payload_of : List ℕ → Setup → List ℕ
-payload_of file setup = slice_range file setup.payload_offset (setup.payload_offset + setup.payload_size)
+payload_of file setup =
+    slice_range file setup.payload_offset (setup.payload_offset + setup.payload_size)
 
--- what a part holds before its zeros, where the parts have these places; the zeros of a line's part end the line
+-- what a part holds before its zeros, where the parts have these places; the zeros of a line's part
+-- end the line
 abbrev pub content_of : MachineFacts → EntryValue → Reading → List Place → Role → ℕ → List ℕ
 content_of facts value (multiboot2 kernel) places Kernel i =
     kernel_content (kernel_file value) kernel.segments kernel.relocation i
@@ -58,7 +61,8 @@ content_of facts value (multiboot2 kernel) places Initrd i = []
 content_of facts value (linux setup) places Kernel i = payload_of (kernel_file value) setup
 content_of facts value (linux setup) places Module i = []
 content_of facts value (linux setup) places Information i = []
-content_of facts value (linux setup) places BootParams i = boot_params setup.header (told_of facts value places)
+content_of facts value (linux setup) places BootParams i =
+    boot_params setup.header (told_of facts value places)
 content_of facts value (linux setup) places CommandLine i = value.line
 content_of facts value (linux setup) places Gdt i = gdt
 content_of facts value (linux setup) places Initrd i = initrd_file value.files
@@ -66,7 +70,8 @@ content_of facts value (linux setup) places Initrd i = initrd_file value.files
 -- the part of an entry at one of its places
 abbrev pub part_from : MachineFacts → EntryValue → Reading → List Place → Place → Part
 part_from facts value reading places place =
-    part_at place (filled place.length (content_of facts value reading places place.role place.index))
+    part_at place
+    (filled place.length (content_of facts value reading places place.role place.index))
 
 -- where the kernel is entered: a block moves its entry with it
 abbrev pub entry_at : ℕ → List Segment → Option Relocation → ℕ → ℕ
@@ -80,7 +85,8 @@ registers_of (multiboot2 kernel) places =
     (entry_at kernel.entry kernel.segments kernel.relocation (address_of Kernel 0 places))
     (address_of Information 0 places)
 registers_of (linux setup) places =
-    linux_registers (address_of Kernel 0 places) (address_of BootParams 0 places) (address_of Gdt 0 places)
+    linux_registers
+    (address_of Kernel 0 places) (address_of BootParams 0 places) (address_of Gdt 0 places)
 
 -- what an entry hands over, where its rows have these places
 abbrev pub handover_of : MachineFacts → EntryValue → Reading → List Place → Handover
