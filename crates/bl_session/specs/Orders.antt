@@ -1,0 +1,56 @@
+-- What a boot asks a store for as an attempt begins: each piece of its files. Own.
+use Rattle.std.specs.Prelude.{ℕ, ◌+◌, ◌==◌, List, [], ◌∷◌, ◌++◌, length, map, Option, None, Some, if◌then◌else◌}
+use Rattle.std.specs.List.{range_with_len}
+use Rattle.bl_stage.specs.Spots.{Spot, waits, has}
+use Rattle.bl_session.specs.declared.words.Ticket.{Ticket}
+use Rattle.bl_session.specs.Menu.{entry_at}
+use Rattle.bl_session.specs.Boot.{BootFacts, State, unstarted, running, handed_over, none_left, out_of_memory, attempt_of}
+use Rattle.bl_session.specs.History.{Item, submitted}
+
+-- the ticket of a piece of the file at this place of an entry
+abbrev pub ticket_of : (attempt place piece : ℕ) → Ticket
+ticket_of attempt place piece = record { attempt = attempt; file = place; piece = piece }
+
+-- a file of so many pieces is asked for, one piece after the other
+abbrev pub piece_orders : (attempt place file count : ℕ) → List Item
+piece_orders attempt place file count =
+    map (λ piece. submitted file (ticket_of attempt place piece)) (range_with_len 0 count)
+
+-- the files of an entry, by their index, from this place on, the one with the first of these spots,
+-- and so on
+abbrev pub file_orders : (attempt place : ℕ) → List ℕ → List (List Spot) → List Item
+file_orders attempt place [] files = []
+file_orders attempt place (index ∷ indices) [] = []
+file_orders attempt place (index ∷ indices) (spots ∷ files) =
+    piece_orders attempt place index (length spots)
+    ++ file_orders attempt (place + 1) indices files
+
+-- each piece of the attempt that runs: files ascending, and in each of them pieces ascending
+abbrev pub orders : BootFacts → State → List Item
+orders facts (running entry rest earlier files) =
+    file_orders (length earlier) 0 (entry_at facts.menu entry).files files
+orders facts unstarted = []
+orders facts (handed_over entry earlier handover) = []
+orders facts (none_left earlier) = []
+orders facts out_of_memory = []
+
+-- what is to be asked for after a step from one state to another: nothing more if the attempt goes
+-- on, else each piece of the attempt that runs now
+abbrev pub orders_after : BootFacts → (old new : State) → List Item
+orders_after facts old new = if attempt_of new == attempt_of old then [] else orders facts new
+
+-- ---- the first piece that is awaited: files ascending, and in each of them pieces ascending
+
+abbrev pub first_spot : (piece : ℕ) → List Spot → Option ℕ
+first_spot piece [] = None
+first_spot piece (waits size ∷ spots) = Some piece
+first_spot piece (has bytes ∷ spots) = first_spot (piece + 1) spots
+
+abbrev pub ticket_or : (attempt place : ℕ) → Option Ticket → Option ℕ → Option Ticket
+ticket_or attempt place others None = others
+ticket_or attempt place others (Some piece) = Some (ticket_of attempt place piece)
+
+abbrev pub first_ticket : (attempt place : ℕ) → List (List Spot) → Option Ticket
+first_ticket attempt place [] = None
+first_ticket attempt place (spots ∷ files) =
+    ticket_or attempt place (first_ticket attempt (place + 1) files) (first_spot 0 spots)

@@ -1,0 +1,121 @@
+-- A boot over a store: what the store was asked and answered, read from left to right. Own.
+use Rattle.std.specs.Prelude.{◌≡◌, ◌⊎◌, ◌↔◌, ℕ, Bool, true, List, [], ◌∷◌, ◌++◌, length, map, Option, None, Some, Result, Ok, Err}
+use Rattle.bl_stage.specs.Spots.{Spot}
+use Rattle.bl_session.specs.declared.words.Ticket.{Ticket}
+use Rattle.bl_session.specs.declared.words.RefusedEntry.{RefusedEntry}
+use Rattle.bl_session.specs.declared.words.BootFault.{BootFault}
+use Rattle.bl_session.specs.declared.words.Outcome.{Outcome}
+use Rattle.bl_session.specs.Pieces.{with_piece, are_whole}
+use Rattle.bl_session.specs.Boot.{BootFacts, EventFacts, piece, fault, State, unstarted, running, handed_over, none_left, out_of_memory, is_wanted, Begins, StepsOrFails, StartsOrFails}
+use Rattle.bl_session.specs.Outcome.{File, Faults, size_of}
+use Rattle.bl_session.specs.History.{Item, submitted, came, failed, nothing, file_under, IsPieceOf}
+use Rattle.bl_session.specs.Orders.{orders, orders_after, first_ticket}
+use Rattle.bl_session.specs.Phases.{PhaseFacts, outcome_facts, fault_facts}
+
+-- ---- answers as events
+
+-- the event that an answer is, after this history, if the attempt has these spots: a piece has as
+-- many bytes as were told, and they are its file's exactly if they are marked so; with nothing more
+-- to come, it is a fault of the first piece that is awaited
+abbrev pub IsAnswer :
+    List File → List Item → List RefusedEntry → List (List Spot) → Item → EventFacts → Type 0
+IsAnswer files given earlier spots (submitted file ticket) event = ⊥
+IsAnswer files given earlier spots (came ticket count genuine) event =
+    (bytes : List ℕ) × (event ≡ piece ticket bytes) × (length bytes ≡ count)
+    × ((genuine ≡ true) ↔ IsPieceOf files (file_under given ticket) ticket.piece bytes)
+IsAnswer files given earlier spots (failed ticket) event = event ≡ fault ticket
+IsAnswer files given earlier spots nothing event =
+    (ticket : Ticket) × (first_ticket (length earlier) 0 spots ≡ Some ticket)
+    × (event ≡ fault ticket)
+
+-- only an attempt that runs takes answers
+abbrev pub IsEventOf : List File → List Item → State → Item → EventFacts → Type 0
+IsEventOf files given (running entry rest earlier spots) item event =
+    IsAnswer files given earlier spots item event
+IsEventOf files given unstarted item event = ⊥
+IsEventOf files given (handed_over entry earlier handover) item event = ⊥
+IsEventOf files given (none_left earlier) item event = ⊥
+IsEventOf files given out_of_memory item event = ⊥
+
+-- ---- a history, read item by item
+
+-- where a boot stands, and what it is still to ask for
+pub record World : Type 0 where
+  pub state : State
+  pub owed : List Item
+
+-- one that begins its first attempt
+abbrev pub world_of : BootFacts → State → World
+world_of facts state = record { state = state; owed = orders facts state }
+
+-- one item after this history: the first that is to be asked for; with none it is an answer, the
+-- next event
+abbrev pub Hears : BootFacts → List File → List Item → State → List Item → Item → World → Type 0
+Hears facts files given state (order ∷ owed) item new =
+    (item ≡ order) × (new ≡ record { state = state; owed = owed })
+Hears facts files given state [] item new =
+    (event : EventFacts) × IsEventOf files given state item event
+    × StepsOrFails facts state event new.state
+    × (new.owed ≡ orders_after facts state new.state)
+
+-- these items, after this history, lead from a world to a state; memory may run out behind the last
+abbrev pub Reads : BootFacts → List File → List Item → World → List Item → State → Type 0
+Reads facts files given old [] new = (new ≡ old.state) ⊎ (new ≡ out_of_memory)
+Reads facts files given old (item ∷ items) new =
+    (next : World) × Hears facts files given old.state old.owed item next
+    × Reads facts files (given ++ item ∷ []) next items new
+
+-- a boot that made its store's history grow so came to this state
+pub record IsRun (facts : BootFacts) (files : List File) (old new : List Item) (end : State) : Type 0 where
+  pub gained : List Item
+  pub given : new ≡ old ++ gained
+  pub begun : State
+  pub begins : StartsOrFails facts unstarted begun
+  pub reads : Reads facts files old (world_of facts begun) gained end
+
+-- ---- genuine histories
+
+-- an event that is wanted: a piece is marked as its file's, and completes its attempt only if no
+-- fault comes of it; a fault is the one that comes
+abbrev pub IsMarked : Item → Type 0
+IsMarked (submitted file ticket) = Unit {0}
+IsMarked (came ticket count genuine) = genuine ≡ true
+IsMarked (failed ticket) = Unit {0}
+IsMarked nothing = Unit {0}
+
+abbrev pub AreToldFaults :
+    Faults → List RefusedEntry → List (List Spot) → EventFacts → Type 0
+AreToldFaults faults earlier spots (piece ticket bytes) =
+    are_whole (with_piece spots ticket.file ticket.piece bytes) ≡ true
+    → faults (length earlier) ≡ None
+AreToldFaults faults earlier spots (fault ticket) = faults (length earlier) ≡ Some ticket.file
+
+-- an event that is not wanted may be anything
+abbrev pub IsGenuineItem : Faults → State → Item → EventFacts → Type 0
+IsGenuineItem faults (running entry rest earlier spots) item event =
+    is_wanted earlier spots event ≡ true → IsMarked item × AreToldFaults faults earlier spots event
+IsGenuineItem faults unstarted item event = Unit {0}
+IsGenuineItem faults (handed_over entry earlier handover) item event = Unit {0}
+IsGenuineItem faults (none_left earlier) item event = Unit {0}
+IsGenuineItem faults out_of_memory item event = Unit {0}
+
+-- each answer is so where it comes
+abbrev pub AreGenuine : BootFacts → List File → Faults → List Item → World → List Item → Type 0
+AreGenuine facts files faults given world [] = Unit {0}
+AreGenuine facts files faults given world (item ∷ items) =
+    ((event : EventFacts) → world.owed ≡ [] → IsEventOf files given world.state item event
+    → IsGenuineItem faults world.state item event)
+    × ((next : World) → Hears facts files given world.state world.owed item next
+    → AreGenuine facts files faults (given ++ item ∷ []) next items)
+
+-- a history that grew so is genuine with these faults
+abbrev pub IsGenuineRun : BootFacts → List File → Faults → (old new : List Item) → Type 0
+IsGenuineRun facts files faults old new =
+    (gained : List Item) (begun : State) → new ≡ old ++ gained → StartsOrFails facts unstarted begun
+    → AreGenuine facts files faults old (world_of facts begun) gained
+
+-- ---- the end of a boot
+
+abbrev pub end_of : {A : Type 0} → Result (Outcome A) (BootFault A) → PhaseFacts
+end_of (Ok outcome) = outcome_facts outcome
+end_of (Err why) = fault_facts why
