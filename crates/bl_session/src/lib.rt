@@ -22,7 +22,7 @@ pub use laws::{
     each_attempt_ends, each_step_leads_on, ends_are_determined, first_entry_not_refused,
     steps_are_determined, two_boots,
 };
-pub use menu::{MOST_ENTRIES, MOST_MODULES, Menu, MenuFault};
+pub use menu::{MOST_ENTRIES, MOST_MODULES, Menu, MenuFault, order_attempts};
 pub use session::Session;
 pub use store::Store;
 pub use words::{BootFault, Event, Outcome, Progress, RefusedEntry, Ticket};
