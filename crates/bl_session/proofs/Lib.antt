@@ -2,6 +2,7 @@ pub mod EndLaws
 pub mod BootLaws
 pub mod GatherLemmas
 pub mod OutcomeLaws
+pub mod OrderLemmas
 pub mod OnceLemmas
 pub mod SpotLemmas
 pub mod AttemptLemmas
