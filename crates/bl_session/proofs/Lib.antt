@@ -3,6 +3,7 @@ pub mod BootLaws
 pub mod GatherLemmas
 pub mod OutcomeLaws
 pub mod OrderLemmas
+pub mod AwaitedLemmas
 pub mod OnceLemmas
 pub mod SpotLemmas
 pub mod AttemptLemmas
