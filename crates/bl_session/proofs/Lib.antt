@@ -4,6 +4,7 @@ pub mod GatherLemmas
 pub mod OutcomeLaws
 pub mod OrderLemmas
 pub mod AwaitedLemmas
+pub mod FaithfulLaws
 pub mod OnceLemmas
 pub mod SpotLemmas
 pub mod AttemptLemmas
