@@ -119,18 +119,19 @@ module _ (facts : BootFacts) (files : List File) (known : facts.sizes ≡ map si
   steady_begun earlier given out_of_memory is apart = tt
   steady_begun earlier given (running entry rest later spots) (sized, first, long) apart =
       let indices = (entry_at facts.menu entry).files in
-      let asked_for = file_orders (length later) 0 indices spots in
-      (sized,
-       λ file piece e. rw first refl,
-       λ t l. untouched_both given asked_for t (apart t (omega arith)) (untouched_files (length later) 0 indices spots t (λ (a, p). omega arith)),
-       λ t a e.
-       let one = is_piece (lengths_of (sizes_of facts entry)) t.file t.piece (rw first at e) in
-       let many = many_files entry in
-       let file_in : t.file < length spots = rw first one.file_in in
-       let piece_in : t.piece < length (get_or spots t.file []) = rw first one.piece_in in
-       let within : t.file < length indices = let f = one.file_in in omega arith in
-       once_last (file_at entry t.file) given asked_for t (apart t (omega arith))
-       (once_files (length later) 0 indices spots t.file t a (omega arith) within file_in piece_in))
+      let asked_for = file_orders (length later) 0 indices spots in (
+        sized,
+        λ file piece e. rw first refl,
+        λ t l. untouched_both given asked_for t (apart t (omega arith)) (untouched_files (length later) 0 indices spots t (λ (a, p). omega arith)),
+        λ t a e.
+            let one = is_piece (lengths_of (sizes_of facts entry)) t.file t.piece (rw first at e) in
+            let many = many_files entry in
+            let file_in : t.file < length spots = rw first one.file_in in
+            let piece_in : t.piece < length (get_or spots t.file []) = rw first one.piece_in in
+            let within : t.file < length indices = let f = one.file_in in omega arith in
+            once_last (file_at entry t.file) given asked_for t (apart t (omega arith))
+            (once_files (length later) 0 indices spots t.file t a (omega arith) within file_in piece_in),
+      )
 
 -- ---- one answer of a faithful store while an attempt runs
 
@@ -224,12 +225,13 @@ module _ (facts : BootFacts) (files : List File) (known : facts.sizes ≡ map si
   stays item left new same later apart goes =
       let here : (length earlier == length earlier) ≡ true = grind (arith, nat_tests) in
       let holds : Next item (running entry rest earlier left) = rw (here, append-nil) (
-      steady.0,
-      (λ file index e. let at = same file index e in at ∙ steady.1 file index (ap is_awaited (sym at) ∙ e)),
-      (λ t l. untouched_both given (item ∷ []) t (steady.2 t l) (later t l)),
-      (λ t a e.
-      let at = same t.file t.piece e in
-      once_first (file_at facts files known entry t.file) given (item ∷ []) t (once t (a, ap is_awaited (sym at) ∙ e)) (apart t a e))) in
+        steady.0,
+        (λ file index e. let at = same file index e in at ∙ steady.1 file index (ap is_awaited (sym at) ∙ e)),
+        (λ t l. untouched_both given (item ∷ []) t (steady.2 t l) (later t l)),
+        (λ t a e.
+            let at = same t.file t.piece e in
+            once_first (file_at facts files known entry t.file) given (item ∷ []) t (once t (a, ap is_awaited (sym at) ∙ e)) (apart t a e)),
+      ) in
       subst (λ (s : State). Next item s) (sym goes) holds
 
   -- the attempt is refused
@@ -353,17 +355,19 @@ module _ (facts : BootFacts) (files : List File) (known : facts.sizes ≡ map si
       → AreGenuine facts files (λ attempt. None) given (record { state = state; owed = owed }) items
   genuine_all [] given state owed steady faithful = tt
   genuine_all (item ∷ items) given state (order ∷ owed) steady (one, more) = (
-      (λ event none is. absurd (cc)),
-      λ next (same, at).
-      let all : (given ++ item ∷ []) ++ owed ≡ given ++ order ∷ owed = append_assoc given (item ∷ []) owed ∙ ap (λ (x : Item). given ++ x ∷ owed) same in
-      let holds : Steady facts files known ((given ++ item ∷ []) ++ owed) state = rw all steady in
-      subst (λ (w : World). AreGenuine facts files (λ attempt. None) (given ++ item ∷ []) w items) (sym at) (genuine_all items (given ++ item ∷ []) state owed holds more))
+    (λ event none is. absurd (cc)),
+    λ next (same, at).
+        let all : (given ++ item ∷ []) ++ owed ≡ given ++ order ∷ owed = append_assoc given (item ∷ []) owed ∙ ap (λ (x : Item). given ++ x ∷ owed) same in
+        let holds : Steady facts files known ((given ++ item ∷ []) ++ owed) state = rw all steady in
+        subst (λ (w : World). AreGenuine facts files (λ attempt. None) (given ++ item ∷ []) w items) (sym at) (genuine_all items (given ++ item ∷ []) state owed holds more),
+  )
   genuine_all (item ∷ items) given state [] steady (one, more) =
       let here : Steady facts files known given state = rw append-nil at steady in (
-      (λ event none is. genuine_one state given item event here one is),
-      λ next (event, is, goes, owed_is).
-      let holds : Steady facts files known ((given ++ item ∷ []) ++ next.owed) next.state = rw owed_is (steady_one state given item event next.state here one is goes) in
-      genuine_all items (given ++ item ∷ []) next.state next.owed holds more)
+        (λ event none is. genuine_one state given item event here one is),
+        λ next (event, is, goes, owed_is).
+            let holds : Steady facts files known ((given ++ item ∷ []) ++ next.owed) next.state = rw owed_is (steady_one state given item event next.state here one is goes) in
+            genuine_all items (given ++ item ∷ []) next.state next.owed holds more,
+      )
 
   begin_any : (begun_as : State) → StartsOrFails facts unstarted begun_as → Steady facts files known ([] ++ orders facts begun_as) begun_as
   begin_any state (inl goes) = steady_begun facts files known [] [] state (begun facts files known facts.menu.attempts [] state goes) (λ t l. (refl, refl, λ found. refl))

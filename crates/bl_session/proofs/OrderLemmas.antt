@@ -78,21 +78,24 @@ file_both found (nothing ∷ xs) ys t = file_both found xs ys t
 
 pub untouched_both : (xs ys : List Item) (t : Ticket) → IsUntouched xs t → IsUntouched ys t → IsUntouched (xs ++ ys) t
 untouched_both xs ys t (a, b, f) (c, d, g) = (
-    (let e = asked_both xs ys t in omega arith),
-    (let e = answered_both xs ys t in omega arith),
-    λ found. file_both found xs ys t ∙ ap (λ (x : Option ℕ). file_after x ys t) (f found) ∙ g found)
+  (let e = asked_both xs ys t in omega arith),
+  (let e = answered_both xs ys t in omega arith),
+  λ found. file_both found xs ys t ∙ ap (λ (x : Option ℕ). file_after x ys t) (f found) ∙ g found,
+)
 
 pub once_first : (file : ℕ) (xs ys : List Item) (t : Ticket) → IsAskedOnce file xs t → IsUntouched ys t → IsAskedOnce file (xs ++ ys) t
 once_first file xs ys t (a, b, f) (c, d, g) = (
-    (let e = asked_both xs ys t in omega arith),
-    (let e = answered_both xs ys t in omega arith),
-    λ found. file_both found xs ys t ∙ g (file_after found xs t) ∙ f found)
+  (let e = asked_both xs ys t in omega arith),
+  (let e = answered_both xs ys t in omega arith),
+  λ found. file_both found xs ys t ∙ g (file_after found xs t) ∙ f found,
+)
 
 pub once_last : (file : ℕ) (xs ys : List Item) (t : Ticket) → IsUntouched xs t → IsAskedOnce file ys t → IsAskedOnce file (xs ++ ys) t
 once_last file xs ys t (a, b, f) (c, d, g) = (
-    (let e = asked_both xs ys t in omega arith),
-    (let e = answered_both xs ys t in omega arith),
-    λ found. file_both found xs ys t ∙ g (file_after found xs t))
+  (let e = asked_both xs ys t in omega arith),
+  (let e = answered_both xs ys t in omega arith),
+  λ found. file_both found xs ys t ∙ g (file_after found xs t),
+)
 
 -- ---- one order
 

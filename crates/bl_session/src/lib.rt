@@ -6,6 +6,7 @@ mod attempt;
 mod attempting;
 mod beginning;
 mod completion;
+mod faithful_laws;
 mod finishing;
 mod laws;
 mod menu;
@@ -17,6 +18,7 @@ mod words;
 
 pub use beginning::MOST_BYTES;
 pub use completion::Completion;
+pub use faithful_laws::faithful_stores_boot_by_their_files;
 pub use finishing::finish;
 pub use laws::{
     each_attempt_ends, each_step_leads_on, ends_are_determined, first_entry_not_refused,
