@@ -4,6 +4,8 @@ pub mod GatherLemmas
 pub mod OutcomeLaws
 pub mod OrderLemmas
 pub mod AwaitedLemmas
+pub mod SteadyLemmas
+pub mod HeardLemmas
 pub mod FaithfulLaws
 pub mod OnceLemmas
 pub mod SpotLemmas
