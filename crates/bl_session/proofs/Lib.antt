@@ -12,3 +12,4 @@ pub mod FinishLemmas
 pub mod StepLemmas
 pub mod AlikeLemmas
 pub mod UnderLemmas
+pub mod AskedLemmas
