@@ -67,7 +67,7 @@ begins_alike : (f g : BootFacts) → AreAlike f g → (rest : List ℕ) (earlier
 begins_alike f g alike [] earlier new goes = goes
 begins_alike f g alike (entry ∷ rest) earlier new goes =
     let why : size_refusal f.machine (sizes_of f entry) ≡ size_refusal g.machine (sizes_of g entry) =
-        ap (λ (m : MachineFacts). size_refusal m (sizes_of f entry)) alike.machine ∙ ap (size_refusal g.machine) (alike.sizes entry) in
+    ap (λ (m : MachineFacts). size_refusal m (sizes_of f entry)) alike.machine ∙ ap (size_refusal g.machine) (alike.sizes entry) in
     subst (λ (w : Option Refusal). BeginsUnless g (Begins g rest) entry rest earlier w new) why
     (unless_alike f g alike (Begins f rest) (Begins g rest) (begins_alike f g alike rest) entry rest earlier (size_refusal f.machine (sizes_of f entry)) new goes)
 
@@ -133,10 +133,10 @@ pub alike_asked : (machine : MachineFacts) (menu : MenuFacts) (files : List File
     → ((i : ℕ) → i < files_named menu.entries → get_or sizes i None ≡ size_of (get_or files i missing))
     → AreAlike (boot_facts machine menu sizes) (boot_facts machine menu (map size_of files))
 alike_asked machine menu files sizes asked = record {
-    machine = refl;
-    menu = refl;
-    sizes = λ entry. sizes_below files sizes (files_named menu.entries) asked (entry_at menu entry).files (named_at menu.entries entry)
-  }
+  machine = refl;
+  menu = refl;
+  sizes = λ entry. sizes_below files sizes (files_named menu.entries) asked (entry_at menu entry).files (named_at menu.entries entry);
+}
 
 -- the same where each file that is named was asked once, from the first on
 pub alike_listed : (machine : MachineFacts) (menu : MenuFacts) (files : List File) (sizes : List (Option ℕ))

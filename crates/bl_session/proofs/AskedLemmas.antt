@@ -11,8 +11,8 @@ use Rattle.bl_session.specs.Ends.{End, handed, refused, size_refusal, lengths_of
 use Rattle.bl_session.specs.Menu.{entry_at}
 use Rattle.bl_session.specs.Pieces.{are_whole, with_piece}
 use Rattle.bl_session.specs.Boot.{BootFacts, EventFacts, piece, fault, State, unstarted, running, handed_over, none_left, out_of_memory, sizes_of, fresh, EntryEndsIn, GoesOn, Continues, BeginsUnless, Begins, is_wanted, Takes, Steps, attempt_of}
-use Rattle.bl_session.specs.History.{Item, file_after, file_under}
-use Rattle.bl_session.specs.Orders.{ticket_of, file_orders, orders, orders_after}
+use Rattle.bl_session.specs.History.{Item, file_under}
+use Rattle.bl_session.specs.Orders.{ticket_of, orders, orders_after}
 use Rattle.bl_session.proofs.UnderLemmas.{file_after_append, found_files, as_many_files, as_many_pieces}
 
 -- ---- where a step leads
@@ -85,6 +85,7 @@ step_went facts entry rest earlier files event new goes = choice (is_wanted earl
           | inr later ↦ inr later
         ]
     taken (fault ticket) goes = inr (new_goes facts rest entry earlier (refused (FileFault ticket.file)) new (new_begins facts rest) goes)
+
     choice : (b : Bool) → is_wanted earlier files event ≡ b → MatchBool b (Takes facts entry rest earlier files event new) (new ≡ running entry rest earlier files) → Went facts entry rest earlier files event new
     choice true e takes = inr (e, taken event takes)
     choice false e same = inl (e, same)
@@ -111,10 +112,12 @@ fresh_length facts entry =
 pub asked_new : (facts : BootFacts) (given : List Item) (number : ℕ) (state : State) → IsNewFrom facts number state → AreAsked facts (given ++ orders facts state) state
 asked_new facts given number unstarted is = tt
 asked_new facts given number (running entry rest earlier files) (l, is) =
-    let long : length files ≡ length (entry_at facts.menu entry).files = ap length is ∙ fresh_length facts entry in
-    (long, λ place piece h.
-    file_after_append None given (orders facts (running entry rest earlier files)) (ticket_of (length earlier) place piece)
-    ∙ found_files (file_under given (ticket_of (length earlier) place piece)) (length earlier) 0 (entry_at facts.menu entry).files files place piece place long (omega arith) h)
+    let long : length files ≡ length (entry_at facts.menu entry).files = ap length is ∙ fresh_length facts entry in (
+      long,
+      λ place piece h.
+          file_after_append None given (orders facts (running entry rest earlier files)) (ticket_of (length earlier) place piece)
+          ∙ found_files (file_under given (ticket_of (length earlier) place piece)) (length earlier) 0 (entry_at facts.menu entry).files files place piece place long (omega arith) h,
+    )
 asked_new facts given number (handed_over entry earlier handover) is = tt
 asked_new facts given number (none_left earlier) is = tt
 asked_new facts given number out_of_memory is = tt
@@ -130,9 +133,10 @@ asked_same facts items more out_of_memory same asked = tt
 -- so does a piece
 asked_piece : (facts : BootFacts) (items : List Item) (entry : ℕ) (rest : List ℕ) (earlier : List RefusedEntry) (files : List (List Spot)) (ticket : Ticket) (bytes : List ℕ)
     → AreAsked facts items (running entry rest earlier files) → AreAsked facts items (running entry rest earlier (with_piece files ticket.file ticket.piece bytes))
-asked_piece facts items entry rest earlier files ticket bytes (long, under) =
-    (as_many_files files ticket.file ticket.piece bytes ∙ long,
-    λ place piece h. let many = as_many_pieces files ticket.file ticket.piece bytes place in under place piece (omega (arith, many, h)))
+asked_piece facts items entry rest earlier files ticket bytes (long, under) = (
+  as_many_files files ticket.file ticket.piece bytes ∙ long,
+  λ place piece h. let many = as_many_pieces files ticket.file ticket.piece bytes place in under place piece (omega (arith, many, h)),
+)
 
 -- nothing more is asked for as long as the attempt goes on
 owed_same : (facts : BootFacts) (old new : State) → attempt_of new ≡ attempt_of old → orders_after facts old new ≡ []
@@ -151,7 +155,7 @@ on_new facts items entry rest earlier files (running index others before spots) 
     let low = is.0 in
     let other : (length before == length earlier) ≡ false = grind (arith, nat_tests) in
     let owed : orders_after facts (running entry rest earlier files) (running index others before spots) ≡ orders facts (running index others before spots) =
-        ap (λ (b : Bool). if b then [] else orders facts (running index others before spots)) other in
+    ap (λ (b : Bool). if b then [] else orders facts (running index others before spots)) other in
     subst (λ (xs : List Item). AreAsked facts (items ++ xs) (running index others before spots)) (sym owed)
     (asked_new facts items (length earlier + 1) (running index others before spots) is)
 on_new facts items entry rest earlier files (handed_over index before handover) is = tt

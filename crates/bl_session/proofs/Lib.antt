@@ -13,3 +13,4 @@ pub mod StepLemmas
 pub mod AlikeLemmas
 pub mod UnderLemmas
 pub mod AskedLemmas
+pub mod ScheduleLaws

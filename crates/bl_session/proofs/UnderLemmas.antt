@@ -1,13 +1,13 @@
 -- Under which file each piece of an attempt was asked for.
-use Rattle.std.proofs.Common.{◌≡◌, ◌≢◌, ℕ, ◌+◌, ◌<◌, ◌≤◌, ◌==◌, ◌&&◌, Bool, true, false, if◌then◌else◌, List, [], ◌∷◌, ◌++◌, length, map, get_or, set, Option, None, Some, refl, sym, ap, ◌∙◌, inl, inr, arith, zero, suc}
+use Rattle.std.proofs.Common.{◌≡◌, ◌≢◌, ℕ, ◌+◌, ◌<◌, ◌≤◌, Bool, true, false, if◌then◌else◌, List, [], ◌∷◌, ◌++◌, length, map, get_or, set, Option, Some, refl, ap, ◌∙◌, inl, inr, arith, zero, suc}
 use Rattle.std.specs.List.{range_with_len}
 use Rattle.std.proofs.lemmas.Bool.{cases_lt}
 use Rattle.std.proofs.lemmas.Bool.Decides.{nat_tests}
-use Rattle.std.proofs.lemmas.List.{length-set, get_or-set_other, set_past}
+use Rattle.std.proofs.lemmas.List.{length-set}
 use Rattle.bl_stage.specs.Spots.{Spot, has}
 use Rattle.bl_session.specs.declared.words.Ticket.{Ticket}
 use Rattle.bl_session.specs.Pieces.{with_piece}
-use Rattle.bl_session.specs.History.{Item, submitted, came, failed, nothing, is_same, file_after, file_under}
+use Rattle.bl_session.specs.History.{Item, submitted, came, failed, nothing, is_same, file_after}
 use Rattle.bl_session.specs.Orders.{ticket_of, piece_orders, file_orders}
 
 -- ---- one list of items behind another
@@ -50,11 +50,11 @@ found_file found attempt place file first (suc count) piece l u =
     elim (cases_lt first piece) [
       | inl later ↦
           ap (λ (b : Bool). file_after (if b then Some file else found) (orders_from attempt place file (first + 1) count) (ticket_of attempt place piece))
-              (other_piece attempt place first piece (λ e. omega (arith, later, e)))
+          (other_piece attempt place first piece (λ e. omega (arith, later, e)))
           ∙ found_file found attempt place file (first + 1) count piece (omega (arith, later)) (omega (arith, u))
       | inr here ↦
           ap (λ (b : Bool). file_after (if b then Some file else found) (orders_from attempt place file (first + 1) count) (ticket_of attempt place piece))
-              (same_ticket attempt place first piece (omega (arith, here, l)))
+          (same_ticket attempt place first piece (omega (arith, here, l)))
           ∙ stays_found attempt place file (first + 1) count (ticket_of attempt place piece)
     ]
 
@@ -62,7 +62,7 @@ passed_file : (found : Option ℕ) (attempt place file first count other piece :
 passed_file found attempt place file first zero other piece h = refl
 passed_file found attempt place file first (suc count) other piece h =
     ap (λ (b : Bool). file_after (if b then Some file else found) (orders_from attempt place file (first + 1) count) (ticket_of attempt other piece))
-        (other_place attempt place first other piece h)
+    (other_place attempt place first other piece h)
     ∙ passed_file found attempt place file (first + 1) count other piece h
 
 -- ---- the pieces of each file
@@ -73,7 +73,7 @@ passed_files found attempt start (index ∷ indices) [] place piece h = refl
 passed_files found attempt start (index ∷ indices) (spots ∷ files) place piece h =
     file_after_append found (piece_orders attempt start index (length spots)) (file_orders attempt (start + 1) indices files) (ticket_of attempt place piece)
     ∙ ap (λ (f : Option ℕ). file_after f (file_orders attempt (start + 1) indices files) (ticket_of attempt place piece))
-        (passed_file found attempt start index 0 (length spots) place piece (λ e. omega (arith, e, h)))
+    (passed_file found attempt start index 0 (length spots) place piece (λ e. omega (arith, e, h)))
     ∙ passed_files found attempt (start + 1) indices files place piece (omega (arith, h))
 
 pub found_files : (found : Option ℕ) (attempt start : ℕ) (indices : List ℕ) (files : List (List Spot)) (place piece at : ℕ) → length files ≡ length indices → at ≡ start + place → piece < length (get_or files place [])
@@ -85,7 +85,7 @@ found_files found attempt start (index ∷ indices) (spots ∷ files) zero piece
     let e : at ≡ start = omega (arith, is) in
     file_after_append found (piece_orders attempt start index (length spots)) (file_orders attempt (start + 1) indices files) (ticket_of attempt at piece)
     ∙ ap (λ (f : Option ℕ). file_after f (file_orders attempt (start + 1) indices files) (ticket_of attempt at piece))
-        (rw e (found_file found attempt start index 0 (length spots) piece (omega arith) (omega (arith, h))))
+    (rw e (found_file found attempt start index 0 (length spots) piece (omega arith) (omega (arith, h))))
     ∙ passed_files (Some index) attempt (start + 1) indices files at piece (omega (arith, e))
 found_files found attempt start (index ∷ indices) (spots ∷ files) (suc place) piece at same is h =
     file_after_append found (piece_orders attempt start index (length spots)) (file_orders attempt (start + 1) indices files) (ticket_of attempt at piece)
