@@ -15,3 +15,7 @@ pub mod StageLemmas
 pub mod AfterLemmas
 pub mod FinishLemmas
 pub mod StepLemmas
+pub mod AlikeLemmas
+pub mod UnderLemmas
+pub mod AskedLemmas
+pub mod ScheduleLaws

@@ -41,7 +41,7 @@ read_one place (too_long over) sizes e =
     let some : (if true then Some (FileTooLong place) else file_refusal (place + 1) sizes) ≡ None = rw long at e in
     absurd cc
 
-size_at : (files : List File) (file : ℕ) → get_or (map size_of files) file None ≡ size_of (get_or files file missing)
+pub size_at : (files : List File) (file : ℕ) → get_or (map size_of files) file None ≡ size_of (get_or files file missing)
 size_at [] file = refl
 size_at (f ∷ files) zero = refl
 size_at (f ∷ files) (suc file) = size_at files file

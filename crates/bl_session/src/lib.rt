@@ -11,6 +11,7 @@ mod finishing;
 mod laws;
 mod menu;
 mod phase;
+mod run_laws;
 mod session;
 mod stepping;
 mod store;
@@ -25,6 +26,7 @@ pub use laws::{
     steps_are_determined, two_boots,
 };
 pub use menu::{MOST_ENTRIES, MOST_MODULES, Menu, MenuFault};
+pub use run_laws::runs_end_with_the_first_entry_not_refused;
 pub use session::Session;
 pub use store::Store;
 pub use words::{BootFault, Event, Outcome, Progress, RefusedEntry, Ticket};
