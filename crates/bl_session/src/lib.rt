@@ -6,7 +6,6 @@ mod attempt;
 mod attempting;
 mod beginning;
 mod completion;
-mod faithful_laws;
 mod finishing;
 mod laws;
 mod menu;
@@ -19,14 +18,15 @@ mod words;
 
 pub use beginning::MOST_BYTES;
 pub use completion::Completion;
-pub use faithful_laws::faithful_stores_boot_by_their_files;
 pub use finishing::finish;
 pub use laws::{
     each_attempt_ends, each_step_leads_on, ends_are_determined, first_entry_not_refused,
     steps_are_determined, two_boots,
 };
 pub use menu::{MOST_ENTRIES, MOST_MODULES, Menu, MenuFault};
-pub use run_laws::runs_end_with_the_first_entry_not_refused;
+pub use run_laws::{
+    faithful_stores_boot_by_their_files, runs_end_with_the_first_entry_not_refused,
+};
 pub use session::Session;
 pub use store::Store;
 pub use words::{BootFault, Event, Outcome, Progress, RefusedEntry, Ticket};
