@@ -1,7 +1,7 @@
 -- The pieces that a new attempt awaits, and those that it still awaits after one came.
 use Rattle.std.proofs.Common.{◌≡◌, ℕ, zero, suc, ◌-◌, ◌*◌, ◌<◌, true, min, List, [], ◌∷◌, length, get_or, set, refl, ap, ◌∙◌, inl, inr, arith}
 use Rattle.std.proofs.lemmas.Bool.{cases_lt}
-use Rattle.std.proofs.lemmas.List.{get_or-map, get_or_past, length-map}
+use Rattle.std.proofs.lemmas.List.{length-set, get_or-map, get_or_past, length-map}
 use Rattle.std.proofs.lemmas.List.FromFn.{get_or-map-range_with_len, length-map-range_with_len}
 use Rattle.bl_map.specs.Room.{frames_of}
 use Rattle.bl_stage.specs.Spots.{Spot, waits, has, waiting_spots}
@@ -71,3 +71,15 @@ still_awaited (spots ∷ files) (suc file) piece bytes (suc f) k e =
 pub awaits_is_awaited : (spot : Spot) (count : ℕ) → awaits spot count ≡ true → is_awaited spot ≡ true
 awaits_is_awaited (waits size) count e = refl
 awaits_is_awaited (has bytes) count e = absurd cc
+
+-- ---- the number of a file's pieces stays
+
+pub as_many_files : (files : List (List Spot)) (file piece : ℕ) (bytes : List ℕ) → length (with_piece files file piece bytes) ≡ length files
+as_many_files files file piece bytes = length-set files file (set (get_or files file []) piece (has bytes))
+
+pub as_many_pieces : (files : List (List Spot)) (file piece : ℕ) (bytes : List ℕ) (place : ℕ) → length (get_or (with_piece files file piece bytes) place []) ≡ length (get_or files place [])
+as_many_pieces [] file piece bytes place = refl
+as_many_pieces (spots ∷ files) zero piece bytes zero = length-set spots piece (has bytes)
+as_many_pieces (spots ∷ files) zero piece bytes (suc place) = refl
+as_many_pieces (spots ∷ files) (suc file) piece bytes zero = refl
+as_many_pieces (spots ∷ files) (suc file) piece bytes (suc place) = as_many_pieces files file piece bytes place

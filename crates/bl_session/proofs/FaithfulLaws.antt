@@ -7,7 +7,8 @@ use Rattle.bl_session.specs.Outcome.{File, size_of}
 use Rattle.bl_session.specs.Orders.{orders, orders_after}
 use Rattle.bl_session.specs.Run.{World, IsEventOf, IsGenuineItem, AreGenuine, IsGenuineRun}
 use Rattle.bl_session.specs.Faithful.{IsFaithfulItem, IsFaithfulAfter, IsFaithful}
-use Rattle.bl_session.proofs.SteadyLemmas.{Steady, begun, steady_begun}
+use Rattle.bl_session.proofs.SteadyLemmas.{Steady, steady_new}
+use Rattle.bl_session.proofs.WentLemmas.{new_begins}
 use Rattle.bl_session.proofs.HeardLemmas.{hear_any, tell_true}
 
 module _ (facts : BootFacts) (files : List File) (known : facts.sizes ≡ map size_of files) where
@@ -46,7 +47,7 @@ module _ (facts : BootFacts) (files : List File) (known : facts.sizes ≡ map si
       )
 
   begin_any : (begun_as : State) → StartsOrFails facts unstarted begun_as → Steady facts ([] ++ orders facts begun_as) begun_as
-  begin_any state (inl goes) = steady_begun facts [] [] state (begun facts facts.menu.attempts [] state goes) (λ t l. (refl, refl, λ found. refl))
+  begin_any state (inl goes) = steady_new facts [] 0 state (new_begins facts facts.menu.attempts [] state goes) (λ t l. (refl, refl, λ found. refl))
   begin_any state (inr (lacks, first)) = subst (λ (s : State). Steady facts ([] ++ orders facts s) s) (sym lacks) tt
 
   pub faithful_is_genuine : (new : List Item) → IsFaithful files new → IsGenuineRun facts files (λ attempt. None) [] new

@@ -1,23 +1,22 @@
 -- One answer of a faithful store while an attempt runs.
-use Rattle.std.proofs.Common.{◌≡◌, ℕ, ◌-◌, ◌*◌, ◌<◌, ◌≤◌, ◌==◌, Bool, true, false, MatchBool, min, List, [], ◌∷◌, ◌++◌, length, map, Option, Some, None, refl, sym, ap, subst, ◌∙◌, inl, inr, arith, length-append}
+use Rattle.std.proofs.Common.{◌≡◌, ℕ, ◌+◌, ◌-◌, ◌*◌, ◌<◌, ◌==◌, Bool, true, false, min, List, [], ◌∷◌, ◌++◌, length, map, Option, Some, None, refl, sym, ap, subst, ◌∙◌, inl, inr, arith}
 use Rattle.std.proofs.lemmas.Bool.Decides.{nat_tests}
 use Rattle.std.proofs.lemmas.List.{append-nil}
-use Rattle.bl_load.specs.declared.refusal.Refusal.{Refusal}
-use Rattle.bl_stage.specs.Spots.{Spot, waits, piece_of, bytes_of}
+use Rattle.bl_stage.specs.Spots.{Spot, waits, piece_of}
 use Rattle.bl_stage.proofs.SpotLemmas.{piece_long}
 use Rattle.bl_session.specs.declared.words.Ticket.{Ticket}
 use Rattle.bl_session.specs.declared.words.RefusedEntry.{RefusedEntry}
-use Rattle.bl_session.specs.Ends.{End, handed, refused}
-use Rattle.bl_session.specs.Pieces.{is_awaited, awaits, spot_of, with_piece, are_whole}
-use Rattle.bl_session.specs.Boot.{BootFacts, EventFacts, piece, fault, State, unstarted, running, handed_over, none_left, out_of_memory, EntryEndsIn, GoesOn, Begins, is_wanted, Takes, StepsOrFails}
+use Rattle.bl_session.specs.Pieces.{is_awaited, awaits, spot_of, with_piece}
+use Rattle.bl_session.specs.Boot.{BootFacts, EventFacts, piece, fault, State, unstarted, running, handed_over, none_left, out_of_memory, is_wanted, Steps, StepsOrFails}
 use Rattle.bl_session.specs.History.{Item, submitted, came, failed, nothing, is_same, file_under, IsPieceOf}
 use Rattle.bl_session.specs.Outcome.{File, size_of}
-use Rattle.bl_session.specs.Orders.{orders_after, first_ticket}
+use Rattle.bl_session.specs.Orders.{orders, orders_after, first_ticket}
 use Rattle.bl_session.specs.Run.{IsAnswer, IsMarked, AreToldFaults}
 use Rattle.bl_session.specs.Faithful.{asked, answered, HasPiece, IsFaithfulItem}
 use Rattle.bl_session.proofs.OrderLemmas.{both, IsUntouched, IsAskedOnce, same_ticket, other_ticket, untouched_both, once_first, untouched_piece, untouched_fault, first_is_awaited}
+use Rattle.bl_session.proofs.WentLemmas.{IsNewFrom, step_went}
 use Rattle.bl_session.proofs.AwaitedLemmas.{still_awaited, awaits_is_awaited}
-use Rattle.bl_session.proofs.SteadyLemmas.{file_at, Steady, IsBegun, begun, steady_begun, text_at, awaited_piece}
+use Rattle.bl_session.proofs.SteadyLemmas.{file_at, Steady, steady_new, text_at, awaited_piece}
 
 module _ (facts : BootFacts) (files : List File) (known : facts.sizes ≡ map size_of files) (entry : ℕ) (rest : List ℕ) (earlier : List RefusedEntry) (spots : List (List Spot)) (given : List Item)
     (steady : Steady facts given (running entry rest earlier spots)) where
@@ -72,9 +71,6 @@ module _ (facts : BootFacts) (files : List File) (known : facts.sizes ≡ map si
   wants_piece : (t : Ticket) (bytes : List ℕ) → Awaited t → IsPieceOf files (file_under given t) t.piece bytes → is_wanted earlier spots (piece t bytes) ≡ true
   wants_piece t bytes awaited of_file = rw (right_attempt t awaited.0, is_long t bytes awaited of_file) refl
 
-  wants_fault : (t : Ticket) → Awaited t → is_wanted earlier spots (fault t) ≡ true
-  wants_fault t awaited = rw (right_attempt t awaited.0, awaited.1) refl
-
   attempt_is : (t : Ticket) → (t.attempt == length earlier) ≡ true → t.attempt ≡ length earlier
   attempt_is t e = grind (arith, nat_tests)
 
@@ -118,43 +114,25 @@ module _ (facts : BootFacts) (files : List File) (known : facts.sizes ≡ map si
       ) in
       subst (λ (s : State). Next item s) (sym goes) holds
 
-  -- the attempt is refused
-  refuses : (item : Item) (r : Refusal) (new : State) → ((t : Ticket) → length earlier < t.attempt → IsUntouched (item ∷ []) t)
-      → Begins facts rest (earlier ++ record { entry = entry; refusal = r } ∷ []) new → Next item new
-  refuses item r new later goes = after new (begun facts rest (earlier ++ why ∷ []) new goes)
+  -- it ended, and one that has just begun runs
+  renews : (item : Item) (new : State) → ((t : Ticket) → length earlier < t.attempt → IsUntouched (item ∷ []) t) → IsNewFrom facts (length earlier + 1) new → Next item new
+  renews item new later is = by_state new is (steady_new facts (given ++ item ∷ []) (length earlier + 1) new is (λ t l. untouched_both given (item ∷ []) t (steady.2 t (omega arith)) (later t (omega arith))))
     where
-      why : RefusedEntry
-      why = record { entry = entry; refusal = r }
-
-      apart : (t : Ticket) → length (earlier ++ record { entry = entry; refusal = r } ∷ []) ≤ t.attempt → IsUntouched (given ++ item ∷ []) t
-      apart t l =
-          let one_more = length-append earlier (record { entry = entry; refusal = r } ∷ []) in
-          untouched_both given (item ∷ []) t (steady.2 t (omega arith)) (later t (omega arith))
-
-      after : (new : State) → IsBegun facts (earlier ++ record { entry = entry; refusal = r } ∷ []) new → Next item new
-      after (running index others more left) is =
-          let one_more = length-append earlier (record { entry = entry; refusal = r } ∷ []) in
-          let long = is.2 in
+      by_state : (new : State) → IsNewFrom facts (length earlier + 1) new → Steady facts ((given ++ item ∷ []) ++ orders facts new) new → Next item new
+      by_state (running index others more left) is holds =
+          let low = is.0 in
           let another : (length more == length earlier) ≡ false = grind (arith, nat_tests) in
-          rw another (steady_begun facts (earlier ++ record { entry = entry; refusal = r } ∷ []) (given ++ item ∷ []) (running index others more left) is apart)
-      after unstarted is = tt
-      after (handed_over index more handover) is = tt
-      after (none_left more) is = tt
-      after out_of_memory is = tt
-
-  goes_on : (item : Item) (e : End) (new : State) → ((t : Ticket) → length earlier < t.attempt → IsUntouched (item ∷ []) t)
-      → GoesOn (Begins facts rest) entry earlier e new → Next item new
-  goes_on item (handed h) new later goes = subst (λ (s : State). Next item s) (sym goes) tt
-  goes_on item (refused r) new later goes = refuses item r new later goes
+          rw another holds
+      by_state unstarted is holds = tt
+      by_state (handed_over index more handover) is holds = tt
+      by_state (none_left more) is holds = tt
+      by_state out_of_memory is holds = tt
 
   -- ---- a piece
 
-  stored : (t : Ticket) (bytes : List ℕ) (count : ℕ) (genuine full : Bool) (new : State) → ((s : Ticket) → length earlier < s.attempt → IsUntouched (came t count genuine ∷ []) s)
-      → MatchBool full ((end : End) × EntryEndsIn facts entry (map bytes_of (with_piece spots t.file t.piece bytes)) end × GoesOn (Begins facts rest) entry earlier end new)
-      (new ≡ running entry rest earlier (with_piece spots t.file t.piece bytes))
-      → Next (came t count genuine) new
-  stored t bytes count genuine true new later (e, ends, goes) = goes_on (came t count genuine) e new later goes
-  stored t bytes count genuine false new later goes =
+  stored : (t : Ticket) (bytes : List ℕ) (count : ℕ) (genuine : Bool) (new : State) → ((s : Ticket) → length earlier < s.attempt → IsUntouched (came t count genuine ∷ []) s)
+      → new ≡ running entry rest earlier (with_piece spots t.file t.piece bytes) → Next (came t count genuine) new
+  stored t bytes count genuine new later goes =
       stays (came t count genuine) (with_piece spots t.file t.piece bytes) new
       (λ file index e. (still_awaited spots t.file t.piece bytes file index e).1) later
       (λ s a e. untouched_piece t s count genuine (other_ticket t s (λ same.
@@ -167,39 +145,44 @@ module _ (facts : BootFacts) (files : List File) (known : facts.sizes ≡ map si
       → ((t : Ticket) → Awaited t → IsUntouched (item ∷ []) t) → new ≡ running entry rest earlier spots → Next item new
   stays_so item new later apart goes = stays item spots new (λ file index e. refl) later (λ t a e. apart t (a, e)) goes
 
-  take_piece : (t : Ticket) (bytes : List ℕ) (count : ℕ) (genuine wanted : Bool) (new : State) → IsFaithfulItem files given (came t count genuine)
-      → (genuine ≡ true → IsPieceOf files (file_under given t) t.piece bytes) → is_wanted earlier spots (piece t bytes) ≡ wanted
-      → MatchBool wanted (Takes facts entry rest earlier spots (piece t bytes) new) (new ≡ running entry rest earlier spots) → Next (came t count genuine) new
-  take_piece t bytes count genuine true new faithful of_file is goes =
-      stored t bytes count genuine (are_whole (with_piece spots t.file t.piece bytes)) new (λ s l. untouched_piece t s count genuine (is_no_later t s faithful.0 l)) goes
-  take_piece t bytes count genuine false new faithful of_file is goes =
-      stays_so (came t count genuine) new (λ s l. untouched_piece t s count genuine (is_no_later t s faithful.0 l))
-      (λ s awaited. untouched_piece t s count genuine (other_ticket t s (λ same.
-      let here : Awaited t = subst Awaited (sym (same_ticket t s same)) awaited in
-      let wanted = wants_piece t bytes here (of_file (marked t count genuine here faithful)) in
-      let clash : false ≡ true = sym is ∙ wanted in
-      absurd (cc))))
-      goes
+  take_piece : (t : Ticket) (bytes : List ℕ) (count : ℕ) (genuine : Bool) (new : State) → IsFaithfulItem files given (came t count genuine)
+      → (genuine ≡ true → IsPieceOf files (file_under given t) t.piece bytes) → Steps facts (running entry rest earlier spots) (piece t bytes) new → Next (came t count genuine) new
+  take_piece t bytes count genuine new faithful of_file goes =
+      let later : (s : Ticket) → length earlier < s.attempt → IsUntouched (came t count genuine ∷ []) s = λ s l. untouched_piece t s count genuine (is_no_later t s faithful.0 l) in
+      elim (step_went facts entry rest earlier spots (piece t bytes) new goes) [
+        | inl (unwanted, same) ↦
+            stays_so (came t count genuine) new later
+            (λ s awaited. untouched_piece t s count genuine (other_ticket t s (λ is.
+            let here : Awaited t = subst Awaited (sym (same_ticket t s is)) awaited in
+            let wanted = wants_piece t bytes here (of_file (marked t count genuine here faithful)) in
+            let clash : false ≡ true = sym unwanted ∙ wanted in
+            absurd (cc))))
+            same
+        | inr (wanted, inl (s, b, is, same)) ↦
+            let ticket : s ≡ t = cc in
+            let same_bytes : b ≡ bytes = cc in
+            stored t bytes count genuine new later (same ∙ ap (λ (x : Ticket). running entry rest earlier (with_piece spots x.file x.piece b)) ticket ∙ ap (λ (x : List ℕ). running entry rest earlier (with_piece spots t.file t.piece x)) same_bytes)
+        | inr (wanted, inr is) ↦ renews (came t count genuine) new later is
+      ]
 
-  take_fault : (t : Ticket) (wanted : Bool) (new : State) → IsFaithfulItem files given (failed t) → is_wanted earlier spots (fault t) ≡ wanted
-      → MatchBool wanted (Takes facts entry rest earlier spots (fault t) new) (new ≡ running entry rest earlier spots) → Next (failed t) new
-  take_fault t true new faithful is goes = absurd (no_fault t (wanted_fault t is) faithful)
-  take_fault t false new faithful is goes =
-      stays_so (failed t) new (λ s l. untouched_fault t s (is_no_later t s faithful.0 l))
-      (λ s awaited. untouched_fault t s (other_ticket t s (λ same. no_fault t (subst Awaited (sym (same_ticket t s same)) awaited) faithful)))
-      goes
+  take_fault : (t : Ticket) (new : State) → IsFaithfulItem files given (failed t) → Steps facts (running entry rest earlier spots) (fault t) new → Next (failed t) new
+  take_fault t new faithful goes =
+      elim (step_went facts entry rest earlier spots (fault t) new goes) [
+        | inl (unwanted, same) ↦
+            stays_so (failed t) new (λ s l. untouched_fault t s (is_no_later t s faithful.0 l))
+            (λ s awaited. untouched_fault t s (other_ticket t s (λ is. no_fault t (subst Awaited (sym (same_ticket t s is)) awaited) faithful)))
+            same
+        | inr (wanted, how) ↦ absurd (no_fault t (wanted_fault t wanted) faithful)
+      ]
 
   -- ---- any answer
 
   hear : (item : Item) (event : EventFacts) (new : State) → IsFaithfulItem files given item → IsAnswer files given earlier spots item event
-      → MatchBool (is_wanted earlier spots event) (Takes facts entry rest earlier spots event new) (new ≡ running entry rest earlier spots) → Next item new
+      → Steps facts (running entry rest earlier spots) event new → Next item new
   hear (submitted file t) event new faithful is goes = absurd is
   hear (came t count genuine) event new faithful (bytes, same, long, of_file) goes =
-      take_piece t bytes count genuine (is_wanted earlier spots (piece t bytes)) new faithful of_file.0 refl
-      (subst (λ (e : EventFacts). MatchBool (is_wanted earlier spots e) (Takes facts entry rest earlier spots e new) (new ≡ running entry rest earlier spots)) same goes)
-  hear (failed t) event new faithful same goes =
-      take_fault t (is_wanted earlier spots (fault t)) new faithful refl
-      (subst (λ (e : EventFacts). MatchBool (is_wanted earlier spots e) (Takes facts entry rest earlier spots e new) (new ≡ running entry rest earlier spots)) same goes)
+      take_piece t bytes count genuine new faithful of_file.0 (subst (λ (e : EventFacts). Steps facts (running entry rest earlier spots) e new) same goes)
+  hear (failed t) event new faithful same goes = take_fault t new faithful (subst (λ (e : EventFacts). Steps facts (running entry rest earlier spots) e new) same goes)
   hear nothing event new faithful (t, first, same) goes = absurd (no_end t first faithful)
 
   pub hear_any : (item : Item) (event : EventFacts) (new : State) → IsFaithfulItem files given item → IsAnswer files given earlier spots item event

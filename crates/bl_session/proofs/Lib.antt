@@ -16,6 +16,6 @@ pub mod AfterLemmas
 pub mod FinishLemmas
 pub mod StepLemmas
 pub mod AlikeLemmas
-pub mod UnderLemmas
+pub mod WentLemmas
 pub mod AskedLemmas
 pub mod ScheduleLaws

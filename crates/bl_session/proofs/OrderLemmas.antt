@@ -3,6 +3,7 @@ use Rattle.std.proofs.Common.{◌≡◌, ℕ, zero, suc, ◌+◌, ◌<◌, ◌�
 use Rattle.std.specs.List.{range_with_len}
 use Rattle.std.proofs.lemmas.Bool.{cases_lt}
 use Rattle.std.proofs.lemmas.Bool.Decides.{nat_tests}
+use Rattle.std.proofs.lemmas.List.{get_or_past}
 use Rattle.bl_stage.specs.Spots.{Spot, waits, has}
 use Rattle.bl_session.specs.declared.words.Ticket.{Ticket}
 use Rattle.bl_session.specs.Pieces.{is_awaited, spot_of}
@@ -173,6 +174,15 @@ once_files attempt place (index ∷ indices) (spots ∷ files) (suc i) t a f h k
     once_last (get_or indices i 0) (piece_orders attempt place index (length spots)) (file_orders attempt (place + 1) indices files) t
     (untouched_pieces attempt place index 0 (length spots) t (λ piece l (x, y, z). omega arith))
     (once_files attempt (place + 1) indices files i t a (omega arith) (omega arith) (omega arith) p)
+
+-- the file under a ticket of an attempt, once it asked for its pieces
+pub found_files : (found : Option ℕ) (attempt : ℕ) (indices : List ℕ) (files : List (List Spot)) (place piece : ℕ) → length files ≡ length indices → piece < length (get_or files place [])
+    → file_after found (file_orders attempt 0 indices files) (ticket_of attempt place piece) ≡ Some (get_or indices place 0)
+found_files found attempt indices files place piece same h =
+    elim (cases_lt place (length files)) [
+      | inl within ↦ (once_files attempt 0 indices files place (ticket_of attempt place piece) refl (omega arith) (omega arith) within h).2 found
+      | inr past ↦ let none : length (get_or files place []) ≡ 0 = ap length (get_or_past files place [] past) in absurd (omega arith)
+    ]
 
 -- ---- the first piece that is awaited
 

@@ -1,5 +1,5 @@
 -- The history of a boot is a schedule, and a genuine one if the history is genuine.
-use Rattle.std.proofs.Common.{◌≡◌, ℕ, ◌<◌, ◌==◌, ◌&&◌, Bool, true, false, if◌then◌else◌, List, [], ◌∷◌, ◌++◌, length, map, get_or, Option, None, Some, refl, sym, ap, subst, ◌∙◌, ◌⊎◌, inl, inr, arith, append_assoc}
+use Rattle.std.proofs.Common.{◌≡◌, ℕ, ◌<◌, ◌==◌, Bool, true, false, if◌then◌else◌, List, [], ◌∷◌, ◌++◌, length, map, get_or, Option, None, Some, refl, sym, ap, subst, ◌∙◌, ◌⊎◌, inl, inr, arith, append_assoc}
 use Rattle.std.proofs.lemmas.Bool.{cases_lt}
 use Rattle.std.proofs.lemmas.Bool.Decides.{nat_tests}
 use Rattle.std.proofs.lemmas.List.{get_or_past, get_or-map, append-nil}
@@ -15,14 +15,11 @@ use Rattle.bl_session.specs.Orders.{orders, orders_after}
 use Rattle.bl_session.specs.Run.{IsEventOf, World, world_of, Hears, Reads, IsRun, AreToldFaults, IsGenuineItem, AreGenuine, IsGenuineRun}
 use Rattle.bl_session.proofs.BootLaws.{one_step}
 use Rattle.bl_session.proofs.OutcomeLaws.{first_ended, one_outcome}
-use Rattle.bl_session.proofs.UnderLemmas.{file_after_append}
-use Rattle.bl_session.proofs.AskedLemmas.{AreAsked, new_begins, asked_new, asked_same, asked_step}
+use Rattle.bl_session.proofs.OrderLemmas.{both, file_both}
+use Rattle.bl_session.proofs.WentLemmas.{new_begins}
+use Rattle.bl_session.proofs.AskedLemmas.{AreAsked, asked_new, asked_same, asked_step}
 
 -- ---- what is wanted
-
-both : (a b : Bool) → (a && b) ≡ true → (a ≡ true) × (b ≡ true)
-both true b e = (refl, e)
-both false b e = absurd cc
 
 awaits_none : (spot : Spot) (count : ℕ) → spot ≡ has [] → awaits spot count ≡ true → ⊥
 awaits_none spot count is e = absurd (let no : awaits spot count ≡ false = ap (λ (s : Spot). awaits s count) is in cc)
@@ -80,9 +77,9 @@ module _ (facts : BootFacts) (files : List File) (faults : ℕ → Option ℕ) w
   same_under : (given : List Item) (entry : ℕ) (rest : List ℕ) (earlier : List RefusedEntry) (spots : List (List Spot)) (item : Item) (event : EventFacts) → IsEventOf files given (running entry rest earlier spots) item event
       → (ticket : Ticket) → file_under (given ++ item ∷ []) ticket ≡ file_under given ticket
   same_under given entry rest earlier spots (submitted file t) event is ticket = absurd is
-  same_under given entry rest earlier spots (came t count mark) event is ticket = file_after_append None given (came t count mark ∷ []) ticket
-  same_under given entry rest earlier spots (failed t) event is ticket = file_after_append None given (failed t ∷ []) ticket
-  same_under given entry rest earlier spots nothing event is ticket = file_after_append None given (nothing ∷ []) ticket
+  same_under given entry rest earlier spots (came t count mark) event is ticket = file_both None given (came t count mark ∷ []) ticket
+  same_under given entry rest earlier spots (failed t) event is ticket = file_both None given (failed t ∷ []) ticket
+  same_under given entry rest earlier spots nothing event is ticket = file_both None given (nothing ∷ []) ticket
 
   -- ---- one item
 

@@ -1,19 +1,18 @@
 -- What holds of a history and of what is still to be asked for, whatever a faithful store answers.
-use Rattle.std.proofs.Common.{◌≡◌, ℕ, ◌-◌, ◌*◌, ◌<◌, ◌≤◌, Bool, true, false, MatchBool, min, List, [], ◌∷◌, ◌++◌, length, map, get_or, Option, Some, None, refl, sym, ap, subst, ◌∙◌, arith, length-append}
-use Rattle.std.proofs.lemmas.List.{get_or-map, length-map}
-use Rattle.bl_load.specs.declared.refusal.Refusal.{Refusal}
-use Rattle.bl_stage.specs.Spots.{waits, bytes_of}
+use Rattle.std.proofs.Common.{◌≡◌, ℕ, ◌-◌, ◌*◌, ◌<◌, ◌≤◌, true, min, List, [], ◌++◌, length, map, get_or, None, refl, ap, ◌∙◌, arith}
+use Rattle.std.proofs.lemmas.List.{get_or-map}
+use Rattle.bl_stage.specs.Spots.{waits}
 use Rattle.bl_session.specs.declared.words.Ticket.{Ticket}
-use Rattle.bl_session.specs.declared.words.RefusedEntry.{RefusedEntry}
-use Rattle.bl_session.specs.Ends.{End, handed, refused, size_refusal, lengths_of}
+use Rattle.bl_session.specs.Ends.{size_refusal, lengths_of}
 use Rattle.bl_session.specs.Menu.{entry_at}
-use Rattle.bl_session.specs.Pieces.{is_awaited, spot_of, are_whole}
-use Rattle.bl_session.specs.Boot.{BootFacts, State, unstarted, running, handed_over, none_left, out_of_memory, sizes_of, fresh, EntryEndsIn, GoesOn, BeginsUnless, Begins}
+use Rattle.bl_session.specs.Pieces.{is_awaited, spot_of}
+use Rattle.bl_session.specs.Boot.{BootFacts, State, unstarted, running, handed_over, none_left, out_of_memory, sizes_of, fresh}
 use Rattle.bl_session.specs.History.{Item}
 use Rattle.bl_session.specs.Outcome.{File, missing, size_of, text_of, texts_of}
 use Rattle.bl_session.specs.Orders.{orders, file_orders}
 use Rattle.bl_session.proofs.OutcomeLaws.{are_read, length_read}
 use Rattle.bl_session.proofs.OrderLemmas.{IsUntouched, IsAskedOnce, untouched_both, once_last, untouched_files, once_files}
+use Rattle.bl_session.proofs.WentLemmas.{IsNewFrom, fresh_length}
 use Rattle.bl_session.proofs.AwaitedLemmas.{is_piece}
 
 module _ (facts : BootFacts) where
@@ -38,55 +37,14 @@ module _ (facts : BootFacts) where
 
   -- ---- an attempt that begins
 
-  abbrev pub IsBegun : List RefusedEntry → State → Type 0
-  IsBegun earlier (running entry rest later spots) =
-      (size_refusal facts.machine (sizes_of facts entry) ≡ None) × (spots ≡ fresh facts entry) × (length earlier ≤ length later)
-  IsBegun earlier unstarted = Unit {0}
-  IsBegun earlier (handed_over entry later handover) = Unit {0}
-  IsBegun earlier (none_left later) = Unit {0}
-  IsBegun earlier out_of_memory = Unit {0}
-
-  fewer_before : (earlier : List RefusedEntry) (r : RefusedEntry) (new : State) → IsBegun (earlier ++ r ∷ []) new → IsBegun earlier new
-  fewer_before earlier r unstarted is = tt
-  fewer_before earlier r (running entry rest later spots) (sized, first, long) = (sized, first, let more = length-append earlier (r ∷ []) in omega arith)
-  fewer_before earlier r (handed_over entry later handover) is = tt
-  fewer_before earlier r (none_left later) is = tt
-  fewer_before earlier r out_of_memory is = tt
-
-  begun_behind : (entry : ℕ) (rest : List ℕ) (earlier : List RefusedEntry) (e : End) (new : State) → ((r : List RefusedEntry) (s : State) → Begins facts rest r s → IsBegun r s)
-      → GoesOn (Begins facts rest) entry earlier e new → IsBegun earlier new
-  begun_behind entry rest earlier (handed h) new more goes = subst (IsBegun earlier) (sym goes) tt
-  begun_behind entry rest earlier (refused r) new more goes =
-      fewer_before earlier (record { entry = entry; refusal = r }) new (more (earlier ++ record { entry = entry; refusal = r } ∷ []) new goes)
-
-  begun_fresh : (entry : ℕ) (rest : List ℕ) (earlier : List RefusedEntry) (full : Bool) (new : State) → ((r : List RefusedEntry) (s : State) → Begins facts rest r s → IsBegun r s)
-      → size_refusal facts.machine (sizes_of facts entry) ≡ None
-      → MatchBool full ((end : End) × EntryEndsIn facts entry (map bytes_of (fresh facts entry)) end × GoesOn (Begins facts rest) entry earlier end new) (new ≡ running entry rest earlier (fresh facts entry))
-      → IsBegun earlier new
-  begun_fresh entry rest earlier true new more sized (e, ends, goes) = begun_behind entry rest earlier e new more goes
-  begun_fresh entry rest earlier false new more sized goes = subst (IsBegun earlier) (sym goes) (sized, refl, omega arith)
-
-  begun_unless : (entry : ℕ) (rest : List ℕ) (earlier : List RefusedEntry) (why : Option Refusal) (new : State) → ((r : List RefusedEntry) (s : State) → Begins facts rest r s → IsBegun r s)
-      → size_refusal facts.machine (sizes_of facts entry) ≡ why → BeginsUnless facts (Begins facts rest) entry rest earlier why new → IsBegun earlier new
-  begun_unless entry rest earlier (Some r) new more sized goes = begun_behind entry rest earlier (refused r) new more goes
-  begun_unless entry rest earlier None new more sized goes = begun_fresh entry rest earlier (are_whole (fresh facts entry)) new more sized goes
-
-  pub begun : (rest : List ℕ) (earlier : List RefusedEntry) (new : State) → Begins facts rest earlier new → IsBegun earlier new
-  begun [] earlier new goes = subst (IsBegun earlier) (sym goes) tt
-  begun (entry ∷ rest) earlier new goes = begun_unless entry rest earlier (size_refusal facts.machine (sizes_of facts entry)) new (begun rest) refl goes
-
-  pub many_files : (entry : ℕ) → length (fresh facts entry) ≡ length (entry_at facts.menu entry).files
-  many_files entry =
-      length-map (lengths_of (sizes_of facts entry)) _ ∙ length-map (sizes_of facts entry) _ ∙ length-map (entry_at facts.menu entry).files _
-
   -- its orders are to be asked for, and none of its tickets was
-  pub steady_begun : (earlier : List RefusedEntry) (given : List Item) (new : State) → IsBegun earlier new → ((t : Ticket) → length earlier ≤ t.attempt → IsUntouched given t)
+  pub steady_new : (given : List Item) (number : ℕ) (new : State) → IsNewFrom facts number new → ((t : Ticket) → number ≤ t.attempt → IsUntouched given t)
       → Steady (given ++ orders facts new) new
-  steady_begun earlier given unstarted is apart = tt
-  steady_begun earlier given (handed_over entry later handover) is apart = tt
-  steady_begun earlier given (none_left later) is apart = tt
-  steady_begun earlier given out_of_memory is apart = tt
-  steady_begun earlier given (running entry rest later spots) (sized, first, long) apart =
+  steady_new given number unstarted is apart = tt
+  steady_new given number (handed_over entry later handover) is apart = tt
+  steady_new given number (none_left later) is apart = tt
+  steady_new given number out_of_memory is apart = tt
+  steady_new given number (running entry rest later spots) (long, sized, first) apart =
       let indices = (entry_at facts.menu entry).files in
       let asked_for = file_orders (length later) 0 indices spots in (
         sized,
@@ -94,7 +52,7 @@ module _ (facts : BootFacts) where
         λ t l. untouched_both given asked_for t (apart t (omega arith)) (untouched_files (length later) 0 indices spots t (λ (a, p). omega arith)),
         λ t a e.
             let one = is_piece (lengths_of (sizes_of facts entry)) t.file t.piece (rw first at e) in
-            let many = many_files entry in
+            let many = fresh_length facts entry in
             let file_in : t.file < length spots = rw first one.file_in in
             let piece_in : t.piece < length (get_or spots t.file []) = rw first one.piece_in in
             let within : t.file < length indices = let f = one.file_in in omega arith in
@@ -122,6 +80,6 @@ module _ (facts : BootFacts) (files : List File) (known : facts.sizes ≡ map si
   awaited_piece entry place index sized e =
       let one = is_piece (lengths_of (sizes_of facts entry)) place index e in
       let file_in = one.file_in in
-      let many = many_files facts entry in
+      let many = fresh_length facts entry in
       let long = length_is entry place sized (omega arith) in
       (rw (← long) one.inside, rw (← long) one.spot)
