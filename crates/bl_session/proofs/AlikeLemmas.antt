@@ -15,6 +15,7 @@ use Rattle.bl_session.specs.Boot.{BootFacts, EventFacts, piece, fault, State, un
 use Rattle.bl_session.specs.Outcome.{File, missing, size_of}
 use Rattle.bl_session.specs.History.{Item}
 use Rattle.bl_session.specs.Orders.{file_orders, orders, orders_after}
+use Rattle.bl_session.specs.Run.{World, world_of, Hears, Reads, IsRun}
 use Rattle.bl_session.specs.Phases.{boot_facts}
 use Rattle.bl_session.proofs.OutcomeLaws.{size_at}
 
@@ -109,6 +110,30 @@ starts_alike f g alike out_of_memory new goes = goes
 pub start_alike : (f g : BootFacts) → AreAlike f g → (old new : State) → StartsOrFails f old new → StartsOrFails g old new
 start_alike f g alike old new (inl starts) = inl (starts_alike f g alike old new starts)
 start_alike f g alike old new (inr fails) = inr fails
+
+-- ---- a history
+
+hears_alike : (f g : BootFacts) → AreAlike f g → (files : List File) (given : List Item) (state : State) (owed : List Item) (item : Item) (next : World) → Hears f files given state owed item next → Hears g files given state owed item next
+hears_alike f g alike files given state (order ∷ owed) item next hears = hears
+hears_alike f g alike files given state [] item next (event, is, steps, left) =
+    (event, is, step_alike f g alike state event next.state steps, left ∙ orders_after_alike f g alike state next.state)
+
+reads_alike : (f g : BootFacts) → AreAlike f g → (files : List File) (items given : List Item) (old : World) (new : State) → Reads f files given old items new → Reads g files given old items new
+reads_alike f g alike files [] given old new reads = reads
+reads_alike f g alike files (item ∷ items) given old new (next, hears, reads) =
+    (next, hears_alike f g alike files given old.state old.owed item next hears, reads_alike f g alike files items (given ++ item ∷ []) next new reads)
+
+-- a run of one is a run of the other
+pub run_alike : (f g : BootFacts) → AreAlike f g → (files : List File) (old new : List Item) (end : State) → IsRun f files old new end → IsRun g files old new end
+run_alike f g alike files old new end run =
+    let world : world_of f run.begun ≡ world_of g run.begun = ap (λ (owed : List Item). record { state = run.begun; owed = owed }) (orders_alike f g alike run.begun) in
+    record {
+      gained = run.gained;
+      given = run.given;
+      begun = run.begun;
+      begins = start_alike f g alike unstarted run.begun run.begins;
+      reads = subst (λ (w : World). Reads g files old w run.gained end) world (reads_alike f g alike files run.gained old (world_of f run.begun) end run.reads);
+    }
 
 -- ---- the sizes of the files that a menu names, and those of all files
 
