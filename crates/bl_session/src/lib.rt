@@ -10,6 +10,7 @@ mod finishing;
 mod laws;
 mod menu;
 mod phase;
+mod run_laws;
 mod session;
 mod stepping;
 mod store;
@@ -23,6 +24,9 @@ pub use laws::{
     steps_are_determined, two_boots,
 };
 pub use menu::{MOST_ENTRIES, MOST_MODULES, Menu, MenuFault, order_attempts};
+pub use run_laws::{
+    faithful_stores_boot_by_their_files, runs_end_with_the_first_entry_not_refused,
+};
 pub use session::Session;
 pub use store::Store;
 pub use words::{BootFault, Event, Outcome, Progress, RefusedEntry, Ticket};
