@@ -14,3 +14,4 @@ pub mod AlikeLemmas
 pub mod UnderLemmas
 pub mod AskedLemmas
 pub mod ScheduleLaws
+pub mod FaultLaws
