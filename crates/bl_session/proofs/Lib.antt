@@ -19,3 +19,4 @@ pub mod AlikeLemmas
 pub mod WentLemmas
 pub mod AskedLemmas
 pub mod ScheduleLaws
+pub mod FaultLaws

@@ -28,7 +28,7 @@ new_later facts low high (none_left earlier) h is = tt
 new_later facts low high out_of_memory h is = tt
 
 -- an attempt that ended, if each one behind it is new
-new_goes : (facts : BootFacts) (rest : List ℕ) (entry : ℕ) (earlier : List RefusedEntry) (end : End) (new : State) → ((r : List RefusedEntry) (s : State) → Begins facts rest r s → IsNewFrom facts (length r) s)
+pub new_goes : (facts : BootFacts) (rest : List ℕ) (entry : ℕ) (earlier : List RefusedEntry) (end : End) (new : State) → ((r : List RefusedEntry) (s : State) → Begins facts rest r s → IsNewFrom facts (length r) s)
     → GoesOn (Begins facts rest) entry earlier end new → IsNewFrom facts (length earlier + 1) new
 new_goes facts rest entry earlier (handed handover) new more goes = subst (IsNewFrom facts (length earlier + 1)) (sym goes) tt
 new_goes facts rest entry earlier (refused refusal) new more goes =
