@@ -2,6 +2,11 @@ pub mod EndLaws
 pub mod BootLaws
 pub mod GatherLemmas
 pub mod OutcomeLaws
+pub mod OrderLemmas
+pub mod AwaitedLemmas
+pub mod SteadyLemmas
+pub mod HeardLemmas
+pub mod FaithfulLaws
 pub mod OnceLemmas
 pub mod SpotLemmas
 pub mod AttemptLemmas
@@ -11,7 +16,9 @@ pub mod AfterLemmas
 pub mod FinishLemmas
 pub mod StepLemmas
 pub mod AlikeLemmas
-pub mod UnderLemmas
+pub mod WentLemmas
 pub mod AskedLemmas
+pub mod LostLemmas
 pub mod ScheduleLaws
+pub mod FaultLemmas
 pub mod FaultLaws

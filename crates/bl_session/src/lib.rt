@@ -24,7 +24,10 @@ pub use laws::{
     steps_are_determined, two_boots,
 };
 pub use menu::{MOST_ENTRIES, MOST_MODULES, Menu, MenuFault};
-pub use run_laws::runs_end_with_the_first_entry_not_refused;
+pub use run_laws::{
+    faithful_stores_boot_by_their_files, marked_histories_are_genuine,
+    runs_end_with_the_first_entry_not_refused,
+};
 pub use session::Session;
 pub use store::Store;
 pub use words::{BootFault, Event, Outcome, Progress, RefusedEntry, Ticket};
