@@ -1,86 +1,19 @@
 -- A history whose wanted pieces are marked is genuine, with the faults that came of it.
-use Rattle.std.proofs.Common.{◌≡◌, ◌≢◌, ℕ, ◌+◌, ◌<◌, ◌≤◌, ◌==◌, Bool, true, false, MatchBool, if◌then◌else◌, List, [], ◌∷◌, ◌++◌, length, map, Option, None, Some, refl, sym, ap, subst, ◌∙◌, ◌⊎◌, inl, inr, arith}
-use Rattle.std.proofs.lemmas.Bool.Decides.{nat_tests}
-use Rattle.bl_load.specs.declared.refusal.Refusal.TheVariants.{FileFault}
-use Rattle.bl_stage.specs.Spots.{Spot, bytes_of}
+use Rattle.std.proofs.Common.{◌≡◌, ℕ, ◌+◌, ◌≤◌, Bool, true, false, MatchBool, List, [], ◌∷◌, ◌++◌, length, None, refl, sym, ap, subst, ◌∙◌, inl, inr, arith}
+use Rattle.bl_stage.specs.Spots.{Spot}
 use Rattle.bl_session.specs.declared.words.RefusedEntry.{RefusedEntry}
-use Rattle.bl_session.specs.declared.words.Ticket.{Ticket}
-use Rattle.bl_session.specs.Ends.{End, refused}
-use Rattle.bl_session.specs.Pieces.{are_whole, with_piece}
-use Rattle.bl_session.specs.Boot.{BootFacts, EventFacts, piece, fault, State, unstarted, running, handed_over, none_left, out_of_memory, EntryEndsIn, GoesOn, Begins, is_wanted, Takes, Steps, StepsOrFails, Starts, StartsOrFails, attempt_of}
+use Rattle.bl_session.specs.Boot.{BootFacts, EventFacts, State, unstarted, running, handed_over, none_left, out_of_memory, is_wanted, Takes, Steps, StartsOrFails}
 use Rattle.bl_session.specs.Outcome.{File, Faults}
-use Rattle.bl_session.specs.History.{Item, submitted, came, failed, nothing, file_under, IsPieceOf}
+use Rattle.bl_session.specs.History.{Item}
 use Rattle.bl_session.specs.Orders.{orders, orders_after}
 use Rattle.bl_session.specs.Run.{IsAnswer, IsEventOf, World, world_of, Hears, Reads, IsRun, IsMarked, AreToldFaults, IsGenuineItem, AreGenuine, IsGenuineRun}
 use Rattle.bl_session.specs.Marked.{IsMarkedItem, AreMarked, IsMarkedRun}
 use Rattle.bl_session.proofs.BootLaws.{one_step, one_start}
-use Rattle.bl_session.proofs.WentLemmas.{IsNewFrom, new_begins, new_goes}
-
--- ---- an answer that is wanted is one event
-
-one_piece : (files : List File) (under : Option ℕ) (index : ℕ) (a b : List ℕ) → IsPieceOf files under index a → IsPieceOf files under index b → a ≡ b
-one_piece files None index a b p q = absurd p
-one_piece files (Some file) index a b p q = p ∙ sym q
-
-one_event : (files : List File) (given : List Item) (earlier : List RefusedEntry) (spots : List (List Spot)) (item : Item) (a b : EventFacts) → IsMarked item
-    → IsAnswer files given earlier spots item a → IsAnswer files given earlier spots item b → a ≡ b
-one_event files given earlier spots (submitted file ticket) a b marked p q = absurd p
-one_event files given earlier spots (came ticket count mark) a b marked (x, is, long, mine) (y, other, same, its) =
-    is ∙ ap (piece ticket) (one_piece files (file_under given ticket) ticket.piece x y (mine.0 marked) (its.0 marked)) ∙ sym other
-one_event files given earlier spots (failed ticket) a b marked p q = p ∙ sym q
-one_event files given earlier spots nothing a b marked (s, first, is) (t, found, other) =
-    let e : Some s ≡ Some t = sym first ∙ found in
-    let same : s ≡ t = cc in
-    is ∙ ap fault same ∙ sym other
-
--- ---- the fault of which an attempt ends
-
--- the event ends its attempt
-abbrev is_last : List (List Spot) → EventFacts → Bool
-is_last spots (piece ticket bytes) = are_whole (with_piece spots ticket.file ticket.piece bytes)
-is_last spots (fault ticket) = true
-
--- the file of which a fault comes by it
-abbrev told : EventFacts → Option ℕ
-told (piece ticket bytes) = None
-told (fault ticket) = Some ticket.file
-
-are_told : (faults : Faults) (earlier : List RefusedEntry) (spots : List (List Spot)) (event : EventFacts) → (is_last spots event ≡ true → faults (length earlier) ≡ told event) → AreToldFaults faults earlier spots event
-are_told faults earlier spots (piece ticket bytes) is = is
-are_told faults earlier spots (fault ticket) is = is refl
-
--- these faults, but for one attempt
-abbrev with_fault : ℕ → Option ℕ → Faults → Faults
-with_fault number place faults = λ n. if n == number then place else faults n
-
-at_fault : (number : ℕ) (place : Option ℕ) (faults : Faults) → with_fault number place faults number ≡ place
-at_fault number place faults =
-    let same : (number == number) ≡ true = grind (arith, nat_tests) in
-    ap (λ (b : Bool). if b then place else faults number) same
-
-past_fault : (number : ℕ) (place : Option ℕ) (faults : Faults) (n : ℕ) → number < n → with_fault number place faults n ≡ faults n
-past_fault number place faults n h =
-    let other : (n == number) ≡ false = grind (arith, nat_tests) in
-    ap (λ (b : Bool). if b then place else faults n) other
+use Rattle.bl_session.proofs.WentLemmas.{IsNewFrom}
+use Rattle.bl_session.proofs.LostLemmas.{LacksMemory, lost_step, hears_nothing, reads_nothing}
+use Rattle.bl_session.proofs.FaultLemmas.{one_event, is_last, told, are_told, with_fault, at_fault, past_fault, last_new, goes_on}
 
 module _ (facts : BootFacts) (files : List File) where
-  -- the last event of an attempt leads to a new one
-  last_new : (entry : ℕ) (rest : List ℕ) (earlier : List RefusedEntry) (spots : List (List Spot)) (event : EventFacts) (new : State) → is_last spots event ≡ true
-      → Takes facts entry rest earlier spots event new → IsNewFrom facts (length earlier + 1) new
-  last_new entry rest earlier spots (piece ticket bytes) new last takes =
-      let after = with_piece spots ticket.file ticket.piece bytes in
-      let ends = subst (λ (b : Bool). MatchBool b ((end : End) × EntryEndsIn facts entry (map bytes_of after) end × GoesOn (Begins facts rest) entry earlier end new) (new ≡ running entry rest earlier after)) last takes in
-      new_goes facts rest entry earlier ends.0 new (new_begins facts rest) ends.2
-  last_new entry rest earlier spots (fault ticket) new last takes = new_goes facts rest entry earlier (refused (FileFault ticket.file)) new (new_begins facts rest) takes
-
-  -- each other one leaves it as it runs
-  goes_on : (entry : ℕ) (rest : List ℕ) (earlier : List RefusedEntry) (spots : List (List Spot)) (event : EventFacts) (new : State) → is_last spots event ≡ false
-      → Takes facts entry rest earlier spots event new → (after : List (List Spot)) × (new ≡ running entry rest earlier after)
-  goes_on entry rest earlier spots (piece ticket bytes) new last takes =
-      let after = with_piece spots ticket.file ticket.piece bytes in
-      (after, subst (λ (b : Bool). MatchBool b ((end : End) × EntryEndsIn facts entry (map bytes_of after) end × GoesOn (Begins facts rest) entry earlier end new) (new ≡ running entry rest earlier after)) last takes)
-  goes_on entry rest earlier spots (fault ticket) new last takes = absurd cc
-
   -- ---- faults from an attempt on
 
   -- the attempt of this number is that which runs, or comes later
@@ -105,27 +38,12 @@ module _ (facts : BootFacts) (files : List File) where
 
   -- ---- want of memory
 
-  lost_genuine : (others : Faults) (items given : List Item) (world : World) → world.state ≡ out_of_memory → world.owed ≡ [] → AreGenuine facts files others given world items
-  lost_genuine others [] given world lost none = tt
-  lost_genuine others (item ∷ items) given world lost none =
-      (λ event e is. subst (λ (s : State). IsGenuineItem others s item event) (sym lost) tt,
-      λ next hears. absurd (
-      let at : Hears facts files given out_of_memory [] item next = subst (λ (owed : List Item). Hears facts files given out_of_memory owed item next) none (subst (λ (s : State). Hears facts files given s world.owed item next) lost hears) in
-      at.1))
-
-  no_more : (given : List Item) (world : World) (items : List Item) (end : State) → world.state ≡ out_of_memory → world.owed ≡ [] → Reads facts files given world items end → items ≡ []
-  no_more given world [] end lost none reads = refl
-  no_more given world (item ∷ items) end lost none (next, hears, reads) =
-      absurd (
-      let at : Hears facts files given out_of_memory [] item next = subst (λ (owed : List Item). Hears facts files given out_of_memory owed item next) none (subst (λ (s : State). Hears facts files given s world.owed item next) lost hears) in
-      at.1)
-
-  nothing_owed : (old : State) → orders_after facts old out_of_memory ≡ []
-  nothing_owed old = either (attempt_of out_of_memory == attempt_of old)
-    where
-      either : (b : Bool) → (if b then [] else orders facts out_of_memory) ≡ []
-      either true = refl
-      either false = refl
+  lost_genuine : (others : Faults) (items given : List Item) (world : World) → LacksMemory world → AreGenuine facts files others given world items
+  lost_genuine others [] given world lost = tt
+  lost_genuine others (item ∷ items) given world lost = (
+    λ event e is. subst (λ (s : State). IsGenuineItem others s item event) (sym lost.0) tt,
+    λ next hears. absurd (hears_nothing facts files given world item next lost hears),
+  )
 
   -- ---- one answer of an attempt that runs
 
@@ -147,7 +65,7 @@ module _ (facts : BootFacts) (files : List File) where
     other_world : (others : Faults) (event : EventFacts) (next world : World) (items : List Item) → IsAnswer files given earlier spots item event → Steps facts here event next.state → next.owed ≡ orders_after facts here next.state
         → Hears facts files given here [] item world → AreGenuine facts files others (given ++ item ∷ []) next items → AreGenuine facts files others (given ++ item ∷ []) world items
     other_world others event next world items p goes left (other, q, inr (lost, ends), owed) genuine =
-        lost_genuine others items (given ++ item ∷ []) world lost (owed ∙ ap (orders_after facts here) lost ∙ nothing_owed here)
+        lost_genuine others items (given ++ item ∷ []) world (lost_step facts here world lost owed)
     other_world others event next world items p goes left (other, q, inl steps, owed) genuine =
         let state : next.state ≡ world.state = same_state (is_wanted earlier spots other) (is_wanted earlier spots event) refl refl steps goes in
         let same : next ≡ world = ap (λ (s : State). record { state = s; owed = next.owed }) state ∙ ap (λ (o : List Item). record { state = world.state; owed = o }) (left ∙ ap (orders_after facts here) state ∙ sym owed) in
@@ -167,36 +85,46 @@ module _ (facts : BootFacts) (files : List File) where
       where
         whole : (others : Faults) → (is_last spots event ≡ true → is_wanted earlier spots event ≡ true → others (length earlier) ≡ told event) → ((n : ℕ) → IsFrom next.state n → others n ≡ faults n)
             → AreGenuine facts files others given (record { state = here; owed = [] }) (item ∷ items)
-        whole others is same =
-            (λ other none q is_it. told_right others event other p (λ last. is last (ap (is_wanted earlier spots) (sym (is_event other event q is_it p)) ∙ is_it)) q is_it,
-            λ world hears. other_world others event next world items p goes left hears (more others same))
+        whole others is same = (
+          λ other none q is_it. told_right others event other p (λ last. is last (ap (is_wanted earlier spots) (sym (is_event other event q is_it p)) ∙ is_it)) q is_it,
+          λ world hears. other_world others event next world items p goes left hears (more others same),
+        )
 
         ended : (last : Bool) → is_last spots event ≡ last → Takes facts entry rest earlier spots event next.state → Fits given (record { state = here; owed = [] }) (item ∷ items)
         ended true e takes =
-            let new = last_new entry rest earlier spots event next.state e takes in
-            (with_fault (length earlier) (told event) faults, λ others same.
-            whole others (λ last wants. same (length earlier) (omega arith) ∙ at_fault (length earlier) (told event) faults)
-            (λ n from. let later = from_new (length earlier + 1) next.state n new from in
-            same n (omega (arith, later)) ∙ past_fault (length earlier) (told event) faults n (omega (arith, later))))
+            let new = last_new facts entry rest earlier spots event next.state e takes in (
+              with_fault (length earlier) (told event) faults,
+              λ others same.
+                  whole others (λ last wants. same (length earlier) (omega arith) ∙ at_fault (length earlier) (told event) faults)
+                  (λ n from. let later = from_new (length earlier + 1) next.state n new from in
+                  same n (omega (arith, later)) ∙ past_fault (length earlier) (told event) faults n (omega (arith, later))),
+            )
         ended false e takes =
-            let on = goes_on entry rest earlier spots event next.state e takes in
-            (faults, λ others same.
-            whole others (λ last wants. absurd (let clash : true ≡ false = sym last ∙ e in cc))
-            (λ n from. same n (subst (λ (s : State). IsFrom s n) on.1 from)))
+            let on = goes_on facts entry rest earlier spots event next.state e takes in (
+              faults,
+              λ others same.
+                  whole others (λ last wants. absurd (let clash : true ≡ false = sym last ∙ e in cc))
+                  (λ n from. same n (subst (λ (s : State). IsFrom s n) on.1 from)),
+            )
 
         wanted : (b : Bool) → is_wanted earlier spots event ≡ b → MatchBool b (Takes facts entry rest earlier spots event next.state) (next.state ≡ here) → Fits given (record { state = here; owed = [] }) (item ∷ items)
         wanted true e takes = ended (is_last spots event) refl takes
-        wanted false e stays =
-            (faults, λ others same.
-            whole others (λ last wants. absurd (let clash : true ≡ false = sym wants ∙ e in cc))
-            (λ n from. same n (subst (λ (s : State). IsFrom s n) stays from)))
+        wanted false e stays = (
+          faults,
+          λ others same.
+              whole others (λ last wants. absurd (let clash : true ≡ false = sym wants ∙ e in cc))
+              (λ n from. same n (subst (λ (s : State). IsFrom s n) stays from)),
+        )
 
     -- memory ran out by it
     lost_last : (event : EventFacts) → IsAnswer files given earlier spots item event → Fits given (record { state = here; owed = [] }) (item ∷ [])
-    lost_last event p =
-        (λ n. told event, λ others same.
-        (λ other none q is_it. told_right others event other p (λ last. same (length earlier) (omega arith)) q is_it,
-        λ world hears. tt))
+    lost_last event p = (
+      λ n. told event,
+      λ others same. (
+        λ other none q is_it. told_right others event other p (λ last. same (length earlier) (omega arith)) q is_it,
+        λ world hears. tt,
+      ),
+    )
 
   -- ---- the whole history
 
@@ -204,16 +132,19 @@ module _ (facts : BootFacts) (files : List File) where
       → ((event : EventFacts) → owed ≡ [] → IsEventOf files given state item event → IsMarkedItem state item event)
       → Hears facts files given state owed item next → Reads facts files (given ++ item ∷ []) next items end → Fits (given ++ item ∷ []) next items
       → Fits given (record { state = state; owed = owed }) (item ∷ items)
-  one_item items item given state (order ∷ owed) next end marked (is, same) reads (faults, more) =
-      (faults, λ others agree.
-      (λ event none p. absurd (let clash : order ∷ owed ≡ [] = none in cc),
+  one_item items item given state (order ∷ owed) next end marked (is, same) reads (faults, more) = (
+    faults,
+    λ others agree. (
+      λ event none p. absurd (let clash : order ∷ owed ≡ [] = none in cc),
       λ world (is_too, same_too). subst (λ (w : World). AreGenuine facts files others (given ++ item ∷ []) w items) (same ∙ sym same_too)
-      (more others (λ n from. agree n (subst (λ (w : World). IsFrom w.state n) same from)))))
+          (more others (λ n from. agree n (subst (λ (w : World). IsFrom w.state n) same from))),
+    ),
+  )
   one_item items item given unstarted [] next end marked (event, is, goes, left) reads more = absurd is
   one_item items item given (running entry rest earlier spots) [] next end marked (event, is, inl goes, left) reads more =
       taken given entry rest earlier spots item (λ other p. marked other refl p) event next items is goes left more
   one_item items item given (running entry rest earlier spots) [] next end marked (event, is, inr (lost, ends), left) reads more =
-      let none = no_more (given ++ item ∷ []) next items end lost (left ∙ ap (orders_after facts (running entry rest earlier spots)) lost ∙ nothing_owed (running entry rest earlier spots)) reads in
+      let none = reads_nothing facts files (given ++ item ∷ []) next items end (lost_step facts (running entry rest earlier spots) next lost left) reads in
       subst (λ (rest_of : List Item). Fits given (record { state = running entry rest earlier spots; owed = [] }) (item ∷ rest_of)) (sym none)
       (lost_last given entry rest earlier spots item (λ other p. marked other refl p) event is)
   one_item items item given (handed_over entry earlier handover) [] next end marked (event, is, goes, left) reads more = absurd is
@@ -237,15 +168,17 @@ module _ (facts : BootFacts) (files : List File) where
   begun_alike old gained a b end (inl p) reads faults genuine (inl q) =
       subst (λ (s : State). AreGenuine facts files faults old (world_of facts s) gained) (one_start facts unstarted a b p q) genuine
   begun_alike old gained a b end p reads faults genuine (inr (lost, is)) =
-      lost_genuine faults gained old (world_of facts b) lost (ap (orders facts) lost)
+      lost_genuine faults gained old (world_of facts b) (lost, ap (orders facts) lost)
   begun_alike old gained a b end (inr (lost, is)) reads faults genuine (inl q) =
-      let none = no_more old (world_of facts a) gained end lost (ap (orders facts) lost) reads in
+      let none = reads_nothing facts files old (world_of facts a) gained end (lost, ap (orders facts) lost) reads in
       subst (λ (items : List Item). AreGenuine facts files faults old (world_of facts b) items) (sym none) tt
 
   pub some_faults : (old new : List Item) (end : State) → IsRun facts files old new end → IsMarkedRun facts files old new → (faults : Faults) × IsGenuineRun facts files faults old new
   some_faults old new end run marked =
-      let found = fits run.gained old (world_of facts run.begun) end (marked run.gained run.begun run.given run.begins) run.reads in
-      (found.0, λ gained begun given begins.
-      let same : run.gained ≡ gained = same_rest old run.gained gained (sym run.given ∙ given) in
-      subst (λ (items : List Item). AreGenuine facts files found.0 old (world_of facts begun) items) same
-      (begun_alike old run.gained run.begun begun end run.begins run.reads found.0 (found.1 found.0 (λ n from. refl)) begins))
+      let found = fits run.gained old (world_of facts run.begun) end (marked run.gained run.begun run.given run.begins) run.reads in (
+        found.0,
+        λ gained begun given begins.
+            let same : run.gained ≡ gained = same_rest old run.gained gained (sym run.given ∙ given) in
+            subst (λ (items : List Item). AreGenuine facts files found.0 old (world_of facts begun) items) same
+            (begun_alike old run.gained run.begun begun end run.begins run.reads found.0 (found.1 found.0 (λ n from. refl)) begins),
+      )

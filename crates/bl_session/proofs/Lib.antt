@@ -18,5 +18,7 @@ pub mod StepLemmas
 pub mod AlikeLemmas
 pub mod WentLemmas
 pub mod AskedLemmas
+pub mod LostLemmas
 pub mod ScheduleLaws
+pub mod FaultLemmas
 pub mod FaultLaws

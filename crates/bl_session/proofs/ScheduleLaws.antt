@@ -1,5 +1,5 @@
 -- The history of a boot is a schedule, and a genuine one if the history is genuine.
-use Rattle.std.proofs.Common.{◌≡◌, ℕ, ◌<◌, ◌==◌, Bool, true, false, if◌then◌else◌, List, [], ◌∷◌, ◌++◌, length, map, get_or, Option, None, Some, refl, sym, ap, subst, ◌∙◌, ◌⊎◌, inl, inr, arith, append_assoc}
+use Rattle.std.proofs.Common.{◌≡◌, ℕ, ◌<◌, ◌==◌, true, false, List, [], ◌∷◌, ◌++◌, length, map, get_or, Option, None, Some, refl, sym, ap, subst, ◌∙◌, ◌⊎◌, inl, inr, arith, append_assoc}
 use Rattle.std.proofs.lemmas.Bool.{cases_lt}
 use Rattle.std.proofs.lemmas.Bool.Decides.{nat_tests}
 use Rattle.std.proofs.lemmas.List.{get_or_past, get_or-map, append-nil}
@@ -8,15 +8,16 @@ use Rattle.bl_session.specs.declared.words.RefusedEntry.{RefusedEntry}
 use Rattle.bl_session.specs.declared.words.Ticket.{Ticket}
 use Rattle.bl_session.specs.Menu.{entry_at}
 use Rattle.bl_session.specs.Pieces.{awaits, spot_of}
-use Rattle.bl_session.specs.Boot.{BootFacts, EventFacts, piece, State, unstarted, running, handed_over, none_left, out_of_memory, Begins, is_wanted, Steps, StartsOrFails, LeadsTo, attempt_of}
+use Rattle.bl_session.specs.Boot.{BootFacts, EventFacts, piece, State, unstarted, running, handed_over, none_left, out_of_memory, Begins, is_wanted, Steps, StartsOrFails, LeadsTo}
 use Rattle.bl_session.specs.Outcome.{File, missing, size_of, text_of, texts_of, IsTrueOf, IsGenuineAt, IsGenuine, IsOutcome, HasEnded}
 use Rattle.bl_session.specs.History.{Item, submitted, came, failed, nothing, file_under, IsPieceOf}
-use Rattle.bl_session.specs.Orders.{orders, orders_after}
+use Rattle.bl_session.specs.Orders.{orders}
 use Rattle.bl_session.specs.Run.{IsEventOf, World, world_of, Hears, Reads, IsRun, AreToldFaults, IsGenuineItem, AreGenuine, IsGenuineRun}
 use Rattle.bl_session.proofs.BootLaws.{one_step}
 use Rattle.bl_session.proofs.OutcomeLaws.{first_ended, one_outcome}
 use Rattle.bl_session.proofs.OrderLemmas.{both, file_both}
 use Rattle.bl_session.proofs.WentLemmas.{new_begins}
+use Rattle.bl_session.proofs.LostLemmas.{LacksMemory, lost_step, hears_nothing}
 use Rattle.bl_session.proofs.AskedLemmas.{AreAsked, asked_new, asked_same, asked_step}
 
 -- ---- what is wanted
@@ -83,18 +84,6 @@ module _ (facts : BootFacts) (files : List File) (faults : ℕ → Option ℕ) w
 
   -- ---- one item
 
-  -- nothing is owed after want of memory
-  nothing_owed : (old : State) → orders_after facts old out_of_memory ≡ []
-  nothing_owed old = either (attempt_of out_of_memory == attempt_of old)
-    where
-      either : (b : Bool) → (if b then [] else orders facts out_of_memory) ≡ []
-      either true = refl
-      either false = refl
-
-  -- memory ran out
-  abbrev HasFailed : World → Type 0
-  HasFailed world = (world.state ≡ out_of_memory) × (world.owed ≡ [])
-
   -- an item is asked for, and the state stays; or it is an event of the schedule
   abbrev Heard : List Item → State → World → Type 0
   Heard given state next =
@@ -103,7 +92,7 @@ module _ (facts : BootFacts) (files : List File) (faults : ℕ → Option ℕ) w
 
   heard : (given : List Item) (state : State) (owed : List Item) (item : Item) (next : World) → AreAsked facts (given ++ owed) state
       → ((event : EventFacts) → owed ≡ [] → IsEventOf files given state item event → IsGenuineItem faults state item event) → Hears facts files given state owed item next
-      → Heard (given ++ item ∷ []) state next ⊎ HasFailed next
+      → Heard (given ++ item ∷ []) state next ⊎ LacksMemory next
   heard given state (order ∷ owed) item next asked genuine (is, same) =
       let stays : next.state ≡ state = ap (λ (w : World). w.state) same in
       let left : next.owed ≡ owed = ap (λ (w : World). w.owed) same in
@@ -120,7 +109,7 @@ module _ (facts : BootFacts) (files : List File) (faults : ℕ → Option ℕ) w
         inr (event, genuine_event given entry rest earlier spots item event now is (genuine event refl is), goes),
       )
   heard given (running entry rest earlier spots) [] item next asked genuine (event, is, inr (lost, ends), left) =
-      inr (lost, left ∙ ap (orders_after facts (running entry rest earlier spots)) lost ∙ nothing_owed (running entry rest earlier spots))
+      inr (lost_step facts (running entry rest earlier spots) next lost left)
   heard given (handed_over entry earlier handover) [] item next asked genuine (event, is, goes, left) = absurd is
   heard given (none_left earlier) [] item next asked genuine (event, is, goes, left) = absurd is
   heard given out_of_memory [] item next asked genuine (event, is, goes, left) = absurd is
@@ -131,12 +120,10 @@ module _ (facts : BootFacts) (files : List File) (faults : ℕ → Option ℕ) w
   ended_not end is ended = subst HasEnded is ended
 
   -- a boot does not end after want of memory
-  failed_not : (given : List Item) (world : World) (items : List Item) (end : State) → HasFailed world → Reads facts files given world items end → HasEnded end → ⊥
-  failed_not given world [] end (is, none) (inl same) ended = ended_not end (same ∙ is) ended
-  failed_not given world [] end (is, none) (inr lost) ended = ended_not end lost ended
-  failed_not given world (item ∷ items) end (is, none) (next, hears, reads) ended =
-      let at : Hears facts files given out_of_memory [] item next = subst (λ (owed : List Item). Hears facts files given out_of_memory owed item next) none (subst (λ (s : State). Hears facts files given s world.owed item next) is hears) in
-      absurd at.1
+  lost_not : (given : List Item) (world : World) (items : List Item) (end : State) → LacksMemory world → Reads facts files given world items end → HasEnded end → ⊥
+  lost_not given world [] end (is, none) (inl same) ended = ended_not end (same ∙ is) ended
+  lost_not given world [] end (is, none) (inr lost) ended = ended_not end lost ended
+  lost_not given world (item ∷ items) end lost (next, hears, reads) ended = hears_nothing facts files given world item next lost hears
 
   -- a genuine schedule leads from a state to another
   abbrev pub IsScheduled : State → State → Type 0
@@ -157,7 +144,7 @@ module _ (facts : BootFacts) (files : List File) (faults : ℕ → Option ℕ) w
             subst (λ (s : State). IsScheduled s end) stays (schedule items (given ++ item ∷ []) next end now (genuine.1 next hears) reads ended)
         | inl (now, inr (event, holds, goes)) ↦
             one_more world.state next.state end event holds goes (schedule items (given ++ item ∷ []) next end now (genuine.1 next hears) reads ended)
-        | inr lost ↦ absurd (failed_not (given ++ item ∷ []) next items end lost reads ended)
+        | inr lost ↦ absurd (lost_not (given ++ item ∷ []) next items end lost reads ended)
       ]
 
   -- the history of a boot that ended
@@ -172,7 +159,7 @@ module _ (facts : BootFacts) (files : List File) (faults : ℕ → Option ℕ) w
         schedule run.gained old (world_of facts run.begun) end (asked_new facts old 0 run.begun (new_begins facts facts.menu.attempts [] run.begun begins))
             (genuine run.gained run.begun run.given run.begins) run.reads ended,
       )
-      go (inr (lost, is)) = absurd (failed_not old (world_of facts run.begun) run.gained end (lost, ap (orders facts) lost) run.reads ended)
+      go (inr (lost, is)) = absurd (lost_not old (world_of facts run.begun) run.gained end (lost, ap (orders facts) lost) run.reads ended)
 
   pub run_ended : facts.sizes ≡ map size_of files → (old new : List Item) (end : State) → IsRun facts files old new end → IsGenuineRun facts files faults old new → HasEnded end → IsOutcome facts files faults end
   run_ended known old new end run genuine ended =

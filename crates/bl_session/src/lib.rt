@@ -25,7 +25,8 @@ pub use laws::{
 };
 pub use menu::{MOST_ENTRIES, MOST_MODULES, Menu, MenuFault, order_attempts};
 pub use run_laws::{
-    faithful_stores_boot_by_their_files, runs_end_with_the_first_entry_not_refused,
+    faithful_stores_boot_by_their_files, marked_histories_are_genuine,
+    runs_end_with_the_first_entry_not_refused,
 };
 pub use session::Session;
 pub use store::Store;

@@ -4,6 +4,7 @@ ghost use Rattle.bl_session.specs.Boot.{BootFacts, EventFacts, State, Begins, Le
 ghost use Rattle.bl_session.specs.Outcome.{File, Faults, size_of, IsGenuine, IsOutcome, HasEnded};
 ghost use Rattle.bl_session.specs.History.{Item};
 ghost use Rattle.bl_session.specs.Run.{IsRun, IsGenuineRun};
+ghost use Rattle.bl_session.specs.Marked.{IsMarkedRun};
 ghost use Rattle.bl_session.specs.Faithful.{IsFaithful};
 
 /// A boot over a store that answers genuinely and comes to an end ends with the first entry that is
@@ -28,6 +29,14 @@ pub fn runs_end_with_the_first_entry_not_refused()
         → IsRun facts files old new a → IsGenuineRun facts files faults old new → HasEnded a
         → IsRun facts files before after b → IsGenuineRun facts files faults before after
         → HasEnded b → a ≡ b }
+{}
+
+/// What a boot over a store hears is genuine, for the faults that came, as soon as each piece that it
+/// waits for is marked as its file's. So the law above speaks of each such history.
+pub fn marked_histories_are_genuine()
+    ensures { (facts : BootFacts) (files : List File) (old new : List Item) (end : State)
+        → IsRun facts files old new end → IsMarkedRun facts files old new
+        → (faults : Faults) × IsGenuineRun facts files faults old new }
 {}
 
 /// A boot over a faithful store that was asked for nothing before hears only what the files hold, and
