@@ -13,9 +13,9 @@ use Rattle.bl_session.specs.Outcome.{File, size_of}
 use Rattle.bl_session.specs.Orders.{orders, orders_after, first_ticket}
 use Rattle.bl_session.specs.Run.{IsAnswer, IsMarked, AreToldFaults}
 use Rattle.bl_session.specs.Faithful.{asked, answered, HasPiece, IsFaithfulItem}
-use Rattle.bl_session.proofs.OrderLemmas.{both, IsUntouched, IsAskedOnce, same_ticket, other_ticket, untouched_both, once_first, untouched_piece, untouched_fault, first_is_awaited}
+use Rattle.bl_session.proofs.OrderLemmas.{both, IsUntouched, IsAskedOnce, same_ticket, other_ticket, untouched_both, once_first, untouched_piece, untouched_fault}
 use Rattle.bl_session.proofs.WentLemmas.{IsNewFrom, step_went}
-use Rattle.bl_session.proofs.AwaitedLemmas.{still_awaited, awaits_is_awaited}
+use Rattle.bl_session.proofs.AwaitedLemmas.{first_is_awaited, still_awaited, awaits_is_awaited}
 use Rattle.bl_session.proofs.SteadyLemmas.{file_at, Steady, steady_new, text_at, awaited_piece}
 
 module _ (facts : BootFacts) (files : List File) (known : facts.sizes ≡ map size_of files) (entry : ℕ) (rest : List ℕ) (earlier : List RefusedEntry) (spots : List (List Spot)) (given : List Item)

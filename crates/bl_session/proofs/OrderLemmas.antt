@@ -1,14 +1,13 @@
 -- What the orders of an attempt ask for: each of its tickets once, under its own file.
-use Rattle.std.proofs.Common.{◌≡◌, ℕ, zero, suc, ◌+◌, ◌<◌, ◌≤◌, ◌==◌, ◌&&◌, Bool, true, false, if◌then◌else◌, List, [], ◌∷◌, ◌++◌, length, map, get_or, Option, Some, None, refl, sym, ap, ◌∙◌, inl, inr, arith}
+use Rattle.std.proofs.Common.{◌≡◌, ℕ, zero, suc, ◌+◌, ◌<◌, ◌≤◌, ◌==◌, ◌&&◌, Bool, true, false, if◌then◌else◌, List, [], ◌∷◌, ◌++◌, length, map, get_or, Option, Some, refl, sym, ap, ◌∙◌, inl, inr, arith}
 use Rattle.std.specs.List.{range_with_len}
 use Rattle.std.proofs.lemmas.Bool.{cases_lt}
 use Rattle.std.proofs.lemmas.Bool.Decides.{nat_tests}
 use Rattle.std.proofs.lemmas.List.{get_or_past}
-use Rattle.bl_stage.specs.Spots.{Spot, waits, has}
+use Rattle.bl_stage.specs.Spots.{Spot}
 use Rattle.bl_session.specs.declared.words.Ticket.{Ticket}
-use Rattle.bl_session.specs.Pieces.{is_awaited, spot_of}
 use Rattle.bl_session.specs.History.{Item, submitted, came, failed, nothing, is_same, file_after}
-use Rattle.bl_session.specs.Orders.{ticket_of, piece_orders, file_orders, first_spot, first_ticket, ticket_or}
+use Rattle.bl_session.specs.Orders.{ticket_of, piece_orders, file_orders}
 use Rattle.bl_session.specs.Faithful.{asked, answered}
 
 -- ---- tickets
@@ -183,37 +182,3 @@ found_files found attempt indices files place piece same h =
       | inl within ↦ (once_files attempt 0 indices files place (ticket_of attempt place piece) refl (omega arith) (omega arith) within h).2 found
       | inr past ↦ let none : length (get_or files place []) ≡ 0 = ap length (get_or_past files place [] past) in absurd (omega arith)
     ]
-
--- ---- the first piece that is awaited
-
-spot_first : (start : ℕ) (spots : List Spot) (k : ℕ) → first_spot start spots ≡ Some k → (j : ℕ) × (k ≡ start + j) × (is_awaited (get_or spots j (has [])) ≡ true)
-spot_first start [] k e = absurd cc
-spot_first start (waits size ∷ spots) k e = (0, (let same : start ≡ k = cc in omega arith), refl)
-spot_first start (has bytes ∷ spots) k e =
-    let next = spot_first (start + 1) spots k e in
-    (suc next.0, (let at = next.1 in omega arith), next.2)
-
--- it is awaited
-ticket_first : (attempt place : ℕ) (files : List (List Spot)) (t : Ticket) → first_ticket attempt place files ≡ Some t
-    → (i : ℕ) × (t.attempt ≡ attempt) × (t.file ≡ place + i) × (is_awaited (spot_of files i t.piece) ≡ true)
-ticket_first attempt place [] t e = absurd cc
-ticket_first attempt place (spots ∷ files) t e = chosen (ticket_first attempt (place + 1) files t) (first_spot 0 spots) refl e
-  where
-    chosen : (first_ticket attempt (place + 1) files ≡ Some t → (i : ℕ) × (t.attempt ≡ attempt) × (t.file ≡ place + 1 + i) × (is_awaited (spot_of files i t.piece) ≡ true))
-        → (found : Option ℕ) → first_spot 0 spots ≡ found → ticket_or attempt place (first_ticket attempt (place + 1) files) found ≡ Some t
-        → (i : ℕ) × (t.attempt ≡ attempt) × (t.file ≡ place + i) × (is_awaited (spot_of (spots ∷ files) i t.piece) ≡ true)
-    chosen others None is e =
-        let next = others e in
-        (suc next.0, next.1, (let at = next.2 in omega arith), next.3)
-    chosen others (Some k) is e =
-        let here : ticket_of attempt place k ≡ t = cc in
-        let first = spot_first 0 spots k is in
-        let piece : t.piece ≡ first.0 = let at = first.1 in ap (λ (x : Ticket). x.piece) (sym here) ∙ at ∙ omega arith in
-        (0, sym (ap (λ (x : Ticket). x.attempt) here), ap (λ (x : Ticket). x.file) (sym here) ∙ omega arith, rw piece first.2)
-
-pub first_is_awaited : (attempt : ℕ) (files : List (List Spot)) (t : Ticket) → first_ticket attempt 0 files ≡ Some t
-    → (t.attempt ≡ attempt) × (is_awaited (spot_of files t.file t.piece) ≡ true)
-first_is_awaited attempt files t e =
-    let first = ticket_first attempt 0 files t e in
-    let place : t.file ≡ first.0 = let at = first.2 in omega arith in
-    (first.1, rw place first.3)
