@@ -6,23 +6,31 @@ mod attempt;
 mod attempting;
 mod beginning;
 mod completion;
+mod file_store;
 mod finishing;
+mod history;
 mod laws;
 mod menu;
 mod phase;
+mod queue;
+mod request;
 mod session;
 mod stepping;
 mod store;
+mod stored_file;
 mod words;
 
 pub use beginning::MOST_BYTES;
 pub use completion::Completion;
+pub use file_store::FileStore;
 pub use finishing::finish;
 pub use laws::{
     each_attempt_ends, each_step_leads_on, ends_are_determined, first_entry_not_refused,
     steps_are_determined, two_boots,
 };
 pub use menu::{MOST_ENTRIES, MOST_MODULES, Menu, MenuFault};
+pub use queue::Order;
 pub use session::Session;
 pub use store::Store;
+pub use stored_file::StoredFile;
 pub use words::{BootFault, Event, Outcome, Progress, RefusedEntry, Ticket};

@@ -1,0 +1,130 @@
+//! A store over files that were fetched before the boot.
+use crate::completion::Completion;
+use crate::history::History;
+use crate::queue::{Order, Queue};
+use crate::request::{Request, answer};
+use crate::store::Store;
+use crate::stored_file::{StoredFile, size_in};
+use crate::words::Ticket;
+use std::alloc::{AllocError, Allocator};
+use std::marker::Model;
+
+/// A store over files in memory. It answers each ticket once: with a copy of the piece, or with a
+/// fault, if the file is missing, too long or has no such piece.
+#[derive(Drop)]
+pub struct FileStore<A: Allocator + Copy> {
+    alloc: A,
+    files: Vec<StoredFile<A>, A>,
+    order: Order,
+    queue: Queue<A>,
+    history: History,
+}
+
+impl<A: Allocator + Copy> Model for FileStore<A> {
+    ghost use Rattle.bl_session.specs.Stores.{FileStoreFacts, stored_files};
+    ghost use Rattle.bl_session.specs.StoresKept.{AreKept};
+
+    ghost Value = { FileStoreFacts };
+
+    ghost view = { λ s. record {
+      files = stored_files s.files.items;
+      order = s.order;
+      pending = s.queue;
+      given = s.history.items;
+    } };
+
+    ghost invariant = { λ s. AreKept (stored_files s.files.items) s.queue s.history.items };
+}
+
+impl<A: Allocator + Copy> FileStore<A> {
+    ghost use Rattle.std.specs.Prelude.{◌≡◌, ◌∷◌, ◌++◌, [], IfOk, OnOk, OnErr, option_map};
+    ghost use Rattle.bl_session.specs.History.{submitted};
+    ghost use Rattle.bl_session.specs.Faithful.{IsFaithful};
+    ghost use Rattle.bl_session.specs.Stores.{stored_files, event_of, item_of};
+    ghost use Rattle.bl_session.specs.Stores.{next_event, next_place, without};
+
+    /// A store of these files, by their index in the menu. Nothing was asked for yet.
+    pub fn new(alloc: A, files: Vec<StoredFile<A>, A>, order: Order) -> FileStore<A>
+        ensures { result ≡ record {
+          files = stored_files files.items;
+          order = order;
+          pending = [];
+          given = [];
+        } }
+    {
+        FileStore {
+            alloc,
+            files,
+            order,
+            queue: Queue::new(alloc),
+            history: History::new(),
+        }
+    }
+
+    /// That it answers each ticket once, with the piece that was asked for.
+    pub fn is_faithful(&self)
+        ensures { IsFaithful self.now.files self.now.given }
+    {
+        let _ = &self.files;
+    }
+
+    /// Asks for a piece.
+    fn ask(&mut self, request: Request) -> Result<(), AllocError>
+        ensures ok { OnOk result (self.new ≡ record self.old {
+          pending = self.old.pending ++ request ∷ [];
+          given = self.old.given ++ submitted request.file request.ticket ∷ [];
+        }) }
+        ensures err { OnErr result (self.new ≡ self.old) }
+    {
+        self.queue.push(request)?;
+        self.history = self.history.and_request(&request);
+        Ok(())
+    }
+
+    /// Answers the request that is next.
+    fn take(&mut self) -> Result<Option<Completion<A>>, AllocError>
+        ensures answer { IfOk result (λ answer.
+            option_map event_of answer ≡ next_event self.old) }
+        ensures ok { IfOk result (λ answer. self.new ≡ record self.old {
+          pending = without self.old.pending (next_place self.old.order self.old.pending);
+          given = self.old.given ++ item_of self.old.files self.old.given answer ∷ [];
+        }) }
+        ensures err { OnErr result (self.new ≡ self.old) }
+    {
+        let next = match self.queue.next(self.order) {
+            Some(request) => Some(answer(self.alloc, &self.files, &request)?),
+            None => None,
+        };
+        self.queue.remove_next(self.order);
+        self.history = self.history.and_answer(&self.files, &next);
+        Ok(next)
+    }
+}
+
+impl<A: Allocator + Copy> Store for FileStore<A> {
+    ghost use Rattle.std.specs.Prelude.{length};
+
+    type Alloc = A;
+
+    ghost files = { λ s. s.files };
+
+    ghost given = { λ s. s.given };
+
+    ghost left = { λ s. length s.pending };
+
+    fn size(&self, file: u32) -> Result<Option<u64>, AllocError> {
+        Ok(size_in(&self.files, file))
+    }
+
+    fn left(&self) -> u64 {
+        self.queue.len() as u64
+    }
+
+    fn submit(&mut self, file: u32, ticket: Ticket) -> Result<(), AllocError> {
+        self.ask(Request { file, ticket })
+    }
+
+    fn next(&mut self) -> Result<Option<Completion<A>>, AllocError> {
+        self.take()
+    }
+}
