@@ -10,3 +10,4 @@ pub mod StageLemmas
 pub mod AfterLemmas
 pub mod FinishLemmas
 pub mod StepLemmas
+pub mod StoreLemmas

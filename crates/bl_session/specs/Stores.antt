@@ -62,9 +62,12 @@ item_of_event files given (piece ticket bytes) =
 item_of_event files given (fault ticket) = failed ticket
 
 -- what an answer adds to the history so far
+abbrev pub item_of_told : List File → List Item → Option EventFacts → Item
+item_of_told files given None = nothing
+item_of_told files given (Some event) = item_of_event files given event
+
 abbrev pub item_of : {A : Type 0} → List File → List Item → Option (Completion A) → Item
-item_of files given None = nothing
-item_of files given (Some completion) = item_of_event files given (event_of completion)
+item_of files given answer = item_of_told files given (option_map event_of answer)
 
 -- ---- a store over files that were fetched
 

@@ -81,6 +81,16 @@ impl<A: Allocator + Copy> FileStore<A> {
         Ok(())
     }
 
+    /// The answer to the request that is next.
+    fn answer_next(&self) -> Result<Option<Completion<A>>, AllocError>
+        ensures { IfOk result (λ answer. option_map event_of answer ≡ next_event self.now) }
+    {
+        match self.queue.next(self.order) {
+            Some(request) => Ok(Some(answer(self.alloc, &self.files, &request)?)),
+            None => Ok(None),
+        }
+    }
+
     /// Answers the request that is next.
     fn take(&mut self) -> Result<Option<Completion<A>>, AllocError>
         ensures answer { IfOk result (λ answer.
@@ -91,13 +101,10 @@ impl<A: Allocator + Copy> FileStore<A> {
         }) }
         ensures err { OnErr result (self.new ≡ self.old) }
     {
-        let next = match self.queue.next(self.order) {
-            Some(request) => Some(answer(self.alloc, &self.files, &request)?),
-            None => None,
-        };
+        let answer = self.answer_next()?;
         self.queue.remove_next(self.order);
-        self.history = self.history.and_answer(&self.files, &next);
-        Ok(next)
+        self.history = self.history.and_answer(&self.files, &answer);
+        Ok(answer)
     }
 }
 
@@ -125,6 +132,7 @@ impl<A: Allocator + Copy> Store for FileStore<A> {
     }
 
     fn next(&mut self) -> Result<Option<Completion<A>>, AllocError> {
-        self.take()
+        let answer = self.take()?;
+        Ok(answer)
     }
 }
