@@ -204,12 +204,18 @@ kept_next files order pending given answer is kept = kept_told files order pendi
 -- ---- what a caller is told
 
 -- nothing is answered exactly if nothing is still to be answered
-pub none_pending : {A : Type 0} (files : List File) (order : Order) (pending : List Request) (answer : Option (Completion A)) → option_map event_of answer ≡ option_map (answer_to files) (slice_get pending (next_place order pending)) → IsNone answer ↔ (length pending ≡ 0)
-none_pending files order [] None is = (λ h. refl, λ h. refl)
-none_pending files order [] (Some completion) is = cc
-none_pending files order (first ∷ others) None is = let at : slice_get (first ∷ others) (next_place order (first ∷ others)) ≡ Some (get_or (first ∷ others) (next_place order (first ∷ others)) first) = slice_get-get_or (first ∷ others) (next_place order (first ∷ others)) first (place_within order first others) in
-    let e : None ≡ Some (answer_to files (get_or (first ∷ others) (next_place order (first ∷ others)) first)) = is ∙ ap (option_map (answer_to files)) at in cc
-none_pending files order (first ∷ others) (Some completion) is = (λ h. cc, λ h. absurd (omega arith))
+pub none_left : {A R : Type 0} (event : R → EventFacts) (pending : List R) (place : ℕ) (answer : Option (Completion A)) → (0 < length pending → place < length pending) → option_map event_of answer ≡ option_map event (slice_get pending place) → IsNone answer ↔ (length pending ≡ 0)
+none_left event [] place None within is = (λ h. refl, λ h. refl)
+none_left event [] place (Some completion) within is = cc
+none_left event (first ∷ others) place None within is =
+    let at : slice_get (first ∷ others) place ≡ Some (get_or (first ∷ others) place first) = slice_get-get_or (first ∷ others) place first (within (omega arith)) in
+    let e : None ≡ Some (event (get_or (first ∷ others) place first)) = is ∙ ap (option_map event) at in
+    cc
+none_left event (first ∷ others) place (Some completion) within is = (λ h. cc, λ h. absurd (omega arith))
 
-pub as_many_pending : (order : Order) (pending : List Request) → length pending ≡ 0 → length (without pending (next_place order pending)) ≡ length pending
-as_many_pending order pending empty = simp (length-append, length-take, length-drop) (omega arith)
+pub none_taken : {R : Type 0} (pending : List R) (place : ℕ) → length pending ≡ 0 → length (without pending place) ≡ length pending
+none_taken pending place empty = simp (length-append, length-take, length-drop) (omega arith)
+
+pub next_within : (order : Order) (pending : List Request) → 0 < length pending → next_place order pending < length pending
+next_within order [] some = absurd (omega arith)
+next_within order (first ∷ others) some = place_within order first others

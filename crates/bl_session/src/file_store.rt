@@ -62,7 +62,7 @@ impl<A: Allocator + Copy> FileStore<A> {
     }
 
     /// That it answers each ticket once, with the piece that was asked for.
-    pub fn is_faithful(&self)
+    pub fn faithful(&self)
         ensures { IsFaithful self.now.files self.now.given }
     {
         let _ = &self.files;

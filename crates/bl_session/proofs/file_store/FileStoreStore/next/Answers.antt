@@ -1,6 +1,6 @@
 use Rattle.std.proofs.Common.{◌≡◌, ℕ, length, ap, ◌∙◌}
-use Rattle.bl_session.specs.Stores.{FileStoreFacts, item_of}
-use Rattle.bl_session.proofs.StoreLemmas.{item_is, none_pending, as_many_pending}
+use Rattle.bl_session.specs.Stores.{FileStoreFacts, item_of, answer_to, next_place}
+use Rattle.bl_session.proofs.StoreLemmas.{item_is, none_left, none_taken, next_within}
 use Rattle.bl_session.proofs.file_store.FileStoreStore.next.Goals as goal
 
 pub returns-clause-given : goal.returns-clause-given
@@ -13,11 +13,13 @@ returns-clause-given g c =
 pub returns-clause-none : goal.returns-clause-none
 returns-clause-none g c =
     let old = c.args.self.now in
-    none_pending old.files old.order old.pending c.in_ok-answer.answer c.in_ok-answer.ensures.answer
+    none_left (answer_to old.files) old.pending (next_place old.order old.pending) c.in_ok-answer.answer
+    (next_within old.order old.pending) c.in_ok-answer.ensures.answer
 
 pub returns-clause-as_many : goal.returns-clause-as_many
 returns-clause-as_many g c none =
     let old = c.args.self.now in
-    let empty = none_pending old.files old.order old.pending c.in_ok-answer.answer c.in_ok-answer.ensures.answer in
+    let place = next_place old.order old.pending in
+    let empty = none_left (answer_to old.files) old.pending place c.in_ok-answer.answer (next_within old.order old.pending) c.in_ok-answer.ensures.answer in
     ap (λ (store : FileStoreFacts). length store.pending) c.in_ok-answer.ensures.ok
-    ∙ as_many_pending old.order old.pending (empty.0 none)
+    ∙ none_taken old.pending place (empty.0 none)
