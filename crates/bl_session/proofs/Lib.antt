@@ -11,4 +11,4 @@ pub mod AfterLemmas
 pub mod FinishLemmas
 pub mod StepLemmas
 pub mod StoreLemmas
-pub mod ScriptLemmas
+pub mod ToldLemmas

@@ -1,5 +1,5 @@
 -- A store's history and the requests that are still to be answered, as it is asked and as it answers.
-use Rattle.std.proofs.Common.{◌≡◌, ◌↔◌, ℕ, ◌+◌, ◌-◌, ◌*◌, ◌<◌, ◌≤◌, ◌==◌, ◌&&◌, nat_lt, Bool, true, false, if◌then◌else◌, List, [], ◌∷◌, ◌++◌, length, take, drop, Option, None, Some, suc, get_or, length-append, length-take, length-drop, IsNone, refl, sym, ap, subst, ◌∙◌, rules, arith, append_assoc}
+use Rattle.std.proofs.Common.{◌≡◌, ◌↔◌, ℕ, ◌+◌, ◌-◌, ◌*◌, ◌<◌, ◌≤◌, ◌==◌, ◌&&◌, nat_lt, Bool, true, false, if◌then◌else◌, List, [], ◌∷◌, ◌++◌, length, take, drop, Option, None, Some, suc, get_or, refl, sym, ap, subst, ◌∙◌, rules, arith, append_assoc}
 use Rattle.std.proofs.lemmas.List.{append-nil}
 use Rattle.std.proofs.lemmas.Option.{slice_get-get_or}
 use Rattle.std.proofs.Math.Seq.{split_at}
@@ -179,7 +179,7 @@ kept_nothing files given kept = record {
 
 -- ---- after what a store answers next
 
-place_within : (order : Order) (first : Request) (others : List Request) → next_place order (first ∷ others) < length (first ∷ others)
+pub place_within : (order : Order) (first : Request) (others : List Request) → next_place order (first ∷ others) < length (first ∷ others)
 place_within Forward first others = omega arith
 place_within Reverse first others = omega arith
 
@@ -200,22 +200,3 @@ kept_told files order (first ∷ others) given told is kept =
 
 pub kept_next : {A : Type 0} (files : List File) (order : Order) (pending : List Request) (given : List Item) (answer : Option (Completion A)) → option_map event_of answer ≡ option_map (answer_to files) (slice_get pending (next_place order pending)) → AreKept files pending given → AreKept files (without pending (next_place order pending)) (given ++ item_of files given answer ∷ [])
 kept_next files order pending given answer is kept = kept_told files order pending given (option_map event_of answer) is kept
-
--- ---- what a caller is told
-
--- nothing is answered exactly if nothing is still to be answered
-pub none_left : {A R : Type 0} (event : R → EventFacts) (pending : List R) (place : ℕ) (answer : Option (Completion A)) → (0 < length pending → place < length pending) → option_map event_of answer ≡ option_map event (slice_get pending place) → IsNone answer ↔ (length pending ≡ 0)
-none_left event [] place None within is = (λ h. refl, λ h. refl)
-none_left event [] place (Some completion) within is = cc
-none_left event (first ∷ others) place None within is =
-    let at : slice_get (first ∷ others) place ≡ Some (get_or (first ∷ others) place first) = slice_get-get_or (first ∷ others) place first (within (omega arith)) in
-    let e : None ≡ Some (event (get_or (first ∷ others) place first)) = is ∙ ap (option_map event) at in
-    cc
-none_left event (first ∷ others) place (Some completion) within is = (λ h. cc, λ h. absurd (omega arith))
-
-pub none_taken : {R : Type 0} (pending : List R) (place : ℕ) → length pending ≡ 0 → length (without pending place) ≡ length pending
-none_taken pending place empty = simp (length-append, length-take, length-drop) (omega arith)
-
-pub next_within : (order : Order) (pending : List Request) → 0 < length pending → next_place order pending < length pending
-next_within order [] some = absurd (omega arith)
-next_within order (first ∷ others) some = place_within order first others

@@ -1,5 +1,5 @@
 -- What a `ScriptStore` keeps, and what it answers. Own.
-use Rattle.std.specs.Prelude.{ℕ, ◌%◌, Bool, if◌then◌else◌, List, [], ◌∷◌, length, map, slice_get, slice_index_or, Option, option_map}
+use Rattle.std.specs.Prelude.{ℕ, ◌%◌, Bool, if◌then◌else◌, List, [], ◌∷◌, ◌++◌, length, map, drop, slice_get, slice_index_or, Option, option_map}
 use Rattle.std.specs.List.{list_any}
 use Rattle.std.specs.Int.Bits.{bit_xor}
 use Rattle.bl_session.specs.declared.words.Ticket.{Ticket}
@@ -8,8 +8,8 @@ use Rattle.bl_session.specs.declared.reply.Reply.{Reply}
 use Rattle.bl_session.specs.declared.reply.Reply.TheVariants.{Answer, Altered, Fault}
 use Rattle.bl_session.specs.Boot.{EventFacts, piece, fault}
 use Rattle.bl_session.specs.Outcome.{File}
-use Rattle.bl_session.specs.History.{Item, is_same}
-use Rattle.bl_session.specs.Stores.{answer_to}
+use Rattle.bl_session.specs.History.{Item, submitted, is_same}
+use Rattle.bl_session.specs.Stores.{answer_to, item_of_told, without}
 
 -- each byte of a piece exclusive-or 0xFF
 abbrev pub altered : EventFacts → EventFacts
@@ -49,3 +49,25 @@ picked_place store = slice_index_or store.picks 0 0 % length store.pending
 
 abbrev pub next_event : ScriptStoreFacts → Option EventFacts
 next_event store = option_map (event_by store.files) (slice_get store.pending (picked_place store))
+
+-- after a request what comes of it is the last that is still to come; after an answer it is left
+-- out, and so is its place
+abbrev pub after_request : ScriptStoreFacts → Request → ScriptStoreFacts
+after_request store request = record {
+  files = store.files;
+  twice = store.twice;
+  fail = store.fail;
+  picks = store.picks;
+  pending = store.pending ++ replies_to store.twice store.fail request;
+  given = store.given ++ submitted request.file request.ticket ∷ [];
+}
+
+abbrev pub after_answer : ScriptStoreFacts → Option EventFacts → ScriptStoreFacts
+after_answer store told = record {
+  files = store.files;
+  twice = store.twice;
+  fail = store.fail;
+  picks = drop 1 store.picks;
+  pending = without store.pending (picked_place store);
+  given = store.given ++ item_of_told store.files store.given told ∷ [];
+}

@@ -12,7 +12,7 @@ use Rattle.bl_session.specs.declared.queue.Order.TheVariants.{Forward, Reverse}
 use Rattle.bl_session.specs.Ends.{most_bytes}
 use Rattle.bl_session.specs.Boot.{EventFacts, piece, fault}
 use Rattle.bl_session.specs.Outcome.{File, missing, too_long, whole, text_of}
-use Rattle.bl_session.specs.History.{Item, came, failed, nothing, file_under}
+use Rattle.bl_session.specs.History.{Item, submitted, came, failed, nothing, file_under}
 
 -- ---- files
 
@@ -93,3 +93,20 @@ abbrev pub next_event : FileStoreFacts → Option EventFacts
 next_event store =
     option_map (answer_to store.files)
     (slice_get store.pending (next_place store.order store.pending))
+
+-- after a request it is the last that is to be answered; after an answer its request is left out
+abbrev pub after_request : FileStoreFacts → Request → FileStoreFacts
+after_request store request = record {
+  files = store.files;
+  order = store.order;
+  pending = store.pending ++ request ∷ [];
+  given = store.given ++ submitted request.file request.ticket ∷ [];
+}
+
+abbrev pub after_answer : FileStoreFacts → Option EventFacts → FileStoreFacts
+after_answer store told = record {
+  files = store.files;
+  order = store.order;
+  pending = without store.pending (next_place store.order store.pending);
+  given = store.given ++ item_of_told store.files store.given told ∷ [];
+}

@@ -37,11 +37,9 @@ impl<A: Allocator + Copy> Model for FileStore<A> {
 }
 
 impl<A: Allocator + Copy> FileStore<A> {
-    ghost use Rattle.std.specs.Prelude.{◌≡◌, ◌∷◌, ◌++◌, [], IfOk, OnOk, OnErr, option_map};
-    ghost use Rattle.bl_session.specs.History.{submitted};
+    ghost use Rattle.std.specs.Prelude.{◌≡◌, [], IfOk, option_map};
     ghost use Rattle.bl_session.specs.Faithful.{IsFaithful};
-    ghost use Rattle.bl_session.specs.Stores.{stored_files, event_of, item_of};
-    ghost use Rattle.bl_session.specs.Stores.{next_event, next_place, without};
+    ghost use Rattle.bl_session.specs.Stores.{stored_files, event_of, next_event};
 
     /// A store of these files, by their index in the menu. Nothing was asked for yet.
     pub fn new(alloc: A, files: Vec<StoredFile<A>, A>, order: Order) -> FileStore<A>
@@ -68,19 +66,6 @@ impl<A: Allocator + Copy> FileStore<A> {
         let _ = &self.files;
     }
 
-    /// Asks for a piece.
-    fn ask(&mut self, request: Request) -> Result<(), AllocError>
-        ensures ok { OnOk result (self.new ≡ record self.old {
-          pending = self.old.pending ++ request ∷ [];
-          given = self.old.given ++ submitted request.file request.ticket ∷ [];
-        }) }
-        ensures err { OnErr result (self.new ≡ self.old) }
-    {
-        self.queue.push(request)?;
-        self.history = self.history.and_request(&request);
-        Ok(())
-    }
-
     /// The answer to the request that is next.
     fn answer_next(&self) -> Result<Option<Completion<A>>, AllocError>
         ensures { IfOk result (λ answer. option_map event_of answer ≡ next_event self.now) }
@@ -90,26 +75,11 @@ impl<A: Allocator + Copy> FileStore<A> {
             None => Ok(None),
         }
     }
-
-    /// Answers the request that is next.
-    fn take(&mut self) -> Result<Option<Completion<A>>, AllocError>
-        ensures answer { IfOk result (λ answer.
-            option_map event_of answer ≡ next_event self.old) }
-        ensures ok { IfOk result (λ answer. self.new ≡ record self.old {
-          pending = without self.old.pending (next_place self.old.order self.old.pending);
-          given = self.old.given ++ item_of self.old.files self.old.given answer ∷ [];
-        }) }
-        ensures err { OnErr result (self.new ≡ self.old) }
-    {
-        let answer = self.answer_next()?;
-        self.queue.remove_next(self.order);
-        self.history = self.history.and_answer(&self.files, &answer);
-        Ok(answer)
-    }
 }
 
 impl<A: Allocator + Copy> Store for FileStore<A> {
-    ghost use Rattle.std.specs.Prelude.{length};
+    ghost use Rattle.std.specs.Prelude.{◌≡◌, length, IfOk, OnOk, OnErr, option_map};
+    ghost use Rattle.bl_session.specs.Stores.{event_of, next_event, after_request, after_answer};
 
     type Alloc = A;
 
@@ -127,12 +97,29 @@ impl<A: Allocator + Copy> Store for FileStore<A> {
         self.queue.len() as u64
     }
 
-    fn submit(&mut self, file: u32, ticket: Ticket) -> Result<(), AllocError> {
-        self.ask(Request { file, ticket })
+    fn submit(&mut self, file: u32, ticket: Ticket) -> Result<(), AllocError>
+        ensures ok { OnOk result (self.new ≡ after_request self.old (record {
+          file = file;
+          ticket = ticket;
+        })) }
+        ensures err { OnErr result (self.new ≡ self.old) }
+    {
+        let request = Request { file, ticket };
+        self.queue.push(request)?;
+        self.history = self.history.and_request(&request);
+        Ok(())
     }
 
-    fn next(&mut self) -> Result<Option<Completion<A>>, AllocError> {
-        let answer = self.take()?;
+    fn next(&mut self) -> Result<Option<Completion<A>>, AllocError>
+        ensures answer { IfOk result (λ answer.
+            option_map event_of answer ≡ next_event self.old) }
+        ensures ok { IfOk result (λ answer.
+            self.new ≡ after_answer self.old (option_map event_of answer)) }
+        ensures err { OnErr result (self.new ≡ self.old) }
+    {
+        let answer = self.answer_next()?;
+        self.queue.remove_next(self.order);
+        self.history = self.history.and_answer(&self.files, &answer);
         Ok(answer)
     }
 }

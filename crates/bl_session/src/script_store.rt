@@ -40,11 +40,9 @@ impl<A: Allocator + Copy> Model for ScriptStore<A> {
 }
 
 impl<A: Allocator + Copy> ScriptStore<A> {
-    ghost use Rattle.std.specs.Prelude.{◌≡◌, ◌∷◌, ◌++◌, [], drop, slice_get};
-    ghost use Rattle.std.specs.Prelude.{IfOk, OnOk, OnErr, option_map};
-    ghost use Rattle.bl_session.specs.History.{submitted};
-    ghost use Rattle.bl_session.specs.Stores.{stored_files, event_of, item_of, without};
-    ghost use Rattle.bl_session.specs.Scripts.{replies_to, next_event, picked_place};
+    ghost use Rattle.std.specs.Prelude.{◌≡◌, [], slice_get, IfOk, option_map};
+    ghost use Rattle.bl_session.specs.Stores.{stored_files, event_of};
+    ghost use Rattle.bl_session.specs.Scripts.{next_event, picked_place};
 
     /// A store of these files, by their index in the menu. A ticket of `fail` comes as a fault. One
     /// of `twice` comes twice: the second time each of its bytes is exclusive-or 0xFF. Answer number
@@ -77,19 +75,6 @@ impl<A: Allocator + Copy> ScriptStore<A> {
         }
     }
 
-    /// Asks for a piece.
-    fn ask(&mut self, request: Request) -> Result<(), AllocError>
-        ensures ok { OnOk result (self.new ≡ record self.old {
-          pending = self.old.pending ++ replies_to self.old.twice self.old.fail request;
-          given = self.old.given ++ submitted request.file request.ticket ∷ [];
-        }) }
-        ensures err { OnErr result (self.new ≡ self.old) }
-    {
-        push_replies(&mut self.replies, &self.twice, &self.fail, request)?;
-        self.history = self.history.and_request(&request);
-        Ok(())
-    }
-
     /// What is answered next.
     fn next_reply(&self) -> Option<Reply>
         ensures { result ≡ slice_get self.now.pending (picked_place self.now) }
@@ -110,31 +95,12 @@ impl<A: Allocator + Copy> ScriptStore<A> {
             None => Ok(None),
         }
     }
-
-    /// Takes the answer that is next.
-    fn take(&mut self) -> Result<Option<Completion<A>>, AllocError>
-        ensures answer { IfOk result (λ answer.
-            option_map event_of answer ≡ next_event self.old) }
-        ensures ok { IfOk result (λ answer. self.new ≡ record self.old {
-          picks = drop 1 self.old.picks;
-          pending = without self.old.pending (picked_place self.old);
-          given = self.old.given ++ item_of self.old.files self.old.given answer ∷ [];
-        }) }
-        ensures err { OnErr result (self.new ≡ self.old) }
-    {
-        let answer = self.answer_next()?;
-        if !self.replies.is_empty() {
-            let place = self.picks.first() % self.replies.len();
-            self.replies.remove(place);
-        }
-        self.picks.advance();
-        self.history = self.history.and_answer(&self.files, &answer);
-        Ok(answer)
-    }
 }
 
 impl<A: Allocator + Copy> Store for ScriptStore<A> {
-    ghost use Rattle.std.specs.Prelude.{length};
+    ghost use Rattle.std.specs.Prelude.{◌≡◌, length, IfOk, OnOk, OnErr, option_map};
+    ghost use Rattle.bl_session.specs.Stores.{event_of};
+    ghost use Rattle.bl_session.specs.Scripts.{next_event, after_request, after_answer};
 
     type Alloc = A;
 
@@ -152,12 +118,33 @@ impl<A: Allocator + Copy> Store for ScriptStore<A> {
         self.replies.len() as u64
     }
 
-    fn submit(&mut self, file: u32, ticket: Ticket) -> Result<(), AllocError> {
-        self.ask(Request { file, ticket })
+    fn submit(&mut self, file: u32, ticket: Ticket) -> Result<(), AllocError>
+        ensures ok { OnOk result (self.new ≡ after_request self.old (record {
+          file = file;
+          ticket = ticket;
+        })) }
+        ensures err { OnErr result (self.new ≡ self.old) }
+    {
+        let request = Request { file, ticket };
+        push_replies(&mut self.replies, &self.twice, &self.fail, request)?;
+        self.history = self.history.and_request(&request);
+        Ok(())
     }
 
-    fn next(&mut self) -> Result<Option<Completion<A>>, AllocError> {
-        let answer = self.take()?;
+    fn next(&mut self) -> Result<Option<Completion<A>>, AllocError>
+        ensures answer { IfOk result (λ answer.
+            option_map event_of answer ≡ next_event self.old) }
+        ensures ok { IfOk result (λ answer.
+            self.new ≡ after_answer self.old (option_map event_of answer)) }
+        ensures err { OnErr result (self.new ≡ self.old) }
+    {
+        let answer = self.answer_next()?;
+        if !self.replies.is_empty() {
+            let place = self.picks.first() % self.replies.len();
+            self.replies.remove(place);
+        }
+        self.picks.advance();
+        self.history = self.history.and_answer(&self.files, &answer);
         Ok(answer)
     }
 }
