@@ -6,16 +6,19 @@ use Rattle.bl_map.specs.Faults.{HasFirstFault, IsAccepted}
 use Rattle.bl_map.specs.Kinds.{IsNormalMap, low_kib, high_kib}
 use Rattle.bl_map.specs.declared.fault.MapFault.{MapFault}
 use Rattle.bl_map.specs.declared.fault.MapFault.TheVariants as map_fault
-use Rattle.bl_load.specs.declared.refusal.Refusal.{Refusal}
 use Rattle.bl_load.specs.Handover.{Handover}
-use Rattle.bl_load.specs.Numbers.{refusal_number}
 use Rattle.bl_image.specs.Begun.{IsBegun}
 use Rattle.bl_image.specs.Image.{spelling}
-use Rattle.bl_desc.specs.Described.{Described, Entry, described, file_named}
+use Rattle.bl_desc.specs.Described.{Described, described, file_named}
 use Rattle.bl_boot.specs.Files.{Answer}
 use Rattle.bl_boot.specs.Found.{AreFound}
-use Rattle.bl_boot.specs.Attempt.{IsAttemptHandover, IsAttemptRefusal, file_names, files_read, value_found}
-use Rattle.bl_boot.specs.Says.{booted_line, refused_line, no_entry_line, map_lines}
+use Rattle.bl_load.specs.Value.{EntryValue}
+use Rattle.bl_session.specs.declared.words.RefusedEntry.{RefusedEntry}
+use Rattle.bl_session.specs.Ends.{End}
+use Rattle.bl_session.specs.Boot.{State, handed_over, none_left, sizes_of}
+use Rattle.bl_session.specs.Outcome.{IsOutcome, EntryEnds, value_in, no_fault}
+use Rattle.bl_boot.specs.Attempted.{entry_of, names_in, boot_of, files_of}
+use Rattle.bl_boot.specs.Says.{booted_line, refused_lines, no_entry_line, map_lines}
 
 -- ---- the machine of a description
 
@@ -47,63 +50,83 @@ pub record Surroundings (F : Type 0) : Type 0 where
 
 -- with files of a type F: what they may answer for a name, and how many faults they had
 module _ {F : Type 0} (answers : F → List ℕ → Answer → Type 0) (faults : F → ℕ) where
-  -- what is attempted: the description that the bytes are, the facts of its machine, its one entry, and what was found
-  -- for the entry's files
+  -- what is booted: the description that the bytes are, the facts of its machine, and what was found
+  -- for the names of the files of the entries that are attempted
   pub record BootCase (desc : List ℕ) (before after : F) : Type 0 where
     pub description : Described
     pub facts : MachineFacts
-    pub entry : Entry
     pub answered : List Answer
     pub is_described : described desc ≡ Some description
     pub machine : IsMachineOf description facts
-    pub one_entry : description.entries ≡ entry ∷ []
-    pub found : AreFound answers faults description.files (file_names entry) before after answered
+    pub found : AreFound answers faults description.files (names_in description) before after answered
 
-  -- the entry was handed over: the sink took its image, and what is said tells it
+  -- it comes to this: the first entry that is not refused, with the refusals before it, or none
+  abbrev pub ComesTo : {desc : List ℕ} {before after : F} → BootCase desc before after → State → Type 0
+  ComesTo case state =
+      IsOutcome (boot_of case.description case.facts case.answered) (files_of case.answered)
+      no_fault state
+
+  -- an entry was handed over: the sink took its image, and what is said tells it behind the refusals
+  -- before it
   pub record IsBooted (desc : List ℕ) (before after : Surroundings F) : Type 0 where
-    pub attempted : BootCase desc before.files after.files
+    pub case : BootCase desc before.files after.files
+    pub entry : ℕ
+    pub earlier : List RefusedEntry
     pub handover : Handover
-    pub handed : IsAttemptHandover attempted.facts attempted.entry attempted.answered handover
+    pub outcome : ComesTo case (handed_over entry earlier handover)
     pub image : after.sink ≡ before.sink ++ spelling handover
-    pub said : after.said ≡ before.said ++ booted_line 0 attempted.entry.title
+    pub said : after.said ≡ before.said
+        ++ (refused_lines earlier ++ booted_line entry (entry_of case.description entry).title)
 
-  -- the entry was refused, the sink took nothing, and what is said tells it
+  -- each entry that was attempted was refused, the sink took nothing, and what is said tells it
   pub record IsRefused (desc : List ℕ) (before after : Surroundings F) : Type 0 where
-    pub attempted : BootCase desc before.files after.files
-    pub refusal : Refusal
-    pub refused : IsAttemptRefusal attempted.facts attempted.entry attempted.answered refusal
+    pub case : BootCase desc before.files after.files
+    pub refused : List RefusedEntry
+    pub outcome : ComesTo case (none_left refused)
     pub nothing : after.sink ≡ before.sink
-    pub said : after.said ≡ before.said ++ (refused_line 0 (refusal_number refusal) ++ no_entry_line)
+    pub said : after.said ≡ before.said ++ (refused_lines refused ++ no_entry_line)
 
-  -- the entry can be handed over, but of its image the sink took a beginning; nothing is said
+  -- an entry can be handed over, but of its image the sink took a beginning; nothing is said
   pub record IsBroken (desc : List ℕ) (before after : Surroundings F) : Type 0 where
-    pub attempted : BootCase desc before.files after.files
+    pub case : BootCase desc before.files after.files
+    pub entry : ℕ
+    pub earlier : List RefusedEntry
     pub handover : Handover
-    pub handed : IsAttemptHandover attempted.facts attempted.entry attempted.answered handover
+    pub outcome : ComesTo case (handed_over entry earlier handover)
     pub begun : IsBegun before.sink after.sink (spelling handover)
     pub unsaid : after.said ≡ before.said
 
--- the bytes describe an entry whose files all stand in the description
+-- the bytes describe a menu; each file of the entries that are attempted stands in the description
 pub record HasInlineFiles (desc : List ℕ) : Type 0 where
   pub description : Described
-  pub entry : Entry
   pub is_described : described desc ≡ Some description
-  pub one_entry : description.entries ≡ entry ∷ []
-  pub inline : All (λ name. IsSome (file_named name description.files)) (file_names entry)
+  pub inline : All (λ name. IsSome (file_named name description.files)) (names_in description)
 
--- the names of all files of the entries of a description; none if there is no description
-abbrev pub names_in : Option Described → List (List ℕ)
-names_in None = []
-names_in (Some description) = flat_map file_names description.entries
+-- the names that are looked for in a description; none if there is no description
+abbrev pub names_sought : Option Described → List (List ℕ)
+names_sought None = []
+names_sought (Some description) = names_in description
 
--- two attempts that are alike: their machines have equal facts, the same was read of their files, and with it their entries
--- have equal values
-pub record AreAlike {F G : Type 0} {answers : F → List ℕ → Answer → Type 0} {faults : F → ℕ} {desc : List ℕ} {before after : F}
-    {replies : G → List ℕ → Answer → Type 0} {wants : G → ℕ} {other : List ℕ} {began ended : G}
-    (a : BootCase answers faults desc before after) (b : BootCase replies wants other began ended) : Type 0 where
-  pub facts : a.facts ≡ b.facts
-  pub files : files_read a.answered ≡ files_read b.answered
-  pub value : value_found a.entry a.answered ≡ value_found b.entry b.answered
+-- the value of an entry of a menu, by its index
+abbrev pub value_at : {F : Type 0} {answers : F → List ℕ → Answer → Type 0} {faults : F → ℕ}
+    {desc : List ℕ} {before after : F}
+    → BootCase answers faults desc before after → ℕ → EntryValue
+value_at case entry =
+    value_in (boot_of case.description case.facts case.answered) (files_of case.answered) entry
+
+-- the sizes of its files
+abbrev pub sizes_at : {F : Type 0} {answers : F → List ℕ → Answer → Type 0} {faults : F → ℕ}
+    {desc : List ℕ} {before after : F}
+    → BootCase answers faults desc before after → ℕ → List (Option ℕ)
+sizes_at case entry = sizes_of (boot_of case.description case.facts case.answered) entry
+
+-- what the attempt of it ends in
+abbrev pub EndsAt : {F : Type 0} {answers : F → List ℕ → Answer → Type 0} {faults : F → ℕ}
+    {desc : List ℕ} {before after : F}
+    → BootCase answers faults desc before after → ℕ → End → Type 0
+EndsAt case entry end =
+    EntryEnds (boot_of case.description case.facts case.answered) (files_of case.answered) None
+    entry end
 
 -- ---- map
 

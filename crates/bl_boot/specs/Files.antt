@@ -2,8 +2,6 @@
 use Rattle.std.specs.Prelude.{◌≡◌, ℕ, ◌+◌, ◌<◌, ◌≤◌, if◌then◌else◌, nat_lt, List, length, Option, Some, None}
 use Rattle.bl_boot.specs.declared.fetching.fetched.Fetched.{Fetched}
 use Rattle.bl_boot.specs.declared.fetching.fetched.Fetched.TheVariants as fetched
-use Rattle.bl_boot.specs.declared.fetching.file_answer.FileAnswer.{FileAnswer}
-use Rattle.bl_boot.specs.declared.fetching.file_answer.FileAnswer.TheVariants as file_answer
 use Rattle.bl_desc.specs.Described.{File, file_named}
 
 -- there is no such file; it is too long to be read, and has this length; it has these bytes
@@ -52,10 +50,6 @@ abbrev pub answer_of : {A : Type 0} → Fetched A → Answer
 answer_of fetched.Missing = missing
 answer_of (fetched.TooLong n) = too_long n
 answer_of (fetched.Bytes file) = bytes file
-
-abbrev pub answer_given : {A : Type 0} → FileAnswer A → Answer
-answer_given (file_answer.Inline file) = answer_for file.now
-answer_given (file_answer.Fetched fetched) = answer_of fetched
 
 -- a file that stands there was read whole, or not at all where it is longer than a limit
 abbrev pub IsRead : {A : Type 0} → ℕ → Fetched A → Type 0

@@ -1,17 +1,11 @@
 -- What the code keeps of how a call ends, by its result. Own.
-use Rattle.std.specs.Prelude.{◌≡◌, ℕ, ◌+◌, List, Result, Ok, Err}
+use Rattle.std.specs.Prelude.{◌≡◌, ℕ, ◌+◌, ◌++◌, List, Result, Ok, Err}
 use Rattle.bl_image.specs.Begun.{IsBegun}
-use Rattle.bl_map.specs.MachineFacts.{MachineFacts}
-use Rattle.bl_desc.specs.Described.{Described, Entry}
-use Rattle.bl_boot.specs.Attempt.{FitsPool, IsRefusedOf}
+use Rattle.bl_desc.specs.Described.{Described}
 use Rattle.bl_desc.specs.declared.fault.DescFault.{DescFault}
 use Rattle.bl_desc.specs.declared.fault.DescFault.TheVariants as desc_fault
-use Rattle.bl_load.specs.declared.refusal.Refusal.{Refusal}
-use Rattle.bl_load.specs.declared.refusal.Refusal.TheVariants.{NoFile, FileTooLong, NoPool}
-use Rattle.bl_load.specs.declared.refusal.PrepFault.{PrepFault}
-use Rattle.bl_load.specs.declared.refusal.PrepFault.TheVariants.{Refused}
-use Rattle.bl_load.specs.declared.refusal.PrepFault.TheVariants as prep_fault
-use Rattle.bl_boot.specs.Files.{Answer, missing, too_long, bytes}
+use Rattle.bl_boot.specs.Files.{Answer}
+use Rattle.bl_boot.specs.Attempted.{names_once}
 use Rattle.bl_boot.specs.Ends.{IsBadMachine, IsBadDescription, IsBooted, IsRefused, IsBroken, IsMapped, Surroundings}
 use Rattle.bl_boot.specs.declared.booting.fault.EndFault.{EndFault}
 use Rattle.bl_boot.specs.declared.booting.fault.EndFault.TheVariants.{BadDescription, Device, NoMemory}
@@ -23,26 +17,9 @@ abbrev pub fault_of : DescFault → EndFault
 fault_of desc_fault.BadDescription = BadDescription
 fault_of desc_fault.NoMemory = NoMemory
 
--- what the file of an answer is refused for at a place, if it can't be read
-abbrev pub AnswerFault : ℕ → Answer → Refusal → Type 0
-AnswerFault place missing refused = refused ≡ NoFile place
-AnswerFault place (too_long n) refused = refused ≡ FileTooLong place
-AnswerFault place (bytes file) refused = ⊥
-
--- why files were not read: one of them can't be read, or memory ran out
-abbrev pub IsUnread : Result (List (List ℕ)) Refusal → PrepFault → Type 0
-IsUnread read (Refused unread) = read ≡ Err unread
-IsUnread read prep_fault.NoMemory = Unit {0}
-
--- why files are not staged: the pool has too few frames for them, or memory ran out
-abbrev pub IsStageFault : MachineFacts → List (List ℕ) → PrepFault → Type 0
-IsStageFault facts files (Refused refused) = (¬ FitsPool facts files) × (refused ≡ NoPool)
-IsStageFault facts files prep_fault.NoMemory = Unit {0}
-
--- why an entry is not handed over: its first refusal, by what was read of its files, or memory ran out
-abbrev pub IsAttemptFault : MachineFacts → Entry → Result (List (List ℕ)) Refusal → PrepFault → Type 0
-IsAttemptFault facts entry read (Refused refused) = IsRefusedOf facts entry read refused
-IsAttemptFault facts entry read prep_fault.NoMemory = Unit {0}
+-- the names so far, and behind them what these add: each one that is not there yet
+abbrev pub names_with : List (List ℕ) → List (List ℕ) → List (List ℕ)
+names_with earlier names = earlier ++ names_once earlier names
 
 -- why there is no such machine: a rule is broken, or memory ran out
 abbrev pub IsMachineFault : Described → EndFault → Type 0

@@ -1,8 +1,7 @@
 pub mod Says
 pub mod Files
 pub mod Found
-pub mod Attempt
-pub mod AfterAttempt
+pub mod Attempted
 pub mod Ends
 pub mod Kept
 pub mod WalkSays

@@ -4,6 +4,8 @@ use Rattle.std.specs.Fmt.{digits}
 use Rattle.std.specs.List.{flat_map}
 use Rattle.std.specs.declared.ops.Range.{Range}
 use Rattle.bl_map.specs.declared.region.Region.{Region}
+use Rattle.bl_load.specs.Numbers.{refusal_number}
+use Rattle.bl_session.specs.declared.words.RefusedEntry.{RefusedEntry}
 use Rattle.bl_desc.specs.Kinds.{kind_name}
 
 -- ---- boot: one line for each refused entry, and one for the end
@@ -12,6 +14,10 @@ use Rattle.bl_desc.specs.Kinds.{kind_name}
 abbrev pub refused_line : ℕ → ℕ → List ℕ
 refused_line entry number =
     codes "refused " ++ decimal entry ++ codes " " ++ decimal number ++ codes "\n"
+
+abbrev pub refused_lines : List RefusedEntry → List ℕ
+refused_lines refused =
+    flat_map (λ r. refused_line r.entry (refusal_number r.refusal)) refused
 
 -- the entry that was booted, and its title
 abbrev pub booted_line : ℕ → List ℕ → List ℕ

@@ -5,11 +5,9 @@ ghost use Rattle.bl_boot.specs.Files.{Answer, answer_of, KeepsLimit, CountsFault
 use std::alloc::{AllocError, Allocator};
 
 mod fetched;
-mod file_answer;
 mod mem_files;
 
 pub use fetched::Fetched;
-pub use file_answer::FileAnswer;
 pub use mem_files::MemFiles;
 
 /// The greatest length of a file, in bytes. A longer one is not read.

@@ -1,7 +1,6 @@
 //! A boot from a description to the image of the handover, and the map of a description's machine.
 #![tactic(auto)]
 
-mod attempting;
 mod booting;
 mod fetching;
 mod laws;

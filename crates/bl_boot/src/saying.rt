@@ -5,5 +5,5 @@ mod outcome;
 mod walk;
 
 pub use map::say_map;
-pub use outcome::{say_booted, say_no_entry_left, say_refused};
+pub use outcome::{say_booted, say_no_entry_left, say_refusals};
 pub use walk::say_walk;

@@ -64,3 +64,9 @@ one_fails read vs i v front BadDescription within at_i fails so_far =
     items_view-drop vs i v within ∙ ap (λ (w : Value). item (view w) rest) (sym at_i) in
     let now = rw (there, fails) at so_far in
     sym now
+
+-- where one value fails, what is made of it fails
+pub fails_on : {X Y : Type 0} (fault : DescFault) (x : Option X) (rest : X → Option Y)
+    → Fails fault x → Fails fault (x >>= rest)
+fails_on NoMemory x rest fails = tt
+fails_on BadDescription x rest fails = rw fails refl

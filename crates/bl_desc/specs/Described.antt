@@ -1,6 +1,6 @@
 -- What a boot description says: for each of its tables a function from the table's keys to a record,
 -- or to none where the table is a bad one. Own.
-use Rattle.std.specs.Prelude.{◌==◌, ℕ, Bool, true, ◌&&◌, not, if◌then◌else◌, nat_le, List, [], ◌∷◌, length, Option, Some, None, codes}
+use Rattle.std.specs.Prelude.{ℕ, Bool, true, ◌&&◌, not, if◌then◌else◌, nat_le, List, [], ◌∷◌, length, Option, Some, None, codes}
 use Rattle.std.specs.Str.{bytes_eq, is_utf8}
 use Rattle.std.specs.List.{list_any, list_all}
 use Rattle.std.specs.declared.ops.Range.{Range}
@@ -10,7 +10,7 @@ use Rattle.bl_map.specs.declared.kind.Kind.{Kind}
 use Rattle.bl_map.specs.declared.kind.Kind.TheVariants.{Usable, Reserved, Acpi, Nvs, Bad}
 use Rattle.bl_map.specs.declared.region.Region.{Region}
 use Rattle.bl_desc.specs.Kinds.{kind_name}
-use Rattle.bl_desc.specs.Values.{◌>>=◌, passing, number_of, byte_of, text_of, bytes_of, range_of, has_only, at_key, at_key_or, at_key_if, in_tables}
+use Rattle.bl_desc.specs.Values.{◌>>=◌, passing, number_of, byte_of, text_of, bytes_of, range_of, index_of, indices_of, has_only, at_key, at_key_or, at_key_if, in_tables}
 use Rattle.bl_plan.specs.declared.protocol.Protocol.{Protocol}
 use Rattle.bl_plan.specs.declared.protocol.Protocol.TheVariants.{Multiboot2, Linux}
 
@@ -41,7 +41,7 @@ pub record Entry : Type 0 where
   pub line : List ℕ
   pub form : Form
 
--- what the whole says
+-- what the whole says; the default and each fallback is the index of an entry
 pub record Described : Type 0 where
   pub size : ℕ
   pub pool : Range ℕ
@@ -49,6 +49,8 @@ pub record Described : Type 0 where
   pub regions : List Region
   pub files : List File
   pub entries : List Entry
+  pub default : ℕ
+  pub fallbacks : List ℕ
 
 -- ---- region
 
@@ -169,19 +171,23 @@ entry_by ms Linux = linux_in ms
 unfoldable pub entry_in : Members → Option Entry
 entry_in ms = at_key protocol_of (codes "protocol") ms >>= entry_by ms
 
--- a menu has exactly one entry
-abbrev pub is_one : List Entry → Bool
-is_one entries = length entries == 1
+-- a menu has at most so many entries
+abbrev pub most_entries : ℕ
+most_entries = 32
+
+-- and at least one
+abbrev pub is_menu : List Entry → Bool
+is_menu entries = nat_le 1 (length entries) && nat_le (length entries) most_entries
 
 unfoldable pub entries_of : Data → Option (List Entry)
-entries_of d = in_tables entry_in d >>= passing is_one
+entries_of d = in_tables entry_in d >>= passing is_menu
 
 -- ---- the whole
 
 unfoldable pub described_in : Members → Option Described
 described_in ms =
-    if has_only (codes "size" ∷ codes "pool" ∷ codes "fill" ∷ codes "region" ∷ codes "file"
-    ∷ codes "entry" ∷ []) ms
+    if has_only (codes "size" ∷ codes "pool" ∷ codes "fill" ∷ codes "default" ∷ codes "fallback"
+    ∷ codes "region" ∷ codes "file" ∷ codes "entry" ∷ []) ms
     then (do
       size ← at_key number_of (codes "size") ms
       pool ← at_key range_of (codes "pool") ms
@@ -189,6 +195,8 @@ described_in ms =
       regions ← at_key_or [] regions_of (codes "region") ms
       files ← at_key_or [] files_of (codes "file") ms
       entries ← at_key entries_of (codes "entry") ms
+      default ← at_key_or 0 (index_of (length entries)) (codes "default") ms
+      fallbacks ← at_key_or [] (indices_of (length entries)) (codes "fallback") ms
       Some record {
         size = size;
         pool = pool;
@@ -196,6 +204,8 @@ described_in ms =
         regions = regions;
         files = files;
         entries = entries;
+        default = default;
+        fallbacks = fallbacks;
       })
     else None
 

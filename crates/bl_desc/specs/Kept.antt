@@ -1,6 +1,6 @@
 -- How the code keeps what a description says, and how its readers answer. Own.
-use Rattle.std.specs.Prelude.{◌≡◌, map, Option, Some, None, Result, Ok, Err}
-use Rattle.bl_desc.specs.Described.{File, Module, Form, multiboot2, linux, Entry, Described}
+use Rattle.std.specs.Prelude.{◌≡◌, ◌<◌, ◌≤◌, length, map, All, Option, Some, None, Result, Ok, Err}
+use Rattle.bl_desc.specs.Described.{File, Module, Form, multiboot2, linux, Entry, Described, most_entries}
 use Rattle.bl_desc.specs.declared.desc.FileRow.{FileRow}
 use Rattle.bl_desc.specs.declared.desc.EntryRow.{EntryRow}
 use Rattle.bl_desc.specs.declared.form.EntryForm.{EntryForm}
@@ -31,7 +31,16 @@ view d = record {
   regions = d.regions.items;
   files = map file_view d.files.items;
   entries = map entry_view d.entries.items;
+  default = d.default;
+  fallbacks = d.fallbacks.items;
 }
+
+-- the default and each fallback names one of the entries, of which there are 1 to 32
+abbrev pub HasMenu : {A : Type 0} → Description A → Type 0
+HasMenu d =
+    (1 ≤ length d.entries.items) × (length d.entries.items ≤ most_entries)
+    × (d.default < length d.entries.items)
+    × All (λ index. index < length d.entries.items) d.fallbacks.items
 
 -- what a reader returned, seen by view, is what the definition gives, unless memory ran out
 abbrev pub Fails : {Y : Type 0} → DescFault → Option Y → Type 0

@@ -101,3 +101,13 @@ in_array read _ = None
 -- an array of tables, each read by itself
 abbrev pub in_tables : {A : Type 0} → (Members → Option A) → Data → Option (List A)
 in_tables read d = in_array (in_table read) d
+
+-- ---- indices
+
+-- the index of one of so many
+abbrev pub index_of : ℕ → Data → Option ℕ
+index_of count d = number_of d >>= passing (λ n. nat_lt n count)
+
+-- an array of such indices, in which one may repeat
+abbrev pub indices_of : ℕ → Data → Option (List ℕ)
+indices_of count d = in_array (index_of count) d

@@ -27,11 +27,15 @@ pub struct EntryRow<A: Allocator> {
     pub form: EntryForm<A>,
 }
 
-/// What a description says: the machine, files and the menu, which has exactly one entry.
+/// The most entries of a menu.
+pub const MOST_ENTRIES: usize = 32;
+
+/// What a description says: the machine, files and the menu, which has 1 to 32 entries.
 ///
 /// `size` is in bytes, `fill` is what each byte of memory holds before the boot, and the regions
 /// may come in any order. Whether they make a machine is not asked here. No two files have one
-/// name.
+/// name. `default` and each of `fallbacks`, in which one may repeat, is the index of an entry,
+/// counted from 0.
 #[derive(Drop)]
 pub struct Description<A: Allocator> {
     pub size: u64,
@@ -40,6 +44,8 @@ pub struct Description<A: Allocator> {
     pub regions: Vec<Region, A>,
     pub files: Vec<FileRow<A>, A>,
     pub entries: Vec<EntryRow<A>, A>,
+    pub default: u32,
+    pub fallbacks: Vec<u32, A>,
 }
 
 /// The bytes of the first of these files that has this name, if one has.

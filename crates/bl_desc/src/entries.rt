@@ -1,11 +1,12 @@
 //! The entries of a description.
-ghost use Rattle.std.specs.Prelude.{◌≡◌, map, codes, option_map, vec_len, IfOk};
+ghost use Rattle.std.specs.Prelude.{◌≡◌, ◌≤◌, length, map, codes, option_map, IfOk};
 ghost use Rattle.toml.specs.View.{view, table_view, items_view};
 ghost use Rattle.bl_desc.specs.Values as values;
 ghost use Rattle.bl_desc.specs.Described as spec;
+ghost use Rattle.bl_desc.specs.Described.{most_entries};
 ghost use Rattle.bl_desc.specs.Kept.{Gives, entry_view};
 
-use crate::desc::EntryRow;
+use crate::desc::{EntryRow, MOST_ENTRIES};
 use crate::fault::DescFault;
 use crate::form::EntryForm;
 use crate::keys::{at_key, has_only, text_at, text_if, text_or_empty};
@@ -147,19 +148,26 @@ fn entries_in<A: Allocator + Copy>(
     Ok(entries)
 }
 
+/// Whether these can be the entries of a menu.
+fn is_menu<A: Allocator>(entries: &[EntryRow<A>]) -> bool
+    ensures { result ≡ spec.is_menu (map entry_view entries.now) }
+{
+    entries.len() >= 1 && entries.len() <= MOST_ENTRIES
+}
+
 #[tactic(auto, unfolding(crate::specs::Described::entries_of))]
 fn entries_of<A: Allocator + Copy>(
     alloc: A,
     value: &Value,
 ) -> Result<Vec<EntryRow<A>, A>, DescFault>
     ensures given { Gives (λ v. map entry_view v.items) result (spec.entries_of (view value.now)) }
-    ensures one { IfOk result (λ v. vec_len v ≡ 1) }
+    ensures count { IfOk result (λ v. (1 ≤ length v.items) × (length v.items ≤ most_entries)) }
 {
     let Some(items) = value.as_array() else {
         return Err(DescFault::BadDescription);
     };
     let entries = entries_in(alloc, items)?;
-    if entries.len() != 1 {
+    if !is_menu(&entries) {
         return Err(DescFault::BadDescription);
     }
     Ok(entries)
@@ -172,10 +180,18 @@ pub fn entries_at<A: Allocator + Copy>(
 ) -> Result<Vec<EntryRow<A>, A>, DescFault>
     ensures given { Gives (λ v. map entry_view v.items) result
         (values.at_key spec.entries_of (codes "entry") (table_view table.now)) }
-    ensures one { IfOk result (λ v. vec_len v ≡ 1) }
+    ensures count { IfOk result (λ v. (1 ≤ length v.items) × (length v.items ≤ most_entries)) }
 {
     match at_key(table, "entry") {
         Some(value) => entries_of(alloc, value),
         None => Err(DescFault::BadDescription),
     }
+}
+
+/// How many entries a menu has.
+pub fn count_of<A: Allocator>(entries: &[EntryRow<A>]) -> u32
+    requires { length entries.now ≤ most_entries }
+    ensures { result ≡ length (map entry_view entries.now) }
+{
+    entries.len() as u32
 }

@@ -6,6 +6,7 @@ mod entries;
 mod fault;
 mod files;
 mod form;
+mod indices;
 mod keys;
 mod modules;
 mod read;
@@ -13,7 +14,7 @@ mod regions;
 mod text;
 mod values;
 
-pub use desc::{Description, EntryRow, FileRow, file_named};
+pub use desc::{Description, EntryRow, FileRow, MOST_ENTRIES, file_named};
 pub use fault::DescFault;
 pub use form::{EntryForm, MOST_MODULES, ModuleRow, Modules};
 pub use read::read_description;

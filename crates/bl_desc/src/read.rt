@@ -1,14 +1,15 @@
 //! A description as a whole.
-ghost use Rattle.std.specs.Prelude.{◌≡◌, codes, vec_len, IfOk};
+ghost use Rattle.std.specs.Prelude.{◌≡◌, codes, IfOk};
 ghost use Rattle.toml.specs.View.{table_view};
 ghost use Rattle.bl_desc.specs.Values as values;
 ghost use Rattle.bl_desc.specs.Described as spec;
-ghost use Rattle.bl_desc.specs.Kept.{Gives, view};
+ghost use Rattle.bl_desc.specs.Kept.{Gives, HasMenu, view};
 
 use crate::desc::Description;
 use crate::entries::entries_at;
 use crate::fault::DescFault;
 use crate::files::files_at;
+use crate::indices::{default_at, fallbacks_at};
 use crate::keys::{at_key, has_only, number_at};
 use crate::regions::regions_at;
 use crate::values::{byte_of, range_of};
@@ -39,9 +40,12 @@ fn fill_in(table: &Table) -> Result<u8, DescFault>
 #[tactic(auto, unfolding(crate::specs::Described::described_in))]
 fn described_in<A: Allocator + Copy>(alloc: A, table: &Table) -> Result<Description<A>, DescFault>
     ensures given { Gives view result (spec.described_in (table_view table.now)) }
-    ensures one_entry { IfOk result (λ desc. vec_len desc.entries ≡ 1) }
+    ensures menu { IfOk result HasMenu }
 {
-    if !has_only(table, &["size", "pool", "fill", "region", "file", "entry"]) {
+    let known = [
+        "size", "pool", "fill", "default", "fallback", "region", "file", "entry",
+    ];
+    if !has_only(table, &known) {
         return Err(DescFault::BadDescription);
     }
     let size = number_at(table, "size")?;
@@ -50,6 +54,8 @@ fn described_in<A: Allocator + Copy>(alloc: A, table: &Table) -> Result<Descript
     let regions = regions_at(alloc, table)?;
     let files = files_at(alloc, table)?;
     let entries = entries_at(alloc, table)?;
+    let default = default_at(table, &entries)?;
+    let fallbacks = fallbacks_at(alloc, table, &entries)?;
     Ok(Description {
         size,
         pool,
@@ -57,6 +63,8 @@ fn described_in<A: Allocator + Copy>(alloc: A, table: &Table) -> Result<Descript
         regions,
         files,
         entries,
+        default,
+        fallbacks,
     })
 }
 
@@ -72,7 +80,7 @@ pub fn read_description<A: Allocator + Copy>(
     bytes: &[u8],
 ) -> Result<Description<A>, DescFault>
     ensures given { Gives view result (spec.described bytes.now) }
-    ensures one_entry { IfOk result (λ desc. vec_len desc.entries ≡ 1) }
+    ensures menu { IfOk result HasMenu }
 {
     let Ok(text) = std::str::from_utf8(bytes) else {
         return Err(DescFault::BadDescription);

@@ -30,6 +30,16 @@ pub fn byte_of(value: &Value) -> Option<u8>
     }
 }
 
+/// The index of one of `count` that a value is.
+pub fn index_of(value: &Value, count: u32) -> Option<u32>
+    ensures { result ≡ spec.index_of count (view value.now) }
+{
+    match number_of(value) {
+        Some(n) if n < u64::from(count) => Some(n as u32),
+        _ => None,
+    }
+}
+
 /// The bytes that a value's hexadecimal text stands for.
 pub fn bytes_of<A: Allocator>(alloc: A, value: &Value) -> Result<Bytes<A>, DescFault>
     ensures { Gives (λ bytes. bytes) result (spec.bytes_of (view value.now)) }

@@ -1,21 +1,15 @@
 -- What the rows of a Linux entry have, and their places.
-use Rattle.std.specs.Prelude.{not, ◌||◌, ◌&&◌, if◌then◌else◌, nat_lt, nat_le, count_ones, slice_index}
-use Rattle.std.specs.Int.{is_power_of_two}
 use Rattle.std.proofs.Common.{◌≡◌, ◌<◌, ◌≤◌, ◌+◌, ◌^◌, ℕ, Bool, true, false, List, [], ◌∷◌, length, Option, Some, None, cond, arith, refl, sym, subst, ◌∙◌, All, inl, inr, nat_eq}
-use Rattle.std.proofs.lemmas.Nat.{ones_le_self}
 use Rattle.std.proofs.lemmas.Bool.{cond_both}
-use Rattle.std.proofs.lemmas.Bool.Decides.{nat_tests}
 use Rattle.std.proofs.lemmas.List.Elements.{All-nil, All-cons}
 use Rattle.std.specs.declared.ops.Range.{Range}
-use Rattle.bl_mem.specs.Words.{u16_at, u64_at}
 use Rattle.bl_map.specs.Limits.{most_size}
 use Rattle.bl_map.specs.MachineFacts.{MachineFacts}
 use Rattle.bl_map.specs.Room.{whole_frames}
-use Rattle.bl_bzimage.specs.declared.fault.SetupFault.{SetupFault}
-use Rattle.bl_bzimage.specs.declared.fault.SetupFault.TheVariants.{NotBzImage, OldProtocol, NotHigh, SetupCut, BadAlign, BadPreferred}
 use Rattle.bl_bzimage.specs.declared.setup.Setup.{Setup}
-use Rattle.bl_bzimage.specs.Setup.{IsSetup, setup_fault, is_bz_image, is_loaded_high, is_whole, has_alignment, has_preferred}
-use Rattle.bl_bzimage.proofs.SetupLaws.{fields_are, payload_is_tail}
+use Rattle.bl_bzimage.specs.Setup.{IsSetup}
+use Rattle.bl_bzimage.proofs.CheckLaws.{some_alignment}
+use Rattle.bl_bzimage.proofs.SetupLaws.{payload_is_tail}
 use Rattle.bl_mem.specs.Memory.{IsIn}
 use Rattle.bl_plan.specs.Permitted.{AllOpen}
 use Rattle.bl_plan.specs.Placed.{ArePlaced, IsRow, IsFirstFault, HasFault}
@@ -34,67 +28,6 @@ use Rattle.bl_load.specs.Rows.{rows_of}
 use Rattle.bl_load.specs.Value.{EntryValue, initrd_file}
 use Rattle.bl_load.proofs.RowLemmas.{some_frames}
 use Rattle.bl_load.proofs.RowPlaceLemmas.{Anywhere, each_place, records}
-
--- ---- a setup without a fault
-
-passed : (broken : Bool) (fault : SetupFault) (rest : Option SetupFault) → (if broken then Some fault else rest) ≡ None → (broken ≡ false) × (rest ≡ None)
-passed true fault rest e = absurd cc
-passed false fault rest e = (refl, e)
-
-holds : (b : Bool) → not b ≡ false → b ≡ true
-holds true e = refl
-holds false e = absurd cc
-
--- its checks of a relocatable kernel and of another one
-last_checks : (file : List ℕ) → setup_fault file ≡ None → (has_alignment file ≡ true) × (has_preferred file ≡ true)
-unfolding setup_fault
-last_checks file sound =
-    let image = passed (not (is_bz_image file)) NotBzImage _ sound in
-    let version = passed (nat_lt (u16_at file 0x206) 0x020A) OldProtocol _ image.1 in
-    let high = passed (not (is_loaded_high file)) NotHigh _ version.1 in
-    let whole = passed (not (is_whole file)) SetupCut _ high.1 in
-    let align = passed (not (has_alignment file)) BadAlign _ whole.1 in
-    let preferred = passed (not (has_preferred file)) BadPreferred _ align.1 in
-    (holds (has_alignment file) align.0, holds (has_preferred file) preferred.0)
-
-some_power : (n : ℕ) → is_power_of_two n ≡ true → 1 ≤ n
-some_power n is =
-    let few = ones_le_self n in
-    let one : count_ones n ≡ 1 = grind (arith, nat_tests) in
-    omega arith
-
-aligned_where : (zero_field power : Bool) → (not (not zero_field) || power) ≡ true → zero_field ≡ false → power ≡ true
-aligned_where true power test e = absurd cc
-aligned_where false power test e = test
-
--- a relocatable kernel is aligned to one byte at least
-pub some_alignment : (file : List ℕ) (setup : Setup) → IsSetup file setup → nat_eq setup.relocatable_kernel 0 ≡ false → 1 ≤ setup.kernel_alignment
-some_alignment file setup is moved =
-    let fields = fields_are file setup is in
-    let test = (last_checks file is.sound).0 in
-    let field : nat_eq _ 0 ≡ false = subst (λ (n : ℕ). nat_eq n 0 ≡ false) fields.relocatable_kernel moved in
-    subst (λ (n : ℕ). 1 ≤ n) (sym fields.kernel_alignment) (some_power _ (aligned_where _ _ test field))
-
-preferred_where : (zero_field above below : Bool) → (not zero_field || (above && below)) ≡ true → zero_field ≡ true → (above ≡ true) × (below ≡ true)
-preferred_where true true true test e = (refl, refl)
-preferred_where true true false test e = absurd cc
-preferred_where true false below test e = absurd cc
-preferred_where false above below test e = absurd cc
-
-le_from : (m n : ℕ) → nat_le m n ≡ true → m ≤ n
-le_from m n test = grind (arith, nat_tests)
-
--- another one runs from 1 MiB on, within 32 bits
-pub fixed_preferred : (file : List ℕ) (setup : Setup) → IsSetup file setup → setup.relocatable_kernel ≡ 0 → (0x100000 ≤ setup.pref_address) × (setup.pref_address < 2 ^ 32)
-fixed_preferred file setup is fixed =
-    let fields = fields_are file setup is in
-    let test = (last_checks file is.sound).1 in
-    let field : nat_eq (slice_index file 0x234) 0 ≡ true = subst (λ (n : ℕ). nat_eq n 0 ≡ true) (sym fixed ∙ fields.relocatable_kernel) refl in
-    let within = preferred_where _ (nat_le 0x100000 (u64_at file 0x258)) (nat_le (u64_at file 0x258) 0xFFFFFFFF) test field in
-    let above = le_from 0x100000 (u64_at file 0x258) within.0 in
-    let below = le_from (u64_at file 0x258) 0xFFFFFFFF within.1 in
-    let same = fields.pref_address in
-    (omega arith, omega arith)
 
 -- ---- they are rows
 

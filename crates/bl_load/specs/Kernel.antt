@@ -5,7 +5,6 @@ use Rattle.std.specs.List.{list_any}
 use Rattle.bl_mem.specs.declared.segment.Segment.{Segment}
 use Rattle.bl_elf.specs.Elf.{ElfFacts, IsElf}
 use Rattle.bl_elf.specs.Elf as elf
-use Rattle.bl_elf.specs.Elf.{AreApart}
 use Rattle.bl_mem.specs.Contents.{holds}
 use Rattle.bl_elf.specs.declared.fault.ElfFault.{ElfFault}
 use Rattle.bl_elf.specs.declared.fault.ElfFault.TheVariants as elf_fault

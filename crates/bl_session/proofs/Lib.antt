@@ -2,6 +2,11 @@ pub mod EndLaws
 pub mod BootLaws
 pub mod GatherLemmas
 pub mod OutcomeLaws
+pub mod OrderLemmas
+pub mod AwaitedLemmas
+pub mod SteadyLemmas
+pub mod HeardLemmas
+pub mod FaithfulLaws
 pub mod OnceLemmas
 pub mod SpotLemmas
 pub mod AttemptLemmas
@@ -12,3 +17,10 @@ pub mod FinishLemmas
 pub mod StepLemmas
 pub mod StoreLemmas
 pub mod ToldLemmas
+pub mod AlikeLemmas
+pub mod WentLemmas
+pub mod AskedLemmas
+pub mod LostLemmas
+pub mod ScheduleLaws
+pub mod FaultLemmas
+pub mod FaultLaws

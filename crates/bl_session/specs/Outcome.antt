@@ -41,6 +41,10 @@ value_in facts files entry = value_with (entry_at facts.menu entry) (texts_of fa
 abbrev pub Faults : Type 0
 Faults = ℕ → Option ℕ
 
+-- no fault comes
+abbrev pub no_fault : Faults
+no_fault attempt = None
+
 -- a piece holds its file's bytes at its place, and completes its attempt only if no fault comes of
 -- it; a fault is the one that comes
 abbrev pub IsTrueOf :

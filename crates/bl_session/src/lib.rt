@@ -16,6 +16,7 @@ mod picks;
 mod queue;
 mod reply;
 mod request;
+mod run_laws;
 mod script_store;
 mod session;
 mod stepping;
@@ -31,8 +32,12 @@ pub use laws::{
     each_attempt_ends, each_step_leads_on, ends_are_determined, first_entry_not_refused,
     steps_are_determined, two_boots,
 };
-pub use menu::{MOST_ENTRIES, MOST_MODULES, Menu, MenuFault};
+pub use menu::{MOST_ENTRIES, MOST_MODULES, Menu, MenuFault, order_attempts};
 pub use queue::Order;
+pub use run_laws::{
+    faithful_stores_boot_by_their_files, marked_histories_are_genuine,
+    runs_end_with_the_first_entry_not_refused,
+};
 pub use script_store::ScriptStore;
 pub use session::Session;
 pub use store::Store;

@@ -116,7 +116,9 @@ fn add_once<A: Allocator>(attempts: &mut Vec<u32, A>, index: u32) -> Result<(), 
     Ok(())
 }
 
-fn order_attempts<A: Allocator>(
+/// The order in which entries are attempted: the default, then the fallbacks, one that was named
+/// before left out.
+pub fn order_attempts<A: Allocator>(
     alloc: A,
     default: u32,
     fallbacks: &[u32],

@@ -1,20 +1,22 @@
 //! One boot.
 ghost use Rattle.std.specs.Prelude.{◌≡◌, ◌≢◌, ℕ, List, ◌+◌, ◌<◌, ◌≤◌, ◌^◌, length};
-ghost use Rattle.bl_boot.specs.Ends.{HasInlineFiles, names_in, IsBooted, IsRefused, IsBadDescription, IsBroken};
+ghost use Rattle.bl_boot.specs.Ends.{HasInlineFiles, names_sought, IsBooted, IsRefused, IsBadDescription, IsBroken};
 ghost use Rattle.bl_boot.specs.Kept.{Ends, HasFaults};
-ghost use Rattle.bl_boot.specs.Attempt.{most_files};
 ghost use Rattle.bl_boot.specs.Files.{Answer};
 ghost use Rattle.bl_desc.specs.Described.{described};
 
-use crate::attempting::{Attempt, attempt_entry};
 use crate::booting::fault::{End, EndFault};
-use crate::booting::handing::{hand_over, say_refusal};
+use crate::booting::finding::find_files;
+use crate::booting::handing::{hand_over, say_none_left};
 use crate::booting::machine::machine_of;
+use crate::booting::menu::menu_of;
+use crate::booting::names::names_in;
 use crate::fetching::Files;
-use bl_desc::read_description;
+use bl_desc::{Description, read_description};
 use bl_image::Sink;
 use bl_line::Order;
 use bl_mem::Sparse;
+use bl_session::{BootFault, FileStore, run};
 use std::alloc::{Allocator, Global};
 
 /// The same as `boot`, with its end in place of the status.
@@ -23,6 +25,7 @@ fn run_boot<A: Allocator + Copy, F: Files, S: Sink, B: Allocator>(
     global: Global,
     desc: &[u8],
     files: &mut F,
+    order: Order,
     out: &mut S,
     say: &mut Vec<u8, B>,
 ) -> Result<End, EndFault>
@@ -36,40 +39,45 @@ fn run_boot<A: Allocator + Copy, F: Files, S: Sink, B: Allocator>(
     ensures same_files { (file : List ℕ) (answer : Answer) →
         F.answers files.new file answer → F.answers files.old file answer }
     ensures missing { (F.faults files.old ≤ F.faults files.new)
-        × (F.faults files.new ≤ F.faults files.old + length (names_in (described desc.now)))
-        × (F.faults files.new ≤ F.faults files.old + most_files) }
+        × (F.faults files.new ≤ F.faults files.old + length (names_sought (described desc.now))) }
 {
     let description = read_description(alloc, global, desc)?;
     let machine = machine_of(alloc, &description)?;
-    let entry = &description.entries[0];
+    let names = names_in(alloc, &description)?;
+    let menu = menu_of(alloc, &names, &description)?;
+    let found = find_files(alloc, &description, &names, files)?;
+    let mut store = FileStore::new(alloc, found, order);
     let mut memory = Sparse::new(alloc, machine.size(), description.fill)?;
-    match attempt_entry(alloc, &machine, &description, entry, files, &mut memory)? {
-        Attempt::Refused(refusal) => {
-            say_refusal(alloc, refusal, say)?;
-            Ok(End::NoEntryLeft)
-        }
-        Attempt::Loaded(handoff) => {
-            hand_over(alloc, &handoff, &memory, entry.title.as_str(), out, say)?;
+    match run(alloc, &mut memory, &mut store, &machine, &menu) {
+        Ok(outcome) => {
+            let title = title_of(&description, outcome.entry);
+            hand_over(alloc, &outcome, &memory, title, out, say)?;
             Ok(End::Booted)
         }
+        Err(BootFault::NoEntryLeft(refused)) => {
+            say_none_left(alloc, &refused, say)?;
+            Ok(End::NoEntryLeft)
+        }
+        Err(BootFault::NoMemory) => Err(EndFault::NoMemory),
     }
 }
 
-/// Boots the entry of a description, and writes the image of the handover to `out`. Each of the
-/// entry's files that is not in the description is asked of `files`, once each time that it is
-/// named, and nothing else is. What the boot came to is appended to `say`, line by line.
+/// Boots the first entry of a description's menu that is not refused, and writes the image of the
+/// handover to `out`. The default is attempted first, then the fallbacks. Each file of these
+/// entries that is not in the description is asked of `files` once, before the boot, and nothing
+/// else is; its pieces come in the order that is named, which changes nothing but the way. What the
+/// boot came to is appended to `say`, line by line.
 ///
-/// The status is 0 where the entry was booted, 1 where it was refused, 2 where the description is
-/// bad, 3 where the sink had a fault, and 4 where memory ran out; with 2, 3 and 4 nothing is said.
-/// The entry is refused for want of a file only where `files` counted a fault more. `global` is
-/// what the TOML reader takes its memory from. The order in which pieces come has no effect yet,
-/// since each file is read whole.
+/// The status is 0 if an entry was booted, 1 if each one that was attempted was refused, 2 if the
+/// description is bad, 3 if the sink had a fault, and 4 if memory ran out; with 2, 3 and 4 nothing
+/// is said. An entry is refused for want of a file only if `files` counted a fault more. `global`
+/// is what the TOML reader takes its memory from.
 pub fn boot<A: Allocator + Copy, F: Files, S: Sink, B: Allocator>(
     alloc: A,
     global: Global,
     desc: &[u8],
     files: &mut F,
-    _order: Order,
+    order: Order,
     out: &mut S,
     say: &mut Vec<u8, B>,
 ) -> u8
@@ -95,15 +103,14 @@ pub fn boot<A: Allocator + Copy, F: Files, S: Sink, B: Allocator>(
     ensures sound { result ≢ 3 → S.faults out.new ≡ S.faults out.old }
 
     // Files that stand in the description are not asked for. The files answer as before, and each
-    // name in the description is missing once at most.
+    // name that is looked for is missing once at most.
     ensures inline { HasInlineFiles desc.now → files.new ≡ files.old }
     ensures same_files { (file : List ℕ) (answer : Answer) →
         F.answers files.new file answer → F.answers files.old file answer }
     ensures missing { (F.faults files.old ≤ F.faults files.new)
-        × (F.faults files.new ≤ F.faults files.old + length (names_in (described desc.now)))
-        × (F.faults files.new ≤ F.faults files.old + most_files) }
+        × (F.faults files.new ≤ F.faults files.old + length (names_sought (described desc.now))) }
 {
-    match run_boot(alloc, global, desc, files, out, say) {
+    match run_boot(alloc, global, desc, files, order, out, say) {
         Ok(End::Booted) => 0,
         Ok(End::NoEntryLeft) => 1,
         Err(EndFault::BadDescription) => 2,

@@ -2,6 +2,7 @@
 ghost use Rattle.std.specs.Prelude.{◌≡◌, ◌++◌, OnOk, OnErr};
 ghost use Rattle.bl_boot.specs.Says as says;
 
+use bl_session::RefusedEntry;
 use std::alloc::{AllocError, Allocator};
 
 /// Appends the line of an entry that was refused: its index in the menu, and the refusal's number.
@@ -17,6 +18,19 @@ pub fn say_refused<A: Allocator + Copy>(
     let alloc = *out.allocator();
     let line = format!(in alloc; "refused {entry} {number}\n")?;
     out.extend_from_slice(line.as_bytes())
+}
+
+/// Appends the lines of entries that were refused, in order.
+pub fn say_refusals<A: Allocator + Copy>(
+    out: &mut Vec<u8, A>,
+    refused: &[RefusedEntry],
+) -> Result<(), AllocError>
+    ensures { OnOk result (out.new.items ≡ out.old.items ++ says.refused_lines refused.now) }
+{
+    for entry in refused {
+        say_refused(out, entry.entry as u64, entry.refusal.number() as u64)?;
+    }
+    Ok(())
 }
 
 /// Appends the line of the entry that was booted: its index in the menu, and its title. An error

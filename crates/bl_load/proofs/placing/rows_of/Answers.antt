@@ -4,7 +4,7 @@ use Rattle.bl_load.specs.PlacingKept.{told_rows_by}
 use Rattle.bl_load.specs.ReadKept.{reading_by}
 use Rattle.bl_load.specs.SourceKept.{value_as}
 use Rattle.bl_load.specs.Value.{kernel_file}
-use Rattle.bl_load.proofs.LinuxLemmas.{fixed_preferred}
+use Rattle.bl_bzimage.proofs.CheckLaws.{fixed_preferred}
 use Rattle.bl_load.proofs.placing.rows_of.Goals as goal
 
 pub linux_rows-requires : goal.linux_rows-requires

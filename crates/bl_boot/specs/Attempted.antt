@@ -1,0 +1,105 @@
+-- What the menu of a description attempts, and with which files. Own.
+use Rattle.std.specs.Prelude.{ℕ, ◌+◌, ◌-◌, List, [], ◌∷◌, ◌++◌, map, slice_index_or, option_to_list, if◌then◌else◌}
+use Rattle.std.specs.Str.{bytes_eq}
+use Rattle.std.specs.List.{list_any, flat_map}
+use Rattle.bl_map.specs.MachineFacts.{MachineFacts}
+use Rattle.bl_load.specs.Value.{EntryValue}
+use Rattle.bl_session.specs.Menu.{EntryFacts, MenuFacts}
+use Rattle.bl_session.specs.Attempts.{attempts_of}
+use Rattle.bl_session.specs.Boot.{BootFacts}
+use Rattle.bl_session.specs.Outcome as session
+use Rattle.bl_session.specs.Outcome.{size_of}
+use Rattle.bl_desc.specs.Described.{Described, Entry, Form, multiboot2, linux, form_protocol}
+use Rattle.bl_boot.specs.Files.{Answer, missing, too_long, bytes, file_limit}
+
+-- ---- the files of an entry
+
+-- the names of the files beside the kernel, in order: those of the modules, or that of the initial
+-- ramdisk
+abbrev pub names_beside : Form → List (List ℕ)
+names_beside (multiboot2 modules) = map (λ m. m.file) modules
+names_beside (linux initrd) = option_to_list initrd
+
+-- the names of an entry's files, in order: the kernel's, then those beside it; one may be named twice
+abbrev pub file_names : Entry → List (List ℕ)
+file_names entry = entry.kernel ∷ names_beside entry.form
+
+-- the lines of the modules
+abbrev pub module_lines : Form → List (List ℕ)
+module_lines (multiboot2 modules) = map (λ m. m.line) modules
+module_lines (linux initrd) = []
+
+-- the value of an entry whose files hold these texts
+abbrev pub entry_value : Entry → List (List ℕ) → EntryValue
+entry_value entry files = record {
+  protocol = form_protocol entry.form;
+  line = entry.line;
+  files = files;
+  module_lines = module_lines entry.form;
+}
+
+-- ---- the files of a menu
+
+-- the entries that are attempted, by their index, in order
+abbrev pub attempted : Described → List ℕ
+attempted description = attempts_of description.default description.fallbacks
+
+-- what is read behind the last entry
+abbrev pub no_entry : Entry
+no_entry = record { title = []; kernel = []; line = []; form = multiboot2 [] }
+
+abbrev pub entry_of : Described → ℕ → Entry
+entry_of description index = slice_index_or description.entries index no_entry
+
+-- of these names each one that is not among the earlier ones, once
+abbrev pub names_once : List (List ℕ) → List (List ℕ) → List (List ℕ)
+names_once earlier [] = []
+names_once earlier (name ∷ names) =
+    if list_any (λ n. bytes_eq n name) earlier
+    then names_once earlier names
+    else name ∷ names_once (earlier ++ name ∷ []) names
+
+-- the names that are looked for: those of the files of each entry that is attempted, in order, one
+-- that was named before left out
+abbrev pub names_in : Described → List (List ℕ)
+names_in description =
+    names_once [] (flat_map (λ index. file_names (entry_of description index)) (attempted description))
+
+-- the index of a file: the place of its name among these, or how many they are if it is not there
+abbrev pub index_of : List (List ℕ) → List ℕ → ℕ
+index_of [] name = 0
+index_of (n ∷ names) name = if bytes_eq n name then 0 else 1 + index_of names name
+
+-- ---- the menu
+
+abbrev pub entry_facts : List (List ℕ) → Entry → EntryFacts
+entry_facts names entry = record {
+  files = map (index_of names) (file_names entry);
+  blank = entry_value entry [];
+}
+
+abbrev pub menu_of : Described → MenuFacts
+menu_of description = record {
+  entries = map (entry_facts (names_in description)) description.entries;
+  attempts = attempted description;
+}
+
+-- ---- the boot
+
+-- a file as it was found
+abbrev pub file_of : Answer → session.File
+file_of missing = session.missing
+file_of (too_long n) = session.too_long (n - (file_limit + 1))
+file_of (bytes file) = session.whole file
+
+abbrev pub files_of : List Answer → List session.File
+files_of answers = map file_of answers
+
+-- what does not change in the boot of a description's menu on a machine of these facts, with these
+-- answers for the names
+abbrev pub boot_of : Described → MachineFacts → List Answer → BootFacts
+boot_of description facts answers = record {
+  machine = facts;
+  menu = menu_of description;
+  sizes = map size_of (files_of answers);
+}

@@ -1,0 +1,99 @@
+//! The names of the files that are looked for.
+ghost use Rattle.std.specs.Prelude.{◌≡◌, ◌++◌, ◌∷◌, [], ℕ, List, if◌then◌else◌, map, IfOk, OnOk};
+ghost use Rattle.std.specs.Str.{bytes_eq};
+ghost use Rattle.std.specs.List.{list_any};
+ghost use Rattle.bl_boot.specs.Attempted as attempted;
+ghost use Rattle.bl_boot.specs.Attempted.{file_names};
+ghost use Rattle.bl_boot.specs.Kept.{names_with};
+ghost use Rattle.bl_desc.specs.Kept.{HasMenu, entry_view, module_view, view};
+
+use bl_desc::{Description, EntryForm, EntryRow, ModuleRow};
+use bl_session::order_attempts;
+use std::alloc::{AllocError, Allocator};
+
+/// Whether a name is one of these.
+fn is_among(name: &str, names: &[&str]) -> bool
+    ensures { result ≡ list_any (λ n. bytes_eq n name.now) (map (λ n. n.now) names.now) }
+{
+    names.iter().any(|n| *n == name)
+}
+
+/// Appends a name, if it is not among the earlier ones.
+fn add_name<'a, A: Allocator>(names: &mut Vec<&'a str, A>, name: &'a str) -> Result<(), AllocError>
+    ensures { OnOk result ((rest : List (List ℕ)) →
+        names_with (map (λ n. n.now) names.new.items) rest
+        ≡ names_with (map (λ n. n.now) names.old.items) (name.now ∷ rest)) }
+{
+    if !is_among(name, names) {
+        names.push(name)?;
+    }
+    Ok(())
+}
+
+/// Appends the names of modules' files, each one that is not there yet.
+fn add_modules<'a, A: Allocator>(
+    names: &mut Vec<&'a str, A>,
+    modules: &'a [ModuleRow<A>],
+) -> Result<(), AllocError>
+    ensures { OnOk result ((rest : List (List ℕ)) →
+        names_with (map (λ n. n.now) names.new.items) rest
+        ≡ names_with (map (λ n. n.now) names.old.items)
+        (map (λ m. m.file) (map module_view modules.now) ++ rest)) }
+{
+    for module in modules {
+        add_name(names, module.file.as_str())?;
+    }
+    Ok(())
+}
+
+/// Appends the names of an entry's files, each one that is not there yet.
+fn add_entry<'a, A: Allocator>(
+    names: &mut Vec<&'a str, A>,
+    entry: &'a EntryRow<A>,
+) -> Result<(), AllocError>
+    ensures { OnOk result ((rest : List (List ℕ)) →
+        names_with (map (λ n. n.now) names.new.items) rest
+        ≡ names_with (map (λ n. n.now) names.old.items)
+        (file_names (entry_view entry.now) ++ rest)) }
+{
+    add_name(names, entry.kernel.as_str())?;
+    match &entry.form {
+        EntryForm::Multiboot2 { modules } => add_modules(names, &modules.rows)?,
+        EntryForm::Linux { initrd: Some(file) } => add_name(names, file.as_str())?,
+        EntryForm::Linux { initrd: None } => {}
+    }
+    Ok(())
+}
+
+/// The names of the files of the entries that are attempted, in order, each one once.
+pub fn names_in<A: Allocator + Copy>(
+    alloc: A,
+    description: &Description<A>,
+) -> Result<Vec<&str, A>, AllocError>
+    requires { HasMenu description.now }
+    ensures { IfOk result (λ names.
+        map (λ n. n.now) names.items ≡ attempted.names_in (view description.now)) }
+{
+    let attempts = order_attempts(alloc, description.default, &description.fallbacks)?;
+    let mut names = Vec::new(alloc);
+    for index in attempts.iter() {
+        add_entry(&mut names, &description.entries[*index as usize])?;
+    }
+    Ok(names)
+}
+
+/// The place of a name among these, or how many they are if it is not there.
+pub fn index_of(names: &[&str], name: &str) -> usize
+    ensures { result ≡ attempted.index_of (map (λ n. n.now) names.now) name.now }
+{
+    match names {
+        [] => 0,
+        [first, rest @ ..] => {
+            if *first == name {
+                0
+            } else {
+                1 + index_of(rest, name)
+            }
+        }
+    }
+}

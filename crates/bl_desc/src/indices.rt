@@ -1,0 +1,71 @@
+//! The default entry of a menu and its fallbacks.
+ghost use Rattle.std.specs.Prelude.{◌≡◌, ◌<◌, ◌≤◌, [], length, map, codes, All, IfOk};
+ghost use Rattle.toml.specs.View.{view, table_view, items_view};
+ghost use Rattle.bl_desc.specs.Values as spec;
+ghost use Rattle.bl_desc.specs.Described.{most_entries};
+ghost use Rattle.bl_desc.specs.Kept.{Gives, entry_view};
+
+use crate::desc::EntryRow;
+use crate::entries::count_of;
+use crate::fault::DescFault;
+use crate::keys::at_key;
+use crate::values::index_of;
+use std::alloc::Allocator;
+use toml::{Table, Value};
+
+/// The default entry's index, 0 if the description has no such key.
+pub fn default_at<A: Allocator>(table: &Table, entries: &[EntryRow<A>]) -> Result<u32, DescFault>
+    requires some { 1 ≤ length entries.now }
+    requires few { length entries.now ≤ most_entries }
+    ensures given { let count = length (map entry_view entries.now) in
+        Gives (λ n. n) result
+        (spec.at_key_or 0 (spec.index_of count) (codes "default") (table_view table.now)) }
+    ensures inside { IfOk result (λ index. index < length entries.now) }
+{
+    let count = count_of(entries);
+    match at_key(table, "default") {
+        Some(value) => index_of(value, count).ok_or(DescFault::BadDescription),
+        None => Ok(0),
+    }
+}
+
+fn indices_in<A: Allocator>(alloc: A, items: &[Value], count: u32) -> Result<Vec<u32, A>, DescFault>
+    ensures given { Gives (λ v. v.items) result
+        (spec.each_item (spec.index_of count) (items_view items.now)) }
+    ensures inside { IfOk result (λ v. All (λ index. index < count) v.items) }
+{
+    let mut indices = Vec::new(alloc);
+    for item in items {
+        let index = index_of(item, count).ok_or(DescFault::BadDescription)?;
+        indices.push(index)?;
+    }
+    Ok(indices)
+}
+
+fn indices_of<A: Allocator>(alloc: A, value: &Value, count: u32) -> Result<Vec<u32, A>, DescFault>
+    ensures given { Gives (λ v. v.items) result (spec.indices_of count (view value.now)) }
+    ensures inside { IfOk result (λ v. All (λ index. index < count) v.items) }
+{
+    match value.as_array() {
+        Some(items) => indices_in(alloc, items, count),
+        None => Err(DescFault::BadDescription),
+    }
+}
+
+/// The fallbacks' indices in order, none if the description has no such key.
+pub fn fallbacks_at<A: Allocator>(
+    alloc: A,
+    table: &Table,
+    entries: &[EntryRow<A>],
+) -> Result<Vec<u32, A>, DescFault>
+    requires { length entries.now ≤ most_entries }
+    ensures given { let count = length (map entry_view entries.now) in
+        Gives (λ v. v.items) result
+        (spec.at_key_or [] (spec.indices_of count) (codes "fallback") (table_view table.now)) }
+    ensures inside { IfOk result (λ v. All (λ index. index < length entries.now) v.items) }
+{
+    match at_key(table, "fallback") {
+        Some(value) => indices_of(alloc, value, count_of(entries)),
+        None => Ok(Vec::new(alloc)),
+    }
+}
