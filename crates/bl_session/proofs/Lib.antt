@@ -10,3 +10,10 @@ pub mod StageLemmas
 pub mod AfterLemmas
 pub mod FinishLemmas
 pub mod StepLemmas
+pub mod AskLemmas
+pub mod MissingLemmas
+pub mod SizeLemmas
+pub mod TurnLemmas
+pub mod LaterLemmas
+pub mod HearLemmas
+pub mod RunLemmas

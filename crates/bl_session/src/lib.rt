@@ -2,6 +2,7 @@
 #![tactic(auto)]
 
 mod advancing;
+mod asking;
 mod attempt;
 mod attempting;
 mod beginning;
@@ -9,10 +10,14 @@ mod completion;
 mod finishing;
 mod laws;
 mod menu;
+mod missing;
 mod phase;
+mod booting;
+mod turn;
 mod session;
 mod stepping;
 mod store;
+mod submitting;
 mod words;
 
 pub use beginning::MOST_BYTES;
@@ -24,5 +29,6 @@ pub use laws::{
 };
 pub use menu::{MOST_ENTRIES, MOST_MODULES, Menu, MenuFault};
 pub use session::Session;
+pub use booting::run;
 pub use store::Store;
 pub use words::{BootFault, Event, Outcome, Progress, RefusedEntry, Ticket};
