@@ -2,6 +2,11 @@ pub mod EndLaws
 pub mod BootLaws
 pub mod GatherLemmas
 pub mod OutcomeLaws
+pub mod OrderLemmas
+pub mod AwaitedLemmas
+pub mod SteadyLemmas
+pub mod HeardLemmas
+pub mod FaithfulLaws
 pub mod OnceLemmas
 pub mod SpotLemmas
 pub mod AttemptLemmas
@@ -17,3 +22,7 @@ pub mod TurnLemmas
 pub mod LaterLemmas
 pub mod HearLemmas
 pub mod RunLemmas
+pub mod AlikeLemmas
+pub mod WentLemmas
+pub mod AskedLemmas
+pub mod ScheduleLaws

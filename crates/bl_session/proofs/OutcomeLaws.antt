@@ -1,5 +1,5 @@
 -- Each genuine schedule that ends a boot ends it with the first entry that is not refused.
-use Rattle.std.proofs.Common.{◌≡◌, ℕ, ◌+◌, Bool, true, false, MatchBool, List, [], ◌∷◌, ◌++◌, length, Option, Some, None, option_map, sym, ap, subst, ◌∙◌, refl, map, if◌then◌else◌, nat_lt, get_or, zero, suc, arith}
+use Rattle.std.proofs.Common.{◌≡◌, ℕ, ◌+◌, Bool, true, false, MatchBool, List, [], ◌∷◌, ◌++◌, length, Option, Some, None, option_map, unwrap_or, sym, ap, subst, ◌∙◌, refl, map, if◌then◌else◌, nat_lt, get_or, zero, suc, arith}
 use Rattle.std.proofs.lemmas.Bool.Decides.{nat_tests}
 use Rattle.std.specs.Option.{option_or}
 use Rattle.bl_map.specs.MachineFacts.{MachineFacts}
@@ -41,7 +41,7 @@ read_one place (too_long over) sizes e =
     let some : (if true then Some (FileTooLong place) else file_refusal (place + 1) sizes) ≡ None = rw long at e in
     absurd cc
 
-size_at : (files : List File) (file : ℕ) → get_or (map size_of files) file None ≡ size_of (get_or files file missing)
+pub size_at : (files : List File) (file : ℕ) → get_or (map size_of files) file None ≡ size_of (get_or files file missing)
 size_at [] file = refl
 size_at (f ∷ files) zero = refl
 size_at (f ∷ files) (suc file) = size_at files file
@@ -64,13 +64,25 @@ fits_read (size ∷ sizes) [] h = absurd h
 fits_read (None ∷ sizes) (text ∷ texts) h = absurd (let e = h.0 in cc)
 fits_read (Some n ∷ sizes) (text ∷ texts) h = (fits_first text n (let e = h.0 in cc), fits_read sizes texts h.1)
 
-fits_fresh : (facts : BootFacts) (files : List File) (entry : ℕ) → facts.sizes ≡ map size_of files → size_refusal facts.machine (sizes_of facts entry) ≡ None → FitAll (fresh facts entry) (texts_of facts files entry)
-fits_fresh facts files entry k e =
+-- what an entry's files hold, if their sizes don't refuse it
+pub are_read : (facts : BootFacts) (files : List File) (entry : ℕ) → facts.sizes ≡ map size_of files → size_refusal facts.machine (sizes_of facts entry) ≡ None → AreRead (sizes_of facts entry) (texts_of facts files entry)
+are_read facts files entry k e =
     let indices = (entry_at facts.menu entry).files in
     let sizes : sizes_of facts entry ≡ map (λ file. get_or (map size_of files) file None) indices = rw k refl in
     let none : file_refusal 0 (map (λ file. get_or (map size_of files) file None) indices) ≡ None =
     rw sizes at (first_none (file_refusal 0 (sizes_of facts entry)) (pool_refusal facts.machine (lengths_of (sizes_of facts entry))) e) in
-    rw sizes (fits_read _ _ (read_all files 0 indices none))
+    rw sizes (read_all files 0 indices none)
+
+fits_fresh : (facts : BootFacts) (files : List File) (entry : ℕ) → facts.sizes ≡ map size_of files → size_refusal facts.machine (sizes_of facts entry) ≡ None → FitAll (fresh facts entry) (texts_of facts files entry)
+fits_fresh facts files entry k e = fits_read _ _ (are_read facts files entry k e)
+
+-- the length of each file is that of its text
+pub length_read : (sizes : List (Option ℕ)) (texts : List (List ℕ)) → AreRead sizes texts → (i : ℕ) → get_or (lengths_of sizes) i 0 ≡ length (get_or texts i [])
+length_read [] [] read i = refl
+length_read [] (text ∷ texts) read i = absurd read
+length_read (size ∷ sizes) [] read i = absurd read
+length_read (size ∷ sizes) (text ∷ texts) read zero = ap (λ (x : Option ℕ). unwrap_or x 0) read.0
+length_read (size ∷ sizes) (text ∷ texts) read (suc i) = length_read sizes texts read.1 i
 
 -- ---- what an attempt ends in
 

@@ -1,17 +1,22 @@
 -- A run, from its parts.
-use Rattle.std.proofs.Common.{◌≡◌, ◌≢◌, ◌⊎◌, ℕ, ◌<◌, ◌≤◌, Bool, true, false, List, [], ◌∷◌, ◌++◌, length, refl, sym, ap, subst, ◌∙◌, inl, inr}
+use Rattle.std.proofs.Common.{◌≡◌, ◌≢◌, ◌⊎◌, ℕ, ◌<◌, ◌≤◌, Bool, true, false, List, [], ◌∷◌, ◌++◌, length, map, slice_index_or, Option, refl, sym, ap, subst, ◌∙◌, inl, inr}
 use Rattle.std.proofs.lemmas.List.{append-nil}
+use Rattle.std.specs.List.{range_with_len}
 use Rattle.std.specs.declared.ops.Range.{Range}
+use Rattle.bl_map.specs.MachineFacts.{MachineFacts}
 use Rattle.bl_mem.specs.Memory.{HasRoom, KeepsRoom}
 use Rattle.bl_stage.specs.Ranges.{IsSameOutside}
 use Rattle.bl_session.specs.Boot.{BootFacts, State, unstarted, out_of_memory, StartsOrFails}
-use Rattle.bl_session.specs.Outcome.{File}
+use Rattle.bl_session.specs.Outcome.{File, missing, size_of}
+use Rattle.bl_session.specs.Attempts.{files_named}
+use Rattle.bl_session.specs.Menu.{MenuFacts}
 use Rattle.bl_session.specs.History.{Item}
 use Rattle.bl_session.specs.Memory.{IsMemoryIn}
 use Rattle.bl_session.specs.Orders.{orders}
-use Rattle.bl_session.specs.Phases.{PhaseFacts, not_started, waits, hands_over, has_none, lacks_memory, state_at, is_waiting}
+use Rattle.bl_session.specs.Phases.{PhaseFacts, not_started, waits, hands_over, has_none, lacks_memory, state_at, is_waiting, boot_facts}
 use Rattle.bl_session.specs.Run.{World, world_of, IsRun}
 use Rattle.bl_session.specs.Turns.{IsAsked, IsHeard}
+use Rattle.bl_session.proofs.AlikeLemmas.{run_alike, alike_listed}
 use Rattle.bl_session.proofs.AdvanceLemmas.{memory_on, same_on}
 use Rattle.bl_session.proofs.LaterLemmas.{IsLater, later_begins}
 use Rattle.bl_session.proofs.TurnLemmas.{heard_on, heard_asked, heard_orders, reads_to}
@@ -60,6 +65,19 @@ is_run facts now files those old new begun end world e f starts heard is =
       begins = starts;
       reads = reads_to facts files old (world_of facts begun) world mine.gained end mine.leads is;
     }
+
+-- the sizes of all files, one by one
+pub run_started : (machine : MachineFacts) (menu : MenuFacts) (files : List File) (sizes : List (Option ℕ)) (boot now : BootFacts) (unbegun_phase begun : PhaseFacts) (before after : List ℕ) (old new : List Item) (world : World) (end : State)
+    → sizes ≡ map (λ file. size_of (slice_index_or files file missing)) (range_with_len 0 (files_named menu.entries))
+    → boot ≡ boot_facts machine menu sizes → unbegun_phase ≡ not_started → now ≡ boot → StartsOrFails boot (state_at before unbegun_phase) (state_at after begun)
+    → IsHeard now files old new (world_of now (state_at after begun)) world → (end ≡ world.state) ⊎ (end ≡ out_of_memory)
+    → IsRun (boot_facts machine menu (map size_of files)) files old new end
+run_started machine menu files sizes boot now unbegun_phase begun before after old new world end asked e first same starts heard is =
+    let own = boot_facts machine menu sizes in
+    let own_starts : StartsOrFails own unstarted (state_at after begun) =
+    subst (λ (b : BootFacts). StartsOrFails b unstarted (state_at after begun)) e (subst (λ (p : PhaseFacts). StartsOrFails boot (state_at before p) (state_at after begun)) first starts) in
+    run_alike own (boot_facts machine menu (map size_of files)) (alike_listed machine menu files sizes asked) files old new end
+    (is_run own now files files old new (state_at after begun) end world (same ∙ e) refl own_starts heard is)
 
 -- memory ran out before the start
 pub unbegun : (facts : BootFacts) (files : List File) (old new : List Item) → new ≡ old → IsRun facts files old new out_of_memory

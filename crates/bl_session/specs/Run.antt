@@ -1,13 +1,13 @@
 -- A boot over a store: what the store was asked and answered, read from left to right. Own.
-use Rattle.std.specs.Prelude.{◌≡◌, ◌⊎◌, ◌↔◌, ℕ, Bool, true, List, [], ◌∷◌, ◌++◌, length, map, Option, None, Some, Result, Ok, Err}
+use Rattle.std.specs.Prelude.{◌≡◌, ◌⊎◌, ◌↔◌, ℕ, true, List, [], ◌∷◌, ◌++◌, length, None, Some, Result, Ok, Err}
 use Rattle.bl_stage.specs.Spots.{Spot}
 use Rattle.bl_session.specs.declared.words.Ticket.{Ticket}
 use Rattle.bl_session.specs.declared.words.RefusedEntry.{RefusedEntry}
 use Rattle.bl_session.specs.declared.words.BootFault.{BootFault}
 use Rattle.bl_session.specs.declared.words.Outcome.{Outcome}
 use Rattle.bl_session.specs.Pieces.{with_piece, are_whole}
-use Rattle.bl_session.specs.Boot.{BootFacts, EventFacts, piece, fault, State, unstarted, running, handed_over, none_left, out_of_memory, is_wanted, Begins, StepsOrFails, StartsOrFails}
-use Rattle.bl_session.specs.Outcome.{File, Faults, size_of}
+use Rattle.bl_session.specs.Boot.{BootFacts, EventFacts, piece, fault, State, unstarted, running, handed_over, none_left, out_of_memory, is_wanted, StepsOrFails, StartsOrFails}
+use Rattle.bl_session.specs.Outcome.{File, Faults}
 use Rattle.bl_session.specs.History.{Item, submitted, came, failed, nothing, file_under, IsPieceOf}
 use Rattle.bl_session.specs.Orders.{orders, orders_after, first_ticket}
 use Rattle.bl_session.specs.Phases.{PhaseFacts, outcome_facts, fault_facts}

@@ -6,21 +6,23 @@ mod asking;
 mod attempt;
 mod attempting;
 mod beginning;
+mod booting;
 mod completion;
 mod finishing;
 mod laws;
 mod menu;
 mod missing;
 mod phase;
-mod booting;
-mod turn;
+mod run_laws;
 mod session;
 mod stepping;
 mod store;
 mod submitting;
+mod turn;
 mod words;
 
 pub use beginning::MOST_BYTES;
+pub use booting::run;
 pub use completion::Completion;
 pub use finishing::finish;
 pub use laws::{
@@ -28,7 +30,9 @@ pub use laws::{
     steps_are_determined, two_boots,
 };
 pub use menu::{MOST_ENTRIES, MOST_MODULES, Menu, MenuFault};
+pub use run_laws::{
+    faithful_stores_boot_by_their_files, runs_end_with_the_first_entry_not_refused,
+};
 pub use session::Session;
-pub use booting::run;
 pub use store::Store;
 pub use words::{BootFault, Event, Outcome, Progress, RefusedEntry, Ticket};
