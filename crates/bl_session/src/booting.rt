@@ -1,15 +1,17 @@
 //! A whole boot over a store.
-ghost use Rattle.std.specs.Prelude.{◌≡◌, ◌≢◌, ◌+◌, ◌≤◌, ◌^◌, ℕ, All, true, false, IfOk, OnErr, length, map};
+ghost use Rattle.std.specs.Prelude.{◌≡◌, ◌≢◌, ◌+◌, ◌≤◌, ◌^◌, [], ℕ, All, None, true, false};
+ghost use Rattle.std.specs.Prelude.{IfOk, OnErr, length, map};
 ghost use Rattle.std.specs.Prelude.{slice_index_or};
 ghost use Rattle.std.specs.List.{range_with_len};
 ghost use Rattle.bl_mem.specs.Memory.{KeepsRoom};
 ghost use Rattle.bl_stage.specs.Ranges.{IsSameOutside};
 ghost use Rattle.bl_session.specs.Boot.{out_of_memory};
 ghost use Rattle.bl_session.specs.Memory.{IsMemoryIn};
-ghost use Rattle.bl_session.specs.Outcome.{missing};
+ghost use Rattle.bl_session.specs.Faithful.{IsFaithful};
+ghost use Rattle.bl_session.specs.Outcome.{Faults, IsOutcome, HasEnded, missing};
 ghost use Rattle.bl_session.specs.Outcome as outcome;
 ghost use Rattle.bl_session.specs.Phases.{boot_facts, state_at, is_waiting, not_started};
-ghost use Rattle.bl_session.specs.Run.{IsRun, end_of};
+ghost use Rattle.bl_session.specs.Run.{IsRun, IsGenuineRun, end_of};
 
 use crate::menu::Menu;
 use crate::session::Session;
@@ -79,6 +81,9 @@ fn boot<'a, M: PhysMem, S: Store, A: Allocator + Copy>(
 /// not wait for changes nothing. If nothing more is to come, the first missing piece is lost, and
 /// its file's entry is refused.
 ///
+/// If the store's answers are genuine, the boot ends with the first entry that is not refused; and
+/// if the store is faithful and was asked for nothing before, its files alone decide.
+///
 /// Memory has the machine's size. Afterwards it is as after `Session::start`.
 pub fn run<M: PhysMem, S: Store, A: Allocator + Copy>(
     alloc: A,
@@ -91,6 +96,17 @@ pub fn run<M: PhysMem, S: Store, A: Allocator + Copy>(
     ensures run { IsRun (boot_facts machine.now menu.now (map outcome.size_of (S.files store.old)))
         (S.files store.old) (S.given store.old) (S.given store.new)
         (state_at (M.bytes memory.new) (end_of result)) }
+    ensures outcome { (faults : Faults) → IsGenuineRun
+        (boot_facts machine.now menu.now (map outcome.size_of (S.files store.old)))
+        (S.files store.old) faults (S.given store.old) (S.given store.new)
+        → HasEnded (state_at (M.bytes memory.new) (end_of result))
+        → IsOutcome (boot_facts machine.now menu.now (map outcome.size_of (S.files store.old)))
+        (S.files store.old) faults (state_at (M.bytes memory.new) (end_of result)) }
+    ensures faithful { S.given store.old ≡ []
+        → IsFaithful (S.files store.old) (S.given store.new)
+        → HasEnded (state_at (M.bytes memory.new) (end_of result))
+        → IsOutcome (boot_facts machine.now menu.now (map outcome.size_of (S.files store.old)))
+        (S.files store.old) (λ _. None) (state_at (M.bytes memory.new) (end_of result)) }
     ensures memory { IsMemoryIn machine.now.pool (state_at (M.bytes memory.new) (end_of result))
         (M.bytes memory.old) (M.bytes memory.new) }
     ensures inside { IfOk result (λ outcome. All (λ place.
