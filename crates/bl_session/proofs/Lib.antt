@@ -17,6 +17,13 @@ pub mod FinishLemmas
 pub mod StepLemmas
 pub mod StoreLemmas
 pub mod ToldLemmas
+pub mod AskLemmas
+pub mod MissingLemmas
+pub mod SizeLemmas
+pub mod TurnLemmas
+pub mod LaterLemmas
+pub mod HearLemmas
+pub mod RunLemmas
 pub mod AlikeLemmas
 pub mod WentLemmas
 pub mod AskedLemmas

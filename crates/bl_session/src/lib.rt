@@ -2,15 +2,18 @@
 #![tactic(auto)]
 
 mod advancing;
+mod asking;
 mod attempt;
 mod attempting;
 mod beginning;
+mod booting;
 mod completion;
 mod file_store;
 mod finishing;
 mod history;
 mod laws;
 mod menu;
+mod missing;
 mod phase;
 mod picks;
 mod queue;
@@ -22,9 +25,12 @@ mod session;
 mod stepping;
 mod store;
 mod stored_file;
+mod submitting;
+mod turn;
 mod words;
 
 pub use beginning::MOST_BYTES;
+pub use booting::run;
 pub use completion::Completion;
 pub use file_store::FileStore;
 pub use finishing::finish;
