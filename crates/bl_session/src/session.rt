@@ -1,11 +1,12 @@
 //! A boot that takes one event after the other.
-ghost use Rattle.std.specs.Prelude.{◌≡◌, ◌≢◌, ℕ, List, true, IfOk, MatchBool, length};
+ghost use Rattle.std.specs.Prelude.{◌≡◌, ◌≢◌, ℕ, List, true, IfOk, IfSome, MatchBool, length};
 ghost use Rattle.bl_mem.specs.Memory.{HasRoom, KeepsRoom};
 ghost use Rattle.bl_session.specs.Boot.{StepsOrFails, StartsOrFails, is_taken, attempt_of};
 ghost use Rattle.bl_session.specs.Boot as boot;
 ghost use Rattle.bl_session.specs.Memory.{IsMemoryIn};
 ghost use Rattle.bl_session.specs.Phases.{boot_facts, event_facts, state_at, is_waiting};
 ghost use Rattle.bl_session.specs.Phases.{phase_facts, state_of, end_facts, told, not_started, IsKept};
+ghost use Rattle.bl_session.specs.Phases.{EndsWithin};
 
 use crate::menu::Menu;
 use crate::phase::Phase;
@@ -23,9 +24,9 @@ use std::mem;
 pub struct Session<'a, A: Allocator + Copy> {
     alloc: A,
     machine: &'a Machine<A>,
-    menu: &'a Menu<A>,
+    pub(crate) menu: &'a Menu<A>,
     sizes: Vec<Option<u64>, A>,
-    phase: Phase<A>,
+    pub(crate) phase: Phase<A>,
 }
 
 impl<'a, A: Allocator + Copy> Model for Session<'a, A> {
@@ -183,7 +184,9 @@ impl<'a, A: Allocator + Copy> Session<'a, A> {
 
     /// The end, once there is one.
     pub fn outcome(&self) -> Option<Result<&Outcome<A>, &BootFault<A>>>
-        ensures { told result ≡ end_facts self.now.phase }
+        ensures end { told result ≡ end_facts self.now.phase }
+        ensures inside { IfSome result (λ end. IfOk end (λ outcome.
+            EndsWithin self.now.boot.machine.size outcome.now.handoff)) }
     {
         match &self.phase {
             Phase::HandedOver(outcome) => Some(Ok(outcome)),

@@ -9,7 +9,7 @@ ghost use Rattle.bl_session.specs.Boot.{Begins, StepsOrFails, StartsOrFails};
 ghost use Rattle.bl_session.specs.Phases.{event_facts, phase_facts, is_waiting, not_started};
 ghost use Rattle.bl_session.specs.Memory.{IsMemoryIn};
 ghost use Rattle.bl_session.specs.Phases.{boot_facts, running_state, state_of};
-ghost use Rattle.bl_session.specs.Phases.{IsKept, IsWaiting};
+ghost use Rattle.bl_session.specs.Phases.{IsKept, IsWaiting, LacksPiece};
 
 use crate::advancing::{begin, refuse, settle};
 use crate::menu::Menu;
@@ -58,6 +58,7 @@ pub fn take_piece<M: PhysMem, A: Allocator + Copy>(
     bytes: &[u8],
 ) -> Result<Phase<A>, AllocError>
     requires waiting { IsWaiting machine.now menu.now waiting }
+    requires missing { LacksPiece waiting.stage }
     requires size { length (M.bytes memory.old) ≡ machine.now.size }
     requires room { HasRoom (M.room memory.old) machine.now.pool.start machine.now.pool.end }
     ensures step { IfOk result (λ phase. Steps (boot_facts machine.now menu.now sizes.now)
@@ -113,6 +114,7 @@ pub fn take_fault<M: PhysMem, A: Allocator + Copy>(
     ticket: Ticket,
 ) -> Result<Phase<A>, AllocError>
     requires waiting { IsWaiting machine.now menu.now waiting }
+    requires missing { LacksPiece waiting.stage }
     requires size { length (M.bytes memory.old) ≡ machine.now.size }
     requires room { HasRoom (M.room memory.old) machine.now.pool.start machine.now.pool.end }
     ensures step { IfOk result (λ phase. Steps (boot_facts machine.now menu.now sizes.now)
@@ -158,6 +160,7 @@ fn take<M: PhysMem, A: Allocator + Copy>(
     event: Event,
 ) -> Result<Phase<A>, AllocError>
     requires waiting { IsWaiting machine.now menu.now waiting }
+    requires missing { LacksPiece waiting.stage }
     requires size { length (M.bytes memory.old) ≡ machine.now.size }
     requires room { HasRoom (M.room memory.old) machine.now.pool.start machine.now.pool.end }
     ensures step { IfOk result (λ phase. Steps (boot_facts machine.now menu.now sizes.now)
