@@ -24,8 +24,8 @@ use Rattle.bl_walk.specs.declared.seen_part.SeenPart.{SeenPart}
 abbrev pub segment_part : Segment → SeenPart
 segment_part segment = record { address = segment.address; length = segment.memsz }
 
--- segments lie at their own addresses, and the kernel is entered at its own; with a relocatable tag they are one block,
--- which lies somewhere, and the entry moved with it
+-- segments lie at their own addresses, and the kernel is entered at its own; with a relocatable
+-- tag they are one block, which lies somewhere, and the entry moved with it
 abbrev pub ShowsSegments : List Segment → ℕ → Option Relocation → SeenFacts → Type 0
 ShowsSegments segments entry None seen =
     (seen.entry ≡ entry) × (seen.kernel ≡ map segment_part (ascending segments))
