@@ -31,7 +31,7 @@ use Rattle.bl_walk.proofs.PartLemmas.{is_of}
 
 -- ---- each row has its place
 
-abbrev is_row : Role → ℕ → Row → Bool
+abbrev pub is_row : Role → ℕ → Row → Bool
 is_row role index row = nat_eq (role_number row.role) (role_number role) && nat_eq row.index index
 
 pub row_held : (facts : MachineFacts) (role : Role) (index : ℕ) (taken : List (Range ℕ)) (rows : List Row) (places : List Place) → ArePlaced facts taken rows places
