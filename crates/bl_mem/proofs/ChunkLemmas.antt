@@ -1,6 +1,6 @@
 -- What a chunk's bytes are, of which only the first are kept, as they are read, written and cleared.
 use Rattle.std.proofs.Common.{◌≡◌, ℕ, ◌+◌, ◌-◌, ◌≤◌, List, ◌++◌, length, min, take, drop, slice_range, replicate, arith, rules}
-use Rattle.std.proofs.lemmas.List.{places, same_lists, length-replicate}
+use Rattle.std.proofs.lemmas.List.{places, same_lists}
 use Rattle.bl_mem.specs.Memory.{overwrite}
 use Rattle.bl_mem.specs.Chunk.{filled_to}
 

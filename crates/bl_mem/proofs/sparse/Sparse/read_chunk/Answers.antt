@@ -1,4 +1,4 @@
-use Rattle.std.proofs.Common.{◌≡◌, ◌∙◌, sym, length, None, Some, rules, nat_cmp, ◌/◌}
+use Rattle.std.proofs.Common.{◌≡◌, ◌∙◌, sym, None, Some, nat_cmp, ◌/◌}
 use Rattle.std.specs.BTreeMap.{get}
 use Rattle.bl_mem.proofs.SparseLemmas.{read_kept, read_filled}
 use Rattle.bl_mem.proofs.sparse.Sparse.read_chunk.Goals as goal

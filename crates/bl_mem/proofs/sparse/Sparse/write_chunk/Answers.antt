@@ -1,4 +1,4 @@
-use Rattle.std.proofs.Common.{◌≡◌, sym, length, Some, refl, rules, nat_cmp, ◌/◌}
+use Rattle.std.proofs.Common.{◌≡◌, sym, Some, refl, nat_cmp, ◌/◌}
 use Rattle.std.specs.BTreeMap.{get}
 use Rattle.bl_mem.proofs.SparseLemmas.{write_kept, other_key}
 use Rattle.bl_mem.proofs.sparse.Sparse.write_chunk.Goals as goal

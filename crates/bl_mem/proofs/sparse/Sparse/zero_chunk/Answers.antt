@@ -1,4 +1,4 @@
-use Rattle.std.proofs.Common.{◌≡◌, sym, length, replicate, Some, refl, rules, nat_cmp, ◌/◌}
+use Rattle.std.proofs.Common.{◌≡◌, sym, replicate, Some, refl, nat_cmp, ◌/◌}
 use Rattle.std.proofs.lemmas.List.{length-replicate}
 use Rattle.std.specs.BTreeMap.{get}
 use Rattle.bl_mem.proofs.SparseLemmas.{write_kept, other_key}
