@@ -11,6 +11,7 @@ use crate::unasked::mark_unasked;
 use crate::way::{Way, read_way};
 use bl_refusing::Refusing;
 use std::alloc::Global;
+use std::ops::Range;
 
 /// More requests than any call of a row makes.
 const REQUESTS: u64 = 100_000;
@@ -94,20 +95,23 @@ fn each_set(
 fn each_swap(
     alloc: Global,
     session: &mut Session,
-    at: usize,
+    fields: Range<u64>,
     name: &str,
     bytes: &[u8],
 ) -> Result<String, RowFault> {
-    if at % 2 != 0 || bytes.len() < 2 || at > bytes.len() - 2 {
+    let at = fields.start as usize;
+    if at % 2 != 0 {
         return Err(RowFault::BadRow);
     }
     let mut runs = Runs::new(alloc, true);
     for half in 0..bytes.len() / 2 {
         let by = half * 2;
-        let changed = with_swapped(alloc, bytes, at, by)?;
-        let argument = Argument::Bytes(changed.as_slice());
-        let said = once(alloc, session, 0, name, argument)?;
-        runs.add(by as u64, said.text)?;
+        if at < by && (by as u64) < fields.end {
+            let changed = with_swapped(alloc, bytes, at, by)?;
+            let argument = Argument::Bytes(changed.as_slice());
+            let said = once(alloc, session, 0, name, argument)?;
+            runs.add(by as u64, said.text)?;
+        }
     }
     Ok(runs.finish()?)
 }
@@ -147,7 +151,7 @@ fn answer_bytes(
     match way {
         Way::EachCut => each_cut(alloc, session, name, bytes.as_slice()),
         Way::EachSet { value } => each_set(alloc, session, value, name, bytes.as_slice()),
-        Way::EachSwap { at } => each_swap(alloc, session, at as usize, name, bytes.as_slice()),
+        Way::EachSwap { fields } => each_swap(alloc, session, fields, name, bytes.as_slice()),
         _ => {
             let argument = Argument::Bytes(bytes.as_slice());
             answer_words(alloc, session, way, name, argument)

@@ -1,10 +1,11 @@
 //! How often a row's call is made, and over which bytes.
 
 use crate::fault::RowFault;
-use crate::parse::{byte, number, split_word};
+use crate::parse::{byte, range, split_word};
+use std::ops::Range;
 
 /// How a call is made.
-#[derive(Clone, Copy)]
+#[derive(Drop)]
 pub enum Way {
     /// Once, where the `nth` request is refused, or none at 0.
     Once { nth: u64 },
@@ -14,8 +15,9 @@ pub enum Way {
     EachCut,
     /// Over all bytes with one of them set to a value.
     EachSet { value: u8 },
-    /// Over all bytes, where the two at a place and two at an even place are swapped.
-    EachSwap { at: u64 },
+    /// Over all bytes, where the first of the fields of two bytes is swapped with each field behind
+    /// it, up to an end.
+    EachSwap { fields: Range<u64> },
 }
 
 /// How the call is made, and the call.
@@ -39,8 +41,9 @@ pub fn read_way(call: &str) -> Result<(Way, &str), RowFault> {
                 ))
             }
             ("swap", rest) => {
-                let (at, call) = split_word(rest);
-                Ok((Way::EachSwap { at: number(at)? }, call))
+                let (fields, call) = split_word(rest);
+                let fields = range(fields)?;
+                Ok((Way::EachSwap { fields }, call))
             }
             _ => Err(RowFault::BadRow),
         },
