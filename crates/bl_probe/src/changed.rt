@@ -14,12 +14,7 @@ pub fn with_set(alloc: Global, bytes: &[u8], at: usize, value: u8) -> Result<Vec
 }
 
 /// A copy of the bytes with the two at one place and the two at another in the place of each other.
-pub fn with_swapped(
-    alloc: Global,
-    bytes: &[u8],
-    at: usize,
-    by: usize,
-) -> Result<Vec<u8>, RowFault>
+pub fn with_swapped(alloc: Global, bytes: &[u8], at: usize, by: usize) -> Result<Vec<u8>, RowFault>
     requires first { at + 1 < length bytes.now }
     requires second { by + 1 < length bytes.now }
 {

@@ -70,6 +70,7 @@ pub fn make_over(
         ("load", words) => handoff::answer_load(alloc, heap, session, words, bytes),
         ("image", words) => image::answer(alloc, heap, session, words, bytes),
         ("images", words) => image::answer(alloc, heap, session, words, bytes),
+        ("image_of", words) => image::answer_held(alloc, heap, session, words, bytes),
         ("read_image", words) => read_image::answer(alloc, heap, words, bytes),
         ("image_fault", "") => read_image::answer_fault(alloc, heap, bytes),
         ("read_images", words) => read_image::answer_each(alloc, heap, words, bytes),

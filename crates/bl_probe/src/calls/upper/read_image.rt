@@ -21,7 +21,6 @@ pub fn image_fault_text(alloc: Global, fault: ImageFault) -> Result<String, Allo
     }
 }
 
-/// Appends a part as `, ROLE INDEX ADDRESS+LENGTH BYTES`.
 fn push_part(
     alloc: Global,
     text: &mut String,
@@ -35,7 +34,8 @@ fn push_part(
     write!(text, ", {role} {index:x} {address:x}+{length:x} {bytes}")
 }
 
-fn image_text(alloc: Global, image: &Image<&Refusing>) -> Result<String, AllocError> {
+/// What an image says, each part as `, ROLE INDEX ADDRESS+LENGTH BYTES`.
+pub fn image_text(alloc: Global, image: &Image<&Refusing>) -> Result<String, AllocError> {
     let protocol = image.protocol().number();
     let registers = registers_text(alloc, &image.registers())?;
     let mut text = format!(in alloc; "protocol {protocol} {registers}")?;

@@ -31,11 +31,7 @@ fn push_module(
 }
 
 /// Appends the kernel's parts, as ` kernel=ADDRESS+LENGTH`, the modules and the initial ramdisk, as ` initrd=ADDRESS:BYTES`.
-fn push_parts(
-    alloc: Global,
-    text: &mut String,
-    seen: &Seen<&Refusing>,
-) -> Result<(), AllocError> {
+fn push_parts(alloc: Global, text: &mut String, seen: &Seen<&Refusing>) -> Result<(), AllocError> {
     for part in &seen.kernel {
         let address = part.address;
         let length = part.length;

@@ -31,7 +31,9 @@ fn walked_text(
     let said = said_text(alloc, said.as_slice())?;
     let blamed = said_text(alloc, blamed.as_slice())?;
     let faults = source.faults();
-    let mut text = format!(in alloc; "status {status}, said {said}, blamed {blamed}, faults {faults:x}")?;
+    let mut text = format!(in alloc;
+        "status {status}, said {said}, blamed {blamed}, faults {faults:x}"
+    )?;
     if status == 4 {
         text.push_str(", no memory")?;
     }
