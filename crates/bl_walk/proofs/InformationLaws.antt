@@ -1,13 +1,11 @@
 -- The image of a Multiboot2 entry's handover shows the entry.
-use Rattle.std.proofs.Common.{◌≡◌, ◌≢◌, ◌+◌, ◌&&◌, nat_le, nat_lt, zero-add, ◌<◌, ◌≤◌, ◌^◌, ◌∷◌, ◌++◌, ℕ, true, List, [], map, length, take, Some, None, Option, refl, sym, ap, ◌∙◌, inl, arith, suc, subst, All, AllPairs}
-use Rattle.std.specs.Prelude.{IfSome, option_map, is_some, codes}
-use Rattle.std.specs.List.{list_any, list_all}
-use Rattle.std.proofs.lemmas.Bool.{leb-true, ltb-true}
-use Rattle.std.proofs.lemmas.List.Elements.{All-head, All-tail, All-cons, All-nil, All-append}
+use Rattle.std.proofs.Common.{◌≡◌, ◌+◌, zero-add, ◌<◌, ◌≤◌, ◌^◌, ◌∷◌, ◌++◌, ℕ, true, List, [], map, length, take, Some, None, refl, sym, ap, ◌∙◌, inl, arith, subst, All, AllPairs}
+use Rattle.std.specs.Prelude.{is_some, codes}
+use Rattle.std.specs.List.{list_any}
+use Rattle.std.proofs.lemmas.List.Elements.{All-head, All-tail}
 use Rattle.std.proofs.Math.Seq.{take-length}
 use Rattle.bl_map.specs.MachineFacts.{MachineFacts, AreMachineFacts}
-use Rattle.bl_mb2head.specs.declared.relocation.Relocation.{Relocation}
-use Rattle.bl_mbi.specs.InformationFacts.{InformationFacts, IsText, AreBytes, FitsFields}
+use Rattle.bl_mbi.specs.InformationFacts.{InformationFacts, AreBytes, FitsFields}
 use Rattle.bl_mbi.specs.Spelling.{spelling}
 use Rattle.bl_mbi.proofs.Sizes.{length-spelling}
 use Rattle.bl_plan.specs.Order.{in_order}
@@ -31,50 +29,17 @@ use Rattle.bl_load.proofs.LineLemmas.{sound_text, sound_short, first_sound}
 use Rattle.bl_load.proofs.ModuleLemmas.{modules_end_low}
 use Rattle.bl_load.proofs.FullLemmas.{kernel_full}
 use Rattle.bl_load.proofs.RowLemmas.{kernel_rows_are_rows}
-use Rattle.bl_load.proofs.RowPlaceLemmas.{Anywhere, each_rowed, are_below}
+use Rattle.bl_load.proofs.RowPlaceLemmas.{each_rowed, are_below}
 use Rattle.bl_walk.specs.Inside.{bytes_in}
 use Rattle.bl_walk.specs.Seen.{HasTotalSize, IsInformation, InformationSays, InformationShows, IsSeen, kernel_in}
 use Rattle.bl_walk.specs.SeenFacts.{SeenFacts}
 use Rattle.bl_walk.specs.Shown.{ShowsSegments, ShowsKernel, ShowsModules, ShowsFiles, ShowsEntry, HasByteLines}
 use Rattle.bl_walk.specs.State.{IsEntered, entry_registers}
 use Rattle.bl_walk.proofs.EnteredLemmas.{entered_place}
-use Rattle.bl_walk.proofs.KernelLemmas.{IsOther, AreSplit, are_split, first_places, kernel_shown, kernel_rows_of_kernel, segments_shown, seen_place}
-use Rattle.bl_walk.proofs.PartLemmas.{is_of, held_front, entered_in, both_true}
+use Rattle.bl_walk.proofs.KernelLemmas.{AreSplit, are_split, first_places, kernel_shown, kernel_rows_of_kernel, segments_shown, seen_place}
+use Rattle.bl_walk.proofs.PartLemmas.{is_of, held_front, entered_in}
 use Rattle.bl_walk.proofs.InformationLemmas.{row_held, behind, before, module_row, first_word, modules_fit, shown_modules, modules_seen, lines_shown, files_shown}
-
--- lines that are sound are short
-lines_short : (lines : List (List ℕ)) → lines_fault lines ≡ None → All (λ (line : List ℕ). length line ≤ 4095) lines
-lines_short [] sound = All-nil (λ (line : List ℕ). length line ≤ 4095)
-lines_short (line ∷ lines) sound =
-    let split = first_sound (line_fault line) (lines_fault lines) sound in
-    All-cons (λ (l : List ℕ). length l ≤ 4095) line lines (sound_short line split.0) (lines_short lines split.1)
-
-base_fits : {X : Type 0} (given : Option X) (base : ℕ) → base < 2 ^ 32 → IfSome (option_map (λ x. base) given) (λ b. b < 2 ^ 32)
-base_fits None base small = tt
-base_fits (Some x) base small = small
-
--- a text, by a test of each byte
-text_by : (text : List ℕ) → list_all (λ c. nat_le 1 c && nat_lt c 256) text ≡ true → IsText text
-text_by [] is = All-nil (λ (c : ℕ). (c ≢ 0) × (c < 256))
-text_by (c ∷ text) is =
-    let split = both_true _ _ is in
-    let first = both_true _ _ split.0 in
-    let low = leb-true 1 c first.0 in
-    All-cons (λ (b : ℕ). (b ≢ 0) × (b < 256)) c text (omega arith, ltb-true c 256 first.1) (text_by text split.1)
-
-name_is : IsText (codes "bootcore")
-name_is = text_by (codes "bootcore") refl
-
--- no row behind the kernel's is one of the kernel
-module_rows_other : (files : List (List ℕ)) (k : ℕ) (module_lines : List (List ℕ)) → All (Anywhere IsOther) (module_rows files k module_lines)
-module_rows_other files k [] = All-nil (Anywhere IsOther)
-module_rows_other files k (line ∷ rest) = All-cons (Anywhere IsOther) _ (module_rows files (suc k) rest) (λ a. refl) (module_rows_other files (suc k) rest)
-
-modules_other : (facts : MachineFacts) (value : EntryValue) (given : Option Relocation) → All (Anywhere IsOther) (module_rows value.files 0 value.module_lines ++ information_row facts value given ∷ [])
-modules_other facts value given =
-    All-append (Anywhere IsOther) (module_rows value.files 0 value.module_lines) (information_row facts value given ∷ [])
-    (module_rows_other value.files 0 value.module_lines)
-    (All-cons (Anywhere IsOther) (information_row facts value given) [] (λ a. refl) (All-nil (Anywhere IsOther)))
+use Rattle.bl_walk.proofs.TextLemmas.{lines_short, base_fits, name_is, modules_other}
 
 module _ (facts : MachineFacts) (value : EntryValue) (kernel : KernelFacts) (places : List Place) (machine : AreMachineFacts facts) (bytes : HasByteLines value)
     (few : length value.module_lines ≤ 64) (lines : lines_fault (lines_of value) ≡ None) (is_kernel : IsKernel (kernel_file value) kernel)

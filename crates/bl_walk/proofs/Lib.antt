@@ -9,7 +9,9 @@ pub mod PartLemmas
 pub mod KernelLemmas
 pub mod LineLemmas
 pub mod InformationLemmas
+pub mod TextLemmas
 pub mod InformationLaws
+pub mod ParametersLemmas
 pub mod ParametersLaws
 pub mod LegalLaws
 pub mod EnteredLemmas
