@@ -127,7 +127,11 @@ fn limits_text(
 }
 
 /// The image of what memory holds.
-fn held_text(alloc: Global, heap: &Refusing, loaded: &LoadedEntry<'_>) -> Result<String, AllocError>
+fn held_text<'h>(
+    alloc: Global,
+    heap: &'h Refusing,
+    loaded: &LoadedEntry<'h>,
+) -> Result<String, AllocError>
     requires { All (λ place. place.address + place.length ≤ length loaded.now.memory)
         loaded.now.handoff.places }
 {
