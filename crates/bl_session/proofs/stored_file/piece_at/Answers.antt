@@ -7,5 +7,5 @@ returns-clause-piece c =
     let bytes = c.args.bytes.now in
     let start = 4096 * c.args.index in
     let count : c.min-end.result - start ≡ min 4096 (length (drop start bytes)) =
-        simp length-drop (omega (arith, c.min-end.ensures)) in
+    simp length-drop (omega (arith, c.min-end.ensures)) in
     ap (λ (n : ℕ). take n (drop start bytes)) count ∙ take_min 4096 (drop start bytes)
