@@ -1,11 +1,11 @@
 -- A store's history and the requests that are still to be answered, as it is asked and as it answers.
-use Rattle.std.proofs.Common.{◌≡◌, ◌↔◌, ℕ, ◌+◌, ◌-◌, ◌*◌, ◌<◌, ◌≤◌, ◌==◌, ◌&&◌, nat_lt, Bool, true, false, if◌then◌else◌, List, [], ◌∷◌, ◌++◌, length, take, drop, Option, None, Some, suc, get_or, refl, sym, ap, subst, ◌∙◌, rules, arith, append_assoc}
+use Rattle.std.proofs.Common.{◌≡◌, ◌↔◌, ℕ, ◌+◌, ◌*◌, ◌<◌, ◌≤◌, ◌==◌, ◌&&◌, nat_lt, Bool, true, false, if◌then◌else◌, List, [], ◌∷◌, ◌++◌, length, take, drop, Option, None, Some, suc, get_or, refl, sym, ap, subst, ◌∙◌, rules, arith, append_assoc}
 use Rattle.std.proofs.lemmas.List.{append-nil}
 use Rattle.std.proofs.lemmas.Option.{slice_get-get_or}
 use Rattle.std.proofs.Math.Seq.{split_at}
 use Rattle.std.proofs.Math.Numerals.{add-one}
 use Rattle.std.specs.Bool.{Decides}
-use Rattle.std.proofs.lemmas.Bool.Decides.{Decides-like, Decides-and, Decides-eqb, Decides-ltb, not_from_Decides, nat_tests}
+use Rattle.std.proofs.lemmas.Bool.Decides.{Decides-like, Decides-and, Decides-eqb, Decides-ltb, not_from_Decides}
 use Rattle.std.specs.Prelude.{slice_get, slice_index_or, option_map}
 use Rattle.bl_stage.specs.Spots.{piece_of}
 use Rattle.bl_session.specs.declared.words.Ticket.{Ticket}
@@ -16,9 +16,9 @@ use Rattle.bl_session.specs.declared.queue.Order.{Order}
 use Rattle.bl_session.specs.declared.queue.Order.TheVariants.{Forward, Reverse}
 use Rattle.bl_session.specs.Boot.{EventFacts, piece, fault}
 use Rattle.bl_session.specs.Outcome.{File, missing, text_of}
-use Rattle.bl_session.specs.History.{Item, submitted, came, failed, nothing, is_same, file_after, file_under, IsPieceOf, IsItemOf}
-use Rattle.bl_session.specs.Faithful.{asked, answered, HasPiece, IsFaithfulItem, IsFaithfulAfter, IsFaithful}
-use Rattle.bl_session.specs.Stores.{are_equal, is_piece_of, item_of_event, item_of_told, item_of, event_of, answer_of, answer_to, next_place, without}
+use Rattle.bl_session.specs.History.{Item, submitted, failed, nothing, is_same, file_under, IsPieceOf, IsItemOf}
+use Rattle.bl_session.specs.Faithful.{asked, answered, HasPiece, IsFaithfulItem, IsFaithfulAfter}
+use Rattle.bl_session.specs.Stores.{are_equal, is_piece_of, item_of_event, item_of_told, item_of, event_of, answer_to, next_place, without}
 use Rattle.bl_session.proofs.OrderLemmas.{is_same_self, asked_both, answered_both, file_both}
 use Rattle.bl_session.specs.StoresKept.{count_of, WasAsked, AreAskedFor, AreKept}
 

@@ -1,4 +1,4 @@
-use Rattle.std.proofs.Common.{◌≡◌, ◌*◌, ◌+◌, ◌-◌, ◌∙◌, ℕ, List, length, take, drop, min, ap, arith}
+use Rattle.std.proofs.Common.{◌≡◌, ◌*◌, ◌-◌, ◌∙◌, ℕ, length, take, drop, min, ap, arith}
 use Rattle.std.proofs.lemmas.List.{take_min, length-drop}
 use Rattle.bl_session.proofs.stored_file.piece_at.Goals as goal
 

@@ -3,7 +3,6 @@ use Rattle.std.proofs.Common.{◌<◌, ◌^◌, [], ◌∷◌, ◌++◌, length,
 use mir.Syntax.{a_type, dcons, dnil, named}
 use mir.MapTy.{inst_fn}
 use mir.Val.{Val, vptr, vstruct, vnil}
-use base.Fml.{Fml}
 use types.Kit.{‵, raw, ◌⊛◌, ◌$◌, ◌∵◌, !, qed, move, keep, split, suffices, done}
 use types.Part.{agg}
 use types.Run.{no_more, returns, enter}
