@@ -18,6 +18,7 @@ mod session;
 mod stepping;
 mod store;
 mod submitting;
+mod taking;
 mod turn;
 mod words;
 

@@ -6,7 +6,7 @@ use Rattle.bl_session.specs.Boot.{piece, is_wanted}
 use Rattle.bl_session.specs.Phases.{boot_facts, state_of, IsKept}
 use Rattle.bl_session.specs.declared.phase.Phase.TheVariants.{Waits}
 use Rattle.bl_session.proofs.StepLemmas.{wanted_not, steps_unchanged, wanted_stored, spots_after, steps_piece, lacks_piece, memory_taken, memory_same, outside_taken}
-use Rattle.bl_session.proofs.stepping.take_piece.Goals as goal
+use Rattle.bl_session.proofs.taking.take_piece.Goals as goal
 
 pub returns-then-not-is_stored-clause-step : goal.returns-then-not-is_stored-clause-step
 returns-then-not-is_stored-clause-step g c =

@@ -3,7 +3,7 @@ use Rattle.bl_stage.specs.Spots.{spots}
 use Rattle.bl_session.specs.Boot.{fault, is_wanted}
 use Rattle.bl_session.specs.Phases.{boot_facts, state_of}
 use Rattle.bl_session.proofs.StepLemmas.{steps_fault, lacks_fault, memory_taken, same_itself}
-use Rattle.bl_session.proofs.stepping.take_fault.Goals as goal
+use Rattle.bl_session.proofs.taking.take_fault.Goals as goal
 
 pub returns-clause-step : goal.returns-clause-step
 returns-clause-step g c =
