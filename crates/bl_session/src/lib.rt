@@ -6,6 +6,7 @@ mod asking;
 mod attempt;
 mod attempting;
 mod beginning;
+mod boot;
 mod booting;
 mod completion;
 mod finishing;

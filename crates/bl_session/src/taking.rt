@@ -5,15 +5,14 @@ ghost use Rattle.bl_stage.specs.Ranges.{IsSameOutside};
 ghost use Rattle.bl_stage.specs.Spots.{spots};
 ghost use Rattle.bl_session.specs.Boot.{Steps, piece, fault, is_wanted, is_taken, ends_attempt};
 ghost use Rattle.bl_session.specs.Memory.{IsMemoryIn};
-ghost use Rattle.bl_session.specs.Phases.{boot_facts, event_facts, running_state, state_of};
+ghost use Rattle.bl_session.specs.Phases.{facts_of_boot, event_facts, running_in, state_in};
 ghost use Rattle.bl_session.specs.Phases.{IsKept, IsWaiting, LacksPiece};
 
 use crate::advancing::{refuse, settle};
-use crate::menu::Menu;
+use crate::boot::Boot;
 use crate::phase::{Phase, Running};
 use crate::words::{Event, RefusedEntry, Ticket};
 use bl_load::Refusal;
-use bl_map::Machine;
 use bl_mem::PhysMem;
 use bl_stage::Put;
 use std::alloc::{AllocError, Allocator};
@@ -45,34 +44,32 @@ fn is_stored(answer: Put) -> bool
 
 /// Takes a piece: it is stored if the attempt awaits it, and the last one ends the attempt.
 fn take_piece<M: PhysMem, A: Allocator + Copy>(
-    alloc: A,
-    machine: &Machine<A>,
-    menu: &Menu<A>,
-    sizes: &[Option<u64>],
+    boot: &Boot<A>,
     memory: &mut M,
     waiting: Running<A>,
     ticket: Ticket,
     bytes: &[u8],
 ) -> Result<Phase<A>, AllocError>
-    requires waiting { IsWaiting machine.now menu.now waiting }
+    requires waiting { IsWaiting boot.now.machine.now boot.now.menu.now waiting }
     requires missing { LacksPiece waiting.stage }
-    requires size { length (M.bytes memory.old) ≡ machine.now.size }
-    requires room { HasRoom (M.room memory.old) machine.now.pool.start machine.now.pool.end }
-    ensures step { IfOk result (λ phase. Steps (boot_facts machine.now menu.now sizes.now)
-        (running_state menu.now.attempts (M.bytes memory.old) waiting) (piece ticket bytes.now)
-        (state_of menu.now.attempts (M.bytes memory.new) phase)) }
+    requires size { length (M.bytes memory.old) ≡ boot.now.machine.now.size }
+    requires room { HasRoom (M.room memory.old)
+        boot.now.machine.now.pool.start boot.now.machine.now.pool.end }
+    ensures step { IfOk result (λ phase. Steps (facts_of_boot boot.now)
+        (running_in boot.now (M.bytes memory.old) waiting) (piece ticket bytes.now)
+        (state_in boot.now (M.bytes memory.new) phase)) }
     ensures lacking { OnErr result (ends_attempt
-        (running_state menu.now.attempts (M.bytes memory.old) waiting) (piece ticket bytes.now)
+        (running_in boot.now (M.bytes memory.old) waiting) (piece ticket bytes.now)
         ≡ true) }
     ensures memory { IfOk result (λ phase. MatchBool
-        (is_taken (running_state menu.now.attempts (M.bytes memory.old) waiting)
+        (is_taken (running_in boot.now (M.bytes memory.old) waiting)
         (piece ticket bytes.now))
-        (IsMemoryIn machine.now.pool (state_of menu.now.attempts (M.bytes memory.new) phase)
+        (IsMemoryIn boot.now.machine.now.pool (state_in boot.now (M.bytes memory.new) phase)
         (M.bytes memory.old) (M.bytes memory.new))
         (M.bytes memory.new ≡ M.bytes memory.old)) }
-    ensures phase { IfOk result (IsKept machine.now menu.now) }
+    ensures phase { IfOk result (IsKept boot.now.machine.now boot.now.menu.now) }
     ensures err { OnErr result
-        (IsSameOutside machine.now.pool (M.bytes memory.old) (M.bytes memory.new)) }
+        (IsSameOutside boot.now.machine.now.pool (M.bytes memory.old) (M.bytes memory.new)) }
     ensures size { length (M.bytes memory.new) ≡ length (M.bytes memory.old) }
     ensures kept { KeepsRoom (M.room memory.old) (M.room memory.new) }
 {
@@ -80,7 +77,7 @@ fn take_piece<M: PhysMem, A: Allocator + Copy>(
         return Ok(Phase::Waits(waiting));
     }
     // what this ensures says where the pool lies
-    machine.pool();
+    boot.machine.pool();
     let Running {
         entry,
         next,
@@ -97,36 +94,34 @@ fn take_piece<M: PhysMem, A: Allocator + Copy>(
     if !is_stored(answer) {
         return Ok(Phase::Waits(waiting));
     }
-    settle(alloc, machine, menu, sizes, memory, waiting)
+    settle(boot, memory, waiting)
 }
 
 /// Takes a fault: if the attempt awaits the piece, its entry is refused.
 fn take_fault<M: PhysMem, A: Allocator + Copy>(
-    alloc: A,
-    machine: &Machine<A>,
-    menu: &Menu<A>,
-    sizes: &[Option<u64>],
+    boot: &Boot<A>,
     memory: &mut M,
     waiting: Running<A>,
     ticket: Ticket,
 ) -> Result<Phase<A>, AllocError>
-    requires waiting { IsWaiting machine.now menu.now waiting }
+    requires waiting { IsWaiting boot.now.machine.now boot.now.menu.now waiting }
     requires missing { LacksPiece waiting.stage }
-    requires size { length (M.bytes memory.old) ≡ machine.now.size }
-    requires room { HasRoom (M.room memory.old) machine.now.pool.start machine.now.pool.end }
-    ensures step { IfOk result (λ phase. Steps (boot_facts machine.now menu.now sizes.now)
-        (running_state menu.now.attempts (M.bytes memory.old) waiting) (fault ticket)
-        (state_of menu.now.attempts (M.bytes memory.new) phase)) }
+    requires size { length (M.bytes memory.old) ≡ boot.now.machine.now.size }
+    requires room { HasRoom (M.room memory.old)
+        boot.now.machine.now.pool.start boot.now.machine.now.pool.end }
+    ensures step { IfOk result (λ phase. Steps (facts_of_boot boot.now)
+        (running_in boot.now (M.bytes memory.old) waiting) (fault ticket)
+        (state_in boot.now (M.bytes memory.new) phase)) }
     ensures lacking { OnErr result (ends_attempt
-        (running_state menu.now.attempts (M.bytes memory.old) waiting) (fault ticket) ≡ true) }
+        (running_in boot.now (M.bytes memory.old) waiting) (fault ticket) ≡ true) }
     ensures memory { IfOk result (λ phase. MatchBool
-        (is_taken (running_state menu.now.attempts (M.bytes memory.old) waiting) (fault ticket))
-        (IsMemoryIn machine.now.pool (state_of menu.now.attempts (M.bytes memory.new) phase)
+        (is_taken (running_in boot.now (M.bytes memory.old) waiting) (fault ticket))
+        (IsMemoryIn boot.now.machine.now.pool (state_in boot.now (M.bytes memory.new) phase)
         (M.bytes memory.old) (M.bytes memory.new))
         (M.bytes memory.new ≡ M.bytes memory.old)) }
-    ensures phase { IfOk result (IsKept machine.now menu.now) }
+    ensures phase { IfOk result (IsKept boot.now.machine.now boot.now.menu.now) }
     ensures err { OnErr result
-        (IsSameOutside machine.now.pool (M.bytes memory.old) (M.bytes memory.new)) }
+        (IsSameOutside boot.now.machine.now.pool (M.bytes memory.old) (M.bytes memory.new)) }
     ensures size { length (M.bytes memory.new) ≡ length (M.bytes memory.old) }
     ensures kept { KeepsRoom (M.room memory.old) (M.room memory.new) }
 {
@@ -143,45 +138,41 @@ fn take_fault<M: PhysMem, A: Allocator + Copy>(
         entry,
         refusal: Refusal::FileFault(ticket.file),
     };
-    refuse(alloc, machine, menu, sizes, memory, next, earlier, refused)
+    refuse(boot, memory, next, earlier, refused)
 }
 
 /// Takes an event.
 pub fn take<M: PhysMem, A: Allocator + Copy>(
-    alloc: A,
-    machine: &Machine<A>,
-    menu: &Menu<A>,
-    sizes: &[Option<u64>],
+    boot: &Boot<A>,
     memory: &mut M,
     waiting: Running<A>,
     event: Event,
 ) -> Result<Phase<A>, AllocError>
-    requires waiting { IsWaiting machine.now menu.now waiting }
+    requires waiting { IsWaiting boot.now.machine.now boot.now.menu.now waiting }
     requires missing { LacksPiece waiting.stage }
-    requires size { length (M.bytes memory.old) ≡ machine.now.size }
-    requires room { HasRoom (M.room memory.old) machine.now.pool.start machine.now.pool.end }
-    ensures step { IfOk result (λ phase. Steps (boot_facts machine.now menu.now sizes.now)
-        (running_state menu.now.attempts (M.bytes memory.old) waiting) (event_facts event.entry)
-        (state_of menu.now.attempts (M.bytes memory.new) phase)) }
+    requires size { length (M.bytes memory.old) ≡ boot.now.machine.now.size }
+    requires room { HasRoom (M.room memory.old)
+        boot.now.machine.now.pool.start boot.now.machine.now.pool.end }
+    ensures step { IfOk result (λ phase. Steps (facts_of_boot boot.now)
+        (running_in boot.now (M.bytes memory.old) waiting) (event_facts event.entry)
+        (state_in boot.now (M.bytes memory.new) phase)) }
     ensures lacking { OnErr result (ends_attempt
-        (running_state menu.now.attempts (M.bytes memory.old) waiting) (event_facts event.entry)
+        (running_in boot.now (M.bytes memory.old) waiting) (event_facts event.entry)
         ≡ true) }
     ensures memory { IfOk result (λ phase. MatchBool
-        (is_taken (running_state menu.now.attempts (M.bytes memory.old) waiting)
+        (is_taken (running_in boot.now (M.bytes memory.old) waiting)
         (event_facts event.entry))
-        (IsMemoryIn machine.now.pool (state_of menu.now.attempts (M.bytes memory.new) phase)
+        (IsMemoryIn boot.now.machine.now.pool (state_in boot.now (M.bytes memory.new) phase)
         (M.bytes memory.old) (M.bytes memory.new))
         (M.bytes memory.new ≡ M.bytes memory.old)) }
-    ensures phase { IfOk result (IsKept machine.now menu.now) }
+    ensures phase { IfOk result (IsKept boot.now.machine.now boot.now.menu.now) }
     ensures err { OnErr result
-        (IsSameOutside machine.now.pool (M.bytes memory.old) (M.bytes memory.new)) }
+        (IsSameOutside boot.now.machine.now.pool (M.bytes memory.old) (M.bytes memory.new)) }
     ensures size { length (M.bytes memory.new) ≡ length (M.bytes memory.old) }
     ensures kept { KeepsRoom (M.room memory.old) (M.room memory.new) }
 {
     match event {
-        Event::Piece(ticket, bytes) => {
-            take_piece(alloc, machine, menu, sizes, memory, waiting, ticket, bytes)
-        }
-        Event::Fault(ticket) => take_fault(alloc, machine, menu, sizes, memory, waiting, ticket),
+        Event::Piece(ticket, bytes) => { take_piece(boot, memory, waiting, ticket, bytes) }
+        Event::Fault(ticket) => take_fault(boot, memory, waiting, ticket),
     }
 }
