@@ -111,10 +111,12 @@ pub asked_some : (attempt place file count : ℕ) (files sizes : List ℕ) (old 
 asked_some attempt place file count files sizes old mid new f s is counts a b =
     let later = sized_orders attempt (place + 1) (drop (place + 1) files) (drop (place + 1) sizes) in
     let pieces = piece_orders attempt place (get_or files place 0) (frames_of (get_or sizes place 0)) in
-    let same : piece_orders attempt place file count ≡ pieces = ap (λ n. piece_orders attempt place n count) is ∙ ap (λ n. piece_orders attempt place (get_or files place 0) n) counts in
-    (b.0 ++ later, asked_part (sized_orders attempt 0 files sizes) pieces b.0 later old mid new
-    (subst (λ (l : List Item). IsAsked (sized_orders attempt 0 files sizes) l old mid) (sized_next attempt place files sizes f s) a)
-    (subst (λ (l : List Item). IsAsked l b.0 mid new) same b.1))
+    let same : piece_orders attempt place file count ≡ pieces = ap (λ n. piece_orders attempt place n count) is ∙ ap (λ n. piece_orders attempt place (get_or files place 0) n) counts in (
+      b.0 ++ later,
+      asked_part (sized_orders attempt 0 files sizes) pieces b.0 later old mid new
+          (subst (λ (l : List Item). IsAsked (sized_orders attempt 0 files sizes) l old mid) (sized_next attempt place files sizes f s) a)
+          (subst (λ (l : List Item). IsAsked l b.0 mid new) same b.1),
+    )
 
 pub asked_files : (bytes : List ℕ) (stage : Staging) (attempt place : ℕ) (files : List ℕ) (old new : List Item) → length files ≤ place
     → IsAsked (sized_orders attempt 0 files stage.sizes) (sized_orders attempt place (drop place files) (drop place stage.sizes)) old new → new ≡ old ++ file_orders attempt 0 files (spots bytes stage)

@@ -47,9 +47,11 @@ pub lacks_answers : (facts now : BootFacts) (files those : List File) (first mid
 lacks_answers facts now files those first mid asked last start old e f so_far given more =
     let mine : IsHeard facts files asked last (at old) more.0 =
     subst (λ (b : BootFacts). IsHeard b files asked last (at old) more.0) e (subst (λ (fs : List File). IsHeard now fs asked last (at old) more.0) f more.1) in
-    let orders_given : asked ≡ mid ++ orders facts old = given ∙ ap (λ (b : BootFacts). mid ++ orders b old) e in
-    (more.0, heard_on facts files first asked last start (at old) more.0
-    (heard_on facts files first mid asked start (world_of facts old) (at old) so_far (heard_orders facts files mid asked old orders_given)) mine)
+    let orders_given : asked ≡ mid ++ orders facts old = given ∙ ap (λ (b : BootFacts). mid ++ orders b old) e in (
+      more.0,
+      heard_on facts files first asked last start (at old) more.0
+          (heard_on facts files first mid asked start (world_of facts old) (at old) so_far (heard_orders facts files mid asked old orders_given)) mine,
+    )
 
 -- ---- the whole
 

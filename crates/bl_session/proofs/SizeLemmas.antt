@@ -26,8 +26,8 @@ all_small place (Some size ∷ sizes) e (suc k) h = all_small (place + 1) sizes 
 pub stage_small : (sizes : List (Option ℕ)) (stage : Staging) → file_refusal 0 sizes ≡ None → stage.sizes ≡ lengths_of sizes → HasSmallFiles stage
 stage_small sizes stage none same = record {
   all = λ k d h.
-    let n : k < length (lengths_of sizes) = subst (λ (l : List ℕ). k < length l) same h in
-    let small = all_small 0 sizes none k n in
-    subst (λ (l : List ℕ). get_or l k d ≤ most_bytes) (sym same)
-    (subst (λ m. m ≤ most_bytes) (sym (get_or_default (lengths_of sizes) k d 0 n)) small);
+      let n : k < length (lengths_of sizes) = subst (λ (l : List ℕ). k < length l) same h in
+      let small = all_small 0 sizes none k n in
+      subst (λ (l : List ℕ). get_or l k d ≤ most_bytes) (sym same)
+      (subst (λ m. m ≤ most_bytes) (sym (get_or_default (lengths_of sizes) k d 0 n)) small);
 }

@@ -1,11 +1,11 @@
 -- A store's history and the requests that are still to be answered, as it is asked and as it answers.
-use Rattle.std.proofs.Common.{◌≡◌, ◌↔◌, ℕ, ◌+◌, ◌-◌, ◌*◌, ◌<◌, ◌≤◌, ◌==◌, ◌&&◌, nat_lt, Bool, true, false, if◌then◌else◌, List, [], ◌∷◌, ◌++◌, length, take, drop, Option, None, Some, suc, get_or, refl, sym, ap, subst, ◌∙◌, rules, arith, append_assoc}
+use Rattle.std.proofs.Common.{◌≡◌, ◌↔◌, ℕ, ◌+◌, ◌*◌, ◌<◌, ◌≤◌, ◌==◌, ◌&&◌, nat_lt, Bool, true, false, if◌then◌else◌, List, [], ◌∷◌, ◌++◌, length, take, drop, Option, None, Some, suc, get_or, refl, sym, ap, subst, ◌∙◌, rules, arith, append_assoc}
 use Rattle.std.proofs.lemmas.List.{append-nil}
 use Rattle.std.proofs.lemmas.Option.{slice_get-get_or}
 use Rattle.std.proofs.Math.Seq.{split_at}
 use Rattle.std.proofs.Math.Numerals.{add-one}
 use Rattle.std.specs.Bool.{Decides}
-use Rattle.std.proofs.lemmas.Bool.Decides.{Decides-like, Decides-and, Decides-eqb, Decides-ltb, not_from_Decides, nat_tests}
+use Rattle.std.proofs.lemmas.Bool.Decides.{Decides-like, Decides-and, Decides-eqb, Decides-ltb, not_from_Decides}
 use Rattle.std.specs.Prelude.{slice_get, slice_index_or, option_map}
 use Rattle.bl_stage.specs.Spots.{piece_of}
 use Rattle.bl_session.specs.declared.words.Ticket.{Ticket}
@@ -16,9 +16,10 @@ use Rattle.bl_session.specs.declared.queue.Order.{Order}
 use Rattle.bl_session.specs.declared.queue.Order.TheVariants.{Forward, Reverse}
 use Rattle.bl_session.specs.Boot.{EventFacts, piece, fault}
 use Rattle.bl_session.specs.Outcome.{File, missing, text_of}
-use Rattle.bl_session.specs.History.{Item, submitted, came, failed, nothing, is_same, file_after, file_under, IsPieceOf, IsItemOf}
-use Rattle.bl_session.specs.Faithful.{asked, answered, HasPiece, IsFaithfulItem, IsFaithfulAfter, IsFaithful}
-use Rattle.bl_session.specs.Stores.{are_equal, is_piece_of, item_of_event, item_of_told, item_of, event_of, answer_of, answer_to, next_place, without}
+use Rattle.bl_session.specs.History.{Item, submitted, failed, nothing, is_same, file_under, IsPieceOf, IsItemOf}
+use Rattle.bl_session.specs.Faithful.{asked, answered, HasPiece, IsFaithfulItem, IsFaithfulAfter}
+use Rattle.bl_session.specs.Stores.{are_equal, is_piece_of, item_of_event, item_of_told, item_of, event_of, answer_to, next_place, without}
+use Rattle.bl_session.proofs.OrderLemmas.{is_same_self, asked_both, answered_both, file_both}
 use Rattle.bl_session.specs.StoresKept.{count_of, WasAsked, AreAskedFor, AreKept}
 
 -- ---- the mark of an answer
@@ -43,35 +44,11 @@ item_is files given (Some (Piece ticket bytes)) = (is_piece_of files (file_under
 
 -- ---- one item more
 
-pub asked_more : (items : List Item) (item : Item) (ticket : Ticket) → asked (items ++ item ∷ []) ticket ≡ asked items ticket + asked (item ∷ []) ticket
-asked_more [] item ticket = search rules
-asked_more (submitted file t ∷ items) item ticket = rw (asked_more items item ticket) (omega arith)
-asked_more (came t count genuine ∷ items) item ticket = asked_more items item ticket
-asked_more (failed t ∷ items) item ticket = asked_more items item ticket
-asked_more (nothing ∷ items) item ticket = asked_more items item ticket
-
-pub answered_more : (items : List Item) (item : Item) (ticket : Ticket) → answered (items ++ item ∷ []) ticket ≡ answered items ticket + answered (item ∷ []) ticket
-answered_more [] item ticket = search rules
-answered_more (submitted file t ∷ items) item ticket = answered_more items item ticket
-answered_more (came t count genuine ∷ items) item ticket = rw (answered_more items item ticket) (omega arith)
-answered_more (failed t ∷ items) item ticket = rw (answered_more items item ticket) (omega arith)
-answered_more (nothing ∷ items) item ticket = answered_more items item ticket
-
-pub under_more : (found : Option ℕ) (items : List Item) (item : Item) (ticket : Ticket) → file_after found (items ++ item ∷ []) ticket ≡ file_after (file_after found items ticket) (item ∷ []) ticket
-under_more found [] item ticket = refl
-under_more found (submitted file t ∷ items) item ticket = under_more (if is_same t ticket then Some file else found) items item ticket
-under_more found (came t count genuine ∷ items) item ticket = under_more found items item ticket
-under_more found (failed t ∷ items) item ticket = under_more found items item ticket
-under_more found (nothing ∷ items) item ticket = under_more found items item ticket
-
-pub faithful_more : (files : List File) (given items : List Item) (item : Item) → IsFaithfulAfter files given items → IsFaithfulItem files (given ++ items) item → IsFaithfulAfter files given (items ++ item ∷ [])
+faithful_more : (files : List File) (given items : List Item) (item : Item) → IsFaithfulAfter files given items → IsFaithfulItem files (given ++ items) item → IsFaithfulAfter files given (items ++ item ∷ [])
 faithful_more files given [] item old new = (subst (λ (g : List Item). IsFaithfulItem files g item) (append-nil given) new, tt)
 faithful_more files given (x ∷ items) item old new = (old.0, faithful_more files (given ++ x ∷ []) items item old.1 (subst (λ (g : List Item). IsFaithfulItem files g item) (sym (append_assoc given (x ∷ []) items)) new))
 
 -- ---- requests
-
-same_self : (ticket : Ticket) → is_same ticket ticket ≡ true
-same_self ticket = grind (arith, nat_tests)
 
 count_append : (front back : List Request) (ticket : Ticket) → count_of (front ++ back) ticket ≡ count_of front ticket + count_of back ticket
 count_append [] back ticket = search rules
@@ -85,7 +62,7 @@ one_case false n old new file some under = (omega arith, λ e. under (omega arit
 one_asked : (given : List Item) (new request : Request) → WasAsked given request → WasAsked (given ++ submitted new.file new.ticket ∷ []) request
 one_asked given new request (some, under) =
     let item : Item = submitted new.file new.ticket in
-    rw (asked_more given item request.ticket, under_more None given item request.ticket)
+    rw (asked_both given (item ∷ []) request.ticket, file_both None given (item ∷ []) request.ticket)
     (one_case (is_same new.ticket request.ticket) (asked given request.ticket) (file_under given request.ticket) (Some new.file) request.file some under)
 
 all_asked : (given : List Item) (new : Request) (requests : List Request) → AreAskedFor given requests → AreAskedFor (given ++ submitted new.file new.ticket ∷ []) requests
@@ -104,25 +81,25 @@ asked_apart given (request ∷ front) back (first, h) = let apart : AreAskedFor 
 new_asked : (given : List Item) (new : Request) → WasAsked (given ++ submitted new.file new.ticket ∷ []) new
 new_asked given new =
     let item : Item = submitted new.file new.ticket in
-    rw (asked_more given item new.ticket, under_more None given item new.ticket, same_self new.ticket) (omega arith, λ e. refl)
+    rw (asked_both given (item ∷ []) new.ticket, file_both None given (item ∷ []) new.ticket, is_same_self new.ticket) (omega arith, λ e. refl)
 
 -- ---- what a store keeps
 
 pub kept_request : (files : List File) (pending : List Request) (given : List Item) (new : Request) → AreKept files pending given → AreKept files (pending ++ new ∷ []) (given ++ submitted new.file new.ticket ∷ [])
 kept_request files pending given new kept = record {
   faithful = faithful_more files [] given (submitted new.file new.ticket) kept.faithful tt;
-  counts = λ ticket. rw (answered_more given (submitted new.file new.ticket) ticket, asked_more given (submitted new.file new.ticket) ticket, count_append pending (new ∷ []) ticket) (omega (arith, kept.counts ticket));
+  counts = λ ticket. rw (answered_both given ((submitted new.file new.ticket) ∷ []) ticket, asked_both given ((submitted new.file new.ticket) ∷ []) ticket, count_append pending (new ∷ []) ticket) (omega (arith, kept.counts ticket));
   asked_for = asked_append (given ++ submitted new.file new.ticket ∷ []) pending (new ∷ []) (all_asked given new pending kept.asked_for) (new_asked given new, tt);
 }
 
 -- an answer leaves what was asked for
 nothing_asked : (files : List File) (given : List Item) (event : EventFacts) (ticket : Ticket) → asked (given ++ item_of_event files given event ∷ []) ticket ≡ asked given ticket
-nothing_asked files given (piece t bytes) ticket = let item : Item = item_of_event files given (piece t bytes) in omega (arith, asked_more given item ticket)
-nothing_asked files given (fault t) ticket = omega (arith, asked_more given (failed t) ticket)
+nothing_asked files given (piece t bytes) ticket = let item : Item = item_of_event files given (piece t bytes) in omega (arith, asked_both given (item ∷ []) ticket)
+nothing_asked files given (fault t) ticket = omega (arith, asked_both given ((failed t) ∷ []) ticket)
 
 same_under : (files : List File) (given : List Item) (event : EventFacts) (ticket : Ticket) → file_under (given ++ item_of_event files given event ∷ []) ticket ≡ file_under given ticket
-same_under files given (piece t bytes) ticket = under_more None given (item_of_event files given (piece t bytes)) ticket
-same_under files given (fault t) ticket = under_more None given (failed t) ticket
+same_under files given (piece t bytes) ticket = file_both None given ((item_of_event files given (piece t bytes)) ∷ []) ticket
+same_under files given (fault t) ticket = file_both None given ((failed t) ∷ []) ticket
 
 same_asked : (files : List File) (given : List Item) (event : EventFacts) (requests : List Request) → AreAskedFor given requests → AreAskedFor (given ++ item_of_event files given event ∷ []) requests
 same_asked files given event [] h = tt
@@ -141,21 +118,25 @@ if_faithful : (files : List File) (given : List Item) (request : Request) (has :
     → IsFaithfulItem files given (item_of_event files given (answer_if has (text_of (slice_index_or files request.file missing)) request.ticket))
 if_faithful files given request true e (some, under) fewer =
     let index = request.ticket.piece in
-    let bytes = piece_of (text_of (slice_index_or files request.file missing)) index in
-    (fewer, λ one. (marks files (file_under given request.ticket) index bytes).1
-    (subst (λ (file : Option ℕ). IsPieceOf files file index bytes) (sym (under one)) refl))
+    let bytes = piece_of (text_of (slice_index_or files request.file missing)) index in (
+      fewer,
+      λ one. (marks files (file_under given request.ticket) index bytes).1
+          (subst (λ (file : Option ℕ). IsPieceOf files file index bytes) (sym (under one)) refl),
+    )
 if_faithful files given request false e (some, under) fewer =
-    let index = request.ticket.piece in
-    (fewer, λ one has. not_from_Decides (nat_lt (4096 * index) (length (text_of (slice_index_or files request.file missing))))
-    (Decides-ltb (4096 * index) (length (text_of (slice_index_or files request.file missing)))) e
-    (subst (λ (file : Option ℕ). HasPiece files file index) (under one) has))
+    let index = request.ticket.piece in (
+      fewer,
+      λ one has. not_from_Decides (nat_lt (4096 * index) (length (text_of (slice_index_or files request.file missing))))
+          (Decides-ltb (4096 * index) (length (text_of (slice_index_or files request.file missing)))) e
+          (subst (λ (file : Option ℕ). HasPiece files file index) (under one) has),
+    )
 
 -- ---- after an answer
 
 -- the ticket of a request has an answer to come
 still : (front back : List Request) (request : Request) → 1 ≤ count_of (front ++ request ∷ back) request.ticket
 still front back request =
-    rw (count_append front (request ∷ back) request.ticket, same_self request.ticket) (omega arith)
+    rw (count_append front (request ∷ back) request.ticket, is_same_self request.ticket) (omega arith)
 
 kept_answer : (files : List File) (front back : List Request) (given : List Item) (request : Request) → AreKept files (front ++ request ∷ back) given → AreKept files (front ++ back) (given ++ item_of_event files given (answer_to files request) ∷ [])
 kept_answer files front back given request kept =
@@ -166,14 +147,14 @@ kept_answer files front back given request kept =
     let fewer : answered given request.ticket < asked given request.ticket = omega (arith, kept.counts request.ticket, still front back request) in
     record {
       faithful = faithful_more files [] given item kept.faithful (if_faithful files given request has refl apart.1.0 fewer);
-      counts = λ ticket. omega (arith, kept.counts ticket, answered_more given item ticket, if_answered files given has text request.ticket ticket, nothing_asked files given (answer_to files request) ticket, count_append front (request ∷ back) ticket, count_append front back ticket);
+      counts = λ ticket. omega (arith, kept.counts ticket, answered_both given (item ∷ []) ticket, if_answered files given has text request.ticket ticket, nothing_asked files given (answer_to files request) ticket, count_append front (request ∷ back) ticket, count_append front back ticket);
       asked_for = same_asked files given (answer_to files request) (front ++ back) (asked_append given front back apart.0 apart.1.1);
     }
 
 kept_nothing : (files : List File) (given : List Item) → AreKept files [] given → AreKept files [] (given ++ nothing ∷ [])
 kept_nothing files given kept = record {
   faithful = faithful_more files [] given nothing kept.faithful (λ ticket. omega (arith, kept.counts ticket));
-  counts = λ ticket. omega (arith, kept.counts ticket, answered_more given nothing ticket, asked_more given nothing ticket);
+  counts = λ ticket. omega (arith, kept.counts ticket, answered_both given (nothing ∷ []) ticket, asked_both given (nothing ∷ []) ticket);
   asked_for = tt;
 }
 

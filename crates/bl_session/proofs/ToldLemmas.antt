@@ -1,5 +1,5 @@
 -- What a store's contract says of an answer, by the list of what is still to be answered.
-use Rattle.std.proofs.Common.{◌≡◌, ◌↔◌, ℕ, ◌+◌, ◌-◌, ◌<◌, ◌%◌, Bool, true, false, List, [], ◌∷◌, ◌++◌, length, take, drop, Option, None, Some, Result, Ok, Err, IfOk, OnErr, IfSome, IsNone, get_or, length-append, length-take, length-drop, refl, sym, ap, subst, ◌∙◌, arith}
+use Rattle.std.proofs.Common.{◌≡◌, ◌↔◌, ℕ, ◌+◌, ◌<◌, List, [], ◌∷◌, ◌++◌, length, Option, None, Some, Result, Ok, Err, IfOk, OnErr, IfSome, IsNone, get_or, length-append, length-take, length-drop, refl, ap, ◌∙◌, arith}
 use Rattle.std.specs.Prelude.{slice_get, option_map}
 use Rattle.std.proofs.lemmas.Option.{slice_get-get_or}
 use Rattle.bl_session.specs.declared.completion.Completion.{Completion}
@@ -44,9 +44,9 @@ pub record Tells {A E : Type 0} (files1 files2 : List File) (given1 given2 : Lis
   pub err : OnErr result ((given2 ≡ given1) × (left2 ≡ left1))
 
 -- an answer that takes what stands at a place
-answered : {A E R : Type 0} (event : R → EventFacts) (files1 files2 : List File) (given1 given2 : List Item) (pending1 pending2 : List R) (place : ℕ) (answer : Option (Completion A)) → (0 < length pending1 → place < length pending1) → option_map event_of answer ≡ option_map event (slice_get pending1 place)
+tells_taken : {A E R : Type 0} (event : R → EventFacts) (files1 files2 : List File) (given1 given2 : List Item) (pending1 pending2 : List R) (place : ℕ) (answer : Option (Completion A)) → (0 < length pending1 → place < length pending1) → option_map event_of answer ≡ option_map event (slice_get pending1 place)
     → files2 ≡ files1 → given2 ≡ given1 ++ item_of files1 given1 answer ∷ [] → pending2 ≡ without pending1 place → Tells {E = E} files1 files2 given1 given2 (length pending1) (length pending2) (Ok answer)
-answered event files1 files2 given1 given2 pending1 pending2 place answer within is files given pending = record {
+tells_taken event files1 files2 given1 given2 pending1 pending2 place answer within is files given pending = record {
   files = files;
   given = (item_of files1 given1 answer, item_is files1 given1 answer, given);
   none = none_left event pending1 place answer within is;
@@ -62,7 +62,7 @@ next_within order (first ∷ others) some = place_within order first others
 pub file_store_tells : {A E : Type 0} (old new : FileStoreFacts) (result : Result (Option (Completion A)) E) → IfOk result (λ answer. option_map event_of answer ≡ next_event old) → IfOk result (λ answer. new ≡ after_answer old (option_map event_of answer)) → OnErr result (new ≡ old)
     → Tells old.files new.files old.given new.given (length old.pending) (length new.pending) result
 file_store_tells old new (Ok answer) is ok err =
-    answered (answer_to old.files) old.files new.files old.given new.given old.pending new.pending (next_place old.order old.pending) answer (next_within old.order old.pending) is
+    tells_taken (answer_to old.files) old.files new.files old.given new.given old.pending new.pending (next_place old.order old.pending) answer (next_within old.order old.pending) is
     (ap (λ (s : FileStoreFacts). s.files) ok) (ap (λ (s : FileStoreFacts). s.given) ok) (ap (λ (s : FileStoreFacts). s.pending) ok)
 file_store_tells old new (Err fault) is ok err = record {
   files = ap (λ (s : FileStoreFacts). s.files) err;
@@ -79,7 +79,7 @@ picked_within store some = omega arith
 pub script_store_tells : {A E : Type 0} (old new : ScriptStoreFacts) (result : Result (Option (Completion A)) E) → IfOk result (λ answer. option_map event_of answer ≡ scripts.next_event old) → IfOk result (λ answer. new ≡ scripts.after_answer old (option_map event_of answer)) → OnErr result (new ≡ old)
     → Tells old.files new.files old.given new.given (length old.pending) (length new.pending) result
 script_store_tells old new (Ok answer) is ok err =
-    answered (event_by old.files) old.files new.files old.given new.given old.pending new.pending (picked_place old) answer (picked_within old) is
+    tells_taken (event_by old.files) old.files new.files old.given new.given old.pending new.pending (picked_place old) answer (picked_within old) is
     (ap (λ (s : ScriptStoreFacts). s.files) ok) (ap (λ (s : ScriptStoreFacts). s.given) ok) (ap (λ (s : ScriptStoreFacts). s.pending) ok)
 script_store_tells old new (Err fault) is ok err = record {
   files = ap (λ (s : ScriptStoreFacts). s.files) err;

@@ -14,9 +14,12 @@ pub leads_on : (facts : BootFacts) (files : List File) (given : List Item) (a b 
     → LeadsOn facts files given a xs b → LeadsOn facts files (given ++ xs) b ys c → LeadsOn facts files given a (xs ++ ys) c
 leads_on facts files given a b c [] ys first later =
     subst (λ (w : World). LeadsOn facts files given w ys c) first (subst (λ (g : List Item). LeadsOn facts files g b ys c) (append-nil given) later)
-leads_on facts files given a b c (x ∷ xs) ys first later =
-    (first.0, first.1, leads_on facts files (given ++ x ∷ []) first.0 b c xs ys first.2
-    (subst (λ (g : List Item). LeadsOn facts files g b ys c) (sym (append_assoc given (x ∷ []) xs)) later))
+leads_on facts files given a b c (x ∷ xs) ys first later = (
+  first.0,
+  first.1,
+  leads_on facts files (given ++ x ∷ []) first.0 b c xs ys first.2
+      (subst (λ (g : List Item). LeadsOn facts files g b ys c) (sym (append_assoc given (x ∷ []) xs)) later),
+)
 
 pub heard_none : (facts : BootFacts) (files : List File) (given : List Item) (world : World) → IsHeard facts files given given world world
 heard_none facts files given world = record { gained = []; given = sym (append-nil given); leads = refl }
@@ -27,7 +30,7 @@ heard_on facts files old mid new a b c first later = record {
   gained = first.gained ++ later.gained;
   given = later.given ∙ ap (λ (g : List Item). g ++ later.gained) first.given ∙ append_assoc old first.gained later.gained;
   leads = leads_on facts files old a b c first.gained later.gained first.leads
-    (subst (λ (g : List Item). LeadsOn facts files g b later.gained c) first.given later.leads);
+      (subst (λ (g : List Item). LeadsOn facts files g b later.gained c) first.given later.leads);
 }
 
 -- ---- what is owed is asked for
@@ -44,7 +47,7 @@ heard_asked facts files old new state owed rest a = record {
   gained = a.asked;
   given = a.given;
   leads = subst (λ (l : List Item). LeadsOn facts files old (record { state = state; owed = l }) a.asked (record { state = state; owed = rest })) (sym a.all)
-    (owed_leads facts files old state a.asked rest);
+      (owed_leads facts files old state a.asked rest);
 }
 
 pub heard_orders : (facts : BootFacts) (files : List File) (old new : List Item) (state : State) → new ≡ old ++ orders facts state

@@ -9,6 +9,7 @@ use Rattle.bl_load.specs.Handover.{Handover}
 use Rattle.bl_load.specs.PlanFacts.{handover_in}
 use Rattle.bl_stage.specs.Staged.{Staging, AllCame, fresh}
 use Rattle.bl_stage.specs.Spots.{spots}
+use Rattle.bl_session.specs.declared.boot.Boot.{Boot}
 use Rattle.bl_session.specs.declared.words.RefusedEntry.{RefusedEntry}
 use Rattle.bl_session.specs.declared.words.BootFault.{BootFault}
 use Rattle.bl_session.specs.declared.words.BootFault.TheVariants.{NoEntryLeft, NoMemory}
@@ -111,6 +112,16 @@ IsFresh facts sizes stage = (frames : List ℕ) × (stage ≡ fresh facts.pool (
 -- what does not change in a boot, by the machine, the menu and the files' sizes
 abbrev pub boot_facts : MachineFacts → MenuFacts → List (Option ℕ) → BootFacts
 boot_facts machine menu sizes = record { machine = machine; menu = menu; sizes = sizes }
+
+abbrev pub facts_of_boot : {A : Type 0} → Boot A → BootFacts
+facts_of_boot boot = boot_facts boot.machine.now boot.menu.now boot.sizes.now
+
+-- the states of its phases
+abbrev pub state_in : {A : Type 0} → Boot A → (bytes : List ℕ) → Phase A → State
+state_in boot bytes phase = state_of boot.menu.now.attempts bytes phase
+
+abbrev pub running_in : {A : Type 0} → Boot A → (bytes : List ℕ) → Running A → State
+running_in boot bytes r = running_state boot.menu.now.attempts bytes r
 
 -- each file has at most the most bytes
 pub record HasSmallFiles (stage : Staging) : Type 0 where

@@ -24,5 +24,6 @@ AreAskedFor given (request ∷ requests) = WasAsked given request × AreAskedFor
 
 pub record AreKept (files : List File) (pending : List Request) (given : List Item) : Type 0 where
   pub faithful : IsFaithful files given
-  pub counts : (ticket : Ticket) → answered given ticket + count_of pending ticket ≡ asked given ticket
+  pub counts :
+      (ticket : Ticket) → answered given ticket + count_of pending ticket ≡ asked given ticket
   pub asked_for : AreAskedFor given pending

@@ -6,6 +6,7 @@ mod asking;
 mod attempt;
 mod attempting;
 mod beginning;
+mod boot;
 mod booting;
 mod completion;
 mod file_store;
@@ -26,6 +27,7 @@ mod stepping;
 mod store;
 mod stored_file;
 mod submitting;
+mod taking;
 mod turn;
 mod words;
 

@@ -26,7 +26,7 @@ fn alter<A: Allocator>(alloc: A, bytes: &[u8]) -> Result<Vec<u8, A>, AllocError>
 }
 
 /// What comes, as a completion.
-pub(crate) fn completion<A: Allocator + Copy>(
+pub(crate) fn completion_of<A: Allocator + Copy>(
     alloc: A,
     files: &[StoredFile<A>],
     reply: &Reply,

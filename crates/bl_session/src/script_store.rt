@@ -2,7 +2,7 @@
 use crate::completion::Completion;
 use crate::history::History;
 use crate::picks::Picks;
-use crate::reply::{Reply, completion, push_replies};
+use crate::reply::{Reply, completion_of, push_replies};
 use crate::request::Request;
 use crate::store::Store;
 use crate::stored_file::{StoredFile, size_in};
@@ -44,10 +44,12 @@ impl<A: Allocator + Copy> ScriptStore<A> {
     ghost use Rattle.bl_session.specs.Stores.{stored_files, event_of};
     ghost use Rattle.bl_session.specs.Scripts.{next_event, picked_place};
 
-    /// A store of these files, by their index in the menu. A ticket of `fail` comes as a fault. One
-    /// of `twice` comes twice: the second time each of its bytes is exclusive-or 0xFF. Answer number
-    /// k, from 0, is the one at place `picks[k]` of those that are still to come, modulo their
-    /// number, and the first of them once the picks are used up.
+    /// A store of these files, by their index in the menu. A ticket of `fail` comes as a fault, and
+    /// else one of `twice` comes twice, the second time with each byte exclusive-or 0xFF.
+    ///
+    /// Call number k of `next`, from 0, takes what is at place `picks[k]` of what is still to come,
+    /// modulo its number, and the first of it once the picks are used up. One that finds nothing
+    /// uses its pick up too; one that is refused memory does not count.
     pub fn new(
         alloc: A,
         files: Vec<StoredFile<A>, A>,
@@ -91,7 +93,7 @@ impl<A: Allocator + Copy> ScriptStore<A> {
         ensures { IfOk result (λ answer. option_map event_of answer ≡ next_event self.now) }
     {
         match self.next_reply() {
-            Some(reply) => Ok(Some(completion(self.alloc, &self.files, &reply)?)),
+            Some(reply) => Ok(Some(completion_of(self.alloc, &self.files, &reply)?)),
             None => Ok(None),
         }
     }

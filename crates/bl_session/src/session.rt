@@ -8,6 +8,7 @@ ghost use Rattle.bl_session.specs.Phases.{boot_facts, event_facts, state_at, is_
 ghost use Rattle.bl_session.specs.Phases.{phase_facts, state_of, end_facts, told, not_started, IsKept};
 ghost use Rattle.bl_session.specs.Phases.{EndsWithin};
 
+use crate::boot::Boot;
 use crate::menu::Menu;
 use crate::phase::Phase;
 use crate::stepping::{advance, begin_first};
@@ -133,14 +134,13 @@ impl<'a, A: Allocator + Copy> Session<'a, A> {
     {
         let attempt = number_of(&self.phase);
         let phase = mem::replace(&mut self.phase, Phase::Unstarted);
-        self.phase = begin_first(
-            self.alloc,
-            self.machine,
-            self.menu,
-            &self.sizes,
-            memory,
-            phase,
-        );
+        let boot = Boot {
+            alloc: self.alloc,
+            machine: self.machine,
+            menu: self.menu,
+            sizes: &self.sizes,
+        };
+        self.phase = begin_first(&boot, memory, phase);
         progress_of(self.machine, self.menu, attempt, &self.phase)
     }
 
@@ -170,15 +170,13 @@ impl<'a, A: Allocator + Copy> Session<'a, A> {
     {
         let attempt = number_of(&self.phase);
         let phase = mem::replace(&mut self.phase, Phase::Unstarted);
-        self.phase = advance(
-            self.alloc,
-            self.machine,
-            self.menu,
-            &self.sizes,
-            memory,
-            phase,
-            event,
-        );
+        let boot = Boot {
+            alloc: self.alloc,
+            machine: self.machine,
+            menu: self.menu,
+            sizes: &self.sizes,
+        };
+        self.phase = advance(&boot, memory, phase, event);
         progress_of(self.machine, self.menu, attempt, &self.phase)
     }
 

@@ -1,5 +1,6 @@
 //! A file as a store keeps it, and one of its pieces.
-ghost use Rattle.std.specs.Prelude.{◌≡◌, ◌↔◌, ℕ, ◌*◌, ◌<◌, ◌^◌, length, IfSome, IsSome, slice_index_or};
+ghost use Rattle.std.specs.Prelude.{◌≡◌, ◌↔◌, ℕ, ◌*◌, ◌<◌, ◌^◌, length};
+ghost use Rattle.std.specs.Prelude.{IfSome, IsSome, slice_index_or};
 ghost use Rattle.bl_stage.specs.Spots.{piece_of};
 ghost use Rattle.bl_session.specs.Outcome.{missing, size_of, text_of};
 ghost use Rattle.bl_session.specs.Stores.{file_of, stored_files};
@@ -42,8 +43,7 @@ impl<A: Allocator> StoredFile<A> {
             piece.now ≡ piece_of (text_of (file_of self.now)) index) }
     {
         match self {
-            StoredFile::Missing => None,
-            StoredFile::TooLong(_) => None,
+            StoredFile::Missing | StoredFile::TooLong(_) => None,
             StoredFile::Whole(bytes) => piece_at(bytes.as_slice(), index as usize),
         }
     }

@@ -68,8 +68,8 @@ fn answer<M: PhysMem, S: Store, A: Allocator + Copy>(
         (record {
           state = state_at (M.bytes memory.new) session.new.phase;
           owed = orders_after session.old.boot
-            (state_at (M.bytes memory.old) session.old.phase)
-            (state_at (M.bytes memory.new) session.new.phase);
+              (state_at (M.bytes memory.old) session.old.phase)
+              (state_at (M.bytes memory.new) session.new.phase);
         })) }
     ensures progress { IfOk result (λ progress. progress ≡ boot.progress
         (attempt_of (state_at (M.bytes memory.old) session.old.phase))

@@ -3,7 +3,6 @@ use Rattle.std.proofs.Common.{◌<◌, ◌^◌, [], ◌∷◌, ◌++◌, length,
 use mir.Syntax.{a_type, dcons, dnil, named}
 use mir.MapTy.{inst_fn}
 use mir.Val.{Val, vptr, vstruct, vnil}
-use base.Fml.{Fml}
 use types.Kit.{‵, raw, ◌⊛◌, ◌$◌, ◌∵◌, !, qed, move, keep, split, suffices, done}
 use types.Part.{agg}
 use types.Run.{no_more, returns, enter}
@@ -37,18 +36,26 @@ and_answer_spec 𝓤 𝓛 𝓜 𝓡 wired A L g d e met drops =
     let function = inst_fn inst code.function in
     let file = S.the_row (param 0 A) g in
     let told = O.the_row (C.the_row (param 0 A) g) in
-    let stayed : Stays ended.signature.params ended.kept =
-        (stay_none_ref (0 ∷ []) tt (plain (λ _. H.the_row)) yes,
-        (stay_none_slice (1 ∷ []) tt (plain (λ _. file)) yes,
-        (stay_none_ref (2 ∷ []) tt (plain (λ _. told)) yes, tt))) in
-    proved 𝓛 ended stayed clauses 𝓜 𝓡
-    (Goes-none_ref 𝓛 4 (0 ∷ []) tt (plain (λ _. H.the_row)) yes,
-    (Goes-none_slice 𝓛 4 (1 ∷ []) tt (plain (λ _. file)) yes,
-    (Goes-none_ref 𝓛 4 (2 ∷ []) tt (plain (λ _. told)) yes, tt)))
+    let stayed : Stays ended.signature.params ended.kept = (
+      stay_none_ref (0 ∷ []) tt (plain (λ _. H.the_row)) yes,
+      (
+        stay_none_slice (1 ∷ []) tt (plain (λ _. file)) yes,
+        (stay_none_ref (2 ∷ []) tt (plain (λ _. told)) yes, tt),
+      ),
+    ) in
+    proved 𝓛 ended stayed clauses 𝓜 𝓡 (
+      Goes-none_ref 𝓛 4 (0 ∷ []) tt (plain (λ _. H.the_row)) yes,
+      (
+        Goes-none_slice 𝓛 4 (1 ∷ []) tt (plain (λ _. file)) yes,
+        (Goes-none_ref 𝓛 4 (2 ∷ []) tt (plain (λ _. told)) yes, tt),
+      ),
+    )
     (F.Key.name inst) function (code.unfolded 𝓤 𝓛.H 𝓜 𝓡 wired (A, tt) d e)
     (λ κs. (shr_vals, (shr_slice_vals, (shr_vals, tt))))
-    (λ κs. (shr_Tells (named 0) κs.0 H.the_row,
-    (shr_slice_Tells (named 1) κs.1.0 file, (shr_Tells (named 2) κs.1.1.0 told, tt))))
+    (λ κs. (
+      shr_Tells (named 0) κs.0 H.the_row,
+      (shr_slice_Tells (named 1) κs.1.0 file, (shr_Tells (named 2) κs.1.1.0 told, tt)),
+    ))
     (λ κs qs bounds a ghost are.
     let before : Val = vptr a.0.ref_ptr.0 a.0.ref_ptr.1 in
     let files : Val = slice_val a.1.0.ref_ptr (length a.1.0.now) in
@@ -58,9 +65,9 @@ and_answer_spec 𝓤 𝓛 𝓜 𝓡 wired A L g d e met drops =
       items = a.0.now.items ++ item_of (stored_files a.1.0.now) a.0.now.items a.1.1.0.now ∷ [];
     } in
     let bound : (walk_of 𝓛 ended stayed clauses).Ghost =
-        ((κs, qs, bounds, a, (before ∷ [], (files ∷ [], (answer ∷ [], tt)))), ghost) in
+    ((κs, qs, bounds, a, (before ∷ [], (files ∷ [], (answer ∷ [], tt)))), ghost) in
     qed 𝓛 ((raw (alive 𝓛 ended.signature κs qs) ⊛ ‵ (owns (types_at ended.signature.params κs) a bound.0.4))
-        ∷ raw ((clauses κs a).requires ghost) ∷ []) ∵
+    ∷ raw ((clauses κs a).requires ghost) ∷ []) ∵
     keep ! (0 ∷ []) $ split ! $ enter ! 𝓣.C 𝓣.Λ function (before ∷ files ∷ answer ∷ []) _ $
     alloc_all ! (λ l.
     pass_all ! refl ((tt, tt), ((tt, (tt, (record { fits = fits }, tt))), ((tt, tt), tt))) $

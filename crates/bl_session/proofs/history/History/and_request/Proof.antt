@@ -27,12 +27,14 @@ pub and_request_spec : {M : Type 1} → statement M
 and_request_spec 𝓤 𝓛 𝓜 𝓡 wired =
     let 𝓣 = tables 𝓤 𝓛.H 𝓜 𝓡 𝓡.env in
     let clauses = F.clauses 𝓛 𝓜.mem 𝓡.returns in
-    let stayed : Stays F.ended.signature.params F.ended.kept =
-        (stay_none_ref (0 ∷ []) tt (plain (λ _. H.the_row)) yes,
-        (stay_none_ref (1 ∷ []) tt (plain (λ _. R.the_row)) yes, tt)) in
-    proved 𝓛 F.ended stayed clauses 𝓜 𝓡
-    (Goes-none_ref 𝓛 2 (0 ∷ []) tt (plain (λ _. H.the_row)) yes,
-    (Goes-none_ref 𝓛 2 (1 ∷ []) tt (plain (λ _. R.the_row)) yes, tt))
+    let stayed : Stays F.ended.signature.params F.ended.kept = (
+      stay_none_ref (0 ∷ []) tt (plain (λ _. H.the_row)) yes,
+      (stay_none_ref (1 ∷ []) tt (plain (λ _. R.the_row)) yes, tt),
+    ) in
+    proved 𝓛 F.ended stayed clauses 𝓜 𝓡 (
+      Goes-none_ref 𝓛 2 (0 ∷ []) tt (plain (λ _. H.the_row)) yes,
+      (Goes-none_ref 𝓛 2 (1 ∷ []) tt (plain (λ _. R.the_row)) yes, tt),
+    )
     F.Key.name code.function (code.unfolded 𝓤 𝓛.H 𝓜 𝓡 wired)
     (λ κs. (shr_vals, (shr_vals, tt)))
     (λ κs. (shr_Tells (named 0) κs.0 H.the_row, (shr_Tells (named 1) κs.1.0 R.the_row, tt)))
@@ -43,7 +45,7 @@ and_request_spec 𝓤 𝓛 𝓜 𝓡 wired =
       items = a.0.now.items ++ submitted a.1.0.now.file a.1.0.now.ticket ∷ [];
     } in
     let bound : (walk_of 𝓛 F.ended stayed clauses).Ghost =
-        ((κs, qs, bounds, a, (before ∷ [], (request ∷ [], tt))), ghost) in
+    ((κs, qs, bounds, a, (before ∷ [], (request ∷ [], tt))), ghost) in
     let passed : Fml = owns (types_at F.signature.params κs) a (before ∷ [], (request ∷ [], tt)) in
     qed 𝓛 ((raw (alive 𝓛 F.signature κs qs) ⊛ ‵ passed) ∷ raw ((clauses κs a).requires ghost) ∷ []) ∵
     keep ! (0 ∷ []) $ split ! $ enter ! 𝓣.C 𝓣.Λ code.function (before ∷ request ∷ []) _ $

@@ -28,7 +28,7 @@ new_spec 𝓤 𝓛 𝓜 𝓡 wired =
     let made : H.the_row.Denot = record { items = [] } in
     let bound : (walk_of 𝓛 F.ended stayed clauses).Ghost = ((κs, qs, bounds, a, tt), ghost) in
     qed 𝓛 ((raw (alive 𝓛 F.signature κs qs) ⊛ ‵ (owns (types_at F.signature.params κs) a tt))
-        ∷ raw ((clauses κs a).requires ghost) ∷ []) ∵
+    ∷ raw ((clauses κs a).requires ghost) ∷ []) ∵
     keep ! (0 ∷ []) $ split ! $ enter ! 𝓣.C 𝓣.Λ code.function [] _ $
     alloc_all ! (λ l. pass_all ! refl tt $
     sets ! (agg ! (no_more !)) refl (tt, tt) $ returns ! (look_at ! 0 refl) $ free_all ! refl $
