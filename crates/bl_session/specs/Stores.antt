@@ -4,8 +4,8 @@ use Rattle.bl_stage.specs.Spots.{piece_of}
 use Rattle.bl_session.specs.declared.words.Ticket.{Ticket}
 use Rattle.bl_session.specs.declared.completion.Completion.{Completion}
 use Rattle.bl_session.specs.declared.completion.Completion.TheVariants.{Piece, Fault}
-use Rattle.bl_session.specs.declared.stored_file.StoredFile.{StoredFile}
-use Rattle.bl_session.specs.declared.stored_file.StoredFile.TheVariants.{Missing, TooLong, Whole}
+use Rattle.bl_session.specs.declared.fetched.Fetched.{Fetched}
+use Rattle.bl_session.specs.declared.fetched.Fetched.TheVariants.{Missing, TooLong, Bytes}
 use Rattle.bl_session.specs.declared.request.Request.{Request}
 use Rattle.bl_session.specs.declared.queue.Order.{Order}
 use Rattle.bl_session.specs.declared.queue.Order.TheVariants.{Forward, Reverse}
@@ -16,12 +16,12 @@ use Rattle.bl_session.specs.History.{Item, submitted, came, failed, nothing, fil
 
 -- ---- files
 
-abbrev pub file_of : {A : Type 0} → StoredFile A → File
+abbrev pub file_of : {A : Type 0} → Fetched A → File
 file_of Missing = missing
 file_of (TooLong size) = too_long (size - (most_bytes + 1))
-file_of (Whole bytes) = whole bytes
+file_of (Bytes bytes) = whole bytes
 
-abbrev pub stored_files : {A : Type 0} → List (StoredFile A) → List File
+abbrev pub stored_files : {A : Type 0} → List (Fetched A) → List File
 stored_files files = map file_of files
 
 -- ---- answers

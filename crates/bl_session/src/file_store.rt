@@ -4,7 +4,7 @@ use crate::history::History;
 use crate::queue::{Order, Queue};
 use crate::request::{Request, answer};
 use crate::store::Store;
-use crate::stored_file::{StoredFile, size_in};
+use crate::fetched::{Fetched, size_in};
 use crate::words::Ticket;
 use std::alloc::{AllocError, Allocator};
 use std::marker::Model;
@@ -14,7 +14,7 @@ use std::marker::Model;
 #[derive(Drop)]
 pub struct FileStore<A: Allocator + Copy> {
     alloc: A,
-    files: Vec<StoredFile<A>, A>,
+    files: Vec<Fetched<A>, A>,
     order: Order,
     queue: Queue<A>,
     history: History,
@@ -42,7 +42,7 @@ impl<A: Allocator + Copy> FileStore<A> {
     ghost use Rattle.bl_session.specs.Stores.{stored_files, event_of, next_event};
 
     /// A store of these files, by their index in the menu. Nothing was asked for yet.
-    pub fn new(alloc: A, files: Vec<StoredFile<A>, A>, order: Order) -> FileStore<A>
+    pub fn new(alloc: A, files: Vec<Fetched<A>, A>, order: Order) -> FileStore<A>
         ensures { result ≡ record {
           files = stored_files files.items;
           order = order;

@@ -5,7 +5,7 @@ ghost use Rattle.bl_session.specs.History.{Item};
 
 use crate::completion::Completion;
 use crate::request::Request;
-use crate::stored_file::StoredFile;
+use crate::fetched::Fetched;
 use std::alloc::Allocator;
 use std::marker::Model;
 
@@ -42,7 +42,7 @@ impl History {
     /// This was answered too, by a store of these files.
     pub(crate) fn and_answer<A: Allocator>(
         &self,
-        _files: &[StoredFile<A>],
+        _files: &[Fetched<A>],
         _answer: &Option<Completion<A>>,
     ) -> History
         ensures { result.items

@@ -25,7 +25,7 @@ mod script_store;
 mod session;
 mod stepping;
 mod store;
-mod stored_file;
+mod fetched;
 mod submitting;
 mod taking;
 mod turn;
@@ -49,5 +49,5 @@ pub use run_laws::{
 pub use script_store::ScriptStore;
 pub use session::Session;
 pub use store::Store;
-pub use stored_file::StoredFile;
+pub use fetched::Fetched;
 pub use words::{BootFault, Event, Outcome, Progress, RefusedEntry, Ticket};

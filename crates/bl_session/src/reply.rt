@@ -6,7 +6,7 @@ ghost use Rattle.bl_session.specs.Scripts.{altered, event_by, replies_to};
 
 use crate::completion::Completion;
 use crate::request::{Request, answer};
-use crate::stored_file::StoredFile;
+use crate::fetched::Fetched;
 use crate::words::Ticket;
 use std::alloc::{AllocError, Allocator};
 
@@ -28,7 +28,7 @@ fn alter<A: Allocator>(alloc: A, bytes: &[u8]) -> Result<Vec<u8, A>, AllocError>
 /// What comes, as a completion.
 pub(crate) fn completion_of<A: Allocator + Copy>(
     alloc: A,
-    files: &[StoredFile<A>],
+    files: &[Fetched<A>],
     reply: &Reply,
 ) -> Result<Completion<A>, AllocError>
     ensures { IfOk result (λ completion.

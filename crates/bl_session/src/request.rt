@@ -3,7 +3,7 @@ ghost use Rattle.std.specs.Prelude.{◌≡◌, ℕ, List, IfOk};
 ghost use Rattle.bl_session.specs.Stores.{stored_files, answer_to, event_of};
 
 use crate::completion::Completion;
-use crate::stored_file::{StoredFile, piece_in};
+use crate::fetched::{Fetched, piece_in};
 use crate::words::Ticket;
 use std::alloc::{AllocError, Allocator};
 
@@ -17,7 +17,7 @@ pub(crate) struct Request {
 /// The answer to a request: a copy of the piece, or a fault, if there is no such file or piece.
 pub(crate) fn answer<A: Allocator + Copy>(
     alloc: A,
-    files: &[StoredFile<A>],
+    files: &[Fetched<A>],
     request: &Request,
 ) -> Result<Completion<A>, AllocError>
     ensures { IfOk result (λ completion.

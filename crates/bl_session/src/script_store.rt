@@ -5,7 +5,7 @@ use crate::picks::Picks;
 use crate::reply::{Reply, completion_of, push_replies};
 use crate::request::Request;
 use crate::store::Store;
-use crate::stored_file::{StoredFile, size_in};
+use crate::fetched::{Fetched, size_in};
 use crate::words::Ticket;
 use std::alloc::{AllocError, Allocator};
 use std::marker::Model;
@@ -15,7 +15,7 @@ use std::marker::Model;
 #[derive(Drop)]
 pub struct ScriptStore<A: Allocator + Copy> {
     alloc: A,
-    files: Vec<StoredFile<A>, A>,
+    files: Vec<Fetched<A>, A>,
     twice: Vec<Ticket, A>,
     fail: Vec<Ticket, A>,
     picks: Picks<A>,
@@ -52,7 +52,7 @@ impl<A: Allocator + Copy> ScriptStore<A> {
     /// uses its pick up too; one that is refused memory does not count.
     pub fn new(
         alloc: A,
-        files: Vec<StoredFile<A>, A>,
+        files: Vec<Fetched<A>, A>,
         twice: Vec<Ticket, A>,
         fail: Vec<Ticket, A>,
         picks: Vec<usize, A>,

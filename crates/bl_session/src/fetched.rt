@@ -1,4 +1,4 @@
-//! A file as a store keeps it, and one of its pieces.
+//! A file that was fetched, and one of its pieces.
 ghost use Rattle.std.specs.Prelude.{◌≡◌, ◌↔◌, ℕ, ◌*◌, ◌<◌, ◌^◌, length};
 ghost use Rattle.std.specs.Prelude.{IfSome, IsSome, slice_index_or};
 ghost use Rattle.bl_stage.specs.Spots.{piece_of};
@@ -12,27 +12,27 @@ use std::alloc::Allocator;
 /// The bytes of a piece; a file's last piece has what is left.
 const PIECE: usize = 4096;
 
-/// A file as a store keeps it.
+/// A file that was fetched, as a store keeps it.
 #[derive(Drop)]
-pub enum StoredFile<A: Allocator> {
+pub enum Fetched<A: Allocator> {
     /// There is no such file, or it can't be read.
     Missing,
     /// A file of so many bytes, none of which is kept. A length that is not above `MOST_BYTES`
     /// counts as the least that is.
     TooLong(u64),
     /// Its bytes.
-    Whole(Bytes<A>),
+    Bytes(Bytes<A>),
 }
 
-impl<A: Allocator> StoredFile<A> {
+impl<A: Allocator> Fetched<A> {
     /// Its length in bytes; a missing file has none.
     pub fn size(&self) -> Option<u64>
         ensures { result ≡ size_of (file_of self.now) }
     {
         match self {
-            StoredFile::Missing => None,
-            StoredFile::TooLong(size) => Some((*size).max(MOST_BYTES + 1)),
-            StoredFile::Whole(bytes) => Some(bytes.len() as u64),
+            Fetched::Missing => None,
+            Fetched::TooLong(size) => Some((*size).max(MOST_BYTES + 1)),
+            Fetched::Bytes(bytes) => Some(bytes.len() as u64),
         }
     }
 
@@ -43,14 +43,14 @@ impl<A: Allocator> StoredFile<A> {
             piece.now ≡ piece_of (text_of (file_of self.now)) index) }
     {
         match self {
-            StoredFile::Missing | StoredFile::TooLong(_) => None,
-            StoredFile::Whole(bytes) => piece_at(bytes.as_slice(), index as usize),
+            Fetched::Missing | Fetched::TooLong(_) => None,
+            Fetched::Bytes(bytes) => piece_at(bytes.as_slice(), index as usize),
         }
     }
 }
 
 /// The length of a file of these.
-pub(crate) fn size_in<A: Allocator>(files: &[StoredFile<A>], file: u32) -> Option<u64>
+pub(crate) fn size_in<A: Allocator>(files: &[Fetched<A>], file: u32) -> Option<u64>
     ensures { result ≡ size_of (slice_index_or (stored_files files.now) file missing) }
 {
     match files.get(file as usize) {
@@ -61,7 +61,7 @@ pub(crate) fn size_in<A: Allocator>(files: &[StoredFile<A>], file: u32) -> Optio
 
 /// The bytes of a piece of a file of these, if there is one.
 pub(crate) fn piece_in<A: Allocator>(
-    files: &[StoredFile<A>],
+    files: &[Fetched<A>],
     file: u32,
     index: u32,
 ) -> Option<&[u8]>
