@@ -1,3 +1,5 @@
 pub mod HexLemmas
 pub mod FileLemmas
 pub mod NameLemmas
+pub mod EndLemmas
+pub mod EndLaws
