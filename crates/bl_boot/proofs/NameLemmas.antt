@@ -1,5 +1,5 @@
 -- The names that are looked for.
-use Rattle.std.proofs.Common.{◌≡◌, ◌∙◌, ◌*◌, ◌≤◌, ◌<◌, ℕ, zero, suc, List, [], ◌∷◌, ◌++◌, Bor, Bool, true, false, All, None, Some, if◌then◌else◌, length, map, get_or, ap, sym, refl, arith, append_assoc}
+use Rattle.std.proofs.Common.{◌≡◌, ◌∙◌, ◌*◌, ◌≤◌, ◌<◌, ℕ, zero, suc, List, [], ◌∷◌, ◌++◌, Bor, Bool, true, false, All, Result, Ok, Err, IfOk, None, Some, if◌then◌else◌, length, map, get_or, ap, sym, refl, arith, append_assoc}
 use Rattle.std.specs.Str.{bytes_eq}
 use Rattle.std.specs.List.{list_any}
 use Rattle.std.specs.List.{flat_map}
@@ -81,3 +81,12 @@ few_names d menu =
     let all = few_together d indices in
     let entries = menu.1 in
     omega (arith, attempts, once, all, entries)
+
+-- as many names are kept as are looked for
+pub as_many : (names : List (Bor (List ℕ))) (those : List (List ℕ)) → texts names ≡ those → length names ≡ length those
+as_many names those is = sym (length-map (λ (n : Bor (List ℕ)). n.now) names) ∙ ap length is
+
+pub few_kept : {T E : Type 0} (items : T → List (Bor (List ℕ))) (those : List (List ℕ)) (most : ℕ) (names : Result T E)
+    → IfOk names (λ n. texts (items n) ≡ those) → length those ≤ most → IfOk names (λ n. length (items n) ≤ most)
+few_kept items those most (Ok n) is few = rw (as_many (items n) those is) few
+few_kept items those most (Err e) is few = tt

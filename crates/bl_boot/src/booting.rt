@@ -2,6 +2,7 @@
 
 mod fault;
 mod finding;
+mod found;
 mod handing;
 mod machine;
 mod menu;

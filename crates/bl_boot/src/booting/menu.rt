@@ -2,6 +2,7 @@
 ghost use Rattle.std.specs.Prelude.{◌≡◌, ◌<◌, ◌^◌, All, IfOk, length, map};
 ghost use Rattle.bl_load.specs.Value.{HasFewModules};
 ghost use Rattle.bl_session.specs.Menu.{facts_of};
+ghost use Rattle.bl_session.specs.declared.menu.MenuFault.TheVariants as menu_fault;
 ghost use Rattle.bl_boot.specs.Attempted as attempted;
 ghost use Rattle.bl_boot.specs.Attempted.{entry_facts};
 ghost use Rattle.bl_desc.specs.Kept.{HasMenu, entry_view, module_view, view};
@@ -86,6 +87,17 @@ fn entries_of<A: Allocator + Copy>(
     Ok(entries)
 }
 
+/// Want of memory, which is the only fault that the menu of a description has: its entries and
+/// their modules are few, and its indices name entries.
+fn no_memory(fault: MenuFault) -> AllocError
+    requires { fault ≡ menu_fault.NoMemory }
+{
+    match fault {
+        MenuFault::NoMemory => AllocError,
+        MenuFault::TooMany | MenuFault::BadIndex => unreachable!(),
+    }
+}
+
 /// The menu of a description, in which files go by their places among the names.
 pub fn menu_of<A: Allocator + Copy>(
     alloc: A,
@@ -100,8 +112,6 @@ pub fn menu_of<A: Allocator + Copy>(
     let entries = entries_of(alloc, names, &description.entries)?;
     match Menu::new(alloc, entries, description.default, &description.fallbacks) {
         Ok(menu) => Ok(menu),
-        Err(MenuFault::NoMemory) => Err(AllocError),
-        // A description has 1 to 32 entries, with at most 64 modules each, and its indices name them.
-        Err(_) => unreachable!(),
+        Err(fault) => Err(no_memory(fault)),
     }
 }

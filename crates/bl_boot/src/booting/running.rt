@@ -3,23 +3,21 @@ ghost use Rattle.std.specs.Prelude.{◌≡◌, ◌≢◌, ℕ, List, ◌+◌, �
 ghost use Rattle.bl_boot.specs.Ends.{HasInlineFiles, names_sought, IsBooted, IsRefused, IsBadDescription, IsBroken};
 ghost use Rattle.bl_boot.specs.Kept.{Ends, HasFaults};
 ghost use Rattle.bl_boot.specs.Files.{Answer};
-ghost use Rattle.bl_boot.specs.Attempted.{entry_of};
 ghost use Rattle.bl_desc.specs.Described.{described};
-ghost use Rattle.bl_desc.specs.Kept.{view};
 
 use crate::booting::fault::{End, EndFault};
 use crate::booting::finding::find_files;
-use crate::booting::handing::{hand_over, say_none_left};
+use crate::booting::found::boot_found;
 use crate::booting::machine::machine_of;
 use crate::booting::menu::menu_of;
 use crate::booting::names::names_in;
 use crate::fetching::Files;
-use bl_desc::{Description, read_description};
+use bl_desc::read_description;
 use bl_image::Sink;
 use bl_line::Order;
 use bl_mem::Sparse;
 use bl_session as session;
-use bl_session::{BootFault, FileStore, run};
+use bl_session::FileStore;
 use std::alloc::{Allocator, Global};
 
 /// The order of pieces that is named on the command line, as a store takes it.
@@ -27,16 +25,6 @@ fn order_of(order: Order) -> session::Order {
     match order {
         Order::Forward => session::Order::Forward,
         Order::Reverse => session::Order::Reverse,
-    }
-}
-
-/// The title of an entry, by its index; none if there is no such entry.
-fn title_of<A: Allocator>(description: &Description<A>, entry: u32) -> &str
-    ensures { result.now ≡ (entry_of (view description.now) entry).title }
-{
-    match description.entries.get(entry as usize) {
-        Some(row) => row.title.as_str(),
-        None => "",
     }
 }
 
@@ -66,24 +54,11 @@ fn run_boot<A: Allocator + Copy, F: Files, S: Sink, B: Allocator>(
     let machine = machine_of(alloc, &description)?;
     let names = names_in(alloc, &description)?;
     let menu = menu_of(alloc, &names, &description)?;
+    let mut memory = Sparse::new(alloc, machine.size(), description.fill)?;
     let found = find_files(alloc, &description, &names, files)?;
     drop(names);
-    let mut store = FileStore::new(alloc, found, order_of(order));
-    let mut memory = Sparse::new(alloc, machine.size(), description.fill)?;
-    let ended = run(alloc, &mut memory, &mut store, &machine, &menu);
-    store.faithful();
-    match ended {
-        Ok(outcome) => {
-            let title = title_of(&description, outcome.entry);
-            hand_over(alloc, &outcome, &memory, title, out, say)?;
-            Ok(End::Booted)
-        }
-        Err(BootFault::NoEntryLeft(refused)) => {
-            say_none_left(alloc, &refused, say)?;
-            Ok(End::NoEntryLeft)
-        }
-        Err(BootFault::NoMemory) => Err(EndFault::NoMemory),
-    }
+    let store = FileStore::new(alloc, found, order_of(order));
+    boot_found(alloc, &mut memory, store, &description, &machine, &menu, out, say)
 }
 
 /// Boots the first entry of a description's menu that is not refused, and writes the image of the
