@@ -84,7 +84,9 @@ few_names d menu =
 
 -- as many names are kept as are looked for
 pub as_many : (names : List (Bor (List ℕ))) (those : List (List ℕ)) → texts names ≡ those → length names ≡ length those
-as_many names those is = sym (length-map (λ (n : Bor (List ℕ)). n.now) names) ∙ ap length is
+as_many names those is =
+    let kept : length (texts names) ≡ length names = rw length-map refl in
+    sym kept ∙ ap length is
 
 pub few_kept : {T E : Type 0} (items : T → List (Bor (List ℕ))) (those : List (List ℕ)) (most : ℕ) (names : Result T E)
     → IfOk names (λ n. texts (items n) ≡ those) → length those ≤ most → IfOk names (λ n. length (items n) ≤ most)

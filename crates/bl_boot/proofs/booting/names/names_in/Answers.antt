@@ -1,3 +1,4 @@
+use Rattle.std.proofs.Common.{◌*◌}
 use Rattle.bl_session.proofs.OnceLemmas.{all_attempts}
 use Rattle.bl_desc.specs.Kept.{view}
 use Rattle.bl_boot.specs.Attempted.{names_of_entries}
