@@ -30,7 +30,7 @@ module _ {F G : Type 0} {answers : F → List ℕ → Answer → Type 0} {faults
       let f = boot_of a.case.description a.case.facts a.case.answered in
       let g = boot_of b.case.description b.case.facts b.case.answered in
       let one : a.handover ≡ b.handover = same_handover f g (files_of a.case.answered) (files_of b.case.answered) no_fault no_fault a.entry b.entry
-          a.earlier b.earlier a.handover b.handover machine value a.outcome b.outcome in
+      a.earlier b.earlier a.handover b.handover machine value a.outcome b.outcome in
       (spelling a.handover, a.image, b.image ∙ ap (λ (h : Handover). began.sink ++ spelling h) (sym one))
 
 -- without a fault no file is faulty

@@ -26,7 +26,7 @@ pub entries_more : {A : Type 0} (names : List (List ℕ)) (rows : List (EntryRow
 entries_more {A} names rows i row entries entry here within so same =
     let before = map (entry_facts names) (map entry_view (take i rows)) in
     let more : take (i + 1) rows ≡ take i rows ++ row ∷ [] =
-        take_more rows i row within ∙ ap (λ (x : EntryRow A). take i rows ++ x ∷ []) (sym here) in
+    take_more rows i row within ∙ ap (λ (x : EntryRow A). take i rows ++ x ∷ []) (sym here) in
     map-append facts_of entries (entry ∷ [])
     ∙ ap (λ (xs : List EntryFacts). xs ++ facts_of entry ∷ []) so
     ∙ ap (λ (x : EntryFacts). before ++ x ∷ []) same

@@ -8,8 +8,8 @@ mod mapping;
 mod saying;
 mod walking;
 
-pub use booting::boot;
 pub use bl_session::StoredFile;
+pub use booting::boot;
 pub use fetching::{FILE_LIMIT, Files, MemFiles};
 pub use laws::two_boots;
 pub use mapping::map_to;

@@ -58,7 +58,16 @@ fn run_boot<A: Allocator + Copy, F: Files, S: Sink, B: Allocator>(
     let found = find_files(alloc, &description, &names, files)?;
     drop(names);
     let store = FileStore::new(alloc, found, order_of(order));
-    boot_found(alloc, &mut memory, store, &description, &machine, &menu, out, say)
+    boot_found(
+        alloc,
+        &mut memory,
+        store,
+        &description,
+        &machine,
+        &menu,
+        out,
+        say,
+    )
 }
 
 /// Boots the first entry of a description's menu that is not refused, and writes the image of the

@@ -14,7 +14,7 @@ pub returns-in_err-found-clause-missing : goal.returns-in_err-found-clause-missi
 returns-in_err-found-clause-missing g c =
     let missing = c.in_err-found.ensures.missing in
     let count : length c.deref-2.result.now ≡ length (names_in (view c.in_ok-description.description)) =
-        ap length c.deref-2.ensures.value ∙ as_many c.in_ok-names.names.items _ c.in_ok-names.ensures.names in
+    ap length c.deref-2.ensures.value ∙ as_many c.in_ok-names.names.items _ c.in_ok-names.ensures.names in
     (missing.0, rw (sought c.args.desc.now c.in_ok-description.description c.in_ok-description.ensures.given) (omega (arith, missing.1, count)))
 
 pub returns-clause-ends : goal.returns-clause-ends
@@ -33,5 +33,5 @@ pub returns-clause-missing : goal.returns-clause-missing
 returns-clause-missing g c =
     let missing = c.in_ok-found.ensures.missing in
     let count : length c.deref-2.result.now ≡ length (names_in (view c.in_ok-description.description)) =
-        ap length c.deref-2.ensures.value ∙ as_many c.in_ok-names.names.items _ c.in_ok-names.ensures.names in
+    ap length c.deref-2.ensures.value ∙ as_many c.in_ok-names.names.items _ c.in_ok-names.ensures.names in
     (missing.0, rw (sought c.args.desc.now c.in_ok-description.description c.in_ok-description.ensures.given) (omega (arith, missing.1, count)))
