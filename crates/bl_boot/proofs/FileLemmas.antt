@@ -46,4 +46,3 @@ stands_at P names i all within =
 pub names_grow : (names : List (Bor (List ℕ))) (i : ℕ) → i < length names
     → map (λ n. n.now) (take (i + 1) names) ≡ map (λ n. n.now) (take i names) ++ (get_or names i no_name).now ∷ []
 names_grow names i within = rw (take_more names i no_name within, map-append) refl
-

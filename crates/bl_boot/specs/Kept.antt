@@ -5,7 +5,14 @@ use Rattle.bl_desc.specs.Described.{Described}
 use Rattle.bl_desc.specs.declared.fault.DescFault.{DescFault}
 use Rattle.bl_desc.specs.declared.fault.DescFault.TheVariants as desc_fault
 use Rattle.bl_boot.specs.Files.{Answer}
-use Rattle.bl_boot.specs.Attempted.{names_once}
+use Rattle.bl_image.specs.Image.{spelling}
+use Rattle.bl_load.specs.Handover.{Handover}
+use Rattle.bl_session.specs.declared.words.RefusedEntry.{RefusedEntry}
+use Rattle.bl_session.specs.Boot.{BootFacts, handed_over, none_left}
+use Rattle.bl_session.specs.Outcome as session
+use Rattle.bl_session.specs.Outcome.{IsOutcome, no_fault}
+use Rattle.bl_boot.specs.Attempted.{entry_of, names_once}
+use Rattle.bl_boot.specs.Says.{booted_line, refused_lines, no_entry_line}
 use Rattle.bl_boot.specs.Ends.{IsBadMachine, IsBadDescription, IsBooted, IsRefused, IsBroken, IsMapped, Surroundings}
 use Rattle.bl_boot.specs.declared.booting.fault.EndFault.{EndFault}
 use Rattle.bl_boot.specs.declared.booting.fault.EndFault.TheVariants.{BadDescription, Device, NoMemory}
@@ -41,6 +48,24 @@ Ends answers faults desc before after (Ok NoEntryLeft) = IsRefused answers fault
 Ends answers faults desc before after (Err BadDescription) = IsBadDescription desc × (after ≡ before)
 Ends answers faults desc before after (Err Device) = IsBroken answers faults desc before after
 Ends answers faults desc before after (Err NoMemory) = (after.sink ≡ before.sink) × (after.said ≡ before.said)
+
+-- the boot of what was found for a description ends so: what it came to, of these files, what the sink
+-- took, and what is said
+abbrev pub FoundEnds : Described → BootFacts → List session.File → (s t u v : List ℕ) → Result End EndFault → Type 0
+FoundEnds description facts files s t u v (Ok Booted) =
+    (entry : ℕ) × (earlier : List RefusedEntry) × (handover : Handover)
+    × IsOutcome facts files no_fault (handed_over entry earlier handover)
+    × (t ≡ s ++ spelling handover)
+    × (v ≡ u ++ (refused_lines earlier ++ booted_line entry (entry_of description entry).title))
+FoundEnds description facts files s t u v (Ok NoEntryLeft) =
+    (refused : List RefusedEntry) × IsOutcome facts files no_fault (none_left refused)
+    × (t ≡ s) × (v ≡ u ++ (refused_lines refused ++ no_entry_line))
+FoundEnds description facts files s t u v (Err BadDescription) = ⊥
+FoundEnds description facts files s t u v (Err Device) =
+    (entry : ℕ) × (earlier : List RefusedEntry) × (handover : Handover)
+    × IsOutcome facts files no_fault (handed_over entry earlier handover)
+    × IsBegun s t (spelling handover) × (v ≡ u)
+FoundEnds description facts files s t u v (Err NoMemory) = (t ≡ s) × (v ≡ u)
 
 -- the sink has one fault more exactly where the boot ends in a fault of the sink
 abbrev pub HasFaults : ℕ → ℕ → Result End EndFault → Type 0

@@ -2,12 +2,11 @@
 ghost use Rattle.std.specs.Prelude.{◌≡◌, ℕ, ◌-◌, ◌<◌, ◌^◌, List, IfOk, OnErr};
 ghost use Rattle.bl_boot.specs.Files.{Answer, answer_of, KeepsLimit, CountsFault};
 
+use bl_session::StoredFile;
 use std::alloc::{AllocError, Allocator};
 
-mod fetched;
 mod mem_files;
 
-pub use fetched::Fetched;
 pub use mem_files::MemFiles;
 
 /// The greatest length of a file, in bytes. A longer one is not read.
@@ -23,7 +22,7 @@ pub trait Files {
     ghost faults: { Self → ℕ };
 
     /// The file of this name, whole. Want of memory is no fault of the file's.
-    fn fetch<A: Allocator>(&mut self, alloc: A, name: &str) -> Result<Fetched<A>, AllocError>
+    fn fetch<A: Allocator>(&mut self, alloc: A, name: &str) -> Result<StoredFile<A>, AllocError>
         requires { faults self.old < 2 ^ 64 - 1 }
         ensures told { IfOk result (λ file. answers self.old name.now (answer_of file)) }
         ensures same { (file : List ℕ) (answer : Answer) →

@@ -5,20 +5,21 @@ ghost use Rattle.bl_desc.specs.Described.{file_named};
 ghost use Rattle.bl_desc.specs.Kept.{view};
 ghost use Rattle.bl_boot.specs.Files.{Answer, answer_for, answer_of};
 
-use crate::fetching::{FILE_LIMIT, Fetched, Files};
+use crate::fetching::{FILE_LIMIT, Files};
 use bl_desc::Description;
 use bl_mem::Bytes;
+use bl_session::StoredFile;
 use std::alloc::{AllocError, Allocator};
 
 /// A file that stands in the description.
-fn copy_of<A: Allocator>(alloc: A, file: &[u8]) -> Result<Fetched<A>, AllocError>
+fn copy_of<A: Allocator>(alloc: A, file: &[u8]) -> Result<StoredFile<A>, AllocError>
     ensures { IfOk result (λ copy. answer_of copy ≡ answer_for file.now) }
 {
     let length = file.len() as u64;
     if length > FILE_LIMIT {
-        return Ok(Fetched::TooLong(length));
+        return Ok(StoredFile::TooLong(length));
     }
-    Ok(Fetched::Bytes(Bytes::copy(alloc, file)?))
+    Ok(StoredFile::Whole(Bytes::copy(alloc, file)?))
 }
 
 /// What is found for a name: the description's own file, or else what is fetched.
@@ -27,7 +28,7 @@ fn find_file<A: Allocator + Copy, F: Files>(
     description: &Description<A>,
     name: &str,
     files: &mut F,
-) -> Result<Fetched<A>, AllocError>
+) -> Result<StoredFile<A>, AllocError>
     requires { F.faults files.old < 2 ^ 64 - 1 }
     ensures found { IfOk result (λ file. IsFound F.answers F.faults (view description.now).files
         name.now files.old files.new (answer_of file)) }
@@ -50,7 +51,7 @@ pub fn find_files<A: Allocator + Copy, F: Files>(
     description: &Description<A>,
     names: &[&str],
     files: &mut F,
-) -> Result<Vec<Fetched<A>, A>, AllocError>
+) -> Result<Vec<StoredFile<A>, A>, AllocError>
     requires { F.faults files.old + length names.now < 2 ^ 64 }
     ensures found { IfOk result (λ found.
         AreFound F.answers F.faults (view description.now).files (map (λ n. n.now) names.now)

@@ -1,13 +1,14 @@
 //! The menu of a description.
-ghost use Rattle.std.specs.Prelude.{◌≡◌, ◌<◌, ◌^◌, ℕ, List, IfOk, length, map};
+ghost use Rattle.std.specs.Prelude.{◌≡◌, ◌<◌, ◌^◌, All, IfOk, length, map};
 ghost use Rattle.bl_load.specs.Value.{HasFewModules};
 ghost use Rattle.bl_session.specs.Menu.{facts_of};
+ghost use Rattle.bl_session.specs.declared.menu.MenuFault.TheVariants as menu_fault;
 ghost use Rattle.bl_boot.specs.Attempted as attempted;
 ghost use Rattle.bl_boot.specs.Attempted.{entry_facts};
 ghost use Rattle.bl_desc.specs.Kept.{HasMenu, entry_view, module_view, view};
 
 use crate::booting::names::index_of;
-use bl_desc::{Description, EntryForm, EntryRow, ModuleRow, Text};
+use bl_desc::{Description, EntryForm, EntryRow, ModuleRow};
 use bl_load::{Entry, Module};
 use bl_mem::Bytes;
 use bl_session::{Menu, MenuFault};
@@ -18,7 +19,15 @@ fn modules_of<A: Allocator + Copy>(
     alloc: A,
     names: &[&str],
     rows: &[ModuleRow<A>],
-) -> Result<Vec<Module<A>, A>, AllocError> {
+) -> Result<Vec<Module<A>, A>, AllocError>
+    requires { length names.now < 2 ^ 32 }
+    ensures files { IfOk result (λ modules. map (λ m. m.file) modules.items
+        ≡ map (attempted.index_of (map (λ n. n.now) names.now))
+        (map (λ m. m.file) (map module_view rows.now))) }
+    ensures lines { IfOk result (λ modules. map (λ m. m.line) modules.items
+        ≡ map (λ m. m.line) (map module_view rows.now)) }
+    ensures count { IfOk result (λ modules. length modules.items ≡ length rows.now) }
+{
     let mut modules = Vec::new(alloc);
     for row in rows {
         modules.push(Module {
@@ -59,6 +68,36 @@ fn entry_of<A: Allocator + Copy>(
     }
 }
 
+/// The entries of rows, whose files go by their places among the names.
+fn entries_of<A: Allocator + Copy>(
+    alloc: A,
+    names: &[&str],
+    rows: &[EntryRow<A>],
+) -> Result<Vec<Entry<A>, A>, AllocError>
+    requires { length names.now < 2 ^ 32 }
+    ensures entries { IfOk result (λ entries. map facts_of entries.items
+        ≡ map (entry_facts (map (λ n. n.now) names.now)) (map entry_view rows.now)) }
+    ensures count { IfOk result (λ entries. length entries.items ≡ length rows.now) }
+    ensures few { IfOk result (λ entries. All HasFewModules entries.items) }
+{
+    let mut entries = Vec::new(alloc);
+    for row in rows {
+        entries.push(entry_of(alloc, names, row)?)?;
+    }
+    Ok(entries)
+}
+
+/// Want of memory, which is the only fault that the menu of a description has: its entries and
+/// their modules are few, and its indices name entries.
+fn no_memory(fault: MenuFault) -> AllocError
+    requires { fault ≡ menu_fault.NoMemory }
+{
+    match fault {
+        MenuFault::NoMemory => AllocError,
+        MenuFault::TooMany | MenuFault::BadIndex => unreachable!(),
+    }
+}
+
 /// The menu of a description, in which files go by their places among the names.
 pub fn menu_of<A: Allocator + Copy>(
     alloc: A,
@@ -67,14 +106,12 @@ pub fn menu_of<A: Allocator + Copy>(
 ) -> Result<Menu<A>, AllocError>
     requires menu { HasMenu description.now }
     requires names { map (λ n. n.now) names.now ≡ attempted.names_in (view description.now) }
+    requires few { length names.now < 2 ^ 32 }
     ensures { IfOk result (λ menu. menu ≡ attempted.menu_of (view description.now)) }
 {
-    let mut entries = Vec::new(alloc);
-    for row in description.entries.iter() {
-        entries.push(entry_of(alloc, names, row)?)?;
-    }
+    let entries = entries_of(alloc, names, &description.entries)?;
     match Menu::new(alloc, entries, description.default, &description.fallbacks) {
         Ok(menu) => Ok(menu),
-        Err(_) => Err(AllocError),
+        Err(fault) => Err(no_memory(fault)),
     }
 }

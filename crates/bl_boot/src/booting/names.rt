@@ -1,5 +1,5 @@
 //! The names of the files that are looked for.
-ghost use Rattle.std.specs.Prelude.{◌≡◌, ◌<◌, ◌≤◌, ◌++◌, ◌∷◌, ℕ, List, length, map, All, IfOk, OnOk};
+ghost use Rattle.std.specs.Prelude.{◌≡◌, ◌*◌, ◌<◌, ◌≤◌, ◌++◌, ◌∷◌, ℕ, List, length, map, All, IfOk, OnOk};
 ghost use Rattle.std.specs.Str.{bytes_eq};
 ghost use Rattle.std.specs.List.{list_any};
 ghost use Rattle.bl_boot.specs.Attempted as attempted;
@@ -88,8 +88,9 @@ pub fn names_in<A: Allocator + Copy>(
     description: &Description<A>,
 ) -> Result<Vec<&str, A>, AllocError>
     requires { HasMenu description.now }
-    ensures { IfOk result (λ names.
+    ensures names { IfOk result (λ names.
         map (λ n. n.now) names.items ≡ attempted.names_in (view description.now)) }
+    ensures few { IfOk result (λ names. length names.items ≤ 32 * 65) }
 {
     let attempts = order_attempts(alloc, description.default, &description.fallbacks)?;
     names_of(alloc, description, &attempts)

@@ -7,6 +7,6 @@ use Rattle.bl_boot.proofs.booting.names.add_modules.Given as goal
 abbrev pub invariant-loop-module : goal.invariant-loop-module
 invariant-loop-module g l = (rest : List (List ℕ))
     → names_with (map (λ n. n.now) l.names.items)
-      (map (λ m. m.file) (map module_view (drop l.module-index l.modules)) ++ rest)
+    (map (λ m. m.file) (map module_view (drop l.module-index l.modules)) ++ rest)
     ≡ names_with (map (λ n. n.now) l.initial.names.items)
-      (map (λ m. m.file) (map module_view l.modules) ++ rest)
+    (map (λ m. m.file) (map module_view l.modules) ++ rest)

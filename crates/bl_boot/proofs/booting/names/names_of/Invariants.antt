@@ -9,6 +9,6 @@ use Rattle.bl_boot.proofs.booting.names.names_of.Given as goal
 abbrev pub invariant-loop-index : goal.invariant-loop-index
 invariant-loop-index g l =
     names_with (map (λ n. n.now) l.names.items)
-      (flat_map (λ index. file_names (entry_of (view l.description) index))
-      (drop l.index-index l.indices))
+    (flat_map (λ index. file_names (entry_of (view l.description) index))
+    (drop l.index-index l.indices))
     ≡ names_of_entries (view l.description) l.indices

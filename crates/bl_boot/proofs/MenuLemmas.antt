@@ -1,0 +1,39 @@
+-- The menu of a description.
+use Rattle.std.proofs.Common.{◌≡◌, ◌∙◌, ◌+◌, ◌<◌, ℕ, zero, suc, List, [], ◌∷◌, ◌++◌, All, get_or, length, map, take, ap, sym, refl, arith}
+use Rattle.std.proofs.lemmas.List.{map-append, take_more}
+use Rattle.bl_load.specs.declared.entry.Entry.{Entry}
+use Rattle.bl_load.specs.Value.{HasFewModules}
+use Rattle.bl_session.specs.Attempts.{IsSmall, NameEntries, HasMenuFault}
+use Rattle.bl_session.specs.Menu.{EntryFacts, facts_of}
+use Rattle.bl_session.specs.declared.menu.MenuFault.{MenuFault}
+use Rattle.bl_session.specs.declared.menu.MenuFault.TheVariants.{BadIndex, TooMany, NoMemory}
+use Rattle.bl_desc.specs.declared.desc.EntryRow.{EntryRow}
+use Rattle.bl_desc.specs.Kept.{entry_view}
+use Rattle.bl_boot.specs.Attempted.{entry_facts}
+
+-- a menu that is small, and whose indices name entries, has no fault; memory may run out
+pub only_memory : {A : Type 0} (entries : List (Entry A)) (default : ℕ) (fallbacks : List ℕ) (fault : MenuFault)
+    → IsSmall entries → NameEntries (length entries) default fallbacks → HasMenuFault entries default fallbacks fault → fault ≡ NoMemory
+only_memory entries default fallbacks BadIndex small named is = absurd (is.1 named)
+only_memory entries default fallbacks TooMany small named is = absurd (is small)
+only_memory entries default fallbacks NoMemory small named is = refl
+
+-- one entry more
+pub entries_more : {A : Type 0} (names : List (List ℕ)) (rows : List (EntryRow A)) (i : ℕ) (row : EntryRow A) (entries : List (Entry A)) (entry : Entry A)
+    → row ≡ get_or rows i row → i < length rows → map facts_of entries ≡ map (entry_facts names) (map entry_view (take i rows))
+    → facts_of entry ≡ entry_facts names (entry_view row)
+    → map facts_of (entries ++ entry ∷ []) ≡ map (entry_facts names) (map entry_view (take (i + 1) rows))
+entries_more {A} names rows i row entries entry here within so same =
+    let before = map (entry_facts names) (map entry_view (take i rows)) in
+    let more : take (i + 1) rows ≡ take i rows ++ row ∷ [] =
+    take_more rows i row within ∙ ap (λ (x : EntryRow A). take i rows ++ x ∷ []) (sym here) in
+    map-append facts_of entries (entry ∷ [])
+    ∙ ap (λ (xs : List EntryFacts). xs ++ facts_of entry ∷ []) so
+    ∙ ap (λ (x : EntryFacts). before ++ x ∷ []) same
+    ∙ sym (map-append (entry_facts names) (map entry_view (take i rows)) (entry_view row ∷ []))
+    ∙ sym (ap (map (entry_facts names)) (map-append entry_view (take i rows) (row ∷ [])))
+    ∙ sym (ap (λ (rs : List (EntryRow A)). map (entry_facts names) (map entry_view rs)) more)
+
+pub few_one : {A : Type 0} (entry : Entry A) → HasFewModules entry → All HasFewModules (entry ∷ [])
+few_one entry few zero d within = few
+few_one entry few (suc k) d within = absurd (omega (arith, within))

@@ -1,0 +1,38 @@
+//! Two boots.
+ghost use Rattle.std.specs.Prelude.{◌≡◌, ◌++◌, ℕ, List};
+ghost use Rattle.bl_map.specs.MachineFacts.{MachineFacts};
+ghost use Rattle.bl_map.specs.Kinds.{kind_at};
+ghost use Rattle.bl_session.specs.Ends.{End};
+ghost use Rattle.bl_desc.specs.Described.{Described};
+ghost use Rattle.bl_boot.specs.Ends.{BootCase, IsBooted, IsMachineOf, Surroundings};
+ghost use Rattle.bl_boot.specs.Ends.{value_at, sizes_at, EndsAt};
+
+use crate::fetching::Files;
+
+/// Two boots are two calls of `boot` with no more in common than this: their machines have equal
+/// facts (size, map and pool), and the entries that they hand over have equal values (protocol,
+/// line, files and the modules' lines). Memory, sinks, titles, names, indices, other entries and
+/// files, what was refused before, where each file came from and the order of its pieces may
+/// differ.
+///
+/// They write one image. And an entry that is refused in one is refused in the other, for the same,
+/// if its files have equal sizes and it has an equal value there.
+pub fn two_boots<F: Files, G: Files>()
+    ensures one_image { (desc other : List ℕ) (before after : Surroundings F)
+        (began ended : Surroundings G) (a : IsBooted F.answers F.faults desc before after)
+        (b : IsBooted G.answers G.faults other began ended) → a.case.facts ≡ b.case.facts
+        → value_at a.case a.entry ≡ value_at b.case b.entry → (image : List ℕ)
+        × (after.sink ≡ before.sink ++ image) × (ended.sink ≡ began.sink ++ image) }
+    ensures ends { (desc other : List ℕ) (before after : F) (began ended : G)
+        (a : BootCase F.answers F.faults desc before after)
+        (b : BootCase G.answers G.faults other began ended) → a.facts ≡ b.facts
+        → (entry index : ℕ) → sizes_at a entry ≡ sizes_at b index
+        → value_at a entry ≡ value_at b index → (e f : End)
+        → EndsAt a entry e → EndsAt b index f → e ≡ f }
+
+    // Machines have equal facts where size and pool are equal and each address has one kind in
+    // the two.
+    ensures same_facts { (one two : Described) (f g : MachineFacts) →
+        IsMachineOf one f → IsMachineOf two g → one.size ≡ two.size → one.pool ≡ two.pool →
+        ((a : ℕ) → kind_at one.regions a ≡ kind_at two.regions a) → f ≡ g }
+{}
