@@ -5,8 +5,8 @@ use Rattle.bl_map.specs.MachineFacts.{MachineFacts}
 use Rattle.bl_load.specs.Handover.{Handover}
 use Rattle.bl_image.specs.Image.{spelling}
 use Rattle.bl_session.specs.declared.words.RefusedEntry.{RefusedEntry}
-use Rattle.bl_session.specs.declared.stored_file.StoredFile.{StoredFile}
-use Rattle.bl_session.specs.declared.stored_file.StoredFile.TheVariants.{Missing, TooLong, Whole}
+use Rattle.bl_session.specs.declared.fetched.Fetched.{Fetched}
+use Rattle.bl_session.specs.declared.fetched.Fetched.TheVariants.{Missing, TooLong, Bytes}
 use Rattle.bl_session.specs.Boot.{BootFacts, State, handed_over, none_left}
 use Rattle.bl_session.specs.Outcome as session
 use Rattle.bl_session.specs.Outcome.{IsOutcome, no_fault, size_of}
@@ -40,11 +40,11 @@ not_handed description facts files entry earlier handover came old new s t u v D
 not_handed description facts files entry earlier handover came old new s t u v NoMemory kept unsaid = (kept.1, unsaid)
 
 -- a store has the files that were found
-same_files : {A : Type 0} (files : List (StoredFile A)) → stored_files files ≡ files_of (map answer_of files)
+same_files : {A : Type 0} (files : List (Fetched A)) → stored_files files ≡ files_of (map answer_of files)
 same_files [] = refl
 same_files (Missing ∷ files) = ap (λ fs. session.missing ∷ fs) (same_files files)
 same_files (TooLong n ∷ files) = rw (same_files files) refl
-same_files (Whole bytes ∷ files) = rw (same_files files) refl
+same_files (Bytes bytes ∷ files) = rw (same_files files) refl
 
 -- the bytes describe d
 module _ {A : Type 0} (desc : List ℕ) (d : Description A) (is : described desc ≡ Some (view d)) where
@@ -59,7 +59,7 @@ module _ {A : Type 0} (desc : List ℕ) (d : Description A) (is : described desc
 
   -- its machine has these facts, and these files were found
   module _ {F : Type 0} (answers : F → List ℕ → Answer → Type 0) (faults : F → ℕ) (facts : MachineFacts)
-      (machine : IsMachineOf (view d) facts) (before after : F) {B : Type 0} (files : List (StoredFile B))
+      (machine : IsMachineOf (view d) facts) (before after : F) {B : Type 0} (files : List (Fetched B))
       (found : AreFound answers faults (view d).files (names_in (view d)) before after (map answer_of files)) where
     abbrev this_case : BootCase answers faults desc before after
     this_case = record {

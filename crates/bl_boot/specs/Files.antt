@@ -1,7 +1,7 @@
 -- What may be answered for the name of a file. Own.
 use Rattle.std.specs.Prelude.{◌≡◌, ℕ, ◌+◌, ◌<◌, ◌≤◌, if◌then◌else◌, nat_lt, List, length, Option, Some, None}
-use Rattle.bl_session.specs.declared.stored_file.StoredFile.{StoredFile}
-use Rattle.bl_session.specs.declared.stored_file.StoredFile.TheVariants as stored
+use Rattle.bl_session.specs.declared.fetched.Fetched.{Fetched}
+use Rattle.bl_session.specs.declared.fetched.Fetched.TheVariants as fetched
 use Rattle.bl_desc.specs.Described.{File, file_named}
 
 -- there is no such file; it is too long to be read, and has this length; it has these bytes
@@ -46,13 +46,13 @@ pub record MemFilesFacts : Type 0 where
 
 -- ---- what the code keeps
 
-abbrev pub answer_of : {A : Type 0} → StoredFile A → Answer
-answer_of stored.Missing = missing
-answer_of (stored.TooLong n) = too_long n
-answer_of (stored.Whole file) = bytes file
+abbrev pub answer_of : {A : Type 0} → Fetched A → Answer
+answer_of fetched.Missing = missing
+answer_of (fetched.TooLong n) = too_long n
+answer_of (fetched.Bytes file) = bytes file
 
 -- a file that stands there was read whole, or not at all where it is longer than a limit
-abbrev pub IsRead : {A : Type 0} → ℕ → StoredFile A → Type 0
-IsRead limit stored.Missing = ⊥
-IsRead limit (stored.TooLong n) = limit < n
-IsRead limit (stored.Whole file) = length file ≤ limit
+abbrev pub IsRead : {A : Type 0} → ℕ → Fetched A → Type 0
+IsRead limit fetched.Missing = ⊥
+IsRead limit (fetched.TooLong n) = limit < n
+IsRead limit (fetched.Bytes file) = length file ≤ limit

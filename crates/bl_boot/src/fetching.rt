@@ -1,8 +1,8 @@
-//! Where the files of an entry come from.
+//! Where the files of a menu come from.
 ghost use Rattle.std.specs.Prelude.{◌≡◌, ℕ, ◌-◌, ◌<◌, ◌^◌, List, IfOk, OnErr};
 ghost use Rattle.bl_boot.specs.Files.{Answer, answer_of, KeepsLimit, CountsFault};
 
-use bl_session::StoredFile;
+use bl_session::Fetched;
 use std::alloc::{AllocError, Allocator};
 
 mod mem_files;
@@ -22,7 +22,7 @@ pub trait Files {
     ghost faults: { Self → ℕ };
 
     /// The file of this name, whole. Want of memory is no fault of the file's.
-    fn fetch<A: Allocator>(&mut self, alloc: A, name: &str) -> Result<StoredFile<A>, AllocError>
+    fn fetch<A: Allocator>(&mut self, alloc: A, name: &str) -> Result<Fetched<A>, AllocError>
         requires { faults self.old < 2 ^ 64 - 1 }
         ensures told { IfOk result (λ file. answers self.old name.now (answer_of file)) }
         ensures same { (file : List ℕ) (answer : Answer) →

@@ -8,7 +8,7 @@ mod mapping;
 mod saying;
 mod walking;
 
-pub use bl_session::StoredFile;
+pub use bl_session::Fetched;
 pub use booting::boot;
 pub use fetching::{FILE_LIMIT, Files, MemFiles};
 pub use laws::two_boots;

@@ -2,7 +2,7 @@
 ghost use Rattle.std.specs.Prelude.{IfOk};
 ghost use Rattle.bl_boot.specs.Files.{IsRead};
 
-use bl_boot::{FILE_LIMIT, StoredFile, Files};
+use bl_boot::{FILE_LIMIT, Fetched, Files};
 use bl_mem::Bytes;
 use std::alloc::{AllocError, Allocator};
 use std::io::Read;
@@ -19,7 +19,7 @@ pub fn read_file<R: rt::Files, A: Allocator>(
     alloc: A,
     path: &str,
     limit: u64,
-) -> io::Result<StoredFile<A>>
+) -> io::Result<Fetched<A>>
     ensures { IfOk result (IsRead limit) }
 {
     let metadata = fs::metadata(rt, path)?;
@@ -28,16 +28,16 @@ pub fn read_file<R: rt::Files, A: Allocator>(
     }
     let length = metadata.len();
     if length > limit {
-        return Ok(StoredFile::TooLong(length));
+        return Ok(Fetched::TooLong(length));
     }
     let mut bytes = Vec::with_capacity(alloc, length as usize)?;
     let file = fs::open(rt, path)?;
     file.take(limit.saturating_add(1)).read_to_end(&mut bytes)?;
     let count = bytes.len() as u64;
     if count > limit {
-        return Ok(StoredFile::TooLong(count));
+        return Ok(Fetched::TooLong(count));
     }
-    Ok(StoredFile::Whole(Bytes::from(bytes)))
+    Ok(Fetched::Bytes(Bytes::from(bytes)))
 }
 
 /// Files by their paths, as the operating system reads them relative to the current folder. Each
@@ -74,13 +74,13 @@ impl<R: rt::Files> Files for PathFiles<'_, R> {
 
     ghost faults = { λ f. f };
 
-    fn fetch<A: Allocator>(&mut self, alloc: A, name: &str) -> Result<StoredFile<A>, AllocError> {
+    fn fetch<A: Allocator>(&mut self, alloc: A, name: &str) -> Result<Fetched<A>, AllocError> {
         match read_file(self.rt, alloc, name, FILE_LIMIT) {
             Ok(file) => Ok(file),
             Err(error) if error.kind() == io::ErrorKind::OutOfMemory => Err(AllocError),
             Err(_) => {
                 self.faults += 1;
-                Ok(StoredFile::Missing)
+                Ok(Fetched::Missing)
             }
         }
     }

@@ -4,7 +4,7 @@ ghost use Rattle.bootcore.specs.Statuses as statuses;
 
 use crate::image_file::ImageFile;
 use crate::path_files::{PathFiles, read_file};
-use bl_boot::{StoredFile, boot, map_to, walk_to};
+use bl_boot::{Fetched, boot, map_to, walk_to};
 use bl_image::IoSource;
 use bl_line::{Job, LineFault, Order, read_line};
 use bl_mem::Bytes;
@@ -53,7 +53,7 @@ fn read_desc(rt: &HostRuntime, path: &str) -> Result<Bytes<Global>, u8>
     ensures { IfErr result (λ status. (status ≡ 3) ⊎ (status ≡ 4)) }
 {
     match read_file(rt, rt.alloc(), path, u64::MAX) {
-        Ok(StoredFile::Whole(desc)) => Ok(desc),
+        Ok(Fetched::Bytes(desc)) => Ok(desc),
         Err(error) if error.kind() == io::ErrorKind::OutOfMemory => Err(4),
         _ => Err(3),
     }

@@ -8,18 +8,18 @@ ghost use Rattle.bl_boot.specs.Files.{Answer, answer_for, answer_of};
 use crate::fetching::{FILE_LIMIT, Files};
 use bl_desc::Description;
 use bl_mem::Bytes;
-use bl_session::StoredFile;
+use bl_session::Fetched;
 use std::alloc::{AllocError, Allocator};
 
 /// A file that stands in the description.
-fn copy_of<A: Allocator>(alloc: A, file: &[u8]) -> Result<StoredFile<A>, AllocError>
+fn copy_of<A: Allocator>(alloc: A, file: &[u8]) -> Result<Fetched<A>, AllocError>
     ensures { IfOk result (λ copy. answer_of copy ≡ answer_for file.now) }
 {
     let length = file.len() as u64;
     if length > FILE_LIMIT {
-        return Ok(StoredFile::TooLong(length));
+        return Ok(Fetched::TooLong(length));
     }
-    Ok(StoredFile::Whole(Bytes::copy(alloc, file)?))
+    Ok(Fetched::Bytes(Bytes::copy(alloc, file)?))
 }
 
 /// What is found for a name: the description's own file, or else what is fetched.
@@ -28,7 +28,7 @@ fn find_file<A: Allocator + Copy, F: Files>(
     description: &Description<A>,
     name: &str,
     files: &mut F,
-) -> Result<StoredFile<A>, AllocError>
+) -> Result<Fetched<A>, AllocError>
     requires { F.faults files.old < 2 ^ 64 - 1 }
     ensures found { IfOk result (λ file. IsFound F.answers F.faults (view description.now).files
         name.now files.old files.new (answer_of file)) }
@@ -51,7 +51,7 @@ pub fn find_files<A: Allocator + Copy, F: Files>(
     description: &Description<A>,
     names: &[&str],
     files: &mut F,
-) -> Result<Vec<StoredFile<A>, A>, AllocError>
+) -> Result<Vec<Fetched<A>, A>, AllocError>
     requires { F.faults files.old + length names.now < 2 ^ 64 }
     ensures found { IfOk result (λ found.
         AreFound F.answers F.faults (view description.now).files (map (λ n. n.now) names.now)

@@ -2,7 +2,7 @@
 use crate::fetching::{FILE_LIMIT, Files};
 use bl_desc::{FileRow, file_named};
 use bl_mem::Bytes;
-use bl_session::StoredFile;
+use bl_session::Fetched;
 use std::alloc::{AllocError, Allocator};
 use std::marker::Model;
 
@@ -43,16 +43,16 @@ impl<A: Allocator> Files for MemFiles<A> {
 
     ghost faults = { λ f. f.faults };
 
-    fn fetch<B: Allocator>(&mut self, alloc: B, name: &str) -> Result<StoredFile<B>, AllocError> {
+    fn fetch<B: Allocator>(&mut self, alloc: B, name: &str) -> Result<Fetched<B>, AllocError> {
         let Some(bytes) = file_named(name, &self.rows) else {
             self.faults += 1;
-            return Ok(StoredFile::Missing);
+            return Ok(Fetched::Missing);
         };
         let length = bytes.len() as u64;
         if length > FILE_LIMIT {
-            return Ok(StoredFile::TooLong(length));
+            return Ok(Fetched::TooLong(length));
         }
-        Ok(StoredFile::Whole(Bytes::from(Vec::from_slice(alloc, bytes)?)))
+        Ok(Fetched::Bytes(Bytes::from(Vec::from_slice(alloc, bytes)?)))
     }
 
     fn faults(&self) -> u64 {

@@ -9,7 +9,7 @@ use crate::parse::{field, range, split_word};
 use crate::runs::Runs;
 use crate::session::Session;
 use crate::show::bytes_text;
-use bl_boot::{StoredFile, Files, boot, map_to};
+use bl_boot::{Fetched, Files, boot, map_to};
 use bl_image::{MemSink, Sink};
 use bl_refusing::Refusing;
 use std::alloc::{AllocError, Global};
@@ -166,9 +166,9 @@ pub fn answer_fetch(
     let (name, words) = split_word(words);
     let mut files = read_beside(alloc, &session.names, words)?.files(alloc)?;
     let mut text = match files.fetch(heap, name) {
-        Ok(StoredFile::Missing) => String::from_str(alloc, "missing")?,
-        Ok(StoredFile::TooLong(length)) => format!(in alloc; "too long {length:x}")?,
-        Ok(StoredFile::Whole(bytes)) => bytes_text(alloc, bytes.as_slice())?,
+        Ok(Fetched::Missing) => String::from_str(alloc, "missing")?,
+        Ok(Fetched::TooLong(length)) => format!(in alloc; "too long {length:x}")?,
+        Ok(Fetched::Bytes(bytes)) => bytes_text(alloc, bytes.as_slice())?,
         Err(AllocError) => String::from_str(alloc, "no memory")?,
     };
     let missing = files.faults();

@@ -1,7 +1,7 @@
 //! Files that are all too long.
 ghost use Rattle.bl_boot.specs.Files.{too_long};
 
-use bl_boot::{FILE_LIMIT, StoredFile, Files};
+use bl_boot::{FILE_LIMIT, Fetched, Files};
 use std::alloc::{AllocError, Allocator};
 
 /// Files each of which has one byte more than a file may have.
@@ -15,8 +15,8 @@ impl Files for LongFiles {
 
     ghost faults = { λ _. 0 };
 
-    fn fetch<A: Allocator>(&mut self, _alloc: A, _name: &str) -> Result<StoredFile<A>, AllocError> {
-        Ok(StoredFile::TooLong(FILE_LIMIT + 1))
+    fn fetch<A: Allocator>(&mut self, _alloc: A, _name: &str) -> Result<Fetched<A>, AllocError> {
+        Ok(Fetched::TooLong(FILE_LIMIT + 1))
     }
 
     fn faults(&self) -> u64 {
