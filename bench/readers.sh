@@ -1,7 +1,8 @@
 #!/usr/bin/env bash
 # How many times in a second a kernel file is read, by the plain readers (plain_reader.rs) and by a program that calls the
 # proved ones: the ELF and the Multiboot2 header of a file of 66 MB with five program headers, and the setup header of a
-# Linux kernel of 10 MiB.
+# Linux kernel of 10 MiB. Then the files that were made to keep each reader longest, and how long a call takes with one.
+# A setup header has no such file: no number in it says how much is read.
 #
 #   [READER=PROGRAM] bench/readers.sh
 #
@@ -14,6 +15,7 @@
 # variable READER does not name one it is proved and built here, beside copies of the crates that it calls with what of
 # them is built already; without rt its column is left out. Needs bash 5, coreutils, awk and rustc.
 source "$(dirname "${BASH_SOURCE[0]}")/measure.sh"
+source "$here/numbers.sh"
 
 segments=5
 segment_bytes=0xC96000
@@ -150,4 +152,69 @@ for part in elf header setup; do
         times=$(ratio "$plain" "$proved")
     fi
     printf '%-16s %12s %12s   %s\n' "$part" "$plain" "$proved" "$times"
+done
+
+# The first four words of a header of some bytes.
+header() {
+    word 0xE85250D6 0 "$1" $((-(0xE85250D6 + $1) & 0xFFFFFFFF))
+}
+
+# The words given, so many times.
+times() {
+    local i
+    for ((i = 0; i < $1; i++)); do
+        word "${@:2}"
+    done
+}
+
+# A header at the last place where one fits, and before it the magic number at each multiple of 8, with a sum that is
+# not 0.
+make_late() {
+    times 2046 0xE85250D6 0 0xE85250D6 0
+    word 0xE85250D6 0
+    header 24
+    word 0 8
+}
+
+# A header at 8 of 32760 bytes, all tags of 8 bytes.
+make_tags() {
+    word 0 0
+    header 32760
+    times 4092 6 8
+    word 0 8
+}
+
+# A header at 8 of 32760 bytes, one request for 8182 types of information.
+make_types() {
+    word 0 0
+    header 32760
+    word 1 $((8 + 4 * 8182))
+    times 8182 21
+    word 0 8
+}
+
+# 128 segments of one byte, of which no two share it: each two are compared.
+make_segments() {
+    local i
+    word 0x464C457F 0x00010101 0 0 0x00030002 1 0x100000 52 0 0
+    half 52 32 128 0 0 0
+    for ((i = 0; i < 128; i++)); do
+        word 1 0 $((0x100000 + i)) $((0x100000 + i)) 0 1 5 1
+    done
+}
+
+printf '\n%-16s %12s %12s %12s   %s\n' 'longest' 'plain ns' 'proved ns' 'ns a byte' 'proved / plain'
+for row in 'header late' 'header tags' 'header types' 'elf segments'; do
+    read -r part file <<< "$row"
+    calls=20000
+    "make_$file" > "$file"
+    rate_reader ./plain_reader "$part" "$file"
+    plain=$(ratio 1000000000 "$rate") proved=- byte=- times=-
+    if [ -n "$reader" ]; then
+        rate_reader "$reader" "$part" "$file"
+        proved=$(ratio 1000000000 "$rate")
+        byte=$(ratio "$proved" "$(wc -c < "$file")")
+        times=$(ratio "$proved" "$plain")
+    fi
+    printf '%-16s %12s %12s %12s   %s\n' "$row" "$plain" "$proved" "$byte" "$times"
 done
