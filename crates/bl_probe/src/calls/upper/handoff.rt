@@ -15,7 +15,7 @@ use bl_refusing::Refusing;
 use std::alloc::{AllocError, Global};
 
 /// The registers in the order of an image.
-fn registers_text(alloc: Global, r: &Registers) -> Result<String, AllocError> {
+pub fn registers_text(alloc: Global, r: &Registers) -> Result<String, AllocError> {
     let numbers = [
         r.eip,
         r.eax,
@@ -46,7 +46,7 @@ fn registers_text(alloc: Global, r: &Registers) -> Result<String, AllocError> {
 }
 
 /// The word for a role.
-fn role_name(role: Role) -> &'static str {
+pub fn role_name(role: Role) -> &'static str {
     match role {
         Role::Kernel => "kernel",
         Role::Module => "module",
