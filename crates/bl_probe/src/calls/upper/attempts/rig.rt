@@ -23,6 +23,7 @@ pub struct Rig<'a, 'h> {
 }
 
 impl<'a, 'h> Model for Rig<'a, 'h> {
+    ghost use Rattle.std.specs.Prelude.{◌≡◌};
     ghost use Rattle.bl_session.specs.Phases.{SessionFacts};
 
     ghost Value = { SessionFacts };
