@@ -15,6 +15,15 @@ pub mod StageLemmas
 pub mod AfterLemmas
 pub mod FinishLemmas
 pub mod StepLemmas
+pub mod StoreLemmas
+pub mod ToldLemmas
+pub mod AskLemmas
+pub mod MissingLemmas
+pub mod SizeLemmas
+pub mod TurnLemmas
+pub mod LaterLemmas
+pub mod HearLemmas
+pub mod RunLemmas
 pub mod AlikeLemmas
 pub mod WentLemmas
 pub mod AskedLemmas

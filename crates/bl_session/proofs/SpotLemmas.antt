@@ -26,13 +26,13 @@ use Rattle.bl_session.specs.Pieces.{is_awaited, awaits, spot_of, with_piece, are
 abbrev pub Named : Staging → ℕ → ℕ → Type 0
 Named stage file index = (file < length stage.sizes) × (index < frames_of (get_or stage.sizes file 0))
 
-length-spots_of : (bytes : List ℕ) (stage : Staging) (file : ℕ) → length (spots_of bytes stage file) ≡ frames_of (get_or stage.sizes file 0)
+pub length-spots_of : (bytes : List ℕ) (stage : Staging) (file : ℕ) → length (spots_of bytes stage file) ≡ frames_of (get_or stage.sizes file 0)
 length-spots_of bytes stage file = length-map-range_with_len (λ index. spot_at bytes stage file index) 0 (frames_of (get_or stage.sizes file 0))
 
-length-spots : (bytes : List ℕ) (stage : Staging) → length (spots bytes stage) ≡ length stage.sizes
+pub length-spots : (bytes : List ℕ) (stage : Staging) → length (spots bytes stage) ≡ length stage.sizes
 length-spots bytes stage = length-map-range_with_len (λ file. spots_of bytes stage file) 0 (length stage.sizes)
 
-file_spots : (bytes : List ℕ) (stage : Staging) (file : ℕ) → file < length stage.sizes → get_or (spots bytes stage) file [] ≡ spots_of bytes stage file
+pub file_spots : (bytes : List ℕ) (stage : Staging) (file : ℕ) → file < length stage.sizes → get_or (spots bytes stage) file [] ≡ spots_of bytes stage file
 file_spots bytes stage file h = get_or-map-range_with_len (λ f. spots_of bytes stage f) 0 (length stage.sizes) file file [] h (omega arith)
 
 pub spot_named : (bytes : List ℕ) (stage : Staging) (file index : ℕ) → Named stage file index → spot_of (spots bytes stage) file index ≡ spot_at bytes stage file index

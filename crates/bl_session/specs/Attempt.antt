@@ -11,7 +11,7 @@ use Rattle.bl_session.specs.declared.attempt.Attempt.TheVariants.{Waits, HandedO
 use Rattle.bl_session.specs.Ends.{handed, refused, EndsIn, size_refusal, lengths_of}
 use Rattle.bl_session.specs.Menu.{EntryFacts, value_with}
 use Rattle.bl_session.specs.Pieces.{are_whole, awaited}
-use Rattle.bl_session.specs.Phases.{handover_held}
+use Rattle.bl_session.specs.Phases.{handover_held, HasSmallFiles, LacksPiece, EndsWithin}
 
 -- with these spots of its files it waits for what is missing, or ends by its entry's value
 abbrev pub IsAttempt :
@@ -41,11 +41,14 @@ IsBegun facts entry sizes bytes attempt =
     (IsAttempt facts entry (awaited (lengths_of sizes)) bytes attempt)
     (IsRefusedFor attempt)
 
--- the stage that it waits with is one of these files' places
-abbrev pub KeepsStage : {A : Type 0} → Range ℕ → ℕ → Attempt A → Type 0
-KeepsStage pool count (Waits stage) = (stage.pool ≡ pool) × (length stage.sizes ≡ count)
-KeepsStage pool count (HandedOver handoff) = Unit {0}
-KeepsStage pool count (Refused refusal) = Unit {0}
+-- the stage that it waits with is one of so many files, and lacks a piece; each part that it hands
+-- over ends within memory
+abbrev pub KeepsAttempt : {A : Type 0} → MachineFacts → ℕ → Attempt A → Type 0
+KeepsAttempt facts count (Waits stage) =
+    (stage.pool ≡ facts.pool) × (length stage.sizes ≡ count) × HasSmallFiles stage
+    × LacksPiece stage
+KeepsAttempt facts count (HandedOver handoff) = EndsWithin facts.size handoff
+KeepsAttempt facts count (Refused refusal) = Unit {0}
 
 -- memory beside: after a handover it is that which is handed over; else no byte outside the pool
 -- changed

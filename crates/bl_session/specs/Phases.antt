@@ -1,5 +1,5 @@
 -- Where a session stands, by its fields and by what memory holds.
-use Rattle.std.specs.Prelude.{◌≡◌, ℕ, ◌<◌, ◌≤◌, Bool, true, false, List, length, drop, Option, None, Some, Result, Ok, Err}
+use Rattle.std.specs.Prelude.{◌≡◌, ℕ, ◌+◌, ◌<◌, ◌≤◌, Bool, true, false, List, length, drop, All, Option, None, Some, Result, Ok, Err}
 use Rattle.std.specs.Borrow.{Bor}
 use Rattle.bl_map.specs.MachineFacts.{MachineFacts}
 use Rattle.bl_load.specs.declared.refusal.PrepFault.{PrepFault}
@@ -7,8 +7,9 @@ use Rattle.bl_load.specs.declared.refusal.PrepFault.TheVariants as prep_fault
 use Rattle.bl_load.specs.HandoffFacts.{HandoffFacts}
 use Rattle.bl_load.specs.Handover.{Handover}
 use Rattle.bl_load.specs.PlanFacts.{handover_in}
-use Rattle.bl_stage.specs.Staged.{Staging, fresh}
+use Rattle.bl_stage.specs.Staged.{Staging, AllCame, fresh}
 use Rattle.bl_stage.specs.Spots.{spots}
+use Rattle.bl_session.specs.declared.boot.Boot.{Boot}
 use Rattle.bl_session.specs.declared.words.RefusedEntry.{RefusedEntry}
 use Rattle.bl_session.specs.declared.words.BootFault.{BootFault}
 use Rattle.bl_session.specs.declared.words.BootFault.TheVariants.{NoEntryLeft, NoMemory}
@@ -18,7 +19,7 @@ use Rattle.bl_session.specs.declared.words.Event.TheVariants.{Piece, Fault}
 use Rattle.bl_session.specs.declared.phase.Running.{Running}
 use Rattle.bl_session.specs.declared.phase.Phase.{Phase}
 use Rattle.bl_session.specs.declared.phase.Phase.TheVariants.{Unstarted, Waits, HandedOver, Failed}
-use Rattle.bl_session.specs.Ends.{file_refusal, size_refusal, lengths_of}
+use Rattle.bl_session.specs.Ends.{most_bytes, file_refusal, size_refusal, lengths_of}
 use Rattle.bl_session.specs.Menu.{MenuFacts, entry_at}
 use Rattle.bl_session.specs.Boot.{BootFacts, EventFacts, piece, fault, State, unstarted, running, handed_over, none_left, out_of_memory}
 
@@ -112,18 +113,42 @@ IsFresh facts sizes stage = (frames : List ℕ) × (stage ≡ fresh facts.pool (
 abbrev pub boot_facts : MachineFacts → MenuFacts → List (Option ℕ) → BootFacts
 boot_facts machine menu sizes = record { machine = machine; menu = menu; sizes = sizes }
 
--- what a session keeps of an attempt that waits
+abbrev pub facts_of_boot : {A : Type 0} → Boot A → BootFacts
+facts_of_boot boot = boot_facts boot.machine.now boot.menu.now boot.sizes.now
+
+-- the states of its phases
+abbrev pub state_in : {A : Type 0} → Boot A → (bytes : List ℕ) → Phase A → State
+state_in boot bytes phase = state_of boot.menu.now.attempts bytes phase
+
+abbrev pub running_in : {A : Type 0} → Boot A → (bytes : List ℕ) → Running A → State
+running_in boot bytes r = running_state boot.menu.now.attempts bytes r
+
+-- each file has at most the most bytes
+pub record HasSmallFiles (stage : Staging) : Type 0 where
+  pub all : All (λ size. size ≤ most_bytes) stage.sizes
+
+-- a piece did not come
+pub record LacksPiece (stage : Staging) : Type 0 where
+  pub lacks : ¬ AllCame stage
+
+-- each part that is handed over ends within a memory of this size
+abbrev pub EndsWithin : ℕ → HandoffFacts → Type 0
+EndsWithin size handoff = All (λ place. place.address + place.length ≤ size) handoff.places
+
+-- what a session keeps of an attempt
 pub record IsWaiting {A : Type 0} (machine : MachineFacts) (menu : MenuFacts) (r : Running A) : Type 0 where
   pub entry : r.entry < length menu.entries
   pub pool : r.stage.pool ≡ machine.pool
   pub files : length r.stage.sizes ≡ length (entry_at menu r.entry).files
+  pub small : HasSmallFiles r.stage
   pub number : length r.earlier.items < r.next
   pub next : r.next ≤ length menu.attempts
 
+-- an attempt waits only while a piece is missing
 abbrev pub IsKept : {A : Type 0} → MachineFacts → MenuFacts → Phase A → Type 0
 IsKept machine menu Unstarted = Unit {0}
-IsKept machine menu (Waits r) = IsWaiting machine menu r
-IsKept machine menu (HandedOver outcome) = Unit {0}
+IsKept machine menu (Waits r) = IsWaiting machine menu r × LacksPiece r.stage
+IsKept machine menu (HandedOver outcome) = EndsWithin machine.size outcome.handoff
 IsKept machine menu (Failed why) = Unit {0}
 
 -- an event as it is passed

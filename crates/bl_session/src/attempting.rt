@@ -4,8 +4,9 @@ ghost use Rattle.bl_mem.specs.Memory.{HasRoom, KeepsRoom};
 ghost use Rattle.bl_load.specs.Value.{HasFewModules};
 ghost use Rattle.bl_stage.specs.Ranges.{IsSameOutside};
 ghost use Rattle.bl_stage.specs.Spots.{spots};
-ghost use Rattle.bl_session.specs.Attempt.{IsAttempt, IsBegun, IsMemoryOf, KeepsStage};
+ghost use Rattle.bl_session.specs.Attempt.{IsAttempt, IsBegun, IsMemoryOf, KeepsAttempt};
 ghost use Rattle.bl_session.specs.Menu.{facts_of, files_of};
+ghost use Rattle.bl_session.specs.Phases.{HasSmallFiles};
 ghost use Rattle.bl_session.specs.Pieces.{are_whole};
 
 use crate::attempt::Attempt;
@@ -27,13 +28,13 @@ pub fn go_on<M: PhysMem, A: Allocator + Copy>(
 ) -> Result<Attempt<A>, AllocError>
     requires modules { HasFewModules entry.now }
     requires files { length stage.sizes ≡ length (files_of entry.now) }
+    requires small { HasSmallFiles stage }
     requires pool { stage.pool ≡ machine.now.pool }
     requires size { length (M.bytes memory.old) ≡ machine.now.size }
     requires room { HasRoom (M.room memory.old) machine.now.pool.start machine.now.pool.end }
     ensures attempt { IfOk result (IsAttempt machine.now (facts_of entry.now)
         (spots (M.bytes memory.old) stage) (M.bytes memory.new)) }
-    ensures stage { IfOk result
-        (KeepsStage machine.now.pool (length (files_of entry.now))) }
+    ensures keeps { IfOk result (KeepsAttempt machine.now (length (files_of entry.now))) }
     ensures memory { IfOk result
         (IsMemoryOf machine.now.pool (M.bytes memory.old) (M.bytes memory.new)) }
     ensures err { OnErr result
@@ -67,8 +68,7 @@ pub fn begin_attempt<M: PhysMem, A: Allocator + Copy>(
     ensures begun { IfOk result (IsBegun machine.now (facts_of entry.now)
         (map (λ file. slice_index_or sizes.now file None) (files_of entry.now))
         (M.bytes memory.new)) }
-    ensures stage { IfOk result
-        (KeepsStage machine.now.pool (length (files_of entry.now))) }
+    ensures keeps { IfOk result (KeepsAttempt machine.now (length (files_of entry.now))) }
     ensures memory { IfOk result
         (IsMemoryOf machine.now.pool (M.bytes memory.old) (M.bytes memory.new)) }
     ensures err { OnErr result

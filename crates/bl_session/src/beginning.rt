@@ -6,7 +6,7 @@ ghost use Rattle.bl_stage.specs.Staged.{AreStaged};
 ghost use Rattle.bl_session.specs.Ends.{file_refusal, size_refusal};
 ghost use Rattle.bl_session.specs.Ends as ends;
 ghost use Rattle.bl_session.specs.Menu as menu;
-ghost use Rattle.bl_session.specs.Phases.{IsFresh, IsSizeFault, IsFileFault};
+ghost use Rattle.bl_session.specs.Phases.{IsFresh, IsSizeFault, IsFileFault, HasSmallFiles};
 
 use bl_load::{Entry, Module, PrepFault, Refusal};
 use bl_map::Machine;
@@ -113,6 +113,7 @@ pub fn begin_stage<A: Allocator + Copy>(
     ensures fits { IfOk result (λ _. size_refusal machine.now
         (map (λ file. slice_index_or sizes.now file None) (menu.files_of entry.now)) ≡ None) }
     ensures staged { IfOk result AreStaged }
+    ensures small { IfOk result HasSmallFiles }
     ensures fault { IfErr result (IsSizeFault machine.now
         (map (λ file. slice_index_or sizes.now file None) (menu.files_of entry.now))) }
 {

@@ -2,32 +2,52 @@
 #![tactic(auto)]
 
 mod advancing;
+mod asking;
 mod attempt;
 mod attempting;
 mod beginning;
+mod boot;
+mod booting;
 mod completion;
+mod file_store;
 mod finishing;
+mod history;
 mod laws;
 mod menu;
+mod missing;
 mod phase;
+mod picks;
+mod queue;
+mod reply;
+mod request;
 mod run_laws;
+mod script_store;
 mod session;
 mod stepping;
 mod store;
+mod stored_file;
+mod submitting;
+mod taking;
+mod turn;
 mod words;
 
 pub use beginning::MOST_BYTES;
+pub use booting::run;
 pub use completion::Completion;
+pub use file_store::FileStore;
 pub use finishing::finish;
 pub use laws::{
     each_attempt_ends, each_step_leads_on, ends_are_determined, first_entry_not_refused,
     steps_are_determined, two_boots,
 };
 pub use menu::{MOST_ENTRIES, MOST_MODULES, Menu, MenuFault, order_attempts};
+pub use queue::Order;
 pub use run_laws::{
     faithful_stores_boot_by_their_files, marked_histories_are_genuine,
     runs_end_with_the_first_entry_not_refused,
 };
+pub use script_store::ScriptStore;
 pub use session::Session;
 pub use store::Store;
+pub use stored_file::StoredFile;
 pub use words::{BootFault, Event, Outcome, Progress, RefusedEntry, Ticket};

@@ -1,5 +1,5 @@
 //! The menu, and the order in which its entries are attempted.
-ghost use Rattle.std.specs.Prelude.{◌≡◌, ◌↔◌, ◌∷◌, ◌++◌, ◌==◌, ◌+◌, ◌<◌, ◌≤◌, ℕ, [], length, map};
+ghost use Rattle.std.specs.Prelude.{◌≡◌, ◌↔◌, ◌∷◌, ◌++◌, ◌==◌, ◌+◌, ◌<◌, ◌≤◌, ◌^◌, ℕ, [], length, map};
 ghost use Rattle.std.specs.Prelude.{All, IsTrue, IfErr, IfOk, OnOk, slice_index_or, if◌then◌else◌};
 ghost use Rattle.std.specs.List.{list_any};
 ghost use Rattle.bl_load.specs.Value.{HasFewModules};
@@ -168,7 +168,8 @@ impl<A: Allocator + Copy> Menu<A> {
 
 /// The greatest index of a file of modules plus 1, or 0 if there is none.
 fn module_files<A: Allocator>(modules: &[Module<A>]) -> usize
-    ensures { result ≡ count_to (map (λ m. m.file) modules.now) }
+    ensures count { result ≡ count_to (map (λ m. m.file) modules.now) }
+    ensures few { result ≤ 2 ^ 32 }
 {
     match modules {
         [] => 0,
@@ -178,7 +179,8 @@ fn module_files<A: Allocator>(modules: &[Module<A>]) -> usize
 
 /// The greatest index of a file of an entry plus 1.
 fn entry_files<A: Allocator>(entry: &Entry<A>) -> usize
-    ensures { result ≡ count_to (files_of entry.now) }
+    ensures count { result ≡ count_to (files_of entry.now) }
+    ensures few { result ≤ 2 ^ 32 }
 {
     match entry {
         Entry::Multiboot2 {
@@ -195,7 +197,8 @@ fn entry_files<A: Allocator>(entry: &Entry<A>) -> usize
 
 /// The greatest index of a file of entries plus 1, or 0 if there is none.
 fn files_named<A: Allocator>(entries: &[Entry<A>]) -> usize
-    ensures { result ≡ attempts.files_named (map facts_of entries.now) }
+    ensures count { result ≡ attempts.files_named (map facts_of entries.now) }
+    ensures few { result ≤ 2 ^ 32 }
 {
     match entries {
         [] => 0,
@@ -205,9 +208,10 @@ fn files_named<A: Allocator>(entries: &[Entry<A>]) -> usize
 
 impl<A: Allocator> Menu<A> {
     /// How many files the menu names: the greatest index of a file plus 1, or 0 if no entry names
-    /// a file.
+    /// a file. At most 2^32.
     pub fn files(&self) -> usize
-        ensures { result ≡ attempts.files_named self.now.entries }
+        ensures count { result ≡ attempts.files_named self.now.entries }
+        ensures few { result ≤ 2 ^ 32 }
     {
         files_named(&self.entries)
     }

@@ -1,12 +1,14 @@
 //! A boot that takes one event after the other.
-ghost use Rattle.std.specs.Prelude.{◌≡◌, ◌≢◌, ℕ, List, true, IfOk, MatchBool, length};
+ghost use Rattle.std.specs.Prelude.{◌≡◌, ◌≢◌, ℕ, List, true, IfOk, IfSome, MatchBool, length};
 ghost use Rattle.bl_mem.specs.Memory.{HasRoom, KeepsRoom};
 ghost use Rattle.bl_session.specs.Boot.{StepsOrFails, StartsOrFails, is_taken, attempt_of};
 ghost use Rattle.bl_session.specs.Boot as boot;
 ghost use Rattle.bl_session.specs.Memory.{IsMemoryIn};
 ghost use Rattle.bl_session.specs.Phases.{boot_facts, event_facts, state_at, is_waiting};
 ghost use Rattle.bl_session.specs.Phases.{phase_facts, state_of, end_facts, told, not_started, IsKept};
+ghost use Rattle.bl_session.specs.Phases.{EndsWithin};
 
+use crate::boot::Boot;
 use crate::menu::Menu;
 use crate::phase::Phase;
 use crate::stepping::{advance, begin_first};
@@ -23,9 +25,9 @@ use std::mem;
 pub struct Session<'a, A: Allocator + Copy> {
     alloc: A,
     machine: &'a Machine<A>,
-    menu: &'a Menu<A>,
+    pub(crate) menu: &'a Menu<A>,
     sizes: Vec<Option<u64>, A>,
-    phase: Phase<A>,
+    pub(crate) phase: Phase<A>,
 }
 
 impl<'a, A: Allocator + Copy> Model for Session<'a, A> {
@@ -132,14 +134,13 @@ impl<'a, A: Allocator + Copy> Session<'a, A> {
     {
         let attempt = number_of(&self.phase);
         let phase = mem::replace(&mut self.phase, Phase::Unstarted);
-        self.phase = begin_first(
-            self.alloc,
-            self.machine,
-            self.menu,
-            &self.sizes,
-            memory,
-            phase,
-        );
+        let boot = Boot {
+            alloc: self.alloc,
+            machine: self.machine,
+            menu: self.menu,
+            sizes: &self.sizes,
+        };
+        self.phase = begin_first(&boot, memory, phase);
         progress_of(self.machine, self.menu, attempt, &self.phase)
     }
 
@@ -169,21 +170,21 @@ impl<'a, A: Allocator + Copy> Session<'a, A> {
     {
         let attempt = number_of(&self.phase);
         let phase = mem::replace(&mut self.phase, Phase::Unstarted);
-        self.phase = advance(
-            self.alloc,
-            self.machine,
-            self.menu,
-            &self.sizes,
-            memory,
-            phase,
-            event,
-        );
+        let boot = Boot {
+            alloc: self.alloc,
+            machine: self.machine,
+            menu: self.menu,
+            sizes: &self.sizes,
+        };
+        self.phase = advance(&boot, memory, phase, event);
         progress_of(self.machine, self.menu, attempt, &self.phase)
     }
 
     /// The end, once there is one.
     pub fn outcome(&self) -> Option<Result<&Outcome<A>, &BootFault<A>>>
-        ensures { told result ≡ end_facts self.now.phase }
+        ensures end { told result ≡ end_facts self.now.phase }
+        ensures inside { IfSome result (λ end. IfOk end (λ outcome.
+            EndsWithin self.now.boot.machine.size outcome.now.handoff)) }
     {
         match &self.phase {
             Phase::HandedOver(outcome) => Some(Ok(outcome)),

@@ -80,7 +80,7 @@ impl<A: Allocator> Stage<A> {
     }
 
     /// The size in bytes of a file.
-    pub(crate) fn size_of(&self, file: usize) -> u64
+    pub fn size_of(&self, file: usize) -> u64
         requires { file < length self.now.sizes }
         ensures { result ≡ slice_index self.now.sizes file }
     {

@@ -9,8 +9,8 @@ use Rattle.bl_session.proofs.advancing.settle.Goals as goal
 
 pub returns-in-Waits-clause-continues : goal.returns-in-Waits-clause-continues
 returns-in-Waits-clause-continues g c =
-    let menu = c.args.menu.now in
-    let facts = boot_facts c.args.machine.now menu c.args.sizes.now in
+    let menu = c.args.boot.now.menu.now in
+    let facts = boot_facts c.args.boot.now.machine.now menu c.args.boot.now.sizes.now in
     let rest = drop c.args.waiting.next menu.attempts in
     let files = spots (g.M.PhysMem.bytes c.args.memory.now) c.args.waiting.stage in
     let bytes = g.M.PhysMem.bytes c.go_on.new.memory in
@@ -21,8 +21,8 @@ returns-in-Waits-clause-continues g c =
 
 pub returns-in-HandedOver-clause-continues : goal.returns-in-HandedOver-clause-continues
 returns-in-HandedOver-clause-continues g c =
-    let menu = c.args.menu.now in
-    let facts = boot_facts c.args.machine.now menu c.args.sizes.now in
+    let menu = c.args.boot.now.menu.now in
+    let facts = boot_facts c.args.boot.now.machine.now menu c.args.boot.now.sizes.now in
     let rest = drop c.args.waiting.next menu.attempts in
     let files = spots (g.M.PhysMem.bytes c.args.memory.now) c.args.waiting.stage in
     let bytes = g.M.PhysMem.bytes c.go_on.new.memory in
@@ -33,8 +33,8 @@ returns-in-HandedOver-clause-continues g c =
 
 pub returns-in-Refused-clause-continues : goal.returns-in-Refused-clause-continues
 returns-in-Refused-clause-continues g c =
-    let menu = c.args.menu.now in
-    let facts = boot_facts c.args.machine.now menu c.args.sizes.now in
+    let menu = c.args.boot.now.menu.now in
+    let facts = boot_facts c.args.boot.now.machine.now menu c.args.boot.now.sizes.now in
     let rest = drop c.args.waiting.next menu.attempts in
     let files = spots (g.M.PhysMem.bytes c.args.memory.now) c.args.waiting.stage in
     let bytes = g.M.PhysMem.bytes c.go_on.new.memory in
@@ -48,5 +48,5 @@ returns-in-Refused-clause-memory g c =
     let old = g.M.PhysMem.bytes c.args.memory.now in
     let mid = g.M.PhysMem.bytes c.go_on.new.memory in
     let new = g.M.PhysMem.bytes c.refuse.new.memory in
-    memory_later c.args.machine.now.pool old mid new c.refuse.result (λ phase. state_of c.args.menu.now.attempts new phase)
+    memory_later c.args.boot.now.machine.now.pool old mid new c.refuse.result (λ phase. state_of c.args.boot.now.menu.now.attempts new phase)
     (search rules) c.refuse.ensures.memory

@@ -3,21 +3,21 @@ use Rattle.bl_stage.specs.Spots.{spots}
 use Rattle.bl_session.specs.Boot.{fault, is_wanted}
 use Rattle.bl_session.specs.Phases.{boot_facts, state_of}
 use Rattle.bl_session.proofs.StepLemmas.{steps_fault, lacks_fault, memory_taken, same_itself}
-use Rattle.bl_session.proofs.stepping.take_fault.Goals as goal
+use Rattle.bl_session.proofs.taking.take_fault.Goals as goal
 
 pub returns-clause-step : goal.returns-clause-step
 returns-clause-step g c =
-    let menu = c.args.menu.now in
+    let menu = c.args.boot.now.menu.now in
     let w = c.args.waiting in
     let old = g.M.PhysMem.bytes c.args.memory.now in
     let new = g.M.PhysMem.bytes c.refuse.new.memory in
     let wanted = sym (c.awaits_fault.ensures old) ∙ c.if-not-awaits_fault.false in
-    steps_fault (boot_facts c.args.machine.now menu c.args.sizes.now) w.entry (drop w.next menu.attempts) w.earlier.items (spots old w.stage) c.args.ticket c.refuse.result (λ phase. state_of menu.attempts new phase)
+    steps_fault (boot_facts c.args.boot.now.machine.now menu c.args.boot.now.sizes.now) w.entry (drop w.next menu.attempts) w.earlier.items (spots old w.stage) c.args.ticket c.refuse.result (λ phase. state_of menu.attempts new phase)
     wanted c.refuse.ensures.begun
 
 pub returns-clause-lacking : goal.returns-clause-lacking
 returns-clause-lacking g c =
-    let menu = c.args.menu.now in
+    let menu = c.args.boot.now.menu.now in
     let w = c.args.waiting in
     let old = g.M.PhysMem.bytes c.args.memory.now in
     let wanted = sym (c.awaits_fault.ensures old) ∙ c.if-not-awaits_fault.false in
@@ -25,10 +25,10 @@ returns-clause-lacking g c =
 
 pub returns-clause-memory : goal.returns-clause-memory
 returns-clause-memory g c =
-    let menu = c.args.menu.now in
+    let menu = c.args.boot.now.menu.now in
     let w = c.args.waiting in
     let old = g.M.PhysMem.bytes c.args.memory.now in
     let new = g.M.PhysMem.bytes c.refuse.new.memory in
     let wanted = sym (c.awaits_fault.ensures old) ∙ c.if-not-awaits_fault.false in
-    memory_taken c.args.machine.now.pool (is_wanted w.earlier.items (spots old w.stage) (fault c.args.ticket)) old old new c.refuse.result (λ phase. state_of menu.attempts new phase)
-    wanted (same_itself c.args.machine.now.pool old) c.refuse.ensures.memory
+    memory_taken c.args.boot.now.machine.now.pool (is_wanted w.earlier.items (spots old w.stage) (fault c.args.ticket)) old old new c.refuse.result (λ phase. state_of menu.attempts new phase)
+    wanted (same_itself c.args.boot.now.machine.now.pool old) c.refuse.ensures.memory

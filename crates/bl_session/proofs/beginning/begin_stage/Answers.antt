@@ -1,0 +1,10 @@
+use Rattle.std.proofs.Common.{None, map, slice_index_or, ap, ◌∙◌}
+use Rattle.bl_stage.specs.Staged.{Staging}
+use Rattle.bl_session.proofs.SizeLemmas.{stage_small}
+use Rattle.bl_session.proofs.beginning.begin_stage.Goals as goal
+
+pub returns-in-Ok-clause-small : goal.returns-in-Ok-clause-small
+returns-in-Ok-clause-small g c =
+    let known = map (λ file. slice_index_or c.args.sizes.now file None) c.deref.result.now in
+    let told = c.in_ok-lengths.ensures.ok in
+    stage_small known c.in-Ok.stage told.0 (ap (λ (s : Staging). s.sizes) c.in-Ok.ensures.ok.1 ∙ c.deref-2.ensures.value ∙ told.1)

@@ -1,0 +1,11 @@
+use Rattle.std.proofs.Common.{[], sym, ◌∙◌}
+use Rattle.bl_stage.specs.Spots.{spots}
+use Rattle.bl_session.proofs.SpotLemmas.{whole_came}
+use Rattle.bl_session.proofs.MissingLemmas.{none_missing}
+use Rattle.bl_session.proofs.missing.missing_piece.Goals as goal
+
+pub unreachable-requires : goal.unreachable-requires
+unreachable-requires g c =
+    let stage = c.args.stage.now in
+    let none = sym (c.first_missing.ensures []) ∙ c.in-None.is in
+    c.requires.lacks.lacks (whole_came [] stage c.complete.ensures.staged (none_missing c.args.attempt 0 (spots [] stage) none))

@@ -1,0 +1,112 @@
+-- What the stores here keep, and what they answer. Own.
+use Rattle.std.specs.Prelude.{ℕ, ◌+◌, ◌-◌, ◌*◌, ◌==◌, ◌&&◌, nat_lt, Bool, true, false, if◌then◌else◌, List, [], ◌∷◌, ◌++◌, length, map, take, drop, slice_get, slice_index_or, Option, None, Some, option_map}
+use Rattle.bl_stage.specs.Spots.{piece_of}
+use Rattle.bl_session.specs.declared.words.Ticket.{Ticket}
+use Rattle.bl_session.specs.declared.completion.Completion.{Completion}
+use Rattle.bl_session.specs.declared.completion.Completion.TheVariants.{Piece, Fault}
+use Rattle.bl_session.specs.declared.stored_file.StoredFile.{StoredFile}
+use Rattle.bl_session.specs.declared.stored_file.StoredFile.TheVariants.{Missing, TooLong, Whole}
+use Rattle.bl_session.specs.declared.request.Request.{Request}
+use Rattle.bl_session.specs.declared.queue.Order.{Order}
+use Rattle.bl_session.specs.declared.queue.Order.TheVariants.{Forward, Reverse}
+use Rattle.bl_session.specs.Ends.{most_bytes}
+use Rattle.bl_session.specs.Boot.{EventFacts, piece, fault}
+use Rattle.bl_session.specs.Outcome.{File, missing, too_long, whole, text_of}
+use Rattle.bl_session.specs.History.{Item, submitted, came, failed, nothing, file_under}
+
+-- ---- files
+
+abbrev pub file_of : {A : Type 0} → StoredFile A → File
+file_of Missing = missing
+file_of (TooLong size) = too_long (size - (most_bytes + 1))
+file_of (Whole bytes) = whole bytes
+
+abbrev pub stored_files : {A : Type 0} → List (StoredFile A) → List File
+stored_files files = map file_of files
+
+-- ---- answers
+
+-- an answer, as the event that it is
+abbrev pub event_of : {A : Type 0} → Completion A → EventFacts
+event_of (Piece ticket bytes) = piece ticket bytes.items
+event_of (Fault ticket) = fault ticket
+
+-- to a request for a file of this text: the piece, or a fault, if the text has no such piece
+abbrev pub answer_of : List ℕ → Ticket → EventFacts
+answer_of text ticket =
+    if nat_lt (4096 * ticket.piece) (length text)
+    then piece ticket (piece_of text ticket.piece)
+    else fault ticket
+
+abbrev pub answer_to : List File → Request → EventFacts
+answer_to files request =
+    answer_of (text_of (slice_index_or files request.file missing)) request.ticket
+
+-- ---- a history, one answer longer
+
+abbrev pub are_equal : List ℕ → List ℕ → Bool
+are_equal [] [] = true
+are_equal [] (y ∷ ys) = false
+are_equal (x ∷ xs) [] = false
+are_equal (x ∷ xs) (y ∷ ys) = (x == y) && are_equal xs ys
+
+-- whether the bytes are those of a file at the place of a piece
+abbrev pub is_piece_of : List File → Option ℕ → ℕ → List ℕ → Bool
+is_piece_of files None index bytes = false
+is_piece_of files (Some file) index bytes =
+    are_equal bytes (piece_of (text_of (slice_index_or files file missing)) index)
+
+abbrev pub item_of_event : List File → List Item → EventFacts → Item
+item_of_event files given (piece ticket bytes) =
+    came ticket (length bytes) (is_piece_of files (file_under given ticket) ticket.piece bytes)
+item_of_event files given (fault ticket) = failed ticket
+
+-- what an answer adds to the history so far
+abbrev pub item_of_told : List File → List Item → Option EventFacts → Item
+item_of_told files given None = nothing
+item_of_told files given (Some event) = item_of_event files given event
+
+abbrev pub item_of : {A : Type 0} → List File → List Item → Option (Completion A) → Item
+item_of files given answer = item_of_told files given (option_map event_of answer)
+
+-- ---- a store over files that were fetched
+
+-- which request is answered next, of those that are still to be answered: the first, or the last
+abbrev pub next_place : Order → List Request → ℕ
+next_place Forward pending = 0
+next_place Reverse pending = length pending - 1
+
+-- the list without what stands at a place
+abbrev pub without : {T : Type 0} → List T → ℕ → List T
+without list place = take place list ++ drop (place + 1) list
+
+-- a `FileStore`: its files, the order of its answers, the requests that are still to be answered,
+-- and its history
+pub record FileStoreFacts : Type 0 where
+  pub files : List File
+  pub order : Order
+  pub pending : List Request
+  pub given : List Item
+
+-- the answer that is next
+abbrev pub next_event : FileStoreFacts → Option EventFacts
+next_event store =
+    option_map (answer_to store.files)
+    (slice_get store.pending (next_place store.order store.pending))
+
+-- after a request it is the last that is to be answered; after an answer its request is left out
+abbrev pub after_request : FileStoreFacts → Request → FileStoreFacts
+after_request store request = record {
+  files = store.files;
+  order = store.order;
+  pending = store.pending ++ request ∷ [];
+  given = store.given ++ submitted request.file request.ticket ∷ [];
+}
+
+abbrev pub after_answer : FileStoreFacts → Option EventFacts → FileStoreFacts
+after_answer store told = record {
+  files = store.files;
+  order = store.order;
+  pending = without store.pending (next_place store.order store.pending);
+  given = store.given ++ item_of_told store.files store.given told ∷ [];
+}

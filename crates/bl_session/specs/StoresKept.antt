@@ -1,0 +1,29 @@
+-- What a `FileStore` keeps of the requests that are still to be answered, and of its history.
+use Rattle.std.specs.Prelude.{◌≡◌, ℕ, ◌+◌, ◌≤◌, List, [], ◌∷◌, Some, if◌then◌else◌}
+use Rattle.bl_session.specs.declared.words.Ticket.{Ticket}
+use Rattle.bl_session.specs.declared.request.Request.{Request}
+use Rattle.bl_session.specs.Outcome.{File}
+use Rattle.bl_session.specs.History.{Item, is_same, file_under}
+use Rattle.bl_session.specs.Faithful.{IsFaithful, asked, answered}
+
+-- how many of these requests have a ticket
+abbrev pub count_of : List Request → Ticket → ℕ
+count_of [] ticket = 0
+count_of (request ∷ requests) ticket =
+    (if is_same request.ticket ticket then 1 else 0) + count_of requests ticket
+
+-- it was asked for; if its ticket was asked for once, under that ticket
+abbrev pub WasAsked : List Item → Request → Type 0
+WasAsked given request =
+    (1 ≤ asked given request.ticket)
+    × (asked given request.ticket ≡ 1 → file_under given request.ticket ≡ Some request.file)
+
+abbrev pub AreAskedFor : List Item → List Request → Type 0
+AreAskedFor given [] = Unit {0}
+AreAskedFor given (request ∷ requests) = WasAsked given request × AreAskedFor given requests
+
+pub record AreKept (files : List File) (pending : List Request) (given : List Item) : Type 0 where
+  pub faithful : IsFaithful files given
+  pub counts :
+      (ticket : Ticket) → answered given ticket + count_of pending ticket ≡ asked given ticket
+  pub asked_for : AreAskedFor given pending

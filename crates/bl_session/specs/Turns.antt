@@ -1,0 +1,44 @@
+-- Parts of a run: what a history gained leads from one world to another. Own.
+use Rattle.std.specs.Prelude.{◌≡◌, ℕ, ◌+◌, List, [], ◌∷◌, ◌++◌, length, Option, None}
+use Rattle.bl_session.specs.declared.words.Ticket.{Ticket}
+use Rattle.bl_session.specs.Boot.{BootFacts, State, unstarted, running, handed_over, none_left, out_of_memory}
+use Rattle.bl_session.specs.Outcome.{File}
+use Rattle.bl_session.specs.History.{Item}
+use Rattle.bl_session.specs.Orders.{first_ticket}
+use Rattle.bl_session.specs.Run.{World, Hears}
+
+-- of these orders, in order, all but the rest were asked for
+pub record IsAsked (orders rest old new : List Item) : Type 0 where
+  pub asked : List Item
+  pub all : orders ≡ asked ++ rest
+  pub given : new ≡ old ++ asked
+
+-- these items, after this history, lead from one world to another
+abbrev pub LeadsOn :
+    BootFacts → List File → List Item → World → List Item → World → Type 0
+LeadsOn facts files given old [] new = new ≡ old
+LeadsOn facts files given old (item ∷ items) new =
+    (next : World) × Hears facts files given old.state old.owed item next
+    × LeadsOn facts files (given ++ item ∷ []) next items new
+
+-- a history that grew so leads from one world to another
+pub record IsHeard (facts : BootFacts) (files : List File) (old new : List Item) (start end : World) : Type 0 where
+  pub gained : List Item
+  pub given : new ≡ old ++ gained
+  pub leads : LeadsOn facts files old start gained end
+
+-- how many attempts are left, with the one that runs
+abbrev pub attempts_in : State → ℕ
+attempts_in unstarted = 0
+attempts_in (running entry rest earlier files) = length rest + 1
+attempts_in (handed_over entry earlier handover) = 0
+attempts_in (none_left earlier) = 0
+attempts_in out_of_memory = 0
+
+-- the ticket of the first piece that the attempt awaits
+abbrev pub missing_in : State → Option Ticket
+missing_in unstarted = None
+missing_in (running entry rest earlier files) = first_ticket (length earlier) 0 files
+missing_in (handed_over entry earlier handover) = None
+missing_in (none_left earlier) = None
+missing_in out_of_memory = None

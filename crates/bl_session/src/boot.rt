@@ -1,0 +1,13 @@
+//! What the calls of one boot share.
+use crate::menu::Menu;
+use bl_map::Machine;
+use std::alloc::Allocator;
+
+/// A boot: its machine, its menu, the sizes of the menu's files, and where its lists are allocated.
+#[derive(Clone, Copy)]
+pub struct Boot<'a, A: Allocator + Copy> {
+    pub alloc: A,
+    pub machine: &'a Machine<A>,
+    pub menu: &'a Menu<A>,
+    pub sizes: &'a [Option<u64>],
+}

@@ -1,0 +1,71 @@
+//! What a script store is still to answer.
+ghost use Rattle.std.specs.Prelude.{◌≡◌, ◌++◌, ℕ, List, map, IfOk, OnOk, OnErr};
+ghost use Rattle.std.specs.Int.Bits.{bit_xor};
+ghost use Rattle.bl_session.specs.Stores.{stored_files, event_of};
+ghost use Rattle.bl_session.specs.Scripts.{altered, event_by, replies_to};
+
+use crate::completion::Completion;
+use crate::request::{Request, answer};
+use crate::stored_file::StoredFile;
+use crate::words::Ticket;
+use std::alloc::{AllocError, Allocator};
+
+/// What comes of a request: its answer, the same with each byte altered, or a fault.
+#[derive(Clone, Copy)]
+pub(crate) enum Reply {
+    Answer(Request),
+    Altered(Request),
+    Fault(Ticket),
+}
+
+/// Each byte exclusive-or 0xFF.
+fn alter<A: Allocator>(alloc: A, bytes: &[u8]) -> Result<Vec<u8, A>, AllocError>
+    ensures { IfOk result (λ vec. vec.items ≡ map (λ byte. bit_xor byte 255) bytes.now) }
+{
+    bytes.iter().map(|byte| *byte ^ 0xFF).collect(alloc)
+}
+
+/// What comes, as a completion.
+pub(crate) fn completion_of<A: Allocator + Copy>(
+    alloc: A,
+    files: &[StoredFile<A>],
+    reply: &Reply,
+) -> Result<Completion<A>, AllocError>
+    ensures { IfOk result (λ completion.
+        event_of completion ≡ event_by (stored_files files.now) reply.now) }
+{
+    match reply {
+        Reply::Answer(request) => Ok(answer(alloc, files, request)?),
+        Reply::Altered(request) => match answer(alloc, files, request)? {
+            Completion::Piece(ticket, bytes) => {
+                Ok(Completion::Piece(ticket, alter(alloc, &bytes)?))
+            }
+            Completion::Fault(ticket) => Ok(Completion::Fault(ticket)),
+        },
+        Reply::Fault(ticket) => Ok(Completion::Fault(*ticket)),
+    }
+}
+
+/// Appends what comes of a request: a fault, if its ticket is one of those that fail; the answer
+/// and an altered one, if it is one of those that are answered twice; else the answer.
+pub(crate) fn push_replies<A: Allocator>(
+    replies: &mut Vec<Reply, A>,
+    twice: &[Ticket],
+    fail: &[Ticket],
+    request: Request,
+) -> Result<(), AllocError>
+    ensures ok { OnOk result
+        (replies.new.items ≡ replies.old.items ++ replies_to twice.now fail.now request) }
+    ensures err { OnErr result (replies.new.items ≡ replies.old.items) }
+{
+    if fail.contains(&request.ticket) {
+        replies.push(Reply::Fault(request.ticket))?;
+    } else if twice.contains(&request.ticket) {
+        replies.reserve(2)?;
+        replies.push(Reply::Answer(request))?;
+        replies.push(Reply::Altered(request))?;
+    } else {
+        replies.push(Reply::Answer(request))?;
+    }
+    Ok(())
+}

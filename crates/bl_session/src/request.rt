@@ -1,0 +1,31 @@
+//! What a store was asked for, and the answer to it.
+ghost use Rattle.std.specs.Prelude.{◌≡◌, ℕ, List, IfOk};
+ghost use Rattle.bl_session.specs.Stores.{stored_files, answer_to, event_of};
+
+use crate::completion::Completion;
+use crate::stored_file::{StoredFile, piece_in};
+use crate::words::Ticket;
+use std::alloc::{AllocError, Allocator};
+
+/// A file of the menu, by its index, was asked for under a ticket.
+#[derive(Clone, Copy)]
+pub(crate) struct Request {
+    pub file: u32,
+    pub ticket: Ticket,
+}
+
+/// The answer to a request: a copy of the piece, or a fault, if there is no such file or piece.
+pub(crate) fn answer<A: Allocator + Copy>(
+    alloc: A,
+    files: &[StoredFile<A>],
+    request: &Request,
+) -> Result<Completion<A>, AllocError>
+    ensures { IfOk result (λ completion.
+        event_of completion ≡ answer_to (stored_files files.now) request.now) }
+{
+    let Request { file, ticket } = *request;
+    match piece_in(files, file, ticket.piece) {
+        Some(piece) => Ok(Completion::Piece(ticket, Vec::from_slice(alloc, piece)?)),
+        None => Ok(Completion::Fault(ticket)),
+    }
+}
