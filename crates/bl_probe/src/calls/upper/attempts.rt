@@ -1,10 +1,11 @@
-//! The calls on menus and boots: `menu FIELD ..`, `run FIELD ..`, `session FIELD .. do STEP; ..`,
-//! `schedules upto=N FIELD .. do STEP; ..`, `words WORD,.. FIELD .. do STEP; ..`.
+//! The calls on menus and boots: `menu MENU ..`, `run MENU ..`, `session MENU .. do STEP; ..`,
+//! `schedules upto=N MENU .. do LETTER; ..`, `words WORD,.. MENU .. do LETTER; ..`.
 
 mod boot_fields;
 mod building;
 mod end;
 mod entry_field;
+mod laws;
 mod letter;
 mod menu;
 mod rig;
@@ -17,6 +18,7 @@ mod word;
 use crate::fault::RowFault;
 use crate::session::Session;
 use bl_refusing::Refusing;
+pub use laws::call_laws;
 use std::alloc::Global;
 
 /// Makes a call over the heap, once.

@@ -1,5 +1,6 @@
 //! The laws of the definitions, which are functions that do nothing.
 
+use crate::calls::upper::attempts;
 use bl_boot::{MemFiles, two_boots};
 use bl_image::image_tells_all;
 use bl_load::{handovers_are_determined, handovers_are_legal, parts_are_apart_and_usable};
@@ -14,5 +15,6 @@ pub fn call_laws() {
     handovers_are_legal();
     parts_are_apart_and_usable();
     image_tells_all();
+    attempts::call_laws();
     two_boots::<MemFiles<Global>, MemFiles<Global>>();
 }

@@ -1,7 +1,7 @@
-//! What a row says of a boot: its fields.
+//! What a row says of a boot: a menu, its files, and how they come.
 //!
-//! `file=BYTES`, `file=missing`, `file=long`: the files, by their index. `entry=ENTRY`: the entries,
-//! or `entry=ENTRY*COUNT`: one so often; `modules=N`: N more modules of the last one.
+//! `file=BYTES`, `file=missing`, `file=long`: the files, by their index. `entry=ENTRY`: the entries;
+//! `entry=ENTRY*COUNT`: one so often; `modules=N`: N more modules of the last one.
 //! `default=N`, `fallback=N,N`. `store=forward`, `store=reverse` or `store=script`, and then
 //! `twice=A.F.P,..`, `fail=A.F.P,..`, `picks=N,N,..`.
 
@@ -99,12 +99,7 @@ impl BootFields {
     }
 
     /// Takes an entry so often.
-    fn add_entry(
-        &mut self,
-        alloc: Global,
-        names: &Names,
-        text: &str,
-    ) -> Result<(), RowFault> {
+    fn add_entry(&mut self, alloc: Global, names: &Names, text: &str) -> Result<(), RowFault> {
         let (entry, count) = match text.split_once('*') {
             Some((entry, count)) => (entry, number(count)?),
             None => (text, 1),

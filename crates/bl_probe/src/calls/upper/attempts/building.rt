@@ -17,10 +17,7 @@ impl BootFields {
     }
 
     /// The menu, over a heap that refuses nothing. A row whose menu is refused can't be read.
-    pub fn menu_beside<'h>(
-        &self,
-        beside: &'h Refusing,
-    ) -> Result<Menu<&'h Refusing>, RowFault> {
+    pub fn menu_beside<'h>(&self, beside: &'h Refusing) -> Result<Menu<&'h Refusing>, RowFault> {
         match self.menu_over(beside) {
             Ok(menu) => Ok(menu),
             Err(MenuFault::NoMemory) => Err(RowFault::NoMemory),

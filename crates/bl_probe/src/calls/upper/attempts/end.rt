@@ -147,8 +147,16 @@ pub fn outside_word<M: PhysMem>(
         return Ok("outside not looked at");
     }
     // an empty pool may lie anywhere
-    let start = if pool.start < pool.end { pool.start } else { size };
-    let end = if pool.start < pool.end { pool.end } else { size };
+    let start = if pool.start < pool.end {
+        pool.start
+    } else {
+        size
+    };
+    let end = if pool.start < pool.end {
+        pool.end
+    } else {
+        size
+    };
     let below = is_but_in(alloc, memory, parts, 0..start, FILL)?;
     let above = is_but_in(alloc, memory, parts, end..size, FILL)?;
     if below && above {

@@ -101,10 +101,7 @@ impl EntryField {
     }
 
     /// The entry, over a heap.
-    pub fn entry_over<'h>(
-        &self,
-        heap: &'h Refusing,
-    ) -> Result<Entry<&'h Refusing>, AllocError> {
+    pub fn entry_over<'h>(&self, heap: &'h Refusing) -> Result<Entry<&'h Refusing>, AllocError> {
         let kernel = self.kernel;
         let line = Bytes::copy(heap, self.line.as_slice())?;
         match self.protocol {

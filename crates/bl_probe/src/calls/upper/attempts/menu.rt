@@ -1,4 +1,4 @@
-//! `menu FIELD ..`: the order of its attempts and how many files it names, or its fault.
+//! `menu MENU ..`: the order of its attempts and how many files it names, or its fault.
 
 use crate::calls::upper::attempts::boot_fields::read_fields;
 use crate::fault::RowFault;

@@ -1,4 +1,4 @@
-//! `run FIELD ..`: a whole boot over a store, on the last machine.
+//! `run MENU ..`: a whole boot over a store, on the last machine.
 
 use crate::calls::upper::attempts::boot_fields::{BootFields, FileField, StoreField, read_fields};
 use crate::calls::upper::attempts::end::{FILL, fault_text, outcome_text, outside_word};

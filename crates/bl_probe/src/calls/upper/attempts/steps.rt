@@ -1,4 +1,4 @@
-//! `session FIELD .. do STEP; STEP ..`: a session that is told one letter after the other.
+//! `session MENU .. do STEP; STEP ..`: a session that is told one letter after the other.
 //!
 //! A step is a letter, `outcome`, `outside` (whether memory outside the pool and the parts is as it
 //! was), or a step of memory.
