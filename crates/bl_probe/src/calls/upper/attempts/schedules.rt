@@ -1,5 +1,5 @@
 //! `schedules upto=N MENU .. do LETTER; LETTER ..`: a session for each word of at most N of these
-//! letters, and a sum of all that they come to. `words WORD,WORD MENU .. do LETTER; LETTER ..`: the sessions
+//! letters, and a sum of all that they come to. `words WORD,WORD MENU .. do LETTER; ..`: the sessions
 //! of these words, whose letters are `a`, `b`, .. `z`, `A`, .. in the order of the steps.
 
 use crate::calls::upper::attempts::boot_fields::read_fields;
