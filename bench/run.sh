@@ -8,6 +8,8 @@
 #   kernel    a Multiboot2 kernel of 60 MiB
 #   modules   a small Multiboot2 kernel with 64 modules of 4 MiB
 #   linux     a Linux kernel of 10 MiB with an initial ramdisk of 200 MiB and a byte
+#   moved     the kernel of 60 MiB, where the pool begins with the kernel's own addresses: each of its frames is moved before
+#             it is loaded. The plain programs move nothing
 #
 # The program under test is the argument, else the variable BOOTCORE, else crates/bootcore/out/bootcore; where it
 # does not stand its row is left out. Needs bash 5, coreutils and awk; the plain programs need rustc, without which
@@ -19,6 +21,7 @@
 #   plain, straight   a boot in plain Rust that loads the files from where they were read (plain.rs)
 #   plain, pool       the same, by way of a pool of frames
 #   bootcore          the program under test
+#   bootcore, reverse the same, with the pieces of the files in reverse order
 #
 # The programs take turns, so that what else the machine does meets each of them; the best of all rounds counts. There
 # are two tables for each entry: with fill 0 Rust takes pages that are zero already and touches none of them, with another
@@ -35,7 +38,7 @@ initrd_bytes=$(((200 << 20) + 1))
 bootcore=$(realpath -m "${1:-${BOOTCORE:-$here/../crates/bootcore/out/bootcore}}")
 entries=("${@:2}")
 if [ "$#" -lt 2 ]; then
-    entries=(kernel modules linux)
+    entries=(kernel modules linux moved)
 fi
 cd "$work"
 
@@ -50,6 +53,11 @@ make_kernel() {
     protocol=multiboot2 size=0x10000000 pool_start=0x8000000 pool_end=0xF000000
     "$here/make_kernel.sh" kernel.elf 1 $((60 << 20))
     files=(kernel.elf)
+}
+
+make_moved() {
+    make_kernel
+    pool_start=0x200000 pool_end=0x8000000
 }
 
 make_modules() {
@@ -123,6 +131,10 @@ set_row() {
             command=(./plain "$row" "$protocol" "out.$row" bench "${files[@]}" -- "${machine[@]}")
             ;;
         bootcore) command=("$bootcore" boot "$fill.toml" --out out.bootcore) ;;
+        reverse)
+            name='bootcore, reverse'
+            command=("$bootcore" boot "$fill.toml" --out out.reverse --order reverse)
+            ;;
     esac
 }
 
@@ -149,7 +161,7 @@ run_round() {
         if [ "$micros" -lt "${best[$row]:-999999999}" ]; then
             best[$row]=$micros
         fi
-        if [ "$row" = bootcore ]; then
+        if [ "$row" = bootcore ] || [ "$row" = reverse ]; then
             [ "$(cat said)" = 'booted 0 bench' ] || fail "bootcore said: $(cat said)"
         fi
         # a copy is compared with nothing, and takes room on the disk
@@ -159,7 +171,7 @@ run_round() {
 
 compare_images() {
     local row
-    for row in straight bootcore; do
+    for row in straight bootcore reverse; do
         if [ -e "out.$row" ] && [ -e out.pool ]; then
             cmp "out.$row" out.pool || fail "the images of $row and pool differ"
         fi
@@ -168,7 +180,7 @@ compare_images() {
 
 print_rows() {
     local row seconds mib times
-    printf '\n%-16s %8s %9s   %s\n' "fill $1" seconds 'peak MiB' 'bootcore / this'
+    printf '\n%-17s %8s %9s   %s\n' "fill $1" seconds 'peak MiB' 'bootcore / this'
     for row in "${rows[@]}"; do
         set_row "$row" "$1"
         seconds=$(awk -v a="${best[$row]}" 'BEGIN { printf "%.3f", a / 1e6 }')
@@ -179,7 +191,7 @@ print_rows() {
         if [ -n "${best[bootcore]:-}" ]; then
             times=$(ratio "${best[bootcore]}" "${best[$row]}")
         fi
-        printf '%-16s %8s %9s   %s\n' "$name" "$seconds" "$mib" "$times"
+        printf '%-17s %8s %9s   %s\n' "$name" "$seconds" "$mib" "$times"
     done
 }
 
@@ -200,7 +212,7 @@ print_goals() {
         fi
     done
     if [ "${peak[bootcore]}" != - ]; then
-        print_goal $((peak[bootcore] >> 10)) $(((3 * input + size) >> 20)) 'MiB, three times the files and the machine'
+        print_goal $((peak[bootcore] >> 10)) $((3 * input >> 20)) 'MiB, three times the files'
     fi
 }
 
@@ -237,7 +249,7 @@ else
     echo 'no rustc: the plain programs are left out'
 fi
 if [ -x "$bootcore" ]; then
-    rows+=(bootcore)
+    rows+=(bootcore reverse)
 else
     echo 'no bootcore: its row is left out'
 fi

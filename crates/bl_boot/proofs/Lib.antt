@@ -1,4 +1,3 @@
 pub mod HexLemmas
 pub mod FileLemmas
-pub mod EndLemmas
-pub mod EndLaws
+pub mod NameLemmas

@@ -59,11 +59,15 @@ names_once earlier (name ∷ names) =
     then names_once earlier names
     else name ∷ names_once (earlier ++ name ∷ []) names
 
--- the names that are looked for: those of the files of each entry that is attempted, in order, one
--- that was named before left out
+-- the names of the files of these entries, by their index, in order, one that was named before left
+-- out
+abbrev pub names_of_entries : Described → List ℕ → List (List ℕ)
+names_of_entries description indices =
+    names_once [] (flat_map (λ index. file_names (entry_of description index)) indices)
+
+-- the names that are looked for: those of the entries that are attempted
 abbrev pub names_in : Described → List (List ℕ)
-names_in description =
-    names_once [] (flat_map (λ index. file_names (entry_of description index)) (attempted description))
+names_in description = names_of_entries description (attempted description)
 
 -- the index of a file: the place of its name among these, or how many they are if it is not there
 abbrev pub index_of : List (List ℕ) → List ℕ → ℕ

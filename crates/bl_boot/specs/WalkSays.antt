@@ -1,10 +1,10 @@
 -- The lines that tell what a kernel sees in an image. Own.
-use Rattle.std.specs.Prelude.{ℕ, ◌+◌, ◌-◌, ◌^◌, ◌==◌, min, if◌then◌else◌, false, List, [], ◌++◌, Option, Some, None, length, replicate, codes, decimal}
+use Rattle.std.specs.Prelude.{ℕ, ◌-◌, ◌==◌, if◌then◌else◌, false, List, [], ◌++◌, Option, Some, None, length, replicate, codes, decimal}
 use Rattle.std.specs.Fmt.{digits}
 use Rattle.std.specs.List.{flat_map}
 use Rattle.hex.specs.Hex.{encode_lower}
 use Rattle.bl_map.specs.declared.region.Region.{Region}
-use Rattle.bl_map.specs.Kinds.{kind_number}
+use Rattle.bl_map.specs.Kinds.{kind_number, end_of}
 use Rattle.bl_plan.specs.declared.protocol.Protocol.{Protocol}
 use Rattle.bl_plan.specs.declared.protocol.Protocol.TheVariants.{Multiboot2, Linux}
 use Rattle.bl_walk.specs.SeenFacts.{SeenModuleFacts, SeenFileFacts, SeenFacts}
@@ -55,10 +55,6 @@ abbrev pub initrd_line : Option SeenFileFacts → List ℕ
 initrd_line None = []
 initrd_line (Some file) = file_line file
 
--- the end of a run; none that is read lies above 2^52
-abbrev pub run_end : Region → ℕ
-run_end run = min (run.base + run.length) (2 ^ 64 - 1)
-
 -- a run of the memory map: its start, its end, its kind's number
 abbrev pub run_start : ℕ → List ℕ
 run_start start = codes "map " ++ hex16 start ++ codes " "
@@ -68,7 +64,7 @@ run_kind kind = codes " " ++ decimal kind ++ codes "\n"
 
 abbrev pub seen_run_line : Region → List ℕ
 seen_run_line run =
-    run_start run.base ++ hex16 (run_end run) ++ run_kind (kind_number run.kind)
+    run_start run.base ++ hex16 (end_of run) ++ run_kind (kind_number run.kind)
 
 -- the lines of what a kernel sees, in order
 abbrev pub walk_lines : SeenFacts → List ℕ

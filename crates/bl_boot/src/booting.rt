@@ -6,8 +6,8 @@ mod handing;
 mod machine;
 mod menu;
 mod names;
-mod running;
+// mod running;
 
 pub use fault::{End, EndFault};
 pub use machine::machine_of;
-pub use running::boot;
+// pub use running::boot;

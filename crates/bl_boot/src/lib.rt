@@ -3,13 +3,13 @@
 
 mod booting;
 mod fetching;
-mod laws;
+// mod laws;
 mod mapping;
 mod saying;
 mod walking;
 
-pub use booting::boot;
+// pub use booting::boot;
 pub use fetching::{FILE_LIMIT, Fetched, Files, MemFiles};
-pub use laws::two_boots;
+// pub use laws::two_boots;
 pub use mapping::map_to;
 pub use walking::walk_to;

@@ -175,7 +175,7 @@ entry_in ms = at_key protocol_of (codes "protocol") ms >>= entry_by ms
 abbrev pub most_entries : ℕ
 most_entries = 32
 
--- and at least one
+-- 1 to that many entries
 abbrev pub is_menu : List Entry → Bool
 is_menu entries = nat_le 1 (length entries) && nat_le (length entries) most_entries
 

@@ -24,7 +24,7 @@ pub fn default_at<A: Allocator>(table: &Table, entries: &[EntryRow<A>]) -> Resul
 {
     let count = count_of(entries);
     match at_key(table, "default") {
-        Some(value) => index_of(value, count).ok_or(DescFault::BadDescription),
+        Some(value) => index_of(value, count),
         None => Ok(0),
     }
 }
@@ -36,7 +36,7 @@ fn indices_in<A: Allocator>(alloc: A, items: &[Value], count: u32) -> Result<Vec
 {
     let mut indices = Vec::new(alloc);
     for item in items {
-        let index = index_of(item, count).ok_or(DescFault::BadDescription)?;
+        let index = index_of(item, count)?;
         indices.push(index)?;
     }
     Ok(indices)

@@ -1,5 +1,5 @@
 //! Single values of a description.
-ghost use Rattle.std.specs.Prelude.{◌≡◌};
+ghost use Rattle.std.specs.Prelude.{◌≡◌, ◌<◌, IfOk};
 ghost use Rattle.toml.specs.View.{view, items_view};
 ghost use Rattle.bl_desc.specs.Values as spec;
 ghost use Rattle.bl_desc.specs.Kept.{Gives};
@@ -31,12 +31,13 @@ pub fn byte_of(value: &Value) -> Option<u8>
 }
 
 /// The index of one of `count` that a value is.
-pub fn index_of(value: &Value, count: u32) -> Option<u32>
-    ensures { result ≡ spec.index_of count (view value.now) }
+pub fn index_of(value: &Value, count: u32) -> Result<u32, DescFault>
+    ensures given { Gives (λ index. index) result (spec.index_of count (view value.now)) }
+    ensures inside { IfOk result (λ index. index < count) }
 {
     match number_of(value) {
-        Some(n) if n < u64::from(count) => Some(n as u32),
-        _ => None,
+        Some(n) if n < u64::from(count) => Ok(n as u32),
+        _ => Err(DescFault::BadDescription),
     }
 }
 

@@ -2,6 +2,7 @@
 ghost use Rattle.std.specs.Prelude.{◌≡◌, ◌+◌, ◌*◌, ◌<◌, ◌≤◌, ◌^◌, ◌++◌, length, take, All, OnOk};
 ghost use Rattle.std.specs.Prelude.{OnErr};
 ghost use Rattle.std.specs.List.{flat_map};
+ghost use Rattle.bl_load.specs.HandoffFacts.{AreRecords};
 ghost use Rattle.bl_image.specs.Begun.{IsBegun};
 ghost use Rattle.bl_image.specs.Image.{head, place_record, register_numbers};
 ghost use Rattle.bl_image.specs.Spellable.{AreSpellable};
@@ -84,6 +85,7 @@ fn put_front<A: Allocator>(buffer: &mut [u8], handoff: &Handoff<A>) -> usize
         ≡ head handoff.now.protocol handoff.now.registers (length handoff.now.places)
         ++ flat_map place_record handoff.now.places }
     ensures fit { AreSpellable handoff.now.registers handoff.now.places }
+    ensures records { AreRecords handoff.now.places }
 {
     let count = handoff.len();
     let registers = handoff.registers();
@@ -113,6 +115,7 @@ pub(crate) fn write_front<S: Sink, A: Allocator>(
         ++ flat_map place_record handoff.now.places)) }
     ensures fault { OnErr result (S.faults sink.new ≡ S.faults sink.old + 1) }
     ensures fit { AreSpellable handoff.now.registers handoff.now.places }
+    ensures records { AreRecords handoff.now.places }
 {
     let count = put_front(buffer, handoff);
     write_all(sink, &buffer[..count])

@@ -3,7 +3,7 @@ ghost use Rattle.std.specs.Prelude.{◌≡◌, ◌+◌, ◌≤◌, ◌<◌, ◌^
 ghost use Rattle.bl_load.specs.PlanFacts.{handover_in};
 ghost use Rattle.bl_image.specs.Begun.{IsBegun};
 ghost use Rattle.bl_image.specs.Image.{spelling};
-ghost use Rattle.bl_image.specs.Spellable.{IsSpellable};
+ghost use Rattle.bl_image.specs.ImageParts.{IsKept};
 
 use crate::fault::ImageFault;
 use crate::head::write_front;
@@ -37,8 +37,9 @@ pub fn write_image<M: PhysMem, S: Sink, A: Allocator>(
     ensures fault { OnErr result (S.faults sink.new ≡ S.faults sink.old + 1) }
     ensures device { IfErr result (λ fault. fault ≡ ImageFault.DeviceFault) }
 
-    // Whatever is handed over fits, so that its image tells all of it: `image_tells_all`.
-    ensures spellable { IsSpellable (handover_in (M.bytes memory.now)
+    // Whatever is handed over is what images keep, so that its image tells all of it, by
+    // `image_tells_all`, and is read again, by `read_image.accepts`.
+    ensures kept { IsKept (handover_in (M.bytes memory.now)
         handoff.now.protocol handoff.now.registers handoff.now.places) }
 {
     let mut buffer = [0u8; BUFFER];

@@ -2,4 +2,5 @@ pub mod Overwrites
 pub mod ReadLemmas
 pub mod WordLaws
 pub mod LeastLaws
+pub mod ChunkLemmas
 pub mod SparseLemmas

@@ -1,8 +1,7 @@
--- What kept frames read as, before and after one of them is made or written.
+-- What kept chunks read as, before and after one of them is made or written.
 use Rattle.std.proofs.Common.{◌≡◌, ℕ, ◌+◌, ◌-◌, ◌/◌, ◌%◌, ◌<◌, ◌≤◌, List, ◌++◌, length, get_or, take, map, replicate, slice_range, Option, Some, None, is_some, arith, rules, refl, sym, ap, ◌∙◌, inl, inr, false}
 use Rattle.std.specs.List.{range_with_len}
 use Rattle.std.specs.Ordering.{nat_cmp}
-use Rattle.std.specs.declared.boxed.Box.{Box}
 use Rattle.std.specs.BTreeMap.{BTreeMap, get, is_at}
 use Rattle.std.proofs.lemmas.Bool.Decides.{nat_tests}
 use Rattle.std.proofs.lemmas.Bool.{cases_lt, cases_eq}
@@ -23,8 +22,8 @@ pub get_or-values : (f : ℕ → ℕ) (n a : ℕ) → a < n → get_or (values f
 get_or-values f n a h = get_or-map-range_with_len f 0 n a a 0 h (omega arith)
 
 -- memory is as long as its size
-pub bytes_of_length : {X : Type 0} (frames : BTreeMap ℕ (Box (List ℕ) X)) (fill size : ℕ) → length (bytes_of frames fill size) ≡ size
-bytes_of_length frames fill size = length-values (byte_at frames fill) size
+pub bytes_of_length : (chunks : BTreeMap ℕ (List ℕ)) (fill size : ℕ) → length (bytes_of chunks fill size) ≡ size
+bytes_of_length chunks fill size = length-values (byte_at chunks fill) size
 
 -- functions that agree have the same values
 pub same_values : (f g : ℕ → ℕ) (n : ℕ) → ((a : ℕ) → f a ≡ g a) → values f n ≡ values g n
@@ -66,51 +65,51 @@ values_overwritten f g n at part h inside below above =
       ]
     ])
 
-module _ {X : Type 0} (frames : BTreeMap ℕ (Box (List ℕ) X)) (fill size at : ℕ) where
-  -- a byte behind `at` in the same frame, of which it is known whether it is kept
-  byte_found : (found : Option (Box (List ℕ) X)) (k : ℕ) → get nat_cmp frames (at / 4096) ≡ found → at % 4096 + k < 4096 → byte_at frames fill (at + k) ≡ byte_in fill found (at % 4096 + k)
+module _ (chunks : BTreeMap ℕ (List ℕ)) (fill size at : ℕ) where
+  -- a byte behind `at` in the same chunk, of which it is known whether it is kept
+  byte_found : (found : Option (List ℕ)) (k : ℕ) → get nat_cmp chunks (at / 65536) ≡ found → at % 65536 + k < 65536 → byte_at chunks fill (at + k) ≡ byte_in fill found (at % 65536 + k)
   byte_found found k is h =
-      let number : (at + k) / 4096 ≡ at / 4096 = omega arith in
-      let place : (at + k) % 4096 ≡ at % 4096 + k = omega arith in
+      let number : (at + k) / 65536 ≡ at / 65536 = omega arith in
+      let place : (at + k) % 65536 ≡ at % 65536 + k = omega arith in
       rw (number, place, is) refl
 
-  -- bytes of a frame that is kept
-  pub read_kept : (frame : Box (List ℕ) X) (n : ℕ) → get nat_cmp frames (at / 4096) ≡ Some frame → length frame.value ≡ 4096 → at + n ≤ size → at % 4096 + n ≤ 4096
-      → slice_range frame.value (at % 4096) (at % 4096 + n) ≡ slice_range (bytes_of frames fill size) at (at + n)
-  read_kept frame n is whole inside one =
-      let part = slice_range frame.value (at % 4096) (at % 4096 + n) in
+  -- bytes of a chunk that is kept
+  pub read_kept : (chunk : List ℕ) (n : ℕ) → get nat_cmp chunks (at / 65536) ≡ Some chunk → length chunk ≡ 65536 → at + n ≤ size → at % 65536 + n ≤ 65536
+      → slice_range chunk (at % 65536) (at % 65536 + n) ≡ slice_range (bytes_of chunks fill size) at (at + n)
+  read_kept chunk n is whole inside one =
+      let part = slice_range chunk (at % 65536) (at % 65536 + n) in
       let len : length part ≡ n = search (rules, places) in
-      values_range (byte_at frames fill) size at part (omega arith) (λ k h.
-      byte_found (Some frame) k is (omega arith) ∙ get_or_default frame.value (at % 4096 + k) fill 0 (omega arith) ∙ grind (arith, places))
-      ∙ ap (λ m. slice_range (bytes_of frames fill size) at (at + m)) len
+      values_range (byte_at chunks fill) size at part (omega arith) (λ k h.
+      byte_found (Some chunk) k is (omega arith) ∙ get_or_default chunk (at % 65536 + k) fill 0 (omega arith) ∙ grind (arith, places))
+      ∙ ap (λ m. slice_range (bytes_of chunks fill size) at (at + m)) len
 
-  -- bytes of a frame that is not
-  pub read_filled : (n : ℕ) → get nat_cmp frames (at / 4096) ≡ None → at + n ≤ size → at % 4096 + n ≤ 4096 → replicate n fill ≡ slice_range (bytes_of frames fill size) at (at + n)
+  -- bytes of a chunk that is not
+  pub read_filled : (n : ℕ) → get nat_cmp chunks (at / 65536) ≡ None → at + n ≤ size → at % 65536 + n ≤ 65536 → replicate n fill ≡ slice_range (bytes_of chunks fill size) at (at + n)
   read_filled n is inside one =
       let len = length-replicate n fill in
-      values_range (byte_at frames fill) size at (replicate n fill) (omega arith) (λ k h. byte_found None k is (omega arith) ∙ sym (get_or-replicate n k fill 0 (omega arith)))
-      ∙ ap (λ m. slice_range (bytes_of frames fill size) at (at + m)) len
+      values_range (byte_at chunks fill) size at (replicate n fill) (omega arith) (λ k h. byte_found None k is (omega arith) ∙ sym (get_or-replicate n k fill 0 (omega arith)))
+      ∙ ap (λ m. slice_range (bytes_of chunks fill size) at (at + m)) len
 
-  -- memory after bytes of a kept frame were written
-  pub write_kept : (after : BTreeMap ℕ (Box (List ℕ) X)) (frame changed : Box (List ℕ) X) (part : List ℕ) → get nat_cmp frames (at / 4096) ≡ Some frame → length frame.value ≡ 4096
-      → get nat_cmp after (at / 4096) ≡ Some changed → changed.value ≡ overwrite frame.value (at % 4096) part → ((q : ℕ) → (q ≡ at / 4096 → ⊥) → get nat_cmp after q ≡ get nat_cmp frames q)
-      → at + length part ≤ size → at % 4096 + length part ≤ 4096 → bytes_of after fill size ≡ overwrite (bytes_of frames fill size) at part
-  write_kept after frame changed part is whole now wrote others inside one =
-      values_overwritten (byte_at frames fill) (byte_at after fill) size at part inside
+  -- memory after bytes of a kept chunk were written
+  pub write_kept : (after : BTreeMap ℕ (List ℕ)) (chunk changed : List ℕ) (part : List ℕ) → get nat_cmp chunks (at / 65536) ≡ Some chunk → length chunk ≡ 65536
+      → get nat_cmp after (at / 65536) ≡ Some changed → changed ≡ overwrite chunk (at % 65536) part → ((q : ℕ) → (q ≡ at / 65536 → ⊥) → get nat_cmp after q ≡ get nat_cmp chunks q)
+      → at + length part ≤ size → at % 65536 + length part ≤ 65536 → bytes_of after fill size ≡ overwrite (bytes_of chunks fill size) at part
+  write_kept after chunk changed part is whole now wrote others inside one =
+      values_overwritten (byte_at chunks fill) (byte_at after fill) size at part inside
       (λ a low high.
-      let number : a / 4096 ≡ at / 4096 = omega arith in
-      let place : a % 4096 ≡ at % 4096 + (a - at) = omega arith in
-      let back : at % 4096 + (a - at) - at % 4096 ≡ a - at = omega arith in
+      let number : a / 65536 ≡ at / 65536 = omega arith in
+      let place : a % 65536 ≡ at % 65536 + (a - at) = omega arith in
+      let back : at % 65536 + (a - at) - at % 65536 ≡ a - at = omega arith in
       rw (number, place, now, wrote) (
-      get_or-overwrite_in frame.value (at % 4096) part (at % 4096 + (a - at)) fill (omega arith) (omega arith) (omega arith)
+      get_or-overwrite_in chunk (at % 65536) part (at % 65536 + (a - at)) fill (omega arith) (omega arith) (omega arith)
       ∙ ap (λ k. get_or part k fill) back ∙ get_or_default part (a - at) fill 0 (omega arith)))
-      (λ a low. elim (cases_eq (a / 4096) (at / 4096)) [
-        | inl same ↦ rw (same, now, is, wrote) (get_or-overwrite_below frame.value (at % 4096) part (a % 4096) fill (omega arith) (omega arith))
-        | inr other ↦ rw (others (a / 4096) other) refl
+      (λ a low. elim (cases_eq (a / 65536) (at / 65536)) [
+        | inl same ↦ rw (same, now, is, wrote) (get_or-overwrite_below chunk (at % 65536) part (a % 65536) fill (omega arith) (omega arith))
+        | inr other ↦ rw (others (a / 65536) other) refl
       ])
-      (λ a high. elim (cases_eq (a / 4096) (at / 4096)) [
-        | inl same ↦ rw (same, now, is, wrote) (get_or-overwrite_above frame.value (at % 4096) part (a % 4096) fill (omega arith) (omega arith))
-        | inr other ↦ rw (others (a / 4096) other) refl
+      (λ a high. elim (cases_eq (a / 65536) (at / 65536)) [
+        | inl same ↦ rw (same, now, is, wrote) (get_or-overwrite_above chunk (at % 65536) part (a % 65536) fill (omega arith) (omega arith))
+        | inr other ↦ rw (others (a / 65536) other) refl
       ])
 
 -- a number is found under its own key alone
@@ -121,17 +120,17 @@ pub none_of : {X : Type 0} (o : Option X) → is_some o ≡ false → o ≡ None
 none_of None h = refl
 none_of (Some x) h = cc
 
--- memory after a frame was given room
-pub newly_kept : {X : Type 0} (frames after : BTreeMap ℕ (Box (List ℕ) X)) (fill size number : ℕ) (frame : Box (List ℕ) X) → ((k : ℕ) → get_or frame.value k fill ≡ fill)
-    → get nat_cmp frames number ≡ None → get nat_cmp after number ≡ Some frame → ((q : ℕ) → (q ≡ number → ⊥) → get nat_cmp after q ≡ get nat_cmp frames q)
-    → bytes_of after fill size ≡ bytes_of frames fill size
-newly_kept frames after fill size number frame is was now others =
-    same_values (byte_at after fill) (byte_at frames fill) size (λ a. elim (cases_eq (a / 4096) number) [
-      | inl same ↦ rw (same, now, was) (is (a % 4096))
-      | inr other ↦ rw (others (a / 4096) other) refl
+-- memory after a chunk was given room
+pub newly_kept : (chunks after : BTreeMap ℕ (List ℕ)) (fill size number : ℕ) (chunk : List ℕ) → ((k : ℕ) → get_or chunk k fill ≡ fill)
+    → get nat_cmp chunks number ≡ None → get nat_cmp after number ≡ Some chunk → ((q : ℕ) → (q ≡ number → ⊥) → get nat_cmp after q ≡ get nat_cmp chunks q)
+    → bytes_of after fill size ≡ bytes_of chunks fill size
+newly_kept chunks after fill size number chunk is was now others =
+    same_values (byte_at after fill) (byte_at chunks fill) size (λ a. elim (cases_eq (a / 65536) number) [
+      | inl same ↦ rw (same, now, was) (is (a % 65536))
+      | inr other ↦ rw (others (a / 65536) other) refl
     ])
 
--- a byte of a filled frame, with the filling as the answer past its end
+-- a byte of a filled chunk, with the filling as the answer past its end
 pub get_or-filled : (n k x : ℕ) → get_or (replicate n x) k x ≡ x
 get_or-filled n k x =
     elim (cases_lt k n) [

@@ -2,9 +2,9 @@
 #![tactic(auto)]
 
 mod bytes;
+mod chunk;
 mod file_set;
 mod flat;
-mod frame;
 mod memory;
 mod put;
 mod segment;

@@ -6,3 +6,4 @@ pub mod WriteLemmas
 pub mod WrittenIsRead
 pub mod ParamsLaws
 pub mod Lengths
+pub mod RunLemmas

@@ -1,5 +1,6 @@
 //! Laws of the definitions.
-ghost use Rattle.std.specs.Prelude.{◌≡◌, ℕ, List, length, take};
+ghost use Rattle.std.specs.Prelude.{◌≡◌, ◌^◌, ◌≤◌, ℕ, List, length, take, All};
+ghost use Rattle.bl_map.specs.Kinds.{end_of};
 ghost use Rattle.bl_bzimage.specs.declared.setup.Setup.{Setup};
 ghost use Rattle.bl_bzimage.specs.Setup.{IsSetup};
 ghost use Rattle.bl_params.specs.BootParams.{boot_params};
@@ -28,6 +29,12 @@ pub fn params_are_determined()
         → HasFirstFault bytes f → HasFirstFault bytes g → f ≡ g }
     ensures not_both { (bytes : List ℕ) (params : ParamsFacts) (fault : ParamFault)
         → ¬ (fault ≡ NoMemory) → IsParams bytes params → HasFirstFault bytes fault → ⊥ }
+{}
+
+/// Each run that boot parameters tell of ends at most at 2^52.
+pub fn runs_end_low()
+    ensures { (bytes : List ℕ) (params : ParamsFacts) → IsParams bytes params
+        → All (λ run. end_of run ≤ 2 ^ 52) params.runs }
 {}
 
 /// The descriptors are the first 32 bytes of their frame.

@@ -17,7 +17,7 @@ mod write;
 pub use descriptors::gdt;
 pub use facts::ParamFacts;
 pub use fault::ParamFault;
-pub use laws::{gdt_part_begins_with_gdt, params_are_determined, written_is_read};
+pub use laws::{gdt_part_begins_with_gdt, params_are_determined, runs_end_low, written_is_read};
 pub use params::Params;
 pub use reader::read_params;
 pub use write::write_params;

@@ -7,6 +7,7 @@
 
 mod bytes;
 mod calls;
+mod changed;
 mod fault;
 mod line;
 mod parse;
@@ -15,6 +16,7 @@ mod session;
 mod show;
 mod sweep;
 mod unasked;
+mod way;
 
 use session::Session;
 use std::io;

@@ -2,13 +2,16 @@
 
 use crate::bytes::bytes_of;
 use crate::calls::{Argument, make, takes_bytes};
+use crate::changed::{with_set, with_swapped};
 use crate::fault::RowFault;
-use crate::parse::{byte, split_word};
+use crate::parse::split_word;
 use crate::runs::Runs;
 use crate::session::Session;
 use crate::unasked::mark_unasked;
+use crate::way::{Way, read_way};
 use bl_refusing::Refusing;
 use std::alloc::Global;
+use std::ops::Range;
 
 /// More requests than any call of a row makes.
 const REQUESTS: u64 = 100_000;
@@ -72,16 +75,6 @@ fn each_cut(
     Ok(runs.finish()?)
 }
 
-/// A copy of the bytes with one of them set to a value.
-fn with_set(alloc: Global, bytes: &[u8], at: usize, value: u8) -> Result<Vec<u8>, RowFault> {
-    let mut changed = Vec::new(alloc);
-    changed.extend_from_slice(bytes)?;
-    if let Some(byte) = changed.get_mut(at) {
-        *byte = value;
-    }
-    Ok(changed)
-}
-
 fn each_set(
     alloc: Global,
     session: &mut Session,
@@ -99,43 +92,28 @@ fn each_set(
     Ok(runs.finish()?)
 }
 
-/// How a call is made.
-#[derive(Clone, Copy)]
-enum Way {
-    /// Once, where the `nth` request is refused, or none at 0.
-    Once { nth: u64 },
-    /// Where the first request is refused, the second, .. until none was.
-    EachRefusal,
-    /// Over the first bytes, from none to all.
-    EachCut,
-    /// Over all bytes with one of them set to a value.
-    EachSet { value: u8 },
-}
-
-/// How the call is made, and the call.
-fn read_way(call: &str) -> Result<(Way, &str), RowFault> {
-    match split_word(call) {
-        ("refuse", rest) => {
-            let (nth, call) = split_word(rest);
-            let nth = nth.parse::<u64>().ok().ok_or(RowFault::BadRow)?;
-            Ok((Way::Once { nth }, call))
-        }
-        ("each", rest) => match split_word(rest) {
-            ("refusal", call) => Ok((Way::EachRefusal, call)),
-            ("cut", call) => Ok((Way::EachCut, call)),
-            ("set", rest) => {
-                let (value, call) = split_word(rest);
-                Ok((
-                    Way::EachSet {
-                        value: byte(value)?,
-                    },
-                    call,
-                ))
-            }
-            _ => Err(RowFault::BadRow),
-        },
-        _ => Ok((Way::Once { nth: 0 }, call)),
+fn each_swap(
+    alloc: Global,
+    session: &mut Session,
+    fields: Range<u64>,
+    name: &str,
+    bytes: &[u8],
+) -> Result<String, RowFault> {
+    let at = fields.start as usize;
+    if at % 2 != 0 {
+        return Err(RowFault::BadRow);
     }
+    let mut runs = Runs::new(alloc, true);
+    for half in 0..bytes.len() / 2 {
+        let by = half * 2;
+        if at < by && (by as u64) < fields.end {
+            let changed = with_swapped(alloc, bytes, at, by)?;
+            let argument = Argument::Bytes(changed.as_slice());
+            let said = once(alloc, session, 0, name, argument)?;
+            runs.add(by as u64, said.text)?;
+        }
+    }
+    Ok(runs.finish()?)
 }
 
 fn answer_once(
@@ -173,6 +151,7 @@ fn answer_bytes(
     match way {
         Way::EachCut => each_cut(alloc, session, name, bytes.as_slice()),
         Way::EachSet { value } => each_set(alloc, session, value, name, bytes.as_slice()),
+        Way::EachSwap { fields } => each_swap(alloc, session, fields, name, bytes.as_slice()),
         _ => {
             let argument = Argument::Bytes(bytes.as_slice());
             answer_words(alloc, session, way, name, argument)

@@ -1,5 +1,5 @@
 -- What an attempt that waits hears: events and answers.
-use Rattle.std.proofs.Common.{◌≡◌, ◌≢◌, ◌⊎◌, ◌↔◌, ℕ, ◌+◌, ◌<◌, Bool, true, false, MatchBool, List, [], ◌∷◌, ◌++◌, length, Option, None, Some, refl, sym, ap, subst, ◌∙◌, inl, inr}
+use Rattle.std.proofs.Common.{◌≡◌, ◌≢◌, ◌↔◌, ℕ, ◌+◌, ◌<◌, Bool, true, MatchBool, List, [], length, Some, refl, sym, ap, subst, ◌∙◌, inl, inr}
 use Rattle.std.specs.declared.ops.Range.{Range}
 use Rattle.bl_stage.specs.Ranges.{IsSameOutside}
 use Rattle.bl_stage.specs.Spots.{Spot, spots}
@@ -7,7 +7,7 @@ use Rattle.bl_session.specs.declared.words.Ticket.{Ticket}
 use Rattle.bl_session.specs.declared.words.Progress.{Progress}
 use Rattle.bl_session.specs.declared.words.Progress.TheVariants.{Waiting}
 use Rattle.bl_session.specs.declared.words.RefusedEntry.{RefusedEntry}
-use Rattle.bl_session.specs.Boot.{BootFacts, EventFacts, piece, fault, State, unstarted, running, handed_over, none_left, out_of_memory, is_taken, StepsOrFails, attempt_of, progress}
+use Rattle.bl_session.specs.Boot.{BootFacts, EventFacts, piece, fault, State, unstarted, running, is_taken, StepsOrFails, attempt_of, progress}
 use Rattle.bl_session.specs.Outcome.{File}
 use Rattle.bl_session.specs.History.{Item, came, failed, nothing, file_under, IsPieceOf}
 use Rattle.bl_session.specs.Orders.{orders, orders_after}
@@ -15,7 +15,7 @@ use Rattle.bl_session.specs.Memory.{IsMemoryIn}
 use Rattle.bl_session.specs.Phases.{PhaseFacts, not_started, waits, hands_over, has_none, lacks_memory, state_at, is_waiting}
 use Rattle.bl_session.specs.Run.{World, world_of, IsAnswer, IsEventOf}
 use Rattle.bl_session.specs.Turns.{IsHeard, attempts_in, missing_in}
-use Rattle.bl_session.proofs.LaterLemmas.{IsLater, IsNext, next_step, still_runs, has_ended, fewer_left, lost_ends, memory_step}
+use Rattle.bl_session.proofs.LaterLemmas.{IsNext, next_step, still_runs, has_ended, fewer_left, lost_ends, memory_step}
 use Rattle.bl_session.proofs.TurnLemmas.{heard_on, owed_same, owed_next}
 
 -- ---- one event

@@ -7,13 +7,12 @@ use Rattle.bl_stage.specs.Ranges.{IsSameOutside}
 use Rattle.bl_stage.specs.Spots.{Spot, bytes_of}
 use Rattle.bl_session.specs.declared.words.Ticket.{Ticket}
 use Rattle.bl_session.specs.declared.words.RefusedEntry.{RefusedEntry}
-use Rattle.bl_session.specs.declared.words.Progress.TheVariants.{Waiting, Next, Done, Failed}
+use Rattle.bl_session.specs.declared.words.Progress.TheVariants.{Waiting, Next}
 use Rattle.bl_session.specs.Ends.{End, handed, refused, size_refusal}
 use Rattle.bl_session.specs.Pieces.{are_whole, with_piece}
-use Rattle.bl_session.specs.Boot.{BootFacts, EventFacts, piece, fault, State, unstarted, running, handed_over, none_left, out_of_memory, sizes_of, fresh, EntryEndsIn, Sequel, GoesOn, Continues, BeginsUnless, Begins, is_wanted, is_taken, Takes, Steps, StepsOrFails, ends_attempt, attempt_of, progress}
+use Rattle.bl_session.specs.Boot.{BootFacts, EventFacts, piece, fault, State, unstarted, running, handed_over, none_left, out_of_memory, sizes_of, fresh, EntryEndsIn, Sequel, GoesOn, BeginsUnless, Begins, is_wanted, is_taken, Takes, StepsOrFails, progress}
 use Rattle.bl_session.specs.Orders.{first_ticket}
 use Rattle.bl_session.specs.Memory.{IsMemoryIn}
-use Rattle.bl_session.specs.Phases.{PhaseFacts, not_started, waits, hands_over, has_none, lacks_memory, state_at, is_waiting}
 use Rattle.bl_session.specs.Turns.{attempts_in}
 use Rattle.bl_session.proofs.MissingLemmas.{first_wanted}
 use Rattle.bl_session.proofs.StepLemmas.{ends_taken}

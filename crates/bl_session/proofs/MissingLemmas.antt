@@ -1,5 +1,5 @@
 -- The first piece that is awaited.
-use Rattle.std.proofs.Common.{◌≡◌, ℕ, zero, suc, ◌+◌, ◌<◌, ◌≤◌, ◌==◌, ◌&&◌, Bool, true, false, not, List, [], ◌∷◌, length, drop, get_or, Option, None, Some, refl, sym, ap, subst, ◌∙◌, arith}
+use Rattle.std.proofs.Common.{◌≡◌, ℕ, suc, ◌+◌, ◌<◌, ◌≤◌, ◌==◌, true, false, not, List, [], ◌∷◌, length, drop, get_or, Option, None, Some, refl, sym, ap, subst, ◌∙◌, arith}
 use Rattle.std.specs.List.{list_all}
 use Rattle.std.proofs.lemmas.List.{drop_more, drop_all}
 use Rattle.std.proofs.lemmas.Bool.Decides.{nat_tests}
@@ -9,7 +9,7 @@ use Rattle.bl_stage.specs.Spots.{Spot, waits, has, spots}
 use Rattle.bl_session.specs.declared.words.Ticket.{Ticket}
 use Rattle.bl_session.specs.declared.words.RefusedEntry.{RefusedEntry}
 use Rattle.bl_session.specs.Pieces.{is_awaited, spot_of, are_whole}
-use Rattle.bl_session.specs.Boot.{EventFacts, fault, is_wanted}
+use Rattle.bl_session.specs.Boot.{fault, is_wanted}
 use Rattle.bl_session.specs.Orders.{ticket_of, first_spot, first_ticket, ticket_or}
 use Rattle.bl_session.proofs.SpotLemmas.{length-spots_of, length-spots, file_spots}
 

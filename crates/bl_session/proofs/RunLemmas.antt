@@ -1,11 +1,10 @@
 -- A run, from its parts.
-use Rattle.std.proofs.Common.{◌≡◌, ◌≢◌, ◌⊎◌, ℕ, ◌<◌, ◌≤◌, Bool, true, false, List, [], ◌∷◌, ◌++◌, length, map, slice_index_or, Option, refl, sym, ap, subst, ◌∙◌, inl, inr}
+use Rattle.std.proofs.Common.{◌≡◌, ◌≢◌, ◌⊎◌, ℕ, true, List, [], ◌++◌, map, slice_index_or, Option, refl, sym, ap, subst, ◌∙◌, inl, inr}
 use Rattle.std.proofs.lemmas.List.{append-nil}
 use Rattle.std.specs.List.{range_with_len}
 use Rattle.std.specs.declared.ops.Range.{Range}
 use Rattle.bl_map.specs.MachineFacts.{MachineFacts}
 use Rattle.bl_mem.specs.Memory.{HasRoom, KeepsRoom}
-use Rattle.bl_stage.specs.Ranges.{IsSameOutside}
 use Rattle.bl_session.specs.Boot.{BootFacts, State, unstarted, out_of_memory, StartsOrFails}
 use Rattle.bl_session.specs.Outcome.{File, missing, size_of}
 use Rattle.bl_session.specs.Attempts.{files_named}
@@ -13,12 +12,12 @@ use Rattle.bl_session.specs.Menu.{MenuFacts}
 use Rattle.bl_session.specs.History.{Item}
 use Rattle.bl_session.specs.Memory.{IsMemoryIn}
 use Rattle.bl_session.specs.Orders.{orders}
-use Rattle.bl_session.specs.Phases.{PhaseFacts, not_started, waits, hands_over, has_none, lacks_memory, state_at, is_waiting, boot_facts}
+use Rattle.bl_session.specs.Phases.{PhaseFacts, not_started, state_at, is_waiting, boot_facts}
 use Rattle.bl_session.specs.Run.{World, world_of, IsRun}
 use Rattle.bl_session.specs.Turns.{IsAsked, IsHeard}
 use Rattle.bl_session.proofs.AlikeLemmas.{run_alike, alike_listed}
-use Rattle.bl_session.proofs.AdvanceLemmas.{memory_on, same_on}
-use Rattle.bl_session.proofs.LaterLemmas.{IsLater, later_begins}
+use Rattle.bl_session.proofs.AdvanceLemmas.{memory_on}
+use Rattle.bl_session.proofs.LaterLemmas.{later_begins}
 use Rattle.bl_session.proofs.TurnLemmas.{heard_on, heard_asked, heard_orders, reads_to}
 use Rattle.bl_session.proofs.HearLemmas.{at, waiting_memory}
 

@@ -1,14 +1,11 @@
 -- Files that are not refused are small.
-use Rattle.std.proofs.Common.{◌≡◌, ℕ, zero, suc, ◌+◌, ◌<◌, ◌≤◌, Bool, true, false, if◌then◌else◌, nat_lt, List, [], ◌∷◌, length, map, get_or, All, Option, None, Some, unwrap_or, arith, refl, sym, ap, ◌∙◌, subst, inl, inr}
-use Rattle.std.proofs.lemmas.Bool.{cases_lt}
+use Rattle.std.proofs.Common.{◌≡◌, ℕ, zero, suc, ◌+◌, ◌<◌, ◌≤◌, Bool, true, false, if◌then◌else◌, nat_lt, List, [], ◌∷◌, length, get_or, Option, None, Some, arith, refl, sym, subst}
 use Rattle.std.proofs.lemmas.Bool.Decides.{nat_tests}
 use Rattle.std.proofs.lemmas.List.{get_or_default}
-use Rattle.bl_load.specs.declared.refusal.Refusal.{Refusal}
 use Rattle.bl_load.specs.declared.refusal.Refusal.TheVariants.{FileTooLong}
-use Rattle.bl_map.specs.MachineFacts.{MachineFacts}
 use Rattle.bl_stage.specs.Staged.{Staging}
 use Rattle.bl_session.specs.Ends.{most_bytes, file_refusal, lengths_of}
-use Rattle.bl_session.specs.Phases.{IsFresh, HasSmallFiles}
+use Rattle.bl_session.specs.Phases.{HasSmallFiles}
 
 -- the first is small, and none behind it is refused
 first_small : (place size : ℕ) (sizes : List (Option ℕ)) (long : Bool) → nat_lt most_bytes size ≡ long → (if long then Some (FileTooLong place) else file_refusal (place + 1) sizes) ≡ None

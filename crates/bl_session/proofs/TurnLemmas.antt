@@ -1,13 +1,12 @@
 -- A history is read on, part by part.
 use Rattle.std.proofs.Common.{◌≡◌, ◌≢◌, ◌⊎◌, ℕ, ◌==◌, Bool, true, false, if◌then◌else◌, List, [], ◌∷◌, ◌++◌, length, refl, sym, ap, subst, ◌∙◌, append_assoc, inl, inr}
 use Rattle.std.proofs.lemmas.List.{append-nil}
-use Rattle.bl_session.specs.declared.words.Progress.{Progress}
-use Rattle.bl_session.specs.declared.words.Progress.TheVariants.{Waiting, Next, Done, Failed}
+use Rattle.bl_session.specs.declared.words.Progress.TheVariants.{Waiting, Next}
 use Rattle.bl_session.specs.Boot.{BootFacts, EventFacts, State, unstarted, running, handed_over, none_left, out_of_memory, attempt_of, progress, StepsOrFails}
 use Rattle.bl_session.specs.Outcome.{File}
 use Rattle.bl_session.specs.History.{Item}
 use Rattle.bl_session.specs.Orders.{orders, orders_after}
-use Rattle.bl_session.specs.Run.{World, world_of, Hears, Reads, IsEventOf}
+use Rattle.bl_session.specs.Run.{World, world_of, Reads, IsEventOf}
 use Rattle.bl_session.specs.Turns.{IsAsked, LeadsOn, IsHeard}
 
 pub leads_on : (facts : BootFacts) (files : List File) (given : List Item) (a b c : World) (xs ys : List Item)

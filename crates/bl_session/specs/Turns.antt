@@ -22,7 +22,8 @@ LeadsOn facts files given old (item ∷ items) new =
     × LeadsOn facts files (given ++ item ∷ []) next items new
 
 -- a history that grew so leads from one world to another
-pub record IsHeard (facts : BootFacts) (files : List File) (old new : List Item) (start end : World) : Type 0 where
+pub record IsHeard (facts : BootFacts) (files : List File) (old new : List Item)
+    (start end : World) : Type 0 where
   pub gained : List Item
   pub given : new ≡ old ++ gained
   pub leads : LeadsOn facts files old start gained end

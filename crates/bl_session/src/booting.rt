@@ -77,9 +77,9 @@ fn boot<'a, M: PhysMem, S: Store, A: Allocator + Copy>(
 
 /// Boots the first entry of a menu that is not refused, with the pieces that a store gives. It asks
 /// once for the size of each file that the menu names. As an attempt begins it asks for each piece
-/// of its files, and then takes answers until the attempt has ended. An answer that the attempt does
-/// not wait for changes nothing. If nothing more is to come, the first missing piece is lost, and
-/// its file's entry is refused.
+/// of its files, and then takes answers until the attempt has ended. An answer that the attempt
+/// does not wait for changes nothing. If nothing more is to come, the first missing piece is lost,
+/// and the entry is refused for its file.
 ///
 /// If the store's answers are genuine, the boot ends with the first entry that is not refused; and
 /// if the store is faithful and was asked for nothing before, its files alone decide.

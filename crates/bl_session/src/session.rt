@@ -5,8 +5,8 @@ ghost use Rattle.bl_session.specs.Boot.{StepsOrFails, StartsOrFails, is_taken, a
 ghost use Rattle.bl_session.specs.Boot as boot;
 ghost use Rattle.bl_session.specs.Memory.{IsMemoryIn};
 ghost use Rattle.bl_session.specs.Phases.{boot_facts, event_facts, state_at, is_waiting};
-ghost use Rattle.bl_session.specs.Phases.{phase_facts, state_of, end_facts, told, not_started, IsKept};
-ghost use Rattle.bl_session.specs.Phases.{EndsWithin};
+ghost use Rattle.bl_session.specs.Phases.{phase_facts, state_of, end_facts, told, not_started};
+ghost use Rattle.bl_session.specs.Phases.{IsKept, EndsWithin};
 
 use crate::boot::Boot;
 use crate::menu::Menu;

@@ -76,7 +76,8 @@ fn submit_file<S: Store>(
     Ok(())
 }
 
-/// Asks for each piece of an attempt's files: files ascending, and in each of them pieces ascending.
+/// Asks for each piece of an attempt's files: files ascending, and in each of them pieces
+/// ascending.
 pub fn submit_files<S: Store, A: Allocator>(
     store: &mut S,
     attempt: u32,

@@ -6,6 +6,13 @@ pub mod LengthLemmas
 pub mod SoundLemmas
 pub mod SeenLaws
 pub mod PartLemmas
-pub mod LegalLemmas
+pub mod KernelLemmas
+pub mod LineLemmas
+pub mod InformationLemmas
+pub mod TextLemmas
+pub mod InformationLaws
+pub mod ParametersLemmas
+pub mod ParametersLaws
 pub mod LegalLaws
 pub mod EnteredLemmas
+pub mod RunLemmas

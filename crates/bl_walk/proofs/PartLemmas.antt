@@ -36,11 +36,11 @@ abbrev pub is_of : Role → ℕ → Place → Bool
 is_of role index place = nat_eq (role_number place.role) (role_number role) && nat_eq place.index index
 
 -- and stands at an address
-abbrev is_at : Role → ℕ → ℕ → Place → Bool
+abbrev pub is_at : Role → ℕ → ℕ → Place → Bool
 is_at role index address place = is_of role index place && nat_eq place.address address
 
 -- the place that is found by role and index stands at its address
-address_held : (role : Role) (index : ℕ) (places : List Place) → list_any (is_of role index) places ≡ true
+pub address_held : (role : Role) (index : ℕ) (places : List Place) → list_any (is_of role index) places ≡ true
     → list_any (is_at role index (address_of role index places)) places ≡ true
 address_held role index [] held = held
 address_held role index (p ∷ places) held =
@@ -71,7 +71,7 @@ role_again CommandLine = refl
 role_again Gdt = refl
 role_again Initrd = refl
 
-same_role : (r s : Role) → role_number r ≡ role_number s → r ≡ s
+pub same_role : (r s : Role) → role_number r ≡ role_number s → r ≡ s
 same_role r s e = role_again r ∙ ap role_by e ∙ sym (role_again s)
 
 -- the front of what stands from an address on

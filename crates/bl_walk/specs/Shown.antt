@@ -1,22 +1,87 @@
 -- What an entry's own kernel sees. Own.
-use Rattle.std.specs.Prelude.{◌≡◌, ◌<◌, ℕ, [], length, map, slice_index_or, All, None}
+use Rattle.std.specs.Prelude.{◌≡◌, ◌<◌, ◌≤◌, ℕ, List, [], ◌∷◌, length, map, slice_index_or, All, Option, Some, None, option_map}
+use Rattle.bl_mem.specs.declared.segment.Segment.{Segment}
+use Rattle.bl_map.specs.Kinds.{end_of}
+use Rattle.bl_map.specs.Limits.{region_limit}
 use Rattle.bl_map.specs.MachineFacts.{MachineFacts}
+use Rattle.bl_mb2head.specs.declared.relocation.Relocation.{Relocation}
 use Rattle.bl_mbi.specs.InformationFacts.{AreBytes}
-use Rattle.bl_load.specs.Value.{EntryValue, module_file, lines_of}
+use Rattle.bl_bzimage.specs.declared.setup.Setup.{Setup}
+use Rattle.bl_bzimage.specs.Setup.{IsSetup}
+use Rattle.bl_plan.specs.Order.{ascending}
+use Rattle.bl_plan.specs.declared.protocol.Protocol.{Protocol}
+use Rattle.bl_plan.specs.declared.protocol.Protocol.TheVariants.{Multiboot2, Linux}
+use Rattle.bl_load.specs.Blocks.{span_of}
+use Rattle.bl_load.specs.Kernel.{KernelFacts, IsKernel}
+use Rattle.bl_load.specs.LinuxRows.{linux_kernel_row}
+use Rattle.bl_load.specs.Parts.{entry_at}
+use Rattle.bl_load.specs.Value.{EntryValue, kernel_file, module_file, initrd_file, lines_of}
 use Rattle.bl_walk.specs.SeenFacts.{SeenFacts}
+use Rattle.bl_walk.specs.declared.seen_part.SeenPart.{SeenPart}
 
--- a Multiboot2 kernel sees the entry's line, its modules with their lines and the bytes of their
--- files, no initial ramdisk, and the machine's runs
-pub record ShowsModules (facts : MachineFacts) (value : EntryValue) (seen : SeenFacts)
-    : Type 0 where
-  pub protocol : seen.protocol ≡ value.protocol
-  pub line : seen.line ≡ value.line
+-- ---- the kernel
+
+abbrev pub segment_part : Segment → SeenPart
+segment_part segment = record { address = segment.address; length = segment.memsz }
+
+-- segments lie at their own addresses, and the kernel is entered at its own; with a relocatable
+-- tag they are one block, which lies somewhere, and the entry moved with it
+abbrev pub ShowsSegments : List Segment → ℕ → Option Relocation → SeenFacts → Type 0
+ShowsSegments segments entry None seen =
+    (seen.entry ≡ entry) × (seen.kernel ≡ map segment_part (ascending segments))
+ShowsSegments segments entry (Some r) seen =
+    (base : ℕ) × (seen.entry ≡ entry_at entry segments (Some r) base)
+    × (seen.kernel ≡ record { address = base; length = span_of segments } ∷ [])
+
+-- a Linux kernel lies in one part, as long as its setup asks for, and is entered at its first byte
+abbrev pub ShowsPayload : Setup → SeenFacts → Type 0
+ShowsPayload setup seen =
+    seen.kernel ≡ record { address = seen.entry; length = (linux_kernel_row setup).length } ∷ []
+
+abbrev pub ShowsKernel : EntryValue → SeenFacts → Protocol → Type 0
+ShowsKernel value seen Multiboot2 =
+    (kernel : KernelFacts) × IsKernel (kernel_file value) kernel
+    × ShowsSegments kernel.segments kernel.entry kernel.relocation seen
+ShowsKernel value seen Linux =
+    (setup : Setup) × IsSetup (kernel_file value) setup × ShowsPayload setup seen
+
+-- ---- its other files
+
+-- modules with the entry's lines and the bytes of its files, and no initial ramdisk
+pub record ShowsModules (value : EntryValue) (seen : SeenFacts) : Type 0 where
   pub lines : map (λ m. m.line) seen.modules ≡ value.module_lines
   pub files : (k : ℕ) → k < length value.module_lines
       → slice_index_or (map (λ m. m.bytes) seen.modules) k [] ≡ module_file value.files k
   pub initrd : seen.initrd ≡ None
+
+-- the bytes of a file, if it has any
+abbrev pub some_bytes : List ℕ → Option (List ℕ)
+some_bytes [] = None
+some_bytes (byte ∷ bytes) = Some (byte ∷ bytes)
+
+-- no module, and the bytes of the initial ramdisk's file, if it has any
+pub record ShowsRamdisk (value : EntryValue) (seen : SeenFacts) : Type 0 where
+  pub modules : seen.modules ≡ []
+  pub initrd : option_map (λ file. file.bytes) seen.initrd ≡ some_bytes (initrd_file value.files)
+
+abbrev pub ShowsFiles : EntryValue → SeenFacts → Protocol → Type 0
+ShowsFiles value seen Multiboot2 = ShowsModules value seen
+ShowsFiles value seen Linux = ShowsRamdisk value seen
+
+-- ---- all
+
+-- the entry's protocol, line, kernel and files, and the machine's runs
+pub record ShowsEntry (facts : MachineFacts) (value : EntryValue) (seen : SeenFacts) : Type 0 where
+  pub protocol : seen.protocol ≡ value.protocol
+  pub line : seen.line ≡ value.line
+  pub kernel : ShowsKernel value seen value.protocol
+  pub files : ShowsFiles value seen value.protocol
   pub runs : seen.map ≡ facts.runs
 
 -- the lines of an entry are bytes
 abbrev pub HasByteLines : EntryValue → Type 0
 HasByteLines value = All AreBytes (lines_of value)
+
+-- each run of the memory map that is seen ends at most at 2^52
+abbrev pub RunsEndLow : SeenFacts → Type 0
+RunsEndLow seen = All (λ run. end_of run ≤ region_limit) seen.map

@@ -2,15 +2,16 @@
 ghost use Rattle.std.specs.Prelude.{◌≡◌, ◌+◌, ◌<◌, ◌≤◌, ℕ, List, length, AllPairs, Some};
 ghost use Rattle.std.specs.Prelude.{slice_index_or};
 ghost use Rattle.bl_map.specs.MachineFacts.{MachineFacts, AreMachineFacts};
-ghost use Rattle.bl_plan.specs.declared.protocol.Protocol.TheVariants.{Multiboot2};
 ghost use Rattle.bl_load.specs.Handover.{Handover, Part, end_of};
 ghost use Rattle.bl_load.specs.Parts.{IsHandover};
 ghost use Rattle.bl_load.specs.Value.{EntryValue, most_modules};
+ghost use Rattle.bl_image.specs.Image.{spelling};
+ghost use Rattle.bl_image.specs.ImageParts.{IsImage, IsKept};
 ghost use Rattle.bl_walk.specs.Faults.{IsSound};
 ghost use Rattle.bl_walk.specs.Inside.{part_with};
 ghost use Rattle.bl_walk.specs.Seen.{IsSeen};
 ghost use Rattle.bl_walk.specs.SeenFacts.{SeenFacts};
-ghost use Rattle.bl_walk.specs.Shown.{ShowsModules, HasByteLines};
+ghost use Rattle.bl_walk.specs.Shown.{ShowsEntry, HasByteLines, RunsEndLow};
 ghost use Rattle.bl_walk.specs.State.{IsEntered};
 
 /// What is seen in an image is one thing.
@@ -32,16 +33,33 @@ pub fn ranges_lie_in_one_part()
         → part_with parts address count ≡ Some (slice_index_or parts k d) }
 {}
 
-/// What a Multiboot2 entry hands over shows its kernel the entry: its line, its modules with their
-/// lines and bytes, and the machine's runs; and no fault stands in it.
-pub fn multiboot2_handovers_are_seen()
+/// What an entry hands over shows its kernel the entry: its protocol, its line, where its kernel
+/// lies and is entered, the bytes of its other files, and the machine's runs; and no fault stands
+/// in it.
+pub fn handovers_are_seen()
     ensures seen { (facts : MachineFacts) (value : EntryValue) (h : Handover)
-        → AreMachineFacts facts → HasByteLines value
-        → length value.module_lines ≤ most_modules → value.protocol ≡ Multiboot2
+        → AreMachineFacts facts → HasByteLines value → length value.module_lines ≤ most_modules
         → IsHandover facts value h
-        → (seen : SeenFacts) × IsSeen h seen × ShowsModules facts value seen }
+        → (seen : SeenFacts) × IsSeen h seen × ShowsEntry facts value seen }
     ensures sound { (facts : MachineFacts) (value : EntryValue) (h : Handover)
-        → AreMachineFacts facts → HasByteLines value
-        → length value.module_lines ≤ most_modules → value.protocol ≡ Multiboot2
+        → AreMachineFacts facts → HasByteLines value → length value.module_lines ≤ most_modules
         → IsHandover facts value h → IsSound h }
+{}
+
+/// Whatever is read from the image of what an entry hands over shows that entry and nothing else,
+/// and no fault stands in it. That the handover is what images keep is `write_image.kept`.
+pub fn images_show_their_entries()
+    ensures seen { (facts : MachineFacts) (value : EntryValue) (h image : Handover)
+        (seen : SeenFacts) → AreMachineFacts facts → HasByteLines value
+        → length value.module_lines ≤ most_modules → IsHandover facts value h → IsKept h
+        → IsImage (spelling h) image → IsSeen image seen → ShowsEntry facts value seen }
+    ensures sound { (facts : MachineFacts) (value : EntryValue) (h image : Handover)
+        → AreMachineFacts facts → HasByteLines value
+        → length value.module_lines ≤ most_modules → IsHandover facts value h → IsKept h
+        → IsImage (spelling h) image → IsSound image }
+{}
+
+/// Each run of a memory map that is seen ends at most at 2^52.
+pub fn seen_runs_end_low()
+    ensures { (h : Handover) (seen : SeenFacts) → IsSeen h seen → RunsEndLow seen }
 {}

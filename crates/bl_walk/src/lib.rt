@@ -18,7 +18,8 @@ mod walking;
 
 pub use fault::WalkFault;
 pub use laws::{
-    multiboot2_handovers_are_seen, ranges_lie_in_one_part, seen_is_determined, seen_is_sound,
+    handovers_are_seen, images_show_their_entries, ranges_lie_in_one_part, seen_is_determined,
+    seen_is_sound, seen_runs_end_low,
 };
 pub use seen::Seen;
 pub use seen_file::SeenFile;

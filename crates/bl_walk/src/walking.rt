@@ -2,6 +2,7 @@
 ghost use Rattle.std.specs.Prelude.{◌≡◌, IfOk, OnOk, IfErr};
 ghost use Rattle.bl_walk.specs.Faults.{HasFault, IsSound};
 ghost use Rattle.bl_walk.specs.Seen.{IsSeen};
+ghost use Rattle.bl_walk.specs.Shown.{RunsEndLow};
 
 use crate::fault::WalkFault;
 use crate::information::shown_by_information;
@@ -19,6 +20,9 @@ pub fn walk<A: Allocator + Copy>(alloc: A, image: &Image<A>) -> Result<Seen<A>, 
 
     // No fault but want of memory stands where a value is answered.
     ensures sound { OnOk result (IsSound image.now) }
+
+    // Each run ends at most at 2^52.
+    ensures low { IfOk result RunsEndLow }
     ensures fault { IfErr result (HasFault image.now) }
 {
     check_state(image)?;

@@ -3,7 +3,7 @@ ghost use Rattle.std.specs.Prelude.{◌≡◌, ℕ, List, ◌+◌, ◌-◌, ◌<
 ghost use Rattle.bl_boot.specs.Found.{AreFound, IsFound};
 ghost use Rattle.bl_desc.specs.Described.{file_named};
 ghost use Rattle.bl_desc.specs.Kept.{view};
-ghost use Rattle.bl_boot.specs.Files.{Answer, answer_for, answer_of, KeepsLimit};
+ghost use Rattle.bl_boot.specs.Files.{Answer, answer_for, answer_of};
 
 use crate::fetching::{FILE_LIMIT, Fetched, Files};
 use bl_desc::Description;
@@ -31,7 +31,6 @@ fn find_file<A: Allocator + Copy, F: Files>(
     requires { F.faults files.old < 2 ^ 64 - 1 }
     ensures found { IfOk result (λ file. IsFound F.answers F.faults (view description.now).files
         name.now files.old files.new (answer_of file)) }
-    ensures limit { IfOk result (λ file. KeepsLimit (answer_of file)) }
     ensures inline { IsSome (file_named name.now (view description.now).files) →
         files.new ≡ files.old }
     ensures same { (file : List ℕ) (answer : Answer) →
@@ -56,7 +55,6 @@ pub fn find_files<A: Allocator + Copy, F: Files>(
     ensures found { IfOk result (λ found.
         AreFound F.answers F.faults (view description.now).files (map (λ n. n.now) names.now)
         files.old files.new (map answer_of found.items)) }
-    ensures limit { IfOk result (λ found. All KeepsLimit (map answer_of found.items)) }
 
     // Files that stand in the description are not asked for.
     ensures inline { All (λ name. IsSome (file_named name (view description.now).files))

@@ -1,9 +1,9 @@
 //! The names of the files that are looked for.
-ghost use Rattle.std.specs.Prelude.{◌≡◌, ◌++◌, ◌∷◌, [], ℕ, List, if◌then◌else◌, map, IfOk, OnOk};
+ghost use Rattle.std.specs.Prelude.{◌≡◌, ◌<◌, ◌≤◌, ◌++◌, ◌∷◌, ℕ, List, length, map, All, IfOk, OnOk};
 ghost use Rattle.std.specs.Str.{bytes_eq};
 ghost use Rattle.std.specs.List.{list_any};
 ghost use Rattle.bl_boot.specs.Attempted as attempted;
-ghost use Rattle.bl_boot.specs.Attempted.{file_names};
+ghost use Rattle.bl_boot.specs.Attempted.{file_names, names_of_entries};
 ghost use Rattle.bl_boot.specs.Kept.{names_with};
 ghost use Rattle.bl_desc.specs.Kept.{HasMenu, entry_view, module_view, view};
 
@@ -13,7 +13,7 @@ use std::alloc::{AllocError, Allocator};
 
 /// Whether a name is one of these.
 fn is_among(name: &str, names: &[&str]) -> bool
-    ensures { result ≡ list_any (λ n. bytes_eq n name.now) (map (λ n. n.now) names.now) }
+    ensures { result ≡ list_any (λ n. bytes_eq n.now name.now) names.now }
 {
     names.iter().any(|n| *n == name)
 }
@@ -65,6 +65,23 @@ fn add_entry<'a, A: Allocator>(
     Ok(())
 }
 
+/// The names of the files of these entries, by their index, in order, each name once.
+fn names_of<'a, A: Allocator + Copy>(
+    alloc: A,
+    description: &'a Description<A>,
+    indices: &[u32],
+) -> Result<Vec<&'a str, A>, AllocError>
+    requires { All (λ index. index < length description.now.entries.items) indices.now }
+    ensures { IfOk result (λ names. map (λ n. n.now) names.items
+        ≡ names_of_entries (view description.now) indices.now) }
+{
+    let mut names = Vec::new(alloc);
+    for index in indices {
+        add_entry(&mut names, &description.entries[*index as usize])?;
+    }
+    Ok(names)
+}
+
 /// The names of the files of the entries that are attempted, in order, each one once.
 pub fn names_in<A: Allocator + Copy>(
     alloc: A,
@@ -75,16 +92,13 @@ pub fn names_in<A: Allocator + Copy>(
         map (λ n. n.now) names.items ≡ attempted.names_in (view description.now)) }
 {
     let attempts = order_attempts(alloc, description.default, &description.fallbacks)?;
-    let mut names = Vec::new(alloc);
-    for index in attempts.iter() {
-        add_entry(&mut names, &description.entries[*index as usize])?;
-    }
-    Ok(names)
+    names_of(alloc, description, &attempts)
 }
 
 /// The place of a name among these, or how many they are if it is not there.
 pub fn index_of(names: &[&str], name: &str) -> usize
-    ensures { result ≡ attempted.index_of (map (λ n. n.now) names.now) name.now }
+    ensures index { result ≡ attempted.index_of (map (λ n. n.now) names.now) name.now }
+    ensures few { result ≤ length names.now }
 {
     match names {
         [] => 0,

@@ -1,6 +1,9 @@
 //! What a kernel sees in an image, line by line.
-ghost use Rattle.std.specs.Prelude.{◌≡◌, ◌++◌, OnOk, OnErr};
+ghost use Rattle.std.specs.Prelude.{◌≡◌, ◌≤◌, ◌++◌, OnOk, OnErr, All};
 ghost use Rattle.std.specs.List.{flat_map};
+ghost use Rattle.bl_map.specs.Kinds.{end_of};
+ghost use Rattle.bl_map.specs.Limits.{region_limit};
+ghost use Rattle.bl_walk.specs.Shown.{RunsEndLow};
 ghost use Rattle.bl_boot.specs.Says.{hex16};
 ghost use Rattle.bl_boot.specs.WalkSays as says;
 ghost use Rattle.bl_boot.specs.WalkSays.{kernel_line, module_line, seen_run_line};
@@ -174,14 +177,16 @@ fn say_kind<A: Allocator + Copy>(out: &mut Vec<u8, A>, kind: u32) -> Result<(), 
 }
 
 fn say_run<A: Allocator + Copy>(out: &mut Vec<u8, A>, run: &Region) -> Result<(), AllocError>
+    requires { end_of run.now ≤ region_limit }
     ensures { OnOk result (out.new.items ≡ out.old.items ++ says.seen_run_line run.now) }
 {
     say_start(out, run.base)?;
-    say_end(out, run.base.saturating_add(run.length))?;
+    say_end(out, run.base + run.length)?;
     say_kind(out, run.kind.number())
 }
 
 fn say_runs<A: Allocator + Copy>(out: &mut Vec<u8, A>, runs: &[Region]) -> Result<(), AllocError>
+    requires { All (λ run. end_of run ≤ region_limit) runs.now }
     ensures { OnOk result (out.new.items ≡ out.old.items ++ flat_map seen_run_line runs.now) }
 {
     for run in runs {
@@ -196,6 +201,7 @@ pub fn say_walk<A: Allocator + Copy, B: Allocator>(
     out: &mut Vec<u8, A>,
     seen: &Seen<B>,
 ) -> Result<(), AllocError>
+    requires { RunsEndLow seen.now }
     ensures ok { OnOk result (out.new.items ≡ out.old.items ++ says.walk_lines seen.now) }
     ensures err { OnErr result (out.new.items ≡ out.old.items) }
 {

@@ -1,5 +1,5 @@
 //! `memory size=SIZE fill=BYTE STEP; STEP ..`: one step after the other on new memory in one
-//! block; `sparse ..`: on memory that keeps only the frames which have room.
+//! block; `sparse ..`: on memory that keeps only the chunks which have room.
 //!
 //! A step is `size`, `read AT LENGTH`, `write AT,AT BYTES`, `zero START..END` or
 //! `reserve START..END ..`. What is written or cleared is given room first.
@@ -174,7 +174,7 @@ pub fn answer(
     }
 }
 
-/// The answer for memory that keeps only some frames.
+/// The answer for memory that keeps only some chunks.
 pub fn answer_sparse(
     alloc: Global,
     heap: &Refusing,

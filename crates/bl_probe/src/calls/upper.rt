@@ -12,10 +12,14 @@ mod line;
 mod long_files;
 mod pairs;
 mod prepared;
+mod read_image;
 mod read_info;
 mod refusal;
 mod sink;
+mod source;
 mod unprepared;
+mod walk;
+mod walk_to;
 mod write_info;
 
 use crate::calls::linux;
@@ -29,7 +33,7 @@ use std::alloc::Global;
 /// Whether the words behind this name are bytes, and nothing else.
 pub fn takes_bytes(name: &str) -> bool {
     match name {
-        "describe" | "read_info" => true,
+        "describe" | "read_info" | "read_image" | "image_fault" | "walk" => true,
         _ => false,
     }
 }
@@ -67,6 +71,13 @@ pub fn make_over(
         ("load", words) => handoff::answer_load(alloc, heap, session, words, bytes),
         ("image", words) => image::answer(alloc, heap, session, words, bytes),
         ("images", words) => image::answer(alloc, heap, session, words, bytes),
+        ("image_of", words) => image::answer_held(alloc, heap, session, words, bytes),
+        ("read_image", words) => read_image::answer(alloc, heap, words, bytes),
+        ("image_fault", "") => read_image::answer_fault(alloc, heap, bytes),
+        ("read_images", words) => read_image::answer_each(alloc, heap, words, bytes),
+        ("walk", "") => walk::answer(alloc, heap, bytes),
+        ("walk_to", words) => walk_to::answer(alloc, heap, session, words, bytes),
+        ("walks_to", words) => walk_to::answer_each(alloc, heap, words, bytes),
         ("describe", "") => describe::answer(alloc, heap, bytes),
         ("named", name) => describe::answer_named(alloc, name, bytes),
         ("boot", words) => boot::answer_boot(alloc, heap, session, words, bytes),

@@ -4,7 +4,7 @@ use Rattle.std.specs.List.{flat_map}
 use Rattle.bl_image.specs.Image.{place_bytes}
 use Rattle.bl_image.proofs.Ways.{way_begins, way_goes_on, way_stops, way_ends, way_as, on_err}
 use Rattle.bl_image.proofs.Spelled.{image_in}
-use Rattle.bl_image.proofs.FitLemmas.{handover_fits}
+use Rattle.bl_image.proofs.FitLemmas.{handover_kept}
 use Rattle.bl_image.proofs.write.write_image.Goals as goal
 
 pub returns-in_err-write_front-clause-begun : goal.returns-in_err-write_front-clause-begun
@@ -14,10 +14,10 @@ returns-in_err-write_front-clause-begun g c =
     let whole = image_in bytes h.protocol h.registers h.places c.requires.inside in
     on_err _ (way_stops _ (way_as whole (way_begins _ _)) c.in_err-write_front.ensures.begun)
 
-pub returns-in_err-write_front-clause-spellable : goal.returns-in_err-write_front-clause-spellable
-returns-in_err-write_front-clause-spellable g c =
+pub returns-in_err-write_front-clause-kept : goal.returns-in_err-write_front-clause-kept
+returns-in_err-write_front-clause-kept g c =
     let h = c.args.handoff.now in
-    handover_fits (g.M.PhysMem.bytes c.args.memory.now) h.protocol h.registers h.places c.requires.inside c.in_err-write_front.ensures.fit
+    handover_kept (g.M.PhysMem.bytes c.args.memory.now) h.protocol h.registers h.places c.requires.inside c.in_err-write_front.ensures.fit c.in_err-write_front.ensures.records
 
 pub returns-in_err-write_parts-clause-begun : goal.returns-in_err-write_parts-clause-begun
 returns-in_err-write_parts-clause-begun g c =
@@ -27,10 +27,10 @@ returns-in_err-write_parts-clause-begun g c =
     let way = way_goes_on _ (way_as whole (way_begins _ _)) c.in_ok-write_front.ensures.ok in
     on_err _ (way_stops _ (way_as (sym (append-nil (flat_map (place_bytes bytes) h.places))) way) c.in_err-write_parts.ensures.begun)
 
-pub returns-in_err-write_parts-clause-spellable : goal.returns-in_err-write_parts-clause-spellable
-returns-in_err-write_parts-clause-spellable g c =
+pub returns-in_err-write_parts-clause-kept : goal.returns-in_err-write_parts-clause-kept
+returns-in_err-write_parts-clause-kept g c =
     let h = c.args.handoff.now in
-    handover_fits (g.M.PhysMem.bytes c.args.memory.now) h.protocol h.registers h.places c.requires.inside c.in_ok-write_front.ensures.fit
+    handover_kept (g.M.PhysMem.bytes c.args.memory.now) h.protocol h.registers h.places c.requires.inside c.in_ok-write_front.ensures.fit c.in_ok-write_front.ensures.records
 
 pub returns-clause-ok : goal.returns-clause-ok
 returns-clause-ok g c =
@@ -40,7 +40,7 @@ returns-clause-ok g c =
     let way = way_goes_on _ (way_as whole (way_begins _ _)) c.in_ok-write_front.ensures.ok in
     way_ends (way_goes_on _ (way_as (sym (append-nil (flat_map (place_bytes bytes) h.places))) way) c.in_ok-write_parts.ensures.ok)
 
-pub returns-clause-spellable : goal.returns-clause-spellable
-returns-clause-spellable g c =
+pub returns-clause-kept : goal.returns-clause-kept
+returns-clause-kept g c =
     let h = c.args.handoff.now in
-    handover_fits (g.M.PhysMem.bytes c.args.memory.now) h.protocol h.registers h.places c.requires.inside c.in_ok-write_front.ensures.fit
+    handover_kept (g.M.PhysMem.bytes c.args.memory.now) h.protocol h.registers h.places c.requires.inside c.in_ok-write_front.ensures.fit c.in_ok-write_front.ensures.records

@@ -16,7 +16,7 @@ use std::alloc::{AllocError, Global};
 use std::ops::Range;
 
 /// What was said, in quotes.
-fn said_text(alloc: Global, said: &[u8]) -> Result<String, AllocError> {
+pub fn said_text(alloc: Global, said: &[u8]) -> Result<String, AllocError> {
     match std::str::from_utf8(said) {
         Ok(said) => format!(in alloc; "{said:?}"),
         Err(_) => String::from_str(alloc, "no text"),

@@ -64,6 +64,16 @@ fn push_entry(text: &mut String, entry: &EntryRow<&Refusing>) -> Result<(), Allo
     push_form(text, &entry.form)
 }
 
+/// Appends the order of a menu as ` default N` and ` fallback N` for each fallback.
+fn push_order(text: &mut String, default: u32, fallbacks: &[u32]) -> Result<(), AllocError> {
+    write!(text, " default {default:x}")?;
+    for fallback in fallbacks {
+        let fallback = *fallback;
+        write!(text, " fallback {fallback:x}")?;
+    }
+    Ok(())
+}
+
 fn description_text(
     alloc: Global,
     description: &Description<&Refusing>,
@@ -82,6 +92,7 @@ fn description_text(
     for entry in &description.entries {
         push_entry(&mut text, entry)?;
     }
+    push_order(&mut text, description.default, &description.fallbacks)?;
     Ok(text)
 }
 

@@ -1,9 +1,10 @@
 //! `image limit=N step=N fill=VV ENTRY of KERNEL` and `images limits=A..B step=N fill=VV ENTRY of KERNEL`, on the last
-//! machine: into a sink in memory, or into one of each limit.
+//! machine: into a sink in memory, or into one of each limit. `image_of fill=VV ENTRY of KERNEL`: what memory holds.
 ghost use Rattle.std.specs.Prelude.{◌≡◌, ◌+◌, ◌≤◌, length, All, IfOk};
 
 use crate::calls::upper::entry::read_entry;
 use crate::calls::upper::prepared::{LoadedEntry, load_entry};
+use crate::calls::upper::read_image::image_text;
 use crate::calls::upper::refusal::unprepared_text;
 use crate::calls::upper::unprepared::Unprepared;
 use crate::fault::RowFault;
@@ -11,7 +12,7 @@ use crate::parse::{byte, field, number_field, range, split_word};
 use crate::runs::Runs;
 use crate::session::Session;
 use crate::show::bytes_text;
-use bl_image::{ImageFault, MemSink, Sink, write_image};
+use bl_image::{Image, ImageFault, MemSink, Sink, write_image};
 use bl_refusing::Refusing;
 use std::alloc::{AllocError, Global};
 use std::ops::Range;
@@ -54,7 +55,7 @@ fn written<'h>(
 }
 
 /// The answer for one sink, with the bytes that it took.
-fn image_text(
+fn sink_text(
     alloc: Global,
     heap: &Refusing,
     loaded: &LoadedEntry<'_>,
@@ -113,7 +114,7 @@ fn limits_text(
         loaded.now.handoff.places }
 {
     if let Ok(limit) = number_field(limit, "limit") {
-        return image_text(alloc, heap, loaded, limit, step);
+        return sink_text(alloc, heap, loaded, limit, step);
     }
     let limits = match field(limit, "limits") {
         Ok(word) => range(word),
@@ -122,6 +123,42 @@ fn limits_text(
     match limits {
         Ok(limits) => images_text(alloc, heap, loaded, limits, step),
         Err(_) => Err(Unprepared::BadRow),
+    }
+}
+
+/// The image of what memory holds.
+fn held_text<'h>(
+    alloc: Global,
+    heap: &'h Refusing,
+    loaded: &LoadedEntry<'h>,
+) -> Result<String, AllocError>
+    requires { All (λ place. place.address + place.length ≤ length loaded.now.memory)
+        loaded.now.handoff.places }
+{
+    match Image::of(heap, &loaded.handoff, &loaded.memory) {
+        Ok(image) => image_text(alloc, &image),
+        Err(_) => String::from_str(alloc, "no memory"),
+    }
+}
+
+/// Prepares the entry, loads it and makes its image, all over the heap.
+pub fn answer_held(
+    alloc: Global,
+    heap: &Refusing,
+    session: &Session,
+    words: &str,
+    kernel: &[u8],
+) -> Result<String, RowFault> {
+    let (fill, words) = split_word(words);
+    let fill = byte(field(fill, "fill")?)?;
+    let entry = read_entry(alloc, &session.names, words, kernel)?;
+    let files = entry.views(alloc)?;
+    let Some(machine) = session.machine_over(heap)? else {
+        return Ok(String::from_str(alloc, "no memory")?);
+    };
+    match load_entry(heap, &machine, fill, entry.protocol, &entry.lines, &files) {
+        Ok(loaded) => Ok(held_text(alloc, heap, &loaded)?),
+        Err(fault) => unprepared_text(alloc, fault),
     }
 }
 

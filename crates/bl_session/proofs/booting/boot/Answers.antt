@@ -1,8 +1,7 @@
-use Rattle.std.proofs.Common.{◌≡◌, ◌∙◌, ℕ, map, slice_index_or, refl, ap, sym, subst, inl, inr}
+use Rattle.std.proofs.Common.{◌≡◌, ◌∙◌, map, slice_index_or, refl, ap, sym, subst, inl, inr}
 use Rattle.std.specs.List.{range_with_len}
 use Rattle.std.proofs.lemmas.Result.{err_from_is_err_and}
 use Rattle.bl_stage.specs.Ranges.{IsSameOutside}
-use Rattle.bl_session.specs.Attempts.{files_named}
 use Rattle.bl_session.specs.Boot.{BootFacts, out_of_memory}
 use Rattle.bl_session.specs.Memory.{IsMemoryIn}
 use Rattle.bl_session.specs.Outcome.{missing, size_of}

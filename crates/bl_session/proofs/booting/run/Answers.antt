@@ -1,4 +1,4 @@
-use Rattle.std.proofs.Common.{◌≡◌, List, [], None, map, refl, ap, sym, subst, ◌∙◌}
+use Rattle.std.proofs.Common.{List, [], None, map, refl, sym, subst}
 use Rattle.bl_session.specs.History.{Item}
 use Rattle.bl_session.specs.Outcome.{size_of}
 use Rattle.bl_session.specs.Phases.{PhaseFacts, boot_facts, state_at}

@@ -1,4 +1,4 @@
-use Rattle.std.proofs.Common.{◌≡◌, ◌∙◌, drop, length, arith, rules, subst, sym}
+use Rattle.std.proofs.Common.{drop, arith, rules, subst, sym}
 use Rattle.bl_map.proofs.PoolLemmas.{pool_in_memory}
 use Rattle.bl_stage.specs.Spots.{spots}
 use Rattle.bl_stage.specs.Staged.{Staging}

@@ -10,8 +10,8 @@ invariant-loop-at g l =
       from : l.range.start ≤ l.at;
       within : l.at ≤ l.range.end;
       size : l.self.size ≡ l.fn.self.size;
-      after : bytes_of l.self.frames l.self.fill l.self.size ≡ overwrite (bytes_of l.fn.self.frames l.fn.self.fill l.fn.self.size) l.range.start (replicate (l.at - l.range.start) 0);
-      kept : KeepsRoom (IsHeld l.fn.self.frames) (IsHeld l.self.frames);
+      after : bytes_of l.self.chunks l.self.fill l.self.size ≡ overwrite (bytes_of l.fn.self.chunks l.fn.self.fill l.fn.self.size) l.range.start (replicate (l.at - l.range.start) 0);
+      kept : KeepsRoom (IsHeld l.fn.self.chunks) (IsHeld l.self.chunks);
     }
 
 abbrev pub decreases-loop-at : goal.decreases-loop-at
