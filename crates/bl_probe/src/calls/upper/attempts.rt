@@ -11,6 +11,7 @@ mod menu;
 mod rig;
 mod run;
 mod schedules;
+mod silent_store;
 mod steps;
 mod sum;
 mod word;

@@ -2,7 +2,7 @@
 //!
 //! `file=BYTES`, `file=missing`, `file=long`: the files, by their index. `entry=ENTRY`: the entries;
 //! `entry=ENTRY*COUNT`: one so often; `modules=N`: N more modules of the last one.
-//! `default=N`, `fallback=N,N`. `store=forward`, `store=reverse` or `store=script`, and then
+//! `default=N`, `fallback=N,N`. `store=forward`, `reverse`, `silent`, or `script`, and then
 //! `twice=A.F.P,..`, `fail=A.F.P,..`, `picks=N,N,..`.
 
 use crate::bytes::{Names, bytes_of};
@@ -28,6 +28,8 @@ pub enum StoreField {
     Forward,
     Reverse,
     Script,
+    /// Not at all.
+    Silent,
 }
 
 /// What a row says of a boot.
@@ -56,6 +58,7 @@ fn read_store(text: &str) -> Result<StoreField, RowFault> {
         "forward" => Ok(StoreField::Forward),
         "reverse" => Ok(StoreField::Reverse),
         "script" => Ok(StoreField::Script),
+        "silent" => Ok(StoreField::Silent),
         _ => Err(RowFault::BadRow),
     }
 }

@@ -2,6 +2,7 @@
 
 use crate::calls::upper::attempts::boot_fields::{BootFields, FileField, StoreField, read_fields};
 use crate::calls::upper::attempts::end::{FILL, fault_text, outcome_text, outside_word};
+use crate::calls::upper::attempts::silent_store::SilentStore;
 use crate::fault::RowFault;
 use crate::session::Session;
 use bl_map::Machine;
@@ -89,6 +90,10 @@ pub fn answer(
         StoreField::Reverse => Order::Reverse,
         StoreField::Script => {
             let store = fields.script_over(heap, &beside)?;
+            return run_text(alloc, heap, &machine, &menu, store);
+        }
+        StoreField::Silent => {
+            let store = SilentStore::new(heap, fields.files_over(&beside)?);
             return run_text(alloc, heap, &machine, &menu, store);
         }
     };
