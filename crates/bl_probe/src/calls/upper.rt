@@ -1,5 +1,6 @@
 //! The calls of the libraries above the readers: boot information, an entry's handover, images, and whole boots.
 
+mod attempts;
 mod beside;
 mod boot;
 mod describe;
@@ -50,7 +51,7 @@ pub fn make_plain(
         "sink" => sink::answer(alloc, heap, session, words),
         "line" => line::answer(alloc, words),
         "fetch" => boot::answer_fetch(alloc, heap, session, words),
-        _ => Err(RowFault::BadRow),
+        _ => attempts::make(alloc, heap, session, name, words),
     }
 }
 

@@ -1,11 +1,13 @@
 //! The laws of the definitions, which are functions that do nothing.
 
+use crate::calls::upper::attempts;
 use bl_boot::{MemFiles, two_boots};
 use bl_image::{image_tells_all, images_have_no_fault, what_has_no_fault_is_an_image};
 use bl_load::{handovers_are_determined, handovers_are_legal, parts_are_apart_and_usable};
 use bl_mbi::{read_is_spelled, spelled_is_read};
 use bl_walk::{
-    multiboot2_handovers_are_seen, ranges_lie_in_one_part, seen_is_determined, seen_is_sound,
+    handovers_are_seen, images_show_their_entries, ranges_lie_in_one_part, seen_is_determined,
+    seen_is_sound, seen_runs_end_low,
 };
 use std::alloc::Global;
 
@@ -22,6 +24,9 @@ pub fn call_laws() {
     seen_is_determined();
     seen_is_sound();
     ranges_lie_in_one_part();
-    multiboot2_handovers_are_seen();
+    handovers_are_seen();
+    images_show_their_entries();
+    seen_runs_end_low();
+    attempts::call_laws();
     two_boots::<MemFiles<Global>, MemFiles<Global>>();
 }

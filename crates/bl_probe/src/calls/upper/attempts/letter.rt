@@ -1,0 +1,40 @@
+//! What a session is told: `start`, `piece A.F.P BYTES`, `fault A.F.P`.
+
+use crate::bytes::{Names, bytes_of};
+use crate::fault::RowFault;
+use crate::parse::{number32, split_word};
+use bl_session::Ticket;
+use std::alloc::Global;
+
+/// What a session is told.
+#[derive(Drop)]
+pub enum Letter {
+    Start,
+    Piece(Ticket, Vec<u8>),
+    Fault(Ticket),
+}
+
+/// The ticket that `ATTEMPT.FILE.PIECE` is.
+pub fn read_ticket(word: &str) -> Result<Ticket, RowFault> {
+    let (attempt, rest) = word.split_once('.').ok_or(RowFault::BadRow)?;
+    let (file, piece) = rest.split_once('.').ok_or(RowFault::BadRow)?;
+    Ok(Ticket {
+        attempt: number32(attempt)?,
+        file: number32(file)?,
+        piece: number32(piece)?,
+    })
+}
+
+/// The letter that these words are.
+pub fn read_letter(alloc: Global, names: &Names, text: &str) -> Result<Letter, RowFault> {
+    match split_word(text) {
+        ("start", "") => Ok(Letter::Start),
+        ("fault", ticket) => Ok(Letter::Fault(read_ticket(ticket)?)),
+        ("piece", rest) => {
+            let (ticket, pieces) = split_word(rest);
+            let bytes = bytes_of(alloc, names, pieces)?;
+            Ok(Letter::Piece(read_ticket(ticket)?, bytes))
+        }
+        _ => Err(RowFault::BadRow),
+    }
+}
