@@ -8,7 +8,7 @@ use crate::session::Session;
 use bl_map::Machine;
 use bl_mem::{Bytes, PhysMem, Sparse};
 use bl_refusing::Refusing;
-use bl_session::{FileStore, MOST_BYTES, Menu, Order, ScriptStore, Store, StoredFile, run};
+use bl_session::{FileStore, MOST_BYTES, Menu, Order, ScriptStore, Store, Fetched, run};
 use std::alloc::{AllocError, Global};
 
 impl BootFields {
@@ -16,14 +16,14 @@ impl BootFields {
     fn files_over<'h>(
         &self,
         heap: &'h Refusing,
-    ) -> Result<Vec<StoredFile<&'h Refusing>, &'h Refusing>, AllocError> {
+    ) -> Result<Vec<Fetched<&'h Refusing>, &'h Refusing>, AllocError> {
         let mut files = Vec::new(heap);
         for file in &self.files {
             files.push(match file {
-                FileField::Missing => StoredFile::Missing,
-                FileField::Long => StoredFile::TooLong(MOST_BYTES + 1),
+                FileField::Missing => Fetched::Missing,
+                FileField::Long => Fetched::TooLong(MOST_BYTES + 1),
                 FileField::Whole(bytes) => {
-                    StoredFile::Whole(Bytes::copy(heap, bytes.as_slice())?)
+                    Fetched::Bytes(Bytes::copy(heap, bytes.as_slice())?)
                 }
             })?;
         }

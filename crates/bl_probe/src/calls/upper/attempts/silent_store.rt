@@ -2,7 +2,7 @@
 //! with one.
 
 use bl_refusing::Refusing;
-use bl_session::{Completion, Store, StoredFile, Ticket};
+use bl_session::{Completion, Store, Fetched, Ticket};
 use std::alloc::AllocError;
 
 /// What a store was asked: for a piece of a file under a ticket, or for an answer more.
@@ -15,7 +15,7 @@ pub enum Asked {
 /// A store that has files, and answers nothing.
 #[derive(Drop)]
 pub struct SilentStore<'h> {
-    files: Vec<StoredFile<&'h Refusing>, &'h Refusing>,
+    files: Vec<Fetched<&'h Refusing>, &'h Refusing>,
     asked: Vec<Asked, &'h Refusing>,
 }
 
@@ -23,7 +23,7 @@ impl<'h> SilentStore<'h> {
     /// A store of these files, by their index.
     pub fn new(
         heap: &'h Refusing,
-        files: Vec<StoredFile<&'h Refusing>, &'h Refusing>,
+        files: Vec<Fetched<&'h Refusing>, &'h Refusing>,
     ) -> SilentStore<'h> {
         SilentStore {
             files,
