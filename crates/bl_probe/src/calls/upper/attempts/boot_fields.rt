@@ -1,7 +1,7 @@
 //! What a row says of a boot: a menu, its files, and how they come.
 //!
-//! `file=BYTES`, `file=missing`, `file=long`: the files, by their index. `entry=ENTRY`: the entries;
-//! `entry=ENTRY*COUNT`: one so often; `modules=N`: N more modules of the last one.
+//! `file=BYTES`, `file=missing`, `file=long`: the files, by their index. `entry=ENTRY`: the
+//! entries; `entry=ENTRY*COUNT`: one so often; `modules=N`: N more modules of the last one.
 //! `default=N`, `fallback=N,N`. `store=forward`, `reverse`, `silent`, or `script`, and then
 //! `twice=A.F.P,..`, `fail=A.F.P,..`, `picks=N,N,..`.
 

@@ -1,6 +1,6 @@
 //! `schedules upto=N MENU .. do LETTER; LETTER ..`: a session for each word of at most N of these
-//! letters, and a sum of all that they come to. `words WORD,WORD MENU .. do LETTER; ..`: the sessions
-//! of these words, whose letters are `a`, `b`, .. `z`, `A`, .. in the order of the steps.
+//! letters, and a sum of all that they come to. `words WORD,WORD MENU .. do LETTER; LETTER ..`: the
+//! sessions of these words, whose letters are `a`, `b`, .. `z`, `A`, .. in the order of the row.
 
 use crate::calls::upper::attempts::boot_fields::read_fields;
 use crate::calls::upper::attempts::sum::Sum;
