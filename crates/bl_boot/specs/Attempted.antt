@@ -1,5 +1,5 @@
 -- What the menu of a description attempts, and with which files. Own.
-use Rattle.std.specs.Prelude.{ℕ, ◌+◌, ◌-◌, List, [], ◌∷◌, ◌++◌, map, slice_index_or, option_to_list, if◌then◌else◌}
+use Rattle.std.specs.Prelude.{ℕ, ◌+◌, ◌-◌, ◌*◌, List, [], ◌∷◌, ◌++◌, map, slice_index_or, option_to_list, if◌then◌else◌}
 use Rattle.std.specs.Str.{bytes_eq}
 use Rattle.std.specs.List.{list_any, flat_map}
 use Rattle.bl_map.specs.MachineFacts.{MachineFacts}
@@ -68,6 +68,10 @@ names_of_entries description indices =
 -- the names that are looked for: those of the entries that are attempted
 abbrev pub names_in : Described → List (List ℕ)
 names_in description = names_of_entries description (attempted description)
+
+-- at most so many: 32 entries, each with a kernel and 64 modules
+abbrev pub most_names : ℕ
+most_names = 32 * 65
 
 -- the index of a file: the place of its name among these, or how many they are if it is not there
 abbrev pub index_of : List (List ℕ) → List ℕ → ℕ

@@ -2,6 +2,7 @@
 ghost use Rattle.std.specs.Prelude.{◌≡◌, ◌≢◌, ℕ, List, ◌+◌, ◌<◌, ◌≤◌, ◌^◌, length};
 ghost use Rattle.bl_boot.specs.Ends.{HasInlineFiles, names_sought, IsBooted, IsRefused, IsBadDescription, IsBroken};
 ghost use Rattle.bl_boot.specs.Kept.{Ends, HasFaults};
+ghost use Rattle.bl_boot.specs.Attempted.{most_names};
 ghost use Rattle.bl_boot.specs.Files.{Answer};
 ghost use Rattle.bl_desc.specs.Described.{described};
 
@@ -49,6 +50,7 @@ fn run_boot<A: Allocator + Copy, F: Files, S: Sink, B: Allocator>(
         F.answers files.new file answer → F.answers files.old file answer }
     ensures missing { (F.faults files.old ≤ F.faults files.new)
         × (F.faults files.new ≤ F.faults files.old + length (names_sought (described desc.now))) }
+    ensures few { F.faults files.new ≤ F.faults files.old + most_names }
 {
     let description = read_description(alloc, global, desc)?;
     let machine = machine_of(alloc, &description)?;
@@ -111,12 +113,13 @@ pub fn boot<A: Allocator + Copy, F: Files, S: Sink, B: Allocator>(
     ensures sound { result ≢ 3 → S.faults out.new ≡ S.faults out.old }
 
     // Files that stand in the description are not asked for. The files answer as before, and each
-    // name that is looked for is missing once at most.
+    // name that is looked for is missing once at most; these are few.
     ensures inline { HasInlineFiles desc.now → files.new ≡ files.old }
     ensures same_files { (file : List ℕ) (answer : Answer) →
         F.answers files.new file answer → F.answers files.old file answer }
     ensures missing { (F.faults files.old ≤ F.faults files.new)
         × (F.faults files.new ≤ F.faults files.old + length (names_sought (described desc.now))) }
+    ensures few { F.faults files.new ≤ F.faults files.old + most_names }
 {
     match run_boot(alloc, global, desc, files, order, out, say) {
         Ok(End::Booted) => 0,
