@@ -55,7 +55,7 @@ some_alignment file setup is moved =
     let fields = fields_are file setup is in
     let test = (last_checks file is.sound).0 in
     let field : nat_eq _ 0 ≡ false =
-        subst (λ (n : ℕ). nat_eq n 0 ≡ false) fields.relocatable_kernel moved in
+    subst (λ (n : ℕ). nat_eq n 0 ≡ false) fields.relocatable_kernel moved in
     subst (λ (n : ℕ). 1 ≤ n) (sym fields.kernel_alignment) (some_power _ (aligned_if _ _ test field))
 
 preferred_if :
@@ -77,10 +77,10 @@ fixed_preferred file setup is fixed =
     let fields = fields_are file setup is in
     let test = (last_checks file is.sound).1 in
     let field : nat_eq (slice_index file 0x234) 0 ≡ true =
-        subst (λ (n : ℕ). nat_eq n 0 ≡ true) (sym fixed ∙ fields.relocatable_kernel) refl in
+    subst (λ (n : ℕ). nat_eq n 0 ≡ true) (sym fixed ∙ fields.relocatable_kernel) refl in
     let within =
-        preferred_if _ (nat_le 0x100000 (u64_at file 0x258)) (nat_le (u64_at file 0x258) 0xFFFFFFFF)
-        test field in
+    preferred_if _ (nat_le 0x100000 (u64_at file 0x258)) (nat_le (u64_at file 0x258) 0xFFFFFFFF)
+    test field in
     let above = le_from 0x100000 (u64_at file 0x258) within.0 in
     let below = le_from (u64_at file 0x258) 0xFFFFFFFF within.1 in
     let same = fields.pref_address in

@@ -60,11 +60,7 @@ pub(crate) fn size_in<A: Allocator>(files: &[Fetched<A>], file: u32) -> Option<u
 }
 
 /// The bytes of a piece of a file of these, if there is one.
-pub(crate) fn piece_in<A: Allocator>(
-    files: &[Fetched<A>],
-    file: u32,
-    index: u32,
-) -> Option<&[u8]>
+pub(crate) fn piece_in<A: Allocator>(files: &[Fetched<A>], file: u32, index: u32) -> Option<&[u8]>
     ensures some { IsSome result ↔ (4096 * index
         < length (text_of (slice_index_or (stored_files files.now) file missing))) }
     ensures piece { IfSome result (λ piece. piece.now

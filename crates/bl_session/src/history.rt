@@ -4,8 +4,8 @@ ghost use Rattle.std.specs.Borrow.{ftrue};
 ghost use Rattle.bl_session.specs.History.{Item};
 
 use crate::completion::Completion;
-use crate::request::Request;
 use crate::fetched::Fetched;
+use crate::request::Request;
 use std::alloc::Allocator;
 use std::marker::Model;
 

@@ -5,8 +5,8 @@ ghost use Rattle.bl_session.specs.Stores.{stored_files, event_of};
 ghost use Rattle.bl_session.specs.Scripts.{altered, event_by, replies_to};
 
 use crate::completion::Completion;
-use crate::request::{Request, answer};
 use crate::fetched::Fetched;
+use crate::request::{Request, answer};
 use crate::words::Ticket;
 use std::alloc::{AllocError, Allocator};
 

@@ -2,7 +2,7 @@
 //! with one.
 
 use bl_refusing::Refusing;
-use bl_session::{Completion, Store, Fetched, Ticket};
+use bl_session::{Completion, Fetched, Store, Ticket};
 use std::alloc::AllocError;
 
 /// What a store was asked: for a piece of a file under a ticket, or for an answer more.
