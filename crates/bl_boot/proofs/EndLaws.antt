@@ -1,5 +1,6 @@
 -- Of two boots.
-use Rattle.std.proofs.Common.{◌≡◌, ◌++◌, ◌∙◌, ℕ, Bool, true, false, List, Option, None, refl, sym, ap, if◌then◌else◌}
+use Rattle.std.proofs.Common.{◌≡◌, ◌++◌, ◌∙◌, ℕ, Bool, true, false, List, Option, None, refl, sym}
+use Rattle.std.proofs.Common.{ap, if◌then◌else◌}
 use Rattle.std.specs.declared.ops.Range.{Range}
 use Rattle.bl_map.specs.MachineFacts.{MachineFacts}
 use Rattle.bl_map.specs.Kinds.{kind_at}
@@ -17,50 +18,69 @@ use Rattle.bl_session.proofs.EndLaws.{one_end}
 use Rattle.bl_session.proofs.OutcomeLaws.{same_handover}
 use Rattle.bl_desc.specs.Described.{Described}
 use Rattle.bl_boot.specs.Attempted.{boot_of, files_of}
-use Rattle.bl_boot.specs.Ends.{BootCase, EndsAt, IsBooted, IsMachineOf, Surroundings, sizes_at, value_at}
+use Rattle.bl_boot.specs.Ends.{BootCase, EndsAt, IsBooted, IsMachineOf, Surroundings, sizes_at}
+use Rattle.bl_boot.specs.Ends.{value_at}
 use Rattle.bl_boot.specs.Files.{Answer}
 
 -- two boots
-module _ {F G : Type 0} {answers : F → List ℕ → Answer → Type 0} {faults : F → ℕ} {desc : List ℕ} {before after : Surroundings F}
-    {replies : G → List ℕ → Answer → Type 0} {wants : G → ℕ} {other : List ℕ} {began ended : Surroundings G} where
-  pub one_image : (a : IsBooted answers faults desc before after) (b : IsBooted replies wants other began ended)
+module _ {F G : Type 0} {answers : F → List ℕ → Answer → Type 0} {faults : F → ℕ} {desc : List ℕ}
+    {before after : Surroundings F}
+    {replies : G → List ℕ → Answer → Type 0} {wants : G → ℕ} {other : List ℕ}
+    {began ended : Surroundings G} where
+  pub one_image : (a : IsBooted answers faults desc before after)
+      (b : IsBooted replies wants other began ended)
       → a.case.facts ≡ b.case.facts → value_at a.case a.entry ≡ value_at b.case b.entry
       → (image : List ℕ) × (after.sink ≡ before.sink ++ image) × (ended.sink ≡ began.sink ++ image)
   one_image a b machine value =
       let f = boot_of a.case.description a.case.facts a.case.answered in
       let g = boot_of b.case.description b.case.facts b.case.answered in
-      let one : a.handover ≡ b.handover = same_handover f g (files_of a.case.answered) (files_of b.case.answered) no_fault no_fault a.entry b.entry
-      a.earlier b.earlier a.handover b.handover machine value a.outcome b.outcome in
-      (spelling a.handover, a.image, b.image ∙ ap (λ (h : Handover). began.sink ++ spelling h) (sym one))
+      let one : a.handover ≡ b.handover =
+      same_handover f g (files_of a.case.answered) (files_of b.case.answered) no_fault no_fault
+      a.entry b.entry
+      a.earlier b.earlier a.handover b.handover machine value a.outcome b.outcome in (
+        spelling a.handover,
+        a.image,
+        b.image ∙ ap (λ (h : Handover). began.sink ++ spelling h) (sym one),
+      )
 
 -- without a fault no file is faulty
 none_if : (b : Bool) → (if b then None else None) ≡ (let none : Option ℕ = None in none)
 none_if true = refl
 none_if false = refl
 
-ends_alike : (m n : MachineFacts) (s t : List (Option ℕ)) (p q : Option ℕ) (v w : EntryValue) (e f : End)
+ends_alike : (m n : MachineFacts) (s t : List (Option ℕ)) (p q : Option ℕ) (v w : EntryValue)
+    (e f : End)
     → m ≡ n → s ≡ t → p ≡ q → v ≡ w → session.Ends m s p v e → session.Ends n t q w f → e ≡ f
 ends_alike m n s t p q v w e f machine sizes faulty value x y =
     one_end n t q w e f (rw (← machine, ← sizes, ← faulty, ← value) x) y
 
-module _ {F G : Type 0} {answers : F → List ℕ → Answer → Type 0} {faults : F → ℕ} {desc : List ℕ} {before after : F}
-    {replies : G → List ℕ → Answer → Type 0} {wants : G → ℕ} {other : List ℕ} {began ended : G} where
-  pub one_end_at : (a : BootCase answers faults desc before after) (b : BootCase replies wants other began ended)
-      → a.facts ≡ b.facts → (entry index : ℕ) → sizes_at a entry ≡ sizes_at b index → value_at a entry ≡ value_at b index
-      → (e f : End) → EndsAt a entry e → EndsAt b index f → e ≡ f
-  one_end_at a b machine entry index sizes value e f x y =
-      let f_a = boot_of a.description a.facts a.answered in
-      let f_b = boot_of b.description b.facts b.answered in
-      ends_alike a.facts b.facts (sizes_at a entry) (sizes_at b index) (faulty_in f_a entry None) (faulty_in f_b index None)
-      (value_at a entry) (value_at b index) e f machine sizes
-      (none_if (are_whole (fresh f_a entry)) ∙ sym (none_if (are_whole (fresh f_b index)))) value x y
+module _ {F G : Type 0} {answers : F → List ℕ → Answer → Type 0} {faults : F → ℕ} {desc : List ℕ}
+    {before after : F}
+    {replies : G → List ℕ → Answer → Type 0} {wants : G → ℕ} {other : List ℕ} {began ended : G}
+  where
+    pub one_end_at : (a : BootCase answers faults desc before after)
+        (b : BootCase replies wants other began ended)
+        → a.facts ≡ b.facts → (entry index : ℕ) → sizes_at a entry ≡ sizes_at b index
+        → value_at a entry ≡ value_at b index
+        → (e f : End) → EndsAt a entry e → EndsAt b index f → e ≡ f
+    one_end_at a b machine entry index sizes value e f x y =
+        let f_a = boot_of a.description a.facts a.answered in
+        let f_b = boot_of b.description b.facts b.answered in
+        ends_alike a.facts b.facts (sizes_at a entry) (sizes_at b index) (faulty_in f_a entry None)
+        (faulty_in f_b index None)
+        (value_at a entry) (value_at b index) e f machine sizes
+        (none_if (are_whole (fresh f_a entry)) ∙ sym (none_if (are_whole (fresh f_b index)))) value x
+        y
 
 facts_of : (s t : ℕ) (x y : List Region) (p q : Range ℕ) → s ≡ t → x ≡ y → p ≡ q
-    → ◌≡◌ {A = MachineFacts} record { size = s; runs = x; pool = p } record { size = t; runs = y; pool = q }
+    → ◌≡◌ {A = MachineFacts} record { size = s; runs = x; pool = p }
+    record { size = t; runs = y; pool = q }
 facts_of s t x y p q size runs pool = rw (size, runs, pool) refl
 
 pub same_facts : (one two : Described) (f g : MachineFacts) → IsMachineOf one f → IsMachineOf two g
-    → one.size ≡ two.size → one.pool ≡ two.pool → ((a : ℕ) → kind_at one.regions a ≡ kind_at two.regions a) → f ≡ g
+    → one.size ≡ two.size → one.pool ≡ two.pool
+    → ((a : ℕ) → kind_at one.regions a ≡ kind_at two.regions a) → f ≡ g
 same_facts one two f g a b size pool kinds =
     facts_of f.size g.size f.runs g.runs f.pool g.pool (a.size ∙ size ∙ sym b.size)
-    (one_normal_map one.regions two.regions f.runs g.runs kinds a.runs b.runs) (a.pool ∙ pool ∙ sym b.pool)
+    (one_normal_map one.regions two.regions f.runs g.runs kinds a.runs b.runs)
+    (a.pool ∙ pool ∙ sym b.pool)

@@ -1,5 +1,6 @@
 -- How boots end.
-use Rattle.std.proofs.Common.{◌≡◌, ◌∙◌, ℕ, List, [], ◌∷◌, ◌++◌, None, Some, Result, Ok, Err, All, IsSome, map, ap, refl, sym, subst}
+use Rattle.std.proofs.Common.{◌≡◌, ◌∙◌, ℕ, List, [], ◌∷◌, ◌++◌, None, Some, Result, Ok, Err, All}
+use Rattle.std.proofs.Common.{IsSome, map, ap, refl, sym, subst}
 use Rattle.std.proofs.lemmas.Option.{same_Some}
 use Rattle.bl_map.specs.MachineFacts.{MachineFacts}
 use Rattle.bl_load.specs.Handover.{Handover}
@@ -18,95 +19,123 @@ use Rattle.bl_desc.specs.Kept.{view}
 use Rattle.bl_boot.specs.declared.booting.fault.End.{End}
 use Rattle.bl_boot.specs.declared.booting.fault.End.TheVariants.{Booted, NoEntryLeft}
 use Rattle.bl_boot.specs.declared.booting.fault.EndFault.{EndFault}
-use Rattle.bl_boot.specs.declared.booting.fault.EndFault.TheVariants.{BadDescription, Device, NoMemory}
+use Rattle.bl_boot.specs.declared.booting.fault.EndFault.TheVariants.{BadDescription, Device}
+use Rattle.bl_boot.specs.declared.booting.fault.EndFault.TheVariants.{NoMemory}
 use Rattle.bl_boot.specs.Files.{Answer, answer_of}
 use Rattle.bl_boot.specs.Found.{AreFound}
 use Rattle.bl_boot.specs.Attempted.{entry_of, names_in, menu_of, files_of}
-use Rattle.bl_boot.specs.Ends.{IsMachineOf, BootCase, ComesTo, HasInlineFiles, names_sought, Surroundings}
+use Rattle.bl_boot.specs.Ends.{IsMachineOf, BootCase, ComesTo, HasInlineFiles, names_sought}
+use Rattle.bl_boot.specs.Ends.{Surroundings}
 use Rattle.bl_boot.specs.Kept.{IsHandFault, HasFaults, FoundEnds, Ends}
 
 -- the sink has one fault more exactly if it had one while the image was written
-pub faults_by : (old new : ℕ) (s t image : List ℕ) (fault : EndFault) → IsHandFault old new s t image fault → HasFaults old new (Err fault)
+pub faults_by : (old new : ℕ) (s t image : List ℕ) (fault : EndFault)
+    → IsHandFault old new s t image fault → HasFaults old new (Err fault)
 faults_by old new s t image BadDescription never = absurd never
 faults_by old new s t image Device broken = broken.0
 faults_by old new s t image NoMemory kept = kept.0
 
 -- an entry that is not handed over after all
-pub not_handed : (description : Described) (facts : BootFacts) (files : List session.File) (entry : ℕ) (earlier : List RefusedEntry) (handover : Handover)
-    → IsOutcome facts files no_fault (handed_over entry earlier handover) → (old new : ℕ) (s t u v : List ℕ) (fault : EndFault)
-    → IsHandFault old new s t (spelling handover) fault → v ≡ u → FoundEnds description facts files s t u v (Err fault)
-not_handed description facts files entry earlier handover came old new s t u v BadDescription never unsaid = absurd never
-not_handed description facts files entry earlier handover came old new s t u v Device broken unsaid = (entry, earlier, handover, came, broken.1, unsaid)
-not_handed description facts files entry earlier handover came old new s t u v NoMemory kept unsaid = (kept.1, unsaid)
+pub not_handed : (description : Described) (facts : BootFacts) (files : List session.File)
+    (entry : ℕ) (earlier : List RefusedEntry) (handover : Handover)
+    → IsOutcome facts files no_fault (handed_over entry earlier handover)
+    → (old new : ℕ) (s t u v : List ℕ) (fault : EndFault)
+    → IsHandFault old new s t (spelling handover) fault → v ≡ u
+    → FoundEnds description facts files s t u v (Err fault)
+not_handed description facts files entry earlier handover came old new s t u v BadDescription never
+    unsaid = absurd never
+not_handed description facts files entry earlier handover came old new s t u v Device broken
+    unsaid = (entry, earlier, handover, came, broken.1, unsaid)
+not_handed description facts files entry earlier handover came old new s t u v NoMemory kept
+    unsaid = (kept.1, unsaid)
 
 -- a store has the files that were found
-same_files : {A : Type 0} (files : List (Fetched A)) → stored_files files ≡ files_of (map answer_of files)
+same_files : {A : Type 0} (files : List (Fetched A))
+    → stored_files files ≡ files_of (map answer_of files)
 same_files [] = refl
 same_files (Missing ∷ files) = ap (λ fs. session.missing ∷ fs) (same_files files)
 same_files (TooLong n ∷ files) = rw (same_files files) refl
 same_files (Bytes bytes ∷ files) = rw (same_files files) refl
 
 -- the bytes describe d
-module _ {A : Type 0} (desc : List ℕ) (d : Description A) (is : described desc ≡ Some (view d)) where
-  -- its files stand in the description
-  pub inline_in : HasInlineFiles desc → All (λ name. IsSome (file_named name (view d).files)) (names_in (view d))
-  inline_in has =
-      let same : has.description ≡ view d = same_Some _ _ (sym has.is_described ∙ is) in
-      subst (λ (x : Described). All (λ name. IsSome (file_named name x.files)) (names_in x)) same has.inline
+module _ {A : Type 0} (desc : List ℕ) (d : Description A) (is : described desc ≡ Some (view d))
+  where
+    -- its files stand in the description
+    pub inline_in : HasInlineFiles desc
+        → All (λ name. IsSome (file_named name (view d).files)) (names_in (view d))
+    inline_in has =
+        let same : has.description ≡ view d = same_Some _ _ (sym has.is_described ∙ is) in
+        subst (λ (x : Described). All (λ name. IsSome (file_named name x.files)) (names_in x)) same
+        has.inline
 
-  pub sought : names_sought (described desc) ≡ names_in (view d)
-  sought = rw is refl
+    pub sought : names_sought (described desc) ≡ names_in (view d)
+    sought = rw is refl
 
-  -- its machine has these facts, and these files were found
-  module _ {F : Type 0} (answers : F → List ℕ → Answer → Type 0) (faults : F → ℕ) (facts : MachineFacts)
-      (machine : IsMachineOf (view d) facts) (before after : F) {B : Type 0} (files : List (Fetched B))
-      (found : AreFound answers faults (view d).files (names_in (view d)) before after (map answer_of files)) where
-    abbrev this_case : BootCase answers faults desc before after
-    this_case = record {
-      description = view d;
-      facts = facts;
-      answered = map answer_of files;
-      is_described = is;
-      machine = machine;
-      found = found;
-    }
+    -- its machine has these facts, and these files were found
+    module _ {F : Type 0} (answers : F → List ℕ → Answer → Type 0) (faults : F → ℕ)
+        (facts : MachineFacts)
+        (machine : IsMachineOf (view d) facts) (before after : F) {B : Type 0}
+        (files : List (Fetched B))
+        (found : AreFound answers faults (view d).files (names_in (view d)) before after
+        (map answer_of files)) where
+      abbrev this_case : BootCase answers faults desc before after
+      this_case = record {
+        description = view d;
+        facts = facts;
+        answered = map answer_of files;
+        is_described = is;
+        machine = machine;
+        found = found;
+      }
 
-    -- this came of the run over a store of these files
-    abbrev Came : State → Type 0
-    Came state = IsOutcome (boot_facts facts (menu_of (view d)) (map size_of (stored_files files))) (stored_files files) no_fault state
+      -- this came of the run over a store of these files
+      abbrev Came : State → Type 0
+      Came state =
+          IsOutcome (boot_facts facts (menu_of (view d)) (map size_of (stored_files files)))
+          (stored_files files) no_fault state
 
-    comes_to : (state : State) → Came state → ComesTo answers faults this_case state
-    comes_to state came =
-        subst (λ (fs : List session.File). IsOutcome (boot_facts facts (menu_of (view d)) (map size_of fs)) fs no_fault state)
-        (same_files files) came
+      comes_to : (state : State) → Came state → ComesTo answers faults this_case state
+      comes_to state came =
+          subst
+          (λ (fs : List session.File).
+          IsOutcome (boot_facts facts (menu_of (view d)) (map size_of fs)) fs no_fault state)
+          (same_files files) came
 
-    -- around it the sink and what is said went so
-    abbrev around : F → List ℕ → List ℕ → Surroundings F
-    around files sink said = record { files = files; sink = sink; said = said }
+      -- around it the sink and what is said went so
+      abbrev around : F → List ℕ → List ℕ → Surroundings F
+      around files sink said = record { files = files; sink = sink; said = said }
 
-    -- it ends as the boot of what was found
-    pub ends_by : (s t u v : List ℕ) (ended : Result End EndFault)
-        → FoundEnds (view d) (boot_facts facts (menu_of (view d)) (map size_of (stored_files files))) (stored_files files) s t u v ended
-        → Ends answers faults desc (around before s u) (around after t v) ended
-    ends_by s t u v (Ok Booted) (entry, earlier, handover, came, image, said) = record {
-      case = this_case;
-      entry = entry;
-      earlier = earlier;
-      handover = handover;
-      outcome = comes_to (handed_over entry earlier handover) came;
-      image = image;
-      said = said;
-    }
-    ends_by s t u v (Ok NoEntryLeft) (refused, came, nothing, said) =
-        record { case = this_case; refused = refused; outcome = comes_to (none_left refused) came; nothing = nothing; said = said }
-    ends_by s t u v (Err BadDescription) never = absurd never
-    ends_by s t u v (Err Device) (entry, earlier, handover, came, begun, unsaid) = record {
-      case = this_case;
-      entry = entry;
-      earlier = earlier;
-      handover = handover;
-      outcome = comes_to (handed_over entry earlier handover) came;
-      begun = begun;
-      unsaid = unsaid;
-    }
-    ends_by s t u v (Err NoMemory) kept = kept
+      -- it ends as the boot of what was found
+      pub ends_by : (s t u v : List ℕ) (ended : Result End EndFault)
+          → FoundEnds (view d)
+          (boot_facts facts (menu_of (view d)) (map size_of (stored_files files)))
+          (stored_files files) s t u v ended
+          → Ends answers faults desc (around before s u) (around after t v) ended
+      ends_by s t u v (Ok Booted) (entry, earlier, handover, came, image, said) = record {
+        case = this_case;
+        entry = entry;
+        earlier = earlier;
+        handover = handover;
+        outcome = comes_to (handed_over entry earlier handover) came;
+        image = image;
+        said = said;
+      }
+      ends_by s t u v (Ok NoEntryLeft) (refused, came, nothing, said) =
+          record {
+            case = this_case;
+            refused = refused;
+            outcome = comes_to (none_left refused) came;
+            nothing = nothing;
+            said = said;
+          }
+      ends_by s t u v (Err BadDescription) never = absurd never
+      ends_by s t u v (Err Device) (entry, earlier, handover, came, begun, unsaid) = record {
+        case = this_case;
+        entry = entry;
+        earlier = earlier;
+        handover = handover;
+        outcome = comes_to (handed_over entry earlier handover) came;
+        begun = begun;
+        unsaid = unsaid;
+      }
+      ends_by s t u v (Err NoMemory) kept = kept

@@ -1,5 +1,6 @@
 -- What is found for names, one after the other.
-use Rattle.std.proofs.Common.{◌≡◌, ◌+◌, ◌<◌, ℕ, List, [], ◌∷◌, ◌++◌, All, Bor, get_or, take, length, map, refl, subst, arith}
+use Rattle.std.proofs.Common.{◌≡◌, ◌+◌, ◌<◌, ℕ, List, [], ◌∷◌, ◌++◌, All, Bor, get_or, take, length}
+use Rattle.std.proofs.Common.{map, refl, subst, arith}
 use Rattle.std.proofs.lemmas.List.{get_or-map, map-append, length-map, take_more}
 use Rattle.bl_desc.specs.Described.{File}
 use Rattle.bl_boot.specs.Files.{Answer}
@@ -8,26 +9,37 @@ use Rattle.bl_boot.specs.Found.{IsFound, AreFound}
 -- ---- found
 
 -- one more is found behind those before
-pub one_more_found : {F : Type 0} (answers : F → List ℕ → Answer → Type 0) (faults : F → ℕ) (inline : List File)
-    (names : List (List ℕ)) (name : List ℕ) (found : List Answer) (answer : Answer) (before between after : F)
-    → AreFound answers faults inline names before between found → IsFound answers faults inline name between after answer
+pub one_more_found : {F : Type 0} (answers : F → List ℕ → Answer → Type 0) (faults : F → ℕ)
+    (inline : List File)
+    (names : List (List ℕ)) (name : List ℕ) (found : List Answer) (answer : Answer)
+    (before between after : F)
+    → AreFound answers faults inline names before between found
+    → IsFound answers faults inline name between after answer
     → AreFound answers faults inline (names ++ name ∷ []) before after (found ++ answer ∷ [])
 one_more_found answers faults inline [] name [] answer before between after is found =
     (after, subst (λ x. IsFound answers faults inline name x after answer) is found, refl)
-one_more_found answers faults inline [] name (a ∷ found) answer before between after is one = absurd is
-one_more_found answers faults inline (n ∷ names) name [] answer before between after is one = absurd is
-one_more_found answers faults inline (n ∷ names) name (a ∷ found) answer before between after is one =
-    (is.0, is.1, one_more_found answers faults inline names name found answer is.0 between after is.2 one)
+one_more_found answers faults inline [] name (a ∷ found) answer before between after is one =
+    absurd is
+one_more_found answers faults inline (n ∷ names) name [] answer before between after is one =
+    absurd is
+one_more_found answers faults inline (n ∷ names) name (a ∷ found) answer before between after is
+    one = (
+      is.0,
+      is.1,
+      one_more_found answers faults inline names name found answer is.0 between after is.2 one,
+    )
 
 -- there is an answer for each name
-pub answers_for_all : {F : Type 0} (answers : F → List ℕ → Answer → Type 0) (faults : F → ℕ) (inline : List File)
+pub answers_for_all : {F : Type 0} (answers : F → List ℕ → Answer → Type 0) (faults : F → ℕ)
+    (inline : List File)
     (names : List (List ℕ)) (found : List Answer) (before after : F)
     → AreFound answers faults inline names before after found → length found ≡ length names
 answers_for_all answers faults inline [] [] before after is = refl
 answers_for_all answers faults inline [] (a ∷ found) before after is = absurd is
 answers_for_all answers faults inline (n ∷ names) [] before after is = absurd is
 answers_for_all answers faults inline (n ∷ names) (a ∷ found) before after is =
-    let rest = answers_for_all answers faults inline names found is.0 after is.2 in omega (arith, rest)
+    let rest =
+    answers_for_all answers faults inline names found is.0 after is.2 in omega (arith, rest)
 
 -- ---- names
 
@@ -44,5 +56,6 @@ stands_at P names i all within =
 
 -- one name more
 pub names_grow : (names : List (Bor (List ℕ))) (i : ℕ) → i < length names
-    → map (λ n. n.now) (take (i + 1) names) ≡ map (λ n. n.now) (take i names) ++ (get_or names i no_name).now ∷ []
+    → map (λ n. n.now) (take (i + 1) names)
+    ≡ map (λ n. n.now) (take i names) ++ (get_or names i no_name).now ∷ []
 names_grow names i within = rw (take_more names i no_name within, map-append) refl

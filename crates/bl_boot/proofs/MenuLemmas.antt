@@ -1,5 +1,6 @@
 -- The menu of a description.
-use Rattle.std.proofs.Common.{◌≡◌, ◌∙◌, ◌+◌, ◌<◌, ℕ, zero, suc, List, [], ◌∷◌, ◌++◌, All, get_or, length, map, take, ap, sym, refl, arith}
+use Rattle.std.proofs.Common.{◌≡◌, ◌∙◌, ◌+◌, ◌<◌, ℕ, zero, suc, List, [], ◌∷◌, ◌++◌, All, get_or}
+use Rattle.std.proofs.Common.{length, map, take, ap, sym, refl, arith}
 use Rattle.std.proofs.lemmas.List.{map-append, take_more}
 use Rattle.bl_load.specs.declared.entry.Entry.{Entry}
 use Rattle.bl_load.specs.Value.{HasFewModules}
@@ -12,17 +13,22 @@ use Rattle.bl_desc.specs.Kept.{entry_view}
 use Rattle.bl_boot.specs.Attempted.{entry_facts}
 
 -- a menu that is small, and whose indices name entries, has no fault; memory may run out
-pub only_memory : {A : Type 0} (entries : List (Entry A)) (default : ℕ) (fallbacks : List ℕ) (fault : MenuFault)
-    → IsSmall entries → NameEntries (length entries) default fallbacks → HasMenuFault entries default fallbacks fault → fault ≡ NoMemory
+pub only_memory : {A : Type 0} (entries : List (Entry A)) (default : ℕ) (fallbacks : List ℕ)
+    (fault : MenuFault)
+    → IsSmall entries → NameEntries (length entries) default fallbacks
+    → HasMenuFault entries default fallbacks fault → fault ≡ NoMemory
 only_memory entries default fallbacks BadIndex small named is = absurd (is.1 named)
 only_memory entries default fallbacks TooMany small named is = absurd (is small)
 only_memory entries default fallbacks NoMemory small named is = refl
 
 -- one entry more
-pub entries_more : {A : Type 0} (names : List (List ℕ)) (rows : List (EntryRow A)) (i : ℕ) (row : EntryRow A) (entries : List (Entry A)) (entry : Entry A)
-    → row ≡ get_or rows i row → i < length rows → map facts_of entries ≡ map (entry_facts names) (map entry_view (take i rows))
+pub entries_more : {A : Type 0} (names : List (List ℕ)) (rows : List (EntryRow A)) (i : ℕ)
+    (row : EntryRow A) (entries : List (Entry A)) (entry : Entry A)
+    → row ≡ get_or rows i row → i < length rows
+    → map facts_of entries ≡ map (entry_facts names) (map entry_view (take i rows))
     → facts_of entry ≡ entry_facts names (entry_view row)
-    → map facts_of (entries ++ entry ∷ []) ≡ map (entry_facts names) (map entry_view (take (i + 1) rows))
+    → map facts_of (entries ++ entry ∷ [])
+    ≡ map (entry_facts names) (map entry_view (take (i + 1) rows))
 entries_more {A} names rows i row entries entry here within so same =
     let before = map (entry_facts names) (map entry_view (take i rows)) in
     let more : take (i + 1) rows ≡ take i rows ++ row ∷ [] =

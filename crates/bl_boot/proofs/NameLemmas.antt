@@ -1,5 +1,7 @@
 -- The names that are looked for.
-use Rattle.std.proofs.Common.{◌≡◌, ◌∙◌, ◌*◌, ◌≤◌, ◌<◌, ℕ, zero, suc, List, [], ◌∷◌, ◌++◌, Bor, Bool, true, false, All, Result, Ok, Err, IfOk, None, Some, if◌then◌else◌, length, map, get_or, ap, sym, refl, arith, append_assoc}
+use Rattle.std.proofs.Common.{◌≡◌, ◌∙◌, ◌*◌, ◌≤◌, ◌<◌, ℕ, zero, suc, List, [], ◌∷◌, ◌++◌, Bor, Bool}
+use Rattle.std.proofs.Common.{true, false, All, Result, Ok, Err, IfOk, None, Some, if◌then◌else◌}
+use Rattle.std.proofs.Common.{length, map, get_or, ap, sym, refl, arith, append_assoc}
 use Rattle.std.specs.Str.{bytes_eq}
 use Rattle.std.specs.List.{list_any}
 use Rattle.std.specs.List.{flat_map}
@@ -12,7 +14,8 @@ use Rattle.bl_desc.specs.declared.form.EntryForm.{EntryForm}
 use Rattle.bl_desc.specs.declared.form.EntryForm.TheVariants.{Multiboot2, Linux}
 use Rattle.bl_desc.specs.Described.{Described, Entry}
 use Rattle.bl_desc.specs.Kept.{HasMenu, entry_view, form_view, view}
-use Rattle.bl_boot.specs.Attempted.{entry_of, file_names, names_beside, names_once, names_in, no_entry}
+use Rattle.bl_boot.specs.Attempted.{entry_of, file_names, names_beside, names_once, names_in}
+use Rattle.bl_boot.specs.Attempted.{no_entry}
 use Rattle.bl_boot.specs.Kept.{names_with}
 
 -- names as they are kept
@@ -49,20 +52,23 @@ few_beside (Linux (Some file)) = omega arith
 few_files : {A : Type 0} (row : EntryRow A) → length (file_names (entry_view row)) ≤ 65
 few_files row = let few = few_beside row.form in omega (arith, few)
 
-few_at : {A : Type 0} (rows : List (EntryRow A)) (index : ℕ) → length (file_names (get_or (map entry_view rows) index no_entry)) ≤ 65
+few_at : {A : Type 0} (rows : List (EntryRow A)) (index : ℕ)
+    → length (file_names (get_or (map entry_view rows) index no_entry)) ≤ 65
 few_at [] index = omega arith
 few_at (row ∷ rows) zero = few_files row
 few_at (row ∷ rows) (suc index) = few_at rows index
 
 few_together : {A : Type 0} (d : Description A) (indices : List ℕ)
-    → length (flat_map (λ index. file_names (entry_of (view d) index)) indices) ≤ length indices * 65
+    → length (flat_map (λ index. file_names (entry_of (view d) index)) indices)
+    ≤ length indices * 65
 few_together d [] = omega arith
 few_together d (index ∷ indices) =
     let here = few_at d.entries.items index in
     let rest = few_together d indices in
     rw length-append (omega (arith, here, rest))
 
-few_if : (b : Bool) (name : List ℕ) (rest kept names : List (List ℕ)) → length rest ≤ length names → length kept ≤ length names
+few_if : (b : Bool) (name : List ℕ) (rest kept names : List (List ℕ)) → length rest ≤ length names
+    → length kept ≤ length names
     → length (if b then rest else name ∷ kept) ≤ length (name ∷ names)
 few_if true name rest kept names r k = omega (arith, r)
 few_if false name rest kept names r k = omega (arith, k)
@@ -70,25 +76,30 @@ few_if false name rest kept names r k = omega (arith, k)
 few_once : (earlier names : List (List ℕ)) → length (names_once earlier names) ≤ length names
 few_once earlier [] = omega arith
 few_once earlier (name ∷ names) =
-    few_if (list_any (λ n. bytes_eq n name) earlier) name (names_once earlier names) (names_once (earlier ++ name ∷ []) names) names
+    few_if (list_any (λ n. bytes_eq n name) earlier) name (names_once earlier names)
+    (names_once (earlier ++ name ∷ []) names) names
     (few_once earlier names) (few_once (earlier ++ name ∷ []) names)
 
 pub few_names : {A : Type 0} (d : Description A) → HasMenu d → length (names_in (view d)) ≤ 32 * 65
 few_names d menu =
     let indices : List ℕ = attempts_of d.default d.fallbacks.items in
-    let attempts = few_attempts (length d.entries.items) d.default d.fallbacks.items menu.2 menu.3 in
+    let attempts =
+    few_attempts (length d.entries.items) d.default d.fallbacks.items menu.2 menu.3 in
     let once = few_once [] (flat_map (λ index. file_names (entry_of (view d) index)) indices) in
     let all = few_together d indices in
     let entries = menu.1 in
     omega (arith, attempts, once, all, entries)
 
 -- as many names are kept as are looked for
-pub as_many : (names : List (Bor (List ℕ))) (those : List (List ℕ)) → texts names ≡ those → length names ≡ length those
+pub as_many : (names : List (Bor (List ℕ))) (those : List (List ℕ)) → texts names ≡ those
+    → length names ≡ length those
 as_many names those is =
     let kept : length (texts names) ≡ length names = rw length-map refl in
     sym kept ∙ ap length is
 
-pub few_kept : {T E : Type 0} (items : T → List (Bor (List ℕ))) (those : List (List ℕ)) (most : ℕ) (names : Result T E)
-    → IfOk names (λ n. texts (items n) ≡ those) → length those ≤ most → IfOk names (λ n. length (items n) ≤ most)
+pub few_kept : {T E : Type 0} (items : T → List (Bor (List ℕ))) (those : List (List ℕ)) (most : ℕ)
+    (names : Result T E)
+    → IfOk names (λ n. texts (items n) ≡ those) → length those ≤ most
+    → IfOk names (λ n. length (items n) ≤ most)
 few_kept items those most (Ok n) is few = rw (as_many (items n) those is) few
 few_kept items those most (Err e) is few = tt

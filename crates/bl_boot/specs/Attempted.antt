@@ -1,5 +1,6 @@
 -- What the menu of a description attempts, and with which files. Own.
-use Rattle.std.specs.Prelude.{ℕ, ◌+◌, ◌-◌, ◌*◌, List, [], ◌∷◌, ◌++◌, map, slice_index_or, option_to_list, if◌then◌else◌}
+use Rattle.std.specs.Prelude.{ℕ, ◌+◌, ◌-◌, ◌*◌, List, [], ◌∷◌, ◌++◌, map, slice_index_or}
+use Rattle.std.specs.Prelude.{option_to_list, if◌then◌else◌}
 use Rattle.std.specs.Str.{bytes_eq}
 use Rattle.std.specs.List.{list_any, flat_map}
 use Rattle.bl_map.specs.MachineFacts.{MachineFacts}
@@ -20,7 +21,8 @@ abbrev pub names_beside : Form → List (List ℕ)
 names_beside (multiboot2 modules) = map (λ m. m.file) modules
 names_beside (linux initrd) = option_to_list initrd
 
--- the names of an entry's files, in order: the kernel's, then those beside it; one may be named twice
+-- the names of an entry's files, in order: the kernel's, then those beside it; one may be named
+-- twice
 abbrev pub file_names : Entry → List (List ℕ)
 file_names entry = entry.kernel ∷ names_beside entry.form
 

@@ -1,5 +1,6 @@
 -- How the program's calls end. Own.
-use Rattle.std.specs.Prelude.{◌≡◌, ◌≢◌, ◌⊎◌, ℕ, List, [], ◌∷◌, ◌++◌, Option, Some, None, IsSome, All}
+use Rattle.std.specs.Prelude.{◌≡◌, ◌≢◌, ◌⊎◌, ℕ, List, [], ◌∷◌, ◌++◌, Option, Some, None, IsSome}
+use Rattle.std.specs.Prelude.{All}
 use Rattle.std.specs.List.{flat_map}
 use Rattle.bl_map.specs.MachineFacts.{MachineFacts}
 use Rattle.bl_map.specs.Faults.{HasFirstFault, IsAccepted}
@@ -50,24 +51,26 @@ pub record Surroundings (F : Type 0) : Type 0 where
 
 -- with files of a type F: what they may answer for a name, and how many faults they had
 module _ {F : Type 0} (answers : F → List ℕ → Answer → Type 0) (faults : F → ℕ) where
-  -- what is booted: the description that the bytes are, the facts of its machine, and what was found
-  -- for the names of the files of the entries that are attempted
+  -- what is booted: the description that the bytes are, the facts of its machine, and what was
+  -- found for the names of the files of the entries that are attempted
   pub record BootCase (desc : List ℕ) (before after : F) : Type 0 where
     pub description : Described
     pub facts : MachineFacts
     pub answered : List Answer
     pub is_described : described desc ≡ Some description
     pub machine : IsMachineOf description facts
-    pub found : AreFound answers faults description.files (names_in description) before after answered
+    pub found : AreFound answers faults description.files (names_in description) before after
+        answered
 
   -- it comes to this: the first entry that is not refused, with the refusals before it, or none
-  abbrev pub ComesTo : {desc : List ℕ} {before after : F} → BootCase desc before after → State → Type 0
+  abbrev pub ComesTo : {desc : List ℕ} {before after : F} → BootCase desc before after → State
+      → Type 0
   ComesTo case state =
       IsOutcome (boot_of case.description case.facts case.answered) (files_of case.answered)
       no_fault state
 
-  -- an entry was handed over: the sink took its image, and what is said tells it behind the refusals
-  -- before it
+  -- an entry was handed over: the sink took its image, and what is said tells it behind the
+  -- refusals before it
   pub record IsBooted (desc : List ℕ) (before after : Surroundings F) : Type 0 where
     pub case : BootCase desc before.files after.files
     pub entry : ℕ
@@ -136,4 +139,5 @@ pub record IsMapped (desc before after : List ℕ) : Type 0 where
   pub facts : MachineFacts
   pub is_described : described desc ≡ Some description
   pub machine : IsMachineOf description facts
-  pub said : after ≡ before ++ map_lines facts.runs (low_kib facts.runs) (high_kib facts.runs) facts.pool
+  pub said : after
+      ≡ before ++ map_lines facts.runs (low_kib facts.runs) (high_kib facts.runs) facts.pool

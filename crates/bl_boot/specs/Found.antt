@@ -5,14 +5,15 @@ use Rattle.bl_boot.specs.Files.{Answer, answer_for, KeepsLimit, CountsFault}
 
 -- with files of a type F: what they may answer for a name, and how many faults they had
 module _ {F : Type 0} (answers : F → List ℕ → Answer → Type 0) (faults : F → ℕ) where
-  -- the files answer so for a name: as they may, within the limit, and with one fault more exactly if it is missing
+  -- the files answer so for a name: as they may, within the limit, and with one fault more exactly
+  -- if it is missing
   pub record IsFetched (name : List ℕ) (before after : F) (answer : Answer) : Type 0 where
     pub told : answers before name answer
     pub limit : KeepsLimit answer
     pub counted : CountsFault (faults before) (faults after) answer
 
-  -- if the description has a file of the name, it is that one, and the files are not asked: they are as they were; otherwise
-  -- it is fetched
+  -- if the description has a file of the name, it is that one, and the files are not asked: they
+  -- are as they were; otherwise it is fetched
   abbrev pub IsFound : List File → List ℕ → F → F → Answer → Type 0
   IsFound inline name before after answer =
       MatchOption (file_named name inline)
@@ -25,4 +26,5 @@ module _ {F : Type 0} (answers : F → List ℕ → Answer → Type 0) (faults :
   AreFound inline [] before after (answer ∷ answers) = ⊥
   AreFound inline (name ∷ names) before after [] = ⊥
   AreFound inline (name ∷ names) before after (answer ∷ answers) =
-      (between : F) × IsFound inline name before between answer × AreFound inline names between after answers
+      (between : F) × IsFound inline name before between answer
+      × AreFound inline names between after answers

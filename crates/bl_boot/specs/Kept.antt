@@ -13,9 +13,11 @@ use Rattle.bl_session.specs.Outcome as session
 use Rattle.bl_session.specs.Outcome.{IsOutcome, no_fault}
 use Rattle.bl_boot.specs.Attempted.{entry_of, names_once}
 use Rattle.bl_boot.specs.Says.{booted_line, refused_lines, no_entry_line}
-use Rattle.bl_boot.specs.Ends.{IsBadMachine, IsBadDescription, IsBooted, IsRefused, IsBroken, IsMapped, Surroundings}
+use Rattle.bl_boot.specs.Ends.{IsBadMachine, IsBadDescription, IsBooted, IsRefused, IsBroken}
+use Rattle.bl_boot.specs.Ends.{IsMapped, Surroundings}
 use Rattle.bl_boot.specs.declared.booting.fault.EndFault.{EndFault}
-use Rattle.bl_boot.specs.declared.booting.fault.EndFault.TheVariants.{BadDescription, Device, NoMemory}
+use Rattle.bl_boot.specs.declared.booting.fault.EndFault.TheVariants.{BadDescription, Device}
+use Rattle.bl_boot.specs.declared.booting.fault.EndFault.TheVariants.{NoMemory}
 use Rattle.bl_boot.specs.declared.booting.fault.End.{End}
 use Rattle.bl_boot.specs.declared.booting.fault.End.TheVariants.{Booted, NoEntryLeft}
 
@@ -34,24 +36,30 @@ IsMachineFault description BadDescription = IsBadMachine description
 IsMachineFault description Device = ⊥
 IsMachineFault description NoMemory = Unit {0}
 
--- why an image was not handed over whole to a sink: the sink had a fault and took a beginning, or memory ran out before
+-- why an image was not handed over whole to a sink: the sink had a fault and took a beginning, or
+-- memory ran out before
 abbrev pub IsHandFault : ℕ → ℕ → List ℕ → List ℕ → List ℕ → EndFault → Type 0
 IsHandFault faults_before faults_after before after image BadDescription = ⊥
-IsHandFault faults_before faults_after before after image Device = (faults_after ≡ faults_before + 1) × IsBegun before after image
-IsHandFault faults_before faults_after before after image NoMemory = (faults_after ≡ faults_before) × (after ≡ before)
+IsHandFault faults_before faults_after before after image Device =
+    (faults_after ≡ faults_before + 1) × IsBegun before after image
+IsHandFault faults_before faults_after before after image NoMemory =
+    (faults_after ≡ faults_before) × (after ≡ before)
 
 -- a boot ends so
-abbrev pub Ends : {F : Type 0} → (F → List ℕ → Answer → Type 0) → (F → ℕ) → List ℕ → Surroundings F → Surroundings F
-    → Result End EndFault → Type 0
+abbrev pub Ends : {F : Type 0} → (F → List ℕ → Answer → Type 0) → (F → ℕ) → List ℕ
+    → Surroundings F → Surroundings F → Result End EndFault → Type 0
 Ends answers faults desc before after (Ok Booted) = IsBooted answers faults desc before after
 Ends answers faults desc before after (Ok NoEntryLeft) = IsRefused answers faults desc before after
-Ends answers faults desc before after (Err BadDescription) = IsBadDescription desc × (after ≡ before)
+Ends answers faults desc before after (Err BadDescription) =
+    IsBadDescription desc × (after ≡ before)
 Ends answers faults desc before after (Err Device) = IsBroken answers faults desc before after
-Ends answers faults desc before after (Err NoMemory) = (after.sink ≡ before.sink) × (after.said ≡ before.said)
+Ends answers faults desc before after (Err NoMemory) =
+    (after.sink ≡ before.sink) × (after.said ≡ before.said)
 
--- the boot of what was found for a description ends so: what it came to, of these files, what the sink
--- took, and what is said
-abbrev pub FoundEnds : Described → BootFacts → List session.File → (s t u v : List ℕ) → Result End EndFault → Type 0
+-- the boot of what was found for a description ends so: what it came to, of these files, what the
+-- sink took, and what is said
+abbrev pub FoundEnds : Described → BootFacts → List session.File → (s t u v : List ℕ)
+    → Result End EndFault → Type 0
 FoundEnds description facts files s t u v (Ok Booted) =
     (entry : ℕ) × (earlier : List RefusedEntry) × (handover : Handover)
     × IsOutcome facts files no_fault (handed_over entry earlier handover)

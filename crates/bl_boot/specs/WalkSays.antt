@@ -1,5 +1,6 @@
 -- The lines that tell what a kernel sees in an image. Own.
-use Rattle.std.specs.Prelude.{ℕ, ◌-◌, ◌==◌, if◌then◌else◌, false, List, [], ◌++◌, Option, Some, None, length, replicate, codes, decimal}
+use Rattle.std.specs.Prelude.{ℕ, ◌-◌, ◌==◌, if◌then◌else◌, false, List, [], ◌++◌, Option, Some}
+use Rattle.std.specs.Prelude.{None, length, replicate, codes, decimal}
 use Rattle.std.specs.Fmt.{digits}
 use Rattle.std.specs.List.{flat_map}
 use Rattle.hex.specs.Hex.{encode_lower}
@@ -15,7 +16,8 @@ use Rattle.bl_boot.specs.Says.{hex16}
 unfoldable pub hex8 : ℕ → List ℕ
 hex8 n = replicate (8 - length (digits 16 false n)) 48 ++ digits 16 false n
 
--- a text: how many bytes it has, and behind a space its bytes in hexadecimal digits, if there are any
+-- a text: how many bytes it has, and behind a space its bytes in hexadecimal digits, if there are
+-- any
 unfoldable pub text_word : List ℕ → List ℕ
 text_word bytes =
     if length bytes == 0 then codes "0" else
@@ -36,7 +38,8 @@ line_line line = codes "line " ++ text_word line ++ codes "\n"
 
 -- a part of the kernel: its address, its length
 abbrev pub kernel_line : SeenPart → List ℕ
-kernel_line part = codes "kernel " ++ hex8 part.address ++ codes " " ++ decimal part.length ++ codes "\n"
+kernel_line part =
+    codes "kernel " ++ hex8 part.address ++ codes " " ++ decimal part.length ++ codes "\n"
 
 -- a module: its address, its length, its line
 abbrev pub module_front : SeenModuleFacts → List ℕ

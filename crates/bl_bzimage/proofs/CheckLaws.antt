@@ -1,14 +1,18 @@
 -- What a setup without a fault says of its kernel's place.
-use Rattle.std.specs.Prelude.{not, ◌||◌, ◌&&◌, if◌then◌else◌, nat_lt, nat_le, count_ones, slice_index}
+use Rattle.std.specs.Prelude.{not, ◌||◌, ◌&&◌, if◌then◌else◌, nat_lt, nat_le, count_ones}
+use Rattle.std.specs.Prelude.{slice_index}
 use Rattle.std.specs.Int.{is_power_of_two}
-use Rattle.std.proofs.Common.{◌≡◌, ◌<◌, ◌≤◌, ◌^◌, ℕ, Bool, true, false, List, Option, Some, None, arith, refl, sym, subst, ◌∙◌, nat_eq}
+use Rattle.std.proofs.Common.{◌≡◌, ◌<◌, ◌≤◌, ◌^◌, ℕ, Bool, true, false, List, Option, Some, None}
+use Rattle.std.proofs.Common.{arith, refl, sym, subst, ◌∙◌, nat_eq}
 use Rattle.std.proofs.lemmas.Nat.{ones_le_self}
 use Rattle.std.proofs.lemmas.Bool.Decides.{nat_tests}
 use Rattle.bl_mem.specs.Words.{u16_at, u64_at}
 use Rattle.bl_bzimage.specs.declared.fault.SetupFault.{SetupFault}
-use Rattle.bl_bzimage.specs.declared.fault.SetupFault.TheVariants.{NotBzImage, OldProtocol, NotHigh, SetupCut, BadAlign, BadPreferred}
+use Rattle.bl_bzimage.specs.declared.fault.SetupFault.TheVariants.{NotBzImage, OldProtocol, NotHigh}
+use Rattle.bl_bzimage.specs.declared.fault.SetupFault.TheVariants.{SetupCut, BadAlign, BadPreferred}
 use Rattle.bl_bzimage.specs.declared.setup.Setup.{Setup}
-use Rattle.bl_bzimage.specs.Setup.{IsSetup, setup_fault, is_bz_image, is_loaded_high, is_whole, has_alignment, has_preferred}
+use Rattle.bl_bzimage.specs.Setup.{IsSetup, setup_fault, is_bz_image, is_loaded_high, is_whole}
+use Rattle.bl_bzimage.specs.Setup.{has_alignment, has_preferred}
 use Rattle.bl_bzimage.proofs.SetupLaws.{fields_are}
 
 passed :
@@ -56,7 +60,8 @@ some_alignment file setup is moved =
     let test = (last_checks file is.sound).0 in
     let field : nat_eq _ 0 ≡ false =
     subst (λ (n : ℕ). nat_eq n 0 ≡ false) fields.relocatable_kernel moved in
-    subst (λ (n : ℕ). 1 ≤ n) (sym fields.kernel_alignment) (some_power _ (aligned_if _ _ test field))
+    subst (λ (n : ℕ). 1 ≤ n) (sym fields.kernel_alignment)
+    (some_power _ (aligned_if _ _ test field))
 
 preferred_if :
     (zero_field above below : Bool) → (not zero_field || (above && below)) ≡ true

@@ -1,12 +1,15 @@
 -- What follows from the definition of a setup alone.
-use Rattle.std.proofs.Common.{◌≡◌, ◌≤◌, ◌<◌, ◌+◌, ◌-◌, ℕ, Bool, true, false, not, ◌&&◌, nat_lt, nat_le, List, length, slice_index, Some, None, arith, rules, refl, ap, ◌∙◌}
+use Rattle.std.proofs.Common.{◌≡◌, ◌≤◌, ◌<◌, ◌+◌, ◌-◌, ℕ, Bool, true, false, not, ◌&&◌, nat_lt}
+use Rattle.std.proofs.Common.{nat_le, List, length, slice_index, Some, None, arith, rules, refl, ap}
+use Rattle.std.proofs.Common.{◌∙◌}
 use Rattle.std.specs.Prelude.{◌==◌, nat_eq, Option, if◌then◌else◌, slice_range}
 use Rattle.std.proofs.lemmas.Bool.Decides.{nat_tests}
 use Rattle.std.proofs.lemmas.List.{places}
 use Rattle.bl_mem.specs.Words.{u16_at, u32_at, u64_at}
 use Rattle.bl_bzimage.specs.declared.setup.Setup.{Setup}
 use Rattle.bl_bzimage.specs.declared.fault.SetupFault.{SetupFault}
-use Rattle.bl_bzimage.specs.Setup.{IsSetup, setup_fault, setup_of, header_end, payload_at, is_bz_image, is_whole}
+use Rattle.bl_bzimage.specs.Setup.{IsSetup, setup_fault, setup_of, header_end, payload_at}
+use Rattle.bl_bzimage.specs.Setup.{is_bz_image, is_whole}
 
 -- ---- a file without a fault
 
@@ -40,7 +43,8 @@ both true false e = cc
 both false b e = cc
 
 -- a check that was passed, and those behind it
-passed : (broken : Bool) (fault : SetupFault) (rest : Option SetupFault) → (if broken then Some fault else rest) ≡ None → (broken ≡ false) × (rest ≡ None)
+passed : (broken : Bool) (fault : SetupFault) (rest : Option SetupFault)
+    → (if broken then Some fault else rest) ≡ None → (broken ≡ false) × (rest ≡ None)
 passed true fault rest e = cc
 passed false fault rest e = (refl, e)
 
@@ -51,9 +55,13 @@ setup_sound file sound =
     let version = passed _ _ _ image.1 in
     let high = passed _ _ _ version.1 in
     let whole = passed _ _ _ high.1 in
-    let first = both (nat_le 1024 (length file) && u16_at file 0x1FE == 0xAA55) (u32_at file 0x202 == 0x53726448) (holds (is_bz_image file) image.0) in
+    let first =
+    both (nat_le 1024 (length file) && u16_at file 0x1FE == 0xAA55)
+    (u32_at file 0x202 == 0x53726448) (holds (is_bz_image file) image.0) in
     let second = both (nat_le 1024 (length file)) (u16_at file 0x1FE == 0xAA55) first.0 in
-    let ends = both (nat_le 0x264 (header_end file)) (nat_lt (payload_at file) (length file)) (holds (is_whole file) whole.0) in
+    let ends =
+    both (nat_le 0x264 (header_end file)) (nat_lt (payload_at file) (length file))
+    (holds (is_whole file) whole.0) in
     record {
       long = le_from 1024 (length file) second.0;
       boot_flag = eq_from (u16_at file 0x1FE) 0xAA55 second.1;
@@ -100,7 +108,8 @@ fields_are file setup is = record {
 }
 
 -- the payload is the file's tail, and has a byte
-pub payload_is_tail : (file : List ℕ) (setup : Setup) → IsSetup file setup → (setup.payload_offset + setup.payload_size ≡ length file) × (1 ≤ setup.payload_size)
+pub payload_is_tail : (file : List ℕ) (setup : Setup) → IsSetup file setup
+    → (setup.payload_offset + setup.payload_size ≡ length file) × (1 ≤ setup.payload_size)
 payload_is_tail file setup is =
     let fields = fields_are file setup is in
     let sound = setup_sound file is.sound in
@@ -112,25 +121,33 @@ payload_is_tail file setup is =
 pub header_high : (file : List ℕ) → header_end file ≤ 0x290
 header_high file = omega arith
 
-length-range : (file : List ℕ) (start end : ℕ) → start ≤ end → end ≤ length file → start + length (slice_range file start end) ≡ end
-length-range file start end forward inside = let len : length (slice_range file start end) ≡ end - start = search (rules, places) in omega arith
+length-range : (file : List ℕ) (start end : ℕ) → start ≤ end → end ≤ length file
+    → start + length (slice_range file start end) ≡ end
+length-range file start end forward inside =
+    let len : length (slice_range file start end) ≡ end - start =
+    search (rules, places) in omega arith
 
-range_index : (file : List ℕ) (start end k : ℕ) → start ≤ k → k < end → end ≤ length file → slice_index (slice_range file start end) (k - start) ≡ slice_index file k
+range_index : (file : List ℕ) (start end k : ℕ) → start ≤ k → k < end → end ≤ length file
+    → slice_index (slice_range file start end) (k - start) ≡ slice_index file k
 range_index file start end k from below inside = search (rules, places)
 
 -- how long the header is
-pub header_long : (file : List ℕ) (setup : Setup) → IsSetup file setup → 0x1F1 + length setup.header ≡ header_end file
+pub header_long : (file : List ℕ) (setup : Setup) → IsSetup file setup
+    → 0x1F1 + length setup.header ≡ header_end file
 header_long file setup is =
     let sound = setup_sound file is.sound in
     let long = sound.long in
     let end = sound.end in
     let high = header_high file in
-    ap (λ (h : List ℕ). 0x1F1 + length h) (fields_are file setup is).header ∙ length-range file 0x1F1 (header_end file) (omega arith) (omega arith)
+    ap (λ (h : List ℕ). 0x1F1 + length h) (fields_are file setup is).header
+    ∙ length-range file 0x1F1 (header_end file) (omega arith) (omega arith)
 
 -- its bytes are the file's
-pub header_same : (file : List ℕ) (setup : Setup) → IsSetup file setup → (k : ℕ) → 0x1F1 ≤ k → k < header_end file → slice_index setup.header (k - 0x1F1) ≡ slice_index file k
+pub header_same : (file : List ℕ) (setup : Setup) → IsSetup file setup → (k : ℕ) → 0x1F1 ≤ k
+    → k < header_end file → slice_index setup.header (k - 0x1F1) ≡ slice_index file k
 header_same file setup is k from below =
     let sound = setup_sound file is.sound in
     let long = sound.long in
     let high = header_high file in
-    ap (λ (h : List ℕ). slice_index h (k - 0x1F1)) (fields_are file setup is).header ∙ range_index file 0x1F1 (header_end file) k from below (omega arith)
+    ap (λ (h : List ℕ). slice_index h (k - 0x1F1)) (fields_are file setup is).header
+    ∙ range_index file 0x1F1 (header_end file) k from below (omega arith)

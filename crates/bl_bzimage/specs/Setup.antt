@@ -1,23 +1,28 @@
--- The setup header of a Linux kernel's file (Linux/x86 Boot Protocol, "The Real-Mode Kernel Header" and "Details of Header
--- Fields"): its fields at their offsets, and the first fault that a file has.
-use Rattle.std.specs.Prelude.{◌≡◌, ◌+◌, ◌-◌, ◌*◌, ℕ, Bool, ◌&&◌, ◌||◌, not, if◌then◌else◌, ◌==◌, nat_lt, nat_le, min, bit_and, List, length, slice_index, slice_range, Option, Some, None}
+-- The setup header of a Linux kernel's file (Linux/x86 Boot Protocol, "The Real-Mode Kernel Header"
+-- and "Details of Header Fields"): its fields at their offsets, and the first fault that a file
+-- has.
+use Rattle.std.specs.Prelude.{◌≡◌, ◌+◌, ◌-◌, ◌*◌, ℕ, Bool, ◌&&◌, ◌||◌, not, if◌then◌else◌, ◌==◌}
+use Rattle.std.specs.Prelude.{nat_lt, nat_le, min, bit_and, List, length, slice_index, slice_range}
+use Rattle.std.specs.Prelude.{Option, Some, None}
 use Rattle.std.specs.Int.{is_power_of_two}
 use Rattle.bl_mem.specs.Words.{u16_at, u32_at, u64_at}
 use Rattle.bl_bzimage.specs.declared.setup.Setup.{Setup}
 use Rattle.bl_bzimage.specs.declared.fault.SetupFault.{SetupFault}
-use Rattle.bl_bzimage.specs.declared.fault.SetupFault.TheVariants.{NotBzImage, OldProtocol, NotHigh, SetupCut, BadAlign, BadPreferred}
+use Rattle.bl_bzimage.specs.declared.fault.SetupFault.TheVariants.{NotBzImage, OldProtocol, NotHigh}
+use Rattle.bl_bzimage.specs.declared.fault.SetupFault.TheVariants.{SetupCut, BadAlign, BadPreferred}
 
--- "jump": a jump of two bytes, whose second one is the distance from 0x202 to the header's end. Own: a header is read up to
--- 0x290 at most, where its place in boot_params ends
+-- "jump": a jump of two bytes, whose second one is the distance from 0x202 to the header's end.
+-- Own: a header is read up to 0x290 at most, where its place in boot_params ends
 abbrev pub header_end : List ℕ → ℕ
 header_end bytes = min (0x202 + slice_index bytes 0x201) 0x290
 
--- "setup_sects": the size of the setup in sectors of 512 bytes, where 0 means 4; the boot sector comes before it, and the
--- payload behind it ("Loading The Rest of The Kernel")
+-- "setup_sects": the size of the setup in sectors of 512 bytes, where 0 means 4; the boot sector
+-- comes before it, and the payload behind it ("Loading The Rest of The Kernel")
 abbrev pub payload_at : List ℕ → ℕ
 payload_at bytes = ((if slice_index bytes 0x1F1 == 0 then 4 else slice_index bytes 0x1F1) + 1) * 512
 
--- the fields, each at its offset, the header's bytes, and where the payload is, which ends with the file
+-- the fields, each at its offset, the header's bytes, and where the payload is, which ends with the
+-- file
 unfoldable pub setup_of : List ℕ → Setup
 setup_of bytes = record {
   setup_sects = slice_index bytes 0x1F1;
@@ -58,14 +63,15 @@ is_relocatable bytes = not (slice_index bytes 0x234 == 0)
 abbrev pub has_alignment : List ℕ → Bool
 has_alignment bytes = not (is_relocatable bytes) || is_power_of_two (u32_at bytes 0x230)
 
--- "pref_address" of a kernel that is not relocatable, which runs there. Own: from 1 MiB on, within 32 bits
+-- "pref_address" of a kernel that is not relocatable, which runs there. Own: from 1 MiB on, within
+-- 32 bits
 abbrev pub has_preferred : List ℕ → Bool
 has_preferred bytes =
     is_relocatable bytes
     || (nat_le 0x100000 (u64_at bytes 0x258) && nat_le (u64_at bytes 0x258) 0xFFFFFFFF)
 
--- the first fault of a file. "version" is the major number times 256 and the minor: 2.10 is the least; own: one above 2.12
--- is read as 2.12
+-- the first fault of a file. "version" is the major number times 256 and the minor: 2.10 is the
+-- least; own: one above 2.12 is read as 2.12
 unfoldable pub setup_fault : List ℕ → Option SetupFault
 setup_fault bytes =
     if not (is_bz_image bytes) then Some NotBzImage else

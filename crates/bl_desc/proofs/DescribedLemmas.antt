@@ -9,7 +9,8 @@ use Rattle.toml.specs.Parse.{parse_document}
 use Rattle.bl_desc.specs.Described.{described, described_in}
 
 pub described-table : (bytes text : List ℕ) (ms : Members)
-    → text ≡ bytes → IsUtf8 bytes → parse_document text ≡ Some ms → described bytes ≡ described_in ms
+    → text ≡ bytes → IsUtf8 bytes → parse_document text ≡ Some ms
+    → described bytes ≡ described_in ms
 unfolding described
 described-table bytes text ms same utf8 read =
     let from_bytes : parse_document bytes ≡ Some ms = rw same at read in

@@ -1,5 +1,6 @@
 -- Reading the items of an array one after the other.
-use Rattle.std.proofs.Common.{◌≡◌, ℕ, ◌+◌, ◌<◌, ◌≤◌, Option, Some, None, List, [], ◌∷◌, ◌++◌, length, map, drop, get_or, refl, sym, ap, ◌∙◌, arith, append_assoc}
+use Rattle.std.proofs.Common.{◌≡◌, ℕ, ◌+◌, ◌<◌, ◌≤◌, Option, Some, None, List, [], ◌∷◌, ◌++◌}
+use Rattle.std.proofs.Common.{length, map, drop, get_or, refl, sym, ap, ◌∙◌, arith, append_assoc}
 use Rattle.std.proofs.lemmas.List.{map-append, drop_all, append-nil}
 use Rattle.toml.specs.Data.{Data, item}
 use Rattle.toml.specs.View.{view, items_view}
@@ -33,7 +34,8 @@ front_grows front y None = refl
 front_grows front y (Some ys) = rw append_assoc
 
 -- the same of what the code has kept, where `seen` is what an item is seen as
-pub one_more : {X Y : Type 0} (seen : X → Y) (read : Data → Option Y) (vs : List Value) (i : ℕ) (v : Value) (front after : List X) (x : X)
+pub one_more : {X Y : Type 0} (seen : X → Y) (read : Data → Option Y) (vs : List Value) (i : ℕ)
+    (v : Value) (front after : List X) (x : X)
     → i < length vs → v ≡ get_or vs i v → read (view v) ≡ Some (seen x) → after ≡ front ++ x ∷ []
     → with_front (map seen after) (each_item read (items_view (drop (i + 1) vs)))
     ≡ with_front (map seen front) (each_item read (items_view (drop i vs)))
@@ -45,7 +47,8 @@ one_more seen read vs i v front after x within at_i here same =
 
 -- behind the last item all is read
 pub all_read : {Y : Type 0} (read : Data → Option Y) (vs : List Value) (i : ℕ) (front : List Y)
-    → length vs ≤ i → with_front front (each_item read (items_view (drop i vs))) ≡ each_item read (items_view vs)
+    → length vs ≤ i
+    → with_front front (each_item read (items_view (drop i vs))) ≡ each_item read (items_view vs)
     → each_item read (items_view vs) ≡ Some front
 all_read read vs i front past so_far =
     let none : drop i vs ≡ [] = drop_all i vs past in
@@ -53,7 +56,8 @@ all_read read vs i front past so_far =
     sym now
 
 -- an item that fails makes all fail
-pub one_fails : {Y : Type 0} (read : Data → Option Y) (vs : List Value) (i : ℕ) (v : Value) (front : List Y) (fault : DescFault)
+pub one_fails : {Y : Type 0} (read : Data → Option Y) (vs : List Value) (i : ℕ) (v : Value)
+    (front : List Y) (fault : DescFault)
     → i < length vs → v ≡ get_or vs i v → Fails fault (read (view v))
     → with_front front (each_item read (items_view (drop i vs))) ≡ each_item read (items_view vs)
     → Fails fault (each_item read (items_view vs))

@@ -10,7 +10,8 @@ use Rattle.bl_desc.specs.Values.{has_only}
 
 -- borrowed keys and the keys themselves
 among-now : (known : List (Bor (List ℕ))) (key : List ℕ)
-    → list_any (λ k. bytes_eq k.now key) known ≡ list_any (λ k. bytes_eq k key) (map (λ k. k.now) known)
+    → list_any (λ k. bytes_eq k.now key) known
+    ≡ list_any (λ k. bytes_eq k key) (map (λ k. k.now) known)
 among-now [] key = refl
 among-now (k ∷ known) key = ap (λ (b : Bool). bytes_eq k.now key || b) (among-now known key)
 
@@ -18,4 +19,5 @@ pub has_only-members : (known : List (Bor (List ℕ))) (entries : List (String G
     → list_all (λ key. list_any (λ k. bytes_eq k.now (string_bytes key)) known) (keys_of entries)
     ≡ has_only (map (λ k. k.now) known) (members_view entries)
 has_only-members known [] = refl
-has_only-members known (e ∷ entries) = rw (among-now known (string_bytes e.0), has_only-members known entries) refl
+has_only-members known (e ∷ entries) =
+    rw (among-now known (string_bytes e.0), has_only-members known entries) refl

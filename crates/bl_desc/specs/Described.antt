@@ -1,6 +1,7 @@
--- What a boot description says: for each of its tables a function from the table's keys to a record,
--- or to none where the table is a bad one. Own.
-use Rattle.std.specs.Prelude.{ℕ, Bool, true, ◌&&◌, not, if◌then◌else◌, nat_le, List, [], ◌∷◌, length, Option, Some, None, codes}
+-- What a boot description says: for each of its tables a function from the table's keys to a
+-- record, or to none where the table is a bad one. Own.
+use Rattle.std.specs.Prelude.{ℕ, Bool, true, ◌&&◌, not, if◌then◌else◌, nat_le, List, [], ◌∷◌}
+use Rattle.std.specs.Prelude.{length, Option, Some, None, codes}
 use Rattle.std.specs.Str.{bytes_eq, is_utf8}
 use Rattle.std.specs.List.{list_any, list_all}
 use Rattle.std.specs.declared.ops.Range.{Range}
@@ -10,7 +11,9 @@ use Rattle.bl_map.specs.declared.kind.Kind.{Kind}
 use Rattle.bl_map.specs.declared.kind.Kind.TheVariants.{Usable, Reserved, Acpi, Nvs, Bad}
 use Rattle.bl_map.specs.declared.region.Region.{Region}
 use Rattle.bl_desc.specs.Kinds.{kind_name}
-use Rattle.bl_desc.specs.Values.{◌>>=◌, passing, number_of, byte_of, text_of, bytes_of, range_of, index_of, indices_of, has_only, at_key, at_key_or, at_key_if, in_tables}
+use Rattle.bl_desc.specs.Values.{◌>>=◌, passing, number_of, byte_of, text_of, bytes_of, range_of}
+use Rattle.bl_desc.specs.Values.{index_of, indices_of, has_only, at_key, at_key_or, at_key_if}
+use Rattle.bl_desc.specs.Values.{in_tables}
 use Rattle.bl_plan.specs.declared.protocol.Protocol.{Protocol}
 use Rattle.bl_plan.specs.declared.protocol.Protocol.TheVariants.{Multiboot2, Linux}
 
@@ -24,7 +27,8 @@ pub record Module : Type 0 where
   pub file : List ℕ
   pub line : List ℕ
 
--- what an entry has beside its kernel, by its protocol: modules, or perhaps an initial ramdisk, which is the name of a file
+-- what an entry has beside its kernel, by its protocol: modules, or perhaps an initial ramdisk,
+-- which is the name of a file
 pub data Form : Type 0 where
   multiboot2 : List Module → Form
   linux : Option (List ℕ) → Form
@@ -134,7 +138,8 @@ modules_of d = in_tables module_in d >>= passing has_few_modules
 -- an entry of the protocol multiboot2: it may have modules
 unfoldable pub multiboot2_in : Members → Option Entry
 multiboot2_in ms =
-    if has_only (codes "title" ∷ codes "protocol" ∷ codes "kernel" ∷ codes "line" ∷ codes "module" ∷ []) ms
+    if has_only
+    (codes "title" ∷ codes "protocol" ∷ codes "kernel" ∷ codes "line" ∷ codes "module" ∷ []) ms
     then (do
       title ← at_key title_of (codes "title") ms
       kernel ← at_key text_of (codes "kernel") ms
@@ -146,7 +151,8 @@ multiboot2_in ms =
 -- an entry of the protocol linux: it may have an initial ramdisk
 unfoldable pub linux_in : Members → Option Entry
 linux_in ms =
-    if has_only (codes "title" ∷ codes "protocol" ∷ codes "kernel" ∷ codes "line" ∷ codes "initrd" ∷ []) ms
+    if has_only
+    (codes "title" ∷ codes "protocol" ∷ codes "kernel" ∷ codes "line" ∷ codes "initrd" ∷ []) ms
     then (do
       title ← at_key title_of (codes "title") ms
       kernel ← at_key text_of (codes "kernel") ms

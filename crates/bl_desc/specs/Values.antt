@@ -1,9 +1,11 @@
 -- What the values of a description's TOML tree mean, one by one. Own.
-use Rattle.std.specs.Prelude.{ℕ, pos, Bool, true, ◌&&◌, if◌then◌else◌, nat_lt, List, [], ◌∷◌, Option, Some, None, Result, Ok, Err}
+use Rattle.std.specs.Prelude.{ℕ, pos, Bool, true, ◌&&◌, if◌then◌else◌, nat_lt, List, [], ◌∷◌}
+use Rattle.std.specs.Prelude.{Option, Some, None, Result, Ok, Err}
 use Rattle.std.specs.Str.{bytes_eq}
 use Rattle.std.specs.List.{list_any}
 use Rattle.std.specs.declared.ops.Range.{Range}
-use Rattle.toml.specs.Data.{Data, integer, string, array, table, Items, no_items, item, Members, no_members, member, get_member}
+use Rattle.toml.specs.Data.{Data, integer, string, array, table, Items, no_items, item, Members}
+use Rattle.toml.specs.Data.{no_members, member, get_member}
 use Rattle.hex.specs.Hex.{decode_of}
 
 infixl 10 ◌>>=◌

@@ -1,12 +1,14 @@
 -- Each file is an executable or has a first fault that is not want of memory.
-use Rattle.std.proofs.Common.{◌≡◌, ◌<◌, ◌⊎◌, inl, inr, ℕ, List, length, true, Option, Some, None, refl, arith}
+use Rattle.std.proofs.Common.{◌≡◌, ◌<◌, ◌⊎◌, inl, inr, ℕ, List, length, true, Option, Some, None}
+use Rattle.std.proofs.Common.{refl, arith}
 use Rattle.std.proofs.lemmas.Bool.{cases_lt, cases_Bool, false_from_ne_true}
 use Rattle.bl_mem.proofs.LeastLaws.{SomeBelow, least_below}
 use Rattle.bl_elf.specs.declared.fault.ElfFault.{ElfFault}
 use Rattle.bl_elf.specs.declared.fault.ElfFault.TheVariants.{SegmentsOverlap, NoMemory}
 use Rattle.bl_elf.specs.Header.{header_of, header_fault}
 use Rattle.bl_elf.specs.Program.{fault_at, program_header, program_headers, segments_of, share_at}
-use Rattle.bl_elf.specs.Elf.{ElfFacts, IsElf, IsIndex, SharesNone, IsFirstFaulty, IsFirstOverlap, HasFirstFault, physical_entry}
+use Rattle.bl_elf.specs.Elf.{ElfFacts, IsElf, IsIndex, SharesNone, IsFirstFaulty, IsFirstOverlap}
+use Rattle.bl_elf.specs.Elf.{HasFirstFault, physical_entry}
 use Rattle.bl_elf.proofs.FaultLemmas.{header_kinds, program_kinds, header_first, program_first}
 
 -- the file has a first fault
@@ -25,7 +27,8 @@ Share bytes i j = (i < j) × (share_at bytes i j ≡ true)
 abbrev SharesOne : List ℕ → ℕ → Type 0
 SharesOne bytes i = SomeBelow (Share bytes i) (header_of bytes).e_phnum
 
-some_or_none : (fault : Option ElfFault) → ((f : ElfFault) × (fault ≡ Some f)) ⊎ (((f : ElfFault) × (fault ≡ Some f)) → ⊥)
+some_or_none : (fault : Option ElfFault)
+    → ((f : ElfFault) × (fault ≡ Some f)) ⊎ (((f : ElfFault) × (fault ≡ Some f)) → ⊥)
 some_or_none None = inr (λ some. let bad = some.1 in cc)
 some_or_none (Some f) = inl (f, refl)
 
@@ -52,24 +55,38 @@ one_or_not bytes i =
 
 shares_none : (bytes : List ℕ) (i : ℕ) → (SharesOne bytes i → ⊥) → SharesNone bytes i
 shares_none bytes i not_one j behind within =
-    false_from_ne_true (share_at bytes i j) (λ share. elim (least_below (Share bytes i) (share_or_not bytes i) (header_of bytes).e_phnum) [
+    false_from_ne_true (share_at bytes i j)
+    (λ share.
+    elim (least_below (Share bytes i) (share_or_not bytes i) (header_of bytes).e_phnum) [
       | inl none ↦ none j within (behind, share)
       | inr one ↦ not_one one
     ])
 
-header_refused : (bytes : List ℕ) (fault : ElfFault) → header_fault bytes ≡ Some fault → IsRefused bytes
-header_refused bytes fault e =
-    (fault, (λ memory. elim (header_kinds bytes fault e) [ inl not_elf ↦ cc | inr bad_elf ↦ cc ]), header_first bytes fault e)
+header_refused : (bytes : List ℕ) (fault : ElfFault) → header_fault bytes ≡ Some fault
+    → IsRefused bytes
+header_refused bytes fault e = (
+  fault,
+  (λ memory. elim (header_kinds bytes fault e) [ inl not_elf ↦ cc | inr bad_elf ↦ cc ]),
+  header_first bytes fault e,
+)
 
-program_refused : (bytes : List ℕ) (i : ℕ) (fault : ElfFault) → IsFirstFaulty bytes i fault → IsRefused bytes
-program_refused bytes i fault first =
-    (fault, (λ memory. elim (program_kinds (length bytes) i (program_header bytes i) fault first.faulty) [ inl bad_elf ↦ cc | inr (inl cut) ↦ cc | inr (inr high) ↦ cc ]), program_first bytes i fault first)
+program_refused : (bytes : List ℕ) (i : ℕ) (fault : ElfFault) → IsFirstFaulty bytes i fault
+    → IsRefused bytes
+program_refused bytes i fault first = (
+  fault,
+  (λ memory.
+      elim (program_kinds (length bytes) i (program_header bytes i) fault first.faulty)
+      [ inl bad_elf ↦ cc | inr (inl cut) ↦ cc | inr (inr high) ↦ cc ]),
+  program_first bytes i fault first,
+)
 
 overlap_refused : (bytes : List ℕ) (i j : ℕ) → IsFirstOverlap bytes i j → IsRefused bytes
 overlap_refused bytes i j first = (SegmentsOverlap i j, (λ memory. cc), first)
 
 -- where the header and each program header are sound
-after_programs : (bytes : List ℕ) → header_fault bytes ≡ None → ((i : ℕ) → IsIndex bytes i → fault_at bytes i ≡ None) → ((facts : ElfFacts) × IsElf bytes facts) ⊎ IsRefused bytes
+after_programs : (bytes : List ℕ) → header_fault bytes ≡ None
+    → ((i : ℕ) → IsIndex bytes i → fault_at bytes i ≡ None)
+    → ((facts : ElfFacts) × IsElf bytes facts) ⊎ IsRefused bytes
 after_programs bytes header sound =
     elim (least_below (SharesOne bytes) (one_or_not bytes) (header_of bytes).e_phnum) [
       | inl none ↦ inl (
@@ -82,31 +99,41 @@ after_programs bytes header sound =
           entry = refl;
         },
       )
-      | inr (i, within, least) ↦ let one = least.holds in inr (overlap_refused bytes i one.0 record {
-        header = header;
-        sound = sound;
-        above = one.2.holds.0;
-        within = one.1;
-        share = one.2.holds.1;
-        least_first = λ k below. shares_none bytes k (λ other. omega (arith, least.least k other));
-        least_second = λ k behind below. false_from_ne_true (share_at bytes i k) (λ share. omega (arith, one.2.least k (behind, share)));
-      })
+      | inr (i, within, least) ↦
+          let one = least.holds in inr (overlap_refused bytes i one.0 record {
+            header = header;
+            sound = sound;
+            above = one.2.holds.0;
+            within = one.1;
+            share = one.2.holds.1;
+            least_first = λ k below. shares_none bytes k (λ other. omega (arith, least.least k other));
+            least_second =
+                λ k behind below.
+                false_from_ne_true (share_at bytes i k)
+                (λ share. omega (arith, one.2.least k (behind, share)));
+          })
     ]
 
 -- where the header is sound
-after_header : (bytes : List ℕ) → header_fault bytes ≡ None → ((facts : ElfFacts) × IsElf bytes facts) ⊎ IsRefused bytes
+after_header : (bytes : List ℕ) → header_fault bytes ≡ None
+    → ((facts : ElfFacts) × IsElf bytes facts) ⊎ IsRefused bytes
 after_header bytes header =
-    elim (least_below (IsFaulty bytes) (λ i. some_or_none (fault_at bytes i)) (header_of bytes).e_phnum) [
-      | inl none ↦ after_programs bytes header (λ i within. none_left (fault_at bytes i) (none i within))
+    elim (least_below (IsFaulty bytes) (λ i. some_or_none (fault_at bytes i))
+    (header_of bytes).e_phnum) [
+      | inl none ↦
+          after_programs bytes header (λ i within. none_left (fault_at bytes i) (none i within))
       | inr (i, within, least) ↦ inr (program_refused bytes i least.holds.0 record {
         header = header;
         within = within;
         faulty = least.holds.1;
-        sound_before = λ k below. none_left (fault_at bytes k) (λ other. omega (arith, least.least k other));
+        sound_before =
+            λ k below. none_left (fault_at bytes k) (λ other. omega (arith, least.least k other));
       })
     ]
 
-pub elf_or_fault : (bytes : List ℕ) → ((facts : ElfFacts) × IsElf bytes facts) ⊎ ((fault : ElfFault) × ¬ (fault ≡ NoMemory) × HasFirstFault bytes fault)
+pub elf_or_fault : (bytes : List ℕ)
+    → ((facts : ElfFacts) × IsElf bytes facts)
+    ⊎ ((fault : ElfFault) × ¬ (fault ≡ NoMemory) × HasFirstFault bytes fault)
 elf_or_fault bytes =
     elim (some_or_none (header_fault bytes)) [
       | inl (fault, e) ↦ inr (header_refused bytes fault e)

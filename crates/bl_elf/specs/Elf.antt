@@ -1,22 +1,26 @@
--- What an executable file is, and the first fault of one that is refused (System V gABI, "Object Files").
-use Rattle.std.specs.Prelude.{◌≡◌, ◌⊎◌, ◌+◌, ◌-◌, ◌<◌, ◌≤◌, ◌^◌, ℕ, true, false, if◌then◌else◌, List, length, find, Option, Some, None}
+-- What an executable file is, and the first fault of one that is refused (System V gABI, "Object
+-- Files").
+use Rattle.std.specs.Prelude.{◌≡◌, ◌⊎◌, ◌+◌, ◌-◌, ◌<◌, ◌≤◌, ◌^◌, ℕ, true, false, if◌then◌else◌}
+use Rattle.std.specs.Prelude.{List, length, find, Option, Some, None}
 use Rattle.std.specs.List.{list_any}
 use Rattle.bl_mem.specs.Contents.{holds_at}
 use Rattle.bl_mem.specs.declared.segment.Segment.{Segment}
 use Rattle.bl_elf.specs.declared.program.ProgramHeader.{ProgramHeader}
 use Rattle.bl_elf.specs.declared.fault.ElfFault.{ElfFault}
-use Rattle.bl_elf.specs.declared.fault.ElfFault.TheVariants.{NotElf, BadElf, SegmentCut, AddressTooHigh, SegmentsOverlap, NoEntry, NoMemory}
+use Rattle.bl_elf.specs.declared.fault.ElfFault.TheVariants.{NotElf, BadElf, SegmentCut}
+use Rattle.bl_elf.specs.declared.fault.ElfFault.TheVariants.{AddressTooHigh, SegmentsOverlap}
+use Rattle.bl_elf.specs.declared.fault.ElfFault.TheVariants.{NoEntry, NoMemory}
 use Rattle.bl_elf.specs.Header.{header_of, header_fault}
 use Rattle.bl_elf.specs.Program.{program_headers, segments_of, fault_at, share_at, is_entered}
 
--- what loading needs of a file: its loadable segments in the order of its program headers, and the physical address
--- at which it is entered
+-- what loading needs of a file: its loadable segments in the order of its program headers, and the
+-- physical address at which it is entered
 pub record ElfFacts : Type 0 where
   pub segments : List Segment
   pub entry : Option ℕ
 
--- own: e_entry moved with the program header that holds it among its virtual addresses; or else e_entry itself where
--- it is a physical address of a segment; or else none
+-- own: e_entry moved with the program header that holds it among its virtual addresses; or else
+-- e_entry itself where it is a physical address of a segment; or else none
 abbrev pub entry_among : ℕ → List Segment → Option ProgramHeader → Option ℕ
 entry_among e_entry segments (Some header) = Some (e_entry - header.p_vaddr + header.p_paddr)
 entry_among e_entry segments None =
@@ -37,7 +41,8 @@ IsIndex bytes i = i < (header_of bytes).e_phnum
 abbrev pub SharesNone : List ℕ → ℕ → Type 0
 SharesNone bytes i = (j : ℕ) → i < j → IsIndex bytes j → share_at bytes i j ≡ false
 
--- the header is sound and so is each program header, no two share a physical byte, and these are the facts
+-- the header is sound and so is each program header, no two share a physical byte, and these are
+-- the facts
 pub record IsElf (bytes : List ℕ) (facts : ElfFacts) : Type 0 where
   pub header : header_fault bytes ≡ None
   pub sound : (i : ℕ) → IsIndex bytes i → fault_at bytes i ≡ None
@@ -52,7 +57,8 @@ pub record IsFirstFaulty (bytes : List ℕ) (i : ℕ) (fault : ElfFault) : Type 
   pub faulty : fault_at bytes i ≡ Some fault
   pub sound_before : (k : ℕ) → k < i → fault_at bytes k ≡ None
 
--- all is sound, and i is the least that shares a physical byte with a later program header, and j the least of those
+-- all is sound, and i is the least that shares a physical byte with a later program header, and j
+-- the least of those
 pub record IsFirstOverlap (bytes : List ℕ) (i j : ℕ) : Type 0 where
   pub header : header_fault bytes ≡ None
   pub sound : (k : ℕ) → IsIndex bytes k → fault_at bytes k ≡ None
@@ -73,7 +79,8 @@ HasFirstFault bytes (SegmentsOverlap i j) = IsFirstOverlap bytes i j
 HasFirstFault bytes NoEntry = ⊥
 HasFirstFault bytes NoMemory = Unit {0}
 
--- a segment as a loader needs it: it takes memory below 2^32, and what it takes of the file is within the file
+-- a segment as a loader needs it: it takes memory below 2^32, and what it takes of the file is
+-- within the file
 pub record IsLoadable (bytes : List ℕ) (segment : Segment) : Type 0 where
   pub filled : 1 ≤ segment.memsz
   pub fits : segment.filesz ≤ segment.memsz

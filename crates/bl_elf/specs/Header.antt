@@ -1,6 +1,7 @@
--- The ELF header (System V gABI, "ELF Header"; the machines' numbers are those of the processor supplements): its
--- fields at their offsets, and the first fault that it has.
-use Rattle.std.specs.Prelude.{◌+◌, ◌*◌, ℕ, Bool, ◌&&◌, ◌||◌, not, if◌then◌else◌, ◌==◌, nat_lt, nat_le, List, length, slice_index, Option, Some, None}
+-- The ELF header (System V gABI, "ELF Header"; the machines' numbers are those of the processor
+-- supplements): its fields at their offsets, and the first fault that it has.
+use Rattle.std.specs.Prelude.{◌+◌, ◌*◌, ℕ, Bool, ◌&&◌, ◌||◌, not, if◌then◌else◌, ◌==◌, nat_lt}
+use Rattle.std.specs.Prelude.{nat_le, List, length, slice_index, Option, Some, None}
 use Rattle.bl_mem.specs.Words.{u16_at, u32_at, u64_at}
 use Rattle.bl_elf.specs.declared.class.Class.{Class}
 use Rattle.bl_elf.specs.declared.class.Class.TheVariants.{Elf32, Elf64}
@@ -68,15 +69,16 @@ has_ident bytes =
 abbrev pub is_executable : Header → Bool
 is_executable header = header.e_type == 2 || header.e_type == 3
 
--- own: the program header table, where there is one, has whole entries and ends within a file of this size
+-- own: the program header table, where there is one, has whole entries and ends within a file of
+-- this size
 abbrev pub has_table : ℕ → Header → Bool
 has_table size header =
     header.e_phnum == 0
     || (nat_le (program_header_size header.class) header.e_phentsize
     && nat_le (header.e_phoff + header.e_phnum * header.e_phentsize) size)
 
--- the first fault of the fields of the header of a file of this size: e_type, e_machine, e_version (EV_CURRENT); own:
--- e_phnum is at most 128; and the table
+-- the first fault of the fields of the header of a file of this size: e_type, e_machine, e_version
+-- (EV_CURRENT); own: e_phnum is at most 128; and the table
 unfoldable pub field_fault : ℕ → Header → Option ElfFault
 field_fault size header =
     if not (is_executable header) then Some BadElf else

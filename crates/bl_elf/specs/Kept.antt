@@ -1,5 +1,5 @@
--- What the code keeps while it reads: words for the clauses of its own functions alone. What a file is, is defined
--- without them.
+-- What the code keeps while it reads: words for the clauses of its own functions alone. What a file
+-- is, is defined without them.
 use Rattle.std.specs.Prelude.{◌≡◌, ◌<◌, ◌^◌, ℕ, List, length, None}
 use Rattle.bl_elf.specs.declared.header.Header.{Header}
 use Rattle.bl_elf.specs.Header.{header_of, header_fault}

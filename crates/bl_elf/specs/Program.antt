@@ -1,6 +1,8 @@
--- Program headers (System V gABI, "Program Header"): their fields at their offsets, which are loaded and where, and
--- the first fault that one has.
-use Rattle.std.specs.Prelude.{◌+◌, ◌*◌, ◌^◌, ℕ, zero, suc, Bool, ◌&&◌, not, if◌then◌else◌, ◌==◌, nat_lt, nat_le, List, [], ◌∷◌, length, map, filter, Option, Some, None}
+-- Program headers (System V gABI, "Program Header"): their fields at their offsets, which are
+-- loaded and where, and the first fault that one has.
+use Rattle.std.specs.Prelude.{◌+◌, ◌*◌, ◌^◌, ℕ, zero, suc, Bool, ◌&&◌, not, if◌then◌else◌, ◌==◌}
+use Rattle.std.specs.Prelude.{nat_lt, nat_le, List, [], ◌∷◌, length, map, filter, Option, Some}
+use Rattle.std.specs.Prelude.{None}
 use Rattle.bl_mem.specs.Words.{u32_at, u64_at}
 use Rattle.bl_mem.specs.declared.segment.Segment.{Segment}
 use Rattle.bl_elf.specs.declared.class.Class.{Class}
@@ -63,8 +65,8 @@ segment_of header = record {
 abbrev pub segments_of : List ProgramHeader → List Segment
 segments_of headers = map segment_of (filter is_loadable headers)
 
--- the first fault of a loadable program header, the i-th of a file of this size; any other has none. Own: its memory may
--- not end above 2^32
+-- the first fault of a loadable program header, the i-th of a file of this size; any other has
+-- none. Own: its memory may not end above 2^32
 unfoldable pub program_fault : ℕ → ℕ → ProgramHeader → Option ElfFault
 program_fault size i header =
     if not (is_loadable header) then None else

@@ -1,5 +1,6 @@
 //! What is read from a file.
-ghost use Rattle.std.specs.Prelude.{◌≡◌, ◌≤◌, Some, None, length, All, AllPairs, MatchResult, IfOk, IfErr};
+ghost use Rattle.std.specs.Prelude.{◌≡◌, ◌≤◌, Some, None, length, All, AllPairs, MatchResult, IfOk};
+ghost use Rattle.std.specs.Prelude.{IfErr};
 ghost use Rattle.bl_elf.specs.Elf.{IsElf, HasFirstFault, IsLoadable, AreApart};
 ghost use Rattle.bl_elf.specs.declared.fault.ElfFault.TheVariants.{NoEntry};
 
@@ -46,9 +47,9 @@ impl<A: Allocator> Elf<A> {
     }
 }
 
-/// Reads the executable in a file (System V gABI, "ELF Header" and "Program Header"), or answers the
-/// first fault in the order of the checks, which is never `NoEntry`. All that is kept of the file is
-/// the list of its loadable segments.
+/// Reads the executable in a file (System V gABI, "ELF Header" and "Program Header"), or answers
+/// the first fault in the order of the checks, which is never `NoEntry`. All that is kept of the
+/// file is the list of its loadable segments.
 pub fn read_elf<A: Allocator + Copy, V: ByteView>(alloc: A, view: &V) -> Result<Elf<A>, ElfFault>
     ensures read { IfOk result (λ elf. IsElf (V.bytes view.now) elf) }
     ensures first_fault { IfErr result (λ fault. HasFirstFault (V.bytes view.now) fault) }

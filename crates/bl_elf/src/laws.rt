@@ -5,8 +5,8 @@ ghost use Rattle.bl_elf.specs.declared.fault.ElfFault.TheVariants.{SegmentsOverl
 ghost use Rattle.bl_elf.specs.Program.{program_header, segment_of};
 ghost use Rattle.bl_elf.specs.Elf.{ElfFacts, IsElf, HasFirstFault, Covers};
 
-/// A file has exactly one of these: one reading as an executable, or one first fault. Want of memory is no
-/// fault of the file. This holds for every list of numbers, be they bytes or not.
+/// A file has exactly one of these: one reading as an executable, or one first fault. Want of
+/// memory is no fault of the file. This holds for every list of numbers, be they bytes or not.
 pub fn elf_is_determined()
     ensures total { (bytes : List ℕ) → ((facts : ElfFacts) × IsElf bytes facts)
         ⊎ ((fault : ElfFault) × ¬ (fault ≡ NoMemory) × HasFirstFault bytes fault) }

@@ -1,5 +1,7 @@
 -- Fields that came one after the other, and what is left to be judged behind them.
-use Rattle.std.proofs.Common.{◌≡◌, ◌+◌, ◌≤◌, ◌<◌, ◌^◌, ℕ, Bool, true, false, List, [], ◌∷◌, ◌++◌, length, Option, Some, refl, sym, ap, ◌∙◌, subst, arith, append_assoc, length-append}
+use Rattle.std.proofs.Common.{◌≡◌, ◌+◌, ◌≤◌, ◌<◌, ◌^◌, ℕ, Bool, true, false, List, [], ◌∷◌, ◌++◌}
+use Rattle.std.proofs.Common.{length, Option, Some, refl, sym, ap, ◌∙◌, subst, arith, append_assoc}
+use Rattle.std.proofs.Common.{length-append}
 use Rattle.std.specs.Prelude.{nat_lt, nat_le, bytes_eq, not, ◌&&◌}
 use Rattle.std.proofs.lemmas.Slice.Eq.{bytes_eq-Decides}
 use Rattle.std.proofs.lemmas.List.{append-nil, take_at, drop_at}
@@ -8,7 +10,9 @@ use Rattle.std.proofs.lemmas.Bool.Decides.{nat_tests}
 use Rattle.bl_mem.specs.Words.{u32_at, u64_at, u32_bytes, u64_bytes}
 use Rattle.bl_mem.proofs.WordLaws.{u32_again, u64_again}
 use Rattle.bl_image.specs.declared.fault.ImageFault.{ImageFault}
-use Rattle.bl_image.specs.declared.fault.ImageFault.TheVariants.{BadMagic, BadVersion, BadHeader, BadPart, WrongLength, DeviceFault, NoMemory}
+use Rattle.bl_image.specs.declared.fault.ImageFault.TheVariants.{BadMagic, BadVersion, BadHeader}
+use Rattle.bl_image.specs.declared.fault.ImageFault.TheVariants.{BadPart, WrongLength, DeviceFault}
+use Rattle.bl_image.specs.declared.fault.ImageFault.TheVariants.{NoMemory}
 use Rattle.bl_image.specs.Fields.{Field, word, long, fields_fault}
 use Rattle.bl_image.specs.Source.{Input, Comes, MayFollow, Shows, Refuses}
 use Rattle.bl_image.specs.SourceKept.{Ends, IsCut, Passes}
@@ -16,37 +20,50 @@ use Rattle.bl_image.proofs.Inputs.{comes_nothing, comes_more}
 
 -- a number is what its bytes spell
 pub u32_alone : (n : ℕ) → n < 2 ^ 32 → u32_at (u32_bytes n) 0 ≡ n
-u32_alone n fits = ap (λ (bytes : List ℕ). u32_at bytes 0) (sym (append-nil (u32_bytes n))) ∙ u32_again n [] fits
+u32_alone n fits =
+    ap (λ (bytes : List ℕ). u32_at bytes 0) (sym (append-nil (u32_bytes n))) ∙ u32_again n [] fits
 
 pub u64_alone : (n : ℕ) → n < 2 ^ 64 → u64_at (u64_bytes n) 0 ≡ n
-u64_alone n fits = ap (λ (bytes : List ℕ). u64_at bytes 0) (sym (append-nil (u64_bytes n))) ∙ u64_again n [] fits
+u64_alone n fits =
+    ap (λ (bytes : List ℕ). u64_at bytes 0) (sym (append-nil (u64_bytes n))) ∙ u64_again n [] fits
 
-pub word_tells : (test : ℕ → Bool) (fault : ImageFault) (n : ℕ) (answer : Bool) → n < 2 ^ 32 → test n ≡ answer → (word test fault).passes (u32_bytes n) ≡ answer
+pub word_tells : (test : ℕ → Bool) (fault : ImageFault) (n : ℕ) (answer : Bool) → n < 2 ^ 32
+    → test n ≡ answer → (word test fault).passes (u32_bytes n) ≡ answer
 word_tells test fault n answer fits e = ap test (u32_alone n fits) ∙ e
 
-pub long_tells : (test : ℕ → Bool) (fault : ImageFault) (n : ℕ) (answer : Bool) → n < 2 ^ 64 → test n ≡ answer → (long test fault).passes (u64_bytes n) ≡ answer
+pub long_tells : (test : ℕ → Bool) (fault : ImageFault) (n : ℕ) (answer : Bool) → n < 2 ^ 64
+    → test n ≡ answer → (long test fault).passes (u64_bytes n) ≡ answer
 long_tells test fault n answer fits e = ap test (u64_alone n fits) ∙ e
 
 not_short : (a x : List ℕ) (n : ℕ) → length a ≡ n → nat_lt (length (a ++ x)) n ≡ false
 not_short a x n e = let size = length-append a x in le-ltb (length (a ++ x)) n (omega arith)
 
 -- a field that passes leaves the others to be judged
-pub field_passes : (field : Field) (fields : List Field) (a x : List ℕ) → length a ≡ field.size → field.passes a ≡ true → fields_fault (field ∷ fields) (a ++ x) ≡ fields_fault fields x
+pub field_passes : (field : Field) (fields : List Field) (a x : List ℕ) → length a ≡ field.size
+    → field.passes a ≡ true → fields_fault (field ∷ fields) (a ++ x) ≡ fields_fault fields x
 field_passes field fields a x size passes =
-    rw (not_short a x field.size size, take_at a x field.size size, drop_at a x field.size size, passes) refl
+    rw (
+      not_short a x field.size size,
+      take_at a x field.size size,
+      drop_at a x field.size size,
+      passes,
+    ) refl
 
 -- and one that doesn't is the first fault
-pub field_fails : (field : Field) (fields : List Field) (a x : List ℕ) → length a ≡ field.size → field.passes a ≡ false → fields_fault (field ∷ fields) (a ++ x) ≡ Some field.fault
+pub field_fails : (field : Field) (fields : List Field) (a x : List ℕ) → length a ≡ field.size
+    → field.passes a ≡ false → fields_fault (field ∷ fields) (a ++ x) ≡ Some field.fault
 field_fails field fields a x size fails =
     rw (not_short a x field.size size, take_at a x field.size size, fails) refl
 
 -- and so is one that is cut
-pub field_short : (field : Field) (fields : List Field) (bytes : List ℕ) → length bytes < field.size → fields_fault (field ∷ fields) bytes ≡ Some WrongLength
+pub field_short : (field : Field) (fields : List Field) (bytes : List ℕ) → length bytes < field.size
+    → fields_fault (field ∷ fields) bytes ≡ Some WrongLength
 field_short field fields bytes short =
     let e : nat_lt (length bytes) field.size ≡ true = grind (arith, nat_tests) in rw e refl
 
 -- what shows a fault refuses
-pub shown : (fault_in : List ℕ → Option ImageFault) (old new : Input) (fault : ImageFault) → Shows fault_in old new fault → Refuses fault_in old new fault
+pub shown : (fault_in : List ℕ → Option ImageFault) (old new : Input) (fault : ImageFault)
+    → Shows fault_in old new fault → Refuses fault_in old new fault
 shown fault_in old new BadMagic s = s
 shown fault_in old new BadVersion s = s
 shown fault_in old new BadHeader s = s
@@ -55,10 +72,14 @@ shown fault_in old new WrongLength s = s
 shown fault_in old new DeviceFault s = tt
 shown fault_in old new NoMemory s = tt
 
-nothing_follows : (rest : Option (List ℕ)) (bytes : List ℕ) → rest ≡ Some [] → MayFollow rest bytes → bytes ≡ []
-nothing_follows rest bytes e may = let P : Option (List ℕ) → Type 0 = λ r. MayFollow r bytes in subst P e may
+nothing_follows : (rest : Option (List ℕ)) (bytes : List ℕ) → rest ≡ Some [] → MayFollow rest bytes
+    → bytes ≡ []
+nothing_follows rest bytes e may =
+    let P : Option (List ℕ) → Type 0 = λ r. MayFollow r bytes in subst P e may
 
-ended_shows : (fault_in : List ℕ → Option ImageFault) (old new : Input) (count : ℕ) → ((bytes : List ℕ) → length bytes < count → fault_in bytes ≡ Some WrongLength) → Ends old new count → Shows fault_in old new WrongLength
+ended_shows : (fault_in : List ℕ → Option ImageFault) (old new : Input) (count : ℕ)
+    → ((bytes : List ℕ) → length bytes < count → fault_in bytes ≡ Some WrongLength)
+    → Ends old new count → Shows fault_in old new WrongLength
 ended_shows fault_in old new count short ends = record {
   came = ends.came;
   comes = ends.comes;
@@ -69,7 +90,10 @@ ended_shows fault_in old new count short ends = record {
 }
 
 -- an input that ended too early is refused where fewer bytes have the wrong length
-pub cut_refuses : (fault_in : List ℕ → Option ImageFault) (old new : Input) (count : ℕ) (fault : ImageFault) → ((bytes : List ℕ) → length bytes < count → fault_in bytes ≡ Some WrongLength) → IsCut old new count fault → Refuses fault_in old new fault
+pub cut_refuses : (fault_in : List ℕ → Option ImageFault) (old new : Input) (count : ℕ)
+    (fault : ImageFault)
+    → ((bytes : List ℕ) → length bytes < count → fault_in bytes ≡ Some WrongLength)
+    → IsCut old new count fault → Refuses fault_in old new fault
 cut_refuses fault_in old new count BadMagic short h = absurd h
 cut_refuses fault_in old new count BadVersion short h = absurd h
 cut_refuses fault_in old new count BadHeader short h = absurd h
@@ -79,11 +103,16 @@ cut_refuses fault_in old new count DeviceFault short h = tt
 cut_refuses fault_in old new count NoMemory short h = tt
 
 -- the same for a field
-pub field_cut : (field : Field) (fields : List Field) (old new : Input) (fault : ImageFault) → IsCut old new field.size fault → Refuses (fields_fault (field ∷ fields)) old new fault
-field_cut field fields old new fault h = cut_refuses (fields_fault (field ∷ fields)) old new field.size fault (λ bytes short. field_short field fields bytes short) h
+pub field_cut : (field : Field) (fields : List Field) (old new : Input) (fault : ImageFault)
+    → IsCut old new field.size fault → Refuses (fields_fault (field ∷ fields)) old new fault
+field_cut field fields old new fault h =
+    cut_refuses (fields_fault (field ∷ fields)) old new field.size fault
+    (λ bytes short. field_short field fields bytes short) h
 
 -- a field that came and fails
-pub field_shows : (field : Field) (fields : List Field) (old new : Input) (a : List ℕ) → Comes old new a → length a ≡ field.size → field.passes a ≡ false → Shows (fields_fault (field ∷ fields)) old new field.fault
+pub field_shows : (field : Field) (fields : List Field) (old new : Input) (a : List ℕ)
+    → Comes old new a → length a ≡ field.size → field.passes a ≡ false
+    → Shows (fields_fault (field ∷ fields)) old new field.fault
 field_shows field fields old new a comes size fails = record {
   came = a;
   comes = comes;
@@ -91,33 +120,48 @@ field_shows field fields old new a comes size fails = record {
 }
 
 -- what came so far has no fault, and leaves what follows to be judged in another way
-pub record Passed (fault_in : List ℕ → Option ImageFault) (old now : Input) (left : List ℕ → Option ImageFault) : Type 0 where
+pub record Passed (fault_in : List ℕ → Option ImageFault) (old now : Input)
+    (left : List ℕ → Option ImageFault) : Type 0 where
   pub done : List ℕ
   pub comes : Comes old now done
   pub on : (bytes : List ℕ) → fault_in (done ++ bytes) ≡ left bytes
 
-pub passed_none : (fault_in : List ℕ → Option ImageFault) (old : Input) → Passed fault_in old old fault_in
+pub passed_none : (fault_in : List ℕ → Option ImageFault) (old : Input)
+    → Passed fault_in old old fault_in
 passed_none fault_in old = record { done = []; comes = comes_nothing old; on = λ bytes. refl }
 
-pub passed_more : {fault_in left rest : List ℕ → Option ImageFault} {old mid new : Input} (a : List ℕ) → Passed fault_in old mid left → Comes mid new a → ((bytes : List ℕ) → left (a ++ bytes) ≡ rest bytes) → Passed fault_in old new rest
+pub passed_more : {fault_in left rest : List ℕ → Option ImageFault} {old mid new : Input}
+    (a : List ℕ) → Passed fault_in old mid left → Comes mid new a
+    → ((bytes : List ℕ) → left (a ++ bytes) ≡ rest bytes) → Passed fault_in old new rest
 passed_more {fault_in = fault_in} a p comes on = record {
   done = p.done ++ a;
   comes = comes_more p.comes comes;
   on = λ bytes. ap fault_in (append_assoc p.done a bytes) ∙ p.on (a ++ bytes) ∙ on bytes;
 }
 
-pub passed_field : {fault_in : List ℕ → Option ImageFault} {old mid new : Input} (field : Field) (fields : List Field) (a : List ℕ) → Passed fault_in old mid (fields_fault (field ∷ fields)) → Passes field mid new a → Passed fault_in old new (fields_fault fields)
-passed_field field fields a p passes = passed_more a p passes.comes (λ bytes. field_passes field fields a bytes passes.size passes.passes)
+pub passed_field : {fault_in : List ℕ → Option ImageFault} {old mid new : Input} (field : Field)
+    (fields : List Field) (a : List ℕ) → Passed fault_in old mid (fields_fault (field ∷ fields))
+    → Passes field mid new a → Passed fault_in old new (fields_fault fields)
+passed_field field fields a p passes =
+    passed_more a p passes.comes
+    (λ bytes. field_passes field fields a bytes passes.size passes.passes)
 
-passed_shows : {fault_in left : List ℕ → Option ImageFault} {old mid new : Input} {fault : ImageFault} → Passed fault_in old mid left → Shows left mid new fault → Shows fault_in old new fault
+passed_shows : {fault_in left : List ℕ → Option ImageFault} {old mid new : Input}
+    {fault : ImageFault} → Passed fault_in old mid left → Shows left mid new fault
+    → Shows fault_in old new fault
 passed_shows {fault_in = fault_in} p s = record {
   came = p.done ++ s.came;
   comes = comes_more p.comes s.comes;
-  shown = λ bytes may. ap fault_in (append_assoc p.done s.came bytes) ∙ p.on (s.came ++ bytes) ∙ s.shown bytes may;
+  shown =
+      λ bytes may.
+      ap fault_in (append_assoc p.done s.came bytes) ∙ p.on (s.came ++ bytes)
+      ∙ s.shown bytes may;
 }
 
 -- what is refused behind it is refused
-pub passed_refuses : {fault_in left : List ℕ → Option ImageFault} {old mid : Input} → Passed fault_in old mid left → (new : Input) (fault : ImageFault) → Refuses left mid new fault → Refuses fault_in old new fault
+pub passed_refuses : {fault_in left : List ℕ → Option ImageFault} {old mid : Input}
+    → Passed fault_in old mid left → (new : Input) (fault : ImageFault) → Refuses left mid new fault
+    → Refuses fault_in old new fault
 passed_refuses p new BadMagic s = passed_shows p s
 passed_refuses p new BadVersion s = passed_shows p s
 passed_refuses p new BadHeader s = passed_shows p s
@@ -147,7 +191,8 @@ other_bytes xs ys other = is_false (bytes_eq xs ys) (λ e. other ((bytes_eq-Deci
 
 -- a test that compares a text
 pub text_differs : (xs ys : List ℕ) → true ≡ not (bytes_eq xs ys) → bytes_eq ys xs ≡ false
-text_differs xs ys e = other_bytes ys xs (λ same. differs (bytes_eq xs ys) e ((bytes_eq-Decides xs ys).1 (sym same)))
+text_differs xs ys e =
+    other_bytes ys xs (λ same. differs (bytes_eq xs ys) e ((bytes_eq-Decides xs ys).1 (sym same)))
 
 pub text_same : (xs ys : List ℕ) → false ≡ not (bytes_eq xs ys) → xs ≡ ys
 text_same xs ys e = (bytes_eq-Decides xs ys).0 (is_true (bytes_eq xs ys) e)
@@ -156,11 +201,15 @@ text_same xs ys e = (bytes_eq-Decides xs ys).0 (is_true (bytes_eq xs ys) e)
 pub between : (low n high : ℕ) → low ≤ n → n ≤ high → nat_le low n && nat_le n high ≡ true
 between low n high h k = grind (arith, nat_tests)
 
-pub not_between : (low n high : ℕ) → ((low ≤ n) × (n ≤ high) → ⊥) → nat_le low n && nat_le n high ≡ false
-not_between low n high h = is_false (nat_le low n && nat_le n high) (λ e. h (between_tells low n high e))
+pub not_between : (low n high : ℕ) → ((low ≤ n) × (n ≤ high) → ⊥)
+    → nat_le low n && nat_le n high ≡ false
+not_between low n high h =
+    is_false (nat_le low n && nat_le n high) (λ e. h (between_tells low n high e))
 
 -- fewer bytes came than one piece needs, so fewer than all need
-pub cut_behind : {old mid : Input} {a : List ℕ} (n count : ℕ) → Comes old mid a → length a + n ≤ count → (new : Input) (fault : ImageFault) → IsCut mid new n fault → IsCut old new count fault
+pub cut_behind : {old mid : Input} {a : List ℕ} (n count : ℕ) → Comes old mid a
+    → length a + n ≤ count → (new : Input) (fault : ImageFault) → IsCut mid new n fault
+    → IsCut old new count fault
 cut_behind n count comes few new BadMagic h = absurd h
 cut_behind n count comes few new BadVersion h = absurd h
 cut_behind n count comes few new BadHeader h = absurd h
@@ -168,6 +217,11 @@ cut_behind n count comes few new (BadPart index) h = absurd h
 cut_behind {a = a} n count comes few new WrongLength h =
     let size = length-append a h.came in
     let short : length h.came < n = h.short in
-    record { came = a ++ h.came; comes = comes_more comes h.comes; short = omega arith; ended = h.ended }
+    record {
+      came = a ++ h.came;
+      comes = comes_more comes h.comes;
+      short = omega arith;
+      ended = h.ended;
+    }
 cut_behind n count comes few new DeviceFault h = tt
 cut_behind n count comes few new NoMemory h = tt

@@ -15,35 +15,45 @@ use Rattle.bl_image.specs.Spellable.{FitsRecord, IsSpellable, PlaceFits, AreSpel
 use Rattle.bl_image.proofs.Spelled.{EndsIn, length-place_bytes}
 
 -- places that a handoff keeps fit
-pub records_fit : (r : Registers) (ps : List Place) → All (λ n. n < 2 ^ 32) (register_numbers r) → All (λ (p : Place). p.index < 2 ^ 32) ps → AreRecords ps → AreSpellable r ps
+pub records_fit : (r : Registers) (ps : List Place) → All (λ n. n < 2 ^ 32) (register_numbers r)
+    → All (λ (p : Place). p.index < 2 ^ 32) ps → AreRecords ps → AreSpellable r ps
 records_fit r ps registers indices records =
     record {
       registers = registers;
       count = let few : length ps ≤ 256 = records.few in omega arith;
       places = λ k d within.
-          let below : (get_or ps k d).address + (get_or ps k d).length ≤ 2 ^ 32 = records.below k d within in
+          let below : (get_or ps k d).address + (get_or ps k d).length ≤ 2 ^ 32 =
+          records.below k d within in
           record { index = indices k d within; address = omega arith; count = omega arith };
     }
 
-part_fits : (bytes : List ℕ) (place : Place) → EndsIn bytes place → PlaceFits place → FitsRecord (part_in bytes place)
+part_fits : (bytes : List ℕ) (place : Place) → EndsIn bytes place → PlaceFits place
+    → FitsRecord (part_in bytes place)
 part_fits bytes place inside fits =
     record {
       index = fits.index;
       address = fits.address;
-      count = subst (λ (n : ℕ). n < 2 ^ 64) (sym (length-place_bytes bytes place inside)) fits.count;
+      count =
+          subst (λ (n : ℕ). n < 2 ^ 64) (sym (length-place_bytes bytes place inside)) fits.count;
     }
 
 -- and so do the parts that memory has there
-pub handover_fits : (bytes : List ℕ) (protocol : Protocol) (r : Registers) (ps : List Place) → All (EndsIn bytes) ps → AreSpellable r ps → IsSpellable (handover_in bytes protocol r ps)
+pub handover_fits : (bytes : List ℕ) (protocol : Protocol) (r : Registers) (ps : List Place)
+    → All (EndsIn bytes) ps → AreSpellable r ps → IsSpellable (handover_in bytes protocol r ps)
 handover_fits bytes protocol r ps inside fit =
     record {
       registers = fit.registers;
       count = subst (λ (n : ℕ). n < 2 ^ 32) (sym (length-map ps (part_in bytes))) fit.count;
-      parts = All-map FitsRecord (part_in bytes) ps (λ k d within. part_fits bytes (get_or ps k d) (inside k d within) (fit.places k d within));
+      parts =
+          All-map FitsRecord (part_in bytes) ps
+          (λ k d within.
+          part_fits bytes (get_or ps k d) (inside k d within) (fit.places k d within));
     }
 
 -- they are few, none is empty, they end at 4 GiB at most, and they ascend
-pub handover_kept : (bytes : List ℕ) (protocol : Protocol) (r : Registers) (ps : List Place) → All (EndsIn bytes) ps → AreSpellable r ps → AreRecords ps → IsKept (handover_in bytes protocol r ps)
+pub handover_kept : (bytes : List ℕ) (protocol : Protocol) (r : Registers) (ps : List Place)
+    → All (EndsIn bytes) ps → AreSpellable r ps → AreRecords ps
+    → IsKept (handover_in bytes protocol r ps)
 handover_kept bytes protocol r ps inside fit records =
     let part = part_in bytes in
     record {

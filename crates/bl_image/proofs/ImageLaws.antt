@@ -1,5 +1,7 @@
 -- An image has no fault, and is read.
-use Rattle.std.proofs.Common.{◌≡◌, ◌+◌, ◌≤◌, ◌<◌, ◌^◌, ℕ, suc, List, [], ◌∷◌, ◌++◌, length, All, Some, None, Result, Ok, Err, refl, sym, ap, ◌∙◌, arith, append_assoc, length-append}
+use Rattle.std.proofs.Common.{◌≡◌, ◌+◌, ◌≤◌, ◌<◌, ◌^◌, ℕ, suc, List, [], ◌∷◌, ◌++◌, length, All}
+use Rattle.std.proofs.Common.{Some, None, Result, Ok, Err, refl, sym, ap, ◌∙◌, arith, append_assoc}
+use Rattle.std.proofs.Common.{length-append}
 use Rattle.std.specs.Prelude.{MatchResult, ◌==◌, true}
 use Rattle.std.proofs.lemmas.Bool.Decides.{nat_tests}
 use Rattle.std.proofs.lemmas.List.Elements.{All-tail}
@@ -8,9 +10,12 @@ use Rattle.std.specs.List.{flat_map}
 use Rattle.bl_plan.proofs.OrderLemmas.{AreRelated, pairs_related}
 use Rattle.bl_load.specs.Handover.{Part, Handover, end_of}
 use Rattle.bl_image.specs.declared.fault.ImageFault.{ImageFault}
-use Rattle.bl_image.specs.declared.fault.ImageFault.TheVariants.{BadMagic, BadVersion, BadHeader, BadPart, WrongLength, DeviceFault, NoMemory}
+use Rattle.bl_image.specs.declared.fault.ImageFault.TheVariants.{BadMagic, BadVersion, BadHeader}
+use Rattle.bl_image.specs.declared.fault.ImageFault.TheVariants.{BadPart, WrongLength, DeviceFault}
+use Rattle.bl_image.specs.declared.fault.ImageFault.TheVariants.{NoMemory}
 use Rattle.bl_image.specs.Image.{part_record, spelling}
-use Rattle.bl_image.specs.ImageFaults.{Before, and_record, parts_fault, end_fault, none_before, image_fault}
+use Rattle.bl_image.specs.ImageFaults.{Before, and_record, parts_fault, end_fault, none_before}
+use Rattle.bl_image.specs.ImageFaults.{image_fault}
 use Rattle.bl_image.specs.ImageParts.{PartAscends, IsKept, IsImage}
 use Rattle.bl_image.specs.RecordsKept.{IsNext, place_of}
 use Rattle.bl_image.specs.Source.{Fails, IsOfTheMoment}
@@ -25,27 +30,43 @@ record IsSoundPart (part : Part) : Type 0 where
   filled : 1 ≤ length part.bytes
   below : end_of part ≤ 2 ^ 32
 
-parts_sound : (parts : List Part) (before : Before) (x : List ℕ) → All (λ (part : Part). before.end ≤ part.address) parts → AreRelated PartAscends parts → All IsSoundPart parts
-    → parts_fault (length parts) before (flat_map part_record parts ++ x) ≡ end_fault (before.bytes + length (all_bytes parts)) x
+parts_sound : (parts : List Part) (before : Before) (x : List ℕ)
+    → All (λ (part : Part). before.end ≤ part.address) parts → AreRelated PartAscends parts
+    → All IsSoundPart parts
+    → parts_fault (length parts) before (flat_map part_record parts ++ x)
+    ≡ end_fault (before.bytes + length (all_bytes parts)) x
 parts_sound [] before x above related sound = ap (λ (n : ℕ). end_fault n x) (omega arith)
 parts_sound (part ∷ parts) before x above related sound =
     let here = sound 0 part (omega arith) in
-    let next : IsNext before.end (place_of part) = record { index = here.index; above = above 0 part (omega arith); filled = here.filled; below = here.below } in
+    let next : IsNext before.end (place_of part) =
+    record {
+      index = here.index;
+      above = above 0 part (omega arith);
+      filled = here.filled;
+      below = here.below;
+    } in
     let after : Before = and_record before part.address (length part.bytes) in
     let size = length-append part.bytes (all_bytes parts) in
-    ap (λ (l : List ℕ). parts_fault (suc (length parts)) before (l ++ x)) (flat_map-cons part_record part parts)
-    ∙ ap (parts_fault (suc (length parts)) before) (append_assoc (part_record part) (flat_map part_record parts) x)
+    ap (λ (l : List ℕ). parts_fault (suc (length parts)) before (l ++ x))
+    (flat_map-cons part_record part parts)
+    ∙ ap (parts_fault (suc (length parts)) before)
+    (append_assoc (part_record part) (flat_map part_record parts) x)
     ∙ parts_step (length parts) before (place_of part) (flat_map part_record parts ++ x) next
     ∙ parts_sound parts after x related.0 related.1 (All-tail IsSoundPart part parts sound)
     ∙ ap (λ (n : ℕ). end_fault n x) (omega arith)
 
 whole_ends : (bytes : List ℕ) → end_fault (0 + length bytes) bytes ≡ None
-whole_ends bytes = let e : (length bytes == 0 + length bytes) ≡ true = grind (arith, nat_tests) in rw e refl
+whole_ends bytes =
+    let e : (length bytes == 0 + length bytes) ≡ true = grind (arith, nat_tests) in rw e refl
 
 sound_parts : (h : Handover) → IsKept h → All IsSoundPart h.parts
 sound_parts h kept k d within =
     let fits = kept.spellable.parts k d within in
-    record { index = fits.index; filled = kept.parts.filled k d within; below = kept.parts.below k d within }
+    record {
+      index = fits.index;
+      filled = kept.parts.filled k d within;
+      below = kept.parts.below k d within;
+    }
 
 -- the image of what an image keeps has no fault
 pub image_sound : (h : Handover) → IsKept h → image_fault (spelling h) ≡ None
@@ -54,13 +75,16 @@ image_sound h kept =
     let bytes : List ℕ = all_bytes h.parts in
     let few : length h.parts ≤ 256 = kept.parts.few in
     head_front h.protocol h.registers (length h.parts) (records ++ bytes) few
-    ∙ parts_sound h.parts none_before bytes (λ k d within. omega arith) (pairs_related PartAscends h.parts kept.parts.ascending) (sound_parts h kept)
+    ∙ parts_sound h.parts none_before bytes (λ k d within. omega arith)
+    (pairs_related PartAscends h.parts kept.parts.ascending) (sound_parts h kept)
     ∙ whole_ends bytes
 
-no_fault : (bytes : List ℕ) (fault : ImageFault) → image_fault bytes ≡ None → image_fault bytes ≡ Some fault → ⊥
+no_fault : (bytes : List ℕ) (fault : ImageFault) → image_fault bytes ≡ None
+    → image_fault bytes ≡ Some fault → ⊥
 no_fault bytes fault e f = let both : None ≡ Some fault = sym e ∙ f in cc
 
-refused_for_now : (bytes : List ℕ) (fault : ImageFault) → image_fault bytes ≡ None → Fails image_fault bytes fault → IsOfTheMoment fault
+refused_for_now : (bytes : List ℕ) (fault : ImageFault) → image_fault bytes ≡ None
+    → Fails image_fault bytes fault → IsOfTheMoment fault
 refused_for_now bytes BadMagic e f = no_fault bytes BadMagic e f
 refused_for_now bytes BadVersion e f = no_fault bytes BadVersion e f
 refused_for_now bytes BadHeader e f = no_fault bytes BadHeader e f
@@ -70,6 +94,10 @@ refused_for_now bytes DeviceFault e f = tt
 refused_for_now bytes NoMemory e f = tt
 
 -- an image is read as what it spells
-pub accepted_by : (r : Result Handover ImageFault) (bytes : List ℕ) → MatchResult r (IsImage bytes) (Fails image_fault bytes) → (handover : Handover) → IsImage bytes handover → MatchResult r (λ image. image ≡ handover) IsOfTheMoment
-accepted_by (Ok image) bytes read handover is = image_is_read_again image handover read.kept.spellable is.kept.spellable (sym read.is ∙ is.is)
-accepted_by (Err fault) bytes fails handover is = refused_for_now bytes fault (ap image_fault is.is ∙ image_sound handover is.kept) fails
+pub accepted_by : (r : Result Handover ImageFault) (bytes : List ℕ)
+    → MatchResult r (IsImage bytes) (Fails image_fault bytes) → (handover : Handover)
+    → IsImage bytes handover → MatchResult r (λ image. image ≡ handover) IsOfTheMoment
+accepted_by (Ok image) bytes read handover is =
+    image_is_read_again image handover read.kept.spellable is.kept.spellable (sym read.is ∙ is.is)
+accepted_by (Err fault) bytes fails handover is =
+    refused_for_now bytes fault (ap image_fault is.is ∙ image_sound handover is.kept) fails

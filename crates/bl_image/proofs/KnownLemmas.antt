@@ -1,46 +1,59 @@
 -- What is known of an input decides what is read.
-use Rattle.std.proofs.Common.{◌≡◌, ℕ, List, [], ◌++◌, Option, Some, None, Result, Ok, Err, IfOk, OnOk, IfErr, refl, ap, ◌∙◌, subst}
+use Rattle.std.proofs.Common.{◌≡◌, ℕ, List, [], ◌++◌, Option, Some, None, Result, Ok, Err, IfOk}
+use Rattle.std.proofs.Common.{OnOk, IfErr, refl, ap, ◌∙◌, subst}
 use Rattle.std.specs.Prelude.{MatchResult}
 use Rattle.std.proofs.lemmas.List.{append-nil}
 use Rattle.std.specs.Io.KnownBytes.{Consumes}
 use Rattle.bl_load.specs.Handover.{Handover}
 use Rattle.bl_image.specs.declared.fault.ImageFault.{ImageFault}
-use Rattle.bl_image.specs.declared.fault.ImageFault.TheVariants.{BadMagic, BadVersion, BadHeader, BadPart, WrongLength, DeviceFault, NoMemory}
+use Rattle.bl_image.specs.declared.fault.ImageFault.TheVariants.{BadMagic, BadVersion, BadHeader}
+use Rattle.bl_image.specs.declared.fault.ImageFault.TheVariants.{BadPart, WrongLength, DeviceFault}
+use Rattle.bl_image.specs.declared.fault.ImageFault.TheVariants.{NoMemory}
 use Rattle.bl_image.specs.Image.{spelling}
 use Rattle.bl_image.specs.ImageFaults.{image_fault}
 use Rattle.bl_image.specs.ImageParts.{IsKept, IsImage}
 use Rattle.bl_image.specs.Source.{Input, Comes, IsEnded, MayFollow, Shows, Refuses, Fails}
 
-all_came : (old new : Option (List ℕ)) (came bytes : List ℕ) → old ≡ Some bytes → new ≡ Some [] → Consumes old new came → bytes ≡ came
+all_came : (old new : Option (List ℕ)) (came bytes : List ℕ) → old ≡ Some bytes → new ≡ Some []
+    → Consumes old new came → bytes ≡ came
 all_came old new came bytes e f h =
     let P : Option (List ℕ) → Type 0 = λ o. Consumes o new came in
     let Q : Option (List ℕ) → Type 0 = λ o. Consumes (Some bytes) o came in
     let at_end : bytes ≡ came ++ [] = subst Q f (subst P e h) in
     at_end ∙ append-nil came
 
-what_follows : (rest : Option (List ℕ)) (came bytes : List ℕ) → Consumes (Some bytes) rest came → (more : List ℕ) × MayFollow rest more × (bytes ≡ came ++ more)
+what_follows : (rest : Option (List ℕ)) (came bytes : List ℕ) → Consumes (Some bytes) rest came
+    → (more : List ℕ) × MayFollow rest more × (bytes ≡ came ++ more)
 what_follows None came bytes h = absurd h
 what_follows (Some more) came bytes h = (more, refl, h)
 
-shows_known : (fault_in : List ℕ → Option ImageFault) (old new : Input) (fault : ImageFault) (bytes : List ℕ) → old.rest ≡ Some bytes → Shows fault_in old new fault → fault_in bytes ≡ Some fault
+shows_known : (fault_in : List ℕ → Option ImageFault) (old new : Input) (fault : ImageFault)
+    (bytes : List ℕ) → old.rest ≡ Some bytes → Shows fault_in old new fault
+    → fault_in bytes ≡ Some fault
 shows_known fault_in old new fault bytes e s =
     let P : Option (List ℕ) → Type 0 = λ o. Consumes o new.rest s.came in
     let f = what_follows new.rest s.came bytes (subst P e s.comes.rest_is) in
     ap fault_in f.2 ∙ s.shown f.0 f.1
 
-fails_known : (old new : Input) (fault : ImageFault) (bytes : List ℕ) → old.rest ≡ Some bytes → Refuses image_fault old new fault → Fails image_fault bytes fault
+fails_known : (old new : Input) (fault : ImageFault) (bytes : List ℕ) → old.rest ≡ Some bytes
+    → Refuses image_fault old new fault → Fails image_fault bytes fault
 fails_known old new BadMagic bytes e s = shows_known image_fault old new BadMagic bytes e s
 fails_known old new BadVersion bytes e s = shows_known image_fault old new BadVersion bytes e s
 fails_known old new BadHeader bytes e s = shows_known image_fault old new BadHeader bytes e s
-fails_known old new (BadPart index) bytes e s = shows_known image_fault old new (BadPart index) bytes e s
+fails_known old new (BadPart index) bytes e s =
+    shows_known image_fault old new (BadPart index) bytes e s
 fails_known old new WrongLength bytes e s = shows_known image_fault old new WrongLength bytes e s
 fails_known old new DeviceFault bytes e s = tt
 fails_known old new NoMemory bytes e s = tt
 
-pub known_by : (r : Result Handover ImageFault) (old new : Input) → IfOk r (λ image. Comes old new (spelling image)) → OnOk r (IsEnded new) → IfOk r IsKept → IfErr r (Refuses image_fault old new)
-    → (bytes : List ℕ) → old.rest ≡ Some bytes → MatchResult r (IsImage bytes) (Fails image_fault bytes)
+pub known_by : (r : Result Handover ImageFault) (old new : Input)
+    → IfOk r (λ image. Comes old new (spelling image)) → OnOk r (IsEnded new) → IfOk r IsKept
+    → IfErr r (Refuses image_fault old new)
+    → (bytes : List ℕ) → old.rest ≡ Some bytes
+    → MatchResult r (IsImage bytes) (Fails image_fault bytes)
 known_by (Ok image) old new comes ended kept refused bytes e = record {
   is = all_came old.rest new.rest (spelling image) bytes e ended comes.rest_is;
   kept = kept;
 }
-known_by (Err fault) old new comes ended kept refused bytes e = fails_known old new fault bytes e refused
+known_by (Err fault) old new comes ended kept refused bytes e =
+    fails_known old new fault bytes e refused

@@ -1,5 +1,6 @@
 -- A list by its elements.
-use Rattle.std.proofs.Common.{◌≡◌, ◌+◌, ◌<◌, ℕ, zero, suc, List, [], ◌∷◌, ◌++◌, ◌^◌, length, get_or, slice_set, take, drop, All, sym, ap, ◌∙◌, subst, arith}
+use Rattle.std.proofs.Common.{◌≡◌, ◌+◌, ◌<◌, ℕ, zero, suc, List, [], ◌∷◌, ◌++◌, ◌^◌, length, get_or}
+use Rattle.std.proofs.Common.{slice_set, take, drop, All, sym, ap, ◌∙◌, subst, arith}
 use Rattle.std.proofs.Math.Numerals.{add-one}
 use Rattle.std.proofs.lemmas.List.{drop_all, append-nil}
 use Rattle.std.proofs.lemmas.List.Elements.{All-append, All-cons, All-nil}
@@ -17,22 +18,29 @@ elements (suc n) k xs = get_or xs k 0 ∷ elements n (k + 1) xs
 elements_are : (n k : ℕ) (xs : List ℕ) → length xs ≡ k + n → elements n k xs ≡ drop k xs
 elements_are zero k xs e = sym (drop_all k xs (omega arith))
 elements_are (suc n) k xs e =
-    ap (λ (l : List ℕ). get_or xs k 0 ∷ l) (elements_are n (k + 1) xs (omega arith) ∙ ap (λ (j : ℕ). drop j xs) (add-one k))
+    ap (λ (l : List ℕ). get_or xs k 0 ∷ l)
+    (elements_are n (k + 1) xs (omega arith) ∙ ap (λ (j : ℕ). drop j xs) (add-one k))
     ∙ sym (drop-cons xs k 0 (omega arith))
 
 pub listed_20 : (xs : List ℕ) → length xs ≡ 20 → elements 20 0 xs ≡ xs
 listed_20 xs e = elements_are 20 0 xs e
 
 -- one more number was put down
-pub u32s_more : (xs : List ℕ) (i v : ℕ) → i < length xs → flat_map u32_bytes (take (i + 1) (slice_set xs i v)) ≡ flat_map u32_bytes (take i xs) ++ u32_bytes v
+pub u32s_more : (xs : List ℕ) (i v : ℕ) → i < length xs
+    → flat_map u32_bytes (take (i + 1) (slice_set xs i v))
+    ≡ flat_map u32_bytes (take i xs) ++ u32_bytes v
 u32s_more xs i v h =
     ap (λ (j : ℕ). flat_map u32_bytes (take j (slice_set xs i v))) (add-one i)
     ∙ ap (flat_map u32_bytes) (take-suc-set xs i v h)
     ∙ flat_map-append u32_bytes (take i xs) (v ∷ [])
-    ∙ ap (λ (l : List ℕ). flat_map u32_bytes (take i xs) ++ l) (flat_map-cons u32_bytes v [] ∙ append-nil (u32_bytes v))
+    ∙ ap (λ (l : List ℕ). flat_map u32_bytes (take i xs) ++ l)
+    (flat_map-cons u32_bytes v [] ∙ append-nil (u32_bytes v))
 
-pub fit_more : (xs : List ℕ) (i v : ℕ) → i < length xs → All (λ n. n < 2 ^ 32) (take i xs) → v < 2 ^ 32 → All (λ n. n < 2 ^ 32) (take (i + 1) (slice_set xs i v))
+pub fit_more : (xs : List ℕ) (i v : ℕ) → i < length xs → All (λ n. n < 2 ^ 32) (take i xs)
+    → v < 2 ^ 32 → All (λ n. n < 2 ^ 32) (take (i + 1) (slice_set xs i v))
 fit_more xs i v h fit small =
     let fits : ℕ → Type 0 = λ n. n < 2 ^ 32 in
-    let is : take (i + 1) (slice_set xs i v) ≡ take i xs ++ (v ∷ []) = ap (λ (j : ℕ). take j (slice_set xs i v)) (add-one i) ∙ take-suc-set xs i v h in
-    subst (All fits) (sym is) (All-append fits (take i xs) (v ∷ []) fit (All-cons fits v [] small (All-nil fits)))
+    let is : take (i + 1) (slice_set xs i v) ≡ take i xs ++ (v ∷ []) =
+    ap (λ (j : ℕ). take j (slice_set xs i v)) (add-one i) ∙ take-suc-set xs i v h in
+    subst (All fits) (sym is)
+    (All-append fits (take i xs) (v ∷ []) fit (All-cons fits v [] small (All-nil fits)))

@@ -1,5 +1,7 @@
 -- The parts of an image and their places.
-use Rattle.std.proofs.Common.{◌≡◌, ◌+◌, ◌≤◌, ◌<◌, ◌^◌, ℕ, zero, suc, List, [], ◌∷◌, ◌++◌, length, get_or, take, map, All, Some, refl, sym, ap, ◌∙◌, subst, arith, append_assoc, length-append}
+use Rattle.std.proofs.Common.{◌≡◌, ◌+◌, ◌≤◌, ◌<◌, ◌^◌, ℕ, zero, suc, List, [], ◌∷◌, ◌++◌, length}
+use Rattle.std.proofs.Common.{get_or, take, map, All, Some, refl, sym, ap, ◌∙◌, subst, arith}
+use Rattle.std.proofs.Common.{append_assoc, length-append}
 use Rattle.std.specs.Prelude.{◌==◌, false}
 use Rattle.std.proofs.lemmas.List.{append-nil, length-map, map-append, take_more}
 use Rattle.std.proofs.lemmas.List.Concat.{flat_map-cons}
@@ -28,36 +30,46 @@ use Rattle.bl_image.proofs.Spelled.{EndsIn, length-place_bytes}
 abbrev pub all_bytes : List Part → List ℕ
 all_bytes parts = flat_map (λ (part : Part). part.bytes) parts
 
-bytes_at-take : (ps : List Place) (i : ℕ) (d : Place) → i < length ps → bytes_at (take i ps) + (get_or ps i d).length ≤ bytes_at ps
+bytes_at-take : (ps : List Place) (i : ℕ) (d : Place) → i < length ps
+    → bytes_at (take i ps) + (get_or ps i d).length ≤ bytes_at ps
 bytes_at-take [] i d h = absurd (omega arith)
 bytes_at-take (p ∷ ps) zero d h = omega arith
 bytes_at-take (p ∷ ps) (suc i) d h = omega (arith, bytes_at-take ps i d (omega arith))
 
 pub parts_size : (parts : List Part) → length (all_bytes parts) ≡ bytes_at (map place_of parts)
 parts_size [] = refl
-parts_size (part ∷ parts) = omega (arith, length-append part.bytes (all_bytes parts), parts_size parts)
+parts_size (part ∷ parts) =
+    omega (arith, length-append part.bytes (all_bytes parts), parts_size parts)
 
 -- the input ended inside a part
-pub part_cut : (ps : List Place) (parts : List Part) (i : ℕ) (d : Place) {old mid : Input} → map place_of parts ≡ take i ps → i < length ps → Comes old mid (all_bytes parts)
-    → (new : Input) (fault : ImageFault) → IsCut mid new (get_or ps i d).length fault → IsCut old new (bytes_at ps) fault
+pub part_cut : (ps : List Place) (parts : List Part) (i : ℕ) (d : Place) {old mid : Input}
+    → map place_of parts ≡ take i ps → i < length ps → Comes old mid (all_bytes parts)
+    → (new : Input) (fault : ImageFault) → IsCut mid new (get_or ps i d).length fault
+    → IsCut old new (bytes_at ps) fault
 part_cut ps parts i d are inside comes new fault cut =
-    let size : length (all_bytes parts) ≡ bytes_at (take i ps) = parts_size parts ∙ ap bytes_at are in
+    let size : length (all_bytes parts) ≡ bytes_at (take i ps) =
+    parts_size parts ∙ ap bytes_at are in
     let within = bytes_at-take ps i d inside in
     cut_behind (get_or ps i d).length (bytes_at ps) comes (omega arith) new fault cut
 
-pub places_more : (ps : List Place) (parts : List Part) (i : ℕ) (d : Place) (part : Part) → map place_of parts ≡ take i ps → i < length ps → place_of part ≡ get_or ps i d → map place_of (parts ++ part ∷ []) ≡ take (i + 1) ps
+pub places_more : (ps : List Place) (parts : List Part) (i : ℕ) (d : Place) (part : Part)
+    → map place_of parts ≡ take i ps → i < length ps → place_of part ≡ get_or ps i d
+    → map place_of (parts ++ part ∷ []) ≡ take (i + 1) ps
 places_more ps parts i d part are inside is =
     map-append place_of parts (part ∷ [])
     ∙ ap (λ (l : List Place). l ++ place_of part ∷ []) are
     ∙ ap (λ (p : Place). take i ps ++ p ∷ []) is
     ∙ sym (take_more ps i d inside)
 
-pub bytes_more : (parts : List Part) (part : Part) → all_bytes (parts ++ part ∷ []) ≡ all_bytes parts ++ part.bytes
+pub bytes_more : (parts : List Part) (part : Part)
+    → all_bytes (parts ++ part ∷ []) ≡ all_bytes parts ++ part.bytes
 bytes_more parts part =
     flat_map-append (λ (p : Part). p.bytes) parts (part ∷ [])
-    ∙ ap (λ (l : List ℕ). all_bytes parts ++ l) (flat_map-cons (λ (p : Part). p.bytes) part [] ∙ append-nil part.bytes)
+    ∙ ap (λ (l : List ℕ). all_bytes parts ++ l)
+    (flat_map-cons (λ (p : Part). p.bytes) part [] ∙ append-nil part.bytes)
 
-records_at : (parts : List Part) → flat_map place_record (map place_of parts) ≡ flat_map part_record parts
+records_at : (parts : List Part)
+    → flat_map place_record (map place_of parts) ≡ flat_map part_record parts
 records_at [] = refl
 records_at (part ∷ parts) =
     flat_map-cons place_record (place_of part) (map place_of parts)
@@ -65,36 +77,53 @@ records_at (part ∷ parts) =
     ∙ sym (flat_map-cons part_record part parts)
 
 -- head, records, parts, and nothing: an image
-pub spelled_by : (protocol : Protocol) (registers : Registers) (count : ℕ) (ps : List Place) (parts : List Part) → map place_of parts ≡ ps → length ps ≡ count
-    → ((head protocol registers count ++ flat_map place_record ps) ++ all_bytes parts) ++ [] ≡ spelling (record { protocol = protocol; registers = registers; parts = parts })
+pub spelled_by : (protocol : Protocol) (registers : Registers) (count : ℕ) (ps : List Place)
+    (parts : List Part) → map place_of parts ≡ ps → length ps ≡ count
+    → ((head protocol registers count ++ flat_map place_record ps) ++ all_bytes parts) ++ []
+    ≡ spelling (record { protocol = protocol; registers = registers; parts = parts })
 spelled_by protocol registers count ps parts are size =
     append-nil ((head protocol registers count ++ flat_map place_record ps) ++ all_bytes parts)
     ∙ append_assoc (head protocol registers count) (flat_map place_record ps) (all_bytes parts)
-    ∙ ap (λ (l : List ℕ). head protocol registers count ++ (l ++ all_bytes parts)) (ap (flat_map place_record) (sym are) ∙ records_at parts)
-    ∙ ap (λ (n : ℕ). head protocol registers n ++ (flat_map part_record parts ++ all_bytes parts)) (sym size ∙ ap length (sym are) ∙ length-map parts place_of)
+    ∙ ap (λ (l : List ℕ). head protocol registers count ++ (l ++ all_bytes parts))
+    (ap (flat_map place_record) (sym are) ∙ records_at parts)
+    ∙ ap (λ (n : ℕ). head protocol registers n ++ (flat_map part_record parts ++ all_bytes parts))
+    (sym size ∙ ap length (sym are) ∙ length-map parts place_of)
 
-all_under : (P : Place → Type 0) (parts : List Part) → All P (map place_of parts) → All (λ (part : Part). P (place_of part)) parts
+all_under : (P : Place → Type 0) (parts : List Part) → All P (map place_of parts)
+    → All (λ (part : Part). P (place_of part)) parts
 all_under P [] h k d within = absurd (omega arith)
 all_under P (part ∷ parts) h zero d within = h 0 (place_of part) (omega arith)
-all_under P (part ∷ parts) h (suc k) d within = all_under P parts (λ j e inside. h (suc j) e (omega arith)) k d (omega arith)
+all_under P (part ∷ parts) h (suc k) d within =
+    all_under P parts (λ j e inside. h (suc j) e (omega arith)) k d (omega arith)
 
-related_under : (parts : List Part) → AreRelated Ascends (map place_of parts) → AreRelated PartAscends parts
+related_under : (parts : List Part) → AreRelated Ascends (map place_of parts)
+    → AreRelated PartAscends parts
 related_under [] h = tt
-related_under (part ∷ parts) h = (all_under (Ascends (place_of part)) parts h.0, related_under parts h.1)
+related_under (part ∷ parts) h =
+    (all_under (Ascends (place_of part)) parts h.0, related_under parts h.1)
 
 -- parts at the places of records are an image's
 pub image_parts : (parts : List Part) → AreRecords (map place_of parts) → AreImageParts parts
 image_parts parts records = record {
-  few = let few : length (map place_of parts) ≤ 256 = records.few in let same = length-map parts place_of in omega arith;
+  few =
+      let few : length (map place_of parts) ≤ 256 = records.few in
+      let same = length-map parts place_of in omega arith;
   filled = all_under (λ (p : Place). 1 ≤ p.length) parts records.filled;
   below = all_under (λ (p : Place). p.address + p.length ≤ 2 ^ 32) parts records.below;
-  ascending = related_pairs PartAscends parts (related_under parts (pairs_related Ascends (map place_of parts) records.ascending));
+  ascending =
+      related_pairs PartAscends parts
+      (related_under parts (pairs_related Ascends (map place_of parts) records.ascending));
 }
 
 parts_fit : (parts : List Part) → All PlaceFits (map place_of parts) → All FitsRecord parts
-parts_fit parts h k d within = let fits = all_under PlaceFits parts h k d within in record { index = fits.index; address = fits.address; count = fits.count }
+parts_fit parts h k d within =
+    let fits =
+    all_under PlaceFits parts h k d within in
+    record { index = fits.index; address = fits.address; count = fits.count }
 
-pub image_kept : (protocol : Protocol) (registers : Registers) (ps : List Place) (parts : List Part) → map place_of parts ≡ ps → AreRecords ps → All PlaceFits ps → All (λ n. n < 2 ^ 32) (register_numbers registers)
+pub image_kept : (protocol : Protocol) (registers : Registers) (ps : List Place) (parts : List Part)
+    → map place_of parts ≡ ps → AreRecords ps → All PlaceFits ps
+    → All (λ n. n < 2 ^ 32) (register_numbers registers)
     → IsKept (record { protocol = protocol; registers = registers; parts = parts })
 image_kept protocol registers ps parts are records fit registers_fit =
     let at : AreRecords (map place_of parts) = subst AreRecords (sym are) records in
@@ -102,36 +131,55 @@ image_kept protocol registers ps parts are records fit registers_fit =
     let whole = image_parts parts at in
     record {
       parts = whole;
-      spellable = record { registers = registers_fit; count = let few : length parts ≤ 256 = whole.few in omega arith; parts = parts_fit parts all };
+      spellable =
+          record {
+            registers = registers_fit;
+            count = let few : length parts ≤ 256 = whole.few in
+                omega arith;
+            parts = parts_fit parts all;
+          };
     }
 
 -- the parts that memory has at places are there
-places_in : (bytes : List ℕ) (ps : List Place) → All (EndsIn bytes) ps → map place_of (map (part_in bytes) ps) ≡ ps
+places_in : (bytes : List ℕ) (ps : List Place) → All (EndsIn bytes) ps
+    → map place_of (map (part_in bytes) ps) ≡ ps
 places_in bytes [] h = refl
 places_in bytes (p ∷ ps) h =
     let size = length-place_bytes bytes p (h 0 p (omega arith)) in
-    let made : ℕ → Place = λ n. record { role = p.role; index = p.index; address = p.address; length = n } in
+    let made : ℕ → Place =
+    λ n. record { role = p.role; index = p.index; address = p.address; length = n } in
     ap (λ (q : Place). q ∷ map place_of (map (part_in bytes) ps)) (ap made size)
     ∙ ap (λ (l : List Place). p ∷ l) (places_in bytes ps (λ k d within. h (suc k) d (omega arith)))
 
-pub memory_parts : (bytes : List ℕ) (ps : List Place) → All (EndsIn bytes) ps → AreRecords ps → AreImageParts (map (part_in bytes) ps)
-memory_parts bytes ps inside records = image_parts (map (part_in bytes) ps) (subst AreRecords (sym (places_in bytes ps inside)) records)
+pub memory_parts : (bytes : List ℕ) (ps : List Place) → All (EndsIn bytes) ps → AreRecords ps
+    → AreImageParts (map (part_in bytes) ps)
+memory_parts bytes ps inside records =
+    image_parts (map (part_in bytes) ps)
+    (subst AreRecords (sym (places_in bytes ps inside)) records)
 
-pub parts_in-more : (bytes : List ℕ) (ps : List Place) (i : ℕ) (p : Place) → p ≡ get_or ps i p → i < length ps → map (part_in bytes) (take i ps) ++ part_in bytes p ∷ [] ≡ map (part_in bytes) (take (i + 1) ps)
+pub parts_in-more : (bytes : List ℕ) (ps : List Place) (i : ℕ) (p : Place) → p ≡ get_or ps i p
+    → i < length ps
+    → map (part_in bytes) (take i ps) ++ part_in bytes p ∷ []
+    ≡ map (part_in bytes) (take (i + 1) ps)
 parts_in-more bytes ps i p is inside =
     ap (λ (q : Place). map (part_in bytes) (take i ps) ++ part_in bytes q ∷ []) is
     ∙ sym (map-append (part_in bytes) (take i ps) (get_or ps i p ∷ []))
     ∙ ap (map (part_in bytes)) (sym (take_more ps i p inside))
 
 -- too few bytes
-pub end_short : (count : ℕ) (bytes : List ℕ) → length bytes < count → end_fault count bytes ≡ Some WrongLength
-end_short count bytes short = let e : (length bytes == count) ≡ false = grind (arith, nat_tests) in rw e refl
+pub end_short : (count : ℕ) (bytes : List ℕ) → length bytes < count
+    → end_fault count bytes ≡ Some WrongLength
+end_short count bytes short =
+    let e : (length bytes == count) ≡ false = grind (arith, nat_tests) in rw e refl
 
 same_test : (a b c d : ℕ) → (a ≡ b → c ≡ d) → (c ≡ d → a ≡ b) → (a == b) ≡ (c == d)
 same_test a b c d to from = grind (arith, nat_tests)
 
 -- the parts' bytes, and what follows
-pub end_more : (count : ℕ) (a x : List ℕ) → length a ≡ count → end_fault count (a ++ x) ≡ end_fault 0 x
+pub end_more : (count : ℕ) (a x : List ℕ) → length a ≡ count
+    → end_fault count (a ++ x) ≡ end_fault 0 x
 end_more count a x size =
     let longer = length-append a x in
-    let e : (length (a ++ x) == count) ≡ (length x == 0) = same_test (length (a ++ x)) count (length x) 0 (λ h. omega arith) (λ h. omega arith) in rw e refl
+    let e : (length (a ++ x) == count) ≡ (length x == 0) =
+    same_test (length (a ++ x)) count (length x) 0 (λ h. omega arith) (λ h. omega arith) in
+    rw e refl

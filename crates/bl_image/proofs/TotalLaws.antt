@@ -1,18 +1,23 @@
 -- Bytes that have no fault are an image.
-use Rattle.std.proofs.Common.{◌≡◌, ◌+◌, ◌*◌, ◌≤◌, ◌<◌, ◌^◌, ℕ, zero, suc, Bool, true, false, List, [], ◌∷◌, ◌++◌, length, get_or, slice_index, take, drop, map, All, Option, Some, None, refl, sym, ap, ◌∙◌, subst, arith, append_assoc, ⊎_elim}
+use Rattle.std.proofs.Common.{◌≡◌, ◌+◌, ◌*◌, ◌≤◌, ◌<◌, ◌^◌, ℕ, zero, suc, Bool, true, false, List}
+use Rattle.std.proofs.Common.{[], ◌∷◌, ◌++◌, length, get_or, slice_index, take, drop, map, All}
+use Rattle.std.proofs.Common.{Option, Some, None, refl, sym, ap, ◌∙◌, subst, arith, append_assoc}
+use Rattle.std.proofs.Common.{⊎_elim}
 use Rattle.std.specs.Prelude.{nat_lt, nat_le, not, ◌&&◌, ◌==◌, if◌then◌else◌}
 use Rattle.std.specs.List.{flat_map}
 use Rattle.std.proofs.lemmas.Nat.{le_bytes_4, le_bytes_8}
 use Rattle.std.proofs.lemmas.Bool.{ltb-false, cases_lt}
 use Rattle.std.proofs.lemmas.Bool.Decides.{nat_tests, Decides-eqb}
 use Rattle.std.proofs.lemmas.Slice.Eq.{bytes_eq-Decides}
-use Rattle.std.proofs.lemmas.List.{append-nil, take-append-drop, get_or-drop, get_or-take, get_or_past, length-take, length-take-le, length-drop, drop_all}
+use Rattle.std.proofs.lemmas.List.{append-nil, take-append-drop, get_or-drop, get_or-take}
+use Rattle.std.proofs.lemmas.List.{get_or_past, length-take, length-take-le, length-drop, drop_all}
 use Rattle.std.proofs.lemmas.List.Elements.{All-cons, All-nil}
 use Rattle.std.proofs.lemmas.List.Concat.{flat_map-cons}
 use Rattle.bl_mem.proofs.WordLaws.{u32_at-lt}
 use Rattle.bl_mem.specs.Words.{number_at, u32_at, u64_at, u32_bytes, u64_bytes}
 use Rattle.bl_plan.specs.declared.role.Role.{Role}
-use Rattle.bl_plan.specs.declared.role.Role.TheVariants.{Kernel, Module, Information, BootParams, CommandLine, Gdt, Initrd}
+use Rattle.bl_plan.specs.declared.role.Role.TheVariants.{Kernel, Module, Information, BootParams}
+use Rattle.bl_plan.specs.declared.role.Role.TheVariants.{CommandLine, Gdt, Initrd}
 use Rattle.bl_plan.specs.Roles as roles
 use Rattle.bl_plan.specs.declared.place.Place.{Place}
 use Rattle.bl_plan.specs.declared.protocol.Protocol.{Protocol}
@@ -25,8 +30,11 @@ use Rattle.bl_load.specs.HandoffFacts.{Ascends, AreRecords}
 use Rattle.bl_image.specs.declared.fault.ImageFault.{ImageFault}
 use Rattle.bl_image.specs.declared.fault.ImageFault.TheVariants.{WrongLength}
 use Rattle.bl_image.specs.Image.{magic, head, register_numbers, place_record}
-use Rattle.bl_image.specs.Fields.{Field, fields_fault, head_fields, magic_field, version_field, protocol_field, registers_field, count_field, zero_field, role_field, index_field, address_field, length_field}
-use Rattle.bl_image.specs.ImageFaults.{first, image_fault, record_fault, parts_fault, Before, and_record, none_before, end_fault}
+use Rattle.bl_image.specs.Fields.{Field, fields_fault, head_fields, magic_field, version_field}
+use Rattle.bl_image.specs.Fields.{protocol_field, registers_field, count_field, zero_field}
+use Rattle.bl_image.specs.Fields.{role_field, index_field, address_field, length_field}
+use Rattle.bl_image.specs.ImageFaults.{first, image_fault, record_fault, parts_fault, Before}
+use Rattle.bl_image.specs.ImageFaults.{and_record, none_before, end_fault}
 use Rattle.bl_image.specs.ImageParts.{IsImage}
 use Rattle.bl_image.specs.RecordsKept.{IsNext, bytes_at, place_of}
 use Rattle.bl_image.specs.Spellable.{PlaceFits}
@@ -45,20 +53,27 @@ small_drop n bytes small k = rw get_or-drop (small (n + k))
 small_take : (n : ℕ) (bytes : List ℕ) → IsSmall bytes → IsSmall (take n bytes)
 small_take n bytes small k =
     ⊎_elim (λ inside. let e = get_or-take n bytes k 0 inside in let h = small k in omega arith)
-    (λ past. let size = length-take n bytes in let none = get_or_past (take n bytes) k 0 (omega arith) in omega arith)
+    (λ past. let size = length-take n bytes in
+    let none = get_or_past (take n bytes) k 0 (omega arith) in omega arith)
     (cases_lt k n)
 
 -- what stands in bytes, and what follows
-u32_split : (bytes : List ℕ) → IsSmall bytes → 4 ≤ length bytes → u32_bytes (u32_at (take 4 bytes) 0) ++ drop 4 bytes ≡ bytes
+u32_split : (bytes : List ℕ) → IsSmall bytes → 4 ≤ length bytes
+    → u32_bytes (u32_at (take 4 bytes) 0) ++ drop 4 bytes ≡ bytes
 unfolding u32_bytes number_at
 u32_split bytes small long =
-    ap (λ (l : List ℕ). l ++ drop 4 bytes) (le_bytes_4 (take 4 bytes) (u32_at (take 4 bytes) 0) (length-take-le 4 bytes long) (small_take 4 bytes small) (omega arith))
+    ap (λ (l : List ℕ). l ++ drop 4 bytes)
+    (le_bytes_4 (take 4 bytes) (u32_at (take 4 bytes) 0) (length-take-le 4 bytes long)
+    (small_take 4 bytes small) (omega arith))
     ∙ take-append-drop 4 bytes
 
-u64_split : (bytes : List ℕ) → IsSmall bytes → 8 ≤ length bytes → u64_bytes (u64_at (take 8 bytes) 0) ++ drop 8 bytes ≡ bytes
+u64_split : (bytes : List ℕ) → IsSmall bytes → 8 ≤ length bytes
+    → u64_bytes (u64_at (take 8 bytes) 0) ++ drop 8 bytes ≡ bytes
 unfolding u64_bytes number_at
 u64_split bytes small long =
-    ap (λ (l : List ℕ). l ++ drop 8 bytes) (le_bytes_8 (take 8 bytes) (u64_at (take 8 bytes) 0) (length-take-le 8 bytes long) (small_take 8 bytes small) (omega arith))
+    ap (λ (l : List ℕ). l ++ drop 8 bytes)
+    (le_bytes_8 (take 8 bytes) (u64_at (take 8 bytes) 0) (length-take-le 8 bytes long)
+    (small_take 8 bytes small) (omega arith))
     ∙ take-append-drop 8 bytes
 
 u32_small : (bytes : List ℕ) → IsSmall bytes → u32_at (take 4 bytes) 0 < 2 ^ 32
@@ -67,9 +82,13 @@ u32_small bytes small = u32_at-lt (take 4 bytes) 0 (small_take 4 bytes small)
 u64_small : (bytes : List ℕ) → IsSmall bytes → u64_at (take 8 bytes) 0 < 2 ^ 64
 unfolding number_at
 u64_small bytes small =
-    let low = small_take 8 bytes small in omega (arith, low 0, low 1, low 2, low 3, low 4, low 5, low 6, low 7)
+    let low =
+    small_take 8 bytes small in
+    omega (arith, low 0, low 1, low 2, low 3, low 4, low 5, low 6, low 7)
 
-none_from : (short passes : Bool) (x y : ImageFault) (rest : Option ImageFault) → (if short then Some x else (if not passes then Some y else rest)) ≡ None → (short ≡ false) × (passes ≡ true) × (rest ≡ None)
+none_from : (short passes : Bool) (x y : ImageFault) (rest : Option ImageFault)
+    → (if short then Some x else (if not passes then Some y else rest)) ≡ None
+    → (short ≡ false) × (passes ≡ true) × (rest ≡ None)
 none_from true passes x y rest e = cc
 none_from false true x y rest e = (refl, refl, e)
 none_from false false x y rest e = cc
@@ -83,9 +102,12 @@ record Fits (field : Field) (fields : List Field) (bytes : List ℕ) : Type 0 wh
   passes : field.passes (take field.size bytes) ≡ true
   rest : fields_fault fields (drop field.size bytes) ≡ None
 
-field_none : (field : Field) (fields : List Field) (bytes : List ℕ) → fields_fault (field ∷ fields) bytes ≡ None → Fits field fields bytes
+field_none : (field : Field) (fields : List Field) (bytes : List ℕ)
+    → fields_fault (field ∷ fields) bytes ≡ None → Fits field fields bytes
 field_none field fields bytes e =
-    let f = none_from (nat_lt (length bytes) field.size) (field.passes (take field.size bytes)) _ _ (fields_fault fields (drop field.size bytes)) e in
+    let f =
+    none_from (nat_lt (length bytes) field.size) (field.passes (take field.size bytes))
+    _ _ (fields_fault fields (drop field.size bytes)) e in
     record { long = ltb-false _ _ f.0; passes = f.1; rest = f.2 }
 
 le_from : (m n : ℕ) → nat_le m n ≡ true → m ≤ n
@@ -100,8 +122,15 @@ record Words (count : ℕ) (bytes : List ℕ) : Type 0 where
   size : length words ≡ count
   fit : All (λ n. n < 2 ^ 32) words
 
-words_split : (count : ℕ) (bytes : List ℕ) → IsSmall bytes → length bytes ≡ 4 * count → Words count bytes
-words_split zero bytes small size = record { words = []; is = sym (drop_all 0 bytes (omega arith)); size = refl; fit = All-nil (λ n. n < 2 ^ 32) }
+words_split : (count : ℕ) (bytes : List ℕ) → IsSmall bytes → length bytes ≡ 4 * count
+    → Words count bytes
+words_split zero bytes small size =
+    record {
+      words = [];
+      is = sym (drop_all 0 bytes (omega arith));
+      size = refl;
+      fit = All-nil (λ n. n < 2 ^ 32);
+    }
 words_split (suc count) bytes small size =
     let word = u32_at (take 4 bytes) 0 in
     let long : 4 ≤ length bytes = omega arith in
@@ -109,7 +138,9 @@ words_split (suc count) bytes small size =
     let rest = words_split count (drop 4 bytes) (small_drop 4 bytes small) (omega arith) in
     record {
       words = word ∷ rest.words;
-      is = flat_map-cons u32_bytes word rest.words ∙ ap (λ (l : List ℕ). u32_bytes word ++ l) rest.is ∙ u32_split bytes small long;
+      is =
+          flat_map-cons u32_bytes word rest.words ∙ ap (λ (l : List ℕ). u32_bytes word ++ l) rest.is
+          ∙ u32_split bytes small long;
       size = ap suc rest.size;
       fit = All-cons (λ n. n < 2 ^ 32) word rest.words (u32_small bytes small) rest.fit;
     }
@@ -159,7 +190,8 @@ role_by (suc (suc (suc (suc (suc (suc zero)))))) h k = (Gdt, refl)
 role_by (suc (suc (suc (suc (suc (suc (suc zero))))))) h k = (Initrd, refl)
 role_by (suc (suc (suc (suc (suc (suc (suc (suc n)))))))) h k = absurd (omega arith)
 
-chained : (a b c d e f x x5 x4 x3 x2 x1 w : List ℕ) → f ++ x ≡ x5 → e ++ x5 ≡ x4 → d ++ x4 ≡ x3 → c ++ x3 ≡ x2 → b ++ x2 ≡ x1 → a ++ x1 ≡ w
+chained : (a b c d e f x x5 x4 x3 x2 x1 w : List ℕ) → f ++ x ≡ x5 → e ++ x5 ≡ x4 → d ++ x4 ≡ x3
+    → c ++ x3 ≡ x2 → b ++ x2 ≡ x1 → a ++ x1 ≡ w
     → (((((a ++ b) ++ c) ++ d) ++ e) ++ f) ++ x ≡ w
 chained a b c d e f x x5 x4 x3 x2 x1 w e5 e4 e3 e2 e1 e0 =
     seven_pieces a b c d e f x
@@ -180,16 +212,23 @@ record HeadFound (bytes : List ℕ) : Type 0 where
   fit : All (λ n. n < 2 ^ 32) (register_numbers registers)
   small : IsSmall rest
 
-head_found : (bytes : List ℕ) → IsSmall bytes → fields_fault head_fields bytes ≡ None → HeadFound bytes
+head_found : (bytes : List ℕ) → IsSmall bytes → fields_fault head_fields bytes ≡ None
+    → HeadFound bytes
 unfolding magic_field version_field protocol_field registers_field count_field zero_field
 head_found bytes small none =
-    let f1 = field_none magic_field (version_field ∷ protocol_field ∷ registers_field ∷ count_field ∷ zero_field ∷ []) bytes none in
+    let f1 =
+    field_none magic_field
+    (version_field ∷ protocol_field ∷ registers_field ∷ count_field ∷ zero_field ∷ []) bytes
+    none in
     let b1 : List ℕ = drop 8 bytes in
     let s1 : IsSmall b1 = small_drop 8 bytes small in
-    let f2 = field_none version_field (protocol_field ∷ registers_field ∷ count_field ∷ zero_field ∷ []) b1 f1.rest in
+    let f2 =
+    field_none version_field (protocol_field ∷ registers_field ∷ count_field ∷ zero_field ∷ [])
+    b1 f1.rest in
     let b2 : List ℕ = drop 4 b1 in
     let s2 : IsSmall b2 = small_drop 4 b1 s1 in
-    let f3 = field_none protocol_field (registers_field ∷ count_field ∷ zero_field ∷ []) b2 f2.rest in
+    let f3 =
+    field_none protocol_field (registers_field ∷ count_field ∷ zero_field ∷ []) b2 f2.rest in
     let b3 : List ℕ = drop 4 b2 in
     let s3 : IsSmall b3 = small_drop 4 b2 s2 in
     let f4 = field_none registers_field (count_field ∷ zero_field ∷ []) b3 f3.rest in
@@ -209,10 +248,14 @@ head_found bytes small none =
     let numbers : register_numbers r ≡ ws.words = registers_are ws.words ws.size in
     let count = u32_at (take 4 b4) 0 in
     let z : u32_at (take 4 b5) 0 ≡ 0 = (Decides-eqb (u32_at (take 4 b5) 0) 0).0 f6.passes in
-    let whole = chained magic (u32_bytes 1) (u32_bytes (protocols.protocol_number p.0)) (flat_map u32_bytes (register_numbers r)) (u32_bytes count) (u32_bytes 0) (drop 4 b5) b5 b4 b3 b2 b1 bytes
+    let whole =
+    chained magic (u32_bytes 1) (u32_bytes (protocols.protocol_number p.0))
+    (flat_map u32_bytes (register_numbers r)) (u32_bytes count) (u32_bytes 0) (drop 4 b5) b5
+    b4 b3 b2 b1 bytes
     (ap (λ (k : ℕ). u32_bytes k ++ drop 4 b5) (sym z) ∙ u32_split b5 s5 f6.long)
     (u32_split b4 s4 f5.long)
-    (ap (λ (l : List ℕ). l ++ b4) (ap (flat_map u32_bytes) numbers ∙ ws.is) ∙ take-append-drop 80 b3)
+    (ap (λ (l : List ℕ). l ++ b4) (ap (flat_map u32_bytes) numbers ∙ ws.is)
+    ∙ take-append-drop 80 b3)
     (ap (λ (k : ℕ). u32_bytes k ++ b3) p.1 ∙ u32_split b2 s2 f3.long)
     (ap (λ (k : ℕ). u32_bytes k ++ b2) (sym v) ∙ u32_split b1 s1 f2.long)
     (ap (λ (l : List ℕ). l ++ b1) m ∙ take-append-drop 8 bytes) in
@@ -234,11 +277,14 @@ record RecordFound (end : ℕ) (bytes : List ℕ) : Type 0 where
   next : IsNext end place
   small : IsSmall rest
 
-record_found : (part end : ℕ) (bytes : List ℕ) → IsSmall bytes → record_fault part end bytes ≡ None → RecordFound end bytes
+record_found : (part end : ℕ) (bytes : List ℕ) → IsSmall bytes → record_fault part end bytes ≡ None
+    → RecordFound end bytes
 unfolding role_field index_field address_field length_field
 record_found part end bytes small none =
     let front = first_none _ _ none in
-    let f1 = field_none (role_field part) (index_field part ∷ address_field part end ∷ []) bytes front.0 in
+    let f1 =
+    field_none (role_field part) (index_field part ∷ address_field part end ∷ []) bytes
+    front.0 in
     let b1 : List ℕ = drop 4 bytes in
     let s1 : IsSmall b1 = small_drop 4 bytes small in
     let f2 = field_none (index_field part) (address_field part end ∷ []) b1 f1.rest in
@@ -253,16 +299,19 @@ record_found part end bytes small none =
     let index = u32_at (take 4 b1) 0 in
     let address = u64_at (take 8 b2) 0 in
     let above : end ≤ address = le_from end address f3.passes in
-    let e1 : u32_bytes (roles.role_number r.0) ++ b1 ≡ bytes = ap (λ (k : ℕ). u32_bytes k ++ b1) r.1 ∙ u32_split bytes small f1.long in
+    let e1 : u32_bytes (roles.role_number r.0) ++ b1 ≡ bytes =
+    ap (λ (k : ℕ). u32_bytes k ++ b1) r.1 ∙ u32_split bytes small f1.long in
     let e2 : u32_bytes index ++ b2 ≡ b1 = u32_split b1 s1 f2.long in
     let e3 : u64_bytes address ++ b3 ≡ b2 = u64_split b2 s2 f3.long in
-    let begun : ((u32_bytes (roles.role_number r.0) ++ u32_bytes index) ++ u64_bytes address) ++ b3 ≡ bytes =
+    let begun : ((u32_bytes (roles.role_number r.0) ++ u32_bytes index) ++ u64_bytes address) ++ b3
+    ≡ bytes =
     four_pieces (u32_bytes (roles.role_number r.0)) (u32_bytes index) (u64_bytes address) b3
     ∙ ap (λ (l : List ℕ). u32_bytes (roles.role_number r.0) ++ (u32_bytes index ++ l)) e3
     ∙ ap (λ (l : List ℕ). u32_bytes (roles.role_number r.0) ++ l) e2
     ∙ e1 in
     let last : fields_fault (length_field part address ∷ []) b3 ≡ None =
-    sym (record_front part end r.0 index address b3 (u32_small b1 s1) (u64_small b2 s2) above) ∙ ap (record_fault part end) begun ∙ none in
+    sym (record_front part end r.0 index address b3 (u32_small b1 s1) (u64_small b2 s2) above)
+    ∙ ap (record_fault part end) begun ∙ none in
     let f4 = field_none (length_field part address) [] b3 last in
     let count = u64_at (take 8 b3) 0 in
     let sizes = both_from 1 count (address + count) (2 ^ 32) f4.passes in
@@ -271,8 +320,12 @@ record_found part end bytes small none =
       place = record { role = r.0; index = index; address = address; length = count };
       rest = drop 8 b3;
       is =
-          regroup (u32_bytes (roles.role_number r.0)) (u32_bytes index) (u64_bytes address) (u64_bytes count) (drop 8 b3)
-          ∙ ap (λ (l : List ℕ). ((u32_bytes (roles.role_number r.0) ++ u32_bytes index) ++ u64_bytes address) ++ l) e4
+          regroup (u32_bytes (roles.role_number r.0)) (u32_bytes index) (u64_bytes address)
+          (u64_bytes count) (drop 8 b3)
+          ∙ ap
+          (λ (l : List ℕ).
+          ((u32_bytes (roles.role_number r.0) ++ u32_bytes index) ++ u64_bytes address)
+          ++ l) e4
           ∙ begun;
       next = record { index = u32_small b1 s1; above = above; filled = sizes.0; below = sizes.1 };
       small = small_drop 8 b3 s3;
@@ -300,7 +353,8 @@ kept_none false e = cc
 end_none : (count : ℕ) (bytes : List ℕ) → end_fault count bytes ≡ None → length bytes ≡ count
 end_none count bytes e = (Decides-eqb (length bytes) count).0 (kept_none (length bytes == count) e)
 
-places_found : (count : ℕ) (before : Before) (bytes : List ℕ) → IsSmall bytes → parts_fault count before bytes ≡ None → PlacesFound count before bytes
+places_found : (count : ℕ) (before : Before) (bytes : List ℕ) → IsSmall bytes
+    → parts_fault count before bytes ≡ None → PlacesFound count before bytes
 places_found zero before bytes small none = record {
   places = [];
   tail = bytes;
@@ -315,7 +369,9 @@ places_found (suc count) before bytes small none =
     let here = record_found before.count before.end bytes small (first_none _ _ none).0 in
     let p = here.place in
     let after : Before = and_record before p.address p.length in
-    let left : parts_fault count after here.rest ≡ None = sym (parts_step count before p here.rest here.next) ∙ ap (parts_fault (suc count) before) here.is ∙ none in
+    let left : parts_fault count after here.rest ≡ None =
+    sym (parts_step count before p here.rest here.next)
+    ∙ ap (parts_fault (suc count) before) here.is ∙ none in
     let others = places_found count after here.rest here.small left in
     let next = here.next in
     let above : before.end ≤ p.address = next.above in
@@ -329,22 +385,36 @@ places_found (suc count) before bytes small none =
           ∙ here.is;
       size = ap suc others.size;
       long = let rest = others.long in omega arith;
-      above = All-cons (λ (q : Place). before.end ≤ q.address) p others.places above (λ k d within. let behind = others.above k d within in omega arith);
+      above =
+          All-cons (λ (q : Place). before.end ≤ q.address) p others.places above
+          (λ k d within. let behind = others.above k d within in omega arith);
       related = (others.above, others.related);
-      each = All-cons IsSoundPlace p others.places (record { index = next.index; filled = next.filled; below = next.below }) others.each;
+      each =
+          All-cons IsSoundPlace p others.places
+          (record { index = next.index; filled = next.filled; below = next.below }) others.each;
     }
 
-split_tail : (ps : List Place) (tail : List ℕ) → length tail ≡ bytes_at ps → (parts : List Part) × (map place_of parts ≡ ps) × (all_bytes parts ≡ tail)
+split_tail : (ps : List Place) (tail : List ℕ) → length tail ≡ bytes_at ps
+    → (parts : List Part) × (map place_of parts ≡ ps) × (all_bytes parts ≡ tail)
 split_tail [] tail size = ([], refl, sym (drop_all 0 tail (omega arith)))
 split_tail (p ∷ ps) tail size =
     let long : p.length ≤ length tail = omega arith in
     let shorter = length-drop p.length tail in
     let rest = split_tail ps (drop p.length tail) (omega arith) in
-    let part : Part = record { role = p.role; index = p.index; address = p.address; bytes = take p.length tail } in
-    let made : ℕ → Place = λ n. record { role = p.role; index = p.index; address = p.address; length = n } in (
+    let part : Part =
+    record {
+      role = p.role;
+      index = p.index;
+      address = p.address;
+      bytes = take p.length tail;
+    } in
+    let made : ℕ → Place =
+    λ n. record { role = p.role; index = p.index; address = p.address; length = n } in (
       part ∷ rest.0,
-      ap (λ (q : Place). q ∷ map place_of rest.0) (ap made (length-take-le p.length tail long)) ∙ ap (λ (l : List Place). p ∷ l) rest.1,
-      flat_map-cons (λ (q : Part). q.bytes) part rest.0 ∙ ap (λ (l : List ℕ). take p.length tail ++ l) rest.2 ∙ take-append-drop p.length tail,
+      ap (λ (q : Place). q ∷ map place_of rest.0) (ap made (length-take-le p.length tail long))
+          ∙ ap (λ (l : List Place). p ∷ l) rest.1,
+      flat_map-cons (λ (q : Part). q.bytes) part rest.0
+          ∙ ap (λ (l : List ℕ). take p.length tail ++ l) rest.2 ∙ take-append-drop p.length tail,
     )
 
 head_none : (bytes : List ℕ) → image_fault bytes ≡ None → fields_fault head_fields bytes ≡ None
@@ -352,10 +422,12 @@ unfolding image_fault
 head_none bytes e = (first_none _ _ e).0
 
 -- bytes that have no fault are an image
-pub image_found : (bytes : List ℕ) → IsSmall bytes → image_fault bytes ≡ None → (handover : Handover) × IsImage bytes handover
+pub image_found : (bytes : List ℕ) → IsSmall bytes → image_fault bytes ≡ None
+    → (handover : Handover) × IsImage bytes handover
 image_found bytes small none =
     let h = head_found bytes small (head_none bytes none) in
-    let left : parts_fault h.count none_before h.rest ≡ None = sym (head_front h.protocol h.registers h.count h.rest h.few) ∙ ap image_fault h.is ∙ none in
+    let left : parts_fault h.count none_before h.rest ≡ None =
+    sym (head_front h.protocol h.registers h.count h.rest h.few) ∙ ap image_fault h.is ∙ none in
     let f = places_found h.count none_before h.rest h.small left in
     let parts = split_tail f.places f.tail (let long = f.long in omega arith) in
     let records : AreRecords f.places = record {
@@ -364,16 +436,28 @@ image_found bytes small none =
       below = λ k d within. (f.each k d within).below;
       ascending = related_pairs Ascends f.places f.related;
     } in
-    let fit : All PlaceFits f.places = λ k d within. let e = f.each k d within in record { index = e.index; address = omega arith; count = omega arith } in
+    let fit : All PlaceFits f.places =
+    λ k d within. let e =
+    f.each k d within in
+    record { index = e.index; address = omega arith; count = omega arith } in
     let spelled = spelled_by h.protocol h.registers h.count f.places parts.0 parts.1 f.size in
-    let pieces : (head h.protocol h.registers h.count ++ flat_map place_record f.places) ++ all_bytes parts.0 ≡ bytes =
-    append_assoc (head h.protocol h.registers h.count) (flat_map place_record f.places) (all_bytes parts.0)
-    ∙ ap (λ (l : List ℕ). head h.protocol h.registers h.count ++ (flat_map place_record f.places ++ l)) parts.2
+    let pieces : (head h.protocol h.registers h.count ++ flat_map place_record f.places)
+    ++ all_bytes parts.0 ≡ bytes =
+    append_assoc (head h.protocol h.registers h.count) (flat_map place_record f.places)
+    (all_bytes parts.0)
+    ∙ ap
+    (λ (l : List ℕ).
+    head h.protocol h.registers h.count ++ (flat_map place_record f.places ++ l)) parts.2
     ∙ ap (λ (l : List ℕ). head h.protocol h.registers h.count ++ l) f.is
     ∙ h.is in (
       record { protocol = h.protocol; registers = h.registers; parts = parts.0 },
       record {
-        is = sym pieces ∙ sym (append-nil ((head h.protocol h.registers h.count ++ flat_map place_record f.places) ++ all_bytes parts.0)) ∙ spelled;
+        is =
+            sym pieces
+            ∙ sym
+            (append-nil
+            ((head h.protocol h.registers h.count ++ flat_map place_record f.places)
+            ++ all_bytes parts.0)) ∙ spelled;
         kept = image_kept h.protocol h.registers f.places parts.0 parts.1 records fit h.fit;
       },
     )

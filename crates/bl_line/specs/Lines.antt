@@ -1,8 +1,10 @@
 -- The command line: the command that clap is given, and the job that its matches tell. Own.
-use Rattle.std.specs.Prelude.{◌≡◌, ◌⊎◌, true, if◌then◌else◌, List, [], ◌∷◌, map, Some, codes, unwrap_or}
+use Rattle.std.specs.Prelude.{◌≡◌, ◌⊎◌, true, if◌then◌else◌, List, [], ◌∷◌, map, Some, codes}
+use Rattle.std.specs.Prelude.{unwrap_or}
 use Rattle.std.specs.Str.{bytes_eq}
 use Rattle.std.specs.Borrow.{Bor}
-use Rattle.clap.specs.Words.{App, IsAmong, Kinds, Row, Rule, Text, fault_of, first_of, new_app, new_rule, subcommand_of, takes, with_rule, with_subcommand}
+use Rattle.clap.specs.Words.{App, IsAmong, Kinds, Row, Rule, Text, fault_of, first_of, new_app}
+use Rattle.clap.specs.Words.{new_rule, subcommand_of, takes, with_rule, with_subcommand}
 use Rattle.clap.specs.Simple.{new_shape}
 use Rattle.clap.specs.declared.builder.value_parser.ValueParser.{ValueParser}
 use Rattle.clap.specs.declared.builder.value_parser.ValueParser.TheVariants.{Names}
@@ -34,11 +36,13 @@ abbrev pub out_rule : Rule
 out_rule = record (new_rule (codes "out")) { long = Some (codes "out"); required = true }
 
 abbrev pub order_rule : ValueParser → Rule
-order_rule parser = record (new_rule (codes "order")) { long = Some (codes "order"); parser = Some parser }
+order_rule parser =
+    record (new_rule (codes "order")) { long = Some (codes "order"); parser = Some parser }
 
 abbrev pub boot_app : ValueParser → App
 boot_app parser =
-    with_rule (with_rule (with_rule (new_app (codes "boot")) desc_rule) out_rule) (order_rule parser)
+    with_rule (with_rule (with_rule (new_app (codes "boot")) desc_rule) out_rule)
+    (order_rule parser)
 
 abbrev pub map_app : App
 map_app = with_rule (new_app (codes "map")) desc_rule
@@ -53,13 +57,17 @@ walk_app = with_rule (new_app (codes "walk")) image_rule
 -- a subcommand must be given, and `help` is none
 abbrev pub top_app : App
 top_app = record {
-  top = record (new_shape (codes "bootcore")) { subcommand_required = true; disable_help_subcommand = true };
+  top = record (new_shape (codes "bootcore")) {
+    subcommand_required = true;
+    disable_help_subcommand = true;
+  };
   subs = [];
 }
 
 abbrev pub line_app : ValueParser → App
 line_app parser =
-    with_subcommand (with_subcommand (with_subcommand top_app (boot_app parser).top) map_app.top) walk_app.top
+    with_subcommand (with_subcommand (with_subcommand top_app (boot_app parser).top) map_app.top)
+    walk_app.top
 
 -- ---- the job
 
@@ -73,7 +81,8 @@ order_named text = if bytes_eq text (codes "reverse") then Reverse else Forward
 -- the job is that of the subcommand with this name and these matches
 abbrev pub IsJobOf : Text × List Row → Job → Type 0
 IsJobOf chosen (Boot description image order) = (bytes_eq chosen.0 (codes "boot") ≡ true)
-    × (description.now ≡ text_of (codes "desc") chosen.1) × (image.now ≡ text_of (codes "out") chosen.1)
+    × (description.now ≡ text_of (codes "desc") chosen.1)
+    × (image.now ≡ text_of (codes "out") chosen.1)
     × (order ≡ order_named (text_of (codes "order") chosen.1))
 IsJobOf chosen (Map description) = (bytes_eq chosen.0 (codes "map") ≡ true)
     × (description.now ≡ text_of (codes "desc") chosen.1)
@@ -83,7 +92,8 @@ IsJobOf chosen (Walk image) = (bytes_eq chosen.0 (codes "walk") ≡ true)
 -- clap's own definition has no fault for the words, and its matches tell the job
 abbrev pub Tells : List Text → Job → Type 0
 Tells words job = WithOrders (λ parser. (fault_of (line_app parser) words ≡ [])
-    × ((chosen : Text × List Row) × (subcommand_of (line_app parser) words ≡ Some chosen) × IsJobOf chosen job))
+    × ((chosen : Text × List Row)
+    × (subcommand_of (line_app parser) words ≡ Some chosen) × IsJobOf chosen job))
 
 -- ---- the faults
 
@@ -100,7 +110,8 @@ IsFaultAmong kinds fault = (kind : ErrorKind) × IsAmong kind kinds × (fault �
 -- memory ran out, or the fault is one that clap's own definition has for the words
 abbrev pub Refuses : List Text → LineFault → Type 0
 Refuses words fault =
-    (fault ≡ NoMemory) ⊎ WithOrders (λ parser. IsFaultAmong (fault_of (line_app parser) words) fault)
+    (fault ≡ NoMemory)
+    ⊎ WithOrders (λ parser. IsFaultAmong (fault_of (line_app parser) words) fault)
 
 -- clap's own definition takes the words
 abbrev pub IsTaken : List Text → Type 0

@@ -1,6 +1,9 @@
 -- A block, segment after segment.
-use Rattle.std.proofs.Common.{◌≡◌, ℕ, ◌+◌, ◌-◌, ◌<◌, ◌≤◌, List, [], ◌∷◌, ◌++◌, length, get_or, replicate, zero, suc, arith, rules, refl, sym, ap, ◌∙◌, All, AllPairs, length-append, inl, inr, max, slice_range, true, false}
-use Rattle.std.proofs.lemmas.List.{places, same_lists, length-replicate, get_or_append_left, get_or-append_right, get_or-replicate, get_or_default, get_or_at}
+use Rattle.std.proofs.Common.{◌≡◌, ℕ, ◌+◌, ◌-◌, ◌<◌, ◌≤◌, List, [], ◌∷◌, ◌++◌, length, get_or}
+use Rattle.std.proofs.Common.{replicate, zero, suc, arith, rules, refl, sym, ap, ◌∙◌, All, AllPairs}
+use Rattle.std.proofs.Common.{length-append, inl, inr, max, slice_range, true, false}
+use Rattle.std.proofs.lemmas.List.{places, same_lists, length-replicate, get_or_append_left}
+use Rattle.std.proofs.lemmas.List.{get_or-append_right, get_or-replicate, get_or_default, get_or_at}
 use Rattle.std.proofs.lemmas.List.Elements.{All-cons}
 use Rattle.std.proofs.lemmas.Bool.{cases_lt}
 use Rattle.std.proofs.lemmas.Bool.Decides.{nat_tests}
@@ -15,17 +18,21 @@ use Rattle.bl_load.specs.Kept.{IsCopied, SegmentsAscend}
 -- segments from a linked address on, each behind the zeros of the gap before it
 abbrev pub block_from : List ℕ → ℕ → List Segment → List ℕ
 block_from text start [] = []
-block_from text start (s ∷ segments) = replicate (s.address - start) 0 ++ contents_of text s ++ block_from text (s.address + s.memsz) segments
+block_from text start (s ∷ segments) =
+    replicate (s.address - start) 0 ++ contents_of text s
+    ++ block_from text (s.address + s.memsz) segments
 
 -- a segment has as many bytes of the file as it says
-pub length-filed : (text : List ℕ) (s : Segment) → IsCopied (length text) s → length (slice_range text s.offset (s.offset + s.filesz)) ≡ s.filesz
+pub length-filed : (text : List ℕ) (s : Segment) → IsCopied (length text) s
+    → length (slice_range text s.offset (s.offset + s.filesz)) ≡ s.filesz
 length-filed text s copied =
     elim (cases_lt 0 s.filesz) [
       | inl some ↦ let inside = copied.inside (omega arith) in search (rules, places)
       | inr none ↦ search (rules, places)
     ]
 
-pub length-contents_of : (text : List ℕ) (s : Segment) → IsCopied (length text) s → length (contents_of text s) ≡ s.memsz
+pub length-contents_of : (text : List ℕ) (s : Segment) → IsCopied (length text) s
+    → length (contents_of text s) ≡ s.memsz
 length-contents_of text s copied =
     let fits = copied.fits in
     rw (length-append, length-replicate, length-filed text s copied) (omega arith)
@@ -40,36 +47,50 @@ misses_above : (s : Segment) (a : ℕ) → s.address + s.memsz ≤ a → holds s
 misses_above s a above = grind (arith, nat_tests)
 
 -- no segment holds an address below all of them
-byte_below : (text : List ℕ) (segments : List Segment) (a : ℕ) → All (λ s. a < s.address) segments → byte_at text segments a ≡ 0
+byte_below : (text : List ℕ) (segments : List Segment) (a : ℕ) → All (λ s. a < s.address) segments
+    → byte_at text segments a ≡ 0
 byte_below text [] a above = refl
 byte_below text (s ∷ segments) a above =
-    rw (misses_below s a (above 0 s (omega arith))) (byte_below text segments a (λ k d h. above (suc k) d (omega arith)))
+    rw (misses_below s a (above 0 s (omega arith)))
+    (byte_below text segments a (λ k d h. above (suc k) d (omega arith)))
 
 pub length-first_values : (n : ℕ) (f : ℕ → ℕ) → length (first_values n f) ≡ n
 unfolding first_values
 length-first_values zero f = refl
 length-first_values (suc n) f = rw (length-append, length-first_values n f) (omega arith)
 
-pub get_or-first_values : (n : ℕ) (f : ℕ → ℕ) (k d : ℕ) → k < n → get_or (first_values n f) k d ≡ f k
+pub get_or-first_values : (n : ℕ) (f : ℕ → ℕ) (k d : ℕ) → k < n
+    → get_or (first_values n f) k d ≡ f k
 unfolding first_values
 get_or-first_values zero f k d h = absurd (omega arith)
 get_or-first_values (suc n) f k d h =
     let count = length-first_values n f in
     elim (cases_lt k n) [
-      | inl below ↦ get_or_append_left (first_values n f) (f n ∷ []) d k (omega arith) ∙ get_or-first_values n f k d below
-      | inr at_least ↦ let same : k ≡ n = omega arith in rw same (get_or_at (first_values n f) (f n) [] d n count)
+      | inl below ↦
+          get_or_append_left (first_values n f) (f n ∷ []) d k (omega arith)
+          ∙ get_or-first_values n f k d below
+      | inr at_least ↦
+          let same : k ≡ n =
+          omega arith in rw same (get_or_at (first_values n f) (f n) [] d n count)
     ]
 
-pub length-block_of : (text : List ℕ) (segments : List Segment) → length (block_of text segments) ≡ span_of segments
+pub length-block_of : (text : List ℕ) (segments : List Segment)
+    → length (block_of text segments) ≡ span_of segments
 unfolding block_of
-length-block_of text segments = length-first_values (span_of segments) (λ i. byte_at text segments (low_of segments + i))
+length-block_of text segments =
+    length-first_values (span_of segments) (λ i. byte_at text segments (low_of segments + i))
 
 -- segments end behind where they begin
-high_above : (text : List ℕ) (start : ℕ) (s : Segment) (segments : List Segment) → All (IsCopied (length text)) (s ∷ segments) → All (λ t. start ≤ t.address) (s ∷ segments) → start < high_of (s ∷ segments)
+high_above : (text : List ℕ) (start : ℕ) (s : Segment) (segments : List Segment)
+    → All (IsCopied (length text)) (s ∷ segments) → All (λ t. start ≤ t.address) (s ∷ segments)
+    → start < high_of (s ∷ segments)
 high_above text start s segments copied above =
-    let c = copied 0 s (omega arith) in let filled = c.filled in let a = above 0 s (omega arith) in omega arith
+    let c = copied 0 s (omega arith) in
+    let filled = c.filled in let a = above 0 s (omega arith) in omega arith
 
-pub length-block_from : (text : List ℕ) (start : ℕ) (segments : List Segment) → All (IsCopied (length text)) segments → AllPairs SegmentsAscend segments → All (λ s. start ≤ s.address) segments
+pub length-block_from : (text : List ℕ) (start : ℕ) (segments : List Segment)
+    → All (IsCopied (length text)) segments → AllPairs SegmentsAscend segments
+    → All (λ s. start ≤ s.address) segments
     → start + length (block_from text start segments) ≡ max start (high_of segments)
 length-block_from text start [] copied ascend above = omega arith
 length-block_from text start (s ∷ segments) copied ascend above =
@@ -77,11 +98,18 @@ length-block_from text start (s ∷ segments) copied ascend above =
     let filled = c.filled in
     let first : start ≤ s.address = above 0 s (omega arith) in
     let n = length-contents_of text s c in
-    let rest = length-block_from text (s.address + s.memsz) segments (λ k d h. copied (suc k) d (omega arith)) (λ i j d ij h. ascend (suc i) (suc j) d (omega arith) (omega arith)) (λ k d h. ascend 0 (suc k) d (omega arith) (omega arith)) in
+    let rest =
+    length-block_from text (s.address + s.memsz) segments
+    (λ k d h. copied (suc k) d (omega arith))
+    (λ i j d ij h. ascend (suc i) (suc j) d (omega arith) (omega arith))
+    (λ k d h. ascend 0 (suc k) d (omega arith) (omega arith)) in
     rw (length-append, length-append, length-replicate, n) (omega arith)
 
-pub get_or-block_from : (text : List ℕ) (start : ℕ) (segments : List Segment) (k d : ℕ) → All (IsCopied (length text)) segments → AllPairs SegmentsAscend segments → All (λ s. start ≤ s.address) segments
-    → k < length (block_from text start segments) → get_or (block_from text start segments) k d ≡ byte_at text segments (start + k)
+pub get_or-block_from : (text : List ℕ) (start : ℕ) (segments : List Segment) (k d : ℕ)
+    → All (IsCopied (length text)) segments → AllPairs SegmentsAscend segments
+    → All (λ s. start ≤ s.address) segments
+    → k < length (block_from text start segments)
+    → get_or (block_from text start segments) k d ≡ byte_at text segments (start + k)
 get_or-block_from text start [] k d copied ascend above within = absurd (omega arith)
 get_or-block_from text start (s ∷ segments) k d copied ascend above within =
     let gap : ℕ = s.address - start in
@@ -89,39 +117,61 @@ get_or-block_from text start (s ∷ segments) k d copied ascend above within =
     let own : List ℕ = contents_of text s in
     let rest : List ℕ = block_from text (s.address + s.memsz) segments in
     let first : start ≤ s.address = above 0 s (omega arith) in
-    let behind : All (λ t. s.address + s.memsz ≤ t.address) segments = λ j e h. ascend 0 (suc j) e (omega arith) (omega arith) in
+    let behind : All (λ t. s.address + s.memsz ≤ t.address) segments =
+    λ j e h. ascend 0 (suc j) e (omega arith) (omega arith) in
     let width : length own ≡ s.memsz = length-contents_of text s (copied 0 s (omega arith)) in
     let wide : length zeros ≡ gap = length-replicate gap 0 in
     let both : length (zeros ++ own) ≡ gap + s.memsz = length-append zeros own ∙ omega arith in
-    let total : length (zeros ++ own ++ rest) ≡ length (zeros ++ own) + length rest = length-append (zeros ++ own) rest in
+    let total : length (zeros ++ own ++ rest) ≡ length (zeros ++ own) + length rest =
+    length-append (zeros ++ own) rest in
     elim (cases_lt k gap) [
-      | inl in_gap ↦ get_or_append_left (zeros ++ own) rest d k (omega arith) ∙ get_or_append_left zeros own d k (omega arith) ∙ get_or-replicate gap k 0 d in_gap
-          ∙ sym (byte_below text (s ∷ segments) (start + k) (All-cons (λ t. start + k < t.address) s segments (omega arith) (λ j e h. let up = behind j e h in omega arith)))
+      | inl in_gap ↦
+          get_or_append_left (zeros ++ own) rest d k (omega arith)
+          ∙ get_or_append_left zeros own d k (omega arith) ∙ get_or-replicate gap k 0 d in_gap
+          ∙ sym
+          (byte_below text (s ∷ segments) (start + k)
+          (All-cons (λ t. start + k < t.address) s segments (omega arith)
+          (λ j e h. let up = behind j e h in omega arith)))
       | inr past_gap ↦ elim (cases_lt k (gap + s.memsz)) [
-        | inl in_own ↦ get_or_append_left (zeros ++ own) rest d k (omega arith) ∙ get_or-append_right zeros own gap k d wide past_gap
-            ∙ rw (holds_in s (start + k) (omega arith) (omega arith)) (get_or_default own (k - gap) d 0 (omega arith) ∙ ap (λ (n : ℕ). get_or own n 0) (omega arith))
+        | inl in_own ↦
+            get_or_append_left (zeros ++ own) rest d k (omega arith)
+            ∙ get_or-append_right zeros own gap k d wide past_gap
+            ∙ rw (holds_in s (start + k) (omega arith) (omega arith))
+            (get_or_default own (k - gap) d 0 (omega arith)
+            ∙ ap (λ (n : ℕ). get_or own n 0) (omega arith))
         | inr past_own ↦ get_or-append_right (zeros ++ own) rest (gap + s.memsz) k d both past_own
-            ∙ get_or-block_from text (s.address + s.memsz) segments (k - (gap + s.memsz)) d (λ j e h. copied (suc j) e (omega arith)) (λ i j e ij h. ascend (suc i) (suc j) e (omega arith) (omega arith)) behind (omega arith)
-            ∙ rw (misses_above s (start + k) (omega arith)) (ap (byte_at text segments) (omega arith))
+            ∙ get_or-block_from text (s.address + s.memsz) segments (k - (gap + s.memsz)) d
+            (λ j e h. copied (suc j) e (omega arith))
+            (λ i j e ij h. ascend (suc i) (suc j) e (omega arith) (omega arith)) behind
+            (omega arith)
+            ∙ rw (misses_above s (start + k) (omega arith))
+            (ap (byte_at text segments) (omega arith))
       ]
     ]
 
 -- the first segment is the lowest
-low_first : (s : Segment) (segments : List Segment) → AllPairs SegmentsAscend (s ∷ segments) → low_of (s ∷ segments) ≡ s.address
+low_first : (s : Segment) (segments : List Segment) → AllPairs SegmentsAscend (s ∷ segments)
+    → low_of (s ∷ segments) ≡ s.address
 low_first s [] ascend = refl
 low_first s (t ∷ segments) ascend =
-    let next = low_first t segments (λ i j d ij h. ascend (suc i) (suc j) d (omega arith) (omega arith)) in
+    let next =
+    low_first t segments (λ i j d ij h. ascend (suc i) (suc j) d (omega arith) (omega arith)) in
     let up = ascend 0 1 s (omega arith) (omega arith) in
     rw next (omega arith)
 
 -- and no segment is lower than the first
-pub first_below : (segments : List Segment) (d : Segment) → AllPairs SegmentsAscend segments → All (λ s. (get_or segments 0 d).address ≤ s.address) segments
+pub first_below : (segments : List Segment) (d : Segment) → AllPairs SegmentsAscend segments
+    → All (λ s. (get_or segments 0 d).address ≤ s.address) segments
 first_below [] d ascend = λ k e within. absurd (omega arith)
-first_below (s ∷ segments) d ascend = All-cons (λ t. s.address ≤ t.address) s segments (omega arith) (λ j e h. let up = ascend 0 (suc j) e (omega arith) (omega arith) in omega arith)
+first_below (s ∷ segments) d ascend =
+    All-cons (λ t. s.address ≤ t.address) s segments (omega arith)
+    (λ j e h. let up = ascend 0 (suc j) e (omega arith) (omega arith) in omega arith)
 
 -- the block is its segments from the first address on
-pub block_from_first : (text : List ℕ) (segments : List Segment) (d : Segment) → 1 ≤ length segments → All (IsCopied (length text)) segments → AllPairs SegmentsAscend segments
-    → (span_of segments ≡ length (block_from text (get_or segments 0 d).address segments)) × (block_of text segments ≡ block_from text (get_or segments 0 d).address segments)
+pub block_from_first : (text : List ℕ) (segments : List Segment) (d : Segment) → 1 ≤ length segments
+    → All (IsCopied (length text)) segments → AllPairs SegmentsAscend segments
+    → (span_of segments ≡ length (block_from text (get_or segments 0 d).address segments))
+    × (block_of text segments ≡ block_from text (get_or segments 0 d).address segments)
 unfolding block_of
 block_from_first text [] d some copied ascend = absurd (omega arith)
 block_from_first text (s ∷ segments) d some copied ascend =
@@ -133,44 +183,68 @@ block_from_first text (s ∷ segments) d some copied ascend =
     let byte : ℕ → ℕ = λ i. byte_at text all (low_of all + i) in
     let count = length-first_values (span_of all) byte in (
       span,
-      same_lists (first_values (span_of all) byte) (block_from text s.address all) (omega arith) (λ (k d : ℕ) (h : k < length (first_values (span_of all) byte)).
-          get_or-first_values (span_of all) byte k d (omega arith) ∙ ap (λ (n : ℕ). byte_at text all (n + k)) low ∙ sym (get_or-block_from text s.address all k d copied ascend above (omega arith))),
+      same_lists (first_values (span_of all) byte) (block_from text s.address all) (omega arith)
+          (λ (k d : ℕ) (h : k < length (first_values (span_of all) byte)).
+          get_or-first_values (span_of all) byte k d (omega arith)
+          ∙ ap (λ (n : ℕ). byte_at text all (n + k)) low
+          ∙ sym (get_or-block_from text s.address all k d copied ascend above (omega arith))),
     )
 
 -- a gap and a segment are written
-module _ (text m : List ℕ) (at low done : ℕ) (s : Segment) (rest : List Segment) (copied : IsCopied (length text) s) (above : low + done ≤ s.address)
+module _ (text m : List ℕ) (at low done : ℕ) (s : Segment) (rest : List Segment)
+    (copied : IsCopied (length text) s) (above : low + done ≤ s.address)
     (inside : at + (done + length (block_from text (low + done) (s ∷ rest))) ≤ length m) where
   -- what is left then
-  pub left_behind : s.address - low + s.memsz + length (block_from text (low + (s.address - low + s.memsz)) rest) ≡ done + length (block_from text (low + done) (s ∷ rest))
+  pub left_behind : s.address - low + s.memsz
+      + length (block_from text (low + (s.address - low + s.memsz)) rest)
+      ≡ done + length (block_from text (low + done) (s ∷ rest))
   left_behind =
       let end : low + (s.address - low + s.memsz) ≡ s.address + s.memsz = omega arith in
-      rw (end, length-append, length-append, length-replicate, length-contents_of text s copied) (omega arith)
+      rw (end, length-append, length-append, length-replicate, length-contents_of text s copied)
+      (omega arith)
 
   -- the gap lies beside what the whole block lies beside
-  pub gap_beside : (holds : ℕ → Type 0) → IsBeside holds at (at + (done + length (block_from text (low + done) (s ∷ rest)))) → Agree holds m (overwrite m (at + done) (replicate (at + (s.address - low) - (at + done)) 0))
+  pub gap_beside : (holds : ℕ → Type 0)
+      → IsBeside holds at (at + (done + length (block_from text (low + done) (s ∷ rest))))
+      → Agree holds m (overwrite m (at + done) (replicate (at + (s.address - low) - (at + done)) 0))
   gap_beside holds beside =
-      let left : s.address - low + s.memsz + length (block_from text (low + (s.address - low + s.memsz)) rest) ≡ done + length (block_from text (low + done) (s ∷ rest)) = left_behind in
-      beside_zeros holds m (at + done) (at + (s.address - low)) (omega arith) (omega arith) (λ a from to. beside a (omega arith) (omega arith))
+      let left : s.address - low + s.memsz
+      + length (block_from text (low + (s.address - low + s.memsz)) rest)
+      ≡ done + length (block_from text (low + done) (s ∷ rest)) = left_behind in
+      beside_zeros holds m (at + done) (at + (s.address - low)) (omega arith) (omega arith)
+      (λ a from to. beside a (omega arith) (omega arith))
 
   -- and so does the segment
-  pub segment_beside : (holds : ℕ → Type 0) → IsBeside holds at (at + (done + length (block_from text (low + done) (s ∷ rest)))) → IsBeside holds (at + (s.address - low)) (at + (s.address - low) + s.memsz)
+  pub segment_beside : (holds : ℕ → Type 0)
+      → IsBeside holds at (at + (done + length (block_from text (low + done) (s ∷ rest))))
+      → IsBeside holds (at + (s.address - low)) (at + (s.address - low) + s.memsz)
   segment_beside holds beside a from to =
-      let left : s.address - low + s.memsz + length (block_from text (low + (s.address - low + s.memsz)) rest) ≡ done + length (block_from text (low + done) (s ∷ rest)) = left_behind in
+      let left : s.address - low + s.memsz
+      + length (block_from text (low + (s.address - low + s.memsz)) rest)
+      ≡ done + length (block_from text (low + done) (s ∷ rest)) = left_behind in
       beside a (omega arith) (omega arith)
 
   -- memory keeps its size
-  pub step_size : length (overwrite (overwrite m (at + done) (replicate (at + (s.address - low) - (at + done)) 0)) (at + (s.address - low)) (contents_of text s)) ≡ length m
+  pub step_size : length
+      (overwrite (overwrite m (at + done) (replicate (at + (s.address - low) - (at + done)) 0))
+      (at + (s.address - low)) (contents_of text s)) ≡ length m
   step_size =
-      let left : s.address - low + s.memsz + length (block_from text (low + (s.address - low + s.memsz)) rest) ≡ done + length (block_from text (low + done) (s ∷ rest)) = left_behind in
+      let left : s.address - low + s.memsz
+      + length (block_from text (low + (s.address - low + s.memsz)) rest)
+      ≡ done + length (block_from text (low + done) (s ∷ rest)) = left_behind in
       let gap : ℕ = at + (s.address - low) - (at + done) in
       let zeros : List ℕ = replicate gap 0 in
       let wide : length zeros ≡ gap = length-replicate gap 0 in
       let width : length (contents_of text s) ≡ s.memsz = length-contents_of text s copied in
-      let first : length (overwrite m (at + done) zeros) ≡ length m = length-overwrite m (at + done) zeros (omega arith) in
-      length-overwrite (overwrite m (at + done) zeros) (at + (s.address - low)) (contents_of text s) (omega arith) ∙ first
+      let first : length (overwrite m (at + done) zeros) ≡ length m =
+      length-overwrite m (at + done) zeros (omega arith) in
+      length-overwrite (overwrite m (at + done) zeros) (at + (s.address - low)) (contents_of text s)
+      (omega arith) ∙ first
 
   -- what is left leads to what they and it lead to
-  pub block_step : overwrite (overwrite (overwrite m (at + done) (replicate (at + (s.address - low) - (at + done)) 0)) (at + (s.address - low)) (contents_of text s))
+  pub block_step : overwrite
+      (overwrite (overwrite m (at + done) (replicate (at + (s.address - low) - (at + done)) 0))
+      (at + (s.address - low)) (contents_of text s))
       (at + (s.address - low + s.memsz)) (block_from text (low + (s.address - low + s.memsz)) rest)
       ≡ overwrite m (at + done) (block_from text (low + done) (s ∷ rest))
   block_step =
@@ -179,10 +253,15 @@ module _ (text m : List ℕ) (at low done : ℕ) (s : Segment) (rest : List Segm
       let zeros : List ℕ = replicate (s.address - (low + done)) 0 in
       let own : List ℕ = contents_of text s in
       let more : List ℕ = block_from text (s.address + s.memsz) rest in
-      let wide : length zeros ≡ s.address - (low + done) = length-replicate (s.address - (low + done)) 0 in
+      let wide : length zeros ≡ s.address - (low + done) =
+      length-replicate (s.address - (low + done)) 0 in
       let width : length own ≡ s.memsz = length-contents_of text s copied in
       let both : length (zeros ++ own) ≡ length zeros + length own = length-append zeros own in
-      let total : length (zeros ++ own ++ more) ≡ length (zeros ++ own) + length more = length-append (zeros ++ own) more in
+      let total : length (zeros ++ own ++ more) ≡ length (zeros ++ own) + length more =
+      length-append (zeros ++ own) more in
       rw (gap, end)
-      (ap (λ (n : List ℕ). overwrite n (at + (s.address - low + s.memsz)) more) (overwrite_more m (at + done) zeros own (at + (s.address - low)) (omega arith) (omega arith))
-      ∙ overwrite_more m (at + done) (zeros ++ own) more (at + (s.address - low + s.memsz)) (omega arith) (omega arith))
+      (ap (λ (n : List ℕ). overwrite n (at + (s.address - low + s.memsz)) more)
+      (overwrite_more m (at + done) zeros own (at + (s.address - low)) (omega arith)
+      (omega arith))
+      ∙ overwrite_more m (at + done) (zeros ++ own) more (at + (s.address - low + s.memsz))
+      (omega arith) (omega arith))

@@ -1,5 +1,6 @@
 -- How long the information is.
-use Rattle.std.proofs.Common.{◌≡◌, ◌≤◌, ◌<◌, ◌+◌, ◌*◌, ◌^◌, ℕ, suc, List, [], ◌∷◌, length, All, Bool, true, false, Option, Some, None, arith, refl, ap, ◌∙◌}
+use Rattle.std.proofs.Common.{◌≡◌, ◌≤◌, ◌<◌, ◌+◌, ◌*◌, ◌^◌, ℕ, suc, List, [], ◌∷◌, length, All}
+use Rattle.std.proofs.Common.{Bool, true, false, Option, Some, None, arith, refl, ap, ◌∙◌}
 use Rattle.std.specs.Prelude.{codes, is_some, option_map, map, sum_by}
 use Rattle.std.proofs.lemmas.List.Sums.{sum_by-cons}
 use Rattle.std.proofs.lemmas.List.Elements.{All-head, All-tail}
@@ -22,23 +23,30 @@ most_load_base true = omega arith
 most_load_base false = omega arith
 
 -- with no module it is short
-pub size_below : (line runs : ℕ) (given : Bool) → line ≤ 4095 → runs ≤ 256 → size_of line [] runs None None given < 2 ^ 16
+pub size_below : (line runs : ℕ) (given : Bool) → line ≤ 4095 → runs ≤ 256
+    → size_of line [] runs None None given < 2 ^ 16
 size_below line runs given l r = let b = most_load_base given in omega arith
 
-same_given : (relocation : Option Relocation) (base : ℕ) → is_some (option_map (λ r. base) relocation) ≡ is_some relocation
+same_given : (relocation : Option Relocation) (base : ℕ)
+    → is_some (option_map (λ r. base) relocation) ≡ is_some relocation
 same_given (Some r) base = refl
 same_given None base = refl
 
 -- the tags of modules take what their lines ask for, wherever the modules stand
 pub tags_size_is : (files : List (List ℕ)) (places : List Place) (k : ℕ) (lines : List (List ℕ))
-    → sum_by (λ n. tag_size (n + 9)) (map (λ m. length m.line) (modules_of files places k lines)) ≡ tags_size lines
+    → sum_by (λ n. tag_size (n + 9)) (map (λ m. length m.line) (modules_of files places k lines))
+    ≡ tags_size lines
 tags_size_is files places k [] = refl
 tags_size_is files places k (line ∷ lines) =
     let more = modules_of files places (suc k) lines in
-    sum_by-cons (λ (n : ℕ). tag_size (n + 9)) (length line) (map (λ (m : ModuleInfo). length m.line) more) ∙ ap (λ (n : ℕ). tag_size (length line + 9) + n) (tags_size_is files places (suc k) lines)
+    sum_by-cons (λ (n : ℕ). tag_size (n + 9)) (length line)
+    (map (λ (m : ModuleInfo). length m.line) more)
+    ∙ ap (λ (n : ℕ). tag_size (length line + 9) + n)
+    (tags_size_is files places (suc k) lines)
 
 -- at most 4120 bytes for each
-pub tags_small : (lines : List (List ℕ)) → All (λ line. length line ≤ 4095) lines → tags_size lines ≤ 4120 * length lines
+pub tags_small : (lines : List (List ℕ)) → All (λ line. length line ≤ 4095) lines
+    → tags_size lines ≤ 4120 * length lines
 tags_small [] short = omega arith
 tags_small (line ∷ lines) short =
     let first = All-head (λ (l : List ℕ). length l ≤ 4095) line lines short in
@@ -46,15 +54,20 @@ tags_small (line ∷ lines) short =
     omega arith
 
 -- its size does not depend on any place
-pub info_size_is : (facts : MachineFacts) (value : EntryValue) (relocation : Option Relocation) (places : List Place)
-    → info_size (information_of facts value relocation places) ≡ size_of (length value.line) [] (length facts.runs) None None (is_some relocation) + tags_size value.module_lines
+pub info_size_is : (facts : MachineFacts) (value : EntryValue) (relocation : Option Relocation)
+    (places : List Place)
+    → info_size (information_of facts value relocation places)
+    ≡ size_of (length value.line) [] (length facts.runs) None None (is_some relocation)
+    + tags_size value.module_lines
 info_size_is facts value relocation places =
     let tags = tags_size_is value.files places 0 value.module_lines in
     let given = same_given relocation (address_of Kernel 0 places) in
     rw given (omega (arith, tags))
 
 -- it is no longer than its place
-pub information_short : (facts : MachineFacts) (value : EntryValue) (relocation : Option Relocation) (places : List Place) (count : ℕ) → count ≡ whole_frames (info_size (information_of facts value relocation []))
+pub information_short : (facts : MachineFacts) (value : EntryValue) (relocation : Option Relocation)
+    (places : List Place) (count : ℕ)
+    → count ≡ whole_frames (info_size (information_of facts value relocation []))
     → length (spelling (codes "bootcore") (information_of facts value relocation places)) ≤ count
 information_short facts value relocation places count is =
     let e = length-spelling (information_of facts value relocation places) in

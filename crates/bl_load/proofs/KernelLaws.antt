@@ -1,5 +1,7 @@
 -- What holds of a kernel with no fault.
-use Rattle.std.proofs.Common.{◌≡◌, ◌<◌, ◌≤◌, ◌+◌, ◌^◌, ℕ, Bool, true, false, List, [], ◌∷◌, length, Option, Some, None, cond, arith, refl, sym, ap, subst, ◌∙◌, inl, inr, All}
+use Rattle.std.proofs.Common.{◌≡◌, ◌<◌, ◌≤◌, ◌+◌, ◌^◌, ℕ, Bool, true, false, List, [], ◌∷◌, length}
+use Rattle.std.proofs.Common.{Option, Some, None, cond, arith, refl, sym, ap, subst, ◌∙◌, inl, inr}
+use Rattle.std.proofs.Common.{All}
 use Rattle.std.specs.Prelude.{IfSome}
 use Rattle.std.specs.List.{list_any}
 use Rattle.std.proofs.Math.Bool.{or-false}
@@ -24,31 +26,40 @@ none_when true x h = refl
 none_when false x h = absurd cc
 
 -- the entry that counts lies in a segment
-pub entry_held : (segments : List Segment) (entry : ℕ) → entry_fault segments (Some entry) ≡ None → list_any (holds_at entry) segments ≡ true
+pub entry_held : (segments : List Segment) (entry : ℕ) → entry_fault segments (Some entry) ≡ None
+    → list_any (holds_at entry) segments ≡ true
 entry_held segments entry h = none_when (list_any (holds_at entry) segments) refusal.EntryOutside h
 
 -- a segment that holds an address
-pub held_within : (s : Segment) (a : ℕ) → holds s a ≡ true → (s.address ≤ a) × (a < s.address + s.memsz)
+pub held_within : (s : Segment) (a : ℕ) → holds s a ≡ true
+    → (s.address ≤ a) × (a < s.address + s.memsz)
 held_within s a h = (grind (arith, nat_tests, common_steps), grind (arith, nat_tests, common_steps))
 
 -- there is a segment
-pub some_segment : (segments : List Segment) (entry : Option ℕ) → entry_fault segments entry ≡ None → 1 ≤ length segments
+pub some_segment : (segments : List Segment) (entry : Option ℕ) → entry_fault segments entry ≡ None
+    → 1 ≤ length segments
 some_segment segments None h = absurd cc
 some_segment [] (Some entry) h = let e = entry_held [] entry h in absurd cc
 some_segment (s ∷ segments) (Some entry) h = omega arith
 
 -- no segment ends above a bound, so the block does not
-pub high_below : (segments : List Segment) (n : ℕ) → All (λ s. s.address + s.memsz ≤ n) segments → high_of segments ≤ n
+pub high_below : (segments : List Segment) (n : ℕ) → All (λ s. s.address + s.memsz ≤ n) segments
+    → high_of segments ≤ n
 high_below [] n h = omega arith
 high_below (s ∷ segments) n h =
     let first : s.address + s.memsz ≤ n = All-head (λ s. s.address + s.memsz ≤ n) s segments h in
-    let rest = high_below segments n (All-tail (λ s. s.address + s.memsz ≤ n) s segments h) in omega arith
+    let rest =
+    high_below segments n (All-tail (λ s. s.address + s.memsz ≤ n) s segments h) in omega arith
 
 pub one_filled : (s : Segment) (entry : Option ℕ) → entry_fault (s ∷ []) entry ≡ None → 1 ≤ s.memsz
 one_filled s None h = absurd cc
-one_filled s (Some a) h = let w = held_within s a (sym (or-false (holds s a)) ∙ entry_held (s ∷ []) a h) in omega (arith, w.0, w.1)
+one_filled s (Some a) h =
+    let w =
+    held_within s a (sym (or-false (holds s a)) ∙ entry_held (s ∷ []) a h) in
+    omega (arith, w.0, w.1)
 
-one_loadable : (file : List ℕ) (s : Segment) (entry : Option ℕ) → FitsFile file s → entry_fault (s ∷ []) entry ≡ None → length file < 2 ^ 64 → AreLoadable file (s ∷ [])
+one_loadable : (file : List ℕ) (s : Segment) (entry : Option ℕ) → FitsFile file s
+    → entry_fault (s ∷ []) entry ≡ None → length file < 2 ^ 64 → AreLoadable file (s ∷ [])
 one_loadable file s entry fits sound short =
     let size = fits.size in
     let low = fits.address in
@@ -57,14 +68,17 @@ one_loadable file s entry fits sound short =
       few = omega arith;
       filled = All-cons (λ (s : Segment). 1 ≤ s.memsz) s [] (one_filled s entry sound) (All-nil _);
       fits = All-cons (λ (s : Segment). s.filesz ≤ s.memsz) s [] fits.filled (All-nil _);
-      in_file = All-cons (λ (s : Segment). 0 < s.filesz → s.offset + s.filesz ≤ length file) s [] (λ _. fits.in_file) (All-nil _);
+      in_file =
+          All-cons (λ (s : Segment). 0 < s.filesz → s.offset + s.filesz ≤ length file) s []
+          (λ _. fits.in_file) (All-nil _);
       small = All-cons (λ (s : Segment). s.memsz < 2 ^ 64) s [] (omega arith) (All-nil _);
       low = All-cons (λ (s : Segment). s.address < 2 ^ 32) s [] low (All-nil _);
       apart = λ i j d ij within. absurd (omega arith);
       span = omega arith;
     }
 
-elf_as_loadable : (file : List ℕ) (facts : ElfFacts) (entry : Option ℕ) → IsElf file facts → entry_fault facts.segments entry ≡ None → AreLoadable file facts.segments
+elf_as_loadable : (file : List ℕ) (facts : ElfFacts) (entry : Option ℕ) → IsElf file facts
+    → entry_fault facts.segments entry ≡ None → AreLoadable file facts.segments
 elf_as_loadable file facts entry elf sound =
     let all = elf_loadable file facts elf in
     let high = high_below facts.segments (2 ^ 32) (λ k d within. (all k d within).low) in
@@ -75,20 +89,27 @@ elf_as_loadable file facts entry elf sound =
       fits = λ k d within. (all k d within).fits;
       in_file = λ k d within. (all k d within).in_file;
       small = λ k d within. let low = (all k d within).low in omega arith;
-      low = λ k d within. let low = (all k d within).low in let some = (all k d within).filled in omega arith;
+      low = λ k d within. let low = (all k d within).low in
+          let some = (all k d within).filled in omega arith;
       apart = elf_apart file facts elf;
       span = omega arith;
     }
 
 -- the segments of a kernel with no fault can be loaded
-pub kernel_loadable : (file : List ℕ) (segment : Option Segment) (facts : ElfFacts) (entry : Option ℕ) → IfSome segment (FitsFile file) → IsLoadedBy file segment facts → entry_fault facts.segments entry ≡ None → length file < 2 ^ 64
+pub kernel_loadable : (file : List ℕ) (segment : Option Segment) (facts : ElfFacts)
+    (entry : Option ℕ) → IfSome segment (FitsFile file) → IsLoadedBy file segment facts
+    → entry_fault facts.segments entry ≡ None → length file < 2 ^ 64
     → AreLoadable file facts.segments
 kernel_loadable file (Some s) facts entry fits loaded sound short =
     let e : facts.segments ≡ s ∷ [] = ap (λ (f : ElfFacts). f.segments) loaded in
-    subst (AreLoadable file) (sym e) (one_loadable file s entry fits (subst (λ (ss : List Segment). entry_fault ss entry ≡ None) e sound) short)
-kernel_loadable file None facts entry fits loaded sound short = elf_as_loadable file facts entry loaded sound
+    subst (AreLoadable file) (sym e)
+    (one_loadable file s entry fits
+    (subst (λ (ss : List Segment). entry_fault ss entry ≡ None) e sound) short)
+kernel_loadable file None facts entry fits loaded sound short =
+    elf_as_loadable file facts entry loaded sound
 
 -- a fault of what the header leads to refuses the kernel
-pub load_refused : (file : List ℕ) (head : Header) (fault : PrepFault) → IsHeader file head → IsLoadFault file head.segment fault → IsKernelFault file fault
+pub load_refused : (file : List ℕ) (head : Header) (fault : PrepFault) → IsHeader file head
+    → IsLoadFault file head.segment fault → IsKernelFault file fault
 load_refused file head (prep.Refused refused) is h = inr (inl (head, is, h))
 load_refused file head prep.NoMemory is h = tt

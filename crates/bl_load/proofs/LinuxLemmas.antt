@@ -1,5 +1,7 @@
 -- What the rows of a Linux entry have, and their places.
-use Rattle.std.proofs.Common.{◌≡◌, ◌<◌, ◌≤◌, ◌+◌, ◌^◌, ℕ, Bool, true, false, List, [], ◌∷◌, length, Option, Some, None, cond, arith, refl, sym, subst, ◌∙◌, All, inl, inr, nat_eq}
+use Rattle.std.proofs.Common.{◌≡◌, ◌<◌, ◌≤◌, ◌+◌, ◌^◌, ℕ, Bool, true, false, List, [], ◌∷◌, length}
+use Rattle.std.proofs.Common.{Option, Some, None, cond, arith, refl, sym, subst, ◌∙◌, All, inl, inr}
+use Rattle.std.proofs.Common.{nat_eq}
 use Rattle.std.proofs.lemmas.Bool.{cond_both}
 use Rattle.std.proofs.lemmas.List.Elements.{All-nil, All-cons}
 use Rattle.std.specs.declared.ops.Range.{Range}
@@ -21,7 +23,8 @@ use Rattle.bl_plan.specs.declared.role.Role.TheVariants.{Kernel, BootParams, Com
 use Rattle.bl_plan.specs.declared.row.Row.{Row}
 use Rattle.bl_plan.proofs.PlaceLaws.{as_many}
 use Rattle.bl_load.specs.HandoffFacts.{AreRecords}
-use Rattle.bl_load.specs.LinuxRows.{high_start, moved_row, fixed_row, linux_kernel_row, frame_row, line_limit, initrd_rows, linux_rows}
+use Rattle.bl_load.specs.LinuxRows.{high_start, moved_row, fixed_row, linux_kernel_row, frame_row}
+use Rattle.bl_load.specs.LinuxRows.{line_limit, initrd_rows, linux_rows}
 use Rattle.bl_load.specs.PlacingKept.{HasLength, IsRowed}
 use Rattle.bl_load.specs.Reading.{linux}
 use Rattle.bl_load.specs.Rows.{rows_of}
@@ -31,7 +34,8 @@ use Rattle.bl_load.proofs.RowPlaceLemmas.{Anywhere, each_place, records}
 
 -- ---- they are rows
 
-kernel_row_is : (file : List ℕ) (setup : Setup) → IsSetup file setup → IsRow (linux_kernel_row setup)
+kernel_row_is : (file : List ℕ) (setup : Setup) → IsSetup file setup
+    → IsRow (linux_kernel_row setup)
 kernel_row_is file setup is =
     let payload = (payload_is_tail file setup is).1 in
     cond_both (nat_eq setup.relocatable_kernel 0) (fixed_row setup) (moved_row setup) IsRow
@@ -48,18 +52,28 @@ initrd_rows_are setup (byte ∷ bytes) =
     All-cons IsRow _ [] (record { filled = omega arith; choice = omega arith }) (All-nil IsRow)
 
 -- what holds of each row of the table holds of all
-each_row : (P : Row → Type 0) (setup : Setup) (initrd : List ℕ) → P (linux_kernel_row setup) → P (frame_row BootParams most_size) → P (frame_row CommandLine line_limit) → P (frame_row Gdt most_size)
+each_row : (P : Row → Type 0) (setup : Setup) (initrd : List ℕ) → P (linux_kernel_row setup)
+    → P (frame_row BootParams most_size) → P (frame_row CommandLine line_limit)
+    → P (frame_row Gdt most_size)
     → All P (initrd_rows setup initrd) → All P (linux_rows setup initrd)
 each_row P setup initrd kernel params line gdt rest =
-    All-cons P (linux_kernel_row setup) (frame_row BootParams most_size ∷ frame_row CommandLine line_limit ∷ frame_row Gdt most_size ∷ initrd_rows setup initrd) kernel
-    (All-cons P (frame_row BootParams most_size) (frame_row CommandLine line_limit ∷ frame_row Gdt most_size ∷ initrd_rows setup initrd) params
-    (All-cons P (frame_row CommandLine line_limit) (frame_row Gdt most_size ∷ initrd_rows setup initrd) line
+    All-cons P (linux_kernel_row setup)
+    (frame_row BootParams most_size ∷ frame_row CommandLine line_limit ∷ frame_row Gdt most_size
+    ∷ initrd_rows setup initrd) kernel
+    (All-cons P (frame_row BootParams most_size)
+    (frame_row CommandLine line_limit ∷ frame_row Gdt most_size ∷ initrd_rows setup initrd)
+    params
+    (All-cons P (frame_row CommandLine line_limit)
+    (frame_row Gdt most_size ∷ initrd_rows setup initrd) line
     (All-cons P (frame_row Gdt most_size) (initrd_rows setup initrd) gdt rest)))
 
 -- the rows of a setup have some bytes and a choice
-pub linux_rows_are_rows : (file : List ℕ) (setup : Setup) (initrd : List ℕ) → IsSetup file setup → All IsRow (linux_rows setup initrd)
+pub linux_rows_are_rows : (file : List ℕ) (setup : Setup) (initrd : List ℕ) → IsSetup file setup
+    → All IsRow (linux_rows setup initrd)
 linux_rows_are_rows file setup initrd is =
-    each_row IsRow setup initrd (kernel_row_is file setup is) (frame_row_is BootParams most_size) (frame_row_is CommandLine line_limit) (frame_row_is Gdt most_size) (initrd_rows_are setup initrd)
+    each_row IsRow setup initrd (kernel_row_is file setup is) (frame_row_is BootParams most_size)
+    (frame_row_is CommandLine line_limit) (frame_row_is Gdt most_size)
+    (initrd_rows_are setup initrd)
 
 -- ---- how many they are
 
@@ -68,7 +82,9 @@ few_initrd_rows setup [] = omega arith
 few_initrd_rows setup (byte ∷ bytes) = omega arith
 
 -- there are at most five rows, and as many places
-pub linux_few : (facts : MachineFacts) (setup : Setup) (initrd : List ℕ) (taken : List (Range ℕ)) (places : List Place) → ArePlaced facts taken (linux_rows setup initrd) places → length places ≤ 5
+pub linux_few : (facts : MachineFacts) (setup : Setup) (initrd : List ℕ) (taken : List (Range ℕ))
+    (places : List Place) → ArePlaced facts taken (linux_rows setup initrd) places
+    → length places ≤ 5
 linux_few facts setup initrd taken places placed =
     let few = few_initrd_rows setup initrd in
     let same = as_many facts taken (linux_rows setup initrd) places placed in
@@ -76,7 +92,8 @@ linux_few facts setup initrd taken places placed =
 
 -- ---- each place has the length that its role and its index ask for
 
-kernel_role : (fixed : Bool) (setup : Setup) → (cond fixed (fixed_row setup) (moved_row setup)).role ≡ Kernel
+kernel_role : (fixed : Bool) (setup : Setup)
+    → (cond fixed (fixed_row setup) (moved_row setup)).role ≡ Kernel
 kernel_role true setup = refl
 kernel_role false setup = refl
 
@@ -84,50 +101,72 @@ module _ (facts : MachineFacts) (value : EntryValue) (setup : Setup) where
   kernel_row_rowed : Anywhere (IsRowed facts value (linux setup)) (linux_kernel_row setup)
   kernel_row_rowed a =
       let row = linux_kernel_row setup in
-      subst (λ (r : Role). HasLength facts value (linux setup) r row.index row.length) (sym (kernel_role (nat_eq setup.relocatable_kernel 0) setup)) refl
+      subst (λ (r : Role). HasLength facts value (linux setup) r row.index row.length)
+      (sym (kernel_role (nat_eq setup.relocatable_kernel 0) setup)) refl
 
-  initrd_rows_rowed : (initrd : List ℕ) → initrd_file value.files ≡ initrd → All (Anywhere (IsRowed facts value (linux setup))) (initrd_rows setup initrd)
+  initrd_rows_rowed : (initrd : List ℕ) → initrd_file value.files ≡ initrd
+      → All (Anywhere (IsRowed facts value (linux setup))) (initrd_rows setup initrd)
   initrd_rows_rowed [] is = All-nil (Anywhere (IsRowed facts value (linux setup)))
   initrd_rows_rowed (byte ∷ bytes) is =
       All-cons (Anywhere (IsRowed facts value (linux setup))) _ []
-      (λ a. subst (λ (all : List ℕ). (1 ≤ length all) × (whole_frames (length (byte ∷ bytes)) ≡ whole_frames (length all))) (sym is) (omega arith, refl))
+      (λ a.
+      subst
+      (λ (all : List ℕ).
+      (1 ≤ length all)
+      × (whole_frames (length (byte ∷ bytes)) ≡ whole_frames (length all))) (sym is)
+      (omega arith, refl))
       (All-nil (Anywhere (IsRowed facts value (linux setup))))
 
-  pub linux_rowed : (taken : List (Range ℕ)) (places : List Place) → ArePlaced facts taken (rows_of facts value (linux setup)) places → All (IsRowed facts value (linux setup)) places
+  pub linux_rowed : (taken : List (Range ℕ)) (places : List Place)
+      → ArePlaced facts taken (rows_of facts value (linux setup)) places
+      → All (IsRowed facts value (linux setup)) places
   linux_rowed taken places placed =
-      each_place facts (IsRowed facts value (linux setup)) taken (rows_of facts value (linux setup)) places
-      (each_row (Anywhere (IsRowed facts value (linux setup))) setup (initrd_file value.files) kernel_row_rowed (λ a. refl) (λ a. refl) (λ a. refl) (initrd_rows_rowed (initrd_file value.files) refl))
+      each_place facts (IsRowed facts value (linux setup)) taken (rows_of facts value (linux setup))
+      places
+      (each_row (Anywhere (IsRowed facts value (linux setup))) setup (initrd_file value.files)
+      kernel_row_rowed (λ a. refl) (λ a. refl) (λ a. refl)
+      (initrd_rows_rowed (initrd_file value.files) refl))
       placed
 
 -- ---- they are those of records
 
-pub linux_records : (file : List ℕ) (facts : MachineFacts) (value : EntryValue) (setup : Setup) (places : List Place) → IsSetup file setup → ArePlaced facts [] (rows_of facts value (linux setup)) places → AreRecords (in_order places)
+pub linux_records : (file : List ℕ) (facts : MachineFacts) (value : EntryValue) (setup : Setup)
+    (places : List Place) → IsSetup file setup
+    → ArePlaced facts [] (rows_of facts value (linux setup)) places
+    → AreRecords (in_order places)
 linux_records file facts value setup places is placed =
     let few = linux_few facts setup (initrd_file value.files) [] places placed in
-    records facts (rows_of facts value (linux setup)) places (linux_rows_are_rows file setup (initrd_file value.files) is) (omega (arith, few)) placed
+    records facts (rows_of facts value (linux setup)) places
+    (linux_rows_are_rows file setup (initrd_file value.files) is) (omega (arith, few)) placed
 
 -- ---- none overlaps another: the first alone has a fixed place
 
 nothing_taken : (start end : ℕ) → AllOpen [] start end
 nothing_taken start end a low high = All-nil (λ (range : Range ℕ). ¬ IsIn range a)
 
-kernel_no_overlap : (facts : MachineFacts) (setup : Setup) → HasFault facts [] (linux_kernel_row setup).length (linux_kernel_row setup).choice Overlap → ⊥
+kernel_no_overlap : (facts : MachineFacts) (setup : Setup)
+    → HasFault facts [] (linux_kernel_row setup).length (linux_kernel_row setup).choice Overlap → ⊥
 kernel_no_overlap facts setup =
-    cond_both (nat_eq setup.relocatable_kernel 0) (fixed_row setup) (moved_row setup) (λ row. HasFault facts [] row.length row.choice Overlap → ⊥)
+    cond_both (nat_eq setup.relocatable_kernel 0) (fixed_row setup) (moved_row setup)
+    (λ row. HasFault facts [] row.length row.choice Overlap → ⊥)
     (λ _ here. here.1 (nothing_taken high_start (high_start + (fixed_row setup).length)))
     (λ _ here. here)
 
-initrd_no_overlap : (facts : MachineFacts) (taken : List (Range ℕ)) (setup : Setup) (initrd : List ℕ) → IsFirstFault facts taken (initrd_rows setup initrd) Overlap → ⊥
+initrd_no_overlap : (facts : MachineFacts) (taken : List (Range ℕ)) (setup : Setup)
+    (initrd : List ℕ) → IsFirstFault facts taken (initrd_rows setup initrd) Overlap → ⊥
 initrd_no_overlap facts taken setup [] has = has
 initrd_no_overlap facts taken setup (byte ∷ bytes) (inl here) = here
 initrd_no_overlap facts taken setup (byte ∷ bytes) (inr later) = later.2
 
-rows_no_overlap : (facts : MachineFacts) (setup : Setup) (initrd : List ℕ) → IsFirstFault facts [] (linux_rows setup initrd) Overlap → ⊥
+rows_no_overlap : (facts : MachineFacts) (setup : Setup) (initrd : List ℕ)
+    → IsFirstFault facts [] (linux_rows setup initrd) Overlap → ⊥
 rows_no_overlap facts setup initrd (inl here) = kernel_no_overlap facts setup here
 rows_no_overlap facts setup initrd (inr (a, _, inl here)) = here
 rows_no_overlap facts setup initrd (inr (a, _, inr (b, _, inl here))) = here
 rows_no_overlap facts setup initrd (inr (a, _, inr (b, _, inr (c, _, inl here)))) = here
-rows_no_overlap facts setup initrd (inr (a, _, inr (b, _, inr (c, _, inr (d, _, later))))) = initrd_no_overlap facts _ setup initrd later
+rows_no_overlap facts setup initrd (inr (a, _, inr (b, _, inr (c, _, inr (d, _, later))))) =
+    initrd_no_overlap facts _ setup initrd later
 
-pub linux_no_overlap : (facts : MachineFacts) (value : EntryValue) (setup : Setup) → IsFirstFault facts [] (rows_of facts value (linux setup)) Overlap → ⊥
+pub linux_no_overlap : (facts : MachineFacts) (value : EntryValue) (setup : Setup)
+    → IsFirstFault facts [] (rows_of facts value (linux setup)) Overlap → ⊥
 linux_no_overlap facts value setup has = rows_no_overlap facts setup (initrd_file value.files) has

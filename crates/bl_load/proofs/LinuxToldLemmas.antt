@@ -1,5 +1,7 @@
--- The row of an initrd that no machine can hold may be told shorter; and how long an initrd is that has a place.
-use Rattle.std.proofs.Common.{◌≡◌, ◌<◌, ◌≤◌, ◌+◌, ◌-◌, ◌^◌, ℕ, List, [], ◌∷◌, ◌++◌, length, arith, ap, subst, All, inl, inr}
+-- The row of an initrd that no machine can hold may be told shorter; and how long an initrd is that
+-- has a place.
+use Rattle.std.proofs.Common.{◌≡◌, ◌<◌, ◌≤◌, ◌+◌, ◌-◌, ◌^◌, ℕ, List, [], ◌∷◌, ◌++◌, length, arith}
+use Rattle.std.proofs.Common.{ap, subst, All, inl, inr}
 use Rattle.std.specs.Prelude.{min, max}
 use Rattle.std.proofs.lemmas.List.Elements.{All-nil, All-cons, All-head, All-tail}
 use Rattle.std.specs.declared.ops.Range.{Range}
@@ -9,7 +11,8 @@ use Rattle.bl_map.specs.Room.{whole_frames}
 use Rattle.bl_bzimage.specs.declared.setup.Setup.{Setup}
 use Rattle.bl_bzimage.specs.Setup.{IsSetup}
 use Rattle.bl_plan.specs.Permitted.{IsPermitted}
-use Rattle.bl_plan.specs.Placed.{ArePlaced, IsFirstFault, IsChosen, HasFault, IsRow, place_at, range_of}
+use Rattle.bl_plan.specs.Placed.{ArePlaced, IsFirstFault, IsChosen, HasFault, IsRow, place_at}
+use Rattle.bl_plan.specs.Placed.{range_of}
 use Rattle.bl_plan.specs.Planned.{put_in}
 use Rattle.bl_plan.specs.declared.choice.Choice.{Choice}
 use Rattle.bl_plan.specs.declared.choice.Choice.TheVariants.{Highest}
@@ -18,8 +21,10 @@ use Rattle.bl_plan.specs.declared.fault.PlanFault.TheVariants.{NotUsable, Overla
 use Rattle.bl_plan.specs.declared.place.Place.{Place}
 use Rattle.bl_plan.specs.declared.role.Role.TheVariants.{BootParams, CommandLine, Gdt, Initrd}
 use Rattle.bl_plan.specs.declared.row.Row.{Row}
-use Rattle.bl_load.specs.LinuxRows.{linux_kernel_row, frame_row, line_limit, initrd_rows, linux_rows}
-use Rattle.bl_load.specs.PlacingKept.{IsLow, told_length, told_initrd_row, told_initrd_rows, told_linux_rows}
+use Rattle.bl_load.specs.LinuxRows.{linux_kernel_row, frame_row, line_limit, initrd_rows}
+use Rattle.bl_load.specs.LinuxRows.{linux_rows}
+use Rattle.bl_load.specs.PlacingKept.{IsLow, told_length, told_initrd_row, told_initrd_rows}
+use Rattle.bl_load.specs.PlacingKept.{told_linux_rows}
 use Rattle.bl_load.proofs.LinuxLemmas.{linux_rows_are_rows}
 use Rattle.bl_load.proofs.ModuleLemmas.{Alike, alike_lengths, behind_placed, behind_fault}
 use Rattle.bl_load.proofs.RowLemmas.{some_frames}
@@ -36,22 +41,30 @@ initrd_choice setup = Highest 4096 4096 (setup.initrd_addr_max + 1)
 
 module _ (facts : MachineFacts) (setup : Setup) where
   -- so many bytes are nowhere usable
-  none_permitted : (taken : List (Range ℕ)) (align low high count a : ℕ) → most_size < count → IsPermitted facts taken count align low high a → ⊥
+  none_permitted : (taken : List (Range ℕ)) (align low high count a : ℕ) → most_size < count
+      → IsPermitted facts taken count align low high a → ⊥
   none_permitted taken align low high count a long permitted =
       let last = (permitted.usable (a + count - 1) (omega arith) (omega arith)).below in
       omega arith
 
-  no_chosen : (taken : List (Range ℕ)) (align low high count a : ℕ) → most_size < count → IsChosen facts taken count (Highest align low high) a → ⊥
-  no_chosen taken align low high count a long chosen = none_permitted taken align low high count a long chosen.holds
+  no_chosen : (taken : List (Range ℕ)) (align low high count a : ℕ) → most_size < count
+      → IsChosen facts taken count (Highest align low high) a → ⊥
+  no_chosen taken align low high count a long chosen =
+      none_permitted taken align low high count a long chosen.holds
 
-  no_room : (taken : List (Range ℕ)) (align low high count other : ℕ) (fault : PlanFault) → most_size < count
-      → HasFault facts taken other (Highest align low high) fault → HasFault facts taken count (Highest align low high) fault
+  no_room : (taken : List (Range ℕ)) (align low high count other : ℕ) (fault : PlanFault)
+      → most_size < count
+      → HasFault facts taken other (Highest align low high) fault
+      → HasFault facts taken count (Highest align low high) fault
   no_room taken align low high count other NotUsable long has = has
   no_room taken align low high count other Overlap long has = has
-  no_room taken align low high count other NoRoom long has = λ a permitted. none_permitted taken align low high count a long permitted
+  no_room taken align low high count other NoRoom long has =
+      λ a permitted. none_permitted taken align low high count a long permitted
   no_room taken align low high count other NoMemory long has = has
 
-  told_initrd_placed : (initrd : List ℕ) (taken : List (Range ℕ)) (places : List Place) → ArePlaced facts taken (told_initrd_rows setup initrd) places → ArePlaced facts taken (initrd_rows setup initrd) places
+  told_initrd_placed : (initrd : List ℕ) (taken : List (Range ℕ)) (places : List Place)
+      → ArePlaced facts taken (told_initrd_rows setup initrd) places
+      → ArePlaced facts taken (initrd_rows setup initrd) places
   told_initrd_placed [] taken places placed = placed
   told_initrd_placed (byte ∷ bytes) taken [] placed = absurd placed
   told_initrd_placed (byte ∷ bytes) taken (p ∷ places) placed =
@@ -59,55 +72,88 @@ module _ (facts : MachineFacts) (setup : Setup) where
       let high = setup.initrd_addr_max + 1 in
       elim (alike size (omega arith)) [
         | inl same ↦ (
-          subst (λ (n : ℕ). IsChosen facts taken n (Highest 4096 4096 high) p.address) same placed.0,
-          subst (λ (n : ℕ). p ≡ place_at (record { role = Initrd; index = 0; length = n; choice = Highest 4096 4096 high }) p.address) same placed.1,
+          subst (λ (n : ℕ). IsChosen facts taken n (Highest 4096 4096 high) p.address)
+              same placed.0,
+          subst
+              (λ (n : ℕ).
+              p ≡ place_at
+              (record {
+                role = Initrd;
+                index = 0;
+                length = n;
+                choice = Highest 4096 4096 high;
+              }) p.address) same placed.1,
           placed.2,
         )
-        | inr long ↦ absurd (no_chosen taken 4096 4096 high (told_length size) p.address long.0 placed.0)
+        | inr long ↦
+            absurd (no_chosen taken 4096 4096 high (told_length size) p.address long.0 placed.0)
       ]
 
-  told_initrd_fault : (fault : PlanFault) (initrd : List ℕ) (taken : List (Range ℕ)) → IsFirstFault facts taken (told_initrd_rows setup initrd) fault → IsFirstFault facts taken (initrd_rows setup initrd) fault
+  told_initrd_fault : (fault : PlanFault) (initrd : List ℕ) (taken : List (Range ℕ))
+      → IsFirstFault facts taken (told_initrd_rows setup initrd) fault
+      → IsFirstFault facts taken (initrd_rows setup initrd) fault
   told_initrd_fault fault [] taken has = has
   told_initrd_fault fault (byte ∷ bytes) taken (inl here) =
       let size = length (byte ∷ bytes) in
       let high = setup.initrd_addr_max + 1 in
       elim (alike size (omega arith)) [
-        | inl same ↦ inl (subst (λ (n : ℕ). HasFault facts taken n (Highest 4096 4096 high) fault) same here)
-        | inr long ↦ inl (no_room taken 4096 4096 high (whole_frames size) (told_length size) fault long.1 here)
+        | inl same ↦
+            inl (subst (λ (n : ℕ). HasFault facts taken n (Highest 4096 4096 high) fault) same here)
+        | inr long ↦
+            inl
+            (no_room taken 4096 4096 high (whole_frames size) (told_length size) fault long.1
+            here)
       ]
   told_initrd_fault fault (byte ∷ bytes) taken (inr (a, chosen, later)) = absurd later
 
   -- the rows before it
   first_rows : List Row
-  first_rows = linux_kernel_row setup ∷ frame_row BootParams most_size ∷ frame_row CommandLine line_limit ∷ frame_row Gdt most_size ∷ []
+  first_rows =
+      linux_kernel_row setup ∷ frame_row BootParams most_size ∷ frame_row CommandLine line_limit
+      ∷ frame_row Gdt most_size ∷ []
 
-  pub linux_as_placed : (initrd : List ℕ) (places : List Place) → ArePlaced facts [] (told_linux_rows setup initrd) places → ArePlaced facts [] (linux_rows setup initrd) places
+  pub linux_as_placed : (initrd : List ℕ) (places : List Place)
+      → ArePlaced facts [] (told_linux_rows setup initrd) places
+      → ArePlaced facts [] (linux_rows setup initrd) places
   unfolding first_rows
   linux_as_placed initrd places placed =
-      behind_placed facts first_rows (told_initrd_rows setup initrd) (initrd_rows setup initrd) (told_initrd_placed initrd) [] places placed
+      behind_placed facts first_rows (told_initrd_rows setup initrd) (initrd_rows setup initrd)
+      (told_initrd_placed initrd) [] places placed
 
-  pub linux_as_fault : (fault : PlanFault) (initrd : List ℕ) → IsFirstFault facts [] (told_linux_rows setup initrd) fault → IsFirstFault facts [] (linux_rows setup initrd) fault
+  pub linux_as_fault : (fault : PlanFault) (initrd : List ℕ)
+      → IsFirstFault facts [] (told_linux_rows setup initrd) fault
+      → IsFirstFault facts [] (linux_rows setup initrd) fault
   unfolding first_rows
   linux_as_fault fault initrd has =
-      behind_fault facts fault first_rows (told_initrd_rows setup initrd) (initrd_rows setup initrd) (told_initrd_fault fault initrd) [] has
+      behind_fault facts fault first_rows (told_initrd_rows setup initrd) (initrd_rows setup initrd)
+      (told_initrd_fault fault initrd) [] has
 
   -- ---- the initrd has a place, which is as long as its file
 
-  initrd_small : (initrd : List ℕ) (taken : List (Range ℕ)) (places : List Place) → ArePlaced facts taken (initrd_rows setup initrd) places → All IsLow places → length initrd < 2 ^ 32
+  initrd_small : (initrd : List ℕ) (taken : List (Range ℕ)) (places : List Place)
+      → ArePlaced facts taken (initrd_rows setup initrd) places → All IsLow places
+      → length initrd < 2 ^ 32
   initrd_small [] taken places placed low = omega arith
   initrd_small (byte ∷ bytes) taken [] placed low = absurd placed
   initrd_small (byte ∷ bytes) taken (p ∷ places) placed low =
       let here = All-head IsLow p places low in
-      let size : p.length ≡ whole_frames (length (byte ∷ bytes)) = ap (λ (q : Place). q.length) placed.1 in
+      let size : p.length ≡ whole_frames (length (byte ∷ bytes)) =
+      ap (λ (q : Place). q.length) placed.1 in
       let frames = some_frames (length (byte ∷ bytes)) (omega arith) in
       omega arith
 
-  behind_small : (initrd : List ℕ) (first : List Row) (taken : List (Range ℕ)) (places : List Place) → ArePlaced facts taken (first ++ initrd_rows setup initrd) places → All IsLow places → length initrd < 2 ^ 32
+  behind_small : (initrd : List ℕ) (first : List Row) (taken : List (Range ℕ)) (places : List Place)
+      → ArePlaced facts taken (first ++ initrd_rows setup initrd) places → All IsLow places
+      → length initrd < 2 ^ 32
   behind_small initrd [] taken places placed low = initrd_small initrd taken places placed low
   behind_small initrd (row ∷ first) taken [] placed low = absurd placed
-  behind_small initrd (row ∷ first) taken (p ∷ places) placed low = behind_small initrd first (put_in (range_of p) taken) places placed.2 (All-tail IsLow p places low)
+  behind_small initrd (row ∷ first) taken (p ∷ places) placed low =
+      behind_small initrd first (put_in (range_of p) taken) places placed.2
+      (All-tail IsLow p places low)
 
-  pub initrd_fits : (initrd : List ℕ) (places : List Place) → ArePlaced facts [] (linux_rows setup initrd) places → All IsLow places → length initrd < 2 ^ 32
+  pub initrd_fits : (initrd : List ℕ) (places : List Place)
+      → ArePlaced facts [] (linux_rows setup initrd) places → All IsLow places
+      → length initrd < 2 ^ 32
   unfolding first_rows
   initrd_fits initrd places placed low = behind_small initrd first_rows [] places placed low
 
@@ -121,17 +167,35 @@ told_initrd_rows_are setup [] = All-nil IsRow
 told_initrd_rows_are setup (byte ∷ bytes) =
     let size = length (byte ∷ bytes) in
     let frames = some_frames (max (min size (2 ^ 40)) 1) (omega arith) in
-    All-cons IsRow (told_initrd_row setup size) [] (record { filled = omega arith; choice = omega arith }) (All-nil IsRow)
+    All-cons IsRow (told_initrd_row setup size) []
+    (record { filled = omega arith; choice = omega arith }) (All-nil IsRow)
 
-pub told_linux_rows_are : (file : List ℕ) (setup : Setup) (initrd : List ℕ) → IsSetup file setup → All IsRow (told_linux_rows setup initrd)
+pub told_linux_rows_are : (file : List ℕ) (setup : Setup) (initrd : List ℕ) → IsSetup file setup
+    → All IsRow (told_linux_rows setup initrd)
 told_linux_rows_are file setup initrd is =
     let are = linux_rows_are_rows file setup [] is in
-    let two = All-tail IsRow (linux_kernel_row setup) (frame_row BootParams most_size ∷ frame_row CommandLine line_limit ∷ frame_row Gdt most_size ∷ []) are in
-    let three = All-tail IsRow (frame_row BootParams most_size) (frame_row CommandLine line_limit ∷ frame_row Gdt most_size ∷ []) two in
-    let four = All-tail IsRow (frame_row CommandLine line_limit) (frame_row Gdt most_size ∷ []) three in
+    let two =
+    All-tail IsRow (linux_kernel_row setup)
+    (frame_row BootParams most_size ∷ frame_row CommandLine line_limit
+    ∷ frame_row Gdt most_size ∷ []) are in
+    let three =
+    All-tail IsRow (frame_row BootParams most_size)
+    (frame_row CommandLine line_limit ∷ frame_row Gdt most_size ∷ []) two in
+    let four =
+    All-tail IsRow (frame_row CommandLine line_limit) (frame_row Gdt most_size ∷ []) three in
     let rest = told_initrd_rows setup initrd in
-    All-cons IsRow (linux_kernel_row setup) (frame_row BootParams most_size ∷ frame_row CommandLine line_limit ∷ frame_row Gdt most_size ∷ rest) (All-head IsRow (linux_kernel_row setup) (frame_row BootParams most_size ∷ frame_row CommandLine line_limit ∷ frame_row Gdt most_size ∷ []) are)
-    (All-cons IsRow (frame_row BootParams most_size) (frame_row CommandLine line_limit ∷ frame_row Gdt most_size ∷ rest) (All-head IsRow (frame_row BootParams most_size) (frame_row CommandLine line_limit ∷ frame_row Gdt most_size ∷ []) two)
-    (All-cons IsRow (frame_row CommandLine line_limit) (frame_row Gdt most_size ∷ rest) (All-head IsRow (frame_row CommandLine line_limit) (frame_row Gdt most_size ∷ []) three)
-    (All-cons IsRow (frame_row Gdt most_size) rest (All-head IsRow (frame_row Gdt most_size) [] four)
+    All-cons IsRow (linux_kernel_row setup)
+    (frame_row BootParams most_size ∷ frame_row CommandLine line_limit ∷ frame_row Gdt most_size
+    ∷ rest)
+    (All-head IsRow (linux_kernel_row setup)
+    (frame_row BootParams most_size ∷ frame_row CommandLine line_limit
+    ∷ frame_row Gdt most_size ∷ []) are)
+    (All-cons IsRow (frame_row BootParams most_size)
+    (frame_row CommandLine line_limit ∷ frame_row Gdt most_size ∷ rest)
+    (All-head IsRow (frame_row BootParams most_size)
+    (frame_row CommandLine line_limit ∷ frame_row Gdt most_size ∷ []) two)
+    (All-cons IsRow (frame_row CommandLine line_limit) (frame_row Gdt most_size ∷ rest)
+    (All-head IsRow (frame_row CommandLine line_limit) (frame_row Gdt most_size ∷ []) three)
+    (All-cons IsRow (frame_row Gdt most_size) rest
+    (All-head IsRow (frame_row Gdt most_size) [] four)
     (told_initrd_rows_are setup initrd))))

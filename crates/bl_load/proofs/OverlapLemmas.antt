@@ -1,5 +1,6 @@
 -- The parts of a kernel don't overlap one another.
-use Rattle.std.proofs.Common.{◌≡◌, ◌+◌, ℕ, suc, List, [], ◌∷◌, ◌++◌, get_or, Option, Some, None, arith, refl, subst, All, AllPairs, inl, inr, nat_eq}
+use Rattle.std.proofs.Common.{◌≡◌, ◌+◌, ℕ, suc, List, [], ◌∷◌, ◌++◌, get_or, Option, Some, None}
+use Rattle.std.proofs.Common.{arith, refl, subst, All, AllPairs, inl, inr, nat_eq}
 use Rattle.std.proofs.lemmas.List.Elements.{All-nil, All-head, All-tail}
 use Rattle.std.proofs.lemmas.Bool.{cond_both}
 use Rattle.std.specs.declared.ops.Range.{Range}
@@ -20,7 +21,8 @@ use Rattle.bl_load.specs.Value.{EntryValue}
 use Rattle.bl_load.specs.Reading.{multiboot2}
 use Rattle.bl_load.specs.Kernel.{KernelFacts}
 use Rattle.bl_load.specs.Blocks.{low_of, span_of}
-use Rattle.bl_load.specs.Rows.{segment_rows, align_of, block_choice, kernel_rows, information_row, rows_of, module_rows}
+use Rattle.bl_load.specs.Rows.{segment_rows, align_of, block_choice, kernel_rows, information_row}
+use Rattle.bl_load.specs.Rows.{rows_of, module_rows}
 use Rattle.bl_plan.proofs.OrderLemmas.{AreRelated, pairs_related}
 
 -- no address of a segment is taken
@@ -28,46 +30,83 @@ abbrev IsFreeSegment : List (Range ℕ) → Segment → Type 0
 IsFreeSegment taken s = AllOpen taken s.address (s.address + s.memsz)
 
 -- where a segment was placed, those apart from it stay free
-stays_free : (taken : List (Range ℕ)) (s t : Segment) (row : Row) → row.length ≡ s.memsz → AreApart s t → IsFreeSegment taken t → IsFreeSegment (put_in (range_of (place_at row s.address)) taken) t
+stays_free : (taken : List (Range ℕ)) (s t : Segment) (row : Row) → row.length ≡ s.memsz
+    → AreApart s t → IsFreeSegment taken t
+    → IsFreeSegment (put_in (range_of (place_at row s.address)) taken) t
 stays_free taken s t row size apart free = λ a low high.
-    All-put_in (λ r. ¬ IsIn r a) (range_of (place_at row s.address)) taken (λ here. apart a (omega (arith, here.0), omega (arith, here.1)) (low, high)) (free a low high)
+    All-put_in (λ r. ¬ IsIn r a) (range_of (place_at row s.address)) taken
+    (λ here. apart a (omega (arith, here.0), omega (arith, here.1)) (low, high))
+    (free a low high)
 
 -- segments that are apart and free have no overlap before what is placed behind them
-segments_no_overlap : (facts : MachineFacts) (taken : List (Range ℕ)) (k : ℕ) (segments : List Segment) (rest : List Row) → All (IsFreeSegment taken) segments → AreRelated AreApart segments
-    → ((more : List (Range ℕ)) → IsFirstFault facts more rest Overlap → ⊥) → IsFirstFault facts taken (segment_rows k segments ++ rest) Overlap → ⊥
+segments_no_overlap : (facts : MachineFacts) (taken : List (Range ℕ)) (k : ℕ)
+    (segments : List Segment) (rest : List Row) → All (IsFreeSegment taken) segments
+    → AreRelated AreApart segments
+    → ((more : List (Range ℕ)) → IsFirstFault facts more rest Overlap → ⊥)
+    → IsFirstFault facts taken (segment_rows k segments ++ rest) Overlap → ⊥
 segments_no_overlap facts taken k [] rest free apart none h = none taken h
-segments_no_overlap facts taken k (s ∷ segments) rest free apart none (inl here) = here.1 (All-head (IsFreeSegment taken) s segments free)
+segments_no_overlap facts taken k (s ∷ segments) rest free apart none (inl here) =
+    here.1 (All-head (IsFreeSegment taken) s segments free)
 segments_no_overlap facts taken k (s ∷ segments) rest free apart none (inr later) =
-    let row : Row = record { role = Kernel; index = k; length = s.memsz; choice = Fixed s.address } in
-    segments_no_overlap facts (put_in (range_of (place_at row s.address)) taken) (suc k) segments rest
-    (λ i d within. stays_free taken s (get_or segments i d) row refl (apart.0 i d within) (All-tail (IsFreeSegment taken) s segments free i d within))
+    let row : Row =
+    record { role = Kernel; index = k; length = s.memsz; choice = Fixed s.address } in
+    segments_no_overlap facts (put_in (range_of (place_at row s.address)) taken) (suc k) segments
+    rest
+    (λ i d within.
+    stays_free taken s (get_or segments i d) row refl (apart.0 i d within)
+    (All-tail (IsFreeSegment taken) s segments free i d within))
     apart.1 none
-    (subst (λ (a : ℕ). IsFirstFault facts (put_in (range_of (place_at row a)) taken) (segment_rows (suc k) segments ++ rest) Overlap) later.1.0 later.2)
+    (subst
+    (λ (a : ℕ).
+    IsFirstFault facts (put_in (range_of (place_at row a)) taken)
+    (segment_rows (suc k) segments ++ rest) Overlap) later.1.0 later.2)
 
-information_no_overlap : (facts : MachineFacts) (value : EntryValue) (relocation : Option Relocation) (taken : List (Range ℕ)) → IsFirstFault facts taken (information_row facts value relocation ∷ []) Overlap → ⊥
+information_no_overlap : (facts : MachineFacts) (value : EntryValue)
+    (relocation : Option Relocation) (taken : List (Range ℕ))
+    → IsFirstFault facts taken (information_row facts value relocation ∷ []) Overlap → ⊥
 information_no_overlap facts value relocation taken (inl here) = here
 information_no_overlap facts value relocation taken (inr later) = later.2
 
 -- what is placed at the lowest address overlaps nothing
-tail_no_overlap : (facts : MachineFacts) (value : EntryValue) (relocation : Option Relocation) (k : ℕ) (lines : List (List ℕ)) (taken : List (Range ℕ))
-    → IsFirstFault facts taken (module_rows value.files k lines ++ information_row facts value relocation ∷ []) Overlap → ⊥
-tail_no_overlap facts value relocation k [] taken h = information_no_overlap facts value relocation taken h
+tail_no_overlap : (facts : MachineFacts) (value : EntryValue) (relocation : Option Relocation)
+    (k : ℕ) (lines : List (List ℕ)) (taken : List (Range ℕ))
+    → IsFirstFault facts taken
+    (module_rows value.files k lines ++ information_row facts value relocation ∷ []) Overlap → ⊥
+tail_no_overlap facts value relocation k [] taken h =
+    information_no_overlap facts value relocation taken h
 tail_no_overlap facts value relocation k (line ∷ lines) taken (inl here) = here
-tail_no_overlap facts value relocation k (line ∷ lines) taken (inr later) = tail_no_overlap facts value relocation (suc k) lines _ later.2
+tail_no_overlap facts value relocation k (line ∷ lines) taken (inr later) =
+    tail_no_overlap facts value relocation (suc k) lines _ later.2
 
-block_no_overlap : (facts : MachineFacts) (taken : List (Range ℕ)) (count : ℕ) (r : Relocation) (linked : ℕ) → HasFault facts taken count (block_choice r linked) Overlap → ⊥
+block_no_overlap : (facts : MachineFacts) (taken : List (Range ℕ)) (count : ℕ) (r : Relocation)
+    (linked : ℕ) → HasFault facts taken count (block_choice r linked) Overlap → ⊥
 block_no_overlap facts taken count r linked =
-    cond_both (nat_eq r.preference 1) (Lowest (align_of r) r.min_addr r.max_addr) _ (λ choice. HasFault facts taken count choice Overlap → ⊥) (λ _ h. h)
-    (λ _. cond_both (nat_eq r.preference 2) (Highest (align_of r) r.min_addr r.max_addr) (Preferred linked (align_of r) r.min_addr r.max_addr) (λ choice. HasFault facts taken count choice Overlap → ⊥) (λ _ h. h) (λ _ h. h))
+    cond_both (nat_eq r.preference 1) (Lowest (align_of r) r.min_addr r.max_addr)
+    _ (λ choice. HasFault facts taken count choice Overlap → ⊥) (λ _ h. h)
+    (λ _.
+    cond_both (nat_eq r.preference 2) (Highest (align_of r) r.min_addr r.max_addr)
+    (Preferred linked (align_of r) r.min_addr r.max_addr)
+    (λ choice. HasFault facts taken count choice Overlap → ⊥) (λ _ h. h) (λ _ h. h))
 
-rows_no_overlap : (facts : MachineFacts) (value : EntryValue) (segments : List Segment) (relocation : Option Relocation) → AllPairs AreApart segments
-    → IsFirstFault facts [] (kernel_rows segments relocation ++ (module_rows value.files 0 value.module_lines ++ information_row facts value relocation ∷ [])) Overlap → ⊥
+rows_no_overlap : (facts : MachineFacts) (value : EntryValue) (segments : List Segment)
+    (relocation : Option Relocation) → AllPairs AreApart segments
+    → IsFirstFault facts []
+    (kernel_rows segments relocation
+    ++ (module_rows value.files 0 value.module_lines
+    ++ information_row facts value relocation ∷ [])) Overlap → ⊥
 rows_no_overlap facts value segments None apart h =
-    segments_no_overlap facts [] 0 segments (module_rows value.files 0 value.module_lines ++ information_row facts value None ∷ []) (λ k d within a low high. All-nil (λ r. ¬ IsIn r a)) (pairs_related AreApart segments apart)
+    segments_no_overlap facts [] 0 segments
+    (module_rows value.files 0 value.module_lines ++ information_row facts value None ∷ [])
+    (λ k d within a low high. All-nil (λ r. ¬ IsIn r a)) (pairs_related AreApart segments apart)
     (tail_no_overlap facts value None 0 value.module_lines) h
-rows_no_overlap facts value segments (Some r) apart (inl here) = block_no_overlap facts [] (span_of segments) r (low_of segments) here
-rows_no_overlap facts value segments (Some r) apart (inr later) = tail_no_overlap facts value (Some r) 0 value.module_lines _ later.2
+rows_no_overlap facts value segments (Some r) apart (inl here) =
+    block_no_overlap facts [] (span_of segments) r (low_of segments) here
+rows_no_overlap facts value segments (Some r) apart (inr later) =
+    tail_no_overlap facts value (Some r) 0 value.module_lines _ later.2
 
 -- so the first fault of a kernel whose segments share no byte is no overlap
-pub no_overlap : (facts : MachineFacts) (value : EntryValue) (kernel : KernelFacts) → AllPairs AreApart kernel.segments → IsFirstFault facts [] (rows_of facts value (multiboot2 kernel)) Overlap → ⊥
-no_overlap facts value kernel apart h = rows_no_overlap facts value kernel.segments kernel.relocation apart h
+pub no_overlap : (facts : MachineFacts) (value : EntryValue) (kernel : KernelFacts)
+    → AllPairs AreApart kernel.segments
+    → IsFirstFault facts [] (rows_of facts value (multiboot2 kernel)) Overlap → ⊥
+no_overlap facts value kernel apart h =
+    rows_no_overlap facts value kernel.segments kernel.relocation apart h

@@ -9,8 +9,13 @@ use Rattle.bl_load.specs.declared.refusal.PrepFault.{PrepFault}
 use Rattle.bl_plan.specs.declared.row.Row.{Row}
 use Rattle.bl_load.specs.PlacingKept.{fault_of, IsPlaceFault}
 
-pub refused_place : (facts : MachineFacts) (rows : List Row) (fault : PlanFault) (result : PrepFault) → IsPlacingFault facts rows fault → fault_of fault ≡ Some result → IsPlaceFault facts rows result
-refused_place facts rows plan_fault.NotUsable result h e = subst (IsPlaceFault facts rows) (same_Some _ _ e) (plan_fault.NotUsable, h, refl)
+pub refused_place : (facts : MachineFacts) (rows : List Row) (fault : PlanFault)
+    (result : PrepFault) → IsPlacingFault facts rows fault → fault_of fault ≡ Some result
+    → IsPlaceFault facts rows result
+refused_place facts rows plan_fault.NotUsable result h e =
+    subst (IsPlaceFault facts rows) (same_Some _ _ e) (plan_fault.NotUsable, h, refl)
 refused_place facts rows plan_fault.Overlap result h e = absurd cc
-refused_place facts rows plan_fault.NoRoom result h e = subst (IsPlaceFault facts rows) (same_Some _ _ e) (plan_fault.NoRoom, h, refl)
-refused_place facts rows plan_fault.NoMemory result h e = subst (IsPlaceFault facts rows) (same_Some _ _ e) tt
+refused_place facts rows plan_fault.NoRoom result h e =
+    subst (IsPlaceFault facts rows) (same_Some _ _ e) (plan_fault.NoRoom, h, refl)
+refused_place facts rows plan_fault.NoMemory result h e =
+    subst (IsPlaceFault facts rows) (same_Some _ _ e) tt

@@ -1,5 +1,6 @@
 -- What is prepared of an entry by its lines and its kernel.
-use Rattle.std.proofs.Common.{◌≡◌, ◌≤◌, ℕ, List, [], ◌∷◌, length, get_or, map, None, arith, refl, sym, ap, ◌∙◌, inl, inr}
+use Rattle.std.proofs.Common.{◌≡◌, ◌≤◌, ℕ, List, [], ◌∷◌, length, get_or, map, None, arith, refl}
+use Rattle.std.proofs.Common.{sym, ap, ◌∙◌, inl, inr}
 use Rattle.std.proofs.lemmas.List.{get_or-map}
 use Rattle.bl_map.specs.MachineFacts.{MachineFacts}
 use Rattle.bl_load.specs.declared.refusal.PrepFault.{PrepFault}
@@ -15,34 +16,44 @@ use Rattle.bl_load.specs.PlacingKept.{IsPlaceFault, IsPlacedHandover}
 use Rattle.bl_load.specs.PlanFacts.{file_text}
 
 -- the kernel's file is the first
-pub first_text : {V : Type 0} (bytes : V → List ℕ) (files : List V) (file : V) → 1 ≤ length files → file ≡ get_or files 0 file → bytes file ≡ file_text (map bytes files) 0
-first_text bytes files file some is = ap bytes is ∙ sym (get_or-map bytes files 0 file [] (omega arith))
+pub first_text : {V : Type 0} (bytes : V → List ℕ) (files : List V) (file : V) → 1 ≤ length files
+    → file ≡ get_or files 0 file → bytes file ≡ file_text (map bytes files) 0
+first_text bytes files file some is =
+    ap bytes is ∙ sym (get_or-map bytes files 0 file [] (omega arith))
 
 -- a value whose lines have no fault
-module _ (facts : MachineFacts) (value : EntryValue) (sound : lines_fault (lines_of value) ≡ None) where
-  -- what its parts hand over, it hands over
-  pub prepared : (reading : Reading) (handover : Handover) → IsRead facts value reading → IsPlacedHandover facts value reading handover → IsHandover facts value handover
-  prepared reading handover is placed = record {
-    reading = reading;
-    places = placed.places;
-    lines = sound;
-    read = is;
-    placed = placed.placed;
-    is = placed.is;
-  }
+module _ (facts : MachineFacts) (value : EntryValue) (sound : lines_fault (lines_of value) ≡ None)
+  where
+    -- what its parts hand over, it hands over
+    pub prepared : (reading : Reading) (handover : Handover) → IsRead facts value reading
+        → IsPlacedHandover facts value reading handover → IsHandover facts value handover
+    prepared reading handover is placed = record {
+      reading = reading;
+      places = placed.places;
+      lines = sound;
+      read = is;
+      placed = placed.placed;
+      is = placed.is;
+    }
 
-  -- and so does a fault of its places
-  pub refused_places : (reading : Reading) (fault : PrepFault) → IsRead facts value reading → IsPlaceFault facts (rows_of facts value reading) fault → IsPrepFault facts value fault
-  refused_places reading (prep.Refused refused) is has = inr (sound, inr (reading, is, has))
-  refused_places reading prep.NoMemory is has = tt
+    -- and so does a fault of its places
+    pub refused_places : (reading : Reading) (fault : PrepFault) → IsRead facts value reading
+        → IsPlaceFault facts (rows_of facts value reading) fault → IsPrepFault facts value fault
+    refused_places reading (prep.Refused refused) is has = inr (sound, inr (reading, is, has))
+    refused_places reading prep.NoMemory is has = tt
 
 -- a fault of its kernel refuses an entry whose lines have none
-pub refused_multiboot2 : (facts : MachineFacts) (texts : List (List ℕ)) (line : List ℕ) (lines : List (List ℕ)) → lines_fault (line ∷ lines) ≡ None → (fault : PrepFault) → IsKernelFault (file_text texts 0) fault
+pub refused_multiboot2 : (facts : MachineFacts) (texts : List (List ℕ)) (line : List ℕ)
+    (lines : List (List ℕ)) → lines_fault (line ∷ lines) ≡ None → (fault : PrepFault)
+    → IsKernelFault (file_text texts 0) fault
     → IsPrepFault facts (multiboot2_value texts line lines) fault
-refused_multiboot2 facts texts line lines sound (prep.Refused refused) has = inr (sound, inl (inl (refl, has)))
+refused_multiboot2 facts texts line lines sound (prep.Refused refused) has =
+    inr (sound, inl (inl (refl, has)))
 refused_multiboot2 facts texts line lines sound prep.NoMemory has = tt
 
-pub refused_linux : (facts : MachineFacts) (texts : List (List ℕ)) (line : List ℕ) → lines_fault (line ∷ []) ≡ None → (fault : PrepFault) → IsLinuxFault facts.runs line (file_text texts 0) fault
+pub refused_linux : (facts : MachineFacts) (texts : List (List ℕ)) (line : List ℕ)
+    → lines_fault (line ∷ []) ≡ None → (fault : PrepFault)
+    → IsLinuxFault facts.runs line (file_text texts 0) fault
     → IsPrepFault facts (linux_value texts line) fault
 refused_linux facts texts line sound (prep.Refused refused) has = inr (sound, inl (inr (refl, has)))
 refused_linux facts texts line sound prep.NoMemory has = tt

@@ -11,6 +11,8 @@ use Rattle.bl_load.proofs.HeldLemmas.{AllPairs-map}
 -- the ranges of a handoff's places ascend
 pub ranges_ascend : (places : List Place) → AreRecords places → AreAscending (map range_of places)
 ranges_ascend places records = record {
-  forward = All-map (λ (range : Range ℕ). range.start ≤ range.end) range_of places (λ k d within. omega arith);
+  forward =
+      All-map (λ (range : Range ℕ). range.start ≤ range.end) range_of places
+      (λ k d within. omega arith);
   in_order = AllPairs-map (λ (p q : Range ℕ). p.end ≤ q.start) range_of places records.ascending;
 }

@@ -1,7 +1,8 @@
--- What was read of a kernel, by its protocol: its rows are rows and few, none overlaps another, and each place has the
--- length of what stands there.
+-- What was read of a kernel, by its protocol: its rows are rows and few, none overlaps another, and
+-- each place has the length of what stands there.
 use Rattle.std.specs.Prelude.{max}
-use Rattle.std.proofs.Common.{◌≡◌, ◌≢◌, ◌≤◌, ◌+◌, ℕ, List, [], length, None, arith, rules, subst, All, slice_range, nat_eq}
+use Rattle.std.proofs.Common.{◌≡◌, ◌≢◌, ◌≤◌, ◌+◌, ℕ, List, [], length, None, arith, rules, subst}
+use Rattle.std.proofs.Common.{All, slice_range, nat_eq}
 use Rattle.std.proofs.lemmas.Bool.{cond_both}
 use Rattle.std.proofs.lemmas.List.{places}
 use Rattle.bl_map.specs.MachineFacts.{MachineFacts}
@@ -14,7 +15,8 @@ use Rattle.bl_plan.specs.declared.fault.PlanFault.{PlanFault}
 use Rattle.bl_plan.specs.declared.fault.PlanFault.TheVariants.{Overlap}
 use Rattle.bl_plan.specs.declared.place.Place.{Place}
 use Rattle.bl_plan.specs.declared.role.Role.{Role}
-use Rattle.bl_plan.specs.declared.role.Role.TheVariants.{Kernel, Module, Information, BootParams, CommandLine, Gdt, Initrd}
+use Rattle.bl_plan.specs.declared.role.Role.TheVariants.{Kernel, Module, Information, BootParams}
+use Rattle.bl_plan.specs.declared.role.Role.TheVariants.{CommandLine, Gdt, Initrd}
 use Rattle.bl_load.specs.HandoffFacts.{AreRecords, most_parts}
 use Rattle.bl_load.specs.Kernel.{KernelFacts}
 use Rattle.bl_load.specs.LinuxRows.{fixed_row, moved_row, linux_kernel_row, told_of}
@@ -22,11 +24,13 @@ use Rattle.bl_load.specs.Parts.{content_of, payload_of}
 use Rattle.bl_load.specs.PlacingKept.{HasLength, IsRowed}
 use Rattle.bl_load.specs.Reading.{Reading, multiboot2, linux, IsRead}
 use Rattle.bl_load.specs.Rows.{rows_of}
-use Rattle.bl_load.specs.Value.{EntryValue, kernel_file, module_file, initrd_file, line_fault, lines_fault, lines_of}
+use Rattle.bl_load.specs.Value.{EntryValue, kernel_file, module_file, initrd_file, line_fault}
+use Rattle.bl_load.specs.Value.{lines_fault, lines_of}
 use Rattle.bl_load.proofs.FullLemmas.{IsFull, kernel_full, kernel_few, kernel_apart, kernel_short}
 use Rattle.bl_load.proofs.InformationLemmas.{information_short}
 use Rattle.bl_load.proofs.LineLemmas.{first_sound, sound_short}
-use Rattle.bl_load.proofs.LinuxLemmas.{linux_rows_are_rows, linux_few, linux_rowed, linux_no_overlap}
+use Rattle.bl_load.proofs.LinuxLemmas.{linux_rows_are_rows, linux_few, linux_rowed}
+use Rattle.bl_load.proofs.LinuxLemmas.{linux_no_overlap}
 use Rattle.bl_load.proofs.OverlapLemmas.{no_overlap}
 use Rattle.bl_load.proofs.RowLemmas.{kernel_rows_are_rows, few_places, some_frames}
 use Rattle.bl_load.proofs.RowPlaceLemmas.{each_rowed, records}
@@ -34,54 +38,82 @@ use Rattle.bl_load.proofs.RowPlaceLemmas.{each_rowed, records}
 -- ---- its rows
 
 -- each row has some bytes and a choice
-pub reading_rows : (facts : MachineFacts) (value : EntryValue) (reading : Reading) → IsRead facts value reading → All IsRow (rows_of facts value reading)
+pub reading_rows : (facts : MachineFacts) (value : EntryValue) (reading : Reading)
+    → IsRead facts value reading → All IsRow (rows_of facts value reading)
 reading_rows facts value (multiboot2 kernel) is =
     let full = kernel_full (kernel_file value) kernel is.1 in
     kernel_rows_are_rows facts value kernel full.0 (λ k d within. (full.1 k d within).filled)
-reading_rows facts value (linux setup) is = linux_rows_are_rows (kernel_file value) setup (initrd_file value.files) is.1.is_setup
+reading_rows facts value (linux setup) is =
+    linux_rows_are_rows (kernel_file value) setup (initrd_file value.files) is.1.is_setup
 
 -- none overlaps another
-pub reading_no_overlap : (facts : MachineFacts) (value : EntryValue) (reading : Reading) → IsRead facts value reading → IsFirstFault facts [] (rows_of facts value reading) Overlap → ⊥
-reading_no_overlap facts value (multiboot2 kernel) is has = no_overlap facts value kernel (kernel_apart (kernel_file value) kernel is.1) has
+pub reading_no_overlap : (facts : MachineFacts) (value : EntryValue) (reading : Reading)
+    → IsRead facts value reading → IsFirstFault facts [] (rows_of facts value reading) Overlap → ⊥
+reading_no_overlap facts value (multiboot2 kernel) is has =
+    no_overlap facts value kernel (kernel_apart (kernel_file value) kernel is.1) has
 reading_no_overlap facts value (linux setup) is has = linux_no_overlap facts value setup has
 
-pub reading_not_overlap : (facts : MachineFacts) (value : EntryValue) (reading : Reading) (fault : PlanFault) → IsRead facts value reading → IsPlacingFault facts (rows_of facts value reading) fault → fault ≢ Overlap
-reading_not_overlap facts value reading fault is has = λ e. reading_no_overlap facts value reading is (subst (IsPlacingFault facts (rows_of facts value reading)) e has)
+pub reading_not_overlap : (facts : MachineFacts) (value : EntryValue) (reading : Reading)
+    (fault : PlanFault) → IsRead facts value reading
+    → IsPlacingFault facts (rows_of facts value reading) fault → fault ≢ Overlap
+reading_not_overlap facts value reading fault is has =
+    λ e.
+    reading_no_overlap facts value reading is
+    (subst (IsPlacingFault facts (rows_of facts value reading)) e has)
 
 -- ---- their places
 
 -- they are few
-pub reading_few : (facts : MachineFacts) (value : EntryValue) (reading : Reading) (places : List Place) → IsRead facts value reading → length value.module_lines ≤ 64 → ArePlaced facts [] (rows_of facts value reading) places
+pub reading_few : (facts : MachineFacts) (value : EntryValue) (reading : Reading)
+    (places : List Place) → IsRead facts value reading → length value.module_lines ≤ 64
+    → ArePlaced facts [] (rows_of facts value reading) places
     → length places ≤ most_parts
 reading_few facts value (multiboot2 kernel) places is few placed =
     let full = kernel_full (kernel_file value) kernel is.1 in
-    let most = few_places facts value kernel [] places full.0 (kernel_few (kernel_file value) kernel is.1) few placed in
+    let most =
+    few_places facts value kernel [] places full.0 (kernel_few (kernel_file value) kernel is.1)
+    few placed in
     omega (arith, most)
 reading_few facts value (linux setup) places is few placed =
     let most = linux_few facts setup (initrd_file value.files) [] places placed in
     omega (arith, most)
 
 -- so they are those of records
-pub reading_records : (facts : MachineFacts) (value : EntryValue) (reading : Reading) (places : List Place) → IsRead facts value reading → length value.module_lines ≤ 64 → ArePlaced facts [] (rows_of facts value reading) places
+pub reading_records : (facts : MachineFacts) (value : EntryValue) (reading : Reading)
+    (places : List Place) → IsRead facts value reading → length value.module_lines ≤ 64
+    → ArePlaced facts [] (rows_of facts value reading) places
     → AreRecords (in_order places)
 reading_records facts value reading places is few placed =
-    records facts (rows_of facts value reading) places (reading_rows facts value reading is) (reading_few facts value reading places is few placed) placed
+    records facts (rows_of facts value reading) places (reading_rows facts value reading is)
+    (reading_few facts value reading places is few placed) placed
 
 -- each has the length that its role and its index ask for
-pub reading_rowed : (facts : MachineFacts) (value : EntryValue) (reading : Reading) (places : List Place) → ArePlaced facts [] (rows_of facts value reading) places → All (IsRowed facts value reading) places
-reading_rowed facts value (multiboot2 kernel) places placed = each_rowed facts value kernel [] places placed
-reading_rowed facts value (linux setup) places placed = linux_rowed facts value setup [] places placed
+pub reading_rowed : (facts : MachineFacts) (value : EntryValue) (reading : Reading)
+    (places : List Place) → ArePlaced facts [] (rows_of facts value reading) places
+    → All (IsRowed facts value reading) places
+reading_rowed facts value (multiboot2 kernel) places placed =
+    each_rowed facts value kernel [] places placed
+reading_rowed facts value (linux setup) places placed =
+    linux_rowed facts value setup [] places placed
 
 -- ---- what stands there is no longer
 
-multiboot2_short : (facts : MachineFacts) (value : EntryValue) (kernel : KernelFacts) (places : List Place) (role : Role) (i count : ℕ) → All IsFull kernel.segments → HasLength facts value (multiboot2 kernel) role i count
+multiboot2_short : (facts : MachineFacts) (value : EntryValue) (kernel : KernelFacts)
+    (places : List Place) (role : Role) (i count : ℕ) → All IsFull kernel.segments
+    → HasLength facts value (multiboot2 kernel) role i count
     → length (content_of facts value (multiboot2 kernel) places role i) ≤ count
-multiboot2_short facts value kernel places Kernel i count full has = kernel_short (kernel_file value) kernel.segments kernel.relocation i count full has
-multiboot2_short facts value kernel places Information i count full has = information_short facts value kernel.relocation places count has
-multiboot2_short facts value kernel places Module i count full has = let size = has.1 in let frames = some_frames (max (length (module_file value.files i)) 1) (omega arith) in omega arith
+multiboot2_short facts value kernel places Kernel i count full has =
+    kernel_short (kernel_file value) kernel.segments kernel.relocation i count full has
+multiboot2_short facts value kernel places Information i count full has =
+    information_short facts value kernel.relocation places count has
+multiboot2_short facts value kernel places Module i count full has =
+    let size = has.1 in
+    let frames =
+    some_frames (max (length (module_file value.files i)) 1) (omega arith) in omega arith
 multiboot2_short facts value kernel places _ i count full has = absurd has
 
-payload_short : (file : List ℕ) (setup : Setup) → length (payload_of file setup) ≤ setup.payload_size
+payload_short : (file : List ℕ) (setup : Setup)
+    → length (payload_of file setup) ≤ setup.payload_size
 payload_short file setup =
     let at = setup.payload_offset in
     let size = setup.payload_size in
@@ -91,23 +123,36 @@ payload_short file setup =
 -- a kernel's part takes its payload
 payload_fits : (setup : Setup) → setup.payload_size ≤ (linux_kernel_row setup).length
 payload_fits setup =
-    cond_both (nat_eq setup.relocatable_kernel 0) (fixed_row setup) (moved_row setup) (λ row. setup.payload_size ≤ row.length) (λ _. omega arith) (λ _. omega arith)
+    cond_both (nat_eq setup.relocatable_kernel 0) (fixed_row setup) (moved_row setup)
+    (λ row. setup.payload_size ≤ row.length) (λ _. omega arith) (λ _. omega arith)
 
 length-gdt : length gdt ≡ 32
 length-gdt = omega arith
 
-linux_short : (facts : MachineFacts) (value : EntryValue) (setup : Setup) (places : List Place) (role : Role) (i count : ℕ) → line_fault value.line ≡ None → HasLength facts value (linux setup) role i count
+linux_short : (facts : MachineFacts) (value : EntryValue) (setup : Setup) (places : List Place)
+    (role : Role) (i count : ℕ) → line_fault value.line ≡ None
+    → HasLength facts value (linux setup) role i count
     → length (content_of facts value (linux setup) places role i) ≤ count
-linux_short facts value setup places Kernel i count sound has = let most = payload_short (kernel_file value) setup in let fits = payload_fits setup in omega arith
-linux_short facts value setup places BootParams i count sound has = let size = length-boot_params setup.header (told_of facts value places) in omega arith
-linux_short facts value setup places CommandLine i count sound has = let short = sound_short value.line sound in omega arith
+linux_short facts value setup places Kernel i count sound has =
+    let most = payload_short (kernel_file value) setup in
+    let fits = payload_fits setup in omega arith
+linux_short facts value setup places BootParams i count sound has =
+    let size = length-boot_params setup.header (told_of facts value places) in omega arith
+linux_short facts value setup places CommandLine i count sound has =
+    let short = sound_short value.line sound in omega arith
 linux_short facts value setup places Gdt i count sound has = let size = length-gdt in omega arith
-linux_short facts value setup places Initrd i count sound has = let size = has.1 in let frames = some_frames (length (initrd_file value.files)) has.0 in omega arith
+linux_short facts value setup places Initrd i count sound has =
+    let size = has.1 in
+    let frames = some_frames (length (initrd_file value.files)) has.0 in omega arith
 linux_short facts value setup places _ i count sound has = absurd has
 
-pub reading_short : (facts : MachineFacts) (value : EntryValue) (reading : Reading) (places : List Place) (place : Place) → lines_fault (lines_of value) ≡ None → IsRead facts value reading → IsRowed facts value reading place
+pub reading_short : (facts : MachineFacts) (value : EntryValue) (reading : Reading)
+    (places : List Place) (place : Place) → lines_fault (lines_of value) ≡ None
+    → IsRead facts value reading → IsRowed facts value reading place
     → length (content_of facts value reading places place.role place.index) ≤ place.length
 reading_short facts value (multiboot2 kernel) places place sound is rowed =
-    multiboot2_short facts value kernel places place.role place.index place.length (kernel_full (kernel_file value) kernel is.1).1 rowed
+    multiboot2_short facts value kernel places place.role place.index place.length
+    (kernel_full (kernel_file value) kernel is.1).1 rowed
 reading_short facts value (linux setup) places place sound is rowed =
-    linux_short facts value setup places place.role place.index place.length (first_sound (line_fault value.line) (lines_fault value.module_lines) sound).0 rowed
+    linux_short facts value setup places place.role place.index place.length
+    (first_sound (line_fault value.line) (lines_fault value.module_lines) sound).0 rowed

@@ -14,41 +14,63 @@ use Rattle.bl_load.specs.Rows.{rows_of}
 use Rattle.bl_load.specs.ReadKept.{HasFiles, FitsTold, CanEnter}
 use Rattle.bl_load.specs.Value.{EntryValue, kernel_file, initrd_file}
 use Rattle.bl_load.proofs.EntryLemmas.{entry_small}
-use Rattle.bl_load.proofs.LinuxToldLemmas.{linux_as_placed, linux_as_fault, initrd_fits, told_linux_rows_are}
+use Rattle.bl_load.proofs.LinuxToldLemmas.{linux_as_placed, linux_as_fault, initrd_fits}
+use Rattle.bl_load.proofs.LinuxToldLemmas.{told_linux_rows_are}
 use Rattle.bl_load.proofs.ModuleLemmas.{as_placed, placing_fault, modules_end_low}
 use Rattle.bl_load.proofs.RowLemmas.{told_rows_are_rows}
 
 module _ (facts : MachineFacts) (value : EntryValue) where
   -- the rows as the code tells them are rows
-  pub told_are_rows : (reading : Reading) (modules : ℕ) → IsRead facts value reading → HasFiles value.files modules reading → All IsRow (told_rows_by facts value reading)
-  told_are_rows (multiboot2 kernel) modules is has = told_rows_are_rows (kernel_file value) facts value kernel has.1
-  told_are_rows (linux setup) modules is has = told_linux_rows_are (kernel_file value) setup (initrd_file value.files) is.1.is_setup
+  pub told_are_rows : (reading : Reading) (modules : ℕ) → IsRead facts value reading
+      → HasFiles value.files modules reading → All IsRow (told_rows_by facts value reading)
+  told_are_rows (multiboot2 kernel) modules is has =
+      told_rows_are_rows (kernel_file value) facts value kernel has.1
+  told_are_rows (linux setup) modules is has =
+      told_linux_rows_are (kernel_file value) setup (initrd_file value.files) is.1.is_setup
 
   -- their places are those of the entry's rows
-  pub told_placed : (reading : Reading) (places : List Place) → ArePlaced facts [] (told_rows_by facts value reading) places → ArePlaced facts [] (rows_of facts value reading) places
+  pub told_placed : (reading : Reading) (places : List Place)
+      → ArePlaced facts [] (told_rows_by facts value reading) places
+      → ArePlaced facts [] (rows_of facts value reading) places
   told_placed (multiboot2 kernel) places placed = as_placed facts value kernel places placed
-  told_placed (linux setup) places placed = linux_as_placed facts setup (initrd_file value.files) places placed
+  told_placed (linux setup) places placed =
+      linux_as_placed facts setup (initrd_file value.files) places placed
 
   -- and so is their fault
-  pub told_fault : (reading : Reading) (fault : PlanFault) → IsPlacingFault facts (told_rows_by facts value reading) fault → IsPlacingFault facts (rows_of facts value reading) fault
+  pub told_fault : (reading : Reading) (fault : PlanFault)
+      → IsPlacingFault facts (told_rows_by facts value reading) fault
+      → IsPlacingFault facts (rows_of facts value reading) fault
   told_fault (multiboot2 kernel) fault has = placing_fault facts value kernel fault has
-  told_fault (linux setup) NotUsable has = linux_as_fault facts setup NotUsable (initrd_file value.files) has
-  told_fault (linux setup) Overlap has = linux_as_fault facts setup Overlap (initrd_file value.files) has
-  told_fault (linux setup) NoRoom has = linux_as_fault facts setup NoRoom (initrd_file value.files) has
+  told_fault (linux setup) NotUsable has =
+      linux_as_fault facts setup NotUsable (initrd_file value.files) has
+  told_fault (linux setup) Overlap has =
+      linux_as_fault facts setup Overlap (initrd_file value.files) has
+  told_fault (linux setup) NoRoom has =
+      linux_as_fault facts setup NoRoom (initrd_file value.files) has
   told_fault (linux setup) NoMemory has = tt
 
   -- what is told of the parts fits 32 bits
-  pub fits_told : (reading : Reading) (places : List Place) → ArePlaced facts [] (rows_of facts value reading) places → All (IsRowed facts value reading) places → All IsLow places → FitsTold value reading places
-  fits_told (multiboot2 kernel) places placed rowed low = modules_end_low facts value kernel places placed rowed low
-  fits_told (linux setup) places placed rowed low = initrd_fits facts setup (initrd_file value.files) places placed low
+  pub fits_told : (reading : Reading) (places : List Place)
+      → ArePlaced facts [] (rows_of facts value reading) places
+      → All (IsRowed facts value reading) places → All IsLow places → FitsTold value reading places
+  fits_told (multiboot2 kernel) places placed rowed low =
+      modules_end_low facts value kernel places placed rowed low
+  fits_told (linux setup) places placed rowed low =
+      initrd_fits facts setup (initrd_file value.files) places placed low
 
   -- and so does the entry
-  pub can_enter : (reading : Reading) (modules : ℕ) (places : List Place) → IsRead facts value reading → HasFiles value.files modules reading → ArePlaced facts [] (rows_of facts value reading) places → All IsLow places → CanEnter reading places
-  can_enter (multiboot2 kernel) modules places is has placed low = entry_small (kernel_file value) facts value kernel places is.1 has.1 placed low
+  pub can_enter : (reading : Reading) (modules : ℕ) (places : List Place)
+      → IsRead facts value reading → HasFiles value.files modules reading
+      → ArePlaced facts [] (rows_of facts value reading) places → All IsLow places
+      → CanEnter reading places
+  can_enter (multiboot2 kernel) modules places is has placed low =
+      entry_small (kernel_file value) facts value kernel places is.1 has.1 placed low
   can_enter (linux setup) modules places is has placed low = tt
 
 -- there are as many lines as modules
-pub modules_fit : {A : Type 0} (modules : List (Module A)) (texts : List (List ℕ)) (places : List Place) → ModulesEndLow texts places (length (lines_by modules)) → ModulesEndLow texts places (length modules)
+pub modules_fit : {A : Type 0} (modules : List (Module A)) (texts : List (List ℕ))
+    (places : List Place) → ModulesEndLow texts places (length (lines_by modules))
+    → ModulesEndLow texts places (length modules)
 modules_fit {A = A} modules texts places ends =
     let count = length-map modules (λ (m : Module A). m.line) in
     λ k within. ends k (omega (arith, count, within))

@@ -1,5 +1,7 @@
 -- What the places of an entry's rows have.
-use Rattle.std.proofs.Common.{◌++◌, ◌≡◌, ◌<◌, ◌≤◌, ◌+◌, ◌-◌, ◌^◌, ℕ, suc, List, [], ◌∷◌, length, get_or, Option, Some, None, arith, refl, sym, ap, subst, ◌∙◌, All, AllPairs, inl, inr}
+use Rattle.std.proofs.Common.{◌++◌, ◌≡◌, ◌<◌, ◌≤◌, ◌+◌, ◌-◌, ◌^◌, ℕ, suc, List, [], ◌∷◌, length}
+use Rattle.std.proofs.Common.{get_or, Option, Some, None, arith, refl, sym, ap, subst, ◌∙◌, All}
+use Rattle.std.proofs.Common.{AllPairs, inl, inr}
 use Rattle.std.proofs.lemmas.List.{get_or_default}
 use Rattle.std.proofs.lemmas.List.Elements.{All-nil, All-cons, All-head, All-tail, All-append}
 use Rattle.std.proofs.lemmas.Bool.{cases_lt}
@@ -18,12 +20,14 @@ use Rattle.bl_load.specs.Value.{EntryValue}
 use Rattle.bl_load.specs.Reading.{multiboot2}
 use Rattle.bl_load.specs.Kernel.{KernelFacts}
 use Rattle.bl_load.specs.Blocks.{low_of, span_of}
-use Rattle.bl_load.specs.Rows.{segment_rows, block_choice, kernel_rows, information_row, rows_of, module_rows}
+use Rattle.bl_load.specs.Rows.{segment_rows, block_choice, kernel_rows, information_row, rows_of}
+use Rattle.bl_load.specs.Rows.{module_rows}
 use Rattle.bl_load.specs.Parts.{no_segment}
 use Rattle.bl_load.specs.PlacingKept.{HasKernelLength, IsRowed}
 use Rattle.bl_plan.specs.Order.{place_key, in_order}
 use Rattle.bl_load.specs.HandoffFacts.{Ascends, AreRecords, most_parts}
-use Rattle.bl_plan.proofs.OrderLemmas.{in_order_all, in_order_pairs, in_order_sorted, length-in_order}
+use Rattle.bl_plan.proofs.OrderLemmas.{in_order_all, in_order_pairs, in_order_sorted}
+use Rattle.bl_plan.proofs.OrderLemmas.{length-in_order}
 
 -- ---- each place has what its row has
 
@@ -31,59 +35,106 @@ use Rattle.bl_plan.proofs.OrderLemmas.{in_order_all, in_order_pairs, in_order_so
 abbrev pub Anywhere : (Place → Type 0) → Row → Type 0
 Anywhere P row = (a : ℕ) → P (place_at row a)
 
-pub each_place : (facts : MachineFacts) (P : Place → Type 0) (taken : List (Range ℕ)) (rows : List Row) (places : List Place) → All (Anywhere P) rows → ArePlaced facts taken rows places → All P places
+pub each_place : (facts : MachineFacts) (P : Place → Type 0) (taken : List (Range ℕ))
+    (rows : List Row) (places : List Place) → All (Anywhere P) rows
+    → ArePlaced facts taken rows places → All P places
 each_place facts P taken [] [] each placed = All-nil P
 each_place facts P taken [] (p ∷ places) each placed = absurd placed
 each_place facts P taken (row ∷ rows) [] each placed = absurd placed
 each_place facts P taken (row ∷ rows) (p ∷ places) each placed =
     All-cons P p places (subst P (sym placed.1) (All-head (Anywhere P) row rows each p.address))
-    (each_place facts P (put_in (range_of p) taken) rows places (All-tail (Anywhere P) row rows each) placed.2)
+    (each_place facts P (put_in (range_of p) taken) rows places
+    (All-tail (Anywhere P) row rows each) placed.2)
 
 -- these segments are those from the k-th on
 abbrev AreFrom : List Segment → ℕ → List Segment → Type 0
-AreFrom all k segments = (i : ℕ) (d : Segment) → i < length segments → (k + i < length all) × (get_or all (k + i) no_segment ≡ get_or segments i d)
+AreFrom all k segments =
+    (i : ℕ) (d : Segment) → i < length segments
+    → (k + i < length all) × (get_or all (k + i) no_segment ≡ get_or segments i d)
 
-segment_rows_rowed : (facts : MachineFacts) (value : EntryValue) (kernel : KernelFacts) (k : ℕ) (segments : List Segment) → kernel.relocation ≡ None → AreFrom kernel.segments k segments
+segment_rows_rowed : (facts : MachineFacts) (value : EntryValue) (kernel : KernelFacts) (k : ℕ)
+    (segments : List Segment) → kernel.relocation ≡ None → AreFrom kernel.segments k segments
     → All (Anywhere (IsRowed facts value (multiboot2 kernel))) (segment_rows k segments)
-segment_rows_rowed facts value kernel k [] fixed from = All-nil (Anywhere (IsRowed facts value (multiboot2 kernel)))
+segment_rows_rowed facts value kernel k [] fixed from =
+    All-nil (Anywhere (IsRowed facts value (multiboot2 kernel)))
 segment_rows_rowed facts value kernel k (s ∷ segments) fixed from =
     let first = from 0 s (omega arith) in
     let same : k + 0 ≡ k = omega arith in
-    let is : get_or kernel.segments k no_segment ≡ s = ap (λ (n : ℕ). get_or kernel.segments n no_segment) (sym same) ∙ first.1 in
+    let is : get_or kernel.segments k no_segment ≡ s =
+    ap (λ (n : ℕ). get_or kernel.segments n no_segment) (sym same) ∙ first.1 in
     let size = ap (λ (t : Segment). t.memsz) is in
     let has : HasKernelLength kernel.segments None k s.memsz = (omega (arith, first.0), sym size) in
-    All-cons (Anywhere (IsRowed facts value (multiboot2 kernel))) (record { role = Kernel; index = k; length = s.memsz; choice = Fixed s.address }) (segment_rows (suc k) segments)
-    (λ a. subst (λ (r : Option Relocation). HasKernelLength kernel.segments r k s.memsz) (sym fixed) has)
+    All-cons (Anywhere (IsRowed facts value (multiboot2 kernel)))
+    (record { role = Kernel; index = k; length = s.memsz; choice = Fixed s.address })
+    (segment_rows (suc k) segments)
+    (λ a.
+    subst (λ (r : Option Relocation). HasKernelLength kernel.segments r k s.memsz) (sym fixed)
+    has)
     (segment_rows_rowed facts value kernel (suc k) segments fixed
     (λ i d within. let next = from (suc i) d (omega arith) in
     let on : k + suc i ≡ suc k + i = omega arith in
     (omega (arith, next.0), ap (λ (n : ℕ). get_or kernel.segments n no_segment) (sym on) ∙ next.1)))
 
-kernel_rows_rowed : (facts : MachineFacts) (value : EntryValue) (kernel : KernelFacts) (relocation : Option Relocation) → kernel.relocation ≡ relocation → All (Anywhere (IsRowed facts value (multiboot2 kernel))) (kernel_rows kernel.segments relocation)
+kernel_rows_rowed : (facts : MachineFacts) (value : EntryValue) (kernel : KernelFacts)
+    (relocation : Option Relocation) → kernel.relocation ≡ relocation
+    → All (Anywhere (IsRowed facts value (multiboot2 kernel)))
+    (kernel_rows kernel.segments relocation)
 kernel_rows_rowed facts value kernel None is =
     segment_rows_rowed facts value kernel 0 kernel.segments is
-    (λ i d within. let same : 0 + i ≡ i = omega arith in (omega arith, ap (λ (n : ℕ). get_or kernel.segments n no_segment) same ∙ get_or_default kernel.segments i no_segment d within))
+    (λ i d within. let same : 0 + i ≡ i = omega arith in (
+      omega arith,
+      ap (λ (n : ℕ). get_or kernel.segments n no_segment) same
+          ∙ get_or_default kernel.segments i no_segment d within,
+    ))
 kernel_rows_rowed facts value kernel (Some r) is =
-    All-cons (Anywhere (IsRowed facts value (multiboot2 kernel))) (record { role = Kernel; index = 0; length = span_of kernel.segments; choice = block_choice r (low_of kernel.segments) }) []
-    (λ a. subst (λ (o : Option Relocation). HasKernelLength kernel.segments o 0 (span_of kernel.segments)) (sym is) refl) (All-nil (Anywhere (IsRowed facts value (multiboot2 kernel))))
+    All-cons (Anywhere (IsRowed facts value (multiboot2 kernel)))
+    (record {
+      role = Kernel;
+      index = 0;
+      length = span_of kernel.segments;
+      choice = block_choice r (low_of kernel.segments);
+    }) []
+    (λ a.
+    subst
+    (λ (o : Option Relocation).
+    HasKernelLength kernel.segments o 0 (span_of kernel.segments)) (sym is) refl)
+    (All-nil (Anywhere (IsRowed facts value (multiboot2 kernel))))
 
-module_rows_rowed : (facts : MachineFacts) (value : EntryValue) (kernel : KernelFacts) (k : ℕ) (lines : List (List ℕ)) → k + length lines ≤ length value.module_lines
+module_rows_rowed : (facts : MachineFacts) (value : EntryValue) (kernel : KernelFacts) (k : ℕ)
+    (lines : List (List ℕ)) → k + length lines ≤ length value.module_lines
     → All (Anywhere (IsRowed facts value (multiboot2 kernel))) (module_rows value.files k lines)
-module_rows_rowed facts value kernel k [] most = All-nil (Anywhere (IsRowed facts value (multiboot2 kernel)))
+module_rows_rowed facts value kernel k [] most =
+    All-nil (Anywhere (IsRowed facts value (multiboot2 kernel)))
 module_rows_rowed facts value kernel k (line ∷ lines) most =
-    All-cons (Anywhere (IsRowed facts value (multiboot2 kernel))) _ (module_rows value.files (suc k) lines) (λ a. (omega (arith, most), refl)) (module_rows_rowed facts value kernel (suc k) lines (omega (arith, most)))
+    All-cons (Anywhere (IsRowed facts value (multiboot2 kernel)))
+    _ (module_rows value.files (suc k) lines) (λ a. (omega (arith, most), refl))
+    (module_rows_rowed facts value kernel (suc k) lines (omega (arith, most)))
 
-rows_rowed : (facts : MachineFacts) (value : EntryValue) (kernel : KernelFacts) → All (Anywhere (IsRowed facts value (multiboot2 kernel))) (rows_of facts value (multiboot2 kernel))
+rows_rowed : (facts : MachineFacts) (value : EntryValue) (kernel : KernelFacts)
+    → All (Anywhere (IsRowed facts value (multiboot2 kernel)))
+    (rows_of facts value (multiboot2 kernel))
 rows_rowed facts value kernel =
-    All-append (Anywhere (IsRowed facts value (multiboot2 kernel))) (kernel_rows kernel.segments kernel.relocation) (module_rows value.files 0 value.module_lines ++ information_row facts value kernel.relocation ∷ [])
+    All-append (Anywhere (IsRowed facts value (multiboot2 kernel)))
+    (kernel_rows kernel.segments kernel.relocation)
+    (module_rows value.files 0 value.module_lines
+    ++ information_row facts value kernel.relocation ∷ [])
     (kernel_rows_rowed facts value kernel kernel.relocation refl)
-    (All-append (Anywhere (IsRowed facts value (multiboot2 kernel))) (module_rows value.files 0 value.module_lines) (information_row facts value kernel.relocation ∷ [])
+    (All-append (Anywhere (IsRowed facts value (multiboot2 kernel)))
+    (module_rows value.files 0 value.module_lines)
+    (information_row facts value kernel.relocation ∷ [])
     (module_rows_rowed facts value kernel 0 value.module_lines (omega arith))
-    (All-cons (Anywhere (IsRowed facts value (multiboot2 kernel))) (information_row facts value kernel.relocation) [] (λ a. refl) (All-nil (Anywhere (IsRowed facts value (multiboot2 kernel))))))
+    (All-cons (Anywhere (IsRowed facts value (multiboot2 kernel)))
+    (information_row facts value kernel.relocation) [] (λ a. refl)
+    (All-nil (Anywhere (IsRowed facts value (multiboot2 kernel))))))
 
 -- each place has the length that its role and its index ask for
-pub each_rowed : (facts : MachineFacts) (value : EntryValue) (kernel : KernelFacts) (taken : List (Range ℕ)) (places : List Place) → ArePlaced facts taken (rows_of facts value (multiboot2 kernel)) places → All (IsRowed facts value (multiboot2 kernel)) places
-each_rowed facts value kernel taken places placed = each_place facts (IsRowed facts value (multiboot2 kernel)) taken (rows_of facts value (multiboot2 kernel)) places (rows_rowed facts value kernel) placed
+pub each_rowed : (facts : MachineFacts) (value : EntryValue) (kernel : KernelFacts)
+    (taken : List (Range ℕ)) (places : List Place)
+    → ArePlaced facts taken (rows_of facts value (multiboot2 kernel)) places
+    → All (IsRowed facts value (multiboot2 kernel)) places
+each_rowed facts value kernel taken places placed =
+    each_place facts (IsRowed facts value (multiboot2 kernel)) taken
+    (rows_of facts value (multiboot2 kernel)) places (rows_rowed facts value kernel) placed
 
 -- ---- where they lie
 
@@ -94,23 +145,34 @@ filled_anywhere : (row : Row) → IsRow row → Anywhere IsFilled row
 filled_anywhere row is a = is.filled
 
 -- each place has some bytes
-pub are_filled : (facts : MachineFacts) (taken : List (Range ℕ)) (rows : List Row) (places : List Place) → ArePlaced facts taken rows places → All IsRow rows → All IsFilled places
-are_filled facts taken rows places placed are = each_place facts IsFilled taken rows places (λ i d within. filled_anywhere (get_or rows i d) (are i d within)) placed
+pub are_filled : (facts : MachineFacts) (taken : List (Range ℕ)) (rows : List Row)
+    (places : List Place) → ArePlaced facts taken rows places → All IsRow rows → All IsFilled places
+are_filled facts taken rows places placed are =
+    each_place facts IsFilled taken rows places
+    (λ i d within. filled_anywhere (get_or rows i d) (are i d within)) placed
 
 -- each lies inside memory
-pub are_inside : (facts : MachineFacts) (taken : List (Range ℕ)) (rows : List Row) (places : List Place) → ArePlaced facts taken rows places → All IsRow rows → All (λ p. p.address + p.length ≤ facts.size) places
+pub are_inside : (facts : MachineFacts) (taken : List (Range ℕ)) (rows : List Row)
+    (places : List Place) → ArePlaced facts taken rows places → All IsRow rows
+    → All (λ p. p.address + p.length ≤ facts.size) places
 are_inside facts taken rows places placed are i d within =
     let p = get_or places i d in
     let some = are_filled facts taken rows places placed are i d within in
-    let last = (all_usable facts taken rows places placed i d within (p.address + p.length - 1) (omega arith) (omega arith)).in_size in
+    let last =
+    (all_usable facts taken rows places placed i d within (p.address + p.length - 1)
+    (omega arith) (omega arith)).in_size in
     omega arith
 
 -- and below the last frame of 4 GiB
-pub are_below : (facts : MachineFacts) (taken : List (Range ℕ)) (rows : List Row) (places : List Place) → ArePlaced facts taken rows places → All IsRow rows → All (λ p. p.address + p.length ≤ 0xFFFFF000) places
+pub are_below : (facts : MachineFacts) (taken : List (Range ℕ)) (rows : List Row)
+    (places : List Place) → ArePlaced facts taken rows places → All IsRow rows
+    → All (λ p. p.address + p.length ≤ 0xFFFFF000) places
 are_below facts taken rows places placed are i d within =
     let p = get_or places i d in
     let some = are_filled facts taken rows places placed are i d within in
-    let last = (all_usable facts taken rows places placed i d within (p.address + p.length - 1) (omega arith) (omega arith)).below in
+    let last =
+    (all_usable facts taken rows places placed i d within (p.address + p.length - 1)
+    (omega arith) (omega arith)).below in
     omega arith
 
 -- ---- in address order
@@ -119,25 +181,32 @@ apart_back : (p q : Place) → IsApart p q → IsApart q p
 apart_back p q h = λ a x y. h a y x
 
 -- places that are apart and not empty ascend once they are in order
-pub in_order_ascends : (places : List Place) → All IsFilled places → AllPairs IsApart places → AllPairs Ascends (in_order places)
+pub in_order_ascends : (places : List Place) → All IsFilled places → AllPairs IsApart places
+    → AllPairs Ascends (in_order places)
 in_order_ascends places filled apart i j d ij within =
     let sorted = in_order places in
     let some = in_order_all place_key IsFilled places filled j d within in
     let order = in_order_sorted place_key places i j d ij within in
     let other = in_order_pairs place_key IsApart apart_back places apart i j d ij within in
-    elim (cases_lt (get_or sorted j d).address ((get_or sorted i d).address + (get_or sorted i d).length)) [
-      | inl meet ↦ absurd (other (get_or sorted j d).address (order, meet) (omega arith, omega arith))
+    elim (cases_lt (get_or sorted j d).address
+    ((get_or sorted i d).address + (get_or sorted i d).length)) [
+      | inl meet ↦
+          absurd (other (get_or sorted j d).address (order, meet) (omega arith, omega arith))
       | inr free ↦ free
     ]
 
 -- at most 256 places of rows are those of records
-pub records : (facts : MachineFacts) (rows : List Row) (places : List Place) → All IsRow rows → length places ≤ most_parts → ArePlaced facts [] rows places → AreRecords (in_order places)
+pub records : (facts : MachineFacts) (rows : List Row) (places : List Place) → All IsRow rows
+    → length places ≤ most_parts → ArePlaced facts [] rows places → AreRecords (in_order places)
 records facts rows places are few placed =
     let filled = are_filled facts [] rows places placed are in
     let same = length-in_order place_key places in
     record {
       few = omega (arith, few, same);
       filled = in_order_all place_key IsFilled places filled;
-      below = in_order_all place_key (λ (p : Place). p.address + p.length ≤ 2 ^ 32) places (λ i d within. let low = are_below facts [] rows places placed are i d within in omega arith);
+      below =
+          in_order_all place_key (λ (p : Place). p.address + p.length ≤ 2 ^ 32) places
+          (λ i d within. let low = are_below facts [] rows places placed are i d within in
+          omega arith);
       ascending = in_order_ascends places filled (all_apart facts [] rows places placed);
     }

@@ -21,7 +21,8 @@ use Rattle.bl_plan.specs.declared.protocol.Protocol.TheVariants as protocol
 use Rattle.bl_load.specs.declared.refusal.Refusal.{Refusal}
 use Rattle.bl_load.specs.declared.refusal.Refusal.TheVariants as refusal
 use Rattle.bl_load.specs.Value.{EntryValue, kernel_file, lines_fault, lines_of}
-use Rattle.bl_load.specs.Kernel.{KernelFacts, IsLoadedBy, IsKernel, HasLoadFault, HasKernelFault, entry_fault, counted_entry, head_refusal, elf_refusal}
+use Rattle.bl_load.specs.Kernel.{KernelFacts, IsLoadedBy, IsKernel, HasLoadFault, HasKernelFault}
+use Rattle.bl_load.specs.Kernel.{entry_fault, counted_entry, head_refusal, elf_refusal}
 use Rattle.bl_load.specs.Reading.{Reading, multiboot2, linux, IsRead, HasReadFault}
 use Rattle.bl_load.specs.Linux.{IsLinuxKernel, HasLinuxFault, setup_refusal, telling_fault}
 use Rattle.bl_load.specs.Rows.{rows_of}
@@ -36,7 +37,8 @@ some_or_none (Some x) = inl (x, refl)
 -- ---- a Multiboot2 kernel's file
 
 -- a fault that is no want of memory refuses
-elf_refused : (fault : ElfFault) → ¬ (fault ≡ elf_fault.NoMemory) → (r : Refusal) × (elf_refusal fault ≡ Some r)
+elf_refused : (fault : ElfFault) → ¬ (fault ≡ elf_fault.NoMemory)
+    → (r : Refusal) × (elf_refusal fault ≡ Some r)
 elf_refused elf_fault.NotElf some = (refusal.NotElf, refl)
 elf_refused elf_fault.BadElf some = (refusal.BadElf, refl)
 elf_refused (elf_fault.SegmentCut i) some = (refusal.SegmentCut i, refl)
@@ -45,41 +47,61 @@ elf_refused (elf_fault.SegmentsOverlap i j) some = (refusal.SegmentsOverlap i j,
 elf_refused elf_fault.NoEntry some = (refusal.NoEntry, refl)
 elf_refused elf_fault.NoMemory some = absurd (some refl)
 
-loaded_or_fault : (file : List ℕ) (segment : Option Segment) → ((facts : ElfFacts) × IsLoadedBy file segment facts) ⊎ ((r : Refusal) × HasLoadFault file segment r)
+loaded_or_fault : (file : List ℕ) (segment : Option Segment)
+    → ((facts : ElfFacts) × IsLoadedBy file segment facts)
+    ⊎ ((r : Refusal) × HasLoadFault file segment r)
 loaded_or_fault file (Some segment) = inl (record { segments = segment ∷ []; entry = None }, refl)
 loaded_or_fault file None =
     elim (elf_or_fault file) [
       | inl elf ↦ inl elf
-      | inr (fault, some, has) ↦ inr ((elf_refused fault some).0, (fault, (elf_refused fault some).1, has))
+      | inr (fault, some, has) ↦
+          inr ((elf_refused fault some).0, (fault, (elf_refused fault some).1, has))
     ]
 
-entry_given : (segments : List Segment) (entry : Option ℕ) → entry_fault segments entry ≡ None → (a : ℕ) × (entry ≡ Some a)
+entry_given : (segments : List Segment) (entry : Option ℕ) → entry_fault segments entry ≡ None
+    → (a : ℕ) × (entry ≡ Some a)
 entry_given segments None sound = absurd cc
 entry_given segments (Some a) sound = (a, refl)
 
-kernel_of : (file : List ℕ) (header : Header) (facts : ElfFacts) → IsHeader file header → IsLoadedBy file header.segment facts → entry_fault facts.segments (counted_entry header facts) ≡ None → (kernel : KernelFacts) × IsKernel file kernel
+kernel_of : (file : List ℕ) (header : Header) (facts : ElfFacts) → IsHeader file header
+    → IsLoadedBy file header.segment facts
+    → entry_fault facts.segments (counted_entry header facts) ≡ None
+    → (kernel : KernelFacts) × IsKernel file kernel
 kernel_of file header facts is loaded sound =
     let entry = entry_given facts.segments (counted_entry header facts) sound in (
       record { segments = facts.segments; entry = entry.0; relocation = header.relocation },
-      record { header = header; facts = facts; is_header = is; loaded = loaded; sound = sound; entry = entry.1; segments = refl; relocation = refl },
+      record {
+        header = header;
+        facts = facts;
+        is_header = is;
+        loaded = loaded;
+        sound = sound;
+        entry = entry.1;
+        segments = refl;
+        relocation = refl;
+      },
     )
 
-kernel_or_fault : (file : List ℕ) → ((kernel : KernelFacts) × IsKernel file kernel) ⊎ ((r : Refusal) × HasKernelFault file r)
+kernel_or_fault : (file : List ℕ)
+    → ((kernel : KernelFacts) × IsKernel file kernel) ⊎ ((r : Refusal) × HasKernelFault file r)
 kernel_or_fault file =
     elim (header_or_fault file) [
       | inr (fault, has) ↦ inr (head_refusal fault, inl (fault, has, refl))
       | inl (header, is) ↦ elim (loaded_or_fault file header.segment) [
         | inr (r, has) ↦ inr (r, inr (inl (header, is, has)))
-        | inl (facts, loaded) ↦ elim (some_or_none (entry_fault facts.segments (counted_entry header facts))) [
-          | inl (r, has) ↦ inr (r, inr (inr (header, facts, is, loaded, has)))
-          | inr sound ↦ inl (kernel_of file header facts is loaded sound)
-        ]
+        | inl (facts, loaded) ↦
+            elim (some_or_none (entry_fault facts.segments (counted_entry header facts))) [
+              | inl (r, has) ↦ inr (r, inr (inr (header, facts, is, loaded, has)))
+              | inr sound ↦ inl (kernel_of file header facts is loaded sound)
+            ]
       ]
     ]
 
 -- ---- a Linux kernel's file
 
-linux_or_fault : (runs : List Region) (line file : List ℕ) → ((setup : Setup) × IsLinuxKernel runs line file setup) ⊎ ((r : Refusal) × HasLinuxFault runs line file r)
+linux_or_fault : (runs : List Region) (line file : List ℕ)
+    → ((setup : Setup) × IsLinuxKernel runs line file setup)
+    ⊎ ((r : Refusal) × HasLinuxFault runs line file r)
 linux_or_fault runs line file =
     elim (some_or_none (setup_fault file)) [
       | inl (fault, has) ↦ inr (setup_refusal fault, inl (fault, has, refl))
@@ -98,7 +120,9 @@ is_either : (p : Protocol) → (p ≡ protocol.Multiboot2) ⊎ (p ≡ protocol.L
 is_either protocol.Multiboot2 = inl refl
 is_either protocol.Linux = inr refl
 
-read_or_fault : (facts : MachineFacts) (value : EntryValue) → ((reading : Reading) × IsRead facts value reading) ⊎ ((r : Refusal) × HasReadFault facts value r)
+read_or_fault : (facts : MachineFacts) (value : EntryValue)
+    → ((reading : Reading) × IsRead facts value reading)
+    ⊎ ((r : Refusal) × HasReadFault facts value r)
 read_or_fault facts value =
     elim (is_either value.protocol) [
       | inl is ↦ elim (kernel_or_fault (kernel_file value)) [
@@ -113,22 +137,43 @@ read_or_fault facts value =
 
 -- ---- the rest names none
 
-row_refused : (facts : MachineFacts) (value : EntryValue) (reading : Reading) (fault : PlanFault) → IsRead facts value reading → fault ≢ plan_fault.NoMemory → IsFirstFault facts [] (rows_of facts value reading) fault
+row_refused : (facts : MachineFacts) (value : EntryValue) (reading : Reading) (fault : PlanFault)
+    → IsRead facts value reading → fault ≢ plan_fault.NoMemory
+    → IsFirstFault facts [] (rows_of facts value reading) fault
     → (r : Refusal) × HasRowFault facts (rows_of facts value reading) r
-row_refused facts value reading plan_fault.NotUsable is some has = (refusal.NotUsable, (plan_fault.NotUsable, has, refl))
-row_refused facts value reading plan_fault.Overlap is some has = absurd (reading_no_overlap facts value reading is has)
-row_refused facts value reading plan_fault.NoRoom is some has = (refusal.NoRoom, (plan_fault.NoRoom, has, refl))
+row_refused facts value reading plan_fault.NotUsable is some has =
+    (refusal.NotUsable, (plan_fault.NotUsable, has, refl))
+row_refused facts value reading plan_fault.Overlap is some has =
+    absurd (reading_no_overlap facts value reading is has)
+row_refused facts value reading plan_fault.NoRoom is some has =
+    (refusal.NoRoom, (plan_fault.NoRoom, has, refl))
 row_refused facts value reading plan_fault.NoMemory is some has = absurd (some refl)
 
-pub handover_or_refusal : (facts : MachineFacts) (value : EntryValue) → ((handover : Handover) × IsHandover facts value handover) ⊎ ((r : Refusal) × IsRefusal facts value r)
+pub handover_or_refusal : (facts : MachineFacts) (value : EntryValue)
+    → ((handover : Handover) × IsHandover facts value handover)
+    ⊎ ((r : Refusal) × IsRefusal facts value r)
 handover_or_refusal facts value =
     elim (some_or_none (lines_fault (lines_of value))) [
       | inl (r, faulty) ↦ inr (r, inl faulty)
       | inr lines ↦ elim (read_or_fault facts value) [
         | inr (r, has) ↦ inr (r, inr (lines, inl has))
         | inl (reading, read) ↦ elim (placed_or_fault facts [] (rows_of facts value reading)) [
-          | inr (fault, some, has) ↦ let refused = row_refused facts value reading fault read some has in inr (refused.0, inr (lines, inr (reading, read, refused.1)))
-          | inl (places, placed) ↦ inl (handover_of facts value reading places, record { reading = reading; places = places; lines = lines; read = read; placed = placed; is = refl })
+          | inr (fault, some, has) ↦
+              let refused =
+              row_refused facts value reading fault read some has in
+              inr (refused.0, inr (lines, inr (reading, read, refused.1)))
+          | inl (places, placed) ↦
+              inl (
+                handover_of facts value reading places,
+                record {
+                  reading = reading;
+                  places = places;
+                  lines = lines;
+                  read = read;
+                  placed = placed;
+                  is = refl;
+                },
+              )
         ]
       ]
     ]

@@ -1,6 +1,7 @@
--- A relocatable kernel's image: one block from the least to the greatest address of its segments, with zeros in
--- the gaps (Multiboot2 3.1.13 "Relocatable header tag").
-use Rattle.std.specs.Prelude.{ℕ, zero, suc, ◌+◌, ◌-◌, if◌then◌else◌, min, max, List, [], ◌∷◌, ◌++◌, slice_index}
+-- A relocatable kernel's image: one block from the least to the greatest address of its segments,
+-- with zeros in the gaps (Multiboot2 3.1.13 "Relocatable header tag").
+use Rattle.std.specs.Prelude.{ℕ, zero, suc, ◌+◌, ◌-◌, if◌then◌else◌, min, max, List, [], ◌∷◌, ◌++◌}
+use Rattle.std.specs.Prelude.{slice_index}
 use Rattle.bl_mem.specs.declared.segment.Segment.{Segment}
 use Rattle.bl_mem.specs.Contents.{contents_of, holds}
 
@@ -22,7 +23,8 @@ span_of segments = high_of segments - low_of segments
 -- the byte at a linked address: that of the segment which holds it, 0 where none does
 abbrev pub byte_at : List ℕ → List Segment → ℕ → ℕ
 byte_at file [] a = 0
-byte_at file (s ∷ segments) a = if holds s a then slice_index (contents_of file s) (a - s.address) else byte_at file segments a
+byte_at file (s ∷ segments) a =
+    if holds s a then slice_index (contents_of file s) (a - s.address) else byte_at file segments a
 
 -- the first n values of a function
 unfoldable pub first_values : ℕ → (ℕ → ℕ) → List ℕ
@@ -31,4 +33,5 @@ first_values (suc n) f = first_values n f ++ f n ∷ []
 
 -- the block: its byte i is that at the least address + i
 unfoldable pub block_of : List ℕ → List Segment → List ℕ
-block_of file segments = first_values (span_of segments) (λ i. byte_at file segments (low_of segments + i))
+block_of file segments =
+    first_values (span_of segments) (λ i. byte_at file segments (low_of segments + i))

@@ -18,7 +18,8 @@ Ascends p q = p.address + p.length ≤ q.address
 abbrev pub most_parts : ℕ
 most_parts = 256
 
--- the places keep this, and so do the records of an image: they are few, none empty, ascending, below 4 GiB
+-- the places keep this, and so do the records of an image: they are few, none empty, ascending,
+-- below 4 GiB
 pub record AreRecords (places : List Place) : Type 0 where
   pub few : length places ≤ most_parts
   pub filled : All (λ place. 1 ≤ place.length) places

@@ -25,7 +25,8 @@ pub record Handover : Type 0 where
 
 -- the part at a place
 abbrev pub part_at : Place → List ℕ → Part
-part_at place bytes = record { role = place.role; index = place.index; address = place.address; bytes = bytes }
+part_at place bytes =
+    record { role = place.role; index = place.index; address = place.address; bytes = bytes }
 
 -- zeros behind a content, up to a length
 abbrev pub filled : ℕ → List ℕ → List ℕ

@@ -18,8 +18,8 @@ use Rattle.bl_load.specs.PlanFacts.{places_of}
 abbrev pub lengths_of : List (List ℕ) → List ℕ
 lengths_of texts = map (λ text. length text) texts
 
--- a segment that can be copied out of a file of this length into a block: its bytes are in the file, and its addresses
--- are small
+-- a segment that can be copied out of a file of this length into a block: its bytes are in the
+-- file, and its addresses are small
 pub record IsCopied (size : ℕ) (s : Segment) : Type 0 where
   pub filled : 1 ≤ s.memsz
   pub fits : s.filesz ≤ s.memsz
@@ -33,9 +33,11 @@ SegmentsAscend s t = s.address + s.memsz ≤ t.address
 -- the content is there, in files of these lengths
 abbrev pub IsThere : {A : Type 0} → List ℕ → Content A → Type 0
 IsThere lengths (Own bytes) = Unit {0}
-IsThere lengths (File file offset count) = (file < length lengths) × (1 ≤ count → offset + count ≤ slice_index lengths file)
+IsThere lengths (File file offset count) =
+    (file < length lengths) × (1 ≤ count → offset + count ≤ slice_index lengths file)
 IsThere lengths (Block file segments) =
-    (file < length lengths) × (1 ≤ length segments.items) × All (IsCopied (slice_index lengths file)) segments.items
+    (file < length lengths) × (1 ≤ length segments.items)
+    × All (IsCopied (slice_index lengths file)) segments.items
     × AllPairs SegmentsAscend segments.items
 
 -- how many bytes a content has
@@ -59,18 +61,20 @@ IsMade role.CommandLine = Unit {0}
 IsMade role.Gdt = Unit {0}
 IsMade role.Initrd = ⊥
 
--- a content's bytes stay in the files until it is loaded; only what the loader makes has bytes of its own
+-- a content's bytes stay in the files until it is loaded; only what the loader makes has bytes of
+-- its own
 abbrev pub StaysInFiles : {A : Type 0} → Role → Content A → Type 0
 StaysInFiles r (Own bytes) = IsMade r
 StaysInFiles r (File file offset count) = Unit {0}
 StaysInFiles r (Block file segments) = Unit {0}
 
--- a plan holds none of the files' bytes, so it takes no memory in proportion to what a header claims
+-- a plan holds none of the files' bytes, so it takes no memory in proportion to what a header
+-- claims
 abbrev pub IsLean : {A : Type 0} → List (PlannedPart A) → Type 0
 IsLean parts = All (λ part. StaysInFiles part.place.role part.content) parts
 
--- a plan can be loaded out of files of these lengths into memory of this size: its contents are there, and its places
--- are those of records inside it
+-- a plan can be loaded out of files of these lengths into memory of this size: its contents are
+-- there, and its places are those of records inside it
 pub record IsLoadable {A : Type 0} (lengths : List ℕ) (size : ℕ) (plan : Plan A) : Type 0 where
   pub backed : All (IsBacked lengths) plan.parts.items
   pub inside : All (λ place. place.address + place.length ≤ size) (places_of plan)

@@ -1,4 +1,5 @@
--- A Multiboot2 kernel's file: what is loaded of it, where it is entered, how it may be moved; or its first fault.
+-- A Multiboot2 kernel's file: what is loaded of it, where it is entered, how it may be moved; or
+-- its first fault.
 use Rattle.std.specs.Prelude.{◌≡◌, ℕ, Bool, if◌then◌else◌, List, [], ◌∷◌, Option, Some, None, ◌⊎◌}
 use Rattle.std.specs.Option.{option_or}
 use Rattle.std.specs.List.{list_any}
@@ -17,14 +18,15 @@ use Rattle.bl_mb2head.specs.declared.fault.HeadFault.TheVariants as head_fault
 use Rattle.bl_load.specs.declared.refusal.Refusal.{Refusal}
 use Rattle.bl_load.specs.declared.refusal.Refusal.TheVariants as refusal
 
--- a kernel: its segments in their order, the address that it is entered at where they lie as linked, how it may be moved
+-- a kernel: its segments in their order, the address that it is entered at where they lie as
+-- linked, how it may be moved
 pub record KernelFacts : Type 0 where
   pub segments : List Segment
   pub entry : ℕ
   pub relocation : Option Relocation
 
--- what the file gives to load, and the entry that it names itself: one segment where the header has an address
--- tag (Multiboot2 3.1.5), and else that of an ELF executable
+-- what the file gives to load, and the entry that it names itself: one segment where the header has
+-- an address tag (Multiboot2 3.1.5), and else that of an ELF executable
 abbrev pub IsLoadedBy : List ℕ → Option Segment → ElfFacts → Type 0
 IsLoadedBy file (Some segment) facts = facts ≡ record { segments = segment ∷ []; entry = None }
 IsLoadedBy file None facts = IsElf file facts
@@ -35,7 +37,8 @@ holds_at a segment = holds segment a
 -- the entry that counts must lie in a segment
 abbrev pub entry_fault : List Segment → Option ℕ → Option Refusal
 entry_fault segments None = Some refusal.NoEntry
-entry_fault segments (Some entry) = if list_any (holds_at entry) segments then None else Some refusal.EntryOutside
+entry_fault segments (Some entry) =
+    if list_any (holds_at entry) segments then None else Some refusal.EntryOutside
 
 -- the entry address tag (Multiboot2 3.1.6) counts where it stands, and else the file's own entry
 abbrev pub counted_entry : Header → ElfFacts → Option ℕ
@@ -70,14 +73,18 @@ elf_refusal (elf_fault.SegmentsOverlap i j) = Some (refusal.SegmentsOverlap i j)
 elf_refusal elf_fault.NoEntry = Some refusal.NoEntry
 elf_refusal elf_fault.NoMemory = None
 
--- the file has a sound header, and what the header leads to has this fault: the ELF file's, and then the entry's
+-- the file has a sound header, and what the header leads to has this fault: the ELF file's, and
+-- then the entry's
 abbrev pub HasLoadFault : List ℕ → Option Segment → Refusal → Type 0
 HasLoadFault file (Some segment) refused = ⊥
-HasLoadFault file None refused = (fault : ElfFault) × (elf_refusal fault ≡ Some refused) × elf.HasFirstFault file fault
+HasLoadFault file None refused =
+    (fault : ElfFault) × (elf_refusal fault ≡ Some refused) × elf.HasFirstFault file fault
 
 -- the file's first fault: the header's, the ELF file's, the entry's
 abbrev pub HasKernelFault : List ℕ → Refusal → Type 0
 HasKernelFault file refused =
     ((fault : HeadFault) × header.HasFirstFault file fault × (refused ≡ head_refusal fault))
     ⊎ ((head : Header) × IsHeader file head × HasLoadFault file head.segment refused)
-    ⊎ ((head : Header) × (facts : ElfFacts) × IsHeader file head × IsLoadedBy file head.segment facts × (entry_fault facts.segments (counted_entry head facts) ≡ Some refused))
+    ⊎ ((head : Header) × (facts : ElfFacts) × IsHeader file head
+    × IsLoadedBy file head.segment facts
+    × (entry_fault facts.segments (counted_entry head facts) ≡ Some refused))

@@ -1,5 +1,6 @@
 -- What the code keeps of a kernel's file.
-use Rattle.std.specs.Prelude.{◌≡◌, ◌+◌, ◌<◌, ◌≤◌, ◌^◌, ℕ, length, All, AllPairs, List, Option, Some, None}
+use Rattle.std.specs.Prelude.{◌≡◌, ◌+◌, ◌<◌, ◌≤◌, ◌^◌, ℕ, length, All, AllPairs, List, Option, Some}
+use Rattle.std.specs.Prelude.{None}
 use Rattle.bl_mem.specs.declared.segment.Segment.{Segment}
 use Rattle.bl_elf.specs.Elf.{ElfFacts, AreApart}
 use Rattle.bl_elf.specs.declared.fault.ElfFault.{ElfFault}
@@ -19,7 +20,12 @@ executable_facts (AddressTag one) = record { segments = one; entry = None }
 executable_facts (Elf elf) = elf
 
 abbrev pub kernel_by : {A : Type 0} → Kernel A → KernelFacts
-kernel_by kernel = record { segments = (executable_facts kernel.executable).segments; entry = kernel.entry; relocation = kernel.relocation }
+kernel_by kernel =
+    record {
+      segments = (executable_facts kernel.executable).segments;
+      entry = kernel.entry;
+      relocation = kernel.relocation;
+    }
 
 -- a fault of reading as one of preparing: it stands, or memory ran out
 abbrev pub IsElfFault : ElfFault → PrepFault → Type 0
@@ -34,8 +40,9 @@ abbrev pub IsKernelFault : List ℕ → PrepFault → Type 0
 IsKernelFault file (prep_fault.Refused refused) = HasKernelFault file refused
 IsKernelFault file prep_fault.NoMemory = Unit {0}
 
--- what holds of the segments of a kernel with no fault: each takes memory, what it takes of the file is there, it
--- begins below 4 GiB; no two share a byte, and their block has a length of 64 bits
+-- what holds of the segments of a kernel with no fault: each takes memory, what it takes of the
+-- file is there, it begins below 4 GiB; no two share a byte, and their block has a length of 64
+-- bits
 pub record AreLoadable (file : List ℕ) (segments : List Segment) : Type 0 where
   pub some : 1 ≤ length segments
   pub few : length segments ≤ 128

@@ -15,13 +15,17 @@ use Rattle.bl_load.specs.Rows.{rows_of}
 use Rattle.bl_load.specs.Handover.{Handover}
 use Rattle.bl_load.specs.Parts.{handover_of}
 
--- an address that a row's choice allows for so many bytes beside these ranges: the fixed one, or any within its limits;
--- that it is the lowest, the highest or the preferred one is not asked
+-- an address that a row's choice allows for so many bytes beside these ranges: the fixed one, or
+-- any within its limits; that it is the lowest, the highest or the preferred one is not asked
 abbrev pub IsAllowed : MachineFacts → List (Range ℕ) → ℕ → Choice → ℕ → Type 0
-IsAllowed facts ranges length (Fixed at) a = (a ≡ at) × AllUsable facts a (a + length) × AllOpen ranges a (a + length)
-IsAllowed facts ranges length (Lowest align low high) a = IsPermitted facts ranges length align low high a
-IsAllowed facts ranges length (Highest align low high) a = IsPermitted facts ranges length align low high a
-IsAllowed facts ranges length (Preferred at align low high) a = IsPermitted facts ranges length align low high a
+IsAllowed facts ranges length (Fixed at) a =
+    (a ≡ at) × AllUsable facts a (a + length) × AllOpen ranges a (a + length)
+IsAllowed facts ranges length (Lowest align low high) a =
+    IsPermitted facts ranges length align low high a
+IsAllowed facts ranges length (Highest align low high) a =
+    IsPermitted facts ranges length align low high a
+IsAllowed facts ranges length (Preferred at align low high) a =
+    IsPermitted facts ranges length align low high a
 
 -- the ranges of all places but the i-th
 abbrev pub others : List Place → ℕ → List (Range ℕ)
@@ -29,11 +33,14 @@ others places i = map range_of (remove places i)
 
 -- each place is allowed for its row, which has the same index, beside all others
 abbrev pub AreAllowed : MachineFacts → List Row → List Place → Type 0
-AreAllowed facts rows places = (i : ℕ) (row : Row) (place : Place) → slice_get rows i ≡ Some row → slice_get places i ≡ Some place
+AreAllowed facts rows places =
+    (i : ℕ) (row : Row) (place : Place) → slice_get rows i ≡ Some row
+    → slice_get places i ≡ Some place
     → IsAllowed facts (others places i) row.length row.choice place.address
 
--- the entry's kernel is read so; there is one place for each of its rows and no other, each allowed beside all others;
--- and what is handed over are the parts at these places, with the registers for them
+-- the entry's kernel is read so; there is one place for each of its rows and no other, each allowed
+-- beside all others; and what is handed over are the parts at these places, with the registers for
+-- them
 pub record IsLegal (facts : MachineFacts) (value : EntryValue) (handover : Handover) : Type 0 where
   pub reading : Reading
   pub places : List Place

@@ -1,4 +1,5 @@
--- A Linux kernel's file: its setup, or its first fault (Linux/x86 Boot Protocol, "Details of Header Fields").
+-- A Linux kernel's file: its setup, or its first fault (Linux/x86 Boot Protocol, "Details of Header
+-- Fields").
 use Rattle.std.specs.Prelude.{◌≡◌, ℕ, if◌then◌else◌, nat_lt, List, length, Option, Some, None, ◌⊎◌}
 use Rattle.bl_map.specs.declared.region.Region.{Region}
 use Rattle.bl_bzimage.specs.declared.setup.Setup.{Setup}
@@ -13,8 +14,8 @@ use Rattle.bl_load.specs.declared.refusal.Refusal.TheVariants as refusal
 abbrev pub most_runs : ℕ
 most_runs = 128
 
--- what a kernel of this setup can't be told: a line that is longer than "cmdline_size" says; a memory map of more runs
--- than boot parameters have room for
+-- what a kernel of this setup can't be told: a line that is longer than "cmdline_size" says; a
+-- memory map of more runs than boot parameters have room for
 abbrev pub telling_fault : List Region → List ℕ → Setup → Option Refusal
 telling_fault runs line setup =
     if nat_lt setup.cmdline_size (length line) then Some refusal.LineTooLong else
@@ -38,5 +39,6 @@ setup_refusal setup_fault.BadPreferred = refusal.BadPreferred
 -- the first fault: the setup's, and then what the kernel can't be told
 abbrev pub HasLinuxFault : List Region → List ℕ → List ℕ → Refusal → Type 0
 HasLinuxFault runs line file refused =
-    ((fault : SetupFault) × (bzimage.setup_fault file ≡ Some fault) × (refused ≡ setup_refusal fault))
+    ((fault : SetupFault) × (bzimage.setup_fault file ≡ Some fault)
+    × (refused ≡ setup_refusal fault))
     ⊎ ((setup : Setup) × IsSetup file setup × (telling_fault runs line setup ≡ Some refused))

@@ -1,5 +1,6 @@
--- The table of places of a Linux entry's parts (Linux/x86 Boot Protocol: "kernel_alignment", "pref_address", "init_size",
--- "initrd_addr_max"; what the text leaves open is own), and what the kernel is told of them.
+-- The table of places of a Linux entry's parts (Linux/x86 Boot Protocol: "kernel_alignment",
+-- "pref_address", "init_size", "initrd_addr_max"; what the text leaves open is own), and what the
+-- kernel is told of them.
 use Rattle.std.specs.Prelude.{ℕ, ◌+◌, ◌-◌, max, if◌then◌else◌, ◌==◌, List, [], ◌∷◌, length}
 use Rattle.bl_map.specs.MachineFacts.{MachineFacts}
 use Rattle.bl_map.specs.Limits.{frame_size, first_usable, most_size}
@@ -9,7 +10,8 @@ use Rattle.bl_params.specs.BootParamsFacts.{BootParamsFacts}
 use Rattle.bl_plan.specs.declared.row.Row.{Row}
 use Rattle.bl_plan.specs.declared.place.Place.{Place}
 use Rattle.bl_plan.specs.declared.role.Role.{Role}
-use Rattle.bl_plan.specs.declared.role.Role.TheVariants.{Kernel, BootParams, CommandLine, Gdt, Initrd}
+use Rattle.bl_plan.specs.declared.role.Role.TheVariants.{Kernel, BootParams, CommandLine, Gdt}
+use Rattle.bl_plan.specs.declared.role.Role.TheVariants.{Initrd}
 use Rattle.bl_plan.specs.declared.choice.Choice.TheVariants.{Fixed, Lowest, Highest}
 use Rattle.bl_load.specs.Addresses.{address_of}
 use Rattle.bl_load.specs.Value.{EntryValue, initrd_file}
@@ -18,8 +20,8 @@ use Rattle.bl_load.specs.Value.{EntryValue, initrd_file}
 abbrev pub high_start : ℕ
 high_start = 0x100000
 
--- a relocatable kernel that is loaded below "pref_address" moves itself up to it, so it is not placed below; it needs
--- "init_size" bytes where it lies
+-- a relocatable kernel that is loaded below "pref_address" moves itself up to it, so it is not
+-- placed below; it needs "init_size" bytes where it lies
 abbrev pub moved_row : Setup → Row
 moved_row setup = record {
   role = Kernel;
@@ -33,7 +35,8 @@ abbrev pub fixed_row : Setup → Row
 fixed_row setup = record {
   role = Kernel;
   index = 0;
-  length = max (high_start + setup.payload_size) (setup.pref_address + setup.init_size) - high_start;
+  length =
+      max (high_start + setup.payload_size) (setup.pref_address + setup.init_size) - high_start;
   choice = Fixed high_start;
 }
 
@@ -53,7 +56,8 @@ frame_row role high = record {
 abbrev pub line_limit : ℕ
 line_limit = 0xA0000
 
--- the initrd, in whole frames, at the highest place of which no byte lies above "initrd_addr_max"; an empty one is no part
+-- the initrd, in whole frames, at the highest place of which no byte lies above "initrd_addr_max";
+-- an empty one is no part
 abbrev pub initrd_rows : Setup → List ℕ → List Row
 initrd_rows setup [] = []
 initrd_rows setup (byte ∷ bytes) = record {
@@ -72,7 +76,8 @@ linux_rows setup initrd =
     ∷ frame_row Gdt most_size
     ∷ initrd_rows setup initrd
 
--- what boot parameters tell, where the parts have these places: without an initrd its address and its length are 0
+-- what boot parameters tell, where the parts have these places: without an initrd its address and
+-- its length are 0
 abbrev pub told_of : MachineFacts → EntryValue → List Place → BootParamsFacts
 told_of facts value places = record {
   code32_start = address_of Kernel 0 places;

@@ -1,7 +1,17 @@
 -- The numbers of refusals. Own.
 use Rattle.std.specs.Prelude.{ℕ}
 use Rattle.bl_load.specs.declared.refusal.Refusal.{Refusal}
-use Rattle.bl_load.specs.declared.refusal.Refusal.TheVariants.{NoFile, FileFault, FileTooLong, NoHeader, HeaderCut, BadArchitecture, BadTag, UnsupportedTag, UnsupportedRequest, NoConsole, NotElf, BadElf, SegmentCut, AddressTooHigh, SegmentsOverlap, NoEntry, EntryOutside, BadAlign, NotUsable, NoRoom, NoPool, NotBzImage, OldProtocol, NotHigh, SetupCut, BadPreferred, LineTooLong, LineHasNul, MapTooLong}
+use Rattle.bl_load.specs.declared.refusal.Refusal.TheVariants.{NoFile, FileFault, FileTooLong}
+use Rattle.bl_load.specs.declared.refusal.Refusal.TheVariants.{NoHeader, HeaderCut, BadArchitecture}
+use Rattle.bl_load.specs.declared.refusal.Refusal.TheVariants.{BadTag, UnsupportedTag}
+use Rattle.bl_load.specs.declared.refusal.Refusal.TheVariants.{UnsupportedRequest, NoConsole}
+use Rattle.bl_load.specs.declared.refusal.Refusal.TheVariants.{NotElf, BadElf, SegmentCut}
+use Rattle.bl_load.specs.declared.refusal.Refusal.TheVariants.{AddressTooHigh, SegmentsOverlap}
+use Rattle.bl_load.specs.declared.refusal.Refusal.TheVariants.{NoEntry, EntryOutside, BadAlign}
+use Rattle.bl_load.specs.declared.refusal.Refusal.TheVariants.{NotUsable, NoRoom, NoPool}
+use Rattle.bl_load.specs.declared.refusal.Refusal.TheVariants.{NotBzImage, OldProtocol, NotHigh}
+use Rattle.bl_load.specs.declared.refusal.Refusal.TheVariants.{SetupCut, BadPreferred, LineTooLong}
+use Rattle.bl_load.specs.declared.refusal.Refusal.TheVariants.{LineHasNul, MapTooLong}
 
 abbrev pub refusal_number : Refusal → ℕ
 refusal_number (NoFile file) = 1

@@ -1,5 +1,6 @@
 -- What an entry hands over on a machine, or its first refusal.
-use Rattle.std.specs.Prelude.{◌≡◌, ℕ, ◌+◌, ◌-◌, List, [], map, slice_index_or, slice_range, ◌⊎◌, Option, Some, None, codes}
+use Rattle.std.specs.Prelude.{◌≡◌, ℕ, ◌+◌, ◌-◌, List, [], map, slice_index_or, slice_range, ◌⊎◌}
+use Rattle.std.specs.Prelude.{Option, Some, None, codes}
 use Rattle.bl_mem.specs.Contents.{file_part}
 use Rattle.bl_mem.specs.declared.segment.Segment.{Segment}
 use Rattle.bl_map.specs.MachineFacts.{MachineFacts}
@@ -7,7 +8,8 @@ use Rattle.bl_mb2head.specs.declared.relocation.Relocation.{Relocation}
 use Rattle.bl_mbi.specs.Spelling.{spelling}
 use Rattle.bl_plan.specs.Placed.{ArePlaced, IsFirstFault}
 use Rattle.bl_plan.specs.declared.role.Role.{Role}
-use Rattle.bl_plan.specs.declared.role.Role.TheVariants.{Kernel, Module, Information, BootParams, CommandLine, Gdt, Initrd}
+use Rattle.bl_plan.specs.declared.role.Role.TheVariants.{Kernel, Module, Information, BootParams}
+use Rattle.bl_plan.specs.declared.role.Role.TheVariants.{CommandLine, Gdt, Initrd}
 use Rattle.bl_plan.specs.declared.place.Place.{Place}
 use Rattle.bl_plan.specs.declared.fault.PlanFault.{PlanFault}
 use Rattle.bl_plan.specs.declared.fault.PlanFault.TheVariants as plan_fault
@@ -19,7 +21,8 @@ use Rattle.bl_load.specs.Addresses.{address_of}
 use Rattle.bl_bzimage.specs.declared.setup.Setup.{Setup}
 use Rattle.bl_params.specs.BootParams.{boot_params}
 use Rattle.bl_params.specs.Gdt.{gdt}
-use Rattle.bl_load.specs.Value.{EntryValue, kernel_file, module_file, initrd_file, lines_fault, lines_of}
+use Rattle.bl_load.specs.Value.{EntryValue, kernel_file, module_file, initrd_file, lines_fault}
+use Rattle.bl_load.specs.Value.{lines_of}
 use Rattle.bl_load.specs.Reading.{Reading, multiboot2, linux, IsRead, HasReadFault}
 use Rattle.bl_load.specs.Blocks.{low_of, block_of}
 use Rattle.bl_load.specs.Rows.{rows_of, information_of}
@@ -97,7 +100,8 @@ handover_of facts value reading places = record {
 }
 
 -- this is what an entry of this value hands over on a machine of these facts
-pub record IsHandover (facts : MachineFacts) (value : EntryValue) (handover : Handover) : Type 0 where
+pub record IsHandover (facts : MachineFacts) (value : EntryValue)
+    (handover : Handover) : Type 0 where
   pub reading : Reading
   pub places : List Place
   pub lines : lines_fault (lines_of value) ≡ None
@@ -130,7 +134,8 @@ Then first rest refused = (first ≡ Some refused) ⊎ ((first ≡ None) × rest
 -- this is its first refusal: of its lines, its kernel, its places
 abbrev pub IsRefusal : MachineFacts → EntryValue → Refusal → Type 0
 IsRefusal facts value =
-    Then (lines_fault (lines_of value)) (λ r. HasReadFault facts value r ⊎ HasPlaceFault facts value r)
+    Then (lines_fault (lines_of value))
+    (λ r. HasReadFault facts value r ⊎ HasPlaceFault facts value r)
 
 -- why an entry is not prepared, unless memory ran out
 abbrev pub IsPrepFault : MachineFacts → EntryValue → PrepFault → Type 0

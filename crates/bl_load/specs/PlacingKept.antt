@@ -1,12 +1,14 @@
 -- What the code keeps of an entry's rows and their places.
-use Rattle.std.specs.Prelude.{◌≡◌, ◌+◌, ◌<◌, ◌≤◌, ℕ, List, [], ◌∷◌, ◌++◌, ◌^◌, suc, min, max, length, slice_index_or, Option, Some, None, option_map}
+use Rattle.std.specs.Prelude.{◌≡◌, ◌+◌, ◌<◌, ◌≤◌, ℕ, List, [], ◌∷◌, ◌++◌, ◌^◌, suc, min, max}
+use Rattle.std.specs.Prelude.{length, slice_index_or, Option, Some, None, option_map}
 use Rattle.bl_mem.specs.declared.segment.Segment.{Segment}
 use Rattle.bl_map.specs.MachineFacts.{MachineFacts}
 use Rattle.bl_map.specs.Room.{whole_frames}
 use Rattle.bl_mb2head.specs.declared.relocation.Relocation.{Relocation}
 use Rattle.bl_mbi.specs.InformationFacts.{info_size}
 use Rattle.bl_plan.specs.declared.role.Role.{Role}
-use Rattle.bl_plan.specs.declared.role.Role.TheVariants.{Kernel, Module, Information, BootParams, CommandLine, Gdt, Initrd}
+use Rattle.bl_plan.specs.declared.role.Role.TheVariants.{Kernel, Module, Information, BootParams}
+use Rattle.bl_plan.specs.declared.role.Role.TheVariants.{CommandLine, Gdt, Initrd}
 use Rattle.bl_plan.specs.declared.choice.Choice.TheVariants.{Lowest, Highest}
 use Rattle.bl_map.specs.Limits.{frame_size, first_usable, most_size}
 use Rattle.bl_mbi.specs.Size.{tag_size}
@@ -34,13 +36,16 @@ IsLow place = place.address + place.length ≤ 0xFFFFF000
 
 -- the length of the kernel's part i
 abbrev pub HasKernelLength : List Segment → Option Relocation → ℕ → ℕ → Type 0
-HasKernelLength segments None i count = (i < length segments) × (count ≡ (slice_index_or segments i no_segment).memsz)
+HasKernelLength segments None i count =
+    (i < length segments) × (count ≡ (slice_index_or segments i no_segment).memsz)
 HasKernelLength segments (Some r) i count = count ≡ span_of segments
 
 -- the length of the part of a role and an index
 abbrev pub HasLength : MachineFacts → EntryValue → Reading → Role → ℕ → ℕ → Type 0
-HasLength facts value (multiboot2 kernel) Kernel i count = HasKernelLength kernel.segments kernel.relocation i count
-HasLength facts value (multiboot2 kernel) Information i count = count ≡ whole_frames (info_size (information_of facts value kernel.relocation []))
+HasLength facts value (multiboot2 kernel) Kernel i count =
+    HasKernelLength kernel.segments kernel.relocation i count
+HasLength facts value (multiboot2 kernel) Information i count =
+    count ≡ whole_frames (info_size (information_of facts value kernel.relocation []))
 HasLength facts value (multiboot2 kernel) Module i count =
     (i < length value.module_lines) × (count ≡ module_length (module_file value.files i))
 HasLength facts value (multiboot2 kernel) _ i count = ⊥
@@ -49,11 +54,13 @@ HasLength facts value (linux setup) BootParams i count = count ≡ frame_size
 HasLength facts value (linux setup) CommandLine i count = count ≡ frame_size
 HasLength facts value (linux setup) Gdt i count = count ≡ frame_size
 HasLength facts value (linux setup) Initrd i count =
-    (1 ≤ length (initrd_file value.files)) × (count ≡ whole_frames (length (initrd_file value.files)))
+    (1 ≤ length (initrd_file value.files))
+    × (count ≡ whole_frames (length (initrd_file value.files)))
 HasLength facts value (linux setup) _ i count = ⊥
 
 abbrev pub IsRowed : MachineFacts → EntryValue → Reading → Place → Type 0
-IsRowed facts value reading place = HasLength facts value reading place.role place.index place.length
+IsRowed facts value reading place =
+    HasLength facts value reading place.role place.index place.length
 
 -- why its parts are not placed, unless memory ran out
 abbrev pub IsPlaceFault : MachineFacts → List Row → PrepFault → Type 0
@@ -66,7 +73,8 @@ fault_of plan_fault.NoMemory = Some prep_fault.NoMemory
 fault_of fault = option_map (λ refused. prep_fault.Refused refused) (placing_refusal fault)
 
 -- the rows have these places, and this is handed over
-pub record IsPlacedHandover (facts : MachineFacts) (value : EntryValue) (reading : Reading) (handover : Handover) : Type 0 where
+pub record IsPlacedHandover (facts : MachineFacts) (value : EntryValue) (reading : Reading)
+    (handover : Handover) : Type 0 where
   pub places : List Place
   pub placed : ArePlaced facts [] (rows_of facts value reading) places
   pub is : handover ≡ handover_of facts value reading places
@@ -132,4 +140,5 @@ tags_size (line ∷ lines) = tag_size (length line + 9) + tags_size lines
 
 -- each of so many modules ends below the last frame of 4 GiB
 abbrev pub ModulesEndLow : List (List ℕ) → List Place → ℕ → Type 0
-ModulesEndLow files places count = (k : ℕ) → k < count → address_of Module k places + length (module_file files k) ≤ 0xFFFFF000
+ModulesEndLow files places count =
+    (k : ℕ) → k < count → address_of Module k places + length (module_file files k) ≤ 0xFFFFF000

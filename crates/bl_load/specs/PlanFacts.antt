@@ -17,7 +17,8 @@ file_text texts file = slice_index_or texts file []
 -- what a content holds
 abbrev pub content_by : {A : Type 0} → List (List ℕ) → Content A → List ℕ
 content_by texts (Own bytes) = bytes
-content_by texts (File file offset count) = slice_range (file_text texts file) offset (offset + count)
+content_by texts (File file offset count) =
+    slice_range (file_text texts file) offset (offset + count)
 content_by texts (Block file segments) = block_of (file_text texts file) segments.items
 
 abbrev pub bytes_by : {A : Type 0} → List (List ℕ) → PlannedPart A → List ℕ
@@ -28,7 +29,12 @@ part_by texts part = part_at part.place (bytes_by texts part)
 
 -- what a plan hands over
 abbrev pub handover_by : {A : Type 0} → List (List ℕ) → Plan A → Handover
-handover_by texts plan = record { protocol = plan.protocol; registers = plan.registers; parts = map (part_by texts) plan.parts.items }
+handover_by texts plan =
+    record {
+      protocol = plan.protocol;
+      registers = plan.registers;
+      parts = map (part_by texts) plan.parts.items;
+    }
 
 -- the places of a plan
 abbrev pub places_of : {A : Type 0} → Plan A → List Place
@@ -40,4 +46,5 @@ part_in bytes place = part_at place (slice_range bytes place.address (place.addr
 
 -- what memory hands over, with this protocol, these registers and places
 abbrev pub handover_in : List ℕ → Protocol → Registers → List Place → Handover
-handover_in bytes protocol registers places = record { protocol = protocol; registers = registers; parts = map (part_in bytes) places }
+handover_in bytes protocol registers places =
+    record { protocol = protocol; registers = registers; parts = map (part_in bytes) places }

@@ -28,14 +28,17 @@ abbrev pub protocol_by : Reading → Protocol
 protocol_by (multiboot2 kernel) = protocol.Multiboot2
 protocol_by (linux setup) = protocol.Linux
 
--- there are files for what was read, and so many modules; a Multiboot2 kernel's segments can be loaded
+-- there are files for what was read, and so many modules; a Multiboot2 kernel's segments can be
+-- loaded
 abbrev pub HasFiles : List (List ℕ) → ℕ → Reading → Type 0
-HasFiles texts modules (multiboot2 kernel) = (length texts ≡ 1 + modules) × AreLoadable (file_text texts 0) kernel.segments
+HasFiles texts modules (multiboot2 kernel) =
+    (length texts ≡ 1 + modules) × AreLoadable (file_text texts 0) kernel.segments
 HasFiles texts modules (linux setup) = 1 ≤ length texts
 
 -- what is told of the parts fits 32 bits
 abbrev pub FitsTold : EntryValue → Reading → List Place → Type 0
-FitsTold value (multiboot2 kernel) places = ModulesEndLow value.files places (length value.module_lines)
+FitsTold value (multiboot2 kernel) places =
+    ModulesEndLow value.files places (length value.module_lines)
 FitsTold value (linux setup) places = length (initrd_file value.files) < 2 ^ 32
 
 -- where the kernel is entered fits 32 bits, and is reckoned without wrapping
@@ -43,7 +46,8 @@ abbrev pub CanEnter : Reading → List Place → Type 0
 CanEnter (multiboot2 kernel) places =
     (low_of kernel.segments ≤ kernel.entry)
     × (kernel.entry + address_of role.Kernel 0 places < 2 ^ 64)
-    × (entry_at kernel.entry kernel.segments kernel.relocation (address_of role.Kernel 0 places) < 2 ^ 32)
+    × (entry_at kernel.entry kernel.segments kernel.relocation (address_of role.Kernel 0 places)
+    < 2 ^ 32)
 CanEnter (linux setup) places = Unit {0}
 
 -- a Linux kernel's fault as one of preparing: it stands, or memory ran out

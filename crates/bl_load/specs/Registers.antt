@@ -1,5 +1,5 @@
--- The registers as a kernel begins (Multiboot2 3.3 "I386 machine state"; Linux/x86 Boot Protocol, "32-bit Boot Protocol").
--- What the texts leave open is own.
+-- The registers as a kernel begins (Multiboot2 3.3 "I386 machine state"; Linux/x86 Boot Protocol,
+-- "32-bit Boot Protocol"). What the texts leave open is own.
 use Rattle.std.specs.Prelude.{ℕ}
 use Rattle.bl_load.specs.declared.registers.Registers.{Registers}
 
@@ -32,7 +32,8 @@ multiboot2_registers entry information = record {
   a20 = 1;
 }
 
--- by the address where a Linux kernel lies and is entered, and by those of its boot parameters and its descriptors
+-- by the address where a Linux kernel lies and is entered, and by those of its boot parameters and
+-- its descriptors
 abbrev pub linux_registers : ℕ → ℕ → ℕ → Registers
 linux_registers kernel boot_params gdt = record {
   eip = kernel;

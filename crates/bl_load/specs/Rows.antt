@@ -1,6 +1,7 @@
--- The table of places of an entry's parts; here those of Multiboot2. Own; the kernel's row with a relocatable header tag is
--- Multiboot2 3.1.13.
-use Rattle.std.specs.Prelude.{ℕ, suc, ◌+◌, max, length, if◌then◌else◌, ◌==◌, List, [], ◌∷◌, ◌++◌, Option, Some, None, option_map}
+-- The table of places of an entry's parts; here those of Multiboot2. Own; the kernel's row with a
+-- relocatable header tag is Multiboot2 3.1.13.
+use Rattle.std.specs.Prelude.{ℕ, suc, ◌+◌, max, length, if◌then◌else◌, ◌==◌, List, [], ◌∷◌, ◌++◌}
+use Rattle.std.specs.Prelude.{Option, Some, None, option_map}
 use Rattle.bl_mem.specs.declared.segment.Segment.{Segment}
 use Rattle.bl_map.specs.MachineFacts.{MachineFacts}
 use Rattle.bl_map.specs.Kinds.{low_kib, high_kib}
@@ -22,13 +23,16 @@ use Rattle.bl_load.specs.Blocks.{low_of, span_of}
 -- segments at their own addresses, numbered from k on
 abbrev pub segment_rows : ℕ → List Segment → List Row
 segment_rows k [] = []
-segment_rows k (s ∷ segments) = record { role = Kernel; index = k; length = s.memsz; choice = Fixed s.address } ∷ segment_rows (suc k) segments
+segment_rows k (s ∷ segments) =
+    record { role = Kernel; index = k; length = s.memsz; choice = Fixed s.address }
+    ∷ segment_rows (suc k) segments
 
 -- an alignment of 0 is one of 1
 abbrev pub align_of : Relocation → ℕ
 align_of r = if r.align == 0 then 1 else r.align
 
--- preference 1 is the lowest place, 2 the highest, any other the linked address, and the lowest where that is not permitted
+-- preference 1 is the lowest place, 2 the highest, any other the linked address, and the lowest
+-- where that is not permitted
 abbrev pub block_choice : Relocation → ℕ → Choice
 block_choice r linked =
     if r.preference == 1 then Lowest (align_of r) r.min_addr r.max_addr else
@@ -38,7 +42,13 @@ block_choice r linked =
 -- each segment at its address; with a relocatable tag one block
 abbrev pub kernel_rows : List Segment → Option Relocation → List Row
 kernel_rows segments None = segment_rows 0 segments
-kernel_rows segments (Some r) = record { role = Kernel; index = 0; length = span_of segments; choice = block_choice r (low_of segments) } ∷ []
+kernel_rows segments (Some r) =
+    record {
+      role = Kernel;
+      index = 0;
+      length = span_of segments;
+      choice = block_choice r (low_of segments);
+    } ∷ []
 
 -- a module takes whole frames, and at least one
 abbrev pub module_length : List ℕ → ℕ
@@ -54,8 +64,8 @@ module_rows files k (line ∷ lines) = record {
   choice = Lowest frame_size 0x100000 most_size;
 } ∷ module_rows files (suc k) lines
 
--- what the information tells of each module in order, numbered from k on, where the parts have these places: it ends where
--- its file ends, and not with its frame
+-- what the information tells of each module in order, numbered from k on, where the parts have
+-- these places: it ends where its file ends, and not with its frame
 abbrev pub modules_of : List (List ℕ) → List Place → ℕ → List (List ℕ) → List ModuleInfo
 modules_of files places k [] = []
 modules_of files places k (line ∷ lines) = record {
@@ -64,8 +74,10 @@ modules_of files places k (line ∷ lines) = record {
   line = line;
 } ∷ modules_of files places (suc k) lines
 
--- what the information tells, where the parts have these places: the load base only with a relocatable tag
-abbrev pub information_of : MachineFacts → EntryValue → Option Relocation → List Place → InformationFacts
+-- what the information tells, where the parts have these places: the load base only with a
+-- relocatable tag
+abbrev pub information_of : MachineFacts → EntryValue → Option Relocation → List Place
+    → InformationFacts
 information_of facts value relocation places = record {
   line = value.line;
   modules = modules_of value.files places 0 value.module_lines;
@@ -77,7 +89,8 @@ information_of facts value relocation places = record {
   load_base = option_map (λ r. address_of Kernel 0 places) relocation;
 }
 
--- the information, in whole frames, at the lowest place of all; its size does not depend on any place
+-- the information, in whole frames, at the lowest place of all; its size does not depend on any
+-- place
 abbrev pub information_row : MachineFacts → EntryValue → Option Relocation → Row
 information_row facts value relocation = record {
   role = Information;

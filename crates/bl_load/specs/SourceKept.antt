@@ -8,7 +8,8 @@ use Rattle.bl_load.specs.Reading.{Reading, IsRead}
 use Rattle.bl_load.specs.Value.{EntryValue}
 
 -- the files' bytes
-abbrev pub texts_in : {A : Type 0} → {V : Type 0} → {view : Ghosts V} → Source A V view → List (List ℕ)
+abbrev pub texts_in : {A : Type 0} → {V : Type 0} → {view : Ghosts V} → Source A V view
+    → List (List ℕ)
 texts_in {view = view} source = map view.bytes source.files.now
 
 -- what was read of the kernel
@@ -16,7 +17,8 @@ abbrev pub reading_in : {A : Type 0} → {V : Type 0} → {view : Ghosts V} → 
 reading_in source = reading_by source.kernel.now
 
 -- the entry's value, where its kernel was read so
-abbrev pub value_as : {A : Type 0} → {V : Type 0} → {view : Ghosts V} → Reading → Source A V view → EntryValue
+abbrev pub value_as : {A : Type 0} → {V : Type 0} → {view : Ghosts V} → Reading → Source A V view
+    → EntryValue
 value_as reading source = record {
   protocol = protocol_by reading;
   line = source.line.now;
@@ -29,6 +31,7 @@ abbrev pub value_in : {A : Type 0} → {V : Type 0} → {view : Ghosts V} → So
 value_in source = value_as (reading_in source) source
 
 -- the kernel was read so, and there is what it needs
-pub record IsReady {A : Type 0} {V : Type 0} {view : Ghosts V} (source : Source A V view) : Type 0 where
+pub record IsReady {A : Type 0} {V : Type 0} {view : Ghosts V}
+    (source : Source A V view) : Type 0 where
   pub read : IsRead source.machine.now (value_in source) (reading_in source)
   pub files : HasFiles (texts_in source) (length source.modules.now) (reading_in source)

@@ -1,5 +1,6 @@
 -- What is booted, told apart from where it lies: an entry's value. Own.
-use Rattle.std.specs.Prelude.{ℕ, ◌+◌, ◌≤◌, if◌then◌else◌, ◌==◌, nat_lt, List, [], ◌∷◌, length, map, slice_index_or, Option, Some, None, option_to_list}
+use Rattle.std.specs.Prelude.{ℕ, ◌+◌, ◌≤◌, if◌then◌else◌, ◌==◌, nat_lt, List, [], ◌∷◌, length, map}
+use Rattle.std.specs.Prelude.{slice_index_or, Option, Some, None, option_to_list}
 use Rattle.std.specs.List.{list_any}
 use Rattle.std.specs.Option.{option_or}
 use Rattle.bl_plan.specs.declared.protocol.Protocol.{Protocol}
@@ -9,24 +10,29 @@ use Rattle.bl_load.specs.declared.entry.Entry.TheVariants.{Multiboot2, Linux}
 use Rattle.bl_load.specs.declared.refusal.Refusal.{Refusal}
 use Rattle.bl_load.specs.declared.refusal.Refusal.TheVariants.{LineHasNul, LineTooLong}
 
--- an entry's value: its protocol, its line, its files' bytes in order (the kernel first), its modules' lines
+-- an entry's value: its protocol, its line, its files' bytes in order (the kernel first), its
+-- modules' lines
 pub record EntryValue : Type 0 where
   pub protocol : Protocol
   pub line : List ℕ
   pub files : List (List ℕ)
   pub module_lines : List (List ℕ)
 
--- the value of a Multiboot2 entry with this line and these lines of its modules, whose files hold these texts
+-- the value of a Multiboot2 entry with this line and these lines of its modules, whose files hold
+-- these texts
 abbrev pub multiboot2_value : List (List ℕ) → List ℕ → List (List ℕ) → EntryValue
-multiboot2_value texts line lines = record { protocol = protocol.Multiboot2; line = line; files = texts; module_lines = lines }
+multiboot2_value texts line lines =
+    record { protocol = protocol.Multiboot2; line = line; files = texts; module_lines = lines }
 
 -- the value of a Linux entry with this line
 abbrev pub linux_value : List (List ℕ) → List ℕ → EntryValue
-linux_value texts line = record { protocol = protocol.Linux; line = line; files = texts; module_lines = [] }
+linux_value texts line =
+    record { protocol = protocol.Linux; line = line; files = texts; module_lines = [] }
 
 -- the value of an entry whose files hold these texts
 abbrev pub value_of : {A : Type 0} → List (List ℕ) → Entry A → EntryValue
-value_of texts (Multiboot2 kernel line modules) = multiboot2_value texts line (map (λ m. m.line) modules.items)
+value_of texts (Multiboot2 kernel line modules) =
+    multiboot2_value texts line (map (λ m. m.line) modules.items)
 value_of texts (Linux kernel line initrd) = linux_value texts line
 
 -- the bytes of the kernel's file
@@ -37,7 +43,8 @@ kernel_file value = slice_index_or value.files 0 []
 abbrev pub module_file : List (List ℕ) → ℕ → List ℕ
 module_file files k = slice_index_or files (k + 1) []
 
--- the bytes of the initial ramdisk of a Linux entry, which comes behind the kernel's; none if there is no such file
+-- the bytes of the initial ramdisk of a Linux entry, which comes behind the kernel's; none if there
+-- is no such file
 abbrev pub initrd_file : List (List ℕ) → List ℕ
 initrd_file files = slice_index_or files 1 []
 

@@ -24,9 +24,14 @@ impl<A: Allocator> Model for Handoff<A> {
 
     ghost Value = { HandoffFacts };
 
-    ghost view = { λ h. record { protocol = h.protocol; registers = h.registers; places = map place_of h.parts.items } };
+    ghost view = { λ h. record {
+      protocol = h.protocol;
+      registers = h.registers;
+      places = map place_of h.parts.items;
+    } };
 
-    ghost invariant = { λ h. AreRecords (map place_of h.parts.items) × (h.ranges.items ≡ map range_of (map place_of h.parts.items)) };
+    ghost invariant = { λ h. AreRecords (map place_of h.parts.items)
+        × (h.ranges.items ≡ map range_of (map place_of h.parts.items)) };
 }
 
 impl<A: Allocator> Handoff<A> {

@@ -1,5 +1,6 @@
 //! The information that a Multiboot2 kernel is handed.
-ghost use Rattle.std.specs.Prelude.{◌≡◌, ◌≤◌, ◌<◌, ◌+◌, ◌^◌, None, All, length, map, sum_by, codes, option_map, IfOk, IfSome};
+ghost use Rattle.std.specs.Prelude.{◌≡◌, ◌≤◌, ◌<◌, ◌+◌, ◌^◌, None, All, length, map, sum_by, codes};
+ghost use Rattle.std.specs.Prelude.{option_map, IfOk, IfSome};
 ghost use Rattle.bl_map.specs.Kinds.{low_kib, high_kib};
 ghost use Rattle.bl_mbi.specs.InformationFacts.{IsModule};
 ghost use Rattle.bl_mbi.specs.Size.{tag_size};

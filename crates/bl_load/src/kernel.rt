@@ -1,9 +1,11 @@
 //! A Multiboot2 kernel's file.
-ghost use Rattle.std.specs.Prelude.{◌≡◌, ◌≤◌, ◌<◌, ◌+◌, ◌^◌, Some, None, List, length, All, IfOk, IfErr, MatchResult};
+ghost use Rattle.std.specs.Prelude.{◌≡◌, ◌≤◌, ◌<◌, ◌+◌, ◌^◌, Some, None, List, length, All, IfOk};
+ghost use Rattle.std.specs.Prelude.{IfErr, MatchResult};
 ghost use Rattle.std.specs.List.{list_any};
 ghost use Rattle.bl_load.specs.Kernel as kernel;
 ghost use Rattle.bl_load.specs.Kernel.{IsKernel, IsLoadedBy, entry_fault};
-ghost use Rattle.bl_load.specs.KernelKept.{IsElfFault, IsLoadFault, IsKernelFault, AreLoadable, executable_facts, kernel_by};
+ghost use Rattle.bl_load.specs.KernelKept.{IsElfFault, IsLoadFault, IsKernelFault, AreLoadable};
+ghost use Rattle.bl_load.specs.KernelKept.{executable_facts, kernel_by};
 ghost use Rattle.bl_load.specs.declared.refusal.PrepFault.TheVariants.{Refused};
 
 use crate::refusal::{PrepFault, Refusal};

@@ -1,5 +1,6 @@
 //! The parts of an entry whose kernel was read, at their places.
-ghost use Rattle.std.specs.Prelude.{◌≡◌, ◌≢◌, ◌≤◌, ◌<◌, ◌+◌, ◌^◌, Some, All, IfOk, IfErr, length, map};
+ghost use Rattle.std.specs.Prelude.{◌≡◌, ◌≢◌, ◌≤◌, ◌<◌, ◌+◌, ◌^◌, Some, All, IfOk, IfErr, length};
+ghost use Rattle.std.specs.Prelude.{map};
 ghost use Rattle.bl_load.specs.Rows as table;
 ghost use Rattle.bl_plan.specs.Placed.{range_of};
 ghost use Rattle.bl_plan.specs.declared.fault.PlanFault.TheVariants.{Overlap};

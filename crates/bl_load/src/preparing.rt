@@ -1,7 +1,9 @@
 //! What is loaded for an entry on a machine, or its first refusal.
-ghost use Rattle.std.specs.Prelude.{◌≡◌, ◌==◌, ◌≤◌, ◌<◌, ◌+◌, ◌∷◌, Some, None, IfOk, IfErr, MatchResult, length, map};
+ghost use Rattle.std.specs.Prelude.{◌≡◌, ◌==◌, ◌≤◌, ◌<◌, ◌+◌, ◌∷◌, Some, None, IfOk, IfErr};
+ghost use Rattle.std.specs.Prelude.{MatchResult, length, map};
 ghost use Rattle.std.specs.List.{list_any};
-ghost use Rattle.bl_load.specs.Value.{value_of, multiboot2_value, linux_value, line_fault, lines_fault, file_count, HasFewModules};
+ghost use Rattle.bl_load.specs.Value.{value_of, multiboot2_value, linux_value, line_fault};
+ghost use Rattle.bl_load.specs.Value.{lines_fault, file_count, HasFewModules};
 ghost use Rattle.bl_load.specs.Parts.{IsHandover, IsPrepFault};
 ghost use Rattle.bl_load.specs.PlanFacts.{handover_by};
 ghost use Rattle.bl_load.specs.Kept.{lengths_of, IsLoadable, IsLean, lines_by};

@@ -1,5 +1,6 @@
 //! The table of places of a Multiboot2 entry's parts.
-ghost use Rattle.std.specs.Prelude.{◌≡◌, ◌≤◌, ◌<◌, ◌+◌, ◌^◌, ◌++◌, ◌*◌, ℕ, List, [], None, All, length, map, IfOk, is_some};
+ghost use Rattle.std.specs.Prelude.{◌≡◌, ◌≤◌, ◌<◌, ◌+◌, ◌^◌, ◌++◌, ◌*◌, ℕ, List, [], None, All};
+ghost use Rattle.std.specs.Prelude.{length, map, IfOk, is_some};
 ghost use Rattle.bl_mbi.specs.Size.{size_of};
 ghost use Rattle.bl_load.specs.Blocks as blocks;
 ghost use Rattle.bl_load.specs.Rows as table;
@@ -124,9 +125,9 @@ fn push_kernel_rows<A: Allocator, B: Allocator>(
     }
 }
 
-/// How many bytes the part of a module or an initrd takes, by the length of its file. A file that no
-/// machine can hold is told as one of 2^40 bytes, which no machine can hold either, so that no sum
-/// wraps.
+/// How many bytes the part of a module or an initrd takes, by the length of its file. A file that
+/// no machine can hold is told as one of 2^40 bytes, which no machine can hold either, so that no
+/// sum wraps.
 pub fn told_length(size: u64) -> u64
     ensures { result ≡ kept.told_length size }
 {
@@ -172,8 +173,8 @@ fn tags_size<A: Allocator>(modules: &[Module<A>]) -> u64
     }
 }
 
-/// How many bytes the information takes, by the lengths of the line, of the modules' tags and of the
-/// map.
+/// How many bytes the information takes, by the lengths of the line, of the modules' tags and of
+/// the map.
 fn info_length(line: u64, tags: u64, runs: u64, is_relocatable: bool) -> u64
     requires line { line ≤ 4095 }
     requires tags { tags < 2 ^ 20 }

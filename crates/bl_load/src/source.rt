@@ -8,8 +8,8 @@ use bl_map::Machine;
 use bl_mem::ByteView;
 use std::alloc::Allocator;
 
-/// What the parts of an entry are made of: the machine, the entry's line and its modules, its files,
-/// the kernel first, and what was read of its kernel. The lines have no fault.
+/// What the parts of an entry are made of: the machine, the entry's line and its modules, its
+/// files, the kernel first, and what was read of its kernel. The lines have no fault.
 #[derive(Drop)]
 pub struct Source<'a, A: Allocator, V: ByteView> {
     pub machine: &'a Machine<A>,

@@ -1,5 +1,6 @@
 -- Kinds change at most twice for each region.
-use Rattle.std.proofs.Common.{◌≡◌, ◌≢◌, ◌+◌, ◌*◌, ◌≤◌, ℕ, List, [], ◌∷◌, length, Bool, true, false, if◌then◌else◌, nat_lt, max, arith, refl, ap₂, inl, inr}
+use Rattle.std.proofs.Common.{◌≡◌, ◌≢◌, ◌+◌, ◌*◌, ◌≤◌, ℕ, List, [], ◌∷◌, length, Bool, true, false}
+use Rattle.std.proofs.Common.{if◌then◌else◌, nat_lt, max, arith, refl, ap₂, inl, inr}
 use Rattle.std.proofs.lemmas.Bool.{cases_lt}
 use Rattle.std.proofs.lemmas.Bool.Decides.{nat_tests}
 use Rattle.bl_map.specs.declared.region.Region.{Region}
@@ -13,12 +14,17 @@ above_falls : (at later edge : ℕ) → at ≤ later → above later edge ≤ ab
 unfolding above
 above_falls at later edge h = grind (arith, nat_tests)
 
-above_stays : (at later edge : ℕ) → at ≤ later → above later edge ≡ above at edge → nat_lt at edge ≡ nat_lt later edge
+above_stays : (at later edge : ℕ) → at ≤ later → above later edge ≡ above at edge
+    → nat_lt at edge ≡ nat_lt later edge
 unfolding above
 above_stays at later edge h e = elim (cases_lt later edge) [
   | inl less ↦ grind (arith, nat_tests)
   | inr more ↦ elim (cases_lt at edge) [
-    | inl under ↦ absurd (let a : nat_lt at edge ≡ true = grind (arith, nat_tests) in let b : nat_lt later edge ≡ false = grind (arith, nat_tests) in let bad : 0 ≡ 1 = rw (a, b) at e in omega arith)
+    | inl under ↦
+        absurd
+        (let a : nat_lt at edge ≡ true = grind (arith, nat_tests) in
+        let b : nat_lt later edge ≡ false = grind (arith, nat_tests) in
+        let bad : 0 ≡ 1 = rw (a, b) at e in omega arith)
     | inr over ↦ grind (arith, nat_tests)
   ]
 ]
@@ -34,32 +40,45 @@ above_most at edge = grind (arith, nat_tests)
 pub edges_most : (regions : List Region) (at : ℕ) → edges_above regions at ≤ 2 * length regions
 unfolding edges_above
 edges_most [] at = omega arith
-edges_most (r ∷ regions) at = let a = above_most at r.base in let b = above_most at (end_of r) in let c = edges_most regions at in omega arith
+edges_most (r ∷ regions) at =
+    let a = above_most at r.base in
+    let b = above_most at (end_of r) in let c = edges_most regions at in omega arith
 
-pub edges_fall : (regions : List Region) (at later : ℕ) → at ≤ later → edges_above regions later ≤ edges_above regions at
+pub edges_fall : (regions : List Region) (at later : ℕ) → at ≤ later
+    → edges_above regions later ≤ edges_above regions at
 unfolding edges_above
 edges_fall [] at later h = omega arith
 edges_fall (r ∷ regions) at later h =
-    let a = above_falls at later r.base h in let b = above_falls at later (end_of r) h in let c = edges_fall regions at later h in omega arith
+    let a = above_falls at later r.base h in
+    let b = above_falls at later (end_of r) h in
+    let c = edges_fall regions at later h in omega arith
 
-same_holds : (r : Region) (at later : ℕ) → nat_lt at r.base ≡ nat_lt later r.base → nat_lt at (end_of r) ≡ nat_lt later (end_of r) → holds r at ≡ holds r later
+same_holds : (r : Region) (at later : ℕ) → nat_lt at r.base ≡ nat_lt later r.base
+    → nat_lt at (end_of r) ≡ nat_lt later (end_of r) → holds r at ≡ holds r later
 same_holds r at later a b = grind (arith, nat_tests)
 
 -- where no region begins or ends behind an address and up to a later one, both have one kind
-pub same_kind : (regions : List Region) (at later : ℕ) → at ≤ later → edges_above regions later ≡ edges_above regions at → kind_at regions at ≡ kind_at regions later
+pub same_kind : (regions : List Region) (at later : ℕ) → at ≤ later
+    → edges_above regions later ≡ edges_above regions at
+    → kind_at regions at ≡ kind_at regions later
 unfolding edges_above
 same_kind [] at later h e = refl
 same_kind (r ∷ regions) at later h e =
-    let a = above_falls at later r.base h in let b = above_falls at later (end_of r) h in let c = edges_fall regions at later h in
+    let a = above_falls at later r.base h in
+    let b = above_falls at later (end_of r) h in let c = edges_fall regions at later h in
     let base = above_stays at later r.base h (omega arith) in
     let end = above_stays at later (end_of r) h (omega arith) in
-    ap₂ (λ (t : Bool) (k : ℕ). max (if t then kind_number r.kind else 0) k) (same_holds r at later base end) (same_kind regions at later h (omega arith))
+    ap₂ (λ (t : Bool) (k : ℕ). max (if t then kind_number r.kind else 0) k)
+    (same_holds r at later base end) (same_kind regions at later h (omega arith))
 
 -- a change of kind passes an edge
-pub edges_fall_once : (regions : List Region) (at later : ℕ) → at ≤ later → kind_at regions later ≢ kind_at regions at → edges_above regions later + 1 ≤ edges_above regions at
+pub edges_fall_once : (regions : List Region) (at later : ℕ) → at ≤ later
+    → kind_at regions later ≢ kind_at regions at
+    → edges_above regions later + 1 ≤ edges_above regions at
 edges_fall_once regions at later h changes =
     let falls = edges_fall regions at later h in
     elim (cases_lt (edges_above regions later) (edges_above regions at)) [
       | inl less ↦ omega arith
-      | inr not_less ↦ absurd (let same = same_kind regions at later h (omega arith) in changes (cc))
+      | inr not_less ↦
+          absurd (let same = same_kind regions at later h (omega arith) in changes (cc))
     ]

@@ -3,7 +3,8 @@ use Rattle.std.specs.Prelude.{◌≤◌, ◌<◌, ℕ, List, length, take, All, 
 use Rattle.std.specs.declared.ops.Range.{Range}
 use Rattle.bl_map.specs.declared.region.Region.{Region}
 use Rattle.bl_map.specs.declared.fault.MapFault.{MapFault}
-use Rattle.bl_map.specs.declared.fault.MapFault.TheVariants.{BadSize, TooManyRegions, BadRegion, BadPool, NoMemory}
+use Rattle.bl_map.specs.declared.fault.MapFault.TheVariants.{BadSize, TooManyRegions, BadRegion}
+use Rattle.bl_map.specs.declared.fault.MapFault.TheVariants.{BadPool, NoMemory}
 use Rattle.bl_map.specs.Limits.{most_regions, region_limit}
 use Rattle.bl_map.specs.Kinds.{end_of}
 use Rattle.bl_map.specs.MachineFacts.{IsSize, IsPool}

@@ -1,6 +1,8 @@
 -- Kinds of addresses, and the normal map. Own; the numbers of kinds are those of the memory map of
 -- Multiboot2 (3.6.8 "Memory map") and of an e820 entry.
-use Rattle.std.specs.Prelude.{◌≡◌, ◌≢◌, ◌+◌, ◌-◌, ◌/◌, ◌≤◌, ℕ, Bool, ◌&&◌, if◌then◌else◌, ◌==◌, nat_le, nat_lt, min, max, List, [], ◌∷◌, All, AllPairs, Option, Some, None}
+use Rattle.std.specs.Prelude.{◌≡◌, ◌≢◌, ◌+◌, ◌-◌, ◌/◌, ◌≤◌, ℕ, Bool, ◌&&◌, if◌then◌else◌, ◌==◌}
+use Rattle.std.specs.Prelude.{nat_le, nat_lt, min, max, List, [], ◌∷◌, All, AllPairs, Option, Some}
+use Rattle.std.specs.Prelude.{None}
 use Rattle.bl_map.specs.Limits.{region_limit}
 use Rattle.bl_map.specs.declared.kind.Kind.{Kind}
 use Rattle.bl_map.specs.declared.kind.Kind.TheVariants.{Usable, Reserved, Acpi, Nvs, Bad}

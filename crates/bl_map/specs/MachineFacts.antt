@@ -2,7 +2,8 @@
 use Rattle.std.specs.Prelude.{◌≡◌, ◌%◌, ◌<◌, ◌≤◌, ℕ, List, length}
 use Rattle.std.specs.declared.ops.Range.{Range}
 use Rattle.bl_map.specs.declared.region.Region.{Region}
-use Rattle.bl_map.specs.Limits.{frame_size, least_size, most_size, first_usable, usable_limit, most_runs}
+use Rattle.bl_map.specs.Limits.{frame_size, least_size, most_size, first_usable, usable_limit}
+use Rattle.bl_map.specs.Limits.{most_runs}
 use Rattle.bl_map.specs.Kinds.{kind_at, AreRuns}
 
 -- a machine's facts: its size, its normal map, its pool

@@ -1,5 +1,6 @@
 -- Whether the pool has frames enough beside the parts. Own.
-use Rattle.std.specs.Prelude.{ℕ, zero, suc, ◌+◌, ◌-◌, ◌*◌, ◌/◌, ◌≤◌, Bool, ◌||◌, if◌then◌else◌, nat_le, List, [], ◌∷◌, length, All, AllPairs}
+use Rattle.std.specs.Prelude.{ℕ, zero, suc, ◌+◌, ◌-◌, ◌*◌, ◌/◌, ◌≤◌, Bool, ◌||◌, if◌then◌else◌}
+use Rattle.std.specs.Prelude.{nat_le, List, [], ◌∷◌, length, All, AllPairs}
 use Rattle.std.specs.List.{list_all}
 use Rattle.std.specs.declared.ops.Range.{Range}
 use Rattle.bl_map.specs.Limits.{frame_size}

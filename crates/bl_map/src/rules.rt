@@ -1,5 +1,6 @@
 //! The rules that a machine is accepted by.
-ghost use Rattle.std.specs.Prelude.{◌≡◌, ℕ, ◌<◌, ◌≤◌, All, IfSome, MatchBool, MatchOption, length, slice_get, take};
+ghost use Rattle.std.specs.Prelude.{◌≡◌, ℕ, ◌<◌, ◌≤◌, All, IfSome, MatchBool, MatchOption, length};
+ghost use Rattle.std.specs.Prelude.{slice_get, take};
 ghost use Rattle.bl_map.specs.MachineFacts.{IsPool, IsSize, IsUsableAmong};
 ghost use Rattle.bl_map.specs.Faults.{IsLow};
 ghost use Rattle.bl_map.specs.Kinds as kinds;

@@ -1,7 +1,11 @@
 -- Which faults a tag can have, and that they are the file's first faults.
-use Rattle.std.proofs.Common.{◌≡◌, ◌+◌, ℕ, Bool, true, false, if◌then◌else◌, Option, Some, None, List, length, refl, sym, ap, ◌∙◌, inl, inr}
+use Rattle.std.proofs.Common.{◌≡◌, ◌+◌, ℕ, Bool, true, false, if◌then◌else◌, Option, Some, None}
+use Rattle.std.proofs.Common.{List, length, refl, sym, ap, ◌∙◌, inl, inr}
 use Rattle.bl_mb2head.specs.declared.fault.HeadFault.{HeadFault}
-use Rattle.bl_mb2head.specs.declared.fault.HeadFault.TheVariants.{NoHeader, HeaderCut, BadArchitecture, BadTag, UnsupportedTag, UnsupportedRequest, NoConsole}
+use Rattle.bl_mb2head.specs.declared.fault.HeadFault.TheVariants.{NoHeader, HeaderCut}
+use Rattle.bl_mb2head.specs.declared.fault.HeadFault.TheVariants.{BadArchitecture, BadTag}
+use Rattle.bl_mb2head.specs.declared.fault.HeadFault.TheVariants.{UnsupportedTag}
+use Rattle.bl_mb2head.specs.declared.fault.HeadFault.TheVariants.{UnsupportedRequest, NoConsole}
 use Rattle.bl_mb2head.specs.declared.tag.Tag.{Tag}
 use Rattle.bl_mb2head.specs.Tags.{request_fault, fault_at, IsFirstFault, last_of}
 use Rattle.bl_mb2head.specs.Address.{address_fault, address_tag_at, is_bad_address}
@@ -29,7 +33,8 @@ is_of_address (Some (UnsupportedTag kind)) = false
 is_of_address (Some (UnsupportedRequest kind)) = false
 is_of_address (Some NoConsole) = false
 
-is_of_tag-if : (test : Bool) (x y : Option HeadFault) → is_of_tag x ≡ true → is_of_tag y ≡ true → is_of_tag (if test then x else y) ≡ true
+is_of_tag-if : (test : Bool) (x y : Option HeadFault) → is_of_tag x ≡ true → is_of_tag y ≡ true
+    → is_of_tag (if test then x else y) ≡ true
 is_of_tag-if true x y first second = first
 is_of_tag-if false x y first second = second
 
@@ -41,36 +46,59 @@ fault_is_of_tag : (bytes : List ℕ) (end at : ℕ) → is_of_tag (fault_at byte
 unfolding fault_at
 fault_is_of_tag bytes end at = search (is_of_tag-if, request_is_of_tag)
 
-address_is_of_address : (bytes : List ℕ) (h : ℕ) (tag : Option Tag) → is_of_address (address_fault bytes h tag) ≡ true
+address_is_of_address : (bytes : List ℕ) (h : ℕ) (tag : Option Tag)
+    → is_of_address (address_fault bytes h tag) ≡ true
 address_is_of_address bytes h None = refl
 address_is_of_address bytes h (Some t) =
-    elim (is_bad_address (length bytes) h (address_tag_at bytes t.place)) as (λ bad. is_of_address (if bad then Some (BadTag t.place) else None) ≡ true) [ true ↦ refl | false ↦ refl ]
+    elim (is_bad_address (length bytes) h (address_tag_at bytes t.place)) as (λ bad.
+    is_of_address (if bad then Some (BadTag t.place) else None) ≡ true)
+    [ true ↦ refl | false ↦ refl ]
 
 -- the first fault among the tags is the file's
-pub tag_fault_first : (bytes : List ℕ) (h : ℕ) (fault : HeadFault) → BeginsAt bytes h → IsFirstFault bytes (end_of bytes h) (h + 16) fault → HasFirstFault bytes fault
+pub tag_fault_first : (bytes : List ℕ) (h : ℕ) (fault : HeadFault) → BeginsAt bytes h
+    → IsFirstFault bytes (end_of bytes h) (h + 16) fault → HasFirstFault bytes fault
 tag_fault_first bytes h NoHeader begins first =
-    let bad : is_of_tag (Some NoHeader) ≡ true = ap is_of_tag (sym first.faulty) ∙ fault_is_of_tag bytes (end_of bytes h) first.next in absurd cc
+    let bad : is_of_tag (Some NoHeader) ≡ true =
+    ap is_of_tag (sym first.faulty) ∙ fault_is_of_tag bytes (end_of bytes h) first.next in
+    absurd cc
 tag_fault_first bytes h HeaderCut begins first =
-    let bad : is_of_tag (Some HeaderCut) ≡ true = ap is_of_tag (sym first.faulty) ∙ fault_is_of_tag bytes (end_of bytes h) first.next in absurd cc
+    let bad : is_of_tag (Some HeaderCut) ≡ true =
+    ap is_of_tag (sym first.faulty) ∙ fault_is_of_tag bytes (end_of bytes h) first.next in
+    absurd cc
 tag_fault_first bytes h BadArchitecture begins first =
-    let bad : is_of_tag (Some BadArchitecture) ≡ true = ap is_of_tag (sym first.faulty) ∙ fault_is_of_tag bytes (end_of bytes h) first.next in absurd cc
+    let bad : is_of_tag (Some BadArchitecture) ≡ true =
+    ap is_of_tag (sym first.faulty) ∙ fault_is_of_tag bytes (end_of bytes h) first.next in
+    absurd cc
 tag_fault_first bytes h (BadTag at) begins first = (h, begins, inl first)
 tag_fault_first bytes h (UnsupportedTag kind) begins first = (h, begins, first)
 tag_fault_first bytes h (UnsupportedRequest kind) begins first = (h, begins, first)
 tag_fault_first bytes h NoConsole begins first = (h, begins, first)
 
 -- and so is that of the address tag that counts, where no tag has one of its own
-pub address_fault_first : (bytes : List ℕ) (h : ℕ) (fault : HeadFault) → BeginsAt bytes h → IsAddressFault bytes h fault → HasFirstFault bytes fault
+pub address_fault_first : (bytes : List ℕ) (h : ℕ) (fault : HeadFault) → BeginsAt bytes h
+    → IsAddressFault bytes h fault → HasFirstFault bytes fault
 address_fault_first bytes h (BadTag at) begins address = (h, begins, inr address)
 address_fault_first bytes h NoHeader begins address =
-    let bad : false ≡ true = ap is_of_address (sym address.faulty) ∙ address_is_of_address bytes h (last_of 2 address.tags) in absurd cc
+    let bad : false ≡ true =
+    ap is_of_address (sym address.faulty)
+    ∙ address_is_of_address bytes h (last_of 2 address.tags) in absurd cc
 address_fault_first bytes h HeaderCut begins address =
-    let bad : false ≡ true = ap is_of_address (sym address.faulty) ∙ address_is_of_address bytes h (last_of 2 address.tags) in absurd cc
+    let bad : false ≡ true =
+    ap is_of_address (sym address.faulty)
+    ∙ address_is_of_address bytes h (last_of 2 address.tags) in absurd cc
 address_fault_first bytes h BadArchitecture begins address =
-    let bad : false ≡ true = ap is_of_address (sym address.faulty) ∙ address_is_of_address bytes h (last_of 2 address.tags) in absurd cc
+    let bad : false ≡ true =
+    ap is_of_address (sym address.faulty)
+    ∙ address_is_of_address bytes h (last_of 2 address.tags) in absurd cc
 address_fault_first bytes h (UnsupportedTag kind) begins address =
-    let bad : false ≡ true = ap is_of_address (sym address.faulty) ∙ address_is_of_address bytes h (last_of 2 address.tags) in absurd cc
+    let bad : false ≡ true =
+    ap is_of_address (sym address.faulty)
+    ∙ address_is_of_address bytes h (last_of 2 address.tags) in absurd cc
 address_fault_first bytes h (UnsupportedRequest kind) begins address =
-    let bad : false ≡ true = ap is_of_address (sym address.faulty) ∙ address_is_of_address bytes h (last_of 2 address.tags) in absurd cc
+    let bad : false ≡ true =
+    ap is_of_address (sym address.faulty)
+    ∙ address_is_of_address bytes h (last_of 2 address.tags) in absurd cc
 address_fault_first bytes h NoConsole begins address =
-    let bad : false ≡ true = ap is_of_address (sym address.faulty) ∙ address_is_of_address bytes h (last_of 2 address.tags) in absurd cc
+    let bad : false ≡ true =
+    ap is_of_address (sym address.faulty)
+    ∙ address_is_of_address bytes h (last_of 2 address.tags) in absurd cc

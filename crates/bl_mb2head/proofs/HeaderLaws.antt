@@ -1,19 +1,24 @@
 -- A file's header, or its first fault, is determined by its bytes.
-use Rattle.std.proofs.Common.{◌≡◌, ◌≢◌, ◌+◌, ℕ, true, false, not, if◌then◌else◌, ◌==◌, ◌⊎◌, Option, Some, None, List, refl, sym, ap, subst, ◌∙◌, inl, inr, arith}
+use Rattle.std.proofs.Common.{◌≡◌, ◌≢◌, ◌+◌, ℕ, true, false, not, if◌then◌else◌, ◌==◌, ◌⊎◌, Option}
+use Rattle.std.proofs.Common.{Some, None, List, refl, sym, ap, subst, ◌∙◌, inl, inr, arith}
 use Rattle.std.proofs.lemmas.Bool.Decides.{nat_tests}
 use Rattle.std.proofs.lemmas.Option.{same_Some}
 use Rattle.bl_mem.specs.Least.{IsLeast}
 use Rattle.bl_mem.proofs.LeastLaws.{one_least}
 use Rattle.bl_mem.specs.declared.segment.Segment.{Segment}
 use Rattle.bl_mb2head.specs.declared.fault.HeadFault.{HeadFault}
-use Rattle.bl_mb2head.specs.declared.fault.HeadFault.TheVariants.{NoHeader, HeaderCut, BadArchitecture, BadTag, UnsupportedTag, UnsupportedRequest, NoConsole}
+use Rattle.bl_mb2head.specs.declared.fault.HeadFault.TheVariants.{NoHeader, HeaderCut}
+use Rattle.bl_mb2head.specs.declared.fault.HeadFault.TheVariants.{BadArchitecture, BadTag}
+use Rattle.bl_mb2head.specs.declared.fault.HeadFault.TheVariants.{UnsupportedTag}
+use Rattle.bl_mb2head.specs.declared.fault.HeadFault.TheVariants.{UnsupportedRequest, NoConsole}
 use Rattle.bl_mb2head.specs.declared.header.Header.{Header}
 use Rattle.bl_mb2head.specs.declared.relocation.Relocation.{Relocation}
 use Rattle.bl_mb2head.specs.declared.tag.Tag.{Tag}
 use Rattle.bl_mb2head.specs.Address.{address_fault, address_segment}
 use Rattle.bl_mb2head.specs.Place.{IsHeaderAt}
 use Rattle.bl_mb2head.specs.Tags.{AreAllTags, IsFirstFault, last_of}
-use Rattle.bl_mb2head.specs.Header.{end_of, is_cut, architecture_at, tag_entry, relocation_of, BeginsAt, IsAddressFault, IsHeader, HasFirstFault}
+use Rattle.bl_mb2head.specs.Header.{end_of, is_cut, architecture_at, tag_entry, relocation_of}
+use Rattle.bl_mb2head.specs.Header.{BeginsAt, IsAddressFault, IsHeader, HasFirstFault}
 use Rattle.bl_mb2head.proofs.TagLaws as tags
 
 -- what is wrong with the header at h before its tags
@@ -27,7 +32,8 @@ early_fault bytes h =
 abbrev HasFaultAt : List ℕ → ℕ → HeadFault → Type 0
 HasFaultAt bytes h fault =
     (early_fault bytes h ≡ Some fault)
-    ⊎ ((early_fault bytes h ≡ None) × (IsFirstFault bytes (end_of bytes h) (h + 16) fault ⊎ IsAddressFault bytes h fault))
+    ⊎ ((early_fault bytes h ≡ None)
+    × (IsFirstFault bytes (end_of bytes h) (h + 16) fault ⊎ IsAddressFault bytes h fault))
 
 no_early_fault : (bytes : List ℕ) (h : ℕ) → BeginsAt bytes h → early_fault bytes h ≡ None
 no_early_fault bytes h begins = grind (arith, nat_tests, begins.whole, begins.architecture)
@@ -35,35 +41,53 @@ no_early_fault bytes h begins = grind (arith, nat_tests, begins.whole, begins.ar
 cut_early : (bytes : List ℕ) (h : ℕ) → is_cut bytes h ≡ true → early_fault bytes h ≡ Some HeaderCut
 cut_early bytes h cut = rw cut refl
 
-architecture_early : (bytes : List ℕ) (h : ℕ) → is_cut bytes h ≡ false → architecture_at bytes h ≢ 0 → early_fault bytes h ≡ Some BadArchitecture
+architecture_early : (bytes : List ℕ) (h : ℕ) → is_cut bytes h ≡ false → architecture_at bytes h ≢ 0
+    → early_fault bytes h ≡ Some BadArchitecture
 architecture_early bytes h whole other = rw whole (grind (arith, nat_tests))
 
 -- a first fault, by where it stands
-by_place : (bytes : List ℕ) (fault : HeadFault) → HasFirstFault bytes fault → (((h : ℕ) → IsHeaderAt bytes h → ⊥) × (fault ≡ NoHeader)) ⊎ ((h : ℕ) × IsLeast (IsHeaderAt bytes) h × HasFaultAt bytes h fault)
+by_place : (bytes : List ℕ) (fault : HeadFault) → HasFirstFault bytes fault
+    → (((h : ℕ) → IsHeaderAt bytes h → ⊥) × (fault ≡ NoHeader))
+    ⊎ ((h : ℕ) × IsLeast (IsHeaderAt bytes) h × HasFaultAt bytes h fault)
 by_place bytes NoHeader none = inl (none, refl)
 by_place bytes HeaderCut (h, place, cut) = inr (h, place, inl (cut_early bytes h cut))
-by_place bytes BadArchitecture (h, place, whole, other) = inr (h, place, inl (architecture_early bytes h whole other))
-by_place bytes (BadTag at) (h, begins, first) = inr (h, begins.place, inr (no_early_fault bytes h begins, first))
-by_place bytes (UnsupportedTag kind) (h, begins, first) = inr (h, begins.place, inr (no_early_fault bytes h begins, inl first))
-by_place bytes (UnsupportedRequest kind) (h, begins, first) = inr (h, begins.place, inr (no_early_fault bytes h begins, inl first))
-by_place bytes NoConsole (h, begins, first) = inr (h, begins.place, inr (no_early_fault bytes h begins, inl first))
+by_place bytes BadArchitecture (h, place, whole, other) =
+    inr (h, place, inl (architecture_early bytes h whole other))
+by_place bytes (BadTag at) (h, begins, first) =
+    inr (h, begins.place, inr (no_early_fault bytes h begins, first))
+by_place bytes (UnsupportedTag kind) (h, begins, first) =
+    inr (h, begins.place, inr (no_early_fault bytes h begins, inl first))
+by_place bytes (UnsupportedRequest kind) (h, begins, first) =
+    inr (h, begins.place, inr (no_early_fault bytes h begins, inl first))
+by_place bytes NoConsole (h, begins, first) =
+    inr (h, begins.place, inr (no_early_fault bytes h begins, inl first))
 
 -- the fault of the address tag that counts, after all tags
-address_after_all : (bytes : List ℕ) (h : ℕ) (ts : List Tag) (fault : HeadFault) → AreAllTags bytes (end_of bytes h) (h + 16) ts → IsAddressFault bytes h fault → address_fault bytes h (last_of 2 ts) ≡ Some fault
+address_after_all : (bytes : List ℕ) (h : ℕ) (ts : List Tag) (fault : HeadFault)
+    → AreAllTags bytes (end_of bytes h) (h + 16) ts → IsAddressFault bytes h fault
+    → address_fault bytes h (last_of 2 ts) ≡ Some fault
 address_after_all bytes h ts fault all address =
-    ap (λ (us : List Tag). address_fault bytes h (last_of 2 us)) (tags.one_list bytes (end_of bytes h) (h + 16) ts address.tags all address.all) ∙ address.faulty
+    ap (λ (us : List Tag). address_fault bytes h (last_of 2 us))
+    (tags.one_list bytes (end_of bytes h) (h + 16) ts address.tags all address.all)
+    ∙ address.faulty
 
-one_fault_at : (bytes : List ℕ) (h : ℕ) (f g : HeadFault) → HasFaultAt bytes h f → HasFaultAt bytes h g → f ≡ g
+one_fault_at : (bytes : List ℕ) (h : ℕ) (f g : HeadFault) → HasFaultAt bytes h f
+    → HasFaultAt bytes h g → f ≡ g
 one_fault_at bytes h f g (inl a) (inl b) = same_Some f g (sym a ∙ b)
 one_fault_at bytes h f g (inl a) (inr b) = let bad : Some f ≡ None = sym a ∙ b.0 in cc
 one_fault_at bytes h f g (inr a) (inl b) = let bad : None ≡ Some g = sym a.0 ∙ b in cc
-one_fault_at bytes h f g (inr (_, inl a)) (inr (_, inl b)) = tags.one_fault bytes (end_of bytes h) (h + 16) f g a b
-one_fault_at bytes h f g (inr (_, inl a)) (inr (_, inr b)) = absurd (tags.not_both bytes (end_of bytes h) (h + 16) b.tags f b.all a)
-one_fault_at bytes h f g (inr (_, inr a)) (inr (_, inl b)) = absurd (tags.not_both bytes (end_of bytes h) (h + 16) a.tags g a.all b)
-one_fault_at bytes h f g (inr (_, inr a)) (inr (_, inr b)) = same_Some f g (sym a.faulty ∙ address_after_all bytes h a.tags g a.all b)
+one_fault_at bytes h f g (inr (_, inl a)) (inr (_, inl b)) =
+    tags.one_fault bytes (end_of bytes h) (h + 16) f g a b
+one_fault_at bytes h f g (inr (_, inl a)) (inr (_, inr b)) =
+    absurd (tags.not_both bytes (end_of bytes h) (h + 16) b.tags f b.all a)
+one_fault_at bytes h f g (inr (_, inr a)) (inr (_, inl b)) =
+    absurd (tags.not_both bytes (end_of bytes h) (h + 16) a.tags g a.all b)
+one_fault_at bytes h f g (inr (_, inr a)) (inr (_, inr b)) =
+    same_Some f g (sym a.faulty ∙ address_after_all bytes h a.tags g a.all b)
 
 -- a file has one first fault
-pub one_fault : (bytes : List ℕ) (f g : HeadFault) → HasFirstFault bytes f → HasFirstFault bytes g → f ≡ g
+pub one_fault : (bytes : List ℕ) (f g : HeadFault) → HasFirstFault bytes f → HasFirstFault bytes g
+    → f ≡ g
 one_fault bytes f g a b =
     elim (by_place bytes f a) [
       | inl none_a ↦ elim (by_place bytes g b) [
@@ -72,27 +96,41 @@ one_fault bytes f g a b =
       ]
       | inr at_a ↦ elim (by_place bytes g b) [
         | inl none_b ↦ absurd (none_b.0 at_a.0 at_a.1.holds)
-        | inr at_b ↦ one_fault_at bytes at_a.0 f g at_a.2 (subst (λ (h : ℕ). HasFaultAt bytes h g) (one_least (IsHeaderAt bytes) at_b.0 at_a.0 at_b.1 at_a.1) at_b.2)
+        | inr at_b ↦
+            one_fault_at bytes at_a.0 f g at_a.2
+            (subst (λ (h : ℕ). HasFaultAt bytes h g)
+            (one_least (IsHeaderAt bytes) at_b.0 at_a.0 at_b.1 at_a.1) at_b.2)
       ]
     ]
 
-none_at : (bytes : List ℕ) (h : ℕ) (ts : List Tag) (fault : HeadFault) → BeginsAt bytes h → AreAllTags bytes (end_of bytes h) (h + 16) ts → address_fault bytes h (last_of 2 ts) ≡ None → HasFaultAt bytes h fault → ⊥
-none_at bytes h ts fault begins all sound (inl early) = let bad : None ≡ Some fault = sym (no_early_fault bytes h begins) ∙ early in cc
-none_at bytes h ts fault begins all sound (inr (_, inl first)) = tags.not_both bytes (end_of bytes h) (h + 16) ts fault all first
-none_at bytes h ts fault begins all sound (inr (_, inr address)) = let bad : None ≡ Some fault = sym sound ∙ address_after_all bytes h ts fault all address in cc
+none_at : (bytes : List ℕ) (h : ℕ) (ts : List Tag) (fault : HeadFault) → BeginsAt bytes h
+    → AreAllTags bytes (end_of bytes h) (h + 16) ts → address_fault bytes h (last_of 2 ts) ≡ None
+    → HasFaultAt bytes h fault → ⊥
+none_at bytes h ts fault begins all sound (inl early) =
+    let bad : None ≡ Some fault = sym (no_early_fault bytes h begins) ∙ early in cc
+none_at bytes h ts fault begins all sound (inr (_, inl first)) =
+    tags.not_both bytes (end_of bytes h) (h + 16) ts fault all first
+none_at bytes h ts fault begins all sound (inr (_, inr address)) =
+    let bad : None ≡ Some fault = sym sound ∙ address_after_all bytes h ts fault all address in cc
 
 -- a file with a header has no fault
-pub not_both : (bytes : List ℕ) (header : Header) (fault : HeadFault) → IsHeader bytes header → HasFirstFault bytes fault → ⊥
+pub not_both : (bytes : List ℕ) (header : Header) (fault : HeadFault) → IsHeader bytes header
+    → HasFirstFault bytes fault → ⊥
 not_both bytes header fault is has =
     elim (by_place bytes fault has) [
       | inl none ↦ none.0 header.place is.begins.place.holds
-      | inr at ↦ none_at bytes header.place is.tags fault is.begins is.all is.sound (subst (λ (h : ℕ). HasFaultAt bytes h fault) (one_least (IsHeaderAt bytes) at.0 header.place at.1 is.begins.place) at.2)
+      | inr at ↦
+          none_at bytes header.place is.tags fault is.begins is.all is.sound
+          (subst (λ (h : ℕ). HasFaultAt bytes h fault)
+          (one_least (IsHeaderAt bytes) at.0 header.place at.1 is.begins.place) at.2)
     ]
 
 header_of : ℕ → Option Segment → Option ℕ → Option Relocation → Header
-header_of place segment entry relocation = record { place = place; segment = segment; entry = entry; relocation = relocation }
+header_of place segment entry relocation =
+    record { place = place; segment = segment; entry = entry; relocation = relocation }
 
-same_header : (a b : Header) → a.place ≡ b.place → a.segment ≡ b.segment → a.entry ≡ b.entry → a.relocation ≡ b.relocation → a ≡ b
+same_header : (a b : Header) → a.place ≡ b.place → a.segment ≡ b.segment → a.entry ≡ b.entry
+    → a.relocation ≡ b.relocation → a ≡ b
 unfolding header_of
 same_header a b place segment entry relocation =
     ap (λ (p : ℕ). header_of p a.segment a.entry a.relocation) place
@@ -103,10 +141,17 @@ same_header a b place segment entry relocation =
 -- a file has one header
 pub one_header : (bytes : List ℕ) (a b : Header) → IsHeader bytes a → IsHeader bytes b → a ≡ b
 one_header bytes a b is_a is_b =
-    let place : a.place ≡ b.place = one_least (IsHeaderAt bytes) a.place b.place is_a.begins.place is_b.begins.place in
-    let moved : AreAllTags bytes (end_of bytes b.place) (b.place + 16) is_a.tags = subst (λ (h : ℕ). AreAllTags bytes (end_of bytes h) (h + 16) is_a.tags) place is_a.all in
-    let same : is_a.tags ≡ is_b.tags = tags.one_list bytes (end_of bytes b.place) (b.place + 16) is_a.tags is_b.tags moved is_b.all in
+    let place : a.place ≡ b.place =
+    one_least (IsHeaderAt bytes) a.place b.place is_a.begins.place is_b.begins.place in
+    let moved : AreAllTags bytes (end_of bytes b.place) (b.place + 16) is_a.tags =
+    subst (λ (h : ℕ). AreAllTags bytes (end_of bytes h) (h + 16) is_a.tags) place is_a.all in
+    let same : is_a.tags ≡ is_b.tags =
+    tags.one_list bytes (end_of bytes b.place) (b.place + 16) is_a.tags is_b.tags moved
+    is_b.all in
     same_header a b place
-    (is_a.segment ∙ ap (λ (h : ℕ). address_segment bytes h (last_of 2 is_a.tags)) place ∙ ap (λ (ts : List Tag). address_segment bytes b.place (last_of 2 ts)) same ∙ sym is_b.segment)
+    (is_a.segment ∙ ap (λ (h : ℕ). address_segment bytes h (last_of 2 is_a.tags)) place
+    ∙ ap (λ (ts : List Tag). address_segment bytes b.place (last_of 2 ts)) same
+    ∙ sym is_b.segment)
     (is_a.entry ∙ ap (λ (ts : List Tag). tag_entry bytes (last_of 3 ts)) same ∙ sym is_b.entry)
-    (is_a.relocation ∙ ap (λ (ts : List Tag). relocation_of bytes (last_of 10 ts)) same ∙ sym is_b.relocation)
+    (is_a.relocation ∙ ap (λ (ts : List Tag). relocation_of bytes (last_of 10 ts)) same
+    ∙ sym is_b.relocation)

@@ -13,6 +13,8 @@ pub ends_in_front : (bytes : List ℕ) (h : ℕ) → BeginsAt bytes h → end_of
 ends_in_front bytes h begins = grind (arith, nat_tests, begins.whole)
 
 -- fields that lie before the header's end lie before what is behind it
-pub lies_before : (tag : Option Tag) (fields end later : ℕ) → IfSome tag (λ t. t.place + fields ≤ end) → end ≤ later → IfSome tag (λ t. t.place + fields ≤ later)
+pub lies_before : (tag : Option Tag) (fields end later : ℕ)
+    → IfSome tag (λ t. t.place + fields ≤ end) → end ≤ later
+    → IfSome tag (λ t. t.place + fields ≤ later)
 lies_before None fields end later inside le = inside
 lies_before (Some t) fields end later inside le = omega arith

@@ -1,5 +1,8 @@
--- The segment and the entry of a header are numbers that stay small, where the file's bytes are bytes.
-use Rattle.std.proofs.Common.{◌≡◌, ◌≤◌, ◌<◌, ◌+◌, ◌^◌, ℕ, Bool, true, false, if◌then◌else◌, Option, Some, None, IfSome, List, length, slice_index, refl, sym, subst, arith}
+-- The segment and the entry of a header are numbers that stay small, where the file's bytes are
+-- bytes.
+use Rattle.std.proofs.Common.{◌≡◌, ◌≤◌, ◌<◌, ◌+◌, ◌^◌, ℕ, Bool, true, false, if◌then◌else◌, Option}
+use Rattle.std.proofs.Common.{Some, None, IfSome, List, length, slice_index, refl, sym, subst}
+use Rattle.std.proofs.Common.{arith}
 use Rattle.std.proofs.lemmas.Bool.Decides.{nat_tests}
 use Rattle.bl_mem.proofs.WordLaws.{u32_at-lt}
 use Rattle.bl_mem.specs.declared.segment.Segment.{Segment}
@@ -8,12 +11,15 @@ use Rattle.bl_mb2head.specs.declared.fault.HeadFault.{HeadFault}
 use Rattle.bl_mb2head.specs.declared.fault.HeadFault.TheVariants.{BadTag}
 use Rattle.bl_mb2head.specs.declared.header.Header.{Header}
 use Rattle.bl_mb2head.specs.declared.tag.Tag.{Tag}
-use Rattle.bl_mb2head.specs.Address.{address_tag_at, segment_of, is_bad_address, address_fault, address_segment}
+use Rattle.bl_mb2head.specs.Address.{address_tag_at, segment_of, is_bad_address, address_fault}
+use Rattle.bl_mb2head.specs.Address.{address_segment}
 use Rattle.bl_mb2head.specs.Header.{FitsFile, IsHeader, tag_entry}
 use Rattle.bl_mb2head.specs.Tags.{last_of}
 
 -- what an address tag with no fault gives
-segment_fits : (bytes : List ℕ) (h : ℕ) (tag : AddressTag) → h ≤ length bytes → tag.header_addr < 2 ^ 32 → tag.load_addr < 2 ^ 32 → tag.bss_end_addr < 2 ^ 32 → is_bad_address (length bytes) h tag ≡ false → FitsFile bytes (segment_of (length bytes) h tag)
+segment_fits : (bytes : List ℕ) (h : ℕ) (tag : AddressTag) → h ≤ length bytes
+    → tag.header_addr < 2 ^ 32 → tag.load_addr < 2 ^ 32 → tag.bss_end_addr < 2 ^ 32
+    → is_bad_address (length bytes) h tag ≡ false → FitsFile bytes (segment_of (length bytes) h tag)
 unfolding is_bad_address
 segment_fits bytes h tag inside header load bss sound = record {
   filled = grind (arith, nat_tests);
@@ -22,26 +28,35 @@ segment_fits bytes h tag inside header load bss sound = record {
   size = grind (arith, nat_tests);
 }
 
-no_fault : (bad : Bool) (fault : HeadFault) → (if bad then Some fault else None) ≡ None → bad ≡ false
+no_fault : (bad : Bool) (fault : HeadFault) → (if bad then Some fault else None) ≡ None
+    → bad ≡ false
 no_fault true fault sound = cc
 no_fault false fault sound = refl
 
-address_fits : (bytes : List ℕ) (h : ℕ) (tag : Option Tag) → ((k : ℕ) → slice_index bytes k < 256) → h ≤ length bytes → address_fault bytes h tag ≡ None → IfSome (address_segment bytes h tag) (FitsFile bytes)
+address_fits : (bytes : List ℕ) (h : ℕ) (tag : Option Tag) → ((k : ℕ) → slice_index bytes k < 256)
+    → h ≤ length bytes → address_fault bytes h tag ≡ None
+    → IfSome (address_segment bytes h tag) (FitsFile bytes)
 address_fits bytes h None small inside sound = tt
 address_fits bytes h (Some t) small inside sound =
     let tag = address_tag_at bytes t.place in
-    segment_fits bytes h tag inside (u32_at-lt bytes (t.place + 8) small) (u32_at-lt bytes (t.place + 12) small) (u32_at-lt bytes (t.place + 20) small)
+    segment_fits bytes h tag inside (u32_at-lt bytes (t.place + 8) small)
+    (u32_at-lt bytes (t.place + 12) small) (u32_at-lt bytes (t.place + 20) small)
     (no_fault (is_bad_address (length bytes) h tag) (BadTag t.place) sound)
 
-pub header_segment_fits : (bytes : List ℕ) (header : Header) → ((k : ℕ) → slice_index bytes k < 256) → IsHeader bytes header → IfSome header.segment (FitsFile bytes)
+pub header_segment_fits : (bytes : List ℕ) (header : Header) → ((k : ℕ) → slice_index bytes k < 256)
+    → IsHeader bytes header → IfSome header.segment (FitsFile bytes)
 header_segment_fits bytes header small is =
     let here = is.begins.place.holds.in_file in
-    subst (λ (s : Option Segment). IfSome s (FitsFile bytes)) (sym is.segment) (address_fits bytes header.place (last_of 2 is.tags) small (omega arith) is.sound)
+    subst (λ (s : Option Segment). IfSome s (FitsFile bytes)) (sym is.segment)
+    (address_fits bytes header.place (last_of 2 is.tags) small (omega arith) is.sound)
 
-entry_fits : (bytes : List ℕ) (tag : Option Tag) → ((k : ℕ) → slice_index bytes k < 256) → IfSome (tag_entry bytes tag) (λ entry. entry < 2 ^ 32)
+entry_fits : (bytes : List ℕ) (tag : Option Tag) → ((k : ℕ) → slice_index bytes k < 256)
+    → IfSome (tag_entry bytes tag) (λ entry. entry < 2 ^ 32)
 entry_fits bytes None small = tt
 entry_fits bytes (Some t) small = u32_at-lt bytes (t.place + 8) small
 
-pub header_entry_fits : (bytes : List ℕ) (header : Header) → ((k : ℕ) → slice_index bytes k < 256) → IsHeader bytes header → IfSome header.entry (λ entry. entry < 2 ^ 32)
+pub header_entry_fits : (bytes : List ℕ) (header : Header) → ((k : ℕ) → slice_index bytes k < 256)
+    → IsHeader bytes header → IfSome header.entry (λ entry. entry < 2 ^ 32)
 header_entry_fits bytes header small is =
-    subst (λ (e : Option ℕ). IfSome e (λ entry. entry < 2 ^ 32)) (sym is.entry) (entry_fits bytes (last_of 3 is.tags) small)
+    subst (λ (e : Option ℕ). IfSome e (λ entry. entry < 2 ^ 32)) (sym is.entry)
+    (entry_fits bytes (last_of 3 is.tags) small)

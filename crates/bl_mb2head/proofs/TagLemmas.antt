@@ -1,5 +1,6 @@
 -- Steps along the tags of a header, and along the words of a request.
-use Rattle.std.proofs.Common.{◌≡◌, ◌<◌, ◌+◌, ◌-◌, ◌*◌, ◌/◌, ℕ, suc, true, false, not, Some, None, List, [], ◌∷◌, ◌++◌, arith, refl, sym, ap, subst, nat_eq}
+use Rattle.std.proofs.Common.{◌≡◌, ◌<◌, ◌+◌, ◌-◌, ◌*◌, ◌/◌, ℕ, suc, true, false, not, Some, None}
+use Rattle.std.proofs.Common.{List, [], ◌∷◌, ◌++◌, arith, refl, sym, ap, subst, nat_eq}
 use Rattle.std.specs.List.{find}
 use Rattle.std.proofs.lemmas.Bool.Decides.{nat_tests}
 use Rattle.bl_mem.specs.Words.{u32_at}
@@ -7,29 +8,47 @@ use Rattle.bl_mb2head.specs.declared.tag.Tag.{Tag}
 use Rattle.bl_mb2head.specs.Tags.{tag_at, after, words_at, can_be_given, fault_at, AreTags}
 
 -- the words from the i-th on are the i-th and those from the next on
-words_from : (bytes : List ℕ) (at count i : ℕ) → i < count → words_at bytes (at + 4 * i) (count - i) ≡ u32_at bytes (at + 4 * i) ∷ words_at bytes (at + 4 * (i + 1)) (count - (i + 1))
+words_from : (bytes : List ℕ) (at count i : ℕ) → i < count
+    → words_at bytes (at + 4 * i) (count - i)
+    ≡ u32_at bytes (at + 4 * i) ∷ words_at bytes (at + 4 * (i + 1)) (count - (i + 1))
 words_from bytes at count i lt =
     let one_less : count - i ≡ suc (count - (i + 1)) = omega arith in
     let next : at + 4 * i + 4 ≡ at + 4 * (i + 1) = omega arith in
     rw (one_less, ← next) refl
 
 -- a type that can't be given is the first of the words from it on
-pub unknown_here : (bytes : List ℕ) (at count i : ℕ) → i < count → can_be_given (u32_at bytes (at + 4 * i)) ≡ false → find (λ kind. not (can_be_given kind)) (words_at bytes (at + 4 * i) (count - i)) ≡ Some (u32_at bytes (at + 4 * i))
+pub unknown_here : (bytes : List ℕ) (at count i : ℕ) → i < count
+    → can_be_given (u32_at bytes (at + 4 * i)) ≡ false
+    → find (λ kind. not (can_be_given kind)) (words_at bytes (at + 4 * i) (count - i))
+    ≡ Some (u32_at bytes (at + 4 * i))
 unknown_here bytes at count i lt unknown = rw (words_from bytes at count i lt, unknown) refl
 
 -- past a type that can be given, the first that can't is that of the words behind it
-pub unknown_from : (bytes : List ℕ) (at count i : ℕ) → i < count → can_be_given (u32_at bytes (at + 4 * i)) ≡ true → find (λ kind. not (can_be_given kind)) (words_at bytes (at + 4 * i) (count - i)) ≡ find (λ kind. not (can_be_given kind)) (words_at bytes (at + 4 * (i + 1)) (count - (i + 1)))
+pub unknown_from : (bytes : List ℕ) (at count i : ℕ) → i < count
+    → can_be_given (u32_at bytes (at + 4 * i)) ≡ true
+    → find (λ kind. not (can_be_given kind)) (words_at bytes (at + 4 * i) (count - i))
+    ≡ find (λ kind. not (can_be_given kind))
+    (words_at bytes (at + 4 * (i + 1)) (count - (i + 1)))
 unknown_from bytes at count i lt known = rw (words_from bytes at count i lt, known) refl
 
-push : (bytes : List ℕ) (end at next : ℕ) (ts : List Tag) (t : Tag) → AreTags bytes end at next ts → t ≡ tag_at bytes next → fault_at bytes end next ≡ None → nat_eq t.kind 0 ≡ false → AreTags bytes end at (after t) (ts ++ t ∷ [])
-push bytes end at next [] t tags is sound more =
-    (subst (λ (p : ℕ). t ≡ tag_at bytes p) (sym tags) is, subst (λ (p : ℕ). fault_at bytes end p ≡ None) (sym tags) sound, more, refl)
+push : (bytes : List ℕ) (end at next : ℕ) (ts : List Tag) (t : Tag) → AreTags bytes end at next ts
+    → t ≡ tag_at bytes next → fault_at bytes end next ≡ None → nat_eq t.kind 0 ≡ false
+    → AreTags bytes end at (after t) (ts ++ t ∷ [])
+push bytes end at next [] t tags is sound more = (
+  subst (λ (p : ℕ). t ≡ tag_at bytes p) (sym tags) is,
+  subst (λ (p : ℕ). fault_at bytes end p ≡ None) (sym tags) sound,
+  more,
+  refl,
+)
 push bytes end at next (s ∷ ts) t tags is sound more =
     (tags.0, tags.1, tags.2, push bytes end (after s) next ts t tags.3 is sound more)
 
 -- one more tag behind the tags up to a place
-pub AreTags-push : (bytes : List ℕ) (end at next : ℕ) (ts : List Tag) (t : Tag) → AreTags bytes end at next ts → t ≡ tag_at bytes next → fault_at bytes end next ≡ None → (t.kind ≡ 0 → ⊥) → AreTags bytes end at ((next + t.size + 7) / 8 * 8) (ts ++ t ∷ [])
+pub AreTags-push : (bytes : List ℕ) (end at next : ℕ) (ts : List Tag) (t : Tag)
+    → AreTags bytes end at next ts → t ≡ tag_at bytes next → fault_at bytes end next ≡ None
+    → (t.kind ≡ 0 → ⊥) → AreTags bytes end at ((next + t.size + 7) / 8 * 8) (ts ++ t ∷ [])
 AreTags-push bytes end at next ts t tags is sound more =
     let place : t.place ≡ next = ap (λ (s : Tag). s.place) is in
     let differs : nat_eq t.kind 0 ≡ false = grind (arith, nat_tests) in
-    subst (λ (p : ℕ). AreTags bytes end at ((p + t.size + 7) / 8 * 8) (ts ++ t ∷ [])) place (push bytes end at next ts t tags is sound differs)
+    subst (λ (p : ℕ). AreTags bytes end at ((p + t.size + 7) / 8 * 8) (ts ++ t ∷ [])) place
+    (push bytes end at next ts t tags is sound differs)

@@ -1,18 +1,22 @@
 -- Each file has a header or a first fault, and so has each place tags or the first fault of one.
-use Rattle.std.proofs.Common.{◌≡◌, ◌≤◌, ◌+◌, ◌%◌, ◌^◌, ◌⊎◌, inl, inr, ℕ, zero, suc, true, false, Option, Some, None, List, [], ◌∷◌, length, nat_eq, refl, arith}
+use Rattle.std.proofs.Common.{◌≡◌, ◌≤◌, ◌+◌, ◌%◌, ◌^◌, ◌⊎◌, inl, inr, ℕ, zero, suc, true, false}
+use Rattle.std.proofs.Common.{Option, Some, None, List, [], ◌∷◌, length, nat_eq, refl, arith}
 use Rattle.std.proofs.lemmas.Bool.{cases_lt, cases_Bool}
 use Rattle.std.proofs.lemmas.Bool.Decides.{nat_tests}
 use Rattle.bl_mem.specs.Least.{IsLeast}
 use Rattle.bl_mem.specs.Words.{u16_at, u32_at}
 use Rattle.bl_mem.proofs.LeastLaws.{least_below}
 use Rattle.bl_mb2head.specs.declared.fault.HeadFault.{HeadFault}
-use Rattle.bl_mb2head.specs.declared.fault.HeadFault.TheVariants.{NoHeader, HeaderCut, BadArchitecture}
+use Rattle.bl_mb2head.specs.declared.fault.HeadFault.TheVariants.{NoHeader, HeaderCut}
+use Rattle.bl_mb2head.specs.declared.fault.HeadFault.TheVariants.{BadArchitecture}
 use Rattle.bl_mb2head.specs.declared.header.Header.{Header}
 use Rattle.bl_mb2head.specs.declared.tag.Tag.{Tag}
 use Rattle.bl_mb2head.specs.Address.{address_fault, address_segment}
 use Rattle.bl_mb2head.specs.Place.{IsHeaderAt, sum_at}
-use Rattle.bl_mb2head.specs.Tags.{tag_at, after, is_well_formed, fault_at, AreAllTags, IsFirstFault, last_of}
-use Rattle.bl_mb2head.specs.Header.{end_of, is_cut, architecture_at, tag_entry, relocation_of, BeginsAt, IsHeader, HasFirstFault}
+use Rattle.bl_mb2head.specs.Tags.{tag_at, after, is_well_formed, fault_at, AreAllTags, IsFirstFault}
+use Rattle.bl_mb2head.specs.Tags.{last_of}
+use Rattle.bl_mb2head.specs.Header.{end_of, is_cut, architecture_at, tag_entry, relocation_of}
+use Rattle.bl_mb2head.specs.Header.{BeginsAt, IsHeader, HasFirstFault}
 use Rattle.bl_mb2head.proofs.FaultLemmas.{tag_fault_first, address_fault_first}
 
 some_or_none : (fault : Option HeadFault) → ((f : HeadFault) × (fault ≡ Some f)) ⊎ (fault ≡ None)
@@ -24,9 +28,11 @@ record HasRoom (bytes : List ℕ) (end at : ℕ) : Type 0 where
   before : at + 8 ≤ end
   size : 8 ≤ u32_at bytes (at + 4)
 
-well_formed_room : (bytes : List ℕ) (end at : ℕ) → is_well_formed bytes end at ≡ true → HasRoom bytes end at
+well_formed_room : (bytes : List ℕ) (end at : ℕ) → is_well_formed bytes end at ≡ true
+    → HasRoom bytes end at
 unfolding is_well_formed
-well_formed_room bytes end at well = record { before = grind (arith, nat_tests); size = grind (arith, nat_tests) }
+well_formed_room bytes end at well =
+    record { before = grind (arith, nat_tests); size = grind (arith, nat_tests) }
 
 sound_room : (bytes : List ℕ) (end at : ℕ) → fault_at bytes end at ≡ None → HasRoom bytes end at
 unfolding fault_at
@@ -34,38 +40,76 @@ sound_room bytes end at sound = well_formed_room bytes end at (grind (arith, nat
 
 -- the tags from a place on, or the first fault among them
 abbrev pub Tagged : List ℕ → ℕ → ℕ → Type 0
-Tagged bytes end at = ((ts : List Tag) × AreAllTags bytes end at ts) ⊎ ((fault : HeadFault) × IsFirstFault bytes end at fault)
+Tagged bytes end at =
+    ((ts : List Tag) × AreAllTags bytes end at ts)
+    ⊎ ((fault : HeadFault) × IsFirstFault bytes end at fault)
 
-one_more : (bytes : List ℕ) (end at : ℕ) → fault_at bytes end at ≡ None → nat_eq (u16_at bytes at) 0 ≡ false → Tagged bytes end (after (tag_at bytes at)) → Tagged bytes end at
+one_more : (bytes : List ℕ) (end at : ℕ) → fault_at bytes end at ≡ None
+    → nat_eq (u16_at bytes at) 0 ≡ false → Tagged bytes end (after (tag_at bytes at))
+    → Tagged bytes end at
 one_more bytes end at sound more (inl (ts, all)) =
-    inl (tag_at bytes at ∷ ts, record { next = all.next; tags = (refl, sound, more, all.tags); sound = all.sound; ends = all.ends })
+    inl (
+      tag_at bytes at ∷ ts,
+      record {
+        next = all.next;
+        tags = (refl, sound, more, all.tags);
+        sound = all.sound;
+        ends = all.ends;
+      },
+    )
 one_more bytes end at sound more (inr (fault, first)) =
-    inr (fault, record { before = tag_at bytes at ∷ first.before; next = first.next; tags = (refl, sound, more, first.tags); faulty = first.faulty })
+    inr (
+      fault,
+      record {
+        before = tag_at bytes at ∷ first.before;
+        next = first.next;
+        tags = (refl, sound, more, first.tags);
+        faulty = first.faulty;
+      },
+    )
 
-tagged_at : (bytes : List ℕ) (end at : ℕ) → (HasRoom bytes end at → Tagged bytes end (after (tag_at bytes at))) → Tagged bytes end at
+tagged_at : (bytes : List ℕ) (end at : ℕ)
+    → (HasRoom bytes end at → Tagged bytes end (after (tag_at bytes at))) → Tagged bytes end at
 tagged_at bytes end at rest =
     elim (some_or_none (fault_at bytes end at)) [
-      | inl (fault, faulty) ↦ inr (fault, record { before = []; next = at; tags = refl; faulty = faulty })
+      | inl (fault, faulty) ↦
+          inr (fault, record { before = []; next = at; tags = refl; faulty = faulty })
       | inr sound ↦ elim (cases_Bool (nat_eq (u16_at bytes at) 0)) [
-        | inl last ↦ inl ([], record { next = at; tags = refl; sound = sound; ends = grind (arith, nat_tests) })
+        | inl last ↦
+            inl (
+              [],
+              record {
+                next = at;
+                tags = refl;
+                sound = sound;
+                ends = grind (arith, nat_tests);
+              },
+            )
         | inr more ↦ one_more bytes end at sound more (rest (sound_room bytes end at sound))
       ]
     ]
 
 -- each tag leaves fewer bytes before the header's end
 tagged_by : (n : ℕ) (bytes : List ℕ) (end at : ℕ) → end ≤ at + n → Tagged bytes end at
-tagged_by zero bytes end at near = tagged_at bytes end at (λ room. let before = room.before in absurd (omega arith))
+tagged_by zero bytes end at near =
+    tagged_at bytes end at (λ room. let before = room.before in absurd (omega arith))
 tagged_by (suc n) bytes end at near =
-    tagged_at bytes end at (λ room. tagged_by n bytes end (after (tag_at bytes at)) (omega (arith, room.before, room.size)))
+    tagged_at bytes end at
+    (λ room.
+    tagged_by n bytes end (after (tag_at bytes at)) (omega (arith, room.before, room.size)))
 
-pub tags_or_fault : (bytes : List ℕ) (end at : ℕ) → ((ts : List Tag) × AreAllTags bytes end at ts) ⊎ ((fault : HeadFault) × IsFirstFault bytes end at fault)
+pub tags_or_fault : (bytes : List ℕ) (end at : ℕ)
+    → ((ts : List Tag) × AreAllTags bytes end at ts)
+    ⊎ ((fault : HeadFault) × IsFirstFault bytes end at fault)
 tags_or_fault bytes end at = tagged_by end bytes end at (omega arith)
 
 eq_or_not : (m n : ℕ) → (m ≡ n) ⊎ (m ≡ n → ⊥)
 eq_or_not m n =
     elim (cases_lt m n) [
       | inl below ↦ inr (λ same. omega arith)
-      | inr above ↦ elim (cases_lt n m) [ inl more ↦ inr (λ same. omega arith) | inr less ↦ inl (omega arith) ]
+      | inr above ↦
+          elim (cases_lt n m)
+          [ inl more ↦ inr (λ same. omega arith) | inr less ↦ inl (omega arith) ]
     ]
 
 -- a header stands at a place or does not
@@ -81,7 +125,15 @@ stands_or_not bytes h =
             | inr other ↦ inr (λ here. other here.magic)
             | inl magic ↦ elim (eq_or_not (sum_at bytes h % 2 ^ 32) 0) [
               | inr other ↦ inr (λ here. other here.sums)
-              | inl sums ↦ inl record { aligned = aligned; in_file = in_file; in_front = in_front; magic = magic; sums = sums }
+              | inl sums ↦
+                  inl
+                  record {
+                    aligned = aligned;
+                    in_file = in_file;
+                    in_front = in_front;
+                    magic = magic;
+                    sums = sums;
+                  }
             ]
           ]
         ]
@@ -90,12 +142,19 @@ stands_or_not bytes h =
 
 -- the file has a header or a first fault
 abbrev IsJudged : List ℕ → Type 0
-IsJudged bytes = ((header : Header) × IsHeader bytes header) ⊎ ((fault : HeadFault) × HasFirstFault bytes fault)
+IsJudged bytes =
+    ((header : Header) × IsHeader bytes header) ⊎ ((fault : HeadFault) × HasFirstFault bytes fault)
 
-judged_tags : (bytes : List ℕ) (h : ℕ) → BeginsAt bytes h → (ts : List Tag) → AreAllTags bytes (end_of bytes h) (h + 16) ts → IsJudged bytes
+judged_tags : (bytes : List ℕ) (h : ℕ) → BeginsAt bytes h → (ts : List Tag)
+    → AreAllTags bytes (end_of bytes h) (h + 16) ts → IsJudged bytes
 judged_tags bytes h begins ts all =
     elim (some_or_none (address_fault bytes h (last_of 2 ts))) [
-      | inl (fault, faulty) ↦ inr (fault, address_fault_first bytes h fault begins record { tags = ts; all = all; faulty = faulty })
+      | inl (fault, faulty) ↦
+          inr (
+            fault,
+            address_fault_first bytes h fault begins
+                record { tags = ts; all = all; faulty = faulty },
+          )
       | inr sound ↦ inl (
         record {
           place = h;
@@ -103,7 +162,15 @@ judged_tags bytes h begins ts all =
           entry = tag_entry bytes (last_of 3 ts);
           relocation = relocation_of bytes (last_of 10 ts);
         },
-        record { begins = begins; tags = ts; all = all; sound = sound; segment = refl; entry = refl; relocation = refl },
+        record {
+          begins = begins;
+          tags = ts;
+          all = all;
+          sound = sound;
+          segment = refl;
+          entry = refl;
+          relocation = refl;
+        },
       )
     ]
 
@@ -119,12 +186,16 @@ judged_at bytes h place =
     elim (cases_Bool (is_cut bytes h)) [
       | inl cut ↦ inr (HeaderCut, (h, place, cut))
       | inr whole ↦ elim (eq_or_not (architecture_at bytes h) 0) [
-        | inl architecture ↦ judged_begun bytes h record { place = place; whole = whole; architecture = architecture }
+        | inl architecture ↦
+            judged_begun bytes h
+            record { place = place; whole = whole; architecture = architecture }
         | inr other ↦ inr (BadArchitecture, (h, place, whole, other))
       ]
     ]
 
-pub header_or_fault : (bytes : List ℕ) → ((header : Header) × IsHeader bytes header) ⊎ ((fault : HeadFault) × HasFirstFault bytes fault)
+pub header_or_fault : (bytes : List ℕ)
+    → ((header : Header) × IsHeader bytes header)
+    ⊎ ((fault : HeadFault) × HasFirstFault bytes fault)
 header_or_fault bytes =
     elim (least_below (IsHeaderAt bytes) (stands_or_not bytes) (length bytes)) [
       | inl none ↦ inr (NoHeader, (λ h here. none h (omega (arith, here.in_file)) here))

@@ -1,6 +1,7 @@
--- What an address tag asks to be loaded (Multiboot2 2.0, "3.1.5 The address tag of Multiboot2 header").
--- h is the header's place in the file, and size is the file's length.
-use Rattle.std.specs.Prelude.{◌+◌, ◌-◌, ℕ, Bool, ◌&&◌, ◌||◌, not, if◌then◌else◌, ◌==◌, nat_lt, List, length, Option, Some, None}
+-- What an address tag asks to be loaded (Multiboot2 2.0, "3.1.5 The address tag of Multiboot2
+-- header"). h is the header's place in the file, and size is the file's length.
+use Rattle.std.specs.Prelude.{◌+◌, ◌-◌, ℕ, Bool, ◌&&◌, ◌||◌, not, if◌then◌else◌, ◌==◌, nat_lt, List}
+use Rattle.std.specs.Prelude.{length, Option, Some, None}
 use Rattle.bl_mem.specs.Words.{u32_at}
 use Rattle.bl_mem.specs.declared.segment.Segment.{Segment}
 use Rattle.bl_mb2head.specs.declared.address.AddressTag.{AddressTag}

@@ -1,16 +1,22 @@
--- A whole header: its place, its length, its architecture, its tags (Multiboot2 2.0, "3.1 OS image format").
-use Rattle.std.specs.Prelude.{◌≡◌, ◌≢◌, ◌≤◌, ◌<◌, ◌+◌, ◌^◌, ◌⊎◌, ℕ, Bool, true, false, ◌||◌, nat_lt, max, List, length, Option, Some, None}
+-- A whole header: its place, its length, its architecture, its tags (Multiboot2 2.0, "3.1 OS image
+-- format").
+use Rattle.std.specs.Prelude.{◌≡◌, ◌≢◌, ◌≤◌, ◌<◌, ◌+◌, ◌^◌, ◌⊎◌, ℕ, Bool, true, false, ◌||◌, nat_lt}
+use Rattle.std.specs.Prelude.{max, List, length, Option, Some, None}
 use Rattle.bl_mem.specs.Least.{IsLeast}
 use Rattle.bl_mem.specs.Words.{u32_at}
 use Rattle.bl_mem.specs.declared.segment.Segment.{Segment}
 use Rattle.bl_mb2head.specs.Place.{IsHeaderAt, search_end}
-use Rattle.bl_mb2head.specs.Tags.{AreAllTags, IsFirstFault, last_of, address_type, entry_type, relocatable_type}
+use Rattle.bl_mb2head.specs.Tags.{AreAllTags, IsFirstFault, last_of, address_type, entry_type}
+use Rattle.bl_mb2head.specs.Tags.{relocatable_type}
 use Rattle.bl_mb2head.specs.Address.{address_fault, address_segment}
 use Rattle.bl_mb2head.specs.declared.tag.Tag.{Tag}
 use Rattle.bl_mb2head.specs.declared.relocation.Relocation.{Relocation}
 use Rattle.bl_mb2head.specs.declared.header.Header.{Header}
 use Rattle.bl_mb2head.specs.declared.fault.HeadFault.{HeadFault}
-use Rattle.bl_mb2head.specs.declared.fault.HeadFault.TheVariants.{NoHeader, HeaderCut, BadArchitecture, BadTag, UnsupportedTag, UnsupportedRequest, NoConsole}
+use Rattle.bl_mb2head.specs.declared.fault.HeadFault.TheVariants.{NoHeader, HeaderCut}
+use Rattle.bl_mb2head.specs.declared.fault.HeadFault.TheVariants.{BadArchitecture, BadTag}
+use Rattle.bl_mb2head.specs.declared.fault.HeadFault.TheVariants.{UnsupportedTag}
+use Rattle.bl_mb2head.specs.declared.fault.HeadFault.TheVariants.{UnsupportedRequest, NoConsole}
 
 -- where the header at h ends: header_length counts from its first byte (3.1.2)
 abbrev pub end_of : List ℕ → ℕ → ℕ

@@ -1,14 +1,17 @@
 -- The tags of a Multiboot2 header, from a place to the header's end
 -- (Multiboot2 2.0, "3.1.3 General tag structure" to "3.1.13 Relocatable header tag").
-use Rattle.std.specs.Prelude.{◌≡◌, ◌+◌, ◌-◌, ◌*◌, ◌/◌, ℕ, zero, suc, Bool, false, ◌&&◌, ◌||◌, not, if◌then◌else◌, ◌==◌, nat_eq, nat_lt, nat_le, bit_and, List, [], ◌∷◌, reverse, Option, Some, None}
+use Rattle.std.specs.Prelude.{◌≡◌, ◌+◌, ◌-◌, ◌*◌, ◌/◌, ℕ, zero, suc, Bool, false, ◌&&◌, ◌||◌, not}
+use Rattle.std.specs.Prelude.{if◌then◌else◌, ◌==◌, nat_eq, nat_lt, nat_le, bit_and, List, [], ◌∷◌}
+use Rattle.std.specs.Prelude.{reverse, Option, Some, None}
 use Rattle.std.specs.List.{find}
 use Rattle.bl_mem.specs.Words.{u16_at, u32_at}
 use Rattle.bl_mb2head.specs.declared.tag.Tag.{Tag}
 use Rattle.bl_mb2head.specs.declared.fault.HeadFault.{HeadFault}
-use Rattle.bl_mb2head.specs.declared.fault.HeadFault.TheVariants.{BadTag, UnsupportedTag, UnsupportedRequest, NoConsole}
+use Rattle.bl_mb2head.specs.declared.fault.HeadFault.TheVariants.{BadTag, UnsupportedTag}
+use Rattle.bl_mb2head.specs.declared.fault.HeadFault.TheVariants.{UnsupportedRequest, NoConsole}
 
--- the types of tags that are read: end (3.1.3), information request (3.1.4), address (3.1.5), entry address (3.1.6),
--- console flags (3.1.9), relocatable (3.1.13)
+-- the types of tags that are read: end (3.1.3), information request (3.1.4), address (3.1.5), entry
+-- address (3.1.6), console flags (3.1.9), relocatable (3.1.13)
 abbrev pub end_type : ℕ
 end_type = 0
 
@@ -50,8 +53,8 @@ least_size kind =
     if kind == address_type || kind == relocatable_type then 24 else
     if kind == entry_type || kind == console_type then 12 else 8
 
--- type, flags and size lie before the header's end, and so does the whole tag; its size is one of its
--- kind, and the tag that ends the tags has size 8
+-- type, flags and size lie before the header's end, and so does the whole tag; its size is one of
+-- its kind, and the tag that ends the tags has size 8
 unfoldable pub is_well_formed : List ℕ → ℕ → ℕ → Bool
 is_well_formed bytes end at =
     nat_le (at + 8) end && nat_le (at + u32_at bytes (at + 4)) end

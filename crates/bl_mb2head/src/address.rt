@@ -1,6 +1,7 @@
 //! The address tag: what it asks to be loaded.
 
-ghost use Rattle.std.specs.Prelude.{◌≡◌, ◌≤◌, ◌<◌, ◌+◌, ◌^◌, max, Some, None, length, true, false, MatchResult, MatchOption, IfOk, IfSome};
+ghost use Rattle.std.specs.Prelude.{◌≡◌, ◌≤◌, ◌<◌, ◌+◌, ◌^◌, max, Some, None, length, true, false};
+ghost use Rattle.std.specs.Prelude.{MatchResult, MatchOption, IfOk, IfSome};
 ghost use Rattle.bl_mb2head.specs.Address as tags;
 ghost use Rattle.bl_mb2head.specs.Address.{address_tag_at, address_fault, address_segment};
 ghost use Rattle.bl_mb2head.specs.Header.{FitsFile};
@@ -96,8 +97,8 @@ impl AddressTag {
         self.load_end_addr as u64 - self.address(place)
     }
 
-    /// What is loaded from a file of `size` bytes with its header at `place`, or nothing where the file
-    /// can't give it.
+    /// What is loaded from a file of `size` bytes with its header at `place`, or nothing where the
+    /// file can't give it.
     #[tactic(auto, unfolding(crate::specs::Address::is_bad_address))]
     fn segment(self, size: u64, place: u64) -> Option<Segment>
         requires in_file { place ≤ size }

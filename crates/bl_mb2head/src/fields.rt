@@ -1,5 +1,5 @@
-//! The numbers of a header (Multiboot2 2.0, "3.1 OS image format"). A field is named by its offset from the first
-//! byte of the header, or of its tag. Offsets and sizes count bytes.
+//! The numbers of a header (Multiboot2 2.0, "3.1 OS image format"). A field is named by its offset
+//! from the first byte of the header, or of its tag. Offsets and sizes count bytes.
 
 /// Where the header ends at the latest: it lies in this many bytes from the file's start on (3.1).
 pub const SEARCH_END: u64 = 32768;

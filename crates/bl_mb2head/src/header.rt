@@ -83,10 +83,10 @@ fn relocation_of<V: ByteView>(view: &V, tag: Option<Tag>) -> Option<Relocation>
     })
 }
 
-/// The header of a file of any length, or the file's first fault (Multiboot2 2.0, "3.1 OS image format"). It
-/// takes no memory. Of several address, entry address or relocatable tags the last one counts. What the last
-/// address tag asks is judged after all tags: where the file can't give it, the fault is `BadTag` of that
-/// tag's offset, and comes only if no tag has a fault of its own.
+/// The header of a file of any length, or the file's first fault (Multiboot2 2.0, "3.1 OS image
+/// format"). It takes no memory. Of several address, entry address or relocatable tags the last one
+/// counts. What the last address tag asks is judged after all tags: where the file can't give it,
+/// the fault is `BadTag` of that tag's offset, and comes only if no tag has a fault of its own.
 pub fn find_header<V: ByteView>(view: &V) -> Result<Header, HeadFault>
     ensures found { IfOk result (λ header. IsHeader (V.bytes view.now) header) }
     ensures first_fault { IfErr result (λ fault. HasFirstFault (V.bytes view.now) fault) }

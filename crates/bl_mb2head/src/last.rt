@@ -46,8 +46,8 @@ impl LastTags {
     }
 }
 
-/// The last tags that count, from `start` to the tag of type 0 before `end`, or the fault of the first
-/// tag that has one.
+/// The last tags that count, from `start` to the tag of type 0 before `end`, or the fault of the
+/// first tag that has one.
 pub fn last_tags<V: ByteView>(view: &V, start: u64, end: u64) -> Result<LastTags, HeadFault>
     requires in_file { end ≤ length (V.bytes view.now) }
     requires in_front { end ≤ SEARCH_END }

@@ -7,8 +7,8 @@ ghost use Rattle.bl_mb2head.specs.declared.tag.Tag.{Tag};
 ghost use Rattle.bl_mb2head.specs.Header.{IsHeader, HasFirstFault, FitsFile};
 ghost use Rattle.bl_mb2head.specs.Tags.{AreAllTags, IsFirstFault};
 
-/// Exactly one of these holds of a place: the tags from it on are one list, or one first fault stands
-/// among them. This holds for every list of numbers, be they bytes or not.
+/// Exactly one of these holds of a place: the tags from it on are one list, or one first fault
+/// stands among them. This holds for every list of numbers, be they bytes or not.
 pub fn tags_are_determined()
     ensures total { (bytes : List ℕ) (end at : ℕ) → ((ts : List Tag) × AreAllTags bytes end at ts)
         ⊎ ((fault : HeadFault) × IsFirstFault bytes end at fault) }
@@ -20,8 +20,8 @@ pub fn tags_are_determined()
         → AreAllTags bytes end at ts → IsFirstFault bytes end at f → ⊥ }
 {}
 
-/// A file has exactly one of these: one header, or one first fault. This holds for every list of numbers,
-/// be they bytes or not.
+/// A file has exactly one of these: one header, or one first fault. This holds for every list of
+/// numbers, be they bytes or not.
 pub fn headers_are_determined()
     ensures total { (bytes : List ℕ) → ((header : Header) × IsHeader bytes header)
         ⊎ ((fault : HeadFault) × HasFirstFault bytes fault) }

@@ -1,6 +1,7 @@
 //! One tag of a header, and what can be wrong with it.
 
-ghost use Rattle.std.specs.Prelude.{◌≡◌, ◌≤◌, ◌+◌, ◌*◌, ◌==◌, if◌then◌else◌, true, false, Some, None, length, IfOk, IfSome, not, MatchResult, MatchOption};
+ghost use Rattle.std.specs.Prelude.{◌≡◌, ◌≤◌, ◌+◌, ◌*◌, ◌==◌, if◌then◌else◌, true, false, Some};
+ghost use Rattle.std.specs.Prelude.{None, length, IfOk, IfSome, not, MatchResult, MatchOption};
 ghost use Rattle.std.specs.List.{find};
 ghost use Rattle.bl_mb2head.specs.Tags as tags;
 ghost use Rattle.bl_mb2head.specs.Tags.{tag_at, words_at, can_be_given, is_well_formed, fault_at};
@@ -14,8 +15,8 @@ use crate::fields::{
 };
 use bl_mem::{ByteView, u16_at, u32_at};
 
-/// Where a tag stands, in bytes from the file's start, and its first 8 bytes (Multiboot2 2.0, "3.1.3 General
-/// tag structure").
+/// Where a tag stands, in bytes from the file's start, and its first 8 bytes (Multiboot2 2.0,
+/// "3.1.3 General tag structure").
 #[derive(Clone, Copy, Debug, PartialEq, Eq)]
 pub struct Tag {
     pub place: u64,

@@ -1,5 +1,8 @@
 -- A body that is read is spelled so, and what it tells is in the ranges of its fields.
-use Rattle.std.proofs.Common.{◌≡◌, ◌≢◌, ◌<◌, ◌≤◌, ◌+◌, ◌-◌, ◌*◌, ◌/◌, ◌%◌, ◌^◌, ℕ, zero, suc, Bool, true, false, Option, Some, None, List, [], ◌∷◌, ◌++◌, length, get_or, take, drop, arith, refl, sym, ap, ap₂, ◌∙◌, append_assoc, length-drop, cond}
+use Rattle.std.proofs.Common.{◌≡◌, ◌≢◌, ◌<◌, ◌≤◌, ◌+◌, ◌-◌, ◌*◌, ◌/◌, ◌%◌, ◌^◌, ℕ, zero, suc, Bool}
+use Rattle.std.proofs.Common.{true, false, Option, Some, None, List, [], ◌∷◌, ◌++◌, length, get_or}
+use Rattle.std.proofs.Common.{take, drop, arith, refl, sym, ap, ap₂, ◌∙◌, append_assoc, length-drop}
+use Rattle.std.proofs.Common.{cond}
 use Rattle.std.specs.Prelude.{nat_eq, nat_lt, not, All}
 use Rattle.std.specs.List.{list_any, flat_map}
 use Rattle.std.proofs.lemmas.Bool.{not-false, or_parts}
@@ -15,7 +18,8 @@ use Rattle.bl_mbi.specs.InformationFacts.{ModuleInfo, IsModule, IsText, AreBytes
 use Rattle.bl_mem.specs.Words.{u32_bytes, u64_bytes}
 use Rattle.bl_mbi.specs.Tags.{text_body, module_body, memory_body, run_bytes, map_body}
 use Rattle.bl_mbi.specs.Fields.{word, long}
-use Rattle.bl_mbi.specs.Bodies.{text_of, module_of, memory_of, run_of, runs_of, map_of, load_base_of}
+use Rattle.bl_mbi.specs.Bodies.{text_of, module_of, memory_of, run_of, runs_of, map_of}
+use Rattle.bl_mbi.specs.Bodies.{load_base_of}
 use Rattle.bl_mbi.proofs.Inverse.{passed_some, mapped, then, same_some}
 use Rattle.bl_mbi.proofs.WordLaws.{word_then, long_then, word_small}
 use Rattle.bl_mbi.proofs.TagIs.{drop_small, take_small}
@@ -25,9 +29,11 @@ is_text [] small none = All-nil (λ c. (c ≢ 0) × (c < 256))
 is_text (x ∷ xs) small none =
     let both = or_parts (nat_eq x 0) (list_any (λ c. nat_eq c 0) xs) none in
     let here : x ≢ 0 = grind (arith, nat_tests, both.0) in
-    All-cons (λ c. (c ≢ 0) × (c < 256)) x xs (here, All-head (λ b. b < 256) x xs small) (is_text xs (All-tail (λ b. b < 256) x xs small) both.1)
+    All-cons (λ c. (c ≢ 0) × (c < 256)) x xs (here, All-head (λ b. b < 256) x xs small)
+    (is_text xs (All-tail (λ b. b < 256) x xs small) both.1)
 
-pub text_is : (body text : List ℕ) → AreBytes body → text_of body ≡ Some text → (body ≡ text_body text) × IsText text
+pub text_is : (body text : List ℕ) → AreBytes body → text_of body ≡ Some text
+    → (body ≡ text_body text) × IsText text
 unfolding text_of
 text_is body text small h =
     let len = length body - 1 in
@@ -38,12 +44,16 @@ text_is body text small h =
     let not_empty : 1 ≤ length body = grind (arith, nat_tests, s1.0) in
     let last : get_or body len 0 ≡ 0 = grind (arith, nat_tests, not-false _ s2.0) in
     let nothing : drop (suc len) body ≡ [] = drop_all (suc len) body (omega arith) in
-    let end : drop len body ≡ 0 ∷ [] = drop-cons body len 0 (omega arith) ∙ ap₂ (λ (x : ℕ) (xs : List ℕ). x ∷ xs) last nothing in
-    let split : body ≡ take len body ++ 0 ∷ [] = sym (take-append-drop len body) ∙ ap (λ (xs : List ℕ). take len body ++ xs) end in
-    let is : (body ≡ text_body (take len body)) × IsText (take len body) = (split, is_text (take len body) (take_small len body small) s3.0) in
+    let end : drop len body ≡ 0 ∷ [] =
+    drop-cons body len 0 (omega arith) ∙ ap₂ (λ (x : ℕ) (xs : List ℕ). x ∷ xs) last nothing in
+    let split : body ≡ take len body ++ 0 ∷ [] =
+    sym (take-append-drop len body) ∙ ap (λ (xs : List ℕ). take len body ++ xs) end in
+    let is : (body ≡ text_body (take len body)) × IsText (take len body) =
+    (split, is_text (take len body) (take_small len body small) s3.0) in
     rw (← front) is
 
-pub module_is : (body : List ℕ) (m : ModuleInfo) → AreBytes body → module_of body ≡ Some m → (body ≡ module_body m) × IsModule m
+pub module_is : (body : List ℕ) (m : ModuleInfo) → AreBytes body → module_of body ≡ Some m
+    → (body ≡ module_body m) × IsModule m
 unfolding module_of
 module_is body m small h =
     let s1 = passed_some (nat_lt (length body) 8) _ m h in
@@ -53,16 +63,25 @@ module_is body m small h =
     let forward : word body ≤ word (drop 4 body) = grind (arith, nat_tests, s2.0) in
     let line = text_is (drop 8 body) s3.0 (drop_small 8 body small) s3.1 in
     let front : u32_bytes (word body) ++ drop 4 body ≡ body = word_then body small (omega arith) in
-    let second : u32_bytes (word (drop 4 body)) ++ drop 4 (drop 4 body) ≡ drop 4 body = word_then (drop 4 body) (drop_small 4 body small) (omega (arith, length-drop 4 body)) in
-    let read : ModuleInfo = record { mod_start = word body; mod_end = word (drop 4 body); line = s3.0 } in
+    let second : u32_bytes (word (drop 4 body)) ++ drop 4 (drop 4 body) ≡ drop 4 body =
+    word_then (drop 4 body) (drop_small 4 body small) (omega (arith, length-drop 4 body)) in
+    let read : ModuleInfo =
+    record { mod_start = word body; mod_end = word (drop 4 body); line = s3.0 } in
     let spelled : body ≡ module_body read =
     sym front ∙ ap (λ (xs : List ℕ). u32_bytes (word body) ++ xs) (sym second)
-    ∙ ap (λ (xs : List ℕ). u32_bytes (word body) ++ (u32_bytes (word (drop 4 body)) ++ xs)) (drop-drop 4 4 body ∙ line.0) in
-    let ranges : IsModule read = record { forward = forward; small = word_small (drop 4 body) (drop_small 4 body small); line = line.1 } in
+    ∙ ap (λ (xs : List ℕ). u32_bytes (word body) ++ (u32_bytes (word (drop 4 body)) ++ xs))
+    (drop-drop 4 4 body ∙ line.0) in
+    let ranges : IsModule read =
+    record {
+      forward = forward;
+      small = word_small (drop 4 body) (drop_small 4 body small);
+      line = line.1;
+    } in
     let is : (body ≡ module_body read) × IsModule read = (spelled, ranges) in
     rw (← s3.2) is
 
-pub memory_is : (body : List ℕ) (sizes : ℕ × ℕ) → AreBytes body → memory_of body ≡ Some sizes → (body ≡ memory_body sizes.0 sizes.1) × (sizes.0 ≤ 640) × (sizes.1 < 2 ^ 32)
+pub memory_is : (body : List ℕ) (sizes : ℕ × ℕ) → AreBytes body → memory_of body ≡ Some sizes
+    → (body ≡ memory_body sizes.0 sizes.1) × (sizes.0 ≤ 640) × (sizes.1 < 2 ^ 32)
 unfolding memory_of
 memory_is body sizes small h =
     let s1 = passed_some (not (nat_eq (length body) 8)) _ sizes h in
@@ -71,15 +90,23 @@ memory_is body sizes small h =
     let len : length body ≡ 8 = grind (arith, nat_tests, not-false _ s1.0) in
     let low : word body ≤ 640 = grind (arith, nat_tests, s2.0) in
     let front : u32_bytes (word body) ++ drop 4 body ≡ body = word_then body small (omega arith) in
-    let second : u32_bytes (word (drop 4 body)) ++ drop 4 (drop 4 body) ≡ drop 4 body = word_then (drop 4 body) (drop_small 4 body small) (omega (arith, length-drop 4 body)) in
+    let second : u32_bytes (word (drop 4 body)) ++ drop 4 (drop 4 body) ≡ drop 4 body =
+    word_then (drop 4 body) (drop_small 4 body small) (omega (arith, length-drop 4 body)) in
     let nothing : drop 4 (drop 4 body) ≡ [] = drop-drop 4 4 body ∙ drop_all 8 body (omega arith) in
     let spelled : body ≡ memory_body (word body) (word (drop 4 body)) =
-    sym front ∙ ap (λ (xs : List ℕ). u32_bytes (word body) ++ xs) (sym second ∙ ap (λ (xs : List ℕ). u32_bytes (word (drop 4 body)) ++ xs) nothing ∙ append-nil (u32_bytes (word (drop 4 body)))) in
-    let is : (body ≡ memory_body (word body) (word (drop 4 body))) × (word body ≤ 640) × (word (drop 4 body) < 2 ^ 32) = (spelled, low, word_small (drop 4 body) (drop_small 4 body small)) in
+    sym front
+    ∙ ap (λ (xs : List ℕ). u32_bytes (word body) ++ xs)
+    (sym second ∙ ap (λ (xs : List ℕ). u32_bytes (word (drop 4 body)) ++ xs) nothing
+    ∙ append-nil (u32_bytes (word (drop 4 body)))) in
+    let is : (body ≡ memory_body (word body) (word (drop 4 body))) × (word body ≤ 640)
+    × (word (drop 4 body) < 2 ^ 32) =
+    (spelled, low, word_small (drop 4 body) (drop_small 4 body small)) in
     rw (← read) is
 
 -- a number that is this kind's, or is looked for among the others
-kind_if : (n m : ℕ) (this : Kind) (others : Option Kind) (kind : Kind) → cond (nat_eq n m) (Some this) others ≡ Some kind → m ≡ kind_number this → (others ≡ Some kind → n ≡ kind_number kind) → n ≡ kind_number kind
+kind_if : (n m : ℕ) (this : Kind) (others : Option Kind) (kind : Kind)
+    → cond (nat_eq n m) (Some this) others ≡ Some kind → m ≡ kind_number this
+    → (others ≡ Some kind → n ≡ kind_number kind) → n ≡ kind_number kind
 kind_if n m this others kind h number more =
     by_test (nat_eq n m) refl
   where
@@ -95,10 +122,18 @@ kind_if n m this others kind h number more =
 kind_is : (n : ℕ) (kind : Kind) → kind_of n ≡ Some kind → n ≡ kind_number kind
 unfolding kind_of
 kind_is n kind h =
-    kind_if n 1 Usable _ kind h refl (λ h2. kind_if n 2 Reserved _ kind h2 refl (λ h3. kind_if n 3 Acpi _ kind h3 refl (λ h4. kind_if n 4 Nvs _ kind h4 refl (λ h5. kind_if n 5 Bad None kind h5 refl (λ none. absurd (cc))))))
+    kind_if n 1 Usable _ kind h refl
+    (λ h2.
+    kind_if n 2 Reserved _ kind h2 refl
+    (λ h3.
+    kind_if n 3 Acpi _ kind h3 refl
+    (λ h4.
+    kind_if n 4 Nvs _ kind h4 refl
+    (λ h5. kind_if n 5 Bad None kind h5 refl (λ none. absurd (cc))))))
 
 -- a run in the first 24 bytes
-run_is : (bytes : List ℕ) (run : Region) → AreBytes bytes → 24 ≤ length bytes → run_of bytes ≡ Some run → (bytes ≡ run_bytes run ++ drop 24 bytes) × (end_of run ≤ 2 ^ 52)
+run_is : (bytes : List ℕ) (run : Region) → AreBytes bytes → 24 ≤ length bytes
+    → run_of bytes ≡ Some run → (bytes ≡ run_bytes run ++ drop 24 bytes) × (end_of run ≤ 2 ^ 52)
 unfolding run_of
 run_is bytes run small enough h =
     let base = long bytes in
@@ -111,26 +146,39 @@ run_is bytes run small enough h =
     let kind = kind_is (word (drop 16 bytes)) s3.0 s3.1 in
     let read : Region = record { base = base; length = len; kind = s3.0 } in
     let first : u64_bytes base ++ drop 8 bytes ≡ bytes = long_then bytes small (omega arith) in
-    let second : u64_bytes len ++ drop 8 (drop 8 bytes) ≡ drop 8 bytes = long_then (drop 8 bytes) (drop_small 8 bytes small) (omega (arith, length-drop 8 bytes)) in
-    let third : u32_bytes (word (drop 16 bytes)) ++ drop 4 (drop 16 bytes) ≡ drop 16 bytes = word_then (drop 16 bytes) (drop_small 16 bytes small) (omega (arith, length-drop 16 bytes)) in
-    let fourth : u32_bytes (word (drop 20 bytes)) ++ drop 4 (drop 20 bytes) ≡ drop 20 bytes = word_then (drop 20 bytes) (drop_small 20 bytes small) (omega (arith, length-drop 20 bytes)) in
+    let second : u64_bytes len ++ drop 8 (drop 8 bytes) ≡ drop 8 bytes =
+    long_then (drop 8 bytes) (drop_small 8 bytes small) (omega (arith, length-drop 8 bytes)) in
+    let third : u32_bytes (word (drop 16 bytes)) ++ drop 4 (drop 16 bytes) ≡ drop 16 bytes =
+    word_then (drop 16 bytes) (drop_small 16 bytes small)
+    (omega (arith, length-drop 16 bytes)) in
+    let fourth : u32_bytes (word (drop 20 bytes)) ++ drop 4 (drop 20 bytes) ≡ drop 20 bytes =
+    word_then (drop 20 bytes) (drop_small 20 bytes small)
+    (omega (arith, length-drop 20 bytes)) in
     let at_16 : drop 8 (drop 8 bytes) ≡ drop 16 bytes = drop-drop 8 8 bytes in
     let at_20 : drop 4 (drop 16 bytes) ≡ drop 20 bytes = drop-drop 4 16 bytes in
     let at_24 : drop 4 (drop 20 bytes) ≡ drop 24 bytes = drop-drop 4 20 bytes in
     let spelled : bytes ≡ run_bytes read ++ drop 24 bytes =
     sym first ∙ ap (λ (xs : List ℕ). u64_bytes base ++ xs) (sym second)
     ∙ ap (λ (xs : List ℕ). u64_bytes base ++ (u64_bytes len ++ xs)) (at_16 ∙ sym third)
-    ∙ ap₂ (λ (n : ℕ) (xs : List ℕ). u64_bytes base ++ (u64_bytes len ++ (u32_bytes n ++ xs))) kind (at_20 ∙ sym fourth)
-    ∙ ap₂ (λ (n : ℕ) (xs : List ℕ). u64_bytes base ++ (u64_bytes len ++ (u32_bytes (kind_number s3.0) ++ (u32_bytes n ++ xs)))) reserved at_24
+    ∙ ap₂ (λ (n : ℕ) (xs : List ℕ). u64_bytes base ++ (u64_bytes len ++ (u32_bytes n ++ xs))) kind
+    (at_20 ∙ sym fourth)
+    ∙ ap₂
+    (λ (n : ℕ) (xs : List ℕ).
+    u64_bytes base
+    ++ (u64_bytes len ++ (u32_bytes (kind_number s3.0) ++ (u32_bytes n ++ xs))))
+    reserved at_24
     ∙ simp append_assoc in
     let is : (bytes ≡ run_bytes read ++ drop 24 bytes) × (end_of read ≤ 2 ^ 52) = (spelled, low) in
     rw (← s3.2) is
 
-runs_are : (n : ℕ) (bytes : List ℕ) (runs : List Region) → AreBytes bytes → length bytes ≡ 24 * n → runs_of n bytes ≡ Some runs → (bytes ≡ flat_map run_bytes runs) × All (λ run. end_of run ≤ 2 ^ 52) runs
+runs_are : (n : ℕ) (bytes : List ℕ) (runs : List Region) → AreBytes bytes → length bytes ≡ 24 * n
+    → runs_of n bytes ≡ Some runs
+    → (bytes ≡ flat_map run_bytes runs) × All (λ run. end_of run ≤ 2 ^ 52) runs
 runs_are zero bytes runs small len h =
     let read = same_some [] runs h in
     let nothing : bytes ≡ [] = drop_all 0 bytes (omega arith) in
-    let is : (bytes ≡ flat_map run_bytes []) × All (λ run. end_of run ≤ 2 ^ 52) [] = (nothing, All-nil (λ (run : Region). end_of run ≤ 2 ^ 52)) in
+    let is : (bytes ≡ flat_map run_bytes []) × All (λ run. end_of run ≤ 2 ^ 52) [] =
+    (nothing, All-nil (λ (run : Region). end_of run ≤ 2 ^ 52)) in
     rw (← read) is
 runs_are (suc n) bytes runs small len h =
     let s1 = then _ (run_of bytes) runs h in
@@ -139,11 +187,15 @@ runs_are (suc n) bytes runs small len h =
     let one = run_is bytes s1.0 small enough s1.1 in
     let rest_len : length (drop 24 bytes) ≡ 24 * n = omega (arith, length-drop 24 bytes) in
     let more = runs_are n (drop 24 bytes) s2.0 (drop_small 24 bytes small) rest_len s2.1 in
-    let is : (bytes ≡ flat_map run_bytes (s1.0 ∷ s2.0)) × All (λ run. end_of run ≤ 2 ^ 52) (s1.0 ∷ s2.0) =
-    (one.0 ∙ ap (λ (xs : List ℕ). run_bytes s1.0 ++ xs) more.0, All-cons (λ (run : Region). end_of run ≤ 2 ^ 52) s1.0 s2.0 one.1 more.1) in
+    let is : (bytes ≡ flat_map run_bytes (s1.0 ∷ s2.0))
+    × All (λ run. end_of run ≤ 2 ^ 52) (s1.0 ∷ s2.0) = (
+      one.0 ∙ ap (λ (xs : List ℕ). run_bytes s1.0 ++ xs) more.0,
+      All-cons (λ (run : Region). end_of run ≤ 2 ^ 52) s1.0 s2.0 one.1 more.1,
+    ) in
     rw (← s2.2) is
 
-pub map_is : (body : List ℕ) (runs : List Region) → AreBytes body → map_of body ≡ Some runs → (body ≡ map_body runs) × All (λ run. end_of run ≤ 2 ^ 52) runs
+pub map_is : (body : List ℕ) (runs : List Region) → AreBytes body → map_of body ≡ Some runs
+    → (body ≡ map_body runs) × All (λ run. end_of run ≤ 2 ^ 52) runs
 unfolding map_of
 map_is body runs small h =
     let count = (length body - 8) / 24 in
@@ -155,15 +207,20 @@ map_is body runs small h =
     let entry_size : word body ≡ 24 = grind (arith, nat_tests, not-false _ s2.0) in
     let entry_version : word (drop 4 body) ≡ 0 = grind (arith, nat_tests, not-false _ s3.0) in
     let whole : (length body - 8) % 24 ≡ 0 = grind (arith, nat_tests, not-false _ s4.0) in
-    let entries = runs_are count (drop 8 body) runs (drop_small 8 body small) (omega (arith, length-drop 8 body)) s4.1 in
+    let entries =
+    runs_are count (drop 8 body) runs (drop_small 8 body small)
+    (omega (arith, length-drop 8 body)) s4.1 in
     let front : u32_bytes (word body) ++ drop 4 body ≡ body = word_then body small (omega arith) in
-    let second : u32_bytes (word (drop 4 body)) ++ drop 4 (drop 4 body) ≡ drop 4 body = word_then (drop 4 body) (drop_small 4 body small) (omega (arith, length-drop 4 body)) in
+    let second : u32_bytes (word (drop 4 body)) ++ drop 4 (drop 4 body) ≡ drop 4 body =
+    word_then (drop 4 body) (drop_small 4 body small) (omega (arith, length-drop 4 body)) in
     let spelled : body ≡ map_body runs =
     sym front ∙ ap₂ (λ (n : ℕ) (xs : List ℕ). u32_bytes n ++ xs) entry_size (sym second)
-    ∙ ap₂ (λ (n : ℕ) (xs : List ℕ). u32_bytes 24 ++ (u32_bytes n ++ xs)) entry_version (drop-drop 4 4 body ∙ entries.0) in
+    ∙ ap₂ (λ (n : ℕ) (xs : List ℕ). u32_bytes 24 ++ (u32_bytes n ++ xs)) entry_version
+    (drop-drop 4 4 body ∙ entries.0) in
     (spelled, entries.1)
 
-pub load_base_is : (body : List ℕ) (base : ℕ) → AreBytes body → load_base_of body ≡ Some base → (body ≡ u32_bytes base) × (base < 2 ^ 32)
+pub load_base_is : (body : List ℕ) (base : ℕ) → AreBytes body → load_base_of body ≡ Some base
+    → (body ≡ u32_bytes base) × (base < 2 ^ 32)
 unfolding load_base_of
 load_base_is body base small h =
     let s1 = passed_some (not (nat_eq (length body) 4)) _ base h in
@@ -171,6 +228,9 @@ load_base_is body base small h =
     let len : length body ≡ 4 = grind (arith, nat_tests, not-false _ s1.0) in
     let nothing : drop 4 body ≡ [] = drop_all 4 body (omega arith) in
     let front : u32_bytes (word body) ++ drop 4 body ≡ body = word_then body small (omega arith) in
-    let spelled : body ≡ u32_bytes (word body) = sym front ∙ ap (λ (xs : List ℕ). u32_bytes (word body) ++ xs) nothing ∙ append-nil (u32_bytes (word body)) in
-    let is : (body ≡ u32_bytes (word body)) × (word body < 2 ^ 32) = (spelled, word_small body small) in
+    let spelled : body ≡ u32_bytes (word body) =
+    sym front ∙ ap (λ (xs : List ℕ). u32_bytes (word body) ++ xs) nothing
+    ∙ append-nil (u32_bytes (word body)) in
+    let is : (body ≡ u32_bytes (word body)) × (word body < 2 ^ 32) =
+    (spelled, word_small body small) in
     rw (← read) is

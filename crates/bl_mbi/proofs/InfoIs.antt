@@ -1,5 +1,6 @@
 -- Boot information that is read is spelled so.
-use Rattle.std.proofs.Common.{◌≡◌, ◌≤◌, ◌+◌, ℕ, List, [], ◌++◌, length, drop, Ok, arith, refl, sym, ap, ap₂, ◌∙◌, length-drop}
+use Rattle.std.proofs.Common.{◌≡◌, ◌≤◌, ◌+◌, ℕ, List, [], ◌++◌, length, drop, Ok, arith, refl, sym}
+use Rattle.std.proofs.Common.{ap, ap₂, ◌∙◌, length-drop}
 use Rattle.std.specs.Prelude.{nat_eq, nat_lt, not}
 use Rattle.std.proofs.lemmas.Bool.{not-false}
 use Rattle.std.proofs.lemmas.Bool.Decides.{nat_tests}
@@ -10,11 +11,13 @@ use Rattle.bl_mem.specs.Words.{u32_bytes}
 use Rattle.bl_mbi.specs.Tags.{tag}
 use Rattle.bl_mbi.specs.Spelling.{tags, spelling}
 use Rattle.bl_mbi.specs.Fields.{Left, word}
-use Rattle.bl_mbi.specs.Reading.{text_tag_at, modules_at, memory_at, map_at, copy_at, load_base_at, end_at, tags_of, info_of}
+use Rattle.bl_mbi.specs.Reading.{text_tag_at, modules_at, memory_at, map_at, copy_at, load_base_at}
+use Rattle.bl_mbi.specs.Reading.{end_at, tags_of, info_of}
 use Rattle.bl_mbi.proofs.Inverse.{passed, made, same_ok}
 use Rattle.bl_mbi.proofs.WordLaws.{word_then}
 use Rattle.bl_mbi.proofs.TagIs.{IsRead, drop_small}
-use Rattle.bl_mbi.proofs.ReadIs.{text_tag_at_is, modules_at_are, memory_at_is, map_at_is, copy_at_is, load_base_at_is, end_at_is}
+use Rattle.bl_mbi.proofs.ReadIs.{text_tag_at_is, modules_at_are, memory_at_is, map_at_is}
+use Rattle.bl_mbi.proofs.ReadIs.{copy_at_is, load_base_at_is, end_at_is}
 
 -- the tags that were read, one behind the other
 record IsInOrder (left : Left) (info : InfoFacts) : Type 0 where
@@ -22,12 +25,15 @@ record IsInOrder (left : Left) (info : InfoFacts) : Type 0 where
   name : IsText info.name
   facts : FitsFields info.facts
 
-in_order : (l0 l1 l2 l3 l4 l5 l6 l7 l8 : Left) (a b c d e f g h i : List ℕ) → IsRead l0 a l1 → IsRead l1 b l2 → IsRead l2 c l3 → IsRead l3 d l4 → IsRead l4 e l5 → IsRead l5 f l6 → IsRead l6 g l7 → IsRead l7 h l8 → l8.bytes ≡ i
+in_order : (l0 l1 l2 l3 l4 l5 l6 l7 l8 : Left) (a b c d e f g h i : List ℕ) → IsRead l0 a l1
+    → IsRead l1 b l2 → IsRead l2 c l3 → IsRead l3 d l4 → IsRead l4 e l5 → IsRead l5 f l6
+    → IsRead l6 g l7 → IsRead l7 h l8 → l8.bytes ≡ i
     → l0.bytes ≡ a ++ (b ++ (c ++ (d ++ (e ++ (f ++ (g ++ (h ++ i)))))))
 in_order l0 l1 l2 l3 l4 l5 l6 l7 l8 a b c d e f g h i r1 r2 r3 r4 r5 r6 r7 r8 last =
     rw (r1.bytes, r2.bytes, r3.bytes, r4.bytes, r5.bytes, r6.bytes, r7.bytes, r8.bytes, last) refl
 
-tags_are : (left : Left) (info : InfoFacts) → AreBytes left.bytes → tags_of left ≡ Ok info → IsInOrder left info
+tags_are : (left : Left) (info : InfoFacts) → AreBytes left.bytes → tags_of left ≡ Ok info
+    → IsInOrder left info
 unfolding tags_of
 tags_are left info small h =
     let s1 = made (text_tag_at 1 left) _ info h in
@@ -48,17 +54,40 @@ tags_are left info small h =
     let new = copy_at_is 15 s6.0.1 s7.0 old.0.small s7.1 in
     let base = load_base_at_is s7.0.1 s8.0 new.0.small s8.1 in
     let end : s8.0.1.bytes ≡ tag 0 [] = end_at_is s8.0.1 base.0.small s9.1 in
-    let facts : InformationFacts = record { line = s1.0.0; modules = s3.0.0; mem_lower = s4.0.0.0; mem_upper = s4.0.0.1; runs = s5.0.0; rsdp_old = s6.0.0; rsdp_new = s7.0.0; load_base = s8.0.0 } in
+    let facts : InformationFacts =
+    record {
+      line = s1.0.0;
+      modules = s3.0.0;
+      mem_lower = s4.0.0.0;
+      mem_upper = s4.0.0.1;
+      runs = s5.0.0;
+      rsdp_old = s6.0.0;
+      rsdp_new = s7.0.0;
+      load_base = s8.0.0;
+    } in
     let info_is : InfoFacts = record { name = s2.0.0; facts = facts } in
     let is : IsInOrder left info_is = record {
-      bytes = in_order left s1.0.1 s2.0.1 s3.0.1 s4.0.1 s5.0.1 s6.0.1 s7.0.1 s8.0.1 _ _ _ _ _ _ _ _ _ line.0 name.0 modules.0 memory.0 map.0 old.0 new.0 base.0 end;
+      bytes =
+          in_order left s1.0.1 s2.0.1 s3.0.1 s4.0.1 s5.0.1 s6.0.1 s7.0.1 s8.0.1
+          _ _ _ _ _ _ _ _ _ line.0 name.0 modules.0 memory.0 map.0 old.0 new.0 base.0 end;
       name = name.1;
-      facts = record { line = line.1; modules = modules.1; mem_lower = memory.1; mem_upper = memory.2; runs = map.1; rsdp_old = old.1; rsdp_new = new.1; load_base = base.1 };
+      facts =
+          record {
+            line = line.1;
+            modules = modules.1;
+            mem_lower = memory.1;
+            mem_upper = memory.2;
+            runs = map.1;
+            rsdp_old = old.1;
+            rsdp_new = new.1;
+            load_base = base.1;
+          };
     } in
     rw (← same_ok info_is info s9.2) is
 
 -- what was read is spelled so
-pub read_is_spelled : (bytes : List ℕ) (info : InfoFacts) → AreBytes bytes → info_of bytes ≡ Ok info → IsSpelling bytes info
+pub read_is_spelled : (bytes : List ℕ) (info : InfoFacts) → AreBytes bytes → info_of bytes ≡ Ok info
+    → IsSpelling bytes info
 unfolding info_of spelling
 read_is_spelled bytes info small h =
     let s1 = passed (nat_lt (length bytes) 16) _ _ info h in
@@ -67,15 +96,22 @@ read_is_spelled bytes info small h =
     let long : 16 ≤ length bytes = grind (arith, nat_tests, s1.0) in
     let whole : word bytes ≡ length bytes = grind (arith, nat_tests, not-false _ s2.0) in
     let reserved : word (drop 4 bytes) ≡ 0 = grind (arith, nat_tests, not-false _ s3.0) in
-    let is = tags_are record { at = 8; bytes = drop 8 bytes } info (drop_small 8 bytes small) s3.1 in
+    let is =
+    tags_are record { at = 8; bytes = drop 8 bytes } info (drop_small 8 bytes small) s3.1 in
     let all : drop 8 bytes ≡ tags info.name info.facts = is.bytes in
-    let total : length bytes ≡ 8 + length (tags info.name info.facts) = omega (arith, length-drop 8 bytes, ap length all) in
-    let front : u32_bytes (word bytes) ++ drop 4 bytes ≡ bytes = word_then bytes small (omega arith) in
-    let second : u32_bytes (word (drop 4 bytes)) ++ drop 4 (drop 4 bytes) ≡ drop 4 bytes = word_then (drop 4 bytes) (drop_small 4 bytes small) (omega (arith, length-drop 4 bytes)) in
+    let total : length bytes ≡ 8 + length (tags info.name info.facts) =
+    omega (arith, length-drop 8 bytes, ap length all) in
+    let front : u32_bytes (word bytes) ++ drop 4 bytes ≡ bytes =
+    word_then bytes small (omega arith) in
+    let second : u32_bytes (word (drop 4 bytes)) ++ drop 4 (drop 4 bytes) ≡ drop 4 bytes =
+    word_then (drop 4 bytes) (drop_small 4 bytes small) (omega (arith, length-drop 4 bytes)) in
     record {
       exact =
           sym front ∙ ap₂ (λ (n : ℕ) (xs : List ℕ). u32_bytes n ++ xs) (whole ∙ total) (sym second)
-          ∙ ap₂ (λ (n : ℕ) (xs : List ℕ). u32_bytes (8 + length (tags info.name info.facts)) ++ (u32_bytes n ++ xs)) reserved (drop-drop 4 4 bytes ∙ all);
+          ∙ ap₂
+          (λ (n : ℕ) (xs : List ℕ).
+          u32_bytes (8 + length (tags info.name info.facts)) ++ (u32_bytes n ++ xs))
+          reserved (drop-drop 4 4 bytes ∙ all);
       name = is.name;
       facts = is.facts;
     }

@@ -1,5 +1,7 @@
 -- A tag that is read is spelled so.
-use Rattle.std.proofs.Common.{◌≡◌, ◌<◌, ◌≤◌, ◌+◌, ◌-◌, ◌%◌, ℕ, true, List, [], ◌∷◌, ◌++◌, length, take, drop, replicate, Ok, arith, rules, refl, sym, ap, ap₂, ◌∙◌, append_assoc}
+use Rattle.std.proofs.Common.{◌≡◌, ◌<◌, ◌≤◌, ◌+◌, ◌-◌, ◌%◌, ℕ, true, List, [], ◌∷◌, ◌++◌, length}
+use Rattle.std.proofs.Common.{take, drop, replicate, Ok, arith, rules, refl, sym, ap, ap₂, ◌∙◌}
+use Rattle.std.proofs.Common.{append_assoc}
 use Rattle.std.specs.Prelude.{slice_range, ◌==◌, nat_eq, nat_lt, not}
 use Rattle.std.specs.List.{list_all}
 use Rattle.std.proofs.lemmas.Bool.{and_parts, not-false}
@@ -38,11 +40,13 @@ record IsPassed (kind : ℕ) (left : Left) (read : List ℕ × Left) : Type 0 wh
   kind_is : word left.bytes ≡ kind
   large : 8 ≤ word (drop 4 left.bytes)
   fits : padded (word (drop 4 left.bytes)) ≤ length left.bytes
-  zeros : list_all (λ b. b == 0) (slice_range left.bytes (word (drop 4 left.bytes)) (padded (word (drop 4 left.bytes)))) ≡ true
+  zeros : list_all (λ b. b == 0)
+      (slice_range left.bytes (word (drop 4 left.bytes)) (padded (word (drop 4 left.bytes)))) ≡ true
   body : slice_range left.bytes 8 (word (drop 4 left.bytes)) ≡ read.0
   rest : drop (padded (word (drop 4 left.bytes))) left.bytes ≡ read.1.bytes
 
-passes : (kind : ℕ) (left : Left) (read : List ℕ × Left) → tag_at kind left ≡ Ok read → IsPassed kind left read
+passes : (kind : ℕ) (left : Left) (read : List ℕ × Left) → tag_at kind left ≡ Ok read
+    → IsPassed kind left read
 unfolding tag_at
 passes kind left read h =
     let size = word (drop 4 left.bytes) in
@@ -51,7 +55,9 @@ passes kind left read h =
     let s3 = passed (not (nat_eq (word left.bytes) kind)) _ _ read s2.1 in
     let s4 = passed (nat_lt size 8) _ _ read s3.1 in
     let s5 = passed (nat_lt (length left.bytes) (padded size)) _ _ read s4.1 in
-    let s6 = passed (not (list_all (λ b. b == 0) (slice_range left.bytes size (padded size)))) _ _ read s5.1 in
+    let s6 =
+    passed (not (list_all (λ b. b == 0) (slice_range left.bytes size (padded size)))) _ _ read
+    s5.1 in
     let is = same_ok _ read s6.1 in
     let kind_true = not-false (nat_eq (word left.bytes) kind) s3.0 in
     record {
@@ -64,7 +70,8 @@ passes kind left read h =
       rest = ap (λ (r : List ℕ × Left). r.1.bytes) is;
     }
 
-pub tag_is : (kind : ℕ) (left : Left) (read : List ℕ × Left) → AreBytes left.bytes → tag_at kind left ≡ Ok read → IsRead left (tag kind read.0) read.1 × AreBytes read.0
+pub tag_is : (kind : ℕ) (left : Left) (read : List ℕ × Left) → AreBytes left.bytes
+    → tag_at kind left ≡ Ok read → IsRead left (tag kind read.0) read.1 × AreBytes read.0
 tag_is kind left read small h =
     let p = passes kind left read h in
     let bytes = left.bytes in
@@ -75,21 +82,38 @@ tag_is kind left read small h =
     let long = p.long in
     let large = p.large in
     let fits = p.fits in
-    let front : u32_bytes (word bytes) ++ drop 4 bytes ≡ bytes = word_then bytes small (omega arith) in
-    let second : u32_bytes size ++ drop 4 (drop 4 bytes) ≡ drop 4 bytes = word_then (drop 4 bytes) (drop_small 4 bytes small) (search (rules, places)) in
-    let body_split : body ++ drop size bytes ≡ drop 8 bytes = ap (λ (n : ℕ). body ++ drop n bytes) (omega arith) ∙ ap (λ (xs : List ℕ). body ++ xs) (sym (drop-drop (size - 8) 8 bytes)) ∙ take-append-drop (size - 8) (drop 8 bytes) in
-    let pad_split : pad ++ drop whole bytes ≡ drop size bytes = ap (λ (n : ℕ). pad ++ drop n bytes) (omega arith) ∙ ap (λ (xs : List ℕ). pad ++ xs) (sym (drop-drop (whole - size) size bytes)) ∙ take-append-drop (whole - size) (drop size bytes) in
+    let front : u32_bytes (word bytes) ++ drop 4 bytes ≡ bytes =
+    word_then bytes small (omega arith) in
+    let second : u32_bytes size ++ drop 4 (drop 4 bytes) ≡ drop 4 bytes =
+    word_then (drop 4 bytes) (drop_small 4 bytes small) (search (rules, places)) in
+    let body_split : body ++ drop size bytes ≡ drop 8 bytes =
+    ap (λ (n : ℕ). body ++ drop n bytes) (omega arith)
+    ∙ ap (λ (xs : List ℕ). body ++ xs) (sym (drop-drop (size - 8) 8 bytes))
+    ∙ take-append-drop (size - 8) (drop 8 bytes) in
+    let pad_split : pad ++ drop whole bytes ≡ drop size bytes =
+    ap (λ (n : ℕ). pad ++ drop n bytes) (omega arith)
+    ∙ ap (λ (xs : List ℕ). pad ++ xs) (sym (drop-drop (whole - size) size bytes))
+    ∙ take-append-drop (whole - size) (drop size bytes) in
     let body_len : length body ≡ size - 8 = search (rules, places) in
     let pad_len : length pad ≡ whole - size = search (rules, places) in
     let count : length pad ≡ (8 - length body % 8) % 8 = omega arith in
-    let pad_is : pad ≡ padding (length body) = all_zero pad p.zeros ∙ ap (λ (n : ℕ). replicate n 0) count in
+    let pad_is : pad ≡ padding (length body) =
+    all_zero pad p.zeros ∙ ap (λ (n : ℕ). replicate n 0) count in
     let total : size ≡ 8 + length body = omega arith in
     let spelled : bytes ≡ tag kind body ++ drop whole bytes =
     sym front ∙ ap₂ (λ (n : ℕ) (xs : List ℕ). u32_bytes n ++ xs) p.kind_is (sym second)
-    ∙ ap₂ (λ (n : ℕ) (xs : List ℕ). u32_bytes kind ++ (u32_bytes n ++ xs)) total (drop-drop 4 4 bytes ∙ sym body_split)
-    ∙ ap (λ (xs : List ℕ). u32_bytes kind ++ (u32_bytes (8 + length body) ++ (body ++ xs))) (sym pad_split)
-    ∙ ap (λ (xs : List ℕ). u32_bytes kind ++ (u32_bytes (8 + length body) ++ (body ++ (xs ++ drop whole bytes)))) pad_is
+    ∙ ap₂ (λ (n : ℕ) (xs : List ℕ). u32_bytes kind ++ (u32_bytes n ++ xs)) total
+    (drop-drop 4 4 bytes ∙ sym body_split)
+    ∙ ap (λ (xs : List ℕ). u32_bytes kind ++ (u32_bytes (8 + length body) ++ (body ++ xs)))
+    (sym pad_split)
+    ∙ ap
+    (λ (xs : List ℕ).
+    u32_bytes kind ++ (u32_bytes (8 + length body) ++ (body ++ (xs ++ drop whole bytes))))
+    pad_is
     ∙ simp append_assoc in
-    let is : IsRead left (tag kind body) record { at = read.1.at; bytes = drop whole bytes } × AreBytes body =
-    (record { bytes = spelled; small = drop_small whole bytes small }, take_small (size - 8) (drop 8 bytes) (drop_small 8 bytes small)) in
+    let is : IsRead left (tag kind body) record { at = read.1.at; bytes = drop whole bytes }
+    × AreBytes body = (
+      record { bytes = spelled; small = drop_small whole bytes small },
+      take_small (size - 8) (drop 8 bytes) (drop_small 8 bytes small),
+    ) in
     rw (← p.body, ← p.rest) is

@@ -1,5 +1,6 @@
 -- Numbers in front of bytes, written and read.
-use Rattle.std.proofs.Common.{◌≡◌, ◌<◌, ◌≤◌, ◌^◌, ℕ, List, [], ◌++◌, length, get_or, take, drop, arith, rules, refl, sym, ap, ◌∙◌, ⊎_elim, lit<}
+use Rattle.std.proofs.Common.{◌≡◌, ◌<◌, ◌≤◌, ◌^◌, ℕ, List, [], ◌++◌, length, get_or, take, drop}
+use Rattle.std.proofs.Common.{arith, rules, refl, sym, ap, ◌∙◌, ⊎_elim, lit<}
 use Rattle.std.proofs.lemmas.List.{places, take-append-drop, get_or_past, get_or-take, append-nil}
 use Rattle.std.proofs.lemmas.List.Elements.{All-get_or, All-take}
 use Rattle.std.proofs.lemmas.Bool.{cases_lt}
@@ -33,7 +34,8 @@ behind_words m n rest = refl
 
 small_at : (bytes : List ℕ) (i : ℕ) → AreBytes bytes → get_or bytes i 0 < 256
 small_at bytes i small =
-    ⊎_elim (λ inside. All-get_or (λ b. b < 256) bytes i 0 inside small) (λ past. let none = get_or_past bytes i 0 past in omega arith) (cases_lt i (length bytes))
+    ⊎_elim (λ inside. All-get_or (λ b. b < 256) bytes i 0 inside small)
+    (λ past. let none = get_or_past bytes i 0 past in omega arith) (cases_lt i (length bytes))
 
 byte_small : (bytes : List ℕ) (n i : ℕ) → AreBytes bytes → get_or (take n bytes) i 0 < 256
 byte_small bytes n i small = small_at (take n bytes) i (All-take (λ b. b < 256) n bytes small)
@@ -41,22 +43,53 @@ byte_small bytes n i small = small_at (take n bytes) i (All-take (λ b. b < 256)
 -- the number in the first bytes, as std reads it from these alone
 word_is : (bytes : List ℕ) → word bytes ≡ from_le_bytes w32 (take 4 bytes)
 unfolding number_at
-word_is bytes = omega (arith, get_or-take 4 bytes 0 0 (lit< tt), get_or-take 4 bytes 1 0 (lit< tt), get_or-take 4 bytes 2 0 (lit< tt), get_or-take 4 bytes 3 0 (lit< tt))
+word_is bytes =
+    omega (
+      arith,
+      get_or-take 4 bytes 0 0 (lit< tt),
+      get_or-take 4 bytes 1 0 (lit< tt),
+      get_or-take 4 bytes 2 0 (lit< tt),
+      get_or-take 4 bytes 3 0 (lit< tt),
+    )
 
 long_is : (bytes : List ℕ) → long bytes ≡ from_le_bytes w64 (take 8 bytes)
 unfolding number_at
 long_is bytes =
-    omega (arith, get_or-take 8 bytes 0 0 (lit< tt), get_or-take 8 bytes 1 0 (lit< tt), get_or-take 8 bytes 2 0 (lit< tt), get_or-take 8 bytes 3 0 (lit< tt), get_or-take 8 bytes 4 0 (lit< tt), get_or-take 8 bytes 5 0 (lit< tt), get_or-take 8 bytes 6 0 (lit< tt), get_or-take 8 bytes 7 0 (lit< tt))
+    omega (
+      arith,
+      get_or-take 8 bytes 0 0 (lit< tt),
+      get_or-take 8 bytes 1 0 (lit< tt),
+      get_or-take 8 bytes 2 0 (lit< tt),
+      get_or-take 8 bytes 3 0 (lit< tt),
+      get_or-take 8 bytes 4 0 (lit< tt),
+      get_or-take 8 bytes 5 0 (lit< tt),
+      get_or-take 8 bytes 6 0 (lit< tt),
+      get_or-take 8 bytes 7 0 (lit< tt),
+    )
 
 pub word_small : (bytes : List ℕ) → AreBytes bytes → word bytes < 2 ^ 32
-word_small bytes small = omega (arith, word_is bytes, byte_small bytes 4 0 small, byte_small bytes 4 1 small, byte_small bytes 4 2 small, byte_small bytes 4 3 small)
+word_small bytes small =
+    omega (
+      arith,
+      word_is bytes,
+      byte_small bytes 4 0 small,
+      byte_small bytes 4 1 small,
+      byte_small bytes 4 2 small,
+      byte_small bytes 4 3 small,
+    )
 
-pub word_then : (bytes : List ℕ) → AreBytes bytes → 4 ≤ length bytes → u32_bytes (word bytes) ++ drop 4 bytes ≡ bytes
+pub word_then : (bytes : List ℕ) → AreBytes bytes → 4 ≤ length bytes
+    → u32_bytes (word bytes) ++ drop 4 bytes ≡ bytes
 unfolding u32_bytes
 word_then bytes small long_enough =
-    ap (λ (front : List ℕ). front ++ drop 4 bytes) (le_bytes_4 (take 4 bytes) (word bytes) (search (rules, places)) (λ i. byte_small bytes 4 i small) (word_is bytes)) ∙ take-append-drop 4 bytes
+    ap (λ (front : List ℕ). front ++ drop 4 bytes)
+    (le_bytes_4 (take 4 bytes) (word bytes) (search (rules, places))
+    (λ i. byte_small bytes 4 i small) (word_is bytes)) ∙ take-append-drop 4 bytes
 
-pub long_then : (bytes : List ℕ) → AreBytes bytes → 8 ≤ length bytes → u64_bytes (long bytes) ++ drop 8 bytes ≡ bytes
+pub long_then : (bytes : List ℕ) → AreBytes bytes → 8 ≤ length bytes
+    → u64_bytes (long bytes) ++ drop 8 bytes ≡ bytes
 unfolding u64_bytes
 long_then bytes small long_enough =
-    ap (λ (front : List ℕ). front ++ drop 8 bytes) (le_bytes_8 (take 8 bytes) (long bytes) (search (rules, places)) (λ i. byte_small bytes 8 i small) (long_is bytes)) ∙ take-append-drop 8 bytes
+    ap (λ (front : List ℕ). front ++ drop 8 bytes)
+    (le_bytes_8 (take 8 bytes) (long bytes) (search (rules, places))
+    (λ i. byte_small bytes 8 i small) (long_is bytes)) ∙ take-append-drop 8 bytes

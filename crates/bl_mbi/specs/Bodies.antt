@@ -1,6 +1,8 @@
 -- What the body of each tag tells, where it fits its type (Multiboot2 3.6 "Boot information
 -- format").
-use Rattle.std.specs.Prelude.{◌+◌, ◌-◌, ◌/◌, ◌%◌, ℕ, zero, suc, not, if◌then◌else◌, ◌==◌, nat_lt, List, [], ◌∷◌, length, take, drop, slice_index, Option, Some, None, option_map, option_and_then}
+use Rattle.std.specs.Prelude.{◌+◌, ◌-◌, ◌/◌, ◌%◌, ℕ, zero, suc, not, if◌then◌else◌, ◌==◌, nat_lt}
+use Rattle.std.specs.Prelude.{List, [], ◌∷◌, length, take, drop, slice_index, Option, Some, None}
+use Rattle.std.specs.Prelude.{option_map, option_and_then}
 use Rattle.std.specs.List.{list_any}
 use Rattle.bl_map.specs.declared.region.Region.{Region}
 use Rattle.bl_map.specs.Kinds.{kind_of}
@@ -44,7 +46,8 @@ run_of bytes =
 abbrev pub runs_of : ℕ → List ℕ → Option (List Region)
 runs_of zero bytes = Some []
 runs_of (suc n) bytes =
-    option_and_then (λ run. option_map (λ runs. run ∷ runs) (runs_of n (drop 24 bytes))) (run_of bytes)
+    option_and_then (λ run. option_map (λ runs. run ∷ runs) (runs_of n (drop 24 bytes)))
+    (run_of bytes)
 
 -- 3.6.8 "Memory map": entry_size, entry_version, entries
 unfoldable pub map_of : List ℕ → Option (List Region)

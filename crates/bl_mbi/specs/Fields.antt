@@ -1,5 +1,6 @@
 -- What reading gives, the numbers and the tag at a place (Multiboot2 3.6.2 "Basic tags structure").
-use Rattle.std.specs.Prelude.{◌≡◌, ◌+◌, ℕ, Bool, not, ◌&&◌, if◌then◌else◌, ◌==◌, nat_lt, nat_le, List, length, drop, slice_range, Option, Some, None, Result, Ok, Err}
+use Rattle.std.specs.Prelude.{◌≡◌, ◌+◌, ℕ, Bool, not, ◌&&◌, if◌then◌else◌, ◌==◌, nat_lt, nat_le}
+use Rattle.std.specs.Prelude.{List, length, drop, slice_range, Option, Some, None, Result, Ok, Err}
 use Rattle.std.specs.List.{list_all}
 use Rattle.bl_mem.specs.Words.{u32_at, u64_at}
 use Rattle.bl_mbi.specs.declared.fault.InfoFault.{InfoFault}
@@ -9,7 +10,8 @@ use Rattle.bl_mbi.specs.Size.{padded}
 
 -- one step behind the other, up to the first fault
 infixl 10 ◌>>=◌
-abbrev pub ◌>>=◌ : {A B : Type 0} → Result A InfoFault → (A → Result B InfoFault) → Result B InfoFault
+abbrev pub ◌>>=◌ : {A B : Type 0} → Result A InfoFault → (A → Result B InfoFault)
+    → Result B InfoFault
 (Ok x) >>= f = f x
 (Err e) >>= f = Err e
 
@@ -55,7 +57,8 @@ tag_at kind left =
     if nat_lt (length left.bytes) (padded size) then Err (BadTag left.at) else
     let padding = slice_range left.bytes size (padded size) in
     if not (list_all (λ b. b == 0) padding) then Err (BadTag left.at) else
-    let after : Left = record { at = left.at + padded size; bytes = drop (padded size) left.bytes } in
+    let after : Left =
+    record { at = left.at + padded size; bytes = drop (padded size) left.bytes } in
     Ok (slice_range left.bytes 8 size, after)
 
 -- what a body tells, or that its tag is bad

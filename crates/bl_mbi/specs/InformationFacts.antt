@@ -1,6 +1,7 @@
 -- The facts of boot information (Multiboot2 3.6 "Boot information format"), and what of them has a
 -- spelling.
-use Rattle.std.specs.Prelude.{◌≢◌, ◌^◌, ◌<◌, ◌≤◌, ℕ, List, length, map, All, Option, option_map, is_some, IfSome}
+use Rattle.std.specs.Prelude.{◌≢◌, ◌^◌, ◌<◌, ◌≤◌, ℕ, List, length, map, All, Option, option_map}
+use Rattle.std.specs.Prelude.{is_some, IfSome}
 use Rattle.bl_map.specs.declared.region.Region.{Region}
 use Rattle.bl_map.specs.Limits.{region_limit}
 use Rattle.bl_map.specs.Kinds.{end_of}

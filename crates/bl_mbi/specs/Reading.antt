@@ -1,9 +1,11 @@
 -- Reading boot information: what bytes tell, or the first fault and where it stands (Multiboot2 3.6
 -- "Boot information format"; the order of tags and of faults is own).
-use Rattle.std.specs.Prelude.{◌==◌, ℕ, zero, suc, not, if◌then◌else◌, nat_lt, List, [], ◌∷◌, length, drop, Option, Some, None, Result, Ok, Err}
+use Rattle.std.specs.Prelude.{◌==◌, ℕ, zero, suc, not, if◌then◌else◌, nat_lt, List, [], ◌∷◌, length}
+use Rattle.std.specs.Prelude.{drop, Option, Some, None, Result, Ok, Err}
 use Rattle.bl_map.specs.declared.region.Region.{Region}
 use Rattle.bl_mbi.specs.declared.fault.InfoFault.{InfoFault}
-use Rattle.bl_mbi.specs.declared.fault.InfoFault.TheVariants.{WrongLength, BadReserved, BadTag, BadOrder}
+use Rattle.bl_mbi.specs.declared.fault.InfoFault.TheVariants.{WrongLength, BadReserved, BadTag}
+use Rattle.bl_mbi.specs.declared.fault.InfoFault.TheVariants.{BadOrder}
 use Rattle.bl_mbi.specs.InformationFacts.{ModuleInfo}
 use Rattle.bl_mbi.specs.Fields.{◌>>=◌, Left, word, is_next, tag_at, or_bad}
 use Rattle.bl_mbi.specs.Bodies.{text_of, module_of, memory_of, map_of, load_base_of}

@@ -1,6 +1,7 @@
 -- How many bytes boot information takes, by the lengths of what it tells (Multiboot2 3.6 "Boot
 -- information format").
-use Rattle.std.specs.Prelude.{◌+◌, ◌*◌, ◌/◌, ℕ, Bool, if◌then◌else◌, List, sum_by, Option, Some, None}
+use Rattle.std.specs.Prelude.{◌+◌, ◌*◌, ◌/◌, ℕ, Bool, if◌then◌else◌, List, sum_by, Option, Some}
+use Rattle.std.specs.Prelude.{None}
 
 -- a size up to the next multiple of 8
 abbrev pub padded : ℕ → ℕ

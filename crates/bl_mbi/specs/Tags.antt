@@ -1,5 +1,6 @@
 -- The tags of boot information (Multiboot2 3.6.2 "Basic tags structure"), each by its body.
-use Rattle.std.specs.Prelude.{◌+◌, ◌-◌, ◌%◌, ℕ, List, [], ◌∷◌, ◌++◌, length, replicate, Option, Some, None}
+use Rattle.std.specs.Prelude.{◌+◌, ◌-◌, ◌%◌, ℕ, List, [], ◌∷◌, ◌++◌, length, replicate, Option}
+use Rattle.std.specs.Prelude.{Some, None}
 use Rattle.std.specs.List.{flat_map}
 use Rattle.bl_map.specs.declared.region.Region.{Region}
 use Rattle.bl_map.specs.Kinds.{kind_number}
@@ -32,7 +33,8 @@ memory_body mem_lower mem_upper = u32_bytes mem_lower ++ u32_bytes mem_upper
 -- an entry of the memory map, 3.6.8: base_addr, length, type, reserved
 abbrev pub run_bytes : Region → List ℕ
 run_bytes run =
-    u64_bytes run.base ++ (u64_bytes run.length ++ (u32_bytes (kind_number run.kind) ++ u32_bytes 0))
+    u64_bytes run.base
+    ++ (u64_bytes run.length ++ (u32_bytes (kind_number run.kind) ++ u32_bytes 0))
 
 -- 3.6.8 "Memory map" (type 6): entry_size, entry_version, entries
 abbrev pub map_body : List Region → List ℕ

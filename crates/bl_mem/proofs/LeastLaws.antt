@@ -24,11 +24,15 @@ none_more P n none not_here k within here =
 least_here : (P : ℕ → Type 0) (n : ℕ) → NoneBelow P n → P n → IsLeast P n
 least_here P n none here = record {
   holds = here;
-  least = λ k there. elim (cases_lt k n) [ inl below ↦ absurd (none k below there) | inr not_below ↦ omega arith ];
+  least =
+      λ k there.
+      elim (cases_lt k n)
+      [ inl below ↦ absurd (none k below there) | inr not_below ↦ omega arith ];
 }
 
 -- where each number has the property or has it not
-pub least_below : (P : ℕ → Type 0) → ((k : ℕ) → P k ⊎ (P k → ⊥)) → (n : ℕ) → NoneBelow P n ⊎ SomeBelow P n
+pub least_below : (P : ℕ → Type 0) → ((k : ℕ) → P k ⊎ (P k → ⊥)) → (n : ℕ)
+    → NoneBelow P n ⊎ SomeBelow P n
 least_below P has zero = inl (λ k within here. absurd (omega arith))
 least_below P has (suc n) =
     elim (least_below P has n) [

@@ -4,7 +4,8 @@ use Rattle.byteorder.specs.Endian.{little_number}
 use Rattle.byteorder.specs.Numbers.{little_from-take}
 use Rattle.bl_mem.specs.Words.{number_at}
 
-pub number_at_read : (n at : ℕ) (bytes read : List ℕ) → read ≡ slice_range bytes at (at + n) → little_number n read ≡ number_at n bytes at
+pub number_at_read : (n at : ℕ) (bytes read : List ℕ) → read ≡ slice_range bytes at (at + n)
+    → little_number n read ≡ number_at n bytes at
 unfolding number_at
 number_at_read n at bytes read e =
     let count : at + n - at ≡ n = omega arith in

@@ -1,15 +1,19 @@
 -- What kept chunks read as, before and after one of them is made or written.
-use Rattle.std.proofs.Common.{◌≡◌, ℕ, ◌+◌, ◌-◌, ◌/◌, ◌%◌, ◌<◌, ◌≤◌, List, ◌++◌, length, get_or, take, map, replicate, slice_range, Option, Some, None, is_some, arith, rules, refl, sym, ap, ◌∙◌, inl, inr, false}
+use Rattle.std.proofs.Common.{◌≡◌, ℕ, ◌+◌, ◌-◌, ◌/◌, ◌%◌, ◌<◌, ◌≤◌, List, ◌++◌, length, get_or}
+use Rattle.std.proofs.Common.{take, map, replicate, slice_range, Option, Some, None, is_some, arith}
+use Rattle.std.proofs.Common.{rules, refl, sym, ap, ◌∙◌, inl, inr, false}
 use Rattle.std.specs.List.{range_with_len}
 use Rattle.std.specs.Ordering.{nat_cmp}
 use Rattle.std.specs.BTreeMap.{BTreeMap, get, is_at}
 use Rattle.std.proofs.lemmas.Bool.Decides.{nat_tests}
 use Rattle.std.proofs.lemmas.Bool.{cases_lt, cases_eq}
-use Rattle.std.proofs.lemmas.List.{places, same_lists, ext_get_or, get_or_default, get_or_past, get_or-replicate, length-replicate}
+use Rattle.std.proofs.lemmas.List.{places, same_lists, ext_get_or, get_or_default, get_or_past}
+use Rattle.std.proofs.lemmas.List.{get_or-replicate, length-replicate}
 use Rattle.std.proofs.lemmas.List.FromFn.{length-map-range_with_len, get_or-map-range_with_len}
 use Rattle.bl_mem.specs.Memory.{overwrite}
 use Rattle.bl_mem.specs.Sparse.{byte_in, byte_at, bytes_of}
-use Rattle.bl_mem.proofs.Overwrites.{length-overwrite, get_or-overwrite_in, get_or-overwrite_below, get_or-overwrite_above, overwrite_more, range_more}
+use Rattle.bl_mem.proofs.Overwrites.{length-overwrite, get_or-overwrite_in, get_or-overwrite_below}
+use Rattle.bl_mem.proofs.Overwrites.{get_or-overwrite_above, overwrite_more, range_more}
 
 -- a function's first values
 abbrev pub values : (ℕ → ℕ) → ℕ → List ℕ
@@ -22,7 +26,8 @@ pub get_or-values : (f : ℕ → ℕ) (n a : ℕ) → a < n → get_or (values f
 get_or-values f n a h = get_or-map-range_with_len f 0 n a a 0 h (omega arith)
 
 -- memory is as long as its size
-pub bytes_of_length : (chunks : BTreeMap ℕ (List ℕ)) (fill size : ℕ) → length (bytes_of chunks fill size) ≡ size
+pub bytes_of_length : (chunks : BTreeMap ℕ (List ℕ)) (fill size : ℕ)
+    → length (bytes_of chunks fill size) ≡ size
 bytes_of_length chunks fill size = length-values (byte_at chunks fill) size
 
 -- functions that agree have the same values
@@ -33,17 +38,22 @@ same_values f g n same = ext_get_or 0 _ _ (length-values f n ∙ sym (length-val
 
 -- a constant's values
 pub constant_values : (f : ℕ → ℕ) (n x : ℕ) → ((a : ℕ) → f a ≡ x) → values f n ≡ replicate n x
-constant_values f n x same = ext_get_or 0 _ _ (length-values f n ∙ sym (length-replicate n x)) (λ a h.
+constant_values f n x same =
+    ext_get_or 0 _ _ (length-values f n ∙ sym (length-replicate n x)) (λ a h.
     let below : a < n = let e = length-values f n in omega arith in
     get_or-values f n a below ∙ same a ∙ sym (get_or-replicate n a x 0 below))
 
 -- some values in a row
-pub values_range : (f : ℕ → ℕ) (n at : ℕ) (part : List ℕ) → at + length part ≤ n → ((k : ℕ) → k < length part → f (at + k) ≡ get_or part k 0) → part ≡ slice_range (values f n) at (at + length part)
+pub values_range : (f : ℕ → ℕ) (n at : ℕ) (part : List ℕ) → at + length part ≤ n
+    → ((k : ℕ) → k < length part → f (at + k) ≡ get_or part k 0)
+    → part ≡ slice_range (values f n) at (at + length part)
 values_range f n at part h same =
     let size = length-values f n in
-    let len : length part ≡ length (slice_range (values f n) at (at + length part)) = sym (search (rules, places)) in
+    let len : length part ≡ length (slice_range (values f n) at (at + length part)) =
+    sym (search (rules, places)) in
     ext_get_or 0 part _ len (λ k within.
-    let read : get_or (slice_range (values f n) at (at + length part)) k 0 ≡ get_or (values f n) (at + k) 0 = grind (arith, places) in
+    let read : get_or (slice_range (values f n) at (at + length part)) k 0
+    ≡ get_or (values f n) (at + k) 0 = grind (arith, places) in
     sym (same k within) ∙ sym (get_or-values f n (at + k) (omega arith)) ∙ sym read)
 
 -- values of which those of one range changed
@@ -55,45 +65,66 @@ pub values_overwritten : (f g : ℕ → ℕ) (n at : ℕ) (part : List ℕ) → 
 values_overwritten f g n at part h inside below above =
     let size = length-values f n in
     let fits : at + length part ≤ length (values f n) = omega arith in
-    ext_get_or 0 _ _ (length-values g n ∙ sym (length-overwrite (values f n) at part fits ∙ size)) (λ a within.
+    ext_get_or 0 _ _ (length-values g n ∙ sym (length-overwrite (values f n) at part fits ∙ size))
+    (λ a within.
     let small : a < n = let e = length-values g n in omega arith in
     get_or-values g n a small ∙ elim (cases_lt a at) [
-      | inl low ↦ below a low ∙ sym (get_or-overwrite_below (values f n) at part a 0 low fits ∙ get_or-values f n a small)
+      | inl low ↦
+          below a low
+          ∙ sym
+          (get_or-overwrite_below (values f n) at part a 0 low fits
+          ∙ get_or-values f n a small)
       | inr from ↦ elim (cases_lt a (at + length part)) [
-        | inl high ↦ inside a from high ∙ sym (get_or-overwrite_in (values f n) at part a 0 from high fits)
-        | inr past ↦ above a past ∙ sym (get_or-overwrite_above (values f n) at part a 0 past fits ∙ get_or-values f n a small)
+        | inl high ↦
+            inside a from high ∙ sym (get_or-overwrite_in (values f n) at part a 0 from high fits)
+        | inr past ↦
+            above a past
+            ∙ sym
+            (get_or-overwrite_above (values f n) at part a 0 past fits
+            ∙ get_or-values f n a small)
       ]
     ])
 
 module _ (chunks : BTreeMap ℕ (List ℕ)) (fill size at : ℕ) where
   -- a byte behind `at` in the same chunk, of which it is known whether it is kept
-  byte_found : (found : Option (List ℕ)) (k : ℕ) → get nat_cmp chunks (at / 65536) ≡ found → at % 65536 + k < 65536 → byte_at chunks fill (at + k) ≡ byte_in fill found (at % 65536 + k)
+  byte_found : (found : Option (List ℕ)) (k : ℕ) → get nat_cmp chunks (at / 65536) ≡ found
+      → at % 65536 + k < 65536 → byte_at chunks fill (at + k) ≡ byte_in fill found (at % 65536 + k)
   byte_found found k is h =
       let number : (at + k) / 65536 ≡ at / 65536 = omega arith in
       let place : (at + k) % 65536 ≡ at % 65536 + k = omega arith in
       rw (number, place, is) refl
 
   -- bytes of a chunk that is kept
-  pub read_kept : (chunk : List ℕ) (n : ℕ) → get nat_cmp chunks (at / 65536) ≡ Some chunk → length chunk ≡ 65536 → at + n ≤ size → at % 65536 + n ≤ 65536
-      → slice_range chunk (at % 65536) (at % 65536 + n) ≡ slice_range (bytes_of chunks fill size) at (at + n)
+  pub read_kept : (chunk : List ℕ) (n : ℕ) → get nat_cmp chunks (at / 65536) ≡ Some chunk
+      → length chunk ≡ 65536 → at + n ≤ size → at % 65536 + n ≤ 65536
+      → slice_range chunk (at % 65536) (at % 65536 + n)
+      ≡ slice_range (bytes_of chunks fill size) at (at + n)
   read_kept chunk n is whole inside one =
       let part = slice_range chunk (at % 65536) (at % 65536 + n) in
       let len : length part ≡ n = search (rules, places) in
       values_range (byte_at chunks fill) size at part (omega arith) (λ k h.
-      byte_found (Some chunk) k is (omega arith) ∙ get_or_default chunk (at % 65536 + k) fill 0 (omega arith) ∙ grind (arith, places))
+      byte_found (Some chunk) k is (omega arith)
+      ∙ get_or_default chunk (at % 65536 + k) fill 0 (omega arith) ∙ grind (arith, places))
       ∙ ap (λ m. slice_range (bytes_of chunks fill size) at (at + m)) len
 
   -- bytes of a chunk that is not
-  pub read_filled : (n : ℕ) → get nat_cmp chunks (at / 65536) ≡ None → at + n ≤ size → at % 65536 + n ≤ 65536 → replicate n fill ≡ slice_range (bytes_of chunks fill size) at (at + n)
+  pub read_filled : (n : ℕ) → get nat_cmp chunks (at / 65536) ≡ None → at + n ≤ size
+      → at % 65536 + n ≤ 65536
+      → replicate n fill ≡ slice_range (bytes_of chunks fill size) at (at + n)
   read_filled n is inside one =
       let len = length-replicate n fill in
-      values_range (byte_at chunks fill) size at (replicate n fill) (omega arith) (λ k h. byte_found None k is (omega arith) ∙ sym (get_or-replicate n k fill 0 (omega arith)))
+      values_range (byte_at chunks fill) size at (replicate n fill) (omega arith)
+      (λ k h.
+      byte_found None k is (omega arith) ∙ sym (get_or-replicate n k fill 0 (omega arith)))
       ∙ ap (λ m. slice_range (bytes_of chunks fill size) at (at + m)) len
 
   -- memory after bytes of a kept chunk were written
-  pub write_kept : (after : BTreeMap ℕ (List ℕ)) (chunk changed : List ℕ) (part : List ℕ) → get nat_cmp chunks (at / 65536) ≡ Some chunk → length chunk ≡ 65536
-      → get nat_cmp after (at / 65536) ≡ Some changed → changed ≡ overwrite chunk (at % 65536) part → ((q : ℕ) → (q ≡ at / 65536 → ⊥) → get nat_cmp after q ≡ get nat_cmp chunks q)
-      → at + length part ≤ size → at % 65536 + length part ≤ 65536 → bytes_of after fill size ≡ overwrite (bytes_of chunks fill size) at part
+  pub write_kept : (after : BTreeMap ℕ (List ℕ)) (chunk changed : List ℕ) (part : List ℕ)
+      → get nat_cmp chunks (at / 65536) ≡ Some chunk → length chunk ≡ 65536
+      → get nat_cmp after (at / 65536) ≡ Some changed → changed ≡ overwrite chunk (at % 65536) part
+      → ((q : ℕ) → (q ≡ at / 65536 → ⊥) → get nat_cmp after q ≡ get nat_cmp chunks q)
+      → at + length part ≤ size → at % 65536 + length part ≤ 65536
+      → bytes_of after fill size ≡ overwrite (bytes_of chunks fill size) at part
   write_kept after chunk changed part is whole now wrote others inside one =
       values_overwritten (byte_at chunks fill) (byte_at after fill) size at part inside
       (λ a low high.
@@ -101,14 +132,21 @@ module _ (chunks : BTreeMap ℕ (List ℕ)) (fill size at : ℕ) where
       let place : a % 65536 ≡ at % 65536 + (a - at) = omega arith in
       let back : at % 65536 + (a - at) - at % 65536 ≡ a - at = omega arith in
       rw (number, place, now, wrote) (
-      get_or-overwrite_in chunk (at % 65536) part (at % 65536 + (a - at)) fill (omega arith) (omega arith) (omega arith)
+      get_or-overwrite_in chunk (at % 65536) part (at % 65536 + (a - at)) fill (omega arith)
+      (omega arith) (omega arith)
       ∙ ap (λ k. get_or part k fill) back ∙ get_or_default part (a - at) fill 0 (omega arith)))
       (λ a low. elim (cases_eq (a / 65536) (at / 65536)) [
-        | inl same ↦ rw (same, now, is, wrote) (get_or-overwrite_below chunk (at % 65536) part (a % 65536) fill (omega arith) (omega arith))
+        | inl same ↦
+            rw (same, now, is, wrote)
+            (get_or-overwrite_below chunk (at % 65536) part (a % 65536) fill (omega arith)
+            (omega arith))
         | inr other ↦ rw (others (a / 65536) other) refl
       ])
       (λ a high. elim (cases_eq (a / 65536) (at / 65536)) [
-        | inl same ↦ rw (same, now, is, wrote) (get_or-overwrite_above chunk (at % 65536) part (a % 65536) fill (omega arith) (omega arith))
+        | inl same ↦
+            rw (same, now, is, wrote)
+            (get_or-overwrite_above chunk (at % 65536) part (a % 65536) fill (omega arith)
+            (omega arith))
         | inr other ↦ rw (others (a / 65536) other) refl
       ])
 
@@ -121,11 +159,14 @@ none_of None h = refl
 none_of (Some x) h = cc
 
 -- memory after a chunk was given room
-pub newly_kept : (chunks after : BTreeMap ℕ (List ℕ)) (fill size number : ℕ) (chunk : List ℕ) → ((k : ℕ) → get_or chunk k fill ≡ fill)
-    → get nat_cmp chunks number ≡ None → get nat_cmp after number ≡ Some chunk → ((q : ℕ) → (q ≡ number → ⊥) → get nat_cmp after q ≡ get nat_cmp chunks q)
+pub newly_kept : (chunks after : BTreeMap ℕ (List ℕ)) (fill size number : ℕ) (chunk : List ℕ)
+    → ((k : ℕ) → get_or chunk k fill ≡ fill)
+    → get nat_cmp chunks number ≡ None → get nat_cmp after number ≡ Some chunk
+    → ((q : ℕ) → (q ≡ number → ⊥) → get nat_cmp after q ≡ get nat_cmp chunks q)
     → bytes_of after fill size ≡ bytes_of chunks fill size
 newly_kept chunks after fill size number chunk is was now others =
-    same_values (byte_at after fill) (byte_at chunks fill) size (λ a. elim (cases_eq (a / 65536) number) [
+    same_values (byte_at after fill) (byte_at chunks fill) size
+    (λ a. elim (cases_eq (a / 65536) number) [
       | inl same ↦ rw (same, now, was) (is (a % 65536))
       | inr other ↦ rw (others (a / 65536) other) refl
     ])
@@ -139,17 +180,25 @@ get_or-filled n k x =
     ]
 
 -- a read that goes on where it stopped
-pub read_on : (bytes old out piece : List ℕ) (at done next : ℕ) → done + next ≤ length old → at + length old ≤ length bytes → take done old ≡ slice_range bytes at (at + done)
-    → piece ≡ slice_range bytes (at + done) (at + done + next) → take (done + next) out ≡ take done old ++ piece → take (done + next) out ≡ slice_range bytes at (at + (done + next))
+pub read_on : (bytes old out piece : List ℕ) (at done next : ℕ) → done + next ≤ length old
+    → at + length old ≤ length bytes → take done old ≡ slice_range bytes at (at + done)
+    → piece ≡ slice_range bytes (at + done) (at + done + next)
+    → take (done + next) out ≡ take done old ++ piece
+    → take (done + next) out ≡ slice_range bytes at (at + (done + next))
 read_on bytes old out piece at done next within inside before is now =
     now ∙ ap (λ t. t ++ piece) before ∙ ap (λ t. slice_range bytes at (at + done) ++ t) is
-    ∙ range_more bytes at (at + done) (at + done + next) (omega arith) (omega arith) (omega arith) ∙ ap (slice_range bytes at) (omega arith)
+    ∙ range_more bytes at (at + done) (at + done + next) (omega arith) (omega arith) (omega arith)
+    ∙ ap (slice_range bytes at) (omega arith)
 
 -- a write that goes on where it stopped
-pub write_on : (bytes part : List ℕ) (at done next : ℕ) → done + next ≤ length part → at + length part ≤ length bytes
-    → overwrite (overwrite bytes at (take done part)) (at + done) (slice_range part done (done + next)) ≡ overwrite bytes at (take (done + next) part)
+pub write_on : (bytes part : List ℕ) (at done next : ℕ) → done + next ≤ length part
+    → at + length part ≤ length bytes
+    → overwrite (overwrite bytes at (take done part)) (at + done)
+    (slice_range part done (done + next)) ≡ overwrite bytes at (take (done + next) part)
 write_on bytes part at done next within inside =
     let first : length (take done part) ≡ done = search (rules, places) in
     let second : length (slice_range part done (done + next)) ≡ next = search (rules, places) in
-    overwrite_more bytes at (take done part) (slice_range part done (done + next)) (at + done) (omega arith) (omega arith)
-    ∙ ap (overwrite bytes at) (same_lists _ _ (search (rules, places)) (λ k d h. grind (arith, places)))
+    overwrite_more bytes at (take done part) (slice_range part done (done + next)) (at + done)
+    (omega arith) (omega arith)
+    ∙ ap (overwrite bytes at)
+    (same_lists _ _ (search (rules, places)) (λ k d h. grind (arith, places)))

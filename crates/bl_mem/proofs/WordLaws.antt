@@ -1,4 +1,5 @@
--- How many bytes a number has, that it is read again from them, and that a number in bytes is small.
+-- How many bytes a number has, that it is read again from them, and that a number in bytes is
+-- small.
 use Rattle.std.proofs.Common.{◌≡◌, ◌<◌, ◌+◌, ◌^◌, ℕ, List, ◌++◌, length, drop, slice_index, refl}
 use Rattle.std.proofs.lemmas.List.{get_or-drop}
 use Rattle.byteorder.specs.Numbers.{little_number-reads_back, little_from-lt}
@@ -20,6 +21,7 @@ pub u64_again : (n : ℕ) (rest : List ℕ) → n < 2 ^ 64 → u64_at (u64_bytes
 unfolding u64_bytes number_at
 u64_again n rest fits = little_number-reads_back 8 n rest fits
 
-pub u32_at-lt : (bytes : List ℕ) (at : ℕ) → ((k : ℕ) → slice_index bytes k < 256) → u32_at bytes at < 2 ^ 32
+pub u32_at-lt : (bytes : List ℕ) (at : ℕ) → ((k : ℕ) → slice_index bytes k < 256)
+    → u32_at bytes at < 2 ^ 32
 unfolding number_at
 u32_at-lt bytes at small = little_from-lt 0 4 (drop at bytes) (λ k. rw get_or-drop (small (at + k)))

@@ -1,5 +1,7 @@
--- The bytes that a segment puts into memory (System V gABI, "Program Header": p_offset, p_filesz, p_memsz).
-use Rattle.std.specs.Prelude.{ℕ, ◌+◌, ◌-◌, Bool, ◌&&◌, nat_le, nat_lt, List, ◌++◌, replicate, slice_range}
+-- The bytes that a segment puts into memory (System V gABI, "Program Header": p_offset, p_filesz,
+-- p_memsz).
+use Rattle.std.specs.Prelude.{ℕ, ◌+◌, ◌-◌, Bool, ◌&&◌, nat_le, nat_lt, List, ◌++◌, replicate}
+use Rattle.std.specs.Prelude.{slice_range}
 use Rattle.bl_mem.specs.declared.segment.Segment.{Segment}
 
 -- its bytes of the file

@@ -4,8 +4,8 @@ ghost use Rattle.std.specs.Prelude.{◌≡◌, ◌==◌, ℕ, List, length, IfOk
 use std::alloc::{AllocError, Allocator};
 use std::marker::Model;
 
-/// A vector of bytes whose room does not count: contracts see the list alone. To wrap a vector, and to
-/// get it back, takes no memory.
+/// A vector of bytes whose room does not count: contracts see the list alone. To wrap a vector, and
+/// to get it back, takes no memory.
 #[derive(Drop)]
 pub struct Bytes<A: Allocator> {
     held: Vec<u8, A>,

@@ -6,8 +6,8 @@ use std::alloc::{AllocError, Allocator};
 use std::marker::Model;
 use std::ops::Range;
 
-/// A machine's memory in one block. Each address has room from the start, so that no call but `new` takes
-/// memory. Contracts see the list of its bytes.
+/// A machine's memory in one block. Each address has room from the start, so that no call but `new`
+/// takes memory. Contracts see the list of its bytes.
 #[derive(Drop)]
 pub struct Flat<A: Allocator> {
     held: Vec<u8, A>,
@@ -20,8 +20,8 @@ impl<A: Allocator> Model for Flat<A> {
 }
 
 impl<A: Allocator> Flat<A> {
-    /// `size` bytes of memory, which all are `fill`. They are asked for in one request. From 2^63 bytes on
-    /// no block can be so large, and the answer is always that memory ran out.
+    /// `size` bytes of memory, which all are `fill`. They are asked for in one request. From 2^63
+    /// bytes on no block can be so large, and the answer is always that memory ran out.
     pub fn new(alloc: A, size: u64, fill: u8) -> Result<Flat<A>, AllocError>
         ensures ok { IfOk result (λ flat. flat ≡ replicate size fill) }
     {

@@ -1,5 +1,6 @@
 //! What a loader asks of a machine's memory.
-ghost use Rattle.std.specs.Prelude.{◌≡◌, ℕ, ◌+◌, ◌-◌, ◌≤◌, List, length, replicate, slice_range, All, OnOk};
+ghost use Rattle.std.specs.Prelude.{◌≡◌, ℕ, ◌+◌, ◌-◌, ◌≤◌, List, length, replicate, slice_range};
+ghost use Rattle.std.specs.Prelude.{All, OnOk};
 ghost use Rattle.bl_mem.specs.Memory.{overwrite, HasRoom, AllHaveRoom, KeepsRoom};
 
 use std::alloc::AllocError;
@@ -7,9 +8,9 @@ use std::ops::Range;
 
 /// A machine's memory, one byte at each physical address from 0 up to its size.
 ///
-/// Each address can be read, but only one with room can be written. Room comes by `reserve`, the one
-/// call that may run out of memory, and no call takes it away. What an address without room reads as
-/// is for the type to say.
+/// Each address can be read, but only one with room can be written. Room comes by `reserve`, the
+/// one call that may run out of memory, and no call takes it away. What an address without room
+/// reads as is for the type to say.
 pub trait PhysMem {
     /// The byte that is read at each address.
     ghost bytes: { Self → List ℕ };

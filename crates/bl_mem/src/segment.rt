@@ -2,11 +2,11 @@
 ghost use Rattle.std.specs.Prelude.{◌≡◌};
 ghost use Rattle.bl_mem.specs.Contents as contents;
 
-/// What one program header loads (System V gABI, "Program Header"), or one address tag (Multiboot2 2.0,
-/// "3.1.5 The address tag of Multiboot2 header").
+/// What one program header loads (System V gABI, "Program Header"), or one address tag (Multiboot2
+/// 2.0, "3.1.5 The address tag of Multiboot2 header").
 ///
-/// The `memsz` bytes of memory from the physical `address` on become the `filesz` bytes of the file from
-/// `offset` on, and zeros up to the end. Offset, address and sizes count bytes.
+/// The `memsz` bytes of memory from the physical `address` on become the `filesz` bytes of the file
+/// from `offset` on, and zeros up to the end. Offset, address and sizes count bytes.
 #[derive(Clone, Copy, Debug, PartialEq, Eq)]
 pub struct Segment {
     pub offset: u64,

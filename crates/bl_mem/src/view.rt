@@ -1,7 +1,8 @@
 //! What a reader asks of a file.
 ghost use Rattle.std.specs.Prelude.{◌≡◌, ℕ, ◌+◌, ◌≤◌, List, length, slice_range};
 
-/// A file whose bytes can be copied out from any offset, in any order. They need not lie side by side.
+/// A file whose bytes can be copied out from any offset, in any order. They need not lie side by
+/// side.
 pub trait ByteView {
     /// The file's bytes, in order.
     ghost bytes: { Self → List ℕ };

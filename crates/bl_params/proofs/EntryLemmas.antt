@@ -1,5 +1,6 @@
 -- The bytes of the memory map's entries.
-use Rattle.std.proofs.Common.{◌≡◌, ◌≤◌, ◌<◌, ◌+◌, ◌*◌, ℕ, List, [], ◌∷◌, ◌++◌, length, take, arith, refl}
+use Rattle.std.proofs.Common.{◌≡◌, ◌≤◌, ◌<◌, ◌+◌, ◌*◌, ℕ, List, [], ◌∷◌, ◌++◌, length, take, arith}
+use Rattle.std.proofs.Common.{refl}
 use Rattle.std.proofs.lemmas.List.{length-append, take_more, length-take}
 use Rattle.std.proofs.lemmas.Grind.{common_steps, flat_map-append}
 use Rattle.std.specs.List.{flat_map}
@@ -20,7 +21,9 @@ length-entry_bytes run =
     let size = length-number_bytes 8 run.length in
     let kind = length-number_bytes 4 (kind_number run.kind) in
     let inner = length-append (number_bytes 8 run.length) (number_bytes 4 (kind_number run.kind)) in
-    let outer = length-append (number_bytes 8 run.base) (number_bytes 8 run.length ++ number_bytes 4 (kind_number run.kind)) in
+    let outer =
+    length-append (number_bytes 8 run.base)
+    (number_bytes 8 run.length ++ number_bytes 4 (kind_number run.kind)) in
     omega arith
 
 pub length-entries : (runs : List Region) → length (flat_map entry_bytes runs) ≡ 20 * length runs
@@ -33,10 +36,13 @@ length-entries (run ∷ runs) =
 
 -- one entry more
 pub entries_more : (runs : List Region) (i : ℕ) (d : Region) → i < length runs
-    → flat_map entry_bytes (take (i + 1) runs) ≡ flat_map entry_bytes (take i runs) ++ entry_bytes (get_or runs i d)
-entries_more runs i d within = rw (take_more runs i d within, flat_map-append) (grind (arith, common_steps))
+    → flat_map entry_bytes (take (i + 1) runs)
+    ≡ flat_map entry_bytes (take i runs) ++ entry_bytes (get_or runs i d)
+entries_more runs i d within =
+    rw (take_more runs i d within, flat_map-append) (grind (arith, common_steps))
 
-pub entries_upto : (runs : List Region) (i : ℕ) → i ≤ length runs → length (flat_map entry_bytes (take i runs)) ≡ 20 * i
+pub entries_upto : (runs : List Region) (i : ℕ) → i ≤ length runs
+    → length (flat_map entry_bytes (take i runs)) ≡ 20 * i
 entries_upto runs i within =
     let all = length-entries (take i runs) in
     let count = length-take i runs in

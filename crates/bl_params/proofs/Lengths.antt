@@ -7,13 +7,16 @@ use Rattle.bl_params.specs.BootParamsFacts.{BootParamsFacts}
 use Rattle.bl_params.specs.Fields.{byte_of}
 use Rattle.bl_params.specs.Gdt.{gdt, gdt_part, zeros}
 
-pub length-boot_params : (header : List ℕ) (facts : BootParamsFacts) → length (boot_params header facts) ≡ 4096
+pub length-boot_params : (header : List ℕ) (facts : BootParamsFacts)
+    → length (boot_params header facts) ≡ 4096
 unfolding boot_params
-length-boot_params header facts = length-map-range_with_len (byte_of (fields_of header facts)) 0 4096
+length-boot_params header facts =
+    length-map-range_with_len (byte_of (fields_of header facts)) 0 4096
 
 pub length-zeros : (n : ℕ) → length (zeros n) ≡ n
 unfolding zeros
 length-zeros n = length-replicate n 0
 
 pub length-gdt_part : length gdt_part ≡ 4096
-length-gdt_part = let both = length-append gdt (zeros 4064) in let rest = length-zeros 4064 in omega arith
+length-gdt_part =
+    let both = length-append gdt (zeros 4064) in let rest = length-zeros 4064 in omega arith

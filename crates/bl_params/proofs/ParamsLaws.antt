@@ -11,20 +11,25 @@ use Rattle.bl_params.specs.Reading.{IsEntry, AreEntries, IsParams, HasFirstFault
 region_of : ℕ → ℕ → Kind → Region
 region_of base size kind = record { base = base; length = size; kind = kind }
 
-same_region : (base base' size size' : ℕ) (kind kind' : Kind) → base ≡ base' → size ≡ size' → kind ≡ kind' → region_of base size kind ≡ region_of base' size' kind'
+same_region : (base base' size size' : ℕ) (kind kind' : Kind) → base ≡ base' → size ≡ size'
+    → kind ≡ kind' → region_of base size kind ≡ region_of base' size' kind'
 same_region base base' size size' kind kind' e f g = cc
 
-same_entry : (bytes : List ℕ) (at : ℕ) (r s : Region) → IsEntry bytes at r → IsEntry bytes at s → r ≡ s
+same_entry : (bytes : List ℕ) (at : ℕ) (r s : Region) → IsEntry bytes at r → IsEntry bytes at s
+    → r ≡ s
 unfolding region_of
 same_entry bytes at r s a b =
-    same_region r.base s.base r.length s.length r.kind s.kind (a.base ∙ sym b.base) (a.size ∙ sym b.size) (same_kind r.kind s.kind (a.kind ∙ sym b.kind))
+    same_region r.base s.base r.length s.length r.kind s.kind (a.base ∙ sym b.base)
+    (a.size ∙ sym b.size) (same_kind r.kind s.kind (a.kind ∙ sym b.kind))
 
-same_entries : (bytes : List ℕ) (at : ℕ) (rs ss : List Region) → length rs ≡ length ss → AreEntries bytes at rs → AreEntries bytes at ss → rs ≡ ss
+same_entries : (bytes : List ℕ) (at : ℕ) (rs ss : List Region) → length rs ≡ length ss
+    → AreEntries bytes at rs → AreEntries bytes at ss → rs ≡ ss
 same_entries bytes at [] [] e a b = refl
 same_entries bytes at [] (s ∷ ss) e a b = absurd (omega arith)
 same_entries bytes at (r ∷ rs) [] e a b = absurd (omega arith)
 same_entries bytes at (r ∷ rs) (s ∷ ss) e a b =
-    ap₂ (λ (x : Region) (xs : List Region). x ∷ xs) (same_entry bytes at r s a.0 b.0) (same_entries bytes (at + 20) rs ss (omega arith) a.1 b.1)
+    ap₂ (λ (x : Region) (xs : List Region). x ∷ xs) (same_entry bytes at r s a.0 b.0)
+    (same_entries bytes (at + 20) rs ss (omega arith) a.1 b.1)
 
 pub one_reading : (bytes : List ℕ) (p q : ParamsFacts) → IsParams bytes p → IsParams bytes q → p ≡ q
 one_reading bytes p q a b =
@@ -59,7 +64,8 @@ one_reading bytes p q a b =
       runs = runs i;
     }
 
-pub one_fault : (bytes : List ℕ) (f g : ParamFault) → ¬ (f ≡ NoMemory) → ¬ (g ≡ NoMemory) → HasFirstFault bytes f → HasFirstFault bytes g → f ≡ g
+pub one_fault : (bytes : List ℕ) (f g : ParamFault) → ¬ (f ≡ NoMemory) → ¬ (g ≡ NoMemory)
+    → HasFirstFault bytes f → HasFirstFault bytes g → f ≡ g
 one_fault bytes WrongLength WrongLength nf ng a b = refl
 one_fault bytes WrongLength (BadParams j) nf ng a b = absurd (a b.0)
 one_fault bytes (BadParams i) WrongLength nf ng a b = absurd (b a.0)
@@ -72,7 +78,8 @@ one_fault bytes NoMemory g nf ng a b = absurd (nf refl)
 one_fault bytes WrongLength NoMemory nf ng a b = absurd (ng refl)
 one_fault bytes (BadParams i) NoMemory nf ng a b = absurd (ng refl)
 
-pub not_both : (bytes : List ℕ) (params : ParamsFacts) (fault : ParamFault) → ¬ (fault ≡ NoMemory) → IsParams bytes params → HasFirstFault bytes fault → ⊥
+pub not_both : (bytes : List ℕ) (params : ParamsFacts) (fault : ParamFault) → ¬ (fault ≡ NoMemory)
+    → IsParams bytes params → HasFirstFault bytes fault → ⊥
 not_both bytes params WrongLength other is has = has is.size
 not_both bytes params (BadParams k) other is has =
     let sound = is.sound k has.1.holds.0 in

@@ -1,5 +1,6 @@
 -- Fields that are written one after the other are boot parameters.
-use Rattle.std.proofs.Common.{◌≡◌, ◌∙◌, ℕ, zero, suc, replicate, slice_index, ap, List, [], ◌∷◌, length, refl}
+use Rattle.std.proofs.Common.{◌≡◌, ◌∙◌, ℕ, zero, suc, replicate, slice_index, ap, List, [], ◌∷◌}
+use Rattle.std.proofs.Common.{length, refl}
 use Rattle.std.proofs.lemmas.List.FromFn.{fill_by_all}
 use Rattle.std.specs.List.{flat_map}
 use Rattle.bl_map.specs.declared.region.Region.{Region}
@@ -17,10 +18,13 @@ zero_at (suc n) (suc k) = zero_at n k
 abbrev pub IsPut : List ℕ → ℕ → List ℕ → List ℕ → Type 0
 IsPut old at field new = (k : ℕ) → slice_index new k ≡ over at field (λ j. slice_index old j) k
 
-next : (old new : List ℕ) (at : ℕ) (field same : List ℕ) (fields : List (ℕ × List ℕ)) → IsPut old at field new → field ≡ same
-    → ((k : ℕ) → slice_index old k ≡ byte_of fields k) → (k : ℕ) → slice_index new k ≡ byte_of ((at, same) ∷ fields) k
+next : (old new : List ℕ) (at : ℕ) (field same : List ℕ) (fields : List (ℕ × List ℕ))
+    → IsPut old at field new → field ≡ same
+    → ((k : ℕ) → slice_index old k ≡ byte_of fields k) → (k : ℕ)
+    → slice_index new k ≡ byte_of ((at, same) ∷ fields) k
 next old new at field same fields put e so_far k =
-    put k ∙ over_same at field (λ j. slice_index old j) (byte_of fields) so_far k ∙ ap (λ (x : List ℕ). over at x (byte_of fields) k) e
+    put k ∙ over_same at field (λ j. slice_index old j) (byte_of fields) so_far k
+    ∙ ap (λ (x : List ℕ). over at x (byte_of fields) k) e
 
 pub written : (header h : List ℕ) (facts : BootParamsFacts) (runs : List Region) (n count : ℕ)
     (o0 o1 o2 o3 o4 o5 o6 o7 o8 o9 o10 : List ℕ)
@@ -39,7 +43,8 @@ pub written : (header h : List ℕ) (facts : BootParamsFacts) (runs : List Regio
     → length o10 ≡ 4096
     → o10 ≡ boot_params header facts
 unfolding boot_params
-written header h facts runs n count o0 o1 o2 o3 o4 o5 o6 o7 o8 o9 o10 same_header same_runs same_count clear p1 p2 p3 p4 p5 p6 p7 p8 p9 p10 long =
+written header h facts runs n count o0 o1 o2 o3 o4 o5 o6 o7 o8 o9 o10 same_header same_runs
+    same_count clear p1 p2 p3 p4 p5 p6 p7 p8 p9 p10 long =
     let l1 : List (ℕ × List ℕ) = (0x1F1, header) ∷ [] in
     let l2 : List (ℕ × List ℕ) = (0x2D0, flat_map entry_bytes facts.runs) ∷ l1 in
     let l3 : List (ℕ × List ℕ) = (0x250, number_bytes 8 0) ∷ l2 in
@@ -49,15 +54,28 @@ written header h facts runs n count o0 o1 o2 o3 o4 o5 o6 o7 o8 o9 o10 same_heade
     let l7 : List (ℕ × List ℕ) = (0x214, number_bytes 4 facts.code32_start) ∷ l6 in
     let l8 : List (ℕ × List ℕ) = (0x210, 0xFF ∷ []) ∷ l7 in
     let l9 : List (ℕ × List ℕ) = (0x1FA, number_bytes 2 0xFFFF) ∷ l8 in
-    let f0 : (k : ℕ) → slice_index o0 k ≡ byte_of [] k = λ k. ap (λ (xs : List ℕ). slice_index xs k) clear ∙ zero_at n k in
+    let f0 : (k : ℕ) → slice_index o0 k ≡ byte_of [] k =
+    λ k. ap (λ (xs : List ℕ). slice_index xs k) clear ∙ zero_at n k in
     let f1 = next o0 o1 0x1F1 h header [] p1 same_header f0 in
-    let f2 = next o1 o2 0x2D0 (flat_map entry_bytes runs) (flat_map entry_bytes facts.runs) l1 p2 (ap (λ (rs : List Region). flat_map entry_bytes rs) same_runs) f1 in
+    let f2 =
+    next o1 o2 0x2D0 (flat_map entry_bytes runs) (flat_map entry_bytes facts.runs) l1 p2
+    (ap (λ (rs : List Region). flat_map entry_bytes rs) same_runs) f1 in
     let f3 = next o2 o3 0x250 (number_bytes 8 0) (number_bytes 8 0) l2 p3 refl f2 in
-    let f4 = next o3 o4 0x228 (number_bytes 4 facts.cmd_line_ptr) (number_bytes 4 facts.cmd_line_ptr) l3 p4 refl f3 in
-    let f5 = next o4 o5 0x21C (number_bytes 4 facts.ramdisk_size) (number_bytes 4 facts.ramdisk_size) l4 p5 refl f4 in
-    let f6 = next o5 o6 0x218 (number_bytes 4 facts.ramdisk_image) (number_bytes 4 facts.ramdisk_image) l5 p6 refl f5 in
-    let f7 = next o6 o7 0x214 (number_bytes 4 facts.code32_start) (number_bytes 4 facts.code32_start) l6 p7 refl f6 in
+    let f4 =
+    next o3 o4 0x228 (number_bytes 4 facts.cmd_line_ptr) (number_bytes 4 facts.cmd_line_ptr) l3
+    p4 refl f3 in
+    let f5 =
+    next o4 o5 0x21C (number_bytes 4 facts.ramdisk_size) (number_bytes 4 facts.ramdisk_size) l4
+    p5 refl f4 in
+    let f6 =
+    next o5 o6 0x218 (number_bytes 4 facts.ramdisk_image) (number_bytes 4 facts.ramdisk_image)
+    l5 p6 refl f5 in
+    let f7 =
+    next o6 o7 0x214 (number_bytes 4 facts.code32_start) (number_bytes 4 facts.code32_start) l6
+    p7 refl f6 in
     let f8 = next o7 o8 0x210 (0xFF ∷ []) (0xFF ∷ []) l7 p8 refl f7 in
     let f9 = next o8 o9 0x1FA (number_bytes 2 0xFFFF) (number_bytes 2 0xFFFF) l8 p9 refl f8 in
-    let f10 = next o9 o10 0x1E8 (count ∷ []) (length facts.runs ∷ []) l9 p10 (ap (λ (x : ℕ). x ∷ []) same_count) f9 in
+    let f10 =
+    next o9 o10 0x1E8 (count ∷ []) (length facts.runs ∷ []) l9 p10
+    (ap (λ (x : ℕ). x ∷ []) same_count) f9 in
     fill_by_all (byte_of (fields_of header facts)) o10 4096 0 long (λ k within. f10 k)

@@ -1,4 +1,5 @@
--- Boot parameters (Linux/x86 Boot Protocol, "Details of Header Fields" and "Zero Page"; a `struct boot_params`).
+-- Boot parameters (Linux/x86 Boot Protocol, "Details of Header Fields" and "Zero Page"; a `struct
+-- boot_params`).
 use Rattle.std.specs.Prelude.{ℕ, List, [], ◌∷◌, ◌++◌, length, map}
 use Rattle.std.specs.List.{flat_map, range_with_len}
 use Rattle.bl_map.specs.declared.region.Region.{Region}
@@ -8,10 +9,11 @@ use Rattle.bl_params.specs.Fields.{number_bytes, byte_of}
 
 -- an entry of "e820_table": addr, size, type
 abbrev pub entry_bytes : Region → List ℕ
-entry_bytes run = number_bytes 8 run.base ++ (number_bytes 8 run.length ++ number_bytes 4 (kind_number run.kind))
+entry_bytes run =
+    number_bytes 8 run.base ++ (number_bytes 8 run.length ++ number_bytes 4 (kind_number run.kind))
 
--- each field that the loader writes, at its offset, and then the header as it stands in the file, of which those count
--- that the loader does not write
+-- each field that the loader writes, at its offset, and then the header as it stands in the file,
+-- of which those count that the loader does not write
 abbrev pub fields_of : List ℕ → BootParamsFacts → List (ℕ × List ℕ)
 fields_of header facts =
     (0x1E8, length facts.runs ∷ [])  -- e820_entries

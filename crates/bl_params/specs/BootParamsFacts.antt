@@ -1,10 +1,11 @@
--- What boot parameters tell a kernel beside its own header (Linux/x86 Boot Protocol, "Details of Header Fields" and "Zero
--- Page").
+-- What boot parameters tell a kernel beside its own header (Linux/x86 Boot Protocol, "Details of
+-- Header Fields" and "Zero Page").
 use Rattle.std.specs.Prelude.{◌^◌, ◌≤◌, ℕ, List, length, All}
 use Rattle.bl_map.specs.declared.region.Region.{Region}
 use Rattle.bl_map.specs.Kinds.{end_of}
 
--- where the kernel lies and is entered, where the initrd lies and how long it is, where the line is, the memory map
+-- where the kernel lies and is entered, where the initrd lies and how long it is, where the line
+-- is, the memory map
 pub record BootParamsFacts : Type 0 where
   pub code32_start : ℕ
   pub ramdisk_image : ℕ

@@ -1,5 +1,6 @@
 -- Bytes that are told by fields at their offsets. Own.
-use Rattle.std.specs.Prelude.{ℕ, ◌+◌, ◌-◌, ◌&&◌, nat_lt, nat_le, if◌then◌else◌, List, [], ◌∷◌, length, slice_index}
+use Rattle.std.specs.Prelude.{ℕ, ◌+◌, ◌-◌, ◌&&◌, nat_lt, nat_le, if◌then◌else◌, List, [], ◌∷◌}
+use Rattle.std.specs.Prelude.{length, slice_index}
 use Rattle.byteorder.specs.Endian.{little_bytes}
 
 -- a number's n bytes, the lowest first
@@ -11,7 +12,8 @@ unfoldable pub over : ℕ → List ℕ → (ℕ → ℕ) → ℕ → ℕ
 over at field rest k =
     if nat_le at k && nat_lt k (at + length field) then slice_index field (k - at) else rest k
 
--- the byte at k of fields, each an offset and its bytes: where several reach it the first counts, where none does it is 0
+-- the byte at k of fields, each an offset and its bytes: where several reach it the first counts,
+-- where none does it is 0
 abbrev pub byte_of : List (ℕ × List ℕ) → ℕ → ℕ
 byte_of [] k = 0
 byte_of ((at, field) ∷ fields) k = over at field (byte_of fields) k

@@ -1,6 +1,7 @@
--- The form of boot parameters (Linux/x86 Boot Protocol, "Details of Header Fields" and "Zero Page"; own: what a loader of
--- this kind writes), and the offsets at which bytes break it.
-use Rattle.std.specs.Prelude.{ℕ, ◌+◌, ◌-◌, ◌*◌, ◌%◌, ◌^◌, Bool, ◌&&◌, ◌||◌, not, if◌then◌else◌, ◌==◌, nat_lt, nat_le, List, slice_index}
+-- The form of boot parameters (Linux/x86 Boot Protocol, "Details of Header Fields" and "Zero Page";
+-- own: what a loader of this kind writes), and the offsets at which bytes break it.
+use Rattle.std.specs.Prelude.{ℕ, ◌+◌, ◌-◌, ◌*◌, ◌%◌, ◌^◌, Bool, ◌&&◌, ◌||◌, not, if◌then◌else◌}
+use Rattle.std.specs.Prelude.{◌==◌, nat_lt, nat_le, List, slice_index}
 use Rattle.bl_mem.specs.Words.{u16_at, u32_at, u64_at}
 use Rattle.bl_bzimage.specs.Setup.{header_end}
 

@@ -1,4 +1,5 @@
--- The descriptors of segments (Linux/x86 Boot Protocol, "32-bit Boot Protocol": __BOOT_CS and __BOOT_DS, flat 4 GiB).
+-- The descriptors of segments (Linux/x86 Boot Protocol, "32-bit Boot Protocol": __BOOT_CS and
+-- __BOOT_DS, flat 4 GiB).
 use Rattle.std.specs.Prelude.{ℕ, List, [], ◌∷◌, ◌++◌, replicate}
 use Rattle.std.specs.List.{flat_map}
 use Rattle.byteorder.specs.Endian.{little_bytes}

@@ -20,7 +20,8 @@ abbrev pub AreEntries : List ℕ → ℕ → List Region → Type 0
 AreEntries bytes at [] = Unit {0}
 AreEntries bytes at (run ∷ runs) = IsEntry bytes at run × AreEntries bytes (at + 20) runs
 
--- these bytes have the form, and tell this: each number at its offset, and as many runs as are counted
+-- these bytes have the form, and tell this: each number at its offset, and as many runs as are
+-- counted
 pub record IsParams (bytes : List ℕ) (params : ParamsFacts) : Type 0 where
   pub size : length bytes ≡ 4096
   pub sound : (k : ℕ) → k < 4096 → breaks bytes k ≡ false
@@ -40,7 +41,8 @@ pub record IsParams (bytes : List ℕ) (params : ParamsFacts) : Type 0 where
   pub count : length params.runs ≡ entries_in bytes
   pub runs : AreEntries bytes 0x2D0 params.runs
 
--- the least offset that breaks the form, of as many bytes as boot parameters have; or memory ran out
+-- the least offset that breaks the form, of as many bytes as boot parameters have; or memory ran
+-- out
 abbrev pub HasFirstFault : List ℕ → ParamFault → Type 0
 HasFirstFault bytes WrongLength = ¬ (length bytes ≡ 4096)
 HasFirstFault bytes (BadParams k) =

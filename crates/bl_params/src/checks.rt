@@ -1,5 +1,6 @@
 //! The form of boot parameters, from the first offset to the last.
-ghost use Rattle.std.specs.Prelude.{◌≡◌, ◌≤◌, ◌<◌, ◌+◌, ◌==◌, ℕ, not, true, false, length, slice_index, MatchResult};
+ghost use Rattle.std.specs.Prelude.{◌≡◌, ◌≤◌, ◌<◌, ◌+◌, ◌==◌, ℕ, not, true, false, length};
+ghost use Rattle.std.specs.Prelude.{slice_index, MatchResult};
 ghost use Rattle.bl_bzimage.specs.Setup.{header_end};
 ghost use Rattle.bl_params.specs.Form.{breaks, is_filled, entries_in};
 ghost use Rattle.bl_params.specs.Reading.{HasFirstFault};

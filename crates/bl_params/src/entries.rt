@@ -1,5 +1,6 @@
 //! The memory map in boot parameters.
-ghost use Rattle.std.specs.Prelude.{◌≡◌, ◌≤◌, ◌<◌, ◌+◌, ◌*◌, ◌&&◌, ℕ, nat_le, not, true, false, length, MatchResult};
+ghost use Rattle.std.specs.Prelude.{◌≡◌, ◌≤◌, ◌<◌, ◌+◌, ◌*◌, ◌&&◌, ℕ, nat_le, not, true, false};
+ghost use Rattle.std.specs.Prelude.{length, MatchResult};
 ghost use Rattle.bl_map.specs.Kinds.{kind_number};
 ghost use Rattle.bl_bzimage.specs.Setup.{header_end};
 ghost use Rattle.bl_params.specs.Form.{entries_in, entry_at};

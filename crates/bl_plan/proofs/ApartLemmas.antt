@@ -9,16 +9,22 @@ use Rattle.bl_plan.specs.Kept.{IsBlocked}
 use Rattle.bl_plan.specs.Permitted.{AllOpen}
 use Rattle.bl_plan.specs.Planned.{AreApart}
 
-pub ends_ascend : (ranges : List (Range ℕ)) → AreApart ranges → IsNonDecreasingBy (λ range. range.end) ranges
+pub ends_ascend : (ranges : List (Range ℕ)) → AreApart ranges
+    → IsNonDecreasingBy (λ range. range.end) ranges
 ends_ascend ranges apart = λ i j d order within.
     elim (cases_lt i j) [
       | inl less ↦ omega (arith, apart.in_order i j d less within, apart.forward j d within)
-      | inr same ↦ let e : i ≡ j = omega arith in let f = ap (λ (n : ℕ). (get_or ranges n d).end) e in omega arith
+      | inr same ↦
+          let e : i ≡ j = omega arith in
+          let f = ap (λ (n : ℕ). (get_or ranges n d).end) e in omega arith
     ]
 
--- where the ranges before n end at the start of the bytes, and those from n on start behind them, no range meets them
-pub open_where : (ranges : List (Range ℕ)) (n start end : ℕ) → AreApart ranges → AllWithin (λ range. range.end ≤ start) ranges 0 n
-    → ((d : Range ℕ) → n < length ranges → end ≤ (get_or ranges n d).start) → AllOpen ranges start end
+-- where the ranges before n end at the start of the bytes, and those from n on start behind them,
+-- no range meets them
+pub open_where : (ranges : List (Range ℕ)) (n start end : ℕ) → AreApart ranges
+    → AllWithin (λ range. range.end ≤ start) ranges 0 n
+    → ((d : Range ℕ) → n < length ranges → end ≤ (get_or ranges n d).start)
+    → AllOpen ranges start end
 open_where ranges n start end apart before behind a above below k d within here =
     elim (cases_lt k n) [
       | inl less ↦ let e = before k d (omega arith) less in omega (arith, here.0)
@@ -38,8 +44,15 @@ open_where ranges n start end apart before behind a above below k d within here 
     ]
 
 -- a range that meets the bytes
-pub taken_blocks : (ranges : List (Range ℕ)) (n start end : ℕ) (d : Range ℕ) → AreApart ranges → n < length ranges
+pub taken_blocks : (ranges : List (Range ℕ)) (n start end : ℕ) (d : Range ℕ) → AreApart ranges
+    → n < length ranges
     → (get_or ranges n d).start < end → start < (get_or ranges n d).end
-    → IsBlocked (λ a. All (λ range. ¬ IsIn range a) ranges) start end (record { start = (get_or ranges n d).start; end = (get_or ranges n d).end })
+    → IsBlocked (λ a. All (λ range. ¬ IsIn range a) ranges) start end
+    (record { start = (get_or ranges n d).start; end = (get_or ranges n d).end })
 taken_blocks ranges n start end d apart within meets_end meets_start =
-    record { forward = apart.forward n d within; meets_end = meets_end; meets_start = meets_start; without = λ a low high none. none n d within (low, high) }
+    record {
+      forward = apart.forward n d within;
+      meets_end = meets_end;
+      meets_start = meets_start;
+      without = λ a low high none. none n d within (low, high);
+    }

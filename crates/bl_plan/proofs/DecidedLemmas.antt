@@ -1,5 +1,6 @@
 -- Whether an address is permitted is decided.
-use Rattle.std.proofs.Common.{◌≡◌, ◌<◌, ◌≤◌, ◌+◌, ◌%◌, ℕ, zero, suc, List, [], ◌∷◌, ◌⊎◌, inl, inr, arith, subst, All}
+use Rattle.std.proofs.Common.{◌≡◌, ◌<◌, ◌≤◌, ◌+◌, ◌%◌, ℕ, zero, suc, List, [], ◌∷◌, ◌⊎◌, inl, inr}
+use Rattle.std.proofs.Common.{arith, subst, All}
 use Rattle.std.proofs.lemmas.Bool.{cases_lt}
 use Rattle.std.proofs.lemmas.List.Elements.{All-nil, All-cons, All-head, All-tail}
 use Rattle.std.specs.declared.ops.Range.{Range}
@@ -24,7 +25,8 @@ eq_or_not m n =
     ]
 
 le_or_not : (m n : ℕ) → IsDecided (m ≤ n)
-le_or_not m n = elim (cases_lt n m) [ inl below ↦ inr (λ h. omega arith) | inr above ↦ inl (omega arith) ]
+le_or_not m n =
+    elim (cases_lt n m) [ inl below ↦ inr (λ h. omega arith) | inr above ↦ inl (omega arith) ]
 
 lt_or_not : (m n : ℕ) → IsDecided (m < n)
 lt_or_not m n = elim (cases_lt m n) [ inl below ↦ inl below | inr above ↦ inr (λ h. omega arith) ]
@@ -40,7 +42,8 @@ one_more P start n all here a low high =
       | inr not_below ↦ let same : n ≡ a = omega arith in subst P same here
     ]
 
-throughout_or_not : (P : ℕ → Type 0) → ((k : ℕ) → IsDecided (P k)) → (start end : ℕ) → IsDecided (Throughout P start end)
+throughout_or_not : (P : ℕ → Type 0) → ((k : ℕ) → IsDecided (P k)) → (start end : ℕ)
+    → IsDecided (Throughout P start end)
 throughout_or_not P has start zero = inl (λ a low high. absurd (omega arith))
 throughout_or_not P has start (suc n) =
     elim (throughout_or_not P has start n) [
@@ -64,7 +67,8 @@ usable_or_not facts a =
           | inr never ↦ inr (λ usable. never usable.in_size)
           | inl in_size ↦ elim (lt_or_not a usable_limit) [
             | inr never ↦ inr (λ usable. never usable.below)
-            | inl below ↦ inl (record { kind = kind; above = above; in_size = in_size; below = below })
+            | inl below ↦
+                inl (record { kind = kind; above = above; in_size = in_size; below = below })
           ]
         ]
       ]
@@ -74,7 +78,9 @@ in_or_not : (range : Range ℕ) (a : ℕ) → IsDecided (IsIn range a)
 in_or_not range a =
     elim (le_or_not range.start a) [
       | inr never ↦ inr (λ within. never within.0)
-      | inl start ↦ elim (lt_or_not a range.end) [ inr never ↦ inr (λ within. never within.1) | inl end ↦ inl (start, end) ]
+      | inl start ↦
+          elim (lt_or_not a range.end)
+          [ inr never ↦ inr (λ within. never within.1) | inl end ↦ inl (start, end) ]
     ]
 
 open_or_not : (taken : List (Range ℕ)) (a : ℕ) → IsDecided (All (λ range. ¬ IsIn range a) taken)
@@ -88,11 +94,14 @@ open_or_not (range ∷ taken) a =
       ]
     ]
 
-pub all_usable_or_not : (facts : MachineFacts) (start end : ℕ) → IsDecided (AllUsable facts start end)
-all_usable_or_not facts start end = throughout_or_not (IsUsable facts) (usable_or_not facts) start end
+pub all_usable_or_not : (facts : MachineFacts) (start end : ℕ)
+    → IsDecided (AllUsable facts start end)
+all_usable_or_not facts start end =
+    throughout_or_not (IsUsable facts) (usable_or_not facts) start end
 
 pub all_open_or_not : (taken : List (Range ℕ)) (start end : ℕ) → IsDecided (AllOpen taken start end)
-all_open_or_not taken start end = throughout_or_not (λ a. All (λ range. ¬ IsIn range a) taken) (open_or_not taken) start end
+all_open_or_not taken start end =
+    throughout_or_not (λ a. All (λ range. ¬ IsIn range a) taken) (open_or_not taken) start end
 
 module _ (facts : MachineFacts) (taken : List (Range ℕ)) (count align low high : ℕ) where
   pub permitted_or_not : (a : ℕ) → IsDecided (IsPermitted facts taken count align low high a)
@@ -107,7 +116,15 @@ module _ (facts : MachineFacts) (taken : List (Range ℕ)) (count align low high
               | inr never ↦ inr (λ permitted. never permitted.usable)
               | inl usable ↦ elim (all_open_or_not taken a (a + count)) [
                 | inr never ↦ inr (λ permitted. never permitted.apart)
-                | inl apart ↦ inl (record { aligned = aligned; above = above; below = below; usable = usable; apart = apart })
+                | inl apart ↦
+                    inl
+                    (record {
+                      aligned = aligned;
+                      above = above;
+                      below = below;
+                      usable = usable;
+                      apart = apart;
+                    })
               ]
             ]
           ]

@@ -1,5 +1,6 @@
 -- The kind of an address, by the run that holds it.
-use Rattle.std.proofs.Common.{◌≡◌, ◌<◌, ◌≤◌, ◌+◌, ℕ, zero, suc, Bool, true, false, List, [], ◌∷◌, length, get_or, arith, ap, sym, ◌∙◌, refl, inl, inr, if◌then◌else◌}
+use Rattle.std.proofs.Common.{◌≡◌, ◌<◌, ◌≤◌, ◌+◌, ℕ, zero, suc, Bool, true, false, List, [], ◌∷◌}
+use Rattle.std.proofs.Common.{length, get_or, arith, ap, sym, ◌∙◌, refl, inl, inr, if◌then◌else◌}
 use Rattle.std.specs.Prelude.{Any}
 use Rattle.std.proofs.lemmas.Bool.{cases_lt}
 use Rattle.std.proofs.lemmas.Bool.Decides.{nat_tests}
@@ -37,16 +38,23 @@ run_of_usable (run ∷ runs) a h =
     ]
 
 -- an address in a run of kind 1 has that kind
-pub usable_in_run : (runs : List Region) (k a : ℕ) (d : Region) → AreRuns runs → k < length runs → IsUsableRun a (get_or runs k d) → kind_at runs a ≡ 1
+pub usable_in_run : (runs : List Region) (k a : ℕ) (d : Region) → AreRuns runs → k < length runs
+    → IsUsableRun a (get_or runs k d) → kind_at runs a ≡ 1
 usable_in_run [] k a d are inside h = absurd (omega arith)
-usable_in_run (run ∷ runs) zero a d are inside h = kind_in run runs a are h.1 h.2 ∙ ap kind_number h.0
+usable_in_run (run ∷ runs) zero a d are inside h =
+    kind_in run runs a are h.1 h.2 ∙ ap kind_number h.0
 usable_in_run (run ∷ runs) (suc k) a d are inside h =
     let p = (are.in_order 0 (suc k) d (omega arith) inside).0 in
-    kind_not_held run runs a (not_held_behind run a (omega (arith, h.1))) ∙ usable_in_run runs k a d (fewer_runs run runs are) (omega arith) h
+    kind_not_held run runs a (not_held_behind run a (omega (arith, h.1)))
+    ∙ usable_in_run runs k a d (fewer_runs run runs are) (omega arith) h
 
--- where the runs of kind usable before k end at `from` or below, an address from there on that has that kind lies in run k or behind it
-usable_from : (runs : List Region) (k from a : ℕ) → ((j : ℕ) (e : Region) → j < k → (get_or runs j e).kind ≡ Usable → end_of (get_or runs j e) ≤ from)
-    → from ≤ a → kind_at runs a ≡ 1 → (j : ℕ) × (x : Region) × (k ≤ j) × (j < length runs) × (get_or runs j x ≡ x) × IsUsableRun a x
+-- where the runs of kind usable before k end at `from` or below, an address from there on that has
+-- that kind lies in run k or behind it
+usable_from : (runs : List Region) (k from a : ℕ)
+    → ((j : ℕ) (e : Region) → j < k → (get_or runs j e).kind ≡ Usable
+    → end_of (get_or runs j e) ≤ from)
+    → from ≤ a → kind_at runs a ≡ 1
+    → (j : ℕ) × (x : Region) × (k ≤ j) × (j < length runs) × (get_or runs j x ≡ x) × IsUsableRun a x
 usable_from runs k from a before above one =
     let (j, x, within, at, here) = run_of_usable runs a one in
     elim (cases_lt j k) [
@@ -58,10 +66,13 @@ usable_from runs k from a before above one =
     ]
 
 -- a gap before run k that meets the bytes
-pub gap_blocks : (runs : List Region) (k from start end : ℕ) (d : Region) → AreRuns runs → k < length runs
-    → ((j : ℕ) (e : Region) → j < k → (get_or runs j e).kind ≡ Usable → end_of (get_or runs j e) ≤ from)
+pub gap_blocks : (runs : List Region) (k from start end : ℕ) (d : Region) → AreRuns runs
+    → k < length runs
+    → ((j : ℕ) (e : Region) → j < k → (get_or runs j e).kind ≡ Usable
+    → end_of (get_or runs j e) ≤ from)
     → start < end → from < (get_or runs k d).base → start < (get_or runs k d).base → from < end
-    → IsBlocked (λ a. kind_at runs a ≡ 1) start end (record { start = from; end = (get_or runs k d).base })
+    → IsBlocked (λ a. kind_at runs a ≡ 1) start end
+    (record { start = from; end = (get_or runs k d).base })
 gap_blocks runs k from start end d are within before forward gap meets_start meets_end =
     record {
       forward = gap;
@@ -78,7 +89,9 @@ gap_blocks runs k from start end d are within before forward gap meets_start mee
                 omega (arith, here.1)
             | inr not_after ↦
                 let e : j ≡ k = omega arith in
-                let all : get_or runs k d ≡ x = get_or_default runs k d x within ∙ ap (λ (n : ℕ). get_or runs n x) (sym e) ∙ at in
+                let all : get_or runs k d ≡ x =
+                get_or_default runs k d x within ∙ ap (λ (n : ℕ). get_or runs n x) (sym e)
+                ∙ at in
                 let f = ap (λ (r : Region). r.base) all in
                 omega (arith, here.1)
           ];
@@ -86,7 +99,8 @@ gap_blocks runs k from start end d are within before forward gap meets_start mee
 
 -- no run of kind usable is left
 pub last_blocks : (runs : List Region) (k from start end limit : ℕ) → length runs ≤ k
-    → ((j : ℕ) (e : Region) → j < k → (get_or runs j e).kind ≡ Usable → end_of (get_or runs j e) ≤ from)
+    → ((j : ℕ) (e : Region) → j < k → (get_or runs j e).kind ≡ Usable
+    → end_of (get_or runs j e) ≤ from)
     → start < end → from < end → end ≤ limit
     → IsBlocked (λ a. kind_at runs a ≡ 1) start end (record { start = from; end = limit })
 last_blocks runs k from start end limit all before forward gap below =
@@ -100,8 +114,10 @@ last_blocks runs k from start end limit all before forward gap below =
     }
 
 -- one more run of kind usable, with no gap before it that meets the bytes
-pub usable_more : (runs : List Region) (k from start end a : ℕ) (d : Region) → AreRuns runs → k < length runs
-    → (get_or runs k d).kind ≡ Usable → (from < (get_or runs k d).base → start < (get_or runs k d).base → from < end → ⊥)
+pub usable_more : (runs : List Region) (k from start end a : ℕ) (d : Region) → AreRuns runs
+    → k < length runs
+    → (get_or runs k d).kind ≡ Usable
+    → (from < (get_or runs k d).base → start < (get_or runs k d).base → from < end → ⊥)
     → ((b : ℕ) → start ≤ b → b < end → b < from → kind_at runs b ≡ 1)
     → start ≤ a → a < end → a < end_of (get_or runs k d) → kind_at runs a ≡ 1
 usable_more runs k from start end a d are within usable no_gap so_far above below in_run =
@@ -114,7 +130,8 @@ usable_more runs k from start end a d are within usable no_gap so_far above belo
     ]
 
 -- no run up to k ends behind run k
-pub ends_more : (runs : List Region) (k j : ℕ) (d e : Region) → AreRuns runs → k < length runs → j < k + 1 → end_of (get_or runs j e) ≤ end_of (get_or runs k d)
+pub ends_more : (runs : List Region) (k j : ℕ) (d e : Region) → AreRuns runs → k < length runs
+    → j < k + 1 → end_of (get_or runs j e) ≤ end_of (get_or runs k d)
 ends_more runs k j d e are within before =
     let same = get_or_default runs k d e within in
     let f = ap (λ (r : Region). end_of r) same in

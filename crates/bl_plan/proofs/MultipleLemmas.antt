@@ -17,7 +17,8 @@ pub multiple_gap : (m a b : ℕ) → a % m ≡ 0 → b % m ≡ 0 → a < b → a
 multiple_gap m a b p q less =
     let e = div-add-mod' a m in let f = div-add-mod' b m in
     elim (cases_lt (a / m) (b / m)) [
-      | inl more ↦ let g : (a / m + 1) * m ≤ b / m * m = mul-le-mul_right m (omega arith) in omega arith
+      | inl more ↦
+          let g : (a / m + 1) * m ≤ b / m * m = mul-le-mul_right m (omega arith) in omega arith
       | inr none ↦ let g : b / m * m ≤ a / m * m = mul-le-mul_right m none in omega arith
     ]
 

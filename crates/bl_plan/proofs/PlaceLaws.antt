@@ -1,5 +1,6 @@
 -- Rows have one list of places, or one first fault; the places are legal.
-use Rattle.std.proofs.Common.{◌≡◌, ◌+◌, ℕ, suc, List, [], ◌∷◌, length, get_or, arith, subst, sym, ap, ap₂, refl, ◌∙◌, inl, inr, All, AllPairs}
+use Rattle.std.proofs.Common.{◌≡◌, ◌+◌, ℕ, suc, List, [], ◌∷◌, length, get_or, arith, subst, sym}
+use Rattle.std.proofs.Common.{ap, ap₂, refl, ◌∙◌, inl, inr, All, AllPairs}
 use Rattle.std.specs.List.{AllZip}
 use Rattle.std.proofs.lemmas.List.Elements.{All-nil, All-cons}
 use Rattle.std.proofs.lemmas.List.Kept.{AllPairs-cons}
@@ -15,7 +16,8 @@ use Rattle.bl_plan.specs.declared.fault.PlanFault.{PlanFault}
 use Rattle.bl_plan.specs.declared.fault.PlanFault.TheVariants.{NotUsable, Overlap, NoRoom, NoMemory}
 use Rattle.bl_plan.specs.declared.row.Row.{Row}
 use Rattle.bl_plan.specs.declared.place.Place.{Place}
-use Rattle.bl_plan.specs.Placed.{IsChosen, HasFault, place_at, range_of, ArePlaced, IsFirstFault, IsPlaceable, IsApart, IsOpen, IsPlaceOf}
+use Rattle.bl_plan.specs.Placed.{IsChosen, HasFault, place_at, range_of, ArePlaced, IsFirstFault}
+use Rattle.bl_plan.specs.Placed.{IsPlaceable, IsApart, IsOpen, IsPlaceOf}
 use Rattle.bl_plan.specs.Order.{range_key}
 use Rattle.bl_plan.proofs.OrderLemmas.{put_from}
 
@@ -25,7 +27,8 @@ one_least P a b p q = omega (arith, p.least b q.holds, q.least a p.holds)
 one_greatest : (P : ℕ → Type 0) (a b : ℕ) → IsGreatest P a → IsGreatest P b → a ≡ b
 one_greatest P a b p q = omega (arith, p.greatest b q.holds, q.greatest a p.holds)
 
-one_preferred : (at : ℕ) (P : ℕ → Type 0) (a b : ℕ) → IsPreferred at P a → IsPreferred at P b → a ≡ b
+one_preferred : (at : ℕ) (P : ℕ → Type 0) (a b : ℕ) → IsPreferred at P a → IsPreferred at P b
+    → a ≡ b
 one_preferred at P a b (inl p) (inl q) = p.1 ∙ sym q.1
 one_preferred at P a b (inl p) (inr q) = absurd (q.0 p.0)
 one_preferred at P a b (inr p) (inl q) = absurd (p.0 q.0)
@@ -51,13 +54,15 @@ one_no_room P NoRoom NoRoom p q = refl
 one_no_room P NoRoom NoMemory p q = absurd q
 
 module _ (facts : MachineFacts) where
-  not_fixed : (taken : List (Range ℕ)) (start end : ℕ) (f : PlanFault) → AllUsable facts start end → AllOpen taken start end → HasFixedFault facts taken start end f → ⊥
+  not_fixed : (taken : List (Range ℕ)) (start end : ℕ) (f : PlanFault) → AllUsable facts start end
+      → AllOpen taken start end → HasFixedFault facts taken start end f → ⊥
   not_fixed taken start end NotUsable usable free q = q usable
   not_fixed taken start end Overlap usable free q = q.1 free
   not_fixed taken start end NoRoom usable free q = q
   not_fixed taken start end NoMemory usable free q = q
 
-  one_fixed : (taken : List (Range ℕ)) (start end : ℕ) (f g : PlanFault) → HasFixedFault facts taken start end f → HasFixedFault facts taken start end g → f ≡ g
+  one_fixed : (taken : List (Range ℕ)) (start end : ℕ) (f g : PlanFault)
+      → HasFixedFault facts taken start end f → HasFixedFault facts taken start end g → f ≡ g
   one_fixed taken start end NotUsable NotUsable p q = refl
   one_fixed taken start end NotUsable Overlap p q = absurd (p q.0)
   one_fixed taken start end NotUsable NoRoom p q = absurd q
@@ -69,112 +74,170 @@ module _ (facts : MachineFacts) where
   one_fixed taken start end NoRoom g p q = absurd p
   one_fixed taken start end NoMemory g p q = absurd p
 
-  one_address : (taken : List (Range ℕ)) (count : ℕ) (choice : Choice) (a b : ℕ) → IsChosen facts taken count choice a → IsChosen facts taken count choice b → a ≡ b
+  one_address : (taken : List (Range ℕ)) (count : ℕ) (choice : Choice) (a b : ℕ)
+      → IsChosen facts taken count choice a → IsChosen facts taken count choice b → a ≡ b
   one_address taken count (Fixed at) a b p q = p.0 ∙ sym q.0
-  one_address taken count (Lowest align low high) a b p q = one_least (IsPermitted facts taken count align low high) a b p q
-  one_address taken count (Highest align low high) a b p q = one_greatest (IsPermitted facts taken count align low high) a b p q
-  one_address taken count (Preferred at align low high) a b p q = one_preferred at (IsPermitted facts taken count align low high) a b p q
+  one_address taken count (Lowest align low high) a b p q =
+      one_least (IsPermitted facts taken count align low high) a b p q
+  one_address taken count (Highest align low high) a b p q =
+      one_greatest (IsPermitted facts taken count align low high) a b p q
+  one_address taken count (Preferred at align low high) a b p q =
+      one_preferred at (IsPermitted facts taken count align low high) a b p q
 
-  not_chosen_and_faulty : (taken : List (Range ℕ)) (count : ℕ) (choice : Choice) (a : ℕ) (f : PlanFault) → IsChosen facts taken count choice a → HasFault facts taken count choice f → ⊥
+  not_chosen_and_faulty : (taken : List (Range ℕ)) (count : ℕ) (choice : Choice) (a : ℕ)
+      (f : PlanFault) → IsChosen facts taken count choice a → HasFault facts taken count choice f
+      → ⊥
   not_chosen_and_faulty taken count (Fixed at) a f p q = not_fixed taken at (at + count) f p.1 p.2 q
-  not_chosen_and_faulty taken count (Lowest align low high) a f p q = not_room (IsPermitted facts taken count align low high) a f p.holds q
-  not_chosen_and_faulty taken count (Highest align low high) a f p q = not_room (IsPermitted facts taken count align low high) a f p.holds q
-  not_chosen_and_faulty taken count (Preferred at align low high) a f p q = not_room (IsPermitted facts taken count align low high) a f (preferred_holds at (IsPermitted facts taken count align low high) a p) q
+  not_chosen_and_faulty taken count (Lowest align low high) a f p q =
+      not_room (IsPermitted facts taken count align low high) a f p.holds q
+  not_chosen_and_faulty taken count (Highest align low high) a f p q =
+      not_room (IsPermitted facts taken count align low high) a f p.holds q
+  not_chosen_and_faulty taken count (Preferred at align low high) a f p q =
+      not_room (IsPermitted facts taken count align low high) a f
+      (preferred_holds at (IsPermitted facts taken count align low high) a p) q
 
-  one_fault_of : (taken : List (Range ℕ)) (count : ℕ) (choice : Choice) (f g : PlanFault) → HasFault facts taken count choice f → HasFault facts taken count choice g → f ≡ g
+  one_fault_of : (taken : List (Range ℕ)) (count : ℕ) (choice : Choice) (f g : PlanFault)
+      → HasFault facts taken count choice f → HasFault facts taken count choice g → f ≡ g
   one_fault_of taken count (Fixed at) f g p q = one_fixed taken at (at + count) f g p q
-  one_fault_of taken count (Lowest align low high) f g p q = one_no_room (IsPermitted facts taken count align low high) f g p q
-  one_fault_of taken count (Highest align low high) f g p q = one_no_room (IsPermitted facts taken count align low high) f g p q
-  one_fault_of taken count (Preferred at align low high) f g p q = one_no_room (IsPermitted facts taken count align low high) f g p q
+  one_fault_of taken count (Lowest align low high) f g p q =
+      one_no_room (IsPermitted facts taken count align low high) f g p q
+  one_fault_of taken count (Highest align low high) f g p q =
+      one_no_room (IsPermitted facts taken count align low high) f g p q
+  one_fault_of taken count (Preferred at align low high) f g p q =
+      one_no_room (IsPermitted facts taken count align low high) f g p q
 
-  pub one_list : (taken : List (Range ℕ)) (rows : List Row) (ps qs : List Place) → ArePlaced facts taken rows ps → ArePlaced facts taken rows qs → ps ≡ qs
+  pub one_list : (taken : List (Range ℕ)) (rows : List Row) (ps qs : List Place)
+      → ArePlaced facts taken rows ps → ArePlaced facts taken rows qs → ps ≡ qs
   one_list taken [] [] [] a b = refl
   one_list taken [] [] (q ∷ qs) a b = absurd b
   one_list taken [] (p ∷ ps) qs a b = absurd a
   one_list taken (row ∷ rows) [] qs a b = absurd a
   one_list taken (row ∷ rows) (p ∷ ps) [] a b = absurd b
   one_list taken (row ∷ rows) (p ∷ ps) (q ∷ qs) a b =
-      let same : q ≡ p = b.1 ∙ ap (place_at row) (one_address taken row.length row.choice q.address p.address b.0 a.0) ∙ sym a.1 in
-      let rest : ArePlaced facts (put_in (range_of p) taken) rows qs = subst (λ (x : Place). ArePlaced facts (put_in (range_of x) taken) rows qs) same b.2 in
-      ap₂ (λ (x : Place) (xs : List Place). x ∷ xs) (sym same) (one_list (put_in (range_of p) taken) rows ps qs a.2 rest)
+      let same : q ≡ p =
+      b.1
+      ∙ ap (place_at row)
+      (one_address taken row.length row.choice q.address p.address b.0 a.0) ∙ sym a.1 in
+      let rest : ArePlaced facts (put_in (range_of p) taken) rows qs =
+      subst (λ (x : Place). ArePlaced facts (put_in (range_of x) taken) rows qs) same b.2 in
+      ap₂ (λ (x : Place) (xs : List Place). x ∷ xs) (sym same)
+      (one_list (put_in (range_of p) taken) rows ps qs a.2 rest)
 
-  pub not_both : (taken : List (Range ℕ)) (rows : List Row) (ps : List Place) (f : PlanFault) → ArePlaced facts taken rows ps → IsFirstFault facts taken rows f → ⊥
+  pub not_both : (taken : List (Range ℕ)) (rows : List Row) (ps : List Place) (f : PlanFault)
+      → ArePlaced facts taken rows ps → IsFirstFault facts taken rows f → ⊥
   not_both taken [] ps f a b = b
   not_both taken (row ∷ rows) [] f a b = a
-  not_both taken (row ∷ rows) (p ∷ ps) f a (inl here) = not_chosen_and_faulty taken row.length row.choice p.address f a.0 here
+  not_both taken (row ∷ rows) (p ∷ ps) f a (inl here) =
+      not_chosen_and_faulty taken row.length row.choice p.address f a.0 here
   not_both taken (row ∷ rows) (p ∷ ps) f a (inr later) =
-      let same : place_at row later.0 ≡ p = ap (place_at row) (one_address taken row.length row.choice later.0 p.address later.1 a.0) ∙ sym a.1 in
-      not_both (put_in (range_of p) taken) rows ps f a.2 (subst (λ (x : Place). IsFirstFault facts (put_in (range_of x) taken) rows f) same later.2)
+      let same : place_at row later.0 ≡ p =
+      ap (place_at row) (one_address taken row.length row.choice later.0 p.address later.1 a.0)
+      ∙ sym a.1 in
+      not_both (put_in (range_of p) taken) rows ps f a.2
+      (subst (λ (x : Place). IsFirstFault facts (put_in (range_of x) taken) rows f) same
+      later.2)
 
-  pub one_fault : (taken : List (Range ℕ)) (rows : List Row) (f g : PlanFault) → IsFirstFault facts taken rows f → IsFirstFault facts taken rows g → f ≡ g
+  pub one_fault : (taken : List (Range ℕ)) (rows : List Row) (f g : PlanFault)
+      → IsFirstFault facts taken rows f → IsFirstFault facts taken rows g → f ≡ g
   one_fault taken [] f g a b = absurd a
-  one_fault taken (row ∷ rows) f g (inl a) (inl b) = one_fault_of taken row.length row.choice f g a b
-  one_fault taken (row ∷ rows) f g (inl a) (inr b) = absurd (not_chosen_and_faulty taken row.length row.choice b.0 f b.1 a)
-  one_fault taken (row ∷ rows) f g (inr a) (inl b) = absurd (not_chosen_and_faulty taken row.length row.choice a.0 g a.1 b)
+  one_fault taken (row ∷ rows) f g (inl a) (inl b) =
+      one_fault_of taken row.length row.choice f g a b
+  one_fault taken (row ∷ rows) f g (inl a) (inr b) =
+      absurd (not_chosen_and_faulty taken row.length row.choice b.0 f b.1 a)
+  one_fault taken (row ∷ rows) f g (inr a) (inl b) =
+      absurd (not_chosen_and_faulty taken row.length row.choice a.0 g a.1 b)
   one_fault taken (row ∷ rows) f g (inr a) (inr b) =
       let same = ap (place_at row) (one_address taken row.length row.choice b.0 a.0 b.1 a.1) in
-      one_fault (put_in (range_of (place_at row a.0)) taken) rows f g a.2 (subst (λ (x : Place). IsFirstFault facts (put_in (range_of x) taken) rows g) same b.2)
+      one_fault (put_in (range_of (place_at row a.0)) taken) rows f g a.2
+      (subst (λ (x : Place). IsFirstFault facts (put_in (range_of x) taken) rows g) same b.2)
 
   -- a chosen range is usable, and meets nothing that is taken
-  chosen_usable : (taken : List (Range ℕ)) (count : ℕ) (choice : Choice) (a : ℕ) → IsChosen facts taken count choice a → AllUsable facts a (a + count)
-  chosen_usable taken count (Fixed at) a p = let e = p.0 in λ b low high. p.1 b (omega arith) (omega arith)
+  chosen_usable : (taken : List (Range ℕ)) (count : ℕ) (choice : Choice) (a : ℕ)
+      → IsChosen facts taken count choice a → AllUsable facts a (a + count)
+  chosen_usable taken count (Fixed at) a p =
+      let e = p.0 in λ b low high. p.1 b (omega arith) (omega arith)
   chosen_usable taken count (Lowest align low high) a p = p.holds.usable
   chosen_usable taken count (Highest align low high) a p = p.holds.usable
-  chosen_usable taken count (Preferred at align low high) a p = (preferred_holds at (IsPermitted facts taken count align low high) a p).usable
+  chosen_usable taken count (Preferred at align low high) a p =
+      (preferred_holds at (IsPermitted facts taken count align low high) a p).usable
 
-  chosen_open : (taken : List (Range ℕ)) (count : ℕ) (choice : Choice) (a : ℕ) → IsChosen facts taken count choice a → AllOpen taken a (a + count)
-  chosen_open taken count (Fixed at) a p = let e = p.0 in λ b low high. p.2 b (omega arith) (omega arith)
+  chosen_open : (taken : List (Range ℕ)) (count : ℕ) (choice : Choice) (a : ℕ)
+      → IsChosen facts taken count choice a → AllOpen taken a (a + count)
+  chosen_open taken count (Fixed at) a p =
+      let e = p.0 in λ b low high. p.2 b (omega arith) (omega arith)
   chosen_open taken count (Lowest align low high) a p = p.holds.apart
   chosen_open taken count (Highest align low high) a p = p.holds.apart
-  chosen_open taken count (Preferred at align low high) a p = (preferred_holds at (IsPermitted facts taken count align low high) a p).apart
+  chosen_open taken count (Preferred at align low high) a p =
+      (preferred_holds at (IsPermitted facts taken count align low high) a p).apart
 
-  pub all_usable : (taken : List (Range ℕ)) (rows : List Row) (ps : List Place) → ArePlaced facts taken rows ps → All (IsPlaceable facts) ps
+  pub all_usable : (taken : List (Range ℕ)) (rows : List Row) (ps : List Place)
+      → ArePlaced facts taken rows ps → All (IsPlaceable facts) ps
   all_usable taken [] [] a = All-nil (IsPlaceable facts)
   all_usable taken [] (p ∷ ps) a = absurd a
   all_usable taken (row ∷ rows) [] a = absurd a
   all_usable taken (row ∷ rows) (p ∷ ps) a =
       let size = ap (λ (x : Place). x.length) a.1 in
-      All-cons (IsPlaceable facts) p ps (λ b low high. chosen_usable taken row.length row.choice p.address a.0 b low (omega arith)) (all_usable (put_in (range_of p) taken) rows ps a.2)
+      All-cons (IsPlaceable facts) p ps
+      (λ b low high.
+      chosen_usable taken row.length row.choice p.address a.0 b low (omega arith))
+      (all_usable (put_in (range_of p) taken) rows ps a.2)
 
-  here_open : (taken : List (Range ℕ)) (row : Row) (p : Place) → IsChosen facts taken row.length row.choice p.address → p ≡ place_at row p.address → IsOpen taken p
+  here_open : (taken : List (Range ℕ)) (row : Row) (p : Place)
+      → IsChosen facts taken row.length row.choice p.address → p ≡ place_at row p.address
+      → IsOpen taken p
   here_open taken row p chosen same =
       let size = ap (λ (x : Place). x.length) same in
       λ b low high. chosen_open taken row.length row.choice p.address chosen b low (omega arith)
 
   -- what is open beside more is open beside less
-  less_open : (range : Range ℕ) (taken : List (Range ℕ)) (p : Place) → IsOpen (put_in range taken) p → IsOpen taken p
-  less_open range taken p h = λ b low high. (put_from range_key (λ r. ¬ IsIn r b) range taken (h b low high)).1
+  less_open : (range : Range ℕ) (taken : List (Range ℕ)) (p : Place) → IsOpen (put_in range taken) p
+      → IsOpen taken p
+  less_open range taken p h =
+      λ b low high. (put_from range_key (λ r. ¬ IsIn r b) range taken (h b low high)).1
 
-  pub all_open : (taken : List (Range ℕ)) (rows : List Row) (ps : List Place) → ArePlaced facts taken rows ps → All (IsOpen taken) ps
+  pub all_open : (taken : List (Range ℕ)) (rows : List Row) (ps : List Place)
+      → ArePlaced facts taken rows ps → All (IsOpen taken) ps
   all_open taken [] [] a = All-nil (IsOpen taken)
   all_open taken [] (p ∷ ps) a = absurd a
   all_open taken (row ∷ rows) [] a = absurd a
   all_open taken (row ∷ rows) (p ∷ ps) a =
       let rest = all_open (put_in (range_of p) taken) rows ps a.2 in
-      All-cons (IsOpen taken) p ps (here_open taken row p a.0 a.1) (λ k d within. less_open (range_of p) taken (get_or ps k d) (rest k d within))
+      All-cons (IsOpen taken) p ps (here_open taken row p a.0 a.1)
+      (λ k d within. less_open (range_of p) taken (get_or ps k d) (rest k d within))
 
-  first_apart : (taken : List (Range ℕ)) (p q : Place) → IsOpen (put_in (range_of p) taken) q → IsApart p q
-  first_apart taken p q h = λ a in_p in_q. (put_from range_key (λ r. ¬ IsIn r a) (range_of p) taken (h a in_q.0 in_q.1)).0 in_p
+  first_apart : (taken : List (Range ℕ)) (p q : Place) → IsOpen (put_in (range_of p) taken) q
+      → IsApart p q
+  first_apart taken p q h =
+      λ a in_p in_q.
+      (put_from range_key (λ r. ¬ IsIn r a) (range_of p) taken (h a in_q.0 in_q.1)).0 in_p
 
-  pub all_apart : (taken : List (Range ℕ)) (rows : List Row) (ps : List Place) → ArePlaced facts taken rows ps → AllPairs IsApart ps
+  pub all_apart : (taken : List (Range ℕ)) (rows : List Row) (ps : List Place)
+      → ArePlaced facts taken rows ps → AllPairs IsApart ps
   all_apart taken [] [] a = λ i j d less within. absurd (omega arith)
   all_apart taken [] (p ∷ ps) a = absurd a
   all_apart taken (row ∷ rows) [] a = absurd a
   all_apart taken (row ∷ rows) (p ∷ ps) a =
       let rest = all_open (put_in (range_of p) taken) rows ps a.2 in
-      AllPairs-cons IsApart p ps (λ k e k_in. first_apart taken p (get_or ps k e) (rest k e k_in)) (all_apart (put_in (range_of p) taken) rows ps a.2)
+      AllPairs-cons IsApart p ps (λ k e k_in. first_apart taken p (get_or ps k e) (rest k e k_in))
+      (all_apart (put_in (range_of p) taken) rows ps a.2)
 
-  pub as_many : (taken : List (Range ℕ)) (rows : List Row) (ps : List Place) → ArePlaced facts taken rows ps → length ps ≡ length rows
+  pub as_many : (taken : List (Range ℕ)) (rows : List Row) (ps : List Place)
+      → ArePlaced facts taken rows ps → length ps ≡ length rows
   as_many taken [] [] a = refl
   as_many taken [] (p ∷ ps) a = absurd a
   as_many taken (row ∷ rows) [] a = absurd a
   as_many taken (row ∷ rows) (p ∷ ps) a = ap suc (as_many (put_in (range_of p) taken) rows ps a.2)
 
-  pub of_rows : (taken : List (Range ℕ)) (rows : List Row) (ps : List Place) → ArePlaced facts taken rows ps → AllZip IsPlaceOf rows ps
+  pub of_rows : (taken : List (Range ℕ)) (rows : List Row) (ps : List Place)
+      → ArePlaced facts taken rows ps → AllZip IsPlaceOf rows ps
   of_rows taken [] [] a = tt
   of_rows taken [] (p ∷ ps) a = absurd a
   of_rows taken (row ∷ rows) [] a = absurd a
   of_rows taken (row ∷ rows) (p ∷ ps) a = (
-    record { role = ap (λ (x : Place). x.role) a.1; index = ap (λ (x : Place). x.index) a.1; length = ap (λ (x : Place). x.length) a.1 },
+    record {
+      role = ap (λ (x : Place). x.role) a.1;
+      index = ap (λ (x : Place). x.index) a.1;
+      length = ap (λ (x : Place). x.length) a.1;
+    },
     of_rows (put_in (range_of p) taken) rows ps a.2,
   )

@@ -11,20 +11,26 @@ use Rattle.bl_plan.specs.declared.place.Place.{Place}
 use Rattle.bl_plan.specs.Permitted.{AllOpen, HasFixedFault, OrNoMemory}
 use Rattle.bl_plan.specs.Placed.{IsChosen, HasFault, ArePlaced}
 
-pub fixed_chosen : (facts : MachineFacts) (taken : List (Range ℕ)) (length at end : ℕ) (choice : Choice) → choice ≡ Fixed at → end ≡ at + length
+pub fixed_chosen : (facts : MachineFacts) (taken : List (Range ℕ)) (length at end : ℕ)
+    (choice : Choice) → choice ≡ Fixed at → end ≡ at + length
     → AllUsable facts at end × AllOpen taken at end → IsChosen facts taken length choice at
 fixed_chosen facts taken length at end choice fixed sum h =
     let here = subst (λ (n : ℕ). AllUsable facts at n × AllOpen taken at n) sum h in
     subst (λ (x : Choice). IsChosen facts taken length x at) (sym fixed) (refl, here.0, here.1)
 
-pub fixed_fault : (facts : MachineFacts) (taken : List (Range ℕ)) (length at end : ℕ) (choice : Choice) (fault : PlanFault) → choice ≡ Fixed at → end ≡ at + length
-    → OrNoMemory (HasFixedFault facts taken at end) fault → OrNoMemory (HasFault facts taken length choice) fault
+pub fixed_fault : (facts : MachineFacts) (taken : List (Range ℕ)) (length at end : ℕ)
+    (choice : Choice) (fault : PlanFault) → choice ≡ Fixed at → end ≡ at + length
+    → OrNoMemory (HasFixedFault facts taken at end) fault
+    → OrNoMemory (HasFault facts taken length choice) fault
 fixed_fault facts taken length at end choice fault fixed sum h =
     let here = subst (λ (n : ℕ). OrNoMemory (HasFixedFault facts taken at n) fault) sum h in
     subst (λ (x : Choice). OrNoMemory (HasFault facts taken length x) fault) (sym fixed) here
 
 -- all rows are placed where nothing is left
-pub placed_all : (facts : MachineFacts) (taken : List (Range ℕ)) (rest all : List Row) (front : List Place) → rest ≡ []
-    → ((places : List Place) → ArePlaced facts taken rest places → ArePlaced facts [] all (front ++ places)) → ArePlaced facts [] all front
+pub placed_all : (facts : MachineFacts) (taken : List (Range ℕ)) (rest all : List Row)
+    (front : List Place) → rest ≡ []
+    → ((places : List Place) → ArePlaced facts taken rest places
+    → ArePlaced facts [] all (front ++ places)) → ArePlaced facts [] all front
 placed_all facts taken rest all front none so_far =
-    subst (λ (places : List Place). ArePlaced facts [] all places) (append-nil front) (so_far [] (subst (λ (left : List Row). ArePlaced facts taken left []) (sym none) tt))
+    subst (λ (places : List Place). ArePlaced facts [] all places) (append-nil front)
+    (so_far [] (subst (λ (left : List Row). ArePlaced facts taken left []) (sym none) tt))

@@ -3,7 +3,8 @@ use Rattle.std.specs.Prelude.{◌≡◌, ◌+◌, ◌<◌, ◌≤◌, ◌⊎◌,
 use Rattle.std.specs.declared.ops.Range.{Range}
 use Rattle.bl_map.specs.MachineFacts.{MachineFacts, AllUsable}
 use Rattle.bl_mem.specs.Least.{IsLeast, IsGreatest}
-use Rattle.bl_plan.specs.Permitted.{AllOpen, IsPermitted, IsPreferred, HasFixedFault, HasNoRoom, OrNoMemory}
+use Rattle.bl_plan.specs.Permitted.{AllOpen, IsPermitted, IsPreferred, HasFixedFault, HasNoRoom}
+use Rattle.bl_plan.specs.Permitted.{OrNoMemory}
 use Rattle.bl_plan.specs.Planned.{put_in}
 use Rattle.bl_plan.specs.declared.choice.Choice.{Choice}
 use Rattle.bl_plan.specs.declared.choice.Choice.TheVariants.{Fixed, Lowest, Highest, Preferred}

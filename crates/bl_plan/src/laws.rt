@@ -7,7 +7,8 @@ ghost use Rattle.bl_plan.specs.declared.fault.PlanFault.{PlanFault};
 ghost use Rattle.bl_plan.specs.declared.fault.PlanFault.TheVariants.{NoMemory};
 ghost use Rattle.bl_plan.specs.declared.row.Row.{Row};
 ghost use Rattle.bl_plan.specs.declared.place.Place.{Place};
-ghost use Rattle.bl_plan.specs.Placed.{ArePlaced, IsFirstFault, IsApart, IsPlaceable, IsOpen, IsPlaceOf};
+ghost use Rattle.bl_plan.specs.Placed.{ArePlaced, IsFirstFault, IsApart, IsPlaceable, IsOpen};
+ghost use Rattle.bl_plan.specs.Placed.{IsPlaceOf};
 
 /// Rows have one list of places, or one first fault, and never both.
 pub fn places_are_determined()
@@ -28,8 +29,8 @@ pub fn places_are_determined()
         → ⊥ }
 {}
 
-/// Rows have places or a first fault, so by the law above exactly one of both. Want of memory is all
-/// that the contract of `place_rows` leaves open.
+/// Rows have places or a first fault, so by the law above exactly one of both. Want of memory is
+/// all that the contract of `place_rows` leaves open.
 pub fn rows_have_places_or_a_fault()
     ensures { (facts : MachineFacts) (taken : List (Range ℕ)) (rows : List Row)
         → ((places : List Place) × ArePlaced facts taken rows places)

@@ -32,7 +32,8 @@ impl<'m, A: Allocator> Planner<'m, A> {
     ghost use Rattle.std.specs.Prelude.{◌≡◌, ◌+◌, ◌<◌, ◌≤◌, [], IfOk, IfErr, OnOk, OnErr};
     ghost use Rattle.bl_map.specs.Limits.{usable_limit};
     ghost use Rattle.bl_map.specs.MachineFacts.{AllUsable};
-    ghost use Rattle.bl_plan.specs.Permitted.{AllOpen, IsPermitted, IsAtSide, IsPreferred, HasFixedFault, HasNoRoom, OrNoMemory};
+    ghost use Rattle.bl_plan.specs.Permitted.{AllOpen, IsPermitted, IsAtSide, IsPreferred};
+    ghost use Rattle.bl_plan.specs.Permitted.{HasFixedFault, HasNoRoom, OrNoMemory};
     ghost use Rattle.bl_plan.specs.Planned.{AreTaken, with_taken};
     ghost use Rattle.bl_plan.specs.Placed.{IsRow, IsChosen, HasFault};
 
@@ -89,8 +90,8 @@ impl<'m, A: Allocator> Planner<'m, A> {
     /// answers that address.
     ///
     /// An address is permitted where it is a multiple of `align` (any number from 1 on), is not
-    /// below `low`, and the bytes from there on end at most at `high`, are usable and are not taken. All
-    /// numbers are in bytes.
+    /// below `low`, and the bytes from there on end at most at `high`, are usable and are not
+    /// taken. All numbers are in bytes.
     ///
     /// One of these faults refuses it, and the planner stays as it was:
     /// - `NoRoom`: no address is permitted.

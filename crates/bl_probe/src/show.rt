@@ -19,7 +19,8 @@ fn push_run(text: &mut String, byte: u8, count: u64) -> Result<(), AllocError> {
     write!(text, "{count:x}*{byte:02x} ")
 }
 
-/// Bytes as pieces of a row: digits, and `COUNT*DIGITS` where one byte stands sixteen times in a row or more.
+/// Bytes as pieces of a row: digits, and `COUNT*DIGITS` where one byte stands sixteen times in a
+/// row or more.
 pub fn bytes_text(alloc: Global, bytes: &[u8]) -> Result<String, AllocError> {
     let mut text = String::new(alloc);
     let mut last = 0;

@@ -1,8 +1,10 @@
-//! An allocator for `bl_probe` and `bl_tests`, which refuses the nth request for memory and each one after it.
+//! An allocator for `bl_probe` and `bl_tests`, which refuses the nth request for memory and each
+//! one after it.
 //!
-//! Lent as `&heap`, it is handed to code that takes any `A: Allocator + Copy`. A test calls that code with `nth` counting
-//! up from 1, until a call asks for less than `nth` times: so each request has been the first refused one. An answer that
-//! memory ran out must come with a refusal: `refused` is greater after the call than before it.
+//! Lent as `&heap`, it is handed to code that takes any `A: Allocator + Copy`. A test calls that
+//! code with `nth` counting up from 1, until a call asks for less than `nth` times: so each request
+//! has been the first refused one. An answer that memory ran out must come with a refusal:
+//! `refused` is greater after the call than before it.
 #![tactic(auto)]
 
 ghost use Rattle.std.specs.Prelude.{◌≡◌, ◌<◌, ◌≤◌, ◌↔◌, IsTrue};
@@ -10,16 +12,19 @@ ghost use Rattle.std.specs.Prelude.{◌≡◌, ◌<◌, ◌≤◌, ◌↔◌, Is
 use std::alloc::{AllocError, Allocator, Global};
 use std::cell::Cell;
 
-/// Passes each request on to the heap until the `nth`, and refuses that one and all that come after it, so that no second try
-/// hides the refusal. Blocks that were handed out before stay valid, and can always be given back.
+/// Passes each request on to the heap until the `nth`, and refuses that one and all that come after
+/// it, so that no second try hides the refusal. Blocks that were handed out before stay valid, and
+/// can always be given back.
 ///
-/// A request is a block asked for: an `allocate`, and a `grow` or `shrink` too, since each asks for the block that its items
-/// move to. A container's `shrink_to_fit` gives no error, and keeps its larger block where it is refused.
+/// A request is a block asked for: an `allocate`, and a `grow` or `shrink` too, since each asks for
+/// the block that its items move to. A container's `shrink_to_fit` gives no error, and keeps its
+/// larger block where it is refused.
 #[derive(Drop)]
 pub struct Refusing {
     alloc: Global,
 
-    /// The number of the first request that is refused, from 1. At 0 none is, and at `u64::MAX` no program comes so far.
+    /// The number of the first request that is refused, from 1. At 0 none is, and at `u64::MAX` no
+    /// program comes so far.
     pub nth: u64,
 
     // Two counts that change through a `&`. No clause can say what a cell holds.
@@ -28,7 +33,8 @@ pub struct Refusing {
 }
 
 impl Refusing {
-    /// An allocator over `alloc` that was asked for nothing yet, and refuses from the `nth` request on.
+    /// An allocator over `alloc` that was asked for nothing yet, and refuses from the `nth` request
+    /// on.
     pub fn new(alloc: Global, nth: u64) -> Refusing
         ensures { result.nth ≡ nth }
     {
@@ -45,8 +51,8 @@ impl Refusing {
         self.asked.get()
     }
 
-    /// How many blocks were handed out and not yet given back. A request that was passed on counts as a block, also where the
-    /// heap itself had no memory left for it.
+    /// How many blocks were handed out and not yet given back. A request that was passed on counts
+    /// as a block, also where the heap itself had no memory left for it.
     pub fn held(&self) -> u64 {
         self.held.get()
     }
@@ -65,8 +71,9 @@ impl Refusing {
         self.refuses(self.asked.get())
     }
 
-    /// How many requests were refused so far: all from the `nth` on. A test tells by it whether a call's answer that memory
-    /// ran out came with a refusal, also where an earlier call was refused before.
+    /// How many requests were refused so far: all from the `nth` on. A test tells by it whether a
+    /// call's answer that memory ran out came with a refusal, also where an earlier call was
+    /// refused before.
     pub fn refused(&self) -> u64
         ensures { 0 < result → 0 < self.now.nth }
     {

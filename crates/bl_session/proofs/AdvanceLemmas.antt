@@ -1,5 +1,8 @@
 -- From one attempt to the next.
-use Rattle.std.proofs.Common.{◌≡◌, ℕ, ◌+◌, ◌<◌, ◌≤◌, Bool, true, false, MatchBool, MatchOption, ◌&&◌, if◌then◌else◌, nat_le, nat_lt, List, [], ◌∷◌, ◌++◌, length, drop, map, get_or, Option, None, Some, Result, Ok, Err, IfOk, refl, sym, ap, subst, ◌∙◌, ◌⊎◌, inl, inr, arith}
+use Rattle.std.proofs.Common.{◌≡◌, ℕ, ◌+◌, ◌<◌, ◌≤◌, Bool, true, false, MatchBool, MatchOption}
+use Rattle.std.proofs.Common.{◌&&◌, if◌then◌else◌, nat_le, nat_lt, List, [], ◌∷◌, ◌++◌, length}
+use Rattle.std.proofs.Common.{drop, map, get_or, Option, None, Some, Result, Ok, Err, IfOk, refl}
+use Rattle.std.proofs.Common.{sym, ap, subst, ◌∙◌, ◌⊎◌, inl, inr, arith}
 use Rattle.std.specs.declared.ops.Range.{Range}
 use Rattle.std.proofs.lemmas.Bool.{cases_lt}
 use Rattle.std.proofs.lemmas.Bool.Decides.{nat_tests}
@@ -17,7 +20,8 @@ use Rattle.bl_session.specs.declared.words.RefusedEntry.{RefusedEntry}
 use Rattle.bl_session.specs.Ends.{handed, refused, size_refusal}
 use Rattle.bl_session.specs.Menu.{EntryFacts, MenuFacts, entry_at}
 use Rattle.bl_session.specs.Pieces.{are_whole}
-use Rattle.bl_session.specs.Boot.{BootFacts, State, running, handed_over, none_left, unstarted, out_of_memory, sizes_of, fresh, Continues, BeginsUnless, Begins}
+use Rattle.bl_session.specs.Boot.{BootFacts, State, running, handed_over, none_left, unstarted}
+use Rattle.bl_session.specs.Boot.{out_of_memory, sizes_of, fresh, Continues, BeginsUnless, Begins}
 use Rattle.bl_session.specs.Attempt.{IsAttempt, IsBegun, IsRefusedFor}
 use Rattle.bl_session.specs.Phases.{handover_held}
 use Rattle.bl_session.specs.Memory.{IsMemoryIn}
@@ -25,98 +29,159 @@ use Rattle.bl_session.specs.Memory.{IsMemoryIn}
 -- ---- one attempt
 
 -- the state that an attempt leads to, if the next one leads to this
-abbrev pub state_by : {A : Type 0} → (entry : ℕ) (rest : List ℕ) (earlier : List RefusedEntry) (bytes : List ℕ) → State → Attempt A → State
-state_by entry rest earlier bytes later (attempt.Waits stage) = running entry rest earlier (spots bytes stage)
-state_by entry rest earlier bytes later (attempt.HandedOver handoff) = handed_over entry earlier (handover_held bytes handoff)
+abbrev pub state_by : {A : Type 0}
+    → (entry : ℕ) (rest : List ℕ) (earlier : List RefusedEntry) (bytes : List ℕ) → State → Attempt A
+    → State
+state_by entry rest earlier bytes later (attempt.Waits stage) =
+    running entry rest earlier (spots bytes stage)
+state_by entry rest earlier bytes later (attempt.HandedOver handoff) =
+    handed_over entry earlier (handover_held bytes handoff)
 state_by entry rest earlier bytes later (attempt.Refused refusal) = later
 
 -- the next one leads on, if this one is refused
-abbrev pub LeadsOn : {A : Type 0} → (List RefusedEntry → State → Type 0) → ℕ → List RefusedEntry → State → Attempt A → Type 0
+abbrev pub LeadsOn : {A : Type 0} → (List RefusedEntry → State → Type 0) → ℕ → List RefusedEntry
+    → State → Attempt A → Type 0
 LeadsOn next entry earlier later (attempt.Waits stage) = Unit {0}
 LeadsOn next entry earlier later (attempt.HandedOver handoff) = Unit {0}
-LeadsOn next entry earlier later (attempt.Refused refusal) = next (earlier ++ record { entry = entry; refusal = refusal } ∷ []) later
+LeadsOn next entry earlier later (attempt.Refused refusal) =
+    next (earlier ++ record { entry = entry; refusal = refusal } ∷ []) later
 
-by_test : (b : Bool) (tested : Bool) (P Q : Type 0) → tested ≡ b → MatchBool b P Q → MatchBool tested P Q
+by_test : (b : Bool) (tested : Bool) (P Q : Type 0) → tested ≡ b → MatchBool b P Q
+    → MatchBool tested P Q
 by_test b tested P Q e h = subst (λ (x : Bool). MatchBool x P Q) (sym e) h
 
-pub continues : {A : Type 0} (facts : BootFacts) (next : List RefusedEntry → State → Type 0) (entry : ℕ) (rest : List ℕ) (earlier : List RefusedEntry) (files : List (List Spot)) (bytes : List ℕ) (later : State) (one : Attempt A)
-    → IsAttempt facts.machine (entry_at facts.menu entry) files bytes one → LeadsOn next entry earlier later one
+pub continues : {A : Type 0} (facts : BootFacts) (next : List RefusedEntry → State → Type 0)
+    (entry : ℕ) (rest : List ℕ) (earlier : List RefusedEntry) (files : List (List Spot))
+    (bytes : List ℕ) (later : State) (one : Attempt A)
+    → IsAttempt facts.machine (entry_at facts.menu entry) files bytes one
+    → LeadsOn next entry earlier later one
     → Continues facts next entry rest earlier files (state_by entry rest earlier bytes later one)
-continues facts next entry rest earlier files bytes later (attempt.Waits stage) (whole, same) leads =
+continues facts next entry rest earlier files bytes later (attempt.Waits stage) (whole, same)
+    leads =
     by_test false (are_whole files) _ _ whole (ap (running entry rest earlier) same)
-continues facts next entry rest earlier files bytes later (attempt.HandedOver handoff) (whole, ends) leads =
+continues facts next entry rest earlier files bytes later (attempt.HandedOver handoff) (whole, ends)
+    leads =
     by_test true (are_whole files) _ _ whole (handed (handover_held bytes handoff), ends, refl)
-continues facts next entry rest earlier files bytes later (attempt.Refused refusal) (whole, ends) leads =
+continues facts next entry rest earlier files bytes later (attempt.Refused refusal) (whole, ends)
+    leads =
     by_test true (are_whole files) _ _ whole (refused refusal, ends, leads)
 
-begins_unless : {A : Type 0} (facts : BootFacts) (next : List RefusedEntry → State → Type 0) (entry : ℕ) (rest : List ℕ) (earlier : List RefusedEntry) (bytes : List ℕ) (later : State) (one : Attempt A) (why : Option Refusal)
-    → MatchOption why (IsAttempt facts.machine (entry_at facts.menu entry) (fresh facts entry) bytes one) (IsRefusedFor one) → LeadsOn next entry earlier later one
+begins_unless : {A : Type 0} (facts : BootFacts) (next : List RefusedEntry → State → Type 0)
+    (entry : ℕ) (rest : List ℕ) (earlier : List RefusedEntry) (bytes : List ℕ) (later : State)
+    (one : Attempt A) (why : Option Refusal)
+    → MatchOption why
+    (IsAttempt facts.machine (entry_at facts.menu entry) (fresh facts entry) bytes one)
+    (IsRefusedFor one) → LeadsOn next entry earlier later one
     → BeginsUnless facts next entry rest earlier why (state_by entry rest earlier bytes later one)
-begins_unless facts next entry rest earlier bytes later one None is leads = continues facts next entry rest earlier (fresh facts entry) bytes later one is leads
-begins_unless facts next entry rest earlier bytes later (attempt.Waits stage) (Some r) is leads = absurd is
-begins_unless facts next entry rest earlier bytes later (attempt.HandedOver handoff) (Some r) is leads = absurd is
-begins_unless facts next entry rest earlier bytes later (attempt.Refused refusal) (Some r) is leads =
-    subst (λ (x : Refusal). next (earlier ++ record { entry = entry; refusal = x } ∷ []) later) is leads
+begins_unless facts next entry rest earlier bytes later one None is leads =
+    continues facts next entry rest earlier (fresh facts entry) bytes later one is leads
+begins_unless facts next entry rest earlier bytes later (attempt.Waits stage) (Some r) is leads =
+    absurd is
+begins_unless facts next entry rest earlier bytes later (attempt.HandedOver handoff) (Some r) is
+    leads = absurd is
+begins_unless facts next entry rest earlier bytes later (attempt.Refused refusal) (Some r) is
+    leads =
+    subst (λ (x : Refusal). next (earlier ++ record { entry = entry; refusal = x } ∷ []) later) is
+    leads
 
 -- the attempt of a number
-pub begins_at : {A : Type 0} (facts : BootFacts) (next entry : ℕ) (offered : EntryFacts) (earlier : List RefusedEntry) (bytes : List ℕ) (later : State) (got one : Attempt A)
-    → next < length facts.menu.attempts → ((d : ℕ) → entry ≡ get_or facts.menu.attempts next d) → offered ≡ entry_at facts.menu entry
-    → IsBegun facts.machine offered (map (λ file. get_or facts.sizes file None) offered.files) bytes got → got ≡ one
+pub begins_at : {A : Type 0} (facts : BootFacts) (next entry : ℕ) (offered : EntryFacts)
+    (earlier : List RefusedEntry) (bytes : List ℕ) (later : State) (got one : Attempt A)
+    → next < length facts.menu.attempts → ((d : ℕ) → entry ≡ get_or facts.menu.attempts next d)
+    → offered ≡ entry_at facts.menu entry
+    → IsBegun facts.machine offered (map (λ file. get_or facts.sizes file None) offered.files) bytes
+    got → got ≡ one
     → LeadsOn (Begins facts (drop (next + 1) facts.menu.attempts)) entry earlier later one
-    → Begins facts (drop next facts.menu.attempts) earlier (state_by entry (drop (next + 1) facts.menu.attempts) earlier bytes later one)
+    → Begins facts (drop next facts.menu.attempts) earlier
+    (state_by entry (drop (next + 1) facts.menu.attempts) earlier bytes later one)
 begins_at {A} facts next entry offered earlier bytes later got one h is same begun got_is leads =
     let rest = drop (next + 1) facts.menu.attempts in
-    let first : drop next facts.menu.attempts ≡ entry ∷ rest = drop_more facts.menu.attempts next 0 h ∙ ap (λ (x : ℕ). x ∷ rest) (sym (is 0)) in
-    let of_one = subst (λ (x : Attempt A). IsBegun facts.machine offered (map (λ file. get_or facts.sizes file None) offered.files) bytes x) got_is begun in
-    let mine = subst (λ (e : EntryFacts). IsBegun facts.machine e (map (λ file. get_or facts.sizes file None) e.files) bytes one) same of_one in
-    subst (λ (xs : List ℕ). Begins facts xs earlier (state_by entry rest earlier bytes later one)) (sym first)
-    (begins_unless facts (Begins facts rest) entry rest earlier bytes later one (size_refusal facts.machine (sizes_of facts entry)) mine leads)
+    let first : drop next facts.menu.attempts ≡ entry ∷ rest =
+    drop_more facts.menu.attempts next 0 h ∙ ap (λ (x : ℕ). x ∷ rest) (sym (is 0)) in
+    let of_one =
+    subst
+    (λ (x : Attempt A).
+    IsBegun facts.machine offered
+    (map (λ file. get_or facts.sizes file None) offered.files) bytes x) got_is
+    begun in
+    let mine =
+    subst
+    (λ (e : EntryFacts).
+    IsBegun facts.machine e (map (λ file. get_or facts.sizes file None) e.files) bytes
+    one) same of_one in
+    subst (λ (xs : List ℕ). Begins facts xs earlier (state_by entry rest earlier bytes later one))
+    (sym first)
+    (begins_unless facts (Begins facts rest) entry rest earlier bytes later one
+    (size_refusal facts.machine (sizes_of facts entry)) mine leads)
 
 -- one that is refused, where the next ones lead on
-pub begins_later : {A P E : Type 0} (facts : BootFacts) (next entry : ℕ) (offered : EntryFacts) (earlier later : List RefusedEntry) (bytes : List ℕ) (got : Attempt A) (refusal : Refusal) (result : Result P E) (state : P → State)
-    → next < length facts.menu.attempts → ((d : ℕ) → entry ≡ get_or facts.menu.attempts next d) → offered ≡ entry_at facts.menu entry
-    → IsBegun facts.machine offered (map (λ file. get_or facts.sizes file None) offered.files) bytes got → got ≡ attempt.Refused refusal
+pub begins_later : {A P E : Type 0} (facts : BootFacts) (next entry : ℕ) (offered : EntryFacts)
+    (earlier later : List RefusedEntry) (bytes : List ℕ) (got : Attempt A) (refusal : Refusal)
+    (result : Result P E) (state : P → State)
+    → next < length facts.menu.attempts → ((d : ℕ) → entry ≡ get_or facts.menu.attempts next d)
+    → offered ≡ entry_at facts.menu entry
+    → IsBegun facts.machine offered (map (λ file. get_or facts.sizes file None) offered.files) bytes
+    got → got ≡ attempt.Refused refusal
     → later ≡ earlier ++ record { entry = entry; refusal = refusal } ∷ []
     → IfOk result (λ phase. Begins facts (drop (next + 1) facts.menu.attempts) later (state phase))
     → IfOk result (λ phase. Begins facts (drop next facts.menu.attempts) earlier (state phase))
-begins_later facts next entry offered earlier later bytes got refusal (Err e) state h is same begun got_is grown leads = tt
-begins_later facts next entry offered earlier later bytes got refusal (Ok phase) state h is same begun got_is grown leads =
-    begins_at facts next entry offered earlier bytes (state phase) got (attempt.Refused refusal) h is same begun got_is
-    (subst (λ (r : List RefusedEntry). Begins facts (drop (next + 1) facts.menu.attempts) r (state phase)) grown leads)
+begins_later facts next entry offered earlier later bytes got refusal (Err e) state h is same begun
+    got_is grown leads = tt
+begins_later facts next entry offered earlier later bytes got refusal (Ok phase) state h is same
+    begun got_is grown leads =
+    begins_at facts next entry offered earlier bytes (state phase) got (attempt.Refused refusal) h
+    is same begun got_is
+    (subst
+    (λ (r : List RefusedEntry).
+    Begins facts (drop (next + 1) facts.menu.attempts) r (state phase)) grown leads)
 
-pub begins_none : (facts : BootFacts) (next : ℕ) (earlier : List RefusedEntry) → length facts.menu.attempts ≤ next → Begins facts (drop next facts.menu.attempts) earlier (none_left earlier)
+pub begins_none : (facts : BootFacts) (next : ℕ) (earlier : List RefusedEntry)
+    → length facts.menu.attempts ≤ next
+    → Begins facts (drop next facts.menu.attempts) earlier (none_left earlier)
 begins_none facts next earlier h =
-    subst (λ (xs : List ℕ). Begins facts xs earlier (none_left earlier)) (sym (drop_all next facts.menu.attempts h)) refl
+    subst (λ (xs : List ℕ). Begins facts xs earlier (none_left earlier))
+    (sym (drop_all next facts.menu.attempts h)) refl
 
 -- ---- memory
 
-pub same_on : (pool : Range ℕ) (old mid new : List ℕ) → IsSameOutside pool old mid → IsSameOutside pool mid new → IsSameOutside pool old new
+pub same_on : (pool : Range ℕ) (old mid new : List ℕ) → IsSameOutside pool old mid
+    → IsSameOutside pool mid new → IsSameOutside pool old new
 same_on pool old mid new first second = λ a outside. second a outside ∙ first a outside
 
 beside : (pool : Range ℕ) (a : ℕ) → ¬ IsIn pool a → (a < pool.start) ⊎ (pool.end ≤ a)
 beside pool a out = elim (cases_lt a pool.start) [
   | inl below ↦ inl below
-  | inr from ↦ elim (cases_lt a pool.end) [ inl within ↦ absurd (out (from, within)) | inr above ↦ inr above ]
+  | inr from ↦
+      elim (cases_lt a pool.end)
+      [ inl within ↦ absurd (out (from, within)) | inr above ↦ inr above ]
 ]
 
-pub after_on : (pool : Range ℕ) (parts : List Part) (old mid new : List ℕ) → IsSameOutside pool old mid → IsAfter pool parts mid new → IsAfter pool parts old new
+pub after_on : (pool : Range ℕ) (parts : List Part) (old mid new : List ℕ)
+    → IsSameOutside pool old mid → IsAfter pool parts mid new → IsAfter pool parts old new
 after_on pool parts old mid new first second = record {
   in_parts = second.in_parts;
   in_pool = second.in_pool;
   elsewhere = λ a none out. second.elsewhere a none out ∙ first a (beside pool a out);
 }
 
-pub memory_on : (pool : Range ℕ) (state : State) (old mid new : List ℕ) → IsSameOutside pool old mid → IsMemoryIn pool state mid new → IsMemoryIn pool state old new
+pub memory_on : (pool : Range ℕ) (state : State) (old mid new : List ℕ) → IsSameOutside pool old mid
+    → IsMemoryIn pool state mid new → IsMemoryIn pool state old new
 memory_on pool unstarted old mid new first second = same_on pool old mid new first second
-memory_on pool (running entry rest earlier files) old mid new first second = same_on pool old mid new first second
-memory_on pool (handed_over entry earlier handover) old mid new first second = after_on pool handover.parts old mid new first second
-memory_on pool (none_left earlier) old mid new first second = after_on pool [] old mid new first second
+memory_on pool (running entry rest earlier files) old mid new first second =
+    same_on pool old mid new first second
+memory_on pool (handed_over entry earlier handover) old mid new first second =
+    after_on pool handover.parts old mid new first second
+memory_on pool (none_left earlier) old mid new first second =
+    after_on pool [] old mid new first second
 memory_on pool out_of_memory old mid new first second = same_on pool old mid new first second
 
-pub memory_later : {P E : Type 0} (pool : Range ℕ) (old mid new : List ℕ) (result : Result P E) (state : P → State)
-    → IsSameOutside pool old mid → IfOk result (λ phase. IsMemoryIn pool (state phase) mid new) → IfOk result (λ phase. IsMemoryIn pool (state phase) old new)
+pub memory_later : {P E : Type 0} (pool : Range ℕ) (old mid new : List ℕ) (result : Result P E)
+    (state : P → State)
+    → IsSameOutside pool old mid → IfOk result (λ phase. IsMemoryIn pool (state phase) mid new)
+    → IfOk result (λ phase. IsMemoryIn pool (state phase) old new)
 memory_later pool old mid new (Err e) state first second = tt
-memory_later pool old mid new (Ok phase) state first second = memory_on pool (state phase) old mid new first second
+memory_later pool old mid new (Ok phase) state first second =
+    memory_on pool (state phase) old mid new first second
 
 zero_if : (b c d : Bool) (x : ℕ) → c ≡ false → (if b && (c && d) then 0 else x) ≡ x
 zero_if true c d x e = rw e refl
@@ -128,14 +193,19 @@ scrubbed_in pool old a (low, high) =
     let to : nat_lt a pool.end ≡ true = grind (arith, nat_tests) in
     rw (from, to) refl
 
-scrubbed_out : (pool : Range ℕ) (old : List ℕ) (a : ℕ) → ¬ IsIn pool a → scrubbed pool [] old a ≡ get_or old a 0
+scrubbed_out : (pool : Range ℕ) (old : List ℕ) (a : ℕ) → ¬ IsIn pool a
+    → scrubbed pool [] old a ≡ get_or old a 0
 scrubbed_out pool old a out = elim (beside pool a out) [
   | inl below ↦ let from : nat_le pool.start a ≡ false = grind (arith, nat_tests) in rw from refl
-  | inr above ↦ let to : nat_lt a pool.end ≡ false = grind (arith, nat_tests) in zero_if (nat_le pool.start a) (nat_lt a pool.end) true (get_or old a 0) to
+  | inr above ↦
+      let to : nat_lt a pool.end ≡ false =
+      grind (arith, nat_tests) in
+      zero_if (nat_le pool.start a) (nat_lt a pool.end) true (get_or old a 0) to
 ]
 
 -- a pool that was scrubbed whole
-pub after_scrub : (pool : Range ℕ) (old new : List ℕ) → ((a : ℕ) → get_or new a 0 ≡ scrubbed pool [] old a) → IsAfter pool [] old new
+pub after_scrub : (pool : Range ℕ) (old new : List ℕ)
+    → ((a : ℕ) → get_or new a 0 ≡ scrubbed pool [] old a) → IsAfter pool [] old new
 after_scrub pool old new scrubs = record {
   in_parts = λ k d h. absurd (omega arith);
   in_pool = λ a none within. scrubs a ∙ scrubbed_in pool old a within;
@@ -143,18 +213,31 @@ after_scrub pool old new scrubs = record {
 }
 
 -- an attempt that is refused, where the next ones lead on
-pub continues_later : {A P E : Type 0} (facts : BootFacts) (next : List RefusedEntry → State → Type 0) (entry : ℕ) (rest : List ℕ) (earlier : List RefusedEntry) (files : List (List Spot)) (bytes : List ℕ) (got : Attempt A) (refusal : Refusal)
+pub continues_later : {A P E : Type 0} (facts : BootFacts)
+    (next : List RefusedEntry → State → Type 0) (entry : ℕ) (rest : List ℕ)
+    (earlier : List RefusedEntry) (files : List (List Spot)) (bytes : List ℕ) (got : Attempt A)
+    (refusal : Refusal)
     (result : Result P E) (state : P → State)
-    → IsAttempt facts.machine (entry_at facts.menu entry) files bytes got → got ≡ attempt.Refused refusal
-    → IfOk result (λ phase. next (earlier ++ record { entry = entry; refusal = refusal } ∷ []) (state phase))
+    → IsAttempt facts.machine (entry_at facts.menu entry) files bytes got
+    → got ≡ attempt.Refused refusal
+    → IfOk result
+    (λ phase. next (earlier ++ record { entry = entry; refusal = refusal } ∷ []) (state phase))
     → IfOk result (λ phase. Continues facts next entry rest earlier files (state phase))
-continues_later facts next entry rest earlier files bytes got refusal (Err e) state is got_is leads = tt
-continues_later {A} facts next entry rest earlier files bytes got refusal (Ok phase) state is got_is leads =
-    let mine = subst (λ (x : Attempt A). IsAttempt facts.machine (entry_at facts.menu entry) files bytes x) got_is is in
-    continues {A = A} facts next entry rest earlier files bytes (state phase) (attempt.Refused refusal) mine leads
+continues_later facts next entry rest earlier files bytes got refusal (Err e) state is got_is
+    leads = tt
+continues_later {A} facts next entry rest earlier files bytes got refusal (Ok phase) state is got_is
+    leads =
+    let mine =
+    subst (λ (x : Attempt A). IsAttempt facts.machine (entry_at facts.menu entry) files bytes x)
+    got_is is in
+    continues {A = A} facts next entry rest earlier files bytes (state phase)
+    (attempt.Refused refusal) mine leads
 
 -- an attempt as its entry is offered
-pub attempt_of_entry : {A : Type 0} (facts : MachineFacts) (menu : MenuFacts) (entry : ℕ) (offered : EntryFacts) (files : List (List Spot)) (bytes : List ℕ) (got one : Attempt A)
-    → offered ≡ entry_at menu entry → IsAttempt facts offered files bytes got → got ≡ one → IsAttempt facts (entry_at menu entry) files bytes one
+pub attempt_of_entry : {A : Type 0} (facts : MachineFacts) (menu : MenuFacts) (entry : ℕ)
+    (offered : EntryFacts) (files : List (List Spot)) (bytes : List ℕ) (got one : Attempt A)
+    → offered ≡ entry_at menu entry → IsAttempt facts offered files bytes got → got ≡ one
+    → IsAttempt facts (entry_at menu entry) files bytes one
 attempt_of_entry {A} facts menu entry offered files bytes got one same is got_is =
-    subst (λ (e : EntryFacts). IsAttempt facts e files bytes one) same (subst (λ (x : Attempt A). IsAttempt facts offered files bytes x) got_is is)
+    subst (λ (e : EntryFacts). IsAttempt facts e files bytes one) same
+    (subst (λ (x : Attempt A). IsAttempt facts offered files bytes x) got_is is)

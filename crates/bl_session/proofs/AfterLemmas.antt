@@ -1,5 +1,7 @@
 -- Memory after parts were loaded and the rest of the pool was cleared.
-use Rattle.std.proofs.Common.{◌≡◌, ℕ, suc, ◌+◌, ◌-◌, ◌<◌, ◌≤◌, ◌⊎◌, inl, inr, List, [], ◌∷◌, length, map, get_or, slice_range, slice_index, arith, rules, refl, sym, ap, ◌∙◌, Bool, true, false, ◌&&◌, All}
+use Rattle.std.proofs.Common.{◌≡◌, ℕ, suc, ◌+◌, ◌-◌, ◌<◌, ◌≤◌, ◌⊎◌, inl, inr, List, [], ◌∷◌, length}
+use Rattle.std.proofs.Common.{map, get_or, slice_range, slice_index, arith, rules, refl, sym, ap}
+use Rattle.std.proofs.Common.{◌∙◌, Bool, true, false, ◌&&◌, All}
 use Rattle.std.specs.Prelude.{nat_le, nat_lt, not}
 use Rattle.std.specs.declared.ops.Range.{Range}
 use Rattle.std.proofs.Math.ListN.{get_or-map}
@@ -21,21 +23,27 @@ use Rattle.bl_load.proofs.HeldLemmas.{length-bytes_by, map_same}
 use Rattle.bl_session.specs.Ends.{range_of}
 
 -- the ranges of what a plan hands over are those of its places
-pub ranges_are : {A : Type 0} (texts : List (List ℕ)) (parts : List (PlannedPart A)) → All (IsBacked (lengths_of texts)) parts
+pub ranges_are : {A : Type 0} (texts : List (List ℕ)) (parts : List (PlannedPart A))
+    → All (IsBacked (lengths_of texts)) parts
     → map range_of (map (part_by texts) parts) ≡ map place_range (map (λ part. part.place) parts)
 ranges_are texts [] backed = refl
 ranges_are texts (p ∷ parts) backed =
     let size = length-bytes_by texts p (backed 0 p (omega arith)) in
     let here : range_of (part_by texts p) ≡ place_range p.place =
-    ap (λ n. let r : Range ℕ = record { start = p.place.address; end = p.place.address + n } in r) size in
+    ap (λ n. let r : Range ℕ = record { start = p.place.address; end = p.place.address + n } in r)
+    size in
     ap (λ (r : Range ℕ). r ∷ map range_of (map (part_by texts) parts)) here
-    ∙ ap (λ (rs : List (Range ℕ)). place_range p.place ∷ rs) (ranges_are texts parts (λ k d within. backed (suc k) d (omega arith)))
+    ∙ ap (λ (rs : List (Range ℕ)). place_range p.place ∷ rs)
+    (ranges_are texts parts (λ k d within. backed (suc k) d (omega arith)))
 
 -- ---- a test of ranges
 
 -- an address of one of them is kept
-has_one : (ranges : List (Range ℕ)) (k a : ℕ) (d : Range ℕ) → k < length ranges → (get_or ranges k d).start ≤ a → a < (get_or ranges k d).end → has ranges a ≡ true
-has_one ranges k a d within low high = list_any_at (λ r. nat_le r.start a && nat_lt a r.end) ranges k d within (grind (arith, nat_tests))
+has_one : (ranges : List (Range ℕ)) (k a : ℕ) (d : Range ℕ) → k < length ranges
+    → (get_or ranges k d).start ≤ a → a < (get_or ranges k d).end → has ranges a ≡ true
+has_one ranges k a d within low high =
+    list_any_at (λ r. nat_le r.start a && nat_lt a r.end) ranges k d within
+    (grind (arith, nat_tests))
 
 misses : (r : Range ℕ) (a : ℕ) → ¬ IsIn r a → (nat_le r.start a && nat_lt a r.end) ≡ false
 misses r a out =
@@ -49,7 +57,9 @@ misses r a out =
 
 -- one of none is not
 has_none : (ranges : List (Range ℕ)) (a : ℕ) → All (λ r. ¬ IsIn r a) ranges → has ranges a ≡ false
-has_none ranges a out = list_any_none (λ r. nat_le r.start a && nat_lt a r.end) ranges (λ k d within. misses (get_or ranges k d) a (out k d within))
+has_none ranges a out =
+    list_any_none (λ r. nat_le r.start a && nat_lt a r.end) ranges
+    (λ k d within. misses (get_or ranges k d) a (out k d within))
 
 -- ---- the pool
 
@@ -63,13 +73,19 @@ first_fail true true d fails = absurd (true≢false fails)
 first_fail true false d fails = refl
 first_fail false c d fails = refl
 
-scrubbed_kept : (pool : Range ℕ) (keep : List (Range ℕ)) (bytes : List ℕ) (a : ℕ) → has keep a ≡ true → scrubbed pool keep bytes a ≡ slice_index bytes a
-scrubbed_kept pool keep bytes a kept = rw (kept, last_fails (nat_le pool.start a) (nat_lt a pool.end)) refl
+scrubbed_kept : (pool : Range ℕ) (keep : List (Range ℕ)) (bytes : List ℕ) (a : ℕ)
+    → has keep a ≡ true → scrubbed pool keep bytes a ≡ slice_index bytes a
+scrubbed_kept pool keep bytes a kept =
+    rw (kept, last_fails (nat_le pool.start a) (nat_lt a pool.end)) refl
 
-scrubbed_away : (pool : Range ℕ) (keep : List (Range ℕ)) (bytes : List ℕ) (a : ℕ) → ¬ IsIn pool a → scrubbed pool keep bytes a ≡ slice_index bytes a
-scrubbed_away pool keep bytes a away = rw (first_fail (nat_le pool.start a) (nat_lt a pool.end) (not (has keep a)) (misses pool a away)) refl
+scrubbed_away : (pool : Range ℕ) (keep : List (Range ℕ)) (bytes : List ℕ) (a : ℕ) → ¬ IsIn pool a
+    → scrubbed pool keep bytes a ≡ slice_index bytes a
+scrubbed_away pool keep bytes a away =
+    rw (first_fail (nat_le pool.start a) (nat_lt a pool.end) (not (has keep a))
+    (misses pool a away)) refl
 
-scrubbed_cleared : (pool : Range ℕ) (keep : List (Range ℕ)) (bytes : List ℕ) (a : ℕ) → IsIn pool a → has keep a ≡ false → scrubbed pool keep bytes a ≡ 0
+scrubbed_cleared : (pool : Range ℕ) (keep : List (Range ℕ)) (bytes : List ℕ) (a : ℕ) → IsIn pool a
+    → has keep a ≡ false → scrubbed pool keep bytes a ≡ 0
 scrubbed_cleared pool keep bytes a here lost =
     let low = here.0 in
     let high = here.1 in
@@ -77,7 +93,9 @@ scrubbed_cleared pool keep bytes a here lost =
 
 -- parts that were loaded are kept when the rest of the pool is cleared
 pub after_scrub : (pool : Range ℕ) (parts : List Part) (old loaded new : List ℕ)
-    → All (λ part. (a : ℕ) → part.address ≤ a → a < part.address + length part.bytes → slice_index loaded a ≡ slice_index part.bytes (a - part.address)) parts
+    → All
+    (λ part. (a : ℕ) → part.address ≤ a → a < part.address + length part.bytes
+    → slice_index loaded a ≡ slice_index part.bytes (a - part.address)) parts
     → ((a : ℕ) → All (λ part. ¬ Spans part a) parts → slice_index loaded a ≡ slice_index old a)
     → ((a : ℕ) → slice_index new a ≡ scrubbed pool (map range_of parts) loaded a)
     → IsAfter pool parts old new
@@ -85,15 +103,23 @@ after_scrub pool parts old loaded new in_parts elsewhere after =
     let keep : List (Range ℕ) = map range_of parts in
     record {
       in_parts = λ k d within a span.
-          let this : get_or keep k (range_of d) ≡ range_of (get_or parts k d) = get_or-map range_of parts k d in
-          let kept : has keep a ≡ true = has_one keep k a (range_of d) (rw length-map within) (rw this span.0) (rw this span.1) in
+          let this : get_or keep k (range_of d) ≡ range_of (get_or parts k d) =
+          get_or-map range_of parts k d in
+          let kept : has keep a ≡ true =
+          has_one keep k a (range_of d) (rw length-map within) (rw this span.0)
+          (rw this span.1) in
           after a ∙ scrubbed_kept pool keep loaded a kept ∙ in_parts k d within a span.0 span.1;
-      in_pool = λ a out here. after a ∙ scrubbed_cleared pool keep loaded a here (has_none keep a (All-map (λ (r : Range ℕ). ¬ IsIn r a) range_of parts out));
+      in_pool =
+          λ a out here.
+          after a
+          ∙ scrubbed_cleared pool keep loaded a here
+          (has_none keep a (All-map (λ (r : Range ℕ). ¬ IsIn r a) range_of parts out));
       elsewhere = λ a out away. after a ∙ scrubbed_away pool keep loaded a away ∙ elsewhere a out;
     }
 
 -- so memory reads back there as before
-pub held_on : (pool : Range ℕ) (places : List Place) (loaded new : List ℕ) → length new ≡ length loaded
+pub held_on : (pool : Range ℕ) (places : List Place) (loaded new : List ℕ)
+    → length new ≡ length loaded
     → ((a : ℕ) → slice_index new a ≡ scrubbed pool (map place_range places) loaded a)
     → All (λ place. place.address + place.length ≤ length loaded) places
     → map (part_in new) places ≡ map (part_in loaded) places
@@ -102,18 +128,24 @@ held_on pool places loaded new size after inside =
     let keep : List (Range ℕ) = map place_range places in
     let place = get_or places k d in
     let here = inside k d within in
-    let this : get_or keep k (place_range d) ≡ place_range place = get_or-map place_range places k d in
+    let this : get_or keep k (place_range d) ≡ place_range place =
+    get_or-map place_range places k d in
     let read : List ℕ = slice_range new place.address (place.address + place.length) in
     let was : List ℕ = slice_range loaded place.address (place.address + place.length) in
     let wide : length read ≡ place.length = search (rules, places_) in
     let long : length was ≡ place.length = search (rules, places_) in
-    ap (part_at place) (same_lists read was (wide ∙ sym long) (λ (j e : ℕ) (below : j < length read).
-    let kept : has keep (place.address + j) ≡ true = has_one keep k (place.address + j) (place_range d) (rw length-map within) (rw this (omega arith)) (rw this (omega arith)) in
-    let same = after (place.address + j) ∙ scrubbed_kept pool keep loaded (place.address + j) kept in
+    ap (part_at place)
+    (same_lists read was (wide ∙ sym long) (λ (j e : ℕ) (below : j < length read).
+    let kept : has keep (place.address + j) ≡ true =
+    has_one keep k (place.address + j) (place_range d) (rw length-map within)
+    (rw this (omega arith)) (rw this (omega arith)) in
+    let same =
+    after (place.address + j) ∙ scrubbed_kept pool keep loaded (place.address + j) kept in
     grind (arith, places_))))
 
 -- what memory was before its pool changed does not count
-pub after_before : (pool : Range ℕ) (parts : List Part) (first old new : List ℕ) → IsSameOutside pool first old → IsAfter pool parts old new → IsAfter pool parts first new
+pub after_before : (pool : Range ℕ) (parts : List Part) (first old new : List ℕ)
+    → IsSameOutside pool first old → IsAfter pool parts old new → IsAfter pool parts first new
 after_before pool parts first old new outside after = record {
   in_parts = after.in_parts;
   in_pool = after.in_pool;

@@ -1,5 +1,7 @@
 -- Boots that differ only in sizes which no entry reads are alike.
-use Rattle.std.proofs.Common.{◌≡◌, ℕ, ◌<◌, ◌≤◌, ◌==◌, Bool, true, false, MatchBool, if◌then◌else◌, List, [], ◌∷◌, ◌++◌, map, length, get_or, Option, None, Some, refl, sym, ap, subst, ◌∙◌, inl, inr, arith, zero, suc}
+use Rattle.std.proofs.Common.{◌≡◌, ℕ, ◌<◌, ◌≤◌, ◌==◌, Bool, true, false, MatchBool, if◌then◌else◌}
+use Rattle.std.proofs.Common.{List, [], ◌∷◌, ◌++◌, map, length, get_or, Option, None, Some, refl}
+use Rattle.std.proofs.Common.{sym, ap, subst, ◌∙◌, inl, inr, arith, zero, suc}
 use Rattle.std.specs.List.{range_with_len}
 use Rattle.std.proofs.lemmas.List.FromFn.{get_or-map-range_with_len}
 use Rattle.bl_map.specs.MachineFacts.{MachineFacts}
@@ -11,7 +13,11 @@ use Rattle.bl_session.specs.Ends.{End, handed, refused, EndsIn, size_refusal, le
 use Rattle.bl_session.specs.Menu.{EntryFacts, MenuFacts, entry_at, no_entry, value_with}
 use Rattle.bl_session.specs.Attempts.{count_to, files_named}
 use Rattle.bl_session.specs.Pieces.{are_whole, awaited, with_piece}
-use Rattle.bl_session.specs.Boot.{BootFacts, EventFacts, piece, fault, State, unstarted, running, handed_over, none_left, out_of_memory, sizes_of, fresh, EntryEndsIn, Sequel, GoesOn, Continues, BeginsUnless, Begins, is_wanted, Takes, Steps, StepsOrFails, Starts, StartsOrFails, attempt_of}
+use Rattle.bl_session.specs.Boot.{BootFacts, EventFacts, piece, fault, State, unstarted, running}
+use Rattle.bl_session.specs.Boot.{handed_over, none_left, out_of_memory, sizes_of, fresh}
+use Rattle.bl_session.specs.Boot.{EntryEndsIn, Sequel, GoesOn, Continues, BeginsUnless, Begins}
+use Rattle.bl_session.specs.Boot.{is_wanted, Takes, Steps, StepsOrFails, Starts, StartsOrFails}
+use Rattle.bl_session.specs.Boot.{attempt_of}
 use Rattle.bl_session.specs.Outcome.{File, missing, size_of}
 use Rattle.bl_session.specs.History.{Item}
 use Rattle.bl_session.specs.Orders.{file_orders, orders, orders_after}
@@ -27,65 +33,110 @@ pub record AreAlike (f g : BootFacts) : Type 0 where
 
 -- ---- what is asked for
 
-pub orders_alike : (f g : BootFacts) → AreAlike f g → (state : State) → orders f state ≡ orders g state
+pub orders_alike : (f g : BootFacts) → AreAlike f g → (state : State)
+    → orders f state ≡ orders g state
 orders_alike f g alike unstarted = refl
-orders_alike f g alike (running entry rest earlier files) = ap (λ (m : MenuFacts). file_orders (length earlier) 0 (entry_at m entry).files files) alike.menu
+orders_alike f g alike (running entry rest earlier files) =
+    ap (λ (m : MenuFacts). file_orders (length earlier) 0 (entry_at m entry).files files) alike.menu
 orders_alike f g alike (handed_over entry earlier handover) = refl
 orders_alike f g alike (none_left earlier) = refl
 orders_alike f g alike out_of_memory = refl
 
-pub orders_after_alike : (f g : BootFacts) → AreAlike f g → (old new : State) → orders_after f old new ≡ orders_after g old new
-orders_after_alike f g alike old new = ap (λ (items : List Item). if attempt_of new == attempt_of old then [] else items) (orders_alike f g alike new)
+pub orders_after_alike : (f g : BootFacts) → AreAlike f g → (old new : State)
+    → orders_after f old new ≡ orders_after g old new
+orders_after_alike f g alike old new =
+    ap (λ (items : List Item). if attempt_of new == attempt_of old then [] else items)
+    (orders_alike f g alike new)
 
 -- ---- one attempt after the other
 
-ends_alike : (f g : BootFacts) → AreAlike f g → (entry : ℕ) (texts : List (List ℕ)) (end : End) → EntryEndsIn f entry texts end → EntryEndsIn g entry texts end
+ends_alike : (f g : BootFacts) → AreAlike f g → (entry : ℕ) (texts : List (List ℕ)) (end : End)
+    → EntryEndsIn f entry texts end → EntryEndsIn g entry texts end
 ends_alike f g alike entry texts end ends =
-    subst (λ (m : MachineFacts). EndsIn m (value_with (entry_at g.menu entry) texts) end) alike.machine
-    (subst (λ (m : MenuFacts). EndsIn f.machine (value_with (entry_at m entry) texts) end) alike.menu ends)
+    subst (λ (m : MachineFacts). EndsIn m (value_with (entry_at g.menu entry) texts) end)
+    alike.machine
+    (subst (λ (m : MenuFacts). EndsIn f.machine (value_with (entry_at m entry) texts) end)
+    alike.menu ends)
 
-goes_alike : (next more : Sequel) → ((r : List RefusedEntry) (s : State) → next r s → more r s) → (entry : ℕ) (earlier : List RefusedEntry) (end : End) (new : State) → GoesOn next entry earlier end new → GoesOn more entry earlier end new
+goes_alike : (next more : Sequel) → ((r : List RefusedEntry) (s : State) → next r s → more r s)
+    → (entry : ℕ) (earlier : List RefusedEntry) (end : End) (new : State)
+    → GoesOn next entry earlier end new → GoesOn more entry earlier end new
 goes_alike next more leads entry earlier (handed handover) new goes = goes
-goes_alike next more leads entry earlier (refused refusal) new goes = leads (earlier ++ record { entry = entry; refusal = refusal } ∷ []) new goes
+goes_alike next more leads entry earlier (refused refusal) new goes =
+    leads (earlier ++ record { entry = entry; refusal = refusal } ∷ []) new goes
 
-continues_alike : (f g : BootFacts) → AreAlike f g → (next more : Sequel) → ((r : List RefusedEntry) (s : State) → next r s → more r s) → (entry : ℕ) (rest : List ℕ) (earlier : List RefusedEntry) (files : List (List Spot)) (new : State)
+continues_alike : (f g : BootFacts) → AreAlike f g → (next more : Sequel)
+    → ((r : List RefusedEntry) (s : State) → next r s → more r s)
+    → (entry : ℕ) (rest : List ℕ) (earlier : List RefusedEntry) (files : List (List Spot))
+    (new : State)
     → Continues f next entry rest earlier files new → Continues g more entry rest earlier files new
-continues_alike f g alike next more leads entry rest earlier files new goes = choice (are_whole files) goes
+continues_alike f g alike next more leads entry rest earlier files new goes =
+    choice (are_whole files) goes
   where
-    choice : (b : Bool) → MatchBool b ((end : End) × EntryEndsIn f entry (map bytes_of files) end × GoesOn next entry earlier end new) (new ≡ running entry rest earlier files)
-        → MatchBool b ((end : End) × EntryEndsIn g entry (map bytes_of files) end × GoesOn more entry earlier end new) (new ≡ running entry rest earlier files)
-    choice true (end, ends, on) = (end, ends_alike f g alike entry (map bytes_of files) end ends, goes_alike next more leads entry earlier end new on)
+    choice : (b : Bool)
+        → MatchBool b
+        ((end : End) × EntryEndsIn f entry (map bytes_of files) end
+        × GoesOn next entry earlier end new) (new ≡ running entry rest earlier files)
+        → MatchBool b
+        ((end : End) × EntryEndsIn g entry (map bytes_of files) end
+        × GoesOn more entry earlier end new) (new ≡ running entry rest earlier files)
+    choice true (end, ends, on) = (
+      end,
+      ends_alike f g alike entry (map bytes_of files) end ends,
+      goes_alike next more leads entry earlier end new on,
+    )
     choice false same = same
 
-unless_alike : (f g : BootFacts) → AreAlike f g → (next more : Sequel) → ((r : List RefusedEntry) (s : State) → next r s → more r s) → (entry : ℕ) (rest : List ℕ) (earlier : List RefusedEntry) (why : Option Refusal) (new : State)
-    → BeginsUnless f next entry rest earlier why new → BeginsUnless g more entry rest earlier why new
-unless_alike f g alike next more leads entry rest earlier (Some refusal) new goes = goes_alike next more leads entry earlier (refused refusal) new goes
+unless_alike : (f g : BootFacts) → AreAlike f g → (next more : Sequel)
+    → ((r : List RefusedEntry) (s : State) → next r s → more r s)
+    → (entry : ℕ) (rest : List ℕ) (earlier : List RefusedEntry) (why : Option Refusal) (new : State)
+    → BeginsUnless f next entry rest earlier why new
+    → BeginsUnless g more entry rest earlier why new
+unless_alike f g alike next more leads entry rest earlier (Some refusal) new goes =
+    goes_alike next more leads entry earlier (refused refusal) new goes
 unless_alike f g alike next more leads entry rest earlier None new goes =
     continues_alike f g alike next more leads entry rest earlier (fresh g entry) new
-    (subst (λ (sizes : List (Option ℕ)). Continues f next entry rest earlier (awaited (lengths_of sizes)) new) (alike.sizes entry) goes)
+    (subst
+    (λ (sizes : List (Option ℕ)).
+    Continues f next entry rest earlier (awaited (lengths_of sizes)) new)
+    (alike.sizes entry) goes)
 
-begins_alike : (f g : BootFacts) → AreAlike f g → (rest : List ℕ) (earlier : List RefusedEntry) (new : State) → Begins f rest earlier new → Begins g rest earlier new
+begins_alike : (f g : BootFacts) → AreAlike f g
+    → (rest : List ℕ) (earlier : List RefusedEntry) (new : State) → Begins f rest earlier new
+    → Begins g rest earlier new
 begins_alike f g alike [] earlier new goes = goes
 begins_alike f g alike (entry ∷ rest) earlier new goes =
-    let why : size_refusal f.machine (sizes_of f entry) ≡ size_refusal g.machine (sizes_of g entry) =
-    ap (λ (m : MachineFacts). size_refusal m (sizes_of f entry)) alike.machine ∙ ap (size_refusal g.machine) (alike.sizes entry) in
+    let why : size_refusal f.machine (sizes_of f entry)
+    ≡ size_refusal g.machine (sizes_of g entry) =
+    ap (λ (m : MachineFacts). size_refusal m (sizes_of f entry)) alike.machine
+    ∙ ap (size_refusal g.machine) (alike.sizes entry) in
     subst (λ (w : Option Refusal). BeginsUnless g (Begins g rest) entry rest earlier w new) why
-    (unless_alike f g alike (Begins f rest) (Begins g rest) (begins_alike f g alike rest) entry rest earlier (size_refusal f.machine (sizes_of f entry)) new goes)
+    (unless_alike f g alike (Begins f rest) (Begins g rest) (begins_alike f g alike rest) entry rest
+    earlier (size_refusal f.machine (sizes_of f entry)) new goes)
 
 -- ---- one event
 
-takes_alike : (f g : BootFacts) → AreAlike f g → (entry : ℕ) (rest : List ℕ) (earlier : List RefusedEntry) (files : List (List Spot)) (event : EventFacts) (new : State)
+takes_alike : (f g : BootFacts) → AreAlike f g
+    → (entry : ℕ) (rest : List ℕ) (earlier : List RefusedEntry) (files : List (List Spot))
+    (event : EventFacts) (new : State)
     → Takes f entry rest earlier files event new → Takes g entry rest earlier files event new
 takes_alike f g alike entry rest earlier files (piece ticket bytes) new goes =
-    continues_alike f g alike (Begins f rest) (Begins g rest) (begins_alike f g alike rest) entry rest earlier (with_piece files ticket.file ticket.piece bytes) new goes
+    continues_alike f g alike (Begins f rest) (Begins g rest) (begins_alike f g alike rest) entry
+    rest earlier (with_piece files ticket.file ticket.piece bytes) new goes
 takes_alike f g alike entry rest earlier files (fault ticket) new goes =
-    goes_alike (Begins f rest) (Begins g rest) (begins_alike f g alike rest) entry earlier (refused (FileFault ticket.file)) new goes
+    goes_alike (Begins f rest) (Begins g rest) (begins_alike f g alike rest) entry earlier
+    (refused (FileFault ticket.file)) new goes
 
-steps_alike : (f g : BootFacts) → AreAlike f g → (old : State) (event : EventFacts) (new : State) → Steps f old event new → Steps g old event new
-steps_alike f g alike (running entry rest earlier files) event new goes = choice (is_wanted earlier files event) goes
+steps_alike : (f g : BootFacts) → AreAlike f g → (old : State) (event : EventFacts) (new : State)
+    → Steps f old event new → Steps g old event new
+steps_alike f g alike (running entry rest earlier files) event new goes =
+    choice (is_wanted earlier files event) goes
   where
-    choice : (b : Bool) → MatchBool b (Takes f entry rest earlier files event new) (new ≡ running entry rest earlier files)
-        → MatchBool b (Takes g entry rest earlier files event new) (new ≡ running entry rest earlier files)
+    choice : (b : Bool)
+        → MatchBool b (Takes f entry rest earlier files event new)
+        (new ≡ running entry rest earlier files)
+        → MatchBool b (Takes g entry rest earlier files event new)
+        (new ≡ running entry rest earlier files)
     choice true taken = takes_alike f g alike entry rest earlier files event new taken
     choice false same = same
 steps_alike f g alike unstarted event new goes = goes
@@ -93,46 +144,68 @@ steps_alike f g alike (handed_over entry earlier handover) event new goes = goes
 steps_alike f g alike (none_left earlier) event new goes = goes
 steps_alike f g alike out_of_memory event new goes = goes
 
-pub step_alike : (f g : BootFacts) → AreAlike f g → (old : State) (event : EventFacts) (new : State) → StepsOrFails f old event new → StepsOrFails g old event new
+pub step_alike : (f g : BootFacts) → AreAlike f g → (old : State) (event : EventFacts) (new : State)
+    → StepsOrFails f old event new → StepsOrFails g old event new
 step_alike f g alike old event new (inl steps) = inl (steps_alike f g alike old event new steps)
 step_alike f g alike old event new (inr fails) = inr fails
 
 -- ---- the start
 
-starts_alike : (f g : BootFacts) → AreAlike f g → (old new : State) → Starts f old new → Starts g old new
+starts_alike : (f g : BootFacts) → AreAlike f g → (old new : State) → Starts f old new
+    → Starts g old new
 starts_alike f g alike unstarted new goes =
-    subst (λ (m : MenuFacts). Begins g m.attempts [] new) alike.menu (begins_alike f g alike f.menu.attempts [] new goes)
+    subst (λ (m : MenuFacts). Begins g m.attempts [] new) alike.menu
+    (begins_alike f g alike f.menu.attempts [] new goes)
 starts_alike f g alike (running entry rest earlier files) new goes = goes
 starts_alike f g alike (handed_over entry earlier handover) new goes = goes
 starts_alike f g alike (none_left earlier) new goes = goes
 starts_alike f g alike out_of_memory new goes = goes
 
-pub start_alike : (f g : BootFacts) → AreAlike f g → (old new : State) → StartsOrFails f old new → StartsOrFails g old new
+pub start_alike : (f g : BootFacts) → AreAlike f g → (old new : State) → StartsOrFails f old new
+    → StartsOrFails g old new
 start_alike f g alike old new (inl starts) = inl (starts_alike f g alike old new starts)
 start_alike f g alike old new (inr fails) = inr fails
 
 -- ---- a history
 
-hears_alike : (f g : BootFacts) → AreAlike f g → (files : List File) (given : List Item) (state : State) (owed : List Item) (item : Item) (next : World) → Hears f files given state owed item next → Hears g files given state owed item next
+hears_alike : (f g : BootFacts) → AreAlike f g
+    → (files : List File) (given : List Item) (state : State) (owed : List Item) (item : Item)
+    (next : World) → Hears f files given state owed item next
+    → Hears g files given state owed item next
 hears_alike f g alike files given state (order ∷ owed) item next hears = hears
-hears_alike f g alike files given state [] item next (event, is, steps, left) =
-    (event, is, step_alike f g alike state event next.state steps, left ∙ orders_after_alike f g alike state next.state)
+hears_alike f g alike files given state [] item next (event, is, steps, left) = (
+  event,
+  is,
+  step_alike f g alike state event next.state steps,
+  left ∙ orders_after_alike f g alike state next.state,
+)
 
-reads_alike : (f g : BootFacts) → AreAlike f g → (files : List File) (items given : List Item) (old : World) (new : State) → Reads f files given old items new → Reads g files given old items new
+reads_alike : (f g : BootFacts) → AreAlike f g
+    → (files : List File) (items given : List Item) (old : World) (new : State)
+    → Reads f files given old items new → Reads g files given old items new
 reads_alike f g alike files [] given old new reads = reads
-reads_alike f g alike files (item ∷ items) given old new (next, hears, reads) =
-    (next, hears_alike f g alike files given old.state old.owed item next hears, reads_alike f g alike files items (given ++ item ∷ []) next new reads)
+reads_alike f g alike files (item ∷ items) given old new (next, hears, reads) = (
+  next,
+  hears_alike f g alike files given old.state old.owed item next hears,
+  reads_alike f g alike files items (given ++ item ∷ []) next new reads,
+)
 
 -- a run of one is a run of the other
-pub run_alike : (f g : BootFacts) → AreAlike f g → (files : List File) (old new : List Item) (end : State) → IsRun f files old new end → IsRun g files old new end
+pub run_alike : (f g : BootFacts) → AreAlike f g
+    → (files : List File) (old new : List Item) (end : State) → IsRun f files old new end
+    → IsRun g files old new end
 run_alike f g alike files old new end run =
-    let world : world_of f run.begun ≡ world_of g run.begun = ap (λ (owed : List Item). record { state = run.begun; owed = owed }) (orders_alike f g alike run.begun) in
+    let world : world_of f run.begun ≡ world_of g run.begun =
+    ap (λ (owed : List Item). record { state = run.begun; owed = owed })
+    (orders_alike f g alike run.begun) in
     record {
       gained = run.gained;
       given = run.given;
       begun = run.begun;
       begins = start_alike f g alike unstarted run.begun run.begins;
-      reads = subst (λ (w : World). Reads g files old w run.gained end) world (reads_alike f g alike files run.gained old (world_of f run.begun) end run.reads);
+      reads =
+          subst (λ (w : World). Reads g files old w run.gained end) world
+          (reads_alike f g alike files run.gained old (world_of f run.begun) end run.reads);
     }
 
 -- ---- the sizes of the files that a menu names, and those of all files
@@ -141,32 +214,46 @@ count_first : (index : ℕ) (indices : List ℕ) → index < count_to (index ∷
 count_first index indices = omega arith
 
 -- sizes that are these files' below a count are so for indices below it
-sizes_below : (files : List File) (sizes : List (Option ℕ)) (count : ℕ) → ((i : ℕ) → i < count → get_or sizes i None ≡ size_of (get_or files i missing))
-    → (indices : List ℕ) → count_to indices ≤ count → map (λ file. get_or sizes file None) indices ≡ map (λ file. get_or (map size_of files) file None) indices
+sizes_below : (files : List File) (sizes : List (Option ℕ)) (count : ℕ)
+    → ((i : ℕ) → i < count → get_or sizes i None ≡ size_of (get_or files i missing))
+    → (indices : List ℕ) → count_to indices ≤ count
+    → map (λ file. get_or sizes file None) indices
+    ≡ map (λ file. get_or (map size_of files) file None) indices
 sizes_below files sizes count asked [] h = refl
 sizes_below files sizes count asked (index ∷ indices) h =
-    let first : get_or sizes index None ≡ get_or (map size_of files) index None = asked index (omega (arith, h)) ∙ sym (size_at files index) in
+    let first : get_or sizes index None ≡ get_or (map size_of files) index None =
+    asked index (omega (arith, h)) ∙ sym (size_at files index) in
     rw (first, sizes_below files sizes count asked indices (omega (arith, h))) refl
 
 -- no entry names a file beyond the count
-named_at : (entries : List EntryFacts) (entry : ℕ) → count_to (get_or entries entry no_entry).files ≤ files_named entries
+named_at : (entries : List EntryFacts) (entry : ℕ)
+    → count_to (get_or entries entry no_entry).files ≤ files_named entries
 named_at [] entry = omega arith
 named_at (e ∷ entries) zero = omega arith
 named_at (e ∷ entries) (suc entry) = let behind = named_at entries entry in omega arith
 
-pub alike_asked : (machine : MachineFacts) (menu : MenuFacts) (files : List File) (sizes : List (Option ℕ))
-    → ((i : ℕ) → i < files_named menu.entries → get_or sizes i None ≡ size_of (get_or files i missing))
+pub alike_asked : (machine : MachineFacts) (menu : MenuFacts) (files : List File)
+    (sizes : List (Option ℕ))
+    → ((i : ℕ) → i < files_named menu.entries
+    → get_or sizes i None ≡ size_of (get_or files i missing))
     → AreAlike (boot_facts machine menu sizes) (boot_facts machine menu (map size_of files))
 alike_asked machine menu files sizes asked = record {
   machine = refl;
   menu = refl;
-  sizes = λ entry. sizes_below files sizes (files_named menu.entries) asked (entry_at menu entry).files (named_at menu.entries entry);
+  sizes =
+      λ entry.
+      sizes_below files sizes (files_named menu.entries) asked (entry_at menu entry).files
+      (named_at menu.entries entry);
 }
 
 -- the same where each file that is named was asked once, from the first on
-pub alike_listed : (machine : MachineFacts) (menu : MenuFacts) (files : List File) (sizes : List (Option ℕ))
-    → sizes ≡ map (λ file. size_of (get_or files file missing)) (range_with_len 0 (files_named menu.entries))
+pub alike_listed : (machine : MachineFacts) (menu : MenuFacts) (files : List File)
+    (sizes : List (Option ℕ))
+    → sizes
+    ≡ map (λ file. size_of (get_or files file missing))
+    (range_with_len 0 (files_named menu.entries))
     → AreAlike (boot_facts machine menu sizes) (boot_facts machine menu (map size_of files))
 alike_listed machine menu files sizes is =
     alike_asked machine menu files sizes (λ i h. ap (λ (s : List (Option ℕ)). get_or s i None) is
-    ∙ get_or-map-range_with_len (λ file. size_of (get_or files file missing)) 0 (files_named menu.entries) i i None h (omega arith))
+    ∙ get_or-map-range_with_len (λ file. size_of (get_or files file missing)) 0
+    (files_named menu.entries) i i None h (omega arith))

@@ -1,7 +1,9 @@
 -- A faithful store's answers are genuine, and no fault comes of them.
-use Rattle.std.proofs.Common.{◌≡◌, List, [], ◌∷◌, ◌++◌, map, None, refl, sym, ap, subst, ◌∙◌, inl, inr, append_assoc}
+use Rattle.std.proofs.Common.{◌≡◌, List, [], ◌∷◌, ◌++◌, map, None, refl, sym, ap, subst, ◌∙◌, inl}
+use Rattle.std.proofs.Common.{inr, append_assoc}
 use Rattle.std.proofs.lemmas.List.{append-nil}
-use Rattle.bl_session.specs.Boot.{BootFacts, EventFacts, State, unstarted, running, handed_over, none_left, out_of_memory, StepsOrFails, StartsOrFails}
+use Rattle.bl_session.specs.Boot.{BootFacts, EventFacts, State, unstarted, running, handed_over}
+use Rattle.bl_session.specs.Boot.{none_left, out_of_memory, StepsOrFails, StartsOrFails}
 use Rattle.bl_session.specs.History.{Item}
 use Rattle.bl_session.specs.Outcome.{File, size_of}
 use Rattle.bl_session.specs.Orders.{orders, orders_after}
@@ -12,45 +14,62 @@ use Rattle.bl_session.proofs.WentLemmas.{new_begins}
 use Rattle.bl_session.proofs.HeardLemmas.{hear_any, tell_true}
 
 module _ (facts : BootFacts) (files : List File) (known : facts.sizes ≡ map size_of files) where
-  genuine_one : (state : State) (given : List Item) (item : Item) (event : EventFacts) → Steady facts given state → IsFaithfulItem files given item
+  genuine_one : (state : State) (given : List Item) (item : Item) (event : EventFacts)
+      → Steady facts given state → IsFaithfulItem files given item
       → IsEventOf files given state item event → IsGenuineItem (λ attempt. None) state item event
-  genuine_one (running entry rest earlier spots) given item event steady faithful is = tell_true facts files known entry rest earlier spots given steady item event faithful is
+  genuine_one (running entry rest earlier spots) given item event steady faithful is =
+      tell_true facts files known entry rest earlier spots given steady item event faithful is
   genuine_one unstarted given item event steady faithful is = tt
   genuine_one (handed_over entry earlier handover) given item event steady faithful is = tt
   genuine_one (none_left earlier) given item event steady faithful is = tt
   genuine_one out_of_memory given item event steady faithful is = tt
 
-  steady_one : (state : State) (given : List Item) (item : Item) (event : EventFacts) (new : State) → Steady facts given state → IsFaithfulItem files given item
-      → IsEventOf files given state item event → StepsOrFails facts state event new → Steady facts ((given ++ item ∷ []) ++ orders_after facts state new) new
-  steady_one (running entry rest earlier spots) given item event new steady faithful is goes = hear_any facts files known entry rest earlier spots given steady item event new faithful is goes
+  steady_one : (state : State) (given : List Item) (item : Item) (event : EventFacts) (new : State)
+      → Steady facts given state → IsFaithfulItem files given item
+      → IsEventOf files given state item event → StepsOrFails facts state event new
+      → Steady facts ((given ++ item ∷ []) ++ orders_after facts state new) new
+  steady_one (running entry rest earlier spots) given item event new steady faithful is goes =
+      hear_any facts files known entry rest earlier spots given steady item event new faithful is
+      goes
   steady_one unstarted given item event new steady faithful is goes = absurd is
-  steady_one (handed_over entry earlier handover) given item event new steady faithful is goes = absurd is
+  steady_one (handed_over entry earlier handover) given item event new steady faithful is goes =
+      absurd is
   steady_one (none_left earlier) given item event new steady faithful is goes = absurd is
   steady_one out_of_memory given item event new steady faithful is goes = absurd is
 
-  genuine_all : (items given : List Item) (state : State) (owed : List Item) → Steady facts (given ++ owed) state → IsFaithfulAfter files given items
+  genuine_all : (items given : List Item) (state : State) (owed : List Item)
+      → Steady facts (given ++ owed) state → IsFaithfulAfter files given items
       → AreGenuine facts files (λ attempt. None) given (record { state = state; owed = owed }) items
   genuine_all [] given state owed steady faithful = tt
   genuine_all (item ∷ items) given state (order ∷ owed) steady (one, more) = (
     (λ event none is. absurd (cc)),
     λ next (same, at).
-        let all : (given ++ item ∷ []) ++ owed ≡ given ++ order ∷ owed = append_assoc given (item ∷ []) owed ∙ ap (λ (x : Item). given ++ x ∷ owed) same in
+        let all : (given ++ item ∷ []) ++ owed ≡ given ++ order ∷ owed =
+        append_assoc given (item ∷ []) owed ∙ ap (λ (x : Item). given ++ x ∷ owed) same in
         let holds : Steady facts ((given ++ item ∷ []) ++ owed) state = rw all steady in
-        subst (λ (w : World). AreGenuine facts files (λ attempt. None) (given ++ item ∷ []) w items) (sym at) (genuine_all items (given ++ item ∷ []) state owed holds more),
+        subst (λ (w : World). AreGenuine facts files (λ attempt. None) (given ++ item ∷ []) w items)
+        (sym at) (genuine_all items (given ++ item ∷ []) state owed holds more),
   )
   genuine_all (item ∷ items) given state [] steady (one, more) =
       let here : Steady facts given state = rw append-nil at steady in (
         (λ event none is. genuine_one state given item event here one is),
         λ next (event, is, goes, owed_is).
-            let holds : Steady facts ((given ++ item ∷ []) ++ next.owed) next.state = rw owed_is (steady_one state given item event next.state here one is goes) in
+            let holds : Steady facts ((given ++ item ∷ []) ++ next.owed) next.state =
+            rw owed_is (steady_one state given item event next.state here one is goes) in
             genuine_all items (given ++ item ∷ []) next.state next.owed holds more,
       )
 
-  begin_any : (begun_as : State) → StartsOrFails facts unstarted begun_as → Steady facts ([] ++ orders facts begun_as) begun_as
-  begin_any state (inl goes) = steady_new facts [] 0 state (new_begins facts facts.menu.attempts [] state goes) (λ t l. (refl, refl, λ found. refl))
-  begin_any state (inr (lacks, first)) = subst (λ (s : State). Steady facts ([] ++ orders facts s) s) (sym lacks) tt
+  begin_any : (begun_as : State) → StartsOrFails facts unstarted begun_as
+      → Steady facts ([] ++ orders facts begun_as) begun_as
+  begin_any state (inl goes) =
+      steady_new facts [] 0 state (new_begins facts facts.menu.attempts [] state goes)
+      (λ t l. (refl, refl, λ found. refl))
+  begin_any state (inr (lacks, first)) =
+      subst (λ (s : State). Steady facts ([] ++ orders facts s) s) (sym lacks) tt
 
-  pub faithful_is_genuine : (new : List Item) → IsFaithful files new → IsGenuineRun facts files (λ attempt. None) [] new
+  pub faithful_is_genuine : (new : List Item) → IsFaithful files new
+      → IsGenuineRun facts files (λ attempt. None) [] new
   faithful_is_genuine new faithful = λ gained state same starts.
-      let read : IsFaithfulAfter files [] gained = subst (λ (items : List Item). IsFaithfulAfter files [] items) same faithful in
+      let read : IsFaithfulAfter files [] gained =
+      subst (λ (items : List Item). IsFaithfulAfter files [] items) same faithful in
       genuine_all gained [] state (orders facts state) (begin_any state starts) read

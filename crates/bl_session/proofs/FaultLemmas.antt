@@ -1,12 +1,15 @@
 -- The event that a wanted answer is, and the fault of which an attempt ends.
-use Rattle.std.proofs.Common.{◌≡◌, ℕ, ◌+◌, ◌<◌, ◌==◌, Bool, true, false, MatchBool, if◌then◌else◌, List, length, map, Option, None, Some, refl, sym, ap, subst, ◌∙◌, arith}
+use Rattle.std.proofs.Common.{◌≡◌, ℕ, ◌+◌, ◌<◌, ◌==◌, Bool, true, false, MatchBool, if◌then◌else◌}
+use Rattle.std.proofs.Common.{List, length, map, Option, None, Some, refl, sym, ap, subst, ◌∙◌}
+use Rattle.std.proofs.Common.{arith}
 use Rattle.std.proofs.lemmas.Bool.Decides.{nat_tests}
 use Rattle.bl_load.specs.declared.refusal.Refusal.TheVariants.{FileFault}
 use Rattle.bl_stage.specs.Spots.{Spot, bytes_of}
 use Rattle.bl_session.specs.declared.words.RefusedEntry.{RefusedEntry}
 use Rattle.bl_session.specs.Ends.{End, refused}
 use Rattle.bl_session.specs.Pieces.{are_whole, with_piece}
-use Rattle.bl_session.specs.Boot.{BootFacts, EventFacts, piece, fault, State, running, EntryEndsIn, GoesOn, Begins, Takes}
+use Rattle.bl_session.specs.Boot.{BootFacts, EventFacts, piece, fault, State, running, EntryEndsIn}
+use Rattle.bl_session.specs.Boot.{GoesOn, Begins, Takes}
 use Rattle.bl_session.specs.Outcome.{File, Faults}
 use Rattle.bl_session.specs.History.{Item, submitted, came, failed, nothing, file_under, IsPieceOf}
 use Rattle.bl_session.specs.Run.{IsAnswer, IsMarked, AreToldFaults}
@@ -14,15 +17,20 @@ use Rattle.bl_session.proofs.WentLemmas.{IsNewFrom, new_begins, new_goes}
 
 -- ---- an answer that is wanted is one event
 
-one_piece : (files : List File) (under : Option ℕ) (index : ℕ) (a b : List ℕ) → IsPieceOf files under index a → IsPieceOf files under index b → a ≡ b
+one_piece : (files : List File) (under : Option ℕ) (index : ℕ) (a b : List ℕ)
+    → IsPieceOf files under index a → IsPieceOf files under index b → a ≡ b
 one_piece files None index a b p q = absurd p
 one_piece files (Some file) index a b p q = p ∙ sym q
 
-pub one_event : (files : List File) (given : List Item) (earlier : List RefusedEntry) (spots : List (List Spot)) (item : Item) (a b : EventFacts) → IsMarked item
+pub one_event : (files : List File) (given : List Item) (earlier : List RefusedEntry)
+    (spots : List (List Spot)) (item : Item) (a b : EventFacts) → IsMarked item
     → IsAnswer files given earlier spots item a → IsAnswer files given earlier spots item b → a ≡ b
 one_event files given earlier spots (submitted file ticket) a b marked p q = absurd p
-one_event files given earlier spots (came ticket count mark) a b marked (x, is, long, mine) (y, other, same, its) =
-    is ∙ ap (piece ticket) (one_piece files (file_under given ticket) ticket.piece x y (mine.0 marked) (its.0 marked)) ∙ sym other
+one_event files given earlier spots (came ticket count mark) a b marked (x, is, long, mine)
+    (y, other, same, its) =
+    is ∙ ap (piece ticket)
+    (one_piece files (file_under given ticket) ticket.piece x y (mine.0 marked) (its.0 marked))
+    ∙ sym other
 one_event files given earlier spots (failed ticket) a b marked p q = p ∙ sym q
 one_event files given earlier spots nothing a b marked (s, first, is) (t, found, other) =
     let e : Some s ≡ Some t = sym first ∙ found in
@@ -41,7 +49,9 @@ abbrev pub told : EventFacts → Option ℕ
 told (piece ticket bytes) = None
 told (fault ticket) = Some ticket.file
 
-pub are_told : (faults : Faults) (earlier : List RefusedEntry) (spots : List (List Spot)) (event : EventFacts) → (is_last spots event ≡ true → faults (length earlier) ≡ told event) → AreToldFaults faults earlier spots event
+pub are_told : (faults : Faults) (earlier : List RefusedEntry) (spots : List (List Spot))
+    (event : EventFacts) → (is_last spots event ≡ true → faults (length earlier) ≡ told event)
+    → AreToldFaults faults earlier spots event
 are_told faults earlier spots (piece ticket bytes) is = is
 are_told faults earlier spots (fault ticket) is = is refl
 
@@ -49,12 +59,14 @@ are_told faults earlier spots (fault ticket) is = is refl
 abbrev pub with_fault : ℕ → Option ℕ → Faults → Faults
 with_fault number place faults = λ n. if n == number then place else faults n
 
-pub at_fault : (number : ℕ) (place : Option ℕ) (faults : Faults) → with_fault number place faults number ≡ place
+pub at_fault : (number : ℕ) (place : Option ℕ) (faults : Faults)
+    → with_fault number place faults number ≡ place
 at_fault number place faults =
     let same : (number == number) ≡ true = grind (arith, nat_tests) in
     ap (λ (b : Bool). if b then place else faults number) same
 
-pub past_fault : (number : ℕ) (place : Option ℕ) (faults : Faults) (n : ℕ) → number < n → with_fault number place faults n ≡ faults n
+pub past_fault : (number : ℕ) (place : Option ℕ) (faults : Faults) (n : ℕ) → number < n
+    → with_fault number place faults n ≡ faults n
 past_fault number place faults n h =
     let other : (n == number) ≡ false = grind (arith, nat_tests) in
     ap (λ (b : Bool). if b then place else faults n) other
@@ -62,18 +74,36 @@ past_fault number place faults n h =
 -- ---- an attempt ends
 
 -- the last event of an attempt leads to a new one
-pub last_new : (facts : BootFacts) (entry : ℕ) (rest : List ℕ) (earlier : List RefusedEntry) (spots : List (List Spot)) (event : EventFacts) (new : State) → is_last spots event ≡ true
+pub last_new : (facts : BootFacts) (entry : ℕ) (rest : List ℕ) (earlier : List RefusedEntry)
+    (spots : List (List Spot)) (event : EventFacts) (new : State) → is_last spots event ≡ true
     → Takes facts entry rest earlier spots event new → IsNewFrom facts (length earlier + 1) new
 last_new facts entry rest earlier spots (piece ticket bytes) new last takes =
     let after = with_piece spots ticket.file ticket.piece bytes in
-    let ends = subst (λ (b : Bool). MatchBool b ((end : End) × EntryEndsIn facts entry (map bytes_of after) end × GoesOn (Begins facts rest) entry earlier end new) (new ≡ running entry rest earlier after)) last takes in
+    let ends =
+    subst
+    (λ (b : Bool).
+    MatchBool b
+    ((end : End) × EntryEndsIn facts entry (map bytes_of after) end
+    × GoesOn (Begins facts rest) entry earlier end new)
+    (new ≡ running entry rest earlier after)) last takes in
     new_goes facts rest entry earlier ends.0 new (new_begins facts rest) ends.2
-last_new facts entry rest earlier spots (fault ticket) new last takes = new_goes facts rest entry earlier (refused (FileFault ticket.file)) new (new_begins facts rest) takes
+last_new facts entry rest earlier spots (fault ticket) new last takes =
+    new_goes facts rest entry earlier (refused (FileFault ticket.file)) new (new_begins facts rest)
+    takes
 
 -- each other one leaves it as it runs
-pub goes_on : (facts : BootFacts) (entry : ℕ) (rest : List ℕ) (earlier : List RefusedEntry) (spots : List (List Spot)) (event : EventFacts) (new : State) → is_last spots event ≡ false
-    → Takes facts entry rest earlier spots event new → (after : List (List Spot)) × (new ≡ running entry rest earlier after)
+pub goes_on : (facts : BootFacts) (entry : ℕ) (rest : List ℕ) (earlier : List RefusedEntry)
+    (spots : List (List Spot)) (event : EventFacts) (new : State) → is_last spots event ≡ false
+    → Takes facts entry rest earlier spots event new
+    → (after : List (List Spot)) × (new ≡ running entry rest earlier after)
 goes_on facts entry rest earlier spots (piece ticket bytes) new last takes =
-    let after = with_piece spots ticket.file ticket.piece bytes in
-    (after, subst (λ (b : Bool). MatchBool b ((end : End) × EntryEndsIn facts entry (map bytes_of after) end × GoesOn (Begins facts rest) entry earlier end new) (new ≡ running entry rest earlier after)) last takes)
+    let after = with_piece spots ticket.file ticket.piece bytes in (
+      after,
+      subst
+          (λ (b : Bool).
+          MatchBool b
+          ((end : End) × EntryEndsIn facts entry (map bytes_of after) end
+          × GoesOn (Begins facts rest) entry earlier end new)
+          (new ≡ running entry rest earlier after)) last takes,
+    )
 goes_on facts entry rest earlier spots (fault ticket) new last takes = absurd cc

@@ -18,18 +18,35 @@ use Rattle.bl_session.specs.Finished.{IsNotHandedOver}
 use Rattle.bl_session.proofs.AfterLemmas.{ranges_are}
 
 -- a fault of preparing changed nothing
-pub unprepared : (facts : MachineFacts) (value : EntryValue) (fault : PrepFault) (old : List ℕ) → IsPrepFault facts value fault → IsNotHandedOver facts value fault old old
+pub unprepared : (facts : MachineFacts) (value : EntryValue) (fault : PrepFault) (old : List ℕ)
+    → IsPrepFault facts value fault → IsNotHandedOver facts value fault old old
 unprepared facts value (Refused refusal) old is = (inl is, refl)
 unprepared facts value NoMemory old is = λ a out. refl
 
-files_are : {A : Type 0} (texts : List (List ℕ)) (entry : Entry A) → (value_of texts entry).files ≡ texts
+files_are : {A : Type 0} (texts : List (List ℕ)) (entry : Entry A)
+    → (value_of texts entry).files ≡ texts
 files_are texts (Multiboot2 kernel line modules) = refl
 files_are texts (Linux kernel line initrd) = refl
 
-module _ {A : Type 0} (facts : MachineFacts) (texts : List (List ℕ)) (entry : Entry A) (plan : Plan A) (is : IsHandover facts (value_of texts entry) (handover_by texts plan))
+module _ {A : Type 0} (facts : MachineFacts) (texts : List (List ℕ)) (entry : Entry A)
+    (plan : Plan A) (is : IsHandover facts (value_of texts entry) (handover_by texts plan))
     (backed : All (IsBacked (lengths_of texts)) plan.parts.items) where
-  pub has_room : HasRoomFor facts.pool (map place_range (places_of plan)) texts → HasRoomBeside facts (value_of texts entry) (handover_by texts plan)
+  pub has_room : HasRoomFor facts.pool (map place_range (places_of plan)) texts
+      → HasRoomBeside facts (value_of texts entry) (handover_by texts plan)
   has_room room = rw (files_are texts entry, ranges_are texts plan.parts.items backed) room
 
-  pub lacks_room : ¬ HasRoomFor facts.pool (map place_range (places_of plan)) texts → EndsIn facts (value_of texts entry) (refused NoPool)
-  lacks_room full = inr (record { handover = handover_by texts plan; is = is; lacking = λ room. full (rw (files_are texts entry, ranges_are texts plan.parts.items backed) at room) }, refl)
+  pub lacks_room : ¬ HasRoomFor facts.pool (map place_range (places_of plan)) texts
+      → EndsIn facts (value_of texts entry) (refused NoPool)
+  lacks_room full =
+      inr (
+        record {
+          handover = handover_by texts plan;
+          is = is;
+          lacking =
+              λ room.
+              full
+              (rw (files_are texts entry, ranges_are texts plan.parts.items backed) at
+              room);
+        },
+        refl,
+      )

@@ -1,5 +1,7 @@
 -- The first piece that is awaited.
-use Rattle.std.proofs.Common.{◌≡◌, ℕ, suc, ◌+◌, ◌<◌, ◌≤◌, ◌==◌, true, false, not, List, [], ◌∷◌, length, drop, get_or, Option, None, Some, refl, sym, ap, subst, ◌∙◌, arith}
+use Rattle.std.proofs.Common.{◌≡◌, ℕ, suc, ◌+◌, ◌<◌, ◌≤◌, ◌==◌, true, false, not, List, [], ◌∷◌}
+use Rattle.std.proofs.Common.{length, drop, get_or, Option, None, Some, refl, sym, ap, subst, ◌∙◌}
+use Rattle.std.proofs.Common.{arith}
 use Rattle.std.specs.List.{list_all}
 use Rattle.std.proofs.lemmas.List.{drop_more, drop_all}
 use Rattle.std.proofs.lemmas.Bool.Decides.{nat_tests}
@@ -15,71 +17,112 @@ use Rattle.bl_session.proofs.SpotLemmas.{length-spots_of, length-spots, file_spo
 
 -- ---- one piece, or one file, further on
 
-here : (i : ℕ) (spot : Spot) (rest : List Spot) → is_awaited spot ≡ true → first_spot i (spot ∷ rest) ≡ Some i
+here : (i : ℕ) (spot : Spot) (rest : List Spot) → is_awaited spot ≡ true
+    → first_spot i (spot ∷ rest) ≡ Some i
 here i (waits size) rest e = refl
 here i (has bytes) rest e = absurd cc
 
-not_here : (i : ℕ) (spot : Spot) (rest : List Spot) → is_awaited spot ≡ false → first_spot i (spot ∷ rest) ≡ first_spot (i + 1) rest
+not_here : (i : ℕ) (spot : Spot) (rest : List Spot) → is_awaited spot ≡ false
+    → first_spot i (spot ∷ rest) ≡ first_spot (i + 1) rest
 not_here i (waits size) rest e = absurd cc
 not_here i (has bytes) rest e = refl
 
-pub piece_here : (all : List Spot) (i : ℕ) → i < length all → is_awaited (get_or all i (has [])) ≡ true → first_spot 0 all ≡ first_spot i (drop i all) → Some i ≡ first_spot 0 all
+pub piece_here : (all : List Spot) (i : ℕ) → i < length all
+    → is_awaited (get_or all i (has [])) ≡ true → first_spot 0 all ≡ first_spot i (drop i all)
+    → Some i ≡ first_spot 0 all
 piece_here all i h e so_far =
-    sym (so_far ∙ ap (first_spot i) (drop_more all i (has []) h) ∙ here i (get_or all i (has [])) (drop (i + 1) all) e)
+    sym
+    (so_far ∙ ap (first_spot i) (drop_more all i (has []) h)
+    ∙ here i (get_or all i (has [])) (drop (i + 1) all) e)
 
-pub piece_later : (all : List Spot) (i : ℕ) → i < length all → is_awaited (get_or all i (has [])) ≡ false → first_spot 0 all ≡ first_spot i (drop i all) → first_spot 0 all ≡ first_spot (i + 1) (drop (i + 1) all)
+pub piece_later : (all : List Spot) (i : ℕ) → i < length all
+    → is_awaited (get_or all i (has [])) ≡ false → first_spot 0 all ≡ first_spot i (drop i all)
+    → first_spot 0 all ≡ first_spot (i + 1) (drop (i + 1) all)
 piece_later all i h e so_far =
-    so_far ∙ ap (first_spot i) (drop_more all i (has []) h) ∙ not_here i (get_or all i (has [])) (drop (i + 1) all) e
+    so_far ∙ ap (first_spot i) (drop_more all i (has []) h)
+    ∙ not_here i (get_or all i (has [])) (drop (i + 1) all) e
 
-pub piece_none : (all : List Spot) (i : ℕ) → length all ≤ i → first_spot 0 all ≡ first_spot i (drop i all) → None ≡ first_spot 0 all
+pub piece_none : (all : List Spot) (i : ℕ) → length all ≤ i
+    → first_spot 0 all ≡ first_spot i (drop i all) → None ≡ first_spot 0 all
 piece_none all i h so_far = sym (so_far ∙ ap (first_spot i) (drop_all i all h))
 
-pub length-file_spots : (bytes : List ℕ) (stage : Staging) (file : ℕ) → file < length stage.sizes → length (get_or (spots bytes stage) file []) ≡ frames_of (get_or stage.sizes file 0)
-length-file_spots bytes stage file h = ap (λ (s : List Spot). length s) (file_spots bytes stage file h) ∙ length-spots_of bytes stage file
+pub length-file_spots : (bytes : List ℕ) (stage : Staging) (file : ℕ) → file < length stage.sizes
+    → length (get_or (spots bytes stage) file []) ≡ frames_of (get_or stage.sizes file 0)
+length-file_spots bytes stage file h =
+    ap (λ (s : List Spot). length s) (file_spots bytes stage file h)
+    ∙ length-spots_of bytes stage file
 
 file_next : (attempt place : ℕ) (files : List (List Spot)) → place < length files
-    → first_ticket attempt place (drop place files) ≡ ticket_or attempt place (first_ticket attempt (place + 1) (drop (place + 1) files)) (first_spot 0 (get_or files place []))
+    → first_ticket attempt place (drop place files)
+    ≡ ticket_or attempt place (first_ticket attempt (place + 1) (drop (place + 1) files))
+    (first_spot 0 (get_or files place []))
 file_next attempt place files h = ap (first_ticket attempt place) (drop_more files place [] h)
 
-pub ticket_here : (attempt place piece : ℕ) (bytes : List ℕ) (stage : Staging) → place < length stage.sizes → Some piece ≡ first_spot 0 (get_or (spots bytes stage) place [])
-    → first_ticket attempt 0 (spots bytes stage) ≡ first_ticket attempt place (drop place (spots bytes stage)) → Some (ticket_of attempt place piece) ≡ first_ticket attempt 0 (spots bytes stage)
+pub ticket_here : (attempt place piece : ℕ) (bytes : List ℕ) (stage : Staging)
+    → place < length stage.sizes → Some piece ≡ first_spot 0 (get_or (spots bytes stage) place [])
+    → first_ticket attempt 0 (spots bytes stage)
+    ≡ first_ticket attempt place (drop place (spots bytes stage))
+    → Some (ticket_of attempt place piece) ≡ first_ticket attempt 0 (spots bytes stage)
 ticket_here attempt place piece bytes stage h e so_far =
     let long = length-spots bytes stage in
     let files = spots bytes stage in
-    sym (so_far ∙ file_next attempt place files (omega arith) ∙ ap (ticket_or attempt place (first_ticket attempt (place + 1) (drop (place + 1) files))) (sym e))
+    sym
+    (so_far ∙ file_next attempt place files (omega arith)
+    ∙ ap
+    (ticket_or attempt place
+    (first_ticket attempt (place + 1) (drop (place + 1) files))) (sym e))
 
-pub ticket_later : (attempt place : ℕ) (bytes : List ℕ) (stage : Staging) → place < length stage.sizes → None ≡ first_spot 0 (get_or (spots bytes stage) place [])
-    → first_ticket attempt 0 (spots bytes stage) ≡ first_ticket attempt place (drop place (spots bytes stage)) → first_ticket attempt 0 (spots bytes stage) ≡ first_ticket attempt (place + 1) (drop (place + 1) (spots bytes stage))
+pub ticket_later : (attempt place : ℕ) (bytes : List ℕ) (stage : Staging)
+    → place < length stage.sizes → None ≡ first_spot 0 (get_or (spots bytes stage) place [])
+    → first_ticket attempt 0 (spots bytes stage)
+    ≡ first_ticket attempt place (drop place (spots bytes stage))
+    → first_ticket attempt 0 (spots bytes stage)
+    ≡ first_ticket attempt (place + 1) (drop (place + 1) (spots bytes stage))
 ticket_later attempt place bytes stage h e so_far =
     let long = length-spots bytes stage in
     let files = spots bytes stage in
-    so_far ∙ file_next attempt place files (omega arith) ∙ ap (ticket_or attempt place (first_ticket attempt (place + 1) (drop (place + 1) files))) (sym e)
+    so_far ∙ file_next attempt place files (omega arith)
+    ∙ ap (ticket_or attempt place (first_ticket attempt (place + 1) (drop (place + 1) files)))
+    (sym e)
 
-pub ticket_none : (attempt place : ℕ) (bytes : List ℕ) (stage : Staging) → length stage.sizes ≤ place
-    → first_ticket attempt 0 (spots bytes stage) ≡ first_ticket attempt place (drop place (spots bytes stage)) → None ≡ first_ticket attempt 0 (spots bytes stage)
+pub ticket_none : (attempt place : ℕ) (bytes : List ℕ) (stage : Staging)
+    → length stage.sizes ≤ place
+    → first_ticket attempt 0 (spots bytes stage)
+    ≡ first_ticket attempt place (drop place (spots bytes stage))
+    → None ≡ first_ticket attempt 0 (spots bytes stage)
 ticket_none attempt place bytes stage h so_far =
     let long = length-spots bytes stage in
-    sym (so_far ∙ ap (first_ticket attempt place) (drop_all place (spots bytes stage) (omega arith)))
+    sym
+    (so_far
+    ∙ ap (first_ticket attempt place) (drop_all place (spots bytes stage) (omega arith)))
 
 -- ---- where no piece is awaited, each came
 
-none_awaited : (i : ℕ) (all : List Spot) → first_spot i all ≡ None → list_all (λ spot. not (is_awaited spot)) all ≡ true
+none_awaited : (i : ℕ) (all : List Spot) → first_spot i all ≡ None
+    → list_all (λ spot. not (is_awaited spot)) all ≡ true
 none_awaited i [] e = refl
 none_awaited i (waits size ∷ all) e = absurd cc
 none_awaited i (has bytes ∷ all) e = none_awaited (i + 1) all e
 
-whole_by : (attempt place : ℕ) (all : List Spot) (files : List (List Spot)) (found : Option ℕ) → first_spot 0 all ≡ found → ticket_or attempt place (first_ticket attempt (place + 1) files) found ≡ None
-    → (first_ticket attempt (place + 1) files ≡ None → are_whole files ≡ true) → are_whole (all ∷ files) ≡ true
+whole_by : (attempt place : ℕ) (all : List Spot) (files : List (List Spot)) (found : Option ℕ)
+    → first_spot 0 all ≡ found
+    → ticket_or attempt place (first_ticket attempt (place + 1) files) found ≡ None
+    → (first_ticket attempt (place + 1) files ≡ None → are_whole files ≡ true)
+    → are_whole (all ∷ files) ≡ true
 whole_by attempt place all files None is e more = rw (none_awaited 0 all is) (more e)
 whole_by attempt place all files (Some piece) is e more = absurd cc
 
-pub none_missing : (attempt place : ℕ) (files : List (List Spot)) → first_ticket attempt place files ≡ None → are_whole files ≡ true
+pub none_missing : (attempt place : ℕ) (files : List (List Spot))
+    → first_ticket attempt place files ≡ None → are_whole files ≡ true
 none_missing attempt place [] e = refl
-none_missing attempt place (all ∷ files) e = whole_by attempt place all files (first_spot 0 all) refl e (none_missing attempt (place + 1) files)
+none_missing attempt place (all ∷ files) e =
+    whole_by attempt place all files (first_spot 0 all) refl e
+    (none_missing attempt (place + 1) files)
 
 -- ---- a fault of the first one is wanted
 
-piece_awaited : (i : ℕ) (all : List Spot) (k : ℕ) → first_spot i all ≡ Some k → (d : ℕ) × (k ≡ i + d) × (is_awaited (get_or all d (has [])) ≡ true)
+piece_awaited : (i : ℕ) (all : List Spot) (k : ℕ) → first_spot i all ≡ Some k
+    → (d : ℕ) × (k ≡ i + d) × (is_awaited (get_or all d (has [])) ≡ true)
 piece_awaited i [] k e = absurd cc
 piece_awaited i (waits size ∷ all) k e = (0, (let q : k ≡ i = cc in omega arith), refl)
 piece_awaited i (has bytes ∷ all) k e =
@@ -89,24 +132,39 @@ piece_awaited i (has bytes ∷ all) k e =
 -- the file lies so far behind this place
 abbrev pub IsAwaitedFrom : (attempt place : ℕ) → List (List Spot) → Ticket → Type 0
 IsAwaitedFrom attempt place files ticket =
-    (d : ℕ) × (ticket.file ≡ place + d) × (ticket.attempt ≡ attempt) × (is_awaited (spot_of files d ticket.piece) ≡ true)
+    (d : ℕ) × (ticket.file ≡ place + d) × (ticket.attempt ≡ attempt)
+    × (is_awaited (spot_of files d ticket.piece) ≡ true)
 
-awaited_by : (attempt place : ℕ) (all : List Spot) (files : List (List Spot)) (ticket : Ticket) (found : Option ℕ) → first_spot 0 all ≡ found → ticket_or attempt place (first_ticket attempt (place + 1) files) found ≡ Some ticket
-    → (first_ticket attempt (place + 1) files ≡ Some ticket → IsAwaitedFrom attempt (place + 1) files ticket) → IsAwaitedFrom attempt place (all ∷ files) ticket
+awaited_by : (attempt place : ℕ) (all : List Spot) (files : List (List Spot)) (ticket : Ticket)
+    (found : Option ℕ) → first_spot 0 all ≡ found
+    → ticket_or attempt place (first_ticket attempt (place + 1) files) found ≡ Some ticket
+    → (first_ticket attempt (place + 1) files ≡ Some ticket
+    → IsAwaitedFrom attempt (place + 1) files ticket)
+    → IsAwaitedFrom attempt place (all ∷ files) ticket
 awaited_by attempt place all files ticket None is e more =
     let later = more e in
     (suc later.0, (let q = later.1 in omega arith), later.2, later.3)
 awaited_by attempt place all files ticket (Some piece) is e more =
     let found = piece_awaited 0 all piece is in
     let same : ticket ≡ ticket_of attempt place piece = cc in
-    let at : found.0 ≡ ticket.piece = (let q = found.1 in let s = ap (λ (t : Ticket). t.piece) same in omega arith) in
-    (0, (let s = ap (λ (t : Ticket). t.file) same in omega arith), ap (λ (t : Ticket). t.attempt) same, rw (← at) found.2)
+    let at : found.0 ≡ ticket.piece =
+    (let q = found.1 in let s = ap (λ (t : Ticket). t.piece) same in omega arith) in (
+      0,
+      (let s = ap (λ (t : Ticket). t.file) same in omega arith),
+      ap (λ (t : Ticket). t.attempt) same,
+      rw (← at) found.2,
+    )
 
-first_awaited : (attempt place : ℕ) (files : List (List Spot)) (ticket : Ticket) → first_ticket attempt place files ≡ Some ticket → IsAwaitedFrom attempt place files ticket
+first_awaited : (attempt place : ℕ) (files : List (List Spot)) (ticket : Ticket)
+    → first_ticket attempt place files ≡ Some ticket → IsAwaitedFrom attempt place files ticket
 first_awaited attempt place [] ticket e = absurd cc
-first_awaited attempt place (all ∷ files) ticket e = awaited_by attempt place all files ticket (first_spot 0 all) refl e (first_awaited attempt (place + 1) files ticket)
+first_awaited attempt place (all ∷ files) ticket e =
+    awaited_by attempt place all files ticket (first_spot 0 all) refl e
+    (first_awaited attempt (place + 1) files ticket)
 
-pub first_wanted : (earlier : List RefusedEntry) (files : List (List Spot)) (ticket : Ticket) → first_ticket (length earlier) 0 files ≡ Some ticket → is_wanted earlier files (fault ticket) ≡ true
+pub first_wanted : (earlier : List RefusedEntry) (files : List (List Spot)) (ticket : Ticket)
+    → first_ticket (length earlier) 0 files ≡ Some ticket
+    → is_wanted earlier files (fault ticket) ≡ true
 first_wanted earlier files ticket e =
     let found = first_awaited (length earlier) 0 files ticket e in
     let number = found.2 in

@@ -1,5 +1,7 @@
 -- What the orders of an attempt ask for: each of its tickets once, under its own file.
-use Rattle.std.proofs.Common.{◌≡◌, ℕ, zero, suc, ◌+◌, ◌<◌, ◌≤◌, ◌==◌, ◌&&◌, Bool, true, false, if◌then◌else◌, List, [], ◌∷◌, ◌++◌, length, map, get_or, Option, Some, refl, sym, ap, ◌∙◌, inl, inr, arith}
+use Rattle.std.proofs.Common.{◌≡◌, ℕ, zero, suc, ◌+◌, ◌<◌, ◌≤◌, ◌==◌, ◌&&◌, Bool, true, false}
+use Rattle.std.proofs.Common.{if◌then◌else◌, List, [], ◌∷◌, ◌++◌, length, map, get_or, Option, Some}
+use Rattle.std.proofs.Common.{refl, sym, ap, ◌∙◌, inl, inr, arith}
 use Rattle.std.specs.List.{range_with_len}
 use Rattle.std.proofs.lemmas.Bool.{cases_lt}
 use Rattle.std.proofs.lemmas.Bool.Decides.{nat_tests}
@@ -16,7 +18,8 @@ pub both : (a b : Bool) → (a && b) ≡ true → (a ≡ true) × (b ≡ true)
 both true b e = (refl, e)
 both false b e = absurd cc
 
-pub same_fields : (s t : Ticket) → is_same s t ≡ true → (s.attempt ≡ t.attempt) × (s.file ≡ t.file) × (s.piece ≡ t.piece)
+pub same_fields : (s t : Ticket) → is_same s t ≡ true
+    → (s.attempt ≡ t.attempt) × (s.file ≡ t.file) × (s.piece ≡ t.piece)
 same_fields s t e =
     let first = both (s.attempt == t.attempt) ((s.file == t.file) && (s.piece == t.piece)) e in
     let second = both (s.file == t.file) (s.piece == t.piece) first.1 in
@@ -50,10 +53,14 @@ other_ticket s t differs = decided (is_same s t) differs
 -- ---- a ticket in a list of items
 
 abbrev pub IsUntouched : List Item → Ticket → Type 0
-IsUntouched items t = (asked items t ≡ 0) × (answered items t ≡ 0) × ((found : Option ℕ) → file_after found items t ≡ found)
+IsUntouched items t =
+    (asked items t ≡ 0) × (answered items t ≡ 0)
+    × ((found : Option ℕ) → file_after found items t ≡ found)
 
 abbrev pub IsAskedOnce : ℕ → List Item → Ticket → Type 0
-IsAskedOnce file items t = (asked items t ≡ 1) × (answered items t ≡ 0) × ((found : Option ℕ) → file_after found items t ≡ Some file)
+IsAskedOnce file items t =
+    (asked items t ≡ 1) × (answered items t ≡ 0)
+    × ((found : Option ℕ) → file_after found items t ≡ Some file)
 
 pub asked_both : (xs ys : List Item) (t : Ticket) → asked (xs ++ ys) t ≡ asked xs t + asked ys t
 asked_both [] ys t = omega arith
@@ -62,35 +69,41 @@ asked_both (came s count genuine ∷ xs) ys t = asked_both xs ys t
 asked_both (failed s ∷ xs) ys t = asked_both xs ys t
 asked_both (nothing ∷ xs) ys t = asked_both xs ys t
 
-pub answered_both : (xs ys : List Item) (t : Ticket) → answered (xs ++ ys) t ≡ answered xs t + answered ys t
+pub answered_both : (xs ys : List Item) (t : Ticket)
+    → answered (xs ++ ys) t ≡ answered xs t + answered ys t
 answered_both [] ys t = omega arith
 answered_both (submitted file s ∷ xs) ys t = answered_both xs ys t
 answered_both (came s count genuine ∷ xs) ys t = let more = answered_both xs ys t in omega arith
 answered_both (failed s ∷ xs) ys t = let more = answered_both xs ys t in omega arith
 answered_both (nothing ∷ xs) ys t = answered_both xs ys t
 
-pub file_both : (found : Option ℕ) (xs ys : List Item) (t : Ticket) → file_after found (xs ++ ys) t ≡ file_after (file_after found xs t) ys t
+pub file_both : (found : Option ℕ) (xs ys : List Item) (t : Ticket)
+    → file_after found (xs ++ ys) t ≡ file_after (file_after found xs t) ys t
 file_both found [] ys t = refl
-file_both found (submitted file s ∷ xs) ys t = file_both (if is_same s t then Some file else found) xs ys t
+file_both found (submitted file s ∷ xs) ys t =
+    file_both (if is_same s t then Some file else found) xs ys t
 file_both found (came s count genuine ∷ xs) ys t = file_both found xs ys t
 file_both found (failed s ∷ xs) ys t = file_both found xs ys t
 file_both found (nothing ∷ xs) ys t = file_both found xs ys t
 
-pub untouched_both : (xs ys : List Item) (t : Ticket) → IsUntouched xs t → IsUntouched ys t → IsUntouched (xs ++ ys) t
+pub untouched_both : (xs ys : List Item) (t : Ticket) → IsUntouched xs t → IsUntouched ys t
+    → IsUntouched (xs ++ ys) t
 untouched_both xs ys t (a, b, f) (c, d, g) = (
   (let e = asked_both xs ys t in omega arith),
   (let e = answered_both xs ys t in omega arith),
   λ found. file_both found xs ys t ∙ ap (λ (x : Option ℕ). file_after x ys t) (f found) ∙ g found,
 )
 
-pub once_first : (file : ℕ) (xs ys : List Item) (t : Ticket) → IsAskedOnce file xs t → IsUntouched ys t → IsAskedOnce file (xs ++ ys) t
+pub once_first : (file : ℕ) (xs ys : List Item) (t : Ticket) → IsAskedOnce file xs t
+    → IsUntouched ys t → IsAskedOnce file (xs ++ ys) t
 once_first file xs ys t (a, b, f) (c, d, g) = (
   (let e = asked_both xs ys t in omega arith),
   (let e = answered_both xs ys t in omega arith),
   λ found. file_both found xs ys t ∙ g (file_after found xs t) ∙ f found,
 )
 
-pub once_last : (file : ℕ) (xs ys : List Item) (t : Ticket) → IsUntouched xs t → IsAskedOnce file ys t → IsAskedOnce file (xs ++ ys) t
+pub once_last : (file : ℕ) (xs ys : List Item) (t : Ticket) → IsUntouched xs t
+    → IsAskedOnce file ys t → IsAskedOnce file (xs ++ ys) t
 once_last file xs ys t (a, b, f) (c, d, g) = (
   (let e = asked_both xs ys t in omega arith),
   (let e = answered_both xs ys t in omega arith),
@@ -99,17 +112,21 @@ once_last file xs ys t (a, b, f) (c, d, g) = (
 
 -- ---- one order
 
-untouched_order : (file : ℕ) (s t : Ticket) (items : List Item) → is_same s t ≡ false → IsUntouched items t → IsUntouched (submitted file s ∷ items) t
+untouched_order : (file : ℕ) (s t : Ticket) (items : List Item) → is_same s t ≡ false
+    → IsUntouched items t → IsUntouched (submitted file s ∷ items) t
 untouched_order file s t items e (a, b, f) = (rw e (omega arith), b, λ found. rw e (f found))
 
-once_order : (file : ℕ) (s t : Ticket) (items : List Item) → is_same s t ≡ true → IsUntouched items t → IsAskedOnce file (submitted file s ∷ items) t
+once_order : (file : ℕ) (s t : Ticket) (items : List Item) → is_same s t ≡ true
+    → IsUntouched items t → IsAskedOnce file (submitted file s ∷ items) t
 once_order file s t items e (a, b, f) = (rw e (omega arith), b, λ found. rw e (f (Some file)))
 
-behind_order : (file index : ℕ) (s t : Ticket) (items : List Item) → is_same s t ≡ false → IsAskedOnce file items t → IsAskedOnce file (submitted index s ∷ items) t
+behind_order : (file index : ℕ) (s t : Ticket) (items : List Item) → is_same s t ≡ false
+    → IsAskedOnce file items t → IsAskedOnce file (submitted index s ∷ items) t
 behind_order file index s t items e (a, b, f) = (rw e (omega arith), b, λ found. rw e (f found))
 
 -- an answer to another ticket
-pub untouched_piece : (s t : Ticket) (count : ℕ) (genuine : Bool) → is_same s t ≡ false → IsUntouched (came s count genuine ∷ []) t
+pub untouched_piece : (s t : Ticket) (count : ℕ) (genuine : Bool) → is_same s t ≡ false
+    → IsUntouched (came s count genuine ∷ []) t
 untouched_piece s t count genuine e = (refl, rw e refl, λ found. refl)
 
 pub untouched_fault : (s t : Ticket) → is_same s t ≡ false → IsUntouched (failed s ∷ []) t
@@ -118,67 +135,93 @@ untouched_fault s t e = (refl, rw e refl, λ found. refl)
 -- ---- the orders of a file's pieces
 
 -- no ticket of these is the other
-apart : (attempt place piece : ℕ) (t : Ticket) → ¬ ((t.attempt ≡ attempt) × (t.file ≡ place) × (t.piece ≡ piece)) → is_same (ticket_of attempt place piece) t ≡ false
+apart : (attempt place piece : ℕ) (t : Ticket)
+    → ¬ ((t.attempt ≡ attempt) × (t.file ≡ place) × (t.piece ≡ piece))
+    → is_same (ticket_of attempt place piece) t ≡ false
 apart attempt place piece t differs = other_ticket (ticket_of attempt place piece) t (λ e.
     let fields = same_fields (ticket_of attempt place piece) t e in
     differs (sym fields.0, sym fields.1, sym fields.2))
 
 abbrev pieces_from : (attempt place file start count : ℕ) → List Item
-pieces_from attempt place file start count = map (λ piece. submitted file (ticket_of attempt place piece)) (range_with_len start count)
+pieces_from attempt place file start count =
+    map (λ piece. submitted file (ticket_of attempt place piece)) (range_with_len start count)
 
-untouched_pieces : (attempt place file start count : ℕ) (t : Ticket) → ((piece : ℕ) → start ≤ piece → ¬ ((t.attempt ≡ attempt) × (t.file ≡ place) × (t.piece ≡ piece)))
+untouched_pieces : (attempt place file start count : ℕ) (t : Ticket)
+    → ((piece : ℕ) → start ≤ piece
+    → ¬ ((t.attempt ≡ attempt) × (t.file ≡ place) × (t.piece ≡ piece)))
     → IsUntouched (pieces_from attempt place file start count) t
 untouched_pieces attempt place file start zero t differs = (refl, refl, λ found. refl)
 untouched_pieces attempt place file start (suc count) t differs =
-    untouched_order file (ticket_of attempt place start) t (pieces_from attempt place file (start + 1) count) (apart attempt place start t (differs start (omega arith)))
-    (untouched_pieces attempt place file (start + 1) count t (λ piece l. differs piece (omega arith)))
+    untouched_order file (ticket_of attempt place start) t
+    (pieces_from attempt place file (start + 1) count)
+    (apart attempt place start t (differs start (omega arith)))
+    (untouched_pieces attempt place file (start + 1) count t
+    (λ piece l. differs piece (omega arith)))
 
-once_pieces : (attempt place file start count : ℕ) (t : Ticket) → t.attempt ≡ attempt → t.file ≡ place → start ≤ t.piece → t.piece < start + count
+once_pieces : (attempt place file start count : ℕ) (t : Ticket) → t.attempt ≡ attempt
+    → t.file ≡ place → start ≤ t.piece → t.piece < start + count
     → IsAskedOnce file (pieces_from attempt place file start count) t
 once_pieces attempt place file start zero t a f low high = absurd (omega arith)
 once_pieces attempt place file start (suc count) t a f low high =
     elim (cases_lt start t.piece) [
       | inl later ↦
-          behind_order file file (ticket_of attempt place start) t (pieces_from attempt place file (start + 1) count)
+          behind_order file file (ticket_of attempt place start) t
+          (pieces_from attempt place file (start + 1) count)
           (apart attempt place start t (λ (x, y, z). omega arith))
           (once_pieces attempt place file (start + 1) count t a f (omega arith) (omega arith))
       | inr first ↦
           let piece : t.piece ≡ start = omega arith in
-          let here : is_same (ticket_of attempt place start) t ≡ true = rw (← a, ← f, ← piece) (is_same_self t) in
-          once_order file (ticket_of attempt place start) t (pieces_from attempt place file (start + 1) count) here
-          (untouched_pieces attempt place file (start + 1) count t (λ piece l (x, y, z). omega arith))
+          let here : is_same (ticket_of attempt place start) t ≡ true =
+          rw (← a, ← f, ← piece) (is_same_self t) in
+          once_order file (ticket_of attempt place start) t
+          (pieces_from attempt place file (start + 1) count) here
+          (untouched_pieces attempt place file (start + 1) count t
+          (λ piece l (x, y, z). omega arith))
     ]
 
 -- ---- the orders of files
 
-pub untouched_files : (attempt place : ℕ) (indices : List ℕ) (files : List (List Spot)) (t : Ticket) → ¬ ((t.attempt ≡ attempt) × (place ≤ t.file))
+pub untouched_files : (attempt place : ℕ) (indices : List ℕ) (files : List (List Spot)) (t : Ticket)
+    → ¬ ((t.attempt ≡ attempt) × (place ≤ t.file))
     → IsUntouched (file_orders attempt place indices files) t
 untouched_files attempt place [] files t differs = (refl, refl, λ found. refl)
 untouched_files attempt place (index ∷ indices) [] t differs = (refl, refl, λ found. refl)
 untouched_files attempt place (index ∷ indices) (spots ∷ files) t differs =
-    untouched_both (piece_orders attempt place index (length spots)) (file_orders attempt (place + 1) indices files) t
-    (untouched_pieces attempt place index 0 (length spots) t (λ piece l (a, f, p). differs (a, omega arith)))
+    untouched_both (piece_orders attempt place index (length spots))
+    (file_orders attempt (place + 1) indices files) t
+    (untouched_pieces attempt place index 0 (length spots) t
+    (λ piece l (a, f, p). differs (a, omega arith)))
     (untouched_files attempt (place + 1) indices files t (λ (a, l). differs (a, omega arith)))
 
 -- a piece of the file that stands at this place behind the first one
-pub once_files : (attempt place : ℕ) (indices : List ℕ) (files : List (List Spot)) (i : ℕ) (t : Ticket) → t.attempt ≡ attempt → t.file ≡ place + i → i < length indices → i < length files
-    → t.piece < length (get_or files i []) → IsAskedOnce (get_or indices i 0) (file_orders attempt place indices files) t
+pub once_files : (attempt place : ℕ) (indices : List ℕ) (files : List (List Spot)) (i : ℕ)
+    (t : Ticket) → t.attempt ≡ attempt → t.file ≡ place + i → i < length indices → i < length files
+    → t.piece < length (get_or files i [])
+    → IsAskedOnce (get_or indices i 0) (file_orders attempt place indices files) t
 once_files attempt place [] files i t a f h k p = absurd (omega arith)
 once_files attempt place (index ∷ indices) [] i t a f h k p = absurd (omega arith)
 once_files attempt place (index ∷ indices) (spots ∷ files) zero t a f h k p =
-    once_first index (piece_orders attempt place index (length spots)) (file_orders attempt (place + 1) indices files) t
+    once_first index (piece_orders attempt place index (length spots))
+    (file_orders attempt (place + 1) indices files) t
     (once_pieces attempt place index 0 (length spots) t a (omega arith) (omega arith) (omega arith))
     (untouched_files attempt (place + 1) indices files t (λ (x, l). omega arith))
 once_files attempt place (index ∷ indices) (spots ∷ files) (suc i) t a f h k p =
-    once_last (get_or indices i 0) (piece_orders attempt place index (length spots)) (file_orders attempt (place + 1) indices files) t
+    once_last (get_or indices i 0) (piece_orders attempt place index (length spots))
+    (file_orders attempt (place + 1) indices files) t
     (untouched_pieces attempt place index 0 (length spots) t (λ piece l (x, y, z). omega arith))
     (once_files attempt (place + 1) indices files i t a (omega arith) (omega arith) (omega arith) p)
 
 -- the file under a ticket of an attempt, once it asked for its pieces
-pub found_files : (found : Option ℕ) (attempt : ℕ) (indices : List ℕ) (files : List (List Spot)) (place piece : ℕ) → length files ≡ length indices → piece < length (get_or files place [])
-    → file_after found (file_orders attempt 0 indices files) (ticket_of attempt place piece) ≡ Some (get_or indices place 0)
+pub found_files : (found : Option ℕ) (attempt : ℕ) (indices : List ℕ) (files : List (List Spot))
+    (place piece : ℕ) → length files ≡ length indices → piece < length (get_or files place [])
+    → file_after found (file_orders attempt 0 indices files) (ticket_of attempt place piece)
+    ≡ Some (get_or indices place 0)
 found_files found attempt indices files place piece same h =
     elim (cases_lt place (length files)) [
-      | inl within ↦ (once_files attempt 0 indices files place (ticket_of attempt place piece) refl (omega arith) (omega arith) within h).2 found
-      | inr past ↦ let none : length (get_or files place []) ≡ 0 = ap length (get_or_past files place [] past) in absurd (omega arith)
+      | inl within ↦
+          (once_files attempt 0 indices files place (ticket_of attempt place piece) refl
+          (omega arith) (omega arith) within h).2 found
+      | inr past ↦
+          let none : length (get_or files place []) ≡ 0 =
+          ap length (get_or_past files place [] past) in absurd (omega arith)
     ]

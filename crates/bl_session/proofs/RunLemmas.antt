@@ -1,5 +1,6 @@
 -- A run, from its parts.
-use Rattle.std.proofs.Common.{◌≡◌, ◌≢◌, ◌⊎◌, ℕ, true, List, [], ◌++◌, map, slice_index_or, Option, refl, sym, ap, subst, ◌∙◌, inl, inr}
+use Rattle.std.proofs.Common.{◌≡◌, ◌≢◌, ◌⊎◌, ℕ, true, List, [], ◌++◌, map, slice_index_or, Option}
+use Rattle.std.proofs.Common.{refl, sym, ap, subst, ◌∙◌, inl, inr}
 use Rattle.std.proofs.lemmas.List.{append-nil}
 use Rattle.std.specs.List.{range_with_len}
 use Rattle.std.specs.declared.ops.Range.{Range}
@@ -23,42 +24,67 @@ use Rattle.bl_session.proofs.HearLemmas.{at, waiting_memory}
 
 -- ---- one attempt more
 
-pub heard_attempt : (facts now : BootFacts) (files those those_next : List File) (first mid asked last : List Item) (start : World) (old new : State) → now ≡ facts → those ≡ files → those_next ≡ files
-    → IsHeard facts files first mid start (world_of facts old) → asked ≡ mid ++ orders now old → IsHeard now those_next asked last (at old) (world_of now new) → IsHeard facts files first last start (world_of facts new)
-heard_attempt facts now files those those_next first mid asked last start old new e f f_next so_far given more =
+pub heard_attempt : (facts now : BootFacts) (files those those_next : List File)
+    (first mid asked last : List Item) (start : World) (old new : State) → now ≡ facts
+    → those ≡ files → those_next ≡ files
+    → IsHeard facts files first mid start (world_of facts old) → asked ≡ mid ++ orders now old
+    → IsHeard now those_next asked last (at old) (world_of now new)
+    → IsHeard facts files first last start (world_of facts new)
+heard_attempt facts now files those those_next first mid asked last start old new e f f_next so_far
+    given more =
     let mine : IsHeard facts files asked last (at old) (world_of facts new) =
-    subst (λ (b : BootFacts). IsHeard b files asked last (at old) (world_of b new)) e (subst (λ (fs : List File). IsHeard now fs asked last (at old) (world_of now new)) f_next more) in
-    let orders_given : asked ≡ mid ++ orders facts old = given ∙ ap (λ (b : BootFacts). mid ++ orders b old) e in
+    subst (λ (b : BootFacts). IsHeard b files asked last (at old) (world_of b new)) e
+    (subst (λ (fs : List File). IsHeard now fs asked last (at old) (world_of now new)) f_next
+    more) in
+    let orders_given : asked ≡ mid ++ orders facts old =
+    given ∙ ap (λ (b : BootFacts). mid ++ orders b old) e in
     heard_on facts files first asked last start (at old) (world_of facts new)
-    (heard_on facts files first mid asked start (world_of facts old) (at old) so_far (heard_orders facts files mid asked old orders_given)) mine
+    (heard_on facts files first mid asked start (world_of facts old) (at old) so_far
+    (heard_orders facts files mid asked old orders_given)) mine
 
 -- memory ran out while the attempt asked
-pub lacks_orders : (facts now : BootFacts) (files : List File) (first mid asked : List Item) (start : World) (old : State) → now ≡ facts
-    → IsHeard facts files first mid start (world_of facts old) → (rest : List Item) × IsAsked (orders now old) rest mid asked → (world : World) × IsHeard facts files first asked start world
+pub lacks_orders : (facts now : BootFacts) (files : List File) (first mid asked : List Item)
+    (start : World) (old : State) → now ≡ facts
+    → IsHeard facts files first mid start (world_of facts old)
+    → (rest : List Item) × IsAsked (orders now old) rest mid asked
+    → (world : World) × IsHeard facts files first asked start world
 lacks_orders facts now files first mid asked start old e so_far part =
     let mine = subst (λ (b : BootFacts). IsAsked (orders b old) part.0 mid asked) e part.1 in
-    let end : World = record { state = old; owed = part.0 } in
-    (end, heard_on facts files first mid asked start (world_of facts old) end so_far (heard_asked facts files mid asked old (orders facts old) part.0 mine))
+    let end : World = record { state = old; owed = part.0 } in (
+      end,
+      heard_on facts files first mid asked start (world_of facts old) end so_far
+          (heard_asked facts files mid asked old (orders facts old) part.0 mine),
+    )
 
 -- memory ran out while it took answers
-pub lacks_answers : (facts now : BootFacts) (files those : List File) (first mid asked last : List Item) (start : World) (old : State) → now ≡ facts → those ≡ files
-    → IsHeard facts files first mid start (world_of facts old) → asked ≡ mid ++ orders now old → (world : World) × IsHeard now those asked last (at old) world → (world : World) × IsHeard facts files first last start world
+pub lacks_answers : (facts now : BootFacts) (files those : List File)
+    (first mid asked last : List Item) (start : World) (old : State) → now ≡ facts → those ≡ files
+    → IsHeard facts files first mid start (world_of facts old) → asked ≡ mid ++ orders now old
+    → (world : World) × IsHeard now those asked last (at old) world
+    → (world : World) × IsHeard facts files first last start world
 lacks_answers facts now files those first mid asked last start old e f so_far given more =
     let mine : IsHeard facts files asked last (at old) more.0 =
-    subst (λ (b : BootFacts). IsHeard b files asked last (at old) more.0) e (subst (λ (fs : List File). IsHeard now fs asked last (at old) more.0) f more.1) in
-    let orders_given : asked ≡ mid ++ orders facts old = given ∙ ap (λ (b : BootFacts). mid ++ orders b old) e in (
+    subst (λ (b : BootFacts). IsHeard b files asked last (at old) more.0) e
+    (subst (λ (fs : List File). IsHeard now fs asked last (at old) more.0) f more.1) in
+    let orders_given : asked ≡ mid ++ orders facts old =
+    given ∙ ap (λ (b : BootFacts). mid ++ orders b old) e in (
       more.0,
       heard_on facts files first asked last start (at old) more.0
-          (heard_on facts files first mid asked start (world_of facts old) (at old) so_far (heard_orders facts files mid asked old orders_given)) mine,
+          (heard_on facts files first mid asked start (world_of facts old) (at old) so_far
+          (heard_orders facts files mid asked old orders_given)) mine,
     )
 
 -- ---- the whole
 
-pub is_run : (facts now : BootFacts) (files those : List File) (old new : List Item) (begun end : State) (world : World) → now ≡ facts → those ≡ files → StartsOrFails facts unstarted begun
-    → IsHeard now those old new (world_of now begun) world → (end ≡ world.state) ⊎ (end ≡ out_of_memory) → IsRun facts files old new end
+pub is_run : (facts now : BootFacts) (files those : List File) (old new : List Item)
+    (begun end : State) (world : World) → now ≡ facts → those ≡ files
+    → StartsOrFails facts unstarted begun
+    → IsHeard now those old new (world_of now begun) world
+    → (end ≡ world.state) ⊎ (end ≡ out_of_memory) → IsRun facts files old new end
 is_run facts now files those old new begun end world e f starts heard is =
     let mine : IsHeard facts files old new (world_of facts begun) world =
-    subst (λ (b : BootFacts). IsHeard b files old new (world_of b begun) world) e (subst (λ (fs : List File). IsHeard now fs old new (world_of now begun) world) f heard) in
+    subst (λ (b : BootFacts). IsHeard b files old new (world_of b begun) world) e
+    (subst (λ (fs : List File). IsHeard now fs old new (world_of now begun) world) f heard) in
     record {
       gained = mine.gained;
       given = mine.given;
@@ -68,20 +94,32 @@ is_run facts now files those old new begun end world e f starts heard is =
     }
 
 -- the sizes of all files, one by one
-pub run_started : (machine : MachineFacts) (menu : MenuFacts) (files : List File) (sizes : List (Option ℕ)) (boot now : BootFacts) (unbegun_phase begun : PhaseFacts) (before after : List ℕ) (old new : List Item) (world : World) (end : State)
-    → sizes ≡ map (λ file. size_of (slice_index_or files file missing)) (range_with_len 0 (files_named menu.entries))
-    → boot ≡ boot_facts machine menu sizes → unbegun_phase ≡ not_started → now ≡ boot → StartsOrFails boot (state_at before unbegun_phase) (state_at after begun)
-    → IsHeard now files old new (world_of now (state_at after begun)) world → (end ≡ world.state) ⊎ (end ≡ out_of_memory)
+pub run_started : (machine : MachineFacts) (menu : MenuFacts) (files : List File)
+    (sizes : List (Option ℕ)) (boot now : BootFacts) (unbegun_phase begun : PhaseFacts)
+    (before after : List ℕ) (old new : List Item) (world : World) (end : State)
+    → sizes
+    ≡ map (λ file. size_of (slice_index_or files file missing))
+    (range_with_len 0 (files_named menu.entries))
+    → boot ≡ boot_facts machine menu sizes → unbegun_phase ≡ not_started → now ≡ boot
+    → StartsOrFails boot (state_at before unbegun_phase) (state_at after begun)
+    → IsHeard now files old new (world_of now (state_at after begun)) world
+    → (end ≡ world.state) ⊎ (end ≡ out_of_memory)
     → IsRun (boot_facts machine menu (map size_of files)) files old new end
-run_started machine menu files sizes boot now unbegun_phase begun before after old new world end asked e first same starts heard is =
+run_started machine menu files sizes boot now unbegun_phase begun before after old new world end
+    asked e first same starts heard is =
     let own = boot_facts machine menu sizes in
     let own_starts : StartsOrFails own unstarted (state_at after begun) =
-    subst (λ (b : BootFacts). StartsOrFails b unstarted (state_at after begun)) e (subst (λ (p : PhaseFacts). StartsOrFails boot (state_at before p) (state_at after begun)) first starts) in
-    run_alike own (boot_facts machine menu (map size_of files)) (alike_listed machine menu files sizes asked) files old new end
-    (is_run own now files files old new (state_at after begun) end world (same ∙ e) refl own_starts heard is)
+    subst (λ (b : BootFacts). StartsOrFails b unstarted (state_at after begun)) e
+    (subst (λ (p : PhaseFacts). StartsOrFails boot (state_at before p) (state_at after begun))
+    first starts) in
+    run_alike own (boot_facts machine menu (map size_of files))
+    (alike_listed machine menu files sizes asked) files old new end
+    (is_run own now files files old new (state_at after begun) end world (same ∙ e) refl own_starts
+    heard is)
 
 -- memory ran out before the start
-pub unbegun : (facts : BootFacts) (files : List File) (old new : List Item) → new ≡ old → IsRun facts files old new out_of_memory
+pub unbegun : (facts : BootFacts) (files : List File) (old new : List Item) → new ≡ old
+    → IsRun facts files old new out_of_memory
 unbegun facts files old new e = record {
   gained = [];
   given = e ∙ sym (append-nil old);
@@ -95,17 +133,27 @@ not_unstarted : (facts : BootFacts) → StartsOrFails facts unstarted unstarted 
 not_unstarted facts (inl begins) = later_begins facts facts.menu.attempts [] unstarted begins
 not_unstarted facts (inr fails) = let no : unstarted ≡ out_of_memory = fails.0 in absurd cc
 
-pub has_started : (facts : BootFacts) (old new : PhaseFacts) (before after : List ℕ) → old ≡ not_started → StartsOrFails facts (state_at before old) (state_at after new) → new ≢ not_started
+pub has_started : (facts : BootFacts) (old new : PhaseFacts) (before after : List ℕ)
+    → old ≡ not_started → StartsOrFails facts (state_at before old) (state_at after new)
+    → new ≢ not_started
 has_started facts old new before after e starts = λ f.
-    not_unstarted facts (subst (λ (p : PhaseFacts). StartsOrFails facts unstarted (state_at after p)) f (subst (λ (p : PhaseFacts). StartsOrFails facts (state_at before p) (state_at after new)) e starts))
+    not_unstarted facts
+    (subst (λ (p : PhaseFacts). StartsOrFails facts unstarted (state_at after p)) f
+    (subst
+    (λ (p : PhaseFacts). StartsOrFails facts (state_at before p) (state_at after new)) e
+    starts))
 
 -- ---- memory and its room
 
-pub room_on : (start end : ℕ) (old new : ℕ → Type 0) → HasRoom old start end → KeepsRoom old new → HasRoom new start end
+pub room_on : (start end : ℕ) (old new : ℕ → Type 0) → HasRoom old start end → KeepsRoom old new
+    → HasRoom new start end
 room_on start end old new had kept = λ a low high. kept a (had a low high)
 
 -- after an attempt that waited
-pub memory_later : (pool : Range ℕ) (old new : PhaseFacts) (first before after : List ℕ) → is_waiting old ≡ true → IsMemoryIn pool (state_at before old) first before → IsMemoryIn pool (state_at after new) before after
+pub memory_later : (pool : Range ℕ) (old new : PhaseFacts) (first before after : List ℕ)
+    → is_waiting old ≡ true → IsMemoryIn pool (state_at before old) first before
+    → IsMemoryIn pool (state_at after new) before after
     → IsMemoryIn pool (state_at after new) first after
 memory_later pool old new first before after w so_far more =
-    memory_on pool (state_at after new) first before after (waiting_memory pool old before first before w so_far) more
+    memory_on pool (state_at after new) first before after
+    (waiting_memory pool old before first before w so_far) more

@@ -1,5 +1,7 @@
 -- Files that are not refused are small.
-use Rattle.std.proofs.Common.{◌≡◌, ℕ, zero, suc, ◌+◌, ◌<◌, ◌≤◌, Bool, true, false, if◌then◌else◌, nat_lt, List, [], ◌∷◌, length, get_or, Option, None, Some, arith, refl, sym, subst}
+use Rattle.std.proofs.Common.{◌≡◌, ℕ, zero, suc, ◌+◌, ◌<◌, ◌≤◌, Bool, true, false, if◌then◌else◌}
+use Rattle.std.proofs.Common.{nat_lt, List, [], ◌∷◌, length, get_or, Option, None, Some, arith}
+use Rattle.std.proofs.Common.{refl, sym, subst}
 use Rattle.std.proofs.lemmas.Bool.Decides.{nat_tests}
 use Rattle.std.proofs.lemmas.List.{get_or_default}
 use Rattle.bl_load.specs.declared.refusal.Refusal.TheVariants.{FileTooLong}
@@ -8,19 +10,26 @@ use Rattle.bl_session.specs.Ends.{most_bytes, file_refusal, lengths_of}
 use Rattle.bl_session.specs.Phases.{HasSmallFiles}
 
 -- the first is small, and none behind it is refused
-first_small : (place size : ℕ) (sizes : List (Option ℕ)) (long : Bool) → nat_lt most_bytes size ≡ long → (if long then Some (FileTooLong place) else file_refusal (place + 1) sizes) ≡ None
+first_small : (place size : ℕ) (sizes : List (Option ℕ)) (long : Bool)
+    → nat_lt most_bytes size ≡ long
+    → (if long then Some (FileTooLong place) else file_refusal (place + 1) sizes) ≡ None
     → (size ≤ most_bytes) × (file_refusal (place + 1) sizes ≡ None)
 first_small place size sizes true is e = absurd cc
 first_small place size sizes false is e = (grind (arith, nat_tests), e)
 
-pub all_small : (place : ℕ) (sizes : List (Option ℕ)) → file_refusal place sizes ≡ None → (k : ℕ) → k < length (lengths_of sizes) → get_or (lengths_of sizes) k 0 ≤ most_bytes
+pub all_small : (place : ℕ) (sizes : List (Option ℕ)) → file_refusal place sizes ≡ None → (k : ℕ)
+    → k < length (lengths_of sizes) → get_or (lengths_of sizes) k 0 ≤ most_bytes
 all_small place [] e k h = absurd (omega arith)
 all_small place (None ∷ sizes) e k h = absurd cc
-all_small place (Some size ∷ sizes) e zero h = (first_small place size sizes (nat_lt most_bytes size) refl e).0
-all_small place (Some size ∷ sizes) e (suc k) h = all_small (place + 1) sizes (first_small place size sizes (nat_lt most_bytes size) refl e).1 k (omega arith)
+all_small place (Some size ∷ sizes) e zero h =
+    (first_small place size sizes (nat_lt most_bytes size) refl e).0
+all_small place (Some size ∷ sizes) e (suc k) h =
+    all_small (place + 1) sizes (first_small place size sizes (nat_lt most_bytes size) refl e).1 k
+    (omega arith)
 
 -- a stage of files of these lengths
-pub stage_small : (sizes : List (Option ℕ)) (stage : Staging) → file_refusal 0 sizes ≡ None → stage.sizes ≡ lengths_of sizes → HasSmallFiles stage
+pub stage_small : (sizes : List (Option ℕ)) (stage : Staging) → file_refusal 0 sizes ≡ None
+    → stage.sizes ≡ lengths_of sizes → HasSmallFiles stage
 stage_small sizes stage none same = record {
   all = λ k d h.
       let n : k < length (lengths_of sizes) = subst (λ (l : List ℕ). k < length l) same h in

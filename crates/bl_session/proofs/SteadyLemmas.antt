@@ -1,17 +1,20 @@
 -- What holds of a history and of what is still to be asked for, whatever a faithful store answers.
-use Rattle.std.proofs.Common.{◌≡◌, ℕ, ◌-◌, ◌*◌, ◌<◌, ◌≤◌, true, min, List, [], ◌++◌, length, map, get_or, None, refl, ap, ◌∙◌, arith}
+use Rattle.std.proofs.Common.{◌≡◌, ℕ, ◌-◌, ◌*◌, ◌<◌, ◌≤◌, true, min, List, [], ◌++◌, length, map}
+use Rattle.std.proofs.Common.{get_or, None, refl, ap, ◌∙◌, arith}
 use Rattle.std.proofs.lemmas.List.{get_or-map}
 use Rattle.bl_stage.specs.Spots.{waits}
 use Rattle.bl_session.specs.declared.words.Ticket.{Ticket}
 use Rattle.bl_session.specs.Ends.{size_refusal, lengths_of}
 use Rattle.bl_session.specs.Menu.{entry_at}
 use Rattle.bl_session.specs.Pieces.{is_awaited, spot_of}
-use Rattle.bl_session.specs.Boot.{BootFacts, State, unstarted, running, handed_over, none_left, out_of_memory, sizes_of, fresh}
+use Rattle.bl_session.specs.Boot.{BootFacts, State, unstarted, running, handed_over, none_left}
+use Rattle.bl_session.specs.Boot.{out_of_memory, sizes_of, fresh}
 use Rattle.bl_session.specs.History.{Item}
 use Rattle.bl_session.specs.Outcome.{File, missing, size_of, text_of, texts_of}
 use Rattle.bl_session.specs.Orders.{orders, file_orders}
 use Rattle.bl_session.proofs.OutcomeLaws.{are_read, length_read}
-use Rattle.bl_session.proofs.OrderLemmas.{IsUntouched, IsAskedOnce, untouched_both, once_last, untouched_files, once_files}
+use Rattle.bl_session.proofs.OrderLemmas.{IsUntouched, IsAskedOnce, untouched_both, once_last}
+use Rattle.bl_session.proofs.OrderLemmas.{untouched_files, once_files}
 use Rattle.bl_session.proofs.WentLemmas.{IsNewFrom, fresh_length}
 use Rattle.bl_session.proofs.AwaitedLemmas.{is_piece}
 
@@ -27,9 +30,12 @@ module _ (facts : BootFacts) where
   abbrev pub Steady : List Item → State → Type 0
   Steady all (running entry rest earlier spots) =
       (size_refusal facts.machine (sizes_of facts entry) ≡ None)
-      × ((file piece : ℕ) → is_awaited (spot_of spots file piece) ≡ true → spot_of spots file piece ≡ spot_of (fresh facts entry) file piece)
+      × ((file piece : ℕ) → is_awaited (spot_of spots file piece) ≡ true
+      → spot_of spots file piece ≡ spot_of (fresh facts entry) file piece)
       × ((t : Ticket) → length earlier < t.attempt → IsUntouched all t)
-      × ((t : Ticket) → t.attempt ≡ length earlier → is_awaited (spot_of spots t.file t.piece) ≡ true → IsAskedOnce (file_at entry t.file) all t)
+      × ((t : Ticket) → t.attempt ≡ length earlier
+      → is_awaited (spot_of spots t.file t.piece) ≡ true
+      → IsAskedOnce (file_at entry t.file) all t)
   Steady all unstarted = Unit {0}
   Steady all (handed_over entry earlier handover) = Unit {0}
   Steady all (none_left earlier) = Unit {0}
@@ -38,7 +44,8 @@ module _ (facts : BootFacts) where
   -- ---- an attempt that begins
 
   -- its orders are to be asked for, and none of its tickets was
-  pub steady_new : (given : List Item) (number : ℕ) (new : State) → IsNewFrom facts number new → ((t : Ticket) → number ≤ t.attempt → IsUntouched given t)
+  pub steady_new : (given : List Item) (number : ℕ) (new : State) → IsNewFrom facts number new
+      → ((t : Ticket) → number ≤ t.attempt → IsUntouched given t)
       → Steady (given ++ orders facts new) new
   steady_new given number unstarted is apart = tt
   steady_new given number (handed_over entry later handover) is apart = tt
@@ -49,7 +56,9 @@ module _ (facts : BootFacts) where
       let asked_for = file_orders (length later) 0 indices spots in (
         sized,
         λ file piece e. rw first refl,
-        λ t l. untouched_both given asked_for t (apart t (omega arith)) (untouched_files (length later) 0 indices spots t (λ (a, p). omega arith)),
+        λ t l.
+            untouched_both given asked_for t (apart t (omega arith))
+            (untouched_files (length later) 0 indices spots t (λ (a, p). omega arith)),
         λ t a e.
             let one = is_piece (lengths_of (sizes_of facts entry)) t.file t.piece (rw first at e) in
             let many = fresh_length facts entry in
@@ -57,7 +66,8 @@ module _ (facts : BootFacts) where
             let piece_in : t.piece < length (get_or spots t.file []) = rw first one.piece_in in
             let within : t.file < length indices = let f = one.file_in in omega arith in
             once_last (file_at entry t.file) given asked_for t (apart t (omega arith))
-            (once_files (length later) 0 indices spots t.file t a (omega arith) within file_in piece_in),
+            (once_files (length later) 0 indices spots t.file t a (omega arith) within file_in
+            piece_in),
       )
 
 -- ---- a piece that a new attempt awaits
@@ -67,16 +77,25 @@ module _ (facts : BootFacts) (files : List File) (known : facts.sizes ≡ map si
   abbrev pub text_at : (entry place : ℕ) → List ℕ
   text_at entry place = text_of (get_or files (file_at facts entry place) missing)
 
-  text_is : (entry place : ℕ) → place < length (entry_at facts.menu entry).files → get_or (texts_of facts files entry) place [] ≡ text_at entry place
-  text_is entry place h = get_or-map (λ file. text_of (get_or files file missing)) (entry_at facts.menu entry).files place 0 [] h
+  text_is : (entry place : ℕ) → place < length (entry_at facts.menu entry).files
+      → get_or (texts_of facts files entry) place [] ≡ text_at entry place
+  text_is entry place h =
+      get_or-map (λ file. text_of (get_or files file missing)) (entry_at facts.menu entry).files
+      place 0 [] h
 
-  length_is : (entry place : ℕ) → size_refusal facts.machine (sizes_of facts entry) ≡ None → place < length (entry_at facts.menu entry).files
+  length_is : (entry place : ℕ) → size_refusal facts.machine (sizes_of facts entry) ≡ None
+      → place < length (entry_at facts.menu entry).files
       → get_or (lengths_of (sizes_of facts entry)) place 0 ≡ length (text_at entry place)
   length_is entry place sized h =
-      length_read (sizes_of facts entry) (texts_of facts files entry) (are_read facts files entry known sized) place ∙ ap length (text_is entry place h)
+      length_read (sizes_of facts entry) (texts_of facts files entry)
+      (are_read facts files entry known sized) place ∙ ap length (text_is entry place h)
 
-  pub awaited_piece : (entry place index : ℕ) → size_refusal facts.machine (sizes_of facts entry) ≡ None → is_awaited (spot_of (fresh facts entry) place index) ≡ true
-      → (4096 * index < length (text_at entry place)) × (spot_of (fresh facts entry) place index ≡ waits (min 4096 (length (text_at entry place) - 4096 * index)))
+  pub awaited_piece : (entry place index : ℕ)
+      → size_refusal facts.machine (sizes_of facts entry) ≡ None
+      → is_awaited (spot_of (fresh facts entry) place index) ≡ true
+      → (4096 * index < length (text_at entry place))
+      × (spot_of (fresh facts entry) place index
+      ≡ waits (min 4096 (length (text_at entry place) - 4096 * index)))
   awaited_piece entry place index sized e =
       let one = is_piece (lengths_of (sizes_of facts entry)) place index e in
       let file_in = one.file_in in

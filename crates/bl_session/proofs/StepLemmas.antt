@@ -1,5 +1,7 @@
 -- One event of an attempt that waits.
-use Rattle.std.proofs.Common.{◌≡◌, ◌≢◌, ℕ, ◌<◌, ◌==◌, ◌&&◌, Bool, true, false, MatchBool, nat_lt, List, [], ◌∷◌, ◌++◌, length, Result, Ok, Err, IfOk, OnErr, refl, sym, ap, subst, ◌∙◌, inl, inr, arith}
+use Rattle.std.proofs.Common.{◌≡◌, ◌≢◌, ℕ, ◌<◌, ◌==◌, ◌&&◌, Bool, true, false, MatchBool, nat_lt}
+use Rattle.std.proofs.Common.{List, [], ◌∷◌, ◌++◌, length, Result, Ok, Err, IfOk, OnErr, refl, sym}
+use Rattle.std.proofs.Common.{ap, subst, ◌∙◌, inl, inr, arith}
 use Rattle.std.specs.declared.ops.Range.{Range}
 use Rattle.std.proofs.lemmas.Bool.{cases_lt}
 use Rattle.std.proofs.lemmas.Bool.Decides.{nat_tests}
@@ -13,102 +15,163 @@ use Rattle.bl_stage.specs.Spots.{Spot, spots, put_spot}
 use Rattle.bl_session.specs.declared.words.RefusedEntry.{RefusedEntry}
 use Rattle.bl_session.specs.declared.words.Ticket.{Ticket}
 use Rattle.bl_session.specs.Pieces.{awaits, spot_of, with_piece, are_whole}
-use Rattle.bl_session.specs.Boot.{BootFacts, EventFacts, piece, fault, State, unstarted, running, handed_over, none_left, out_of_memory, Begins, Continues, Steps, is_wanted, is_taken, ends_attempt}
+use Rattle.bl_session.specs.Boot.{BootFacts, EventFacts, piece, fault, State, unstarted, running}
+use Rattle.bl_session.specs.Boot.{handed_over, none_left, out_of_memory, Begins, Continues, Steps}
+use Rattle.bl_session.specs.Boot.{is_wanted, is_taken, ends_attempt}
 use Rattle.bl_session.specs.Memory.{IsMemoryIn}
 use Rattle.bl_session.proofs.AdvanceLemmas.{memory_on, same_on}
 use Rattle.bl_session.proofs.SpotLemmas.{stored, not_stored, put_with}
 
-by_test : (b : Bool) (tested : Bool) (P Q : Type 0) → tested ≡ b → MatchBool b P Q → MatchBool tested P Q
+by_test : (b : Bool) (tested : Bool) (P Q : Type 0) → tested ≡ b → MatchBool b P Q
+    → MatchBool tested P Q
 by_test b tested P Q e h = subst (λ (x : Bool). MatchBool x P Q) (sym e) h
 
 -- ---- an event that is not wanted
 
-pub steps_same : (facts : BootFacts) (entry : ℕ) (rest : List ℕ) (earlier : List RefusedEntry) (files : List (List Spot)) (event : EventFacts) → is_wanted earlier files event ≡ false
+pub steps_same : (facts : BootFacts) (entry : ℕ) (rest : List ℕ) (earlier : List RefusedEntry)
+    (files : List (List Spot)) (event : EventFacts) → is_wanted earlier files event ≡ false
     → Steps facts (running entry rest earlier files) event (running entry rest earlier files)
-steps_same facts entry rest earlier files event e = by_test false (is_wanted earlier files event) _ _ e refl
+steps_same facts entry rest earlier files event e =
+    by_test false (is_wanted earlier files event) _ _ e refl
 
-pub memory_same : (wanted : Bool) (P : Type 0) (old new : List ℕ) → wanted ≡ false → new ≡ old → MatchBool wanted P (new ≡ old)
+pub memory_same : (wanted : Bool) (P : Type 0) (old new : List ℕ) → wanted ≡ false → new ≡ old
+    → MatchBool wanted P (new ≡ old)
 memory_same wanted P old new e same = by_test false wanted P (new ≡ old) e same
 
-pub other_attempt : (earlier : List RefusedEntry) (files : List (List Spot)) (ticket : Ticket) (bytes : List ℕ) (test : Bool) → test ≡ (ticket.attempt == length earlier) → test ≡ false → is_wanted earlier files (piece ticket bytes) ≡ false
-other_attempt earlier files ticket bytes test is e = ap (λ (b : Bool). b && awaits (spot_of files ticket.file ticket.piece) (length bytes)) (sym is ∙ e)
+pub other_attempt : (earlier : List RefusedEntry) (files : List (List Spot)) (ticket : Ticket)
+    (bytes : List ℕ) (test : Bool) → test ≡ (ticket.attempt == length earlier) → test ≡ false
+    → is_wanted earlier files (piece ticket bytes) ≡ false
+other_attempt earlier files ticket bytes test is e =
+    ap (λ (b : Bool). b && awaits (spot_of files ticket.file ticket.piece) (length bytes))
+    (sym is ∙ e)
 
-pub wanted_not : (old : List ℕ) (stage : Staging) (earlier : List RefusedEntry) (ticket : Ticket) (bytes : List ℕ) (answer : Put) → answer ≡ put_answer stage ticket.file ticket.piece (length bytes) → answer ≢ Stored
+pub wanted_not : (old : List ℕ) (stage : Staging) (earlier : List RefusedEntry) (ticket : Ticket)
+    (bytes : List ℕ) (answer : Put)
+    → answer ≡ put_answer stage ticket.file ticket.piece (length bytes) → answer ≢ Stored
     → is_wanted earlier (spots old stage) (piece ticket bytes) ≡ false
 wanted_not old stage earlier ticket bytes answer is other =
-    ap (λ (b : Bool). (ticket.attempt == length earlier) && b) (not_stored old stage ticket.file ticket.piece (length bytes) answer is other) ∙ and_none (ticket.attempt == length earlier)
+    ap (λ (b : Bool). (ticket.attempt == length earlier) && b)
+    (not_stored old stage ticket.file ticket.piece (length bytes) answer is other)
+    ∙ and_none (ticket.attempt == length earlier)
   where
     and_none : (b : Bool) → (b && false) ≡ false
     and_none true = refl
     and_none false = refl
 
 -- the stage is as before, and so are its spots
-pub steps_unchanged : (facts : BootFacts) (entry : ℕ) (rest : List ℕ) (earlier : List RefusedEntry) (old new : List ℕ) (stage later : Staging) (event : EventFacts) → later ≡ stage → new ≡ old → is_wanted earlier (spots old stage) event ≡ false
-    → Steps facts (running entry rest earlier (spots old stage)) event (running entry rest earlier (spots new later))
+pub steps_unchanged : (facts : BootFacts) (entry : ℕ) (rest : List ℕ) (earlier : List RefusedEntry)
+    (old new : List ℕ) (stage later : Staging) (event : EventFacts) → later ≡ stage → new ≡ old
+    → is_wanted earlier (spots old stage) event ≡ false
+    → Steps facts (running entry rest earlier (spots old stage)) event
+    (running entry rest earlier (spots new later))
 steps_unchanged facts entry rest earlier old new stage later event same bytes e =
-    let is : running entry rest earlier (spots old stage) ≡ running entry rest earlier (spots new later) = rw (same, bytes) refl in
-    subst (λ (s : State). Steps facts (running entry rest earlier (spots old stage)) event s) is (steps_same facts entry rest earlier (spots old stage) event e)
+    let is : running entry rest earlier (spots old stage)
+    ≡ running entry rest earlier (spots new later) = rw (same, bytes) refl in
+    subst (λ (s : State). Steps facts (running entry rest earlier (spots old stage)) event s) is
+    (steps_same facts entry rest earlier (spots old stage) event e)
 
 -- ---- a piece that is stored
 
-pub wanted_stored : (old : List ℕ) (stage : Staging) (earlier : List RefusedEntry) (ticket : Ticket) (bytes : List ℕ) (test : Bool) (answer : Put) → test ≡ (ticket.attempt == length earlier) → test ≡ true
-    → answer ≡ put_answer stage ticket.file ticket.piece (length bytes) → answer ≡ Stored → is_wanted earlier (spots old stage) (piece ticket bytes) ≡ true
+pub wanted_stored : (old : List ℕ) (stage : Staging) (earlier : List RefusedEntry) (ticket : Ticket)
+    (bytes : List ℕ) (test : Bool) (answer : Put) → test ≡ (ticket.attempt == length earlier)
+    → test ≡ true
+    → answer ≡ put_answer stage ticket.file ticket.piece (length bytes) → answer ≡ Stored
+    → is_wanted earlier (spots old stage) (piece ticket bytes) ≡ true
 wanted_stored old stage earlier ticket bytes test answer is e told e_stored =
-    ap (λ (b : Bool). b && awaits (spot_of (spots old stage) ticket.file ticket.piece) (length bytes)) (sym is ∙ e)
+    ap (λ (b : Bool).
+    b && awaits (spot_of (spots old stage) ticket.file ticket.piece) (length bytes))
+    (sym is ∙ e)
     ∙ stored old stage ticket.file ticket.piece (length bytes) answer told e_stored
 
-strange_if : (stage : Staging) (file index len : ℕ) → nat_lt file (length stage.sizes) ≡ false → put_answer stage file index len ≡ Strange
+strange_if : (stage : Staging) (file index len : ℕ) → nat_lt file (length stage.sizes) ≡ false
+    → put_answer stage file index len ≡ Strange
 strange_if stage file index len e = rw e refl
 
-named_stored : (stage : Staging) (file index len : ℕ) → put_answer stage file index len ≡ Stored → file < length stage.sizes
+named_stored : (stage : Staging) (file index len : ℕ) → put_answer stage file index len ≡ Stored
+    → file < length stage.sizes
 named_stored stage file index len e = elim (cases_lt file (length stage.sizes)) [
   | inl named ↦ named
-  | inr past ↦ let no : nat_lt file (length stage.sizes) ≡ false = grind (arith, nat_tests) in let strange = strange_if stage file index len no in absurd (let bad : Strange ≡ Stored = sym strange ∙ e in cc)
+  | inr past ↦
+      let no : nat_lt file (length stage.sizes) ≡ false = grind (arith, nat_tests) in
+      let strange =
+      strange_if stage file index len no in
+      absurd (let bad : Strange ≡ Stored = sym strange ∙ e in cc)
 ]
 
 -- the spots after it
-pub spots_after : (old new : List ℕ) (stage later : Staging) (ticket : Ticket) (bytes : List ℕ) (answer : Put) → answer ≡ put_answer stage ticket.file ticket.piece (length bytes) → answer ≡ Stored
-    → spots new later ≡ put_spot old stage ticket.file ticket.piece bytes → spots new later ≡ with_piece (spots old stage) ticket.file ticket.piece bytes
+pub spots_after : (old new : List ℕ) (stage later : Staging) (ticket : Ticket) (bytes : List ℕ)
+    (answer : Put) → answer ≡ put_answer stage ticket.file ticket.piece (length bytes)
+    → answer ≡ Stored
+    → spots new later ≡ put_spot old stage ticket.file ticket.piece bytes
+    → spots new later ≡ with_piece (spots old stage) ticket.file ticket.piece bytes
 spots_after old new stage later ticket bytes answer told is spots_is =
-    spots_is ∙ put_with old stage ticket.file ticket.piece bytes (named_stored stage ticket.file ticket.piece (length bytes) (sym told ∙ is))
+    spots_is
+    ∙ put_with old stage ticket.file ticket.piece bytes
+    (named_stored stage ticket.file ticket.piece (length bytes) (sym told ∙ is))
 
-pub steps_piece : {P E : Type 0} (facts : BootFacts) (entry : ℕ) (rest : List ℕ) (earlier : List RefusedEntry) (files after : List (List Spot)) (ticket : Ticket) (bytes : List ℕ) (result : Result P E) (state : P → State)
-    → is_wanted earlier files (piece ticket bytes) ≡ true → after ≡ with_piece files ticket.file ticket.piece bytes
-    → IfOk result (λ phase. Continues facts (Begins facts rest) entry rest earlier after (state phase))
-    → IfOk result (λ phase. Steps facts (running entry rest earlier files) (piece ticket bytes) (state phase))
+pub steps_piece : {P E : Type 0} (facts : BootFacts) (entry : ℕ) (rest : List ℕ)
+    (earlier : List RefusedEntry) (files after : List (List Spot)) (ticket : Ticket)
+    (bytes : List ℕ) (result : Result P E) (state : P → State)
+    → is_wanted earlier files (piece ticket bytes) ≡ true
+    → after ≡ with_piece files ticket.file ticket.piece bytes
+    → IfOk result
+    (λ phase. Continues facts (Begins facts rest) entry rest earlier after (state phase))
+    → IfOk result
+    (λ phase. Steps facts (running entry rest earlier files) (piece ticket bytes) (state phase))
 steps_piece facts entry rest earlier files after ticket bytes (Err e) state wanted is goes = tt
 steps_piece facts entry rest earlier files after ticket bytes (Ok phase) state wanted is goes =
     by_test true (is_wanted earlier files (piece ticket bytes)) _ _ wanted
-    (subst (λ (fs : List (List Spot)). Continues facts (Begins facts rest) entry rest earlier fs (state phase)) is goes)
+    (subst
+    (λ (fs : List (List Spot)).
+    Continues facts (Begins facts rest) entry rest earlier fs (state phase)) is goes)
 
-pub lacks_piece : {P E : Type 0} (entry : ℕ) (rest : List ℕ) (earlier : List RefusedEntry) (files after : List (List Spot)) (ticket : Ticket) (bytes : List ℕ) (result : Result P E)
-    → is_wanted earlier files (piece ticket bytes) ≡ true → after ≡ with_piece files ticket.file ticket.piece bytes
-    → OnErr result (are_whole after ≡ true) → OnErr result (ends_attempt (running entry rest earlier files) (piece ticket bytes) ≡ true)
+pub lacks_piece : {P E : Type 0} (entry : ℕ) (rest : List ℕ) (earlier : List RefusedEntry)
+    (files after : List (List Spot)) (ticket : Ticket) (bytes : List ℕ) (result : Result P E)
+    → is_wanted earlier files (piece ticket bytes) ≡ true
+    → after ≡ with_piece files ticket.file ticket.piece bytes
+    → OnErr result (are_whole after ≡ true)
+    → OnErr result (ends_attempt (running entry rest earlier files) (piece ticket bytes) ≡ true)
 lacks_piece entry rest earlier files after ticket bytes (Ok phase) wanted is whole = tt
 lacks_piece entry rest earlier files after ticket bytes (Err e) wanted is whole =
-    ap (λ (b : Bool). b && are_whole (with_piece files ticket.file ticket.piece bytes)) wanted ∙ ap are_whole (sym is) ∙ whole
+    ap (λ (b : Bool). b && are_whole (with_piece files ticket.file ticket.piece bytes)) wanted
+    ∙ ap are_whole (sym is) ∙ whole
 
 -- memory after a wanted event
-pub memory_taken : {P E : Type 0} (pool : Range ℕ) (wanted : Bool) (old mid new : List ℕ) (result : Result P E) (state : P → State) → wanted ≡ true → IsSameOutside pool old mid
-    → IfOk result (λ phase. IsMemoryIn pool (state phase) mid new) → IfOk result (λ phase. MatchBool wanted (IsMemoryIn pool (state phase) old new) (new ≡ old))
+pub memory_taken : {P E : Type 0} (pool : Range ℕ) (wanted : Bool) (old mid new : List ℕ)
+    (result : Result P E) (state : P → State) → wanted ≡ true → IsSameOutside pool old mid
+    → IfOk result (λ phase. IsMemoryIn pool (state phase) mid new)
+    → IfOk result (λ phase. MatchBool wanted (IsMemoryIn pool (state phase) old new) (new ≡ old))
 memory_taken pool wanted old mid new (Err e) state is first second = tt
-memory_taken pool wanted old mid new (Ok phase) state is first second = by_test true wanted _ (new ≡ old) is (memory_on pool (state phase) old mid new first second)
+memory_taken pool wanted old mid new (Ok phase) state is first second =
+    by_test true wanted _ (new ≡ old) is (memory_on pool (state phase) old mid new first second)
 
-pub outside_taken : {P E : Type 0} (pool : Range ℕ) (old mid new : List ℕ) (result : Result P E) → IsSameOutside pool old mid → OnErr result (IsSameOutside pool mid new) → OnErr result (IsSameOutside pool old new)
+pub outside_taken : {P E : Type 0} (pool : Range ℕ) (old mid new : List ℕ) (result : Result P E)
+    → IsSameOutside pool old mid → OnErr result (IsSameOutside pool mid new)
+    → OnErr result (IsSameOutside pool old new)
 outside_taken pool old mid new (Ok phase) first second = tt
 outside_taken pool old mid new (Err e) first second = same_on pool old mid new first second
 
 -- ---- a fault
 
-pub steps_fault : {P E : Type 0} (facts : BootFacts) (entry : ℕ) (rest : List ℕ) (earlier : List RefusedEntry) (files : List (List Spot)) (ticket : Ticket) (result : Result P E) (state : P → State)
+pub steps_fault : {P E : Type 0} (facts : BootFacts) (entry : ℕ) (rest : List ℕ)
+    (earlier : List RefusedEntry) (files : List (List Spot)) (ticket : Ticket) (result : Result P E)
+    (state : P → State)
     → is_wanted earlier files (fault ticket) ≡ true
-    → IfOk result (λ phase. Begins facts rest (earlier ++ record { entry = entry; refusal = FileFault ticket.file } ∷ []) (state phase))
-    → IfOk result (λ phase. Steps facts (running entry rest earlier files) (fault ticket) (state phase))
+    → IfOk result
+    (λ phase.
+    Begins facts rest
+    (earlier ++ record { entry = entry; refusal = FileFault ticket.file } ∷ [])
+    (state phase))
+    → IfOk result
+    (λ phase. Steps facts (running entry rest earlier files) (fault ticket) (state phase))
 steps_fault facts entry rest earlier files ticket (Err e) state wanted goes = tt
-steps_fault facts entry rest earlier files ticket (Ok phase) state wanted goes = by_test true (is_wanted earlier files (fault ticket)) _ _ wanted goes
+steps_fault facts entry rest earlier files ticket (Ok phase) state wanted goes =
+    by_test true (is_wanted earlier files (fault ticket)) _ _ wanted goes
 
-pub lacks_fault : {P E : Type 0} (entry : ℕ) (rest : List ℕ) (earlier : List RefusedEntry) (files : List (List Spot)) (ticket : Ticket) (result : Result P E)
-    → is_wanted earlier files (fault ticket) ≡ true → OnErr result (ends_attempt (running entry rest earlier files) (fault ticket) ≡ true)
+pub lacks_fault : {P E : Type 0} (entry : ℕ) (rest : List ℕ) (earlier : List RefusedEntry)
+    (files : List (List Spot)) (ticket : Ticket) (result : Result P E)
+    → is_wanted earlier files (fault ticket) ≡ true
+    → OnErr result (ends_attempt (running entry rest earlier files) (fault ticket) ≡ true)
 lacks_fault entry rest earlier files ticket (Ok phase) wanted = tt
 lacks_fault entry rest earlier files ticket (Err e) wanted = wanted
 
@@ -118,9 +181,12 @@ same_itself pool old = λ a outside. refl
 -- ---- want of memory
 
 -- an event that ends an attempt is one that it waits for
-pub ends_taken : (state : State) (event : EventFacts) → ends_attempt state event ≡ true → is_taken state event ≡ true
+pub ends_taken : (state : State) (event : EventFacts) → ends_attempt state event ≡ true
+    → is_taken state event ≡ true
 ends_taken unstarted event e = absurd cc
-ends_taken (running entry rest earlier files) (piece ticket bytes) e = first (is_wanted earlier files (piece ticket bytes)) (are_whole (with_piece files ticket.file ticket.piece bytes)) e
+ends_taken (running entry rest earlier files) (piece ticket bytes) e =
+    first (is_wanted earlier files (piece ticket bytes))
+    (are_whole (with_piece files ticket.file ticket.piece bytes)) e
   where
     first : (a b : Bool) → (a && b) ≡ true → a ≡ true
     first true b e = refl
@@ -130,6 +196,9 @@ ends_taken (handed_over entry earlier handover) event e = absurd cc
 ends_taken (none_left earlier) event e = absurd cc
 ends_taken out_of_memory event e = absurd cc
 
-pub memory_lacking : (pool : Range ℕ) (state : State) (event : EventFacts) (old new : List ℕ) → ends_attempt state event ≡ true → IsSameOutside pool old new
+pub memory_lacking : (pool : Range ℕ) (state : State) (event : EventFacts) (old new : List ℕ)
+    → ends_attempt state event ≡ true → IsSameOutside pool old new
     → MatchBool (is_taken state event) (IsMemoryIn pool out_of_memory old new) (new ≡ old)
-memory_lacking pool state event old new e outside = by_test true (is_taken state event) (IsMemoryIn pool out_of_memory old new) (new ≡ old) (ends_taken state event e) outside
+memory_lacking pool state event old new e outside =
+    by_test true (is_taken state event) (IsMemoryIn pool out_of_memory old new) (new ≡ old)
+    (ends_taken state event e) outside

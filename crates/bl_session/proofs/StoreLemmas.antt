@@ -1,11 +1,16 @@
--- A store's history and the requests that are still to be answered, as it is asked and as it answers.
-use Rattle.std.proofs.Common.{◌≡◌, ◌↔◌, ℕ, ◌+◌, ◌*◌, ◌<◌, ◌≤◌, ◌==◌, ◌&&◌, nat_lt, Bool, true, false, if◌then◌else◌, List, [], ◌∷◌, ◌++◌, length, take, drop, Option, None, Some, suc, get_or, refl, sym, ap, subst, ◌∙◌, rules, arith, append_assoc}
+-- A store's history and the requests that are still to be answered, as it is asked and as it
+-- answers.
+use Rattle.std.proofs.Common.{◌≡◌, ◌↔◌, ℕ, ◌+◌, ◌*◌, ◌<◌, ◌≤◌, ◌==◌, ◌&&◌, nat_lt, Bool, true}
+use Rattle.std.proofs.Common.{false, if◌then◌else◌, List, [], ◌∷◌, ◌++◌, length, take, drop, Option}
+use Rattle.std.proofs.Common.{None, Some, suc, get_or, refl, sym, ap, subst, ◌∙◌, rules, arith}
+use Rattle.std.proofs.Common.{append_assoc}
 use Rattle.std.proofs.lemmas.List.{append-nil}
 use Rattle.std.proofs.lemmas.Option.{slice_get-get_or}
 use Rattle.std.proofs.Math.Seq.{split_at}
 use Rattle.std.proofs.Math.Numerals.{add-one}
 use Rattle.std.specs.Bool.{Decides}
-use Rattle.std.proofs.lemmas.Bool.Decides.{Decides-like, Decides-and, Decides-eqb, Decides-ltb, not_from_Decides}
+use Rattle.std.proofs.lemmas.Bool.Decides.{Decides-like, Decides-and, Decides-eqb, Decides-ltb}
+use Rattle.std.proofs.lemmas.Bool.Decides.{not_from_Decides}
 use Rattle.std.specs.Prelude.{slice_get, slice_index_or, option_map}
 use Rattle.bl_stage.specs.Spots.{piece_of}
 use Rattle.bl_session.specs.declared.words.Ticket.{Ticket}
@@ -16,9 +21,11 @@ use Rattle.bl_session.specs.declared.queue.Order.{Order}
 use Rattle.bl_session.specs.declared.queue.Order.TheVariants.{Forward, Reverse}
 use Rattle.bl_session.specs.Boot.{EventFacts, piece, fault}
 use Rattle.bl_session.specs.Outcome.{File, missing, text_of}
-use Rattle.bl_session.specs.History.{Item, submitted, failed, nothing, is_same, file_under, IsPieceOf, IsItemOf}
+use Rattle.bl_session.specs.History.{Item, submitted, failed, nothing, is_same, file_under}
+use Rattle.bl_session.specs.History.{IsPieceOf, IsItemOf}
 use Rattle.bl_session.specs.Faithful.{asked, answered, HasPiece, IsFaithfulItem, IsFaithfulAfter}
-use Rattle.bl_session.specs.Stores.{are_equal, is_piece_of, item_of_event, item_of_told, item_of, event_of, answer_to, next_place, without}
+use Rattle.bl_session.specs.Stores.{are_equal, is_piece_of, item_of_event, item_of_told, item_of}
+use Rattle.bl_session.specs.Stores.{event_of, answer_to, next_place, without}
 use Rattle.bl_session.proofs.OrderLemmas.{is_same_self, asked_both, answered_both, file_both}
 use Rattle.bl_session.specs.StoresKept.{count_of, WasAsked, AreAskedFor, AreKept}
 
@@ -29,93 +36,161 @@ equal_decides [] [] = (λ h. refl, λ h. refl)
 equal_decides [] (y ∷ ys) = (λ h. cc, λ h. cc)
 equal_decides (x ∷ xs) [] = (λ h. cc, λ h. cc)
 equal_decides (x ∷ xs) (y ∷ ys) =
-    Decides-like ((x == y) && are_equal xs ys) (λ (h : (x ≡ y) × (xs ≡ ys)). let e : x ≡ y = h.0 in let f : xs ≡ ys = h.1 in cc)
+    Decides-like ((x == y) && are_equal xs ys)
+    (λ (h : (x ≡ y) × (xs ≡ ys)). let e : x ≡ y = h.0 in let f : xs ≡ ys = h.1 in cc)
     (λ (h : x ∷ xs ≡ y ∷ ys). let e : x ≡ y = cc in let f : xs ≡ ys = cc in (e, f))
     (Decides-and (x == y) (are_equal xs ys) (Decides-eqb x y) (equal_decides xs ys))
 
-marks : (files : List File) (found : Option ℕ) (index : ℕ) (bytes : List ℕ) → (is_piece_of files found index bytes ≡ true) ↔ IsPieceOf files found index bytes
+marks : (files : List File) (found : Option ℕ) (index : ℕ) (bytes : List ℕ)
+    → (is_piece_of files found index bytes ≡ true) ↔ IsPieceOf files found index bytes
 marks files None index bytes = (λ h. cc, λ h. absurd h)
-marks files (Some file) index bytes = equal_decides bytes (piece_of (text_of (slice_index_or files file missing)) index)
+marks files (Some file) index bytes =
+    equal_decides bytes (piece_of (text_of (slice_index_or files file missing)) index)
 
-pub item_is : {A : Type 0} (files : List File) (given : List Item) (answer : Option (Completion A)) → IsItemOf files given answer (item_of files given answer)
+pub item_is : {A : Type 0} (files : List File) (given : List Item) (answer : Option (Completion A))
+    → IsItemOf files given answer (item_of files given answer)
 item_is files given None = refl
 item_is files given (Some (Fault ticket)) = refl
-item_is files given (Some (Piece ticket bytes)) = (is_piece_of files (file_under given ticket) ticket.piece bytes.items, refl, marks files (file_under given ticket) ticket.piece bytes.items)
+item_is files given (Some (Piece ticket bytes)) = (
+  is_piece_of files (file_under given ticket) ticket.piece bytes.items,
+  refl,
+  marks files (file_under given ticket) ticket.piece bytes.items,
+)
 
 -- ---- one item more
 
-faithful_more : (files : List File) (given items : List Item) (item : Item) → IsFaithfulAfter files given items → IsFaithfulItem files (given ++ items) item → IsFaithfulAfter files given (items ++ item ∷ [])
-faithful_more files given [] item old new = (subst (λ (g : List Item). IsFaithfulItem files g item) (append-nil given) new, tt)
-faithful_more files given (x ∷ items) item old new = (old.0, faithful_more files (given ++ x ∷ []) items item old.1 (subst (λ (g : List Item). IsFaithfulItem files g item) (sym (append_assoc given (x ∷ []) items)) new))
+faithful_more : (files : List File) (given items : List Item) (item : Item)
+    → IsFaithfulAfter files given items → IsFaithfulItem files (given ++ items) item
+    → IsFaithfulAfter files given (items ++ item ∷ [])
+faithful_more files given [] item old new =
+    (subst (λ (g : List Item). IsFaithfulItem files g item) (append-nil given) new, tt)
+faithful_more files given (x ∷ items) item old new = (
+  old.0,
+  faithful_more files (given ++ x ∷ []) items item old.1
+      (subst (λ (g : List Item). IsFaithfulItem files g item)
+      (sym (append_assoc given (x ∷ []) items)) new),
+)
 
 -- ---- requests
 
-count_append : (front back : List Request) (ticket : Ticket) → count_of (front ++ back) ticket ≡ count_of front ticket + count_of back ticket
+count_append : (front back : List Request) (ticket : Ticket)
+    → count_of (front ++ back) ticket ≡ count_of front ticket + count_of back ticket
 count_append [] back ticket = search rules
 count_append (request ∷ front) back ticket = rw (count_append front back ticket) (omega arith)
 
 -- one request more was asked for
-one_case : (b : Bool) (n : ℕ) (old new : Option ℕ) (file : ℕ) → 1 ≤ n → (n ≡ 1 → old ≡ Some file) → (1 ≤ n + ((if b then 1 else 0) + 0)) × (n + ((if b then 1 else 0) + 0) ≡ 1 → (if b then new else old) ≡ Some file)
+one_case : (b : Bool) (n : ℕ) (old new : Option ℕ) (file : ℕ) → 1 ≤ n → (n ≡ 1 → old ≡ Some file)
+    → (1 ≤ n + ((if b then 1 else 0) + 0))
+    × (n + ((if b then 1 else 0) + 0) ≡ 1 → (if b then new else old) ≡ Some file)
 one_case true n old new file some under = (omega arith, λ e. absurd (omega arith))
 one_case false n old new file some under = (omega arith, λ e. under (omega arith))
 
-one_asked : (given : List Item) (new request : Request) → WasAsked given request → WasAsked (given ++ submitted new.file new.ticket ∷ []) request
+one_asked : (given : List Item) (new request : Request) → WasAsked given request
+    → WasAsked (given ++ submitted new.file new.ticket ∷ []) request
 one_asked given new request (some, under) =
     let item : Item = submitted new.file new.ticket in
-    rw (asked_both given (item ∷ []) request.ticket, file_both None given (item ∷ []) request.ticket)
-    (one_case (is_same new.ticket request.ticket) (asked given request.ticket) (file_under given request.ticket) (Some new.file) request.file some under)
+    rw (
+      asked_both given (item ∷ []) request.ticket,
+      file_both None given (item ∷ []) request.ticket,
+    )
+    (one_case (is_same new.ticket request.ticket) (asked given request.ticket)
+    (file_under given request.ticket) (Some new.file) request.file some under)
 
-all_asked : (given : List Item) (new : Request) (requests : List Request) → AreAskedFor given requests → AreAskedFor (given ++ submitted new.file new.ticket ∷ []) requests
+all_asked : (given : List Item) (new : Request) (requests : List Request)
+    → AreAskedFor given requests
+    → AreAskedFor (given ++ submitted new.file new.ticket ∷ []) requests
 all_asked given new [] asked_for = tt
-all_asked given new (request ∷ requests) (first, others) = (one_asked given new request first, all_asked given new requests others)
+all_asked given new (request ∷ requests) (first, others) =
+    (one_asked given new request first, all_asked given new requests others)
 
-asked_append : (given : List Item) (front back : List Request) → AreAskedFor given front → AreAskedFor given back → AreAskedFor given (front ++ back)
+asked_append : (given : List Item) (front back : List Request) → AreAskedFor given front
+    → AreAskedFor given back → AreAskedFor given (front ++ back)
 asked_append given [] back f b = b
 asked_append given (request ∷ front) back (first, f) b = (first, asked_append given front back f b)
 
-asked_apart : (given : List Item) (front back : List Request) → AreAskedFor given (front ++ back) → AreAskedFor given front × AreAskedFor given back
+asked_apart : (given : List Item) (front back : List Request) → AreAskedFor given (front ++ back)
+    → AreAskedFor given front × AreAskedFor given back
 asked_apart given [] back h = (tt, h)
-asked_apart given (request ∷ front) back (first, h) = let apart : AreAskedFor given front × AreAskedFor given back = asked_apart given front back h in ((first, apart.0), apart.1)
+asked_apart given (request ∷ front) back (first, h) =
+    let apart : AreAskedFor given front × AreAskedFor given back =
+    asked_apart given front back h in ((first, apart.0), apart.1)
 
 -- the new request itself
-new_asked : (given : List Item) (new : Request) → WasAsked (given ++ submitted new.file new.ticket ∷ []) new
+new_asked : (given : List Item) (new : Request)
+    → WasAsked (given ++ submitted new.file new.ticket ∷ []) new
 new_asked given new =
     let item : Item = submitted new.file new.ticket in
-    rw (asked_both given (item ∷ []) new.ticket, file_both None given (item ∷ []) new.ticket, is_same_self new.ticket) (omega arith, λ e. refl)
+    rw (
+      asked_both given (item ∷ []) new.ticket,
+      file_both None given (item ∷ []) new.ticket,
+      is_same_self new.ticket,
+    ) (omega arith, λ e. refl)
 
 -- ---- what a store keeps
 
-pub kept_request : (files : List File) (pending : List Request) (given : List Item) (new : Request) → AreKept files pending given → AreKept files (pending ++ new ∷ []) (given ++ submitted new.file new.ticket ∷ [])
+pub kept_request : (files : List File) (pending : List Request) (given : List Item) (new : Request)
+    → AreKept files pending given
+    → AreKept files (pending ++ new ∷ []) (given ++ submitted new.file new.ticket ∷ [])
 kept_request files pending given new kept = record {
   faithful = faithful_more files [] given (submitted new.file new.ticket) kept.faithful tt;
-  counts = λ ticket. rw (answered_both given ((submitted new.file new.ticket) ∷ []) ticket, asked_both given ((submitted new.file new.ticket) ∷ []) ticket, count_append pending (new ∷ []) ticket) (omega (arith, kept.counts ticket));
-  asked_for = asked_append (given ++ submitted new.file new.ticket ∷ []) pending (new ∷ []) (all_asked given new pending kept.asked_for) (new_asked given new, tt);
+  counts =
+      λ ticket.
+      rw (
+        answered_both given ((submitted new.file new.ticket) ∷ []) ticket,
+        asked_both given ((submitted new.file new.ticket) ∷ []) ticket,
+        count_append pending (new ∷ []) ticket,
+      ) (omega (arith, kept.counts ticket));
+  asked_for =
+      asked_append (given ++ submitted new.file new.ticket ∷ []) pending (new ∷ [])
+      (all_asked given new pending kept.asked_for) (new_asked given new, tt);
 }
 
 -- an answer leaves what was asked for
-nothing_asked : (files : List File) (given : List Item) (event : EventFacts) (ticket : Ticket) → asked (given ++ item_of_event files given event ∷ []) ticket ≡ asked given ticket
-nothing_asked files given (piece t bytes) ticket = let item : Item = item_of_event files given (piece t bytes) in omega (arith, asked_both given (item ∷ []) ticket)
-nothing_asked files given (fault t) ticket = omega (arith, asked_both given ((failed t) ∷ []) ticket)
+nothing_asked : (files : List File) (given : List Item) (event : EventFacts) (ticket : Ticket)
+    → asked (given ++ item_of_event files given event ∷ []) ticket ≡ asked given ticket
+nothing_asked files given (piece t bytes) ticket =
+    let item : Item =
+    item_of_event files given (piece t bytes) in
+    omega (arith, asked_both given (item ∷ []) ticket)
+nothing_asked files given (fault t) ticket =
+    omega (arith, asked_both given ((failed t) ∷ []) ticket)
 
-same_under : (files : List File) (given : List Item) (event : EventFacts) (ticket : Ticket) → file_under (given ++ item_of_event files given event ∷ []) ticket ≡ file_under given ticket
-same_under files given (piece t bytes) ticket = file_both None given ((item_of_event files given (piece t bytes)) ∷ []) ticket
+same_under : (files : List File) (given : List Item) (event : EventFacts) (ticket : Ticket)
+    → file_under (given ++ item_of_event files given event ∷ []) ticket ≡ file_under given ticket
+same_under files given (piece t bytes) ticket =
+    file_both None given ((item_of_event files given (piece t bytes)) ∷ []) ticket
 same_under files given (fault t) ticket = file_both None given ((failed t) ∷ []) ticket
 
-same_asked : (files : List File) (given : List Item) (event : EventFacts) (requests : List Request) → AreAskedFor given requests → AreAskedFor (given ++ item_of_event files given event ∷ []) requests
+same_asked : (files : List File) (given : List Item) (event : EventFacts) (requests : List Request)
+    → AreAskedFor given requests
+    → AreAskedFor (given ++ item_of_event files given event ∷ []) requests
 same_asked files given event [] h = tt
-same_asked files given event (request ∷ requests) (first, others) =
-    (rw (nothing_asked files given event request.ticket, same_under files given event request.ticket) first, same_asked files given event requests others)
+same_asked files given event (request ∷ requests) (first, others) = (
+  rw (
+    nothing_asked files given event request.ticket,
+    same_under files given event request.ticket,
+  ) first,
+  same_asked files given event requests others,
+)
 
 -- the answer to a request, by whether its file has the piece
 abbrev answer_if : Bool → List ℕ → Ticket → EventFacts
 answer_if has text ticket = if has then piece ticket (piece_of text ticket.piece) else fault ticket
 
-if_answered : (files : List File) (given : List Item) (has : Bool) (text : List ℕ) (t ticket : Ticket) → answered (item_of_event files given (answer_if has text t) ∷ []) ticket ≡ (if is_same t ticket then 1 else 0)
+if_answered : (files : List File) (given : List Item) (has : Bool) (text : List ℕ)
+    (t ticket : Ticket)
+    → answered (item_of_event files given (answer_if has text t) ∷ []) ticket
+    ≡ (if is_same t ticket then 1 else 0)
 if_answered files given true text t ticket = omega arith
 if_answered files given false text t ticket = omega arith
 
-if_faithful : (files : List File) (given : List Item) (request : Request) (has : Bool) → nat_lt (4096 * request.ticket.piece) (length (text_of (slice_index_or files request.file missing))) ≡ has → WasAsked given request → answered given request.ticket < asked given request.ticket
-    → IsFaithfulItem files given (item_of_event files given (answer_if has (text_of (slice_index_or files request.file missing)) request.ticket))
+if_faithful : (files : List File) (given : List Item) (request : Request) (has : Bool)
+    → nat_lt (4096 * request.ticket.piece)
+    (length (text_of (slice_index_or files request.file missing))) ≡ has
+    → WasAsked given request → answered given request.ticket < asked given request.ticket
+    → IsFaithfulItem files given
+    (item_of_event files given
+    (answer_if has (text_of (slice_index_or files request.file missing)) request.ticket))
 if_faithful files given request true e (some, under) fewer =
     let index = request.ticket.piece in
     let bytes = piece_of (text_of (slice_index_or files request.file missing)) index in (
@@ -126,58 +201,118 @@ if_faithful files given request true e (some, under) fewer =
 if_faithful files given request false e (some, under) fewer =
     let index = request.ticket.piece in (
       fewer,
-      λ one has. not_from_Decides (nat_lt (4096 * index) (length (text_of (slice_index_or files request.file missing))))
-          (Decides-ltb (4096 * index) (length (text_of (slice_index_or files request.file missing)))) e
+      λ one has.
+          not_from_Decides
+          (nat_lt (4096 * index) (length (text_of (slice_index_or files request.file missing))))
+          (Decides-ltb (4096 * index)
+          (length (text_of (slice_index_or files request.file missing)))) e
           (subst (λ (file : Option ℕ). HasPiece files file index) (under one) has),
     )
 
 -- ---- after an answer
 
 -- the ticket of a request has an answer to come
-still : (front back : List Request) (request : Request) → 1 ≤ count_of (front ++ request ∷ back) request.ticket
+still : (front back : List Request) (request : Request)
+    → 1 ≤ count_of (front ++ request ∷ back) request.ticket
 still front back request =
-    rw (count_append front (request ∷ back) request.ticket, is_same_self request.ticket) (omega arith)
+    rw (count_append front (request ∷ back) request.ticket, is_same_self request.ticket)
+    (omega arith)
 
-kept_answer : (files : List File) (front back : List Request) (given : List Item) (request : Request) → AreKept files (front ++ request ∷ back) given → AreKept files (front ++ back) (given ++ item_of_event files given (answer_to files request) ∷ [])
+kept_answer : (files : List File) (front back : List Request) (given : List Item)
+    (request : Request) → AreKept files (front ++ request ∷ back) given
+    → AreKept files (front ++ back)
+    (given ++ item_of_event files given (answer_to files request) ∷ [])
 kept_answer files front back given request kept =
     let text = text_of (slice_index_or files request.file missing) in
     let has = nat_lt (4096 * request.ticket.piece) (length text) in
     let item : Item = item_of_event files given (answer_to files request) in
-    let apart : AreAskedFor given front × AreAskedFor given (request ∷ back) = asked_apart given front (request ∷ back) kept.asked_for in
-    let fewer : answered given request.ticket < asked given request.ticket = omega (arith, kept.counts request.ticket, still front back request) in
+    let apart : AreAskedFor given front × AreAskedFor given (request ∷ back) =
+    asked_apart given front (request ∷ back) kept.asked_for in
+    let fewer : answered given request.ticket < asked given request.ticket =
+    omega (arith, kept.counts request.ticket, still front back request) in
     record {
-      faithful = faithful_more files [] given item kept.faithful (if_faithful files given request has refl apart.1.0 fewer);
-      counts = λ ticket. omega (arith, kept.counts ticket, answered_both given (item ∷ []) ticket, if_answered files given has text request.ticket ticket, nothing_asked files given (answer_to files request) ticket, count_append front (request ∷ back) ticket, count_append front back ticket);
-      asked_for = same_asked files given (answer_to files request) (front ++ back) (asked_append given front back apart.0 apart.1.1);
+      faithful =
+          faithful_more files [] given item kept.faithful
+          (if_faithful files given request has refl apart.1.0 fewer);
+      counts =
+          λ ticket.
+          omega (
+            arith,
+            kept.counts ticket,
+            answered_both given (item ∷ []) ticket,
+            if_answered files given has text request.ticket ticket,
+            nothing_asked files given (answer_to files request) ticket,
+            count_append front (request ∷ back) ticket,
+            count_append front back ticket,
+          );
+      asked_for =
+          same_asked files given (answer_to files request) (front ++ back)
+          (asked_append given front back apart.0 apart.1.1);
     }
 
-kept_nothing : (files : List File) (given : List Item) → AreKept files [] given → AreKept files [] (given ++ nothing ∷ [])
+kept_nothing : (files : List File) (given : List Item) → AreKept files [] given
+    → AreKept files [] (given ++ nothing ∷ [])
 kept_nothing files given kept = record {
-  faithful = faithful_more files [] given nothing kept.faithful (λ ticket. omega (arith, kept.counts ticket));
-  counts = λ ticket. omega (arith, kept.counts ticket, answered_both given (nothing ∷ []) ticket, asked_both given (nothing ∷ []) ticket);
+  faithful =
+      faithful_more files [] given nothing kept.faithful
+      (λ ticket. omega (arith, kept.counts ticket));
+  counts =
+      λ ticket.
+      omega (
+        arith,
+        kept.counts ticket,
+        answered_both given (nothing ∷ []) ticket,
+        asked_both given (nothing ∷ []) ticket,
+      );
   asked_for = tt;
 }
 
 -- ---- after what a store answers next
 
-pub place_within : (order : Order) (first : Request) (others : List Request) → next_place order (first ∷ others) < length (first ∷ others)
+pub place_within : (order : Order) (first : Request) (others : List Request)
+    → next_place order (first ∷ others) < length (first ∷ others)
 place_within Forward first others = omega arith
 place_within Reverse first others = omega arith
 
-kept_told : (files : List File) (order : Order) (pending : List Request) (given : List Item) (told : Option EventFacts) → told ≡ option_map (answer_to files) (slice_get pending (next_place order pending)) → AreKept files pending given
-    → AreKept files (without pending (next_place order pending)) (given ++ item_of_told files given told ∷ [])
-kept_told files Forward [] given told is kept = subst (λ (t : Option EventFacts). AreKept files [] (given ++ item_of_told files given t ∷ [])) (sym is) (kept_nothing files given kept)
-kept_told files Reverse [] given told is kept = subst (λ (t : Option EventFacts). AreKept files [] (given ++ item_of_told files given t ∷ [])) (sym is) (kept_nothing files given kept)
+kept_told : (files : List File) (order : Order) (pending : List Request) (given : List Item)
+    (told : Option EventFacts)
+    → told ≡ option_map (answer_to files) (slice_get pending (next_place order pending))
+    → AreKept files pending given
+    → AreKept files (without pending (next_place order pending))
+    (given ++ item_of_told files given told ∷ [])
+kept_told files Forward [] given told is kept =
+    subst (λ (t : Option EventFacts). AreKept files [] (given ++ item_of_told files given t ∷ []))
+    (sym is) (kept_nothing files given kept)
+kept_told files Reverse [] given told is kept =
+    subst (λ (t : Option EventFacts). AreKept files [] (given ++ item_of_told files given t ∷ []))
+    (sym is) (kept_nothing files given kept)
 kept_told files order (first ∷ others) given told is kept =
     let pending : List Request = first ∷ others in
     let place : ℕ = next_place order (first ∷ others) in
     let within : place < length pending = place_within order first others in
     let request : Request = get_or pending place first in
-    let e : told ≡ Some (answer_to files request) = is ∙ ap (option_map (answer_to files)) (slice_get-get_or pending place first within) in
-    let at : AreKept files (take place pending ++ request ∷ drop (suc place) pending) given = subst (λ (p : List Request). AreKept files p given) (split_at pending place first within) kept in
-    subst (λ (t : Option EventFacts). AreKept files (without pending place) (given ++ item_of_told files given t ∷ [])) (sym e)
-    (subst (λ (n : ℕ). AreKept files (take place pending ++ drop n pending) (given ++ item_of_event files given (answer_to files request) ∷ [])) (sym (add-one place))
+    let e : told ≡ Some (answer_to files request) =
+    is ∙ ap (option_map (answer_to files)) (slice_get-get_or pending place first within) in
+    let at : AreKept files (take place pending ++ request ∷ drop (suc place) pending) given =
+    subst (λ (p : List Request). AreKept files p given) (split_at pending place first within)
+    kept in
+    subst
+    (λ (t : Option EventFacts).
+    AreKept files (without pending place) (given ++ item_of_told files given t ∷ []))
+    (sym e)
+    (subst
+    (λ (n : ℕ).
+    AreKept files (take place pending ++ drop n pending)
+    (given ++ item_of_event files given (answer_to files request) ∷ []))
+    (sym (add-one place))
     (kept_answer files (take place pending) (drop (suc place) pending) given request at))
 
-pub kept_next : {A : Type 0} (files : List File) (order : Order) (pending : List Request) (given : List Item) (answer : Option (Completion A)) → option_map event_of answer ≡ option_map (answer_to files) (slice_get pending (next_place order pending)) → AreKept files pending given → AreKept files (without pending (next_place order pending)) (given ++ item_of files given answer ∷ [])
-kept_next files order pending given answer is kept = kept_told files order pending given (option_map event_of answer) is kept
+pub kept_next : {A : Type 0} (files : List File) (order : Order) (pending : List Request)
+    (given : List Item) (answer : Option (Completion A))
+    → option_map event_of answer
+    ≡ option_map (answer_to files) (slice_get pending (next_place order pending))
+    → AreKept files pending given
+    → AreKept files (without pending (next_place order pending))
+    (given ++ item_of files given answer ∷ [])
+kept_next files order pending given answer is kept =
+    kept_told files order pending given (option_map event_of answer) is kept

@@ -1,5 +1,7 @@
 -- Where a step leads: the attempt goes on, or one that has just begun runs.
-use Rattle.std.proofs.Common.{◌≡◌, ℕ, ◌+◌, ◌≤◌, Bool, true, false, MatchBool, List, [], ◌∷◌, ◌++◌, length, map, Option, None, Some, refl, sym, subst, ◌∙◌, ◌⊎◌, inl, inr, arith, length-append}
+use Rattle.std.proofs.Common.{◌≡◌, ℕ, ◌+◌, ◌≤◌, Bool, true, false, MatchBool, List, [], ◌∷◌, ◌++◌}
+use Rattle.std.proofs.Common.{length, map, Option, None, Some, refl, sym, subst, ◌∙◌, ◌⊎◌, inl, inr}
+use Rattle.std.proofs.Common.{arith, length-append}
 use Rattle.std.proofs.lemmas.List.{length-map}
 use Rattle.bl_load.specs.declared.refusal.Refusal.{Refusal}
 use Rattle.bl_load.specs.declared.refusal.Refusal.TheVariants.{FileFault}
@@ -9,84 +11,129 @@ use Rattle.bl_session.specs.declared.words.Ticket.{Ticket}
 use Rattle.bl_session.specs.Ends.{End, handed, refused, size_refusal, lengths_of}
 use Rattle.bl_session.specs.Menu.{entry_at}
 use Rattle.bl_session.specs.Pieces.{are_whole, with_piece}
-use Rattle.bl_session.specs.Boot.{BootFacts, EventFacts, piece, fault, State, unstarted, running, handed_over, none_left, out_of_memory, sizes_of, fresh, EntryEndsIn, GoesOn, Continues, BeginsUnless, Begins, is_wanted, Takes, Steps}
+use Rattle.bl_session.specs.Boot.{BootFacts, EventFacts, piece, fault, State, unstarted, running}
+use Rattle.bl_session.specs.Boot.{handed_over, none_left, out_of_memory, sizes_of, fresh}
+use Rattle.bl_session.specs.Boot.{EntryEndsIn, GoesOn, Continues, BeginsUnless, Begins, is_wanted}
+use Rattle.bl_session.specs.Boot.{Takes, Steps}
 
 -- no attempt runs, or one of at least this number that has just begun
 abbrev pub IsNewFrom : BootFacts → ℕ → State → Type 0
 IsNewFrom facts number unstarted = Unit {0}
 IsNewFrom facts number (running entry rest earlier files) =
-    (number ≤ length earlier) × (size_refusal facts.machine (sizes_of facts entry) ≡ None) × (files ≡ fresh facts entry)
+    (number ≤ length earlier) × (size_refusal facts.machine (sizes_of facts entry) ≡ None)
+    × (files ≡ fresh facts entry)
 IsNewFrom facts number (handed_over entry earlier handover) = Unit {0}
 IsNewFrom facts number (none_left earlier) = Unit {0}
 IsNewFrom facts number out_of_memory = Unit {0}
 
-new_later : (facts : BootFacts) (low high : ℕ) (state : State) → low ≤ high → IsNewFrom facts high state → IsNewFrom facts low state
+new_later : (facts : BootFacts) (low high : ℕ) (state : State) → low ≤ high
+    → IsNewFrom facts high state → IsNewFrom facts low state
 new_later facts low high unstarted h is = tt
-new_later facts low high (running entry rest earlier files) h (l, sized, e) = (omega (arith, h, l), sized, e)
+new_later facts low high (running entry rest earlier files) h (l, sized, e) =
+    (omega (arith, h, l), sized, e)
 new_later facts low high (handed_over entry earlier handover) h is = tt
 new_later facts low high (none_left earlier) h is = tt
 new_later facts low high out_of_memory h is = tt
 
 -- an attempt that ended, if each one behind it is new
-pub new_goes : (facts : BootFacts) (rest : List ℕ) (entry : ℕ) (earlier : List RefusedEntry) (end : End) (new : State) → ((r : List RefusedEntry) (s : State) → Begins facts rest r s → IsNewFrom facts (length r) s)
+pub new_goes : (facts : BootFacts) (rest : List ℕ) (entry : ℕ) (earlier : List RefusedEntry)
+    (end : End) (new : State)
+    → ((r : List RefusedEntry) (s : State) → Begins facts rest r s
+    → IsNewFrom facts (length r) s)
     → GoesOn (Begins facts rest) entry earlier end new → IsNewFrom facts (length earlier + 1) new
-new_goes facts rest entry earlier (handed handover) new more goes = subst (IsNewFrom facts (length earlier + 1)) (sym goes) tt
+new_goes facts rest entry earlier (handed handover) new more goes =
+    subst (IsNewFrom facts (length earlier + 1)) (sym goes) tt
 new_goes facts rest entry earlier (refused refusal) new more goes =
-    let long : length (earlier ++ record { entry = entry; refusal = refusal } ∷ []) ≡ length earlier + 1 = length-append earlier (record { entry = entry; refusal = refusal } ∷ []) in
-    subst (λ (n : ℕ). IsNewFrom facts n new) long (more (earlier ++ record { entry = entry; refusal = refusal } ∷ []) new goes)
+    let long : length (earlier ++ record { entry = entry; refusal = refusal } ∷ [])
+    ≡ length earlier + 1 =
+    length-append earlier (record { entry = entry; refusal = refusal } ∷ []) in
+    subst (λ (n : ℕ). IsNewFrom facts n new) long
+    (more (earlier ++ record { entry = entry; refusal = refusal } ∷ []) new goes)
 
 -- an attempt goes on, or it ended and what comes is new
-goes_or_new : (facts : BootFacts) (entry : ℕ) (rest : List ℕ) (earlier : List RefusedEntry) (files : List (List Spot)) (new : State) → ((r : List RefusedEntry) (s : State) → Begins facts rest r s → IsNewFrom facts (length r) s)
-    → Continues facts (Begins facts rest) entry rest earlier files new → (new ≡ running entry rest earlier files) ⊎ IsNewFrom facts (length earlier + 1) new
+goes_or_new : (facts : BootFacts) (entry : ℕ) (rest : List ℕ) (earlier : List RefusedEntry)
+    (files : List (List Spot)) (new : State)
+    → ((r : List RefusedEntry) (s : State) → Begins facts rest r s
+    → IsNewFrom facts (length r) s)
+    → Continues facts (Begins facts rest) entry rest earlier files new
+    → (new ≡ running entry rest earlier files) ⊎ IsNewFrom facts (length earlier + 1) new
 goes_or_new facts entry rest earlier files new more goes = choice (are_whole files) goes
   where
-    choice : (b : Bool) → MatchBool b ((end : End) × EntryEndsIn facts entry (map bytes_of files) end × GoesOn (Begins facts rest) entry earlier end new) (new ≡ running entry rest earlier files)
+    choice : (b : Bool)
+        → MatchBool b
+        ((end : End) × EntryEndsIn facts entry (map bytes_of files) end
+        × GoesOn (Begins facts rest) entry earlier end new)
+        (new ≡ running entry rest earlier files)
         → (new ≡ running entry rest earlier files) ⊎ IsNewFrom facts (length earlier + 1) new
     choice true (end, ends, on) = inr (new_goes facts rest entry earlier end new more on)
     choice false same = inl same
 
-new_unless : (facts : BootFacts) (entry : ℕ) (rest : List ℕ) (earlier : List RefusedEntry) (why : Option Refusal) (new : State) → ((r : List RefusedEntry) (s : State) → Begins facts rest r s → IsNewFrom facts (length r) s)
-    → size_refusal facts.machine (sizes_of facts entry) ≡ why → BeginsUnless facts (Begins facts rest) entry rest earlier why new → IsNewFrom facts (length earlier) new
-new_unless facts entry rest earlier (Some refusal) new more sized goes = new_later facts (length earlier) (length earlier + 1) new (omega arith) (new_goes facts rest entry earlier (refused refusal) new more goes)
+new_unless : (facts : BootFacts) (entry : ℕ) (rest : List ℕ) (earlier : List RefusedEntry)
+    (why : Option Refusal) (new : State)
+    → ((r : List RefusedEntry) (s : State) → Begins facts rest r s
+    → IsNewFrom facts (length r) s)
+    → size_refusal facts.machine (sizes_of facts entry) ≡ why
+    → BeginsUnless facts (Begins facts rest) entry rest earlier why new
+    → IsNewFrom facts (length earlier) new
+new_unless facts entry rest earlier (Some refusal) new more sized goes =
+    new_later facts (length earlier) (length earlier + 1) new (omega arith)
+    (new_goes facts rest entry earlier (refused refusal) new more goes)
 new_unless facts entry rest earlier None new more sized goes =
     elim (goes_or_new facts entry rest earlier (fresh facts entry) new more goes) [
       | inl same ↦ subst (IsNewFrom facts (length earlier)) (sym same) (omega arith, sized, refl)
       | inr later ↦ new_later facts (length earlier) (length earlier + 1) new (omega arith) later
     ]
 
-pub new_begins : (facts : BootFacts) (rest : List ℕ) (earlier : List RefusedEntry) (new : State) → Begins facts rest earlier new → IsNewFrom facts (length earlier) new
+pub new_begins : (facts : BootFacts) (rest : List ℕ) (earlier : List RefusedEntry) (new : State)
+    → Begins facts rest earlier new → IsNewFrom facts (length earlier) new
 new_begins facts [] earlier new goes = subst (IsNewFrom facts (length earlier)) (sym goes) tt
-new_begins facts (entry ∷ rest) earlier new goes = new_unless facts entry rest earlier (size_refusal facts.machine (sizes_of facts entry)) new (new_begins facts rest) refl goes
+new_begins facts (entry ∷ rest) earlier new goes =
+    new_unless facts entry rest earlier (size_refusal facts.machine (sizes_of facts entry)) new
+    (new_begins facts rest) refl goes
 
 -- what one event does to an attempt that runs: nothing, if it is not wanted; it stores a piece; or
 -- the attempt ended, and what comes is new
-abbrev pub Went : BootFacts → ℕ → List ℕ → List RefusedEntry → List (List Spot) → EventFacts → State → Type 0
+abbrev pub Went : BootFacts → ℕ → List ℕ → List RefusedEntry → List (List Spot) → EventFacts → State
+    → Type 0
 Went facts entry rest earlier files event new =
     ((is_wanted earlier files event ≡ false) × (new ≡ running entry rest earlier files))
     ⊎ ((is_wanted earlier files event ≡ true)
-    × (((ticket : Ticket) × (bytes : List ℕ) × (event ≡ piece ticket bytes) × (new ≡ running entry rest earlier (with_piece files ticket.file ticket.piece bytes)))
+    × (((ticket : Ticket) × (bytes : List ℕ) × (event ≡ piece ticket bytes)
+    × (new ≡ running entry rest earlier (with_piece files ticket.file ticket.piece bytes)))
     ⊎ IsNewFrom facts (length earlier + 1) new))
 
-pub step_went : (facts : BootFacts) (entry : ℕ) (rest : List ℕ) (earlier : List RefusedEntry) (files : List (List Spot)) (event : EventFacts) (new : State)
-    → Steps facts (running entry rest earlier files) event new → Went facts entry rest earlier files event new
-step_went facts entry rest earlier files event new goes = choice (is_wanted earlier files event) refl goes
+pub step_went : (facts : BootFacts) (entry : ℕ) (rest : List ℕ) (earlier : List RefusedEntry)
+    (files : List (List Spot)) (event : EventFacts) (new : State)
+    → Steps facts (running entry rest earlier files) event new
+    → Went facts entry rest earlier files event new
+step_went facts entry rest earlier files event new goes =
+    choice (is_wanted earlier files event) refl goes
   where
     taken : (event : EventFacts) → Takes facts entry rest earlier files event new
-        → ((ticket : Ticket) × (bytes : List ℕ) × (event ≡ piece ticket bytes) × (new ≡ running entry rest earlier (with_piece files ticket.file ticket.piece bytes)))
+        → ((ticket : Ticket) × (bytes : List ℕ) × (event ≡ piece ticket bytes)
+        × (new ≡ running entry rest earlier (with_piece files ticket.file ticket.piece bytes)))
         ⊎ IsNewFrom facts (length earlier + 1) new
     taken (piece ticket bytes) goes =
-        elim (goes_or_new facts entry rest earlier (with_piece files ticket.file ticket.piece bytes) new (new_begins facts rest) goes) [
+        elim (goes_or_new facts entry rest earlier (with_piece files ticket.file ticket.piece bytes)
+        new (new_begins facts rest) goes) [
           | inl same ↦ inl (ticket, bytes, refl, same)
           | inr later ↦ inr later
         ]
-    taken (fault ticket) goes = inr (new_goes facts rest entry earlier (refused (FileFault ticket.file)) new (new_begins facts rest) goes)
+    taken (fault ticket) goes =
+        inr
+        (new_goes facts rest entry earlier (refused (FileFault ticket.file)) new
+        (new_begins facts rest) goes)
 
-    choice : (b : Bool) → is_wanted earlier files event ≡ b → MatchBool b (Takes facts entry rest earlier files event new) (new ≡ running entry rest earlier files) → Went facts entry rest earlier files event new
+    choice : (b : Bool) → is_wanted earlier files event ≡ b
+        → MatchBool b (Takes facts entry rest earlier files event new)
+        (new ≡ running entry rest earlier files) → Went facts entry rest earlier files event new
     choice true e takes = inr (e, taken event takes)
     choice false e same = inl (e, same)
 
 -- a new attempt has spots for each of its files
-pub fresh_length : (facts : BootFacts) (entry : ℕ) → length (fresh facts entry) ≡ length (entry_at facts.menu entry).files
+pub fresh_length : (facts : BootFacts) (entry : ℕ)
+    → length (fresh facts entry) ≡ length (entry_at facts.menu entry).files
 fresh_length facts entry =
-    length-map (lengths_of (sizes_of facts entry)) waiting_spots ∙ length-map (sizes_of facts entry) _
+    length-map (lengths_of (sizes_of facts entry)) waiting_spots
+    ∙ length-map (sizes_of facts entry) _
     ∙ length-map (entry_at facts.menu entry).files _

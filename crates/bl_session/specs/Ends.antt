@@ -1,12 +1,14 @@
 -- What an attempt to boot an entry ends in: the entry is handed over, or refused. Own.
-use Rattle.std.specs.Prelude.{◌≡◌, ◌⊎◌, ℕ, ◌+◌, List, [], ◌∷◌, map, Option, Some, None, option_map, unwrap_or, if◌then◌else◌, nat_lt}
+use Rattle.std.specs.Prelude.{◌≡◌, ◌⊎◌, ℕ, ◌+◌, List, [], ◌∷◌, map, Option, Some, None, option_map}
+use Rattle.std.specs.Prelude.{unwrap_or, if◌then◌else◌, nat_lt}
 use Rattle.std.specs.Option.{option_or}
 use Rattle.std.specs.declared.ops.Range.{Range}
 use Rattle.bl_map.specs.MachineFacts.{MachineFacts}
 use Rattle.bl_map.specs.Room.{frames_in, HasRoomFor}
 use Rattle.bl_stage.specs.Staged.{frames_for}
 use Rattle.bl_load.specs.declared.refusal.Refusal.{Refusal}
-use Rattle.bl_load.specs.declared.refusal.Refusal.TheVariants.{NoFile, FileFault, FileTooLong, NoPool}
+use Rattle.bl_load.specs.declared.refusal.Refusal.TheVariants.{NoFile, FileFault, FileTooLong}
+use Rattle.bl_load.specs.declared.refusal.Refusal.TheVariants.{NoPool}
 use Rattle.bl_load.specs.Value.{EntryValue}
 use Rattle.bl_load.specs.Handover.{Part, Handover, end_of}
 use Rattle.bl_load.specs.Parts.{IsHandover, IsRefusal}
@@ -15,8 +17,8 @@ pub data End : Type 0 where
   handed : Handover → End
   refused : Refusal → End
 
--- ---- before any piece comes: by the sizes of the entry's files, in order, the kernel's first; None
--- is a missing file
+-- ---- before any piece comes: by the sizes of the entry's files, in order, the kernel's first;
+-- None is a missing file
 
 -- a file has at most so many bytes
 abbrev pub most_bytes : ℕ
@@ -69,8 +71,8 @@ abbrev pub Else : Option Refusal → (End → Type 0) → End → Type 0
 Else None rest end = rest end
 Else (Some refusal) rest end = end ≡ refused refusal
 
--- what an attempt ends in: with these sizes of its files, the place of a file of which a fault came,
--- or None, and this value of its entry
+-- what an attempt ends in: with these sizes of its files, the place of a file of which a fault
+-- came, or None, and this value of its entry
 abbrev pub Ends : MachineFacts → List (Option ℕ) → Option ℕ → EntryValue → End → Type 0
 Ends facts sizes faulty value =
     Else (size_refusal facts sizes) (Else (option_map FileFault faulty) (EndsIn facts value))

@@ -1,5 +1,6 @@
 -- A store that answers each ticket once, with the piece that was asked for. Own.
-use Rattle.std.specs.Prelude.{◌≡◌, ℕ, ◌+◌, ◌*◌, ◌<◌, true, List, [], ◌∷◌, ◌++◌, length, slice_index_or, Option, None, Some, if◌then◌else◌}
+use Rattle.std.specs.Prelude.{◌≡◌, ℕ, ◌+◌, ◌*◌, ◌<◌, true, List, [], ◌∷◌, ◌++◌, length}
+use Rattle.std.specs.Prelude.{slice_index_or, Option, None, Some, if◌then◌else◌}
 use Rattle.bl_session.specs.declared.words.Ticket.{Ticket}
 use Rattle.bl_session.specs.Outcome.{File, missing, text_of}
 use Rattle.bl_session.specs.History.{Item, submitted, came, failed, nothing, is_same, file_under}
@@ -24,11 +25,12 @@ answered (nothing ∷ items) ticket = answered items ticket
 -- the file has a piece of this index
 abbrev pub HasPiece : List File → Option ℕ → ℕ → Type 0
 HasPiece files None index = ⊥
-HasPiece files (Some file) index = 4096 * index < length (text_of (slice_index_or files file missing))
+HasPiece files (Some file) index =
+    4096 * index < length (text_of (slice_index_or files file missing))
 
 -- an answer after this history: to a ticket that has one to come; of a ticket that was asked for
--- once it is the piece, and a fault only if its file has no such piece; nothing more is to come only
--- if each ticket was answered as often as it was asked for
+-- once it is the piece, and a fault only if its file has no such piece; nothing more is to come
+-- only if each ticket was answered as often as it was asked for
 abbrev pub IsFaithfulItem : List File → List Item → Item → Type 0
 IsFaithfulItem files given (submitted file ticket) = Unit {0}
 IsFaithfulItem files given (came ticket count genuine) =

@@ -1,6 +1,7 @@
 -- Histories whose wanted pieces are their files', whatever faults come. Own.
 use Rattle.std.specs.Prelude.{◌≡◌, true, List, [], ◌∷◌, ◌++◌}
-use Rattle.bl_session.specs.Boot.{BootFacts, EventFacts, State, unstarted, running, handed_over, none_left, out_of_memory, is_wanted, StartsOrFails}
+use Rattle.bl_session.specs.Boot.{BootFacts, EventFacts, State, unstarted, running, handed_over}
+use Rattle.bl_session.specs.Boot.{none_left, out_of_memory, is_wanted, StartsOrFails}
 use Rattle.bl_session.specs.Outcome.{File}
 use Rattle.bl_session.specs.History.{Item}
 use Rattle.bl_session.specs.Run.{World, world_of, Hears, IsEventOf, IsMarked}

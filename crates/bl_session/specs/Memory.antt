@@ -5,8 +5,8 @@ use Rattle.bl_load.specs.After.{IsAfter}
 use Rattle.bl_stage.specs.Ranges.{IsSameOutside}
 use Rattle.bl_session.specs.Boot.{State, unstarted, running, handed_over, none_left, out_of_memory}
 
--- after a handover the parts, 0 elsewhere in the pool, and each other byte as before; where no entry
--- is left the same with no parts; else no byte outside the pool changed
+-- after a handover the parts, 0 elsewhere in the pool, and each other byte as before; where no
+-- entry is left the same with no parts; else no byte outside the pool changed
 abbrev pub IsMemoryIn : Range ℕ → State → (old new : List ℕ) → Type 0
 IsMemoryIn pool unstarted old new = IsSameOutside pool old new
 IsMemoryIn pool (running entry rest earlier files) old new = IsSameOutside pool old new

@@ -1,10 +1,12 @@
 -- What a boot asks a store for as an attempt begins: each piece of its files. Own.
-use Rattle.std.specs.Prelude.{ℕ, ◌+◌, ◌==◌, List, [], ◌∷◌, ◌++◌, length, map, Option, None, Some, if◌then◌else◌}
+use Rattle.std.specs.Prelude.{ℕ, ◌+◌, ◌==◌, List, [], ◌∷◌, ◌++◌, length, map, Option, None, Some}
+use Rattle.std.specs.Prelude.{if◌then◌else◌}
 use Rattle.std.specs.List.{range_with_len}
 use Rattle.bl_stage.specs.Spots.{Spot, waits, has}
 use Rattle.bl_session.specs.declared.words.Ticket.{Ticket}
 use Rattle.bl_session.specs.Menu.{entry_at}
-use Rattle.bl_session.specs.Boot.{BootFacts, State, unstarted, running, handed_over, none_left, out_of_memory, attempt_of}
+use Rattle.bl_session.specs.Boot.{BootFacts, State, unstarted, running, handed_over, none_left}
+use Rattle.bl_session.specs.Boot.{out_of_memory, attempt_of}
 use Rattle.bl_session.specs.History.{Item, submitted}
 
 -- the ticket of a piece of the file at this place of an entry

@@ -1,5 +1,6 @@
 -- Where a session stands, by its fields and by what memory holds.
-use Rattle.std.specs.Prelude.{◌≡◌, ℕ, ◌+◌, ◌<◌, ◌≤◌, Bool, true, false, List, length, drop, All, Option, None, Some, Result, Ok, Err}
+use Rattle.std.specs.Prelude.{◌≡◌, ℕ, ◌+◌, ◌<◌, ◌≤◌, Bool, true, false, List, length, drop, All}
+use Rattle.std.specs.Prelude.{Option, None, Some, Result, Ok, Err}
 use Rattle.std.specs.Borrow.{Bor}
 use Rattle.bl_map.specs.MachineFacts.{MachineFacts}
 use Rattle.bl_load.specs.declared.refusal.PrepFault.{PrepFault}
@@ -21,7 +22,8 @@ use Rattle.bl_session.specs.declared.phase.Phase.{Phase}
 use Rattle.bl_session.specs.declared.phase.Phase.TheVariants.{Unstarted, Waits, HandedOver, Failed}
 use Rattle.bl_session.specs.Ends.{most_bytes, file_refusal, size_refusal, lengths_of}
 use Rattle.bl_session.specs.Menu.{MenuFacts, entry_at}
-use Rattle.bl_session.specs.Boot.{BootFacts, EventFacts, piece, fault, State, unstarted, running, handed_over, none_left, out_of_memory}
+use Rattle.bl_session.specs.Boot.{BootFacts, EventFacts, piece, fault, State, unstarted, running}
+use Rattle.bl_session.specs.Boot.{handed_over, none_left, out_of_memory}
 
 -- what memory of these bytes hands over
 abbrev pub handover_held : List ℕ → HandoffFacts → Handover
@@ -136,7 +138,8 @@ abbrev pub EndsWithin : ℕ → HandoffFacts → Type 0
 EndsWithin size handoff = All (λ place. place.address + place.length ≤ size) handoff.places
 
 -- what a session keeps of an attempt
-pub record IsWaiting {A : Type 0} (machine : MachineFacts) (menu : MenuFacts) (r : Running A) : Type 0 where
+pub record IsWaiting {A : Type 0} (machine : MachineFacts) (menu : MenuFacts)
+    (r : Running A) : Type 0 where
   pub entry : r.entry < length menu.entries
   pub pool : r.stage.pool ≡ machine.pool
   pub files : length r.stage.sizes ≡ length (entry_at menu r.entry).files

@@ -1,5 +1,6 @@
 -- The pieces that an attempt waits for: for each of its files, a spot a piece. Own.
-use Rattle.std.specs.Prelude.{ℕ, ◌==◌, Bool, true, false, not, List, [], slice_index_or, slice_set, map}
+use Rattle.std.specs.Prelude.{ℕ, ◌==◌, Bool, true, false, not, List, [], slice_index_or, slice_set}
+use Rattle.std.specs.Prelude.{map}
 use Rattle.std.specs.List.{list_all}
 use Rattle.bl_stage.specs.Spots.{Spot, waits, has, waiting_spots}
 

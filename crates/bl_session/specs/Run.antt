@@ -1,12 +1,15 @@
 -- A boot over a store: what the store was asked and answered, read from left to right. Own.
-use Rattle.std.specs.Prelude.{◌≡◌, ◌⊎◌, ◌↔◌, ℕ, true, List, [], ◌∷◌, ◌++◌, length, None, Some, Result, Ok, Err}
+use Rattle.std.specs.Prelude.{◌≡◌, ◌⊎◌, ◌↔◌, ℕ, true, List, [], ◌∷◌, ◌++◌, length, None, Some}
+use Rattle.std.specs.Prelude.{Result, Ok, Err}
 use Rattle.bl_stage.specs.Spots.{Spot}
 use Rattle.bl_session.specs.declared.words.Ticket.{Ticket}
 use Rattle.bl_session.specs.declared.words.RefusedEntry.{RefusedEntry}
 use Rattle.bl_session.specs.declared.words.BootFault.{BootFault}
 use Rattle.bl_session.specs.declared.words.Outcome.{Outcome}
 use Rattle.bl_session.specs.Pieces.{with_piece, are_whole}
-use Rattle.bl_session.specs.Boot.{BootFacts, EventFacts, piece, fault, State, unstarted, running, handed_over, none_left, out_of_memory, is_wanted, StepsOrFails, StartsOrFails}
+use Rattle.bl_session.specs.Boot.{BootFacts, EventFacts, piece, fault, State, unstarted, running}
+use Rattle.bl_session.specs.Boot.{handed_over, none_left, out_of_memory, is_wanted, StepsOrFails}
+use Rattle.bl_session.specs.Boot.{StartsOrFails}
 use Rattle.bl_session.specs.Outcome.{File, Faults}
 use Rattle.bl_session.specs.History.{Item, submitted, came, failed, nothing, file_under, IsPieceOf}
 use Rattle.bl_session.specs.Orders.{orders, orders_after, first_ticket}
@@ -66,7 +69,8 @@ Reads facts files given old (item ∷ items) new =
     × Reads facts files (given ++ item ∷ []) next items new
 
 -- a boot that made its store's history grow so came to this state
-pub record IsRun (facts : BootFacts) (files : List File) (old new : List Item) (end : State) : Type 0 where
+pub record IsRun (facts : BootFacts) (files : List File) (old new : List Item)
+    (end : State) : Type 0 where
   pub gained : List Item
   pub given : new ≡ old ++ gained
   pub begun : State

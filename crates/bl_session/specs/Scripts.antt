@@ -1,5 +1,6 @@
 -- What a `ScriptStore` keeps, and what it answers. Own.
-use Rattle.std.specs.Prelude.{ℕ, ◌%◌, Bool, if◌then◌else◌, List, [], ◌∷◌, ◌++◌, length, map, drop, slice_get, slice_index_or, Option, option_map}
+use Rattle.std.specs.Prelude.{ℕ, ◌%◌, Bool, if◌then◌else◌, List, [], ◌∷◌, ◌++◌, length, map, drop}
+use Rattle.std.specs.Prelude.{slice_get, slice_index_or, Option, option_map}
 use Rattle.std.specs.List.{list_any}
 use Rattle.std.specs.Int.Bits.{bit_xor}
 use Rattle.bl_session.specs.declared.words.Ticket.{Ticket}

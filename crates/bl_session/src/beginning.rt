@@ -1,5 +1,6 @@
 //! An attempt begins: the sizes of its entry's files are checked, and its stage is begun.
-ghost use Rattle.std.specs.Prelude.{◌≡◌, ◌≤◌, ◌+◌, ◌++◌, ◌∷◌, ℕ, List, None, Some, Option, IfOk, IfErr};
+ghost use Rattle.std.specs.Prelude.{◌≡◌, ◌≤◌, ◌+◌, ◌++◌, ◌∷◌, ℕ, List, None, Some, Option, IfOk};
+ghost use Rattle.std.specs.Prelude.{IfErr};
 ghost use Rattle.std.specs.Prelude.{length, map, slice_index_or, MatchResult};
 ghost use Rattle.bl_load.specs.Value.{HasFewModules};
 ghost use Rattle.bl_stage.specs.Staged.{AreStaged};

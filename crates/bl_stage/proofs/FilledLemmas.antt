@@ -1,9 +1,12 @@
 -- Pieces that come one after the other, and files that are staged so.
-use Rattle.std.proofs.Common.{◌≡◌, ℕ, zero, suc, replicate, ◌+◌, ◌-◌, ◌*◌, ◌<◌, ◌≤◌, List, length, get_or, slice_range, min, set, Bool, true, false, arith, rules, refl, sym, ◌∙◌, inl, inr, All, map, [], ◌∷◌}
+use Rattle.std.proofs.Common.{◌≡◌, ℕ, zero, suc, replicate, ◌+◌, ◌-◌, ◌*◌, ◌<◌, ◌≤◌, List, length}
+use Rattle.std.proofs.Common.{get_or, slice_range, min, set, Bool, true, false, arith, rules, refl}
+use Rattle.std.proofs.Common.{sym, ◌∙◌, inl, inr, All, map, [], ◌∷◌}
 use Rattle.std.specs.List.{range_with_len}
 use Rattle.std.proofs.lemmas.Bool.{cases_eq, cases_lt}
 use Rattle.std.proofs.lemmas.Bool.Decides.{nat_tests}
-use Rattle.std.proofs.lemmas.List.{places, ext_get_or, length-map, get_or-map, get_or_default, get_or-set_same, get_or-set_other}
+use Rattle.std.proofs.lemmas.List.{places, ext_get_or, length-map, get_or-map, get_or_default}
+use Rattle.std.proofs.lemmas.List.{get_or-set_same, get_or-set_other}
 use Rattle.std.proofs.lemmas.List.FromFn.{length-map-range_with_len, get_or-map-range_with_len}
 use Rattle.std.proofs.lemmas.List.Sums.{sum_by_more}
 use Rattle.bl_mem.specs.Memory.{overwrite}
@@ -26,13 +29,18 @@ none_filled n = record {
 }
 
 -- one more piece came
-pub filled_more : (n : ℕ) (came : List Bool) → n < length came → IsFilled n came → IsFilled (n + 1) (set came n true)
+pub filled_more : (n : ℕ) (came : List Bool) → n < length came → IsFilled n came
+    → IsFilled (n + 1) (set came n true)
 filled_more n came within filled = record {
   stored = λ k h. elim (cases_eq k n) [
     | inl same ↦ rw same (get_or-set_same came n true false within)
-    | inr other ↦ get_or-set_other came n k true false other ∙ filled.stored k (omega (arith, h, other))
+    | inr other ↦
+        get_or-set_other came n k true false other ∙ filled.stored k (omega (arith, h, other))
   ];
-  waits = λ k h. get_or-set_other came n k true false (λ same. omega (arith, h, same)) ∙ filled.waits k (omega arith);
+  waits =
+      λ k h.
+      get_or-set_other came n k true false (λ same. omega (arith, h, same))
+      ∙ filled.waits k (omega arith);
 }
 
 -- all of them came
@@ -40,16 +48,23 @@ pub all_filled : (came : List Bool) → IsFilled (length came) came → All (λ 
 all_filled came filled k d within = get_or_default came k d false within ∙ filled.stored k within
 
 -- a piece of right length
-pub piece_is : (stage : Staging) (file index len : ℕ) → file < length stage.sizes → index < frames_of (get_or stage.sizes file 0) → len ≡ min (get_or stage.sizes file 0 - 4096 * index) 4096 → is_piece stage file index len ≡ true
+pub piece_is : (stage : Staging) (file index len : ℕ) → file < length stage.sizes
+    → index < frames_of (get_or stage.sizes file 0)
+    → len ≡ min (get_or stage.sizes file 0 - 4096 * index) 4096
+    → is_piece stage file index len ≡ true
 piece_is stage file index len within few is = grind (arith, nat_tests)
 
 -- the next file begins behind its frames
-pub first_more : (sizes : List ℕ) (file : ℕ) → file < length sizes → first_of sizes (file + 1) ≡ first_of sizes file + frames_of (get_or sizes file 0)
+pub first_more : (sizes : List ℕ) (file : ℕ) → file < length sizes
+    → first_of sizes (file + 1) ≡ first_of sizes file + frames_of (get_or sizes file 0)
 first_more sizes file within = sum_by_more frames_of sizes file 0 within
 
 -- a file whose first bytes are a text's has more of them once a piece is written
-pub text_more : (old new text : List ℕ) (done next a : ℕ) → new ≡ overwrite old done (slice_range text done (done + next)) → length old ≡ length text → done + next ≤ length text
-    → ((k : ℕ) → k < done → get_or old k 0 ≡ get_or text k 0) → a < done + next → get_or new a 0 ≡ get_or text a 0
+pub text_more : (old new text : List ℕ) (done next a : ℕ)
+    → new ≡ overwrite old done (slice_range text done (done + next)) → length old ≡ length text
+    → done + next ≤ length text
+    → ((k : ℕ) → k < done → get_or old k 0 ≡ get_or text k 0) → a < done + next
+    → get_or new a 0 ≡ get_or text a 0
 text_more old new text done next a is long inside before within =
     let piece : List ℕ = slice_range text done (done + next) in
     let size : length piece ≡ next = search (rules, places) in
@@ -61,7 +76,8 @@ text_more old new text done next a is long inside before within =
     ])
 
 -- files that read as these views one by one read so all together
-pub texts_are : {V : Type 0} (bytes : V → List ℕ) (text : ℕ → List ℕ) (files : List V) → ((k : ℕ) (d : V) → k < length files → text k ≡ bytes (get_or files k d))
+pub texts_are : {V : Type 0} (bytes : V → List ℕ) (text : ℕ → List ℕ) (files : List V)
+    → ((k : ℕ) (d : V) → k < length files → text k ≡ bytes (get_or files k d))
     → map text (range_with_len 0 (length files)) ≡ map bytes files
 texts_are bytes text [] same = refl
 texts_are bytes text (v ∷ views) same =
@@ -71,4 +87,5 @@ texts_are bytes text (v ∷ views) same =
     let count : length (map bytes files) ≡ n = length-map files bytes in
     ext_get_or d _ _ (length-map-range_with_len text 0 n ∙ sym count) (λ k h.
     let below : k < n = let e = length-map-range_with_len text 0 n in omega arith in
-    get_or-map-range_with_len text 0 n k k d below (omega arith) ∙ same k v below ∙ sym (get_or-map bytes files k v d below))
+    get_or-map-range_with_len text 0 n k k d below (omega arith) ∙ same k v below
+    ∙ sym (get_or-map bytes files k v d below))

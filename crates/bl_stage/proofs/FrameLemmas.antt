@@ -1,5 +1,6 @@
 -- What a file in frames reads as.
-use Rattle.std.proofs.Common.{◌≡◌, ℕ, ◌+◌, ◌-◌, ◌*◌, ◌/◌, ◌%◌, ◌<◌, ◌≤◌, List, length, get_or, slice_range, arith, sym, ap, ◌∙◌}
+use Rattle.std.proofs.Common.{◌≡◌, ℕ, ◌+◌, ◌-◌, ◌*◌, ◌/◌, ◌%◌, ◌<◌, ◌≤◌, List, length, get_or}
+use Rattle.std.proofs.Common.{slice_range, arith, sym, ap, ◌∙◌}
 use Rattle.std.proofs.lemmas.List.{places, ext_get_or}
 use Rattle.bl_mem.proofs.SparseLemmas.{values, length-values, get_or-values, values_range}
 use Rattle.bl_stage.specs.Cells.{AreInside}
@@ -17,10 +18,13 @@ staged_length bytes frames size = length-values (λ i. get_or bytes (place_of fr
 
 -- the frames that n bytes from `at` on meet lie side by side
 abbrev pub IsStretch : List ℕ → ℕ → ℕ → Type 0
-IsStretch frames at n = (k : ℕ) → 4096 * k < at % 4096 + n → get_or frames (at / 4096 + k) 0 ≡ get_or frames (at / 4096) 0 + k
+IsStretch frames at n =
+    (k : ℕ) → 4096 * k < at % 4096 + n
+    → get_or frames (at / 4096 + k) 0 ≡ get_or frames (at / 4096) 0 + k
 
 -- then memory has these bytes in a row
-pub stretch_inside : (frames : List ℕ) (size at n : ℕ) → 0 < n → at + n ≤ 4096 * length frames → AreInside frames size → IsStretch frames at n
+pub stretch_inside : (frames : List ℕ) (size at n : ℕ) → 0 < n → at + n ≤ 4096 * length frames
+    → AreInside frames size → IsStretch frames at n
     → 4096 * get_or frames (at / 4096) 0 + at % 4096 + n ≤ size
 stretch_inside frames size at n some enough inside side =
     let k = (at % 4096 + n - 1) / 4096 in
@@ -29,9 +33,12 @@ stretch_inside frames size at n some enough inside side =
     omega arith
 
 -- and they are the file's
-pub read_staged : (bytes frames : List ℕ) (size at : ℕ) (piece : List ℕ) → at + length piece ≤ size → IsStretch frames at (length piece)
+pub read_staged : (bytes frames : List ℕ) (size at : ℕ) (piece : List ℕ) → at + length piece ≤ size
+    → IsStretch frames at (length piece)
     → 4096 * get_or frames (at / 4096) 0 + at % 4096 + length piece ≤ length bytes
-    → piece ≡ slice_range bytes (4096 * get_or frames (at / 4096) 0 + at % 4096) (4096 * get_or frames (at / 4096) 0 + at % 4096 + length piece)
+    → piece
+    ≡ slice_range bytes (4096 * get_or frames (at / 4096) 0 + at % 4096)
+    (4096 * get_or frames (at / 4096) 0 + at % 4096 + length piece)
     → piece ≡ slice_range (staged bytes frames size) at (at + length piece)
 read_staged bytes frames size at piece inside side fits is =
     values_range (λ i. get_or bytes (place_of frames i) 0) size at piece inside (λ k h.
@@ -39,6 +46,8 @@ read_staged bytes frames size at piece inside side fits is =
     let number : (at + k) / 4096 ≡ at / 4096 + j = omega arith in
     let start = 4096 * get_or frames (at / 4096) 0 + at % 4096 in
     let frame = side j (omega arith) in
-    let from : 4096 * get_or frames ((at + k) / 4096) 0 + (at + k) % 4096 ≡ start + k = rw (number, frame) (omega arith) in
-    let read : get_or (slice_range bytes start (start + length piece)) k 0 ≡ get_or bytes (start + k) 0 = grind (arith, places) in
+    let from : 4096 * get_or frames ((at + k) / 4096) 0 + (at + k) % 4096 ≡ start + k =
+    rw (number, frame) (omega arith) in
+    let read : get_or (slice_range bytes start (start + length piece)) k 0
+    ≡ get_or bytes (start + k) 0 = grind (arith, places) in
     ap (λ a. get_or bytes a 0) from ∙ sym (ap (λ t. get_or t k 0) is ∙ read))

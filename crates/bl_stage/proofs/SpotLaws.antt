@@ -1,17 +1,21 @@
--- Laws of a stage's meaning, for the crates above: at first each spot waits, at last the spots have the file's bytes, and files
--- read as before if their frames do.
-use Rattle.std.proofs.Common.{◌≡◌, ℕ, zero, suc, ◌+◌, ◌-◌, ◌*◌, ◌<◌, List, [], ◌∷◌, ◌++◌, length, get_or, take, take-add, drop, min, map, replicate, false, arith, refl, sym, ap, ◌∙◌, inl, inr}
+-- Laws of a stage's meaning, for the crates above: at first each spot waits, at last the spots have
+-- the file's bytes, and files read as before if their frames do.
+use Rattle.std.proofs.Common.{◌≡◌, ℕ, zero, suc, ◌+◌, ◌-◌, ◌*◌, ◌<◌, List, [], ◌∷◌, ◌++◌, length}
+use Rattle.std.proofs.Common.{get_or, take, take-add, drop, min, map, replicate, false, arith, refl}
+use Rattle.std.proofs.Common.{sym, ap, ◌∙◌, inl, inr}
 use Rattle.std.specs.List.{range_with_len}
 use Rattle.std.specs.declared.ops.Range.{Range}
 use Rattle.std.proofs.lemmas.Bool.{cases_lt}
-use Rattle.std.proofs.lemmas.List.{take_all, append_assoc, append-nil, get_or-replicate, length-replicate, get_or_past}
+use Rattle.std.proofs.lemmas.List.{take_all, append_assoc, append-nil, get_or-replicate}
+use Rattle.std.proofs.lemmas.List.{length-replicate, get_or_past}
 use Rattle.std.proofs.lemmas.List.Sums.{sum_by-cons}
 use Rattle.std.proofs.lemmas.List.FromFn.{map-range_with_len_more}
 use Rattle.bl_map.specs.Room.{frames_of, frames_needed}
 use Rattle.bl_stage.specs.Cells.{ReadsAs}
 use Rattle.bl_stage.specs.Staged.{Staging, AreStaged, AllCame, file_of, fresh, frames_for, table_of}
 use Rattle.bl_stage.specs.Pieces.{slot_in}
-use Rattle.bl_stage.specs.Spots.{Spot, waits, has, spot_at, spots_of, spots, piece_of, waiting_spots, bytes_of}
+use Rattle.bl_stage.specs.Spots.{Spot, waits, has, spot_at, spots_of, spots, piece_of}
+use Rattle.bl_stage.specs.Spots.{waiting_spots, bytes_of}
 use Rattle.bl_stage.proofs.FrameLemmas.{staged_length}
 use Rattle.bl_stage.proofs.FileLemmas.{file_within, file_evacuated}
 use Rattle.bl_stage.specs.TextLaws.{same_firsts}
@@ -20,44 +24,65 @@ use Rattle.bl_stage.proofs.SpotLemmas.{piece_long}
 -- files need as many frames as by their bytes
 pub frames_for_files : (files : List (List ℕ)) → frames_needed files ≡ frames_for (map length files)
 frames_for_files [] = refl
-frames_for_files (file ∷ files) = ap (λ n. frames_of (length file) + n) (frames_for_files files) ∙ sym (sum_by-cons frames_of (length file) (map length files))
+frames_for_files (file ∷ files) =
+    ap (λ n. frames_of (length file) + n) (frames_for_files files)
+    ∙ sym (sum_by-cons frames_of (length file) (map length files))
 
 -- a stage to which no piece came waits for each
-pub fresh_spots : (bytes : List ℕ) (pool : Range ℕ) (sizes frames : List ℕ) → spots bytes (fresh pool sizes frames) ≡ map (λ file. waiting_spots (get_or sizes file 0)) (range_with_len 0 (length sizes))
+pub fresh_spots : (bytes : List ℕ) (pool : Range ℕ) (sizes frames : List ℕ)
+    → spots bytes (fresh pool sizes frames)
+    ≡ map (λ file. waiting_spots (get_or sizes file 0)) (range_with_len 0 (length sizes))
 fresh_spots bytes pool sizes frames =
     let stage = fresh pool sizes frames in
     let d : List Spot = [] in
-    same_firsts d (λ file. spots_of bytes stage file) (λ file. waiting_spots (get_or sizes file 0)) (length sizes) (λ file h.
+    same_firsts d (λ file. spots_of bytes stage file) (λ file. waiting_spots (get_or sizes file 0))
+    (length sizes) (λ file h.
     let size = get_or sizes file 0 in
-    same_firsts (has []) (λ k. spot_at bytes stage file k) (λ k. waits (min 4096 (size - 4096 * k))) (frames_of size) (λ k hk.
-    let long : length (file_of bytes stage file) ≡ size = staged_length bytes (table_of stage file) size in
-    rw (never (length frames) (slot_in stage file k)) (ap waits (piece_long (file_of bytes stage file) k ∙ ap (λ n. min 4096 (n - 4096 * k)) long))))
+    same_firsts (has []) (λ k. spot_at bytes stage file k) (λ k. waits (min 4096 (size - 4096 * k)))
+    (frames_of size) (λ k hk.
+    let long : length (file_of bytes stage file) ≡ size =
+    staged_length bytes (table_of stage file) size in
+    rw (never (length frames) (slot_in stage file k))
+    (ap waits
+    (piece_long (file_of bytes stage file) k ∙ ap (λ n. min 4096 (n - 4096 * k)) long))))
   where
     never : (n k : ℕ) → get_or (replicate n false) k false ≡ false
     never n k = elim (cases_lt k n) [
       | inl within ↦ get_or-replicate n k false false within
-      | inr past ↦ get_or_past (replicate n false) k false (let e = length-replicate n false in omega arith)
+      | inr past ↦
+          get_or_past (replicate n false) k false (let e = length-replicate n false in omega arith)
     ]
 
 bytes_of-append : (xs ys : List Spot) → bytes_of (xs ++ ys) ≡ bytes_of xs ++ bytes_of ys
 bytes_of-append [] ys = refl
 bytes_of-append (waits n ∷ xs) ys = bytes_of-append xs ys
-bytes_of-append (has piece ∷ xs) ys = ap (λ l. piece ++ l) (bytes_of-append xs ys) ∙ sym (append_assoc piece (bytes_of xs) (bytes_of ys))
+bytes_of-append (has piece ∷ xs) ys =
+    ap (λ l. piece ++ l) (bytes_of-append xs ys)
+    ∙ sym (append_assoc piece (bytes_of xs) (bytes_of ys))
 
-take_pieces : (file : List ℕ) (n : ℕ) → take (4096 * n) file ++ take 4096 (drop (4096 * n) file) ≡ take (4096 * (n + 1)) file
-take_pieces file n = let e : 4096 * n + 4096 ≡ 4096 * (n + 1) = omega arith in sym (take-add (4096 * n) 4096 file) ∙ ap (λ m. take m file) e
+take_pieces : (file : List ℕ) (n : ℕ)
+    → take (4096 * n) file ++ take 4096 (drop (4096 * n) file) ≡ take (4096 * (n + 1)) file
+take_pieces file n =
+    let e : 4096 * n + 4096 ≡ 4096 * (n + 1) =
+    omega arith in sym (take-add (4096 * n) 4096 file) ∙ ap (λ m. take m file) e
 
 -- the first n pieces of a file are its first bytes
-first_pieces : (file : List ℕ) (n : ℕ) → bytes_of (map (λ k. has (piece_of file k)) (range_with_len 0 n)) ≡ take (4096 * n) file
+first_pieces : (file : List ℕ) (n : ℕ)
+    → bytes_of (map (λ k. has (piece_of file k)) (range_with_len 0 n)) ≡ take (4096 * n) file
 first_pieces file zero = refl
 first_pieces file (suc n) =
     let f : ℕ → Spot = λ k. has (piece_of file k) in
     let next : suc n ≡ n + 1 = omega arith in
-    ap (λ m. bytes_of (map f (range_with_len 0 m))) next ∙ ap bytes_of (map-range_with_len_more f 0 n n (omega arith)) ∙ bytes_of-append (map f (range_with_len 0 n)) (f n ∷ [])
-    ∙ ap (λ l. l ++ (piece_of file n ++ [])) (first_pieces file n) ∙ ap (λ l. take (4096 * n) file ++ l) (append-nil (piece_of file n)) ∙ take_pieces file n ∙ ap (λ m. take (4096 * m) file) (sym next)
+    ap (λ m. bytes_of (map f (range_with_len 0 m))) next
+    ∙ ap bytes_of (map-range_with_len_more f 0 n n (omega arith))
+    ∙ bytes_of-append (map f (range_with_len 0 n)) (f n ∷ [])
+    ∙ ap (λ l. l ++ (piece_of file n ++ [])) (first_pieces file n)
+    ∙ ap (λ l. take (4096 * n) file ++ l) (append-nil (piece_of file n)) ∙ take_pieces file n
+    ∙ ap (λ m. take (4096 * m) file) (sym next)
 
 -- where each piece came, a file's spots have its bytes
-pub complete_spots : (bytes : List ℕ) (stage : Staging) (file : ℕ) → AreStaged stage → AllCame stage → file < length stage.sizes → bytes_of (spots_of bytes stage file) ≡ file_of bytes stage file
+pub complete_spots : (bytes : List ℕ) (stage : Staging) (file : ℕ) → AreStaged stage → AllCame stage
+    → file < length stage.sizes → bytes_of (spots_of bytes stage file) ≡ file_of bytes stage file
 complete_spots bytes stage file kept came h =
     let size = get_or stage.sizes file 0 in
     let text = file_of bytes stage file in
@@ -65,9 +90,14 @@ complete_spots bytes stage file kept came h =
     let w = file_within stage.sizes file h in
     let a = kept.all in
     let b = kept.flags in
-    ap bytes_of (same_firsts (has []) (λ k. spot_at bytes stage file k) (λ k. has (piece_of text k)) (frames_of size) (λ k hk. rw (came (slot_in stage file k) false (omega arith)) refl))
+    ap bytes_of
+    (same_firsts (has []) (λ k. spot_at bytes stage file k) (λ k. has (piece_of text k))
+    (frames_of size) (λ k hk. rw (came (slot_in stage file k) false (omega arith)) refl))
     ∙ first_pieces text (frames_of size) ∙ take_all (4096 * frames_of size) text (omega arith)
 
 -- files read as before if each of their frames does
-pub files_elsewhere : (old new : List ℕ) (stage : Staging) (file : ℕ) → AreStaged stage → ReadsAs old stage.frames new stage.frames → file < length stage.sizes → file_of new stage file ≡ file_of old stage file
-files_elsewhere old new stage file kept same h = file_evacuated old new stage stage.frames file kept same refl h
+pub files_elsewhere : (old new : List ℕ) (stage : Staging) (file : ℕ) → AreStaged stage
+    → ReadsAs old stage.frames new stage.frames → file < length stage.sizes
+    → file_of new stage file ≡ file_of old stage file
+files_elsewhere old new stage file kept same h =
+    file_evacuated old new stage stage.frames file kept same refl h

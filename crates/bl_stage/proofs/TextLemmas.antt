@@ -5,30 +5,37 @@ use Rattle.std.proofs.lemmas.List.FromFn.{length-map-range_with_len, get_or-map-
 use Rattle.bl_map.specs.Room.{frames_of}
 use Rattle.bl_mem.specs.Files.{AreBelow, text_at}
 use Rattle.bl_stage.specs.Cells.{AreInside}
-use Rattle.bl_stage.specs.Staged.{Staging, AreStaged, HasPool, file_of, table_of, first_of, texts_of, IsStagedOn}
+use Rattle.bl_stage.specs.Staged.{Staging, AreStaged, HasPool, file_of, table_of, first_of}
+use Rattle.bl_stage.specs.Staged.{texts_of, IsStagedOn}
 use Rattle.bl_stage.proofs.FileLemmas.{file_within, read_part}
 
 -- a file's own frames are as many as it needs
-pub table_long : (stage : Staging) (file : ℕ) → AreStaged stage → file < length stage.sizes → length (table_of stage file) ≡ frames_of (get_or stage.sizes file 0)
+pub table_long : (stage : Staging) (file : ℕ) → AreStaged stage → file < length stage.sizes
+    → length (table_of stage file) ≡ frames_of (get_or stage.sizes file 0)
 table_long stage file kept h =
     let w = file_within stage.sizes file h in
     let a = kept.all in
     search (rules, places)
 
 -- memory has them if it has the pool
-pub table_in_pool : (stage : Staging) (file : ℕ) (bytes : List ℕ) → AreStaged stage → file < length stage.sizes → HasPool bytes stage.pool → AreInside (table_of stage file) (length bytes)
+pub table_in_pool : (stage : Staging) (file : ℕ) (bytes : List ℕ) → AreStaged stage
+    → file < length stage.sizes → HasPool bytes stage.pool
+    → AreInside (table_of stage file) (length bytes)
 table_in_pool stage file bytes kept h pool k hk =
     let w = file_within stage.sizes file h in
     let a = kept.all in
     let long = table_long stage file kept h in
-    let read = read_part stage.frames (first_of stage.sizes file) (frames_of (get_or stage.sizes file 0)) k (omega arith) (omega arith) in
+    let read =
+    read_part stage.frames (first_of stage.sizes file) (frames_of (get_or stage.sizes file 0)) k
+    (omega arith) (omega arith) in
     let low = kept.low (first_of stage.sizes file + k) (omega arith) in
     let high = kept.high (first_of stage.sizes file + k) (omega arith) in
     let end = pool (omega arith) in
     omega arith
 
 -- and if it has the addresses of the files
-pub table_below : (stage : Staging) (file size : ℕ) → AreStaged stage → file < length stage.sizes → AreBelow (IsStagedOn stage) size → AreInside (table_of stage file) size
+pub table_below : (stage : Staging) (file size : ℕ) → AreStaged stage → file < length stage.sizes
+    → AreBelow (IsStagedOn stage) size → AreInside (table_of stage file) size
 table_below stage file size kept h below k hk =
     let long = table_long stage file kept h in
     let last = below (4096 * get_or (table_of stage file) k 0 + 4095) (record {
@@ -42,8 +49,16 @@ table_below stage file size kept h below k hk =
     omega arith
 
 -- a file of the texts
-pub text_of_file : (stage : Staging) (bytes : List ℕ) (file : ℕ) → file < length (texts_of bytes stage) → (file < length stage.sizes) × (text_at (texts_of bytes stage) file ≡ file_of bytes stage file)
+pub text_of_file : (stage : Staging) (bytes : List ℕ) (file : ℕ)
+    → file < length (texts_of bytes stage)
+    → (file < length stage.sizes) × (text_at (texts_of bytes stage) file ≡ file_of bytes stage file)
 text_of_file stage bytes file h =
-    let below : file < length stage.sizes = let e = length-map-range_with_len (λ f. file_of bytes stage f) 0 (length stage.sizes) in omega arith in
-    let d : List ℕ = [] in
-    (below, get_or-map-range_with_len (λ f. file_of bytes stage f) 0 (length stage.sizes) file file d below (omega arith))
+    let below : file < length stage.sizes =
+    let e =
+    length-map-range_with_len (λ f. file_of bytes stage f) 0 (length stage.sizes) in
+    omega arith in
+    let d : List ℕ = [] in (
+      below,
+      get_or-map-range_with_len (λ f. file_of bytes stage f) 0 (length stage.sizes) file file
+          d below (omega arith),
+    )

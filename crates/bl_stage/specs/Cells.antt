@@ -1,5 +1,6 @@
 -- What the code keeps of each frame of the pool, and what moving frames leaves.
-use Rattle.std.specs.Prelude.{◌≡◌, ℕ, ◌+◌, ◌*◌, ◌-◌, ◌<◌, ◌≤◌, List, length, slice_index, slice_index_or, Bool, true, false, not, ◌&&◌, is_some, Some, None}
+use Rattle.std.specs.Prelude.{◌≡◌, ℕ, ◌+◌, ◌*◌, ◌-◌, ◌<◌, ◌≤◌, List, length, slice_index}
+use Rattle.std.specs.Prelude.{slice_index_or, Bool, true, false, not, ◌&&◌, is_some, Some, None}
 use Rattle.std.specs.List.{count_by}
 use Rattle.std.specs.declared.ops.Range.{Range}
 use Rattle.bl_stage.specs.declared.cell.Cell.{Cell}
@@ -32,7 +33,8 @@ cell_at cells place = slice_index_or cells place no_cell
 pub record AreHeld (base : ℕ) (frames : List ℕ) (cells : List Cell) : Type 0 where
   pub low : (k : ℕ) → k < length frames → base ≤ slice_index frames k
   pub high : (k : ℕ) → k < length frames → slice_index frames k < base + length cells
-  pub each : (k : ℕ) → k < length frames → (cell_at cells (slice_index frames k - base)).holder ≡ Some k
+  pub each : (k : ℕ) → k < length frames
+      → (cell_at cells (slice_index frames k - base)).holder ≡ Some k
   pub within : (j k : ℕ) → (cell_at cells j).holder ≡ Some k → k < length frames
   pub back : (j k : ℕ) → (cell_at cells j).holder ≡ Some k → slice_index frames k ≡ base + j
   pub count : count_by is_held_cell cells ≡ length frames
@@ -53,7 +55,8 @@ abbrev pub frames_range : ℕ → ℕ → Range ℕ
 frames_range base count = record { start = 4096 * base; end = 4096 * (base + count) }
 
 -- of the first `done` cells those that are shut were left, and nothing else moved
-pub record Moved (base : ℕ) (old new : List ℕ) (old_frames frames : List ℕ) (old_cells cells : List Cell) (done : ℕ) : Type 0 where
+pub record Moved (base : ℕ) (old new : List ℕ) (old_frames frames : List ℕ)
+    (old_cells cells : List Cell) (done : ℕ) : Type 0 where
   pub held : AreHeld base frames cells
   pub long : length frames ≡ length old_frames
   pub wide : length cells ≡ length old_cells
@@ -61,15 +64,19 @@ pub record Moved (base : ℕ) (old new : List ℕ) (old_frames frames : List ℕ
   pub same : ReadsAs old old_frames new frames
   pub shut : (j : ℕ) → (cell_at cells j).shut ≡ (cell_at old_cells j).shut
   pub left : (j : ℕ) → j < done → (cell_at cells j).shut ≡ true → (cell_at cells j).holder ≡ None
-  pub stays : (k : ℕ) → k < length old_frames → (cell_at old_cells (slice_index old_frames k - base)).shut ≡ false → slice_index frames k ≡ slice_index old_frames k
+  pub stays : (k : ℕ) → k < length old_frames
+      → (cell_at old_cells (slice_index old_frames k - base)).shut ≡ false
+      → slice_index frames k ≡ slice_index old_frames k
   pub outside : IsSameOutside (frames_range base (length old_cells)) old new
 
 -- no frame meets a range, one that met none stays, each reads as before, and nothing outside the
 -- pool changed
-pub record MadeWay (base count : ℕ) (ranges : List (Range ℕ)) (old new old_frames frames : List ℕ) : Type 0 where
+pub record MadeWay (base count : ℕ) (ranges : List (Range ℕ))
+    (old new old_frames frames : List ℕ) : Type 0 where
   pub long : length frames ≡ length old_frames
   pub clear : (k : ℕ) → k < length frames → meets ranges (slice_index frames k) ≡ false
-  pub stays : (k : ℕ) → k < length old_frames → meets ranges (slice_index old_frames k) ≡ false → slice_index frames k ≡ slice_index old_frames k
+  pub stays : (k : ℕ) → k < length old_frames → meets ranges (slice_index old_frames k) ≡ false
+      → slice_index frames k ≡ slice_index old_frames k
   pub same : ReadsAs old old_frames new frames
   pub outside : IsSameOutside (frames_range base count) old new
   pub size : length new ≡ length old

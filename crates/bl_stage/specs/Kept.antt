@@ -6,7 +6,8 @@ use Rattle.bl_stage.specs.declared.cell.Cell.{Cell}
 use Rattle.bl_stage.specs.Cells.{AreHeld}
 use Rattle.bl_stage.specs.Staged.{frames_for, first_of}
 
-pub record IsKept (base : ℕ) (pool : Range ℕ) (sizes starts frames : List ℕ) (came : List Bool) (cells : List Cell) (waiting : ℕ) : Type 0 where
+pub record IsKept (base : ℕ) (pool : Range ℕ) (sizes starts frames : List ℕ) (came : List Bool)
+    (cells : List Cell) (waiting : ℕ) : Type 0 where
   pub held : AreHeld base frames cells
   pub all : length frames ≡ frames_for sizes
   pub flags : length came ≡ length frames

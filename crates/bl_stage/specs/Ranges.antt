@@ -1,5 +1,6 @@
 -- Ranges of addresses, the frames that they meet, and the pool after it was scrubbed. Own.
-use Rattle.std.specs.Prelude.{◌≡◌, ℕ, ◌*◌, ◌<◌, ◌≤◌, ◌⊎◌, Bool, not, ◌&&◌, nat_lt, nat_le, List, slice_index, if◌then◌else◌}
+use Rattle.std.specs.Prelude.{◌≡◌, ℕ, ◌*◌, ◌<◌, ◌≤◌, ◌⊎◌, Bool, not, ◌&&◌, nat_lt, nat_le, List}
+use Rattle.std.specs.Prelude.{slice_index, if◌then◌else◌}
 use Rattle.std.specs.List.{list_any}
 use Rattle.std.specs.declared.ops.Range.{Range}
 use Rattle.bl_map.specs.Room.{is_open}

@@ -1,5 +1,6 @@
 -- What a stage means: for each file the list of its spots, one a piece, as memory has them. Own.
-use Rattle.std.specs.Prelude.{ℕ, ◌*◌, ◌-◌, ◌++◌, min, List, [], ◌∷◌, length, take, drop, map, slice_index, slice_index_or, slice_set, Bool, true, false}
+use Rattle.std.specs.Prelude.{ℕ, ◌*◌, ◌-◌, ◌++◌, min, List, [], ◌∷◌, length, take, drop, map}
+use Rattle.std.specs.Prelude.{slice_index, slice_index_or, slice_set, Bool, true, false}
 use Rattle.std.specs.List.{range_with_len}
 use Rattle.bl_map.specs.Room.{frames_of}
 use Rattle.bl_stage.specs.Staged.{Staging, file_of}

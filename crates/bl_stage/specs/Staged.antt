@@ -1,6 +1,7 @@
 -- Files whose bytes lie in frames of the pool. A frame of 4096 bytes goes by its number: frame n
 -- has the addresses from 4096 * n on. Own.
-use Rattle.std.specs.Prelude.{◌≡◌, ℕ, ◌+◌, ◌*◌, ◌/◌, ◌%◌, ◌<◌, ◌≤◌, List, length, take, map, slice_index, slice_range, replicate, Bool, true, false, All}
+use Rattle.std.specs.Prelude.{◌≡◌, ℕ, ◌+◌, ◌*◌, ◌/◌, ◌%◌, ◌<◌, ◌≤◌, List, length, take, map}
+use Rattle.std.specs.Prelude.{slice_index, slice_range, replicate, Bool, true, false, All}
 use Rattle.std.specs.List.{range_with_len, sum_by}
 use Rattle.std.specs.declared.ops.Range.{Range}
 use Rattle.bl_map.specs.Room.{frames_of}
@@ -50,7 +51,8 @@ pub record AreStaged (stage : Staging) : Type 0 where
   pub all : length stage.frames ≡ frames_for stage.sizes
   pub flags : length stage.came ≡ length stage.frames
   pub low : (k : ℕ) → k < length stage.frames → stage.pool.start ≤ 4096 * slice_index stage.frames k
-  pub high : (k : ℕ) → k < length stage.frames → 4096 * slice_index stage.frames k + 4096 ≤ stage.pool.end
+  pub high : (k : ℕ) → k < length stage.frames
+      → 4096 * slice_index stage.frames k + 4096 ≤ stage.pool.end
   pub apart : AreApart stage.frames
 
 -- a stage to which no piece came

@@ -8,17 +8,24 @@ use Rattle.bl_mem.specs.Files.{Agree}
 use Rattle.bl_stage.specs.Staged.{Staging, file_of, table_of, texts_of, place_of, IsStagedOn}
 
 -- functions that agree below n have the same first n values
-pub same_firsts : {X : Type 0} (d : X) (f g : ℕ → X) (n : ℕ) → ((a : ℕ) → a < n → f a ≡ g a) → map f (range_with_len 0 n) ≡ map g (range_with_len 0 n)
-same_firsts d f g n same = ext_get_or d _ _ (length-map-range_with_len f 0 n ∙ sym (length-map-range_with_len g 0 n)) (λ a h.
+pub same_firsts : {X : Type 0} (d : X) (f g : ℕ → X) (n : ℕ) → ((a : ℕ) → a < n → f a ≡ g a)
+    → map f (range_with_len 0 n) ≡ map g (range_with_len 0 n)
+same_firsts d f g n same =
+    ext_get_or d _ _ (length-map-range_with_len f 0 n ∙ sym (length-map-range_with_len g 0 n))
+    (λ a h.
     let below : a < n = let e = length-map-range_with_len f 0 n in omega arith in
-    get_or-map-range_with_len f 0 n a a d below (omega arith) ∙ same a below ∙ sym (get_or-map-range_with_len g 0 n a a d below (omega arith)))
+    get_or-map-range_with_len f 0 n a a d below (omega arith) ∙ same a below
+    ∙ sym (get_or-map-range_with_len g 0 n a a d below (omega arith)))
 
-pub same_texts : (stage : Staging) (old new : List ℕ) → Agree (λ a. IsStagedOn stage a) old new → texts_of new stage ≡ texts_of old stage
+pub same_texts : (stage : Staging) (old new : List ℕ) → Agree (λ a. IsStagedOn stage a) old new
+    → texts_of new stage ≡ texts_of old stage
 same_texts stage old new agree =
     let d : List ℕ = [] in
-    same_firsts d (λ file. file_of new stage file) (λ file. file_of old stage file) (length stage.sizes) (λ file h.
+    same_firsts d (λ file. file_of new stage file) (λ file. file_of old stage file)
+    (length stage.sizes) (λ file h.
     let table = table_of stage file in
-    same_firsts 0 (λ i. slice_index new (place_of table i)) (λ i. slice_index old (place_of table i)) (slice_index stage.sizes file) (λ i hi.
+    same_firsts 0 (λ i. slice_index new (place_of table i))
+    (λ i. slice_index old (place_of table i)) (slice_index stage.sizes file) (λ i hi.
     agree (place_of table i) (record {
       file = file;
       index = i / 4096;

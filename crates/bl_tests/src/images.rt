@@ -1,5 +1,6 @@
-//! An image, whole and cut short, of a handover by the other protocol, with a module, registers that all
-//! differ, and a part longer than what is copied at once. What is wanted is told by the format.
+//! An image, whole and cut short, of a handover by the other protocol, with a module, registers
+//! that all differ, and a part longer than what is copied at once. What is wanted is told by the
+//! format.
 ghost use Rattle.std.specs.Prelude.{◌+◌, ◌≤◌, length, All};
 
 mod loaded;
@@ -38,7 +39,8 @@ const FRONT: [u8; 152] = [
     1, 0, 0, 0, 1, 0, 0, 0, 16, 0, 0, 0, 0, 0, 0, 0, 5, 0, 1, 0, 0, 0, 0, 0,
 ];
 
-// The byte of the image at `i`: behind the front the five bytes from 90 on, then 0 to 250 over and over.
+// The byte of the image at `i`: behind the front the five bytes from 90 on, then 0 to 250 over and
+// over.
 fn wanted(i: usize) -> u8 {
     match i {
         0..152 => FRONT[i],
@@ -47,7 +49,8 @@ fn wanted(i: usize) -> u8 {
     }
 }
 
-// A sink that has room for `limit` bytes holds just the image's first ones, and has a fault where it is too small.
+// A sink that has room for `limit` bytes holds just the image's first ones, and has a fault where
+// it is too small.
 fn expect_image(
     rt: &impl Abort,
     alloc: Global,
@@ -88,8 +91,8 @@ const WHOLE: [Row; 4] = [
     (TOTAL + 1, TOTAL),
 ];
 
-// The head ends at 104, the records end at 128 and 152, the first part at 157. The first piece of the second
-// part ends at 157 + 65536.
+// The head ends at 104, the records end at 128 and 152, the first part at 157. The first piece of
+// the second part ends at 157 + 65536.
 const CUT: [Row; 18] = [
     (0, TOTAL),
     (1, TOTAL),

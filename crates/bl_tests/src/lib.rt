@@ -1,5 +1,5 @@
-//! Tests of what no row of bl_probe can say: the allocator that refuses, and images of handovers that
-//! no description leads to yet.
+//! Tests of what no row of bl_probe can say: the allocator that refuses, and images of handovers
+//! that no description leads to yet.
 #![tactic(auto)]
 
 #[cfg(test)]

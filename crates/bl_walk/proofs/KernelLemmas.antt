@@ -1,5 +1,7 @@
 -- The kernel's parts among an entry's parts.
-use Rattle.std.proofs.Common.{◌≡◌, ◌≤◌, ◌++◌, ◌∷◌, ℕ, suc, Bool, true, false, List, [], map, length, nat_eq, nat_lt, cond, Some, None, Option, get_or, refl, sym, ap, ◌∙◌, arith, All, length-append}
+use Rattle.std.proofs.Common.{◌≡◌, ◌≤◌, ◌++◌, ◌∷◌, ℕ, suc, Bool, true, false, List, [], map, length}
+use Rattle.std.proofs.Common.{nat_eq, nat_lt, cond, Some, None, Option, get_or, refl, sym, ap, ◌∙◌}
+use Rattle.std.proofs.Common.{arith, All, length-append}
 use Rattle.std.specs.List.{filter}
 use Rattle.std.proofs.lemmas.Bool.{cond_both}
 use Rattle.std.proofs.lemmas.List.{length-replicate}
@@ -56,57 +58,92 @@ kernel_parts content [] sized = refl
 kernel_parts content (p ∷ places) sized =
     let rest = kernel_parts content places (All-tail (IsSized content) p places sized) in
     let size = All-head (IsSized content) p places sized in
-    elim (is_kernel_place p) as (λ b. map (λ part. (let s : SeenPart = record { address = part.address; length = length part.bytes } in s)) (cond b (part_of content p ∷ filter (λ part. nat_eq (role_number part.role) (role_number Kernel)) (map (part_of content) places)) (filter (λ part. nat_eq (role_number part.role) (role_number Kernel)) (map (part_of content) places)))
+    elim (is_kernel_place p) as (λ b.
+    map
+    (λ part.
+    (let s : SeenPart = record { address = part.address; length = length part.bytes } in
+    s))
+    (cond b
+    (part_of content p
+    ∷ filter
+    (λ part. nat_eq (role_number part.role) (role_number Kernel))
+    (map (part_of content) places))
+    (filter
+    (λ part.
+    nat_eq (role_number part.role) (role_number Kernel))
+    (map (part_of content) places)))
     ≡ map seen_place (cond b (p ∷ filter is_kernel_place places) (filter is_kernel_place places))) [
       | true ↦ (λ i. record { address = p.address; length = size i } ∷ rest i)
       | false ↦ rest
     ]
 
-filled_length : (count : ℕ) (content : List ℕ) → length content ≤ count → length (filled count content) ≡ count
+filled_length : (count : ℕ) (content : List ℕ) → length content ≤ count
+    → length (filled count content) ≡ count
 filled_length count content short = rw (length-append, length-replicate) (omega arith)
 
-module _ (facts : MachineFacts) (value : EntryValue) (reading : Reading) (places : List Place) (lines : lines_fault (lines_of value) ≡ None)
-    (read : IsRead facts value reading) (placed : ArePlaced facts [] (rows_of facts value reading) places) where
+module _ (facts : MachineFacts) (value : EntryValue) (reading : Reading) (places : List Place)
+    (lines : lines_fault (lines_of value) ≡ None)
+    (read : IsRead facts value reading)
+    (placed : ArePlaced facts [] (rows_of facts value reading) places) where
   all_sized : All (IsSized (content_of facts value reading places)) (in_order places)
   all_sized k d within =
-      let rowed = in_order_all place_key (IsRowed facts value reading) places (reading_rowed facts value reading places placed) k d within in
-      filled_length _ _ (reading_short facts value reading places (get_or (in_order places) k d) lines read rowed)
+      let rowed =
+      in_order_all place_key (IsRowed facts value reading) places
+      (reading_rowed facts value reading places placed) k d within in
+      filled_length
+      _ _ (reading_short facts value reading places (get_or (in_order places) k d) lines read
+      rowed)
 
-  pub kernel_shown : kernel_in (handover_of facts value reading places).parts ≡ map seen_place (filter is_kernel_place (in_order places))
+  pub kernel_shown : kernel_in (handover_of facts value reading places).parts
+      ≡ map seen_place (filter is_kernel_place (in_order places))
   kernel_shown = kernel_parts (content_of facts value reading places) (in_order places) all_sized
 
 -- ---- the kernel's places come first among the rows
 
-put_other : (p : Place) (places : List Place) → IsOther p → filter is_kernel_place (put place_key p places) ≡ filter is_kernel_place places
+put_other : (p : Place) (places : List Place) → IsOther p
+    → filter is_kernel_place (put place_key p places) ≡ filter is_kernel_place places
 put_other p [] other = rw other
 put_other p (next ∷ places) other =
-    cond_both (nat_lt p.address next.address) (p ∷ next ∷ places) (next ∷ put place_key p places) (λ ys. filter is_kernel_place ys ≡ filter is_kernel_place (next ∷ places))
+    cond_both (nat_lt p.address next.address) (p ∷ next ∷ places) (next ∷ put place_key p places)
+    (λ ys. filter is_kernel_place ys ≡ filter is_kernel_place (next ∷ places))
     (λ e. rw other refl)
-    (λ e. ap (λ (rest : List Place). cond (is_kernel_place next) (next ∷ rest) rest) (put_other p places other))
+    (λ e.
+    ap (λ (rest : List Place). cond (is_kernel_place next) (next ∷ rest) rest)
+    (put_other p places other))
 
-among_others : (sorted others : List Place) → All IsOther others → filter is_kernel_place (in_order_among place_key sorted others) ≡ filter is_kernel_place sorted
+among_others : (sorted others : List Place) → All IsOther others
+    → filter is_kernel_place (in_order_among place_key sorted others)
+    ≡ filter is_kernel_place sorted
 among_others sorted [] all = refl
 among_others sorted (p ∷ others) all =
-    among_others (put place_key p sorted) others (All-tail IsOther p others all) ∙ put_other p sorted (All-head IsOther p others all)
+    among_others (put place_key p sorted) others (All-tail IsOther p others all)
+    ∙ put_other p sorted (All-head IsOther p others all)
 
-among_both : (sorted first others : List Place) → in_order_among place_key sorted (first ++ others) ≡ in_order_among place_key (in_order_among place_key sorted first) others
+among_both : (sorted first others : List Place)
+    → in_order_among place_key sorted (first ++ others)
+    ≡ in_order_among place_key (in_order_among place_key sorted first) others
 among_both sorted [] others = refl
 among_both sorted (p ∷ first) others = among_both (put place_key p sorted) first others
 
-all_of_kernel : (places : List Place) → All IsOfKernel places → filter is_kernel_place places ≡ places
+all_of_kernel : (places : List Place) → All IsOfKernel places
+    → filter is_kernel_place places ≡ places
 all_of_kernel [] all = refl
 all_of_kernel (p ∷ places) all =
     let here = All-head IsOfKernel p places all in
-    rw here (ap (λ (rest : List Place). p ∷ rest) (all_of_kernel places (All-tail IsOfKernel p places all)))
+    rw here
+    (ap (λ (rest : List Place). p ∷ rest)
+    (all_of_kernel places (All-tail IsOfKernel p places all)))
 
-pub kernel_places : (first others : List Place) → All IsOfKernel first → All IsOther others → filter is_kernel_place (in_order (first ++ others)) ≡ in_order first
+pub kernel_places : (first others : List Place) → All IsOfKernel first → All IsOther others
+    → filter is_kernel_place (in_order (first ++ others)) ≡ in_order first
 kernel_places first others of_kernel other =
     ap (filter is_kernel_place) (among_both [] first others)
     ∙ among_others (in_order first) others other
     ∙ all_of_kernel (in_order first) (in_order_all place_key IsOfKernel first of_kernel)
 
 -- places of rows and of the rows behind them
-pub record AreSplit (facts : MachineFacts) (taken : List (Range ℕ)) (first rest : List Row) (places : List Place) : Type 0 where
+pub record AreSplit (facts : MachineFacts) (taken : List (Range ℕ)) (first rest : List Row)
+    (places : List Place) : Type 0 where
   pub places_first : List Place
   pub places_rest : List Place
   pub taken_then : List (Range ℕ)
@@ -114,8 +151,18 @@ pub record AreSplit (facts : MachineFacts) (taken : List (Range ℕ)) (first res
   pub placed_first : ArePlaced facts taken first places_first
   pub placed_rest : ArePlaced facts taken_then rest places_rest
 
-pub are_split : (facts : MachineFacts) (taken : List (Range ℕ)) (first rest : List Row) (places : List Place) → ArePlaced facts taken (first ++ rest) places → AreSplit facts taken first rest places
-are_split facts taken [] rest places placed = record { places_first = []; places_rest = places; taken_then = taken; both = refl; placed_first = tt; placed_rest = placed }
+pub are_split : (facts : MachineFacts) (taken : List (Range ℕ)) (first rest : List Row)
+    (places : List Place) → ArePlaced facts taken (first ++ rest) places
+    → AreSplit facts taken first rest places
+are_split facts taken [] rest places placed =
+    record {
+      places_first = [];
+      places_rest = places;
+      taken_then = taken;
+      both = refl;
+      placed_first = tt;
+      placed_rest = placed;
+    }
 are_split facts taken (row ∷ first) rest [] placed = absurd placed
 are_split facts taken (row ∷ first) rest (p ∷ places) placed =
     let later = are_split facts (put_in (range_of p) taken) first rest places placed.2 in
@@ -129,36 +176,51 @@ are_split facts taken (row ∷ first) rest (p ∷ places) placed =
     }
 
 -- so those of the first rows are the kernel's, if each of them is one and no other is
-pub first_places : (facts : MachineFacts) (first rest : List Row) (places : List Place) (split : AreSplit facts [] first rest places)
-    → All (Anywhere IsOfKernel) first → All (Anywhere IsOther) rest → filter is_kernel_place (in_order places) ≡ in_order split.places_first
+pub first_places : (facts : MachineFacts) (first rest : List Row) (places : List Place)
+    (split : AreSplit facts [] first rest places)
+    → All (Anywhere IsOfKernel) first → All (Anywhere IsOther) rest
+    → filter is_kernel_place (in_order places) ≡ in_order split.places_first
 first_places facts first rest places split of_kernel other =
     ap (λ (ps : List Place). filter is_kernel_place (in_order ps)) split.both
-    ∙ kernel_places split.places_first split.places_rest (each_place facts IsOfKernel [] first split.places_first of_kernel split.placed_first) (each_place facts IsOther split.taken_then rest split.places_rest other split.placed_rest)
+    ∙ kernel_places split.places_first split.places_rest
+    (each_place facts IsOfKernel [] first split.places_first of_kernel split.placed_first)
+    (each_place facts IsOther split.taken_then rest split.places_rest other split.placed_rest)
 
 -- ---- segments in address order
 
 seen_key : SeenPart → ℕ
 seen_key part = part.address
 
-put_seen : {X : Type 0} (g : X → SeenPart) (x : X) (xs : List X) → map g (put (λ y. (g y).address) x xs) ≡ put seen_key (g x) (map g xs)
+put_seen : {X : Type 0} (g : X → SeenPart) (x : X) (xs : List X)
+    → map g (put (λ y. (g y).address) x xs) ≡ put seen_key (g x) (map g xs)
 unfolding seen_key
 put_seen g x [] = refl
 put_seen {X = X} g x (next ∷ xs) =
-    elim (nat_lt (g x).address (g next).address) as (λ b. map g (cond b (x ∷ next ∷ xs) (next ∷ put (λ (y : X). (g y).address) x xs)) ≡ cond b (g x ∷ g next ∷ map g xs) (g next ∷ put seen_key (g x) (map g xs))) [
+    elim (nat_lt (g x).address (g next).address) as (λ b.
+    map g (cond b (x ∷ next ∷ xs) (next ∷ put (λ (y : X). (g y).address) x xs))
+    ≡ cond b (g x ∷ g next ∷ map g xs) (g next ∷ put seen_key (g x) (map g xs))) [
       | true ↦ refl
       | false ↦ ap (λ (rest : List SeenPart). g next ∷ rest) (put_seen g x xs)
     ]
 
-among_seen : {X : Type 0} (g : X → SeenPart) (sorted xs : List X) → map g (in_order_among (λ y. (g y).address) sorted xs) ≡ in_order_among seen_key (map g sorted) (map g xs)
+among_seen : {X : Type 0} (g : X → SeenPart) (sorted xs : List X)
+    → map g (in_order_among (λ y. (g y).address) sorted xs)
+    ≡ in_order_among seen_key (map g sorted) (map g xs)
 among_seen g sorted [] = refl
 among_seen {X = X} g sorted (x ∷ xs) =
-    among_seen g (put (λ (y : X). (g y).address) x sorted) xs ∙ ap (λ (s : List SeenPart). in_order_among seen_key s (map g xs)) (put_seen g x sorted)
+    among_seen g (put (λ (y : X). (g y).address) x sorted) xs
+    ∙ ap (λ (s : List SeenPart). in_order_among seen_key s (map g xs)) (put_seen g x sorted)
 
-in_order_seen : (places : List Place) (segments : List Segment) → map seen_place places ≡ map segment_part segments → map seen_place (in_order places) ≡ map segment_part (ascending segments)
+in_order_seen : (places : List Place) (segments : List Segment)
+    → map seen_place places ≡ map segment_part segments
+    → map seen_place (in_order places) ≡ map segment_part (ascending segments)
 in_order_seen places segments same =
-    among_seen seen_place [] places ∙ ap (in_order_by seen_key) same ∙ sym (among_seen segment_part [] segments)
+    among_seen seen_place [] places ∙ ap (in_order_by seen_key) same
+    ∙ sym (among_seen segment_part [] segments)
 
-segments_seen : (facts : MachineFacts) (taken : List (Range ℕ)) (k : ℕ) (segments : List Segment) (places : List Place) → ArePlaced facts taken (segment_rows k segments) places → map seen_place places ≡ map segment_part segments
+segments_seen : (facts : MachineFacts) (taken : List (Range ℕ)) (k : ℕ) (segments : List Segment)
+    (places : List Place) → ArePlaced facts taken (segment_rows k segments) places
+    → map seen_place places ≡ map segment_part segments
 segments_seen facts taken k [] [] placed = refl
 segments_seen facts taken k [] (p ∷ places) placed = absurd placed
 segments_seen facts taken k (s ∷ segments) [] placed = absurd placed
@@ -168,21 +230,35 @@ segments_seen facts taken k (s ∷ segments) (p ∷ places) placed =
     let rest = segments_seen facts (put_in (range_of p) taken) (suc k) segments places placed.2 in
     λ i. record { address = at i; length = size i } ∷ rest i
 
-segment_rows_of_kernel : (k : ℕ) (segments : List Segment) → All (Anywhere IsOfKernel) (segment_rows k segments)
+segment_rows_of_kernel : (k : ℕ) (segments : List Segment)
+    → All (Anywhere IsOfKernel) (segment_rows k segments)
 segment_rows_of_kernel k [] = All-nil (Anywhere IsOfKernel)
-segment_rows_of_kernel k (s ∷ segments) = All-cons (Anywhere IsOfKernel) _ (segment_rows (suc k) segments) (λ a. refl) (segment_rows_of_kernel (suc k) segments)
+segment_rows_of_kernel k (s ∷ segments) =
+    All-cons (Anywhere IsOfKernel) _ (segment_rows (suc k) segments) (λ a. refl)
+    (segment_rows_of_kernel (suc k) segments)
 
-pub kernel_rows_of_kernel : (segments : List Segment) (given : Option Relocation) → All (Anywhere IsOfKernel) (kernel_rows segments given)
+pub kernel_rows_of_kernel : (segments : List Segment) (given : Option Relocation)
+    → All (Anywhere IsOfKernel) (kernel_rows segments given)
 kernel_rows_of_kernel segments None = segment_rows_of_kernel 0 segments
-kernel_rows_of_kernel segments (Some r) = All-cons (Anywhere IsOfKernel) _ [] (λ a. refl) (All-nil (Anywhere IsOfKernel))
+kernel_rows_of_kernel segments (Some r) =
+    All-cons (Anywhere IsOfKernel) _ [] (λ a. refl) (All-nil (Anywhere IsOfKernel))
 
 -- a Multiboot2 kernel at its places
-pub segments_shown : (facts : MachineFacts) (segments : List Segment) (entry : ℕ) (given : Option Relocation) (first others : List Place) (seen : SeenFacts) → ArePlaced facts [] (kernel_rows segments given) first
-    → seen.entry ≡ entry_at entry segments given (address_of Kernel 0 (first ++ others)) → seen.kernel ≡ map seen_place (in_order first) → ShowsSegments segments entry given seen
-segments_shown facts segments entry None first others seen placed at kernel = (at, kernel ∙ in_order_seen first segments (segments_seen facts [] 0 segments first placed))
+pub segments_shown : (facts : MachineFacts) (segments : List Segment) (entry : ℕ)
+    (given : Option Relocation) (first others : List Place) (seen : SeenFacts)
+    → ArePlaced facts [] (kernel_rows segments given) first
+    → seen.entry ≡ entry_at entry segments given (address_of Kernel 0 (first ++ others))
+    → seen.kernel ≡ map seen_place (in_order first) → ShowsSegments segments entry given seen
+segments_shown facts segments entry None first others seen placed at kernel =
+    (at, kernel ∙ in_order_seen first segments (segments_seen facts [] 0 segments first placed))
 segments_shown facts segments entry (Some r) [] others seen placed at kernel = absurd placed
-segments_shown facts segments entry (Some r) (p ∷ q ∷ first) others seen placed at kernel = absurd placed.2
+segments_shown facts segments entry (Some r) (p ∷ q ∷ first) others seen placed at kernel =
+    absurd placed.2
 segments_shown facts segments entry (Some r) (p ∷ []) others seen placed at kernel =
-    let base : address_of Kernel 0 (p ∷ others) ≡ p.address = ap (λ (q : Place). address_of Kernel 0 (q ∷ others)) placed.1 in
-    let size : p.length ≡ span_of segments = ap (λ (q : Place). q.length) placed.1 in
-    (p.address, at ∙ ap (entry_at entry segments (Some r)) base, kernel ∙ (λ i. record { address = p.address; length = size i } ∷ []))
+    let base : address_of Kernel 0 (p ∷ others) ≡ p.address =
+    ap (λ (q : Place). address_of Kernel 0 (q ∷ others)) placed.1 in
+    let size : p.length ≡ span_of segments = ap (λ (q : Place). q.length) placed.1 in (
+      p.address,
+      at ∙ ap (entry_at entry segments (Some r)) base,
+      kernel ∙ (λ i. record { address = p.address; length = size i } ∷ []),
+    )

@@ -30,37 +30,60 @@ record Shows (facts : MachineFacts) (value : EntryValue) (h : Handover) : Type 0
   entered : IsEntered h
 
 -- by what is read of the kernel
-by_reading : (facts : MachineFacts) (value : EntryValue) (places : List Place) (reading : Reading) → AreMachineFacts facts → HasByteLines value
-    → length value.module_lines ≤ 64 → lines_fault (lines_of value) ≡ None → IsRead facts value reading
+by_reading : (facts : MachineFacts) (value : EntryValue) (places : List Place) (reading : Reading)
+    → AreMachineFacts facts → HasByteLines value
+    → length value.module_lines ≤ 64 → lines_fault (lines_of value) ≡ None
+    → IsRead facts value reading
     → ArePlaced facts [] (rows_of facts value reading) places
-    → AllPairs (λ p q. end_of p ≤ q.address) (handover_of facts value reading places).parts → Shows facts value (handover_of facts value reading places)
-by_reading facts value places (multiboot2 kernel) machine bytes few lines read placed apart = record {
-  seen = information.seen facts value kernel places machine bytes few lines read.1 placed apart read.0;
-  is_seen = information.information_seen facts value kernel places machine bytes few lines read.1 placed apart read.0;
-  entry = information.information_shown facts value kernel places machine bytes few lines read.1 placed apart read.0;
-  entered = information.information_entered facts value kernel places machine bytes few lines read.1 placed apart read.0;
-}
+    → AllPairs (λ p q. end_of p ≤ q.address) (handover_of facts value reading places).parts
+    → Shows facts value (handover_of facts value reading places)
+by_reading facts value places (multiboot2 kernel) machine bytes few lines read placed apart =
+    record {
+      seen =
+          information.seen facts value kernel places machine bytes few lines read.1 placed apart read.0;
+      is_seen =
+          information.information_seen facts value kernel places machine bytes few lines read.1 placed
+          apart read.0;
+      entry =
+          information.information_shown facts value kernel places machine bytes few lines read.1 placed
+          apart read.0;
+      entered =
+          information.information_entered facts value kernel places machine bytes few lines read.1
+          placed apart read.0;
+    }
 by_reading facts value places (linux setup) machine bytes few lines read placed apart = record {
   seen = parameters.seen facts value setup places machine bytes lines read.0 read.1 placed apart;
-  is_seen = parameters.linux_seen facts value setup places machine bytes lines read.0 read.1 placed apart;
-  entry = parameters.linux_shown facts value setup places machine bytes lines read.0 read.1 placed apart;
-  entered = parameters.linux_entered facts value setup places machine bytes lines read.0 read.1 placed apart;
+  is_seen =
+      parameters.linux_seen facts value setup places machine bytes lines read.0 read.1 placed apart;
+  entry =
+      parameters.linux_shown facts value setup places machine bytes lines read.0 read.1
+      placed apart;
+  entered =
+      parameters.linux_entered facts value setup places machine bytes lines read.0 read.1
+      placed apart;
 }
 
-shows : (facts : MachineFacts) (value : EntryValue) (h : Handover) → AreMachineFacts facts → HasByteLines value
+shows : (facts : MachineFacts) (value : EntryValue) (h : Handover) → AreMachineFacts facts
+    → HasByteLines value
     → length value.module_lines ≤ 64 → IsHandover facts value h → Shows facts value h
 shows facts value h machine bytes few is =
-    let apart = subst (λ (x : Handover). AllPairs (λ (p q : Part). end_of p ≤ q.address) x.parts) is.is (all_apart facts value h is) in
-    subst (Shows facts value) (sym is.is) (by_reading facts value is.places is.reading machine bytes few is.lines is.read is.placed apart)
+    let apart =
+    subst (λ (x : Handover). AllPairs (λ (p q : Part). end_of p ≤ q.address) x.parts) is.is
+    (all_apart facts value h is) in
+    subst (Shows facts value) (sym is.is)
+    (by_reading facts value is.places is.reading machine bytes few is.lines is.read is.placed
+    apart)
 
-pub handovers_are_seen : (facts : MachineFacts) (value : EntryValue) (h : Handover) → AreMachineFacts facts → HasByteLines value
+pub handovers_are_seen : (facts : MachineFacts) (value : EntryValue) (h : Handover)
+    → AreMachineFacts facts → HasByteLines value
     → length value.module_lines ≤ 64 → IsHandover facts value h
     → (seen : SeenFacts) × IsSeen h seen × ShowsEntry facts value seen
 handovers_are_seen facts value h machine bytes few is =
     let all = shows facts value h machine bytes few is in
     (all.seen, all.is_seen, all.entry)
 
-pub handovers_are_sound : (facts : MachineFacts) (value : EntryValue) (h : Handover) → AreMachineFacts facts → HasByteLines value
+pub handovers_are_sound : (facts : MachineFacts) (value : EntryValue) (h : Handover)
+    → AreMachineFacts facts → HasByteLines value
     → length value.module_lines ≤ 64 → IsHandover facts value h → IsSound h
 handovers_are_sound facts value h machine bytes few is =
     let all = shows facts value h machine bytes few is in
@@ -72,14 +95,20 @@ handovers_are_sound facts value h machine bytes few is =
 same_handover : (h image : Handover) → IsKept h → IsImage (spelling h) image → h ≡ image
 same_handover h image kept is = image_is_read_again h image kept.spellable is.kept.spellable is.is
 
-pub images_show : (facts : MachineFacts) (value : EntryValue) (h image : Handover) (seen : SeenFacts) → AreMachineFacts facts → HasByteLines value
-    → length value.module_lines ≤ 64 → IsHandover facts value h → IsKept h → IsImage (spelling h) image → IsSeen image seen → ShowsEntry facts value seen
+pub images_show : (facts : MachineFacts) (value : EntryValue) (h image : Handover)
+    (seen : SeenFacts) → AreMachineFacts facts → HasByteLines value
+    → length value.module_lines ≤ 64 → IsHandover facts value h → IsKept h
+    → IsImage (spelling h) image → IsSeen image seen → ShowsEntry facts value seen
 images_show facts value h image seen machine bytes few is kept spelled sees =
     let all = shows facts value h machine bytes few is in
-    let own = subst (λ (x : Handover). IsSeen x seen) (sym (same_handover h image kept spelled)) sees in
+    let own =
+    subst (λ (x : Handover). IsSeen x seen) (sym (same_handover h image kept spelled)) sees in
     subst (ShowsEntry facts value) (seen_is_determined h all.seen seen all.is_seen own) all.entry
 
-pub images_are_sound : (facts : MachineFacts) (value : EntryValue) (h image : Handover) → AreMachineFacts facts → HasByteLines value
-    → length value.module_lines ≤ 64 → IsHandover facts value h → IsKept h → IsImage (spelling h) image → IsSound image
+pub images_are_sound : (facts : MachineFacts) (value : EntryValue) (h image : Handover)
+    → AreMachineFacts facts → HasByteLines value
+    → length value.module_lines ≤ 64 → IsHandover facts value h → IsKept h
+    → IsImage (spelling h) image → IsSound image
 images_are_sound facts value h image machine bytes few is kept spelled =
-    subst IsSound (same_handover h image kept spelled) (handovers_are_sound facts value h machine bytes few is)
+    subst IsSound (same_handover h image kept spelled)
+    (handovers_are_sound facts value h machine bytes few is)

@@ -1,9 +1,12 @@
 -- The line of a Linux kernel in its part: its text, and zeros behind it.
-use Rattle.std.proofs.Common.{◌≡◌, ◌+◌, ◌-◌, ◌<◌, ◌≤◌, ℕ, suc, Bool, true, false, List, ◌∷◌, ◌++◌, length, drop, get_or, replicate, Some, nat_lt, refl, sym, ap, ap₂, ◌∙◌, arith, subst, All, AllPairs, length-append}
+use Rattle.std.proofs.Common.{◌≡◌, ◌+◌, ◌-◌, ◌<◌, ◌≤◌, ℕ, suc, Bool, true, false, List, ◌∷◌, ◌++◌}
+use Rattle.std.proofs.Common.{length, drop, get_or, replicate, Some, nat_lt, refl, sym, ap, ap₂}
+use Rattle.std.proofs.Common.{◌∙◌, arith, subst, All, AllPairs, length-append}
 use Rattle.std.specs.Prelude.{◌==◌}
 use Rattle.std.specs.List.{list_any, position_or_len}
 use Rattle.std.proofs.lemmas.Bool.{lt-ltb, ne_eqb, eqb-true}
-use Rattle.std.proofs.lemmas.List.{get_or-map, get_or_append_left, length-map, length-replicate, take_at}
+use Rattle.std.proofs.lemmas.List.{get_or-map, get_or_append_left, length-map, length-replicate}
+use Rattle.std.proofs.lemmas.List.{take_at}
 use Rattle.std.proofs.lemmas.List.Folds.{Any-from_list_any}
 use Rattle.std.proofs.lemmas.List.Sums.{position_or_len_is}
 use Rattle.std.proofs.Math.Seq.{get_or-append_seam}
@@ -17,7 +20,8 @@ use Rattle.bl_load.specs.Handover.{end_of, filled}
 use Rattle.bl_walk.specs.Inside.{rest_in}
 use Rattle.bl_walk.specs.Seen.{text_of}
 use Rattle.bl_walk.proofs.InsideLemmas.{some_rest_in}
-use Rattle.bl_walk.proofs.PartLemmas.{is_of, is_at, part_of, parts_of, found_there, address_held, both_true, same_role}
+use Rattle.bl_walk.proofs.PartLemmas.{is_of, is_at, part_of, parts_of, found_there, address_held}
+use Rattle.bl_walk.proofs.PartLemmas.{both_true, same_role}
 
 -- what stands from the first byte on
 whole : (bytes : List ℕ) (a b : ℕ) → a ≡ b → drop (a - b) bytes ≡ bytes
@@ -27,10 +31,14 @@ whole bytes a b same = let none : a - b ≡ 0 = omega arith in rw none refl
 abbrev pub IsLong : Role → ℕ → ℕ → Place → Type 0
 IsLong role index size place = is_of role index place ≡ true → place.length ≡ size
 
-module _ (places : List Place) (content : Role → ℕ → List ℕ) (apart : AllPairs (λ p q. end_of p ≤ q.address) (parts_of places content)) where
-  rest_at : (role : Role) (index size k : ℕ) (q : Place) → k < length (in_order places) → get_or (in_order places) k q ≡ q
-      → is_at role index (address_of role index places) q ≡ true → IsLong role index size q → 1 ≤ size
-      → rest_in (parts_of places content) (address_of role index places) ≡ Some (filled size (content role index))
+module _ (places : List Place) (content : Role → ℕ → List ℕ)
+    (apart : AllPairs (λ p q. end_of p ≤ q.address) (parts_of places content)) where
+  rest_at : (role : Role) (index size k : ℕ) (q : Place) → k < length (in_order places)
+      → get_or (in_order places) k q ≡ q
+      → is_at role index (address_of role index places) q ≡ true → IsLong role index size q
+      → 1 ≤ size
+      → rest_in (parts_of places content) (address_of role index places)
+      ≡ Some (filled size (content role index))
   rest_at role index size k q within is passes long some =
       let parts = parts_of places content in
       let address = address_of role index places in
@@ -41,23 +49,35 @@ module _ (places : List Place) (content : Role → ℕ → List ℕ) (apart : Al
       let of_index : q.index ≡ index = eqb-true q.index index names.1 in
       let held : content q.role q.index ≡ content role index = ap₂ content of_role of_index in
       let part = part_of content q in
-      let here : get_or parts k part ≡ part = get_or-map (part_of content) (in_order places) k q part within ∙ ap (part_of content) is in
-      let many : length parts ≡ length (in_order places) = length-map (in_order places) (part_of content) in
+      let here : get_or parts k part ≡ part =
+      get_or-map (part_of content) (in_order places) k q part within
+      ∙ ap (part_of content) is in
+      let many : length parts ≡ length (in_order places) =
+      length-map (in_order places) (part_of content) in
       let sized : q.length ≡ size = long split.0 in
       let zeros = length-replicate {A = ℕ} (q.length - length (content q.role q.index)) 0 in
-      let sum = length-append (content q.role q.index) (replicate (q.length - length (content q.role q.index)) 0) in
+      let sum =
+      length-append (content q.role q.index)
+      (replicate (q.length - length (content q.role q.index)) 0) in
       let low : (get_or parts k part).address ≤ address = rw here (omega arith) in
-      let high : address + 1 ≤ end_of (get_or parts k part) = rw here (omega (arith, sum, zeros, sized)) in
-      let found = found_there parts address 1 k part apart (omega arith) (omega arith) low high ∙ ap Some here in
+      let high : address + 1 ≤ end_of (get_or parts k part) =
+      rw here (omega (arith, sum, zeros, sized)) in
+      let found =
+      found_there parts address 1 k part apart (omega arith) (omega arith) low high
+      ∙ ap Some here in
       some_rest_in parts address part found
       ∙ ap Some (whole part.bytes address q.address (sym stands) ∙ ap₂ filled sized held)
 
   -- the part of a role and an index, from its first byte on
-  pub held_rest : (role : Role) (index size : ℕ) → list_any (is_of role index) places ≡ true → All (IsLong role index size) places → 1 ≤ size
-      → rest_in (parts_of places content) (address_of role index places) ≡ Some (filled size (content role index))
+  pub held_rest : (role : Role) (index size : ℕ) → list_any (is_of role index) places ≡ true
+      → All (IsLong role index size) places → 1 ≤ size
+      → rest_in (parts_of places content) (address_of role index places)
+      ≡ Some (filled size (content role index))
   held_rest role index size held long some =
       let test = is_at role index (address_of role index places) in
-      let any = Any-from_list_any test (in_order places) (list_any-in_order place_key test places ∙ address_held role index places held) in
+      let any =
+      Any-from_list_any test (in_order places)
+      (list_any-in_order place_key test places ∙ address_held role index places held) in
       let sorted = in_order_all place_key (IsLong role index size) places long in
       let one = subst (IsLong role index size) any.3 (sorted any.0 any.1 any.2) in
       rest_at role index size any.0 any.1 any.2 any.3 any.4 one some
@@ -65,22 +85,29 @@ module _ (places : List Place) (content : Role → ℕ → List ℕ) (apart : Al
 -- ---- the text
 
 -- the first zero stands behind it
-zero_behind : (line rest : List ℕ) → IsText line → position_or_len (λ b. b == 0) (line ++ 0 ∷ rest) ≡ length line
+zero_behind : (line rest : List ℕ) → IsText line
+    → position_or_len (λ b. b == 0) (line ++ 0 ∷ rest) ≡ length line
 zero_behind line rest text =
     let p : ℕ → Bool = λ b. b == 0 in
     let size = length-append line (0 ∷ rest) in
     let before : (k : ℕ) → k < length line → p (get_or (line ++ 0 ∷ rest) k 0) ≡ false =
-    λ k lt. ap p (get_or_append_left line (0 ∷ rest) 0 k lt) ∙ ne_eqb (get_or line k 0) 0 (text k 0 lt).0 in
-    position_or_len_is p (line ++ 0 ∷ rest) (length line) 0 (omega (arith, size)) before (λ lt. ap p (get_or-append_seam line 0 rest 0))
+    λ k lt.
+    ap p (get_or_append_left line (0 ∷ rest) 0 k lt)
+    ∙ ne_eqb (get_or line k 0) 0 (text k 0 lt).0 in
+    position_or_len_is p (line ++ 0 ∷ rest) (length line) 0 (omega (arith, size)) before
+    (λ lt. ap p (get_or-append_seam line 0 rest 0))
 
 text_before : (line rest : List ℕ) → IsText line → text_of (line ++ 0 ∷ rest) ≡ Some line
 unfolding text_of
 text_before line rest text =
     let size = length-append line (0 ∷ rest) in
-    let within : nat_lt (length line) (length (line ++ 0 ∷ rest)) ≡ true = lt-ltb (length line) (length (line ++ 0 ∷ rest)) (omega (arith, size)) in
+    let within : nat_lt (length line) (length (line ++ 0 ∷ rest)) ≡ true =
+    lt-ltb (length line) (length (line ++ 0 ∷ rest)) (omega (arith, size)) in
     rw (zero_behind line rest text, within) (ap Some (take_at line (0 ∷ rest) (length line) refl))
 
-pub line_shown : (line : List ℕ) (size : ℕ) → IsText line → length line < size → text_of (filled size line) ≡ Some line
+pub line_shown : (line : List ℕ) (size : ℕ) → IsText line → length line < size
+    → text_of (filled size line) ≡ Some line
 line_shown line size text short =
     let next : size - length line ≡ suc (size - length line - 1) = omega arith in
-    ap (λ (n : ℕ). text_of (line ++ replicate n 0)) next ∙ text_before line (replicate (size - length line - 1) 0) text
+    ap (λ (n : ℕ). text_of (line ++ replicate n 0)) next
+    ∙ text_before line (replicate (size - length line - 1) 0) text

@@ -1,5 +1,6 @@
 -- The rows of a Linux entry, as its kernel sees their parts.
-use Rattle.std.proofs.Common.{◌≡◌, ◌≤◌, ◌∷◌, ◌++◌, ℕ, Bool, true, false, List, [], map, length, take, Some, None, cond, refl, sym, ap, ◌∙◌, arith, All, nat_eq}
+use Rattle.std.proofs.Common.{◌≡◌, ◌≤◌, ◌∷◌, ◌++◌, ℕ, Bool, true, false, List, [], map, length}
+use Rattle.std.proofs.Common.{take, Some, None, cond, refl, sym, ap, ◌∙◌, arith, All, nat_eq}
 use Rattle.std.specs.List.{list_any}
 use Rattle.std.proofs.lemmas.Bool.{cond_both}
 use Rattle.std.proofs.lemmas.List.Elements.{All-head, All-cons, All-nil}
@@ -16,7 +17,8 @@ use Rattle.bl_plan.specs.declared.row.Row.{Row}
 use Rattle.bl_load.specs.Addresses.{address_of}
 use Rattle.bl_load.specs.declared.refusal.Refusal.{Refusal}
 use Rattle.bl_load.specs.Handover.{filled}
-use Rattle.bl_load.specs.LinuxRows.{fixed_row, moved_row, linux_kernel_row, frame_row, line_limit, initrd_rows, linux_rows}
+use Rattle.bl_load.specs.LinuxRows.{fixed_row, moved_row, linux_kernel_row, frame_row, line_limit}
+use Rattle.bl_load.specs.LinuxRows.{initrd_rows, linux_rows}
 use Rattle.bl_load.proofs.RowPlaceLemmas.{Anywhere}
 use Rattle.bl_walk.proofs.KernelLemmas.{IsOfKernel, IsOther, seen_place}
 use Rattle.bl_walk.proofs.PartLemmas.{kernel_holds, holds_by}
@@ -24,27 +26,37 @@ use Rattle.bl_walk.proofs.PartLemmas.{kernel_holds, holds_by}
 -- ---- the rows
 
 unfoldable pub params_rows : Setup → List ℕ → List Row
-params_rows setup initrd = frame_row BootParams most_size ∷ frame_row CommandLine line_limit ∷ frame_row Gdt most_size ∷ initrd_rows setup initrd
+params_rows setup initrd =
+    frame_row BootParams most_size ∷ frame_row CommandLine line_limit ∷ frame_row Gdt most_size
+    ∷ initrd_rows setup initrd
 
 pub kernel_of_kernel : (setup : Setup) → All (Anywhere IsOfKernel) (linux_kernel_row setup ∷ [])
 kernel_of_kernel setup =
     All-cons (Anywhere IsOfKernel) (linux_kernel_row setup) []
-    (cond_both (nat_eq setup.relocatable_kernel 0) (fixed_row setup) (moved_row setup) (Anywhere IsOfKernel) (λ _ a. refl) (λ _ a. refl))
+    (cond_both (nat_eq setup.relocatable_kernel 0) (fixed_row setup) (moved_row setup)
+    (Anywhere IsOfKernel) (λ _ a. refl) (λ _ a. refl))
     (All-nil (Anywhere IsOfKernel))
 
 initrd_other : (setup : Setup) (initrd : List ℕ) → All (Anywhere IsOther) (initrd_rows setup initrd)
 initrd_other setup [] = All-nil (Anywhere IsOther)
-initrd_other setup (byte ∷ bytes) = All-cons (Anywhere IsOther) _ [] (λ a. refl) (All-nil (Anywhere IsOther))
+initrd_other setup (byte ∷ bytes) =
+    All-cons (Anywhere IsOther) _ [] (λ a. refl) (All-nil (Anywhere IsOther))
 
-pub params_other : (setup : Setup) (initrd : List ℕ) → All (Anywhere IsOther) (params_rows setup initrd)
+pub params_other : (setup : Setup) (initrd : List ℕ)
+    → All (Anywhere IsOther) (params_rows setup initrd)
 unfolding params_rows
 params_other setup initrd =
-    All-cons (Anywhere IsOther) (frame_row BootParams most_size) (frame_row CommandLine line_limit ∷ frame_row Gdt most_size ∷ initrd_rows setup initrd) (λ a. refl)
-    (All-cons (Anywhere IsOther) (frame_row CommandLine line_limit) (frame_row Gdt most_size ∷ initrd_rows setup initrd) (λ a. refl)
-    (All-cons (Anywhere IsOther) (frame_row Gdt most_size) (initrd_rows setup initrd) (λ a. refl) (initrd_other setup initrd)))
+    All-cons (Anywhere IsOther) (frame_row BootParams most_size)
+    (frame_row CommandLine line_limit ∷ frame_row Gdt most_size ∷ initrd_rows setup initrd)
+    (λ a. refl)
+    (All-cons (Anywhere IsOther) (frame_row CommandLine line_limit)
+    (frame_row Gdt most_size ∷ initrd_rows setup initrd) (λ a. refl)
+    (All-cons (Anywhere IsOther) (frame_row Gdt most_size) (initrd_rows setup initrd) (λ a. refl)
+    (initrd_other setup initrd)))
 
 -- the map has no more runs than boot parameters have room for
-pub few_told : (a b : Bool) (x y : Refusal) → cond a (Some x) (cond b (Some y) None) ≡ None → b ≡ false
+pub few_told : (a b : Bool) (x y : Refusal) → cond a (Some x) (cond b (Some y) None) ≡ None
+    → b ≡ false
 few_told true b x y told = absurd cc
 few_told false true x y told = absurd cc
 few_told false false x y told = refl
@@ -52,20 +64,28 @@ few_told false false x y told = refl
 -- ---- the kernel's place
 
 -- its row names it
-kernel_named : (setup : Setup) → ((linux_kernel_row setup).role ≡ Kernel) × ((linux_kernel_row setup).index ≡ 0)
+kernel_named : (setup : Setup)
+    → ((linux_kernel_row setup).role ≡ Kernel) × ((linux_kernel_row setup).index ≡ 0)
 kernel_named setup =
-    cond_both (nat_eq setup.relocatable_kernel 0) (fixed_row setup) (moved_row setup) (λ (row : Row). (row.role ≡ Kernel) × (row.index ≡ 0))
+    cond_both (nat_eq setup.relocatable_kernel 0) (fixed_row setup) (moved_row setup)
+    (λ (row : Row). (row.role ≡ Kernel) × (row.index ≡ 0))
     (λ _. (refl, refl)) (λ _. (refl, refl))
 
-first_address : (setup : Setup) (p : Place) (others : List Place) → p ≡ place_at (linux_kernel_row setup) p.address → address_of Kernel 0 (p ∷ others) ≡ p.address
+first_address : (setup : Setup) (p : Place) (others : List Place)
+    → p ≡ place_at (linux_kernel_row setup) p.address → address_of Kernel 0 (p ∷ others) ≡ p.address
 first_address setup p others is =
     let named = kernel_named setup in
     let role : p.role ≡ Kernel = ap (λ (q : Place). q.role) is ∙ named.0 in
     let index : p.index ≡ 0 = ap (λ (q : Place). q.index) is ∙ named.1 in
     rw (role, index) refl
 
-pub payload_at : (facts : MachineFacts) (setup : Setup) (first others : List Place) → ArePlaced facts [] (linux_kernel_row setup ∷ []) first
-    → map seen_place (in_order first) ≡ record { address = address_of Kernel 0 (first ++ others); length = (linux_kernel_row setup).length } ∷ []
+pub payload_at : (facts : MachineFacts) (setup : Setup) (first others : List Place)
+    → ArePlaced facts [] (linux_kernel_row setup ∷ []) first
+    → map seen_place (in_order first)
+    ≡ record {
+      address = address_of Kernel 0 (first ++ others);
+      length = (linux_kernel_row setup).length;
+    } ∷ []
 payload_at facts setup [] others placed = absurd placed
 payload_at facts setup (p ∷ q ∷ first) others placed = absurd placed.2
 payload_at facts setup (p ∷ []) others placed =
@@ -74,7 +94,8 @@ payload_at facts setup (p ∷ []) others placed =
     λ i. record { address = sym address i; length = size i } ∷ []
 
 -- it is entered there
-pub kernel_entered : (facts : MachineFacts) (setup : Setup) (initrd : List ℕ) (places : List Place) → ArePlaced facts [] (linux_rows setup initrd) places → All (λ p. 1 ≤ p.length) places
+pub kernel_entered : (facts : MachineFacts) (setup : Setup) (initrd : List ℕ) (places : List Place)
+    → ArePlaced facts [] (linux_rows setup initrd) places → All (λ p. 1 ≤ p.length) places
     → list_any (kernel_holds (address_of Kernel 0 places)) places ≡ true
 kernel_entered facts setup initrd [] placed filled = absurd placed
 kernel_entered facts setup initrd (p ∷ places) placed filled =
@@ -85,4 +106,6 @@ kernel_entered facts setup initrd (p ∷ places) placed filled =
     rw here refl
 
 pub front_is_gdt : take 32 gdt ≡ gdt
-front_is_gdt = let size : length gdt ≡ 32 = omega arith in ap (λ (n : ℕ). take n gdt) (sym size) ∙ take-length gdt
+front_is_gdt =
+    let size : length gdt ≡ 32 =
+    omega arith in ap (λ (n : ℕ). take n gdt) (sym size) ∙ take-length gdt

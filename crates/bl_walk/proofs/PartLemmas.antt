@@ -1,7 +1,11 @@
 -- The bytes of the part of a role and an index, where parts stand at places in address order.
-use Rattle.std.proofs.Common.{◌≡◌, ◌+◌, ◌-◌, ◌<◌, ◌≤◌, ◌&&◌, ◌||◌, ℕ, Bool, true, false, List, [], ◌∷◌, ◌++◌, map, length, take, get_or, slice_range, replicate, Some, nat_eq, nat_le, nat_lt, cond, refl, sym, ap, ap₂, ◌∙◌, inl, inr, arith, AllPairs, length-append}
+use Rattle.std.proofs.Common.{◌≡◌, ◌+◌, ◌-◌, ◌<◌, ◌≤◌, ◌&&◌, ◌||◌, ℕ, Bool, true, false, List, []}
+use Rattle.std.proofs.Common.{◌∷◌, ◌++◌, map, length, take, get_or, slice_range, replicate, Some}
+use Rattle.std.proofs.Common.{nat_eq, nat_le, nat_lt, cond, refl, sym, ap, ap₂, ◌∙◌, inl, inr}
+use Rattle.std.proofs.Common.{arith, AllPairs, length-append}
 use Rattle.std.specs.List.{slice_get, position_or_len, list_any}
-use Rattle.std.proofs.lemmas.Bool.{le-leb, leb-true, ltb-true, lt-ltb, eq-eqb, eqb-true, cases_order}
+use Rattle.std.proofs.lemmas.Bool.{le-leb, leb-true, ltb-true, lt-ltb, eq-eqb, eqb-true}
+use Rattle.std.proofs.lemmas.Bool.{cases_order}
 use Rattle.std.proofs.lemmas.List.{take-append-le, get_or-map, length-map, length-replicate}
 use Rattle.std.proofs.lemmas.List.Folds.{find_at, Any-from_list_any}
 use Rattle.std.proofs.lemmas.List.Sums.{position_or_len_is}
@@ -10,7 +14,8 @@ use Rattle.bl_plan.specs.Order.{in_order, place_key}
 use Rattle.bl_plan.specs.Roles.{role_number}
 use Rattle.bl_plan.specs.declared.place.Place.{Place}
 use Rattle.bl_plan.specs.declared.role.Role.{Role}
-use Rattle.bl_plan.specs.declared.role.Role.TheVariants.{Kernel, Module, Information, BootParams, CommandLine, Gdt, Initrd}
+use Rattle.bl_plan.specs.declared.role.Role.TheVariants.{Kernel, Module, Information, BootParams}
+use Rattle.bl_plan.specs.declared.role.Role.TheVariants.{CommandLine, Gdt, Initrd}
 use Rattle.bl_plan.proofs.OrderLemmas.{list_any-in_order}
 use Rattle.bl_load.specs.Addresses.{address_of}
 use Rattle.bl_load.specs.Handover.{Part, end_of, part_at, filled}
@@ -20,34 +25,47 @@ use Rattle.bl_walk.proofs.StateLemmas.{entered_part}
 use Rattle.bl_walk.proofs.InsideLemmas.{lies-below, nothing_in, inside_in}
 
 -- a part that holds a range is the one in which it lies
-pub found_there : (parts : List Part) (address count k : ℕ) (d : Part) → AllPairs (λ p q. end_of p ≤ q.address) parts → k < length parts
+pub found_there : (parts : List Part) (address count k : ℕ) (d : Part)
+    → AllPairs (λ p q. end_of p ≤ q.address) parts → k < length parts
     → 1 ≤ count → (get_or parts k d).address ≤ address → address + count ≤ end_of (get_or parts k d)
     → part_with parts address count ≡ Some (get_or parts k d)
 unfolding part_with
 found_there parts address count k d apart within some from upto =
     let p = lies_in address count in
-    let lies : p (get_or parts k d) ≡ true = rw (le-leb (get_or parts k d).address address from, le-leb (address + count) (end_of (get_or parts k d)) upto) in
-    let before : (j : ℕ) → j < k → p (get_or parts j d) ≡ false = λ j lt. let behind = apart j k d lt within in lies-below address count (get_or parts j d) some (omega arith) in
-    let place : position_or_len p parts ≡ k = position_or_len_is p parts k d (omega arith) before (λ lt. lies) in
+    let lies : p (get_or parts k d) ≡ true =
+    rw (
+      le-leb (get_or parts k d).address address from,
+      le-leb (address + count) (end_of (get_or parts k d)) upto,
+    ) in
+    let before : (j : ℕ) → j < k → p (get_or parts j d) ≡ false =
+    λ j lt. let behind =
+    apart j k d lt within in
+    lies-below address count (get_or parts j d) some (omega arith) in
+    let place : position_or_len p parts ≡ k =
+    position_or_len_is p parts k d (omega arith) before (λ lt. lies) in
     find_at p parts ∙ ap (slice_get parts) place ∙ slice_get-get_or parts k d within
 
 -- whether a place is that of a role and an index
 abbrev pub is_of : Role → ℕ → Place → Bool
-is_of role index place = nat_eq (role_number place.role) (role_number role) && nat_eq place.index index
+is_of role index place =
+    nat_eq (role_number place.role) (role_number role) && nat_eq place.index index
 
 -- and stands at an address
 abbrev pub is_at : Role → ℕ → ℕ → Place → Bool
 is_at role index address place = is_of role index place && nat_eq place.address address
 
 -- the place that is found by role and index stands at its address
-pub address_held : (role : Role) (index : ℕ) (places : List Place) → list_any (is_of role index) places ≡ true
+pub address_held : (role : Role) (index : ℕ) (places : List Place)
+    → list_any (is_of role index) places ≡ true
     → list_any (is_at role index (address_of role index places)) places ≡ true
 address_held role index [] held = held
 address_held role index (p ∷ places) held =
     let rest = address_of role index places in
     let here = eq-eqb p.address p.address refl in
-    elim (is_of role index p) as (λ b. is_of role index p ≡ b → (b || list_any (is_of role index) places) ≡ true
-    → ((b && nat_eq p.address (cond b p.address rest)) || list_any (is_at role index (cond b p.address rest)) places) ≡ true) [
+    elim (is_of role index p) as (λ b. is_of role index p ≡ b
+    → (b || list_any (is_of role index) places) ≡ true
+    → ((b && nat_eq p.address (cond b p.address rest))
+    || list_any (is_at role index (cond b p.address rest)) places) ≡ true) [
       | true ↦ λ e h. rw here
       | false ↦ λ e h. address_held role index places h
     ] refl held
@@ -59,7 +77,9 @@ both_true false b h = absurd (cc)
 
 -- roles are told by their numbers
 role_by : ℕ → Role
-role_by n = get_or (Kernel ∷ Kernel ∷ Module ∷ Information ∷ BootParams ∷ CommandLine ∷ Gdt ∷ Initrd ∷ []) n Kernel
+role_by n =
+    get_or (Kernel ∷ Kernel ∷ Module ∷ Information ∷ BootParams ∷ CommandLine ∷ Gdt ∷ Initrd ∷ []) n
+    Kernel
 
 role_again : (r : Role) → r ≡ role_by (role_number r)
 unfolding role_by
@@ -75,7 +95,8 @@ pub same_role : (r s : Role) → role_number r ≡ role_number s → r ≡ s
 same_role r s e = role_again r ∙ ap role_by e ∙ sym (role_again s)
 
 -- the front of what stands from an address on
-front : (bytes rest : List ℕ) (a b n : ℕ) → a ≡ b → n ≤ length bytes → slice_range (bytes ++ rest) (a - b) (a - b + n) ≡ take n bytes
+front : (bytes rest : List ℕ) (a b n : ℕ) → a ≡ b → n ≤ length bytes
+    → slice_range (bytes ++ rest) (a - b) (a - b + n) ≡ take n bytes
 front bytes rest a b n same fits =
     let none : a - b ≡ 0 = omega arith in
     let all : 0 + n - 0 ≡ n = omega arith in
@@ -90,11 +111,15 @@ part_of content place = part_at place (filled place.length (content place.role p
 abbrev pub parts_of : List Place → (Role → ℕ → List ℕ) → List Part
 parts_of places content = map (part_of content) (in_order places)
 
-module _ (places : List Place) (content : Role → ℕ → List ℕ) (apart : AllPairs (λ p q. end_of p ≤ q.address) (parts_of places content)) where
+module _ (places : List Place) (content : Role → ℕ → List ℕ)
+    (apart : AllPairs (λ p q. end_of p ≤ q.address) (parts_of places content)) where
   -- where a place stands in address order
-  held_at : (role : Role) (index n k : ℕ) (q : Place) → k < length (in_order places) → get_or (in_order places) k q ≡ q
-      → is_at role index (address_of role index places) q ≡ true → 1 ≤ n → n ≤ length (content role index)
-      → bytes_in (parts_of places content) (address_of role index places) n ≡ Some (take n (content role index))
+  held_at : (role : Role) (index n k : ℕ) (q : Place) → k < length (in_order places)
+      → get_or (in_order places) k q ≡ q
+      → is_at role index (address_of role index places) q ≡ true → 1 ≤ n
+      → n ≤ length (content role index)
+      → bytes_in (parts_of places content) (address_of role index places) n
+      ≡ Some (take n (content role index))
   held_at role index n k q within is passes some fits =
       let parts = parts_of places content in
       let address = address_of role index places in
@@ -105,29 +130,45 @@ module _ (places : List Place) (content : Role → ℕ → List ℕ) (apart : Al
       let of_index : q.index ≡ index = eqb-true q.index index names.1 in
       let held : content q.role q.index ≡ content role index = ap₂ content of_role of_index in
       let part = part_of content q in
-      let here : get_or parts k part ≡ part = get_or-map (part_of content) (in_order places) k q part within ∙ ap (part_of content) is in
-      let many : length parts ≡ length (in_order places) = length-map (in_order places) (part_of content) in
+      let here : get_or parts k part ≡ part =
+      get_or-map (part_of content) (in_order places) k q part within
+      ∙ ap (part_of content) is in
+      let many : length parts ≡ length (in_order places) =
+      length-map (in_order places) (part_of content) in
       let long : n ≤ length (content q.role q.index) = omega (arith, ap length held) in
-      let size = length-append (content q.role q.index) (replicate (q.length - length (content q.role q.index)) 0) in
+      let size =
+      length-append (content q.role q.index)
+      (replicate (q.length - length (content q.role q.index)) 0) in
       let low : (get_or parts k part).address ≤ address = rw here (omega arith) in
       let high : address + n ≤ end_of (get_or parts k part) = rw here (omega (arith, size)) in
-      let found = found_there parts address n k part apart (omega arith) some low high ∙ ap Some here in
+      let found =
+      found_there parts address n k part apart (omega arith) some low high ∙ ap Some here in
       inside_in parts address n part some found
-      ∙ ap Some (front (content q.role q.index) (replicate (q.length - length (content q.role q.index)) 0) address q.address n (sym stands) long ∙ ap (take n) held)
+      ∙ ap Some
+      (front (content q.role q.index) (replicate (q.length - length (content q.role q.index)) 0)
+      address q.address n (sym stands) long ∙ ap (take n) held)
 
-  some_held : (role : Role) (index n : ℕ) → list_any (is_of role index) places ≡ true → 1 ≤ n → n ≤ length (content role index)
-      → bytes_in (parts_of places content) (address_of role index places) n ≡ Some (take n (content role index))
+  some_held : (role : Role) (index n : ℕ) → list_any (is_of role index) places ≡ true → 1 ≤ n
+      → n ≤ length (content role index)
+      → bytes_in (parts_of places content) (address_of role index places) n
+      ≡ Some (take n (content role index))
   some_held role index n held some fits =
       let test = is_at role index (address_of role index places) in
-      let any = Any-from_list_any test (in_order places) (list_any-in_order place_key test places ∙ address_held role index places held) in
+      let any =
+      Any-from_list_any test (in_order places)
+      (list_any-in_order place_key test places ∙ address_held role index places held) in
       held_at role index n any.0 any.1 any.2 any.3 any.4 some fits
 
   -- the front of the content of the part of a role and an index
-  pub held_front : (role : Role) (index n : ℕ) → list_any (is_of role index) places ≡ true → n ≤ length (content role index)
-      → bytes_in (parts_of places content) (address_of role index places) n ≡ Some (take n (content role index))
+  pub held_front : (role : Role) (index n : ℕ) → list_any (is_of role index) places ≡ true
+      → n ≤ length (content role index)
+      → bytes_in (parts_of places content) (address_of role index places) n
+      ≡ Some (take n (content role index))
   held_front role index n held fits =
       elim (cases_order n 0) [
-        | inl none ↦ (nothing_in (parts_of places content) (address_of role index places) n none ∙ ap (λ k. Some (take k (content role index))) (sym none))
+        | inl none ↦
+            (nothing_in (parts_of places content) (address_of role index places) n none
+            ∙ ap (λ k. Some (take k (content role index))) (sym none))
         | inr other ↦ elim other [
           | inl below ↦ absurd (omega arith)
           | inr above ↦ some_held role index n held (omega arith) fits
@@ -139,15 +180,23 @@ module _ (places : List Place) (content : Role → ℕ → List ℕ) (apart : Al
 -- whether a place of the kernel holds an address
 abbrev pub kernel_holds : ℕ → Place → Bool
 kernel_holds address place =
-    nat_eq (role_number place.role) (role_number Kernel) && (nat_le place.address address && nat_lt address (place.address + place.length))
+    nat_eq (role_number place.role) (role_number Kernel)
+    && (nat_le place.address address && nat_lt address (place.address + place.length))
 
-pub holds_by : (address : ℕ) (place : Place) → place.role ≡ Kernel → place.address ≤ address → address < place.address + place.length → kernel_holds address place ≡ true
+pub holds_by : (address : ℕ) (place : Place) → place.role ≡ Kernel → place.address ≤ address
+    → address < place.address + place.length → kernel_holds address place ≡ true
 holds_by address place role from below =
     let named = eq-eqb (role_number place.role) (role_number Kernel) (ap role_number role) in
-    rw (named, le-leb place.address address from, lt-ltb address (place.address + place.length) below)
+    rw (
+      named,
+      le-leb place.address address from,
+      lt-ltb address (place.address + place.length) below,
+    )
 
-module _ (places : List Place) (content : Role → ℕ → List ℕ) (apart : AllPairs (λ p q. end_of p ≤ q.address) (parts_of places content)) where
-  entered_at : (address k : ℕ) (q : Place) → k < length (in_order places) → get_or (in_order places) k q ≡ q
+module _ (places : List Place) (content : Role → ℕ → List ℕ)
+    (apart : AllPairs (λ p q. end_of p ≤ q.address) (parts_of places content)) where
+  entered_at : (address k : ℕ) (q : Place) → k < length (in_order places)
+      → get_or (in_order places) k q ≡ q
       → kernel_holds address q ≡ true → is_in_kernel (parts_of places content) address ≡ true
   entered_at address k q within is passes =
       let parts = parts_of places content in
@@ -160,17 +209,26 @@ module _ (places : List Place) (content : Role → ℕ → List ℕ) (apart : Al
       let below = ltb-true address (q.address + q.length) bounds.1 in
       let held = content q.role q.index in
       let part = part_of content q in
-      let here : get_or parts k part ≡ part = get_or-map (part_of content) (in_order places) k q part within ∙ ap (part_of content) is in
-      let many : length parts ≡ length (in_order places) = length-map (in_order places) (part_of content) in
+      let here : get_or parts k part ≡ part =
+      get_or-map (part_of content) (in_order places) k q part within
+      ∙ ap (part_of content) is in
+      let many : length parts ≡ length (in_order places) =
+      length-map (in_order places) (part_of content) in
       let zeros = length-replicate {A = ℕ} (q.length - length held) 0 in
       let size = length-append held (replicate (q.length - length held) 0) in
       let low : (get_or parts k part).address ≤ address = rw here from in
-      let high : address + 1 ≤ end_of (get_or parts k part) = rw here (omega (arith, size, zeros)) in
-      let found = found_there parts address 1 k part apart (omega arith) (omega arith) low high ∙ ap Some here in
+      let high : address + 1 ≤ end_of (get_or parts k part) =
+      rw here (omega (arith, size, zeros)) in
+      let found =
+      found_there parts address 1 k part apart (omega arith) (omega arith) low high
+      ∙ ap Some here in
       sym (entered_part parts address part (sym found)) ∙ split.0
 
-  pub entered_in : (address : ℕ) → list_any (kernel_holds address) places ≡ true → is_in_kernel (parts_of places content) address ≡ true
+  pub entered_in : (address : ℕ) → list_any (kernel_holds address) places ≡ true
+      → is_in_kernel (parts_of places content) address ≡ true
   entered_in address held =
       let test = kernel_holds address in
-      let any = Any-from_list_any test (in_order places) (list_any-in_order place_key test places ∙ held) in
+      let any =
+      Any-from_list_any test (in_order places)
+      (list_any-in_order place_key test places ∙ held) in
       entered_at address any.0 any.1 any.2 any.3 any.4

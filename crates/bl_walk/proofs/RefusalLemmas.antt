@@ -14,18 +14,26 @@ use Rattle.bl_walk.specs.Faults.{HasFault, other_information, other_parameters}
 use Rattle.bl_walk.specs.Kept.{information_refusal, parameters_refusal}
 use Rattle.bl_walk.specs.Seen.{IsInformation, AreParameters}
 
-pub refused_information : (h : Handover) (bytes : List ℕ) (fault : InfoFault) → IsInformation h bytes → Fails fault (info_of bytes)
+pub refused_information : (h : Handover) (bytes : List ℕ) (fault : InfoFault)
+    → IsInformation h bytes → Fails fault (info_of bytes)
     → HasFault h (information_refusal fault)
-refused_information h bytes info_fault.WrongLength is fails = other_information bytes info_fault.WrongLength is fails
-refused_information h bytes info_fault.BadReserved is fails = other_information bytes info_fault.BadReserved is fails
-refused_information h bytes (info_fault.BadTag at) is fails = other_information bytes (info_fault.BadTag at) is fails
-refused_information h bytes (info_fault.BadOrder at) is fails = other_information bytes (info_fault.BadOrder at) is fails
+refused_information h bytes info_fault.WrongLength is fails =
+    other_information bytes info_fault.WrongLength is fails
+refused_information h bytes info_fault.BadReserved is fails =
+    other_information bytes info_fault.BadReserved is fails
+refused_information h bytes (info_fault.BadTag at) is fails =
+    other_information bytes (info_fault.BadTag at) is fails
+refused_information h bytes (info_fault.BadOrder at) is fails =
+    other_information bytes (info_fault.BadOrder at) is fails
 refused_information h bytes info_fault.NoMemory is fails = tt
 
-pub refused_parameters : (h : Handover) (bytes : List ℕ) (fault : ParamFault) → AreParameters h bytes → HasFirstFault bytes fault
+pub refused_parameters : (h : Handover) (bytes : List ℕ) (fault : ParamFault)
+    → AreParameters h bytes → HasFirstFault bytes fault
     → HasFault h (parameters_refusal fault)
-refused_parameters h bytes param_fault.WrongLength are first = other_parameters bytes param_fault.WrongLength are (λ same. absurd (cc)) first
-refused_parameters h bytes (param_fault.BadParams at) are first = other_parameters bytes (param_fault.BadParams at) are (λ same. absurd (cc)) first
+refused_parameters h bytes param_fault.WrongLength are first =
+    other_parameters bytes param_fault.WrongLength are (λ same. absurd (cc)) first
+refused_parameters h bytes (param_fault.BadParams at) are first =
+    other_parameters bytes (param_fault.BadParams at) are (λ same. absurd (cc)) first
 refused_parameters h bytes param_fault.NoMemory are first = tt
 
 -- where a fault of the reader is answered

@@ -17,12 +17,15 @@ by_information : (h : Handover) (seen : SeenFacts) → InformationShows h seen �
 by_information h seen shown = subst AllEndLow (sym shown.runs) shown.says.spelling.facts.runs
 
 by_parameters : (h : Handover) (seen : SeenFacts) → ParametersShow h seen → RunsEndLow seen
-by_parameters h seen shown = subst AllEndLow (sym shown.runs) (params.runs_end_low shown.say.bytes shown.params shown.say.told)
+by_parameters h seen shown =
+    subst AllEndLow (sym shown.runs)
+    (params.runs_end_low shown.say.bytes shown.params shown.say.told)
 
 pub seen_runs_end_low : (h : Handover) (seen : SeenFacts) → IsSeen h seen → RunsEndLow seen
 seen_runs_end_low h seen is = ⊎_elim (by_information h seen) (by_parameters h seen) is.shown
 
 -- the same of an answer
-pub low_by : {E : Type 0} (h : Handover) (answer : Result SeenFacts E) → IfOk answer (IsSeen h) → IfOk answer RunsEndLow
+pub low_by : {E : Type 0} (h : Handover) (answer : Result SeenFacts E) → IfOk answer (IsSeen h)
+    → IfOk answer RunsEndLow
 low_by h (Ok seen) is = seen_runs_end_low h seen is
 low_by h (Err fault) is = tt

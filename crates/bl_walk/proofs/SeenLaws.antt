@@ -1,36 +1,43 @@
 -- What is seen in an image is one thing.
-use Rattle.std.proofs.Common.{◌≡◌, ℕ, List, [], ◌∷◌, Option, Some, None, refl, sym, ap, ap₂, ◌∙◌, arith, subst, ⊎_elim}
+use Rattle.std.proofs.Common.{◌≡◌, ℕ, List, [], ◌∷◌, Option, Some, None, refl, sym, ap, ap₂, ◌∙◌}
+use Rattle.std.proofs.Common.{arith, subst, ⊎_elim}
 use Rattle.bl_mbi.specs.InformationFacts.{ModuleInfo}
 use Rattle.bl_mbi.specs.InfoFacts.{InfoFacts}
 use Rattle.bl_params.specs.ParamsFacts.{ParamsFacts}
 use Rattle.bl_load.specs.Handover.{Part, Handover}
-use Rattle.bl_walk.specs.Seen.{IsSeenModule, AreSeenModules, InformationShows, IsLine, IsInitrd, ParametersShow, IsSeen, text_of}
+use Rattle.bl_walk.specs.Seen.{IsSeenModule, AreSeenModules, InformationShows, IsLine, IsInitrd}
+use Rattle.bl_walk.specs.Seen.{ParametersShow, IsSeen, text_of}
 use Rattle.bl_walk.specs.SeenFacts.{SeenModuleFacts, SeenFileFacts, SeenFacts}
 use Rattle.bl_walk.proofs.LengthLemmas.{same_some}
 use Rattle.bl_walk.proofs.SoundLemmas.{same_info, same_params}
 
-same_module : (parts : List Part) (m : ModuleInfo) (s t : SeenModuleFacts) → IsSeenModule parts m s → IsSeenModule parts m t → s ≡ t
+same_module : (parts : List Part) (m : ModuleInfo) (s t : SeenModuleFacts) → IsSeenModule parts m s
+    → IsSeenModule parts m t → s ≡ t
 same_module parts m s t a b =
     let start = a.start ∙ sym b.start in
     let bytes = same_some s.bytes t.bytes (sym a.bytes ∙ b.bytes) in
     let line = a.line ∙ sym b.line in
     λ i. record { mod_start = start i; bytes = bytes i; line = line i }
 
-same_modules : (parts : List Part) (ms : List ModuleInfo) (ss ts : List SeenModuleFacts) → AreSeenModules parts ms ss → AreSeenModules parts ms ts → ss ≡ ts
+same_modules : (parts : List Part) (ms : List ModuleInfo) (ss ts : List SeenModuleFacts)
+    → AreSeenModules parts ms ss → AreSeenModules parts ms ts → ss ≡ ts
 same_modules parts [] [] [] a b = refl
 same_modules parts [] (s ∷ ss) ts a b = absurd a
 same_modules parts [] [] (t ∷ ts) a b = absurd b
 same_modules parts (m ∷ ms) [] ts a b = absurd a
 same_modules parts (m ∷ ms) (s ∷ ss) [] a b = absurd b
 same_modules parts (m ∷ ms) (s ∷ ss) (t ∷ ts) a b =
-    ap₂ (λ (x : SeenModuleFacts) (xs : List SeenModuleFacts). x ∷ xs) (same_module parts m s t a.0 b.0) (same_modules parts ms ss ts a.1 b.1)
+    ap₂ (λ (x : SeenModuleFacts) (xs : List SeenModuleFacts). x ∷ xs)
+    (same_module parts m s t a.0 b.0) (same_modules parts ms ss ts a.1 b.1)
 
-same_line : (parts : List Part) (address : ℕ) (s t : List ℕ) → IsLine parts address s → IsLine parts address t → s ≡ t
+same_line : (parts : List Part) (address : ℕ) (s t : List ℕ) → IsLine parts address s
+    → IsLine parts address t → s ≡ t
 same_line parts address s t a b =
     let rest = same_some a.rest b.rest (sym a.from ∙ b.from) in
     same_some s t (sym a.text ∙ ap text_of rest ∙ b.text)
 
-same_initrd : (parts : List Part) (params : ParamsFacts) (s t : Option SeenFileFacts) → IsInitrd parts params s → IsInitrd parts params t → s ≡ t
+same_initrd : (parts : List Part) (params : ParamsFacts) (s t : Option SeenFileFacts)
+    → IsInitrd parts params s → IsInitrd parts params t → s ≡ t
 same_initrd parts params None None a b = refl
 same_initrd parts params None (Some t) a b = absurd (omega arith)
 same_initrd parts params (Some s) None a b = absurd (omega arith)
@@ -47,10 +54,13 @@ record AreSame (s t : SeenFacts) : Type 0 where
   initrd : s.initrd ≡ t.initrd
   runs : s.map ≡ t.map
 
-by_information : (h : Handover) (s t : SeenFacts) → InformationShows h s → InformationShows h t → AreSame s t
+by_information : (h : Handover) (s t : SeenFacts) → InformationShows h s → InformationShows h t
+    → AreSame s t
 by_information h s t a b =
     let same = same_info h a.info b.info a.says b.says in
-    let told = subst (λ (i : InfoFacts). AreSeenModules h.parts i.facts.modules s.modules) same a.modules in
+    let told =
+    subst (λ (i : InfoFacts). AreSeenModules h.parts i.facts.modules s.modules) same
+    a.modules in
     record {
       line = a.line ∙ ap (λ (i : InfoFacts). i.facts.line) same ∙ sym b.line;
       modules = same_modules h.parts b.info.facts.modules s.modules t.modules told b.modules;
@@ -58,7 +68,8 @@ by_information h s t a b =
       runs = a.runs ∙ ap (λ (i : InfoFacts). i.facts.runs) same ∙ sym b.runs;
     }
 
-by_parameters : (h : Handover) (s t : SeenFacts) → ParametersShow h s → ParametersShow h t → AreSame s t
+by_parameters : (h : Handover) (s t : SeenFacts) → ParametersShow h s → ParametersShow h t
+    → AreSame s t
 by_parameters h s t a b =
     let same = same_params h a.params b.params a.say b.say in
     let text = subst (λ (p : ParamsFacts). IsLine h.parts p.cmd_line_ptr s.line) same a.line in

@@ -1,5 +1,7 @@
 -- Where something is seen in an image that is entered as it must be, no fault stands.
-use Rattle.std.proofs.Common.{◌≡◌, ◌-◌, ◌<◌, ◌^◌, ℕ, zero, suc, List, [], ◌∷◌, length, get_or, Option, Some, None, Result, Ok, Err, sym, ap, ◌∙◌, arith, subst, ⊎_elim}
+use Rattle.std.proofs.Common.{◌≡◌, ◌-◌, ◌<◌, ◌^◌, ℕ, zero, suc, List, [], ◌∷◌, length, get_or}
+use Rattle.std.proofs.Common.{Option, Some, None, Result, Ok, Err, sym, ap, ◌∙◌, arith, subst}
+use Rattle.std.proofs.Common.{⊎_elim}
 use Rattle.std.specs.Prelude.{IfOk, OnOk}
 use Rattle.std.specs.List.{Contains}
 use Rattle.bl_mem.specs.Words.{u32_at}
@@ -14,9 +16,15 @@ use Rattle.bl_params.specs.Reading.{IsParams}
 use Rattle.bl_params.proofs.ParamsLaws.{one_reading, not_both}
 use Rattle.bl_plan.specs.declared.protocol.Protocol.TheVariants.{Multiboot2, Linux}
 use Rattle.bl_load.specs.Handover.{Part, Handover}
-use Rattle.bl_walk.specs.Faults.{IsFollowed, IsOutside, HasBadInfo, HasBadState, IsSound, fixed_part, information, loaded_module, descriptors, boot_params, command_line, initrd, outside_kernel, outside_parts, short_information, other_information, other_parameters, endless_line, other_registers, other_descriptors}
+use Rattle.bl_walk.specs.Faults.{IsFollowed, IsOutside, HasBadInfo, HasBadState, IsSound}
+use Rattle.bl_walk.specs.Faults.{fixed_part, information, loaded_module, descriptors, boot_params}
+use Rattle.bl_walk.specs.Faults.{command_line, initrd, outside_kernel, outside_parts}
+use Rattle.bl_walk.specs.Faults.{short_information, other_information, other_parameters}
+use Rattle.bl_walk.specs.Faults.{endless_line, other_registers, other_descriptors}
 use Rattle.bl_walk.specs.Inside.{bytes_in, rest_in}
-use Rattle.bl_walk.specs.Seen.{HasTotalSize, IsInformation, InformationSays, AreSeenModules, InformationShows, AreParameters, ParametersSay, IsLine, IsInitrd, ParametersShow, IsSeen, text_of}
+use Rattle.bl_walk.specs.Seen.{HasTotalSize, IsInformation, InformationSays, AreSeenModules}
+use Rattle.bl_walk.specs.Seen.{InformationShows, AreParameters, ParametersSay, IsLine, IsInitrd}
+use Rattle.bl_walk.specs.Seen.{ParametersShow, IsSeen, text_of}
 use Rattle.bl_walk.specs.SeenFacts.{SeenModuleFacts, SeenFileFacts, SeenFacts}
 use Rattle.bl_walk.specs.State.{IsEntered}
 use Rattle.bl_walk.proofs.InsideLemmas.{nothing_in, rest_is_inside}
@@ -37,14 +45,19 @@ same_size h a b p q =
 
 pub same_information : (h : Handover) (a b : List ℕ) → IsInformation h a → IsInformation h b → a ≡ b
 same_information h a b p q =
-    same_some a b (sym p.whole ∙ ap (bytes_in h.parts h.registers.ebx) (same_size h p.size q.size p.total_size q.total_size) ∙ q.whole)
+    same_some a b
+    (sym p.whole
+    ∙ ap (bytes_in h.parts h.registers.ebx)
+    (same_size h p.size q.size p.total_size q.total_size) ∙ q.whole)
 
-spelling_read : (bytes : List ℕ) (info : InfoFacts) → IsSpelling bytes info → length bytes < 2 ^ 32 → info_of bytes ≡ Ok info
+spelling_read : (bytes : List ℕ) (info : InfoFacts) → IsSpelling bytes info → length bytes < 2 ^ 32
+    → info_of bytes ≡ Ok info
 spelling_read bytes info is fits =
     let e = is.exact in
     rw e (spelled_is_read info.name info.facts is.name is.facts (rw (← e) fits))
 
-pub says_read : (h : Handover) (info : InfoFacts) (says : InformationSays h info) → info_of says.bytes ≡ Ok info
+pub says_read : (h : Handover) (info : InfoFacts) (says : InformationSays h info)
+    → info_of says.bytes ≡ Ok info
 says_read h info says =
     let is = says.information in
     let small = is.total_size.small in
@@ -53,7 +66,10 @@ says_read h info says =
 
 pub same_info : (h : Handover) (a b : InfoFacts) → InformationSays h a → InformationSays h b → a ≡ b
 same_info h a b p q =
-    same_ok a b (sym (says_read h a p) ∙ ap info_of (same_information h p.bytes q.bytes p.information q.information) ∙ says_read h b q)
+    same_ok a b
+    (sym (says_read h a p)
+    ∙ ap info_of (same_information h p.bytes q.bytes p.information q.information)
+    ∙ says_read h b q)
 
 -- ---- the boot parameters are one
 
@@ -62,28 +78,43 @@ same_bytes h a b p q = same_some a b (sym p.whole ∙ q.whole)
 
 pub same_params : (h : Handover) (a b : ParamsFacts) → ParametersSay h a → ParametersSay h b → a ≡ b
 same_params h a b p q =
-    one_reading q.bytes a b (subst (λ bytes. IsParams bytes a) (same_bytes h p.bytes q.bytes p.parameters q.parameters) p.told) q.told
+    one_reading q.bytes a b
+    (subst (λ bytes. IsParams bytes a) (same_bytes h p.bytes q.bytes p.parameters q.parameters)
+    p.told) q.told
 
 -- ---- each module that is told of is seen
 
-seen_at : (parts : List Part) (ms : List ModuleInfo) (ss : List SeenModuleFacts) (k : ℕ) (m : ModuleInfo) → AreSeenModules parts ms ss
-    → k < length ms → get_or ms k m ≡ m → (bytes : List ℕ) × (bytes_in parts m.mod_start (m.mod_end - m.mod_start) ≡ Some bytes)
+seen_at : (parts : List Part) (ms : List ModuleInfo) (ss : List SeenModuleFacts) (k : ℕ)
+    (m : ModuleInfo) → AreSeenModules parts ms ss
+    → k < length ms → get_or ms k m ≡ m
+    → (bytes : List ℕ) × (bytes_in parts m.mod_start (m.mod_end - m.mod_start) ≡ Some bytes)
 seen_at parts [] ss k m are within is = absurd (omega arith)
 seen_at parts (n ∷ ms) [] k m are within is = absurd are
-seen_at parts (n ∷ ms) (s ∷ ss) zero m are within is = (s.bytes, subst (λ (x : ModuleInfo). bytes_in parts x.mod_start (x.mod_end - x.mod_start) ≡ Some s.bytes) is are.0.bytes)
-seen_at parts (n ∷ ms) (s ∷ ss) (suc k) m are within is = seen_at parts ms ss k m are.1 (omega arith) is
+seen_at parts (n ∷ ms) (s ∷ ss) zero m are within is = (
+  s.bytes,
+  subst
+      (λ (x : ModuleInfo). bytes_in parts x.mod_start (x.mod_end - x.mod_start) ≡ Some s.bytes) is
+      are.0.bytes,
+)
+seen_at parts (n ∷ ms) (s ∷ ss) (suc k) m are within is =
+    seen_at parts ms ss k m are.1 (omega arith) is
 
 -- ---- Multiboot2
 
-module _ (h : Handover) (info : InfoFacts) (ss : List SeenModuleFacts) (says : InformationSays h info)
+module _ (h : Handover) (info : InfoFacts) (ss : List SeenModuleFacts)
+    (says : InformationSays h info)
     (modules : AreSeenModules h.parts info.facts.modules ss) where
   protocol_is : h.protocol ≡ Multiboot2
   protocol_is = says.information.total_size.protocol
 
-  followed_inside : (address count : ℕ) → IsFollowed h address count → bytes_in h.parts address count ≡ None → ⊥
-  followed_inside address count (fixed_part p) none = not_none _ says.information.total_size.fixed_part says.information.total_size.front none
+  followed_inside : (address count : ℕ) → IsFollowed h address count
+      → bytes_in h.parts address count ≡ None → ⊥
+  followed_inside address count (fixed_part p) none =
+      not_none _ says.information.total_size.fixed_part says.information.total_size.front none
   followed_inside address count (information size is least) none =
-      let same = ap (bytes_in h.parts h.registers.ebx) (same_size h size says.information.size is says.information.total_size) in
+      let same =
+      ap (bytes_in h.parts h.registers.ebx)
+      (same_size h size says.information.size is says.information.total_size) in
       not_none _ says.bytes (same ∙ says.information.whole) none
   followed_inside address count (loaded_module other m is among) none =
       let same = same_info h other info is says in
@@ -92,8 +123,10 @@ module _ (h : Handover) (info : InfoFacts) (ss : List SeenModuleFacts) (says : I
       not_none _ seen.0 seen.1 none
   followed_inside address count (descriptors p) none = let q = protocol_is in cc
   followed_inside address count (boot_params p) none = let q = protocol_is in cc
-  followed_inside address count (command_line params is) none = let q = protocol_is in let p = is.parameters.protocol in cc
-  followed_inside address count (initrd params is) none = let q = protocol_is in let p = is.parameters.protocol in cc
+  followed_inside address count (command_line params is) none =
+      let q = protocol_is in let p = is.parameters.protocol in cc
+  followed_inside address count (initrd params is) none =
+      let q = protocol_is in let p = is.parameters.protocol in cc
 
   good_information : HasBadInfo h → ⊥
   good_information (short_information size is low) =
@@ -104,12 +137,15 @@ module _ (h : Handover) (info : InfoFacts) (ss : List SeenModuleFacts) (says : I
       let same = ap info_of (same_information h bytes says.bytes is says.information) in
       let read = says_read h info says in
       cc
-  good_information (other_parameters bytes fault are other first) = let q = protocol_is in let p = are.protocol in cc
-  good_information (endless_line params rest is from none) = let q = protocol_is in let p = is.parameters.protocol in cc
+  good_information (other_parameters bytes fault are other first) =
+      let q = protocol_is in let p = are.protocol in cc
+  good_information (endless_line params rest is from none) =
+      let q = protocol_is in let p = is.parameters.protocol in cc
 
 -- ---- Linux
 
-module _ (h : Handover) (params : ParamsFacts) (line : List ℕ) (file : Option SeenFileFacts) (say : ParametersSay h params)
+module _ (h : Handover) (params : ParamsFacts) (line : List ℕ) (file : Option SeenFileFacts)
+    (say : ParametersSay h params)
     (text : IsLine h.parts params.cmd_line_ptr line) (ramdisk : IsInitrd h.parts params file)
     (table : bytes_in h.parts h.registers.gdt_base 32 ≡ Some gdt) where
   protocol_linux : h.protocol ≡ Linux
@@ -120,28 +156,39 @@ module _ (h : Handover) (params : ParamsFacts) (line : List ℕ) (file : Option 
   ramdisk_inside None is = ([], nothing_in h.parts params.ramdisk_image params.ramdisk_size is)
   ramdisk_inside (Some seen) is = (seen.bytes, is.2)
 
-  linux_inside : (address count : ℕ) → IsFollowed h address count → bytes_in h.parts address count ≡ None → ⊥
+  linux_inside : (address count : ℕ) → IsFollowed h address count
+      → bytes_in h.parts address count ≡ None → ⊥
   linux_inside address count (fixed_part p) none = let q = protocol_linux in cc
-  linux_inside address count (information size is least) none = let q = protocol_linux in let p = is.protocol in cc
-  linux_inside address count (loaded_module other m is among) none = let q = protocol_linux in let p = is.information.total_size.protocol in cc
+  linux_inside address count (information size is least) none =
+      let q = protocol_linux in let p = is.protocol in cc
+  linux_inside address count (loaded_module other m is among) none =
+      let q = protocol_linux in let p = is.information.total_size.protocol in cc
   linux_inside address count (descriptors p) none = not_none _ gdt table none
   linux_inside address count (boot_params p) none = not_none _ say.bytes say.parameters.whole none
   linux_inside address count (command_line other is) none =
-      let same = ap (λ (p : ParamsFacts). bytes_in h.parts p.cmd_line_ptr 1) (same_params h params other say is) in
+      let same =
+      ap (λ (p : ParamsFacts). bytes_in h.parts p.cmd_line_ptr 1)
+      (same_params h params other say is) in
       rest_is_inside h.parts params.cmd_line_ptr text.rest text.from (same ∙ none)
   linux_inside address count (initrd other is) none =
-      let same = ap (λ (p : ParamsFacts). bytes_in h.parts p.ramdisk_image p.ramdisk_size) (same_params h params other say is) in
+      let same =
+      ap (λ (p : ParamsFacts). bytes_in h.parts p.ramdisk_image p.ramdisk_size)
+      (same_params h params other say is) in
       let held = ramdisk_inside file ramdisk in
       not_none _ held.0 held.1 (same ∙ none)
 
   good_parameters : HasBadInfo h → ⊥
-  good_parameters (short_information size is low) = let q = protocol_linux in let p = is.protocol in cc
-  good_parameters (other_information bytes fault is refused) = let q = protocol_linux in let p = is.total_size.protocol in cc
+  good_parameters (short_information size is low) =
+      let q = protocol_linux in let p = is.protocol in cc
+  good_parameters (other_information bytes fault is refused) =
+      let q = protocol_linux in let p = is.total_size.protocol in cc
   good_parameters (other_parameters bytes fault are other first) =
       let same = same_bytes h say.bytes bytes say.parameters are in
       not_both bytes params fault other (subst (λ bs. IsParams bs params) same say.told) first
   good_parameters (endless_line other rest is from none) =
-      let same = ap (λ (p : ParamsFacts). rest_in h.parts p.cmd_line_ptr) (same_params h params other say is) in
+      let same =
+      ap (λ (p : ParamsFacts). rest_in h.parts p.cmd_line_ptr)
+      (same_params h params other say is) in
       let one = same_some text.rest rest (sym text.from ∙ same ∙ from) in
       let ended = text.text in
       let fails = ap text_of one ∙ none in
@@ -152,9 +199,11 @@ module _ (h : Handover) (params : ParamsFacts) (line : List ℕ) (file : Option 
 module _ (h : Handover) (seen : SeenFacts) (entered : IsEntered h) where
   entered_state : HasBadState h → ⊥
   entered_state (other_registers other) = other entered.registers
-  entered_state (other_descriptors bytes p is other) = other (same_some bytes gdt (sym is ∙ entered.descriptors p))
+  entered_state (other_descriptors bytes p is other) =
+      other (same_some bytes gdt (sym is ∙ entered.descriptors p))
 
-  entered_inside : ((address count : ℕ) → IsFollowed h address count → bytes_in h.parts address count ≡ None → ⊥) → IsOutside h → ⊥
+  entered_inside : ((address count : ℕ) → IsFollowed h address count
+      → bytes_in h.parts address count ≡ None → ⊥) → IsOutside h → ⊥
   entered_inside inside (outside_kernel missed) = let found = entered.kernel in cc
   entered_inside inside (outside_parts address count is none) = inside address count is none
 
@@ -169,15 +218,22 @@ module _ (h : Handover) (seen : SeenFacts) (entered : IsEntered h) where
   sound_parameters shown =
       let table = entered.descriptors shown.say.parameters.protocol in
       record {
-        inside = entered_inside (linux_inside h shown.params seen.line seen.initrd shown.say shown.line shown.initrd table);
-        info = good_parameters h shown.params seen.line seen.initrd shown.say shown.line shown.initrd table;
+        inside =
+            entered_inside
+            (linux_inside h shown.params seen.line seen.initrd shown.say shown.line shown.initrd
+            table);
+        info =
+            good_parameters h shown.params seen.line seen.initrd shown.say shown.line
+            shown.initrd table;
         state = entered_state;
       }
 
 pub seen_is_sound : (h : Handover) (seen : SeenFacts) → IsEntered h → IsSeen h seen → IsSound h
-seen_is_sound h seen entered is = ⊎_elim (sound_information h seen entered) (sound_parameters h seen entered) is.shown
+seen_is_sound h seen entered is =
+    ⊎_elim (sound_information h seen entered) (sound_parameters h seen entered) is.shown
 
 -- the same of an answer
-pub sound_by : {E : Type 0} (h : Handover) (answer : Result SeenFacts E) → IsEntered h → IfOk answer (IsSeen h) → OnOk answer (IsSound h)
+pub sound_by : {E : Type 0} (h : Handover) (answer : Result SeenFacts E) → IsEntered h
+    → IfOk answer (IsSeen h) → OnOk answer (IsSound h)
 sound_by h (Ok seen) entered is = seen_is_sound h seen entered is
 sound_by h (Err fault) entered is = tt

@@ -13,10 +13,12 @@ use Rattle.bl_params.specs.declared.fault.ParamFault.TheVariants as param_fault
 use Rattle.bl_plan.specs.declared.protocol.Protocol.TheVariants.{Multiboot2, Linux}
 use Rattle.bl_load.specs.Handover.{Handover}
 use Rattle.bl_walk.specs.declared.fault.WalkFault.{WalkFault}
-use Rattle.bl_walk.specs.declared.fault.WalkFault.TheVariants.{OutsideImage, BadInfo, BadState, NoMemory}
+use Rattle.bl_walk.specs.declared.fault.WalkFault.TheVariants.{OutsideImage, BadInfo, BadState}
+use Rattle.bl_walk.specs.declared.fault.WalkFault.TheVariants.{NoMemory}
 use Rattle.bl_walk.specs.Inside.{bytes_in, rest_in}
 use Rattle.bl_walk.specs.State.{entry_registers, is_in_kernel}
-use Rattle.bl_walk.specs.Seen.{HasTotalSize, IsInformation, InformationSays, AreParameters, ParametersSay, text_of}
+use Rattle.bl_walk.specs.Seen.{HasTotalSize, IsInformation, InformationSays, AreParameters}
+use Rattle.bl_walk.specs.Seen.{ParametersSay, text_of}
 
 abbrev pub walk_fault_number : WalkFault → ℕ
 walk_fault_number OutsideImage = 81

@@ -1,5 +1,6 @@
 -- Bytes by address, in the parts of a handover. Own.
-use Rattle.std.specs.Prelude.{ℕ, ◌+◌, ◌-◌, Bool, ◌&&◌, if◌then◌else◌, ◌==◌, nat_le, List, [], drop, slice_range, Option, Some, option_map}
+use Rattle.std.specs.Prelude.{ℕ, ◌+◌, ◌-◌, Bool, ◌&&◌, if◌then◌else◌, ◌==◌, nat_le, List, [], drop}
+use Rattle.std.specs.Prelude.{slice_range, Option, Some, option_map}
 use Rattle.std.specs.List.{find}
 use Rattle.bl_load.specs.Handover.{Part, end_of}
 

@@ -1,7 +1,8 @@
 -- What a kernel sees that follows the addresses in its registers (Multiboot2 3.3 "I386 machine
 -- state", 3.6 "Boot information format"; Linux/x86 boot protocol, "32-bit Boot Protocol", "Details
 -- of Header Fields").
-use Rattle.std.specs.Prelude.{◌≡◌, ◌-◌, ◌<◌, ◌≤◌, ◌^◌, ◌⊎◌, ℕ, List, [], ◌∷◌, length, map, take, ◌==◌, Option, Some, None, option_map}
+use Rattle.std.specs.Prelude.{◌≡◌, ◌-◌, ◌<◌, ◌≤◌, ◌^◌, ◌⊎◌, ℕ, List, [], ◌∷◌, length, map, take}
+use Rattle.std.specs.Prelude.{◌==◌, Option, Some, None, option_map}
 use Rattle.std.specs.List.{filter, position}
 use Rattle.bl_mem.specs.Words.{u32_at}
 use Rattle.bl_mbi.specs.InformationFacts.{ModuleInfo}

@@ -1,5 +1,5 @@
-//! The program: from a boot description to the image of a handover, or to the map of a machine; from an
-//! image to what a kernel sees in it.
+//! The program: from a boot description to the image of a handover, or to the map of a machine;
+//! from an image to what a kernel sees in it.
 #![tactic(auto)]
 
 ghost use Rattle.std.specs.Prelude.{◌≡◌, ◌⊎◌, ◌≤◌};

@@ -1,6 +1,7 @@
 //! One boot.
 ghost use Rattle.std.specs.Prelude.{◌≡◌, ◌≢◌, ℕ, List, ◌+◌, ◌<◌, ◌≤◌, ◌^◌, length};
-ghost use Rattle.bl_boot.specs.Ends.{HasInlineFiles, names_sought, IsBooted, IsRefused, IsBadDescription, IsBroken};
+ghost use Rattle.bl_boot.specs.Ends.{HasInlineFiles, names_sought, IsBooted, IsRefused};
+ghost use Rattle.bl_boot.specs.Ends.{IsBadDescription, IsBroken};
 ghost use Rattle.bl_boot.specs.Kept.{Ends, HasFaults};
 ghost use Rattle.bl_boot.specs.Attempted.{most_names};
 ghost use Rattle.bl_boot.specs.Files.{Answer};

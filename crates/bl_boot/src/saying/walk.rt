@@ -13,7 +13,8 @@ use bl_map::Region;
 use bl_walk::{Seen, SeenFile, SeenModule, SeenPart};
 use std::alloc::{AllocError, Allocator};
 
-/// Appends a text as a line has it: its length, and its bytes in hexadecimal digits if there are any.
+/// Appends a text as a line has it: its length, and its bytes in hexadecimal digits if there are
+/// any.
 #[tactic(auto, unfolding(crate::specs::WalkSays::text_word))]
 fn say_text<A: Allocator + Copy>(out: &mut Vec<u8, A>, text: &[u8]) -> Result<(), AllocError>
     ensures { OnOk result (out.new.items ≡ out.old.items ++ says.text_word text.now) }

@@ -1,8 +1,10 @@
 //! The setup header of a Linux kernel's file, and the boot parameters that it gets.
 //!
-//! - `read_setup BYTES`: the fields, how many bytes the header has, and the payload as `OFFSET+LENGTH`; or the fault.
+//! - `read_setup BYTES`: the fields, how many bytes the header has, and the payload as
+//!   `OFFSET+LENGTH`; or the fault.
 //! - `setup_fault BYTES`: the fault alone, or `none`.
-//! - `write_params load=N initrd=ADDRESS+LENGTH line=N run=BASE+LENGTH:KIND .. of BYTES`: what is written for the kernel
+//! - `write_params load=N initrd=ADDRESS+LENGTH line=N run=BASE+LENGTH:KIND .. of BYTES`: what is
+//!   written for the kernel
 //!   with these bytes: those that are not 0, as pieces.
 //! - `read_params BYTES`: what boot parameters tell, or their first fault.
 //! - `gdt`: the descriptors.

@@ -1,4 +1,5 @@
-//! The calls of the libraries above the readers: boot information, an entry's handover, images, and whole boots.
+//! The calls of the libraries above the readers: boot information, an entry's handover, images, and
+//! whole boots.
 
 mod attempts;
 mod beside;

@@ -7,7 +7,8 @@ use Rattle.bl_bzimage.proofs.laws.setup_is_determined.Goals as goal
 
 -- a setup where there is no fault, else the fault
 by_fault : (bytes : List ℕ) (found : Option SetupFault) → setup_fault bytes ≡ found
-    → ((setup : Setup) × IsSetup bytes setup) ⊎ ((fault : SetupFault) × (setup_fault bytes ≡ Some fault))
+    → ((setup : Setup) × IsSetup bytes setup)
+    ⊎ ((fault : SetupFault) × (setup_fault bytes ≡ Some fault))
 by_fault bytes None sound = inl (setup_of bytes, record { sound = sound; is = refl })
 by_fault bytes (Some fault) faulty = inr (fault, faulty)
 

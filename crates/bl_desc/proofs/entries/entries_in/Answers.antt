@@ -8,18 +8,23 @@ use Rattle.bl_desc.proofs.entries.entries_in.Goals as goal
 
 pub loop-item-preserved : goal.loop-item-preserved
 loop-item-preserved g c =
-    let one = one_more entry_view (in_table entry_in) c.args.items.now c.loop-item.item-index c.item-item.result
+    let one =
+    one_more entry_view (in_table entry_in) c.args.items.now c.loop-item.item-index
+    c.item-item.result
     c.loop-item.entries.items c.push.new.self.items c.in_ok-entry.entry
     c.loop-item-test.true c.item-item.is c.in_ok-entry.ensures c.in_ok-push.ensures.items in
     one ∙ c.loop-item.invariant
 
 pub returns : goal.returns
 returns g c =
-    all_read (in_table entry_in) c.args.items.now c.loop-item.item-index (map entry_view c.loop-item.entries.items)
+    all_read (in_table entry_in) c.args.items.now c.loop-item.item-index
+    (map entry_view c.loop-item.entries.items)
     (omega (arith, c.loop-item-test.false)) c.loop-item.invariant
 
 pub returns-in_err-entry : goal.returns-in_err-entry
 returns-in_err-entry g c =
     let p = err_from_is_err_and c.from_residual.result c.from_residual.ensures.1 in
-    rw (p.1, p.2) (one_fails (in_table entry_in) c.args.items.now c.loop-item.item-index c.item-item.result
-    (map entry_view c.loop-item.entries.items) _ c.loop-item-test.true c.item-item.is c.in_err-entry.ensures c.loop-item.invariant)
+    rw (p.1, p.2)
+    (one_fails (in_table entry_in) c.args.items.now c.loop-item.item-index c.item-item.result
+    (map entry_view c.loop-item.entries.items) _ c.loop-item-test.true c.item-item.is
+    c.in_err-entry.ensures c.loop-item.invariant)

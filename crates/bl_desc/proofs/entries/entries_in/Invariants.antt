@@ -8,5 +8,6 @@ use Rattle.bl_desc.proofs.entries.entries_in.Given as goal
 
 abbrev pub invariant-loop-item : goal.invariant-loop-item
 invariant-loop-item g l =
-    with_front (map entry_view l.entries.items) (each_item (in_table entry_in) (items_view (drop l.item-index l.items)))
+    with_front (map entry_view l.entries.items)
+    (each_item (in_table entry_in) (items_view (drop l.item-index l.items)))
     ≡ each_item (in_table entry_in) (items_view l.items)

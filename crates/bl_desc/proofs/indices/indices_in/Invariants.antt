@@ -6,7 +6,8 @@ use Rattle.bl_desc.proofs.indices.indices_in.Given as goal
 
 abbrev pub invariant-loop-item : goal.invariant-loop-item
 invariant-loop-item g l = record {
-  read : with_front l.indices.items (each_item (index_of l.count) (items_view (drop l.item-index l.items)))
+  read : with_front l.indices.items
+      (each_item (index_of l.count) (items_view (drop l.item-index l.items)))
       ≡ each_item (index_of l.count) (items_view l.items);
   inside : All (λ index. index < l.count) l.indices.items;
 }

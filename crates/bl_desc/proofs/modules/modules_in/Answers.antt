@@ -7,7 +7,9 @@ use Rattle.bl_desc.proofs.modules.modules_in.Goals as goal
 
 pub loop-item-preserved : goal.loop-item-preserved
 loop-item-preserved g c =
-    let one = one_more module_view (in_table module_in) c.args.items.now c.loop-item.item-index c.item-item.result
+    let one =
+    one_more module_view (in_table module_in) c.args.items.now c.loop-item.item-index
+    c.item-item.result
     c.loop-item.modules.items c.push.new.self.items c.in_ok-module.module
     c.loop-item-test.true c.item-item.is c.in_ok-module.ensures c.in_ok-push.ensures.items in
     one ∙ c.loop-item.invariant

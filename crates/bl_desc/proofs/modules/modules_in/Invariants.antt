@@ -8,5 +8,6 @@ use Rattle.bl_desc.proofs.modules.modules_in.Given as goal
 
 abbrev pub invariant-loop-item : goal.invariant-loop-item
 invariant-loop-item g l =
-    with_front (map module_view l.modules.items) (each_item (in_table module_in) (items_view (drop l.item-index l.items)))
+    with_front (map module_view l.modules.items)
+    (each_item (in_table module_in) (items_view (drop l.item-index l.items)))
     ≡ each_item (in_table module_in) (items_view l.items)

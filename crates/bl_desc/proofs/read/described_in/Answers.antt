@@ -16,7 +16,9 @@ unfolding spec.described_in
 returns-in_err-default-clause-given g c =
     let known = sym c.has_only.ensures ∙ c.if-not-has_only.false in
     let fails = rw c.deref.ensures.value at c.in_err-default.ensures.given in
-    let p = err_from_is_err_and c.from_residual-in_err-default.result c.from_residual-in_err-default.ensures.1 in
+    let p =
+    err_from_is_err_and c.from_residual-in_err-default.result
+    c.from_residual-in_err-default.ensures.1 in
     rw (
       p.1,
       p.2,
@@ -35,7 +37,9 @@ returns-in_err-fallbacks-clause-given g c =
     let known = sym c.has_only.ensures ∙ c.if-not-has_only.false in
     let default = rw c.deref.ensures.value at c.in_ok-default.ensures.given in
     let fails = rw c.deref-2.ensures.value at c.in_err-fallbacks.ensures.given in
-    let p = err_from_is_err_and c.from_residual-in_err-fallbacks.result c.from_residual-in_err-fallbacks.ensures.1 in
+    let p =
+    err_from_is_err_and c.from_residual-in_err-fallbacks.result
+    c.from_residual-in_err-fallbacks.ensures.1 in
     rw (
       p.1,
       p.2,

@@ -7,5 +7,6 @@ use Rattle.bl_desc.proofs.regions.regions_in.Given as goal
 
 abbrev pub invariant-loop-item : goal.invariant-loop-item
 invariant-loop-item g l =
-    with_front l.regions.items (each_item (in_table region_in) (items_view (drop l.item-index l.items)))
+    with_front l.regions.items
+    (each_item (in_table region_in) (items_view (drop l.item-index l.items)))
     ≡ each_item (in_table region_in) (items_view l.items)

@@ -12,9 +12,11 @@ returns-in_err-header-clause-first_fault g c =
     rw (p.1, p.2) (header_first _ _ c.in_err-header.ensures.exact)
 
 abbrev facts_read : (g : Over) → goal.After-find_entry-entry g → ElfFacts
-facts_read g c = record { segments = c.in_ok-segments.segments.items; entry = c.find_entry-entry.result }
+facts_read g c =
+    record { segments = c.in_ok-segments.segments.items; entry = c.find_entry-entry.result }
 
-is_elf : (g : Over) (c : goal.After-find_entry-entry g) → IsElf (g.V.ByteView.bytes c.args.view.now) (facts_read g c)
+is_elf : (g : Over) (c : goal.After-find_entry-entry g)
+    → IsElf (g.V.ByteView.bytes c.args.view.now) (facts_read g c)
 is_elf g c = record {
   header = c.in_ok-header.ensures.exact;
   sound = c.in_ok-segments.ensures.sound;
@@ -24,10 +26,12 @@ is_elf g c = record {
 }
 
 pub returns-clause-segments : goal.returns-clause-segments
-returns-clause-segments g c = elf_loadable (g.V.ByteView.bytes c.args.view.now) (facts_read g c) (is_elf g c)
+returns-clause-segments g c =
+    elf_loadable (g.V.ByteView.bytes c.args.view.now) (facts_read g c) (is_elf g c)
 
 pub returns-clause-few : goal.returns-clause-few
 returns-clause-few g c = elf_few (g.V.ByteView.bytes c.args.view.now) (facts_read g c) (is_elf g c)
 
 pub returns-clause-apart : goal.returns-clause-apart
-returns-clause-apart g c = elf_apart (g.V.ByteView.bytes c.args.view.now) (facts_read g c) (is_elf g c)
+returns-clause-apart g c =
+    elf_apart (g.V.ByteView.bytes c.args.view.now) (facts_read g c) (is_elf g c)

@@ -7,4 +7,5 @@ use Rattle.bl_elf.proofs.entry.first_entered.Given as goal
 abbrev pub invariant-loop-i : goal.invariant-loop-i
 invariant-loop-i g l =
     let bytes = g.V.ByteView.bytes l.view in
-    find (is_entered l.header.e_entry) (headers_from bytes l.i (l.i-end - l.i)) ≡ find (is_entered l.header.e_entry) (program_headers bytes)
+    find (is_entered l.header.e_entry) (headers_from bytes l.i (l.i-end - l.i))
+    ≡ find (is_entered l.header.e_entry) (program_headers bytes)

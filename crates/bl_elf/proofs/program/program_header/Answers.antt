@@ -5,12 +5,20 @@ use Rattle.bl_elf.proofs.program.program_header.Goals as goal
 
 pub overflow_add-place : goal.overflow_add-place
 overflow_add-place g c =
-    omega (arith, within_file (g.V.ByteView.bytes c.args.view.now) c.args.header c.args.i c.requires.header c.requires.within)
+    omega (
+      arith,
+      within_file (g.V.ByteView.bytes c.args.view.now) c.args.header c.args.i
+          c.requires.header c.requires.within,
+    )
 
 pub program_header_32-requires-clause-inside : goal.program_header_32-requires-clause-inside
 program_header_32-requires-clause-inside g c =
-    rw c.in-Elf32.is at (within_file (g.V.ByteView.bytes c.args.view.now) c.args.header c.args.i c.requires.header c.requires.within)
+    rw c.in-Elf32.is at
+    (within_file (g.V.ByteView.bytes c.args.view.now) c.args.header c.args.i c.requires.header
+    c.requires.within)
 
 pub program_header_64-requires-clause-inside : goal.program_header_64-requires-clause-inside
 program_header_64-requires-clause-inside g c =
-    rw c.in-Elf64.is at (within_file (g.V.ByteView.bytes c.args.view.now) c.args.header c.args.i c.requires.header c.requires.within)
+    rw c.in-Elf64.is at
+    (within_file (g.V.ByteView.bytes c.args.view.now) c.args.header c.args.i c.requires.header
+    c.requires.within)

@@ -8,5 +8,6 @@ invariant-loop-i g l =
     let bytes = g.V.ByteView.bytes l.view in
     record {
       sound : (k : ℕ) → k < l.i → fault_at bytes k ≡ None;
-      so_far : l.segments.items ++ segments_of (headers_from bytes l.i (l.i-end - l.i)) ≡ segments_of (program_headers bytes);
+      so_far : l.segments.items ++ segments_of (headers_from bytes l.i (l.i-end - l.i))
+          ≡ segments_of (program_headers bytes);
     }

@@ -16,9 +16,11 @@ returns-in_err-out-clause-cut g c =
     let i = c.loop-i.i in
     let inside : i < length out = omega arith in
     let taken : length (take i out) ≡ i = length-take-le i out (omega arith) in
-    let size : length (flat_map u32_bytes (take i out)) ≡ 4 * length (take i out) = length-u32s (take i out) in
+    let size : length (flat_map u32_bytes (take i out)) ≡ 4 * length (take i out) =
+    length-u32s (take i out) in
     let few : length (flat_map u32_bytes (take i out)) + 4 ≤ 4 * length out = omega arith in
-    rw (p.1, p.2) (cut_behind 4 (4 * length out) c.loop-i.invariant.came few _ _ c.in_err-out.ensures.cut)
+    rw (p.1, p.2)
+    (cut_behind 4 (4 * length out) c.loop-i.invariant.came few _ _ c.in_err-out.ensures.cut)
 
 pub loop-i-preserved : goal.loop-i-preserved
 loop-i-preserved g c =
@@ -27,7 +29,9 @@ loop-i-preserved g c =
     let v = c.in_ok-out.field-0 in
     let inside : i < length out = omega arith in
     record {
-      came = comes_as (sym (u32s_more out i v inside)) (comes_more c.loop-i.invariant.came c.in_ok-out.ensures.ok);
+      came =
+          comes_as (sym (u32s_more out i v inside))
+          (comes_more c.loop-i.invariant.came c.in_ok-out.ensures.ok);
       fit = fit_more out i v inside c.loop-i.invariant.fit c.in_ok-out.ensures.fits;
       sound = omega (arith, c.in_ok-out.ensures.faults, c.loop-i.invariant.sound);
     }

@@ -7,7 +7,8 @@ use Rattle.bl_image.proofs.fields.read_u32s.Given as goal
 -- the first numbers came
 abbrev pub invariant-loop-i : goal.invariant-loop-i
 invariant-loop-i g l = record {
-  came : Comes (g.S.Source.input l.fn.source) (g.S.Source.input l.source) (flat_map u32_bytes (take l.i l.out));
+  came : Comes (g.S.Source.input l.fn.source) (g.S.Source.input l.source)
+      (flat_map u32_bytes (take l.i l.out));
   fit : All (λ n. n < 2 ^ 32) (take l.i l.out);
   sound : g.S.Source.faults l.source ≡ g.S.Source.faults l.fn.source;
 }

@@ -8,6 +8,7 @@ use Rattle.bl_image.proofs.head.head_bytes.Goals as goal
 pub returns-clause-fit : goal.returns-clause-fit
 returns-clause-fit c =
     let fits : ℕ → Type 0 = λ n. n < 2 ^ 32 in
-    let words : List ℕ = VERSION ∷ c.number.result ∷ (register_numbers c.args.r.now ++ c.args.count ∷ 0 ∷ []) in
+    let words : List ℕ =
+    VERSION ∷ c.number.result ∷ (register_numbers c.args.r.now ++ c.args.count ∷ 0 ∷ []) in
     let all : All fits words = c.write_u32s.ensures.fit in
     All-take fits 20 (drop 2 words) (All-drop fits 2 words all)

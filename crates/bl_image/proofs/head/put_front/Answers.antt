@@ -1,4 +1,5 @@
-use Rattle.std.proofs.Common.{◌≡◌, ◌+◌, ◌*◌, ◌<◌, ◌^◌, ◌++◌, ℕ, List, length, take, All, arith, ◌∙◌, sym, ap, subst}
+use Rattle.std.proofs.Common.{◌≡◌, ◌+◌, ◌*◌, ◌<◌, ◌^◌, ◌++◌, ℕ, List, length, take, All, arith, ◌∙◌}
+use Rattle.std.proofs.Common.{sym, ap, subst}
 use Rattle.std.proofs.Math.Seq.{take-length}
 use Rattle.std.proofs.lemmas.List.{append-nil}
 use Rattle.std.proofs.lemmas.List.Elements.{All-more, All-nil}
@@ -13,9 +14,13 @@ pub loop-i-init : goal.loop-i-init
 loop-i-init g c =
     let h = c.args.handoff.now in
     let wide : 104 ≡ 0 + length c.head_bytes-bytes.result = omega arith in
-    let bytes : c.head_bytes-bytes.result ≡ head h.protocol h.registers (length h.places) = rw (c.protocol.ensures, c.registers-registers.ensures, c.len-count.ensures.len) at c.head_bytes-bytes.ensures.bytes in
+    let bytes : c.head_bytes-bytes.result ≡ head h.protocol h.registers (length h.places) =
+    rw (c.protocol.ensures, c.registers-registers.ensures, c.len-count.ensures.len) at
+    c.head_bytes-bytes.ensures.bytes in
     record {
-      front = ap (λ (n : ℕ). take n c.put.new.buffer) wide ∙ c.put.ensures ∙ bytes ∙ sym (append-nil (head h.protocol h.registers (length h.places)));
+      front =
+          ap (λ (n : ℕ). take n c.put.new.buffer) wide ∙ c.put.ensures ∙ bytes
+          ∙ sym (append-nil (head h.protocol h.registers (length h.places)));
       indices = All-nil (λ (place : Place). place.index < 2 ^ 32);
     }
 
@@ -26,24 +31,38 @@ loop-i-preserved g c =
     let place = c.place-place.result in
     let inside : i < length h.places = omega (arith, c.loop-i-test.true, c.len-count.ensures.len) in
     let wide : 104 + 24 * i + 24 ≡ 104 + 24 * i + length c.record_bytes.result = omega arith in
-    let step : take (104 + 24 * i + 24) c.put-in-loop-i.new.buffer ≡ take (104 + 24 * i) c.loop-i.buffer ++ place_record place =
+    let step : take (104 + 24 * i + 24) c.put-in-loop-i.new.buffer
+    ≡ take (104 + 24 * i) c.loop-i.buffer ++ place_record place =
     ap (λ (n : ℕ). take n c.put-in-loop-i.new.buffer) wide
     ∙ c.put-in-loop-i.ensures
     ∙ ap (λ (l : List ℕ). take (104 + 24 * i) c.loop-i.buffer ++ l) c.record_bytes.ensures.bytes in
     record {
-      front = records_more (head h.protocol h.registers (length h.places)) c.loop-i.buffer c.put-in-loop-i.new.buffer h.places i place c.place-place.ensures inside c.loop-i.invariant.front step;
-      indices = All-more (λ (p : Place). p.index < 2 ^ 32) h.places i place inside c.loop-i.invariant.indices (subst (λ (p : Place). p.index < 2 ^ 32) c.place-place.ensures c.record_bytes.ensures.index);
+      front =
+          records_more (head h.protocol h.registers (length h.places)) c.loop-i.buffer
+          c.put-in-loop-i.new.buffer h.places i place c.place-place.ensures inside
+          c.loop-i.invariant.front step;
+      indices =
+          All-more (λ (p : Place). p.index < 2 ^ 32) h.places i place inside
+          c.loop-i.invariant.indices
+          (subst (λ (p : Place). p.index < 2 ^ 32) c.place-place.ensures
+          c.record_bytes.ensures.index);
     }
 
 pub returns-clause-fit : goal.returns-clause-fit
 returns-clause-fit g c =
     let h = c.args.handoff.now in
     let all : c.loop-i.i ≡ length h.places = omega (arith, c.len-count.ensures.len) in
-    let registers : All (λ n. n < 2 ^ 32) (register_numbers h.registers) = subst (λ (r : Registers). All (λ n. n < 2 ^ 32) (register_numbers r)) c.registers-registers.ensures c.head_bytes-bytes.ensures.fit in
-    let indices : All (λ (p : Place). p.index < 2 ^ 32) h.places = subst (All (λ (p : Place). p.index < 2 ^ 32)) (ap (λ (n : ℕ). take n h.places) all ∙ take-length h.places) c.loop-i.invariant.indices in
+    let registers : All (λ n. n < 2 ^ 32) (register_numbers h.registers) =
+    subst (λ (r : Registers). All (λ n. n < 2 ^ 32) (register_numbers r))
+    c.registers-registers.ensures c.head_bytes-bytes.ensures.fit in
+    let indices : All (λ (p : Place). p.index < 2 ^ 32) h.places =
+    subst (All (λ (p : Place). p.index < 2 ^ 32))
+    (ap (λ (n : ℕ). take n h.places) all ∙ take-length h.places)
+    c.loop-i.invariant.indices in
     records_fit h.registers h.places registers indices c.len-count.ensures.records
 
 pub returns-clause-front : goal.returns-clause-front
 returns-clause-front g c =
     let h = c.args.handoff.now in
-    records_all (head h.protocol h.registers (length h.places)) c.loop-i.buffer h.places c.loop-i.i c.len-count.result (omega arith) c.len-count.ensures.len c.loop-i.invariant.front
+    records_all (head h.protocol h.registers (length h.places)) c.loop-i.buffer h.places c.loop-i.i
+    c.len-count.result (omega arith) c.len-count.ensures.len c.loop-i.invariant.front

@@ -7,6 +7,8 @@ use Rattle.bl_image.proofs.head.put_front.Given as goal
 -- the head and the records of the first places stand in the buffer
 abbrev pub invariant-loop-i : goal.invariant-loop-i
 invariant-loop-i g l = record {
-  front : take (104 + 24 * l.i) l.buffer ≡ head l.handoff.protocol l.handoff.registers (length l.handoff.places) ++ flat_map place_record (take l.i l.handoff.places);
+  front : take (104 + 24 * l.i) l.buffer
+      ≡ head l.handoff.protocol l.handoff.registers (length l.handoff.places)
+      ++ flat_map place_record (take l.i l.handoff.places);
   indices : All (λ (place : Place). place.index < 2 ^ 32) (take l.i l.handoff.places);
 }

@@ -20,8 +20,12 @@ unfolding count_field
 returns-then-count-gt-MOST_PARTS-clause-field g c =
     let n = c.in_ok-count.count in
     let many : 256 < n = c.if-count-gt-MOST_PARTS.true in
-    let fails = word_tells (λ k. nat_le k 256) BadHeader n false c.in_ok-count.ensures.fits (grind (arith, nat_tests)) in
-    λ fields. field_shows count_field fields _ _ (u32_bytes n) c.in_ok-count.ensures.ok (length-u32_bytes n) fails
+    let fails =
+    word_tells (λ k. nat_le k 256) BadHeader n false c.in_ok-count.ensures.fits
+    (grind (arith, nat_tests)) in
+    λ fields.
+    field_shows count_field fields _ _ (u32_bytes n) c.in_ok-count.ensures.ok
+    (length-u32_bytes n) fails
 
 pub returns-clause-field : goal.returns-clause-field
 unfolding count_field
@@ -31,5 +35,7 @@ returns-clause-field g c =
     record {
       comes = c.in_ok-count.ensures.ok;
       size = length-u32_bytes n;
-      passes = word_tells (λ k. nat_le k 256) BadHeader n true c.in_ok-count.ensures.fits (grind (arith, nat_tests));
+      passes =
+          word_tells (λ k. nat_le k 256) BadHeader n true c.in_ok-count.ensures.fits
+          (grind (arith, nat_tests));
     }

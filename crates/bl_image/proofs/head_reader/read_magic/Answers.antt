@@ -19,12 +19,15 @@ pub returns-then-ne-clause-field : goal.returns-then-ne-clause-field
 unfolding magic_field
 returns-then-ne-clause-field g c =
     let size : length c.read_exact.new.out ≡ 8 = search (rules, places) in
-    λ fields. field_shows magic_field fields _ _ _ c.in_ok-read_exact.ensures.ok size (text_differs c.read_exact.new.out magic c.if-ne.ensures)
+    λ fields.
+    field_shows magic_field fields _ _ _ c.in_ok-read_exact.ensures.ok size
+    (text_differs c.read_exact.new.out magic c.if-ne.ensures)
 
 pub returns-clause-field : goal.returns-clause-field
 unfolding magic_field
 returns-clause-field g c = record {
-  comes = comes_as (text_same c.read_exact.new.out magic c.if-ne.ensures) c.in_ok-read_exact.ensures.ok;
+  comes =
+      comes_as (text_same c.read_exact.new.out magic c.if-ne.ensures) c.in_ok-read_exact.ensures.ok;
   size = refl;
   passes = refl;
 }

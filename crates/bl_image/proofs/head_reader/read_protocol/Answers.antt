@@ -21,8 +21,12 @@ pub returns-in_default-clause-field : goal.returns-in_default-clause-field
 unfolding protocol_field
 returns-in_default-clause-field g c =
     let n = c.in_ok-number.number in
-    let fails = word_tells (λ k. nat_le 1 k && nat_le k 2) BadHeader n false c.in_ok-number.ensures.fits (not_between 1 n 2 c.in_default.ensures) in
-    λ fields. field_shows protocol_field fields _ _ (u32_bytes n) c.in_ok-number.ensures.ok (length-u32_bytes n) fails
+    let fails =
+    word_tells (λ k. nat_le 1 k && nat_le k 2) BadHeader n false c.in_ok-number.ensures.fits
+    (not_between 1 n 2 c.in_default.ensures) in
+    λ fields.
+    field_shows protocol_field fields _ _ (u32_bytes n) c.in_ok-number.ensures.ok
+    (length-u32_bytes n) fails
 
 pub returns-clause-field : goal.returns-clause-field
 unfolding protocol_field
@@ -32,5 +36,7 @@ returns-clause-field g c =
     record {
       comes = comes_as (ap u32_bytes (sym is)) c.in_ok-number.ensures.ok;
       size = length-u32_bytes _;
-      passes = word_tells (λ k. nat_le 1 k && nat_le k 2) BadHeader _ true (protocol_fits c.in-Some.protocol) (protocol_between c.in-Some.protocol);
+      passes =
+          word_tells (λ k. nat_le 1 k && nat_le k 2) BadHeader _ true
+          (protocol_fits c.in-Some.protocol) (protocol_between c.in-Some.protocol);
     }

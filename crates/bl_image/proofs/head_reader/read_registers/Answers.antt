@@ -21,10 +21,14 @@ returns-in_err-read_u32s-clause-field g c =
 pub returns-clause-field : goal.returns-clause-field
 unfolding registers_field
 returns-clause-field g c = record {
-  comes = comes_as (ap (flat_map u32_bytes) (sym c.registers_of.ensures)) c.in_ok-read_u32s.ensures.ok;
+  comes =
+      comes_as (ap (flat_map u32_bytes) (sym c.registers_of.ensures)) c.in_ok-read_u32s.ensures.ok;
   size = length-u32s (register_numbers c.registers_of.result);
   passes = refl;
 }
 
 pub returns-clause-fit : goal.returns-clause-fit
-returns-clause-fit g c = let fits : ℕ → Type 0 = λ n. n < 2 ^ 32 in subst (All fits) (sym c.registers_of.ensures) c.in_ok-read_u32s.ensures.fit
+returns-clause-fit g c =
+    let fits : ℕ → Type 0 =
+    λ n. n < 2 ^ 32 in
+    subst (All fits) (sym c.registers_of.ensures) c.in_ok-read_u32s.ensures.fit

@@ -21,8 +21,12 @@ unfolding version_field
 returns-then-branch-ne-VERSION-clause-field g c =
     let n = c.in_ok-read_u32.field-0 in
     let other : n ≡ 1 → ⊥ = c.if-branch-ne-VERSION.true in
-    let fails = word_tells (λ k. k == 1) BadVersion n false c.in_ok-read_u32.ensures.fits (grind (arith, nat_tests)) in
-    λ fields. field_shows version_field fields _ _ (u32_bytes n) c.in_ok-read_u32.ensures.ok (length-u32_bytes n) fails
+    let fails =
+    word_tells (λ k. k == 1) BadVersion n false c.in_ok-read_u32.ensures.fits
+    (grind (arith, nat_tests)) in
+    λ fields.
+    field_shows version_field fields _ _ (u32_bytes n) c.in_ok-read_u32.ensures.ok
+    (length-u32_bytes n) fails
 
 pub returns-clause-field : goal.returns-clause-field
 unfolding version_field

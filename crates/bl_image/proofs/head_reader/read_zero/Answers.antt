@@ -21,8 +21,12 @@ unfolding zero_field
 returns-then-branch-ne0-clause-field g c =
     let n = c.in_ok-read_u32.field-0 in
     let other : n ≡ 0 → ⊥ = c.if-branch-ne0.true in
-    let fails = word_tells (λ k. k == 0) BadHeader n false c.in_ok-read_u32.ensures.fits (grind (arith, nat_tests)) in
-    λ fields. field_shows zero_field fields _ _ (u32_bytes n) c.in_ok-read_u32.ensures.ok (length-u32_bytes n) fails
+    let fails =
+    word_tells (λ k. k == 0) BadHeader n false c.in_ok-read_u32.ensures.fits
+    (grind (arith, nat_tests)) in
+    λ fields.
+    field_shows zero_field fields _ _ (u32_bytes n) c.in_ok-read_u32.ensures.ok
+    (length-u32_bytes n) fails
 
 pub returns-clause-field : goal.returns-clause-field
 unfolding zero_field

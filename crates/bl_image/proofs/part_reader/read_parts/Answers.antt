@@ -9,7 +9,9 @@ pub returns-in_err-part-clause-cut : goal.returns-in_err-part-clause-cut
 returns-in_err-part-clause-cut g c =
     let p = err_from_is_err_and c.from_residual.result c.from_residual.ensures.1 in
     let inside : c.loop-i.i < length c.args.places.now = omega arith in
-    rw (p.1, p.2) (part_cut c.args.places.now c.loop-i.parts.items c.loop-i.i _ c.loop-i.invariant.are inside c.loop-i.invariant.came _ _ c.in_err-part.ensures.cut)
+    rw (p.1, p.2)
+    (part_cut c.args.places.now c.loop-i.parts.items c.loop-i.i _ c.loop-i.invariant.are inside
+    c.loop-i.invariant.came _ _ c.in_err-part.ensures.cut)
 
 pub loop-i-preserved : goal.loop-i-preserved
 loop-i-preserved g c =
@@ -18,7 +20,12 @@ loop-i-preserved g c =
     let inside : c.loop-i.i < length c.args.places.now = omega arith in
     let e : c.push.new.self.items ≡ old ++ part ∷ [] = c.in_ok-push.ensures.items in
     record {
-      came = comes_as (sym (ap all_bytes e ∙ bytes_more old part)) (comes_more c.loop-i.invariant.came c.in_ok-part.ensures.ok);
-      are = ap (map place_of) e ∙ places_more c.args.places.now old c.loop-i.i _ part c.loop-i.invariant.are inside c.in_ok-part.ensures.place;
+      came =
+          comes_as (sym (ap all_bytes e ∙ bytes_more old part))
+          (comes_more c.loop-i.invariant.came c.in_ok-part.ensures.ok);
+      are =
+          ap (map place_of) e
+          ∙ places_more c.args.places.now old c.loop-i.i _ part c.loop-i.invariant.are
+          inside c.in_ok-part.ensures.place;
       faults = omega (arith, c.in_ok-part.ensures.faults, c.loop-i.invariant.faults);
     }

@@ -7,7 +7,9 @@ use Rattle.bl_image.proofs.parts.write_part.Given as goal
 abbrev pub invariant-loop-done : goal.invariant-loop-done
 invariant-loop-done g l = record {
   within : l.done ≤ l.place.length;
-  way : IsOnWay (g.S.Sink.contents l.fn.sink) (g.S.Sink.contents l.sink) (slice_range (g.M.PhysMem.bytes l.memory) (l.place.address + l.done) (l.place.address + l.place.length)) (place_bytes (g.M.PhysMem.bytes l.memory) l.place);
+  way : IsOnWay (g.S.Sink.contents l.fn.sink) (g.S.Sink.contents l.sink)
+      (slice_range (g.M.PhysMem.bytes l.memory) (l.place.address + l.done)
+      (l.place.address + l.place.length)) (place_bytes (g.M.PhysMem.bytes l.memory) l.place);
   sound : g.S.Sink.faults l.sink ≡ g.S.Sink.faults l.fn.sink;
 }
 

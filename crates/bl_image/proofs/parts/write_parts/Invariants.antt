@@ -7,6 +7,8 @@ use Rattle.bl_image.proofs.parts.write_parts.Given as goal
 -- the bytes of the places from the i-th on are left
 abbrev pub invariant-loop-i : goal.invariant-loop-i
 invariant-loop-i g l = record {
-  way : IsOnWay (g.S.Sink.contents l.fn.sink) (g.S.Sink.contents l.sink) (flat_map (place_bytes (g.M.PhysMem.bytes l.memory)) (drop l.i l.handoff.places)) (flat_map (place_bytes (g.M.PhysMem.bytes l.memory)) l.handoff.places);
+  way : IsOnWay (g.S.Sink.contents l.fn.sink) (g.S.Sink.contents l.sink)
+      (flat_map (place_bytes (g.M.PhysMem.bytes l.memory)) (drop l.i l.handoff.places))
+      (flat_map (place_bytes (g.M.PhysMem.bytes l.memory)) l.handoff.places);
   sound : g.S.Sink.faults l.sink ≡ g.S.Sink.faults l.fn.sink;
 }

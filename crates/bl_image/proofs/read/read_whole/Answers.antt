@@ -8,7 +8,8 @@ use Rattle.bl_image.specs.RecordsKept.{bytes_at}
 use Rattle.bl_image.proofs.Inputs.{comes_more, comes_as}
 use Rattle.bl_image.proofs.FieldLemmas.{Passed, passed_more, passed_refuses, cut_refuses}
 use Rattle.bl_image.proofs.HeadLemmas.{head_front, head_refuses}
-use Rattle.bl_image.proofs.PartLemmas.{all_bytes, end_short, end_more, parts_size, spelled_by, image_parts, image_kept}
+use Rattle.bl_image.proofs.PartLemmas.{all_bytes, end_short, end_more, parts_size, spelled_by}
+use Rattle.bl_image.proofs.PartLemmas.{image_parts, image_kept}
 use Rattle.bl_image.proofs.read.read_whole.Goals as goal
 
 pub returns-in_err-head-clause-refused : goal.returns-in_err-head-clause-refused
@@ -18,43 +19,93 @@ returns-in_err-head-clause-refused g c =
 
 pub returns-in_err-places-clause-refused : goal.returns-in_err-places-clause-refused
 returns-in_err-places-clause-refused g c =
-    let p = err_from_is_err_and c.from_residual-in_err-places.result c.from_residual-in_err-places.ensures.1 in
+    let p =
+    err_from_is_err_and c.from_residual-in_err-places.result
+    c.from_residual-in_err-places.ensures.1 in
     let head = c.in_ok-head.head in
-    let front : Passed image_fault _ _ (parts_fault head.count none_before) = record { done = _; comes = c.in_ok-head.ensures.ok; on = λ bytes. head_front head.protocol head.registers head.count bytes c.in_ok-head.ensures.few } in
+    let front : Passed image_fault _ _ (parts_fault head.count none_before) =
+    record {
+      done = _;
+      comes = c.in_ok-head.ensures.ok;
+      on =
+          λ bytes.
+          head_front head.protocol head.registers head.count bytes
+          c.in_ok-head.ensures.few;
+    } in
     rw (p.1, p.2) (passed_refuses front _ _ c.in_err-places.ensures.refused)
 
 pub returns-in_err-parts-clause-refused : goal.returns-in_err-parts-clause-refused
 returns-in_err-parts-clause-refused g c =
-    let p = err_from_is_err_and c.from_residual-in_err-parts.result c.from_residual-in_err-parts.ensures.1 in
+    let p =
+    err_from_is_err_and c.from_residual-in_err-parts.result
+    c.from_residual-in_err-parts.ensures.1 in
     let head = c.in_ok-head.head in
     let places = c.in_ok-places.places.items in
-    let front : Passed image_fault _ _ (parts_fault head.count none_before) = record { done = _; comes = c.in_ok-head.ensures.ok; on = λ bytes. head_front head.protocol head.registers head.count bytes c.in_ok-head.ensures.few } in
-    let passed : Passed image_fault _ _ (end_fault (bytes_at places)) = passed_more _ front c.in_ok-places.ensures.ok c.in_ok-places.ensures.judged in
+    let front : Passed image_fault _ _ (parts_fault head.count none_before) =
+    record {
+      done = _;
+      comes = c.in_ok-head.ensures.ok;
+      on =
+          λ bytes.
+          head_front head.protocol head.registers head.count bytes
+          c.in_ok-head.ensures.few;
+    } in
+    let passed : Passed image_fault _ _ (end_fault (bytes_at places)) =
+    passed_more _ front c.in_ok-places.ensures.ok c.in_ok-places.ensures.judged in
     let cut = rw c.deref.ensures.value at c.in_err-parts.ensures.cut in
-    rw (p.1, p.2) (passed_refuses passed _ _ (cut_refuses (end_fault (bytes_at places)) _ _ (bytes_at places) _ (end_short (bytes_at places)) cut))
+    rw (p.1, p.2)
+    (passed_refuses passed
+    _ _ (cut_refuses (end_fault (bytes_at places)) _ _ (bytes_at places)
+    _ (end_short (bytes_at places)) cut))
 
 pub returns-in_err-read_end-clause-refused : goal.returns-in_err-read_end-clause-refused
 returns-in_err-read_end-clause-refused g c =
-    let p = err_from_is_err_and c.from_residual-in_err-read_end.result c.from_residual-in_err-read_end.ensures.1 in
+    let p =
+    err_from_is_err_and c.from_residual-in_err-read_end.result
+    c.from_residual-in_err-read_end.ensures.1 in
     let head = c.in_ok-head.head in
     let places = c.in_ok-places.places.items in
     let parts = c.in_ok-parts.parts.items in
-    let front : Passed image_fault _ _ (parts_fault head.count none_before) = record { done = _; comes = c.in_ok-head.ensures.ok; on = λ bytes. head_front head.protocol head.registers head.count bytes c.in_ok-head.ensures.few } in
-    let passed : Passed image_fault _ _ (end_fault (bytes_at places)) = passed_more _ front c.in_ok-places.ensures.ok c.in_ok-places.ensures.judged in
-    let size : length (all_bytes parts) ≡ bytes_at places = parts_size parts ∙ ap bytes_at (c.in_ok-parts.ensures.places ∙ c.deref.ensures.value) in
-    let left : Passed image_fault _ _ (end_fault 0) = passed_more _ passed c.in_ok-parts.ensures.ok (λ bytes. end_more (bytes_at places) (all_bytes parts) bytes size) in
+    let front : Passed image_fault _ _ (parts_fault head.count none_before) =
+    record {
+      done = _;
+      comes = c.in_ok-head.ensures.ok;
+      on =
+          λ bytes.
+          head_front head.protocol head.registers head.count bytes
+          c.in_ok-head.ensures.few;
+    } in
+    let passed : Passed image_fault _ _ (end_fault (bytes_at places)) =
+    passed_more _ front c.in_ok-places.ensures.ok c.in_ok-places.ensures.judged in
+    let size : length (all_bytes parts) ≡ bytes_at places =
+    parts_size parts ∙ ap bytes_at (c.in_ok-parts.ensures.places ∙ c.deref.ensures.value) in
+    let left : Passed image_fault _ _ (end_fault 0) =
+    passed_more _ passed c.in_ok-parts.ensures.ok
+    (λ bytes. end_more (bytes_at places) (all_bytes parts) bytes size) in
     rw (p.1, p.2) (passed_refuses left _ _ c.in_err-read_end.ensures.refused)
 
 pub new-requires : goal.new-requires
-new-requires g c = image_parts c.in_ok-parts.parts.items (subst AreRecords (sym (c.in_ok-parts.ensures.places ∙ c.deref.ensures.value)) c.in_ok-places.ensures.records)
+new-requires g c =
+    image_parts c.in_ok-parts.parts.items
+    (subst AreRecords (sym (c.in_ok-parts.ensures.places ∙ c.deref.ensures.value))
+    c.in_ok-places.ensures.records)
 
 pub returns-clause-ok : goal.returns-clause-ok
 returns-clause-ok g c =
     let head = c.in_ok-head.head in
-    let came = comes_more (comes_more (comes_more c.in_ok-head.ensures.ok c.in_ok-places.ensures.ok) c.in_ok-parts.ensures.ok) c.in_ok-read_end.ensures.ok in
-    comes_as (spelled_by head.protocol head.registers head.count c.in_ok-places.places.items c.in_ok-parts.parts.items (c.in_ok-parts.ensures.places ∙ c.deref.ensures.value) c.in_ok-places.ensures.count ∙ ap spelling (sym c.new.ensures)) came
+    let came =
+    comes_more
+    (comes_more (comes_more c.in_ok-head.ensures.ok c.in_ok-places.ensures.ok)
+    c.in_ok-parts.ensures.ok) c.in_ok-read_end.ensures.ok in
+    comes_as
+    (spelled_by head.protocol head.registers head.count c.in_ok-places.places.items
+    c.in_ok-parts.parts.items (c.in_ok-parts.ensures.places ∙ c.deref.ensures.value)
+    c.in_ok-places.ensures.count ∙ ap spelling (sym c.new.ensures)) came
 
 pub returns-clause-kept : goal.returns-clause-kept
 returns-clause-kept g c =
     let head = c.in_ok-head.head in
-    subst IsKept (sym c.new.ensures) (image_kept head.protocol head.registers c.in_ok-places.places.items c.in_ok-parts.parts.items (c.in_ok-parts.ensures.places ∙ c.deref.ensures.value) c.in_ok-places.ensures.records c.in_ok-places.ensures.fit c.in_ok-head.ensures.fit)
+    subst IsKept (sym c.new.ensures)
+    (image_kept head.protocol head.registers c.in_ok-places.places.items
+    c.in_ok-parts.parts.items (c.in_ok-parts.ensures.places ∙ c.deref.ensures.value)
+    c.in_ok-places.ensures.records c.in_ok-places.ensures.fit c.in_ok-head.ensures.fit)

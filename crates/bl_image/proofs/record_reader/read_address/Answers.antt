@@ -13,15 +13,22 @@ pub returns-in_err-address-clause-field : goal.returns-in_err-address-clause-fie
 unfolding address_field
 returns-in_err-address-clause-field g c =
     let p = err_from_is_err_and c.from_residual.result c.from_residual.ensures.1 in
-    rw (p.1, p.2) (λ fields. field_cut (address_field c.args.part c.args.before) fields _ _ _ c.in_err-address.ensures.cut)
+    rw (p.1, p.2)
+    (λ fields.
+    field_cut (address_field c.args.part c.args.before) fields
+    _ _ _ c.in_err-address.ensures.cut)
 
 pub returns-then-address-before-clause-field : goal.returns-then-address-before-clause-field
 unfolding address_field
 returns-then-address-before-clause-field g c =
     let n = c.in_ok-address.address in
     let low : n < c.args.before = c.if-address-before.true in
-    let fails = long_tells (nat_le c.args.before) (BadPart c.args.part) n false c.in_ok-address.ensures.fits (grind (arith, nat_tests)) in
-    λ fields. field_shows (address_field c.args.part c.args.before) fields _ _ (u64_bytes n) c.in_ok-address.ensures.ok (length-u64_bytes n) fails
+    let fails =
+    long_tells (nat_le c.args.before) (BadPart c.args.part) n false c.in_ok-address.ensures.fits
+    (grind (arith, nat_tests)) in
+    λ fields.
+    field_shows (address_field c.args.part c.args.before) fields _ _ (u64_bytes n)
+    c.in_ok-address.ensures.ok (length-u64_bytes n) fails
 
 pub returns-clause-field : goal.returns-clause-field
 unfolding address_field
@@ -31,5 +38,7 @@ returns-clause-field g c =
     record {
       comes = c.in_ok-address.ensures.ok;
       size = length-u64_bytes n;
-      passes = long_tells (nat_le c.args.before) (BadPart c.args.part) n true c.in_ok-address.ensures.fits (grind (arith, nat_tests));
+      passes =
+          long_tells (nat_le c.args.before) (BadPart c.args.part) n true
+          c.in_ok-address.ensures.fits (grind (arith, nat_tests));
     }

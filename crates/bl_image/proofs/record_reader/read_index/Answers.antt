@@ -9,7 +9,9 @@ pub returns-in_err-index-clause-field : goal.returns-in_err-index-clause-field
 unfolding index_field
 returns-in_err-index-clause-field g c =
     let p = err_from_is_err_and c.from_residual.result c.from_residual.ensures.1 in
-    λ part. rw (p.1, p.2) (λ fields. field_cut (index_field part) fields _ _ _ c.in_err-index.ensures.cut)
+    λ part.
+    rw (p.1, p.2)
+    (λ fields. field_cut (index_field part) fields _ _ _ c.in_err-index.ensures.cut)
 
 pub returns-clause-field : goal.returns-clause-field
 unfolding index_field

@@ -12,14 +12,21 @@ pub returns-in_err-count-clause-field : goal.returns-in_err-count-clause-field
 unfolding length_field
 returns-in_err-count-clause-field g c =
     let p = err_from_is_err_and c.from_residual.result c.from_residual.ensures.1 in
-    rw (p.1, p.2) (λ fields. field_cut (length_field c.args.part c.args.address) fields _ _ _ c.in_err-count.ensures.cut)
+    rw (p.1, p.2)
+    (λ fields.
+    field_cut (length_field c.args.part c.args.address) fields
+    _ _ _ c.in_err-count.ensures.cut)
 
 pub returns-then-not-may_have-clause-field : goal.returns-then-not-may_have-clause-field
 unfolding length_field
 returns-then-not-may_have-clause-field g c =
     let n = c.in_ok-count.count in
-    let fails = long_tells (λ k. nat_le 1 k && nat_le (c.args.address + k) (2 ^ 32)) (BadPart c.args.part) n false c.in_ok-count.ensures.fits (sym c.if-not-may_have.ensures) in
-    λ fields. field_shows (length_field c.args.part c.args.address) fields _ _ (u64_bytes n) c.in_ok-count.ensures.ok (length-u64_bytes n) fails
+    let fails =
+    long_tells (λ k. nat_le 1 k && nat_le (c.args.address + k) (2 ^ 32)) (BadPart c.args.part) n
+    false c.in_ok-count.ensures.fits (sym c.if-not-may_have.ensures) in
+    λ fields.
+    field_shows (length_field c.args.part c.args.address) fields _ _ (u64_bytes n)
+    c.in_ok-count.ensures.ok (length-u64_bytes n) fails
 
 pub returns-clause-field : goal.returns-clause-field
 unfolding length_field
@@ -28,5 +35,7 @@ returns-clause-field g c =
     record {
       comes = c.in_ok-count.ensures.ok;
       size = length-u64_bytes n;
-      passes = long_tells (λ k. nat_le 1 k && nat_le (c.args.address + k) (2 ^ 32)) (BadPart c.args.part) n true c.in_ok-count.ensures.fits (sym c.if-not-may_have.ensures);
+      passes =
+          long_tells (λ k. nat_le 1 k && nat_le (c.args.address + k) (2 ^ 32)) (BadPart c.args.part)
+          n true c.in_ok-count.ensures.fits (sym c.if-not-may_have.ensures);
     }

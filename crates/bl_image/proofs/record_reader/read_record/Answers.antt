@@ -4,7 +4,8 @@ use Rattle.bl_image.specs.ImageFaults.{record_fault}
 use Rattle.std.proofs.lemmas.Result.{err_from_is_err_and}
 use Rattle.bl_mem.specs.Words.{u64_at, u32_bytes, u64_bytes}
 use Rattle.bl_plan.specs.Roles as roles
-use Rattle.bl_image.specs.Fields.{fields_fault, record_fields, role_field, index_field, address_field, length_field}
+use Rattle.bl_image.specs.Fields.{fields_fault, record_fields, role_field, index_field}
+use Rattle.bl_image.specs.Fields.{address_field, length_field}
 use Rattle.std.proofs.Common.{drop}
 use Rattle.bl_image.proofs.Inputs.{comes_more, comes_as}
 use Rattle.bl_image.proofs.FieldLemmas.{Passed, passed_none, passed_field, passed_refuses}
@@ -14,36 +15,82 @@ use Rattle.bl_image.proofs.record_reader.read_record.Goals as goal
 pub returns-in_err-role-clause-refused : goal.returns-in_err-role-clause-refused
 returns-in_err-role-clause-refused g c =
     let p = err_from_is_err_and c.from_residual.result c.from_residual.ensures.1 in
-    let later : List ℕ → Option ImageFault = λ bytes. fields_fault (length_field c.args.part (u64_at bytes 8) ∷ []) (drop 16 bytes) in
-    rw (p.1, p.2) (first_refuses (fields_fault (record_fields c.args.part c.args.before)) later _ _ _ (passed_refuses (passed_none (fields_fault (record_fields c.args.part c.args.before)) _) _ _ (c.in_err-role.ensures.field (index_field c.args.part ∷ address_field c.args.part c.args.before ∷ []))))
+    let later : List ℕ → Option ImageFault =
+    λ bytes. fields_fault (length_field c.args.part (u64_at bytes 8) ∷ []) (drop 16 bytes) in
+    rw (p.1, p.2)
+    (first_refuses (fields_fault (record_fields c.args.part c.args.before)) later
+    _ _ _ (passed_refuses
+    (passed_none (fields_fault (record_fields c.args.part c.args.before)) _)
+    _ _ (c.in_err-role.ensures.field
+    (index_field c.args.part ∷ address_field c.args.part c.args.before ∷ []))))
 
 pub returns-in_err-index-clause-refused : goal.returns-in_err-index-clause-refused
 returns-in_err-index-clause-refused g c =
-    let p = err_from_is_err_and c.from_residual-in_err-index.result c.from_residual-in_err-index.ensures.1 in
-    let later : List ℕ → Option ImageFault = λ bytes. fields_fault (length_field c.args.part (u64_at bytes 8) ∷ []) (drop 16 bytes) in
-    let p1 = passed_field (role_field c.args.part) (index_field c.args.part ∷ address_field c.args.part c.args.before ∷ []) _ (passed_none (fields_fault (record_fields c.args.part c.args.before)) _) c.in_ok-role.ensures.field in
-    rw (p.1, p.2) (first_refuses (fields_fault (record_fields c.args.part c.args.before)) later _ _ _ (passed_refuses p1 _ _ (c.in_err-index.ensures.field c.args.part (address_field c.args.part c.args.before ∷ []))))
+    let p =
+    err_from_is_err_and c.from_residual-in_err-index.result
+    c.from_residual-in_err-index.ensures.1 in
+    let later : List ℕ → Option ImageFault =
+    λ bytes. fields_fault (length_field c.args.part (u64_at bytes 8) ∷ []) (drop 16 bytes) in
+    let p1 =
+    passed_field (role_field c.args.part)
+    (index_field c.args.part ∷ address_field c.args.part c.args.before ∷ [])
+    _ (passed_none (fields_fault (record_fields c.args.part c.args.before)) _)
+    c.in_ok-role.ensures.field in
+    rw (p.1, p.2)
+    (first_refuses (fields_fault (record_fields c.args.part c.args.before)) later
+    _ _ _ (passed_refuses p1
+    _ _ (c.in_err-index.ensures.field c.args.part
+    (address_field c.args.part c.args.before ∷ []))))
 
 pub returns-in_err-address-clause-refused : goal.returns-in_err-address-clause-refused
 returns-in_err-address-clause-refused g c =
-    let p = err_from_is_err_and c.from_residual-in_err-address.result c.from_residual-in_err-address.ensures.1 in
-    let later : List ℕ → Option ImageFault = λ bytes. fields_fault (length_field c.args.part (u64_at bytes 8) ∷ []) (drop 16 bytes) in
-    let p1 = passed_field (role_field c.args.part) (index_field c.args.part ∷ address_field c.args.part c.args.before ∷ []) _ (passed_none (fields_fault (record_fields c.args.part c.args.before)) _) c.in_ok-role.ensures.field in
-    let p2 = passed_field (index_field c.args.part) (address_field c.args.part c.args.before ∷ []) _ p1 (c.in_ok-index.ensures.field c.args.part) in
-    rw (p.1, p.2) (first_refuses (fields_fault (record_fields c.args.part c.args.before)) later _ _ _ (passed_refuses p2 _ _ (c.in_err-address.ensures.field ([]))))
+    let p =
+    err_from_is_err_and c.from_residual-in_err-address.result
+    c.from_residual-in_err-address.ensures.1 in
+    let later : List ℕ → Option ImageFault =
+    λ bytes. fields_fault (length_field c.args.part (u64_at bytes 8) ∷ []) (drop 16 bytes) in
+    let p1 =
+    passed_field (role_field c.args.part)
+    (index_field c.args.part ∷ address_field c.args.part c.args.before ∷ [])
+    _ (passed_none (fields_fault (record_fields c.args.part c.args.before)) _)
+    c.in_ok-role.ensures.field in
+    let p2 =
+    passed_field (index_field c.args.part) (address_field c.args.part c.args.before ∷ []) _ p1
+    (c.in_ok-index.ensures.field c.args.part) in
+    rw (p.1, p.2)
+    (first_refuses (fields_fault (record_fields c.args.part c.args.before)) later
+    _ _ _ (passed_refuses p2 _ _ (c.in_err-address.ensures.field ([]))))
 
 pub returns-in_err-length-clause-refused : goal.returns-in_err-length-clause-refused
 returns-in_err-length-clause-refused g c =
-    let p = err_from_is_err_and c.from_residual-in_err-length.result c.from_residual-in_err-length.ensures.1 in
-    let came = comes_more (comes_more c.in_ok-role.ensures.field.comes (c.in_ok-index.ensures.field c.args.part).comes) c.in_ok-address.ensures.field.comes in
-    let passed : Passed (record_fault c.args.part c.args.before) _ _ (fields_fault (length_field c.args.part c.in_ok-address.address ∷ [])) = record {
+    let p =
+    err_from_is_err_and c.from_residual-in_err-length.result
+    c.from_residual-in_err-length.ensures.1 in
+    let came =
+    comes_more
+    (comes_more c.in_ok-role.ensures.field.comes
+    (c.in_ok-index.ensures.field c.args.part).comes)
+    c.in_ok-address.ensures.field.comes in
+    let passed : Passed (record_fault c.args.part c.args.before)
+    _ _ (fields_fault (length_field c.args.part c.in_ok-address.address ∷ [])) = record {
       done = _;
       comes = came;
-      on = λ bytes. record_front c.args.part c.args.before c.in_ok-role.role c.in_ok-index.index c.in_ok-address.address bytes c.in_ok-index.ensures.fits c.in_ok-address.ensures.fits c.in_ok-address.ensures.above;
+      on =
+          λ bytes.
+          record_front c.args.part c.args.before c.in_ok-role.role c.in_ok-index.index
+          c.in_ok-address.address bytes c.in_ok-index.ensures.fits
+          c.in_ok-address.ensures.fits c.in_ok-address.ensures.above;
     } in
     rw (p.1, p.2) (passed_refuses passed _ _ (c.in_err-length.ensures.field []))
 
 pub returns-clause-ok : goal.returns-clause-ok
 returns-clause-ok g c =
-    let front = comes_more (comes_more c.in_ok-role.ensures.field.comes (c.in_ok-index.ensures.field c.args.part).comes) c.in_ok-address.ensures.field.comes in
-    comes_as (four_pieces (u32_bytes (roles.role_number c.in_ok-role.role)) (u32_bytes c.in_ok-index.index) (u64_bytes c.in_ok-address.address) (u64_bytes c.in_ok-length.length)) (comes_more front c.in_ok-length.ensures.field.comes)
+    let front =
+    comes_more
+    (comes_more c.in_ok-role.ensures.field.comes
+    (c.in_ok-index.ensures.field c.args.part).comes)
+    c.in_ok-address.ensures.field.comes in
+    comes_as
+    (four_pieces (u32_bytes (roles.role_number c.in_ok-role.role))
+    (u32_bytes c.in_ok-index.index) (u64_bytes c.in_ok-address.address)
+    (u64_bytes c.in_ok-length.length)) (comes_more front c.in_ok-length.ensures.field.comes)

@@ -1,4 +1,5 @@
-use Rattle.std.proofs.Common.{◌≡◌, ◌+◌, ◌-◌, ◌<◌, ℕ, suc, List, [], ◌∷◌, ◌++◌, length, sym, ap, ◌∙◌, subst, arith, length-append}
+use Rattle.std.proofs.Common.{◌≡◌, ◌+◌, ◌-◌, ◌<◌, ℕ, suc, List, [], ◌∷◌, ◌++◌, length, sym, ap, ◌∙◌}
+use Rattle.std.proofs.Common.{subst, arith, length-append}
 use Rattle.std.specs.List.{flat_map}
 use Rattle.bl_plan.specs.declared.place.Place.{Place}
 use Rattle.bl_image.specs.Image.{place_record}
@@ -15,11 +16,24 @@ returns-in_err-place-clause-refused g c =
     let p = err_from_is_err_and c.from_residual.result c.from_residual.ensures.1 in
     let count = c.args.count in
     let part = c.loop-part.part in
-    let before : Before = record { count = part; end = c.loop-part.before; bytes = bytes_at c.loop-part.places.items } in
+    let before : Before =
+    record {
+      count = part;
+      end = c.loop-part.before;
+      bytes = bytes_at c.loop-part.places.items;
+    } in
     let inside : part < count = omega arith in
     let left : count - part ≡ suc (count - (part + 1)) = omega arith in
-    let passed : Passed (parts_fault count none_before) _ _ (parts_fault (count - part) before) = record { done = _; comes = c.loop-part.invariant.came; on = c.loop-part.invariant.judged } in
-    rw (p.1, p.2) (passed_refuses passed _ _ (rw left (record_refuses (count - (part + 1)) before _ _ _ c.in_err-place.ensures.refused)))
+    let passed : Passed (parts_fault count none_before) _ _ (parts_fault (count - part) before) =
+    record {
+      done = _;
+      comes = c.loop-part.invariant.came;
+      on = c.loop-part.invariant.judged;
+    } in
+    rw (p.1, p.2)
+    (passed_refuses passed
+    _ _ (rw left
+    (record_refuses (count - (part + 1)) before _ _ _ c.in_err-place.ensures.refused)))
 
 pub loop-part-preserved : goal.loop-part-preserved
 loop-part-preserved g c =
@@ -31,12 +45,25 @@ loop-part-preserved g c =
     let inside : part < count = omega arith in
     let e : c.push.new.self.items ≡ old ++ place ∷ [] = c.in_ok-push.ensures.items in
     let longer : length (old ++ place ∷ []) ≡ length old + 1 = length-append old (place ∷ []) in
-    let judged : (bytes : List ℕ) → parts_fault count none_before (flat_map place_record (old ++ place ∷ []) ++ bytes) ≡ parts_fault (count - (part + 1)) (so_far (part + 1) end (old ++ place ∷ [])) bytes =
-    judged_more count part old c.loop-part.before place inside c.in_ok-place.ensures.next c.loop-part.invariant.judged in
+    let judged : (bytes : List ℕ)
+    → parts_fault count none_before (flat_map place_record (old ++ place ∷ []) ++ bytes)
+    ≡ parts_fault (count - (part + 1)) (so_far (part + 1) end (old ++ place ∷ [])) bytes =
+    judged_more count part old c.loop-part.before place inside c.in_ok-place.ensures.next
+    c.loop-part.invariant.judged in
     record {
-      came = comes_as (sym (ap (flat_map place_record) e ∙ came_more old place)) (comes_more c.loop-part.invariant.came c.in_ok-place.ensures.ok);
+      came =
+          comes_as (sym (ap (flat_map place_record) e ∙ came_more old place))
+          (comes_more c.loop-part.invariant.came c.in_ok-place.ensures.ok);
       size = ap length e ∙ omega (arith, longer, c.loop-part.invariant.size);
-      sound = subst (λ (ps : List Place). AreSound ps end) (sym e) (sound_more old c.loop-part.before place c.loop-part.invariant.sound c.in_ok-place.ensures.next);
-      judged = subst (λ (ps : List Place). (bytes : List ℕ) → parts_fault count none_before (flat_map place_record ps ++ bytes) ≡ parts_fault (count - (part + 1)) (so_far (part + 1) end ps) bytes) (sym e) judged;
+      sound =
+          subst (λ (ps : List Place). AreSound ps end) (sym e)
+          (sound_more old c.loop-part.before place c.loop-part.invariant.sound
+          c.in_ok-place.ensures.next);
+      judged =
+          subst
+          (λ (ps : List Place). (bytes : List ℕ)
+          → parts_fault count none_before (flat_map place_record ps ++ bytes)
+          ≡ parts_fault (count - (part + 1)) (so_far (part + 1) end ps) bytes)
+          (sym e) judged;
       faults = omega (arith, c.in_ok-place.ensures.faults, c.loop-part.invariant.faults);
     }

@@ -9,9 +9,13 @@ use Rattle.bl_image.proofs.record_reader.read_records.Given as goal
 -- the first records came, and leave the others to be judged
 abbrev pub invariant-loop-part : goal.invariant-loop-part
 invariant-loop-part g l = record {
-  came : Comes (g.S.Source.input l.fn.source) (g.S.Source.input l.source) (flat_map place_record l.places.items);
+  came : Comes (g.S.Source.input l.fn.source) (g.S.Source.input l.source)
+      (flat_map place_record l.places.items);
   size : length l.places.items ≡ l.part;
   sound : AreSound l.places.items l.before;
-  judged : (bytes : List ℕ) → parts_fault l.count none_before (flat_map place_record l.places.items ++ bytes) ≡ parts_fault (l.count - l.part) (record { count = l.part; end = l.before; bytes = bytes_at l.places.items }) bytes;
+  judged : (bytes : List ℕ)
+      → parts_fault l.count none_before (flat_map place_record l.places.items ++ bytes)
+      ≡ parts_fault (l.count - l.part)
+      (record { count = l.part; end = l.before; bytes = bytes_at l.places.items }) bytes;
   faults : g.S.Source.faults l.source ≡ g.S.Source.faults l.fn.source;
 }

@@ -15,14 +15,19 @@ pub returns-in_err-number-clause-field : goal.returns-in_err-number-clause-field
 unfolding role_field
 returns-in_err-number-clause-field g c =
     let p = err_from_is_err_and c.from_residual.result c.from_residual.ensures.1 in
-    rw (p.1, p.2) (λ fields. field_cut (role_field c.args.part) fields _ _ _ c.in_err-number.ensures.cut)
+    rw (p.1, p.2)
+    (λ fields. field_cut (role_field c.args.part) fields _ _ _ c.in_err-number.ensures.cut)
 
 pub returns-in_default-clause-field : goal.returns-in_default-clause-field
 unfolding role_field
 returns-in_default-clause-field g c =
     let n = c.in_ok-number.number in
-    let fails = word_tells (λ k. nat_le 1 k && nat_le k 7) (BadPart c.args.part) n false c.in_ok-number.ensures.fits (not_between 1 n 7 c.in_default.ensures) in
-    λ fields. field_shows (role_field c.args.part) fields _ _ (u32_bytes n) c.in_ok-number.ensures.ok (length-u32_bytes n) fails
+    let fails =
+    word_tells (λ k. nat_le 1 k && nat_le k 7) (BadPart c.args.part) n false
+    c.in_ok-number.ensures.fits (not_between 1 n 7 c.in_default.ensures) in
+    λ fields.
+    field_shows (role_field c.args.part) fields _ _ (u32_bytes n) c.in_ok-number.ensures.ok
+    (length-u32_bytes n) fails
 
 pub returns-clause-field : goal.returns-clause-field
 unfolding role_field
@@ -32,5 +37,7 @@ returns-clause-field g c =
     record {
       comes = comes_as (ap u32_bytes (sym is)) c.in_ok-number.ensures.ok;
       size = length-u32_bytes _;
-      passes = word_tells (λ k. nat_le 1 k && nat_le k 7) (BadPart c.args.part) _ true (role_fits c.in-Some.role) (role_between c.in-Some.role);
+      passes =
+          word_tells (λ k. nat_le 1 k && nat_le k 7) (BadPart c.args.part) _ true
+          (role_fits c.in-Some.role) (role_between c.in-Some.role);
     }

@@ -1,16 +1,21 @@
-use Rattle.std.proofs.Common.{◌≡◌, ◌+◌, ◌-◌, ◌≤◌, ◌++◌, ℕ, List, take, drop, length, ◌∙◌, arith, rules}
+use Rattle.std.proofs.Common.{◌≡◌, ◌+◌, ◌-◌, ◌≤◌, ◌++◌, ℕ, List, take, drop, length, ◌∙◌, arith}
+use Rattle.std.proofs.Common.{rules}
 use Rattle.std.proofs.lemmas.List.{places, same_lists}
 use Rattle.bl_image.proofs.Ways.{way_as, way_goes_on}
 use Rattle.bl_image.proofs.sink.write_all.Goals as goal
 
 -- what is left behind the bytes that were taken
-within-more : (bytes : List ℕ) (done n : ℕ) → done ≤ length bytes → n ≤ length (take (length bytes - done) (drop done bytes)) → done + n ≤ length bytes
+within-more : (bytes : List ℕ) (done n : ℕ) → done ≤ length bytes
+    → n ≤ length (take (length bytes - done) (drop done bytes)) → done + n ≤ length bytes
 within-more bytes done n h w =
-    let e : length (take (length bytes - done) (drop done bytes)) ≡ length bytes - done = search (rules, places) in omega arith
+    let e : length (take (length bytes - done) (drop done bytes)) ≡ length bytes - done =
+    search (rules, places) in omega arith
 
 drop-split : (bytes : List ℕ) (done n : ℕ) → done + n ≤ length bytes
-    → drop done bytes ≡ take n (take (length bytes - done) (drop done bytes)) ++ drop (done + n) bytes
-drop-split bytes done n h = same_lists _ _ (search (rules, places)) (λ k d within. grind (arith, places))
+    → drop done bytes
+    ≡ take n (take (length bytes - done) (drop done bytes)) ++ drop (done + n) bytes
+drop-split bytes done n h =
+    same_lists _ _ (search (rules, places)) (λ k d within. grind (arith, places))
 
 pub loop-done-preserved : goal.loop-done-preserved
 loop-done-preserved g c =
@@ -20,6 +25,9 @@ loop-done-preserved g c =
     let within = within-more bytes c.loop-done.done c.in_ok-done.field-0 i.within e.within in
     record {
       within = within;
-      way = way_goes_on _ (way_as (drop-split bytes c.loop-done.done c.in_ok-done.field-0 within) i.way) e.took;
+      way =
+          way_goes_on
+          _ (way_as (drop-split bytes c.loop-done.done c.in_ok-done.field-0 within)
+          i.way) e.took;
       sound = e.sound ∙ i.sound;
     }

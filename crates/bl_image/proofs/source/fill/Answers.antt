@@ -14,6 +14,8 @@ loop-done-preserved g c =
     let few : n ≤ length piece = c.in_ok-count.ensures.within in
     record {
       within = search (rules, places);
-      came = comes_as (sym (take_piece done (length out - done) n out piece within few)) (comes_more c.loop-done.invariant.came c.in_ok-count.ensures.gave);
+      came =
+          comes_as (sym (take_piece done (length out - done) n out piece within few))
+          (comes_more c.loop-done.invariant.came c.in_ok-count.ensures.gave);
       sound = c.in_ok-count.ensures.sound ∙ c.loop-done.invariant.sound;
     }

@@ -17,7 +17,8 @@ returns-in_err-write_front-clause-begun g c =
 pub returns-in_err-write_front-clause-kept : goal.returns-in_err-write_front-clause-kept
 returns-in_err-write_front-clause-kept g c =
     let h = c.args.handoff.now in
-    handover_kept (g.M.PhysMem.bytes c.args.memory.now) h.protocol h.registers h.places c.requires.inside c.in_err-write_front.ensures.fit c.in_err-write_front.ensures.records
+    handover_kept (g.M.PhysMem.bytes c.args.memory.now) h.protocol h.registers h.places
+    c.requires.inside c.in_err-write_front.ensures.fit c.in_err-write_front.ensures.records
 
 pub returns-in_err-write_parts-clause-begun : goal.returns-in_err-write_parts-clause-begun
 returns-in_err-write_parts-clause-begun g c =
@@ -25,12 +26,15 @@ returns-in_err-write_parts-clause-begun g c =
     let h = c.args.handoff.now in
     let whole = image_in bytes h.protocol h.registers h.places c.requires.inside in
     let way = way_goes_on _ (way_as whole (way_begins _ _)) c.in_ok-write_front.ensures.ok in
-    on_err _ (way_stops _ (way_as (sym (append-nil (flat_map (place_bytes bytes) h.places))) way) c.in_err-write_parts.ensures.begun)
+    on_err
+    _ (way_stops _ (way_as (sym (append-nil (flat_map (place_bytes bytes) h.places))) way)
+    c.in_err-write_parts.ensures.begun)
 
 pub returns-in_err-write_parts-clause-kept : goal.returns-in_err-write_parts-clause-kept
 returns-in_err-write_parts-clause-kept g c =
     let h = c.args.handoff.now in
-    handover_kept (g.M.PhysMem.bytes c.args.memory.now) h.protocol h.registers h.places c.requires.inside c.in_ok-write_front.ensures.fit c.in_ok-write_front.ensures.records
+    handover_kept (g.M.PhysMem.bytes c.args.memory.now) h.protocol h.registers h.places
+    c.requires.inside c.in_ok-write_front.ensures.fit c.in_ok-write_front.ensures.records
 
 pub returns-clause-ok : goal.returns-clause-ok
 returns-clause-ok g c =
@@ -38,9 +42,12 @@ returns-clause-ok g c =
     let h = c.args.handoff.now in
     let whole = image_in bytes h.protocol h.registers h.places c.requires.inside in
     let way = way_goes_on _ (way_as whole (way_begins _ _)) c.in_ok-write_front.ensures.ok in
-    way_ends (way_goes_on _ (way_as (sym (append-nil (flat_map (place_bytes bytes) h.places))) way) c.in_ok-write_parts.ensures.ok)
+    way_ends
+    (way_goes_on _ (way_as (sym (append-nil (flat_map (place_bytes bytes) h.places))) way)
+    c.in_ok-write_parts.ensures.ok)
 
 pub returns-clause-kept : goal.returns-clause-kept
 returns-clause-kept g c =
     let h = c.args.handoff.now in
-    handover_kept (g.M.PhysMem.bytes c.args.memory.now) h.protocol h.registers h.places c.requires.inside c.in_ok-write_front.ensures.fit c.in_ok-write_front.ensures.records
+    handover_kept (g.M.PhysMem.bytes c.args.memory.now) h.protocol h.registers h.places
+    c.requires.inside c.in_ok-write_front.ensures.fit c.in_ok-write_front.ensures.records

@@ -12,7 +12,8 @@ returns-in-Err-clause-fault c =
     let made = c.in_ok-command.ensures in
     let words = texts c.args.words.now in
     let kinds = c.in-Err.ensures.kinds (ap is_simple_and_free made.2 ∙ line_is_free made.0) in
-    refused_for words made.0 _ c.in-Err.error c.kind.result c.fault_of.result made.1 (ap (λ (a : App). fault_of a words) made.2) kinds
+    refused_for words made.0 _ c.in-Err.error c.kind.result c.fault_of.result made.1
+    (ap (λ (a : App). fault_of a words) made.2) kinds
     c.kind.ensures c.fault_of.ensures
 
 pub returns-in-Err-clause-taken : goal.returns-in-Err-clause-taken
@@ -29,8 +30,12 @@ returns-in-Some-job_of-clause-job c =
     let words = texts c.args.words.now in
     let name = c.in-Some.name.now in
     let rows = rows_of (found_of c.in-Some.inner.now) in
-    let no_fault = ap (λ (a : App). fault_of a words) (sym made.2) ∙ c.in-Ok.ensures.kinds (ap is_simple_and_free made.2 ∙ line_is_free made.0) in
-    let chosen = chosen_by words made.0 _ c.in-Ok.matches name rows made.2 c.in-Ok.ensures.matches c.in-Some.ensures.name c.in-Some.ensures.rows in
+    let no_fault =
+    ap (λ (a : App). fault_of a words) (sym made.2)
+    ∙ c.in-Ok.ensures.kinds (ap is_simple_and_free made.2 ∙ line_is_free made.0) in
+    let chosen =
+    chosen_by words made.0 _ c.in-Ok.matches name rows made.2 c.in-Ok.ensures.matches
+    c.in-Some.ensures.name c.in-Some.ensures.rows in
     (made.0, made.1, (no_fault, ((name, rows), chosen, c.in-Some-job_of.ensures)))
 
 pub returns-clause-fault : goal.returns-clause-fault
@@ -39,7 +44,9 @@ returns-clause-fault c =
     let words = texts c.args.words.now in
     let name = c.in-Some.name.now in
     let rows = rows_of (found_of c.in-Some.inner.now) in
-    let chosen = chosen_by words made.0 _ c.in-Ok.matches name rows made.2 c.in-Ok.ensures.matches c.in-Some.ensures.name c.in-Some.ensures.rows in
+    let chosen =
+    chosen_by words made.0 _ c.in-Ok.matches name rows made.2 c.in-Ok.ensures.matches
+    c.in-Some.ensures.name c.in-Some.ensures.rows in
     absurd (no_other_name words made.0 (name, rows) chosen c.in-None.ensures)
 
 pub returns-clause-taken : goal.returns-clause-taken
@@ -48,5 +55,7 @@ returns-clause-taken c =
     let words = texts c.args.words.now in
     let name = c.in-Some.name.now in
     let rows = rows_of (found_of c.in-Some.inner.now) in
-    let chosen = chosen_by words made.0 _ c.in-Ok.matches name rows made.2 c.in-Ok.ensures.matches c.in-Some.ensures.name c.in-Some.ensures.rows in
+    let chosen =
+    chosen_by words made.0 _ c.in-Ok.matches name rows made.2 c.in-Ok.ensures.matches
+    c.in-Some.ensures.name c.in-Some.ensures.rows in
     absurd (no_other_name words made.0 (name, rows) chosen c.in-None.ensures)

@@ -17,8 +17,10 @@ invariant-loop-segment g l =
     record {
       size : length (bytes l.memory) ≡ length (bytes l.fn.memory);
       same : texts (bytes l.memory) ≡ texts (bytes l.fn.memory);
-      above : (k : ℕ) (d : Segment) → l.segment-index ≤ k → k < length l.segments → l.low + l.done ≤ (get_or l.segments k d).address;
+      above : (k : ℕ) (d : Segment) → l.segment-index ≤ k → k < length l.segments
+          → l.low + l.done ≤ (get_or l.segments k d).address;
       count : l.done + length left ≡ span_of l.segments;
-      rest : overwrite (bytes l.memory) (l.at + l.done) left ≡ overwrite (bytes l.fn.memory) l.at (block_of text l.segments);
+      rest : overwrite (bytes l.memory) (l.at + l.done) left
+          ≡ overwrite (bytes l.fn.memory) l.at (block_of text l.segments);
       kept : KeepsRoom (room l.fn.memory) (room l.memory);
     }

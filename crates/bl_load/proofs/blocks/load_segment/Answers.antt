@@ -8,9 +8,13 @@ use Rattle.bl_load.proofs.blocks.load_segment.Goals as goal
 pub returns-clause-after : goal.returns-clause-after
 returns-clause-after g c =
     let segment = c.args.segment.now in
-    let text = text_at (g.F.FileSet.texts c.args.files.now (g.M.PhysMem.bytes c.args.memory.now)) c.args.file in
+    let text =
+    text_at (g.F.FileSet.texts c.args.files.now (g.M.PhysMem.bytes c.args.memory.now))
+    c.args.file in
     rw (c.zero.ensures.after, c.copy.ensures.after)
-    (zeros_behind _ (slice_range text segment.offset (segment.offset + segment.filesz)) c.args.at segment.filesz segment.memsz (length-filed text segment c.requires.copied) (omega arith) (omega arith))
+    (zeros_behind _ (slice_range text segment.offset (segment.offset + segment.filesz)) c.args.at
+    segment.filesz segment.memsz (length-filed text segment c.requires.copied) (omega arith)
+    (omega arith))
 
 pub returns-clause-texts : goal.returns-clause-texts
 returns-clause-texts g c =
@@ -20,8 +24,11 @@ returns-clause-texts g c =
     let text = text_at (g.F.FileSet.texts c.args.files.now old) c.args.file in
     let piece = slice_range text segment.offset (segment.offset + segment.filesz) in
     let count = length-filed text segment c.requires.copied in
-    let size : length copied ≡ length old = rw c.copy.ensures.after (length-overwrite old c.args.at piece (omega arith)) in
+    let size : length copied ≡ length old =
+    rw c.copy.ensures.after (length-overwrite old c.args.at piece (omega arith)) in
     rw c.zero.ensures.after
-    (g.met.F.FileSet.same c.args.files.now copied _ (beside_zeros (g.F.FileSet.holds c.args.files.now) copied (c.args.at + segment.filesz) (c.args.at + segment.memsz) (omega arith) (omega arith)
+    (g.met.F.FileSet.same c.args.files.now copied
+    _ (beside_zeros (g.F.FileSet.holds c.args.files.now) copied (c.args.at + segment.filesz)
+    (c.args.at + segment.memsz) (omega arith) (omega arith)
     (λ a low high. c.requires.beside a (omega arith) high))
     ∙ c.copy.ensures.texts)

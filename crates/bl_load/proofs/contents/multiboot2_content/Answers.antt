@@ -17,6 +17,11 @@ returns-in_ok-bytes-in-Information-clause-short g c =
     let value = value_as (multiboot2 (kernel_by kernel)) c.args.source.now in
     let place = c.args.place.now in
     let places = c.args.places.now in
-    let long : place.length ≡ whole_frames (info_size (information_of facts value kernel.relocation [])) = subst (λ (role : Role). HasLength facts value (multiboot2 (kernel_by kernel)) role place.index place.length) c.in-Information.is c.requires.rowed in
+    let long : place.length
+    ≡ whole_frames (info_size (information_of facts value kernel.relocation [])) =
+    subst
+    (λ (role : Role).
+    HasLength facts value (multiboot2 (kernel_by kernel)) role place.index
+    place.length) c.in-Information.is c.requires.rowed in
     let short = information_short facts value kernel.relocation places place.length long in
     omega (arith, short, ap (λ (bytes : List ℕ). length bytes) c.in_ok-bytes-in-Information.ensures)

@@ -15,8 +15,15 @@ loop-done-preserved g c =
     let piece : length (slice_range text from (from + next)) ≡ next = search (rules, places) in
     record {
       within = omega arith;
-      size = rw (c.copy_piece.ensures.after, before.same, size) (length-overwrite (g.M.PhysMem.bytes c.loop-done.memory) (c.args.at + c.loop-done.done) (slice_range text from (from + next)) (omega arith) ∙ before.size);
+      size =
+          rw (c.copy_piece.ensures.after, before.same, size)
+          (length-overwrite (g.M.PhysMem.bytes c.loop-done.memory)
+          (c.args.at + c.loop-done.done) (slice_range text from (from + next)) (omega arith)
+          ∙ before.size);
       same = c.copy_piece.ensures.texts ∙ before.same;
-      after = rw (c.copy_piece.ensures.after, before.same, before.after, size) (copy_more old text c.args.at c.args.offset c.loop-done.done next (omega arith) (omega arith));
+      after =
+          rw (c.copy_piece.ensures.after, before.same, before.after, size)
+          (copy_more old text c.args.at c.args.offset c.loop-done.done next (omega arith)
+          (omega arith));
       kept = λ a had. c.copy_piece.ensures.kept a (before.kept a had);
     }

@@ -13,7 +13,10 @@ invariant-loop-done g l =
       within : l.done ≤ l.count;
       size : length (bytes l.memory) ≡ length (bytes l.fn.memory);
       same : texts (bytes l.memory) ≡ texts (bytes l.fn.memory);
-      after : bytes l.memory ≡ overwrite (bytes l.fn.memory) l.at (slice_range (text_at (texts (bytes l.fn.memory)) l.file) l.offset (l.offset + l.done));
+      after : bytes l.memory
+          ≡ overwrite (bytes l.fn.memory) l.at
+          (slice_range (text_at (texts (bytes l.fn.memory)) l.file) l.offset
+          (l.offset + l.done));
       kept : KeepsRoom (room l.fn.memory) (room l.memory);
     }
 

@@ -13,7 +13,9 @@ spell-requires-clause-small g c =
     let modules = source.modules.now in
     let files = texts_in source in
     let short = all_short modules source.sound_modules in
-    let small = tags_small (lines_by modules) (All-map (λ (line : List ℕ). length line ≤ 4095) (λ m. m.line) modules short) in
+    let small =
+    tags_small (lines_by modules)
+    (All-map (λ (line : List ℕ). length line ≤ 4095) (λ m. m.line) modules short) in
     let count = length-map modules (λ m. m.line) in
     let few = source.few in
     let is = tags_size_is files c.args.places.now 0 (lines_by modules) in

@@ -8,7 +8,10 @@ pub returns-clause-fits : goal.returns-clause-fits
 returns-clause-fits g c =
     let at = c.address_of-mod_start.ensures in
     let end = c.requires.end in
-    let text : IsText c.args.line.now = sound_text c.args.line.now c.requires.sound (All-from_get_or (λ (b : ℕ). b < 256) c.args.line.now 0 (λ i _. (c.type_inv.line i).fits)) in
+    let text : IsText c.args.line.now =
+    sound_text c.args.line.now c.requires.sound
+    (All-from_get_or (λ (b : ℕ). b < 256) c.args.line.now 0
+    (λ i _. (c.type_inv.line i).fits)) in
     record {
       forward = omega arith;
       small = omega (arith, at, end);

@@ -20,16 +20,29 @@ loop-index-preserved g c =
     let m = get_or modules k c.index-modules-index.result in
     let rest = drop (k + 1) modules in
     let new = c.in_ok-module_at.field-0 in
-    let left : lines_by (drop k modules) ≡ m.line ∷ lines_by rest = ap lines_by (drop_more modules k c.index-modules-index.result c.loop-index-test.true) in
-    let size = c.len-size.ensures ∙ view_length_at g.V.ByteView.bytes c.args.files.now (k + 1) c.index-files-index.result c.index-files-index.is (omega (arith, c.requires.files, c.loop-index-test.true)) in
-    let line : c.as_slice-line.result.now ≡ m.line = c.as_slice-line.ensures ∙ ap (λ (x : Module g.row.A.Denot). x.line) c.index-modules-index.is in
+    let left : lines_by (drop k modules) ≡ m.line ∷ lines_by rest =
+    ap lines_by (drop_more modules k c.index-modules-index.result c.loop-index-test.true) in
+    let size =
+    c.len-size.ensures
+    ∙ view_length_at g.V.ByteView.bytes c.args.files.now (k + 1) c.index-files-index.result
+    c.index-files-index.is (omega (arith, c.requires.files, c.loop-index-test.true)) in
+    let line : c.as_slice-line.result.now ≡ m.line =
+    c.as_slice-line.ensures
+    ∙ ap (λ (x : Module g.row.A.Denot). x.line) c.index-modules-index.is in
     let is : new ≡ told_module texts places k m.line =
     c.in_ok-module_at.ensures.told
     ∙ ap (λ (n : ℕ). told_by (address_of role.Module k places) n c.as_slice-line.result.now) size
     ∙ ap (told_module texts places k) line in
-    let all : c.loop-index.told.items ++ modules_of texts places k (m.line ∷ lines_by rest) ≡ modules_of texts places 0 (lines_by modules) =
-    ap (λ (ls : List (List ℕ)). c.loop-index.told.items ++ modules_of texts places k ls) (sym left) ∙ i.told in
+    let all : c.loop-index.told.items ++ modules_of texts places k (m.line ∷ lines_by rest)
+    ≡ modules_of texts places 0 (lines_by modules) =
+    ap (λ (ls : List (List ℕ)). c.loop-index.told.items ++ modules_of texts places k ls) (sym left)
+    ∙ i.told in
     record {
-      told = rw c.in_ok-push.ensures.items (told_more texts places k c.loop-index.told.items new m.line (lines_by rest) (modules_of texts places 0 (lines_by modules)) is all);
-      fits = rw c.in_ok-push.ensures.items (All-push IsModule c.loop-index.told.items new i.fits c.in_ok-module_at.ensures.fits);
+      told =
+          rw c.in_ok-push.ensures.items
+          (told_more texts places k c.loop-index.told.items new m.line (lines_by rest)
+          (modules_of texts places 0 (lines_by modules)) is all);
+      fits =
+          rw c.in_ok-push.ensures.items
+          (All-push IsModule c.loop-index.told.items new i.fits c.in_ok-module_at.ensures.fits);
     }

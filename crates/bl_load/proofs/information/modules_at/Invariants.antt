@@ -7,7 +7,9 @@ use Rattle.bl_load.proofs.information.modules_at.Given as goal
 -- what is told so far, and what is left, is all
 abbrev pub invariant-loop-index : goal.invariant-loop-index
 invariant-loop-index g l = record {
-  told : l.told.items ++ modules_of (map g.V.ByteView.bytes l.files) l.places l.index (lines_by (drop l.index l.modules))
+  told : l.told.items
+      ++ modules_of (map g.V.ByteView.bytes l.files) l.places l.index
+      (lines_by (drop l.index l.modules))
       ≡ modules_of (map g.V.ByteView.bytes l.files) l.places 0 (lines_by l.modules);
   fits : All IsModule l.told.items;
 }

@@ -14,7 +14,11 @@ new-facts-requires g c =
     let facts = c.normal.ensures.facts in
     record {
       told = record {
-        line = subst IsText (sym line) (sound_text c.args.line.now c.requires.sound (All-from_get_or (λ (b : ℕ). b < 256) c.args.line.now 0 (λ i _. (c.type_inv.line i).fits)));
+        line =
+            subst IsText (sym line)
+            (sound_text c.args.line.now c.requires.sound
+            (All-from_get_or (λ (b : ℕ). b < 256) c.args.line.now 0
+            (λ i _. (c.type_inv.line i).fits)));
         modules = c.requires.modules;
         mem_lower = c.low_kib-mem_lower.ensures.most;
         mem_upper = c.high_kib-mem_upper.ensures.most;
@@ -24,9 +28,13 @@ new-facts-requires g c =
         load_base = c.requires.base;
       };
       small =
-          let short = size_below (length c.args.line.now) (length c.args.machine.now.runs) (is_some c.args.load_base) c.requires.short facts.few in
+          let short =
+          size_below (length c.args.line.now) (length c.args.machine.now.runs)
+          (is_some c.args.load_base) c.requires.short facts.few in
           let tags = c.requires.small in
-          let size : size_of (length c.in_ok-line.line) (map (λ (m : ModuleInfo). length m.line) c.args.modules.items) (length c.in_ok-runs.runs.items) None None (is_some c.args.load_base) < 2 ^ 32 =
+          let size : size_of (length c.in_ok-line.line)
+          (map (λ (m : ModuleInfo). length m.line) c.args.modules.items)
+          (length c.in_ok-runs.runs.items) None None (is_some c.args.load_base) < 2 ^ 32 =
           rw (line, runs) (omega (arith, short, tags)) in
           omega (arith, size);
     }

@@ -13,5 +13,12 @@ returns-in_ok-boot_params-in-BootParams-clause-short g c =
     let setup = c.args.setup.now in
     let value = value_as (linux setup) c.args.source.now in
     let place = c.args.place.now in
-    let long : place.length ≡ 4096 = subst (λ (role : Role). HasLength facts value (linux setup) role place.index place.length) c.in-BootParams.is c.requires.rowed in
-    omega (arith, long, length-boot_params setup.header (told_of facts value c.args.places.now), ap (λ (bytes : List ℕ). length bytes) c.in_ok-boot_params-in-BootParams.ensures)
+    let long : place.length ≡ 4096 =
+    subst (λ (role : Role). HasLength facts value (linux setup) role place.index place.length)
+    c.in-BootParams.is c.requires.rowed in
+    omega (
+      arith,
+      long,
+      length-boot_params setup.header (told_of facts value c.args.places.now),
+      ap (λ (bytes : List ℕ). length bytes) c.in_ok-boot_params-in-BootParams.ensures,
+    )

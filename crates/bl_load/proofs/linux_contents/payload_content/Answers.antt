@@ -10,6 +10,11 @@ returns-clause-there g c =
     let texts = map g.V.ByteView.bytes c.args.files.now in
     let some = c.requires.some in
     let tail = (payload_is_tail (file_text texts 0) c.args.setup.now c.requires.setup).0 in (
-      omega (arith, some, length-map c.args.files.now g.V.ByteView.bytes, length-map texts (λ (text : List ℕ). length text)),
+      omega (
+        arith,
+        some,
+        length-map c.args.files.now g.V.ByteView.bytes,
+        length-map texts (λ (text : List ℕ). length text),
+      ),
       rw (length_at texts 0) (λ _. omega (arith, tail)),
     )

@@ -12,8 +12,13 @@ returns-clause-after g c =
     let content = content_by texts part.content in
     let own = length-content_by texts part.content c.requires.can.there in
     let short : length content ≤ part.place.length = omega (arith, own, c.requires.can.short) in
-    rw (c.zero.ensures.after, c.load_content-count.ensures.after, c.load_content-count.ensures.count ∙ sym own)
-    (zeros_behind _ content part.place.address (length content) part.place.length refl short c.requires.can.inside)
+    rw (
+      c.zero.ensures.after,
+      c.load_content-count.ensures.after,
+      c.load_content-count.ensures.count ∙ sym own,
+    )
+    (zeros_behind _ content part.place.address (length content) part.place.length refl short
+    c.requires.can.inside)
 
 pub returns-clause-texts : goal.returns-clause-texts
 returns-clause-texts g c =
@@ -27,8 +32,12 @@ returns-clause-texts g c =
     let inside = c.requires.can.inside in
     let count = c.load_content-count.result in
     let counted = c.load_content-count.ensures.count in
-    let size : length held ≡ length old = rw c.load_content-count.ensures.after (length-overwrite old part.place.address content (omega arith)) in
+    let size : length held ≡ length old =
+    rw c.load_content-count.ensures.after
+    (length-overwrite old part.place.address content (omega arith)) in
     rw c.zero.ensures.after
-    (g.met.F.FileSet.same c.args.files.now held _ (beside_zeros (g.F.FileSet.holds c.args.files.now) held (part.place.address + count) (part.place.address + part.place.length) (omega arith) (omega arith)
+    (g.met.F.FileSet.same c.args.files.now held
+    _ (beside_zeros (g.F.FileSet.holds c.args.files.now) held (part.place.address + count)
+    (part.place.address + part.place.length) (omega arith) (omega arith)
     (λ a low high. c.requires.can.beside a (omega arith) high))
     ∙ c.load_content-count.ensures.texts)

@@ -16,7 +16,10 @@ loop-part-preserved g c =
     let wide = length-bytes_by texts part record { there = can.there; short = can.short } in
     let whole = rw (drop_more c.args.parts.now i part here, ← c.part-item.is) at before.rest in
     record {
-      size = rw (c.load_part.ensures.after, before.same) (length-overwrite (g.M.PhysMem.bytes c.loop-part.memory) part.place.address (bytes_by texts part) (omega arith) ∙ before.size);
+      size =
+          rw (c.load_part.ensures.after, before.same)
+          (length-overwrite (g.M.PhysMem.bytes c.loop-part.memory) part.place.address
+          (bytes_by texts part) (omega arith) ∙ before.size);
       same = c.load_part.ensures.texts ∙ before.same;
       rest = rw (c.load_part.ensures.after, before.same) whole;
       kept = λ a had. c.load_part.ensures.kept a (before.kept a had);

@@ -14,6 +14,7 @@ invariant-loop-part g l =
     record {
       size : length (bytes l.memory) ≡ length (bytes l.fn.memory);
       same : texts (bytes l.memory) ≡ texts (bytes l.fn.memory);
-      rest : written (map part (drop l.part-index l.parts)) (bytes l.memory) ≡ written (map part l.parts) (bytes l.fn.memory);
+      rest : written (map part (drop l.part-index l.parts)) (bytes l.memory)
+          ≡ written (map part l.parts) (bytes l.fn.memory);
       kept : KeepsRoom (room l.fn.memory) (room l.memory);
     }

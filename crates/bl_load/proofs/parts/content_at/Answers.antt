@@ -12,13 +12,18 @@ pub multiboot2_content-requires-clause-ends : goal.multiboot2_content-requires-c
 multiboot2_content-requires-clause-ends g c =
     let source = c.args.source.now in
     let kernel = kernel_by c.in-Multiboot2.kernel in
-    let fits = subst (λ (reading : Reading). FitsTold (value_as reading source) reading c.args.places.now) (ap reading_by c.in-Multiboot2.is) c.requires.fits in
+    let fits =
+    subst (λ (reading : Reading). FitsTold (value_as reading source) reading c.args.places.now)
+    (ap reading_by c.in-Multiboot2.is) c.requires.fits in
     modules_fit source.modules.now (texts_in source) c.args.places.now fits
 
 pub returns-in-Multiboot2-clause-content : goal.returns-in-Multiboot2-clause-content
 returns-in-Multiboot2-clause-content g c =
     let source = c.args.source.now in
     let place = c.args.place.now in
-    subst (λ (reading : Reading). IfOk c.multiboot2_content.result (λ content. content_by (texts_in source) content
-    ≡ content_of source.machine.now (value_as reading source) reading c.args.places.now place.role place.index))
+    subst
+    (λ (reading : Reading).
+    IfOk c.multiboot2_content.result (λ content. content_by (texts_in source) content
+    ≡ content_of source.machine.now (value_as reading source) reading c.args.places.now place.role
+    place.index))
     (sym (ap reading_by c.in-Multiboot2.is)) c.multiboot2_content.ensures.content

@@ -16,23 +16,38 @@ pub loop-place-preserved : goal.loop-place-preserved
 loop-place-preserved g c =
     let source = c.args.source.now in
     let texts = texts_in source in
-    let from : Place → Part = part_from source.machine.now (value_in source) (reading_in source) c.args.places.now in
+    let from : Place → Part =
+    part_from source.machine.now (value_in source) (reading_in source) c.args.places.now in
     let by : PlannedPart g.row.A.Denot → Part = part_by texts in
-    let stays : PlannedPart g.row.A.Denot → Type 0 = λ part. StaysInFiles part.place.role part.content in
+    let stays : PlannedPart g.row.A.Denot → Type 0 =
+    λ part. StaysInFiles part.place.role part.content in
     let place_in : PlannedPart g.row.A.Denot → Place = place_of in
     let k = c.loop-place.place-index in
     let all = c.args.sorted.now in
     let none : Place = record { role = Kernel; index = 0; address = 0; length = 0 } in
     let place = get_or all k none in
-    let new : PlannedPart g.row.A.Denot = record { place = place; content = c.in_ok-content.content } in
+    let new : PlannedPart g.row.A.Denot =
+    record { place = place; content = c.in_ok-content.content } in
     let more = take_more all k none c.loop-place-test.true in
     let i = c.loop-place.invariant in
     let items = c.in_ok-push.ensures.items in
     record {
       parts = ap (map by) items ∙ map-append by c.loop-place.parts.items (new ∷ [])
-          ∙ ap₂ (λ (xs : List Part) (x : Part). xs ++ x ∷ []) i.parts (ap (λ (bytes : List ℕ). part_at place (filled place.length bytes)) c.in_ok-content.ensures.content)
+          ∙ ap₂ (λ (xs : List Part) (x : Part). xs ++ x ∷ []) i.parts
+          (ap (λ (bytes : List ℕ). part_at place (filled place.length bytes))
+          c.in_ok-content.ensures.content)
           ∙ sym (map-append from (take k all) (place ∷ [])) ∙ ap (map from) (sym more);
-      backed = rw items (All-push (IsBacked (lengths_of texts)) c.loop-place.parts.items new i.backed record { there = c.in_ok-content.ensures.there; short = c.in_ok-content.ensures.short });
-      lean = rw items (All-push stays c.loop-place.parts.items new i.lean c.in_ok-content.ensures.lean);
-      places = ap (map place_in) items ∙ map-append place_in c.loop-place.parts.items (new ∷ []) ∙ ap (λ (xs : List Place). xs ++ place ∷ []) i.places ∙ sym more;
+      backed =
+          rw items
+          (All-push (IsBacked (lengths_of texts)) c.loop-place.parts.items new i.backed
+          record {
+            there = c.in_ok-content.ensures.there;
+            short = c.in_ok-content.ensures.short;
+          });
+      lean =
+          rw items
+          (All-push stays c.loop-place.parts.items new i.lean c.in_ok-content.ensures.lean);
+      places =
+          ap (map place_in) items ∙ map-append place_in c.loop-place.parts.items (new ∷ [])
+          ∙ ap (λ (xs : List Place). xs ++ place ∷ []) i.places ∙ sym more;
     }

@@ -11,7 +11,9 @@ abbrev pub invariant-loop-place : goal.invariant-loop-place
 invariant-loop-place g l =
     let texts = texts_in l.source in
     record {
-      parts : map (part_by texts) l.parts.items ≡ map (part_from l.source.machine.now (value_in l.source) (reading_in l.source) l.places) (take l.place-index l.sorted);
+      parts : map (part_by texts) l.parts.items
+          ≡ map (part_from l.source.machine.now (value_in l.source) (reading_in l.source) l.places)
+          (take l.place-index l.sorted);
       backed : All (IsBacked (lengths_of texts)) l.parts.items;
       lean : IsLean l.parts.items;
       places : map place_of l.parts.items ≡ take l.place-index l.sorted;

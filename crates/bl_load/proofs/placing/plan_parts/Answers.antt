@@ -1,6 +1,7 @@
 use Rattle.std.proofs.Common.{rules}
 use Rattle.std.proofs.lemmas.List.{length-map}
-use Rattle.std.proofs.Common.{◌≡◌, ◌≤◌, ◌<◌, ◌+◌, ◌^◌, List, [], All, map, arith, ap, subst, sym, ◌∙◌}
+use Rattle.std.proofs.Common.{◌≡◌, ◌≤◌, ◌<◌, ◌+◌, ◌^◌, List, [], All, map, arith, ap, subst, sym}
+use Rattle.std.proofs.Common.{◌∙◌}
 use Rattle.bl_plan.specs.declared.place.Place.{Place}
 use Rattle.bl_plan.specs.declared.row.Row.{Row}
 use Rattle.bl_plan.specs.Placed.{ArePlaced, IsRow, IsPlacingFault}
@@ -13,8 +14,10 @@ use Rattle.bl_load.specs.Rows.{rows_of}
 use Rattle.bl_load.specs.ReadKept.{FitsTold, CanEnter}
 use Rattle.bl_load.specs.SourceKept.{reading_in, value_in}
 use Rattle.bl_load.proofs.PlacingLemmas.{refused_place}
-use Rattle.bl_load.proofs.ReadingLaws.{reading_rows, reading_rowed, reading_records, reading_not_overlap}
-use Rattle.bl_load.proofs.ReadingLemmas.{told_are_rows, told_placed, told_fault, fits_told, can_enter}
+use Rattle.bl_load.proofs.ReadingLaws.{reading_rows, reading_rowed, reading_records}
+use Rattle.bl_load.proofs.ReadingLaws.{reading_not_overlap}
+use Rattle.bl_load.proofs.ReadingLemmas.{told_are_rows, told_placed, told_fault, fits_told}
+use Rattle.bl_load.proofs.ReadingLemmas.{can_enter}
 use Rattle.bl_load.proofs.RowPlaceLemmas.{are_inside}
 use Rattle.bl_load.proofs.placing.plan_parts.Goals as goal
 
@@ -23,26 +26,34 @@ place_rows-requires g c =
     let facts = c.args.source.now.machine.now in
     let reading = reading_in c.args.source.now in
     let value = value_in c.args.source.now in
-    let rows : c.as_slice.result.now ≡ told_rows_by facts value reading = c.as_slice.ensures.value ∙ c.in_ok-rows.ensures in
-    subst (λ (rs : List Row). All IsRow rs) (sym rows) (told_are_rows facts value reading _ c.requires.read c.requires.files)
+    let rows : c.as_slice.result.now ≡ told_rows_by facts value reading =
+    c.as_slice.ensures.value ∙ c.in_ok-rows.ensures in
+    subst (λ (rs : List Row). All IsRow rs) (sym rows)
+    (told_are_rows facts value reading _ c.requires.read c.requires.files)
 
 pub fault_of-requires : goal.fault_of-requires
 fault_of-requires g c =
     let facts = c.args.source.now.machine.now in
     let reading = reading_in c.args.source.now in
     let value = value_in c.args.source.now in
-    let rows : c.as_slice.result.now ≡ told_rows_by facts value reading = c.as_slice.ensures.value ∙ c.in_ok-rows.ensures in
+    let rows : c.as_slice.result.now ≡ told_rows_by facts value reading =
+    c.as_slice.ensures.value ∙ c.in_ok-rows.ensures in
     reading_not_overlap facts value reading c.in-Err.fault c.requires.read
-    (told_fault facts value reading c.in-Err.fault (subst (λ (rs : List Row). IsPlacingFault facts rs c.in-Err.fault) rows c.in-Err.ensures.fault))
+    (told_fault facts value reading c.in-Err.fault
+    (subst (λ (rs : List Row). IsPlacingFault facts rs c.in-Err.fault) rows
+    c.in-Err.ensures.fault))
 
 pub returns-in-Err-clause-fault : goal.returns-in-Err-clause-fault
 returns-in-Err-clause-fault g c =
     let facts = c.args.source.now.machine.now in
     let reading = reading_in c.args.source.now in
     let value = value_in c.args.source.now in
-    let rows : c.as_slice.result.now ≡ told_rows_by facts value reading = c.as_slice.ensures.value ∙ c.in_ok-rows.ensures in
+    let rows : c.as_slice.result.now ≡ told_rows_by facts value reading =
+    c.as_slice.ensures.value ∙ c.in_ok-rows.ensures in
     refused_place facts (rows_of facts value reading) c.in-Err.fault c.fault_of.result
-    (told_fault facts value reading c.in-Err.fault (subst (λ (rs : List Row). IsPlacingFault facts rs c.in-Err.fault) rows c.in-Err.ensures.fault)) c.fault_of.ensures
+    (told_fault facts value reading c.in-Err.fault
+    (subst (λ (rs : List Row). IsPlacingFault facts rs c.in-Err.fault) rows
+    c.in-Err.ensures.fault)) c.fault_of.ensures
 
 pub registers_of-registers-requires-clause-low : goal.registers_of-registers-requires-clause-low
 registers_of-registers-requires-clause-low g c = rw c.as_slice-2.ensures.value c.in-Ok.ensures.below
@@ -52,53 +63,80 @@ registers_of-registers-requires-clause-enter g c =
     let facts = c.args.source.now.machine.now in
     let reading = reading_in c.args.source.now in
     let value = value_in c.args.source.now in
-    let rows : c.as_slice.result.now ≡ told_rows_by facts value reading = c.as_slice.ensures.value ∙ c.in_ok-rows.ensures in
-    let told : ArePlaced facts [] (told_rows_by facts value reading) c.in-Ok.places.items = subst (λ (rs : List Row). ArePlaced facts [] rs c.in-Ok.places.items) rows c.in-Ok.ensures.placed in
+    let rows : c.as_slice.result.now ≡ told_rows_by facts value reading =
+    c.as_slice.ensures.value ∙ c.in_ok-rows.ensures in
+    let told : ArePlaced facts [] (told_rows_by facts value reading) c.in-Ok.places.items =
+    subst (λ (rs : List Row). ArePlaced facts [] rs c.in-Ok.places.items) rows
+    c.in-Ok.ensures.placed in
     let placed = told_placed facts value reading c.in-Ok.places.items told in
     subst (λ (ps : List Place). CanEnter reading ps) (sym c.as_slice-2.ensures.value)
-    (can_enter facts value reading _ c.in-Ok.places.items c.requires.read c.requires.files placed c.in-Ok.ensures.below)
+    (can_enter facts value reading _ c.in-Ok.places.items c.requires.read c.requires.files placed
+    c.in-Ok.ensures.below)
 
 pub parts_at-requires-clause-fits : goal.parts_at-requires-clause-fits
 parts_at-requires-clause-fits g c =
     let facts = c.args.source.now.machine.now in
     let reading = reading_in c.args.source.now in
     let value = value_in c.args.source.now in
-    let rows : c.as_slice.result.now ≡ told_rows_by facts value reading = c.as_slice.ensures.value ∙ c.in_ok-rows.ensures in
-    let told : ArePlaced facts [] (told_rows_by facts value reading) c.in-Ok.places.items = subst (λ (rs : List Row). ArePlaced facts [] rs c.in-Ok.places.items) rows c.in-Ok.ensures.placed in
+    let rows : c.as_slice.result.now ≡ told_rows_by facts value reading =
+    c.as_slice.ensures.value ∙ c.in_ok-rows.ensures in
+    let told : ArePlaced facts [] (told_rows_by facts value reading) c.in-Ok.places.items =
+    subst (λ (rs : List Row). ArePlaced facts [] rs c.in-Ok.places.items) rows
+    c.in-Ok.ensures.placed in
     let placed = told_placed facts value reading c.in-Ok.places.items told in
     subst (λ (ps : List Place). FitsTold value reading ps) (sym c.as_slice-4.ensures.value)
-    (fits_told facts value reading c.in-Ok.places.items placed (reading_rowed facts value reading c.in-Ok.places.items placed) c.in-Ok.ensures.below)
+    (fits_told facts value reading c.in-Ok.places.items placed
+    (reading_rowed facts value reading c.in-Ok.places.items placed) c.in-Ok.ensures.below)
 
 pub parts_at-requires-clause-rowed : goal.parts_at-requires-clause-rowed
 parts_at-requires-clause-rowed g c =
     let facts = c.args.source.now.machine.now in
     let reading = reading_in c.args.source.now in
     let value = value_in c.args.source.now in
-    let rows : c.as_slice.result.now ≡ told_rows_by facts value reading = c.as_slice.ensures.value ∙ c.in_ok-rows.ensures in
-    let told : ArePlaced facts [] (told_rows_by facts value reading) c.in-Ok.places.items = subst (λ (rs : List Row). ArePlaced facts [] rs c.in-Ok.places.items) rows c.in-Ok.ensures.placed in
+    let rows : c.as_slice.result.now ≡ told_rows_by facts value reading =
+    c.as_slice.ensures.value ∙ c.in_ok-rows.ensures in
+    let told : ArePlaced facts [] (told_rows_by facts value reading) c.in-Ok.places.items =
+    subst (λ (rs : List Row). ArePlaced facts [] rs c.in-Ok.places.items) rows
+    c.in-Ok.ensures.placed in
     let placed = told_placed facts value reading c.in-Ok.places.items told in
-    let sorted : c.as_slice-5.result.now ≡ in_order c.in-Ok.places.items = c.as_slice-5.ensures.value ∙ c.in_ok-sorted.ensures ∙ ap in_order c.as_slice-3.ensures.value in
+    let sorted : c.as_slice-5.result.now ≡ in_order c.in-Ok.places.items =
+    c.as_slice-5.ensures.value ∙ c.in_ok-sorted.ensures
+    ∙ ap in_order c.as_slice-3.ensures.value in
     subst (λ (ps : List Place). All (IsRowed facts value reading) ps) (sym sorted)
-    (in_order_all place_key (IsRowed facts value reading) c.in-Ok.places.items (reading_rowed facts value reading c.in-Ok.places.items placed))
+    (in_order_all place_key (IsRowed facts value reading) c.in-Ok.places.items
+    (reading_rowed facts value reading c.in-Ok.places.items placed))
 
 pub parts_at-requires-clause-small : goal.parts_at-requires-clause-small
 parts_at-requires-clause-small g c =
-    let sorted : c.as_slice-5.result.now ≡ in_order c.in-Ok.places.items = c.as_slice-5.ensures.value ∙ c.in_ok-sorted.ensures ∙ ap in_order c.as_slice-3.ensures.value in
-    subst (λ (ps : List Place). All (λ p. p.length ≤ 2 ^ 32) ps) (sym sorted) (in_order_all place_key (λ (p : Place). p.length ≤ 2 ^ 32) c.in-Ok.places.items (λ k d within. let low = c.in-Ok.ensures.below k d within in omega arith))
+    let sorted : c.as_slice-5.result.now ≡ in_order c.in-Ok.places.items =
+    c.as_slice-5.ensures.value ∙ c.in_ok-sorted.ensures
+    ∙ ap in_order c.as_slice-3.ensures.value in
+    subst (λ (ps : List Place). All (λ p. p.length ≤ 2 ^ 32) ps) (sym sorted)
+    (in_order_all place_key (λ (p : Place). p.length ≤ 2 ^ 32) c.in-Ok.places.items
+    (λ k d within. let low = c.in-Ok.ensures.below k d within in omega arith))
 
 pub ranges_of-requires : goal.ranges_of-requires
 ranges_of-requires g c =
     let facts = c.args.source.now.machine.now in
     let reading = reading_in c.args.source.now in
     let value = value_in c.args.source.now in
-    let rows : c.as_slice.result.now ≡ told_rows_by facts value reading = c.as_slice.ensures.value ∙ c.in_ok-rows.ensures in
-    let told : ArePlaced facts [] (told_rows_by facts value reading) c.in-Ok.places.items = subst (λ (rs : List Row). ArePlaced facts [] rs c.in-Ok.places.items) rows c.in-Ok.ensures.placed in
+    let rows : c.as_slice.result.now ≡ told_rows_by facts value reading =
+    c.as_slice.ensures.value ∙ c.in_ok-rows.ensures in
+    let told : ArePlaced facts [] (told_rows_by facts value reading) c.in-Ok.places.items =
+    subst (λ (rs : List Row). ArePlaced facts [] rs c.in-Ok.places.items) rows
+    c.in-Ok.ensures.placed in
     let placed = told_placed facts value reading c.in-Ok.places.items told in
-    let sorted : c.as_slice-5.result.now ≡ in_order c.in-Ok.places.items = c.as_slice-5.ensures.value ∙ c.in_ok-sorted.ensures ∙ ap in_order c.as_slice-3.ensures.value in
-    let places : map place_of c.in_ok-parts.parts.items ≡ in_order c.in-Ok.places.items = c.in_ok-parts.ensures.places ∙ sorted in
+    let sorted : c.as_slice-5.result.now ≡ in_order c.in-Ok.places.items =
+    c.as_slice-5.ensures.value ∙ c.in_ok-sorted.ensures
+    ∙ ap in_order c.as_slice-3.ensures.value in
+    let places : map place_of c.in_ok-parts.parts.items ≡ in_order c.in-Ok.places.items =
+    c.in_ok-parts.ensures.places ∙ sorted in
     let count = length-map c.args.source.now.modules.now (λ m. m.line) in
-    let kept = reading_records facts value reading c.in-Ok.places.items c.requires.read (omega (arith, count, c.args.source.now.few)) placed in
-    let small : All (λ p. p.address + p.length < 2 ^ 64) (in_order c.in-Ok.places.items) = λ k d within. let low = kept.below k d within in omega arith in
+    let kept =
+    reading_records facts value reading c.in-Ok.places.items c.requires.read
+    (omega (arith, count, c.args.source.now.few)) placed in
+    let small : All (λ p. p.address + p.length < 2 ^ 64) (in_order c.in-Ok.places.items) =
+    λ k d within. let low = kept.below k d within in omega arith in
     rw (c.as_slice-6.ensures.value, places) small
 
 pub returns-clause-loadable : goal.returns-clause-loadable
@@ -106,18 +144,31 @@ returns-clause-loadable g c =
     let facts = c.args.source.now.machine.now in
     let reading = reading_in c.args.source.now in
     let value = value_in c.args.source.now in
-    let rows : c.as_slice.result.now ≡ told_rows_by facts value reading = c.as_slice.ensures.value ∙ c.in_ok-rows.ensures in
-    let told : ArePlaced facts [] (told_rows_by facts value reading) c.in-Ok.places.items = subst (λ (rs : List Row). ArePlaced facts [] rs c.in-Ok.places.items) rows c.in-Ok.ensures.placed in
+    let rows : c.as_slice.result.now ≡ told_rows_by facts value reading =
+    c.as_slice.ensures.value ∙ c.in_ok-rows.ensures in
+    let told : ArePlaced facts [] (told_rows_by facts value reading) c.in-Ok.places.items =
+    subst (λ (rs : List Row). ArePlaced facts [] rs c.in-Ok.places.items) rows
+    c.in-Ok.ensures.placed in
     let placed = told_placed facts value reading c.in-Ok.places.items told in
-    let sorted : c.as_slice-5.result.now ≡ in_order c.in-Ok.places.items = c.as_slice-5.ensures.value ∙ c.in_ok-sorted.ensures ∙ ap in_order c.as_slice-3.ensures.value in
-    let places : map place_of c.in_ok-parts.parts.items ≡ in_order c.in-Ok.places.items = c.in_ok-parts.ensures.places ∙ sorted in
+    let sorted : c.as_slice-5.result.now ≡ in_order c.in-Ok.places.items =
+    c.as_slice-5.ensures.value ∙ c.in_ok-sorted.ensures
+    ∙ ap in_order c.as_slice-3.ensures.value in
+    let places : map place_of c.in_ok-parts.parts.items ≡ in_order c.in-Ok.places.items =
+    c.in_ok-parts.ensures.places ∙ sorted in
     let count = length-map c.args.source.now.modules.now (λ m. m.line) in
-    let kept = reading_records facts value reading c.in-Ok.places.items c.requires.read (omega (arith, count, c.args.source.now.few)) placed in
-    let inside = in_order_all place_key (λ (p : Place). p.address + p.length ≤ facts.size) c.in-Ok.places.items
-    (are_inside facts [] (rows_of facts value reading) c.in-Ok.places.items placed (reading_rows facts value reading c.requires.read)) in
+    let kept =
+    reading_records facts value reading c.in-Ok.places.items c.requires.read
+    (omega (arith, count, c.args.source.now.few)) placed in
+    let inside =
+    in_order_all place_key (λ (p : Place). p.address + p.length ≤ facts.size)
+    c.in-Ok.places.items
+    (are_inside facts [] (rows_of facts value reading) c.in-Ok.places.items placed
+    (reading_rows facts value reading c.requires.read)) in
     record {
       backed = c.in_ok-parts.ensures.backed;
-      inside = subst (λ (ps : List Place). All (λ p. p.address + p.length ≤ facts.size) ps) (sym places) inside;
+      inside =
+          subst (λ (ps : List Place). All (λ p. p.address + p.length ≤ facts.size) ps)
+          (sym places) inside;
       records = subst AreRecords (sym places) kept;
     }
 
@@ -126,8 +177,11 @@ returns-clause-handover g c =
     let facts = c.args.source.now.machine.now in
     let reading = reading_in c.args.source.now in
     let value = value_in c.args.source.now in
-    let rows : c.as_slice.result.now ≡ told_rows_by facts value reading = c.as_slice.ensures.value ∙ c.in_ok-rows.ensures in
-    let told : ArePlaced facts [] (told_rows_by facts value reading) c.in-Ok.places.items = subst (λ (rs : List Row). ArePlaced facts [] rs c.in-Ok.places.items) rows c.in-Ok.ensures.placed in
+    let rows : c.as_slice.result.now ≡ told_rows_by facts value reading =
+    c.as_slice.ensures.value ∙ c.in_ok-rows.ensures in
+    let told : ArePlaced facts [] (told_rows_by facts value reading) c.in-Ok.places.items =
+    subst (λ (rs : List Row). ArePlaced facts [] rs c.in-Ok.places.items) rows
+    c.in-Ok.ensures.placed in
     record {
       places = c.in-Ok.places.items;
       placed = told_placed facts value reading c.in-Ok.places.items told;

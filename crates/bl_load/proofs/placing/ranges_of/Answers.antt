@@ -9,5 +9,12 @@ pub overflow_add-part : goal.overflow_add-part
 overflow_add-part g c =
     let x = c.part-item.result in
     let is = c.part-item.is in
-    let small = all_under (λ (place : Place). place.address + place.length < 2 ^ 64) place_of c.args.parts.now c.requires c.loop-part.part-index x c.loop-part-test.true in
-    omega (arith, small, ap (λ (p : PlannedPart g.row.A.Denot). p.place.address) is, ap (λ (p : PlannedPart g.row.A.Denot). p.place.length) is)
+    let small =
+    all_under (λ (place : Place). place.address + place.length < 2 ^ 64) place_of
+    c.args.parts.now c.requires c.loop-part.part-index x c.loop-part-test.true in
+    omega (
+      arith,
+      small,
+      ap (λ (p : PlannedPart g.row.A.Denot). p.place.address) is,
+      ap (λ (p : PlannedPart g.row.A.Denot). p.place.length) is,
+    )

@@ -21,29 +21,54 @@ pub plan_parts-requires : goal.plan_parts-requires
 plan_parts-requires g c =
     let facts = c.args.machine.now in
     let line = c.args.line.now in
-    let file = first_text g.V.ByteView.bytes c.args.files.now c.index-files-0.result c.requires.files c.index-files-0.is in
+    let file =
+    first_text g.V.ByteView.bytes c.args.files.now c.index-files-0.result c.requires.files
+    c.index-files-0.is in
     let setup = c.in_ok-read_linux.field-0 in
-    let is = subst (λ (f : List ℕ). IsLinuxKernel facts.runs line f setup) file (subst (λ rs. IsLinuxKernel rs line (g.V.ByteView.bytes c.index-files-0.result) setup) c.normal.ensures.runs c.in_ok-read_linux.ensures.kernel) in
-    record { read = (refl, is); files = omega (arith, c.requires.files, length-map c.args.files.now g.V.ByteView.bytes) }
+    let is =
+    subst (λ (f : List ℕ). IsLinuxKernel facts.runs line f setup) file
+    (subst (λ rs. IsLinuxKernel rs line (g.V.ByteView.bytes c.index-files-0.result) setup)
+    c.normal.ensures.runs c.in_ok-read_linux.ensures.kernel) in
+    record {
+      read = (refl, is);
+      files = omega (arith, c.requires.files, length-map c.args.files.now g.V.ByteView.bytes);
+    }
 
 pub returns-clause-handover : goal.returns-clause-handover
 returns-clause-handover g c =
     let facts = c.args.machine.now in
     let texts = map g.V.ByteView.bytes c.args.files.now in
     let line = c.args.line.now in
-    let file = first_text g.V.ByteView.bytes c.args.files.now c.index-files-0.result c.requires.files c.index-files-0.is in
+    let file =
+    first_text g.V.ByteView.bytes c.args.files.now c.index-files-0.result c.requires.files
+    c.index-files-0.is in
     let setup = c.in_ok-read_linux.field-0 in
     let runs = c.normal.ensures.runs in
-    let is = subst (λ (f : List ℕ). IsLinuxKernel facts.runs line f setup) file (subst (λ rs. IsLinuxKernel rs line (g.V.ByteView.bytes c.index-files-0.result) setup) runs c.in_ok-read_linux.ensures.kernel) in
-    IfOk-weaker c.plan_parts.result _ _ (λ plan h. prepared facts (linux_value texts line) (one_sound line c.in_ok-check_line.ensures) (linux setup) (handover_by texts plan) (refl, is) h) c.plan_parts.ensures.handover
+    let is =
+    subst (λ (f : List ℕ). IsLinuxKernel facts.runs line f setup) file
+    (subst (λ rs. IsLinuxKernel rs line (g.V.ByteView.bytes c.index-files-0.result) setup)
+    runs c.in_ok-read_linux.ensures.kernel) in
+    IfOk-weaker c.plan_parts.result
+    _ _ (λ plan h.
+    prepared facts (linux_value texts line) (one_sound line c.in_ok-check_line.ensures)
+    (linux setup) (handover_by texts plan) (refl, is) h) c.plan_parts.ensures.handover
 
 pub returns-clause-fault : goal.returns-clause-fault
 returns-clause-fault g c =
     let facts = c.args.machine.now in
     let texts = map g.V.ByteView.bytes c.args.files.now in
     let line = c.args.line.now in
-    let file = first_text g.V.ByteView.bytes c.args.files.now c.index-files-0.result c.requires.files c.index-files-0.is in
+    let file =
+    first_text g.V.ByteView.bytes c.args.files.now c.index-files-0.result c.requires.files
+    c.index-files-0.is in
     let setup = c.in_ok-read_linux.field-0 in
     let runs = c.normal.ensures.runs in
-    let is = subst (λ (f : List ℕ). IsLinuxKernel facts.runs line f setup) file (subst (λ rs. IsLinuxKernel rs line (g.V.ByteView.bytes c.index-files-0.result) setup) runs c.in_ok-read_linux.ensures.kernel) in
-    IfErr-weaker c.plan_parts.result _ _ (λ fault h. refused_places facts (linux_value texts line) (one_sound line c.in_ok-check_line.ensures) (linux setup) fault (refl, is) h) c.plan_parts.ensures.fault
+    let is =
+    subst (λ (f : List ℕ). IsLinuxKernel facts.runs line f setup) file
+    (subst (λ rs. IsLinuxKernel rs line (g.V.ByteView.bytes c.index-files-0.result) setup)
+    runs c.in_ok-read_linux.ensures.kernel) in
+    IfErr-weaker c.plan_parts.result
+    _ _ (λ fault h.
+    refused_places facts (linux_value texts line)
+    (one_sound line c.in_ok-check_line.ensures) (linux setup) fault (refl, is) h)
+    c.plan_parts.ensures.fault

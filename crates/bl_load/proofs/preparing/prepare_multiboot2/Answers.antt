@@ -13,7 +13,9 @@ use Rattle.bl_load.proofs.preparing.prepare_multiboot2.Goals as goal
 
 pub invariant_of-source : goal.invariant_of-source
 invariant_of-source g c =
-    let sound = first_sound (line_fault c.args.line.now) (lines_fault (lines_by c.args.modules.now)) c.in_ok-check_lines.ensures in
+    let sound =
+    first_sound (line_fault c.args.line.now) (lines_fault (lines_by c.args.modules.now))
+    c.in_ok-check_lines.ensures in
     record {
       sound = sound.0;
       short = sound_short c.args.line.now sound.0;
@@ -24,24 +26,35 @@ invariant_of-source g c =
 pub plan_parts-requires : goal.plan_parts-requires
 plan_parts-requires g c =
     let some : 1 ≤ length c.args.files.now = omega (arith, c.requires.files) in
-    let file = first_text g.V.ByteView.bytes c.args.files.now c.index-files-0.result some c.index-files-0.is in
+    let file =
+    first_text g.V.ByteView.bytes c.args.files.now c.index-files-0.result some
+    c.index-files-0.is in
     let kernel = kernel_by c.in_ok-read_kernel.field-0 in
     record {
-      read = (refl, subst (λ (f : List ℕ). IsKernel f kernel) file c.in_ok-read_kernel.ensures.kernel);
+      read =
+          (refl, subst (λ (f : List ℕ). IsKernel f kernel) file c.in_ok-read_kernel.ensures.kernel);
       files = (
         omega (arith, c.requires.files, length-map c.args.files.now g.V.ByteView.bytes),
-        subst (λ (f : List ℕ). AreLoadable f kernel.segments) file c.in_ok-read_kernel.ensures.loadable,
+        subst (λ (f : List ℕ). AreLoadable f kernel.segments)
+            file c.in_ok-read_kernel.ensures.loadable,
       );
     }
 
 pub returns-in_err-read_kernel-clause-fault : goal.returns-in_err-read_kernel-clause-fault
 returns-in_err-read_kernel-clause-fault g c =
-    let p = err_from_is_err_and c.from_residual-in_err-read_kernel.result c.from_residual-in_err-read_kernel.ensures.1 in
+    let p =
+    err_from_is_err_and c.from_residual-in_err-read_kernel.result
+    c.from_residual-in_err-read_kernel.ensures.1 in
     let fault = c.in_err-read_kernel.field-0.0 in
     let texts = map g.V.ByteView.bytes c.args.files.now in
     let some : 1 ≤ length c.args.files.now = omega (arith, c.requires.files) in
-    let file = first_text g.V.ByteView.bytes c.args.files.now c.index-files-0.result some c.index-files-0.is in
-    rw (p.1, p.2) (refused_multiboot2 c.args.machine.now texts c.args.line.now (lines_by c.args.modules.now) c.in_ok-check_lines.ensures fault (subst (λ (f : List ℕ). IsKernelFault f fault) file c.in_err-read_kernel.ensures.fault))
+    let file =
+    first_text g.V.ByteView.bytes c.args.files.now c.index-files-0.result some
+    c.index-files-0.is in
+    rw (p.1, p.2)
+    (refused_multiboot2 c.args.machine.now texts c.args.line.now (lines_by c.args.modules.now)
+    c.in_ok-check_lines.ensures fault
+    (subst (λ (f : List ℕ). IsKernelFault f fault) file c.in_err-read_kernel.ensures.fault))
 
 pub returns-clause-handover : goal.returns-clause-handover
 returns-clause-handover g c =
@@ -50,9 +63,14 @@ returns-clause-handover g c =
     let value = multiboot2_value texts c.args.line.now (lines_by c.args.modules.now) in
     let kernel = kernel_by c.in_ok-read_kernel.field-0 in
     let some : 1 ≤ length c.args.files.now = omega (arith, c.requires.files) in
-    let file = first_text g.V.ByteView.bytes c.args.files.now c.index-files-0.result some c.index-files-0.is in
+    let file =
+    first_text g.V.ByteView.bytes c.args.files.now c.index-files-0.result some
+    c.index-files-0.is in
     let is = subst (λ (f : List ℕ). IsKernel f kernel) file c.in_ok-read_kernel.ensures.kernel in
-    IfOk-weaker c.plan_parts.result _ _ (λ plan h. prepared facts value c.in_ok-check_lines.ensures (multiboot2 kernel) (handover_by texts plan) (refl, is) h) c.plan_parts.ensures.handover
+    IfOk-weaker c.plan_parts.result
+    _ _ (λ plan h.
+    prepared facts value c.in_ok-check_lines.ensures (multiboot2 kernel)
+    (handover_by texts plan) (refl, is) h) c.plan_parts.ensures.handover
 
 pub returns-clause-fault : goal.returns-clause-fault
 returns-clause-fault g c =
@@ -61,6 +79,11 @@ returns-clause-fault g c =
     let value = multiboot2_value texts c.args.line.now (lines_by c.args.modules.now) in
     let kernel = kernel_by c.in_ok-read_kernel.field-0 in
     let some : 1 ≤ length c.args.files.now = omega (arith, c.requires.files) in
-    let file = first_text g.V.ByteView.bytes c.args.files.now c.index-files-0.result some c.index-files-0.is in
+    let file =
+    first_text g.V.ByteView.bytes c.args.files.now c.index-files-0.result some
+    c.index-files-0.is in
     let is = subst (λ (f : List ℕ). IsKernel f kernel) file c.in_ok-read_kernel.ensures.kernel in
-    IfErr-weaker c.plan_parts.result _ _ (λ fault h. refused_places facts value c.in_ok-check_lines.ensures (multiboot2 kernel) fault (refl, is) h) c.plan_parts.ensures.fault
+    IfErr-weaker c.plan_parts.result
+    _ _ (λ fault h.
+    refused_places facts value c.in_ok-check_lines.ensures (multiboot2 kernel) fault
+    (refl, is) h) c.plan_parts.ensures.fault

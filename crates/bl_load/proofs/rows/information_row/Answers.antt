@@ -11,7 +11,8 @@ use Rattle.bl_load.proofs.InformationLemmas.{info_size_is}
 use Rattle.bl_load.proofs.rows.information_row.Goals as goal
 
 row_of : ℕ → Row
-row_of length = record { role = Information; index = 0; length = length; choice = Lowest 4096 4096 0x100000000 }
+row_of length =
+    record { role = Information; index = 0; length = length; choice = Lowest 4096 4096 0x100000000 }
 
 pub returns : goal.returns
 unfolding row_of
@@ -21,5 +22,6 @@ returns g c = λ texts.
     let relocation = c.args.kernel.now.relocation in
     let e = info_size_is facts value relocation [] in
     let size : c.info_length-length.result ≡ info_size (information_of facts value relocation []) =
-    rw (e, ← c.normal.ensures.runs, ← c.is_some.ensures, ← c.tags_size-tags.ensures.value) c.info_length-length.ensures.value in
+    rw (e, ← c.normal.ensures.runs, ← c.is_some.ensures, ← c.tags_size-tags.ensures.value)
+    c.info_length-length.ensures.value in
     ap row_of (c.whole_frames.ensures ∙ ap whole_frames size)

@@ -6,5 +6,6 @@ use Rattle.bl_load.proofs.rows.push_module_rows.Given as goal
 -- the rows so far, and those that are left, are all
 abbrev pub invariant-loop-index : goal.invariant-loop-index
 invariant-loop-index g l =
-    l.rows.items ++ told_rows (map g.V.ByteView.bytes l.files) l.index (lines_by (drop l.index l.modules))
+    l.rows.items
+    ++ told_rows (map g.V.ByteView.bytes l.files) l.index (lines_by (drop l.index l.modules))
     ≡ l.fn.rows.items ++ told_rows (map g.V.ByteView.bytes l.files) 0 (lines_by l.modules)

@@ -11,12 +11,19 @@ loop-range-preserved c =
     record {
       within = omega (arith, met.within);
       most = omega (arith, met.forward);
-      counted = counted c.args.pool.now c.args.ranges.now ascend c.loop-range.range-index here c.loop-range.next kept.behind _ _ met _ _ _ kept.within kept.counted (omega arith) (omega arith);
-      behind = behind_next c.args.pool.now c.args.ranges.now ascend c.loop-range.range-index here c.loop-range.next kept.behind _ _ met _ (omega arith);
+      counted =
+          counted c.args.pool.now c.args.ranges.now ascend c.loop-range.range-index here
+          c.loop-range.next kept.behind _ _ met _ _ _ kept.within kept.counted (omega arith)
+          (omega arith);
+      behind =
+          behind_next c.args.pool.now c.args.ranges.now ascend c.loop-range.range-index here
+          c.loop-range.next kept.behind _ _ met _ (omega arith);
     }
 
 pub returns : goal.returns
 returns c =
     let kept = c.loop-range.invariant in
-    let all = counted_all c.args.pool.now c.args.ranges.now c.loop-range.range-index c.loop-range.next c.loop-range-test.false kept.behind kept.within in
+    let all =
+    counted_all c.args.pool.now c.args.ranges.now c.loop-range.range-index c.loop-range.next
+    c.loop-range-test.false kept.behind kept.within in
     omega (arith, all)

@@ -9,9 +9,11 @@ use Rattle.bl_map.proofs.rules.first_high.Goals as goal
 pub loop-i-preserved : goal.loop-i-preserved
 loop-i-preserved c =
     let none : Region = record { base = 0; length = 0; kind = Usable } in
-    All-more IsLow c.args.regions.now c.loop-i.i none c.loop-i-test.true c.loop-i.invariant c.if-not-is_low.ensures
+    All-more IsLow c.args.regions.now c.loop-i.i none c.loop-i-test.true c.loop-i.invariant
+    c.if-not-is_low.ensures
 
 pub returns : goal.returns
 returns c =
     let all = take_all c.loop-i.i c.args.regions.now c.loop-i-test.false in
-    All-same IsLow c.args.regions.now (take c.loop-i.i c.args.regions.now) (sym all) c.loop-i.invariant
+    All-same IsLow c.args.regions.now (take c.loop-i.i c.args.regions.now) (sym all)
+    c.loop-i.invariant

@@ -10,11 +10,14 @@ loop-region-preserved c =
     let all = c.args.regions.now in
     let k = c.loop-region.region-index in
     let none : Region = record { base = 0; length = 0; kind = Usable } in
-    let cons : drop k all ≡ get_or all k none ∷ drop (k + 1) all = drop_more all k none c.loop-region-test.true in
+    let cons : drop k all ≡ get_or all k none ∷ drop (k + 1) all =
+    drop_more all k none c.loop-region-test.true in
     let step = c.change_in-next.ensures in
     record {
       ahead = step.ahead;
       within = omega (arith, step.within, c.loop-region.invariant.within);
       same = λ a from below rest. c.loop-region.invariant.same a from (omega (arith, step.within))
-          (rw cons (kind_at-same (get_or all k none) (drop (k + 1) all) a c.args.at (step.same a from below) rest));
+          (rw cons
+          (kind_at-same (get_or all k none) (drop (k + 1) all) a c.args.at
+          (step.same a from below) rest));
     }

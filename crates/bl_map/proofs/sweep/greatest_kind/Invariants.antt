@@ -4,4 +4,6 @@ use Rattle.bl_map.proofs.sweep.greatest_kind.Given as goal
 
 -- the greatest so far, or a greater one of the rest, is that of all
 abbrev pub invariant-loop-region : goal.invariant-loop-region
-invariant-loop-region l = max (number_or_none l.greatest) (kind_at (drop l.region-index l.regions) l.a) ≡ kind_at l.regions l.a
+invariant-loop-region l =
+    max (number_or_none l.greatest) (kind_at (drop l.region-index l.regions) l.a)
+    ≡ kind_at l.regions l.a

@@ -3,7 +3,8 @@ use Rattle.bl_map.proofs.SweepLemmas.{IsMapUpto}
 use Rattle.bl_map.proofs.EdgeLemmas.{edges_above}
 use Rattle.bl_map.proofs.sweep.normal_map.Given as goal
 
--- the runs so far are the normal map of the addresses so far, and each of them passed an end of a region
+-- the runs so far are the normal map of the addresses so far, and each of them passed an end of a
+-- region
 abbrev pub invariant-loop-at : goal.invariant-loop-at
 invariant-loop-at g l = record {
   map : IsMapUpto l.regions l.runs.items l.at;

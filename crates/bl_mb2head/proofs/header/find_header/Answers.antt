@@ -12,11 +12,16 @@ use Rattle.bl_mb2head.proofs.FaultLemmas.{tag_fault_first, address_fault_first}
 use Rattle.bl_mb2head.proofs.HeaderLemmas.{ends_in_file, ends_in_front, lies_before}
 use Rattle.bl_mb2head.proofs.header.find_header.Goals as goal
 
-tag_fault : (bytes : List ℕ) (h word : ℕ) (fault : HeadFault) → word ≡ u32_at bytes (h + 8) → BeginsAt bytes h → IsFirstFault bytes (h + word) (h + 16) fault → HasFirstFault bytes fault
+tag_fault : (bytes : List ℕ) (h word : ℕ) (fault : HeadFault) → word ≡ u32_at bytes (h + 8)
+    → BeginsAt bytes h → IsFirstFault bytes (h + word) (h + 16) fault → HasFirstFault bytes fault
 tag_fault bytes h word fault is begins first =
-    tag_fault_first bytes h fault begins (subst (λ (w : ℕ). IsFirstFault bytes (h + w) (h + 16) fault) is first)
+    tag_fault_first bytes h fault begins
+    (subst (λ (w : ℕ). IsFirstFault bytes (h + w) (h + 16) fault) is first)
 
-address_tag_fault : (bytes : List ℕ) (h word : ℕ) (fault : HeadFault) (last : LastTags) → word ≡ u32_at bytes (h + 8) → BeginsAt bytes h → (ts : List Tag) × AreAllTags bytes (h + word) (h + 16) ts × (last ≡ last_tags ts) → address_fault bytes h last.address ≡ Some fault → HasFirstFault bytes fault
+address_tag_fault : (bytes : List ℕ) (h word : ℕ) (fault : HeadFault) (last : LastTags)
+    → word ≡ u32_at bytes (h + 8) → BeginsAt bytes h
+    → (ts : List Tag) × AreAllTags bytes (h + word) (h + 16) ts × (last ≡ last_tags ts)
+    → address_fault bytes h last.address ≡ Some fault → HasFirstFault bytes fault
 address_tag_fault bytes h word fault last is begins tags faulty =
     address_fault_first bytes h fault begins record {
       tags = tags.0;
@@ -26,30 +31,44 @@ address_tag_fault bytes h word fault last is begins tags faulty =
 
 pub returns-in_err-last-clause-first_fault : goal.returns-in_err-last-clause-first_fault
 returns-in_err-last-clause-first_fault g c =
-    let p = err_from_is_err_and c.from_residual-in_err-last.result c.from_residual-in_err-last.ensures.1 in
-    rw (p.1, p.2) (tag_fault _ c.in_ok-place.place c.u32_at.result _ c.u32_at.ensures c.in_ok-place.ensures.begins c.in_err-last.ensures.first_fault)
+    let p =
+    err_from_is_err_and c.from_residual-in_err-last.result
+    c.from_residual-in_err-last.ensures.1 in
+    rw (p.1, p.2)
+    (tag_fault _ c.in_ok-place.place c.u32_at.result _ c.u32_at.ensures
+    c.in_ok-place.ensures.begins c.in_err-last.ensures.first_fault)
 
 pub returns-in_err-address_segment-clause-first_fault : goal.returns-in_err-address_segment-clause-first_fault
 returns-in_err-address_segment-clause-first_fault g c =
-    let p = err_from_is_err_and c.from_residual-in_err-address_segment.result c.from_residual-in_err-address_segment.ensures.1 in
-    rw (p.1, p.2) (address_tag_fault _ c.in_ok-place.place c.u32_at.result _ c.in_ok-last.last c.u32_at.ensures c.in_ok-place.ensures.begins c.in_ok-last.ensures.last c.in_err-address_segment.ensures.exact)
+    let p =
+    err_from_is_err_and c.from_residual-in_err-address_segment.result
+    c.from_residual-in_err-address_segment.ensures.1 in
+    rw (p.1, p.2)
+    (address_tag_fault _ c.in_ok-place.place c.u32_at.result _ c.in_ok-last.last
+    c.u32_at.ensures c.in_ok-place.ensures.begins c.in_ok-last.ensures.last
+    c.in_err-address_segment.ensures.exact)
 
 pub address_segment-requires-clause-in_front : goal.address_segment-requires-clause-in_front
 address_segment-requires-clause-in_front g c =
-    lies_before _ _ _ _ c.in_ok-last.ensures.fits.address (omega (arith, ends_in_front _ _ c.in_ok-place.ensures.begins, c.u32_at.ensures))
+    lies_before _ _ _ _ c.in_ok-last.ensures.fits.address
+    (omega (arith, ends_in_front _ _ c.in_ok-place.ensures.begins, c.u32_at.ensures))
 
 pub tag_entry-requires-clause-in_file : goal.tag_entry-requires-clause-in_file
 tag_entry-requires-clause-in_file g c =
-    lies_before _ _ _ _ c.in_ok-last.ensures.fits.entry (omega (arith, ends_in_file _ _ c.in_ok-place.ensures.begins, c.u32_at.ensures))
+    lies_before _ _ _ _ c.in_ok-last.ensures.fits.entry
+    (omega (arith, ends_in_file _ _ c.in_ok-place.ensures.begins, c.u32_at.ensures))
 
 pub tag_entry-requires-clause-in_front : goal.tag_entry-requires-clause-in_front
 tag_entry-requires-clause-in_front g c =
-    lies_before _ _ _ _ c.in_ok-last.ensures.fits.entry (omega (arith, ends_in_front _ _ c.in_ok-place.ensures.begins, c.u32_at.ensures))
+    lies_before _ _ _ _ c.in_ok-last.ensures.fits.entry
+    (omega (arith, ends_in_front _ _ c.in_ok-place.ensures.begins, c.u32_at.ensures))
 
 pub relocation_of-requires-clause-in_file : goal.relocation_of-requires-clause-in_file
 relocation_of-requires-clause-in_file g c =
-    lies_before _ _ _ _ c.in_ok-last.ensures.fits.relocation (omega (arith, ends_in_file _ _ c.in_ok-place.ensures.begins, c.u32_at.ensures))
+    lies_before _ _ _ _ c.in_ok-last.ensures.fits.relocation
+    (omega (arith, ends_in_file _ _ c.in_ok-place.ensures.begins, c.u32_at.ensures))
 
 pub relocation_of-requires-clause-in_front : goal.relocation_of-requires-clause-in_front
 relocation_of-requires-clause-in_front g c =
-    lies_before _ _ _ _ c.in_ok-last.ensures.fits.relocation (omega (arith, ends_in_front _ _ c.in_ok-place.ensures.begins, c.u32_at.ensures))
+    lies_before _ _ _ _ c.in_ok-last.ensures.fits.relocation
+    (omega (arith, ends_in_front _ _ c.in_ok-place.ensures.begins, c.u32_at.ensures))

@@ -9,7 +9,8 @@ abbrev pub invariant-loop-tag : goal.invariant-loop-tag
 invariant-loop-tag g l = record {
   in_reach : l.at ≤ l.end + 8;
   fits : LieBefore l.end l.last;
-  before : (ts : List Tag) × AreTags (g.V.ByteView.bytes l.view) l.end l.start l.at ts × (l.last ≡ last_tags ts);
+  before : (ts : List Tag) × AreTags (g.V.ByteView.bytes l.view) l.end l.start l.at ts
+      × (l.last ≡ last_tags ts);
 }
 
 abbrev pub decreases-loop-tag : goal.decreases-loop-tag

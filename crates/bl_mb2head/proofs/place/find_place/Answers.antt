@@ -4,14 +4,19 @@ use Rattle.bl_mb2head.proofs.place.find_place.Goals as goal
 
 pub returns-then-is_header_at : goal.returns-then-is_header_at
 returns-then-is_header_at g c =
-    record { holds = c.is_header_at.ensures.0 c.if-is_header_at.true; least = c.loop-at.invariant.none }
+    record {
+      holds = c.is_header_at.ensures.0 c.if-is_header_at.true;
+      least = c.loop-at.invariant.none;
+    }
 
 pub loop-at-preserved : goal.loop-at-preserved
 loop-at-preserved g c =
     let so_far = c.loop-at.invariant in
     record {
       aligned = omega arith;
-      none = none_before_next _ c.loop-at.at so_far.aligned (λ here. let yes = c.is_header_at.ensures.1 here in cc) so_far.none;
+      none =
+          none_before_next _ c.loop-at.at so_far.aligned
+          (λ here. let yes = c.is_header_at.ensures.1 here in cc) so_far.none;
       end_in = so_far.end_in;
       end_all = so_far.end_all;
       end_front = so_far.end_front;
@@ -19,4 +24,5 @@ loop-at-preserved g c =
     }
 
 pub returns : goal.returns
-returns g c = λ h here. omega (arith, c.loop-at.invariant.none h here, c.loop-at.invariant.end_all h here)
+returns g c =
+    λ h here. omega (arith, c.loop-at.invariant.none h here, c.loop-at.invariant.end_all h here)

@@ -2,7 +2,8 @@ use Rattle.std.proofs.Common.{◌+◌, ◌-◌, ◌≡◌, ◌≤◌, ◌%◌, �
 use Rattle.bl_mb2head.specs.Place.{IsHeaderAt}
 use Rattle.bl_mb2head.proofs.place.find_place.Given as goal
 
--- the places are multiples of 8, no header stands before the place, and each that stands ends in time
+-- the places are multiples of 8, no header stands before the place, and each that stands ends in
+-- time
 abbrev pub invariant-loop-at : goal.invariant-loop-at
 invariant-loop-at g l =
     let bytes = g.V.ByteView.bytes l.view in

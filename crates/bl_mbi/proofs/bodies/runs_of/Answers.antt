@@ -8,8 +8,15 @@ use Rattle.bl_mbi.proofs.bodies.runs_of.Goals as goal
 
 pub returns-in_default : goal.returns-in_default
 returns-in_default g c =
-    ap (λ (read : Option (List Region)). or_bad c.args.at read) (stops c.args.bytes.now c.loop-i.runs.items _ _ c.loop-i.i c.loop-i-test.true (c.in_default.ensures ∙ ap run_of (take_rest c.args.bytes.now (24 * c.loop-i.i))) c.loop-i.invariant)
+    ap (λ (read : Option (List Region)). or_bad c.args.at read)
+    (stops c.args.bytes.now c.loop-i.runs.items _ _ c.loop-i.i c.loop-i-test.true
+    (c.in_default.ensures ∙ ap run_of (take_rest c.args.bytes.now (24 * c.loop-i.i)))
+    c.loop-i.invariant)
 
 pub loop-i-preserved : goal.loop-i-preserved
 loop-i-preserved g c =
-    rw c.in_ok-push.ensures.items (reads_on c.args.bytes.now c.loop-i.runs.items _ c.in-Some.run' _ c.loop-i.i c.loop-i-test.true (c.in-Some.ensures ∙ ap run_of (take_rest c.args.bytes.now (24 * c.loop-i.i))) c.loop-i.invariant)
+    rw c.in_ok-push.ensures.items
+    (reads_on c.args.bytes.now c.loop-i.runs.items _ c.in-Some.run' _ c.loop-i.i
+    c.loop-i-test.true
+    (c.in-Some.ensures ∙ ap run_of (take_rest c.args.bytes.now (24 * c.loop-i.i)))
+    c.loop-i.invariant)

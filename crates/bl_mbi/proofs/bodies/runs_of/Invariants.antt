@@ -5,4 +5,6 @@ use Rattle.bl_mbi.proofs.bodies.runs_of.Given as goal
 
 -- the entries so far, and those that are still to be read, are all of them
 abbrev pub invariant-loop-i : goal.invariant-loop-i
-invariant-loop-i g l = behind l.runs.items (runs_of (l.count - l.i) (drop (24 * l.i) l.bytes)) ≡ runs_of l.count l.bytes
+invariant-loop-i g l =
+    behind l.runs.items (runs_of (l.count - l.i) (drop (24 * l.i) l.bytes))
+    ≡ runs_of l.count l.bytes

@@ -6,7 +6,15 @@ use Rattle.bl_mbi.proofs.tags.put_module.Goals as goal
 
 pub returns-clause-items : goal.returns-clause-items
 returns-clause-items g c =
-    let inside : ModuleInfo = record { mod_start = c.loaded.inside.mod_start; mod_end = c.loaded.inside.mod_end; line = c.loaded.inside.line } in
-    appended_7 _ _ _ _ _ _ _ _ _ _ _ _ _ _ _ c.put_u32.ensures.items c.put_u32-2.ensures.items c.put_u32-3.ensures.items c.put_u32-4.ensures.items c.put_bytes.ensures.items c.put_bytes-2.ensures.items c.put_padding.ensures.items
-    ∙ ap (λ (x : List ℕ). c.args.out.now.items ++ x) (module_pieces inside c.as_slice-line.result.now c.as_slice-line.ensures)
+    let inside : ModuleInfo =
+    record {
+      mod_start = c.loaded.inside.mod_start;
+      mod_end = c.loaded.inside.mod_end;
+      line = c.loaded.inside.line;
+    } in
+    appended_7 _ _ _ _ _ _ _ _ _ _ _ _ _ _ _ c.put_u32.ensures.items c.put_u32-2.ensures.items
+    c.put_u32-3.ensures.items c.put_u32-4.ensures.items c.put_bytes.ensures.items
+    c.put_bytes-2.ensures.items c.put_padding.ensures.items
+    ∙ ap (λ (x : List ℕ). c.args.out.now.items ++ x)
+    (module_pieces inside c.as_slice-line.result.now c.as_slice-line.ensures)
     ∙ ap (λ (m : ModuleInfo). c.args.out.now.items ++ module_tag m) c.loaded.view_is

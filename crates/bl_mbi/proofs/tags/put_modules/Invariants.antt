@@ -8,6 +8,8 @@ use Rattle.bl_mbi.proofs.tags.put_modules.Given as goal
 abbrev pub invariant-loop-module : goal.invariant-loop-module
 invariant-loop-module g l = record {
   items : l.out.items ≡ l.fn.out.items ++ flat_map module_tag (take l.module-index l.modules);
-  len : vec_len l.out ≡ vec_len l.fn.out + sum_by (λ m. tag_size (length m.line + 9)) (take l.module-index l.modules);
+  len : vec_len l.out
+      ≡ vec_len l.fn.out
+      + sum_by (λ m. tag_size (length m.line + 9)) (take l.module-index l.modules);
   capacity : vec_capacity l.fn.out ≤ vec_capacity l.out;
 }

@@ -7,14 +7,35 @@ use Rattle.bl_mbi.proofs.write.modules_len.Goals as goal
 pub tag_len-sum-requires : goal.tag_len-sum-requires
 tag_len-sum-requires g c =
     let line = c.len.ensures ∙ ap (λ (m : ModuleInfo). length m.line) c.loaded.view_is in
-    omega (arith, line, next_fits (λ m. tag_size (length m.line + 9)) c.args.modules.now c.loop-loaded.loaded-index _ c.loaded-item.is c.loop-loaded-test.true, c.requires)
+    omega (
+      arith,
+      line,
+      next_fits (λ m. tag_size (length m.line + 9)) c.args.modules.now
+          c.loop-loaded.loaded-index _ c.loaded-item.is c.loop-loaded-test.true,
+      c.requires,
+    )
 
 pub overflow_add-sum : goal.overflow_add-sum
 overflow_add-sum g c =
     let line = c.len.ensures ∙ ap (λ (m : ModuleInfo). length m.line) c.loaded.view_is in
-    omega (arith, line, c.tag_len-sum.ensures, c.loop-loaded.invariant, next_fits (λ m. tag_size (length m.line + 9)) c.args.modules.now c.loop-loaded.loaded-index _ c.loaded-item.is c.loop-loaded-test.true, c.requires)
+    omega (
+      arith,
+      line,
+      c.tag_len-sum.ensures,
+      c.loop-loaded.invariant,
+      next_fits (λ m. tag_size (length m.line + 9)) c.args.modules.now
+          c.loop-loaded.loaded-index _ c.loaded-item.is c.loop-loaded-test.true,
+      c.requires,
+    )
 
 pub loop-loaded-preserved : goal.loop-loaded-preserved
 loop-loaded-preserved g c =
     let line = c.len.ensures ∙ ap (λ (m : ModuleInfo). length m.line) c.loaded.view_is in
-    omega (arith, line, c.tag_len-sum.ensures, c.loop-loaded.invariant, next_sum (λ m. tag_size (length m.line + 9)) c.args.modules.now c.loop-loaded.loaded-index _ c.loaded-item.is c.loop-loaded-test.true)
+    omega (
+      arith,
+      line,
+      c.tag_len-sum.ensures,
+      c.loop-loaded.invariant,
+      next_sum (λ m. tag_size (length m.line + 9)) c.args.modules.now
+          c.loop-loaded.loaded-index _ c.loaded-item.is c.loop-loaded-test.true,
+    )

@@ -4,4 +4,6 @@ use Rattle.bl_mem.proofs.words.u32_at.Goals as goal
 
 pub returns : goal.returns
 returns g c =
-    c.read_u32.ensures ∙ number_at_read 4 c.args.at (g.V.ByteView.bytes c.args.view.now) c.read.new.out c.read.ensures
+    c.read_u32.ensures
+    ∙ number_at_read 4 c.args.at (g.V.ByteView.bytes c.args.view.now) c.read.new.out
+    c.read.ensures

@@ -1,4 +1,5 @@
-use Rattle.bl_params.proofs.FormLemmas.{quiet_1F1, quiet_1FB, quiet_1FF, quiet_203, vid_mode_is, boot_flag_is, jump_is, long_from, magic_is, sound_more}
+use Rattle.bl_params.proofs.FormLemmas.{quiet_1F1, quiet_1FB, quiet_1FF, quiet_203, vid_mode_is}
+use Rattle.bl_params.proofs.FormLemmas.{boot_flag_is, jump_is, long_from, magic_is, sound_more}
 use Rattle.bl_params.proofs.checks.pass_magic.Goals as goal
 
 pub go_on-requires-clause-upto : goal.go_on-requires-clause-upto
@@ -20,7 +21,13 @@ pub go_on-requires-3-clause-here : goal.go_on-requires-3-clause-here
 go_on-requires-3-clause-here c = jump_is _ _ c.end_of_header.ensures.exact
 
 pub go_on-requires-4-clause-here : goal.go_on-requires-4-clause-here
-go_on-requires-4-clause-here c = magic_is _ _ (long_from c.args.bytes.now c.end_of_header.result c.end_of_header.ensures.exact c.in_ok-go_on-3.ensures.1) c.u32_in.ensures
+go_on-requires-4-clause-here c =
+    magic_is
+    _ _ (long_from c.args.bytes.now c.end_of_header.result c.end_of_header.ensures.exact
+    c.in_ok-go_on-3.ensures.1) c.u32_in.ensures
 
 pub go_on-requires-4-clause-quiet : goal.go_on-requires-4-clause-quiet
-go_on-requires-4-clause-quiet c = quiet_203 _ (long_from c.args.bytes.now c.end_of_header.result c.end_of_header.ensures.exact c.in_ok-go_on-3.ensures.1)
+go_on-requires-4-clause-quiet c =
+    quiet_203
+    _ (long_from c.args.bytes.now c.end_of_header.result c.end_of_header.ensures.exact
+    c.in_ok-go_on-3.ensures.1)

@@ -9,5 +9,7 @@ loop-i-preserved g c =
     record {
       sound = c.in_ok-run.ensures.1;
       count = rw c.in_ok-push.ensures.items (grind (arith, common_steps));
-      are = rw c.in_ok-push.ensures.items (entries_push _ _ _ _ c.loop-i.invariant.are (rw count c.in_ok-run.ensures.0));
+      are =
+          rw c.in_ok-push.ensures.items
+          (entries_push _ _ _ _ c.loop-i.invariant.are (rw count c.in_ok-run.ensures.0));
     }

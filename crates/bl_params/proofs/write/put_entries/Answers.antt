@@ -15,5 +15,6 @@ loop-run-preserved c =
       told = λ k.
           c.put_entry.ensures k ∙ over_same _ _ _ _ c.loop-run.invariant.told k
           ∙ over_more _ _ _ _ _ k (omega arith)
-          ∙ ap (λ (x : List ℕ). over 0x2D0 x (λ j. slice_index c.args.out.now j) k) (sym (entries_more c.args.runs.now c.loop-run.run-index _ c.loop-run-test.true));
+          ∙ ap (λ (x : List ℕ). over 0x2D0 x (λ j. slice_index c.args.out.now j) k)
+          (sym (entries_more c.args.runs.now c.loop-run.run-index _ c.loop-run-test.true));
     }

@@ -8,5 +8,8 @@ use Rattle.bl_params.proofs.write.put_entries.Given as goal
 abbrev pub invariant-loop-run : goal.invariant-loop-run
 invariant-loop-run l = record {
   at : l.at ≡ 0x2D0 + 20 * l.run-index;
-  told : (k : ℕ) → slice_index l.out k ≡ over 0x2D0 (flat_map entry_bytes (take l.run-index l.runs)) (λ j. slice_index l.fn.out j) k;
+  told : (k : ℕ)
+      → slice_index l.out k
+      ≡ over 0x2D0 (flat_map entry_bytes (take l.run-index l.runs))
+      (λ j. slice_index l.fn.out j) k;
 }

@@ -5,5 +5,10 @@ use Rattle.bl_plan.proofs.ApartLemmas.{open_where}
 use Rattle.bl_plan.proofs.blocked.taken_stretch.Goals as goal
 
 pub returns-else-range-end : goal.returns-else-range-end
-returns-else-range-end c = open_where _ c.ended_by-next.result _ _ c.requires.apart c.ended_by-next.ensures.before
-    (λ d within. let f = ap (λ (r : Range ℕ). r.start) (get_or_default c.args.taken.now c.ended_by-next.result d record { start = 0; end = 0 } within) in omega (arith, c.if-range-end.false))
+returns-else-range-end c =
+    open_where _ c.ended_by-next.result _ _ c.requires.apart c.ended_by-next.ensures.before
+    (λ d within.
+    let f =
+    ap (λ (r : Range ℕ). r.start)
+    (get_or_default c.args.taken.now c.ended_by-next.result d
+    record { start = 0; end = 0 } within) in omega (arith, c.if-range-end.false))

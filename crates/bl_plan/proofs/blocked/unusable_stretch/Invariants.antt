@@ -7,6 +7,7 @@ use Rattle.bl_plan.proofs.blocked.unusable_stretch.Given as goal
 -- the usable runs so far end at `from` or below, and hold each of the bytes that lies below it
 abbrev pub invariant-loop-run : goal.invariant-loop-run
 invariant-loop-run l = record {
-  before : (j : ℕ) (d : Region) → j < l.run-index → (slice_index_or l.runs j d).kind ≡ Usable → end_of (slice_index_or l.runs j d) ≤ l.from;
+  before : (j : ℕ) (d : Region) → j < l.run-index → (slice_index_or l.runs j d).kind ≡ Usable
+      → end_of (slice_index_or l.runs j d) ≤ l.from;
   usable : (a : ℕ) → l.start ≤ a → a < l.end → a < l.from → kind_at l.runs a ≡ 1;
 }

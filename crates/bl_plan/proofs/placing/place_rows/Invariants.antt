@@ -8,7 +8,11 @@ use Rattle.bl_plan.proofs.placing.place_rows.Given as goal
 abbrev pub invariant-loop-row : goal.invariant-loop-row
 invariant-loop-row g l = record {
   machine : l.planner.facts ≡ l.machine;
-  rest : (places : List Place) → ArePlaced l.machine l.planner.taken (drop l.row-index l.rows) places → ArePlaced l.machine [] l.rows (l.places.items ++ places);
-  refused : (fault : PlanFault) → IsFirstFault l.machine l.planner.taken (drop l.row-index l.rows) fault → IsFirstFault l.machine [] l.rows fault;
+  rest : (places : List Place)
+      → ArePlaced l.machine l.planner.taken (drop l.row-index l.rows) places
+      → ArePlaced l.machine [] l.rows (l.places.items ++ places);
+  refused : (fault : PlanFault)
+      → IsFirstFault l.machine l.planner.taken (drop l.row-index l.rows) fault
+      → IsFirstFault l.machine [] l.rows fault;
   below : All (λ place. place.address + place.length ≤ 0xFFFFF000) l.places.items;
 }

@@ -6,7 +6,9 @@ use Rattle.bl_plan.proofs.search.greatest_place.Goals as goal
 
 pub returns-then-end-length : goal.returns-then-end-length
 returns-then-end-length g c = λ a p.
-    let e = ends_in_room _ _ _ _ _ _ a _ c.requires.filled c.end_of_room-end.ensures.greatest p in omega (arith, c.if-end-length.true)
+    let e =
+    ends_in_room _ _ _ _ _ _ a _ c.requires.filled c.end_of_room-end.ensures.greatest p in
+    omega (arith, c.if-end-length.true)
 
 pub loop-at-init : goal.loop-at-init
 loop-at-init g c =
@@ -15,13 +17,15 @@ loop-at-init g c =
       multiple = r.aligned;
       in_end = omega (arith, r.below, c.if-end-length.false);
       none = λ a p.
-          let e = ends_in_room _ _ _ _ _ _ a _ c.requires.filled c.end_of_room-end.ensures.greatest p in
+          let e =
+          ends_in_room _ _ _ _ _ _ a _ c.requires.filled c.end_of_room-end.ensures.greatest p in
           r.greatest a p.aligned (omega arith);
     }
 
 pub returns-then-stretch-length : goal.returns-then-stretch-length
 returns-then-stretch-length g c = λ a p.
-    none_down_to_start _ _ _ _ _ _ _ a _ c.requires.filled c.in-Some.ensures (c.loop-at.invariant.none a p) (omega (arith, c.if-stretch-length.true)) p
+    none_down_to_start _ _ _ _ _ _ _ a _ c.requires.filled c.in-Some.ensures
+    (c.loop-at.invariant.none a p) (omega (arith, c.if-stretch-length.true)) p
 
 pub loop-at-preserved : goal.loop-at-preserved
 loop-at-preserved g c =
@@ -32,7 +36,10 @@ loop-at-preserved g c =
       multiple = r.aligned;
       in_end = omega (arith, r.below, h.meets_end, i.in_end, c.if-stretch-length.false);
       none = λ a p. elim (cases_lt c.in-Some.stretch.start (a + c.args.length)) [
-        | inl reaches ↦ absurd (none_down_to_start _ _ _ _ _ _ _ a _ c.requires.filled c.in-Some.ensures (i.none a p) reaches p)
+        | inl reaches ↦
+            absurd
+            (none_down_to_start _ _ _ _ _ _ _ a _ c.requires.filled c.in-Some.ensures
+            (i.none a p) reaches p)
         | inr before ↦ r.greatest a p.aligned (omega arith)
       ];
     }

@@ -6,7 +6,9 @@ use Rattle.bl_plan.proofs.search.least_place.Goals as goal
 
 pub returns-then-end-length : goal.returns-then-end-length
 returns-then-end-length g c = λ a p.
-    let e = ends_in_room _ _ _ _ _ _ a _ c.requires.filled c.end_of_room-end.ensures.greatest p in omega (arith, c.if-end-length.true)
+    let e =
+    ends_in_room _ _ _ _ _ _ a _ c.requires.filled c.end_of_room-end.ensures.greatest p in
+    omega (arith, c.if-end-length.true)
 
 pub returns : goal.returns
 returns g c = λ a p.
@@ -14,10 +16,18 @@ returns g c = λ a p.
     omega (arith, c.loop-at.invariant.none a p, c.loop-at-test.false, c.if-end-length.false)
 
 pub returns-in_err-at-2 : goal.returns-in_err-at-2
-returns-in_err-at-2 g c = rw c.from_residual-in_err-at-2.ensures λ a p. elim (cases_lt a c.in-Some.stretch.end) [
-  | inl less ↦ none_up_to_end _ _ _ _ _ _ _ a _ c.requires.filled c.in-Some.ensures (c.loop-at.invariant.none a p) less p
-  | inr past ↦ omega (arith, c.in_err-at-2.ensures.least a p.aligned past, ends_below _ _ _ _ _ _ a c.requires.filled p)
-]
+returns-in_err-at-2 g c =
+    rw c.from_residual-in_err-at-2.ensures λ a p. elim (cases_lt a c.in-Some.stretch.end) [
+      | inl less ↦
+          none_up_to_end _ _ _ _ _ _ _ a _ c.requires.filled c.in-Some.ensures
+          (c.loop-at.invariant.none a p) less p
+      | inr past ↦
+          omega (
+            arith,
+            c.in_err-at-2.ensures.least a p.aligned past,
+            ends_below _ _ _ _ _ _ a c.requires.filled p,
+          )
+    ]
 
 pub loop-at-preserved : goal.loop-at-preserved
 loop-at-preserved g c =
@@ -29,7 +39,10 @@ loop-at-preserved g c =
       above = omega (arith, r.above, h.meets_start, i.above);
       from_low = omega (arith, r.above, h.meets_start, i.from_low);
       none = λ a p. elim (cases_lt a c.in-Some.stretch.end) [
-        | inl less ↦ absurd (none_up_to_end _ _ _ _ _ _ _ a _ c.requires.filled c.in-Some.ensures (i.none a p) less p)
+        | inl less ↦
+            absurd
+            (none_up_to_end _ _ _ _ _ _ _ a _ c.requires.filled c.in-Some.ensures (i.none a p)
+            less p)
         | inr past ↦ r.least a p.aligned past
       ];
     }

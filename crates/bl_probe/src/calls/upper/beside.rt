@@ -1,7 +1,8 @@
 //! What a boot has beside its description: fields of a row.
 //!
-//! `file=NAME:BYTES` is a file that can be fetched, `long` makes each fetched file too long, `said=BYTES` was said
-//! before, `limit=N` and `step=N` are those of the sink, and with `reverse` the last piece of a file comes first.
+//! `file=NAME:BYTES` is a file that can be fetched, `long` makes each fetched file too long,
+//! `said=BYTES` was said before, `limit=N` and `step=N` are those of the sink, and with `reverse`
+//! the last piece of a file comes first.
 ghost use Rattle.std.specs.Prelude.{◌≡◌, IfOk};
 
 use crate::bytes::{Names, bytes_of};

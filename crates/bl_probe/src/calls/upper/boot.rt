@@ -1,5 +1,5 @@
-//! `boot FIELD .. of DESCRIPTION`, `boots limits=A..B FIELD .. of DESCRIPTION` (into a sink of each limit),
-//! `map FIELD .. of DESCRIPTION`, `fetch NAME FIELD ..`.
+//! `boot FIELD .. of DESCRIPTION`, `boots limits=A..B FIELD .. of DESCRIPTION` (into a sink of each
+//! limit), `map FIELD .. of DESCRIPTION`, `fetch NAME FIELD ..`.
 ghost use Rattle.std.specs.Prelude.{◌≡◌};
 
 use crate::calls::upper::beside::{Beside, read_beside};
@@ -87,7 +87,8 @@ fn boot_beside(
     boot_into(alloc, heap, beside, &mut files, limit, description)
 }
 
-/// The answers for sinks of each limit, and whether each took the image's first bytes, as many as it has room for.
+/// The answers for sinks of each limit, and whether each took the image's first bytes, as many as
+/// it has room for.
 fn boots_text(
     alloc: Global,
     heap: &Refusing,

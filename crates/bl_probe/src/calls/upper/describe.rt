@@ -1,4 +1,5 @@
-//! `describe BYTES`: what a description says; `named NAME of BYTES`: the bytes that its file of this name has.
+//! `describe BYTES`: what a description says; `named NAME of BYTES`: the bytes that its file of
+//! this name has.
 
 use crate::calls::machine::kind_name;
 use crate::fault::RowFault;

@@ -1,4 +1,5 @@
-//! An entry as a row has it: `multiboot2 line=BYTES module=BYTES:BYTES ..` or `linux line=BYTES initrd=BYTES`.
+//! An entry as a row has it: `multiboot2 line=BYTES module=BYTES:BYTES ..` or `linux line=BYTES
+//! initrd=BYTES`.
 
 use crate::bytes::{Names, bytes_of};
 use crate::fault::RowFault;

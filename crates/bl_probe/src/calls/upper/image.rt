@@ -1,5 +1,6 @@
-//! `image limit=N step=N fill=VV ENTRY of KERNEL` and `images limits=A..B step=N fill=VV ENTRY of KERNEL`, on the last
-//! machine: into a sink in memory, or into one of each limit. `image_of fill=VV ENTRY of KERNEL`: what memory holds.
+//! `image limit=N step=N fill=VV ENTRY of KERNEL` and `images limits=A..B step=N fill=VV ENTRY of
+//! KERNEL`, on the last machine: into a sink in memory, or into one of each limit. `image_of
+//! fill=VV ENTRY of KERNEL`: what memory holds.
 ghost use Rattle.std.specs.Prelude.{◌≡◌, ◌+◌, ◌≤◌, length, All, IfOk};
 
 use crate::calls::upper::entry::read_entry;
@@ -17,7 +18,8 @@ use bl_refusing::Refusing;
 use std::alloc::{AllocError, Global};
 use std::ops::Range;
 
-/// How the writing of an image ended: its answer, the faults of the sink and how often it asked for memory.
+/// How the writing of an image ended: its answer, the faults of the sink and how often it asked for
+/// memory.
 fn ended_text(
     alloc: Global,
     written: Result<(), ImageFault>,
@@ -74,8 +76,8 @@ fn sink_text(
 /// A limit above the length of each image of a row.
 const AMPLE: u64 = 0x10_0000;
 
-/// The answers for sinks of each limit: how it ended, and whether the sink took the image's first bytes, as many as it
-/// has room for.
+/// The answers for sinks of each limit: how it ended, and whether the sink took the image's first
+/// bytes, as many as it has room for.
 fn images_text(
     alloc: Global,
     heap: &Refusing,

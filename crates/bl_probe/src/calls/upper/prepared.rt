@@ -97,7 +97,8 @@ pub fn prepare_entry<'h>(
     }
 }
 
-/// Memory that holds an entry's parts, what the kernel is handed, and how many requests for memory loading made.
+/// Memory that holds an entry's parts, what the kernel is handed, and how many requests for memory
+/// loading made.
 #[derive(Drop)]
 pub struct LoadedEntry<'h> {
     pub memory: Flat<&'h Refusing>,

@@ -1,8 +1,8 @@
-//! `sink memory limit=N step=N PART ..`, `sink vector BYTES PART ..` and `sink pairs N END PART ..`: parts, one after the
-//! other, to one sink.
+//! `sink memory limit=N step=N PART ..`, `sink vector BYTES PART ..` and `sink pairs N END PART
+//! ..`: parts, one after the other, to one sink.
 //!
-//! A PART is `write=BYTES` (one write) or `all=BYTES`. The pairs' writer takes two bytes at each of N writes; at the next
-//! one it takes nothing (END is `nothing`) or has an error.
+//! A PART is `write=BYTES` (one write) or `all=BYTES`. The pairs' writer takes two bytes at each of
+//! N writes; at the next one it takes nothing (END is `nothing`) or has an error.
 ghost use Rattle.std.specs.Prelude.{◌≡◌, ◌+◌, ◌<◌, ◌≤◌, ◌^◌, IfOk};
 
 use crate::bytes::{Names, bytes_of};

@@ -1,4 +1,5 @@
-//! Sources of rows: `step=N` is how many bytes a read gives at most, `fail=N` which read is a fault.
+//! Sources of rows: `step=N` is how many bytes a read gives at most, `fail=N` which read is a
+//! fault.
 ghost use Rattle.std.specs.Prelude.{◌≡◌, IfOk};
 
 use crate::fault::RowFault;
@@ -34,7 +35,8 @@ impl SourceFields {
     }
 }
 
-/// What these words make a source with. Where they say nothing, all comes at once and no read is a fault.
+/// What these words make a source with. Where they say nothing, all comes at once and no read is a
+/// fault.
 pub fn read_source(words: &str) -> Result<SourceFields, RowFault> {
     let mut fields = SourceFields {
         step: AMPLE,

@@ -3,7 +3,8 @@
 use bl_load::PrepFault;
 use std::alloc::{AllocError, AllocFailed};
 
-/// Why an entry of a row is not prepared: the row breaks a condition of the call, or the call's own fault.
+/// Why an entry of a row is not prepared: the row breaks a condition of the call, or the call's own
+/// fault.
 #[derive(Clone, Copy, Debug)]
 pub enum Unprepared {
     BadRow,

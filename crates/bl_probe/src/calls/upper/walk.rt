@@ -30,7 +30,8 @@ fn push_module(
     write!(text, " module={address:x}:{bytes}:{line}")
 }
 
-/// Appends the kernel's parts, as ` kernel=ADDRESS+LENGTH`, the modules and the initial ramdisk, as ` initrd=ADDRESS:BYTES`.
+/// Appends the kernel's parts, as ` kernel=ADDRESS+LENGTH`, the modules and the initial ramdisk, as
+/// ` initrd=ADDRESS:BYTES`.
 fn push_parts(alloc: Global, text: &mut String, seen: &Seen<&Refusing>) -> Result<(), AllocError> {
     for part in &seen.kernel {
         let address = part.address;

@@ -1,5 +1,5 @@
-//! `walk_to said=B blamed=B FIELD .. of BYTES` and `walks_to fails=A..B FIELD .. of BYTES` (where each read from A to B - 1
-//! is a fault): what is said of an image.
+//! `walk_to said=B blamed=B FIELD .. of BYTES` and `walks_to fails=A..B FIELD .. of BYTES` (where
+//! each read from A to B - 1 is a fault): what is said of an image.
 ghost use Rattle.std.specs.Prelude.{◌≡◌};
 
 use crate::bytes::bytes_of;

@@ -1,9 +1,10 @@
-//! `write_info line=BYTES FIELD .. of BYTES`: boot information behind bytes that stand there already, on a machine of 636
-//! and 3072 KiB with three runs.
+//! `write_info line=BYTES FIELD .. of BYTES`: boot information behind bytes that stand there
+//! already, on a machine of 636 and 3072 KiB with three runs.
 //!
-//! A FIELD is `module=START..END:BYTES` (at most two), `old=BYTES`, `new=BYTES` or `base=ADDRESS`. Texts and copies have
-//! at most 512 bytes.
-ghost use Rattle.std.specs.Prelude.{◌≡◌, ◌≢◌, ◌≤◌, ◌<◌, ◌^◌, ◌+◌, length, sum_by, map, option_map, All, IfOk, IfSome, IsTrue};
+//! A FIELD is `module=START..END:BYTES` (at most two), `old=BYTES`, `new=BYTES` or `base=ADDRESS`.
+//! Texts and copies have at most 512 bytes.
+ghost use Rattle.std.specs.Prelude.{◌≡◌, ◌≢◌, ◌≤◌, ◌<◌, ◌^◌, ◌+◌, length, sum_by, map, option_map};
+ghost use Rattle.std.specs.Prelude.{All, IfOk, IfSome, IsTrue};
 ghost use Rattle.bl_mbi.specs.InformationFacts.{IsText, IsModule, AreBytes};
 ghost use Rattle.bl_mbi.specs.Size.{tag_size, copy_size};
 

@@ -7,5 +7,7 @@ pub returns-in-Ok-clause-begun : goal.returns-in-Ok-clause-begun
 returns-in-Ok-clause-begun g c =
     let old = g.M.PhysMem.bytes c.args.memory.now in
     let new = g.M.PhysMem.bytes c.go_on.new.memory in
-    let sizes = map (λ file. slice_index_or c.args.sizes.now file None) (files_of c.args.entry.now) in
-    begun_staged c.args.machine.now (facts_of c.args.entry.now) sizes old new c.in-Ok.stage c.go_on.result c.in-Ok.ensures.fits c.in-Ok.ensures.fresh c.go_on.ensures.attempt
+    let sizes =
+    map (λ file. slice_index_or c.args.sizes.now file None) (files_of c.args.entry.now) in
+    begun_staged c.args.machine.now (facts_of c.args.entry.now) sizes old new c.in-Ok.stage
+    c.go_on.result c.in-Ok.ensures.fits c.in-Ok.ensures.fresh c.go_on.ensures.attempt

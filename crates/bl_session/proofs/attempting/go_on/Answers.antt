@@ -13,8 +13,11 @@ use Rattle.bl_session.proofs.attempting.go_on.Goals as goal
 
 pub returns-then-not-complete-clause-attempt : goal.returns-then-not-complete-clause-attempt
 returns-then-not-complete-clause-attempt g c =
-    let bytes = g.M.PhysMem.bytes c.args.memory.now in
-    (not_whole bytes c.args.stage c.complete.result c.complete.ensures.staged c.complete.ensures.exact c.if-not-complete.true, refl)
+    let bytes = g.M.PhysMem.bytes c.args.memory.now in (
+      not_whole bytes c.args.stage c.complete.result c.complete.ensures.staged
+          c.complete.ensures.exact c.if-not-complete.true,
+      refl,
+    )
 
 pub returns-in-Ok-clause-attempt : goal.returns-in-Ok-clause-attempt
 returns-in-Ok-clause-attempt g c =
@@ -25,8 +28,15 @@ returns-in-Ok-clause-attempt g c =
     let came = c.if-not-complete.ensures.exact.0 refl in
     let kept = c.complete.ensures.staged in
     let told = c.in-Ok.ensures.ok in
-    let ends = subst (λ (h : Handover). EndsIn facts (value_of (texts_of bytes stage) c.args.entry.now) (handed h)) (sym told.held) told.ends in
-    (came_whole bytes stage kept came, ends_by_spots facts c.args.entry.now bytes stage (handed (handover_held new c.in-Ok.handoff)) kept came ends)
+    let ends =
+    subst
+    (λ (h : Handover).
+    EndsIn facts (value_of (texts_of bytes stage) c.args.entry.now) (handed h))
+    (sym told.held) told.ends in (
+      came_whole bytes stage kept came,
+      ends_by_spots facts c.args.entry.now bytes stage
+          (handed (handover_held new c.in-Ok.handoff)) kept came ends,
+    )
 
 pub returns-in-Err-Refused-clause-attempt : goal.returns-in-Err-Refused-clause-attempt
 returns-in-Err-Refused-clause-attempt g c =
@@ -37,9 +47,15 @@ returns-in-Err-Refused-clause-attempt g c =
     let new = g.M.PhysMem.bytes c.finish.new.memory in
     let value = value_of (texts_of bytes stage) c.args.entry.now in
     let same : c.in-Err-Refused.field-0 ≡ Refused c.in-Err-Refused.refusal = cc in
-    let told = subst (λ (fault : PrepFault). IsNotHandedOver c.args.machine.now value fault bytes new) same c.in-Err-Refused.ensures.err in
-    (came_whole bytes stage kept came, ends_by_spots c.args.machine.now c.args.entry.now bytes stage (refused c.in-Err-Refused.refusal) kept came told.0)
+    let told =
+    subst (λ (fault : PrepFault). IsNotHandedOver c.args.machine.now value fault bytes new) same
+    c.in-Err-Refused.ensures.err in (
+      came_whole bytes stage kept came,
+      ends_by_spots c.args.machine.now c.args.entry.now bytes stage
+          (refused c.in-Err-Refused.refusal) kept came told.0,
+    )
 
 pub returns-clause-whole : goal.returns-clause-whole
 returns-clause-whole g c =
-    came_whole (g.M.PhysMem.bytes c.args.memory.now) c.args.stage c.complete.ensures.staged (c.if-not-complete.ensures.exact.0 refl)
+    came_whole (g.M.PhysMem.bytes c.args.memory.now) c.args.stage c.complete.ensures.staged
+    (c.if-not-complete.ensures.exact.0 refl)

@@ -7,4 +7,5 @@ pub returns-in-Ok-clause-small : goal.returns-in-Ok-clause-small
 returns-in-Ok-clause-small g c =
     let known = map (λ file. slice_index_or c.args.sizes.now file None) c.deref.result.now in
     let told = c.in_ok-lengths.ensures.ok in
-    stage_small known c.in-Ok.stage told.0 (ap (λ (s : Staging). s.sizes) c.in-Ok.ensures.ok.1 ∙ c.deref-2.ensures.value ∙ told.1)
+    stage_small known c.in-Ok.stage told.0
+    (ap (λ (s : Staging). s.sizes) c.in-Ok.ensures.ok.1 ∙ c.deref-2.ensures.value ∙ told.1)

@@ -3,4 +3,5 @@ use Rattle.bl_session.proofs.beginning.push_modules.Given as goal
 
 -- so far
 abbrev pub invariant-loop-module : goal.invariant-loop-module
-invariant-loop-module g l = l.files.items ≡ l.initial.files.items ++ map (λ m. m.file) (take l.module-index l.modules)
+invariant-loop-module g l =
+    l.files.items ≡ l.initial.files.items ++ map (λ m. m.file) (take l.module-index l.modules)

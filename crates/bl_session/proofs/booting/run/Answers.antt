@@ -14,8 +14,11 @@ returns-in-Ok-clause-outcome g c = λ faults genuine ended.
     let old = g.S.Store.given c.args.store.now in
     let new = g.S.Store.given c.boot.new.store in
     let facts = boot_facts c.args.machine.now c.args.menu.now (map size_of files) in
-    let run = subst (λ (p : PhaseFacts). IsRun facts files old new (state_at bytes p)) (sym c.into_outcome.ensures.end) c.in-Ok.ensures.run in
-    run_ended facts files faults refl old new (state_at bytes (end_of c.into_outcome.result)) run genuine ended
+    let run =
+    subst (λ (p : PhaseFacts). IsRun facts files old new (state_at bytes p))
+    (sym c.into_outcome.ensures.end) c.in-Ok.ensures.run in
+    run_ended facts files faults refl old new (state_at bytes (end_of c.into_outcome.result)) run
+    genuine ended
 
 pub returns-in-Ok-clause-faithful : goal.returns-in-Ok-clause-faithful
 returns-in-Ok-clause-faithful g c = λ none faithful ended.
@@ -25,9 +28,13 @@ returns-in-Ok-clause-faithful g c = λ none faithful ended.
     let new = g.S.Store.given c.boot.new.store in
     let facts = boot_facts c.args.machine.now c.args.menu.now (map size_of files) in
     let end = end_of c.into_outcome.result in
-    let run = subst (λ (p : PhaseFacts). IsRun facts files old new (state_at bytes p)) (sym c.into_outcome.ensures.end) c.in-Ok.ensures.run in
-    let from_none = subst (λ (first : List Item). IsRun facts files first new (state_at bytes end)) none run in
-    run_ended facts files (λ attempt. None) refl [] new (state_at bytes end) from_none (faithful_is_genuine facts files refl new faithful) ended
+    let run =
+    subst (λ (p : PhaseFacts). IsRun facts files old new (state_at bytes p))
+    (sym c.into_outcome.ensures.end) c.in-Ok.ensures.run in
+    let from_none =
+    subst (λ (first : List Item). IsRun facts files first new (state_at bytes end)) none run in
+    run_ended facts files (λ attempt. None) refl [] new (state_at bytes end) from_none
+    (faithful_is_genuine facts files refl new faithful) ended
 
 pub returns-in-Err-clause-outcome : goal.returns-in-Err-clause-outcome
 returns-in-Err-clause-outcome g c = λ faults genuine ended. absurd ended

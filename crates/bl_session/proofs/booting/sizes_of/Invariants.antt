@@ -6,4 +6,6 @@ use Rattle.bl_session.proofs.booting.sizes_of.Given as goal
 -- the sizes of the files so far
 abbrev pub invariant-loop-file : goal.invariant-loop-file
 invariant-loop-file g l =
-    l.sizes.items ≡ map (λ file. size_of (slice_index_or (g.S.Store.files l.store) file missing)) (range_with_len 0 l.file)
+    l.sizes.items
+    ≡ map (λ file. size_of (slice_index_or (g.S.Store.files l.store) file missing))
+    (range_with_len 0 l.file)

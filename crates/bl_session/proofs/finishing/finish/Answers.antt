@@ -16,7 +16,9 @@ returns-in_err-plan-clause-err g c =
     let old = g.M.PhysMem.bytes c.args.memory.now in
     let value = value_of (texts_of old c.args.stage.now) c.args.entry.now in
     let p = err_from_is_err_and c.from_residual.result c.from_residual.ensures.1 in
-    rw (p.1, p.2) (unprepared c.args.machine.now value c.in_err-plan.field-0.0 old c.in_err-plan.ensures.fault)
+    rw (p.1, p.2)
+    (unprepared c.args.machine.now value c.in_err-plan.field-0.0 old
+    c.in_err-plan.ensures.fault)
 
 pub make_way-requires-clause-inside : goal.make_way-requires-clause-inside
 make_way-requires-clause-inside g c = rw c.requires.pool (λ some.
@@ -26,20 +28,28 @@ make_way-requires-clause-inside g c = rw c.requires.pool (λ some.
 pub returns-in_err-make_way-clause-err : goal.returns-in_err-make_way-clause-err
 returns-in_err-make_way-clause-err g c =
     let texts = texts_of (g.M.PhysMem.bytes c.args.memory.now) c.args.stage.now in
-    let p = err_from_is_err_and c.from_residual-in_err-make_way.result c.from_residual-in_err-make_way.ensures.1 in
+    let p =
+    err_from_is_err_and c.from_residual-in_err-make_way.result
+    c.from_residual-in_err-make_way.ensures.1 in
     let refused = c.in_err-make_way.ensures.refused in
     let full = rw (c.requires.pool, c.ranges-2.ensures) at refused.1 in
-    rw (p.1, p.2, refused.0)
-    (lacks_room c.args.machine.now texts c.args.entry.now c.in_ok-plan.plan c.in_ok-plan.ensures.handover c.in_ok-plan.ensures.loadable.backed full, c.in_err-make_way.ensures.unchanged.1)
+    rw (p.1, p.2, refused.0) (
+      lacks_room c.args.machine.now texts c.args.entry.now c.in_ok-plan.plan
+          c.in_ok-plan.ensures.handover c.in_ok-plan.ensures.loadable.backed full,
+      c.in_err-make_way.ensures.unchanged.1,
+    )
 
 pub reserve-requires-clause-forward : goal.reserve-requires-clause-forward
 reserve-requires-clause-forward g c = rw c.ranges-3.ensures
-    (All-map (λ (r : Range ℕ). r.start ≤ r.end) range_of (places_of c.in_ok-plan.plan) (λ k d h. omega arith))
+    (All-map (λ (r : Range ℕ). r.start ≤ r.end) range_of (places_of c.in_ok-plan.plan)
+    (λ k d h. omega arith))
 
 pub reserve-requires-clause-inside : goal.reserve-requires-clause-inside
 reserve-requires-clause-inside g c = rw c.ranges-3.ensures
-    (All-map (λ (r : Range ℕ). r.end ≤ length (g.M.PhysMem.bytes c.make_way.new.memory)) range_of (places_of c.in_ok-plan.plan)
-    (λ k d h. let i = c.in_ok-plan.ensures.loadable.inside k d h in omega (arith, i, c.requires.size, c.make_way.ensures.size)))
+    (All-map (λ (r : Range ℕ). r.end ≤ length (g.M.PhysMem.bytes c.make_way.new.memory)) range_of
+    (places_of c.in_ok-plan.plan)
+    (λ k d h. let i = c.in_ok-plan.ensures.loadable.inside k d h in
+    omega (arith, i, c.requires.size, c.make_way.ensures.size)))
 
 pub hand_over-requires-clause-held : goal.hand_over-requires-clause-held
 hand_over-requires-clause-held g c = rw c.reserve.ensures.same c.in_ok-make_way.ensures.held
@@ -65,14 +75,31 @@ returns-clause-ok g c =
     let handover = handover_by texts plan in
     let beside = rw (c.requires.pool, c.ranges-2.ensures) at c.in_ok-make_way.ensures.room in
     let read : texts_of (g.M.PhysMem.bytes c.reserve.new.self) c.make_way.new.stage ≡ texts =
-    ap (λ m. texts_of m c.make_way.new.stage) c.reserve.ensures.same ∙ c.in_ok-make_way.ensures.texts in
+    ap (λ m. texts_of m c.make_way.new.stage) c.reserve.ensures.same
+    ∙ c.in_ok-make_way.ensures.texts in
     let outside = rw (c.requires.pool, ← c.reserve.ensures.same) at c.make_way.ensures.outside in
     let after = rw read at c.hand_over.ensures.after in
     let size = ap (λ (m : List ℕ). length m) c.reserve.ensures.same in
     record {
       handover = handover;
-      ends = (c.in_ok-plan.ensures.handover, has_room facts texts c.args.entry.now plan c.in_ok-plan.ensures.handover c.in_ok-plan.ensures.loadable.backed beside);
+      ends = (
+        c.in_ok-plan.ensures.handover,
+        has_room facts texts c.args.entry.now plan
+            c.in_ok-plan.ensures.handover c.in_ok-plan.ensures.loadable.backed beside,
+      );
       held = rw read at c.hand_over.ensures.held;
-      inside = rw c.hand_over.ensures.places (λ k d h. let i = c.in_ok-plan.ensures.loadable.inside k d h in omega (arith, i, size, c.requires.size, c.make_way.ensures.size, c.hand_over.ensures.size));
-      after = after_before facts.pool handover.parts old (g.M.PhysMem.bytes c.reserve.new.self) (g.M.PhysMem.bytes c.hand_over.new.memory) outside after;
+      inside =
+          rw c.hand_over.ensures.places
+          (λ k d h. let i = c.in_ok-plan.ensures.loadable.inside k d h in
+          omega (
+            arith,
+            i,
+            size,
+            c.requires.size,
+            c.make_way.ensures.size,
+            c.hand_over.ensures.size,
+          ));
+      after =
+          after_before facts.pool handover.parts old (g.M.PhysMem.bytes c.reserve.new.self)
+          (g.M.PhysMem.bytes c.hand_over.new.memory) outside after;
     }

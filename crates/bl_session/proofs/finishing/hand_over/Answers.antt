@@ -14,9 +14,13 @@ returns-clause-held g c =
     let handoff = c.load-handoff.result in
     let cleared = rw (c.ranges-2.ensures) at c.scrub.ensures.after in
     let inside = c.requires.loadable.inside in
-    let same = held_on c.args.machine.now.pool handoff.places loaded new c.scrub.ensures.size cleared
+    let same =
+    held_on c.args.machine.now.pool handoff.places loaded new c.scrub.ensures.size cleared
     (rw (c.load-handoff.ensures.places, c.load-handoff.ensures.size) inside) in
-    ap (λ (ps : List Part). let h : Handover = record { protocol = handoff.protocol; registers = handoff.registers; parts = ps } in h) same
+    ap (λ (ps : List Part).
+    let h : Handover =
+    record { protocol = handoff.protocol; registers = handoff.registers; parts = ps } in h)
+    same
     ∙ c.load-handoff.ensures.handed
 
 pub returns-clause-after : goal.returns-clause-after
@@ -29,9 +33,13 @@ returns-clause-after g c =
     let ranges = ranges_are texts plan.parts.items loadable.backed in
     let kept = c.ranges-2.ensures ∙ ap (map _) c.load-handoff.ensures.places ∙ sym ranges in
     let cleared = rw kept at c.scrub.ensures.after in
-    after_scrub c.args.machine.now.pool parts old (g.M.PhysMem.bytes c.load-handoff.new.memory) (g.M.PhysMem.bytes c.scrub.new.memory)
+    after_scrub c.args.machine.now.pool parts old (g.M.PhysMem.bytes c.load-handoff.new.memory)
+    (g.M.PhysMem.bytes c.scrub.new.memory)
     c.load-handoff.ensures.in_parts
-    (λ a out. ap (λ m. slice_index m a) c.load-handoff.ensures.after ∙ written_elsewhere (length old) parts old a refl (all_end_within texts (length old) plan loadable) out)
+    (λ a out.
+    ap (λ m. slice_index m a) c.load-handoff.ensures.after
+    ∙ written_elsewhere (length old) parts old a refl
+    (all_end_within texts (length old) plan loadable) out)
     cleared
 
 pub returns-clause-kept : goal.returns-clause-kept

@@ -16,7 +16,8 @@ pub returns-clause-room : goal.returns-clause-room
 returns-clause-room g c =
     let stage = c.args.stage.now in
     let count = texts_needed (g.M.PhysMem.bytes c.args.memory.now) stage in
-    let enough : ¬ (open_frames stage.pool c.args.ranges.now < frames_for stage.sizes) = search rules in
+    let enough : ¬ (open_frames stage.pool c.args.ranges.now < frames_for stage.sizes) =
+    search rules in
     elim (cases_lt (open_frames stage.pool c.args.ranges.now) (frames_for stage.sizes)) [
       | inl few ↦ absurd (enough few)
       | inr most ↦ omega (arith, most, count)
@@ -24,8 +25,10 @@ returns-clause-room g c =
 
 pub returns-clause-held : goal.returns-clause-held
 returns-clause-held g c =
-    files_below c.evacuate.new.self (g.M.PhysMem.bytes c.evacuate.new.memory) c.complete.ensures.staged
-    (rw (ap (λ (s : Staging). s.pool) c.evacuate.ensures.same, c.evacuate.ensures.size) c.requires.inside)
+    files_below c.evacuate.new.self (g.M.PhysMem.bytes c.evacuate.new.memory)
+    c.complete.ensures.staged
+    (rw (ap (λ (s : Staging). s.pool) c.evacuate.ensures.same, c.evacuate.ensures.size)
+    c.requires.inside)
 
 pub returns-clause-beside : goal.returns-clause-beside
 returns-clause-beside g c =

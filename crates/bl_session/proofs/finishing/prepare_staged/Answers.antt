@@ -9,10 +9,14 @@ prepare-requires-clause-files g c =
     let bytes = g.M.PhysMem.bytes in
     let stage = c.args.stage.now in
     ap length c.deref.ensures.value
-    ∙ sym (length-map c.in_ok-views.views.items (λ view. staged (bytes view.memory.now) view.frames.now view.size))
+    ∙ sym
+    (length-map c.in_ok-views.views.items
+    (λ view. staged (bytes view.memory.now) view.frames.now view.size))
     ∙ ap (λ (texts : List (List ℕ)). length texts) c.in_ok-views.ensures
-    ∙ length-map-range_with_len (λ file. file_of (bytes c.args.memory.now) stage file) 0 (length stage.sizes)
+    ∙ length-map-range_with_len (λ file. file_of (bytes c.args.memory.now) stage file) 0
+    (length stage.sizes)
     ∙ c.requires.files
 
 pub returns-clause-fault : goal.returns-clause-fault
-returns-clause-fault g c = rw (← c.in_ok-views.ensures, ← c.deref.ensures.value) c.prepare.ensures.fault
+returns-clause-fault g c =
+    rw (← c.in_ok-views.ensures, ← c.deref.ensures.value) c.prepare.ensures.fault

@@ -4,4 +4,6 @@ use Rattle.bl_session.proofs.menu.order_attempts.Given as goal
 
 -- what was taken so far and what is left give all
 abbrev pub invariant-loop-index : goal.invariant-loop-index
-invariant-loop-index g l = l.attempts.items ++ once_after l.attempts.items (drop l.index-index l.fallbacks) ≡ attempts_of l.default l.fallbacks
+invariant-loop-index g l =
+    l.attempts.items ++ once_after l.attempts.items (drop l.index-index l.fallbacks)
+    ≡ attempts_of l.default l.fallbacks

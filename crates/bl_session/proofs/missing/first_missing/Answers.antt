@@ -4,4 +4,5 @@ use Rattle.bl_session.proofs.missing.first_missing.Goals as goal
 
 pub returns : goal.returns
 returns g c = λ bytes.
-    ticket_none c.args.attempt c.loop-place.place bytes c.args.stage.now (omega (arith, c.files-place-end.ensures)) (c.loop-place.invariant bytes)
+    ticket_none c.args.attempt c.loop-place.place bytes c.args.stage.now
+    (omega (arith, c.files-place-end.ensures)) (c.loop-place.invariant bytes)

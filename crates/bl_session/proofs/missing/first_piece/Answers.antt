@@ -9,20 +9,25 @@ loop-piece-preserved g c = λ bytes.
     let stage = c.args.stage.now in
     let place = c.args.place in
     let long = length-file_spots bytes stage place c.requires.file in
-    piece_later (slice_index_or (spots bytes stage) place []) c.loop-piece.piece (omega (arith, long, c.pieces_of-piece-end.ensures))
-    (sym (missing_awaited bytes stage place c.loop-piece.piece) ∙ sym c.is_missing.ensures ∙ c.if-is_missing.false) (c.loop-piece.invariant bytes)
+    piece_later (slice_index_or (spots bytes stage) place []) c.loop-piece.piece
+    (omega (arith, long, c.pieces_of-piece-end.ensures))
+    (sym (missing_awaited bytes stage place c.loop-piece.piece) ∙ sym c.is_missing.ensures
+    ∙ c.if-is_missing.false) (c.loop-piece.invariant bytes)
 
 pub returns-then-is_missing : goal.returns-then-is_missing
 returns-then-is_missing g c = λ bytes.
     let stage = c.args.stage.now in
     let place = c.args.place in
     let long = length-file_spots bytes stage place c.requires.file in
-    piece_here (slice_index_or (spots bytes stage) place []) c.loop-piece.piece (omega (arith, long, c.pieces_of-piece-end.ensures))
-    (sym (missing_awaited bytes stage place c.loop-piece.piece) ∙ sym c.is_missing.ensures ∙ c.if-is_missing.true) (c.loop-piece.invariant bytes)
+    piece_here (slice_index_or (spots bytes stage) place []) c.loop-piece.piece
+    (omega (arith, long, c.pieces_of-piece-end.ensures))
+    (sym (missing_awaited bytes stage place c.loop-piece.piece) ∙ sym c.is_missing.ensures
+    ∙ c.if-is_missing.true) (c.loop-piece.invariant bytes)
 
 pub returns : goal.returns
 returns g c = λ bytes.
     let stage = c.args.stage.now in
     let place = c.args.place in
     let long = length-file_spots bytes stage place c.requires.file in
-    piece_none (slice_index_or (spots bytes stage) place []) c.loop-piece.piece (omega (arith, long, c.pieces_of-piece-end.ensures)) (c.loop-piece.invariant bytes)
+    piece_none (slice_index_or (spots bytes stage) place []) c.loop-piece.piece
+    (omega (arith, long, c.pieces_of-piece-end.ensures)) (c.loop-piece.invariant bytes)

@@ -8,4 +8,6 @@ pub unreachable-requires : goal.unreachable-requires
 unreachable-requires g c =
     let stage = c.args.stage.now in
     let none = sym (c.first_missing.ensures []) ∙ c.in-None.is in
-    c.requires.lacks.lacks (whole_came [] stage c.complete.ensures.staged (none_missing c.args.attempt 0 (spots [] stage) none))
+    c.requires.lacks.lacks
+    (whole_came [] stage c.complete.ensures.staged
+    (none_missing c.args.attempt 0 (spots [] stage) none))

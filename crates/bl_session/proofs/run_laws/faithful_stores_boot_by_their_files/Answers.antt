@@ -8,4 +8,5 @@ returns-clause-genuine c = λ facts files new known. faithful_is_genuine facts f
 
 pub returns-clause-exact : goal.returns-clause-exact
 returns-clause-exact c = λ facts files new end known faithful run ended.
-    run_ended facts files (λ attempt. None) known [] new end run (faithful_is_genuine facts files known new faithful) ended
+    run_ended facts files (λ attempt. None) known [] new end run
+    (faithful_is_genuine facts files known new faithful) ended

@@ -9,5 +9,7 @@ returns-clause-exact c = λ facts files faults old new end known run genuine end
     run_ended facts files faults known old new end run genuine ended
 
 pub returns-clause-same : goal.returns-clause-same
-returns-clause-same c = λ facts files faults old new before after a b known mine genuine ended other faithful done.
-    runs_alike facts files faults known old new before after a b mine genuine ended other faithful done
+returns-clause-same c =
+    λ facts files faults old new before after a b known mine genuine ended other faithful done.
+    runs_alike facts files faults known old new before after a b mine genuine ended other faithful
+    done

@@ -8,13 +8,18 @@ use Rattle.bl_session.proofs.submitting.submit_file.Goals as goal
 
 pub loop-piece-init : goal.loop-piece-init
 loop-piece-init g c = record {
-  asked = asked_none (piece_orders c.args.attempt c.args.place c.args.file c.args.count) (g.S.Store.given c.args.store.now);
+  asked =
+      asked_none (piece_orders c.args.attempt c.args.place c.args.file c.args.count)
+      (g.S.Store.given c.args.store.now);
   files = refl;
 }
 
 pub loop-piece-preserved : goal.loop-piece-preserved
 loop-piece-preserved g c = record {
-  asked = asked_piece c.args.attempt c.args.place c.args.file c.args.count c.loop-piece.piece (g.S.Store.given c.args.store.now) (g.S.Store.given c.loop-piece.store) (g.S.Store.given c.submit.new.self)
+  asked =
+      asked_piece c.args.attempt c.args.place c.args.file c.args.count c.loop-piece.piece
+      (g.S.Store.given c.args.store.now) (g.S.Store.given c.loop-piece.store)
+      (g.S.Store.given c.submit.new.self)
       c.loop-piece-test.true c.loop-piece.invariant.asked c.in_ok-submit.ensures.given;
   files = c.submit.ensures.files ∙ c.loop-piece.invariant.files;
 }
@@ -25,7 +30,10 @@ returns-in_err-submit-clause-err g c =
     let p = err_from_is_err_and c.from_residual.result c.from_residual.ensures.1 in
     rw p.1 (
       drop c.loop-piece.piece orders,
-      subst (λ (given : List Item). IsAsked orders (drop c.loop-piece.piece orders) (g.S.Store.given c.args.store.now) given) (sym c.in_err-submit.ensures.err.0) c.loop-piece.invariant.asked,
+      subst
+          (λ (given : List Item).
+          IsAsked orders (drop c.loop-piece.piece orders) (g.S.Store.given c.args.store.now)
+          given) (sym c.in_err-submit.ensures.err.0) c.loop-piece.invariant.asked,
     )
 
 pub returns-in_err-submit-clause-files : goal.returns-in_err-submit-clause-files
@@ -33,4 +41,6 @@ returns-in_err-submit-clause-files g c = c.submit.ensures.files ∙ c.loop-piece
 
 pub returns-clause-ok : goal.returns-clause-ok
 returns-clause-ok g c =
-    asked_pieces c.args.attempt c.args.place c.args.file c.args.count c.loop-piece.piece (g.S.Store.given c.args.store.now) (g.S.Store.given c.loop-piece.store) (omega arith) c.loop-piece.invariant.asked
+    asked_pieces c.args.attempt c.args.place c.args.file c.args.count c.loop-piece.piece
+    (g.S.Store.given c.args.store.now) (g.S.Store.given c.loop-piece.store) (omega arith)
+    c.loop-piece.invariant.asked

@@ -8,6 +8,7 @@ abbrev pub invariant-loop-piece : goal.invariant-loop-piece
 invariant-loop-piece g l =
     let orders = piece_orders l.attempt l.place l.file l.count in
     record {
-      asked : IsAsked orders (drop l.piece orders) (g.S.Store.given l.fn.store) (g.S.Store.given l.store);
+      asked : IsAsked orders (drop l.piece orders) (g.S.Store.given l.fn.store)
+          (g.S.Store.given l.store);
       files : g.S.Store.files l.store ≡ g.S.Store.files l.fn.store;
     }

@@ -9,4 +9,6 @@ returns-then-is_of g c = λ bytes.
     let stage = c.args.waiting.now.stage in
     let ticket = c.args.ticket in
     c.is_missing.ensures ∙ missing_awaited bytes stage ticket.file ticket.piece
-    ∙ sym (ap (λ (b : Bool). b && is_awaited (spot_of (spots bytes stage) ticket.file ticket.piece)) (sym c.is_of.ensures ∙ c.if-is_of.true))
+    ∙ sym
+    (ap (λ (b : Bool). b && is_awaited (spot_of (spots bytes stage) ticket.file ticket.piece))
+    (sym c.is_of.ensures ∙ c.if-is_of.true))

@@ -12,7 +12,9 @@ returns-clause-step g c =
     let old = g.M.PhysMem.bytes c.args.memory.now in
     let new = g.M.PhysMem.bytes c.refuse.new.memory in
     let wanted = sym (c.awaits_fault.ensures old) ∙ c.if-not-awaits_fault.false in
-    steps_fault (boot_facts c.args.boot.now.machine.now menu c.args.boot.now.sizes.now) w.entry (drop w.next menu.attempts) w.earlier.items (spots old w.stage) c.args.ticket c.refuse.result (λ phase. state_of menu.attempts new phase)
+    steps_fault (boot_facts c.args.boot.now.machine.now menu c.args.boot.now.sizes.now) w.entry
+    (drop w.next menu.attempts) w.earlier.items (spots old w.stage) c.args.ticket
+    c.refuse.result (λ phase. state_of menu.attempts new phase)
     wanted c.refuse.ensures.begun
 
 pub returns-clause-lacking : goal.returns-clause-lacking
@@ -21,7 +23,8 @@ returns-clause-lacking g c =
     let w = c.args.waiting in
     let old = g.M.PhysMem.bytes c.args.memory.now in
     let wanted = sym (c.awaits_fault.ensures old) ∙ c.if-not-awaits_fault.false in
-    lacks_fault w.entry (drop w.next menu.attempts) w.earlier.items (spots old w.stage) c.args.ticket c.refuse.result wanted
+    lacks_fault w.entry (drop w.next menu.attempts) w.earlier.items (spots old w.stage)
+    c.args.ticket c.refuse.result wanted
 
 pub returns-clause-memory : goal.returns-clause-memory
 returns-clause-memory g c =
@@ -30,5 +33,7 @@ returns-clause-memory g c =
     let old = g.M.PhysMem.bytes c.args.memory.now in
     let new = g.M.PhysMem.bytes c.refuse.new.memory in
     let wanted = sym (c.awaits_fault.ensures old) ∙ c.if-not-awaits_fault.false in
-    memory_taken c.args.boot.now.machine.now.pool (is_wanted w.earlier.items (spots old w.stage) (fault c.args.ticket)) old old new c.refuse.result (λ phase. state_of menu.attempts new phase)
+    memory_taken c.args.boot.now.machine.now.pool
+    (is_wanted w.earlier.items (spots old w.stage) (fault c.args.ticket)) old old new
+    c.refuse.result (λ phase. state_of menu.attempts new phase)
     wanted (same_itself c.args.boot.now.machine.now.pool old) c.refuse.ensures.memory

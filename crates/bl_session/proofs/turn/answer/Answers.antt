@@ -5,5 +5,8 @@ pub returns-in-None-clause-left : goal.returns-in-None-clause-left
 returns-in-None-clause-left g c = λ is.
     let bytes = g.M.PhysMem.bytes in
     let before = bytes c.args.memory.now in
-    absurd (lost c.args.session.now.boot c.args.session.now.phase c.hear-in-None.new.session.phase before (bytes c.hear-in-None.new.memory) c.missing-ticket.result c.hear-in-None.result
-    c.requires.waiting (c.missing-ticket.ensures before) c.hear-in-None.ensures.step c.hear-in-None.ensures.progress is)
+    absurd
+    (lost c.args.session.now.boot c.args.session.now.phase c.hear-in-None.new.session.phase
+    before (bytes c.hear-in-None.new.memory) c.missing-ticket.result c.hear-in-None.result
+    c.requires.waiting (c.missing-ticket.ensures before) c.hear-in-None.ensures.step
+    c.hear-in-None.ensures.progress is)

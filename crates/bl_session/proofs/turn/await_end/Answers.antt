@@ -18,17 +18,30 @@ answers-preserved g c =
     let first = state_at (bytes c.args.memory.now) c.args.session.now.phase in
     let old = state_at (bytes c.answers.memory) c.answers.session.phase in
     let new = state_at (bytes c.answer.new.memory) c.answer.new.session.phase in
-    let more = heard_more facts c.answers.session.boot (files c.args.store.now) (files c.answers.store) (given c.args.store.now) (given c.answers.store) (given c.answer.new.store) (at first) old new
+    let more =
+    heard_more facts c.answers.session.boot (files c.args.store.now) (files c.answers.store)
+    (given c.args.store.now) (given c.answers.store) (given c.answer.new.store) (at first)
+    old new
     so_far.boot so_far.files so_far.heard told.heard in
     let waiting = told.goes_on c.in-Waiting.is in
-    let memory = subst (λ (b : BootFacts). IsMemoryIn b.machine.pool new (bytes c.answers.memory) (bytes c.answer.new.memory)) so_far.boot told.memory in
+    let memory =
+    subst
+    (λ (b : BootFacts).
+    IsMemoryIn b.machine.pool new (bytes c.answers.memory) (bytes c.answer.new.memory))
+    so_far.boot told.memory in
     record {
       boot = c.answer.ensures.boot ∙ so_far.boot;
       waiting = waiting;
-      heard = heard_waiting facts (files c.args.store.now) (given c.args.store.now) (given c.answer.new.store) (at first) old new c.in_ok-answer.field-0 told.progress c.in-Waiting.is more;
+      heard =
+          heard_waiting facts (files c.args.store.now) (given c.args.store.now)
+          (given c.answer.new.store) (at first) old new c.in_ok-answer.field-0 told.progress
+          c.in-Waiting.is more;
       as_many = told.as_many c.in-Waiting.is ∙ so_far.as_many;
-      outside = same_on facts.machine.pool (bytes c.args.memory.now) (bytes c.answers.memory) (bytes c.answer.new.memory) so_far.outside
-          (waiting_memory facts.machine.pool c.answer.new.session.phase (bytes c.answer.new.memory) (bytes c.answers.memory) (bytes c.answer.new.memory) waiting memory);
+      outside =
+          same_on facts.machine.pool (bytes c.args.memory.now) (bytes c.answers.memory)
+          (bytes c.answer.new.memory) so_far.outside
+          (waiting_memory facts.machine.pool c.answer.new.session.phase (bytes c.answer.new.memory)
+          (bytes c.answers.memory) (bytes c.answer.new.memory) waiting memory);
       files = c.answer.ensures.files ∙ so_far.files;
       size = c.answer.ensures.size ∙ so_far.size;
       kept = λ a had. c.answer.ensures.kept a (so_far.kept a had);
@@ -45,15 +58,27 @@ returns-in_default g c =
     let first = state_at (bytes c.args.memory.now) c.args.session.now.phase in
     let old = state_at (bytes c.answers.memory) c.answers.session.phase in
     let new = state_at (bytes c.answer.new.memory) c.answer.new.session.phase in
-    let more = heard_more facts c.answers.session.boot (files c.args.store.now) (files c.answers.store) (given c.args.store.now) (given c.answers.store) (given c.answer.new.store) (at first) old new
+    let more =
+    heard_more facts c.answers.session.boot (files c.args.store.now) (files c.answers.store)
+    (given c.args.store.now) (given c.answers.store) (given c.answer.new.store) (at first)
+    old new
     so_far.boot so_far.files so_far.heard told.heard in
-    let memory = subst (λ (b : BootFacts). IsMemoryIn b.machine.pool new (bytes c.answers.memory) (bytes c.answer.new.memory)) so_far.boot told.memory in
+    let memory =
+    subst
+    (λ (b : BootFacts).
+    IsMemoryIn b.machine.pool new (bytes c.answers.memory) (bytes c.answer.new.memory))
+    so_far.boot told.memory in
     record {
       boot = c.answer.ensures.boot ∙ so_far.boot;
-      heard = heard_ended facts (files c.args.store.now) (given c.args.store.now) (given c.answer.new.store) (at first) old new c.in_ok-answer.field-0 told.progress c.in_default.not-Waiting more;
+      heard =
+          heard_ended facts (files c.args.store.now) (given c.args.store.now)
+          (given c.answer.new.store) (at first) old new c.in_ok-answer.field-0 told.progress
+          c.in_default.not-Waiting more;
       fewer = subst (λ n. attempts_in new < n) so_far.as_many (told.fewer c.in_default.not-Waiting);
       started = told.started;
-      memory = memory_on facts.machine.pool new (bytes c.args.memory.now) (bytes c.answers.memory) (bytes c.answer.new.memory) so_far.outside memory;
+      memory =
+          memory_on facts.machine.pool new (bytes c.args.memory.now) (bytes c.answers.memory)
+          (bytes c.answer.new.memory) so_far.outside memory;
       lacking = tt;
       outside = tt;
       files = c.answer.ensures.files ∙ so_far.files;

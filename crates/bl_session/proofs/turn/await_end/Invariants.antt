@@ -15,7 +15,8 @@ invariant-answers g l =
     record {
       boot : l.session.boot ≡ l.fn.session.boot;
       waiting : is_waiting l.session.phase ≡ true;
-      heard : IsHeard l.fn.session.boot (g.S.Store.files l.fn.store) (g.S.Store.given l.fn.store) (g.S.Store.given l.store) (at old) (at now);
+      heard : IsHeard l.fn.session.boot (g.S.Store.files l.fn.store) (g.S.Store.given l.fn.store)
+          (g.S.Store.given l.store) (at old) (at now);
       as_many : attempts_in now ≡ attempts_in old;
       outside : IsSameOutside l.fn.session.boot.machine.pool (bytes l.fn.memory) (bytes l.memory);
       files : g.S.Store.files l.store ≡ g.S.Store.files l.fn.store;

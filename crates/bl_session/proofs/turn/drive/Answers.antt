@@ -4,7 +4,8 @@ use Rattle.bl_session.specs.Boot.{BootFacts}
 use Rattle.bl_session.specs.Memory.{IsMemoryIn}
 use Rattle.bl_session.specs.Phases.{state_at}
 use Rattle.bl_session.specs.Run.{world_of}
-use Rattle.bl_session.proofs.RunLemmas.{heard_attempt, lacks_orders, lacks_answers, memory_later, room_on}
+use Rattle.bl_session.proofs.RunLemmas.{heard_attempt, lacks_orders, lacks_answers, memory_later}
+use Rattle.bl_session.proofs.RunLemmas.{room_on}
 use Rattle.bl_session.proofs.turn.drive.Goals as goal
 
 pub returns-in_err-submit-clause-lacking : goal.returns-in_err-submit-clause-lacking
@@ -16,7 +17,10 @@ returns-in_err-submit-clause-lacking g c =
     let first = state_at (bytes c.args.memory.now) c.args.session.now.phase in
     let old = state_at (bytes c.attempts.memory) c.attempts.session.phase in
     let p = err_from_is_err_and c.from_residual.result c.from_residual.ensures.1 in
-    rw p.1 (lacks_orders facts c.attempts.session.boot (g.S.Store.files c.args.store.now) (given c.args.store.now) (given c.attempts.store) (given c.submit.new.store) (world_of facts first) old
+    rw p.1
+    (lacks_orders facts c.attempts.session.boot (g.S.Store.files c.args.store.now)
+    (given c.args.store.now) (given c.attempts.store) (given c.submit.new.store)
+    (world_of facts first) old
     so_far.boot so_far.heard (c.in_err-submit.ensures.err (bytes c.attempts.memory)))
 
 pub attempts-preserved : goal.attempts-preserved
@@ -33,14 +37,30 @@ attempts-preserved g c =
     let old = state_at (bytes c.attempts.memory) c.attempts.session.phase in
     let new = state_at (bytes c.await_end.new.memory) c.await_end.new.session.phase in
     let waiting = sym c.is_waiting.ensures ∙ c.attempts-test.true in
-    let memory = subst (λ (b : BootFacts). IsMemoryIn b.machine.pool new (bytes c.attempts.memory) (bytes c.await_end.new.memory)) so_far.boot told.memory in
+    let memory =
+    subst
+    (λ (b : BootFacts).
+    IsMemoryIn b.machine.pool new (bytes c.attempts.memory)
+    (bytes c.await_end.new.memory)) so_far.boot told.memory in
     record {
       boot = c.await_end.ensures.boot ∙ so_far.boot;
       started = told.started;
-      heard = heard_attempt facts c.attempts.session.boot (files c.args.store.now) (files c.attempts.store) (files c.submit.new.store) (given c.args.store.now) (given c.attempts.store) (given c.submit.new.store) (given c.await_end.new.store)
-          (world_of facts first) old new so_far.boot so_far.files (c.submit.ensures.files ∙ so_far.files) so_far.heard (c.in_ok-submit.ensures.ok (bytes c.attempts.memory)) told.heard;
-      memory = λ start was. memory_later pool c.attempts.session.phase c.await_end.new.session.phase start (bytes c.attempts.memory) (bytes c.await_end.new.memory) waiting (so_far.memory start was) memory;
-      room = λ w. room_on pool.start pool.end (room c.attempts.memory) (room c.await_end.new.memory) (so_far.room waiting) c.await_end.ensures.kept;
+      heard =
+          heard_attempt facts c.attempts.session.boot (files c.args.store.now)
+          (files c.attempts.store) (files c.submit.new.store) (given c.args.store.now)
+          (given c.attempts.store) (given c.submit.new.store) (given c.await_end.new.store)
+          (world_of facts first) old new so_far.boot so_far.files
+          (c.submit.ensures.files ∙ so_far.files) so_far.heard
+          (c.in_ok-submit.ensures.ok (bytes c.attempts.memory)) told.heard;
+      memory =
+          λ start was.
+          memory_later pool c.attempts.session.phase c.await_end.new.session.phase start
+          (bytes c.attempts.memory) (bytes c.await_end.new.memory) waiting
+          (so_far.memory start was) memory;
+      room =
+          λ w.
+          room_on pool.start pool.end (room c.attempts.memory) (room c.await_end.new.memory)
+          (so_far.room waiting) c.await_end.ensures.kept;
       files = c.await_end.ensures.files ∙ c.submit.ensures.files ∙ so_far.files;
       size = c.await_end.ensures.size ∙ so_far.size;
       kept = λ a had. c.await_end.ensures.kept a (so_far.kept a had);
@@ -55,6 +75,12 @@ returns-in_err-await_end-clause-lacking g c =
     let so_far = c.attempts.invariant in
     let first = state_at (bytes c.args.memory.now) c.args.session.now.phase in
     let old = state_at (bytes c.attempts.memory) c.attempts.session.phase in
-    let p = err_from_is_err_and c.from_residual-in_err-await_end.result c.from_residual-in_err-await_end.ensures.1 in
-    rw p.1 (lacks_answers facts c.attempts.session.boot (files c.args.store.now) (files c.submit.new.store) (given c.args.store.now) (given c.attempts.store) (given c.submit.new.store) (given c.await_end.new.store) (world_of facts first) old
-    so_far.boot (c.submit.ensures.files ∙ so_far.files) so_far.heard (c.in_ok-submit.ensures.ok (bytes c.attempts.memory)) c.in_err-await_end.ensures.lacking)
+    let p =
+    err_from_is_err_and c.from_residual-in_err-await_end.result
+    c.from_residual-in_err-await_end.ensures.1 in
+    rw p.1
+    (lacks_answers facts c.attempts.session.boot (files c.args.store.now)
+    (files c.submit.new.store) (given c.args.store.now) (given c.attempts.store)
+    (given c.submit.new.store) (given c.await_end.new.store) (world_of facts first) old
+    so_far.boot (c.submit.ensures.files ∙ so_far.files) so_far.heard
+    (c.in_ok-submit.ensures.ok (bytes c.attempts.memory)) c.in_err-await_end.ensures.lacking)

@@ -16,9 +16,12 @@ invariant-attempts g l =
     record {
       boot : l.session.boot ≡ facts;
       started : l.session.phase ≢ not_started;
-      heard : IsHeard facts (g.S.Store.files l.fn.store) (g.S.Store.given l.fn.store) (g.S.Store.given l.store) (world_of facts old) (world_of facts now);
-      memory : (first : List ℕ) → IsMemoryIn facts.machine.pool old first (bytes l.fn.memory) → IsMemoryIn facts.machine.pool now first (bytes l.memory);
-      room : is_waiting l.session.phase ≡ true → HasRoom (g.M.PhysMem.room l.memory) facts.machine.pool.start facts.machine.pool.end;
+      heard : IsHeard facts (g.S.Store.files l.fn.store) (g.S.Store.given l.fn.store)
+          (g.S.Store.given l.store) (world_of facts old) (world_of facts now);
+      memory : (first : List ℕ) → IsMemoryIn facts.machine.pool old first (bytes l.fn.memory)
+          → IsMemoryIn facts.machine.pool now first (bytes l.memory);
+      room : is_waiting l.session.phase ≡ true
+          → HasRoom (g.M.PhysMem.room l.memory) facts.machine.pool.start facts.machine.pool.end;
       files : g.S.Store.files l.store ≡ g.S.Store.files l.fn.store;
       size : length (bytes l.memory) ≡ length (bytes l.fn.memory);
       kept : KeepsRoom (g.M.PhysMem.room l.fn.memory) (g.M.PhysMem.room l.memory);

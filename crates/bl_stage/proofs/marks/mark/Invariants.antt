@@ -8,5 +8,6 @@ abbrev pub invariant-loop-range : goal.invariant-loop-range
 invariant-loop-range l = record {
   wide : length l.cells ≡ length l.fn.cells;
   holders : (j : ℕ) → (cell_at l.cells j).holder ≡ (cell_at l.fn.cells j).holder;
-  shut : (j : ℕ) → j < length l.fn.cells → (cell_at l.cells j).shut ≡ meets (take l.range-index l.ranges) (l.base + j);
+  shut : (j : ℕ) → j < length l.fn.cells
+      → (cell_at l.cells j).shut ≡ meets (take l.range-index l.ranges) (l.base + j);
 }

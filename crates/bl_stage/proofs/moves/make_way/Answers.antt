@@ -10,24 +10,36 @@ pub returns-then-count_open-frames-clause-exact : goal.returns-then-count_open-f
 returns-then-count_open-frames-clause-exact g c =
     let marked = c.mark.new.cells in
     let long : length marked ≡ length c.args.cells.now = search rules in
-    let counts = open_count c.args.ranges.now marked c.args.base (length c.args.cells.now) (λ j h. c.mark.ensures.shut j (omega arith)) (omega arith) in
-    let all : count_by is_open_cell marked ≡ open_among c.args.ranges.now (4096 * c.args.base) (length c.args.cells.now) = sym (ap (count_by is_open_cell) (take_all _ marked (omega arith))) ∙ counts in
+    let counts =
+    open_count c.args.ranges.now marked c.args.base (length c.args.cells.now)
+    (λ j h. c.mark.ensures.shut j (omega arith)) (omega arith) in
+    let all : count_by is_open_cell marked
+    ≡ open_among c.args.ranges.now (4096 * c.args.base) (length c.args.cells.now) =
+    sym (ap (count_by is_open_cell) (take_all _ marked (omega arith))) ∙ counts in
     let fewer = c.if-count_open-frames.true in
     let is = c.count_open.ensures in
     ((λ h. search rules), (λ h. absurd (omega arith)))
 
 pub returns-then-count_open-frames-clause-held : goal.returns-then-count_open-frames-clause-held
-returns-then-count_open-frames-clause-held g c = held_marked c.args.base c.args.frames.now c.args.cells.now c.mark.new.cells c.requires.held (search rules) c.mark.ensures.holders
+returns-then-count_open-frames-clause-held g c =
+    held_marked c.args.base c.args.frames.now c.args.cells.now c.mark.new.cells c.requires.held
+    (search rules) c.mark.ensures.holders
 
 pub move_out-requires-clause-held : goal.move_out-requires-clause-held
-move_out-requires-clause-held g c = held_marked c.args.base c.args.frames.now c.args.cells.now c.mark.new.cells c.requires.held (search rules) c.mark.ensures.holders
+move_out-requires-clause-held g c =
+    held_marked c.args.base c.args.frames.now c.args.cells.now c.mark.new.cells c.requires.held
+    (search rules) c.mark.ensures.holders
 
 pub returns-clause-exact : goal.returns-clause-exact
 returns-clause-exact g c =
     let marked = c.mark.new.cells in
     let long : length marked ≡ length c.args.cells.now = search rules in
-    let counts = open_count c.args.ranges.now marked c.args.base (length c.args.cells.now) (λ j h. c.mark.ensures.shut j (omega arith)) (omega arith) in
-    let all : count_by is_open_cell marked ≡ open_among c.args.ranges.now (4096 * c.args.base) (length c.args.cells.now) = sym (ap (count_by is_open_cell) (take_all _ marked (omega arith))) ∙ counts in
+    let counts =
+    open_count c.args.ranges.now marked c.args.base (length c.args.cells.now)
+    (λ j h. c.mark.ensures.shut j (omega arith)) (omega arith) in
+    let all : count_by is_open_cell marked
+    ≡ open_among c.args.ranges.now (4096 * c.args.base) (length c.args.cells.now) =
+    sym (ap (count_by is_open_cell) (take_all _ marked (omega arith))) ∙ counts in
     let enough = c.if-count_open-frames.false in
     let is = c.count_open.ensures in
     ((λ h. omega arith), (λ h. search rules))

@@ -1,15 +1,20 @@
-use Rattle.std.proofs.Common.{◌≡◌, ◌+◌, ◌*◌, ◌<◌, ◌≤◌, length, drop, slice_range, Some, true, false, arith, rules, sym, ap, ◌∙◌}
+use Rattle.std.proofs.Common.{◌≡◌, ◌+◌, ◌*◌, ◌<◌, ◌≤◌, length, drop, slice_range, Some, true, false}
+use Rattle.std.proofs.Common.{arith, rules, sym, ap, ◌∙◌}
 use Rattle.std.specs.List.{count_by}
 use Rattle.bl_mem.specs.Memory.{overwrite}
 use Rattle.bl_stage.specs.Cells.{cell_at, is_spare_cell, is_stranded_cell}
-use Rattle.bl_stage.proofs.MoveLemmas.{none_moved, enough_first, none_more, enough_rest, spare_is, one_more, enough_after, spare_before}
+use Rattle.bl_stage.proofs.MoveLemmas.{none_moved, enough_first, none_more, enough_rest, spare_is}
+use Rattle.bl_stage.proofs.MoveLemmas.{one_more, enough_after, spare_before}
 use Rattle.bl_stage.proofs.moves.move_out.Goals as goal
 use Rattle.bl_stage.proofs.moves.move_out.Goals.{then-cell+in-Some, then-cell+in_default, else-cell}
 
 pub loop-from-init : goal.loop-from-init
 loop-from-init g c = record {
-  moved = none_moved c.args.base (g.M.PhysMem.bytes c.args.memory.now) c.args.frames.now c.args.cells.now c.requires.held;
-  enough = enough_first c.args.base c.args.frames.now c.args.cells.now c.requires.held c.requires.enough;
+  moved =
+      none_moved c.args.base (g.M.PhysMem.bytes c.args.memory.now) c.args.frames.now
+      c.args.cells.now c.requires.held;
+  enough =
+      enough_first c.args.base c.args.frames.now c.args.cells.now c.requires.held c.requires.enough;
   kept = λ a had. had;
 }
 
@@ -28,29 +33,58 @@ loop-from-preserved g c =
           let spare = spare_is (cell_at cells to) w.next_spare-to.ensures.spare in
           let goes : (cell_at cells from).holder ≡ Some slot = search rules in
           let shut : (cell_at cells from).shut ≡ true = search rules in
-          let inside : 4096 * (c.args.base + length cells) ≤ length (bytes loop.memory) = let e = done.wide in let i = c.requires.inside (omega arith) in let s = done.size in rw (e, s) i in
-          let step = one_more c.args.base loop.frames cells from to slot done.held here w.next_spare-to.ensures.within goes shut spare.1 spare.0 (bytes loop.memory) inside (bytes c.args.memory.now) c.args.frames.now c.args.cells.now done in
-          let m : bytes c.if-cell.memory ≡ overwrite (bytes loop.memory) (4096 * (c.args.base + to)) (slice_range (bytes loop.memory) (4096 * (c.args.base + from)) (4096 * (c.args.base + from) + 4096)) = ap bytes w.memory-is ∙ w.move_cell.ensures.bytes in
+          let inside : 4096 * (c.args.base + length cells) ≤ length (bytes loop.memory) =
+          let e = done.wide in
+          let i = c.requires.inside (omega arith) in let s = done.size in rw (e, s) i in
+          let step =
+          one_more c.args.base loop.frames cells from to slot done.held here
+          w.next_spare-to.ensures.within goes shut spare.1 spare.0 (bytes loop.memory)
+          inside (bytes c.args.memory.now) c.args.frames.now c.args.cells.now done in
+          let m : bytes c.if-cell.memory
+          ≡ overwrite (bytes loop.memory) (4096 * (c.args.base + to))
+          (slice_range (bytes loop.memory) (4096 * (c.args.base + from))
+          (4096 * (c.args.base + from) + 4096)) =
+          ap bytes w.memory-is ∙ w.move_cell.ensures.bytes in
           let f = w.frames-is ∙ w.move_cell.ensures.frames in
           let k = w.cells-is ∙ w.move_cell.ensures.cells in
           let rest = w.next_spare-to.ensures.rest in
-          let before : count_by is_stranded_cell (drop from cells) ≤ count_by is_spare_cell (drop to cells) = spare_before cells from to loop.to w.next_spare-to.ensures.within w.next_spare-to.ensures.spare rest loop.invariant.enough in
+          let before : count_by is_stranded_cell (drop from cells)
+          ≤ count_by is_spare_cell (drop to cells) =
+          spare_before cells from to loop.to w.next_spare-to.ensures.within
+          w.next_spare-to.ensures.spare rest loop.invariant.enough in
           record {
             moved = rw (m, f, k) step;
-            enough = rw (k, w.to-is) (enough_after c.args.base loop.frames cells from to slot done.held here w.next_spare-to.ensures.within goes shut spare.1 spare.0 before);
+            enough =
+                rw (k, w.to-is)
+                (enough_after c.args.base loop.frames cells from to slot done.held here
+                w.next_spare-to.ensures.within goes shut spare.1 spare.0 before);
             kept = λ a had. rw w.memory-is (w.move_cell.ensures.kept a (loop.invariant.kept a had));
           }
       | then-cell+in_default w ↦
           record {
-            moved = rw (w.memory-is, w.frames-is, w.cells-is) (none_more c.args.base (bytes c.args.memory.now) (bytes loop.memory) c.args.frames.now loop.frames c.args.cells.now cells from (λ h. search rules) done);
-            enough = rw (w.cells-is, w.to-is) (enough_rest cells from (count_by is_spare_cell (drop loop.to cells)) here loop.invariant.enough);
+            moved =
+                rw (w.memory-is, w.frames-is, w.cells-is)
+                (none_more c.args.base (bytes c.args.memory.now) (bytes loop.memory)
+                c.args.frames.now loop.frames c.args.cells.now cells from
+                (λ h. search rules) done);
+            enough =
+                rw (w.cells-is, w.to-is)
+                (enough_rest cells from (count_by is_spare_cell (drop loop.to cells)) here
+                loop.invariant.enough);
             kept = λ a had. rw w.memory-is (loop.invariant.kept a had);
           }
       | else-cell w ↦
           let open_ : (cell_at cells from).shut ≡ false = search rules in
           record {
-            moved = rw (w.memory-is, w.frames-is, w.cells-is) (none_more c.args.base (bytes c.args.memory.now) (bytes loop.memory) c.args.frames.now loop.frames c.args.cells.now cells from (λ h. let e : true ≡ false = sym h ∙ open_ in absurd (cc)) done);
-            enough = rw (w.cells-is, w.to-is) (enough_rest cells from (count_by is_spare_cell (drop loop.to cells)) here loop.invariant.enough);
+            moved =
+                rw (w.memory-is, w.frames-is, w.cells-is)
+                (none_more c.args.base (bytes c.args.memory.now) (bytes loop.memory)
+                c.args.frames.now loop.frames c.args.cells.now cells from
+                (λ h. let e : true ≡ false = sym h ∙ open_ in absurd (cc)) done);
+            enough =
+                rw (w.cells-is, w.to-is)
+                (enough_rest cells from (count_by is_spare_cell (drop loop.to cells)) here
+                loop.invariant.enough);
             kept = λ a had. rw w.memory-is (loop.invariant.kept a had);
           }
     ]

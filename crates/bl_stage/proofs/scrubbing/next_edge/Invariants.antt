@@ -6,5 +6,6 @@ abbrev pub invariant-loop-range : goal.invariant-loop-range
 invariant-loop-range l = record {
   above : l.at < l.edge;
   within : l.edge ≤ l.end;
-  same : (a : ℕ) → l.at ≤ a → a < l.edge → has (take l.range-index l.keep) a ≡ has (take l.range-index l.keep) l.at;
+  same : (a : ℕ) → l.at ≤ a → a < l.edge
+      → has (take l.range-index l.keep) a ≡ has (take l.range-index l.keep) l.at;
 }

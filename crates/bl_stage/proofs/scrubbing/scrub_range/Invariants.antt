@@ -11,7 +11,8 @@ invariant-loop-at g l =
       low : l.pool.start ≤ l.at;
       high : l.pool.start ≤ l.pool.end → l.at ≤ l.pool.end;
       size : length (bytes l.memory) ≡ length (bytes l.fn.memory);
-      done : (a : ℕ) → a < l.at → get_or (bytes l.memory) a 0 ≡ scrubbed l.pool l.keep (bytes l.fn.memory) a;
+      done : (a : ℕ) → a < l.at
+          → get_or (bytes l.memory) a 0 ≡ scrubbed l.pool l.keep (bytes l.fn.memory) a;
       rest : (a : ℕ) → l.at ≤ a → get_or (bytes l.memory) a 0 ≡ get_or (bytes l.fn.memory) a 0;
       kept : KeepsRoom (g.M.PhysMem.room l.fn.memory) (g.M.PhysMem.room l.memory);
     }

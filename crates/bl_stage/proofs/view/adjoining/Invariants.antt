@@ -6,7 +6,8 @@ abbrev pub invariant-loop-end : goal.invariant-loop-end
 invariant-loop-end l = record {
   some : l.first < l.end;
   within : l.end ≤ length l.frames;
-  side : (k : ℕ) → l.first + k < l.end → get_or l.frames (l.first + k) 0 ≡ get_or l.frames l.first 0 + k;
+  side : (k : ℕ) → l.first + k < l.end
+      → get_or l.frames (l.first + k) 0 ≡ get_or l.frames l.first 0 + k;
 }
 
 abbrev pub decreases-loop-end : goal.decreases-loop-end

@@ -1,4 +1,5 @@
-use Rattle.std.proofs.Common.{◌≡◌, ◌+◌, ◌*◌, ◌<◌, List, Bool, length, take, set, true, arith, rules, ap, ◌∙◌}
+use Rattle.std.proofs.Common.{◌≡◌, ◌+◌, ◌*◌, ◌<◌, List, Bool, length, take, set, true, arith, rules}
+use Rattle.std.proofs.Common.{ap, ◌∙◌}
 use Rattle.std.proofs.lemmas.List.{places, ext_get_or, length-set}
 use Rattle.bl_stage.specs.Filled.{with_came}
 use Rattle.bl_stage.specs.Pieces.{slot_in}
@@ -30,16 +31,19 @@ loop-index-preserved g c =
     let more : first + (index + 1) ≡ first + index + 1 = omega arith in
     let sizes : here.sizes ≡ stage.sizes = ap (λ (s : Staging). s.sizes) before.same in
     let came : List Bool = set here.came (slot_in here file index) true in
-    let long : length (file_of old stage file) ≡ length text = staged_length old (table_of stage file) _ ∙ c.requires.long in
+    let long : length (file_of old stage file) ≡ length text =
+    staged_length old (table_of stage file) _ ∙ c.requires.long in
     let in_file = rw (before.same, len) at put.in_file in
     let others = rw before.same at put.in_others in
     let outside = rw before.same at put.outside in
     record {
-      filled = rw (more, put.stage, sizes) (filled_more (first + index) here.came among before.filled);
+      filled =
+          rw (more, put.stage, sizes) (filled_more (first + index) here.came among before.filled);
       long = rw put.stage (length-set here.came (slot_in here file index) true ∙ before.long);
       same = rw put.stage (ap (λ (s : Staging). with_came s came) before.same);
       text = λ a h inside.
-          text_more (file_of old stage file) (file_of new stage file) text (4096 * index) next a in_file long (omega arith) (λ k low. before.text k low (omega arith)) (omega arith);
+          text_more (file_of old stage file) (file_of new stage file) text (4096 * index) next a
+          in_file long (omega arith) (λ k low. before.text k low (omega arith)) (omega arith);
       others = λ other h different. others other h different ∙ before.others other h different;
       outside = λ a out. outside a out ∙ before.outside a out;
       size = put.size ∙ before.size;
@@ -50,6 +54,10 @@ pub returns-clause-text : goal.returns-clause-text
 returns-clause-text g c =
     let stage = c.args.stage.now in
     let bytes = g.M.PhysMem.bytes c.loop-index.memory in
-    let size = staged_length bytes (table_of stage c.args.file) (length (g.V.ByteView.bytes c.args.view.now)) in
-    let long : length (file_of bytes stage c.args.file) ≡ length (g.V.ByteView.bytes c.args.view.now) = staged_length bytes (table_of stage c.args.file) _ ∙ c.requires.long in
+    let size =
+    staged_length bytes (table_of stage c.args.file)
+    (length (g.V.ByteView.bytes c.args.view.now)) in
+    let long : length (file_of bytes stage c.args.file)
+    ≡ length (g.V.ByteView.bytes c.args.view.now) =
+    staged_length bytes (table_of stage c.args.file) _ ∙ c.requires.long in
     ext_get_or 0 _ _ long (λ a h. c.loop-index.invariant.text a (omega arith) (omega arith))

@@ -14,8 +14,11 @@ invariant-loop-index g l =
       filled : IsFilled (first_of stage.sizes l.file + l.index) l.stage.came;
       long : length l.stage.came ≡ length stage.came;
       same : l.stage ≡ with_came stage l.stage.came;
-      text : (a : ℕ) → a < 4096 * l.index → a < length (g.V.ByteView.bytes l.view) → slice_index (file_of (bytes l.memory) stage l.file) a ≡ slice_index (g.V.ByteView.bytes l.view) a;
-      others : (other : ℕ) → other < length stage.sizes → other ≢ l.file → file_of (bytes l.memory) stage other ≡ file_of (bytes l.fn.memory) stage other;
+      text : (a : ℕ) → a < 4096 * l.index → a < length (g.V.ByteView.bytes l.view)
+          → slice_index (file_of (bytes l.memory) stage l.file) a
+          ≡ slice_index (g.V.ByteView.bytes l.view) a;
+      others : (other : ℕ) → other < length stage.sizes → other ≢ l.file
+          → file_of (bytes l.memory) stage other ≡ file_of (bytes l.fn.memory) stage other;
       outside : IsSameOutside stage.pool (bytes l.fn.memory) (bytes l.memory);
       size : length (bytes l.memory) ≡ length (bytes l.fn.memory);
       kept : KeepsRoom (g.M.PhysMem.room l.fn.memory) (g.M.PhysMem.room l.memory);

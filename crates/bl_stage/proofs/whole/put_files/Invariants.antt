@@ -13,7 +13,8 @@ invariant-loop-file g l =
     record {
       filled : IsFilled (first_of stage.sizes l.file) l.stage.came;
       same : l.stage ≡ with_came stage l.stage.came;
-      texts : (k : ℕ) (d : _) → k < l.file → file_of (bytes l.memory) stage k ≡ g.V.ByteView.bytes (get_or l.files k d);
+      texts : (k : ℕ) (d : _) → k < l.file
+          → file_of (bytes l.memory) stage k ≡ g.V.ByteView.bytes (get_or l.files k d);
       outside : IsSameOutside stage.pool (bytes l.fn.memory) (bytes l.memory);
       size : length (bytes l.memory) ≡ length (bytes l.fn.memory);
       kept : KeepsRoom (g.M.PhysMem.room l.fn.memory) (g.M.PhysMem.room l.memory);

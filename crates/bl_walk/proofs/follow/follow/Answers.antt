@@ -3,4 +3,5 @@ use Rattle.bl_walk.specs.Faults.{outside_parts}
 use Rattle.bl_walk.proofs.follow.follow.Goals as goal
 
 pub returns-in-None-clause-fault : goal.returns-in-None-clause-fault
-returns-in-None-clause-fault g c = outside_parts c.args.address c.args.count c.requires (sym c.in-None.ensures.exact)
+returns-in-None-clause-fault g c =
+    outside_parts c.args.address c.args.count c.requires (sym c.in-None.ensures.exact)

@@ -6,7 +6,8 @@ use Rattle.bl_walk.proofs.information.information.Goals as goal
 
 pub follow-requires : goal.follow-requires
 follow-requires g c =
-    rw c.registers.ensures (information c.in_ok-size.size c.in_ok-size.ensures.ok c.in_ok-size.ensures.least)
+    rw c.registers.ensures
+    (information c.in_ok-size.size c.in_ok-size.ensures.ok c.in_ok-size.ensures.least)
 
 pub returns-in_err-read_info-clause-fault : goal.returns-in_err-read_info-clause-fault
 returns-in_err-read_info-clause-fault g c =
@@ -20,5 +21,6 @@ returns-in_err-read_info-clause-fault g c =
       least = c.in_ok-size.ensures.least;
       whole = whole;
     } in
-    answered c.from_residual-in_err-read_info.result h (information_refusal fault) c.from_residual-in_err-read_info.ensures.1
+    answered c.from_residual-in_err-read_info.result h (information_refusal fault)
+    c.from_residual-in_err-read_info.ensures.1
     (refused_information h bytes fault is c.in_err-read_info.ensures.first_fault)

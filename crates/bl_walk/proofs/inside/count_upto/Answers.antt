@@ -6,6 +6,7 @@ use Rattle.bl_walk.proofs.inside.count_upto.Goals as goal
 
 pub returns-clause-split : goal.returns-clause-split
 returns-clause-split g c =
-    IsPartitionPoint-from_clause (begins_upto c.args.address) c.args.parts.now c.partition_point.result
+    IsPartitionPoint-from_clause (begins_upto c.args.address) c.args.parts.now
+    c.partition_point.result
     c.partition_point.ensures.partitioned (partitioned c.args.parts.now c.args.address c.requires)
     (λ a r q called. search rules)

@@ -13,4 +13,5 @@ returns g c =
     let part = c.in_ok-part.part.now in
     rw (c.address.ensures, c.bytes.ensures)
     (ap Some (all_of part.bytes (c.args.address - part.address))
-    ∙ sym (some_rest_in c.args.image.now.parts c.args.address part (sym c.in_ok-part.ensures.exact)))
+    ∙ sym
+    (some_rest_in c.args.image.now.parts c.args.address part (sym c.in_ok-part.ensures.exact)))

@@ -12,4 +12,5 @@ loop-told-preserved g c =
     let more = take_more ms at told lt in
     let item = sym c.told-item.is in
     rw (more, c.in_ok-push.ensures.items, item)
-    (one_more c.args.image.now.parts (take at ms) c.loop-told.seen.items told c.in_ok-module_at.field-0 c.loop-told.invariant c.in_ok-module_at.ensures.ok)
+    (one_more c.args.image.now.parts (take at ms) c.loop-told.seen.items told
+    c.in_ok-module_at.field-0 c.loop-told.invariant c.in_ok-module_at.ensures.ok)

@@ -6,13 +6,15 @@ use Rattle.bl_walk.proofs.parameters.line.Goals as goal
 
 pub returns-in_default-clause-fault : goal.returns-in_default-clause-fault
 returns-in_default-clause-fault g c =
-    let pointer : c.params.inside.cmd_line_ptr ≡ c.args.params.now.cmd_line_ptr = ap (λ (p : ParamsFacts). p.cmd_line_ptr) c.params.view_is in
+    let pointer : c.params.inside.cmd_line_ptr ≡ c.args.params.now.cmd_line_ptr =
+    ap (λ (p : ParamsFacts). p.cmd_line_ptr) c.params.view_is in
     let none = rw pointer at (sym c.in_default.ensures) in
     outside_parts c.args.params.now.cmd_line_ptr 1 (command_line c.args.params.now c.requires)
     (rest_is_outside c.args.image.now.parts c.args.params.now.cmd_line_ptr none)
 
 pub returns-in-None-clause-fault : goal.returns-in-None-clause-fault
 returns-in-None-clause-fault g c =
-    let pointer : c.params.inside.cmd_line_ptr ≡ c.args.params.now.cmd_line_ptr = ap (λ (p : ParamsFacts). p.cmd_line_ptr) c.params.view_is in
+    let pointer : c.params.inside.cmd_line_ptr ≡ c.args.params.now.cmd_line_ptr =
+    ap (λ (p : ParamsFacts). p.cmd_line_ptr) c.params.view_is in
     let from = rw pointer at (sym c.in-Some.ensures) in
     endless_line c.args.params.now c.in-Some.rest.now c.requires from (sym c.in-None.ensures)

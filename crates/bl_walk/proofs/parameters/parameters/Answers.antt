@@ -14,5 +14,6 @@ returns-in_err-read_params-clause-fault g c =
     let fault = c.in_err-read_params.field-0.0 in
     let whole = rw c.registers.ensures at c.in_ok-bytes.ensures.ok in
     let are : AreParameters h bytes = record { protocol = c.requires; whole = whole } in
-    answered c.from_residual-in_err-read_params.result h (parameters_refusal fault) c.from_residual-in_err-read_params.ensures.1
+    answered c.from_residual-in_err-read_params.result h (parameters_refusal fault)
+    c.from_residual-in_err-read_params.ensures.1
     (refused_parameters h bytes fault are c.in_err-read_params.ensures.first_fault)

@@ -8,4 +8,5 @@ pub returns-then-not-are_descriptors-clause-fault : goal.returns-then-not-are_de
 returns-then-not-are_descriptors-clause-fault g c =
     let found = rw c.registers.ensures at c.in_ok-descriptors.ensures.ok in
     let fails = c.if-not-are_descriptors.ensures in
-    other_descriptors c.in_ok-descriptors.descriptors.now c.requires found (λ same. let no = fails.1 same in cc)
+    other_descriptors c.in_ok-descriptors.descriptors.now c.requires found
+    (λ same. let no = fails.1 same in cc)

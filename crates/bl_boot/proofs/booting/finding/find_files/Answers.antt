@@ -12,30 +12,49 @@ loop-name-preserved g c =
     let names = c.args.names.now in
     let here = get_or names i no_name in
     let inline = (view c.args.description.now).files in
-    let found = one_more_found g.F.Files.answers g.F.Files.faults inline (map (λ n. n.now) (take i names)) here.now
-    (map answer_of c.loop-name.found.items) (answer_of c.in_ok-answer.answer) c.args.files.now c.loop-name.files c.find_file.new.files
+    let found =
+    one_more_found g.F.Files.answers g.F.Files.faults inline (map (λ n. n.now) (take i names))
+    here.now
+    (map answer_of c.loop-name.found.items) (answer_of c.in_ok-answer.answer) c.args.files.now
+    c.loop-name.files c.find_file.new.files
     c.loop-name.invariant.0 c.in_ok-answer.ensures.found in
     let more = names_grow names i c.loop-name-test.true in
     let counted = c.loop-name.invariant.4 in
     let asked = c.in_ok-answer.ensures.missing in (
       rw (more, c.in_ok-push.ensures.items, map-append) found,
-      λ all. c.in_ok-answer.ensures.inline (stands_at (λ name. IsSome (file_named name inline)) names i all c.loop-name-test.true)
+      λ all.
+          c.in_ok-answer.ensures.inline
+          (stands_at (λ name. IsSome (file_named name inline)) names i all
+          c.loop-name-test.true)
           ∙ c.loop-name.invariant.1 all,
-      λ file answer told. c.loop-name.invariant.2 file answer (c.in_ok-answer.ensures.same file answer told),
+      λ file answer told.
+          c.loop-name.invariant.2 file answer (c.in_ok-answer.ensures.same file answer told),
       omega (arith, c.loop-name.invariant.3, asked.0),
       omega (arith, counted, asked.1),
     )
 
 pub returns-in_err-answer-clause-inline : goal.returns-in_err-answer-clause-inline
-returns-in_err-answer-clause-inline g c = λ all. c.in_err-answer.ensures.inline (stands_at (λ name. IsSome (file_named name (view c.args.description.now).files)) c.args.names.now c.loop-name.name-index all c.loop-name-test.true)
+returns-in_err-answer-clause-inline g c =
+    λ all.
+    c.in_err-answer.ensures.inline
+    (stands_at (λ name. IsSome (file_named name (view c.args.description.now).files))
+    c.args.names.now c.loop-name.name-index all c.loop-name-test.true)
     ∙ c.loop-name.invariant.1 all
 
 pub returns-in_err-answer-clause-same : goal.returns-in_err-answer-clause-same
-returns-in_err-answer-clause-same g c = λ file answer told. c.loop-name.invariant.2 file answer (c.in_err-answer.ensures.same file answer told)
+returns-in_err-answer-clause-same g c =
+    λ file answer told.
+    c.loop-name.invariant.2 file answer (c.in_err-answer.ensures.same file answer told)
 
 pub returns-in_err-push-clause-inline : goal.returns-in_err-push-clause-inline
-returns-in_err-push-clause-inline g c = λ all. c.in_ok-answer.ensures.inline (stands_at (λ name. IsSome (file_named name (view c.args.description.now).files)) c.args.names.now c.loop-name.name-index all c.loop-name-test.true)
+returns-in_err-push-clause-inline g c =
+    λ all.
+    c.in_ok-answer.ensures.inline
+    (stands_at (λ name. IsSome (file_named name (view c.args.description.now).files))
+    c.args.names.now c.loop-name.name-index all c.loop-name-test.true)
     ∙ c.loop-name.invariant.1 all
 
 pub returns-in_err-push-clause-same : goal.returns-in_err-push-clause-same
-returns-in_err-push-clause-same g c = λ file answer told. c.loop-name.invariant.2 file answer (c.in_ok-answer.ensures.same file answer told)
+returns-in_err-push-clause-same g c =
+    λ file answer told.
+    c.loop-name.invariant.2 file answer (c.in_ok-answer.ensures.same file answer told)

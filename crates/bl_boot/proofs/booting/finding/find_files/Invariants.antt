@@ -7,9 +7,12 @@ use Rattle.bl_boot.proofs.booting.finding.find_files.Given as goal
 
 abbrev pub invariant-loop-name : goal.invariant-loop-name
 invariant-loop-name g l =
-    AreFound g.F.Files.answers g.F.Files.faults (view l.description).files (map (λ n. n.now) (take l.name-index l.names))
+    AreFound g.F.Files.answers g.F.Files.faults (view l.description).files
+    (map (λ n. n.now) (take l.name-index l.names))
     l.initial.files l.files (map answer_of l.found.items)
-    × (All (λ name. IsSome (file_named name (view l.description).files)) (map (λ n. n.now) l.names) → l.files ≡ l.initial.files)
-    × ((file : List ℕ) (answer : Answer) → g.F.Files.answers l.files file answer → g.F.Files.answers l.initial.files file answer)
+    × (All (λ name. IsSome (file_named name (view l.description).files)) (map (λ n. n.now) l.names)
+    → l.files ≡ l.initial.files)
+    × ((file : List ℕ) (answer : Answer) → g.F.Files.answers l.files file answer
+    → g.F.Files.answers l.initial.files file answer)
     × (g.F.Files.faults l.initial.files ≤ g.F.Files.faults l.files)
     × (g.F.Files.faults l.files ≤ g.F.Files.faults l.initial.files + l.name-index)

@@ -10,8 +10,13 @@ loop-row-preserved g c =
     let entries = c.loop-row.entries.items in
     let entry = c.in_ok-entry_of.field-0 in
     let count = c.loop-row.invariant.1 in (
-      rw c.in_ok-push.ensures.items (entries_more (map (λ n. n.now) c.args.names.now) c.args.rows.now c.loop-row.row-index c.row-item.result
-          entries entry c.row-item.is c.loop-row-test.true c.loop-row.invariant.0 c.in_ok-entry_of.ensures.entry),
+      rw c.in_ok-push.ensures.items
+          (entries_more (map (λ n. n.now) c.args.names.now) c.args.rows.now c.loop-row.row-index
+          c.row-item.result
+          entries entry c.row-item.is c.loop-row-test.true c.loop-row.invariant.0
+          c.in_ok-entry_of.ensures.entry),
       rw (c.in_ok-push.ensures.items, length-append) (omega (arith, count)),
-      rw c.in_ok-push.ensures.items (All-append HasFewModules entries (entry ∷ []) c.loop-row.invariant.2 (few_one entry c.in_ok-entry_of.ensures.few)),
+      rw c.in_ok-push.ensures.items
+          (All-append HasFewModules entries (entry ∷ []) c.loop-row.invariant.2
+          (few_one entry c.in_ok-entry_of.ensures.few)),
     )

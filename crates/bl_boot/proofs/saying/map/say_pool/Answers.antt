@@ -8,6 +8,9 @@ use Rattle.bl_boot.proofs.saying.map.say_pool.Goals as goal
 pub returns : goal.returns
 returns g c =
     let pool = c.args.pool.now in
-    let holes : c.as_bytes.result.now ≡ codes "pool " ++ hex_hole pool.start ++ codes " " ++ hex_hole pool.end ++ codes "\n" = grind (arith, common_steps) in
-    let line : c.as_bytes.result.now ≡ pool_line pool = rw (← hex16_hole pool.start, ← hex16_hole pool.end) holes in
+    let holes : c.as_bytes.result.now
+    ≡ codes "pool " ++ hex_hole pool.start ++ codes " " ++ hex_hole pool.end ++ codes "\n" =
+    grind (arith, common_steps) in
+    let line : c.as_bytes.result.now ≡ pool_line pool =
+    rw (← hex16_hole pool.start, ← hex16_hole pool.end) holes in
     search rules

@@ -10,6 +10,9 @@ pub returns : goal.returns
 returns g c =
     let run = c.args.run.now in
     let end = run.base + run.length in
-    let holes : c.as_bytes.result.now ≡ hex_hole run.base ++ codes " " ++ hex_hole end ++ codes " " ++ kind_name run.kind ++ codes "\n" = grind (arith, common_steps) in
-    let line : c.as_bytes.result.now ≡ run_line run = rw (← hex16_hole run.base, ← hex16_hole end) holes in
+    let holes : c.as_bytes.result.now
+    ≡ hex_hole run.base ++ codes " " ++ hex_hole end ++ codes " " ++ kind_name run.kind
+    ++ codes "\n" = grind (arith, common_steps) in
+    let line : c.as_bytes.result.now ≡ run_line run =
+    rw (← hex16_hole run.base, ← hex16_hole end) holes in
     search rules

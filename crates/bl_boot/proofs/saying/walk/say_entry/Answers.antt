@@ -9,6 +9,7 @@ pub returns : goal.returns
 returns g c =
     let entry = c.args.entry in
     let limit = 2 ^ 64 - 1 in
-    let holes : c.as_bytes.result.now ≡ codes "entry " ++ hex8_hole limit entry ++ codes "\n" = grind (arith, common_steps) in
+    let holes : c.as_bytes.result.now ≡ codes "entry " ++ hex8_hole limit entry ++ codes "\n" =
+    grind (arith, common_steps) in
     let line : c.as_bytes.result.now ≡ entry_line entry = rw (← hex8_is limit entry) holes in
     search rules

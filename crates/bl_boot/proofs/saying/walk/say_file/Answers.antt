@@ -9,6 +9,8 @@ pub returns : goal.returns
 returns g c =
     let m = c.args.file.now in
     let limit = 2 ^ 64 - 1 in
-    let holes : c.as_bytes.result.now ≡ codes "initrd " ++ hex8_hole limit m.address ++ codes " " ++ decimal (length m.bytes) ++ codes "\n" = grind (arith, common_steps) in
+    let holes : c.as_bytes.result.now
+    ≡ codes "initrd " ++ hex8_hole limit m.address ++ codes " " ++ decimal (length m.bytes)
+    ++ codes "\n" = grind (arith, common_steps) in
     let line : c.as_bytes.result.now ≡ file_line m = rw (← hex8_is limit m.address) holes in
     search rules

@@ -9,6 +9,8 @@ pub returns : goal.returns
 returns g c =
     let part = c.args.part.now in
     let limit = 2 ^ 64 - 1 in
-    let holes : c.as_bytes.result.now ≡ codes "kernel " ++ hex8_hole limit part.address ++ codes " " ++ decimal part.length ++ codes "\n" = grind (arith, common_steps) in
+    let holes : c.as_bytes.result.now
+    ≡ codes "kernel " ++ hex8_hole limit part.address ++ codes " " ++ decimal part.length
+    ++ codes "\n" = grind (arith, common_steps) in
     let line : c.as_bytes.result.now ≡ kernel_line part = rw (← hex8_is limit part.address) holes in
     search rules

@@ -9,6 +9,8 @@ pub returns : goal.returns
 returns g c =
     let m = c.args.file.now in
     let limit = 2 ^ 64 - 1 in
-    let holes : c.as_bytes.result.now ≡ codes "module " ++ hex8_hole limit m.mod_start ++ codes " " ++ decimal (length m.bytes) ++ codes " " = grind (arith, common_steps) in
+    let holes : c.as_bytes.result.now
+    ≡ codes "module " ++ hex8_hole limit m.mod_start ++ codes " " ++ decimal (length m.bytes)
+    ++ codes " " = grind (arith, common_steps) in
     let line : c.as_bytes.result.now ≡ module_front m = rw (← hex8_is limit m.mod_start) holes in
     search rules

@@ -4,4 +4,5 @@ use Rattle.bl_boot.specs.WalkSays.{seen_run_line}
 use Rattle.bl_boot.proofs.saying.walk.say_runs.Given as goal
 
 abbrev pub invariant-loop-run : goal.invariant-loop-run
-invariant-loop-run g l = l.out.items ≡ l.initial.out.items ++ flat_map seen_run_line (take l.run-index l.runs)
+invariant-loop-run g l =
+    l.out.items ≡ l.initial.out.items ++ flat_map seen_run_line (take l.run-index l.runs)

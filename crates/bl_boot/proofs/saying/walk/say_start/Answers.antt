@@ -8,6 +8,7 @@ use Rattle.bl_boot.proofs.saying.walk.say_start.Goals as goal
 pub returns : goal.returns
 returns g c =
     let start = c.args.start in
-    let holes : c.as_bytes.result.now ≡ codes "map " ++ hex_hole start ++ codes " " = grind (arith, common_steps) in
+    let holes : c.as_bytes.result.now ≡ codes "map " ++ hex_hole start ++ codes " " =
+    grind (arith, common_steps) in
     let line : c.as_bytes.result.now ≡ run_start start = rw (← hex16_hole start) holes in
     search rules

@@ -8,4 +8,5 @@ use Rattle.bl_boot.proofs.saying.walk.say_walk.Goals as goal
 pub say_runs-requires : goal.say_runs-requires
 say_runs-requires g c =
     subst (λ (runs : List Region). All (λ run. end_of run ≤ region_limit) runs)
-    (ap (λ (seen : SeenFacts). seen.map) (sym c.seen.view_is) ∙ sym c.as_slice-4.ensures.value) c.requires
+    (ap (λ (seen : SeenFacts). seen.map) (sym c.seen.view_is) ∙ sym c.as_slice-4.ensures.value)
+    c.requires

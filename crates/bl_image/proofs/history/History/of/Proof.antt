@@ -1,4 +1,5 @@
--- The body makes the struct, which takes no memory. The proof picks what it says: what the writer tells that it holds.
+-- The body makes the struct, which takes no memory. The proof picks what it says: what the writer
+-- tells that it holds.
 use Rattle.std.proofs.Common.{[], ◌∷◌, unwrap_or, refl}
 use mir.Syntax.{a_type, dcons, dnil, named}
 use mir.MapTy.{inst_fn}
@@ -29,17 +30,26 @@ of_spec 𝓤 𝓛 𝓜 𝓡 wired W L g d met =
     let clauses = F.clauses W g d 𝓛 𝓜.mem 𝓡.returns in
     let inst = bounded (a_type ∷ []) (W, tt) (dcons d dnil) in
     let function = inst_fn inst code.function in
-    let stayed : Stays ended.signature.params ended.kept = (stay_none_ref (0 ∷ []) tt (plain (λ _. param 0 W)) yes, tt) in
-    proved 𝓛 ended stayed clauses 𝓜 𝓡 (Goes-none_ref 𝓛 2 (0 ∷ []) tt (plain (λ _. param 0 W)) yes, tt)
+    let stayed : Stays ended.signature.params ended.kept =
+    (stay_none_ref (0 ∷ []) tt (plain (λ _. param 0 W)) yes, tt) in
+    proved 𝓛 ended stayed clauses 𝓜 𝓡
+    (Goes-none_ref 𝓛 2 (0 ∷ []) tt (plain (λ _. param 0 W)) yes, tt)
     (F.Key.name inst) function (code.unfolded 𝓤 𝓛.H 𝓜 𝓡 wired (W, tt) d)
-    (λ κs. (shr_vals, tt)) (λ κs. (shr_Tells (named 0) κs.0 (param 0 W), tt)) (λ κs qs bounds a ghost are.
+    (λ κs. (shr_vals, tt)) (λ κs. (shr_Tells (named 0) κs.0 (param 0 W), tt))
+    (λ κs qs bounds a ghost are.
     let writer : Val = vptr a.0.ref_ptr.0 a.0.ref_ptr.1 in
     let made : H.the_row.Denot = record { bytes = unwrap_or (g.contents a.0.now) [] } in
-    let bound : (walk_of 𝓛 ended stayed clauses).Ghost = ((κs, qs, bounds, a, (writer ∷ [], tt)), ghost) in
-    qed 𝓛 ((raw (alive 𝓛 ended.signature κs qs) ⊛ ‵ (owns (types_at ended.signature.params κs) a bound.0.4)) ∷ raw ((clauses κs a).requires ghost) ∷ []) ∵
+    let bound : (walk_of 𝓛 ended stayed clauses).Ghost =
+    ((κs, qs, bounds, a, (writer ∷ [], tt)), ghost) in
+    qed 𝓛
+    ((raw (alive 𝓛 ended.signature κs qs) ⊛ ‵
+    (owns (types_at ended.signature.params κs) a bound.0.4))
+    ∷ raw ((clauses κs a).requires ghost) ∷ []) ∵
     keep ! (0 ∷ []) $ split ! $ enter ! 𝓣.C 𝓣.Λ function (writer ∷ []) _ $
     alloc_all ! (λ l. pass_all ! refl ((tt, tt), tt) $ sets ! (agg ! (no_more !)) refl (tt, tt) $
     returns ! (look_at ! 0 refl) $ free_all ! refl $
     suffices ! _ (ends_at 𝓛 ended stayed clauses bound (vstruct vnil) made (tt, tt) (tt, tt)) $
-    says ! refl $ pure_i ! (H.the_row.own_val made (vstruct vnil ∷ [])) ((λ vss. (tt, tt)), tt) ((tt, (refl, tt)), tt) $
+    says ! refl $
+    pure_i ! (H.the_row.own_val made (vstruct vnil ∷ [])) ((λ vss. (tt, tt)), tt)
+    ((tt, (refl, tt)), tt) $
     move ! (1 ∷ 2 ∷ 0 ∷ []) $ done !))

@@ -11,4 +11,5 @@ new-requires g c =
     let places = c.args.handoff.now.places in
     let all : length places ≤ c.loop-i.i = omega (arith, c.len-i-end.ensures.len) in
     let whole : take c.loop-i.i places ≡ places = take_all c.loop-i.i places all in
-    subst AreImageParts (sym (c.loop-i.invariant ∙ ap (map (part_in bytes)) whole)) (memory_parts bytes places c.requires c.len-i-end.ensures.records)
+    subst AreImageParts (sym (c.loop-i.invariant ∙ ap (map (part_in bytes)) whole))
+    (memory_parts bytes places c.requires c.len-i-end.ensures.records)

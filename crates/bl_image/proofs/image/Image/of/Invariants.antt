@@ -4,4 +4,5 @@ use Rattle.bl_image.proofs.image.Image.of.Given as goal
 
 -- the parts at the first places
 abbrev pub invariant-loop-i : goal.invariant-loop-i
-invariant-loop-i g l = l.parts.items ≡ map (part_in (g.M.PhysMem.bytes l.memory)) (take l.i l.handoff.places)
+invariant-loop-i g l =
+    l.parts.items ≡ map (part_in (g.M.PhysMem.bytes l.memory)) (take l.i l.handoff.places)

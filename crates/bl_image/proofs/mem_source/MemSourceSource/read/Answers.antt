@@ -7,6 +7,10 @@ returns-clause-gave g c =
     let bytes = c.self.inside.held.items in
     let at = c.self.inside.at in
     let n = c.min-count.result in
-    let within : at + n ≤ length bytes = omega (arith, c.min-count.ensures, c.min-most.ensures, c.len.ensures, c.self.invariant) in
-    let is = c.copy_from_slice.ensures.after ∙ ap (λ (l : List ℕ). slice_range l at (at + n)) c.deref.ensures.value in
-    came_from _ _ c.self.view_is (part_came bytes at n c.copy_from_slice.new.self (drop n c.args.out.now) within is)
+    let within : at + n ≤ length bytes =
+    omega (arith, c.min-count.ensures, c.min-most.ensures, c.len.ensures, c.self.invariant) in
+    let is =
+    c.copy_from_slice.ensures.after
+    ∙ ap (λ (l : List ℕ). slice_range l at (at + n)) c.deref.ensures.value in
+    came_from _ _ c.self.view_is
+    (part_came bytes at n c.copy_from_slice.new.self (drop n c.args.out.now) within is)

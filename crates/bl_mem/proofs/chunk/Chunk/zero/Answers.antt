@@ -10,5 +10,6 @@ returns-then-place-count-clause-after g c =
     let zeros : List ℕ = replicate c.args.count 0 in
     let many : length zeros ≡ c.args.count = length-replicate c.args.count 0 in
     rw c.zero_over.ensures.items (
-    filled_to_written 65536 c.reach.new.kept.items c.self.inside.plain place zeros (omega arith) (omega arith) (omega arith)
+    filled_to_written 65536 c.reach.new.kept.items c.self.inside.plain place zeros (omega arith)
+    (omega arith) (omega arith)
     ∙ ap (λ (bytes : List ℕ). overwrite bytes place zeros) (c.reach.ensures.same ∙ c.self.view_is))

@@ -6,7 +6,9 @@ use Rattle.bl_mem.proofs.sparse.Sparse.hold_chunk.Goals as goal
 pub returns-in_ok-insert-clause-same : goal.returns-in_ok-insert-clause-same
 returns-in_ok-insert-clause-same g c =
     let this = c.args.self.now in
-    let filled : (k : ℕ) → get_or c.in_ok-chunk.chunk k this.fill ≡ this.fill = λ k. rw c.in_ok-chunk.ensures (get_or-filled 65536 k this.fill) in
+    let filled : (k : ℕ) → get_or c.in_ok-chunk.chunk k this.fill ≡ this.fill =
+    λ k. rw c.in_ok-chunk.ensures (get_or-filled 65536 k this.fill) in
     let put = c.in_ok-insert.ensures.updates in
     let absent : is_some (get nat_cmp this.chunks c.args.number) ≡ false = search rules in
-    newly_kept this.chunks c.insert.new.self this.fill this.size c.args.number c.in_ok-chunk.chunk filled (none_of _ absent) put.1 (λ q other. put.2 q (other_key _ q other))
+    newly_kept this.chunks c.insert.new.self this.fill this.size c.args.number c.in_ok-chunk.chunk
+    filled (none_of _ absent) put.1 (λ q other. put.2 q (other_key _ q other))

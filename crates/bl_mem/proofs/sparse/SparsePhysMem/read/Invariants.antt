@@ -7,7 +7,8 @@ abbrev pub invariant-loop-done : goal.invariant-loop-done
 invariant-loop-done g l =
     record {
       within : l.done ≤ length l.out;
-      after : take l.done l.out ≡ slice_range (bytes_of l.self.chunks l.self.fill l.self.size) l.at (l.at + l.done);
+      after : take l.done l.out
+          ≡ slice_range (bytes_of l.self.chunks l.self.fill l.self.size) l.at (l.at + l.done);
     }
 
 abbrev pub decreases-loop-done : goal.decreases-loop-done

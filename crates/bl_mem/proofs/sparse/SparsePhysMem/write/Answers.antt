@@ -11,6 +11,9 @@ loop-done-preserved g c =
     record {
       within = omega arith;
       size = c.write_chunk.ensures.size ∙ c.loop-done.invariant.size;
-      after = rw (c.write_chunk.ensures.after, c.loop-done.invariant.after) (write_on (bytes_of this.chunks this.fill this.size) c.args.part.now c.args.at c.loop-done.done c.min-next.result (omega arith) (omega arith));
+      after =
+          rw (c.write_chunk.ensures.after, c.loop-done.invariant.after)
+          (write_on (bytes_of this.chunks this.fill this.size) c.args.part.now c.args.at
+          c.loop-done.done c.min-next.result (omega arith) (omega arith));
       kept = λ a had. c.write_chunk.ensures.kept a (c.loop-done.invariant.kept a had);
     }

@@ -9,7 +9,9 @@ invariant-loop-done g l =
     record {
       within : l.done ≤ length l.part;
       size : l.self.size ≡ l.fn.self.size;
-      after : bytes_of l.self.chunks l.self.fill l.self.size ≡ overwrite (bytes_of l.fn.self.chunks l.fn.self.fill l.fn.self.size) l.at (take l.done l.part);
+      after : bytes_of l.self.chunks l.self.fill l.self.size
+          ≡ overwrite (bytes_of l.fn.self.chunks l.fn.self.fill l.fn.self.size) l.at
+          (take l.done l.part);
       kept : KeepsRoom (IsHeld l.fn.self.chunks) (IsHeld l.self.chunks);
     }
 

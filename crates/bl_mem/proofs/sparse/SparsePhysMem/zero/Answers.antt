@@ -22,7 +22,9 @@ loop-at-preserved g c =
       within = omega arith;
       size = c.zero_chunk.ensures.size ∙ c.loop-at.invariant.size;
       after = rw (c.zero_chunk.ensures.after, c.loop-at.invariant.after) (
-          overwrite_more old start (replicate done 0) (replicate next 0) c.loop-at.at (omega arith) (omega arith)
-          ∙ ap (overwrite old start) (replicate-append-replicate done next 0 ∙ ap (λ n. replicate n 0) all));
+          overwrite_more old start (replicate done 0) (replicate next 0) c.loop-at.at (omega arith)
+          (omega arith)
+          ∙ ap (overwrite old start)
+          (replicate-append-replicate done next 0 ∙ ap (λ n. replicate n 0) all));
       kept = λ a had. c.zero_chunk.ensures.kept a (c.loop-at.invariant.kept a had);
     }

@@ -10,7 +10,9 @@ invariant-loop-at g l =
       from : l.range.start ≤ l.at;
       within : l.at ≤ l.range.end;
       size : l.self.size ≡ l.fn.self.size;
-      after : bytes_of l.self.chunks l.self.fill l.self.size ≡ overwrite (bytes_of l.fn.self.chunks l.fn.self.fill l.fn.self.size) l.range.start (replicate (l.at - l.range.start) 0);
+      after : bytes_of l.self.chunks l.self.fill l.self.size
+          ≡ overwrite (bytes_of l.fn.self.chunks l.fn.self.fill l.fn.self.size) l.range.start
+          (replicate (l.at - l.range.start) 0);
       kept : KeepsRoom (IsHeld l.fn.self.chunks) (IsHeld l.self.chunks);
     }
 

@@ -7,5 +7,6 @@ use Rattle.bl_plan.proofs.planner.Planner.place.Goals as goal
 
 pub take-requires-clause-free : goal.take-requires-clause-free
 take-requires-clause-free g c =
-    subst (λ (xs : List (Range ℕ)). AllOpen xs c.in-Some.at (c.in-Some.at + c.args.length)) (c.as_slice-taken.ensures.value ∙ ap (λ (p : PlannerFacts). p.taken) c.self.view_is)
+    subst (λ (xs : List (Range ℕ)). AllOpen xs c.in-Some.at (c.in-Some.at + c.args.length))
+    (c.as_slice-taken.ensures.value ∙ ap (λ (p : PlannerFacts). p.taken) c.self.view_is)
     (at_side_permitted c.args.side _ _ c.in-Some.ensures).apart

@@ -8,17 +8,24 @@ use Rattle.bl_plan.proofs.planner.Planner.take_fixed.Goals as goal
 
 pub take-requires-clause-free : goal.take-requires-clause-free
 take-requires-clause-free g c =
-    subst (λ (xs : List (Range ℕ)). AllOpen xs c.args.range.start c.args.range.end) (c.as_slice.ensures.value ∙ ap (λ (p : PlannerFacts). p.taken) c.self.view_is) c.in_default.ensures
+    subst (λ (xs : List (Range ℕ)). AllOpen xs c.args.range.start c.args.range.end)
+    (c.as_slice.ensures.value ∙ ap (λ (p : PlannerFacts). p.taken) c.self.view_is)
+    c.in_default.ensures
 
 pub returns-in-Some-clause-fault : goal.returns-in-Some-clause-fault
 returns-in-Some-clause-fault g c =
     let meets = not_all _ _ _ _ c.requires.filled c.in-Some.ensures in (
-      subst (λ (p : PlannerFacts). AllUsable p.facts c.args.range.start c.args.range.end) c.self.view_is c.if-not-is_usable.ensures.usable,
-      subst (λ (xs : List (Range ℕ)). AllOpen xs c.args.range.start c.args.range.end → ⊥) (c.as_slice.ensures.value ∙ ap (λ (p : PlannerFacts). p.taken) c.self.view_is) meets,
+      subst (λ (p : PlannerFacts). AllUsable p.facts c.args.range.start c.args.range.end)
+          c.self.view_is c.if-not-is_usable.ensures.usable,
+      subst (λ (xs : List (Range ℕ)). AllOpen xs c.args.range.start c.args.range.end → ⊥)
+          (c.as_slice.ensures.value ∙ ap (λ (p : PlannerFacts). p.taken) c.self.view_is) meets,
     )
 
 pub returns-clause-free : goal.returns-clause-free
 returns-clause-free g c = (
-  subst (λ (p : PlannerFacts). AllUsable p.facts c.args.range.start c.args.range.end) c.self.view_is c.if-not-is_usable.ensures.usable,
-  subst (λ (xs : List (Range ℕ)). AllOpen xs c.args.range.start c.args.range.end) (c.as_slice.ensures.value ∙ ap (λ (p : PlannerFacts). p.taken) c.self.view_is) c.in_default.ensures,
+  subst (λ (p : PlannerFacts). AllUsable p.facts c.args.range.start c.args.range.end)
+      c.self.view_is c.if-not-is_usable.ensures.usable,
+  subst (λ (xs : List (Range ℕ)). AllOpen xs c.args.range.start c.args.range.end)
+      (c.as_slice.ensures.value
+      ∙ ap (λ (p : PlannerFacts). p.taken) c.self.view_is) c.in_default.ensures,
 )

@@ -5,7 +5,9 @@ use Rattle.bl_probe.proofs.calls.stage.are_apart.Goals as goal
 pub loop-at-preserved : goal.loop-at-preserved
 loop-at-preserved c j k below within same =
     elim (cases_eq k c.loop-at.at) [
-      | inl last ↦ c.loop-before.invariant j (omega arith) (same ∙ ap (λ i. get_or c.args.frames.now i 0) last)
+      | inl last ↦
+          c.loop-before.invariant j (omega arith)
+          (same ∙ ap (λ i. get_or c.args.frames.now i 0) last)
       | inr earlier ↦ c.loop-at.invariant j k below (omega arith) same
     ]
 

@@ -16,7 +16,8 @@ use denote.Slice.{slice_val, shr_slice_vals, shr_slice_Tells}
 use denote.Shadow.{pure_i}
 use denote.Signature.{plain, types_at}
 use denote.Triple.Entry.{alive}
-use denote.Triple.Walked.{says, Stays, stay_none_ref, stay_none_slice, Goes-none_ref, Goes-none_slice, walk_of, ends_at}
+use denote.Triple.Walked.{says, Stays, stay_none_ref, stay_none_slice, Goes-none_ref}
+use denote.Triple.Walked.{Goes-none_slice, walk_of, ends_at}
 use Rattle.std.proofs.raw_atomic.Walks.{proved}
 use Rattle.bl_session.specs.Stores.{stored_files, item_of}
 use Rattle.std.specs.contracts.option.Option as O
@@ -66,13 +67,17 @@ and_answer_spec 𝓤 𝓛 𝓜 𝓡 wired A L g d e met drops =
     } in
     let bound : (walk_of 𝓛 ended stayed clauses).Ghost =
     ((κs, qs, bounds, a, (before ∷ [], (files ∷ [], (answer ∷ [], tt)))), ghost) in
-    qed 𝓛 ((raw (alive 𝓛 ended.signature κs qs) ⊛ ‵ (owns (types_at ended.signature.params κs) a bound.0.4))
+    qed 𝓛
+    ((raw (alive 𝓛 ended.signature κs qs) ⊛ ‵
+    (owns (types_at ended.signature.params κs) a bound.0.4))
     ∷ raw ((clauses κs a).requires ghost) ∷ []) ∵
     keep ! (0 ∷ []) $ split ! $ enter ! 𝓣.C 𝓣.Λ function (before ∷ files ∷ answer ∷ []) _ $
     alloc_all ! (λ l.
     pass_all ! refl ((tt, tt), ((tt, (tt, (record { fits = fits }, tt))), ((tt, tt), tt))) $
     sets ! (agg ! (no_more !)) refl (tt, tt) $ returns ! (look_at ! 0 refl) $ free_all ! refl $
-    suffices ! _ (ends_at 𝓛 ended stayed clauses bound (vstruct vnil) made (tt, (tt, (tt, tt))) (tt, (tt, (tt, tt)))) $
+    suffices ! _ (ends_at 𝓛 ended stayed clauses bound (vstruct vnil) made (tt, (tt, (tt, tt)))
+    (tt, (tt, (tt, tt)))) $
     says ! refl $
-    pure_i ! (H.the_row.own_val made (vstruct vnil ∷ [])) ((λ vss. (tt, tt)), tt) ((tt, (refl, tt)), tt) $
+    pure_i ! (H.the_row.own_val made (vstruct vnil ∷ [])) ((λ vss. (tt, tt)), tt)
+    ((tt, (refl, tt)), tt) $
     move ! (1 ∷ 2 ∷ 0 ∷ []) $ done !))

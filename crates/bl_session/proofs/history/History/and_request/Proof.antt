@@ -47,11 +47,14 @@ and_request_spec 𝓤 𝓛 𝓜 𝓡 wired =
     let bound : (walk_of 𝓛 F.ended stayed clauses).Ghost =
     ((κs, qs, bounds, a, (before ∷ [], (request ∷ [], tt))), ghost) in
     let passed : Fml = owns (types_at F.signature.params κs) a (before ∷ [], (request ∷ [], tt)) in
-    qed 𝓛 ((raw (alive 𝓛 F.signature κs qs) ⊛ ‵ passed) ∷ raw ((clauses κs a).requires ghost) ∷ []) ∵
+    qed 𝓛
+    ((raw (alive 𝓛 F.signature κs qs) ⊛ ‵ passed) ∷ raw ((clauses κs a).requires ghost) ∷ []) ∵
     keep ! (0 ∷ []) $ split ! $ enter ! 𝓣.C 𝓣.Λ code.function (before ∷ request ∷ []) _ $
     alloc_all ! (λ l. pass_all ! refl ((tt, tt), ((tt, tt), tt)) $
     sets ! (agg ! (no_more !)) refl (tt, tt) $ returns ! (look_at ! 0 refl) $ free_all ! refl $
-    suffices ! _ (ends_at 𝓛 F.ended stayed clauses bound (vstruct vnil) made (tt, (tt, tt)) (tt, (tt, tt))) $
+    suffices ! _ (ends_at 𝓛 F.ended stayed clauses bound (vstruct vnil) made (tt, (tt, tt))
+    (tt, (tt, tt))) $
     says ! refl $
-    pure_i ! (H.the_row.own_val made (vstruct vnil ∷ [])) ((λ vss. (tt, tt)), tt) ((tt, (refl, tt)), tt) $
+    pure_i ! (H.the_row.own_val made (vstruct vnil ∷ [])) ((λ vss. (tt, tt)), tt)
+    ((tt, (refl, tt)), tt) $
     move ! (1 ∷ 2 ∷ 0 ∷ []) $ done !))

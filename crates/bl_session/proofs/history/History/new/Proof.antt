@@ -34,5 +34,6 @@ new_spec 𝓤 𝓛 𝓜 𝓡 wired =
     sets ! (agg ! (no_more !)) refl (tt, tt) $ returns ! (look_at ! 0 refl) $ free_all ! refl $
     suffices ! _ (ends_at 𝓛 F.ended stayed clauses bound (vstruct vnil) made tt tt) $
     says ! refl $
-    pure_i ! (H.the_row.own_val made (vstruct vnil ∷ [])) ((λ vss. (tt, tt)), tt) ((tt, (refl, tt)), tt) $
+    pure_i ! (H.the_row.own_val made (vstruct vnil ∷ [])) ((λ vss. (tt, tt)), tt)
+    ((tt, (refl, tt)), tt) $
     move ! (1 ∷ 2 ∷ 0 ∷ []) $ done !))

@@ -10,8 +10,15 @@ invariant_of-result g c =
     let fallbacks = c.args.fallbacks.now in
     let same : c.as_slice-offered.result.now ≡ entries = search rules in
     let named : NameEntries (length entries) c.args.default fallbacks =
-    subst (λ (es : List (Entry g.row.A.Denot)). NameEntries (length es) c.args.default fallbacks) same (c.if-not-name_entries.ensures.0 refl) in
-    let small : IsSmall entries = subst (λ (es : List (Entry g.row.A.Denot)). IsSmall es) same (c.if-not-is_small.ensures.0 refl) in
+    subst (λ (es : List (Entry g.row.A.Denot)). NameEntries (length es) c.args.default fallbacks)
+    same (c.if-not-name_entries.ensures.0 refl) in
+    let small : IsSmall entries =
+    subst (λ (es : List (Entry g.row.A.Denot)). IsSmall es) same
+    (c.if-not-is_small.ensures.0 refl) in
     let few = few_attempts (length entries) c.args.default fallbacks named.0 named.1 in
-    let most : length (attempts_of c.args.default fallbacks) ≤ 32 = omega (arith, few, small.0) in
-    (rw c.in_ok-attempts.ensures (all_attempts (length entries) c.args.default fallbacks named.0 named.1), small.1, rw c.in_ok-attempts.ensures most)
+    let most : length (attempts_of c.args.default fallbacks) ≤ 32 = omega (arith, few, small.0) in (
+      rw c.in_ok-attempts.ensures
+          (all_attempts (length entries) c.args.default fallbacks named.0 named.1),
+      small.1,
+      rw c.in_ok-attempts.ensures most,
+    )

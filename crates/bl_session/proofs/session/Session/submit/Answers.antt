@@ -11,6 +11,11 @@ returns-clause-err g c =
     let files = files_of c.entry-entry.result.now in
     let given = g.S.Store.given in
     let number : c.len.result ≡ length w.earlier.items = search rules in
-    asked_in c.submit_files.result c.args.self.now.boot c.args.self.now.phase w.entry (drop w.next attempts) w.earlier.items w.stage c.len.result files (given c.args.store.now) (given c.submit_files.new.store)
-    (sym (ap (λ (s : SessionFacts). s.phase) c.self.view_is) ∙ ap (phase_facts attempts) c.in-Waits.is) number
-    (ap (λ (e : EntryFacts). e.files) c.entry-entry.ensures.entry ∙ ap (λ (s : SessionFacts). (entry_at s.boot.menu w.entry).files) c.self.view_is) c.submit_files.ensures.err
+    asked_in c.submit_files.result c.args.self.now.boot c.args.self.now.phase w.entry
+    (drop w.next attempts) w.earlier.items w.stage c.len.result files (given c.args.store.now)
+    (given c.submit_files.new.store)
+    (sym (ap (λ (s : SessionFacts). s.phase) c.self.view_is)
+    ∙ ap (phase_facts attempts) c.in-Waits.is) number
+    (ap (λ (e : EntryFacts). e.files) c.entry-entry.ensures.entry
+    ∙ ap (λ (s : SessionFacts). (entry_at s.boot.menu w.entry).files) c.self.view_is)
+    c.submit_files.ensures.err

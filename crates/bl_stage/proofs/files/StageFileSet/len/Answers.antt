@@ -5,7 +5,9 @@ use Rattle.bl_stage.proofs.TextLemmas.{text_of_file}
 use Rattle.bl_stage.proofs.files.StageFileSet.len.Goals as goal
 
 pub size_of-requires : goal.size_of-requires
-size_of-requires g c = (text_of_file c.args.self.now (g.M.PhysMem.bytes c.args._memory.now) c.args.file c.requires.file).0
+size_of-requires g c =
+    (text_of_file c.args.self.now (g.M.PhysMem.bytes c.args._memory.now) c.args.file
+    c.requires.file).0
 
 pub returns : goal.returns
 returns g c =

@@ -16,16 +16,32 @@ returns-clause-files g c =
     let bytes = g.M.PhysMem.bytes c.args.memory.now in
     let new = g.M.PhysMem.bytes c.make_way-made.new.memory in
     let frames = c.make_way-made.new.frames in
-    let kept : AreStaged stage = rw (← c.self.view_is) (kept_staged inside.base inside.pool inside.sizes.items inside.starts.items inside.frames.items inside.came.items inside.cells.items inside.waiting c.self.invariant) in
+    let kept : AreStaged stage =
+    rw (← c.self.view_is)
+    (kept_staged inside.base inside.pool inside.sizes.items inside.starts.items
+    inside.frames.items inside.came.items inside.cells.items inside.waiting
+    c.self.invariant) in
     elim c.if-made.branch [
       | then-made w ↦
-          let way : MadeWay inside.base (length inside.cells.items) c.args.ranges.now bytes new inside.frames.items frames = search rules in
-          let items : (with_items inside.frames frames).items ≡ frames = with_items_is inside.frames frames (search rules) in
+          let way : MadeWay inside.base (length inside.cells.items) c.args.ranges.now bytes new
+          inside.frames.items frames = search rules in
+          let items : (with_items inside.frames frames).items ≡ frames =
+          with_items_is inside.frames frames (search rules) in
           let before : inside.frames.items ≡ stage.frames = ap (λ s. s.frames) c.self.view_is in
           let same : ReadsAs bytes stage.frames new frames = rw (← before) way.same in
           let long : length frames ≡ length stage.frames = way.long ∙ ap length before in
-          let view : Staging = record { pool = inside.pool; sizes = inside.sizes.items; frames = inside.frames.items; came = inside.came.items } in
-          rw w.result-is (λ file h. ap (λ fs. file_of new (with_frames view fs) file) items ∙ ap (λ s. file_of new (with_frames s frames) file) c.self.view_is ∙ file_evacuated bytes new stage frames file kept same long h)
+          let view : Staging =
+          record {
+            pool = inside.pool;
+            sizes = inside.sizes.items;
+            frames = inside.frames.items;
+            came = inside.came.items;
+          } in
+          rw w.result-is
+          (λ file h.
+          ap (λ fs. file_of new (with_frames view fs) file) items
+          ∙ ap (λ s. file_of new (with_frames s frames) file) c.self.view_is
+          ∙ file_evacuated bytes new stage frames file kept same long h)
       | else-made w ↦ rw w.result-is tt
     ]
 
@@ -36,16 +52,31 @@ returns-clause-spots g c =
     let bytes = g.M.PhysMem.bytes c.args.memory.now in
     let new = g.M.PhysMem.bytes c.make_way-made.new.memory in
     let frames = c.make_way-made.new.frames in
-    let kept : AreStaged stage = rw (← c.self.view_is) (kept_staged inside.base inside.pool inside.sizes.items inside.starts.items inside.frames.items inside.came.items inside.cells.items inside.waiting c.self.invariant) in
+    let kept : AreStaged stage =
+    rw (← c.self.view_is)
+    (kept_staged inside.base inside.pool inside.sizes.items inside.starts.items
+    inside.frames.items inside.came.items inside.cells.items inside.waiting
+    c.self.invariant) in
     elim c.if-made.branch [
       | then-made w ↦
-          let way : MadeWay inside.base (length inside.cells.items) c.args.ranges.now bytes new inside.frames.items frames = search rules in
-          let items : (with_items inside.frames frames).items ≡ frames = with_items_is inside.frames frames (search rules) in
+          let way : MadeWay inside.base (length inside.cells.items) c.args.ranges.now bytes new
+          inside.frames.items frames = search rules in
+          let items : (with_items inside.frames frames).items ≡ frames =
+          with_items_is inside.frames frames (search rules) in
           let before : inside.frames.items ≡ stage.frames = ap (λ s. s.frames) c.self.view_is in
           let same : ReadsAs bytes stage.frames new frames = rw (← before) way.same in
           let long : length frames ≡ length stage.frames = way.long ∙ ap length before in
-          let view : Staging = record { pool = inside.pool; sizes = inside.sizes.items; frames = inside.frames.items; came = inside.came.items } in
-          rw w.result-is (ap (λ fs. spots new (with_frames view fs)) items ∙ ap (λ s. spots new (with_frames s frames)) c.self.view_is
-          ∙ spots_same stage frames bytes new (λ file h. file_evacuated bytes new stage frames file kept same long h))
+          let view : Staging =
+          record {
+            pool = inside.pool;
+            sizes = inside.sizes.items;
+            frames = inside.frames.items;
+            came = inside.came.items;
+          } in
+          rw w.result-is
+          (ap (λ fs. spots new (with_frames view fs)) items
+          ∙ ap (λ s. spots new (with_frames s frames)) c.self.view_is
+          ∙ spots_same stage frames bytes new
+          (λ file h. file_evacuated bytes new stage frames file kept same long h))
       | else-made w ↦ rw w.result-is tt
     ]

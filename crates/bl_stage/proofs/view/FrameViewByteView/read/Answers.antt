@@ -17,5 +17,12 @@ loop-done-preserved g c =
     let kept : length piece ≡ done + next - done = search (rules, places) in
     record {
       within = search (rules, places);
-      after = read_on text c.loop-done.out _ piece c.args.at done next (omega arith) (omega arith) c.loop-done.invariant.after (c.read_stretch.ensures ∙ ap (λ n. slice_range text (c.args.at + done) (c.args.at + done + n)) (search (rules, places))) (take-put_mid done (done + next - done) c.loop-done.out piece (done + next) (omega arith) (omega arith));
+      after =
+          read_on text c.loop-done.out _ piece c.args.at done next (omega arith) (omega arith)
+          c.loop-done.invariant.after
+          (c.read_stretch.ensures
+          ∙ ap (λ n. slice_range text (c.args.at + done) (c.args.at + done + n))
+          (search (rules, places)))
+          (take-put_mid done (done + next - done) c.loop-done.out piece
+          (done + next) (omega arith) (omega arith));
     }

@@ -9,5 +9,7 @@ pub returns : goal.returns
 returns g c = λ size low wide some.
     let p : Place = record { role = Module; index = 3; address = 7; length = 5 } in
     let q : Place = record { role = Kernel; index = 1; address = 16; length = c.args.long } in
-    let items : c.push-2.new.self.items ≡ part_of p 90 ∷ part_of q 0 ∷ [] = grind (arith, common_steps) in
-    two_loadable size (16 + c.args.long) _ p q 90 0 items (omega arith) (omega arith) (omega arith) some (omega arith) (omega arith) (omega arith)
+    let items : c.push-2.new.self.items ≡ part_of p 90 ∷ part_of q 0 ∷ [] =
+    grind (arith, common_steps) in
+    two_loadable size (16 + c.args.long) _ p q 90 0 items (omega arith) (omega arith) (omega arith)
+    some (omega arith) (omega arith) (omega arith)

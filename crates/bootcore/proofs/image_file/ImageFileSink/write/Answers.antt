@@ -1,4 +1,5 @@
--- The sink that takes the part holds what was taken so far, whether it stood before or was made just now.
+-- The sink that takes the part holds what was taken so far, whether it stood before or was made
+-- just now.
 use Rattle.std.proofs.Common.{◌≡◌, refl}
 use Rattle.bootcore.specs.ImageFileFacts.{contents_of}
 use Rattle.bootcore.proofs.image_file.ImageFileSink.write.Goals as goal
