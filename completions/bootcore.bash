@@ -3,7 +3,7 @@
 #   . PATH-OF-THIS-REPOSITORY/completions/bootcore.bash
 
 _bootcore() {
-    local word=${COMP_WORDS[COMP_CWORD]} before=${COMP_WORDS[COMP_CWORD - 1]} choices= option
+    local word=${COMP_WORDS[COMP_CWORD]} before=${COMP_WORDS[COMP_CWORD - 1]} choices='' option
     COMPREPLY=()
     if [ "$COMP_CWORD" = 1 ]; then
         choices='boot map walk --help'
