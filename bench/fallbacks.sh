@@ -7,6 +7,7 @@
 #
 # The program under test is the first argument, else the variable BOOTCORE, else crates/bootcore/out/bootcore. Needs what run.sh
 # needs but rustc; a folder under TMPDIR holds two files and an image of 64 MiB.
+# shellcheck source-path=SCRIPTDIR source=measure.sh
 source "$(dirname "${BASH_SOURCE[0]}")/measure.sh"
 
 bootcore=$(realpath -m "${1:-${BOOTCORE:-$here/../crates/bootcore/out/bootcore}}")
@@ -44,12 +45,6 @@ for count in "${counts[@]}"; do
     weigh_command "${boot[@]}"
     [ "$(tail -n 1 said)" = "booted $count good" ] || fail "bootcore said: $(cat said)"
     [ "$(grep -c '^refused [0-9]* 12$' said)" = "$count" ] || fail "bootcore said: $(cat said)"
-    least=
-    for ((round = 0; round < rounds; round++)); do
-        time_command "${boot[@]}"
-        if [ -z "$least" ] || [ "$micros" -lt "$least" ]; then
-            least=$micros
-        fi
-    done
+    time_best "${boot[@]}"
     echo "$count refused: $(ratio "$least" 1000000) s, $kib KiB"
 done

@@ -10,6 +10,7 @@ set -eu
 file=$1
 bytes=$(($2))
 
+# shellcheck source-path=SCRIPTDIR source=numbers.sh
 source "$(dirname "${BASH_SOURCE[0]}")/numbers.sh"
 
 # From 0x1f1 on: setup_sects, .. vid_mode, root_dev, boot_flag, jump, HdrS, version, .. loadflags, .. initrd_addr_max,

@@ -15,6 +15,7 @@ bytes=$(($3))
 base=0x200000
 bss=0x100000
 
+# shellcheck source-path=SCRIPTDIR source=numbers.sh
 source "$(dirname "${BASH_SOURCE[0]}")/numbers.sh"
 
 elf_header() {

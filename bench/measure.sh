@@ -1,3 +1,4 @@
+# shellcheck shell=bash disable=SC2034 # its variables are used where it is sourced
 # Sourced by the scripts beside it: a folder to work in, and how a command is timed and weighed.
 set -euo pipefail
 export LC_ALL=C
@@ -40,6 +41,18 @@ time_command() {
     local start=${EPOCHREALTIME/./}
     call "$@"
     micros=$((${EPOCHREALTIME/./} - start))
+}
+
+# Runs a command in each round and sets `least`, the microseconds of the best of all rounds.
+time_best() {
+    local round
+    least=
+    for ((round = 0; round < rounds; round++)); do
+        time_command "$@"
+        if [ -z "$least" ] || [ "$micros" -lt "$least" ]; then
+            least=$micros
+        fi
+    done
 }
 
 # Runs a command and sets `kib`, its peak memory, or `-` where nothing tells it.

@@ -1,3 +1,4 @@
+# shellcheck shell=bash
 # Sourced by the scripts beside it: little-endian numbers of 16 and of 32 bits, and zeros, on standard output.
 
 half() {

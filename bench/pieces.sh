@@ -7,6 +7,7 @@
 # again where the pool begins with the module's own addresses, so that each of its frames is moved before it is loaded. The time
 # of the kernel alone is taken off. The time for a piece should not rise with their number, and the peak memory should be at most
 # three times the files. Needs what run.sh needs; a folder under TMPDIR holds a module and an image, 2 GB at most.
+# shellcheck source-path=SCRIPTDIR source=measure.sh
 source "$(dirname "${BASH_SOURCE[0]}")/measure.sh"
 
 bootcore=$(realpath -m "${1:-${BOOTCORE:-$here/../crates/bootcore/out/bootcore}}")
@@ -39,23 +40,11 @@ file = "module"
 TOML
 }
 
-# Sets `least`, the microseconds of the best round.
-time_boot() {
-    local round
-    least=
-    for ((round = 0; round < rounds; round++)); do
-        time_command "$bootcore" boot "$1" --out image --order "$2"
-        if [ -z "$least" ] || [ "$micros" -lt "$least" ]; then
-            least=$micros
-        fi
-    done
-}
-
 # Prints the row of a way to boot, of a number of pieces.
 measure() {
     local name=$1 pieces=$2 description=$3 order=$4 each times=-
     weigh_command "$bootcore" boot "$description" --out image --order "$order"
-    time_boot "$description" "$order"
+    time_best "$bootcore" boot "$description" --out image --order "$order"
     each=$(awk -v t=$((least - alone)) -v n="$pieces" 'BEGIN { printf "%.2f", t / n }')
     if [ "$kib" != - ]; then
         times=$(ratio $((kib << 10)) $(($(cat kernel.elf module | wc -c))))
@@ -68,7 +57,7 @@ measure() {
 "$here/make_kernel.sh" kernel.elf 1 0x10000
 : > module
 describe 0x60000000 32 > beside.toml
-time_boot beside.toml forward
+time_best "$bootcore" boot beside.toml --out image --order forward
 alone=$least
 
 printf '%-17s %9s %9s %11s   %s\n' order pieces seconds 'us / piece' 'memory / files'

@@ -14,7 +14,9 @@
 # outside: COUNT calls less the time of none. The proved program is the crate written by write_reader below. Where the
 # variable READER does not name one it is proved and built here, beside copies of the crates that it calls with what of
 # them is built already; without rt its column is left out. Needs bash 5, coreutils, awk and rustc.
+# shellcheck source-path=SCRIPTDIR source=measure.sh
 source "$(dirname "${BASH_SOURCE[0]}")/measure.sh"
+# shellcheck source-path=SCRIPTDIR source=numbers.sh
 source "$here/numbers.sh"
 
 segments=5
@@ -106,24 +108,12 @@ build_reader() {
     [ -x "$reader" ] || { tail -n 20 reader.log >&2; exit 1; }
 }
 
-# Sets `least`, the microseconds of the best of all rounds.
-time_calls() {
-    local round
-    least=
-    for ((round = 0; round < rounds; round++)); do
-        time_command "$@"
-        if [ -z "$least" ] || [ "$micros" -lt "$least" ]; then
-            least=$micros
-        fi
-    done
-}
-
 # Sets `rate`, the calls in a second of a reader of a file.
 rate_reader() {
     local none
-    time_calls "$1" "$2" "$3" 0
+    time_best "$1" "$2" "$3" 0
     none=$least
-    time_calls "$1" "$2" "$3" "$calls"
+    time_best "$1" "$2" "$3" "$calls"
     rate=$(awk -v n="$calls" -v t=$((least - none)) 'BEGIN { if (t > 0) printf "%d", n / t * 1e6; else print 0 }')
 }
 

@@ -28,6 +28,7 @@
 # fill every program writes the whole memory. The images are compared with each other, and a difference ends the run with
 # status 1. A goal that is missed is told and does not end it: a busy machine misses goals too. Where all entries were
 # measured, readers.sh runs at the end.
+# shellcheck source-path=SCRIPTDIR source=measure.sh
 source "$(dirname "${BASH_SOURCE[0]}")/measure.sh"
 
 goal=1.2

@@ -6,6 +6,7 @@
 #
 # The program under test is the argument, else crates/bootcore/out/bootcore. Both say the same, which is compared. Needs
 # what run.sh needs, and rustc.
+# shellcheck source-path=SCRIPTDIR source=measure.sh
 source "$(dirname "${BASH_SOURCE[0]}")/measure.sh"
 
 goal=1.2
