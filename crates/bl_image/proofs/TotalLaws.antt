@@ -15,11 +15,11 @@ use Rattle.std.proofs.lemmas.List.Elements.{All-cons, All-nil}
 use Rattle.std.proofs.lemmas.List.Concat.{flat_map-cons}
 use Rattle.bl_mem.proofs.WordLaws.{u32_at-lt}
 use Rattle.bl_mem.specs.Words.{number_at, u32_at, u64_at, u32_bytes, u64_bytes}
-use Rattle.bl_plan.specs.declared.role.Role.{Role}
-use Rattle.bl_plan.specs.declared.role.Role.TheVariants.{Kernel, Module, Information, BootParams}
-use Rattle.bl_plan.specs.declared.role.Role.TheVariants.{CommandLine, Gdt, Initrd}
+use Rattle.bl_plan.specs.declared.part.Role.{Role}
+use Rattle.bl_plan.specs.declared.part.Role.TheVariants.{Kernel, Module, Information, BootParams}
+use Rattle.bl_plan.specs.declared.part.Role.TheVariants.{CommandLine, Gdt, Initrd}
 use Rattle.bl_plan.specs.Roles as roles
-use Rattle.bl_plan.specs.declared.place.Place.{Place}
+use Rattle.bl_plan.specs.declared.part.Place.{Place}
 use Rattle.bl_plan.specs.declared.protocol.Protocol.{Protocol}
 use Rattle.bl_plan.specs.declared.protocol.Protocol.TheVariants.{Multiboot2, Linux}
 use Rattle.bl_plan.specs.Protocols as protocols

@@ -1,6 +1,6 @@
 -- What the code keeps as it reads records. Own.
 use Rattle.std.specs.Prelude.{ℕ, ◌+◌, ◌<◌, ◌≤◌, ◌^◌, List, [], ◌∷◌, length, All, AllPairs}
-use Rattle.bl_plan.specs.declared.place.Place.{Place}
+use Rattle.bl_plan.specs.declared.part.Place.{Place}
 use Rattle.bl_load.specs.Handover.{Part}
 use Rattle.bl_load.specs.HandoffFacts.{Ascends}
 use Rattle.bl_image.specs.Spellable.{PlaceFits}

@@ -1,6 +1,6 @@
 -- What an image has room for. Own.
 use Rattle.std.specs.Prelude.{◌<◌, ◌^◌, List, length, All}
-use Rattle.bl_plan.specs.declared.place.Place.{Place}
+use Rattle.bl_plan.specs.declared.part.Place.{Place}
 use Rattle.bl_load.specs.declared.registers.Registers.{Registers}
 use Rattle.bl_load.specs.Handover.{Part, Handover}
 use Rattle.bl_image.specs.Image.{register_numbers}

@@ -11,7 +11,7 @@ use Rattle.std.proofs.lemmas.Simd.{map-map}
 use Rattle.std.specs.declared.ops.Range.{Range}
 use Rattle.bl_mem.specs.Files.{AllBeside, IsBeside}
 use Rattle.bl_mem.specs.Memory.{AllHaveRoom, HasRoom}
-use Rattle.bl_plan.specs.declared.place.Place.{Place}
+use Rattle.bl_plan.specs.declared.part.Place.{Place}
 use Rattle.bl_plan.specs.Placed.{Covers, range_of}
 use Rattle.bl_load.specs.declared.plan.Content.{Content}
 use Rattle.bl_load.specs.declared.plan.Content.TheVariants.{Own, File, Block}

@@ -3,7 +3,7 @@ ghost use Rattle.std.specs.Prelude.{◌≡◌, ◌≤◌, ◌<◌, ◌^◌, ◌+
 ghost use Rattle.bl_load.specs.Value.{module_file};
 ghost use Rattle.bl_load.specs.Reading.{multiboot2};
 ghost use Rattle.bl_load.specs.KernelKept.{AreLoadable, kernel_by};
-ghost use Rattle.bl_plan.specs.declared.role.Role.TheVariants as role;
+ghost use Rattle.bl_plan.specs.declared.part.Role.TheVariants as role;
 ghost use Rattle.bl_load.specs.Rows.{module_length};
 ghost use Rattle.bl_load.specs.Parts as parts;
 ghost use Rattle.bl_load.specs.Parts.{content_of};

@@ -1,7 +1,7 @@
 //! The contents of a Linux entry's parts, at their places.
 ghost use Rattle.std.specs.Prelude.{◌≡◌, ◌≤◌, ◌<◌, ◌^◌, All, IfOk, length, map};
 ghost use Rattle.bl_params.specs.BootParams as params;
-ghost use Rattle.bl_plan.specs.declared.role.Role.TheVariants as role;
+ghost use Rattle.bl_plan.specs.declared.part.Role.TheVariants as role;
 ghost use Rattle.bl_load.specs.Value.{initrd_file};
 ghost use Rattle.bl_load.specs.Linux.{IsLinuxKernel};
 ghost use Rattle.bl_load.specs.Addresses as addresses;

@@ -1,11 +1,9 @@
 //! A planner.
 use crate::blocked::taken_stretch;
-use crate::choice::Choice;
 use crate::fault::PlanFault;
 use crate::order::position_for;
-use crate::row::Row;
+use crate::part::{Choice, Row, Side};
 use crate::search::{is_permitted, place_at_side};
-use crate::side::Side;
 use bl_map::Machine;
 use std::alloc::{AllocError, Allocator};
 use std::marker::Model;
