@@ -9,7 +9,6 @@ mod entry;
 mod handoff;
 mod information;
 mod kernel;
-mod kernel_file;
 mod laws;
 mod linux;
 mod linux_contents;

@@ -10,7 +10,7 @@ ghost use Rattle.bl_load.specs.ReadKept.{FitsTold};
 ghost use Rattle.bl_load.specs.SourceKept.{texts_in, reading_in, value_in, IsReady};
 
 use crate::contents::multiboot2_content;
-use crate::kernel_file::KernelFile;
+use crate::kernel::KernelFile;
 use crate::linux_contents::linux_content;
 use crate::plan::{Content, PlannedPart};
 use crate::source::Source;

@@ -16,8 +16,7 @@ ghost use Rattle.bl_load.specs.ReadKept.{reading_by, protocol_by, CanEnter};
 ghost use Rattle.bl_load.specs.SourceKept.{texts_in, reading_in, value_in, IsReady};
 
 use crate::addresses::address_of;
-use crate::kernel::Kernel;
-use crate::kernel_file::KernelFile;
+use crate::kernel::{Kernel, KernelFile};
 use crate::linux_rows::linux_rows;
 use crate::parts::parts_at;
 use crate::plan::{Plan, PlannedPart};

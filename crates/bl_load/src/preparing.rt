@@ -9,8 +9,7 @@ ghost use Rattle.bl_load.specs.PlanFacts.{handover_by};
 ghost use Rattle.bl_load.specs.Kept.{lengths_of, IsLoadable, IsLean, lines_by};
 
 use crate::entry::{Entry, MOST_LINE, Module};
-use crate::kernel::read_kernel;
-use crate::kernel_file::KernelFile;
+use crate::kernel::{KernelFile, read_kernel};
 use crate::linux::read_linux;
 use crate::placing::plan_parts;
 use crate::plan::Plan;

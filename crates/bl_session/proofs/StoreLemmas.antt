@@ -14,8 +14,8 @@ use Rattle.std.proofs.lemmas.Bool.Decides.{not_from_Decides}
 use Rattle.std.specs.Prelude.{slice_get, slice_index_or, option_map}
 use Rattle.bl_stage.specs.Spots.{piece_of}
 use Rattle.bl_session.specs.declared.words.Ticket.{Ticket}
-use Rattle.bl_session.specs.declared.completion.Completion.{Completion}
-use Rattle.bl_session.specs.declared.completion.Completion.TheVariants.{Piece, Fault}
+use Rattle.bl_session.specs.declared.store.Completion.{Completion}
+use Rattle.bl_session.specs.declared.store.Completion.TheVariants.{Piece, Fault}
 use Rattle.bl_session.specs.declared.request.Request.{Request}
 use Rattle.bl_session.specs.declared.queue.Order.{Order}
 use Rattle.bl_session.specs.declared.queue.Order.TheVariants.{Forward, Reverse}

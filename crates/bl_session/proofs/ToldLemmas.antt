@@ -4,7 +4,7 @@ use Rattle.std.proofs.Common.{Some, Result, Ok, Err, IfOk, OnErr, IfSome, IsNone
 use Rattle.std.proofs.Common.{length-append, length-take, length-drop, refl, ap, ◌∙◌, arith}
 use Rattle.std.specs.Prelude.{slice_get, option_map}
 use Rattle.std.proofs.lemmas.Option.{slice_get-get_or}
-use Rattle.bl_session.specs.declared.completion.Completion.{Completion}
+use Rattle.bl_session.specs.declared.store.Completion.{Completion}
 use Rattle.bl_session.specs.declared.request.Request.{Request}
 use Rattle.bl_session.specs.declared.queue.Order.{Order}
 use Rattle.bl_session.specs.Boot.{EventFacts}

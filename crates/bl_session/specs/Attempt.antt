@@ -6,8 +6,8 @@ use Rattle.bl_load.specs.After.{IsAfter}
 use Rattle.bl_load.specs.declared.refusal.Refusal.{Refusal}
 use Rattle.bl_stage.specs.Ranges.{IsSameOutside}
 use Rattle.bl_stage.specs.Spots.{Spot, spots, bytes_of}
-use Rattle.bl_session.specs.declared.attempt.Attempt.{Attempt}
-use Rattle.bl_session.specs.declared.attempt.Attempt.TheVariants.{Waits, HandedOver, Refused}
+use Rattle.bl_session.specs.declared.attempting.Attempt.{Attempt}
+use Rattle.bl_session.specs.declared.attempting.Attempt.TheVariants.{Waits, HandedOver, Refused}
 use Rattle.bl_session.specs.Ends.{handed, refused, EndsIn, size_refusal, lengths_of}
 use Rattle.bl_session.specs.Menu.{EntryFacts, value_with}
 use Rattle.bl_session.specs.Pieces.{are_whole, awaited}

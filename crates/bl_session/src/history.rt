@@ -3,9 +3,9 @@ ghost use Rattle.std.specs.Prelude.{◌≡◌, List, [], ◌∷◌, ◌++◌};
 ghost use Rattle.std.specs.Borrow.{ftrue};
 ghost use Rattle.bl_session.specs.History.{Item};
 
-use crate::completion::Completion;
 use crate::fetched::Fetched;
 use crate::request::Request;
+use crate::store::Completion;
 use std::alloc::Allocator;
 use std::marker::Model;
 

@@ -32,7 +32,7 @@ use Rattle.bl_load.proofs.RowPlaceLemmas.{Anywhere, each_place}
 use Rattle.bl_walk.specs.Seen.{kernel_in}
 use Rattle.bl_walk.specs.SeenFacts.{SeenFacts}
 use Rattle.bl_walk.specs.Shown.{ShowsSegments, segment_part}
-use Rattle.bl_walk.specs.declared.seen_part.SeenPart.{SeenPart}
+use Rattle.bl_walk.specs.declared.seen.SeenPart.{SeenPart}
 use Rattle.bl_walk.proofs.PartLemmas.{part_of}
 
 abbrev pub is_kernel_place : Place → Bool

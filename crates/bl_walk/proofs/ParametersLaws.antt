@@ -38,7 +38,7 @@ use Rattle.bl_load.proofs.LinuxLemmas.{linux_rows_are_rows, linux_rowed}
 use Rattle.bl_load.proofs.LinuxToldLemmas.{initrd_fits}
 use Rattle.bl_load.proofs.RowPlaceLemmas.{are_below, are_filled}
 use Rattle.bl_walk.specs.Inside.{bytes_in}
-use Rattle.bl_walk.specs.declared.seen_part.SeenPart.{SeenPart}
+use Rattle.bl_walk.specs.declared.seen.SeenPart.{SeenPart}
 use Rattle.bl_walk.specs.Seen.{ParametersSay, IsLine, IsInitrd, ParametersShow, IsSeen, kernel_in}
 use Rattle.bl_walk.specs.SeenFacts.{SeenFacts, SeenFileFacts}
 use Rattle.bl_walk.specs.Shown.{ShowsEntry, ShowsKernel, ShowsFiles, ShowsPayload, HasByteLines}
