@@ -3,13 +3,13 @@ ghost use Rattle.std.specs.Prelude.{◌≡◌, ◌⊎◌, ◌+◌, ◌<◌, ◌^
 ghost use Rattle.bl_boot.specs.Walked.{IsWalked, IsBlamed, bad_image_line};
 ghost use Rattle.bl_boot.specs.WalkKept.{WalkEnds, faults_of};
 
-mod fault;
-
 use crate::saying::say_walk;
 use crate::walking::fault::WalkEnd;
 use bl_image::{Source, read_image};
 use bl_walk::walk;
 use std::alloc::{AllocError, Allocator};
+
+mod fault;
 
 /// The same as `walk_to`, with its end in place of the status.
 fn run_walk<A: Allocator + Copy, R: Source, B: Allocator>(

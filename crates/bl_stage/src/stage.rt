@@ -1,11 +1,4 @@
 //! An entry's files, staged in frames of the pool.
-
-mod beginning;
-mod evacuating;
-mod putting;
-
-pub use putting::Put;
-
 use crate::cell::Cell;
 use crate::view::FrameView;
 use bl_map::frames_of;
@@ -13,6 +6,12 @@ use bl_mem::PhysMem;
 use std::alloc::Allocator;
 use std::marker::Model;
 use std::ops::Range;
+
+mod beginning;
+mod evacuating;
+mod putting;
+
+pub use putting::Put;
 
 /// An entry's files, whose bytes lie in frames of the machine's pool, or will. Files go by their
 /// place in the list of sizes, from 0 on, and a file's pieces of 4096 bytes likewise.
