@@ -2,7 +2,7 @@
 ghost use Rattle.std.specs.Prelude.{◌≡◌, ◌<◌, ◌^◌, All, IfOk, length, map};
 ghost use Rattle.bl_load.specs.Value.{HasFewModules};
 ghost use Rattle.bl_session.specs.Menu.{facts_of};
-ghost use Rattle.bl_session.specs.declared.menu.MenuFault.TheVariants as menu_fault;
+ghost use Rattle.bl_session.specs.declared.menu.fault.MenuFault.TheVariants as menu_fault;
 ghost use Rattle.bl_boot.specs.Attempted as attempted;
 ghost use Rattle.bl_boot.specs.Attempted.{entry_facts};
 ghost use Rattle.bl_desc.specs.Kept.{HasMenu, entry_view, module_view, view};
