@@ -1,6 +1,6 @@
 use Rattle.std.proofs.Common.{◌≡◌, ◌++◌, drop}
 use Rattle.bl_load.specs.Rows.{segment_rows}
-use Rattle.bl_load.proofs.rows.push_segment_rows.Given as goal
+use Rattle.bl_load.proofs.rows.kernel.push_segment_rows.Given as goal
 
 -- the rows so far, and those that are left, are all
 abbrev pub invariant-loop-index : goal.invariant-loop-index
