@@ -3,7 +3,7 @@ use Rattle.std.specs.Prelude.{codes}
 use Rattle.std.proofs.lemmas.Grind.{common_steps}
 use Rattle.bl_boot.specs.WalkSays.{run_start}
 use Rattle.bl_boot.proofs.HexLemmas.{hex_hole, hex16_hole}
-use Rattle.bl_boot.proofs.saying.walk.say_start.Goals as goal
+use Rattle.bl_boot.proofs.saying.walk.runs.say_start.Goals as goal
 
 pub returns : goal.returns
 returns g c =

@@ -1,7 +1,7 @@
 use Rattle.std.proofs.Common.{◌≡◌, ◌++◌, take}
 use Rattle.std.specs.List.{flat_map}
 use Rattle.bl_boot.specs.WalkSays.{seen_run_line}
-use Rattle.bl_boot.proofs.saying.walk.say_runs.Given as goal
+use Rattle.bl_boot.proofs.saying.walk.runs.say_runs.Given as goal
 
 abbrev pub invariant-loop-run : goal.invariant-loop-run
 invariant-loop-run g l =

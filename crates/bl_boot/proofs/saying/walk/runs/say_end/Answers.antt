@@ -2,7 +2,7 @@ use Rattle.std.proofs.Common.{rules, arith, ◌≡◌, ◌++◌}
 use Rattle.std.proofs.lemmas.Grind.{common_steps}
 use Rattle.bl_boot.specs.Says.{hex16}
 use Rattle.bl_boot.proofs.HexLemmas.{hex_hole, hex16_hole}
-use Rattle.bl_boot.proofs.saying.walk.say_end.Goals as goal
+use Rattle.bl_boot.proofs.saying.walk.runs.say_end.Goals as goal
 
 pub returns : goal.returns
 returns g c =
