@@ -1,7 +1,7 @@
 use Rattle.std.proofs.Common.{◌≤◌, Bool, true, false, arith}
 use Rattle.std.specs.Prelude.{is_some}
 use Rattle.bl_mbi.specs.Size.{load_base_size}
-use Rattle.bl_probe.proofs.calls.upper.write_info.facts_of.Goals as goal
+use Rattle.bl_probe.proofs.calls.upper.write_info.facts.facts_of.Goals as goal
 
 most_load_base : (b : Bool) → load_base_size b ≤ 16
 most_load_base true = omega arith

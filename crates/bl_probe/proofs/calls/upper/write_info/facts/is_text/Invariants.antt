@@ -1,5 +1,5 @@
 use Rattle.std.proofs.Common.{◌≢◌, All, take}
-use Rattle.bl_probe.proofs.calls.upper.write_info.is_text.Given as goal
+use Rattle.bl_probe.proofs.calls.upper.write_info.facts.is_text.Given as goal
 
 -- no byte so far is zero
 abbrev pub invariant-loop-byte : goal.invariant-loop-byte
