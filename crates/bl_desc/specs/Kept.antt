@@ -1,7 +1,7 @@
 -- How the code keeps what a description says, and how its readers answer. Own.
 use Rattle.std.specs.Prelude.{◌≡◌, ◌<◌, ◌≤◌, length, map, All, Option, Some, None, Result, Ok, Err}
-use Rattle.bl_desc.specs.Described.{File, Module, Form, multiboot2, linux, Entry, Described}
-use Rattle.bl_desc.specs.Described.{most_entries}
+use Rattle.bl_desc.specs.Described.{File, Described}
+use Rattle.bl_desc.specs.Entries.{Module, Form, multiboot2, linux, Entry, most_entries}
 use Rattle.bl_desc.specs.declared.desc.FileRow.{FileRow}
 use Rattle.bl_desc.specs.declared.desc.EntryRow.{EntryRow}
 use Rattle.bl_desc.specs.declared.form.EntryForm.{EntryForm}
