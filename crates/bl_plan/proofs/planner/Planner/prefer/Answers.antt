@@ -2,7 +2,7 @@ use Rattle.std.proofs.Common.{◌+◌, ℕ, List, ap, subst, ◌∙◌}
 use Rattle.std.specs.declared.ops.Range.{Range}
 use Rattle.bl_plan.specs.Permitted.{AllOpen}
 use Rattle.bl_plan.specs.Planned.{PlannerFacts}
-use Rattle.bl_plan.proofs.planner.choosing.Planner.prefer.Goals as goal
+use Rattle.bl_plan.proofs.planner.Planner.prefer.Goals as goal
 
 pub take-requires-clause-free : goal.take-requires-clause-free
 take-requires-clause-free g c =

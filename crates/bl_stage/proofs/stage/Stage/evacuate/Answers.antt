@@ -6,8 +6,8 @@ use Rattle.bl_stage.specs.Cells.{ReadsAs, MadeWay}
 use Rattle.bl_stage.specs.Spots.{spots}
 use Rattle.bl_stage.proofs.FileLemmas.{kept_staged, file_evacuated}
 use Rattle.bl_stage.proofs.SpotLemmas.{spots_same}
-use Rattle.bl_stage.proofs.stage.evacuating.Stage.evacuate.Goals as goal
-use Rattle.bl_stage.proofs.stage.evacuating.Stage.evacuate.Goals.{then-made, else-made}
+use Rattle.bl_stage.proofs.stage.Stage.evacuate.Goals as goal
+use Rattle.bl_stage.proofs.stage.Stage.evacuate.Goals.{then-made, else-made}
 
 pub returns-clause-files : goal.returns-clause-files
 returns-clause-files g c =

@@ -6,7 +6,7 @@ use Rattle.bl_stage.specs.Pieces.{slot_in, is_piece}
 use Rattle.bl_stage.proofs.FileLemmas.{IsPiece, kept_staged, found_piece, piece_is, piece_in_file}
 use Rattle.bl_stage.proofs.FileLemmas.{piece_in_others}
 use Rattle.bl_stage.proofs.SpotLemmas.{spots_put}
-use Rattle.bl_stage.proofs.stage.putting.Stage.put.Goals as goal
+use Rattle.bl_stage.proofs.stage.Stage.put.Goals as goal
 
 pub returns-clause-in_file : goal.returns-clause-in_file
 returns-clause-in_file g c =

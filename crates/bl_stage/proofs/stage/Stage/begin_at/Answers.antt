@@ -2,7 +2,7 @@ use Rattle.std.proofs.Common.{◌≡◌, ◌<◌, ◌/◌, ℕ, length, arith, a
 use Rattle.std.specs.declared.ops.Range.{Range}
 use Rattle.std.proofs.lemmas.List.{length-map}
 use Rattle.bl_stage.proofs.TableLemmas.{read_number, numbers_apart}
-use Rattle.bl_stage.proofs.stage.beginning.Stage.begin_at.Goals as goal
+use Rattle.bl_stage.proofs.stage.Stage.begin_at.Goals as goal
 
 pub begin_in-requires-clause-low : goal.begin_in-requires-clause-low
 begin_in-requires-clause-low g c = λ k h.

@@ -3,7 +3,7 @@ use Rattle.std.specs.declared.ops.Range.{Range}
 use Rattle.bl_plan.specs.Permitted.{AllOpen}
 use Rattle.bl_plan.specs.Planned.{PlannerFacts}
 use Rattle.bl_plan.proofs.SearchLemmas.{at_side_permitted}
-use Rattle.bl_plan.proofs.planner.choosing.Planner.place.Goals as goal
+use Rattle.bl_plan.proofs.planner.Planner.place.Goals as goal
 
 pub take-requires-clause-free : goal.take-requires-clause-free
 take-requires-clause-free g c =

@@ -1,7 +1,7 @@
 use Rattle.std.proofs.Common.{arith}
 use Rattle.std.proofs.lemmas.Result.{err_from_is_err_and}
 use Rattle.bl_plan.proofs.PlaceLemmas.{fixed_chosen, fixed_fault}
-use Rattle.bl_plan.proofs.planner.choosing.Planner.place_row.Goals as goal
+use Rattle.bl_plan.proofs.planner.Planner.place_row.Goals as goal
 
 pub returns-in_err-take_fixed-in-Fixed-clause-fault : goal.returns-in_err-take_fixed-in-Fixed-clause-fault
 returns-in_err-take_fixed-in-Fixed-clause-fault g c =
