@@ -9,7 +9,7 @@ use Rattle.bl_session.specs.Menu.{EntryFacts, facts_of}
 use Rattle.bl_session.specs.declared.menu.fault.MenuFault.{MenuFault}
 use Rattle.bl_session.specs.declared.menu.fault.MenuFault.TheVariants.{BadIndex, TooMany, NoMemory}
 use Rattle.bl_desc.specs.declared.desc.EntryRow.{EntryRow}
-use Rattle.bl_desc.specs.Kept.{entry_view}
+use Rattle.bl_desc.specs.Views.{entry_view}
 use Rattle.bl_boot.specs.Attempted.{entry_facts}
 
 -- a menu that is small, and whose indices name entries, has no fault; memory may run out

@@ -2,4 +2,4 @@ pub mod Values
 pub mod Kinds
 pub mod Entries
 pub mod Described
-pub mod Kept
+pub mod Views

@@ -4,7 +4,7 @@ ghost use Rattle.toml.specs.View.{view, table_view, items_view};
 ghost use Rattle.bl_desc.specs.Values as values;
 ghost use Rattle.bl_desc.specs.Entries as spec;
 ghost use Rattle.bl_desc.specs.Entries.{most_entries};
-ghost use Rattle.bl_desc.specs.Kept.{Gives, entry_view};
+ghost use Rattle.bl_desc.specs.Views.{Gives, entry_view};
 
 use crate::desc::{EntryRow, MOST_ENTRIES};
 use crate::fault::DescFault;

@@ -3,7 +3,7 @@ ghost use Rattle.std.specs.Prelude.{◌≡◌, [], map, codes};
 ghost use Rattle.toml.specs.View.{view, table_view, items_view};
 ghost use Rattle.bl_desc.specs.Values as values;
 ghost use Rattle.bl_desc.specs.Entries as spec;
-ghost use Rattle.bl_desc.specs.Kept.{Gives, module_view};
+ghost use Rattle.bl_desc.specs.Views.{Gives, module_view};
 
 use crate::fault::DescFault;
 use crate::form::{MOST_MODULES, ModuleRow, Modules};

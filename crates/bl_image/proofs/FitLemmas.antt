@@ -11,7 +11,8 @@ use Rattle.bl_load.specs.Handover.{Part, end_of}
 use Rattle.bl_load.proofs.HeldLemmas.{AllPairs-map}
 use Rattle.bl_image.specs.Image.{register_numbers}
 use Rattle.bl_image.specs.ImageParts.{IsKept}
-use Rattle.bl_image.specs.Spellable.{FitsRecord, IsSpellable, PlaceFits, AreSpellable}
+use Rattle.bl_image.specs.Spellable.{FitsRecord, IsSpellable}
+use Rattle.bl_image.specs.RecordsKept.{PlaceFits, AreSpellable}
 use Rattle.bl_image.proofs.Spelled.{EndsIn, length-place_bytes}
 
 -- places that a handoff keeps fit

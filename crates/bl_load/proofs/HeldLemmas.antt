@@ -21,7 +21,8 @@ use Rattle.bl_load.specs.Handover.{part_at, written}
 use Rattle.bl_load.specs.Place.{place_of}
 use Rattle.bl_load.specs.PlanFacts.{file_text, content_by, bytes_by, part_by, part_in, places_of}
 use Rattle.bl_load.specs.HandoffFacts.{Ascends}
-use Rattle.bl_load.specs.Kept.{lengths_of, content_length, IsThere, IsBacked, IsLoadable, CanLoad}
+use Rattle.bl_load.specs.Kept.{CanLoad}
+use Rattle.bl_load.specs.Loadable.{lengths_of, content_length, IsThere, IsBacked, IsLoadable}
 use Rattle.bl_load.proofs.BlockLemmas.{length-block_of}
 use Rattle.bl_load.proofs.WrittenLemmas.{EndsWithin, IsBefore, Has, length-written, written_in}
 use Rattle.bl_load.proofs.WrittenLemmas.{written_elsewhere}

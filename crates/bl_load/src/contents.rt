@@ -8,7 +8,7 @@ ghost use Rattle.bl_load.specs.Rows.{module_length};
 ghost use Rattle.bl_load.specs.Parts as parts;
 ghost use Rattle.bl_load.specs.Parts.{content_of};
 ghost use Rattle.bl_load.specs.PlanFacts.{content_by, file_text};
-ghost use Rattle.bl_load.specs.Kept.{lengths_of, content_length, IsThere, StaysInFiles};
+ghost use Rattle.bl_load.specs.Loadable.{lengths_of, content_length, IsThere, StaysInFiles};
 ghost use Rattle.bl_load.specs.SourceKept.{texts_in, value_as};
 ghost use Rattle.bl_load.specs.PlacingKept.{HasKernelLength, IsRowed, IsLow, ModulesEndLow};
 

@@ -10,7 +10,7 @@ ghost use Rattle.bl_load.specs.Reading.{linux};
 ghost use Rattle.bl_load.specs.Parts.{content_of, payload_of};
 ghost use Rattle.bl_bzimage.specs.Setup.{IsSetup};
 ghost use Rattle.bl_load.specs.PlanFacts.{content_by, file_text};
-ghost use Rattle.bl_load.specs.Kept.{lengths_of, content_length, IsThere, StaysInFiles};
+ghost use Rattle.bl_load.specs.Loadable.{lengths_of, content_length, IsThere, StaysInFiles};
 ghost use Rattle.bl_load.specs.PlacingKept.{IsRowed, IsLow};
 ghost use Rattle.bl_load.specs.SourceKept.{texts_in, value_as};
 

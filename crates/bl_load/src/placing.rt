@@ -11,7 +11,7 @@ ghost use Rattle.bl_load.specs.PlacingKept as kept;
 ghost use Rattle.bl_load.specs.PlacingKept.{IsLow, IsPlacedHandover, IsPlaceFault};
 ghost use Rattle.bl_load.specs.Place.{place_of};
 ghost use Rattle.bl_load.specs.PlanFacts.{handover_by};
-ghost use Rattle.bl_load.specs.Kept.{lengths_of, IsLoadable, IsLean};
+ghost use Rattle.bl_load.specs.Loadable.{lengths_of, IsLoadable, IsLean};
 ghost use Rattle.bl_load.specs.ReadKept.{reading_by, protocol_by, CanEnter};
 ghost use Rattle.bl_load.specs.SourceKept.{texts_in, reading_in, value_in, IsReady};
 

@@ -16,7 +16,7 @@ use Rattle.bl_plan.specs.Placed.{range_of as place_range}
 use Rattle.bl_stage.specs.Ranges.{has, scrubbed, IsSameOutside}
 use Rattle.bl_load.specs.declared.plan.PlannedPart.{PlannedPart}
 use Rattle.bl_load.specs.Handover.{Part, part_at}
-use Rattle.bl_load.specs.Kept.{lengths_of, IsBacked}
+use Rattle.bl_load.specs.Loadable.{lengths_of, IsBacked}
 use Rattle.bl_load.specs.PlanFacts.{part_by, part_in}
 use Rattle.bl_load.specs.After.{Spans, IsAfter}
 use Rattle.bl_load.proofs.HeldLemmas.{length-bytes_by, map_same}

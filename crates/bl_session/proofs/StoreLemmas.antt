@@ -24,10 +24,10 @@ use Rattle.bl_session.specs.Outcome.{File, missing, text_of}
 use Rattle.bl_session.specs.History.{Item, submitted, failed, nothing, is_same, file_under}
 use Rattle.bl_session.specs.History.{IsPieceOf, IsItemOf}
 use Rattle.bl_session.specs.Faithful.{asked, answered, HasPiece, IsFaithfulItem, IsFaithfulAfter}
-use Rattle.bl_session.specs.Stores.{are_equal, is_piece_of, item_of_event, item_of_told, item_of}
+use Rattle.bl_session.specs.Stores.{are_equal, is_piece_of, item_of_event, item_of_told}
 use Rattle.bl_session.specs.Stores.{event_of, answer_to, next_place, without}
+use Rattle.bl_session.specs.StoresKept.{item_of, count_of, WasAsked, AreAskedFor, AreKept}
 use Rattle.bl_session.proofs.OrderLemmas.{is_same_self, asked_both, answered_both, file_both}
-use Rattle.bl_session.specs.StoresKept.{count_of, WasAsked, AreAskedFor, AreKept}
 
 -- ---- the mark of an answer
 

@@ -11,7 +11,8 @@ use Rattle.bl_session.specs.declared.attempting.Attempt.TheVariants.{Waits, Hand
 use Rattle.bl_session.specs.Ends.{handed, refused, EndsIn, size_refusal, lengths_of}
 use Rattle.bl_session.specs.Menu.{EntryFacts, value_with}
 use Rattle.bl_session.specs.Pieces.{are_whole, awaited}
-use Rattle.bl_session.specs.Phases.{handover_held, HasSmallFiles, LacksPiece, EndsWithin}
+use Rattle.bl_session.specs.Phases.{handover_held, EndsWithin}
+use Rattle.bl_session.specs.PhasesKept.{HasSmallFiles, LacksPiece}
 
 -- with these spots of its files it waits for what is missing, or ends by its entry's value
 abbrev pub IsAttempt :

@@ -68,9 +68,6 @@ abbrev pub item_of_told : List File → List Item → Option EventFacts → Item
 item_of_told files given None = nothing
 item_of_told files given (Some event) = item_of_event files given event
 
-abbrev pub item_of : {A : Type 0} → List File → List Item → Option (Completion A) → Item
-item_of files given answer = item_of_told files given (option_map event_of answer)
-
 -- ---- a store over files that were fetched
 
 -- which request is answered next, of those that are still to be answered: the first, or the last

@@ -6,7 +6,7 @@ ghost use Rattle.bl_stage.specs.Ranges.{IsSameOutside};
 ghost use Rattle.bl_stage.specs.Spots.{spots};
 ghost use Rattle.bl_session.specs.Attempt.{IsAttempt, IsBegun, IsMemoryOf, KeepsAttempt};
 ghost use Rattle.bl_session.specs.Menu.{facts_of, files_of};
-ghost use Rattle.bl_session.specs.Phases.{HasSmallFiles};
+ghost use Rattle.bl_session.specs.PhasesKept.{HasSmallFiles};
 ghost use Rattle.bl_session.specs.Pieces.{are_whole};
 
 use crate::beginning::begin_stage;

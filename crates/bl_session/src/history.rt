@@ -22,7 +22,8 @@ impl Model for History {
 
 impl History {
     ghost use Rattle.bl_session.specs.History.{submitted};
-    ghost use Rattle.bl_session.specs.Stores.{stored_files, item_of};
+    ghost use Rattle.bl_session.specs.Stores.{stored_files};
+    ghost use Rattle.bl_session.specs.StoresKept.{item_of};
 
     /// Nothing was asked or answered.
     pub(crate) fn new() -> History

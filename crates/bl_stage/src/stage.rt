@@ -49,8 +49,8 @@ impl<A: Allocator> Model for Stage<A> {
 impl<A: Allocator> Stage<A> {
     ghost use Rattle.std.specs.Prelude.{◌≡◌, ◌<◌, ◌↔◌, IsTrue, length, slice_index};
     ghost use Rattle.bl_stage.specs.Staged.{staged, file_of, table_of, AreStaged, AllCame, HasPool};
+    ghost use Rattle.bl_stage.specs.Staged.{AreInside};
     ghost use Rattle.bl_stage.specs.Pieces.{is_missing};
-    ghost use Rattle.bl_stage.specs.Cells.{AreInside};
 
     /// Whether each piece of each file came.
     pub fn complete(&self) -> bool

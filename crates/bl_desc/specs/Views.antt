@@ -1,4 +1,4 @@
--- How the code keeps what a description says, and how its readers answer. Own.
+-- How a description is seen as what its bytes say, and how its readers answer. Own.
 use Rattle.std.specs.Prelude.{◌≡◌, ◌<◌, ◌≤◌, length, map, All, Option, Some, None, Result, Ok, Err}
 use Rattle.bl_desc.specs.Described.{File, Described}
 use Rattle.bl_desc.specs.Entries.{Module, Form, multiboot2, linux, Entry, most_entries}
