@@ -34,4 +34,4 @@ pub use loading::load;
 pub use plan::{Content, Plan, PlannedPart};
 pub use preparing::prepare;
 pub use refusal::{PrepFault, Refusal};
-pub use registers::Registers;
+pub use registers::{Registers, linux_registers, multiboot2_registers};
