@@ -22,7 +22,7 @@ use Rattle.std.proofs.raw_atomic.Walks.{proved}
 use Rattle.bl_session.specs.Stores.{stored_files}
 use Rattle.bl_session.specs.StoresKept.{item_of}
 use Rattle.std.specs.contracts.option.Option as O
-use Rattle.bl_session.specs.contracts.completion.Completion as C
+use Rattle.bl_session.specs.contracts.store.Completion as C
 use Rattle.bl_session.specs.contracts.fetched.Fetched as S
 use Rattle.bl_session.specs.contracts.history.History as H
 use Rattle.bl_session.specs.contracts.history.History.and_answer as F
