@@ -15,7 +15,7 @@ use Rattle.bl_session.specs.Phases.{boot_facts}
 use Rattle.bl_session.specs.Stores.{stored_files}
 use Rattle.bl_desc.specs.declared.desc.Description.{Description}
 use Rattle.bl_desc.specs.Described.{Described, described, file_named}
-use Rattle.bl_desc.specs.Kept.{view}
+use Rattle.bl_desc.specs.Views.{view}
 use Rattle.bl_boot.specs.declared.booting.fault.End.{End}
 use Rattle.bl_boot.specs.declared.booting.fault.End.TheVariants.{Booted, NoEntryLeft}
 use Rattle.bl_boot.specs.declared.booting.fault.EndFault.{EndFault}

@@ -6,10 +6,10 @@ use Rattle.bl_load.specs.declared.entry.Entry.{Entry}
 use Rattle.bl_load.specs.Value.{HasFewModules}
 use Rattle.bl_session.specs.Attempts.{IsSmall, NameEntries, HasMenuFault}
 use Rattle.bl_session.specs.Menu.{EntryFacts, facts_of}
-use Rattle.bl_session.specs.declared.menu.MenuFault.{MenuFault}
-use Rattle.bl_session.specs.declared.menu.MenuFault.TheVariants.{BadIndex, TooMany, NoMemory}
+use Rattle.bl_session.specs.declared.menu.fault.MenuFault.{MenuFault}
+use Rattle.bl_session.specs.declared.menu.fault.MenuFault.TheVariants.{BadIndex, TooMany, NoMemory}
 use Rattle.bl_desc.specs.declared.desc.EntryRow.{EntryRow}
-use Rattle.bl_desc.specs.Kept.{entry_view}
+use Rattle.bl_desc.specs.Views.{entry_view}
 use Rattle.bl_boot.specs.Attempted.{entry_facts}
 
 -- a menu that is small, and whose indices name entries, has no fault; memory may run out

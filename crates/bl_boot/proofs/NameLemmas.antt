@@ -12,8 +12,9 @@ use Rattle.bl_desc.specs.declared.desc.Description.{Description}
 use Rattle.bl_desc.specs.declared.desc.EntryRow.{EntryRow}
 use Rattle.bl_desc.specs.declared.form.EntryForm.{EntryForm}
 use Rattle.bl_desc.specs.declared.form.EntryForm.TheVariants.{Multiboot2, Linux}
-use Rattle.bl_desc.specs.Described.{Described, Entry}
-use Rattle.bl_desc.specs.Kept.{HasMenu, entry_view, form_view, view}
+use Rattle.bl_desc.specs.Described.{Described}
+use Rattle.bl_desc.specs.Entries.{Entry}
+use Rattle.bl_desc.specs.Views.{HasMenu, entry_view, form_view, view}
 use Rattle.bl_boot.specs.Attempted.{entry_of, file_names, names_beside, names_once, names_in}
 use Rattle.bl_boot.specs.Attempted.{no_entry}
 use Rattle.bl_boot.specs.Kept.{names_with}

@@ -10,7 +10,8 @@ use Rattle.bl_session.specs.Attempts.{attempts_of}
 use Rattle.bl_session.specs.Boot.{BootFacts}
 use Rattle.bl_session.specs.Outcome as session
 use Rattle.bl_session.specs.Outcome.{size_of}
-use Rattle.bl_desc.specs.Described.{Described, Entry, Form, multiboot2, linux, form_protocol}
+use Rattle.bl_desc.specs.Described.{Described}
+use Rattle.bl_desc.specs.Entries.{Entry, Form, multiboot2, linux, form_protocol}
 use Rattle.bl_boot.specs.Files.{Answer, missing, too_long, bytes, file_limit}
 
 -- ---- the files of an entry

@@ -9,7 +9,7 @@ use Rattle.bl_map.specs.Kinds.{kind_number, end_of}
 use Rattle.bl_plan.specs.declared.protocol.Protocol.{Protocol}
 use Rattle.bl_plan.specs.declared.protocol.Protocol.TheVariants.{Multiboot2, Linux}
 use Rattle.bl_walk.specs.SeenFacts.{SeenModuleFacts, SeenFileFacts, SeenFacts}
-use Rattle.bl_walk.specs.declared.seen_part.SeenPart.{SeenPart}
+use Rattle.bl_walk.specs.declared.seen.SeenPart.{SeenPart}
 use Rattle.bl_boot.specs.Says.{hex16}
 
 -- an address: lower-case hexadecimal digits, zeros in front up to eight

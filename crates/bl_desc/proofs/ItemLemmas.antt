@@ -8,7 +8,7 @@ use Rattle.toml.specs.declared.value.Value.{Value}
 use Rattle.toml.proofs.Views.{items_view-drop}
 use Rattle.bl_desc.specs.declared.fault.DescFault.{DescFault}
 use Rattle.bl_desc.specs.declared.fault.DescFault.TheVariants.{BadDescription, NoMemory}
-use Rattle.bl_desc.specs.Kept.{Fails}
+use Rattle.bl_desc.specs.Views.{Fails}
 use Rattle.bl_desc.specs.Values.{◌>>=◌, range_in, each_item}
 
 -- what was read before, and what is still read

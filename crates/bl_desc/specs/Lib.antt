@@ -1,4 +1,5 @@
 pub mod Values
 pub mod Kinds
+pub mod Entries
 pub mod Described
-pub mod Kept
+pub mod Views

@@ -1,7 +1,7 @@
 //! What a description says.
 ghost use Rattle.std.specs.Prelude.{◌≡◌, map, option_copied};
 ghost use Rattle.bl_desc.specs.Described as spec;
-ghost use Rattle.bl_desc.specs.Kept.{file_view, view};
+ghost use Rattle.bl_desc.specs.Views.{file_view, view};
 
 use crate::form::EntryForm;
 use crate::text::Text;

@@ -2,9 +2,9 @@
 ghost use Rattle.std.specs.Prelude.{◌≡◌, ◌≤◌, length, map, codes, option_map, IfOk};
 ghost use Rattle.toml.specs.View.{view, table_view, items_view};
 ghost use Rattle.bl_desc.specs.Values as values;
-ghost use Rattle.bl_desc.specs.Described as spec;
-ghost use Rattle.bl_desc.specs.Described.{most_entries};
-ghost use Rattle.bl_desc.specs.Kept.{Gives, entry_view};
+ghost use Rattle.bl_desc.specs.Entries as spec;
+ghost use Rattle.bl_desc.specs.Entries.{most_entries};
+ghost use Rattle.bl_desc.specs.Views.{Gives, entry_view};
 
 use crate::desc::{EntryRow, MOST_ENTRIES};
 use crate::fault::DescFault;
@@ -73,7 +73,7 @@ fn own_text<A: Allocator>(alloc: A, text: Option<&str>) -> Result<Option<Text<A>
     }
 }
 
-#[tactic(auto, unfolding(crate::specs::Described::multiboot2_in))]
+#[tactic(auto, unfolding(crate::specs::Entries::multiboot2_in))]
 fn multiboot2_in<A: Allocator + Copy>(alloc: A, table: &Table) -> Result<EntryRow<A>, DescFault>
     ensures { Gives entry_view result (spec.multiboot2_in (table_view table.now)) }
 {
@@ -92,7 +92,7 @@ fn multiboot2_in<A: Allocator + Copy>(alloc: A, table: &Table) -> Result<EntryRo
     })
 }
 
-#[tactic(auto, unfolding(crate::specs::Described::linux_in))]
+#[tactic(auto, unfolding(crate::specs::Entries::linux_in))]
 fn linux_in<A: Allocator + Copy>(alloc: A, table: &Table) -> Result<EntryRow<A>, DescFault>
     ensures { Gives entry_view result (spec.linux_in (table_view table.now)) }
 {
@@ -113,7 +113,7 @@ fn linux_in<A: Allocator + Copy>(alloc: A, table: &Table) -> Result<EntryRow<A>,
     })
 }
 
-#[tactic(auto, unfolding(crate::specs::Described::entry_in))]
+#[tactic(auto, unfolding(crate::specs::Entries::entry_in))]
 fn entry_in<A: Allocator + Copy>(alloc: A, table: &Table) -> Result<EntryRow<A>, DescFault>
     ensures { Gives entry_view result (spec.entry_in (table_view table.now)) }
 {
@@ -155,7 +155,7 @@ fn is_menu<A: Allocator>(entries: &[EntryRow<A>]) -> bool
     entries.len() >= 1 && entries.len() <= MOST_ENTRIES
 }
 
-#[tactic(auto, unfolding(crate::specs::Described::entries_of))]
+#[tactic(auto, unfolding(crate::specs::Entries::entries_of))]
 fn entries_of<A: Allocator + Copy>(
     alloc: A,
     value: &Value,

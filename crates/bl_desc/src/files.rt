@@ -3,7 +3,7 @@ ghost use Rattle.std.specs.Prelude.{◌≡◌, [], map, codes};
 ghost use Rattle.toml.specs.View.{view, table_view, items_view};
 ghost use Rattle.bl_desc.specs.Values as values;
 ghost use Rattle.bl_desc.specs.Described as spec;
-ghost use Rattle.bl_desc.specs.Kept.{Gives, file_view};
+ghost use Rattle.bl_desc.specs.Views.{Gives, file_view};
 
 use crate::desc::FileRow;
 use crate::fault::DescFault;

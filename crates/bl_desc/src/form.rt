@@ -32,8 +32,8 @@ pub enum EntryForm<A: Allocator> {
 
 impl<A: Allocator> EntryForm<A> {
     ghost use Rattle.std.specs.Prelude.{◌≡◌};
-    ghost use Rattle.bl_desc.specs.Described.{form_protocol};
-    ghost use Rattle.bl_desc.specs.Kept.{form_view};
+    ghost use Rattle.bl_desc.specs.Entries.{form_protocol};
+    ghost use Rattle.bl_desc.specs.Views.{form_view};
 
     /// The protocol.
     pub fn protocol(&self) -> Protocol

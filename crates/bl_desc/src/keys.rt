@@ -6,7 +6,7 @@ ghost use Rattle.std.specs.BTreeMap.{keys};
 ghost use Rattle.toml.specs.View.{view, table_view};
 ghost use Rattle.toml.specs.Data.{get_member};
 ghost use Rattle.bl_desc.specs.Values as spec;
-ghost use Rattle.bl_desc.specs.Kept.{Gives};
+ghost use Rattle.bl_desc.specs.Views.{Gives};
 
 use crate::fault::DescFault;
 use crate::values::number_of;

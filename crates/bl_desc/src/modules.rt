@@ -2,8 +2,8 @@
 ghost use Rattle.std.specs.Prelude.{◌≡◌, [], map, codes};
 ghost use Rattle.toml.specs.View.{view, table_view, items_view};
 ghost use Rattle.bl_desc.specs.Values as values;
-ghost use Rattle.bl_desc.specs.Described as spec;
-ghost use Rattle.bl_desc.specs.Kept.{Gives, module_view};
+ghost use Rattle.bl_desc.specs.Entries as spec;
+ghost use Rattle.bl_desc.specs.Views.{Gives, module_view};
 
 use crate::fault::DescFault;
 use crate::form::{MOST_MODULES, ModuleRow, Modules};
@@ -12,7 +12,7 @@ use crate::text::Text;
 use std::alloc::Allocator;
 use toml::{Table, Value};
 
-#[tactic(auto, unfolding(crate::specs::Described::module_in))]
+#[tactic(auto, unfolding(crate::specs::Entries::module_in))]
 fn module_in<A: Allocator + Copy>(alloc: A, table: &Table) -> Result<ModuleRow<A>, DescFault>
     ensures { Gives module_view result (spec.module_in (table_view table.now)) }
 {
@@ -52,7 +52,7 @@ fn modules_in<A: Allocator + Copy>(
     Ok(modules)
 }
 
-#[tactic(auto, unfolding(crate::specs::Described::modules_of))]
+#[tactic(auto, unfolding(crate::specs::Entries::modules_of))]
 fn modules_of<A: Allocator + Copy>(alloc: A, value: &Value) -> Result<Modules<A>, DescFault>
     ensures { Gives (λ m. map module_view m.rows.items) result (spec.modules_of (view value.now)) }
 {

@@ -3,7 +3,7 @@ ghost use Rattle.std.specs.Prelude.{◌≡◌, codes, IfOk};
 ghost use Rattle.toml.specs.View.{table_view};
 ghost use Rattle.bl_desc.specs.Values as values;
 ghost use Rattle.bl_desc.specs.Described as spec;
-ghost use Rattle.bl_desc.specs.Kept.{Gives, HasMenu, view};
+ghost use Rattle.bl_desc.specs.Views.{Gives, HasMenu, view};
 
 use crate::desc::Description;
 use crate::entries::entries_at;

@@ -3,7 +3,7 @@ ghost use Rattle.std.specs.Prelude.{◌≡◌, [], codes};
 ghost use Rattle.toml.specs.View.{view, table_view, items_view};
 ghost use Rattle.bl_desc.specs.Values as values;
 ghost use Rattle.bl_desc.specs.Described as spec;
-ghost use Rattle.bl_desc.specs.Kept.{Gives};
+ghost use Rattle.bl_desc.specs.Views.{Gives};
 
 use crate::fault::DescFault;
 use crate::keys::{at_key, has_only, number_at, text_at};

@@ -2,7 +2,7 @@
 ghost use Rattle.std.specs.Prelude.{◌≡◌, ◌<◌, IfOk};
 ghost use Rattle.toml.specs.View.{view, items_view};
 ghost use Rattle.bl_desc.specs.Values as spec;
-ghost use Rattle.bl_desc.specs.Kept.{Gives};
+ghost use Rattle.bl_desc.specs.Views.{Gives};
 
 use crate::fault::DescFault;
 use bl_mem::Bytes;

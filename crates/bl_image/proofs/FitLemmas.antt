@@ -2,7 +2,7 @@
 use Rattle.std.proofs.Common.{◌+◌, ◌<◌, ◌≤◌, ◌^◌, ℕ, List, length, get_or, All, arith, sym, subst}
 use Rattle.std.proofs.lemmas.List.{length-map}
 use Rattle.std.proofs.lemmas.List.Elements.{All-map}
-use Rattle.bl_plan.specs.declared.place.Place.{Place}
+use Rattle.bl_plan.specs.declared.part.Place.{Place}
 use Rattle.bl_plan.specs.declared.protocol.Protocol.{Protocol}
 use Rattle.bl_load.specs.declared.registers.Registers.{Registers}
 use Rattle.bl_load.specs.HandoffFacts.{AreRecords}
@@ -11,7 +11,8 @@ use Rattle.bl_load.specs.Handover.{Part, end_of}
 use Rattle.bl_load.proofs.HeldLemmas.{AllPairs-map}
 use Rattle.bl_image.specs.Image.{register_numbers}
 use Rattle.bl_image.specs.ImageParts.{IsKept}
-use Rattle.bl_image.specs.Spellable.{FitsRecord, IsSpellable, PlaceFits, AreSpellable}
+use Rattle.bl_image.specs.Spellable.{FitsRecord, IsSpellable}
+use Rattle.bl_image.specs.RecordsKept.{PlaceFits, AreSpellable}
 use Rattle.bl_image.proofs.Spelled.{EndsIn, length-place_bytes}
 
 -- places that a handoff keeps fit

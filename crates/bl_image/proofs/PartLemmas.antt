@@ -8,7 +8,7 @@ use Rattle.std.proofs.lemmas.List.Concat.{flat_map-cons}
 use Rattle.std.proofs.lemmas.Grind.{flat_map-append}
 use Rattle.std.proofs.lemmas.Bool.Decides.{nat_tests}
 use Rattle.std.specs.List.{flat_map}
-use Rattle.bl_plan.specs.declared.place.Place.{Place}
+use Rattle.bl_plan.specs.declared.part.Place.{Place}
 use Rattle.bl_plan.specs.declared.protocol.Protocol.{Protocol}
 use Rattle.bl_plan.proofs.OrderLemmas.{AreRelated, pairs_related, related_pairs}
 use Rattle.bl_load.specs.declared.registers.Registers.{Registers}
@@ -17,13 +17,13 @@ use Rattle.bl_load.specs.HandoffFacts.{Ascends, AreRecords}
 use Rattle.bl_load.specs.PlanFacts.{part_in}
 use Rattle.bl_image.specs.declared.fault.ImageFault.{ImageFault}
 use Rattle.bl_image.specs.declared.fault.ImageFault.TheVariants.{WrongLength}
-use Rattle.bl_image.specs.Image.{head, part_record, place_record, spelling, register_numbers}
+use Rattle.bl_image.specs.Image.{head, part_record, spelling, register_numbers}
+use Rattle.bl_image.specs.RecordsKept.{place_record, bytes_at, place_of, PlaceFits}
 use Rattle.bl_image.specs.ImageFaults.{end_fault}
 use Rattle.bl_image.specs.ImageParts.{PartAscends, AreImageParts, IsKept}
-use Rattle.bl_image.specs.RecordsKept.{bytes_at, place_of}
 use Rattle.bl_image.specs.Source.{Input, Comes}
 use Rattle.bl_image.specs.SourceKept.{IsCut}
-use Rattle.bl_image.specs.Spellable.{FitsRecord, PlaceFits}
+use Rattle.bl_image.specs.Spellable.{FitsRecord}
 use Rattle.bl_image.proofs.FieldLemmas.{cut_behind}
 use Rattle.bl_image.proofs.Spelled.{EndsIn, length-place_bytes}
 

@@ -11,8 +11,8 @@ use Rattle.std.proofs.lemmas.Bool.Decides.{nat_tests}
 use Rattle.std.specs.List.{flat_map}
 use Rattle.bl_mem.specs.Words.{number_at, u64_at, u32_bytes, u64_bytes}
 use Rattle.bl_mem.proofs.WordLaws.{length-u32_bytes, length-u64_bytes, u64_again}
-use Rattle.bl_plan.specs.declared.role.Role.{Role}
-use Rattle.bl_plan.specs.declared.place.Place.{Place}
+use Rattle.bl_plan.specs.declared.part.Role.{Role}
+use Rattle.bl_plan.specs.declared.part.Place.{Place}
 use Rattle.bl_plan.specs.Roles as roles
 use Rattle.bl_plan.proofs.OrderLemmas.{AreRelated, pairs_related, related_pairs}
 use Rattle.bl_load.specs.HandoffFacts.{Ascends, AreRecords}
@@ -20,14 +20,12 @@ use Rattle.bl_image.specs.declared.fault.ImageFault.{ImageFault}
 use Rattle.bl_image.specs.declared.fault.ImageFault.TheVariants.{BadMagic, BadVersion, BadHeader}
 use Rattle.bl_image.specs.declared.fault.ImageFault.TheVariants.{BadPart, WrongLength, DeviceFault}
 use Rattle.bl_image.specs.declared.fault.ImageFault.TheVariants.{NoMemory}
-use Rattle.bl_image.specs.Image.{place_record}
+use Rattle.bl_image.specs.RecordsKept.{place_record, IsNext, AreSound, bytes_at, PlaceFits}
 use Rattle.bl_image.specs.Fields.{Field, fields_fault, record_fields, role_field, index_field}
 use Rattle.bl_image.specs.Fields.{address_field, length_field}
 use Rattle.bl_image.specs.ImageFaults.{first, record_fault, Before, and_record, parts_fault}
 use Rattle.bl_image.specs.ImageFaults.{none_before}
-use Rattle.bl_image.specs.RecordsKept.{IsNext, AreSound, bytes_at}
 use Rattle.bl_image.specs.Source.{Input, Shows, Refuses}
-use Rattle.bl_image.specs.Spellable.{PlaceFits}
 use Rattle.bl_image.proofs.ReadAgain.{role_fits, role_between}
 use Rattle.bl_image.proofs.FieldLemmas.{field_passes, word_tells, long_tells}
 

@@ -9,12 +9,13 @@ use Rattle.std.proofs.lemmas.Grind.{flat_map-append}
 use Rattle.std.proofs.Math.Seq.{take-length}
 use Rattle.std.specs.List.{flat_map}
 use Rattle.bl_mem.proofs.Overwrites.{range_more}
-use Rattle.bl_plan.specs.declared.place.Place.{Place}
+use Rattle.bl_plan.specs.declared.part.Place.{Place}
 use Rattle.bl_plan.specs.declared.protocol.Protocol.{Protocol}
 use Rattle.bl_load.specs.declared.registers.Registers.{Registers}
 use Rattle.bl_load.specs.Handover.{Part}
 use Rattle.bl_load.specs.PlanFacts.{part_in, handover_in}
-use Rattle.bl_image.specs.Image.{head, record_of, part_record, place_record, place_bytes, spelling}
+use Rattle.bl_image.specs.Image.{head, record_of, part_record, spelling}
+use Rattle.bl_image.specs.RecordsKept.{place_record, place_bytes}
 
 -- the place ends inside memory
 abbrev pub EndsIn : List ℕ → Place → Type 0

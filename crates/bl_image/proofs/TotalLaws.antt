@@ -15,11 +15,11 @@ use Rattle.std.proofs.lemmas.List.Elements.{All-cons, All-nil}
 use Rattle.std.proofs.lemmas.List.Concat.{flat_map-cons}
 use Rattle.bl_mem.proofs.WordLaws.{u32_at-lt}
 use Rattle.bl_mem.specs.Words.{number_at, u32_at, u64_at, u32_bytes, u64_bytes}
-use Rattle.bl_plan.specs.declared.role.Role.{Role}
-use Rattle.bl_plan.specs.declared.role.Role.TheVariants.{Kernel, Module, Information, BootParams}
-use Rattle.bl_plan.specs.declared.role.Role.TheVariants.{CommandLine, Gdt, Initrd}
+use Rattle.bl_plan.specs.declared.part.Role.{Role}
+use Rattle.bl_plan.specs.declared.part.Role.TheVariants.{Kernel, Module, Information, BootParams}
+use Rattle.bl_plan.specs.declared.part.Role.TheVariants.{CommandLine, Gdt, Initrd}
 use Rattle.bl_plan.specs.Roles as roles
-use Rattle.bl_plan.specs.declared.place.Place.{Place}
+use Rattle.bl_plan.specs.declared.part.Place.{Place}
 use Rattle.bl_plan.specs.declared.protocol.Protocol.{Protocol}
 use Rattle.bl_plan.specs.declared.protocol.Protocol.TheVariants.{Multiboot2, Linux}
 use Rattle.bl_plan.specs.Protocols as protocols
@@ -29,15 +29,14 @@ use Rattle.bl_load.specs.Handover.{Part, Handover}
 use Rattle.bl_load.specs.HandoffFacts.{Ascends, AreRecords}
 use Rattle.bl_image.specs.declared.fault.ImageFault.{ImageFault}
 use Rattle.bl_image.specs.declared.fault.ImageFault.TheVariants.{WrongLength}
-use Rattle.bl_image.specs.Image.{magic, head, register_numbers, place_record}
+use Rattle.bl_image.specs.Image.{magic, head, register_numbers}
+use Rattle.bl_image.specs.RecordsKept.{place_record, IsNext, bytes_at, place_of, PlaceFits}
 use Rattle.bl_image.specs.Fields.{Field, fields_fault, head_fields, magic_field, version_field}
 use Rattle.bl_image.specs.Fields.{protocol_field, registers_field, count_field, zero_field}
 use Rattle.bl_image.specs.Fields.{role_field, index_field, address_field, length_field}
 use Rattle.bl_image.specs.ImageFaults.{first, image_fault, record_fault, parts_fault, Before}
 use Rattle.bl_image.specs.ImageFaults.{and_record, none_before, end_fault}
 use Rattle.bl_image.specs.ImageParts.{IsImage}
-use Rattle.bl_image.specs.RecordsKept.{IsNext, bytes_at, place_of}
-use Rattle.bl_image.specs.Spellable.{PlaceFits}
 use Rattle.bl_image.proofs.HeadLemmas.{head_is, head_front, seven_pieces}
 use Rattle.bl_image.proofs.Listed.{listed_20}
 use Rattle.bl_image.proofs.PartLemmas.{all_bytes, spelled_by, image_kept}

@@ -1,9 +1,8 @@
 -- The image of a handover, version 1: its one spelling. All numbers are little-endian. Own.
-use Rattle.std.specs.Prelude.{ℕ, ◌+◌, List, [], ◌∷◌, ◌++◌, length, codes, slice_range}
+use Rattle.std.specs.Prelude.{ℕ, ◌+◌, List, [], ◌∷◌, ◌++◌, length, codes}
 use Rattle.std.specs.List.{flat_map}
 use Rattle.bl_mem.specs.Words.{u32_bytes, u64_bytes}
-use Rattle.bl_plan.specs.declared.place.Place.{Place}
-use Rattle.bl_plan.specs.declared.role.Role.{Role}
+use Rattle.bl_plan.specs.declared.part.Role.{Role}
 use Rattle.bl_plan.specs.Roles as roles
 use Rattle.bl_plan.specs.declared.protocol.Protocol.{Protocol}
 use Rattle.bl_load.specs.declared.registers.Registers.{Registers}
@@ -42,10 +41,3 @@ abbrev pub spelling : Handover → List ℕ
 spelling h =
     head h.protocol h.registers (length h.parts)
     ++ (flat_map part_record h.parts ++ flat_map (λ part. part.bytes) h.parts)
-
--- the same of a place in memory
-abbrev pub place_record : Place → List ℕ
-place_record place = record_of place.role place.index place.address place.length
-
-abbrev pub place_bytes : List ℕ → Place → List ℕ
-place_bytes bytes place = slice_range bytes place.address (place.address + place.length)

@@ -1,9 +1,31 @@
--- What the code keeps as it reads records. Own.
+-- What the code keeps as it writes and reads records. Own.
 use Rattle.std.specs.Prelude.{ℕ, ◌+◌, ◌<◌, ◌≤◌, ◌^◌, List, [], ◌∷◌, length, All, AllPairs}
-use Rattle.bl_plan.specs.declared.place.Place.{Place}
+use Rattle.std.specs.Prelude.{slice_range}
+use Rattle.bl_plan.specs.declared.part.Place.{Place}
 use Rattle.bl_load.specs.Handover.{Part}
 use Rattle.bl_load.specs.HandoffFacts.{Ascends}
-use Rattle.bl_image.specs.Spellable.{PlaceFits}
+use Rattle.bl_image.specs.Image.{record_of, register_numbers}
+use Rattle.bl_load.specs.declared.registers.Registers.{Registers}
+
+-- the record of a place
+abbrev pub place_record : Place → List ℕ
+place_record place = record_of place.role place.index place.address place.length
+
+-- the bytes at a place in memory
+abbrev pub place_bytes : List ℕ → Place → List ℕ
+place_bytes bytes place = slice_range bytes place.address (place.address + place.length)
+
+-- the numbers of a place fit its record
+pub record PlaceFits (place : Place) : Type 0 where
+  pub index : place.index < 2 ^ 32
+  pub address : place.address < 2 ^ 64
+  pub count : place.length < 2 ^ 64
+
+-- the numbers of registers and places fit an image
+pub record AreSpellable (r : Registers) (ps : List Place) : Type 0 where
+  pub registers : All (λ n. n < 2 ^ 32) (register_numbers r)
+  pub count : length ps < 2 ^ 32
+  pub places : All PlaceFits ps
 
 -- a record that may follow, where the part before ends there
 pub record IsNext (before : ℕ) (place : Place) : Type 0 where

@@ -1,7 +1,5 @@
 -- What an image has room for. Own.
-use Rattle.std.specs.Prelude.{◌<◌, ◌^◌, List, length, All}
-use Rattle.bl_plan.specs.declared.place.Place.{Place}
-use Rattle.bl_load.specs.declared.registers.Registers.{Registers}
+use Rattle.std.specs.Prelude.{◌<◌, ◌^◌, length, All}
 use Rattle.bl_load.specs.Handover.{Part, Handover}
 use Rattle.bl_image.specs.Image.{register_numbers}
 
@@ -16,15 +14,3 @@ pub record IsSpellable (h : Handover) : Type 0 where
   pub registers : All (λ n. n < 2 ^ 32) (register_numbers h.registers)
   pub count : length h.parts < 2 ^ 32
   pub parts : All FitsRecord h.parts
-
--- the same of a place in memory
-pub record PlaceFits (place : Place) : Type 0 where
-  pub index : place.index < 2 ^ 32
-  pub address : place.address < 2 ^ 64
-  pub count : place.length < 2 ^ 64
-
--- the same of registers and places
-pub record AreSpellable (r : Registers) (ps : List Place) : Type 0 where
-  pub registers : All (λ n. n < 2 ^ 32) (register_numbers r)
-  pub count : length ps < 2 ^ 32
-  pub places : All PlaceFits ps

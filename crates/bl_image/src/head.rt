@@ -4,8 +4,8 @@ ghost use Rattle.std.specs.Prelude.{OnErr};
 ghost use Rattle.std.specs.List.{flat_map};
 ghost use Rattle.bl_load.specs.HandoffFacts.{AreRecords};
 ghost use Rattle.bl_image.specs.Begun.{IsBegun};
-ghost use Rattle.bl_image.specs.Image.{head, place_record, register_numbers};
-ghost use Rattle.bl_image.specs.Spellable.{AreSpellable};
+ghost use Rattle.bl_image.specs.Image.{head, register_numbers};
+ghost use Rattle.bl_image.specs.RecordsKept.{place_record, AreSpellable};
 
 use crate::sink::{DeviceFault, Sink, write_all};
 use bl_load::{Handoff, Protocol, Registers};

@@ -3,7 +3,7 @@ ghost use Rattle.std.specs.Prelude.{◌≡◌, ◌+◌, ◌≤◌, ◌<◌, ◌^
 ghost use Rattle.std.specs.Prelude.{OnErr};
 ghost use Rattle.std.specs.List.{flat_map};
 ghost use Rattle.bl_image.specs.Begun.{IsBegun};
-ghost use Rattle.bl_image.specs.Image.{place_bytes};
+ghost use Rattle.bl_image.specs.RecordsKept.{place_bytes};
 
 use crate::sink::{DeviceFault, Sink, write_all};
 use bl_load::Handoff;

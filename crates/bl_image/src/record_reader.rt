@@ -6,12 +6,10 @@ ghost use Rattle.bl_mem.specs.Words.{u32_bytes, u64_bytes};
 ghost use Rattle.bl_plan.specs.Roles as roles;
 ghost use Rattle.bl_load.specs.HandoffFacts.{AreRecords, most_parts};
 ghost use Rattle.bl_image.specs.Fields as fields;
-ghost use Rattle.bl_image.specs.Image.{place_record};
+ghost use Rattle.bl_image.specs.RecordsKept.{place_record, IsNext, bytes_at, PlaceFits};
 ghost use Rattle.bl_image.specs.ImageFaults.{record_fault, parts_fault, end_fault, none_before};
-ghost use Rattle.bl_image.specs.RecordsKept.{IsNext, bytes_at};
 ghost use Rattle.bl_image.specs.Source.{Comes, Refuses, faults_met};
 ghost use Rattle.bl_image.specs.SourceKept.{Reads};
-ghost use Rattle.bl_image.specs.Spellable.{PlaceFits};
 
 use crate::fault::ImageFault;
 use crate::fields::{read_u32, read_u64};

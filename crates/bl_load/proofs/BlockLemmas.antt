@@ -13,7 +13,7 @@ use Rattle.bl_mem.proofs.Overwrites.{length-overwrite, overwrite_more, beside_ze
 use Rattle.bl_mem.specs.declared.segment.Segment.{Segment}
 use Rattle.bl_mem.specs.Contents.{contents_of, holds}
 use Rattle.bl_load.specs.Blocks.{low_of, high_of, span_of, byte_at, first_values, block_of}
-use Rattle.bl_load.specs.Kept.{IsCopied, SegmentsAscend}
+use Rattle.bl_load.specs.Loadable.{IsCopied, SegmentsAscend}
 
 -- segments from a linked address on, each behind the zeros of the gap before it
 abbrev pub block_from : List ℕ → ℕ → List Segment → List ℕ

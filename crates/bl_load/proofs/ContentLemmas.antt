@@ -7,7 +7,7 @@ use Rattle.bl_load.specs.Blocks.{low_of, high_of, span_of, block_of}
 use Rattle.bl_load.specs.KernelKept.{AreLoadable}
 use Rattle.bl_plan.specs.Order.{segment_key, ascending}
 use Rattle.bl_load.specs.Parts.{kernel_content}
-use Rattle.bl_load.specs.Kept.{IsCopied, SegmentsAscend}
+use Rattle.bl_load.specs.Loadable.{IsCopied, SegmentsAscend}
 use Rattle.bl_load.specs.PlacingKept.{HasKernelLength}
 use Rattle.bl_plan.proofs.OrderLemmas.{in_order_all, length-in_order}
 use Rattle.bl_load.proofs.SortedLemmas.{same_block, same_span, ascending_ascends, low_below}

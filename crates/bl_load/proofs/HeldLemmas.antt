@@ -11,7 +11,7 @@ use Rattle.std.proofs.lemmas.Simd.{map-map}
 use Rattle.std.specs.declared.ops.Range.{Range}
 use Rattle.bl_mem.specs.Files.{AllBeside, IsBeside}
 use Rattle.bl_mem.specs.Memory.{AllHaveRoom, HasRoom}
-use Rattle.bl_plan.specs.declared.place.Place.{Place}
+use Rattle.bl_plan.specs.declared.part.Place.{Place}
 use Rattle.bl_plan.specs.Placed.{Covers, range_of}
 use Rattle.bl_load.specs.declared.plan.Content.{Content}
 use Rattle.bl_load.specs.declared.plan.Content.TheVariants.{Own, File, Block}
@@ -21,7 +21,8 @@ use Rattle.bl_load.specs.Handover.{part_at, written}
 use Rattle.bl_load.specs.Place.{place_of}
 use Rattle.bl_load.specs.PlanFacts.{file_text, content_by, bytes_by, part_by, part_in, places_of}
 use Rattle.bl_load.specs.HandoffFacts.{Ascends}
-use Rattle.bl_load.specs.Kept.{lengths_of, content_length, IsThere, IsBacked, IsLoadable, CanLoad}
+use Rattle.bl_load.specs.Kept.{CanLoad}
+use Rattle.bl_load.specs.Loadable.{lengths_of, content_length, IsThere, IsBacked, IsLoadable}
 use Rattle.bl_load.proofs.BlockLemmas.{length-block_of}
 use Rattle.bl_load.proofs.WrittenLemmas.{EndsWithin, IsBefore, Has, length-written, written_in}
 use Rattle.bl_load.proofs.WrittenLemmas.{written_elsewhere}

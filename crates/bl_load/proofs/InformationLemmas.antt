@@ -10,8 +10,8 @@ use Rattle.bl_mbi.specs.InformationFacts.{ModuleInfo, info_size}
 use Rattle.bl_mbi.specs.Size.{size_of, tag_size, load_base_size}
 use Rattle.bl_mbi.specs.Spelling.{spelling}
 use Rattle.bl_mbi.proofs.Sizes.{length-spelling}
-use Rattle.bl_plan.specs.declared.place.Place.{Place}
-use Rattle.bl_plan.specs.declared.role.Role.TheVariants.{Kernel}
+use Rattle.bl_plan.specs.declared.part.Place.{Place}
+use Rattle.bl_plan.specs.declared.part.Role.TheVariants.{Kernel}
 use Rattle.bl_load.specs.Addresses.{address_of}
 use Rattle.bl_load.specs.Value.{EntryValue}
 use Rattle.bl_map.specs.Room.{whole_frames}

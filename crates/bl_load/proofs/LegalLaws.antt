@@ -13,10 +13,10 @@ use Rattle.bl_map.specs.MachineFacts.{MachineFacts}
 use Rattle.bl_plan.specs.Permitted.{AllOpen, IsPermitted, IsPreferred}
 use Rattle.bl_plan.specs.Placed.{ArePlaced, IsChosen, IsApart, range_of}
 use Rattle.bl_plan.specs.Planned.{put_in}
-use Rattle.bl_plan.specs.declared.choice.Choice.{Choice}
-use Rattle.bl_plan.specs.declared.choice.Choice.TheVariants.{Fixed, Lowest, Highest, Preferred}
-use Rattle.bl_plan.specs.declared.row.Row.{Row}
-use Rattle.bl_plan.specs.declared.place.Place.{Place}
+use Rattle.bl_plan.specs.declared.part.Choice.{Choice}
+use Rattle.bl_plan.specs.declared.part.Choice.TheVariants.{Fixed, Lowest, Highest, Preferred}
+use Rattle.bl_plan.specs.declared.part.Row.{Row}
+use Rattle.bl_plan.specs.declared.part.Place.{Place}
 use Rattle.bl_plan.proofs.PlaceLaws.{of_rows, all_apart}
 use Rattle.bl_load.specs.Value.{EntryValue}
 use Rattle.bl_load.specs.Rows.{rows_of}

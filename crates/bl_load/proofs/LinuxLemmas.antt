@@ -17,10 +17,10 @@ use Rattle.bl_plan.specs.Permitted.{AllOpen}
 use Rattle.bl_plan.specs.Placed.{ArePlaced, IsRow, IsFirstFault, HasFault}
 use Rattle.bl_plan.specs.Order.{in_order}
 use Rattle.bl_plan.specs.declared.fault.PlanFault.TheVariants.{Overlap}
-use Rattle.bl_plan.specs.declared.place.Place.{Place}
-use Rattle.bl_plan.specs.declared.role.Role.{Role}
-use Rattle.bl_plan.specs.declared.role.Role.TheVariants.{Kernel, BootParams, CommandLine, Gdt}
-use Rattle.bl_plan.specs.declared.row.Row.{Row}
+use Rattle.bl_plan.specs.declared.part.Place.{Place}
+use Rattle.bl_plan.specs.declared.part.Role.{Role}
+use Rattle.bl_plan.specs.declared.part.Role.TheVariants.{Kernel, BootParams, CommandLine, Gdt}
+use Rattle.bl_plan.specs.declared.part.Row.{Row}
 use Rattle.bl_plan.proofs.PlaceLaws.{as_many}
 use Rattle.bl_load.specs.HandoffFacts.{AreRecords}
 use Rattle.bl_load.specs.LinuxRows.{high_start, moved_row, fixed_row, linux_kernel_row, frame_row}

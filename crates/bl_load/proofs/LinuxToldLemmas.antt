@@ -14,13 +14,13 @@ use Rattle.bl_plan.specs.Permitted.{IsPermitted}
 use Rattle.bl_plan.specs.Placed.{ArePlaced, IsFirstFault, IsChosen, HasFault, IsRow, place_at}
 use Rattle.bl_plan.specs.Placed.{range_of}
 use Rattle.bl_plan.specs.Planned.{put_in}
-use Rattle.bl_plan.specs.declared.choice.Choice.{Choice}
-use Rattle.bl_plan.specs.declared.choice.Choice.TheVariants.{Highest}
+use Rattle.bl_plan.specs.declared.part.Choice.{Choice}
+use Rattle.bl_plan.specs.declared.part.Choice.TheVariants.{Highest}
 use Rattle.bl_plan.specs.declared.fault.PlanFault.{PlanFault}
 use Rattle.bl_plan.specs.declared.fault.PlanFault.TheVariants.{NotUsable, Overlap, NoRoom, NoMemory}
-use Rattle.bl_plan.specs.declared.place.Place.{Place}
-use Rattle.bl_plan.specs.declared.role.Role.TheVariants.{BootParams, CommandLine, Gdt, Initrd}
-use Rattle.bl_plan.specs.declared.row.Row.{Row}
+use Rattle.bl_plan.specs.declared.part.Place.{Place}
+use Rattle.bl_plan.specs.declared.part.Role.TheVariants.{BootParams, CommandLine, Gdt, Initrd}
+use Rattle.bl_plan.specs.declared.part.Row.{Row}
 use Rattle.bl_load.specs.LinuxRows.{linux_kernel_row, frame_row, line_limit, initrd_rows}
 use Rattle.bl_load.specs.LinuxRows.{linux_rows}
 use Rattle.bl_load.specs.PlacingKept.{IsLow, told_length, told_initrd_row, told_initrd_rows}

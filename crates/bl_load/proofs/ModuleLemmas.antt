@@ -17,14 +17,14 @@ use Rattle.bl_plan.specs.Placed.{ArePlaced, IsFirstFault, IsChosen, HasFault, Is
 use Rattle.bl_plan.specs.Placed.{place_at, range_of}
 use Rattle.bl_plan.specs.Planned.{put_in}
 use Rattle.bl_plan.specs.Roles.{role_number}
-use Rattle.bl_plan.specs.declared.choice.Choice.TheVariants.{Lowest}
+use Rattle.bl_plan.specs.declared.part.Choice.TheVariants.{Lowest}
 use Rattle.bl_plan.specs.declared.fault.PlanFault.{PlanFault}
 use Rattle.bl_plan.specs.declared.fault.PlanFault.TheVariants.{NotUsable, Overlap, NoRoom, NoMemory}
-use Rattle.bl_plan.specs.declared.place.Place.{Place}
-use Rattle.bl_plan.specs.declared.role.Role.{Role}
-use Rattle.bl_plan.specs.declared.role.Role.TheVariants.{Kernel, Module, Information, BootParams}
-use Rattle.bl_plan.specs.declared.role.Role.TheVariants.{CommandLine, Gdt, Initrd}
-use Rattle.bl_plan.specs.declared.row.Row.{Row}
+use Rattle.bl_plan.specs.declared.part.Place.{Place}
+use Rattle.bl_plan.specs.declared.part.Role.{Role}
+use Rattle.bl_plan.specs.declared.part.Role.TheVariants.{Kernel, Module, Information, BootParams}
+use Rattle.bl_plan.specs.declared.part.Role.TheVariants.{CommandLine, Gdt, Initrd}
+use Rattle.bl_plan.specs.declared.part.Row.{Row}
 use Rattle.bl_load.specs.Addresses.{address_of}
 use Rattle.bl_load.specs.Value.{EntryValue, module_file}
 use Rattle.bl_load.specs.Kernel.{KernelFacts}

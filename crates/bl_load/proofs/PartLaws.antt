@@ -5,8 +5,8 @@ use Rattle.std.proofs.lemmas.List.{length-replicate}
 use Rattle.std.proofs.lemmas.List.Elements.{All-map}
 use Rattle.bl_map.specs.MachineFacts.{MachineFacts, AllUsable}
 use Rattle.bl_plan.specs.Placed.{IsPlaceable, IsRow}
-use Rattle.bl_plan.specs.declared.place.Place.{Place}
-use Rattle.bl_plan.specs.declared.row.Row.{Row}
+use Rattle.bl_plan.specs.declared.part.Place.{Place}
+use Rattle.bl_plan.specs.declared.part.Row.{Row}
 use Rattle.bl_plan.proofs.PlaceLaws as places_laws
 use Rattle.bl_load.specs.Value.{EntryValue}
 use Rattle.bl_load.specs.Rows.{rows_of}

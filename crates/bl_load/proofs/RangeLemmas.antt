@@ -3,7 +3,7 @@ use Rattle.std.proofs.Common.{◌≤◌, ℕ, List, map, arith}
 use Rattle.std.proofs.lemmas.List.Elements.{All-map}
 use Rattle.std.specs.declared.ops.Range.{Range}
 use Rattle.bl_map.specs.Room.{AreAscending}
-use Rattle.bl_plan.specs.declared.place.Place.{Place}
+use Rattle.bl_plan.specs.declared.part.Place.{Place}
 use Rattle.bl_plan.specs.Placed.{range_of}
 use Rattle.bl_load.specs.HandoffFacts.{AreRecords}
 use Rattle.bl_load.proofs.HeldLemmas.{AllPairs-map}

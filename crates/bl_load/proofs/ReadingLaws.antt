@@ -13,10 +13,10 @@ use Rattle.bl_plan.specs.Order.{in_order}
 use Rattle.bl_plan.specs.Placed.{ArePlaced, IsRow, IsFirstFault, IsPlacingFault}
 use Rattle.bl_plan.specs.declared.fault.PlanFault.{PlanFault}
 use Rattle.bl_plan.specs.declared.fault.PlanFault.TheVariants.{Overlap}
-use Rattle.bl_plan.specs.declared.place.Place.{Place}
-use Rattle.bl_plan.specs.declared.role.Role.{Role}
-use Rattle.bl_plan.specs.declared.role.Role.TheVariants.{Kernel, Module, Information, BootParams}
-use Rattle.bl_plan.specs.declared.role.Role.TheVariants.{CommandLine, Gdt, Initrd}
+use Rattle.bl_plan.specs.declared.part.Place.{Place}
+use Rattle.bl_plan.specs.declared.part.Role.{Role}
+use Rattle.bl_plan.specs.declared.part.Role.TheVariants.{Kernel, Module, Information, BootParams}
+use Rattle.bl_plan.specs.declared.part.Role.TheVariants.{CommandLine, Gdt, Initrd}
 use Rattle.bl_load.specs.HandoffFacts.{AreRecords, most_parts}
 use Rattle.bl_load.specs.Kernel.{KernelFacts}
 use Rattle.bl_load.specs.LinuxRows.{fixed_row, moved_row, linux_kernel_row, told_of}

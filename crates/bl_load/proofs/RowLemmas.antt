@@ -10,12 +10,12 @@ use Rattle.bl_map.specs.MachineFacts.{MachineFacts}
 use Rattle.bl_mb2head.specs.declared.relocation.Relocation.{Relocation}
 use Rattle.bl_mbi.specs.InformationFacts.{InformationFacts, info_size}
 use Rattle.bl_plan.specs.Placed.{ArePlaced, IsChoice, IsRow}
-use Rattle.bl_plan.specs.declared.choice.Choice.TheVariants.{Fixed, Lowest, Highest, Preferred}
-use Rattle.bl_plan.specs.declared.place.Place.{Place}
-use Rattle.bl_plan.specs.declared.role.Role.TheVariants.{Kernel}
+use Rattle.bl_plan.specs.declared.part.Choice.TheVariants.{Fixed, Lowest, Highest, Preferred}
+use Rattle.bl_plan.specs.declared.part.Place.{Place}
+use Rattle.bl_plan.specs.declared.part.Role.TheVariants.{Kernel}
 use Rattle.bl_plan.proofs.PlaceLaws.{as_many}
 use Rattle.std.specs.Prelude.{min, max}
-use Rattle.bl_plan.specs.declared.row.Row.{Row}
+use Rattle.bl_plan.specs.declared.part.Row.{Row}
 use Rattle.bl_load.specs.Value.{EntryValue, module_file}
 use Rattle.bl_load.specs.PlacingKept.{most_told, told_rows, told_rows_of}
 use Rattle.bl_load.specs.Reading.{multiboot2}

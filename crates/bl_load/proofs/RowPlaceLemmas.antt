@@ -11,10 +11,10 @@ use Rattle.bl_map.specs.MachineFacts.{MachineFacts}
 use Rattle.bl_mb2head.specs.declared.relocation.Relocation.{Relocation}
 use Rattle.bl_plan.specs.Planned.{put_in}
 use Rattle.bl_plan.specs.Placed.{ArePlaced, IsRow, IsApart, place_at, range_of}
-use Rattle.bl_plan.specs.declared.choice.Choice.TheVariants.{Fixed}
-use Rattle.bl_plan.specs.declared.row.Row.{Row}
-use Rattle.bl_plan.specs.declared.place.Place.{Place}
-use Rattle.bl_plan.specs.declared.role.Role.TheVariants.{Kernel}
+use Rattle.bl_plan.specs.declared.part.Choice.TheVariants.{Fixed}
+use Rattle.bl_plan.specs.declared.part.Row.{Row}
+use Rattle.bl_plan.specs.declared.part.Place.{Place}
+use Rattle.bl_plan.specs.declared.part.Role.TheVariants.{Kernel}
 use Rattle.bl_plan.proofs.PlaceLaws.{all_usable, all_apart}
 use Rattle.bl_load.specs.Value.{EntryValue}
 use Rattle.bl_load.specs.Reading.{multiboot2}

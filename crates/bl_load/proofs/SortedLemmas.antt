@@ -12,7 +12,7 @@ use Rattle.bl_mem.specs.Contents.{contents_of, holds}
 use Rattle.bl_elf.specs.Elf.{AreApart}
 use Rattle.bl_load.specs.Blocks.{low_of, high_of, span_of, byte_at, first_values, block_of}
 use Rattle.bl_load.specs.Kernel.{holds_at}
-use Rattle.bl_load.specs.Kept.{SegmentsAscend}
+use Rattle.bl_load.specs.Loadable.{SegmentsAscend}
 use Rattle.bl_plan.specs.Order.{segment_key, ascending}
 use Rattle.bl_load.proofs.KernelLaws.{held_within}
 use Rattle.bl_plan.proofs.OrderLemmas.{AreRelated, pairs_related, in_order_all, in_order_pairs}

@@ -1,7 +1,7 @@
 -- Where the parts of an entry stand, found by what they are and never by their order. Own.
 use Rattle.std.specs.Prelude.{ℕ, ◌==◌, ◌&&◌, if◌then◌else◌, List, [], ◌∷◌}
-use Rattle.bl_plan.specs.declared.role.Role.{Role}
-use Rattle.bl_plan.specs.declared.place.Place.{Place}
+use Rattle.bl_plan.specs.declared.part.Role.{Role}
+use Rattle.bl_plan.specs.declared.part.Place.{Place}
 use Rattle.bl_plan.specs.Roles.{role_number}
 
 -- the address of the part of a role and an index, 0 where there is none

@@ -1,6 +1,6 @@
 -- What a handoff says.
 use Rattle.std.specs.Prelude.{ℕ, ◌+◌, ◌≤◌, ◌^◌, List, length, All, AllPairs}
-use Rattle.bl_plan.specs.declared.place.Place.{Place}
+use Rattle.bl_plan.specs.declared.part.Place.{Place}
 use Rattle.bl_plan.specs.declared.protocol.Protocol.{Protocol}
 use Rattle.bl_load.specs.declared.registers.Registers.{Registers}
 

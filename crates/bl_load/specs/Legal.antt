@@ -5,10 +5,10 @@ use Rattle.std.specs.declared.ops.Range.{Range}
 use Rattle.bl_map.specs.MachineFacts.{MachineFacts, AllUsable}
 use Rattle.bl_plan.specs.Permitted.{AllOpen, IsPermitted}
 use Rattle.bl_plan.specs.Placed.{IsPlaceOf, range_of}
-use Rattle.bl_plan.specs.declared.choice.Choice.{Choice}
-use Rattle.bl_plan.specs.declared.choice.Choice.TheVariants.{Fixed, Lowest, Highest, Preferred}
-use Rattle.bl_plan.specs.declared.row.Row.{Row}
-use Rattle.bl_plan.specs.declared.place.Place.{Place}
+use Rattle.bl_plan.specs.declared.part.Choice.{Choice}
+use Rattle.bl_plan.specs.declared.part.Choice.TheVariants.{Fixed, Lowest, Highest, Preferred}
+use Rattle.bl_plan.specs.declared.part.Row.{Row}
+use Rattle.bl_plan.specs.declared.part.Place.{Place}
 use Rattle.bl_load.specs.Value.{EntryValue, lines_fault, lines_of}
 use Rattle.bl_load.specs.Reading.{Reading, IsRead}
 use Rattle.bl_load.specs.Rows.{rows_of}

@@ -2,6 +2,7 @@ pub mod Place
 pub mod Handover
 pub mod Blocks
 pub mod PlanFacts
+pub mod Loadable
 pub mod Kept
 pub mod HandoffFacts
 pub mod Value

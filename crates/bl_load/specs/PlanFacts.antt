@@ -1,6 +1,6 @@
 -- What a plan holds, where the files hold these texts.
 use Rattle.std.specs.Prelude.{ℕ, ◌+◌, List, [], map, slice_range, slice_index_or}
-use Rattle.bl_plan.specs.declared.place.Place.{Place}
+use Rattle.bl_plan.specs.declared.part.Place.{Place}
 use Rattle.bl_load.specs.declared.plan.Content.{Content}
 use Rattle.bl_load.specs.declared.plan.Content.TheVariants.{Own, File, Block}
 use Rattle.bl_load.specs.declared.plan.PlannedPart.{PlannedPart}

@@ -1,12 +1,12 @@
 -- What the code keeps of what was read of an entry's kernel.
 use Rattle.std.specs.Prelude.{◌≡◌, ◌+◌, ◌<◌, ◌≤◌, ◌^◌, ℕ, List, length}
 use Rattle.bl_map.specs.declared.region.Region.{Region}
-use Rattle.bl_plan.specs.declared.place.Place.{Place}
+use Rattle.bl_plan.specs.declared.part.Place.{Place}
 use Rattle.bl_plan.specs.declared.protocol.Protocol.{Protocol}
 use Rattle.bl_plan.specs.declared.protocol.Protocol.TheVariants as protocol
-use Rattle.bl_plan.specs.declared.role.Role.TheVariants as role
-use Rattle.bl_load.specs.declared.kernel_file.KernelFile.{KernelFile}
-use Rattle.bl_load.specs.declared.kernel_file.KernelFile.TheVariants.{Multiboot2, Linux}
+use Rattle.bl_plan.specs.declared.part.Role.TheVariants as role
+use Rattle.bl_load.specs.declared.kernel.KernelFile.{KernelFile}
+use Rattle.bl_load.specs.declared.kernel.KernelFile.TheVariants.{Multiboot2, Linux}
 use Rattle.bl_load.specs.declared.refusal.PrepFault.{PrepFault}
 use Rattle.bl_load.specs.declared.refusal.PrepFault.TheVariants as prep_fault
 use Rattle.bl_load.specs.Addresses.{address_of}

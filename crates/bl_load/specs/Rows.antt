@@ -9,11 +9,11 @@ use Rattle.bl_map.specs.Limits.{frame_size, first_usable, most_size}
 use Rattle.bl_map.specs.Room.{whole_frames}
 use Rattle.bl_mb2head.specs.declared.relocation.Relocation.{Relocation}
 use Rattle.bl_mbi.specs.InformationFacts.{ModuleInfo, InformationFacts, info_size}
-use Rattle.bl_plan.specs.declared.row.Row.{Row}
-use Rattle.bl_plan.specs.declared.place.Place.{Place}
-use Rattle.bl_plan.specs.declared.role.Role.TheVariants.{Kernel, Module, Information}
-use Rattle.bl_plan.specs.declared.choice.Choice.{Choice}
-use Rattle.bl_plan.specs.declared.choice.Choice.TheVariants.{Fixed, Lowest, Highest, Preferred}
+use Rattle.bl_plan.specs.declared.part.Row.{Row}
+use Rattle.bl_plan.specs.declared.part.Place.{Place}
+use Rattle.bl_plan.specs.declared.part.Role.TheVariants.{Kernel, Module, Information}
+use Rattle.bl_plan.specs.declared.part.Choice.{Choice}
+use Rattle.bl_plan.specs.declared.part.Choice.TheVariants.{Fixed, Lowest, Highest, Preferred}
 use Rattle.bl_load.specs.Addresses.{address_of}
 use Rattle.bl_load.specs.Value.{EntryValue, module_file, initrd_file}
 use Rattle.bl_load.specs.Reading.{Reading, multiboot2, linux}

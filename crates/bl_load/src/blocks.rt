@@ -4,7 +4,7 @@ ghost use Rattle.bl_mem.specs.Contents.{contents_of};
 ghost use Rattle.bl_mem.specs.Files.{text_at, AreBelow, IsBeside};
 ghost use Rattle.bl_mem.specs.Memory.{overwrite, HasRoom, KeepsRoom};
 ghost use Rattle.bl_load.specs.Blocks.{span_of, block_of};
-ghost use Rattle.bl_load.specs.Kept.{IsCopied, SegmentsAscend};
+ghost use Rattle.bl_load.specs.Loadable.{IsCopied, SegmentsAscend};
 
 use crate::copying::copy;
 use bl_mem::{FileSet, PhysMem, Segment};

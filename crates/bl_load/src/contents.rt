@@ -3,12 +3,12 @@ ghost use Rattle.std.specs.Prelude.{◌≡◌, ◌≤◌, ◌<◌, ◌^◌, ◌+
 ghost use Rattle.bl_load.specs.Value.{module_file};
 ghost use Rattle.bl_load.specs.Reading.{multiboot2};
 ghost use Rattle.bl_load.specs.KernelKept.{AreLoadable, kernel_by};
-ghost use Rattle.bl_plan.specs.declared.role.Role.TheVariants as role;
+ghost use Rattle.bl_plan.specs.declared.part.Role.TheVariants as role;
 ghost use Rattle.bl_load.specs.Rows.{module_length};
 ghost use Rattle.bl_load.specs.Parts as parts;
 ghost use Rattle.bl_load.specs.Parts.{content_of};
 ghost use Rattle.bl_load.specs.PlanFacts.{content_by, file_text};
-ghost use Rattle.bl_load.specs.Kept.{lengths_of, content_length, IsThere, StaysInFiles};
+ghost use Rattle.bl_load.specs.Loadable.{lengths_of, content_length, IsThere, StaysInFiles};
 ghost use Rattle.bl_load.specs.SourceKept.{texts_in, value_as};
 ghost use Rattle.bl_load.specs.PlacingKept.{HasKernelLength, IsRowed, IsLow, ModulesEndLow};
 

@@ -5,7 +5,7 @@ ghost use Rattle.bl_map.specs.Kinds.{low_kib, high_kib};
 ghost use Rattle.bl_mbi.specs.InformationFacts.{IsModule};
 ghost use Rattle.bl_mbi.specs.Size.{tag_size};
 ghost use Rattle.bl_mbi.specs.Spelling.{spelling};
-ghost use Rattle.bl_plan.specs.declared.role.Role.TheVariants as role;
+ghost use Rattle.bl_plan.specs.declared.part.Role.TheVariants as role;
 ghost use Rattle.bl_load.specs.Addresses.{address_of};
 ghost use Rattle.bl_load.specs.Value.{multiboot2_value, line_fault};
 ghost use Rattle.bl_load.specs.Rows.{modules_of, information_of};

@@ -1,4 +1,4 @@
-//! A Multiboot2 kernel's file.
+//! A Multiboot2 kernel's file, and what is read of any kernel's.
 ghost use Rattle.std.specs.Prelude.{◌≡◌, ◌≤◌, ◌<◌, ◌+◌, ◌^◌, Some, None, List, length, All, IfOk};
 ghost use Rattle.std.specs.Prelude.{IfErr, MatchResult};
 ghost use Rattle.std.specs.List.{list_any};
@@ -9,6 +9,7 @@ ghost use Rattle.bl_load.specs.KernelKept.{executable_facts, kernel_by};
 ghost use Rattle.bl_load.specs.declared.refusal.PrepFault.TheVariants.{Refused};
 
 use crate::refusal::{PrepFault, Refusal};
+use bl_bzimage::Setup;
 use bl_elf::{Elf, ElfFault, read_elf};
 use bl_mb2head::{HeadFault, Relocation, find_header};
 use bl_mem::{ByteView, Segment};
@@ -49,6 +50,13 @@ pub struct Kernel<A: Allocator> {
     pub executable: Executable<A>,
     pub entry: u64,
     pub relocation: Option<Relocation>,
+}
+
+/// What is read of a kernel's file, by the entry's protocol.
+#[derive(Drop)]
+pub enum KernelFile<A: Allocator> {
+    Multiboot2(Kernel<A>),
+    Linux(Setup),
 }
 
 /// A header's fault as a refusal.

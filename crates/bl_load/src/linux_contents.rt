@@ -1,7 +1,7 @@
 //! The contents of a Linux entry's parts, at their places.
 ghost use Rattle.std.specs.Prelude.{◌≡◌, ◌≤◌, ◌<◌, ◌^◌, All, IfOk, length, map};
 ghost use Rattle.bl_params.specs.BootParams as params;
-ghost use Rattle.bl_plan.specs.declared.role.Role.TheVariants as role;
+ghost use Rattle.bl_plan.specs.declared.part.Role.TheVariants as role;
 ghost use Rattle.bl_load.specs.Value.{initrd_file};
 ghost use Rattle.bl_load.specs.Linux.{IsLinuxKernel};
 ghost use Rattle.bl_load.specs.Addresses as addresses;
@@ -10,7 +10,7 @@ ghost use Rattle.bl_load.specs.Reading.{linux};
 ghost use Rattle.bl_load.specs.Parts.{content_of, payload_of};
 ghost use Rattle.bl_bzimage.specs.Setup.{IsSetup};
 ghost use Rattle.bl_load.specs.PlanFacts.{content_by, file_text};
-ghost use Rattle.bl_load.specs.Kept.{lengths_of, content_length, IsThere, StaysInFiles};
+ghost use Rattle.bl_load.specs.Loadable.{lengths_of, content_length, IsThere, StaysInFiles};
 ghost use Rattle.bl_load.specs.PlacingKept.{IsRowed, IsLow};
 ghost use Rattle.bl_load.specs.SourceKept.{texts_in, value_as};
 

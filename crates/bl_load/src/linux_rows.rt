@@ -1,6 +1,6 @@
 //! The table of places of a Linux entry's parts.
 ghost use Rattle.std.specs.Prelude.{◌≡◌, ◌≤◌, ◌<◌, ◌+◌, ◌^◌, ◌++◌, ℕ, List, length, map, IfOk};
-ghost use Rattle.bl_plan.specs.declared.role.Role.TheVariants as role;
+ghost use Rattle.bl_plan.specs.declared.part.Role.TheVariants as role;
 ghost use Rattle.bl_load.specs.LinuxRows as table;
 ghost use Rattle.bl_load.specs.PlacingKept as kept;
 ghost use Rattle.bl_load.specs.Value.{initrd_file};

@@ -6,7 +6,8 @@ ghost use Rattle.bl_plan.specs.Placed.{Covers, range_of};
 ghost use Rattle.bl_load.specs.Handover.{written};
 ghost use Rattle.bl_load.specs.PlanFacts.{content_by, bytes_by, part_by, handover_by};
 ghost use Rattle.bl_load.specs.PlanFacts.{handover_in, places_of};
-ghost use Rattle.bl_load.specs.Kept.{lengths_of, content_length, IsThere, CanLoad, IsLoadable};
+ghost use Rattle.bl_load.specs.Kept.{CanLoad};
+ghost use Rattle.bl_load.specs.Loadable.{lengths_of, content_length, IsThere, IsLoadable};
 
 use crate::blocks::load_block;
 use crate::copying::copy;

@@ -3,14 +3,14 @@ ghost use Rattle.std.specs.Prelude.{◌≡◌, ◌≤◌, ◌^◌, All, IfOk, le
 ghost use Rattle.bl_load.specs.Parts.{content_of, part_from};
 ghost use Rattle.bl_load.specs.Place.{place_of};
 ghost use Rattle.bl_load.specs.PlanFacts.{content_by, part_by};
-ghost use Rattle.bl_load.specs.Kept.{lengths_of, content_length, IsThere, IsBacked, StaysInFiles};
-ghost use Rattle.bl_load.specs.Kept.{IsLean};
+ghost use Rattle.bl_load.specs.Loadable.{lengths_of, content_length, IsThere, IsBacked};
+ghost use Rattle.bl_load.specs.Loadable.{StaysInFiles, IsLean};
 ghost use Rattle.bl_load.specs.PlacingKept.{IsRowed, IsLow};
 ghost use Rattle.bl_load.specs.ReadKept.{FitsTold};
 ghost use Rattle.bl_load.specs.SourceKept.{texts_in, reading_in, value_in, IsReady};
 
 use crate::contents::multiboot2_content;
-use crate::kernel_file::KernelFile;
+use crate::kernel::KernelFile;
 use crate::linux_contents::linux_content;
 use crate::plan::{Content, PlannedPart};
 use crate::source::Source;

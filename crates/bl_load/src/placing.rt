@@ -11,13 +11,12 @@ ghost use Rattle.bl_load.specs.PlacingKept as kept;
 ghost use Rattle.bl_load.specs.PlacingKept.{IsLow, IsPlacedHandover, IsPlaceFault};
 ghost use Rattle.bl_load.specs.Place.{place_of};
 ghost use Rattle.bl_load.specs.PlanFacts.{handover_by};
-ghost use Rattle.bl_load.specs.Kept.{lengths_of, IsLoadable, IsLean};
+ghost use Rattle.bl_load.specs.Loadable.{lengths_of, IsLoadable, IsLean};
 ghost use Rattle.bl_load.specs.ReadKept.{reading_by, protocol_by, CanEnter};
 ghost use Rattle.bl_load.specs.SourceKept.{texts_in, reading_in, value_in, IsReady};
 
 use crate::addresses::address_of;
-use crate::kernel::Kernel;
-use crate::kernel_file::KernelFile;
+use crate::kernel::{Kernel, KernelFile};
 use crate::linux_rows::linux_rows;
 use crate::parts::parts_at;
 use crate::plan::{Plan, PlannedPart};

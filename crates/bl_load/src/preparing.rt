@@ -6,11 +6,11 @@ ghost use Rattle.bl_load.specs.Value.{value_of, multiboot2_value, linux_value, l
 ghost use Rattle.bl_load.specs.Value.{lines_fault, file_count, HasFewModules};
 ghost use Rattle.bl_load.specs.Parts.{IsHandover, IsPrepFault};
 ghost use Rattle.bl_load.specs.PlanFacts.{handover_by};
-ghost use Rattle.bl_load.specs.Kept.{lengths_of, IsLoadable, IsLean, lines_by};
+ghost use Rattle.bl_load.specs.Kept.{lines_by};
+ghost use Rattle.bl_load.specs.Loadable.{lengths_of, IsLoadable, IsLean};
 
 use crate::entry::{Entry, MOST_LINE, Module};
-use crate::kernel::read_kernel;
-use crate::kernel_file::KernelFile;
+use crate::kernel::{KernelFile, read_kernel};
 use crate::linux::read_linux;
 use crate::placing::plan_parts;
 use crate::plan::Plan;

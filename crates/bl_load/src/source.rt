@@ -3,7 +3,7 @@ ghost use Rattle.std.specs.Prelude.{◌≡◌, ◌≤◌, None, All, length};
 ghost use Rattle.bl_load.specs.Value.{line_fault};
 
 use crate::entry::Module;
-use crate::kernel_file::KernelFile;
+use crate::kernel::KernelFile;
 use bl_map::Machine;
 use bl_mem::ByteView;
 use std::alloc::Allocator;

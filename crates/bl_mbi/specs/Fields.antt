@@ -5,7 +5,6 @@ use Rattle.std.specs.List.{list_all}
 use Rattle.bl_mem.specs.Words.{u32_at, u64_at}
 use Rattle.bl_mbi.specs.declared.fault.InfoFault.{InfoFault}
 use Rattle.bl_mbi.specs.declared.fault.InfoFault.TheVariants.{BadTag, BadOrder, NoMemory}
-use Rattle.bl_mbi.specs.declared.rest.Rest.{Rest}
 use Rattle.bl_mbi.specs.Size.{padded}
 
 -- one step behind the other, up to the first fault
@@ -36,10 +35,6 @@ long bytes = u64_at bytes 0
 pub record Left : Type 0 where
   pub at : ℕ
   pub bytes : List ℕ
-
--- what the code keeps of what is left
-abbrev pub left_of : Rest → Left
-left_of rest = record { at = rest.at; bytes = rest.bytes.now }
 
 -- a tag of this type begins there
 abbrev pub is_next : ℕ → Left → Bool

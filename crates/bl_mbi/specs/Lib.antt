@@ -7,3 +7,4 @@ pub mod Size
 pub mod Spelling
 pub mod Tags
 pub mod InfoFacts
+pub mod Kept

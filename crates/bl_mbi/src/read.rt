@@ -1,6 +1,7 @@
 //! Each tag of boot information, read where it stands.
 ghost use Rattle.std.specs.Prelude.{◌≡◌, ◌≤◌, ◌+◌, length, option_map, IfOk};
-ghost use Rattle.bl_mbi.specs.Fields.{Gives, left_of};
+ghost use Rattle.bl_mbi.specs.Fields.{Gives};
+ghost use Rattle.bl_mbi.specs.Kept.{left_of};
 ghost use Rattle.bl_mbi.specs.Fields as fields;
 ghost use Rattle.bl_mbi.specs.Reading as spec;
 

@@ -2,7 +2,8 @@
 ghost use Rattle.std.specs.Prelude.{◌≡◌, ◌^◌, ◌<◌, length, IfOk, MatchResult};
 ghost use Rattle.bl_mbi.specs.InfoFacts.{InfoFacts, IsSpelling};
 ghost use Rattle.bl_mbi.specs.declared.fault.InfoFault.TheVariants.{NoMemory};
-ghost use Rattle.bl_mbi.specs.Fields.{Gives, left_of};
+ghost use Rattle.bl_mbi.specs.Fields.{Gives};
+ghost use Rattle.bl_mbi.specs.Kept.{left_of};
 ghost use Rattle.bl_mbi.specs.Reading as spec;
 
 use crate::bodies::word;

@@ -3,11 +3,11 @@ use Rattle.std.proofs.Common.{◌≡◌, ◌+◌, ℕ, List, [], ◌++◌, lengt
 use Rattle.std.proofs.lemmas.List.{append-nil}
 use Rattle.std.specs.declared.ops.Range.{Range}
 use Rattle.bl_map.specs.MachineFacts.{MachineFacts, AllUsable}
-use Rattle.bl_plan.specs.declared.choice.Choice.{Choice}
-use Rattle.bl_plan.specs.declared.choice.Choice.TheVariants.{Fixed}
+use Rattle.bl_plan.specs.declared.part.Choice.{Choice}
+use Rattle.bl_plan.specs.declared.part.Choice.TheVariants.{Fixed}
 use Rattle.bl_plan.specs.declared.fault.PlanFault.{PlanFault}
-use Rattle.bl_plan.specs.declared.row.Row.{Row}
-use Rattle.bl_plan.specs.declared.place.Place.{Place}
+use Rattle.bl_plan.specs.declared.part.Row.{Row}
+use Rattle.bl_plan.specs.declared.part.Place.{Place}
 use Rattle.bl_plan.specs.Permitted.{AllOpen, HasFixedFault, OrNoMemory}
 use Rattle.bl_plan.specs.Placed.{IsChosen, HasFault, ArePlaced}
 

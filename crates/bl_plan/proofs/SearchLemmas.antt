@@ -3,8 +3,8 @@ use Rattle.std.proofs.Common.{◌≤◌, ◌+◌, ◌-◌, ℕ, List, arith}
 use Rattle.std.specs.declared.ops.Range.{Range}
 use Rattle.bl_map.specs.MachineFacts.{MachineFacts}
 use Rattle.bl_plan.specs.Permitted.{IsPermitted, IsAtSide}
-use Rattle.bl_plan.specs.declared.side.Side.{Side}
-use Rattle.bl_plan.specs.declared.side.Side.TheVariants.{Lowest, Highest}
+use Rattle.bl_plan.specs.declared.part.Side.{Side}
+use Rattle.bl_plan.specs.declared.part.Side.TheVariants.{Lowest, Highest}
 
 -- a permitted range ends in the room of usable memory
 pub ends_in_room : (facts : MachineFacts) (taken : List (Range ℕ))

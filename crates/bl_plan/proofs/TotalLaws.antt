@@ -9,12 +9,12 @@ use Rattle.bl_map.specs.MachineFacts.{MachineFacts}
 use Rattle.bl_plan.specs.Permitted.{IsPreferred}
 use Rattle.bl_plan.specs.Placed.{ArePlaced, IsFirstFault, IsChosen, HasFault, place_at, range_of}
 use Rattle.bl_plan.specs.Planned.{put_in}
-use Rattle.bl_plan.specs.declared.choice.Choice.{Choice}
-use Rattle.bl_plan.specs.declared.choice.Choice.TheVariants.{Fixed, Lowest, Highest, Preferred}
+use Rattle.bl_plan.specs.declared.part.Choice.{Choice}
+use Rattle.bl_plan.specs.declared.part.Choice.TheVariants.{Fixed, Lowest, Highest, Preferred}
 use Rattle.bl_plan.specs.declared.fault.PlanFault.{PlanFault}
 use Rattle.bl_plan.specs.declared.fault.PlanFault.TheVariants.{NotUsable, Overlap, NoRoom, NoMemory}
-use Rattle.bl_plan.specs.declared.place.Place.{Place}
-use Rattle.bl_plan.specs.declared.row.Row.{Row}
+use Rattle.bl_plan.specs.declared.part.Place.{Place}
+use Rattle.bl_plan.specs.declared.part.Row.{Row}
 use Rattle.bl_plan.proofs.DecidedLemmas.{IsDecided, all_usable_or_not, all_open_or_not}
 use Rattle.bl_plan.proofs.DecidedLemmas.{permitted_or_not, permitted_small}
 

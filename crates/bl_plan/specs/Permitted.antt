@@ -4,8 +4,8 @@ use Rattle.std.specs.declared.ops.Range.{Range}
 use Rattle.bl_map.specs.MachineFacts.{MachineFacts, AllUsable}
 use Rattle.bl_mem.specs.Memory.{IsIn}
 use Rattle.bl_mem.specs.Least.{IsLeast, IsGreatest}
-use Rattle.bl_plan.specs.declared.side.Side.{Side}
-use Rattle.bl_plan.specs.declared.side.Side.TheVariants.{Lowest, Highest}
+use Rattle.bl_plan.specs.declared.part.Side.{Side}
+use Rattle.bl_plan.specs.declared.part.Side.TheVariants.{Lowest, Highest}
 use Rattle.bl_plan.specs.declared.fault.PlanFault.{PlanFault}
 use Rattle.bl_plan.specs.declared.fault.PlanFault.TheVariants.{NotUsable, Overlap, NoRoom, NoMemory}
 

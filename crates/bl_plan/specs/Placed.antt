@@ -6,11 +6,11 @@ use Rattle.bl_mem.specs.Least.{IsLeast, IsGreatest}
 use Rattle.bl_plan.specs.Permitted.{AllOpen, IsPermitted, IsPreferred, HasFixedFault, HasNoRoom}
 use Rattle.bl_plan.specs.Permitted.{OrNoMemory}
 use Rattle.bl_plan.specs.Planned.{put_in}
-use Rattle.bl_plan.specs.declared.choice.Choice.{Choice}
-use Rattle.bl_plan.specs.declared.choice.Choice.TheVariants.{Fixed, Lowest, Highest, Preferred}
+use Rattle.bl_plan.specs.declared.part.Choice.{Choice}
+use Rattle.bl_plan.specs.declared.part.Choice.TheVariants.{Fixed, Lowest, Highest, Preferred}
 use Rattle.bl_plan.specs.declared.fault.PlanFault.{PlanFault}
-use Rattle.bl_plan.specs.declared.row.Row.{Row}
-use Rattle.bl_plan.specs.declared.place.Place.{Place}
+use Rattle.bl_plan.specs.declared.part.Row.{Row}
+use Rattle.bl_plan.specs.declared.part.Place.{Place}
 
 -- the address that a choice asks for, for so many bytes beside what is taken
 abbrev pub IsChosen : MachineFacts → List (Range ℕ) → ℕ → Choice → ℕ → Type 0

@@ -5,8 +5,8 @@ ghost use Rattle.std.specs.declared.ops.Range.{Range};
 ghost use Rattle.bl_map.specs.MachineFacts.{MachineFacts};
 ghost use Rattle.bl_plan.specs.declared.fault.PlanFault.{PlanFault};
 ghost use Rattle.bl_plan.specs.declared.fault.PlanFault.TheVariants.{NoMemory};
-ghost use Rattle.bl_plan.specs.declared.row.Row.{Row};
-ghost use Rattle.bl_plan.specs.declared.place.Place.{Place};
+ghost use Rattle.bl_plan.specs.declared.part.Row.{Row};
+ghost use Rattle.bl_plan.specs.declared.part.Place.{Place};
 ghost use Rattle.bl_plan.specs.Placed.{ArePlaced, IsFirstFault, IsApart, IsPlaceable, IsOpen};
 ghost use Rattle.bl_plan.specs.Placed.{IsPlaceOf};
 

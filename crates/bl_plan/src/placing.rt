@@ -4,9 +4,8 @@ ghost use Rattle.bl_map.specs.Limits.{usable_limit};
 ghost use Rattle.bl_plan.specs.Placed.{ArePlaced, IsRow, IsPlacingFault};
 
 use crate::fault::PlanFault;
-use crate::place::Place;
+use crate::part::{Place, Row};
 use crate::planner::Planner;
-use crate::row::Row;
 use bl_map::Machine;
 use std::alloc::Allocator;
 

@@ -1,15 +1,13 @@
 //! A planner.
 use crate::blocked::taken_stretch;
-use crate::choice::Choice;
 use crate::fault::PlanFault;
 use crate::order::position_for;
-use crate::row::Row;
-use crate::search::{is_permitted, place_at_side};
-use crate::side::Side;
 use bl_map::Machine;
 use std::alloc::{AllocError, Allocator};
 use std::marker::Model;
 use std::ops::Range;
+
+mod choosing;
 
 /// A machine and the ranges that are taken of it. Contracts see it as these two.
 #[derive(Drop)]
@@ -29,13 +27,10 @@ impl<'m, A: Allocator> Model for Planner<'m, A> {
 }
 
 impl<'m, A: Allocator> Planner<'m, A> {
-    ghost use Rattle.std.specs.Prelude.{◌≡◌, ◌+◌, ◌<◌, ◌≤◌, [], IfOk, IfErr, OnOk, OnErr};
-    ghost use Rattle.bl_map.specs.Limits.{usable_limit};
+    ghost use Rattle.std.specs.Prelude.{◌≡◌, ◌<◌, [], IfOk, IfErr, OnOk, OnErr};
     ghost use Rattle.bl_map.specs.MachineFacts.{AllUsable};
-    ghost use Rattle.bl_plan.specs.Permitted.{AllOpen, IsPermitted, IsAtSide, IsPreferred};
-    ghost use Rattle.bl_plan.specs.Permitted.{HasFixedFault, HasNoRoom, OrNoMemory};
+    ghost use Rattle.bl_plan.specs.Permitted.{AllOpen, HasFixedFault, OrNoMemory};
     ghost use Rattle.bl_plan.specs.Planned.{AreTaken, with_taken};
-    ghost use Rattle.bl_plan.specs.Placed.{IsRow, IsChosen, HasFault};
 
     /// A planner of this machine, of which nothing is taken.
     pub fn new(alloc: A, machine: &'m Machine<A>) -> Result<Planner<'m, A>, AllocError>
@@ -84,114 +79,6 @@ impl<'m, A: Allocator> Planner<'m, A> {
         }
         self.take(range)?;
         Ok(())
-    }
-
-    /// Takes `length` bytes, at least one, at the least or the greatest permitted address, and
-    /// answers that address.
-    ///
-    /// An address is permitted where it is a multiple of `align` (any number from 1 on), is not
-    /// below `low`, and the bytes from there on end at most at `high`, are usable and are not
-    /// taken. All numbers are in bytes.
-    ///
-    /// One of these faults refuses it, and the planner stays as it was:
-    /// - `NoRoom`: no address is permitted.
-    /// - `NoMemory`: there was no memory to keep the place.
-    pub fn place(
-        &mut self,
-        length: u64,
-        align: u64,
-        low: u64,
-        high: u64,
-        side: Side,
-    ) -> Result<u64, PlanFault>
-        requires filled { 1 ≤ length }
-        requires aligned { 1 ≤ align }
-        ensures at_side { IfOk result (λ a.
-            IsAtSide side (IsPermitted self.old.facts self.old.taken length align low high) a) }
-        ensures taken { IfOk result (λ a.
-            self.new ≡ with_taken self.old (record { start = a; end = a + length })) }
-        ensures below { IfOk result (λ a. a + length ≤ usable_limit) }
-        ensures fault { IfErr result
-            (OrNoMemory (HasNoRoom
-            (IsPermitted self.old.facts self.old.taken length align low high))) }
-        ensures unchanged { OnErr result (self.new ≡ self.old) }
-    {
-        let taken = self.taken.as_slice();
-        match place_at_side(self.machine, taken, length, align, low, high, side) {
-            None => Err(PlanFault::NoRoom),
-            Some(at) => {
-                self.take(at..at + length)?;
-                Ok(at)
-            }
-        }
-    }
-
-    /// Takes `length` bytes, at least one, at `at` where that address is permitted, else at the
-    /// least permitted one, and answers the address. What is permitted, the faults and the units
-    /// are those of `place`; a refusal leaves the planner as it was. That `at` is not permitted is
-    /// no fault.
-    pub fn prefer(
-        &mut self,
-        at: u64,
-        length: u64,
-        align: u64,
-        low: u64,
-        high: u64,
-    ) -> Result<u64, PlanFault>
-        requires filled { 1 ≤ length }
-        requires aligned { 1 ≤ align }
-        ensures preferred { IfOk result (λ a.
-            IsPreferred at (IsPermitted self.old.facts self.old.taken length align low high) a) }
-        ensures taken { IfOk result (λ a.
-            self.new ≡ with_taken self.old (record { start = a; end = a + length })) }
-        ensures below { IfOk result (λ a. a + length ≤ usable_limit) }
-        ensures fault { IfErr result
-            (OrNoMemory (HasNoRoom
-            (IsPermitted self.old.facts self.old.taken length align low high))) }
-        ensures unchanged { OnErr result (self.new ≡ self.old) }
-    {
-        let taken = self.taken.as_slice();
-        if !is_permitted(self.machine, taken, at, length, align, low, high) {
-            return self.place(length, align, low, high, Side::Lowest);
-        }
-        self.take(at..at + length)?;
-        Ok(at)
-    }
-
-    /// Takes the place of a row, and answers its address. A fixed row has the faults of
-    /// `take_fixed`, each other one those of `place`; a refusal leaves the planner as it was.
-    pub(crate) fn place_row(&mut self, row: &Row) -> Result<u64, PlanFault>
-        requires row { IsRow row.now }
-        ensures chosen { IfOk result (λ a.
-            IsChosen self.old.facts self.old.taken row.now.length row.now.choice a) }
-        ensures taken { IfOk result (λ a.
-            self.new ≡ with_taken self.old (record { start = a; end = a + row.now.length })) }
-        ensures below { IfOk result (λ a. a + row.now.length ≤ usable_limit) }
-        ensures fault { IfErr result
-            (OrNoMemory (HasFault self.old.facts self.old.taken row.now.length row.now.choice)) }
-        ensures unchanged { OnErr result (self.new ≡ self.old) }
-    {
-        match row.choice {
-            Choice::Fixed(at) => {
-                let Some(end) = at.checked_add(row.length) else {
-                    return Err(PlanFault::NotUsable);
-                };
-                self.take_fixed(at..end)?;
-                Ok(at)
-            }
-            Choice::Lowest { align, low, high } => {
-                self.place(row.length, align, low, high, Side::Lowest)
-            }
-            Choice::Highest { align, low, high } => {
-                self.place(row.length, align, low, high, Side::Highest)
-            }
-            Choice::Preferred {
-                at,
-                align,
-                low,
-                high,
-            } => self.prefer(at, row.length, align, low, high),
-        }
     }
 
     /// The ranges that are taken, in bytes: none empty, ascending, none meeting another.

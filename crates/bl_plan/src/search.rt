@@ -6,8 +6,8 @@ ghost use Rattle.bl_plan.specs.Permitted.{IsPermitted, IsAtSide};
 ghost use Rattle.bl_plan.specs.Planned.{AreApart};
 
 use crate::blocked::{blocked_stretch, taken_stretch};
+use crate::part::Side;
 use crate::rounding::{round_down, round_up};
-use crate::side::Side;
 use bl_map::{FIRST_USABLE, Machine, USABLE_LIMIT};
 use std::alloc::Allocator;
 use std::ops::Range;

@@ -14,8 +14,8 @@ use Rattle.bl_load.specs.Handover.{Part}
 use Rattle.bl_load.specs.declared.refusal.Refusal.{Refusal}
 use Rattle.bl_stage.specs.Ranges.{IsSameOutside, scrubbed}
 use Rattle.bl_stage.specs.Spots.{Spot, spots}
-use Rattle.bl_session.specs.declared.attempt.Attempt.{Attempt}
-use Rattle.bl_session.specs.declared.attempt.Attempt.TheVariants as attempt
+use Rattle.bl_session.specs.declared.attempting.Attempt.{Attempt}
+use Rattle.bl_session.specs.declared.attempting.Attempt.TheVariants as attempt
 use Rattle.bl_session.specs.declared.words.RefusedEntry.{RefusedEntry}
 use Rattle.bl_session.specs.Ends.{handed, refused, size_refusal}
 use Rattle.bl_session.specs.Menu.{EntryFacts, MenuFacts, entry_at}

@@ -11,12 +11,12 @@ use Rattle.std.proofs.lemmas.List.{places as places_, same_lists, length-map}
 use Rattle.std.proofs.lemmas.List.Folds.{list_any_at, list_any_none}
 use Rattle.std.proofs.lemmas.List.Elements.{All-map}
 use Rattle.bl_mem.specs.Memory.{IsIn}
-use Rattle.bl_plan.specs.declared.place.Place.{Place}
+use Rattle.bl_plan.specs.declared.part.Place.{Place}
 use Rattle.bl_plan.specs.Placed.{range_of as place_range}
 use Rattle.bl_stage.specs.Ranges.{has, scrubbed, IsSameOutside}
 use Rattle.bl_load.specs.declared.plan.PlannedPart.{PlannedPart}
 use Rattle.bl_load.specs.Handover.{Part, part_at}
-use Rattle.bl_load.specs.Kept.{lengths_of, IsBacked}
+use Rattle.bl_load.specs.Loadable.{lengths_of, IsBacked}
 use Rattle.bl_load.specs.PlanFacts.{part_by, part_in}
 use Rattle.bl_load.specs.After.{Spans, IsAfter}
 use Rattle.bl_load.proofs.HeldLemmas.{length-bytes_by, map_same}

@@ -30,10 +30,10 @@ AreAsked facts items (none_left earlier) = Unit {0}
 AreAsked facts items out_of_memory = Unit {0}
 
 -- an attempt that has just begun, once it asked for its pieces
-pub asked_new : (facts : BootFacts) (given : List Item) (number : ℕ) (state : State)
-    → IsNewFrom facts number state → AreAsked facts (given ++ orders facts state) state
-asked_new facts given number unstarted is = tt
-asked_new facts given number (running entry rest earlier files) (l, sized, is) =
+pub asked_new : (facts : BootFacts) (given : List Item) (count number : ℕ) (state : State)
+    → IsNewFrom facts count number state → AreAsked facts (given ++ orders facts state) state
+asked_new facts given count number unstarted is = tt
+asked_new facts given count number (running entry rest earlier files) (l, few, sized, is) =
     let long : length files ≡ length (entry_at facts.menu entry).files =
     ap length is ∙ fresh_length facts entry in (
       long,
@@ -43,9 +43,9 @@ asked_new facts given number (running entry rest earlier files) (l, sized, is) =
           ∙ found_files (file_under given (ticket_of (length earlier) place piece)) (length earlier)
           (entry_at facts.menu entry).files files place piece long h,
     )
-asked_new facts given number (handed_over entry earlier handover) is = tt
-asked_new facts given number (none_left earlier) is = tt
-asked_new facts given number out_of_memory is = tt
+asked_new facts given count number (handed_over entry earlier handover) is = tt
+asked_new facts given count number (none_left earlier) is = tt
+asked_new facts given count number out_of_memory is = tt
 
 -- items that ask for nothing leave it
 pub asked_same : (facts : BootFacts) (items more : List Item) (state : State)
@@ -88,7 +88,7 @@ on_same facts items old new e asked =
 
 on_new : (facts : BootFacts) (items : List Item) (entry : ℕ) (rest : List ℕ)
     (earlier : List RefusedEntry) (files : List (List Spot)) (new : State)
-    → IsNewFrom facts (length earlier + 1) new
+    → IsNewFrom facts (length rest) (length earlier + 1) new
     → AreAsked facts (items ++ orders_after facts (running entry rest earlier files) new) new
 on_new facts items entry rest earlier files unstarted is = tt
 on_new facts items entry rest earlier files (running index others before spots) is =
@@ -99,7 +99,8 @@ on_new facts items entry rest earlier files (running index others before spots) 
     ap (λ (b : Bool). if b then [] else orders facts (running index others before spots)) other in
     subst (λ (xs : List Item). AreAsked facts (items ++ xs) (running index others before spots))
     (sym owed)
-    (asked_new facts items (length earlier + 1) (running index others before spots) is)
+    (asked_new facts items (length rest) (length earlier + 1) (running index others before spots)
+    is)
 on_new facts items entry rest earlier files (handed_over index before handover) is = tt
 on_new facts items entry rest earlier files (none_left before) is = tt
 on_new facts items entry rest earlier files out_of_memory is = tt

@@ -12,9 +12,9 @@ use Rattle.bl_stage.specs.Spots.{Spot, spots, bytes_of}
 use Rattle.bl_session.specs.Ends.{End, EndsIn, size_refusal, lengths_of}
 use Rattle.bl_session.specs.Menu.{EntryFacts, facts_of, value_with}
 use Rattle.bl_session.specs.Pieces.{are_whole, awaited}
-use Rattle.bl_session.specs.Phases.{IsFresh}
+use Rattle.bl_session.specs.PhasesKept.{IsFresh}
 use Rattle.bl_session.specs.Attempt.{IsAttempt, IsBegun, IsRefusedFor}
-use Rattle.bl_session.specs.declared.attempt.Attempt.{Attempt}
+use Rattle.bl_session.specs.declared.attempting.Attempt.{Attempt}
 use Rattle.bl_session.proofs.SpotLemmas.{first_awaited, whole_came, whole_texts}
 
 -- its value once its files hold these texts

@@ -1,6 +1,6 @@
 -- A faithful store's answers are genuine, and no fault comes of them.
 use Rattle.std.proofs.Common.{◌≡◌, List, [], ◌∷◌, ◌++◌, map, None, refl, sym, ap, subst, ◌∙◌, inl}
-use Rattle.std.proofs.Common.{inr, append_assoc}
+use Rattle.std.proofs.Common.{inr, length, append_assoc}
 use Rattle.std.proofs.lemmas.List.{append-nil}
 use Rattle.bl_session.specs.Boot.{BootFacts, EventFacts, State, unstarted, running, handed_over}
 use Rattle.bl_session.specs.Boot.{none_left, out_of_memory, StepsOrFails, StartsOrFails}
@@ -62,7 +62,8 @@ module _ (facts : BootFacts) (files : List File) (known : facts.sizes ≡ map si
   begin_any : (begun_as : State) → StartsOrFails facts unstarted begun_as
       → Steady facts ([] ++ orders facts begun_as) begun_as
   begin_any state (inl goes) =
-      steady_new facts [] 0 state (new_begins facts facts.menu.attempts [] state goes)
+      steady_new facts [] (length facts.menu.attempts) 0 state
+      (new_begins facts facts.menu.attempts [] state goes)
       (λ t l. (refl, refl, λ found. refl))
   begin_any state (inr (lacks, first)) =
       subst (λ (s : State). Steady facts ([] ++ orders facts s) s) (sym lacks) tt

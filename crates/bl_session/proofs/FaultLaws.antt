@@ -28,14 +28,14 @@ module _ (facts : BootFacts) (files : List File) where
   IsFrom (none_left earlier) n = ⊥
   IsFrom out_of_memory n = ⊥
 
-  from_new : (number : ℕ) (state : State) (n : ℕ) → IsNewFrom facts number state → IsFrom state n
-      → number ≤ n
-  from_new number unstarted n is from = absurd from
-  from_new number (running entry rest earlier spots) n is from =
+  from_new : (count number : ℕ) (state : State) (n : ℕ) → IsNewFrom facts count number state
+      → IsFrom state n → number ≤ n
+  from_new count number unstarted n is from = absurd from
+  from_new count number (running entry rest earlier spots) n is from =
       let low = is.0 in omega (arith, low, from)
-  from_new number (handed_over entry earlier handover) n is from = absurd from
-  from_new number (none_left earlier) n is from = absurd from
-  from_new number out_of_memory n is from = absurd from
+  from_new count number (handed_over entry earlier handover) n is from = absurd from
+  from_new count number (none_left earlier) n is from = absurd from
+  from_new count number out_of_memory n is from = absurd from
 
   -- some faults, which count only from the attempt that runs, make these items genuine
   abbrev Fits : List Item → World → List Item → Type 0
@@ -155,7 +155,9 @@ module _ (facts : BootFacts) (files : List File) where
                   (λ last wants.
                   same (length earlier) (omega arith)
                   ∙ at_fault (length earlier) (told event) faults)
-                  (λ n from. let later = from_new (length earlier + 1) next.state n new from in
+                  (λ n from.
+                  let later =
+                  from_new (length rest) (length earlier + 1) next.state n new from in
                   same n (omega (arith, later))
                   ∙ past_fault (length earlier) (told event) faults n (omega (arith, later))),
             )

@@ -76,7 +76,8 @@ past_fault number place faults n h =
 -- the last event of an attempt leads to a new one
 pub last_new : (facts : BootFacts) (entry : ℕ) (rest : List ℕ) (earlier : List RefusedEntry)
     (spots : List (List Spot)) (event : EventFacts) (new : State) → is_last spots event ≡ true
-    → Takes facts entry rest earlier spots event new → IsNewFrom facts (length earlier + 1) new
+    → Takes facts entry rest earlier spots event new
+    → IsNewFrom facts (length rest) (length earlier + 1) new
 last_new facts entry rest earlier spots (piece ticket bytes) new last takes =
     let after = with_piece spots ticket.file ticket.piece bytes in
     let ends =

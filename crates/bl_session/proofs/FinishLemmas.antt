@@ -9,7 +9,7 @@ use Rattle.bl_load.specs.declared.plan.Plan.{Plan}
 use Rattle.bl_load.specs.declared.refusal.PrepFault.{PrepFault}
 use Rattle.bl_load.specs.declared.refusal.PrepFault.TheVariants.{Refused, NoMemory}
 use Rattle.bl_load.specs.declared.refusal.Refusal.TheVariants.{NoPool}
-use Rattle.bl_load.specs.Kept.{lengths_of, IsBacked}
+use Rattle.bl_load.specs.Loadable.{lengths_of, IsBacked}
 use Rattle.bl_load.specs.Parts.{IsHandover, IsPrepFault}
 use Rattle.bl_load.specs.PlanFacts.{handover_by, places_of}
 use Rattle.bl_load.specs.Value.{EntryValue, value_of}

@@ -40,7 +40,7 @@ pub hears_on : (facts : BootFacts) (event : EventFacts) (old new : PhaseFacts)
     → is_waiting new ≡ true
 hears_on facts event (waits entry rest earlier stage) new before after p w step told is =
     let on =
-    still_runs entry rest earlier (state_at after new)
+    still_runs facts entry rest earlier (state_at after new)
     (next_step facts entry rest earlier (spots before stage) event (state_at after new)
     step) (sym told ∙ is) in
     running_waits new after entry rest earlier on.0 on.1
@@ -56,7 +56,7 @@ pub hears_as_many : (facts : BootFacts) (event : EventFacts) (old new : PhaseFac
     → attempts_in (state_at after new) ≡ attempts_in (state_at before old)
 hears_as_many facts event (waits entry rest earlier stage) new before after p w step told is =
     let on =
-    still_runs entry rest earlier (state_at after new)
+    still_runs facts entry rest earlier (state_at after new)
     (next_step facts entry rest earlier (spots before stage) event (state_at after new)
     step) (sym told ∙ is) in
     ap attempts_in on.1
@@ -72,8 +72,8 @@ pub hears_fewer : (facts : BootFacts) (event : EventFacts) (old new : PhaseFacts
     → p ≡ progress (attempt_of (state_at before old)) (state_at after new) → p ≢ Waiting
     → attempts_in (state_at after new) < attempts_in (state_at before old)
 hears_fewer facts event (waits entry rest earlier stage) new before after p w step told is =
-    fewer_left (length rest) (length earlier + 1) (state_at after new)
-    (has_ended entry rest earlier (state_at after new)
+    fewer_left facts (length rest) (length earlier + 1) (state_at after new)
+    (has_ended facts entry rest earlier (state_at after new)
     (next_step facts entry rest earlier (spots before stage) event (state_at after new) step)
     (λ e. is (told ∙ e)))
 hears_fewer facts event not_started new before after p w step told is = absurd cc
@@ -82,18 +82,18 @@ hears_fewer facts event (hands_over n refusals handoff) new before after p w ste
 hears_fewer facts event (has_none refusals) new before after p w step told is = absurd cc
 hears_fewer facts event lacks_memory new before after p w step told is = absurd cc
 
-not_unstarted : (entry : ℕ) (rest : List ℕ) (earlier : List RefusedEntry)
-    → IsNext entry rest earlier unstarted → ⊥
-not_unstarted entry rest earlier (inl same) =
+not_unstarted : (facts : BootFacts) (entry : ℕ) (rest : List ℕ) (earlier : List RefusedEntry)
+    → IsNext facts entry rest earlier unstarted → ⊥
+not_unstarted facts entry rest earlier (inl same) =
     let no : unstarted ≡ running entry rest earlier same.0 = same.1 in absurd cc
-not_unstarted entry rest earlier (inr later) = later
+not_unstarted facts entry rest earlier (inr later) = later
 
 pub hears_started : (facts : BootFacts) (event : EventFacts) (old new : PhaseFacts)
     (before after : List ℕ) → is_waiting old ≡ true
     → StepsOrFails facts (state_at before old) event (state_at after new) → new ≢ not_started
 hears_started facts event (waits entry rest earlier stage) new before after w step = λ e.
-    not_unstarted entry rest earlier
-    (subst (λ (p : PhaseFacts). IsNext entry rest earlier (state_at after p)) e
+    not_unstarted facts entry rest earlier
+    (subst (λ (p : PhaseFacts). IsNext facts entry rest earlier (state_at after p)) e
     (next_step facts entry rest earlier (spots before stage) event (state_at after new) step))
 hears_started facts event not_started new before after w step = absurd cc
 hears_started facts event (hands_over n refusals handoff) new before after w step = absurd cc

@@ -157,15 +157,15 @@ module _ (facts : BootFacts) (files : List File) (known : facts.sizes ≡ map si
   -- it ended, and one that has just begun runs
   renews : (item : Item) (new : State)
       → ((t : Ticket) → length earlier < t.attempt → IsUntouched (item ∷ []) t)
-      → IsNewFrom facts (length earlier + 1) new → Next item new
+      → IsNewFrom facts (length rest) (length earlier + 1) new → Next item new
   renews item new later is =
       by_state new is
-      (steady_new facts (given ++ item ∷ []) (length earlier + 1) new is
+      (steady_new facts (given ++ item ∷ []) (length rest) (length earlier + 1) new is
       (λ t l.
       untouched_both given (item ∷ []) t (steady.2 t (omega arith))
       (later t (omega arith))))
     where
-      by_state : (new : State) → IsNewFrom facts (length earlier + 1) new
+      by_state : (new : State) → IsNewFrom facts (length rest) (length earlier + 1) new
           → Steady facts ((given ++ item ∷ []) ++ orders facts new) new → Next item new
       by_state (running index others more left) is holds =
           let low = is.0 in

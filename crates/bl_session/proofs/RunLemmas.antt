@@ -18,7 +18,7 @@ use Rattle.bl_session.specs.Run.{World, world_of, IsRun}
 use Rattle.bl_session.specs.Turns.{IsAsked, IsHeard}
 use Rattle.bl_session.proofs.AlikeLemmas.{run_alike, alike_listed}
 use Rattle.bl_session.proofs.AdvanceLemmas.{memory_on}
-use Rattle.bl_session.proofs.LaterLemmas.{later_begins}
+use Rattle.bl_session.proofs.WentLemmas.{new_begins}
 use Rattle.bl_session.proofs.TurnLemmas.{heard_on, heard_asked, heard_orders, reads_to}
 use Rattle.bl_session.proofs.HearLemmas.{at, waiting_memory}
 
@@ -130,7 +130,7 @@ unbegun facts files old new e = record {
 
 -- the start leads on
 not_unstarted : (facts : BootFacts) → StartsOrFails facts unstarted unstarted → ⊥
-not_unstarted facts (inl begins) = later_begins facts facts.menu.attempts [] unstarted begins
+not_unstarted facts (inl begins) = new_begins facts facts.menu.attempts [] unstarted begins
 not_unstarted facts (inr fails) = let no : unstarted ≡ out_of_memory = fails.0 in absurd cc
 
 pub has_started : (facts : BootFacts) (old new : PhaseFacts) (before after : List ℕ)

@@ -247,7 +247,7 @@ module _ (facts : BootFacts) (files : List File) (faults : ℕ → Option ℕ) w
         run.begun,
         begins,
         schedule run.gained old (world_of facts run.begun) end
-            (asked_new facts old 0 run.begun
+            (asked_new facts old (length facts.menu.attempts) 0 run.begun
             (new_begins facts facts.menu.attempts [] run.begun begins))
             (genuine run.gained run.begun run.given run.begins) run.reads ended,
       )

@@ -7,7 +7,7 @@ use Rattle.std.proofs.lemmas.List.{get_or_default}
 use Rattle.bl_load.specs.declared.refusal.Refusal.TheVariants.{FileTooLong}
 use Rattle.bl_stage.specs.Staged.{Staging}
 use Rattle.bl_session.specs.Ends.{most_bytes, file_refusal, lengths_of}
-use Rattle.bl_session.specs.Phases.{HasSmallFiles}
+use Rattle.bl_session.specs.PhasesKept.{HasSmallFiles}
 
 -- the first is small, and none behind it is refused
 first_small : (place size : ℕ) (sizes : List (Option ℕ)) (long : Bool)

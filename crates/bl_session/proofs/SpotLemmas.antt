@@ -13,8 +13,8 @@ use Rattle.bl_map.specs.Room.{frames_of}
 use Rattle.bl_stage.specs.Staged.{Staging, AreStaged, AllCame, file_of, table_of, texts_of, fresh}
 use Rattle.bl_stage.specs.Staged.{frames_for, first_of}
 use Rattle.bl_stage.specs.Pieces.{is_piece, slot_in, put_answer, is_missing}
-use Rattle.bl_stage.specs.declared.put.Put.{Put}
-use Rattle.bl_stage.specs.declared.put.Put.TheVariants.{Stored, Repeated, Strange}
+use Rattle.bl_stage.specs.declared.stage.putting.Put.{Put}
+use Rattle.bl_stage.specs.declared.stage.putting.Put.TheVariants.{Stored, Repeated, Strange}
 use Rattle.bl_stage.specs.Spots as stage
 use Rattle.bl_stage.specs.Spots.{Spot, waits, has, spots, spots_of, spot_at, piece_of, put_spot}
 use Rattle.bl_stage.specs.Spots.{waiting_spots, bytes_of}

@@ -44,14 +44,15 @@ module _ (facts : BootFacts) where
   -- ---- an attempt that begins
 
   -- its orders are to be asked for, and none of its tickets was
-  pub steady_new : (given : List Item) (number : ℕ) (new : State) → IsNewFrom facts number new
+  pub steady_new : (given : List Item) (count number : ℕ) (new : State)
+      → IsNewFrom facts count number new
       → ((t : Ticket) → number ≤ t.attempt → IsUntouched given t)
       → Steady (given ++ orders facts new) new
-  steady_new given number unstarted is apart = tt
-  steady_new given number (handed_over entry later handover) is apart = tt
-  steady_new given number (none_left later) is apart = tt
-  steady_new given number out_of_memory is apart = tt
-  steady_new given number (running entry rest later spots) (long, sized, first) apart =
+  steady_new given count number unstarted is apart = tt
+  steady_new given count number (handed_over entry later handover) is apart = tt
+  steady_new given count number (none_left later) is apart = tt
+  steady_new given count number out_of_memory is apart = tt
+  steady_new given count number (running entry rest later spots) (long, few, sized, first) apart =
       let indices = (entry_at facts.menu entry).files in
       let asked_for = file_orders (length later) 0 indices spots in (
         sized,

@@ -9,8 +9,8 @@ use Rattle.bl_load.specs.declared.refusal.Refusal.TheVariants.{FileFault}
 use Rattle.bl_stage.specs.Ranges.{IsSameOutside}
 use Rattle.bl_stage.specs.Staged.{Staging}
 use Rattle.bl_stage.specs.Pieces.{put_answer}
-use Rattle.bl_stage.specs.declared.put.Put.{Put}
-use Rattle.bl_stage.specs.declared.put.Put.TheVariants.{Stored, Strange}
+use Rattle.bl_stage.specs.declared.stage.putting.Put.{Put}
+use Rattle.bl_stage.specs.declared.stage.putting.Put.TheVariants.{Stored, Strange}
 use Rattle.bl_stage.specs.Spots.{Spot, spots, put_spot}
 use Rattle.bl_session.specs.declared.words.RefusedEntry.{RefusedEntry}
 use Rattle.bl_session.specs.declared.words.Ticket.{Ticket}

@@ -14,8 +14,8 @@ use Rattle.std.proofs.lemmas.Bool.Decides.{not_from_Decides}
 use Rattle.std.specs.Prelude.{slice_get, slice_index_or, option_map}
 use Rattle.bl_stage.specs.Spots.{piece_of}
 use Rattle.bl_session.specs.declared.words.Ticket.{Ticket}
-use Rattle.bl_session.specs.declared.completion.Completion.{Completion}
-use Rattle.bl_session.specs.declared.completion.Completion.TheVariants.{Piece, Fault}
+use Rattle.bl_session.specs.declared.store.Completion.{Completion}
+use Rattle.bl_session.specs.declared.store.Completion.TheVariants.{Piece, Fault}
 use Rattle.bl_session.specs.declared.request.Request.{Request}
 use Rattle.bl_session.specs.declared.queue.Order.{Order}
 use Rattle.bl_session.specs.declared.queue.Order.TheVariants.{Forward, Reverse}
@@ -24,10 +24,10 @@ use Rattle.bl_session.specs.Outcome.{File, missing, text_of}
 use Rattle.bl_session.specs.History.{Item, submitted, failed, nothing, is_same, file_under}
 use Rattle.bl_session.specs.History.{IsPieceOf, IsItemOf}
 use Rattle.bl_session.specs.Faithful.{asked, answered, HasPiece, IsFaithfulItem, IsFaithfulAfter}
-use Rattle.bl_session.specs.Stores.{are_equal, is_piece_of, item_of_event, item_of_told, item_of}
+use Rattle.bl_session.specs.Stores.{are_equal, is_piece_of, item_of_event, item_of_told}
 use Rattle.bl_session.specs.Stores.{event_of, answer_to, next_place, without}
+use Rattle.bl_session.specs.StoresKept.{item_of, count_of, WasAsked, AreAskedFor, AreKept}
 use Rattle.bl_session.proofs.OrderLemmas.{is_same_self, asked_both, answered_both, file_both}
-use Rattle.bl_session.specs.StoresKept.{count_of, WasAsked, AreAskedFor, AreKept}
 
 -- ---- the mark of an answer
 

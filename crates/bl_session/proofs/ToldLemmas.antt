@@ -4,14 +4,15 @@ use Rattle.std.proofs.Common.{Some, Result, Ok, Err, IfOk, OnErr, IfSome, IsNone
 use Rattle.std.proofs.Common.{length-append, length-take, length-drop, refl, ap, ◌∙◌, arith}
 use Rattle.std.specs.Prelude.{slice_get, option_map}
 use Rattle.std.proofs.lemmas.Option.{slice_get-get_or}
-use Rattle.bl_session.specs.declared.completion.Completion.{Completion}
+use Rattle.bl_session.specs.declared.store.Completion.{Completion}
 use Rattle.bl_session.specs.declared.request.Request.{Request}
 use Rattle.bl_session.specs.declared.queue.Order.{Order}
 use Rattle.bl_session.specs.Boot.{EventFacts}
 use Rattle.bl_session.specs.Outcome.{File}
 use Rattle.bl_session.specs.History.{Item, IsItemOf}
-use Rattle.bl_session.specs.Stores.{FileStoreFacts, item_of, event_of, answer_to, next_event}
+use Rattle.bl_session.specs.Stores.{FileStoreFacts, event_of, answer_to, next_event}
 use Rattle.bl_session.specs.Stores.{next_place, without, after_answer}
+use Rattle.bl_session.specs.StoresKept.{item_of}
 use Rattle.bl_session.specs.Scripts as scripts
 use Rattle.bl_session.specs.Scripts.{ScriptStoreFacts, event_by, picked_place}
 use Rattle.bl_session.proofs.StoreLemmas.{item_is, place_within}

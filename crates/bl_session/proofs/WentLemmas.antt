@@ -1,7 +1,7 @@
 -- Where a step leads: the attempt goes on, or one that has just begun runs.
-use Rattle.std.proofs.Common.{◌≡◌, ℕ, ◌+◌, ◌≤◌, Bool, true, false, MatchBool, List, [], ◌∷◌, ◌++◌}
-use Rattle.std.proofs.Common.{length, map, Option, None, Some, refl, sym, subst, ◌∙◌, ◌⊎◌, inl, inr}
-use Rattle.std.proofs.Common.{arith, length-append}
+use Rattle.std.proofs.Common.{◌≡◌, ℕ, ◌+◌, ◌<◌, ◌≤◌, Bool, true, false, MatchBool, List, [], ◌∷◌}
+use Rattle.std.proofs.Common.{◌++◌, length, map, Option, None, Some, refl, sym, subst, ◌∙◌, ◌⊎◌, inl}
+use Rattle.std.proofs.Common.{inr, arith, length-append}
 use Rattle.std.proofs.lemmas.List.{length-map}
 use Rattle.bl_load.specs.declared.refusal.Refusal.{Refusal}
 use Rattle.bl_load.specs.declared.refusal.Refusal.TheVariants.{FileFault}
@@ -16,47 +16,50 @@ use Rattle.bl_session.specs.Boot.{handed_over, none_left, out_of_memory, sizes_o
 use Rattle.bl_session.specs.Boot.{EntryEndsIn, GoesOn, Continues, BeginsUnless, Begins, is_wanted}
 use Rattle.bl_session.specs.Boot.{Takes, Steps}
 
--- no attempt runs, or one of at least this number that has just begun
-abbrev pub IsNewFrom : BootFacts → ℕ → State → Type 0
-IsNewFrom facts number unstarted = Unit {0}
-IsNewFrom facts number (running entry rest earlier files) =
-    (number ≤ length earlier) × (size_refusal facts.machine (sizes_of facts entry) ≡ None)
-    × (files ≡ fresh facts entry)
-IsNewFrom facts number (handed_over entry earlier handover) = Unit {0}
-IsNewFrom facts number (none_left earlier) = Unit {0}
-IsNewFrom facts number out_of_memory = Unit {0}
+-- the boot has ended; or an attempt has just begun, with at least this many refusals before it and
+-- fewer than so many attempts behind it
+abbrev pub IsNewFrom : BootFacts → (count number : ℕ) → State → Type 0
+IsNewFrom facts count number unstarted = ⊥
+IsNewFrom facts count number (running entry rest earlier files) =
+    (number ≤ length earlier) × (length rest < count)
+    × (size_refusal facts.machine (sizes_of facts entry) ≡ None) × (files ≡ fresh facts entry)
+IsNewFrom facts count number (handed_over entry earlier handover) = Unit {0}
+IsNewFrom facts count number (none_left earlier) = Unit {0}
+IsNewFrom facts count number out_of_memory = Unit {0}
 
-new_later : (facts : BootFacts) (low high : ℕ) (state : State) → low ≤ high
-    → IsNewFrom facts high state → IsNewFrom facts low state
-new_later facts low high unstarted h is = tt
-new_later facts low high (running entry rest earlier files) h (l, sized, e) =
-    (omega (arith, h, l), sized, e)
-new_later facts low high (handed_over entry earlier handover) h is = tt
-new_later facts low high (none_left earlier) h is = tt
-new_later facts low high out_of_memory h is = tt
+new_later : (facts : BootFacts) (count more low high : ℕ) (state : State) → count ≤ more
+    → low ≤ high → IsNewFrom facts count high state → IsNewFrom facts more low state
+new_later facts count more low high unstarted c h is = absurd is
+new_later facts count more low high (running entry rest earlier files) c h (l, few, sized, e) =
+    (omega (arith, h, l), omega (arith, c, few), sized, e)
+new_later facts count more low high (handed_over entry earlier handover) c h is = tt
+new_later facts count more low high (none_left earlier) c h is = tt
+new_later facts count more low high out_of_memory c h is = tt
 
 -- an attempt that ended, if each one behind it is new
 pub new_goes : (facts : BootFacts) (rest : List ℕ) (entry : ℕ) (earlier : List RefusedEntry)
     (end : End) (new : State)
     → ((r : List RefusedEntry) (s : State) → Begins facts rest r s
-    → IsNewFrom facts (length r) s)
-    → GoesOn (Begins facts rest) entry earlier end new → IsNewFrom facts (length earlier + 1) new
+    → IsNewFrom facts (length rest) (length r) s)
+    → GoesOn (Begins facts rest) entry earlier end new
+    → IsNewFrom facts (length rest) (length earlier + 1) new
 new_goes facts rest entry earlier (handed handover) new more goes =
-    subst (IsNewFrom facts (length earlier + 1)) (sym goes) tt
+    subst (IsNewFrom facts (length rest) (length earlier + 1)) (sym goes) tt
 new_goes facts rest entry earlier (refused refusal) new more goes =
     let long : length (earlier ++ record { entry = entry; refusal = refusal } ∷ [])
     ≡ length earlier + 1 =
     length-append earlier (record { entry = entry; refusal = refusal } ∷ []) in
-    subst (λ (n : ℕ). IsNewFrom facts n new) long
+    subst (λ (n : ℕ). IsNewFrom facts (length rest) n new) long
     (more (earlier ++ record { entry = entry; refusal = refusal } ∷ []) new goes)
 
 -- an attempt goes on, or it ended and what comes is new
 goes_or_new : (facts : BootFacts) (entry : ℕ) (rest : List ℕ) (earlier : List RefusedEntry)
     (files : List (List Spot)) (new : State)
     → ((r : List RefusedEntry) (s : State) → Begins facts rest r s
-    → IsNewFrom facts (length r) s)
+    → IsNewFrom facts (length rest) (length r) s)
     → Continues facts (Begins facts rest) entry rest earlier files new
-    → (new ≡ running entry rest earlier files) ⊎ IsNewFrom facts (length earlier + 1) new
+    → (new ≡ running entry rest earlier files)
+    ⊎ IsNewFrom facts (length rest) (length earlier + 1) new
 goes_or_new facts entry rest earlier files new more goes = choice (are_whole files) goes
   where
     choice : (b : Bool)
@@ -64,29 +67,34 @@ goes_or_new facts entry rest earlier files new more goes = choice (are_whole fil
         ((end : End) × EntryEndsIn facts entry (map bytes_of files) end
         × GoesOn (Begins facts rest) entry earlier end new)
         (new ≡ running entry rest earlier files)
-        → (new ≡ running entry rest earlier files) ⊎ IsNewFrom facts (length earlier + 1) new
+        → (new ≡ running entry rest earlier files)
+        ⊎ IsNewFrom facts (length rest) (length earlier + 1) new
     choice true (end, ends, on) = inr (new_goes facts rest entry earlier end new more on)
     choice false same = inl same
 
 new_unless : (facts : BootFacts) (entry : ℕ) (rest : List ℕ) (earlier : List RefusedEntry)
     (why : Option Refusal) (new : State)
     → ((r : List RefusedEntry) (s : State) → Begins facts rest r s
-    → IsNewFrom facts (length r) s)
+    → IsNewFrom facts (length rest) (length r) s)
     → size_refusal facts.machine (sizes_of facts entry) ≡ why
     → BeginsUnless facts (Begins facts rest) entry rest earlier why new
-    → IsNewFrom facts (length earlier) new
+    → IsNewFrom facts (length (entry ∷ rest)) (length earlier) new
 new_unless facts entry rest earlier (Some refusal) new more sized goes =
-    new_later facts (length earlier) (length earlier + 1) new (omega arith)
-    (new_goes facts rest entry earlier (refused refusal) new more goes)
+    new_later facts (length rest) (length (entry ∷ rest)) (length earlier) (length earlier + 1) new
+    (omega arith) (omega arith) (new_goes facts rest entry earlier (refused refusal) new more goes)
 new_unless facts entry rest earlier None new more sized goes =
     elim (goes_or_new facts entry rest earlier (fresh facts entry) new more goes) [
-      | inl same ↦ subst (IsNewFrom facts (length earlier)) (sym same) (omega arith, sized, refl)
-      | inr later ↦ new_later facts (length earlier) (length earlier + 1) new (omega arith) later
+      | inl same ↦
+          subst (IsNewFrom facts (length (entry ∷ rest)) (length earlier)) (sym same)
+          (omega arith, omega arith, sized, refl)
+      | inr later ↦
+          new_later facts (length rest) (length (entry ∷ rest)) (length earlier)
+          (length earlier + 1) new (omega arith) (omega arith) later
     ]
 
 pub new_begins : (facts : BootFacts) (rest : List ℕ) (earlier : List RefusedEntry) (new : State)
-    → Begins facts rest earlier new → IsNewFrom facts (length earlier) new
-new_begins facts [] earlier new goes = subst (IsNewFrom facts (length earlier)) (sym goes) tt
+    → Begins facts rest earlier new → IsNewFrom facts (length rest) (length earlier) new
+new_begins facts [] earlier new goes = subst (IsNewFrom facts 0 (length earlier)) (sym goes) tt
 new_begins facts (entry ∷ rest) earlier new goes =
     new_unless facts entry rest earlier (size_refusal facts.machine (sizes_of facts entry)) new
     (new_begins facts rest) refl goes
@@ -100,7 +108,7 @@ Went facts entry rest earlier files event new =
     ⊎ ((is_wanted earlier files event ≡ true)
     × (((ticket : Ticket) × (bytes : List ℕ) × (event ≡ piece ticket bytes)
     × (new ≡ running entry rest earlier (with_piece files ticket.file ticket.piece bytes)))
-    ⊎ IsNewFrom facts (length earlier + 1) new))
+    ⊎ IsNewFrom facts (length rest) (length earlier + 1) new))
 
 pub step_went : (facts : BootFacts) (entry : ℕ) (rest : List ℕ) (earlier : List RefusedEntry)
     (files : List (List Spot)) (event : EventFacts) (new : State)
@@ -112,7 +120,7 @@ step_went facts entry rest earlier files event new goes =
     taken : (event : EventFacts) → Takes facts entry rest earlier files event new
         → ((ticket : Ticket) × (bytes : List ℕ) × (event ≡ piece ticket bytes)
         × (new ≡ running entry rest earlier (with_piece files ticket.file ticket.piece bytes)))
-        ⊎ IsNewFrom facts (length earlier + 1) new
+        ⊎ IsNewFrom facts (length rest) (length earlier + 1) new
     taken (piece ticket bytes) goes =
         elim (goes_or_new facts entry rest earlier (with_piece files ticket.file ticket.piece bytes)
         new (new_begins facts rest) goes) [

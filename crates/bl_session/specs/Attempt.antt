@@ -6,12 +6,13 @@ use Rattle.bl_load.specs.After.{IsAfter}
 use Rattle.bl_load.specs.declared.refusal.Refusal.{Refusal}
 use Rattle.bl_stage.specs.Ranges.{IsSameOutside}
 use Rattle.bl_stage.specs.Spots.{Spot, spots, bytes_of}
-use Rattle.bl_session.specs.declared.attempt.Attempt.{Attempt}
-use Rattle.bl_session.specs.declared.attempt.Attempt.TheVariants.{Waits, HandedOver, Refused}
+use Rattle.bl_session.specs.declared.attempting.Attempt.{Attempt}
+use Rattle.bl_session.specs.declared.attempting.Attempt.TheVariants.{Waits, HandedOver, Refused}
 use Rattle.bl_session.specs.Ends.{handed, refused, EndsIn, size_refusal, lengths_of}
 use Rattle.bl_session.specs.Menu.{EntryFacts, value_with}
 use Rattle.bl_session.specs.Pieces.{are_whole, awaited}
-use Rattle.bl_session.specs.Phases.{handover_held, HasSmallFiles, LacksPiece, EndsWithin}
+use Rattle.bl_session.specs.Phases.{handover_held, EndsWithin}
+use Rattle.bl_session.specs.PhasesKept.{HasSmallFiles, LacksPiece}
 
 -- with these spots of its files it waits for what is missing, or ends by its entry's value
 abbrev pub IsAttempt :

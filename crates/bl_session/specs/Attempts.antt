@@ -5,8 +5,8 @@ use Rattle.std.specs.List.{list_any}
 use Rattle.bl_load.specs.declared.entry.Entry.{Entry}
 use Rattle.bl_load.specs.Value.{HasFewModules}
 use Rattle.bl_session.specs.Menu.{EntryFacts}
-use Rattle.bl_session.specs.declared.menu.MenuFault.{MenuFault}
-use Rattle.bl_session.specs.declared.menu.MenuFault.TheVariants.{BadIndex, TooMany, NoMemory}
+use Rattle.bl_session.specs.declared.menu.fault.MenuFault.{MenuFault}
+use Rattle.bl_session.specs.declared.menu.fault.MenuFault.TheVariants.{BadIndex, TooMany, NoMemory}
 
 -- of these indices each one that is not among the earlier ones, once
 abbrev pub once_after : List ℕ → List ℕ → List ℕ

@@ -3,8 +3,8 @@ use Rattle.std.specs.Prelude.{◌≡◌, ◌↔◌, ℕ, ◌==◌, ◌&&◌, Boo
 use Rattle.std.specs.Prelude.{length, slice_index_or, Option, None, Some}
 use Rattle.bl_stage.specs.Spots.{piece_of}
 use Rattle.bl_session.specs.declared.words.Ticket.{Ticket}
-use Rattle.bl_session.specs.declared.completion.Completion.{Completion}
-use Rattle.bl_session.specs.declared.completion.Completion.TheVariants.{Piece, Fault}
+use Rattle.bl_session.specs.declared.store.Completion.{Completion}
+use Rattle.bl_session.specs.declared.store.Completion.TheVariants.{Piece, Fault}
 use Rattle.bl_session.specs.Outcome.{File, missing, text_of}
 
 -- a file was asked for under a ticket; or an answer: so many bytes came, with a mark whether they

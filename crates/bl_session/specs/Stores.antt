@@ -4,8 +4,8 @@ use Rattle.std.specs.Prelude.{if◌then◌else◌, List, [], ◌∷◌, ◌++◌
 use Rattle.std.specs.Prelude.{slice_get, slice_index_or, Option, None, Some, option_map}
 use Rattle.bl_stage.specs.Spots.{piece_of}
 use Rattle.bl_session.specs.declared.words.Ticket.{Ticket}
-use Rattle.bl_session.specs.declared.completion.Completion.{Completion}
-use Rattle.bl_session.specs.declared.completion.Completion.TheVariants.{Piece, Fault}
+use Rattle.bl_session.specs.declared.store.Completion.{Completion}
+use Rattle.bl_session.specs.declared.store.Completion.TheVariants.{Piece, Fault}
 use Rattle.bl_session.specs.declared.fetched.Fetched.{Fetched}
 use Rattle.bl_session.specs.declared.fetched.Fetched.TheVariants.{Missing, TooLong, Bytes}
 use Rattle.bl_session.specs.declared.request.Request.{Request}
@@ -67,9 +67,6 @@ item_of_event files given (fault ticket) = failed ticket
 abbrev pub item_of_told : List File → List Item → Option EventFacts → Item
 item_of_told files given None = nothing
 item_of_told files given (Some event) = item_of_event files given event
-
-abbrev pub item_of : {A : Type 0} → List File → List Item → Option (Completion A) → Item
-item_of files given answer = item_of_told files given (option_map event_of answer)
 
 -- ---- a store over files that were fetched
 

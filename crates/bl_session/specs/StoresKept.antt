@@ -1,10 +1,13 @@
 -- What a `FileStore` keeps of the requests that are still to be answered, and of its history.
-use Rattle.std.specs.Prelude.{◌≡◌, ℕ, ◌+◌, ◌≤◌, List, [], ◌∷◌, Some, if◌then◌else◌}
+use Rattle.std.specs.Prelude.{◌≡◌, ℕ, ◌+◌, ◌≤◌, List, [], ◌∷◌, Some, if◌then◌else◌, Option}
+use Rattle.std.specs.Prelude.{option_map}
 use Rattle.bl_session.specs.declared.words.Ticket.{Ticket}
 use Rattle.bl_session.specs.declared.request.Request.{Request}
 use Rattle.bl_session.specs.Outcome.{File}
 use Rattle.bl_session.specs.History.{Item, is_same, file_under}
 use Rattle.bl_session.specs.Faithful.{IsFaithful, asked, answered}
+use Rattle.bl_session.specs.declared.store.Completion.{Completion}
+use Rattle.bl_session.specs.Stores.{event_of, item_of_told}
 
 -- how many of these requests have a ticket
 abbrev pub count_of : List Request → Ticket → ℕ
@@ -27,3 +30,7 @@ pub record AreKept (files : List File) (pending : List Request) (given : List It
   pub counts :
       (ticket : Ticket) → answered given ticket + count_of pending ticket ≡ asked given ticket
   pub asked_for : AreAskedFor given pending
+
+-- what a completion adds to the history so far
+abbrev pub item_of : {A : Type 0} → List File → List Item → Option (Completion A) → Item
+item_of files given answer = item_of_told files given (option_map event_of answer)

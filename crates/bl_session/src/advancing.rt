@@ -6,10 +6,9 @@ ghost use Rattle.bl_stage.specs.Spots.{spots};
 ghost use Rattle.bl_session.specs.Boot.{Begins, Continues};
 ghost use Rattle.bl_session.specs.Pieces.{are_whole};
 ghost use Rattle.bl_session.specs.Memory.{IsMemoryIn};
-ghost use Rattle.bl_session.specs.Phases.{facts_of_boot, state_in, IsKept, IsWaiting};
+ghost use Rattle.bl_session.specs.PhasesKept.{facts_of_boot, state_in, IsKept, IsWaiting};
 
-use crate::attempt::Attempt;
-use crate::attempting::{begin_attempt, go_on};
+use crate::attempting::{Attempt, begin_attempt, go_on};
 use crate::boot::Boot;
 use crate::phase::{Phase, Running};
 use crate::words::{BootFault, Outcome, RefusedEntry};

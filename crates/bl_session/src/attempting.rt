@@ -6,17 +6,24 @@ ghost use Rattle.bl_stage.specs.Ranges.{IsSameOutside};
 ghost use Rattle.bl_stage.specs.Spots.{spots};
 ghost use Rattle.bl_session.specs.Attempt.{IsAttempt, IsBegun, IsMemoryOf, KeepsAttempt};
 ghost use Rattle.bl_session.specs.Menu.{facts_of, files_of};
-ghost use Rattle.bl_session.specs.Phases.{HasSmallFiles};
+ghost use Rattle.bl_session.specs.PhasesKept.{HasSmallFiles};
 ghost use Rattle.bl_session.specs.Pieces.{are_whole};
 
-use crate::attempt::Attempt;
 use crate::beginning::begin_stage;
 use crate::finishing::finish;
-use bl_load::{Entry, PrepFault};
+use bl_load::{Entry, Handoff, PrepFault, Refusal};
 use bl_map::Machine;
 use bl_mem::PhysMem;
 use bl_stage::Stage;
 use std::alloc::{AllocError, Allocator};
+
+/// Where an attempt stands: it waits for pieces of its files, or has ended.
+#[derive(Drop)]
+pub enum Attempt<A: Allocator> {
+    Waits(Stage<A>),
+    HandedOver(Handoff<A>),
+    Refused(Refusal),
+}
 
 /// Goes on with an attempt that has some pieces of its files: it waits, or ends if none is missing.
 pub fn go_on<M: PhysMem, A: Allocator + Copy>(

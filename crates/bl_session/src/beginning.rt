@@ -7,7 +7,7 @@ ghost use Rattle.bl_stage.specs.Staged.{AreStaged};
 ghost use Rattle.bl_session.specs.Ends.{file_refusal, size_refusal};
 ghost use Rattle.bl_session.specs.Ends as ends;
 ghost use Rattle.bl_session.specs.Menu as menu;
-ghost use Rattle.bl_session.specs.Phases.{IsFresh, IsSizeFault, IsFileFault, HasSmallFiles};
+ghost use Rattle.bl_session.specs.PhasesKept.{IsFresh, IsSizeFault, IsFileFault, HasSmallFiles};
 
 use bl_load::{Entry, Module, PrepFault, Refusal};
 use bl_map::Machine;

@@ -1,10 +1,9 @@
 //! A store over files that were fetched before the boot.
-use crate::completion::Completion;
 use crate::fetched::{Fetched, size_in};
 use crate::history::History;
 use crate::queue::{Order, Queue};
 use crate::request::{Request, answer};
-use crate::store::Store;
+use crate::store::{Completion, Store};
 use crate::words::Ticket;
 use std::alloc::{AllocError, Allocator};
 use std::marker::Model;

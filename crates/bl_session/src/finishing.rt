@@ -9,7 +9,7 @@ ghost use Rattle.bl_stage.specs.Ranges.{IsSameOutside};
 ghost use Rattle.bl_stage.specs.Staged.{AllCame, HasPool, IsStagedOn, texts_of, with_frames};
 ghost use Rattle.bl_stage.specs.Staged.{staged};
 ghost use Rattle.bl_load.specs.After.{IsAfter};
-ghost use Rattle.bl_load.specs.Kept.{lengths_of, IsLoadable};
+ghost use Rattle.bl_load.specs.Loadable.{lengths_of, IsLoadable};
 ghost use Rattle.bl_load.specs.Parts.{IsHandover, IsPrepFault};
 ghost use Rattle.bl_load.specs.PlanFacts.{handover_by, handover_in, places_of};
 ghost use Rattle.bl_load.specs.Value.{value_of, file_count, HasFewModules};

@@ -3,9 +3,9 @@ ghost use Rattle.std.specs.Prelude.{◌≡◌, List, [], ◌∷◌, ◌++◌};
 ghost use Rattle.std.specs.Borrow.{ftrue};
 ghost use Rattle.bl_session.specs.History.{Item};
 
-use crate::completion::Completion;
 use crate::fetched::Fetched;
 use crate::request::Request;
+use crate::store::Completion;
 use std::alloc::Allocator;
 use std::marker::Model;
 
@@ -22,7 +22,8 @@ impl Model for History {
 
 impl History {
     ghost use Rattle.bl_session.specs.History.{submitted};
-    ghost use Rattle.bl_session.specs.Stores.{stored_files, item_of};
+    ghost use Rattle.bl_session.specs.Stores.{stored_files};
+    ghost use Rattle.bl_session.specs.StoresKept.{item_of};
 
     /// Nothing was asked or answered.
     pub(crate) fn new() -> History

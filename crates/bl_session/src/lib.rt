@@ -3,12 +3,10 @@
 
 mod advancing;
 mod asking;
-mod attempt;
 mod attempting;
 mod beginning;
 mod boot;
 mod booting;
-mod completion;
 mod fetched;
 mod file_store;
 mod finishing;
@@ -33,7 +31,6 @@ mod words;
 
 pub use beginning::MOST_BYTES;
 pub use booting::run;
-pub use completion::Completion;
 pub use fetched::Fetched;
 pub use file_store::FileStore;
 pub use finishing::finish;
@@ -49,5 +46,5 @@ pub use run_laws::{
 };
 pub use script_store::ScriptStore;
 pub use session::Session;
-pub use store::Store;
+pub use store::{Completion, Store};
 pub use words::{BootFault, Event, Outcome, Progress, RefusedEntry, Ticket};

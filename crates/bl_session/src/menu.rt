@@ -1,53 +1,27 @@
 //! The menu, and the order in which its entries are attempted.
-ghost use Rattle.std.specs.Prelude.{◌≡◌, ◌↔◌, ◌∷◌, ◌++◌, ◌==◌, ◌+◌, ◌<◌, ◌≤◌, ◌^◌, ℕ, [], length};
-ghost use Rattle.std.specs.Prelude.{map};
-ghost use Rattle.std.specs.Prelude.{All, IsTrue, IfErr, IfOk, OnOk, slice_index_or, if◌then◌else◌};
+ghost use Rattle.std.specs.Prelude.{◌≡◌, ◌∷◌, ◌++◌, ◌==◌, ◌+◌, ◌<◌, ◌≤◌, ◌^◌, ℕ, [], length, map};
+ghost use Rattle.std.specs.Prelude.{IfErr, IfOk, OnOk, slice_index_or, if◌then◌else◌};
 ghost use Rattle.std.specs.List.{list_any};
 ghost use Rattle.bl_load.specs.Value.{HasFewModules};
 ghost use Rattle.bl_session.specs.Menu.{files_of, facts_of, entry_at};
 ghost use Rattle.bl_session.specs.Attempts.{attempts_of, IsSmall, NameEntries, HasMenuFault};
 ghost use Rattle.bl_session.specs.Attempts.{count_to};
 ghost use Rattle.bl_session.specs.Attempts as attempts;
-ghost use Rattle.bl_session.specs.declared.menu.MenuFault.TheVariants.{NoMemory};
 
+use crate::menu::fault::{is_small, name_entries};
 use bl_load::{Entry, Module};
-use std::alloc::{AllocError, AllocFailed, Allocator};
+use std::alloc::{AllocError, Allocator};
 use std::marker::Model;
-use thiserror::Error;
+
+mod fault;
+
+pub use fault::MenuFault;
 
 /// The most entries of a menu.
 pub const MOST_ENTRIES: usize = 32;
 
 /// The most modules of an entry.
 pub const MOST_MODULES: usize = 64;
-
-/// Why there is no menu: the first fault in the order `TooMany`, `BadIndex`. Memory may run out if
-/// there is none.
-#[derive(Clone, Copy, Debug, PartialEq, Eq, Error)]
-pub enum MenuFault {
-    #[error("an index names no entry")]
-    BadIndex,
-    #[error("too many entries or modules")]
-    TooMany,
-    #[error("no memory")]
-    NoMemory,
-}
-
-impl From<AllocError> for MenuFault {
-    ghost from_gives = { λ _ fault. fault ≡ NoMemory };
-
-    fn from(_: AllocError) -> MenuFault {
-        MenuFault::NoMemory
-    }
-}
-
-impl<T: Drop> From<AllocFailed<T>> for MenuFault {
-    ghost from_gives = { λ _ fault. fault ≡ NoMemory };
-
-    fn from(_: AllocFailed<T>) -> MenuFault {
-        MenuFault::NoMemory
-    }
-}
 
 /// Entries, and the order in which they are attempted.
 #[derive(Drop)]
@@ -73,29 +47,6 @@ impl<A: Allocator> Model for Menu<A> {
         All (λ entry. entry < length menu.entries.items) menu.attempts.items
         × All HasFewModules menu.entries.items
         × (length menu.attempts.items ≤ most_entries) };
-}
-
-/// Whether an entry has at most 64 modules.
-fn has_few_modules<A: Allocator>(entry: &Entry<A>) -> bool
-    ensures { IsTrue result ↔ HasFewModules entry.now }
-{
-    match entry {
-        Entry::Multiboot2 { modules, .. } => modules.len() <= MOST_MODULES,
-        Entry::Linux { .. } => true,
-    }
-}
-
-fn is_small<A: Allocator>(entries: &[Entry<A>]) -> bool
-    ensures { IsTrue result ↔ IsSmall entries.now }
-{
-    entries.len() <= MOST_ENTRIES && entries.iter().all(|entry| has_few_modules(entry))
-}
-
-fn name_entries<A: Allocator>(entries: &[Entry<A>], default: u32, fallbacks: &[u32]) -> bool
-    ensures { IsTrue result ↔ NameEntries (length entries.now) default fallbacks.now }
-{
-    let count = entries.len();
-    (default as usize) < count && fallbacks.iter().all(|index| (*index as usize) < count)
 }
 
 fn is_among(index: u32, earlier: &[u32]) -> bool

@@ -2,7 +2,7 @@
 ghost use Rattle.std.specs.Prelude.{◌≡◌, ◌<◌, ◌^◌, [], ℕ, List, length, slice_index_or};
 ghost use Rattle.bl_stage.specs.Spots.{spots};
 ghost use Rattle.bl_session.specs.Orders.{first_spot, first_ticket};
-ghost use Rattle.bl_session.specs.Phases.{HasSmallFiles, LacksPiece};
+ghost use Rattle.bl_session.specs.PhasesKept.{HasSmallFiles, LacksPiece};
 
 use crate::submitting::pieces_of;
 use crate::words::Ticket;

@@ -4,9 +4,9 @@ ghost use Rattle.std.specs.Int.Bits.{bit_xor};
 ghost use Rattle.bl_session.specs.Stores.{stored_files, event_of};
 ghost use Rattle.bl_session.specs.Scripts.{altered, event_by, replies_to};
 
-use crate::completion::Completion;
 use crate::fetched::Fetched;
 use crate::request::{Request, answer};
+use crate::store::Completion;
 use crate::words::Ticket;
 use std::alloc::{AllocError, Allocator};
 

@@ -2,8 +2,8 @@
 ghost use Rattle.std.specs.Prelude.{◌≡◌, ℕ, List, IfOk};
 ghost use Rattle.bl_session.specs.Stores.{stored_files, answer_to, event_of};
 
-use crate::completion::Completion;
 use crate::fetched::{Fetched, piece_in};
+use crate::store::Completion;
 use crate::words::Ticket;
 use std::alloc::{AllocError, Allocator};
 

@@ -1,11 +1,10 @@
 //! A store for tests, whose answers are told beforehand.
-use crate::completion::Completion;
 use crate::fetched::{Fetched, size_in};
 use crate::history::History;
 use crate::picks::Picks;
 use crate::reply::{Reply, completion_of, push_replies};
 use crate::request::Request;
-use crate::store::Store;
+use crate::store::{Completion, Store};
 use crate::words::Ticket;
 use std::alloc::{AllocError, Allocator};
 use std::marker::Model;

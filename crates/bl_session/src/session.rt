@@ -5,8 +5,9 @@ ghost use Rattle.bl_session.specs.Boot.{StepsOrFails, StartsOrFails, is_taken, a
 ghost use Rattle.bl_session.specs.Boot as boot;
 ghost use Rattle.bl_session.specs.Memory.{IsMemoryIn};
 ghost use Rattle.bl_session.specs.Phases.{boot_facts, event_facts, state_at, is_waiting};
-ghost use Rattle.bl_session.specs.Phases.{phase_facts, state_of, end_facts, told, not_started};
-ghost use Rattle.bl_session.specs.Phases.{IsKept, EndsWithin};
+ghost use Rattle.bl_session.specs.Phases.{phase_facts, end_facts, told, not_started};
+ghost use Rattle.bl_session.specs.Phases.{EndsWithin};
+ghost use Rattle.bl_session.specs.PhasesKept.{state_of, IsKept};
 
 use crate::boot::Boot;
 use crate::menu::Menu;
@@ -31,7 +32,8 @@ pub struct Session<'a, A: Allocator + Copy> {
 }
 
 impl<'a, A: Allocator + Copy> Model for Session<'a, A> {
-    ghost use Rattle.bl_session.specs.Phases.{SessionFacts, boot_facts, phase_facts, IsKept};
+    ghost use Rattle.bl_session.specs.Phases.{SessionFacts, boot_facts, phase_facts};
+    ghost use Rattle.bl_session.specs.PhasesKept.{IsKept};
 
     ghost Value = { SessionFacts };
 

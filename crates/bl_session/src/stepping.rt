@@ -4,8 +4,9 @@ ghost use Rattle.bl_mem.specs.Memory.{HasRoom, KeepsRoom};
 ghost use Rattle.bl_stage.specs.Ranges.{IsSameOutside};
 ghost use Rattle.bl_session.specs.Boot.{is_taken, Begins, StepsOrFails, StartsOrFails};
 ghost use Rattle.bl_session.specs.Memory.{IsMemoryIn};
-ghost use Rattle.bl_session.specs.Phases.{facts_of_boot, event_facts, phase_facts, state_in};
-ghost use Rattle.bl_session.specs.Phases.{is_waiting, not_started, IsKept};
+ghost use Rattle.bl_session.specs.Phases.{event_facts, phase_facts};
+ghost use Rattle.bl_session.specs.Phases.{is_waiting, not_started};
+ghost use Rattle.bl_session.specs.PhasesKept.{facts_of_boot, state_in, IsKept};
 
 use crate::advancing::begin;
 use crate::boot::Boot;

@@ -1,12 +1,18 @@
-//! Where pieces come from.
+//! Where pieces come from, and what is answered.
 ghost use Rattle.std.specs.Prelude.{◌≡◌, ◌↔◌, ℕ, ◌+◌, ◌≤◌, List, [], ◌∷◌, ◌++◌, IfOk, OnOk, OnErr};
 ghost use Rattle.std.specs.Prelude.{IfSome, IsNone, slice_index_or};
 ghost use Rattle.bl_session.specs.History.{Item, submitted, IsItemOf};
 ghost use Rattle.bl_session.specs.Outcome.{File, missing, size_of};
 
-use crate::completion::Completion;
 use crate::words::Ticket;
 use std::alloc::{AllocError, Allocator};
+
+/// An answer to a ticket: a piece, or a fault in its place.
+#[derive(Drop)]
+pub enum Completion<A: Allocator> {
+    Piece(Ticket, Vec<u8, A>),
+    Fault(Ticket),
+}
 
 /// Where the pieces of a menu's files come from. Completions may come in any order, repeated, and
 /// after their attempt was refused. A store keeps what it was asked and what it answered.

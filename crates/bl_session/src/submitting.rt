@@ -6,7 +6,7 @@ ghost use Rattle.bl_stage.specs.Spots.{spots};
 ghost use Rattle.bl_session.specs.History.{Item};
 ghost use Rattle.bl_session.specs.Menu.{files_of};
 ghost use Rattle.bl_session.specs.Orders.{piece_orders, file_orders};
-ghost use Rattle.bl_session.specs.Phases.{HasSmallFiles};
+ghost use Rattle.bl_session.specs.PhasesKept.{HasSmallFiles};
 ghost use Rattle.bl_session.specs.Turns.{IsAsked};
 
 use crate::store::Store;

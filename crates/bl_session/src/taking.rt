@@ -5,8 +5,9 @@ ghost use Rattle.bl_stage.specs.Ranges.{IsSameOutside};
 ghost use Rattle.bl_stage.specs.Spots.{spots};
 ghost use Rattle.bl_session.specs.Boot.{Steps, piece, fault, is_wanted, is_taken, ends_attempt};
 ghost use Rattle.bl_session.specs.Memory.{IsMemoryIn};
-ghost use Rattle.bl_session.specs.Phases.{facts_of_boot, event_facts, running_in, state_in};
-ghost use Rattle.bl_session.specs.Phases.{IsKept, IsWaiting, LacksPiece};
+ghost use Rattle.bl_session.specs.Phases.{event_facts};
+ghost use Rattle.bl_session.specs.PhasesKept.{facts_of_boot, running_in, state_in, IsKept};
+ghost use Rattle.bl_session.specs.PhasesKept.{IsWaiting, LacksPiece};
 
 use crate::advancing::{refuse, settle};
 use crate::boot::Boot;

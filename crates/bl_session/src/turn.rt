@@ -11,9 +11,8 @@ ghost use Rattle.bl_session.specs.Phases.{event_facts, state_at, is_waiting, not
 ghost use Rattle.bl_session.specs.Run.{World, world_of};
 ghost use Rattle.bl_session.specs.Turns.{IsHeard, attempts_in};
 
-use crate::completion::Completion;
 use crate::session::Session;
-use crate::store::Store;
+use crate::store::{Completion, Store};
 use crate::words::{Event, Progress};
 use bl_mem::PhysMem;
 use std::alloc::{AllocError, Allocator};

@@ -14,10 +14,10 @@ use Rattle.bl_mem.proofs.Overwrites.{length-overwrite, get_or-overwrite_in, get_
 use Rattle.bl_mem.proofs.Overwrites.{get_or-overwrite_above}
 use Rattle.bl_mem.proofs.SparseLemmas.{values, length-values, get_or-values}
 use Rattle.bl_map.specs.Room.{frames_of}
-use Rattle.bl_stage.specs.Cells.{cell_at, AreInside, ReadsAs}
+use Rattle.bl_stage.specs.Cells.{cell_at, ReadsAs}
+use Rattle.bl_stage.specs.Staged.{AreInside, place_of, staged, first_of, AreApart, Staging}
+use Rattle.bl_stage.specs.Staged.{AreStaged, file_of, HasPool, with_frames}
 use Rattle.bl_stage.specs.Ranges.{IsSameOutside}
-use Rattle.bl_stage.specs.Staged.{place_of, staged, first_of, AreApart, Staging, AreStaged, file_of}
-use Rattle.bl_stage.specs.Staged.{HasPool, with_frames}
 use Rattle.bl_stage.specs.Pieces.{is_piece, slot_in}
 use Rattle.std.specs.declared.ops.Range.{Range}
 use Rattle.bl_stage.specs.declared.cell.Cell.{Cell}

@@ -3,8 +3,7 @@ use Rattle.std.proofs.Common.{◌≡◌, ℕ, ◌+◌, ◌-◌, ◌*◌, ◌/◌
 use Rattle.std.proofs.Common.{slice_range, arith, sym, ap, ◌∙◌}
 use Rattle.std.proofs.lemmas.List.{places, ext_get_or}
 use Rattle.bl_mem.proofs.SparseLemmas.{values, length-values, get_or-values, values_range}
-use Rattle.bl_stage.specs.Cells.{AreInside}
-use Rattle.bl_stage.specs.Staged.{place_of, staged}
+use Rattle.bl_stage.specs.Staged.{AreInside, place_of, staged}
 
 -- functions that agree below n have the same first n values
 pub same_below : (f g : ℕ → ℕ) (n : ℕ) → ((a : ℕ) → a < n → f a ≡ g a) → values f n ≡ values g n

@@ -4,9 +4,8 @@ use Rattle.std.proofs.lemmas.List.{places}
 use Rattle.std.proofs.lemmas.List.FromFn.{length-map-range_with_len, get_or-map-range_with_len}
 use Rattle.bl_map.specs.Room.{frames_of}
 use Rattle.bl_mem.specs.Files.{AreBelow, text_at}
-use Rattle.bl_stage.specs.Cells.{AreInside}
-use Rattle.bl_stage.specs.Staged.{Staging, AreStaged, HasPool, file_of, table_of, first_of}
-use Rattle.bl_stage.specs.Staged.{texts_of, IsStagedOn}
+use Rattle.bl_stage.specs.Staged.{AreInside, Staging, AreStaged, HasPool, file_of, table_of}
+use Rattle.bl_stage.specs.Staged.{first_of, texts_of, IsStagedOn}
 use Rattle.bl_stage.proofs.FileLemmas.{file_within, read_part}
 
 -- a file's own frames are as many as it needs

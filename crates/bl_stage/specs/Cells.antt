@@ -39,10 +39,6 @@ pub record AreHeld (base : ℕ) (frames : List ℕ) (cells : List Cell) : Type 0
   pub back : (j k : ℕ) → (cell_at cells j).holder ≡ Some k → slice_index frames k ≡ base + j
   pub count : count_by is_held_cell cells ≡ length frames
 
--- memory of this size has each of these frames
-abbrev pub AreInside : List ℕ → ℕ → Type 0
-AreInside frames size = (k : ℕ) → k < length frames → 4096 * slice_index frames k + 4096 ≤ size
-
 -- each byte of each frame reads as before, where the frame lies now
 abbrev pub ReadsAs : List ℕ → List ℕ → List ℕ → List ℕ → Type 0
 ReadsAs old_bytes old_frames bytes frames =

@@ -2,8 +2,8 @@
 use Rattle.std.specs.Prelude.{ℕ, ◌+◌, ◌-◌, ◌*◌, min, length, slice_index, slice_index_or, slice_set}
 use Rattle.std.specs.Prelude.{Bool, true, false, not, ◌&&◌, nat_lt, ◌==◌, if◌then◌else◌}
 use Rattle.bl_map.specs.Room.{frames_of}
-use Rattle.bl_stage.specs.declared.put.Put.{Put}
-use Rattle.bl_stage.specs.declared.put.Put.TheVariants.{Stored, Repeated, Strange}
+use Rattle.bl_stage.specs.declared.stage.putting.Put.{Put}
+use Rattle.bl_stage.specs.declared.stage.putting.Put.TheVariants.{Stored, Repeated, Strange}
 use Rattle.bl_stage.specs.Staged.{Staging, first_of}
 
 -- there is such a file, it has a piece of this index, and that has this length

@@ -94,3 +94,7 @@ pub record IsStagedOn (stage : Staging) (a : ℕ) : Type 0 where
   pub of_file : index < frames_of (slice_index stage.sizes file)
   pub low : 4096 * slice_index (table_of stage file) index ≤ a
   pub high : a < 4096 * slice_index (table_of stage file) index + 4096
+
+-- memory of this size has each of these frames
+abbrev pub AreInside : List ℕ → ℕ → Type 0
+AreInside frames size = (k : ℕ) → k < length frames → 4096 * slice_index frames k + 4096 ≤ size

@@ -6,7 +6,6 @@ mod fault;
 mod files;
 mod marks;
 mod moves;
-mod put;
 mod scrubbing;
 mod stage;
 mod tables;
@@ -14,8 +13,7 @@ mod view;
 mod whole;
 
 pub use fault::StageFault;
-pub use put::Put;
 pub use scrubbing::scrub;
-pub use stage::Stage;
+pub use stage::{Put, Stage};
 pub use view::FrameView;
 pub use whole::put_files;

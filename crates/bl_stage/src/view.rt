@@ -1,8 +1,7 @@
 //! A file in scattered frames, to be read by offset.
 ghost use Rattle.std.specs.Prelude.{◌≡◌, ℕ, ◌+◌, ◌-◌, ◌*◌, ◌%◌, ◌/◌, ◌<◌, ◌≤◌, length};
 ghost use Rattle.std.specs.Prelude.{slice_range, slice_index, IsTrue, ◌↔◌};
-ghost use Rattle.bl_stage.specs.Staged.{staged};
-ghost use Rattle.bl_stage.specs.Cells.{AreInside};
+ghost use Rattle.bl_stage.specs.Staged.{staged, AreInside};
 
 use bl_map::FRAME;
 use bl_mem::{ByteView, PhysMem};

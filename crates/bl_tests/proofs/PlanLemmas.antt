@@ -1,12 +1,12 @@
 -- Two parts of a file, named one by one, can be loaded.
 use Rattle.std.proofs.Common.{◌≡◌, ℕ, ◌+◌, ◌≤◌, ◌^◌, List, [], ◌∷◌, zero, suc, arith, All, AllPairs}
 use Rattle.std.proofs.lemmas.List.Elements.{All-cons, All-nil}
-use Rattle.bl_plan.specs.declared.place.Place.{Place}
+use Rattle.bl_plan.specs.declared.part.Place.{Place}
 use Rattle.bl_load.specs.declared.plan.Content.TheVariants.{File}
 use Rattle.bl_load.specs.declared.plan.PlannedPart.{PlannedPart}
 use Rattle.bl_load.specs.declared.plan.Plan.{Plan}
 use Rattle.bl_load.specs.HandoffFacts.{Ascends, AreRecords}
-use Rattle.bl_load.specs.Kept.{IsBacked, IsLoadable}
+use Rattle.bl_load.specs.Loadable.{IsBacked, IsLoadable}
 
 pairs_more : {X : Type 0} (R : X → X → Type 0) (x : X) (xs : List X) → All (R x) xs → AllPairs R xs
     → AllPairs R (x ∷ xs)

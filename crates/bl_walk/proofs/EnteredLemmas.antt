@@ -9,9 +9,9 @@ use Rattle.bl_mem.specs.Contents.{holds}
 use Rattle.bl_mem.specs.declared.segment.Segment.{Segment}
 use Rattle.bl_plan.specs.Placed.{ArePlaced, range_of}
 use Rattle.bl_plan.specs.Planned.{put_in}
-use Rattle.bl_plan.specs.declared.place.Place.{Place}
-use Rattle.bl_plan.specs.declared.role.Role.TheVariants.{Kernel}
-use Rattle.bl_plan.specs.declared.row.Row.{Row}
+use Rattle.bl_plan.specs.declared.part.Place.{Place}
+use Rattle.bl_plan.specs.declared.part.Role.TheVariants.{Kernel}
+use Rattle.bl_plan.specs.declared.part.Row.{Row}
 use Rattle.bl_load.specs.Addresses.{address_of}
 use Rattle.bl_load.specs.Blocks.{low_of, span_of}
 use Rattle.bl_load.specs.Kernel.{KernelFacts, IsKernel, holds_at, entry_fault, counted_entry}

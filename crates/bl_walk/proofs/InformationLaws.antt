@@ -12,12 +12,12 @@ use Rattle.bl_mbi.specs.Spelling.{spelling}
 use Rattle.bl_mbi.proofs.Sizes.{length-spelling}
 use Rattle.bl_plan.specs.Order.{in_order}
 use Rattle.bl_plan.specs.Placed.{ArePlaced}
-use Rattle.bl_plan.specs.declared.place.Place.{Place}
+use Rattle.bl_plan.specs.declared.part.Place.{Place}
 use Rattle.bl_plan.specs.declared.protocol.Protocol.{Protocol}
 use Rattle.bl_plan.specs.declared.protocol.Protocol.TheVariants.{Multiboot2}
-use Rattle.bl_plan.specs.declared.role.Role.{Role}
-use Rattle.bl_plan.specs.declared.role.Role.TheVariants.{Kernel, Module, Information}
-use Rattle.bl_plan.specs.declared.row.Row.{Row}
+use Rattle.bl_plan.specs.declared.part.Role.{Role}
+use Rattle.bl_plan.specs.declared.part.Role.TheVariants.{Kernel, Module, Information}
+use Rattle.bl_plan.specs.declared.part.Row.{Row}
 use Rattle.bl_load.specs.Addresses.{address_of}
 use Rattle.bl_load.specs.Handover.{Part, Handover, end_of}
 use Rattle.bl_load.specs.Kernel.{KernelFacts, IsKernel}

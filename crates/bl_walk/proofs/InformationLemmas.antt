@@ -17,10 +17,10 @@ use Rattle.bl_mbi.specs.Spelling.{spelling, tags}
 use Rattle.bl_plan.specs.Placed.{ArePlaced, range_of}
 use Rattle.bl_plan.specs.Planned.{put_in}
 use Rattle.bl_plan.specs.Roles.{role_number}
-use Rattle.bl_plan.specs.declared.place.Place.{Place}
-use Rattle.bl_plan.specs.declared.role.Role.{Role}
-use Rattle.bl_plan.specs.declared.role.Role.TheVariants.{Module}
-use Rattle.bl_plan.specs.declared.row.Row.{Row}
+use Rattle.bl_plan.specs.declared.part.Place.{Place}
+use Rattle.bl_plan.specs.declared.part.Role.{Role}
+use Rattle.bl_plan.specs.declared.part.Role.TheVariants.{Module}
+use Rattle.bl_plan.specs.declared.part.Row.{Row}
 use Rattle.bl_load.specs.Addresses.{address_of}
 use Rattle.bl_load.specs.Handover.{Part}
 use Rattle.bl_load.specs.Rows.{module_rows, modules_of}

@@ -11,7 +11,7 @@ use Rattle.std.proofs.lemmas.List.Sums.{position_or_len_is}
 use Rattle.std.proofs.lemmas.List.Sorted.{IsPartitionedBy-leb}
 use Rattle.std.proofs.lemmas.Option.{slice_get_past, slice_get-get_or}
 use Rattle.std.proofs.Math.Seq.{take-length}
-use Rattle.bl_plan.specs.declared.role.Role.TheVariants.{Kernel}
+use Rattle.bl_plan.specs.declared.part.Role.TheVariants.{Kernel}
 use Rattle.bl_load.specs.Handover.{Part, end_of}
 use Rattle.bl_image.specs.ImageParts.{AreImageParts}
 use Rattle.bl_walk.specs.Inside.{lies_in, part_with, bytes_in, rest_in}

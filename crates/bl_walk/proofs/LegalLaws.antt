@@ -2,7 +2,7 @@
 use Rattle.std.proofs.Common.{◌≤◌, ◌≡◌, List, [], length, None, sym, subst, AllPairs}
 use Rattle.bl_map.specs.MachineFacts.{MachineFacts, AreMachineFacts}
 use Rattle.bl_plan.specs.Placed.{ArePlaced}
-use Rattle.bl_plan.specs.declared.place.Place.{Place}
+use Rattle.bl_plan.specs.declared.part.Place.{Place}
 use Rattle.bl_load.specs.Handover.{Part, Handover, end_of}
 use Rattle.bl_load.specs.Parts.{IsHandover, handover_of}
 use Rattle.bl_load.specs.Reading.{Reading, multiboot2, linux, IsRead}

@@ -12,8 +12,8 @@ use Rattle.std.proofs.lemmas.List.Sums.{position_or_len_is}
 use Rattle.std.proofs.Math.Seq.{get_or-append_seam}
 use Rattle.bl_mbi.specs.InformationFacts.{IsText}
 use Rattle.bl_plan.specs.Order.{in_order, place_key}
-use Rattle.bl_plan.specs.declared.place.Place.{Place}
-use Rattle.bl_plan.specs.declared.role.Role.{Role}
+use Rattle.bl_plan.specs.declared.part.Place.{Place}
+use Rattle.bl_plan.specs.declared.part.Role.{Role}
 use Rattle.bl_plan.proofs.OrderLemmas.{in_order_all, list_any-in_order}
 use Rattle.bl_load.specs.Addresses.{address_of}
 use Rattle.bl_load.specs.Handover.{end_of, filled}

@@ -16,12 +16,12 @@ use Rattle.bl_params.specs.Told.{AreWords, params_of}
 use Rattle.bl_params.proofs.Lengths.{length-boot_params}
 use Rattle.bl_params.proofs.WrittenIsRead.{written_is_read}
 use Rattle.bl_plan.specs.Placed.{ArePlaced}
-use Rattle.bl_plan.specs.declared.place.Place.{Place}
+use Rattle.bl_plan.specs.declared.part.Place.{Place}
 use Rattle.bl_plan.specs.declared.protocol.Protocol.{Protocol}
 use Rattle.bl_plan.specs.declared.protocol.Protocol.TheVariants.{Linux}
-use Rattle.bl_plan.specs.declared.role.Role.{Role}
-use Rattle.bl_plan.specs.declared.role.Role.TheVariants.{Kernel, BootParams, CommandLine, Gdt}
-use Rattle.bl_plan.specs.declared.role.Role.TheVariants.{Initrd}
+use Rattle.bl_plan.specs.declared.part.Role.{Role}
+use Rattle.bl_plan.specs.declared.part.Role.TheVariants.{Kernel, BootParams, CommandLine, Gdt}
+use Rattle.bl_plan.specs.declared.part.Role.TheVariants.{Initrd}
 use Rattle.bl_load.specs.Addresses.{address_of}
 use Rattle.bl_load.specs.Handover.{Handover, end_of, filled}
 use Rattle.bl_load.specs.Linux.{IsLinuxKernel}
@@ -38,7 +38,7 @@ use Rattle.bl_load.proofs.LinuxLemmas.{linux_rows_are_rows, linux_rowed}
 use Rattle.bl_load.proofs.LinuxToldLemmas.{initrd_fits}
 use Rattle.bl_load.proofs.RowPlaceLemmas.{are_below, are_filled}
 use Rattle.bl_walk.specs.Inside.{bytes_in}
-use Rattle.bl_walk.specs.declared.seen_part.SeenPart.{SeenPart}
+use Rattle.bl_walk.specs.declared.seen.SeenPart.{SeenPart}
 use Rattle.bl_walk.specs.Seen.{ParametersSay, IsLine, IsInitrd, ParametersShow, IsSeen, kernel_in}
 use Rattle.bl_walk.specs.SeenFacts.{SeenFacts, SeenFileFacts}
 use Rattle.bl_walk.specs.Shown.{ShowsEntry, ShowsKernel, ShowsFiles, ShowsPayload, HasByteLines}

@@ -11,7 +11,7 @@ use Rattle.bl_params.specs.ParamsFacts.{ParamsFacts}
 use Rattle.bl_params.specs.Reading.{IsParams}
 use Rattle.bl_plan.specs.declared.protocol.Protocol.TheVariants.{Multiboot2, Linux}
 use Rattle.bl_load.specs.Handover.{Part, Handover}
-use Rattle.bl_walk.specs.declared.seen_part.SeenPart.{SeenPart}
+use Rattle.bl_walk.specs.declared.seen.SeenPart.{SeenPart}
 use Rattle.bl_walk.specs.Inside.{bytes_in, rest_in}
 use Rattle.bl_walk.specs.State.{is_kernel}
 use Rattle.bl_walk.specs.SeenFacts.{SeenModuleFacts, SeenFileFacts, SeenFacts}

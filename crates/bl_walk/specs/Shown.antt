@@ -18,7 +18,7 @@ use Rattle.bl_load.specs.LinuxRows.{linux_kernel_row}
 use Rattle.bl_load.specs.Parts.{entry_at}
 use Rattle.bl_load.specs.Value.{EntryValue, kernel_file, module_file, initrd_file, lines_of}
 use Rattle.bl_walk.specs.SeenFacts.{SeenFacts}
-use Rattle.bl_walk.specs.declared.seen_part.SeenPart.{SeenPart}
+use Rattle.bl_walk.specs.declared.seen.SeenPart.{SeenPart}
 
 -- ---- the kernel
 

@@ -2,7 +2,7 @@
 ghost use Rattle.std.specs.Prelude.{◌≡◌, IfOk};
 ghost use Rattle.bl_walk.specs.Seen.{kernel_in};
 
-use crate::seen_part::SeenPart;
+use crate::seen::SeenPart;
 use crate::state::is_kernel;
 use bl_image::Image;
 use std::alloc::{AllocError, Allocator};

@@ -10,9 +10,6 @@ mod laws;
 mod module;
 mod parameters;
 mod seen;
-mod seen_file;
-mod seen_module;
-mod seen_part;
 mod state;
 mod walking;
 
@@ -21,8 +18,5 @@ pub use laws::{
     handovers_are_seen, images_show_their_entries, ranges_lie_in_one_part, seen_is_determined,
     seen_is_sound, seen_runs_end_low,
 };
-pub use seen::Seen;
-pub use seen_file::SeenFile;
-pub use seen_module::SeenModule;
-pub use seen_part::SeenPart;
+pub use seen::{Seen, SeenFile, SeenModule, SeenPart};
 pub use walking::walk;

@@ -7,7 +7,7 @@ ghost use Rattle.bl_walk.specs.Seen.{IsSeenModule, AreSeenModules};
 
 use crate::fault::WalkFault;
 use crate::follow::follow;
-use crate::seen_module::SeenModule;
+use crate::seen::SeenModule;
 use bl_image::Image;
 use bl_mbi::Module;
 use bl_mem::Bytes;

@@ -1,12 +1,50 @@
 //! What a kernel sees in an image.
-use crate::seen_file::SeenFile;
-use crate::seen_module::SeenModule;
-use crate::seen_part::SeenPart;
 use bl_load::Protocol;
 use bl_map::Region;
 use bl_mem::Bytes;
 use std::alloc::Allocator;
 use std::marker::Model;
+
+/// A part of the kernel in an image: the physical address of its first byte, and its length in
+/// bytes.
+#[derive(Clone, Copy, Debug, PartialEq, Eq)]
+pub struct SeenPart {
+    pub address: u64,
+    pub length: u64,
+}
+
+/// A module (Multiboot2 3.6.6 "Modules"): the physical address of its first byte, its bytes up to
+/// `mod_end`, its line without a zero at its end. An empty module has an address too, and no byte.
+#[derive(Drop)]
+pub struct SeenModule<A: Allocator> {
+    pub mod_start: u32,
+    pub bytes: Bytes<A>,
+    pub line: Bytes<A>,
+}
+
+impl<A: Allocator> Model for SeenModule<A> {
+    ghost use Rattle.bl_walk.specs.SeenFacts.{SeenModuleFacts};
+
+    ghost Value = { SeenModuleFacts };
+
+    ghost view = { λ m. record { mod_start = m.mod_start; bytes = m.bytes; line = m.line } };
+}
+
+/// An initial ramdisk (Linux/x86 boot protocol: "ramdisk_image", "ramdisk_size"): the physical
+/// address of its first byte, and its bytes, of which there is one at least.
+#[derive(Drop)]
+pub struct SeenFile<A: Allocator> {
+    pub address: u32,
+    pub bytes: Bytes<A>,
+}
+
+impl<A: Allocator> Model for SeenFile<A> {
+    ghost use Rattle.bl_walk.specs.SeenFacts.{SeenFileFacts};
+
+    ghost Value = { SeenFileFacts };
+
+    ghost view = { λ f. record { address = f.address; bytes = f.bytes } };
+}
 
 /// What a kernel sees in an image: how and where it is entered, its line, its parts in address
 /// order, the modules in order (none under Linux), the initial ramdisk (none under Multiboot2, nor

@@ -11,59 +11,22 @@ use crate::fault::WalkFault;
 use crate::follow::follow;
 use crate::inside::part_with;
 use bl_image::{Image, ImagePart};
-use bl_load::{Protocol, Registers};
+use bl_load::{Protocol, Registers, linux_registers, multiboot2_registers};
 use bl_params::gdt;
 use bl_plan::Role;
 use std::alloc::Allocator;
 
-/// What eax tells a kernel of Multiboot2 (3.3 "I386 machine state").
-const BOOTLOADER_MAGIC: u32 = 0x36D76289;
-
 /// How many bytes the descriptors take.
 const GDT_SIZE: u32 = 32;
-
-/// The limit of the table of descriptors: the offset of its last byte.
-const GDT_LIMIT: u32 = 31;
 
 /// The registers that a kernel is entered with, where the ones that hold addresses hold those of
 /// `r`.
 fn entry_registers(protocol: Protocol, r: Registers) -> Registers
     ensures { result ≡ state.entry_registers protocol r }
 {
-    let blank = Registers {
-        eip: r.eip,
-        eax: 0,
-        ebx: 0,
-        ecx: 0,
-        edx: 0,
-        esi: 0,
-        edi: 0,
-        ebp: 0,
-        esp: 0,
-        eflags: 2,
-        cr0: 0x11,
-        cs: 0x10,
-        ds: 0x18,
-        es: 0x18,
-        fs: 0x18,
-        gs: 0x18,
-        ss: 0x18,
-        gdt_base: 0,
-        gdt_limit: 0,
-        a20: 1,
-    };
     match protocol {
-        Protocol::Multiboot2 => Registers {
-            eax: BOOTLOADER_MAGIC,
-            ebx: r.ebx,
-            ..blank
-        },
-        Protocol::Linux => Registers {
-            esi: r.esi,
-            gdt_base: r.gdt_base,
-            gdt_limit: GDT_LIMIT,
-            ..blank
-        },
+        Protocol::Multiboot2 => multiboot2_registers(r.eip, r.ebx),
+        Protocol::Linux => linux_registers(r.eip, r.esi, r.gdt_base),
     }
 }
 

@@ -3,7 +3,7 @@ ghost use Rattle.std.specs.Prelude.{◌≡◌, ℕ, List, ◌+◌, ◌-◌, ◌<
 ghost use Rattle.std.specs.Prelude.{length, map};
 ghost use Rattle.bl_boot.specs.Found.{AreFound, IsFound};
 ghost use Rattle.bl_desc.specs.Described.{file_named};
-ghost use Rattle.bl_desc.specs.Kept.{view};
+ghost use Rattle.bl_desc.specs.Views.{view};
 ghost use Rattle.bl_boot.specs.Files.{Answer, answer_for, answer_of};
 
 use crate::fetching::{FILE_LIMIT, Files};

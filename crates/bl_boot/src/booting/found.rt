@@ -4,7 +4,7 @@ ghost use Rattle.bl_session.specs.Outcome.{size_of};
 ghost use Rattle.bl_session.specs.Phases.{boot_facts};
 ghost use Rattle.bl_boot.specs.Attempted.{entry_of};
 ghost use Rattle.bl_boot.specs.Kept.{FoundEnds, HasFaults};
-ghost use Rattle.bl_desc.specs.Kept.{view};
+ghost use Rattle.bl_desc.specs.Views.{view};
 
 use crate::booting::fault::{End, EndFault};
 use crate::booting::handing::{hand_over, say_none_left};

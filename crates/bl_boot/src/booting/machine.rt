@@ -1,6 +1,6 @@
 //! The machine of a description.
 ghost use Rattle.std.specs.Prelude.{◌≡◌, IfOk, IfErr};
-ghost use Rattle.bl_desc.specs.Kept.{view};
+ghost use Rattle.bl_desc.specs.Views.{view};
 ghost use Rattle.bl_boot.specs.Ends.{IsMachineOf};
 ghost use Rattle.bl_boot.specs.Kept.{IsMachineFault};
 

@@ -2,10 +2,10 @@
 ghost use Rattle.std.specs.Prelude.{◌≡◌, ◌<◌, ◌^◌, All, IfOk, length, map};
 ghost use Rattle.bl_load.specs.Value.{HasFewModules};
 ghost use Rattle.bl_session.specs.Menu.{facts_of};
-ghost use Rattle.bl_session.specs.declared.menu.MenuFault.TheVariants as menu_fault;
+ghost use Rattle.bl_session.specs.declared.menu.fault.MenuFault.TheVariants as menu_fault;
 ghost use Rattle.bl_boot.specs.Attempted as attempted;
 ghost use Rattle.bl_boot.specs.Attempted.{entry_facts};
-ghost use Rattle.bl_desc.specs.Kept.{HasMenu, entry_view, module_view, view};
+ghost use Rattle.bl_desc.specs.Views.{HasMenu, entry_view, module_view, view};
 
 use crate::booting::names::index_of;
 use bl_desc::{Description, EntryForm, EntryRow, ModuleRow};

@@ -6,7 +6,7 @@ ghost use Rattle.std.specs.List.{list_any};
 ghost use Rattle.bl_boot.specs.Attempted as attempted;
 ghost use Rattle.bl_boot.specs.Attempted.{file_names, names_of_entries};
 ghost use Rattle.bl_boot.specs.Kept.{names_with};
-ghost use Rattle.bl_desc.specs.Kept.{HasMenu, entry_view, module_view, view};
+ghost use Rattle.bl_desc.specs.Views.{HasMenu, entry_view, module_view, view};
 
 use bl_desc::{Description, EntryForm, EntryRow, ModuleRow};
 use bl_session::order_attempts;

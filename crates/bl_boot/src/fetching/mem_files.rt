@@ -15,7 +15,7 @@ pub struct MemFiles<A: Allocator> {
 
 impl<A: Allocator> Model for MemFiles<A> {
     ghost use Rattle.std.specs.Prelude.{map};
-    ghost use Rattle.bl_desc.specs.Kept.{file_view};
+    ghost use Rattle.bl_desc.specs.Views.{file_view};
     ghost use Rattle.bl_boot.specs.Files.{MemFilesFacts};
 
     ghost Value = { MemFilesFacts };
@@ -25,7 +25,7 @@ impl<A: Allocator> Model for MemFiles<A> {
 
 impl<A: Allocator> MemFiles<A> {
     ghost use Rattle.std.specs.Prelude.{◌≡◌, map};
-    ghost use Rattle.bl_desc.specs.Kept.{file_view};
+    ghost use Rattle.bl_desc.specs.Views.{file_view};
 
     /// These files, for which no name was missing yet.
     pub fn new(rows: Vec<FileRow<A>, A>) -> MemFiles<A>

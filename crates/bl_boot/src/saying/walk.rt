@@ -1,17 +1,16 @@
 //! What a kernel sees in an image, line by line.
-ghost use Rattle.std.specs.Prelude.{◌≡◌, ◌≤◌, ◌++◌, OnOk, OnErr, All};
+ghost use Rattle.std.specs.Prelude.{◌≡◌, ◌++◌, OnOk, OnErr};
 ghost use Rattle.std.specs.List.{flat_map};
-ghost use Rattle.bl_map.specs.Kinds.{end_of};
-ghost use Rattle.bl_map.specs.Limits.{region_limit};
 ghost use Rattle.bl_walk.specs.Shown.{RunsEndLow};
-ghost use Rattle.bl_boot.specs.Says.{hex16};
 ghost use Rattle.bl_boot.specs.WalkSays as says;
-ghost use Rattle.bl_boot.specs.WalkSays.{kernel_line, module_line, seen_run_line};
+ghost use Rattle.bl_boot.specs.WalkSays.{kernel_line, module_line};
 
+use crate::saying::walk::runs::say_runs;
 use bl_load::Protocol;
-use bl_map::Region;
 use bl_walk::{Seen, SeenFile, SeenModule, SeenPart};
 use std::alloc::{AllocError, Allocator};
+
+mod runs;
 
 /// Appends a text as a line has it: its length, and its bytes in hexadecimal digits if there are
 /// any.
@@ -148,52 +147,6 @@ fn say_initrd<A: Allocator + Copy, B: Allocator>(
         None => Ok(()),
         Some(file) => say_file(out, file),
     }
-}
-
-/// Appends the start of a run.
-fn say_start<A: Allocator + Copy>(out: &mut Vec<u8, A>, start: u64) -> Result<(), AllocError>
-    ensures { OnOk result (out.new.items ≡ out.old.items ++ says.run_start start) }
-{
-    let alloc = *out.allocator();
-    let line = format!(in alloc; "map {start:016x} ")?;
-    out.extend_from_slice(line.as_bytes())
-}
-
-/// Appends the end of a run.
-fn say_end<A: Allocator + Copy>(out: &mut Vec<u8, A>, end: u64) -> Result<(), AllocError>
-    ensures { OnOk result (out.new.items ≡ out.old.items ++ hex16 end) }
-{
-    let alloc = *out.allocator();
-    let line = format!(in alloc; "{end:016x}")?;
-    out.extend_from_slice(line.as_bytes())
-}
-
-/// Appends a run's kind.
-fn say_kind<A: Allocator + Copy>(out: &mut Vec<u8, A>, kind: u32) -> Result<(), AllocError>
-    ensures { OnOk result (out.new.items ≡ out.old.items ++ says.run_kind kind) }
-{
-    let alloc = *out.allocator();
-    let line = format!(in alloc; " {kind}\n")?;
-    out.extend_from_slice(line.as_bytes())
-}
-
-fn say_run<A: Allocator + Copy>(out: &mut Vec<u8, A>, run: &Region) -> Result<(), AllocError>
-    requires { end_of run.now ≤ region_limit }
-    ensures { OnOk result (out.new.items ≡ out.old.items ++ says.seen_run_line run.now) }
-{
-    say_start(out, run.base)?;
-    say_end(out, run.base + run.length)?;
-    say_kind(out, run.kind.number())
-}
-
-fn say_runs<A: Allocator + Copy>(out: &mut Vec<u8, A>, runs: &[Region]) -> Result<(), AllocError>
-    requires { All (λ run. end_of run ≤ region_limit) runs.now }
-    ensures { OnOk result (out.new.items ≡ out.old.items ++ flat_map seen_run_line runs.now) }
-{
-    for run in runs {
-        say_run(out, run)?;
-    }
-    Ok(())
 }
 
 /// Appends the lines of what a kernel sees: its protocol, where it is entered, its line, its parts,

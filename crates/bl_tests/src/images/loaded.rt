@@ -1,7 +1,7 @@
 //! A handoff of two parts, in memory that has them.
 ghost use Rattle.std.specs.Prelude.{◌≡◌, ℕ, ◌+◌, ◌≤◌, ◌^◌, [], ◌∷◌, length, vec_len, All, IfOk};
 ghost use Rattle.bl_load.specs.declared.plan.Content.TheVariants.{File};
-ghost use Rattle.bl_load.specs.Kept.{IsLoadable};
+ghost use Rattle.bl_load.specs.Loadable.{IsLoadable};
 
 use bl_load::{Content, Handoff, Plan, PlannedPart, Protocol, Registers, load};
 use bl_mem::{Flat, SliceView, Views};

@@ -1,5 +1,5 @@
 use Rattle.std.proofs.Common.{◌≡◌, drop, map}
-use Rattle.bl_desc.specs.Kept.{file_view}
+use Rattle.bl_desc.specs.Views.{file_view}
 use Rattle.bl_desc.specs.Described as spec
 use Rattle.bl_desc.proofs.desc.file_named.Given as goal
 

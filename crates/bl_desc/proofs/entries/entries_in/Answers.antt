@@ -1,8 +1,8 @@
 use Rattle.std.proofs.Common.{◌∙◌, map, arith}
 use Rattle.std.proofs.lemmas.Result.{err_from_is_err_and}
 use Rattle.bl_desc.specs.Values.{in_table}
-use Rattle.bl_desc.specs.Described.{entry_in}
-use Rattle.bl_desc.specs.Kept.{entry_view}
+use Rattle.bl_desc.specs.Entries.{entry_in}
+use Rattle.bl_desc.specs.Views.{entry_view}
 use Rattle.bl_desc.proofs.ItemLemmas.{one_more, all_read, one_fails}
 use Rattle.bl_desc.proofs.entries.entries_in.Goals as goal
 

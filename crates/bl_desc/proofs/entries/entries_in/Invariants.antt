@@ -1,8 +1,8 @@
 use Rattle.std.proofs.Common.{◌≡◌, drop, map}
 use Rattle.toml.specs.View.{items_view}
 use Rattle.bl_desc.specs.Values.{each_item, in_table}
-use Rattle.bl_desc.specs.Described.{entry_in}
-use Rattle.bl_desc.specs.Kept.{entry_view}
+use Rattle.bl_desc.specs.Entries.{entry_in}
+use Rattle.bl_desc.specs.Views.{entry_view}
 use Rattle.bl_desc.proofs.ItemLemmas.{with_front}
 use Rattle.bl_desc.proofs.entries.entries_in.Given as goal
 

@@ -1,7 +1,7 @@
 use Rattle.std.proofs.Common.{◌∙◌}
 use Rattle.bl_desc.specs.Values.{in_table}
 use Rattle.bl_desc.specs.Described.{file_in}
-use Rattle.bl_desc.specs.Kept.{file_view}
+use Rattle.bl_desc.specs.Views.{file_view}
 use Rattle.bl_desc.proofs.ItemLemmas.{one_more}
 use Rattle.bl_desc.proofs.files.files_in.Goals as goal
 

@@ -2,7 +2,7 @@ use Rattle.std.proofs.Common.{◌≡◌, drop, map}
 use Rattle.toml.specs.View.{items_view}
 use Rattle.bl_desc.specs.Values.{each_item, in_table}
 use Rattle.bl_desc.specs.Described.{file_in}
-use Rattle.bl_desc.specs.Kept.{file_view}
+use Rattle.bl_desc.specs.Views.{file_view}
 use Rattle.bl_desc.proofs.ItemLemmas.{with_front}
 use Rattle.bl_desc.proofs.files.files_in.Given as goal
 

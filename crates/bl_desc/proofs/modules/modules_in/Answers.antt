@@ -1,7 +1,7 @@
 use Rattle.std.proofs.Common.{◌∙◌}
 use Rattle.bl_desc.specs.Values.{in_table}
-use Rattle.bl_desc.specs.Described.{module_in}
-use Rattle.bl_desc.specs.Kept.{module_view}
+use Rattle.bl_desc.specs.Entries.{module_in}
+use Rattle.bl_desc.specs.Views.{module_view}
 use Rattle.bl_desc.proofs.ItemLemmas.{one_more}
 use Rattle.bl_desc.proofs.modules.modules_in.Goals as goal
 

@@ -1,8 +1,8 @@
 use Rattle.std.proofs.Common.{◌≡◌, drop, map}
 use Rattle.toml.specs.View.{items_view}
 use Rattle.bl_desc.specs.Values.{each_item, in_table}
-use Rattle.bl_desc.specs.Described.{module_in}
-use Rattle.bl_desc.specs.Kept.{module_view}
+use Rattle.bl_desc.specs.Entries.{module_in}
+use Rattle.bl_desc.specs.Views.{module_view}
 use Rattle.bl_desc.proofs.ItemLemmas.{with_front}
 use Rattle.bl_desc.proofs.modules.modules_in.Given as goal
 

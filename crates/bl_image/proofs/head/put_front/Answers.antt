@@ -3,9 +3,10 @@ use Rattle.std.proofs.Common.{sym, ap, subst}
 use Rattle.std.proofs.Math.Seq.{take-length}
 use Rattle.std.proofs.lemmas.List.{append-nil}
 use Rattle.std.proofs.lemmas.List.Elements.{All-more, All-nil}
-use Rattle.bl_plan.specs.declared.place.Place.{Place}
+use Rattle.bl_plan.specs.declared.part.Place.{Place}
 use Rattle.bl_load.specs.declared.registers.Registers.{Registers}
-use Rattle.bl_image.specs.Image.{head, place_record, register_numbers}
+use Rattle.bl_image.specs.Image.{head, register_numbers}
+use Rattle.bl_image.specs.RecordsKept.{place_record}
 use Rattle.bl_image.proofs.Spelled.{records_more, records_all}
 use Rattle.bl_image.proofs.FitLemmas.{records_fit}
 use Rattle.bl_image.proofs.head.put_front.Goals as goal

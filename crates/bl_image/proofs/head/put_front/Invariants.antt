@@ -1,7 +1,8 @@
 use Rattle.std.proofs.Common.{◌≡◌, ◌+◌, ◌*◌, ◌<◌, ◌^◌, ◌++◌, length, take, All}
 use Rattle.std.specs.List.{flat_map}
-use Rattle.bl_plan.specs.declared.place.Place.{Place}
-use Rattle.bl_image.specs.Image.{head, place_record}
+use Rattle.bl_plan.specs.declared.part.Place.{Place}
+use Rattle.bl_image.specs.Image.{head}
+use Rattle.bl_image.specs.RecordsKept.{place_record}
 use Rattle.bl_image.proofs.head.put_front.Given as goal
 
 -- the head and the records of the first places stand in the buffer

@@ -1,11 +1,10 @@
 use Rattle.std.proofs.Common.{◌≡◌, ◌+◌, ◌-◌, ◌<◌, ℕ, suc, List, [], ◌∷◌, ◌++◌, length, sym, ap, ◌∙◌}
 use Rattle.std.proofs.Common.{subst, arith, length-append}
 use Rattle.std.specs.List.{flat_map}
-use Rattle.bl_plan.specs.declared.place.Place.{Place}
-use Rattle.bl_image.specs.Image.{place_record}
+use Rattle.bl_plan.specs.declared.part.Place.{Place}
+use Rattle.bl_image.specs.RecordsKept.{place_record, AreSound, bytes_at}
 use Rattle.std.proofs.lemmas.Result.{err_from_is_err_and}
 use Rattle.bl_image.specs.ImageFaults.{parts_fault, none_before, Before}
-use Rattle.bl_image.specs.RecordsKept.{AreSound, bytes_at}
 use Rattle.bl_image.proofs.Inputs.{comes_more, comes_as}
 use Rattle.bl_image.proofs.FieldLemmas.{Passed, passed_refuses}
 use Rattle.bl_image.proofs.RecordLemmas.{record_refuses, so_far, judged_more, came_more, sound_more}

@@ -1,8 +1,7 @@
 use Rattle.std.proofs.Common.{◌≡◌, ◌-◌, ℕ, List, ◌++◌, length}
 use Rattle.std.specs.List.{flat_map}
-use Rattle.bl_image.specs.Image.{place_record}
+use Rattle.bl_image.specs.RecordsKept.{place_record, AreSound, bytes_at}
 use Rattle.bl_image.specs.ImageFaults.{parts_fault, none_before}
-use Rattle.bl_image.specs.RecordsKept.{AreSound, bytes_at}
 use Rattle.bl_image.specs.Source.{Comes}
 use Rattle.bl_image.proofs.record_reader.read_records.Given as goal
 

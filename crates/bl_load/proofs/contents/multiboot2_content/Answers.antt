@@ -1,6 +1,6 @@
 use Rattle.std.proofs.Common.{◌≡◌, ℕ, List, [], length, arith, ap, subst}
 use Rattle.bl_mbi.specs.InformationFacts.{info_size}
-use Rattle.bl_plan.specs.declared.role.Role.{Role}
+use Rattle.bl_plan.specs.declared.part.Role.{Role}
 use Rattle.bl_load.specs.Reading.{multiboot2}
 use Rattle.bl_load.specs.KernelKept.{kernel_by}
 use Rattle.bl_map.specs.Room.{whole_frames}

@@ -1,7 +1,7 @@
 use Rattle.std.proofs.Common.{◌≡◌, ℕ, List, ◌∷◌, ◌++◌, ◌+◌, get_or, map, drop, arith, sym, ap, ◌∙◌}
 use Rattle.std.proofs.lemmas.List.{drop_more}
 use Rattle.std.proofs.lemmas.List.Elements.{All-push}
-use Rattle.bl_plan.specs.declared.role.Role.TheVariants as role
+use Rattle.bl_plan.specs.declared.part.Role.TheVariants as role
 use Rattle.bl_load.specs.declared.entry.Module.{Module}
 use Rattle.bl_load.specs.Addresses.{address_of}
 use Rattle.bl_mbi.specs.InformationFacts.{IsModule}

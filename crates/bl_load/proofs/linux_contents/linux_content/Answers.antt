@@ -1,5 +1,5 @@
 use Rattle.std.proofs.Common.{◌≡◌, ℕ, List, length, arith, ap, subst}
-use Rattle.bl_plan.specs.declared.role.Role.{Role}
+use Rattle.bl_plan.specs.declared.part.Role.{Role}
 use Rattle.bl_params.proofs.Lengths.{length-boot_params}
 use Rattle.bl_load.specs.LinuxRows.{told_of}
 use Rattle.bl_load.specs.Reading.{linux}

@@ -3,7 +3,7 @@ use Rattle.std.proofs.Common.{AllPairs}
 use Rattle.bl_mem.specs.Files.{IsBeside}
 use Rattle.bl_mem.proofs.Overwrites.{beside_write}
 use Rattle.bl_load.specs.Blocks.{span_of}
-use Rattle.bl_load.specs.Kept.{lengths_of, content_length, IsCopied, SegmentsAscend}
+use Rattle.bl_load.specs.Loadable.{lengths_of, content_length, IsCopied, SegmentsAscend}
 use Rattle.bl_load.proofs.HeldLemmas.{within_texts, length_at}
 use Rattle.bl_load.proofs.loading.load_content.Goals as goal
 

@@ -1,14 +1,14 @@
 use Rattle.std.proofs.Common.{ℕ, List, [], ◌∷◌, ◌++◌, map, take, get_or, sym, ap, ap₂, ◌∙◌}
 use Rattle.std.proofs.lemmas.List.{map-append, take_more}
 use Rattle.std.proofs.lemmas.List.Elements.{All-push}
-use Rattle.bl_plan.specs.declared.place.Place.{Place}
-use Rattle.bl_plan.specs.declared.role.Role.TheVariants.{Kernel}
+use Rattle.bl_plan.specs.declared.part.Place.{Place}
+use Rattle.bl_plan.specs.declared.part.Role.TheVariants.{Kernel}
 use Rattle.bl_load.specs.declared.plan.PlannedPart.{PlannedPart}
 use Rattle.bl_load.specs.Handover.{Part, part_at, filled}
 use Rattle.bl_load.specs.Parts.{part_from}
 use Rattle.bl_load.specs.Place.{place_of}
 use Rattle.bl_load.specs.PlanFacts.{part_by}
-use Rattle.bl_load.specs.Kept.{lengths_of, IsBacked, StaysInFiles}
+use Rattle.bl_load.specs.Loadable.{lengths_of, IsBacked, StaysInFiles}
 use Rattle.bl_load.specs.SourceKept.{reading_in, texts_in, value_in}
 use Rattle.bl_load.proofs.parts.parts_at.Goals as goal
 

@@ -2,7 +2,7 @@ use Rattle.std.proofs.Common.{◌≡◌, take, map, All}
 use Rattle.bl_load.specs.Parts.{part_from}
 use Rattle.bl_load.specs.Place.{place_of}
 use Rattle.bl_load.specs.PlanFacts.{part_by}
-use Rattle.bl_load.specs.Kept.{lengths_of, IsBacked, IsLean}
+use Rattle.bl_load.specs.Loadable.{lengths_of, IsBacked, IsLean}
 use Rattle.bl_load.specs.SourceKept.{reading_in, texts_in, value_in}
 use Rattle.bl_load.proofs.parts.parts_at.Given as goal
 

@@ -1,9 +1,9 @@
 use Rattle.std.proofs.Common.{◌≡◌, ℕ, [], ap, ◌∙◌}
 use Rattle.bl_map.specs.Room.{whole_frames}
 use Rattle.bl_mbi.specs.InformationFacts.{info_size}
-use Rattle.bl_plan.specs.declared.choice.Choice.TheVariants.{Lowest}
-use Rattle.bl_plan.specs.declared.role.Role.TheVariants.{Information}
-use Rattle.bl_plan.specs.declared.row.Row.{Row}
+use Rattle.bl_plan.specs.declared.part.Choice.TheVariants.{Lowest}
+use Rattle.bl_plan.specs.declared.part.Role.TheVariants.{Information}
+use Rattle.bl_plan.specs.declared.part.Row.{Row}
 use Rattle.bl_load.specs.Kept.{lines_by}
 use Rattle.bl_load.specs.Rows.{information_of}
 use Rattle.bl_load.specs.Value.{multiboot2_value}

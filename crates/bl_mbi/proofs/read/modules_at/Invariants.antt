@@ -1,5 +1,5 @@
 use Rattle.std.proofs.Common.{length}
-use Rattle.bl_mbi.specs.Fields.{left_of}
+use Rattle.bl_mbi.specs.Kept.{left_of}
 use Rattle.bl_mbi.proofs.ModuleLemmas.{IsOnWay}
 use Rattle.bl_mbi.proofs.read.modules_at.Given as goal
 

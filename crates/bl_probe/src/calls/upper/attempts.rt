@@ -7,6 +7,7 @@ mod end;
 mod entry_field;
 mod laws;
 mod letter;
+mod memory;
 mod menu;
 mod rig;
 mod run;

@@ -1,6 +1,6 @@
 //! Entries of rows, prepared and loaded.
 ghost use Rattle.std.specs.Prelude.{◌≡◌, ◌+◌, ◌≤◌, length, map, All, IfOk};
-ghost use Rattle.bl_load.specs.Kept.{lengths_of, IsLoadable};
+ghost use Rattle.bl_load.specs.Loadable.{lengths_of, IsLoadable};
 
 use crate::calls::upper::unprepared::Unprepared;
 use bl_load::{Entry, Handoff, Module, Plan, load, prepare};

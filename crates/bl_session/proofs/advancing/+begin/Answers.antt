@@ -1,8 +1,9 @@
 use Rattle.std.proofs.Common.{◌<◌, length, rules}
 use Rattle.bl_session.specs.Menu.{facts_of}
 use Rattle.bl_session.specs.Boot.{unstarted}
-use Rattle.bl_session.specs.Phases.{boot_facts, state_of}
-use Rattle.bl_session.specs.declared.attempt.Attempt.TheVariants.{Waits, HandedOver}
+use Rattle.bl_session.specs.Phases.{boot_facts}
+use Rattle.bl_session.specs.PhasesKept.{state_of}
+use Rattle.bl_session.specs.declared.attempting.Attempt.TheVariants.{Waits, HandedOver}
 use Rattle.bl_session.proofs.AdvanceLemmas.{begins_at, begins_later, memory_later}
 use Rattle.bl_session.proofs.advancing.+begin.Goals as goal
 

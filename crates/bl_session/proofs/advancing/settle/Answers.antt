@@ -2,8 +2,9 @@ use Rattle.std.proofs.Common.{refl, rules, drop}
 use Rattle.bl_session.specs.Menu.{facts_of}
 use Rattle.bl_session.specs.Boot.{unstarted, Begins}
 use Rattle.bl_stage.specs.Spots.{spots}
-use Rattle.bl_session.specs.Phases.{boot_facts, state_of}
-use Rattle.bl_session.specs.declared.attempt.Attempt.TheVariants.{Waits, HandedOver}
+use Rattle.bl_session.specs.Phases.{boot_facts}
+use Rattle.bl_session.specs.PhasesKept.{state_of}
+use Rattle.bl_session.specs.declared.attempting.Attempt.TheVariants.{Waits, HandedOver}
 use Rattle.bl_session.proofs.AdvanceLemmas.{continues, continues_later, attempt_of_entry}
 use Rattle.bl_session.proofs.AdvanceLemmas.{memory_later}
 use Rattle.bl_session.proofs.advancing.settle.Goals as goal

@@ -3,7 +3,8 @@ use Rattle.bl_map.proofs.PoolLemmas.{pool_in_memory}
 use Rattle.bl_stage.specs.Spots.{spots}
 use Rattle.bl_stage.specs.Staged.{Staging}
 use Rattle.bl_session.specs.Boot.{piece, is_wanted}
-use Rattle.bl_session.specs.Phases.{boot_facts, state_of, IsKept}
+use Rattle.bl_session.specs.Phases.{boot_facts}
+use Rattle.bl_session.specs.PhasesKept.{state_of, IsKept}
 use Rattle.bl_session.specs.declared.phase.Phase.TheVariants.{Waits}
 use Rattle.bl_session.proofs.StepLemmas.{wanted_not, steps_unchanged, wanted_stored, spots_after}
 use Rattle.bl_session.proofs.StepLemmas.{steps_piece, lacks_piece, memory_taken, memory_same}

@@ -1,7 +1,7 @@
 use Rattle.std.proofs.Common.{◌∙◌, arith, map, get_or, take, IsSome}
 use Rattle.std.proofs.lemmas.List.{map-append}
 use Rattle.bl_desc.specs.Described.{file_named}
-use Rattle.bl_desc.specs.Kept.{view}
+use Rattle.bl_desc.specs.Views.{view}
 use Rattle.bl_boot.specs.Files.{answer_of}
 use Rattle.bl_boot.proofs.FileLemmas.{no_name, one_more_found, stands_at, names_grow}
 use Rattle.bl_boot.proofs.booting.finding.find_files.Goals as goal

@@ -1,6 +1,6 @@
 use Rattle.std.proofs.Common.{◌≡◌, ◌+◌, ◌≤◌, ℕ, List, IsSome, All, take, map}
 use Rattle.bl_desc.specs.Described.{file_named}
-use Rattle.bl_desc.specs.Kept.{view}
+use Rattle.bl_desc.specs.Views.{view}
 use Rattle.bl_boot.specs.Files.{Answer, answer_of}
 use Rattle.bl_boot.specs.Found.{AreFound}
 use Rattle.bl_boot.proofs.booting.finding.find_files.Given as goal

@@ -1,7 +1,7 @@
 use Rattle.std.proofs.Common.{◌≡◌, All, length, map, take}
 use Rattle.bl_load.specs.Value.{HasFewModules}
 use Rattle.bl_session.specs.Menu.{facts_of}
-use Rattle.bl_desc.specs.Kept.{entry_view}
+use Rattle.bl_desc.specs.Views.{entry_view}
 use Rattle.bl_boot.specs.Attempted.{entry_facts}
 use Rattle.bl_boot.proofs.booting.menu.entries_of.Given as goal
 

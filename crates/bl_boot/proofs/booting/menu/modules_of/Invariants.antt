@@ -1,5 +1,5 @@
 use Rattle.std.proofs.Common.{◌≡◌, length, map, take}
-use Rattle.bl_desc.specs.Kept.{module_view}
+use Rattle.bl_desc.specs.Views.{module_view}
 use Rattle.bl_boot.specs.Attempted.{index_of}
 use Rattle.bl_boot.proofs.booting.menu.modules_of.Given as goal
 

@@ -1,5 +1,5 @@
 use Rattle.std.proofs.Common.{◌≡◌, ◌++◌, ℕ, List, map, drop}
-use Rattle.bl_desc.specs.Kept.{module_view}
+use Rattle.bl_desc.specs.Views.{module_view}
 use Rattle.bl_boot.specs.Kept.{names_with}
 use Rattle.bl_boot.proofs.booting.names.add_modules.Given as goal
 

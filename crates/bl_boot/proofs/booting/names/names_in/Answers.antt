@@ -1,6 +1,6 @@
 use Rattle.std.proofs.Common.{◌*◌}
 use Rattle.bl_session.proofs.OnceLemmas.{all_attempts}
-use Rattle.bl_desc.specs.Kept.{view}
+use Rattle.bl_desc.specs.Views.{view}
 use Rattle.bl_boot.specs.Attempted.{names_of_entries}
 use Rattle.bl_boot.proofs.NameLemmas.{few_kept, few_names}
 use Rattle.bl_boot.proofs.booting.names.names_in.Goals as goal

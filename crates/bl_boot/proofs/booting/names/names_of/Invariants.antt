@@ -1,6 +1,6 @@
 use Rattle.std.proofs.Common.{◌≡◌, drop, map}
 use Rattle.std.specs.List.{flat_map}
-use Rattle.bl_desc.specs.Kept.{view}
+use Rattle.bl_desc.specs.Views.{view}
 use Rattle.bl_boot.specs.Attempted.{entry_of, file_names, names_of_entries}
 use Rattle.bl_boot.specs.Kept.{names_with}
 use Rattle.bl_boot.proofs.booting.names.names_of.Given as goal

@@ -1,5 +1,5 @@
 use Rattle.std.proofs.Common.{◌≡◌, ◌∙◌, length, ap, arith}
-use Rattle.bl_desc.specs.Kept.{view}
+use Rattle.bl_desc.specs.Views.{view}
 use Rattle.bl_boot.specs.Attempted.{names_in}
 use Rattle.bl_boot.proofs.EndLemmas.{inline_in, sought, ends_by}
 use Rattle.bl_boot.proofs.NameLemmas.{as_many}

@@ -3,8 +3,9 @@ ghost use Rattle.std.specs.Prelude.{◌≡◌, IfOk, IsTrue};
 ghost use Rattle.bl_mem.specs.Memory.{HasRoom};
 
 use crate::calls::memory::give_room;
-use crate::calls::upper::attempts::end::{FILL, fault_text, outcome_text, outside_word};
+use crate::calls::upper::attempts::end::{fault_text, outcome_text};
 use crate::calls::upper::attempts::letter::Letter;
+use crate::calls::upper::attempts::memory::{FILL, outside_word};
 use crate::fault::RowFault;
 use bl_map::Machine;
 use bl_mem::{PhysMem, Sparse};

@@ -1,7 +1,8 @@
 //! `run MENU ..`: a whole boot over a store, on the last machine.
 
 use crate::calls::upper::attempts::boot_fields::{BootFields, FileField, StoreField, read_fields};
-use crate::calls::upper::attempts::end::{FILL, fault_text, outcome_text, outside_word};
+use crate::calls::upper::attempts::end::{fault_text, outcome_text};
+use crate::calls::upper::attempts::memory::{FILL, outside_word};
 use crate::calls::upper::attempts::silent_store::SilentStore;
 use crate::fault::RowFault;
 use crate::session::Session;

@@ -19,9 +19,10 @@ use denote.Triple.Entry.{alive}
 use denote.Triple.Walked.{says, Stays, stay_none_ref, stay_none_slice, Goes-none_ref}
 use denote.Triple.Walked.{Goes-none_slice, walk_of, ends_at}
 use Rattle.std.proofs.raw_atomic.Walks.{proved}
-use Rattle.bl_session.specs.Stores.{stored_files, item_of}
+use Rattle.bl_session.specs.Stores.{stored_files}
+use Rattle.bl_session.specs.StoresKept.{item_of}
 use Rattle.std.specs.contracts.option.Option as O
-use Rattle.bl_session.specs.contracts.completion.Completion as C
+use Rattle.bl_session.specs.contracts.store.Completion as C
 use Rattle.bl_session.specs.contracts.fetched.Fetched as S
 use Rattle.bl_session.specs.contracts.history.History as H
 use Rattle.bl_session.specs.contracts.history.History.and_answer as F

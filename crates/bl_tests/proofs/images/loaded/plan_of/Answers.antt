@@ -1,7 +1,7 @@
 use Rattle.std.proofs.Common.{◌≡◌, ◌+◌, [], ◌∷◌, arith}
 use Rattle.std.proofs.lemmas.Grind.{common_steps}
-use Rattle.bl_plan.specs.declared.place.Place.{Place}
-use Rattle.bl_plan.specs.declared.role.Role.TheVariants.{Kernel, Module}
+use Rattle.bl_plan.specs.declared.part.Place.{Place}
+use Rattle.bl_plan.specs.declared.part.Role.TheVariants.{Kernel, Module}
 use Rattle.bl_tests.proofs.PlanLemmas.{part_of, two_loadable}
 use Rattle.bl_tests.proofs.images.loaded.plan_of.Goals as goal
 

@@ -1,0 +1,120 @@
+-- What a boot description says of its menu: for each table of an entry or a module a function from
+-- the table's keys to a record, or to none if the table is a bad one. Own.
+use Rattle.std.specs.Prelude.{ℕ, Bool, ◌&&◌, if◌then◌else◌, nat_le, List, [], ◌∷◌, length, Option}
+use Rattle.std.specs.Prelude.{Some, None, codes}
+use Rattle.std.specs.Str.{bytes_eq}
+use Rattle.std.specs.List.{list_all}
+use Rattle.toml.specs.Data.{Data, Members}
+use Rattle.bl_desc.specs.Values.{◌>>=◌, passing, text_of, has_only, at_key, at_key_or, at_key_if}
+use Rattle.bl_desc.specs.Values.{in_tables}
+use Rattle.bl_plan.specs.declared.protocol.Protocol.{Protocol}
+use Rattle.bl_plan.specs.declared.protocol.Protocol.TheVariants.{Multiboot2, Linux}
+
+-- a module of an entry: the name of a file, and the module's line
+pub record Module : Type 0 where
+  pub file : List ℕ
+  pub line : List ℕ
+
+-- what an entry has beside its kernel, by its protocol: modules, or perhaps an initial ramdisk,
+-- which is the name of a file
+pub data Form : Type 0 where
+  multiboot2 : List Module → Form
+  linux : Option (List ℕ) → Form
+
+-- the protocol that a form is of
+abbrev pub form_protocol : Form → Protocol
+form_protocol (multiboot2 modules) = Multiboot2
+form_protocol (linux initrd) = Linux
+
+-- an entry of the menu; kernel is the name of a file
+pub record Entry : Type 0 where
+  pub title : List ℕ
+  pub kernel : List ℕ
+  pub line : List ℕ
+  pub form : Form
+
+-- ---- module
+
+unfoldable pub module_in : Members → Option Module
+module_in ms =
+    if has_only (codes "file" ∷ codes "line" ∷ []) ms then (do
+      file ← at_key text_of (codes "file") ms
+      line ← at_key_or [] text_of (codes "line") ms
+      Some record { file = file; line = line })
+    else None
+
+-- ---- entry
+
+-- each byte is printable ASCII
+abbrev pub is_printable : List ℕ → Bool
+is_printable text = list_all (λ c. nat_le 0x20 c && nat_le c 0x7E) text
+
+-- 1 to 64 such bytes
+abbrev pub is_title : List ℕ → Bool
+is_title text = (nat_le 1 (length text) && nat_le (length text) 64) && is_printable text
+
+abbrev pub title_of : Data → Option (List ℕ)
+title_of d = text_of d >>= passing is_title
+
+-- an entry has at most so many modules
+abbrev pub most_modules : ℕ
+most_modules = 64
+
+abbrev pub has_few_modules : List Module → Bool
+has_few_modules modules = nat_le (length modules) most_modules
+
+unfoldable pub modules_of : Data → Option (List Module)
+modules_of d = in_tables module_in d >>= passing has_few_modules
+
+-- an entry of the protocol multiboot2: it may have modules
+unfoldable pub multiboot2_in : Members → Option Entry
+multiboot2_in ms =
+    if has_only
+    (codes "title" ∷ codes "protocol" ∷ codes "kernel" ∷ codes "line" ∷ codes "module" ∷ []) ms
+    then (do
+      title ← at_key title_of (codes "title") ms
+      kernel ← at_key text_of (codes "kernel") ms
+      line ← at_key_or [] text_of (codes "line") ms
+      modules ← at_key_or [] modules_of (codes "module") ms
+      Some record { title = title; kernel = kernel; line = line; form = multiboot2 modules })
+    else None
+
+-- an entry of the protocol linux: it may have an initial ramdisk
+unfoldable pub linux_in : Members → Option Entry
+linux_in ms =
+    if has_only
+    (codes "title" ∷ codes "protocol" ∷ codes "kernel" ∷ codes "line" ∷ codes "initrd" ∷ []) ms
+    then (do
+      title ← at_key title_of (codes "title") ms
+      kernel ← at_key text_of (codes "kernel") ms
+      line ← at_key_or [] text_of (codes "line") ms
+      initrd ← at_key_if text_of (codes "initrd") ms
+      Some record { title = title; kernel = kernel; line = line; form = linux initrd })
+    else None
+
+abbrev pub protocol_named : List ℕ → Option Protocol
+protocol_named name =
+    if bytes_eq name (codes "multiboot2") then Some Multiboot2 else
+    if bytes_eq name (codes "linux") then Some Linux else
+    None
+
+abbrev pub protocol_of : Data → Option Protocol
+protocol_of d = text_of d >>= protocol_named
+
+abbrev pub entry_by : Members → Protocol → Option Entry
+entry_by ms Multiboot2 = multiboot2_in ms
+entry_by ms Linux = linux_in ms
+
+unfoldable pub entry_in : Members → Option Entry
+entry_in ms = at_key protocol_of (codes "protocol") ms >>= entry_by ms
+
+-- a menu has at most so many entries
+abbrev pub most_entries : ℕ
+most_entries = 32
+
+-- 1 to that many entries
+abbrev pub is_menu : List Entry → Bool
+is_menu entries = nat_le 1 (length entries) && nat_le (length entries) most_entries
+
+unfoldable pub entries_of : Data → Option (List Entry)
+entries_of d = in_tables entry_in d >>= passing is_menu

@@ -1,0 +1,53 @@
+-- How a description is seen as what its bytes say, and how its readers answer. Own.
+use Rattle.std.specs.Prelude.{◌≡◌, ◌<◌, ◌≤◌, length, map, All, Option, Some, None, Result, Ok, Err}
+use Rattle.bl_desc.specs.Described.{File, Described}
+use Rattle.bl_desc.specs.Entries.{Module, Form, multiboot2, linux, Entry, most_entries}
+use Rattle.bl_desc.specs.declared.desc.FileRow.{FileRow}
+use Rattle.bl_desc.specs.declared.desc.EntryRow.{EntryRow}
+use Rattle.bl_desc.specs.declared.form.EntryForm.{EntryForm}
+use Rattle.bl_desc.specs.declared.form.EntryForm.TheVariants.{Multiboot2, Linux}
+use Rattle.bl_desc.specs.declared.form.ModuleRow.{ModuleRow}
+use Rattle.bl_desc.specs.declared.desc.Description.{Description}
+use Rattle.bl_desc.specs.declared.fault.DescFault.{DescFault}
+use Rattle.bl_desc.specs.declared.fault.DescFault.TheVariants.{BadDescription, NoMemory}
+
+abbrev pub file_view : {A : Type 0} → FileRow A → File
+file_view f = record { name = f.name; bytes = f.bytes }
+
+abbrev pub module_view : {A : Type 0} → ModuleRow A → Module
+module_view m = record { file = m.file; line = m.line }
+
+abbrev pub form_view : {A : Type 0} → EntryForm A → Form
+form_view (Multiboot2 modules) = multiboot2 (map module_view modules.rows.items)
+form_view (Linux initrd) = linux initrd
+
+abbrev pub entry_view : {A : Type 0} → EntryRow A → Entry
+entry_view e = record { title = e.title; kernel = e.kernel; line = e.line; form = form_view e.form }
+
+abbrev pub view : {A : Type 0} → Description A → Described
+view d = record {
+  size = d.size;
+  pool = d.pool;
+  fill = d.fill;
+  regions = d.regions.items;
+  files = map file_view d.files.items;
+  entries = map entry_view d.entries.items;
+  default = d.default;
+  fallbacks = d.fallbacks.items;
+}
+
+-- the default and each fallback names one of the entries, of which there are 1 to 32
+abbrev pub HasMenu : {A : Type 0} → Description A → Type 0
+HasMenu d =
+    (1 ≤ length d.entries.items) × (length d.entries.items ≤ most_entries)
+    × (d.default < length d.entries.items)
+    × All (λ index. index < length d.entries.items) d.fallbacks.items
+
+-- what a reader returned, seen by view, is what the definition gives, unless memory ran out
+abbrev pub Fails : {Y : Type 0} → DescFault → Option Y → Type 0
+Fails NoMemory read = Unit {0}
+Fails BadDescription read = read ≡ None
+
+abbrev pub Gives : {X Y : Type 0} → (X → Y) → Result X DescFault → Option Y → Type 0
+Gives view (Ok x) read = read ≡ Some (view x)
+Gives view (Err e) read = Fails e read

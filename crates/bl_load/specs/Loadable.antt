@@ -1,0 +1,79 @@
+-- Which plans can be loaded, and what a plan holds of the files. It speaks of the files' lengths
+-- alone, and not of their bytes.
+use Rattle.std.specs.Prelude.{ℕ, ◌+◌, ◌<◌, ◌≤◌, ◌^◌, List, length, map, slice_index, All, AllPairs}
+use Rattle.bl_mem.specs.declared.segment.Segment.{Segment}
+use Rattle.bl_plan.specs.declared.part.Role.{Role}
+use Rattle.bl_plan.specs.declared.part.Role.TheVariants as role
+use Rattle.bl_load.specs.declared.plan.Content.{Content}
+use Rattle.bl_load.specs.declared.plan.Content.TheVariants.{Own, File, Block}
+use Rattle.bl_load.specs.declared.plan.PlannedPart.{PlannedPart}
+use Rattle.bl_load.specs.declared.plan.Plan.{Plan}
+use Rattle.bl_load.specs.Blocks.{span_of}
+use Rattle.bl_load.specs.HandoffFacts.{AreRecords}
+use Rattle.bl_load.specs.PlanFacts.{places_of}
+
+-- the lengths of files
+abbrev pub lengths_of : List (List ℕ) → List ℕ
+lengths_of texts = map (λ text. length text) texts
+
+-- a segment that can be copied out of a file of this length into a block: its bytes are in the
+-- file, and its addresses are small
+pub record IsCopied (size : ℕ) (s : Segment) : Type 0 where
+  pub filled : 1 ≤ s.memsz
+  pub fits : s.filesz ≤ s.memsz
+  pub inside : 1 ≤ s.filesz → s.offset + s.filesz ≤ size
+  pub low : s.address + s.memsz ≤ 2 ^ 62
+
+-- the second lies behind the first
+abbrev pub SegmentsAscend : Segment → Segment → Type 0
+SegmentsAscend s t = s.address + s.memsz ≤ t.address
+
+-- the content is there, in files of these lengths
+abbrev pub IsThere : {A : Type 0} → List ℕ → Content A → Type 0
+IsThere lengths (Own bytes) = Unit {0}
+IsThere lengths (File file offset count) =
+    (file < length lengths) × (1 ≤ count → offset + count ≤ slice_index lengths file)
+IsThere lengths (Block file segments) =
+    (file < length lengths) × (1 ≤ length segments.items)
+    × All (IsCopied (slice_index lengths file)) segments.items
+    × AllPairs SegmentsAscend segments.items
+
+-- how many bytes a content has
+abbrev pub content_length : {A : Type 0} → Content A → ℕ
+content_length (Own bytes) = length bytes
+content_length (File file offset count) = count
+content_length (Block file segments) = span_of segments.items
+
+-- the content is there and no longer than its place
+pub record IsBacked {A : Type 0} (lengths : List ℕ) (part : PlannedPart A) : Type 0 where
+  pub there : IsThere lengths part.content
+  pub short : content_length part.content ≤ part.place.length
+
+-- what a part of this role holds is made by the loader, and no file's bytes
+abbrev pub IsMade : Role → Type 0
+IsMade role.Kernel = ⊥
+IsMade role.Module = ⊥
+IsMade role.Information = Unit {0}
+IsMade role.BootParams = Unit {0}
+IsMade role.CommandLine = Unit {0}
+IsMade role.Gdt = Unit {0}
+IsMade role.Initrd = ⊥
+
+-- a content's bytes stay in the files until it is loaded; only what the loader makes has bytes of
+-- its own
+abbrev pub StaysInFiles : {A : Type 0} → Role → Content A → Type 0
+StaysInFiles r (Own bytes) = IsMade r
+StaysInFiles r (File file offset count) = Unit {0}
+StaysInFiles r (Block file segments) = Unit {0}
+
+-- a plan holds none of the files' bytes, so it takes no memory in proportion to what a header
+-- claims
+abbrev pub IsLean : {A : Type 0} → List (PlannedPart A) → Type 0
+IsLean parts = All (λ part. StaysInFiles part.place.role part.content) parts
+
+-- a plan can be loaded out of files of these lengths into memory of this size: its contents are
+-- there, and its places are those of records inside it
+pub record IsLoadable {A : Type 0} (lengths : List ℕ) (size : ℕ) (plan : Plan A) : Type 0 where
+  pub backed : All (IsBacked lengths) plan.parts.items
+  pub inside : All (λ place. place.address + place.length ≤ size) (places_of plan)
+  pub records : AreRecords (places_of plan)

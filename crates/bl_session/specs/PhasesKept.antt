@@ -1,0 +1,69 @@
+-- What a session keeps of its phase, and of the stage of an attempt that waits.
+use Rattle.std.specs.Prelude.{◌≡◌, ℕ, ◌<◌, ◌≤◌, List, length, All, Option, Some}
+use Rattle.bl_map.specs.MachineFacts.{MachineFacts}
+use Rattle.bl_load.specs.declared.refusal.PrepFault.{PrepFault}
+use Rattle.bl_load.specs.declared.refusal.PrepFault.TheVariants as prep_fault
+use Rattle.bl_stage.specs.Staged.{Staging, AllCame, fresh}
+use Rattle.bl_session.specs.declared.boot.Boot.{Boot}
+use Rattle.bl_session.specs.declared.phase.Running.{Running}
+use Rattle.bl_session.specs.declared.phase.Phase.{Phase}
+use Rattle.bl_session.specs.declared.phase.Phase.TheVariants.{Unstarted, Waits, HandedOver, Failed}
+use Rattle.bl_session.specs.Ends.{most_bytes, file_refusal, size_refusal, lengths_of}
+use Rattle.bl_session.specs.Menu.{MenuFacts, entry_at}
+use Rattle.bl_session.specs.Boot.{BootFacts, State}
+use Rattle.bl_session.specs.Phases.{state_at, running_facts, phase_facts, boot_facts, EndsWithin}
+
+abbrev pub running_state : {A : Type 0} → (attempts bytes : List ℕ) → Running A → State
+running_state attempts bytes r = state_at bytes (running_facts attempts r)
+
+abbrev pub state_of : {A : Type 0} → (attempts bytes : List ℕ) → Phase A → State
+state_of attempts bytes phase = state_at bytes (phase_facts attempts phase)
+
+-- why files of these sizes are not taken, unless memory ran out
+abbrev pub IsFileFault : List (Option ℕ) → PrepFault → Type 0
+IsFileFault sizes (prep_fault.Refused refusal) = file_refusal 0 sizes ≡ Some refusal
+IsFileFault sizes prep_fault.NoMemory = Unit {0}
+
+-- why an attempt with files of these sizes does not begin, unless memory ran out
+abbrev pub IsSizeFault : MachineFacts → List (Option ℕ) → PrepFault → Type 0
+IsSizeFault facts sizes (prep_fault.Refused refusal) = size_refusal facts sizes ≡ Some refusal
+IsSizeFault facts sizes prep_fault.NoMemory = Unit {0}
+
+-- a stage to which no piece came, for files of these sizes
+abbrev pub IsFresh : MachineFacts → List (Option ℕ) → Staging → Type 0
+IsFresh facts sizes stage = (frames : List ℕ) × (stage ≡ fresh facts.pool (lengths_of sizes) frames)
+
+abbrev pub facts_of_boot : {A : Type 0} → Boot A → BootFacts
+facts_of_boot boot = boot_facts boot.machine.now boot.menu.now boot.sizes.now
+
+-- the states of its phases
+abbrev pub state_in : {A : Type 0} → Boot A → (bytes : List ℕ) → Phase A → State
+state_in boot bytes phase = state_of boot.menu.now.attempts bytes phase
+
+abbrev pub running_in : {A : Type 0} → Boot A → (bytes : List ℕ) → Running A → State
+running_in boot bytes r = running_state boot.menu.now.attempts bytes r
+
+-- each file has at most the most bytes
+pub record HasSmallFiles (stage : Staging) : Type 0 where
+  pub all : All (λ size. size ≤ most_bytes) stage.sizes
+
+-- a piece did not come
+pub record LacksPiece (stage : Staging) : Type 0 where
+  pub lacks : ¬ AllCame stage
+
+-- what a session keeps of an attempt
+pub record IsWaiting {A : Type 0} (machine : MachineFacts) (menu : MenuFacts)
+    (r : Running A) : Type 0 where
+  pub entry : r.entry < length menu.entries
+  pub pool : r.stage.pool ≡ machine.pool
+  pub files : length r.stage.sizes ≡ length (entry_at menu r.entry).files
+  pub small : HasSmallFiles r.stage
+  pub number : length r.earlier.items < r.next
+  pub next : r.next ≤ length menu.attempts
+
+-- an attempt waits only while a piece is missing
+abbrev pub IsKept : {A : Type 0} → MachineFacts → MenuFacts → Phase A → Type 0
+IsKept machine menu Unstarted = Unit {0}
+IsKept machine menu (Waits r) = IsWaiting machine menu r × LacksPiece r.stage
+IsKept machine menu (HandedOver outcome) = EndsWithin machine.size outcome.handoff
+IsKept machine menu (Failed why) = Unit {0}

@@ -1,0 +1,101 @@
+//! A stage is begun: its tables, and the frames of its files.
+ghost use Rattle.std.specs.Prelude.{◌≡◌, ℕ, ◌+◌, ◌*◌, ◌<◌, ◌≤◌, ◌↔◌, length, slice_index, IfErr};
+ghost use Rattle.std.specs.Prelude.{◌/◌, ◌%◌, ◌^◌, IfOk, All, List, Err, map};
+ghost use Rattle.bl_map.specs.Room as room;
+ghost use Rattle.bl_stage.specs.Staged.{frames_for, AreStaged, fresh, AreApart};
+
+use crate::cell::Cell;
+use crate::fault::StageFault;
+use crate::stage::Stage;
+use crate::tables::{first_frames, frames_within, hold_all, numbers_of, starts_of};
+use bl_map::{FRAME, Machine, frames_in};
+use std::alloc::Allocator;
+use std::ops::Range;
+
+impl<A: Allocator + Copy> Stage<A> {
+    /// A stage in frames that are given by their numbers.
+    fn begin_in(
+        alloc: A,
+        pool: Range<u64>,
+        sizes: &[u64],
+        frames: Vec<u64, A>,
+    ) -> Result<Stage<A>, StageFault>
+        requires start { pool.start % 4096 ≡ 0 }
+        requires end { pool.end % 4096 ≡ 0 }
+        requires forward { pool.start ≤ pool.end }
+        requires few { pool.end < pool.start + 4096 * 2 ^ 32 }
+        requires all { length frames.items ≡ frames_for sizes.now }
+        requires low { (k : ℕ) → k < length frames.items
+            → pool.start / 4096 ≤ slice_index frames.items k }
+        requires high { (k : ℕ) → k < length frames.items
+            → slice_index frames.items k < pool.end / 4096 }
+        requires apart { AreApart frames.items }
+        ensures ok { IfOk result (λ stage. stage ≡ fresh pool sizes.now frames.items) }
+        ensures err { IfErr result (λ fault. fault ≡ StageFault.NoMemory) }
+    {
+        let base = pool.start / FRAME;
+        let empty = Cell {
+            holder: None,
+            shut: false,
+        };
+        let mut cells = Vec::from_elem(alloc, empty, frames_in(&pool) as usize)?;
+        hold_all(cells.as_mut_slice(), base, &frames);
+        let waiting = frames.len();
+        Ok(Stage {
+            base,
+            pool,
+            sizes: Vec::from_slice(alloc, sizes)?,
+            starts: starts_of(alloc, sizes)?,
+            frames,
+            came: Vec::from_elem(alloc, false, waiting)?,
+            cells,
+            waiting,
+        })
+    }
+
+    /// A stage in these frames, by their addresses, the first file's first: a call for tests. The
+    /// frames are whole ones of the pool, none named twice, as many as the files need. Its only
+    /// fault is `NoMemory`.
+    pub fn begin_at<B: Allocator>(
+        alloc: A,
+        machine: &Machine<B>,
+        sizes: &[u64],
+        frames: &[u64],
+    ) -> Result<Stage<A>, StageFault>
+        requires enough { length frames.now ≡ frames_for sizes.now }
+        requires whole { All (λ frame. frame % 4096 ≡ 0) frames.now }
+        requires inside { All (λ frame. (machine.now.pool.start ≤ frame)
+            × (frame < machine.now.pool.end)) frames.now }
+        requires apart { AreApart frames.now }
+        ensures ok { IfOk result (λ stage. stage
+            ≡ fresh machine.now.pool sizes.now (map (λ frame. frame / 4096) frames.now)) }
+        ensures err { IfErr result (λ fault. fault ≡ StageFault.NoMemory) }
+    {
+        let pool = machine.pool();
+        let numbers = numbers_of(alloc, frames)?;
+        Stage::begin_in(alloc, pool, sizes, numbers)
+    }
+
+    /// A stage for files of these sizes in bytes, in free frames of its own choice.
+    ///
+    /// - `NoPool`: the files need more frames than the pool has, each file its own whole frames.
+    /// - `NoMemory`: there was no memory for the tables.
+    pub fn begin<B: Allocator>(
+        alloc: A,
+        machine: &Machine<B>,
+        sizes: &[u64],
+    ) -> Result<Stage<A>, StageFault>
+        ensures no_pool { (result ≡ Err StageFault.NoPool)
+            ↔ (room.frames_in machine.now.pool < frames_for sizes.now) }
+        ensures ok { IfOk result (λ stage. (frames : List ℕ)
+            × (stage ≡ fresh machine.now.pool sizes.now frames)) }
+        ensures staged { IfOk result AreStaged }
+    {
+        let pool = machine.pool();
+        let Some(all) = frames_within(sizes, frames_in(&pool)) else {
+            return Err(StageFault::NoPool);
+        };
+        let frames = first_frames(alloc, pool.start / FRAME, all)?;
+        Stage::begin_in(alloc, pool, sizes, frames)
+    }
+}
