@@ -1,14 +1,19 @@
 mod FieldLemmas
+mod FieldTests
 mod HeadLemmas
 mod Listed
 mod ImageLaws
 mod KnownLemmas
 mod PartLemmas
 mod RecordLemmas
+mod SoundLemmas
+mod NoFaultLemmas
+mod FoundLemmas
 mod TotalLaws
 pub mod Inputs
 pub mod Ways
 pub mod Spelled
 pub mod NumberLemmas
+pub mod NumbersAgain
 pub mod ReadAgain
 mod FitLemmas

@@ -1,30 +1,21 @@
 -- Records, one behind the other.
-use Rattle.std.proofs.Common.{◌≡◌, ◌+◌, ◌-◌, ◌≤◌, ◌<◌, ◌^◌, ℕ, suc, true, List, [], ◌∷◌, ◌++◌}
-use Rattle.std.proofs.Common.{length, drop, All, Option, Some, None, refl, sym, ap, ◌∙◌, arith}
-use Rattle.std.proofs.Common.{append_assoc}
+use Rattle.std.proofs.Common.{◌≡◌, ◌+◌, ◌≤◌, ◌<◌, ◌^◌, ℕ, suc, true, List, [], ◌∷◌, ◌++◌, length}
+use Rattle.std.proofs.Common.{drop, Option, Some, None, refl, ap, ◌∙◌, arith, append_assoc}
 use Rattle.std.specs.Prelude.{nat_le, ◌&&◌}
-use Rattle.std.proofs.lemmas.List.{append-nil}
-use Rattle.std.proofs.lemmas.List.Elements.{All-append, All-cons, All-nil}
-use Rattle.std.proofs.lemmas.List.Concat.{flat_map-cons}
-use Rattle.std.proofs.lemmas.Grind.{flat_map-append}
 use Rattle.std.proofs.lemmas.Bool.Decides.{nat_tests}
-use Rattle.std.specs.List.{flat_map}
 use Rattle.bl_mem.specs.Words.{number_at, u64_at, u32_bytes, u64_bytes}
 use Rattle.bl_mem.proofs.WordLaws.{length-u32_bytes, length-u64_bytes, u64_again}
 use Rattle.bl_plan.specs.declared.part.Role.{Role}
 use Rattle.bl_plan.specs.declared.part.Place.{Place}
 use Rattle.bl_plan.specs.Roles as roles
-use Rattle.bl_plan.proofs.OrderLemmas.{AreRelated, pairs_related, related_pairs}
-use Rattle.bl_load.specs.HandoffFacts.{Ascends, AreRecords}
 use Rattle.bl_image.specs.declared.fault.ImageFault.{ImageFault}
 use Rattle.bl_image.specs.declared.fault.ImageFault.TheVariants.{BadMagic, BadVersion, BadHeader}
 use Rattle.bl_image.specs.declared.fault.ImageFault.TheVariants.{BadPart, WrongLength, DeviceFault}
 use Rattle.bl_image.specs.declared.fault.ImageFault.TheVariants.{NoMemory}
-use Rattle.bl_image.specs.RecordsKept.{place_record, IsNext, AreSound, bytes_at, PlaceFits}
+use Rattle.bl_image.specs.RecordsKept.{place_record, IsNext}
 use Rattle.bl_image.specs.Fields.{Field, fields_fault, record_fields, role_field, index_field}
 use Rattle.bl_image.specs.Fields.{address_field, length_field}
 use Rattle.bl_image.specs.ImageFaults.{first, record_fault, Before, and_record, parts_fault}
-use Rattle.bl_image.specs.ImageFaults.{none_before}
 use Rattle.bl_image.specs.Source.{Input, Shows, Refuses}
 use Rattle.bl_image.proofs.ReadAgain.{role_fits, role_between}
 use Rattle.bl_image.proofs.FieldLemmas.{field_passes, word_tells, long_tells}
@@ -174,93 +165,3 @@ parts_step n before p x next =
       length_at p x small,
       behind_record p x,
     ) refl
-
-pub bytes_at-more : (ps : List Place) (p : Place) → bytes_at (ps ++ p ∷ []) ≡ bytes_at ps + p.length
-bytes_at-more [] p = omega arith
-bytes_at-more (q ∷ ps) p = omega (arith, bytes_at-more ps p)
-
-pub came_more : (ps : List Place) (p : Place)
-    → flat_map place_record (ps ++ p ∷ []) ≡ flat_map place_record ps ++ place_record p
-came_more ps p =
-    flat_map-append place_record ps (p ∷ [])
-    ∙ ap (λ (l : List ℕ). flat_map place_record ps ++ l)
-    (flat_map-cons place_record p [] ∙ append-nil (place_record p))
-
--- what the records so far say
-abbrev pub so_far : ℕ → ℕ → List Place → Before
-so_far count end ps = record { count = count; end = end; bytes = bytes_at ps }
-
-pub judged_more : (count part : ℕ) (ps : List Place) (end : ℕ) (p : Place) → part < count
-    → IsNext end p
-    → ((bytes : List ℕ)
-    → parts_fault count none_before (flat_map place_record ps ++ bytes)
-    ≡ parts_fault (count - part) (so_far part end ps) bytes)
-    → (bytes : List ℕ)
-    → parts_fault count none_before (flat_map place_record (ps ++ p ∷ []) ++ bytes)
-    ≡ parts_fault (count - (part + 1)) (so_far (part + 1) (p.address + p.length) (ps ++ p ∷ []))
-    bytes
-judged_more count part ps end p inside next judged bytes =
-    let left : count - part ≡ suc (count - (part + 1)) = omega arith in
-    ap (λ (l : List ℕ). parts_fault count none_before (l ++ bytes)) (came_more ps p)
-    ∙ ap (parts_fault count none_before)
-    (append_assoc (flat_map place_record ps) (place_record p) bytes)
-    ∙ judged (place_record p ++ bytes)
-    ∙ ap (λ (n : ℕ). parts_fault n (so_far part end ps) (place_record p ++ bytes)) left
-    ∙ parts_step (count - (part + 1)) (so_far part end ps) p bytes next
-    ∙ ap
-    (λ (n : ℕ).
-    parts_fault (count - (part + 1))
-    (record { count = part + 1; end = p.address + p.length; bytes = n }) bytes)
-    (sym (bytes_at-more ps p))
-
-related_more : {X : Type 0} (R : X → X → Type 0) (xs : List X) (y : X) → AreRelated R xs
-    → All (λ x. R x y) xs → AreRelated R (xs ++ y ∷ [])
-related_more R [] y h a = (All-nil (R y), tt)
-related_more R (x ∷ xs) y h a = (
-  All-append (R x) xs (y ∷ []) h.0 (All-cons (R x) y [] (a 0 y (omega arith)) (All-nil (R x))),
-  related_more R xs y h.1 (λ k d within. a (suc k) d (omega arith)),
-)
-
-one_more : (P : Place → Type 0) (ps : List Place) (p : Place) → All P ps → P p
-    → All P (ps ++ p ∷ [])
-one_more P ps p all h = All-append P ps (p ∷ []) all (All-cons P p [] h (All-nil P))
-
-pub none_sound : AreSound [] 0
-none_sound = record {
-  filled = All-nil _;
-  below = All-nil _;
-  upto = All-nil _;
-  ascending = λ i j d ij within. absurd (omega arith);
-  fit = All-nil _;
-}
-
-pub sound_more : (ps : List Place) (end : ℕ) (p : Place) → AreSound ps end → IsNext end p
-    → AreSound (ps ++ p ∷ []) (p.address + p.length)
-sound_more ps end p sound next =
-    let above : end ≤ p.address = next.above in
-    let below : p.address + p.length ≤ 2 ^ 32 = next.below in
-    let behind : All (λ (q : Place). Ascends q p) ps =
-    λ k d within. let upto = sound.upto k d within in omega arith in
-    let old : All (λ (q : Place). q.address + q.length ≤ p.address + p.length) ps =
-    λ k d within. let upto = sound.upto k d within in omega arith in
-    record {
-      filled = one_more (λ (q : Place). 1 ≤ q.length) ps p sound.filled next.filled;
-      below = one_more (λ (q : Place). q.address + q.length ≤ 2 ^ 32) ps p sound.below next.below;
-      upto =
-          one_more (λ (q : Place). q.address + q.length ≤ p.address + p.length) ps p old
-          (omega arith);
-      ascending =
-          related_pairs Ascends (ps ++ p ∷ [])
-          (related_more Ascends ps p (pairs_related Ascends ps sound.ascending) behind);
-      fit =
-          one_more PlaceFits ps p sound.fit
-          (record { index = next.index; address = omega arith; count = omega arith });
-    }
-
-pub sound_records : (ps : List Place) (end : ℕ) → length ps ≤ 256 → AreSound ps end → AreRecords ps
-sound_records ps end few sound = record {
-  few = few;
-  filled = sound.filled;
-  below = sound.below;
-  ascending = sound.ascending;
-}

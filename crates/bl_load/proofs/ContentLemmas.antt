@@ -9,9 +9,10 @@ use Rattle.bl_plan.specs.Order.{segment_key, ascending}
 use Rattle.bl_load.specs.Parts.{kernel_content}
 use Rattle.bl_load.specs.Loadable.{IsCopied, SegmentsAscend}
 use Rattle.bl_load.specs.PlacingKept.{HasKernelLength}
-use Rattle.bl_plan.proofs.OrderLemmas.{in_order_all, length-in_order}
-use Rattle.bl_load.proofs.SortedLemmas.{same_block, same_span, ascending_ascends, low_below}
-use Rattle.bl_load.proofs.SortedLemmas.{high_above_all}
+use Rattle.bl_plan.proofs.OrderLemmas.{in_order_all}
+use Rattle.bl_plan.proofs.OrderCountLemmas.{length-in_order}
+use Rattle.bl_load.proofs.SpanLemmas.{same_span}
+use Rattle.bl_load.proofs.SortedLemmas.{same_block, ascending_ascends, low_below, high_above_all}
 
 -- the content is the kernel's
 pub block_content : (file : List ℕ) (segments items : List Segment) (r : Relocation)

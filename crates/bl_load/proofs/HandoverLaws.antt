@@ -4,7 +4,7 @@ use Rattle.std.proofs.lemmas.Option.{same_Some}
 use Rattle.bl_map.specs.MachineFacts.{MachineFacts}
 use Rattle.bl_plan.specs.Placed.{ArePlaced}
 use Rattle.bl_plan.specs.declared.part.Row.{Row}
-use Rattle.bl_plan.proofs.PlaceLaws as places
+use Rattle.bl_plan.proofs.OneListLaws as places
 use Rattle.bl_load.specs.declared.refusal.Refusal.{Refusal}
 use Rattle.bl_load.specs.Value.{EntryValue, lines_fault, lines_of}
 use Rattle.bl_load.specs.Reading.{Reading, HasReadFault}

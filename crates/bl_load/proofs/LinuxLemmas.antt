@@ -30,7 +30,8 @@ use Rattle.bl_load.specs.Reading.{linux}
 use Rattle.bl_load.specs.Rows.{rows_of}
 use Rattle.bl_load.specs.Value.{EntryValue, initrd_file}
 use Rattle.bl_load.proofs.RowLemmas.{some_frames}
-use Rattle.bl_load.proofs.RowPlaceLemmas.{Anywhere, each_place, records}
+use Rattle.bl_load.proofs.RowPlaceLemmas.{Anywhere, each_place}
+use Rattle.bl_load.proofs.PlaceBoundLemmas.{records}
 
 -- ---- they are rows
 

@@ -1,144 +1,18 @@
 -- A kernel's file is read in one way, or has one first fault, and never both.
-use Rattle.std.proofs.Common.{◌≡◌, ℕ, List, Option, Some, None, sym, ap, subst, ◌∙◌, inl, inr}
+use Rattle.std.proofs.Common.{◌≡◌, ℕ, List, Some, None, sym, ap, ◌∙◌, inl, inr}
 use Rattle.std.proofs.lemmas.Option.{same_Some}
-use Rattle.bl_mem.specs.declared.segment.Segment.{Segment}
 use Rattle.bl_map.specs.MachineFacts.{MachineFacts}
 use Rattle.bl_map.specs.declared.region.Region.{Region}
 use Rattle.bl_bzimage.specs.Setup.{IsSetup, setup_fault}
 use Rattle.bl_bzimage.specs.declared.fault.SetupFault.{SetupFault}
 use Rattle.bl_bzimage.specs.declared.setup.Setup.{Setup}
-use Rattle.bl_elf.specs.Elf.{ElfFacts}
-use Rattle.bl_elf.specs.declared.fault.ElfFault.{ElfFault}
-use Rattle.bl_elf.specs.declared.fault.ElfFault.TheVariants as elf_fault
-use Rattle.bl_elf.proofs.ElfLaws.{elf_is_determined, fault_is_determined, elf_not_fault}
-use Rattle.bl_mb2head.specs.Header.{IsHeader}
-use Rattle.bl_mb2head.specs.declared.header.Header.{Header}
-use Rattle.bl_mb2head.specs.declared.relocation.Relocation.{Relocation}
-use Rattle.bl_mb2head.proofs.HeaderLaws as headers
 use Rattle.bl_plan.specs.declared.protocol.Protocol.{Protocol}
 use Rattle.bl_plan.specs.declared.protocol.Protocol.TheVariants as protocol
 use Rattle.bl_load.specs.declared.refusal.Refusal.{Refusal}
 use Rattle.bl_load.specs.Value.{EntryValue, kernel_file}
 use Rattle.bl_load.specs.Reading.{Reading, multiboot2, linux, IsRead, HasReadFault}
-use Rattle.bl_load.specs.Kernel.{KernelFacts, IsLoadedBy, IsKernel, HasLoadFault, HasKernelFault}
-use Rattle.bl_load.specs.Kernel.{entry_fault, counted_entry, head_refusal, elf_refusal}
 use Rattle.bl_load.specs.Linux.{IsLinuxKernel, HasLinuxFault, setup_refusal, telling_fault}
-
--- ---- a Multiboot2 kernel's file
-
--- a header leads to one list of segments and one entry
-one_loaded : (file : List ℕ) (segment : Option Segment) (f g : ElfFacts) → IsLoadedBy file segment f
-    → IsLoadedBy file segment g → f ≡ g
-one_loaded file (Some segment) f g a b = a ∙ sym b
-one_loaded file None f g a b = elf_is_determined file f g a b
-
--- two headers of a file are one, and so is what they lead to
-same_header : (file : List ℕ) (h k : Header) → IsHeader file h → IsHeader file k → k ≡ h
-same_header file h k a b = headers.one_header file k h b a
-
-same_loaded : (file : List ℕ) (h k : Header) (f g : ElfFacts) → IsHeader file h → IsHeader file k
-    → IsLoadedBy file h.segment f → IsLoadedBy file k.segment g → g ≡ f
-same_loaded file h k f g is_h is_k a b =
-    one_loaded file h.segment g f
-    (subst (λ (x : Header). IsLoadedBy file x.segment g) (same_header file h k is_h is_k) b) a
-
-kernel_from : List Segment → ℕ → Option Relocation → KernelFacts
-kernel_from segments entry relocation =
-    record { segments = segments; entry = entry; relocation = relocation }
-
-same_kernel : (a b : KernelFacts) → a.segments ≡ b.segments → a.entry ≡ b.entry
-    → a.relocation ≡ b.relocation → a ≡ b
-unfolding kernel_from
-same_kernel a b segments entry relocation =
-    ap (λ (s : List Segment). kernel_from s a.entry a.relocation) segments
-    ∙ ap (λ (e : ℕ). kernel_from b.segments e a.relocation) entry
-    ∙ ap (λ (r : Option Relocation). kernel_from b.segments b.entry r) relocation
-
--- a file is one kernel
-one_kernel : (file : List ℕ) (a b : KernelFacts) → IsKernel file a → IsKernel file b → a ≡ b
-one_kernel file a b is_a is_b =
-    let header : is_b.header ≡ is_a.header =
-    same_header file is_a.header is_b.header is_a.is_header is_b.is_header in
-    let facts : is_b.facts ≡ is_a.facts =
-    same_loaded file is_a.header is_b.header is_a.facts is_b.facts is_a.is_header is_b.is_header
-    is_a.loaded is_b.loaded in
-    let entry : counted_entry is_a.header is_a.facts ≡ Some b.entry =
-    sym (ap (λ (h : Header). counted_entry h is_a.facts) header)
-    ∙ sym (ap (λ (f : ElfFacts). counted_entry is_b.header f) facts) ∙ is_b.entry in
-    same_kernel a b
-    (is_a.segments ∙ sym (ap (λ (f : ElfFacts). f.segments) facts) ∙ sym is_b.segments)
-    (same_Some a.entry b.entry (sym is_a.entry ∙ entry))
-    (is_a.relocation ∙ sym (ap (λ (h : Header). h.relocation) header) ∙ sym is_b.relocation)
-
--- a fault that refuses is no want of memory
-refuses : (fault : ElfFault) (r : Refusal) → elf_refusal fault ≡ Some r
-    → ¬ (fault ≡ elf_fault.NoMemory)
-refuses fault r h = λ none. let bad : None ≡ Some r = sym (ap elf_refusal none) ∙ h in absurd cc
-
-one_load_fault : (file : List ℕ) (segment : Option Segment) (r s : Refusal)
-    → HasLoadFault file segment r → HasLoadFault file segment s → r ≡ s
-one_load_fault file (Some segment) r s a b = absurd a
-one_load_fault file None r s (f, f_is, a) (g, g_is, b) =
-    let same = fault_is_determined file f g (refuses f r f_is) (refuses g s g_is) a b in
-    same_Some r s (sym f_is ∙ ap elf_refusal same ∙ g_is)
-
--- what is loaded has no fault
-loaded_no_fault : (file : List ℕ) (segment : Option Segment) (facts : ElfFacts) (r : Refusal)
-    → IsLoadedBy file segment facts → HasLoadFault file segment r → ⊥
-loaded_no_fault file (Some segment) facts r is has = has
-loaded_no_fault file None facts r is (f, f_is, a) =
-    elf_not_fault file facts f (refuses f r f_is) is a
-
--- where its header leads to a fault, a file has nothing to load
-sound_no_fault : (file : List ℕ) (h k : Header) (facts : ElfFacts) (r : Refusal) → IsHeader file h
-    → IsHeader file k → IsLoadedBy file h.segment facts → HasLoadFault file k.segment r → ⊥
-sound_no_fault file h k facts r is_h is_k is has =
-    loaded_no_fault file h.segment facts r is
-    (subst (λ (x : Header). HasLoadFault file x.segment r) (same_header file h k is_h is_k) has)
-
-same_entry_fault : (file : List ℕ) (h k : Header) (f g : ElfFacts) → IsHeader file h
-    → IsHeader file k → IsLoadedBy file h.segment f → IsLoadedBy file k.segment g
-    → entry_fault f.segments (counted_entry h f) ≡ entry_fault g.segments (counted_entry k g)
-same_entry_fault file h k f g is_h is_k a b =
-    ap (λ (x : Header). entry_fault f.segments (counted_entry x f))
-    (sym (same_header file h k is_h is_k))
-    ∙ ap (λ (x : ElfFacts). entry_fault x.segments (counted_entry k x))
-    (sym (same_loaded file h k f g is_h is_k a b))
-
--- or it has one first fault
-one_kernel_fault : (file : List ℕ) (r s : Refusal) → HasKernelFault file r → HasKernelFault file s
-    → r ≡ s
-one_kernel_fault file r s (inl (f, a, r_is)) (inl (g, b, s_is)) =
-    r_is ∙ ap head_refusal (headers.one_fault file f g a b) ∙ sym s_is
-one_kernel_fault file r s (inl (f, a, r_is)) (inr (inl (h, is, load))) =
-    absurd (headers.not_both file h f is a)
-one_kernel_fault file r s (inl (f, a, r_is)) (inr (inr (h, facts, is, loaded, b))) =
-    absurd (headers.not_both file h f is a)
-one_kernel_fault file r s (inr (inl (h, is, load))) (inl (g, b, s_is)) =
-    absurd (headers.not_both file h g is b)
-one_kernel_fault file r s (inr (inl (h, is_h, a))) (inr (inl (k, is_k, b))) =
-    one_load_fault file h.segment r s a
-    (subst (λ (x : Header). HasLoadFault file x.segment s) (same_header file h k is_h is_k) b)
-one_kernel_fault file r s (inr (inl (h, is_h, a))) (inr (inr (k, facts, is_k, loaded, b))) =
-    absurd (sound_no_fault file k h facts r is_k is_h loaded a)
-one_kernel_fault file r s (inr (inr (h, facts, is, loaded, a))) (inl (g, b, s_is)) =
-    absurd (headers.not_both file h g is b)
-one_kernel_fault file r s (inr (inr (h, facts, is_h, loaded, a))) (inr (inl (k, is_k, b))) =
-    absurd (sound_no_fault file h k facts s is_h is_k loaded b)
-one_kernel_fault file r s (inr (inr (h, f, is_h, f_is, a))) (inr (inr (k, g, is_k, g_is, b))) =
-    same_Some r s (sym a ∙ same_entry_fault file h k f g is_h is_k f_is g_is ∙ b)
-
--- and never both
-kernel_not_fault : (file : List ℕ) (kernel : KernelFacts) (r : Refusal) → IsKernel file kernel
-    → HasKernelFault file r → ⊥
-kernel_not_fault file kernel r is (inl (f, a, r_is)) =
-    headers.not_both file is.header f is.is_header a
-kernel_not_fault file kernel r is (inr (inl (h, is_h, a))) =
-    sound_no_fault file is.header h is.facts r is.is_header is_h is.loaded a
-kernel_not_fault file kernel r is (inr (inr (h, f, is_h, f_is, a))) =
-    let bad : None ≡ Some r =
-    sym is.sound ∙ same_entry_fault file is.header h is.facts f is.is_header is_h is.loaded f_is
-    ∙ a in absurd cc
+use Rattle.bl_load.proofs.OneKernelLaws.{one_kernel, one_kernel_fault, kernel_not_fault}
 
 -- ---- a Linux kernel's file
 

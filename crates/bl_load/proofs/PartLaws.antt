@@ -17,7 +17,7 @@ use Rattle.bl_load.specs.Parts.{IsHandover, part_from}
 use Rattle.bl_load.proofs.HeldLemmas.{AllPairs-map}
 use Rattle.bl_plan.proofs.OrderLemmas.{in_order_all}
 use Rattle.bl_load.proofs.ReadingLaws.{reading_rows, reading_rowed, reading_short}
-use Rattle.bl_load.proofs.RowPlaceLemmas.{are_filled, in_order_ascends}
+use Rattle.bl_load.proofs.PlaceBoundLemmas.{are_filled, in_order_ascends}
 
 length-filled : (count : ℕ) (content : List ℕ) → length content ≤ count
     → length (filled count content) ≡ count

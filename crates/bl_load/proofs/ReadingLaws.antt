@@ -33,7 +33,8 @@ use Rattle.bl_load.proofs.LinuxLemmas.{linux_rows_are_rows, linux_few, linux_row
 use Rattle.bl_load.proofs.LinuxLemmas.{linux_no_overlap}
 use Rattle.bl_load.proofs.OverlapLemmas.{no_overlap}
 use Rattle.bl_load.proofs.RowLemmas.{kernel_rows_are_rows, few_places, some_frames}
-use Rattle.bl_load.proofs.RowPlaceLemmas.{each_rowed, records}
+use Rattle.bl_load.proofs.RowPlaceLemmas.{each_rowed}
+use Rattle.bl_load.proofs.PlaceBoundLemmas.{records}
 
 -- ---- its rows
 

@@ -15,8 +15,9 @@ use Rattle.bl_load.specs.ReadKept.{HasFiles, FitsTold, CanEnter}
 use Rattle.bl_load.specs.Value.{EntryValue, kernel_file, initrd_file}
 use Rattle.bl_load.proofs.EntryLemmas.{entry_small}
 use Rattle.bl_load.proofs.LinuxToldLemmas.{linux_as_placed, linux_as_fault, initrd_fits}
-use Rattle.bl_load.proofs.LinuxToldLemmas.{told_linux_rows_are}
-use Rattle.bl_load.proofs.ModuleLemmas.{as_placed, placing_fault, modules_end_low}
+use Rattle.bl_load.proofs.LinuxToldRows.{told_linux_rows_are}
+use Rattle.bl_load.proofs.NoRoomLemmas.{as_placed, placing_fault}
+use Rattle.bl_load.proofs.ModuleLemmas.{modules_end_low}
 use Rattle.bl_load.proofs.RowLemmas.{told_rows_are_rows}
 
 module _ (facts : MachineFacts) (value : EntryValue) where

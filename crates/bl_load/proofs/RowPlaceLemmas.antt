@@ -1,21 +1,18 @@
 -- What the places of an entry's rows have.
-use Rattle.std.proofs.Common.{◌++◌, ◌≡◌, ◌<◌, ◌≤◌, ◌+◌, ◌-◌, ◌^◌, ℕ, suc, List, [], ◌∷◌, length}
-use Rattle.std.proofs.Common.{get_or, Option, Some, None, arith, refl, sym, ap, subst, ◌∙◌, All}
-use Rattle.std.proofs.Common.{AllPairs, inl, inr}
+use Rattle.std.proofs.Common.{◌++◌, ◌≡◌, ◌<◌, ◌≤◌, ◌+◌, ℕ, suc, List, [], ◌∷◌, length, get_or}
+use Rattle.std.proofs.Common.{Option, Some, None, arith, refl, sym, ap, subst, ◌∙◌, All}
 use Rattle.std.proofs.lemmas.List.{get_or_default}
 use Rattle.std.proofs.lemmas.List.Elements.{All-nil, All-cons, All-head, All-tail, All-append}
-use Rattle.std.proofs.lemmas.Bool.{cases_lt}
 use Rattle.std.specs.declared.ops.Range.{Range}
 use Rattle.bl_mem.specs.declared.segment.Segment.{Segment}
 use Rattle.bl_map.specs.MachineFacts.{MachineFacts}
 use Rattle.bl_mb2head.specs.declared.relocation.Relocation.{Relocation}
 use Rattle.bl_plan.specs.Planned.{put_in}
-use Rattle.bl_plan.specs.Placed.{ArePlaced, IsRow, IsApart, place_at, range_of}
+use Rattle.bl_plan.specs.Placed.{ArePlaced, place_at, range_of}
 use Rattle.bl_plan.specs.declared.part.Choice.TheVariants.{Fixed}
 use Rattle.bl_plan.specs.declared.part.Row.{Row}
 use Rattle.bl_plan.specs.declared.part.Place.{Place}
 use Rattle.bl_plan.specs.declared.part.Role.TheVariants.{Kernel}
-use Rattle.bl_plan.proofs.PlaceLaws.{all_usable, all_apart}
 use Rattle.bl_load.specs.Value.{EntryValue}
 use Rattle.bl_load.specs.Reading.{multiboot2}
 use Rattle.bl_load.specs.Kernel.{KernelFacts}
@@ -24,10 +21,6 @@ use Rattle.bl_load.specs.Rows.{segment_rows, block_choice, kernel_rows, informat
 use Rattle.bl_load.specs.Rows.{module_rows}
 use Rattle.bl_load.specs.Parts.{no_segment}
 use Rattle.bl_load.specs.PlacingKept.{HasKernelLength, IsRowed}
-use Rattle.bl_plan.specs.Order.{place_key, in_order}
-use Rattle.bl_load.specs.HandoffFacts.{Ascends, AreRecords, most_parts}
-use Rattle.bl_plan.proofs.OrderLemmas.{in_order_all, in_order_pairs, in_order_sorted}
-use Rattle.bl_plan.proofs.OrderLemmas.{length-in_order}
 
 -- ---- each place has what its row has
 
@@ -135,78 +128,3 @@ pub each_rowed : (facts : MachineFacts) (value : EntryValue) (kernel : KernelFac
 each_rowed facts value kernel taken places placed =
     each_place facts (IsRowed facts value (multiboot2 kernel)) taken
     (rows_of facts value (multiboot2 kernel)) places (rows_rowed facts value kernel) placed
-
--- ---- where they lie
-
-abbrev IsFilled : Place → Type 0
-IsFilled place = 1 ≤ place.length
-
-filled_anywhere : (row : Row) → IsRow row → Anywhere IsFilled row
-filled_anywhere row is a = is.filled
-
--- each place has some bytes
-pub are_filled : (facts : MachineFacts) (taken : List (Range ℕ)) (rows : List Row)
-    (places : List Place) → ArePlaced facts taken rows places → All IsRow rows → All IsFilled places
-are_filled facts taken rows places placed are =
-    each_place facts IsFilled taken rows places
-    (λ i d within. filled_anywhere (get_or rows i d) (are i d within)) placed
-
--- each lies inside memory
-pub are_inside : (facts : MachineFacts) (taken : List (Range ℕ)) (rows : List Row)
-    (places : List Place) → ArePlaced facts taken rows places → All IsRow rows
-    → All (λ p. p.address + p.length ≤ facts.size) places
-are_inside facts taken rows places placed are i d within =
-    let p = get_or places i d in
-    let some = are_filled facts taken rows places placed are i d within in
-    let last =
-    (all_usable facts taken rows places placed i d within (p.address + p.length - 1)
-    (omega arith) (omega arith)).in_size in
-    omega arith
-
--- and below the last frame of 4 GiB
-pub are_below : (facts : MachineFacts) (taken : List (Range ℕ)) (rows : List Row)
-    (places : List Place) → ArePlaced facts taken rows places → All IsRow rows
-    → All (λ p. p.address + p.length ≤ 0xFFFFF000) places
-are_below facts taken rows places placed are i d within =
-    let p = get_or places i d in
-    let some = are_filled facts taken rows places placed are i d within in
-    let last =
-    (all_usable facts taken rows places placed i d within (p.address + p.length - 1)
-    (omega arith) (omega arith)).below in
-    omega arith
-
--- ---- in address order
-
-apart_back : (p q : Place) → IsApart p q → IsApart q p
-apart_back p q h = λ a x y. h a y x
-
--- places that are apart and not empty ascend once they are in order
-pub in_order_ascends : (places : List Place) → All IsFilled places → AllPairs IsApart places
-    → AllPairs Ascends (in_order places)
-in_order_ascends places filled apart i j d ij within =
-    let sorted = in_order places in
-    let some = in_order_all place_key IsFilled places filled j d within in
-    let order = in_order_sorted place_key places i j d ij within in
-    let other = in_order_pairs place_key IsApart apart_back places apart i j d ij within in
-    elim (cases_lt (get_or sorted j d).address
-    ((get_or sorted i d).address + (get_or sorted i d).length)) [
-      | inl meet ↦
-          absurd (other (get_or sorted j d).address (order, meet) (omega arith, omega arith))
-      | inr free ↦ free
-    ]
-
--- at most 256 places of rows are those of records
-pub records : (facts : MachineFacts) (rows : List Row) (places : List Place) → All IsRow rows
-    → length places ≤ most_parts → ArePlaced facts [] rows places → AreRecords (in_order places)
-records facts rows places are few placed =
-    let filled = are_filled facts [] rows places placed are in
-    let same = length-in_order place_key places in
-    record {
-      few = omega (arith, few, same);
-      filled = in_order_all place_key IsFilled places filled;
-      below =
-          in_order_all place_key (λ (p : Place). p.address + p.length ≤ 2 ^ 32) places
-          (λ i d within. let low = are_below facts [] rows places placed are i d within in
-          omega arith);
-      ascending = in_order_ascends places filled (all_apart facts [] rows places placed);
-    }

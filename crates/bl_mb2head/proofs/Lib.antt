@@ -5,4 +5,5 @@ pub mod PlaceLemmas
 pub mod SegmentLaws
 pub mod TagLaws
 pub mod TagLemmas
+pub mod TagTotalLaws
 pub mod TotalLaws

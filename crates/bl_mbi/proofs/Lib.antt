@@ -1,10 +1,12 @@
 pub mod BodyIs
+pub mod MapBodyIs
 pub mod BodyLaws
 pub mod GroupLemmas
 pub mod InfoIs
 pub mod Inverse
 pub mod ModuleLemmas
 pub mod Pieces
+pub mod TagsAgain
 pub mod ReadAgain
 pub mod ReadIs
 pub mod ReadLaws

@@ -20,7 +20,8 @@ use Rattle.bl_mbi.specs.Reading.{text_tag_at, module_at, modules_upto, modules_a
 use Rattle.bl_mbi.specs.Reading.{map_at, copy_at, load_base_at, end_at}
 use Rattle.bl_mbi.proofs.Inverse.{passed, passed_last, made, not_bad, chosen, same_ok}
 use Rattle.bl_mbi.proofs.TagIs.{IsRead, tag_is}
-use Rattle.bl_mbi.proofs.BodyIs.{text_is, module_is, memory_is, map_is, load_base_is}
+use Rattle.bl_mbi.proofs.BodyIs.{text_is, module_is, memory_is, load_base_is}
+use Rattle.bl_mbi.proofs.MapBodyIs.{map_is}
 
 -- nothing was read
 nothing_read : (left : Left) → AreBytes left.bytes → IsRead left [] left

@@ -3,4 +3,5 @@ pub mod ReadLemmas
 pub mod WordLaws
 pub mod LeastLaws
 pub mod ChunkLemmas
+pub mod ValueLemmas
 pub mod SparseLemmas

@@ -116,7 +116,7 @@ impl<A: Allocator + Copy> Sparse<A> {
     }
 }
 
-#[tactic(auto, using(crate::proofs::SparseLemmas::bytes_of_length))]
+#[tactic(auto, using(crate::proofs::ValueLemmas::bytes_of_length))]
 impl<A: Allocator + Copy> PhysMem for Sparse<A> {
     ghost bytes = { λ memory. bytes_of memory.chunks memory.fill memory.size };
 

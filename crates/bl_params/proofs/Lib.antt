@@ -1,8 +1,12 @@
 pub mod OverLemmas
 pub mod EntryLemmas
 pub mod FormLemmas
+pub mod HeaderFormLemmas
 pub mod EntriesRead
 pub mod WriteLemmas
+pub mod EntriesTold
+pub mod RegionLemmas
+pub mod WrittenFields
 pub mod WrittenIsRead
 pub mod ParamsLaws
 pub mod Lengths

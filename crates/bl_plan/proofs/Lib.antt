@@ -4,8 +4,10 @@ pub mod ApartLemmas
 pub mod BlockLemmas
 pub mod SearchLemmas
 pub mod OrderLemmas
+pub mod OrderCountLemmas
 pub mod PutLemmas
 pub mod PlaceLemmas
+pub mod OneListLaws
 pub mod PlaceLaws
 pub mod DecidedLemmas
 pub mod TotalLaws

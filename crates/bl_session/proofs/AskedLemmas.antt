@@ -13,7 +13,8 @@ use Rattle.bl_session.specs.Boot.{BootFacts, EventFacts, State, unstarted, runni
 use Rattle.bl_session.specs.Boot.{none_left, out_of_memory, Steps, attempt_of}
 use Rattle.bl_session.specs.History.{Item, file_under}
 use Rattle.bl_session.specs.Orders.{ticket_of, orders, orders_after}
-use Rattle.bl_session.proofs.OrderLemmas.{file_both, found_files}
+use Rattle.bl_session.proofs.TicketLemmas.{file_both}
+use Rattle.bl_session.proofs.OrderLemmas.{found_files}
 use Rattle.bl_session.proofs.AwaitedLemmas.{as_many_files, as_many_pieces}
 use Rattle.bl_session.proofs.WentLemmas.{IsNewFrom, step_went, fresh_length}
 

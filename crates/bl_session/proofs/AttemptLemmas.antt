@@ -15,7 +15,7 @@ use Rattle.bl_session.specs.Pieces.{are_whole, awaited}
 use Rattle.bl_session.specs.PhasesKept.{IsFresh}
 use Rattle.bl_session.specs.Attempt.{IsAttempt, IsBegun, IsRefusedFor}
 use Rattle.bl_session.specs.declared.attempting.Attempt.{Attempt}
-use Rattle.bl_session.proofs.SpotLemmas.{first_awaited, whole_came, whole_texts}
+use Rattle.bl_session.proofs.WholeLemmas.{first_awaited, whole_came, whole_texts}
 
 -- its value once its files hold these texts
 pub value_is : {A : Type 0} (entry : Entry A) (texts : List (List ℕ))

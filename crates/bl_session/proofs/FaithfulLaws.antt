@@ -11,7 +11,8 @@ use Rattle.bl_session.specs.Run.{World, IsEventOf, IsGenuineItem, AreGenuine, Is
 use Rattle.bl_session.specs.Faithful.{IsFaithfulItem, IsFaithfulAfter, IsFaithful}
 use Rattle.bl_session.proofs.SteadyLemmas.{Steady, steady_new}
 use Rattle.bl_session.proofs.WentLemmas.{new_begins}
-use Rattle.bl_session.proofs.HeardLemmas.{hear_any, tell_true}
+use Rattle.bl_session.proofs.AwaitedAnswers.{tell_true}
+use Rattle.bl_session.proofs.HeardLemmas.{hear_any}
 
 module _ (facts : BootFacts) (files : List File) (known : facts.sizes ≡ map size_of files) where
   genuine_one : (state : State) (given : List Item) (item : Item) (event : EventFacts)

@@ -1,198 +1,18 @@
 -- A history whose wanted pieces are marked is genuine, with the faults that came of it.
-use Rattle.std.proofs.Common.{◌≡◌, ℕ, ◌+◌, ◌≤◌, Bool, true, false, MatchBool, List, [], ◌∷◌, ◌++◌}
-use Rattle.std.proofs.Common.{length, None, refl, sym, ap, subst, ◌∙◌, inl, inr, arith}
-use Rattle.bl_stage.specs.Spots.{Spot}
-use Rattle.bl_session.specs.declared.words.RefusedEntry.{RefusedEntry}
+use Rattle.std.proofs.Common.{◌≡◌, List, [], ◌∷◌, ◌++◌, None, refl, sym, ap, subst, ◌∙◌, inl, inr}
 use Rattle.bl_session.specs.Boot.{BootFacts, EventFacts, State, unstarted, running, handed_over}
-use Rattle.bl_session.specs.Boot.{none_left, out_of_memory, is_wanted, Takes, Steps, StartsOrFails}
+use Rattle.bl_session.specs.Boot.{none_left, out_of_memory, StartsOrFails}
 use Rattle.bl_session.specs.Outcome.{File, Faults}
 use Rattle.bl_session.specs.History.{Item}
-use Rattle.bl_session.specs.Orders.{orders, orders_after}
-use Rattle.bl_session.specs.Run.{IsAnswer, IsEventOf, World, world_of, Hears, Reads, IsRun}
-use Rattle.bl_session.specs.Run.{IsMarked, AreToldFaults, IsGenuineItem, AreGenuine, IsGenuineRun}
+use Rattle.bl_session.specs.Orders.{orders}
+use Rattle.bl_session.specs.Run.{IsEventOf, World, world_of, Hears, Reads, IsRun, AreGenuine}
+use Rattle.bl_session.specs.Run.{IsGenuineRun}
 use Rattle.bl_session.specs.Marked.{IsMarkedItem, AreMarked, IsMarkedRun}
-use Rattle.bl_session.proofs.BootLaws.{one_step, one_start}
-use Rattle.bl_session.proofs.WentLemmas.{IsNewFrom}
-use Rattle.bl_session.proofs.LostLemmas.{LacksMemory, lost_step, hears_nothing, reads_nothing}
-use Rattle.bl_session.proofs.FaultLemmas.{one_event, is_last, told, are_told, with_fault, at_fault}
-use Rattle.bl_session.proofs.FaultLemmas.{past_fault, last_new, goes_on}
+use Rattle.bl_session.proofs.BootLaws.{one_start}
+use Rattle.bl_session.proofs.LostLemmas.{lost_step, reads_nothing}
+use Rattle.bl_session.proofs.FaultEventLemmas.{IsFrom, Fits, lost_genuine, taken, lost_last}
 
 module _ (facts : BootFacts) (files : List File) where
-  -- ---- faults from an attempt on
-
-  -- the attempt of this number is that which runs, or comes later
-  abbrev IsFrom : State → ℕ → Type 0
-  IsFrom unstarted n = ⊥
-  IsFrom (running entry rest earlier spots) n = length earlier ≤ n
-  IsFrom (handed_over entry earlier handover) n = ⊥
-  IsFrom (none_left earlier) n = ⊥
-  IsFrom out_of_memory n = ⊥
-
-  from_new : (count number : ℕ) (state : State) (n : ℕ) → IsNewFrom facts count number state
-      → IsFrom state n → number ≤ n
-  from_new count number unstarted n is from = absurd from
-  from_new count number (running entry rest earlier spots) n is from =
-      let low = is.0 in omega (arith, low, from)
-  from_new count number (handed_over entry earlier handover) n is from = absurd from
-  from_new count number (none_left earlier) n is from = absurd from
-  from_new count number out_of_memory n is from = absurd from
-
-  -- some faults, which count only from the attempt that runs, make these items genuine
-  abbrev Fits : List Item → World → List Item → Type 0
-  Fits given world items =
-      (faults : Faults)
-      × ((others : Faults) → ((n : ℕ) → IsFrom world.state n → others n ≡ faults n)
-      → AreGenuine facts files others given world items)
-
-  -- ---- want of memory
-
-  lost_genuine : (others : Faults) (items given : List Item) (world : World) → LacksMemory world
-      → AreGenuine facts files others given world items
-  lost_genuine others [] given world lost = tt
-  lost_genuine others (item ∷ items) given world lost = (
-    λ event e is. subst (λ (s : State). IsGenuineItem others s item event) (sym lost.0) tt,
-    λ next hears. absurd (hears_nothing facts files given world item next lost hears),
-  )
-
-  -- ---- one answer of an attempt that runs
-
-  module _ (given : List Item) (entry : ℕ) (rest : List ℕ) (earlier : List RefusedEntry)
-      (spots : List (List Spot)) (item : Item)
-      (marked : (event : EventFacts) → IsAnswer files given earlier spots item event
-      → is_wanted earlier spots event ≡ true → IsMarked item) where
-    abbrev here : State
-    here = running entry rest earlier spots
-
-    -- an event that is wanted is the only one
-    is_event : (a b : EventFacts) → IsAnswer files given earlier spots item a
-        → is_wanted earlier spots a ≡ true → IsAnswer files given earlier spots item b → a ≡ b
-    is_event a b p wanted q = one_event files given earlier spots item a b (marked a p wanted) p q
-
-    -- it is genuine with these faults
-    told_right : (others : Faults) (event other : EventFacts)
-        → IsAnswer files given earlier spots item event
-        → (is_last spots event ≡ true → others (length earlier) ≡ told event)
-        → IsAnswer files given earlier spots item other → is_wanted earlier spots other ≡ true
-        → IsMarked item × AreToldFaults others earlier spots other
-    told_right others event other p is q wanted = (
-      marked other q wanted,
-      subst (AreToldFaults others earlier spots) (sym (is_event other event q wanted p))
-          (are_told others earlier spots event is),
-    )
-
-    -- each other world that is reached is the same, or lacks memory
-    other_world : (others : Faults) (event : EventFacts) (next world : World) (items : List Item)
-        → IsAnswer files given earlier spots item event → Steps facts here event next.state
-        → next.owed ≡ orders_after facts here next.state
-        → Hears facts files given here [] item world
-        → AreGenuine facts files others (given ++ item ∷ []) next items
-        → AreGenuine facts files others (given ++ item ∷ []) world items
-    other_world others event next world items p goes left (other, q, inr (lost, ends), owed)
-        genuine =
-        lost_genuine others items (given ++ item ∷ []) world (lost_step facts here world lost owed)
-    other_world others event next world items p goes left (other, q, inl steps, owed) genuine =
-        let state : next.state ≡ world.state =
-        same_state (is_wanted earlier spots other) (is_wanted earlier spots event) refl refl
-        steps goes in
-        let same : next ≡ world =
-        ap (λ (s : State). record { state = s; owed = next.owed }) state
-        ∙ ap (λ (o : List Item). record { state = world.state; owed = o })
-        (left ∙ ap (orders_after facts here) state ∙ sym owed) in
-        subst (λ (w : World). AreGenuine facts files others (given ++ item ∷ []) w items) same
-        genuine
-      where
-        same_state : (a b : Bool) → is_wanted earlier spots other ≡ a
-            → is_wanted earlier spots event ≡ b
-            → MatchBool a (Takes facts entry rest earlier spots other world.state)
-            (world.state ≡ here)
-            → MatchBool b (Takes facts entry rest earlier spots event next.state)
-            (next.state ≡ here)
-            → next.state ≡ world.state
-        same_state true b e f takes other_takes =
-            one_step facts here event next.state world.state goes
-            (subst (λ (x : EventFacts). Steps facts here x world.state)
-            (is_event other event q e p) steps)
-        same_state false true e f takes other_takes =
-            one_step facts here event next.state world.state goes
-            (subst (λ (x : EventFacts). Steps facts here x world.state)
-            (sym (is_event event other p f q)) steps)
-        same_state false false e f stays other_stays = other_stays ∙ sym stays
-
-    -- the faults behind it, and that of this attempt if it ended
-    taken : (event : EventFacts) (next : World) (items : List Item)
-        → IsAnswer files given earlier spots item event → Steps facts here event next.state
-        → next.owed ≡ orders_after facts here next.state
-        → Fits (given ++ item ∷ []) next items
-        → Fits given (record { state = here; owed = [] }) (item ∷ items)
-    taken event next items p goes left (faults, more) =
-        wanted (is_wanted earlier spots event) refl goes
-      where
-        whole : (others : Faults)
-            → (is_last spots event ≡ true → is_wanted earlier spots event ≡ true
-            → others (length earlier) ≡ told event)
-            → ((n : ℕ) → IsFrom next.state n → others n ≡ faults n)
-            → AreGenuine facts files others given (record { state = here; owed = [] })
-            (item ∷ items)
-        whole others is same = (
-          λ other none q is_it.
-              told_right others event other p
-              (λ last.
-              is last
-              (ap (is_wanted earlier spots) (sym (is_event other event q is_it p))
-              ∙ is_it)) q is_it,
-          λ world hears.
-              other_world others event next world items p goes left hears (more others same),
-        )
-
-        ended : (last : Bool) → is_last spots event ≡ last
-            → Takes facts entry rest earlier spots event next.state
-            → Fits given (record { state = here; owed = [] }) (item ∷ items)
-        ended true e takes =
-            let new = last_new facts entry rest earlier spots event next.state e takes in (
-              with_fault (length earlier) (told event) faults,
-              λ others same.
-                  whole others
-                  (λ last wants.
-                  same (length earlier) (omega arith)
-                  ∙ at_fault (length earlier) (told event) faults)
-                  (λ n from.
-                  let later =
-                  from_new (length rest) (length earlier + 1) next.state n new from in
-                  same n (omega (arith, later))
-                  ∙ past_fault (length earlier) (told event) faults n (omega (arith, later))),
-            )
-        ended false e takes =
-            let on = goes_on facts entry rest earlier spots event next.state e takes in (
-              faults,
-              λ others same.
-                  whole others
-                  (λ last wants. absurd (let clash : true ≡ false = sym last ∙ e in cc))
-                  (λ n from. same n (subst (λ (s : State). IsFrom s n) on.1 from)),
-            )
-
-        wanted : (b : Bool) → is_wanted earlier spots event ≡ b
-            → MatchBool b (Takes facts entry rest earlier spots event next.state)
-            (next.state ≡ here) → Fits given (record { state = here; owed = [] }) (item ∷ items)
-        wanted true e takes = ended (is_last spots event) refl takes
-        wanted false e stays = (
-          faults,
-          λ others same.
-              whole others (λ last wants. absurd (let clash : true ≡ false = sym wants ∙ e in cc))
-              (λ n from. same n (subst (λ (s : State). IsFrom s n) stays from)),
-        )
-
-    -- memory ran out by it
-    lost_last : (event : EventFacts) → IsAnswer files given earlier spots item event
-        → Fits given (record { state = here; owed = [] }) (item ∷ [])
-    lost_last event p = (
-      λ n. told event,
-      λ others same. (
-        λ other none q is_it.
-            told_right others event other p (λ last. same (length earlier) (omega arith)) q is_it,
-        λ world hears. tt,
-      ),
-    )
-
   -- ---- the whole history
 
   one_item : (items : List Item) (item : Item) (given : List Item) (state : State)
@@ -200,8 +20,9 @@ module _ (facts : BootFacts) (files : List File) where
       → ((event : EventFacts) → owed ≡ [] → IsEventOf files given state item event
       → IsMarkedItem state item event)
       → Hears facts files given state owed item next
-      → Reads facts files (given ++ item ∷ []) next items end → Fits (given ++ item ∷ []) next items
-      → Fits given (record { state = state; owed = owed }) (item ∷ items)
+      → Reads facts files (given ++ item ∷ []) next items end
+      → Fits facts files (given ++ item ∷ []) next items
+      → Fits facts files given (record { state = state; owed = owed }) (item ∷ items)
   one_item items item given state (order ∷ owed) next end marked (is, same) reads (faults, more) = (
     faults,
     λ others agree. (
@@ -209,14 +30,16 @@ module _ (facts : BootFacts) (files : List File) where
       λ world (is_too, same_too).
           subst (λ (w : World). AreGenuine facts files others (given ++ item ∷ []) w items)
           (same ∙ sym same_too)
-          (more others (λ n from. agree n (subst (λ (w : World). IsFrom w.state n) same from))),
+          (more others
+          (λ n from. agree n (subst (λ (w : World). IsFrom facts files w.state n) same from))),
     ),
   )
   one_item items item given unstarted [] next end marked (event, is, goes, left) reads more =
       absurd is
   one_item items item given (running entry rest earlier spots) [] next end marked
       (event, is, inl goes, left) reads more =
-      taken given entry rest earlier spots item (λ other p. marked other refl p) event next items is
+      taken facts files given entry rest earlier spots item (λ other p. marked other refl p) event
+      next items is
       goes left more
   one_item items item given (running entry rest earlier spots) [] next end marked
       (event, is, inr (lost, ends), left) reads more =
@@ -225,9 +48,10 @@ module _ (facts : BootFacts) (files : List File) where
       (lost_step facts (running entry rest earlier spots) next lost left) reads in
       subst
       (λ (rest_of : List Item).
-      Fits given (record { state = running entry rest earlier spots; owed = [] })
+      Fits facts files given (record { state = running entry rest earlier spots; owed = [] })
       (item ∷ rest_of)) (sym none)
-      (lost_last given entry rest earlier spots item (λ other p. marked other refl p) event is)
+      (lost_last facts files given entry rest earlier spots item (λ other p. marked other refl p)
+      event is)
   one_item items item given (handed_over entry earlier handover) [] next end marked
       (event, is, goes, left) reads more = absurd is
   one_item items item given (none_left earlier) [] next end marked (event, is, goes, left) reads
@@ -237,7 +61,7 @@ module _ (facts : BootFacts) (files : List File) where
 
   fits : (items given : List Item) (world : World) (end : State)
       → AreMarked facts files given world items → Reads facts files given world items end
-      → Fits given world items
+      → Fits facts files given world items
   fits [] given world end marked reads = (λ n. None, λ others same. tt)
   fits (item ∷ items) given world end marked (next, hears, reads) =
       one_item items item given world.state world.owed next end marked.0 hears reads
@@ -259,7 +83,7 @@ module _ (facts : BootFacts) (files : List File) where
       subst (λ (s : State). AreGenuine facts files faults old (world_of facts s) gained)
       (one_start facts unstarted a b p q) genuine
   begun_alike old gained a b end p reads faults genuine (inr (lost, is)) =
-      lost_genuine faults gained old (world_of facts b) (lost, ap (orders facts) lost)
+      lost_genuine facts files faults gained old (world_of facts b) (lost, ap (orders facts) lost)
   begun_alike old gained a b end (inr (lost, is)) reads faults genuine (inl q) =
       let none =
       reads_nothing facts files old (world_of facts a) gained end (lost, ap (orders facts) lost)

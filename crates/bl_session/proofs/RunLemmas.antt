@@ -16,11 +16,11 @@ use Rattle.bl_session.specs.Orders.{orders}
 use Rattle.bl_session.specs.Phases.{PhaseFacts, not_started, state_at, is_waiting, boot_facts}
 use Rattle.bl_session.specs.Run.{World, world_of, IsRun}
 use Rattle.bl_session.specs.Turns.{IsAsked, IsHeard}
-use Rattle.bl_session.proofs.AlikeLemmas.{run_alike, alike_listed}
-use Rattle.bl_session.proofs.AdvanceLemmas.{memory_on}
+use Rattle.bl_session.proofs.AlikeRuns.{run_alike, alike_listed}
+use Rattle.bl_session.proofs.KeptMemoryLemmas.{memory_on}
 use Rattle.bl_session.proofs.WentLemmas.{new_begins}
 use Rattle.bl_session.proofs.TurnLemmas.{heard_on, heard_asked, heard_orders, reads_to}
-use Rattle.bl_session.proofs.HearLemmas.{at, waiting_memory}
+use Rattle.bl_session.proofs.AnswerLemmas.{at, waiting_memory}
 
 -- ---- one attempt more
 

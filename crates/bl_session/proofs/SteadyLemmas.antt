@@ -12,8 +12,8 @@ use Rattle.bl_session.specs.Boot.{out_of_memory, sizes_of, fresh}
 use Rattle.bl_session.specs.History.{Item}
 use Rattle.bl_session.specs.Outcome.{File, missing, size_of, text_of, texts_of}
 use Rattle.bl_session.specs.Orders.{orders, file_orders}
-use Rattle.bl_session.proofs.OutcomeLaws.{are_read, length_read}
-use Rattle.bl_session.proofs.OrderLemmas.{IsUntouched, IsAskedOnce, untouched_both, once_last}
+use Rattle.bl_session.proofs.EntryEndLemmas.{are_read, length_read}
+use Rattle.bl_session.proofs.TicketLemmas.{IsUntouched, IsAskedOnce, untouched_both, once_last}
 use Rattle.bl_session.proofs.OrderLemmas.{untouched_files, once_files}
 use Rattle.bl_session.proofs.WentLemmas.{IsNewFrom, fresh_length}
 use Rattle.bl_session.proofs.AwaitedLemmas.{is_piece}

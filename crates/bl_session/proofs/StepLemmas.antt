@@ -1,11 +1,10 @@
 -- One event of an attempt that waits.
 use Rattle.std.proofs.Common.{◌≡◌, ◌≢◌, ℕ, ◌<◌, ◌==◌, ◌&&◌, Bool, true, false, MatchBool, nat_lt}
-use Rattle.std.proofs.Common.{List, [], ◌∷◌, ◌++◌, length, Result, Ok, Err, IfOk, OnErr, refl, sym}
-use Rattle.std.proofs.Common.{ap, subst, ◌∙◌, inl, inr, arith}
+use Rattle.std.proofs.Common.{List, length, Result, Ok, Err, IfOk, OnErr, refl, sym, ap, subst, ◌∙◌}
+use Rattle.std.proofs.Common.{inl, inr, arith}
 use Rattle.std.specs.declared.ops.Range.{Range}
 use Rattle.std.proofs.lemmas.Bool.{cases_lt}
 use Rattle.std.proofs.lemmas.Bool.Decides.{nat_tests}
-use Rattle.bl_load.specs.declared.refusal.Refusal.TheVariants.{FileFault}
 use Rattle.bl_stage.specs.Ranges.{IsSameOutside}
 use Rattle.bl_stage.specs.Staged.{Staging}
 use Rattle.bl_stage.specs.Pieces.{put_answer}
@@ -15,14 +14,13 @@ use Rattle.bl_stage.specs.Spots.{Spot, spots, put_spot}
 use Rattle.bl_session.specs.declared.words.RefusedEntry.{RefusedEntry}
 use Rattle.bl_session.specs.declared.words.Ticket.{Ticket}
 use Rattle.bl_session.specs.Pieces.{awaits, spot_of, with_piece, are_whole}
-use Rattle.bl_session.specs.Boot.{BootFacts, EventFacts, piece, fault, State, unstarted, running}
-use Rattle.bl_session.specs.Boot.{handed_over, none_left, out_of_memory, Begins, Continues, Steps}
-use Rattle.bl_session.specs.Boot.{is_wanted, is_taken, ends_attempt}
+use Rattle.bl_session.specs.Boot.{BootFacts, EventFacts, piece, State, running, Begins, Continues}
+use Rattle.bl_session.specs.Boot.{Steps, is_wanted, ends_attempt}
 use Rattle.bl_session.specs.Memory.{IsMemoryIn}
-use Rattle.bl_session.proofs.AdvanceLemmas.{memory_on, same_on}
-use Rattle.bl_session.proofs.SpotLemmas.{stored, not_stored, put_with}
+use Rattle.bl_session.proofs.KeptMemoryLemmas.{memory_on, same_on}
+use Rattle.bl_session.proofs.StoredLemmas.{stored, not_stored, put_with}
 
-by_test : (b : Bool) (tested : Bool) (P Q : Type 0) → tested ≡ b → MatchBool b P Q
+pub by_test : (b : Bool) (tested : Bool) (P Q : Type 0) → tested ≡ b → MatchBool b P Q
     → MatchBool tested P Q
 by_test b tested P Q e h = subst (λ (x : Bool). MatchBool x P Q) (sym e) h
 
@@ -150,55 +148,3 @@ pub outside_taken : {P E : Type 0} (pool : Range ℕ) (old mid new : List ℕ) (
     → OnErr result (IsSameOutside pool old new)
 outside_taken pool old mid new (Ok phase) first second = tt
 outside_taken pool old mid new (Err e) first second = same_on pool old mid new first second
-
--- ---- a fault
-
-pub steps_fault : {P E : Type 0} (facts : BootFacts) (entry : ℕ) (rest : List ℕ)
-    (earlier : List RefusedEntry) (files : List (List Spot)) (ticket : Ticket) (result : Result P E)
-    (state : P → State)
-    → is_wanted earlier files (fault ticket) ≡ true
-    → IfOk result
-    (λ phase.
-    Begins facts rest
-    (earlier ++ record { entry = entry; refusal = FileFault ticket.file } ∷ [])
-    (state phase))
-    → IfOk result
-    (λ phase. Steps facts (running entry rest earlier files) (fault ticket) (state phase))
-steps_fault facts entry rest earlier files ticket (Err e) state wanted goes = tt
-steps_fault facts entry rest earlier files ticket (Ok phase) state wanted goes =
-    by_test true (is_wanted earlier files (fault ticket)) _ _ wanted goes
-
-pub lacks_fault : {P E : Type 0} (entry : ℕ) (rest : List ℕ) (earlier : List RefusedEntry)
-    (files : List (List Spot)) (ticket : Ticket) (result : Result P E)
-    → is_wanted earlier files (fault ticket) ≡ true
-    → OnErr result (ends_attempt (running entry rest earlier files) (fault ticket) ≡ true)
-lacks_fault entry rest earlier files ticket (Ok phase) wanted = tt
-lacks_fault entry rest earlier files ticket (Err e) wanted = wanted
-
-pub same_itself : (pool : Range ℕ) (old : List ℕ) → IsSameOutside pool old old
-same_itself pool old = λ a outside. refl
-
--- ---- want of memory
-
--- an event that ends an attempt is one that it waits for
-pub ends_taken : (state : State) (event : EventFacts) → ends_attempt state event ≡ true
-    → is_taken state event ≡ true
-ends_taken unstarted event e = absurd cc
-ends_taken (running entry rest earlier files) (piece ticket bytes) e =
-    first (is_wanted earlier files (piece ticket bytes))
-    (are_whole (with_piece files ticket.file ticket.piece bytes)) e
-  where
-    first : (a b : Bool) → (a && b) ≡ true → a ≡ true
-    first true b e = refl
-    first false b e = absurd cc
-ends_taken (running entry rest earlier files) (fault ticket) e = e
-ends_taken (handed_over entry earlier handover) event e = absurd cc
-ends_taken (none_left earlier) event e = absurd cc
-ends_taken out_of_memory event e = absurd cc
-
-pub memory_lacking : (pool : Range ℕ) (state : State) (event : EventFacts) (old new : List ℕ)
-    → ends_attempt state event ≡ true → IsSameOutside pool old new
-    → MatchBool (is_taken state event) (IsMemoryIn pool out_of_memory old new) (new ≡ old)
-memory_lacking pool state event old new e outside =
-    by_test true (is_taken state event) (IsMemoryIn pool out_of_memory old new) (new ≡ old)
-    (ends_taken state event e) outside

@@ -1,149 +1,28 @@
--- A store's history and the requests that are still to be answered, as it is asked and as it
--- answers.
-use Rattle.std.proofs.Common.{◌≡◌, ◌↔◌, ℕ, ◌+◌, ◌*◌, ◌<◌, ◌≤◌, ◌==◌, ◌&&◌, nat_lt, Bool, true}
-use Rattle.std.proofs.Common.{false, if◌then◌else◌, List, [], ◌∷◌, ◌++◌, length, take, drop, Option}
-use Rattle.std.proofs.Common.{None, Some, suc, get_or, refl, sym, ap, subst, ◌∙◌, rules, arith}
-use Rattle.std.proofs.Common.{append_assoc}
-use Rattle.std.proofs.lemmas.List.{append-nil}
+-- A store's history and the requests that are still to be answered, as it answers.
+use Rattle.std.proofs.Common.{◌≡◌, ℕ, ◌*◌, ◌<◌, ◌≤◌, nat_lt, Bool, true, false, if◌then◌else◌, List}
+use Rattle.std.proofs.Common.{[], ◌∷◌, ◌++◌, length, take, drop, Option, None, Some, suc, get_or}
+use Rattle.std.proofs.Common.{refl, sym, ap, subst, ◌∙◌, arith}
 use Rattle.std.proofs.lemmas.Option.{slice_get-get_or}
 use Rattle.std.proofs.Math.Seq.{split_at}
 use Rattle.std.proofs.Math.Numerals.{add-one}
-use Rattle.std.specs.Bool.{Decides}
-use Rattle.std.proofs.lemmas.Bool.Decides.{Decides-like, Decides-and, Decides-eqb, Decides-ltb}
-use Rattle.std.proofs.lemmas.Bool.Decides.{not_from_Decides}
+use Rattle.std.proofs.lemmas.Bool.Decides.{Decides-ltb, not_from_Decides}
 use Rattle.std.specs.Prelude.{slice_get, slice_index_or, option_map}
 use Rattle.bl_stage.specs.Spots.{piece_of}
 use Rattle.bl_session.specs.declared.words.Ticket.{Ticket}
 use Rattle.bl_session.specs.declared.store.Completion.{Completion}
-use Rattle.bl_session.specs.declared.store.Completion.TheVariants.{Piece, Fault}
 use Rattle.bl_session.specs.declared.request.Request.{Request}
 use Rattle.bl_session.specs.declared.queue.Order.{Order}
 use Rattle.bl_session.specs.declared.queue.Order.TheVariants.{Forward, Reverse}
 use Rattle.bl_session.specs.Boot.{EventFacts, piece, fault}
 use Rattle.bl_session.specs.Outcome.{File, missing, text_of}
-use Rattle.bl_session.specs.History.{Item, submitted, failed, nothing, is_same, file_under}
-use Rattle.bl_session.specs.History.{IsPieceOf, IsItemOf}
-use Rattle.bl_session.specs.Faithful.{asked, answered, HasPiece, IsFaithfulItem, IsFaithfulAfter}
-use Rattle.bl_session.specs.Stores.{are_equal, is_piece_of, item_of_event, item_of_told}
-use Rattle.bl_session.specs.Stores.{event_of, answer_to, next_place, without}
+use Rattle.bl_session.specs.History.{Item, failed, nothing, is_same, file_under, IsPieceOf}
+use Rattle.bl_session.specs.Faithful.{asked, answered, HasPiece, IsFaithfulItem}
+use Rattle.bl_session.specs.Stores.{item_of_event, item_of_told, event_of, answer_to, next_place}
+use Rattle.bl_session.specs.Stores.{without}
 use Rattle.bl_session.specs.StoresKept.{item_of, count_of, WasAsked, AreAskedFor, AreKept}
-use Rattle.bl_session.proofs.OrderLemmas.{is_same_self, asked_both, answered_both, file_both}
-
--- ---- the mark of an answer
-
-equal_decides : (xs ys : List ℕ) → Decides (are_equal xs ys) (xs ≡ ys)
-equal_decides [] [] = (λ h. refl, λ h. refl)
-equal_decides [] (y ∷ ys) = (λ h. cc, λ h. cc)
-equal_decides (x ∷ xs) [] = (λ h. cc, λ h. cc)
-equal_decides (x ∷ xs) (y ∷ ys) =
-    Decides-like ((x == y) && are_equal xs ys)
-    (λ (h : (x ≡ y) × (xs ≡ ys)). let e : x ≡ y = h.0 in let f : xs ≡ ys = h.1 in cc)
-    (λ (h : x ∷ xs ≡ y ∷ ys). let e : x ≡ y = cc in let f : xs ≡ ys = cc in (e, f))
-    (Decides-and (x == y) (are_equal xs ys) (Decides-eqb x y) (equal_decides xs ys))
-
-marks : (files : List File) (found : Option ℕ) (index : ℕ) (bytes : List ℕ)
-    → (is_piece_of files found index bytes ≡ true) ↔ IsPieceOf files found index bytes
-marks files None index bytes = (λ h. cc, λ h. absurd h)
-marks files (Some file) index bytes =
-    equal_decides bytes (piece_of (text_of (slice_index_or files file missing)) index)
-
-pub item_is : {A : Type 0} (files : List File) (given : List Item) (answer : Option (Completion A))
-    → IsItemOf files given answer (item_of files given answer)
-item_is files given None = refl
-item_is files given (Some (Fault ticket)) = refl
-item_is files given (Some (Piece ticket bytes)) = (
-  is_piece_of files (file_under given ticket) ticket.piece bytes.items,
-  refl,
-  marks files (file_under given ticket) ticket.piece bytes.items,
-)
-
--- ---- one item more
-
-faithful_more : (files : List File) (given items : List Item) (item : Item)
-    → IsFaithfulAfter files given items → IsFaithfulItem files (given ++ items) item
-    → IsFaithfulAfter files given (items ++ item ∷ [])
-faithful_more files given [] item old new =
-    (subst (λ (g : List Item). IsFaithfulItem files g item) (append-nil given) new, tt)
-faithful_more files given (x ∷ items) item old new = (
-  old.0,
-  faithful_more files (given ++ x ∷ []) items item old.1
-      (subst (λ (g : List Item). IsFaithfulItem files g item)
-      (sym (append_assoc given (x ∷ []) items)) new),
-)
-
--- ---- requests
-
-count_append : (front back : List Request) (ticket : Ticket)
-    → count_of (front ++ back) ticket ≡ count_of front ticket + count_of back ticket
-count_append [] back ticket = search rules
-count_append (request ∷ front) back ticket = rw (count_append front back ticket) (omega arith)
-
--- one request more was asked for
-one_case : (b : Bool) (n : ℕ) (old new : Option ℕ) (file : ℕ) → 1 ≤ n → (n ≡ 1 → old ≡ Some file)
-    → (1 ≤ n + ((if b then 1 else 0) + 0))
-    × (n + ((if b then 1 else 0) + 0) ≡ 1 → (if b then new else old) ≡ Some file)
-one_case true n old new file some under = (omega arith, λ e. absurd (omega arith))
-one_case false n old new file some under = (omega arith, λ e. under (omega arith))
-
-one_asked : (given : List Item) (new request : Request) → WasAsked given request
-    → WasAsked (given ++ submitted new.file new.ticket ∷ []) request
-one_asked given new request (some, under) =
-    let item : Item = submitted new.file new.ticket in
-    rw (
-      asked_both given (item ∷ []) request.ticket,
-      file_both None given (item ∷ []) request.ticket,
-    )
-    (one_case (is_same new.ticket request.ticket) (asked given request.ticket)
-    (file_under given request.ticket) (Some new.file) request.file some under)
-
-all_asked : (given : List Item) (new : Request) (requests : List Request)
-    → AreAskedFor given requests
-    → AreAskedFor (given ++ submitted new.file new.ticket ∷ []) requests
-all_asked given new [] asked_for = tt
-all_asked given new (request ∷ requests) (first, others) =
-    (one_asked given new request first, all_asked given new requests others)
-
-asked_append : (given : List Item) (front back : List Request) → AreAskedFor given front
-    → AreAskedFor given back → AreAskedFor given (front ++ back)
-asked_append given [] back f b = b
-asked_append given (request ∷ front) back (first, f) b = (first, asked_append given front back f b)
-
-asked_apart : (given : List Item) (front back : List Request) → AreAskedFor given (front ++ back)
-    → AreAskedFor given front × AreAskedFor given back
-asked_apart given [] back h = (tt, h)
-asked_apart given (request ∷ front) back (first, h) =
-    let apart : AreAskedFor given front × AreAskedFor given back =
-    asked_apart given front back h in ((first, apart.0), apart.1)
-
--- the new request itself
-new_asked : (given : List Item) (new : Request)
-    → WasAsked (given ++ submitted new.file new.ticket ∷ []) new
-new_asked given new =
-    let item : Item = submitted new.file new.ticket in
-    rw (
-      asked_both given (item ∷ []) new.ticket,
-      file_both None given (item ∷ []) new.ticket,
-      is_same_self new.ticket,
-    ) (omega arith, λ e. refl)
-
--- ---- what a store keeps
-
-pub kept_request : (files : List File) (pending : List Request) (given : List Item) (new : Request)
-    → AreKept files pending given
-    → AreKept files (pending ++ new ∷ []) (given ++ submitted new.file new.ticket ∷ [])
-kept_request files pending given new kept = record {
-  faithful = faithful_more files [] given (submitted new.file new.ticket) kept.faithful tt;
-  counts =
-      λ ticket.
-      rw (
-        answered_both given ((submitted new.file new.ticket) ∷ []) ticket,
-        asked_both given ((submitted new.file new.ticket) ∷ []) ticket,
-        count_append pending (new ∷ []) ticket,
-      ) (omega (arith, kept.counts ticket));
-  asked_for =
-      asked_append (given ++ submitted new.file new.ticket ∷ []) pending (new ∷ [])
-      (all_asked given new pending kept.asked_for) (new_asked given new, tt);
-}
+use Rattle.bl_session.proofs.TicketLemmas.{is_same_self, asked_both, answered_both, file_both}
+use Rattle.bl_session.proofs.RequestLemmas.{marks, faithful_more, count_append, asked_append}
+use Rattle.bl_session.proofs.RequestLemmas.{asked_apart}
 
 -- an answer leaves what was asked for
 nothing_asked : (files : List File) (given : List Item) (event : EventFacts) (ticket : Ticket)

@@ -15,7 +15,8 @@ use Rattle.bl_session.specs.Stores.{next_place, without, after_answer}
 use Rattle.bl_session.specs.StoresKept.{item_of}
 use Rattle.bl_session.specs.Scripts as scripts
 use Rattle.bl_session.specs.Scripts.{ScriptStoreFacts, event_by, picked_place}
-use Rattle.bl_session.proofs.StoreLemmas.{item_is, place_within}
+use Rattle.bl_session.proofs.RequestLemmas.{item_is}
+use Rattle.bl_session.proofs.StoreLemmas.{place_within}
 
 -- nothing is answered exactly if nothing is still to be answered
 none_left : {A R : Type 0} (event : R → EventFacts) (pending : List R) (place : ℕ)

@@ -2,7 +2,7 @@
 use Rattle.std.proofs.Common.{◌≡◌, ℕ, ◌+◌, ◌-◌, ◌*◌, ◌/◌, ◌%◌, ◌<◌, ◌≤◌, List, length, get_or}
 use Rattle.std.proofs.Common.{slice_range, arith, sym, ap, ◌∙◌}
 use Rattle.std.proofs.lemmas.List.{places, ext_get_or}
-use Rattle.bl_mem.proofs.SparseLemmas.{values, length-values, get_or-values, values_range}
+use Rattle.bl_mem.proofs.ValueLemmas.{values, length-values, get_or-values, values_range}
 use Rattle.bl_stage.specs.Staged.{AreInside, place_of, staged}
 
 -- functions that agree below n have the same first n values

@@ -1,10 +1,13 @@
 pub mod FrameLemmas
 pub mod TableLemmas
 pub mod FileLemmas
+pub mod PieceLemmas
 pub mod TextLemmas
 pub mod SpotLemmas
 pub mod SpotLaws
 pub mod CountLemmas
+pub mod MovedCells
+pub mod SpareLemmas
 pub mod MoveLemmas
 pub mod WayLemmas
 pub mod FilledLemmas

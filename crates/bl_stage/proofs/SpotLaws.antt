@@ -17,7 +17,8 @@ use Rattle.bl_stage.specs.Pieces.{slot_in}
 use Rattle.bl_stage.specs.Spots.{Spot, waits, has, spot_at, spots_of, spots, piece_of}
 use Rattle.bl_stage.specs.Spots.{waiting_spots, bytes_of}
 use Rattle.bl_stage.proofs.FrameLemmas.{staged_length}
-use Rattle.bl_stage.proofs.FileLemmas.{file_within, file_evacuated}
+use Rattle.bl_stage.proofs.FileLemmas.{file_within}
+use Rattle.bl_stage.proofs.PieceLemmas.{file_evacuated}
 use Rattle.bl_stage.specs.TextLaws.{same_firsts}
 use Rattle.bl_stage.proofs.SpotLemmas.{piece_long}
 

@@ -16,7 +16,8 @@ use Rattle.bl_stage.specs.Pieces.{is_piece, slot_in, with_piece}
 use Rattle.bl_stage.specs.TextLaws.{same_firsts}
 use Rattle.bl_stage.specs.Spots.{Spot, has, spot_of, spot_at, spots_of, spots, piece_of, put_spot}
 use Rattle.bl_stage.proofs.FrameLemmas.{staged_length}
-use Rattle.bl_stage.proofs.FileLemmas.{IsPiece, piece_is, file_within, file_before}
+use Rattle.bl_stage.proofs.FileLemmas.{file_within, file_before}
+use Rattle.bl_stage.proofs.PieceLemmas.{IsPiece, piece_is}
 
 -- functions that differ at one number have lists of values that differ in that place
 pub one_changed : {X : Type 0} (d : X) (f g : ℕ → X) (n k : ℕ) (x : X) → k < n → g k ≡ x

@@ -19,7 +19,7 @@ use Rattle.bl_load.specs.Parts.{entry_at}
 use Rattle.bl_load.specs.Rows.{segment_rows, kernel_rows}
 use Rattle.bl_load.proofs.EntryLemmas.{entry_within}
 use Rattle.bl_load.proofs.KernelLaws.{entry_held, held_within}
-use Rattle.bl_walk.proofs.PartLemmas.{kernel_holds, holds_by}
+use Rattle.bl_walk.proofs.EntryPartLemmas.{kernel_holds, holds_by}
 
 -- where segments stand at their own addresses
 segments_enter : (facts : MachineFacts) (taken : List (Range ℕ)) (k entry : ℕ)

@@ -14,12 +14,13 @@ use Rattle.bl_mbi.specs.InformationFacts.{IsText}
 use Rattle.bl_plan.specs.Order.{in_order, place_key}
 use Rattle.bl_plan.specs.declared.part.Place.{Place}
 use Rattle.bl_plan.specs.declared.part.Role.{Role}
-use Rattle.bl_plan.proofs.OrderLemmas.{in_order_all, list_any-in_order}
+use Rattle.bl_plan.proofs.OrderLemmas.{in_order_all}
+use Rattle.bl_plan.proofs.OrderCountLemmas.{list_any-in_order}
 use Rattle.bl_load.specs.Addresses.{address_of}
 use Rattle.bl_load.specs.Handover.{end_of, filled}
 use Rattle.bl_walk.specs.Inside.{rest_in}
 use Rattle.bl_walk.specs.Seen.{text_of}
-use Rattle.bl_walk.proofs.InsideLemmas.{some_rest_in}
+use Rattle.bl_walk.proofs.RangeLemmas.{some_rest_in}
 use Rattle.bl_walk.proofs.PartLemmas.{is_of, is_at, part_of, parts_of, found_there, address_held}
 use Rattle.bl_walk.proofs.PartLemmas.{both_true, same_role}
 

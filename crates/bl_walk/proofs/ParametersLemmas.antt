@@ -21,7 +21,7 @@ use Rattle.bl_load.specs.LinuxRows.{fixed_row, moved_row, linux_kernel_row, fram
 use Rattle.bl_load.specs.LinuxRows.{initrd_rows, linux_rows}
 use Rattle.bl_load.proofs.RowPlaceLemmas.{Anywhere}
 use Rattle.bl_walk.proofs.KernelLemmas.{IsOfKernel, IsOther, seen_place}
-use Rattle.bl_walk.proofs.PartLemmas.{kernel_holds, holds_by}
+use Rattle.bl_walk.proofs.EntryPartLemmas.{kernel_holds, holds_by}
 
 -- ---- the rows
 

@@ -1,12 +1,11 @@
 -- The bytes of the part of a role and an index, where parts stand at places in address order.
 use Rattle.std.proofs.Common.{◌≡◌, ◌+◌, ◌-◌, ◌<◌, ◌≤◌, ◌&&◌, ◌||◌, ℕ, Bool, true, false, List, []}
 use Rattle.std.proofs.Common.{◌∷◌, ◌++◌, map, length, take, get_or, slice_range, replicate, Some}
-use Rattle.std.proofs.Common.{nat_eq, nat_le, nat_lt, cond, refl, sym, ap, ap₂, ◌∙◌, inl, inr}
-use Rattle.std.proofs.Common.{arith, AllPairs, length-append}
+use Rattle.std.proofs.Common.{nat_eq, cond, refl, sym, ap, ap₂, ◌∙◌, inl, inr, arith, AllPairs}
+use Rattle.std.proofs.Common.{length-append}
 use Rattle.std.specs.List.{slice_get, position_or_len, list_any}
-use Rattle.std.proofs.lemmas.Bool.{le-leb, leb-true, ltb-true, lt-ltb, eq-eqb, eqb-true}
-use Rattle.std.proofs.lemmas.Bool.{cases_order}
-use Rattle.std.proofs.lemmas.List.{take-append-le, get_or-map, length-map, length-replicate}
+use Rattle.std.proofs.lemmas.Bool.{le-leb, eq-eqb, eqb-true, cases_order}
+use Rattle.std.proofs.lemmas.List.{take-append-le, get_or-map, length-map}
 use Rattle.std.proofs.lemmas.List.Folds.{find_at, Any-from_list_any}
 use Rattle.std.proofs.lemmas.List.Sums.{position_or_len_is}
 use Rattle.std.proofs.lemmas.Option.{slice_get-get_or}
@@ -16,13 +15,12 @@ use Rattle.bl_plan.specs.declared.part.Place.{Place}
 use Rattle.bl_plan.specs.declared.part.Role.{Role}
 use Rattle.bl_plan.specs.declared.part.Role.TheVariants.{Kernel, Module, Information, BootParams}
 use Rattle.bl_plan.specs.declared.part.Role.TheVariants.{CommandLine, Gdt, Initrd}
-use Rattle.bl_plan.proofs.OrderLemmas.{list_any-in_order}
+use Rattle.bl_plan.proofs.OrderCountLemmas.{list_any-in_order}
 use Rattle.bl_load.specs.Addresses.{address_of}
 use Rattle.bl_load.specs.Handover.{Part, end_of, part_at, filled}
 use Rattle.bl_walk.specs.Inside.{lies_in, part_with, bytes_in}
-use Rattle.bl_walk.specs.State.{is_in_kernel}
-use Rattle.bl_walk.proofs.StateLemmas.{entered_part}
-use Rattle.bl_walk.proofs.InsideLemmas.{lies-below, nothing_in, inside_in}
+use Rattle.bl_walk.proofs.InsideLemmas.{lies-below}
+use Rattle.bl_walk.proofs.RangeLemmas.{nothing_in, inside_in}
 
 -- a part that holds a range is the one in which it lies
 pub found_there : (parts : List Part) (address count k : ℕ) (d : Part)
@@ -174,61 +172,3 @@ module _ (places : List Place) (content : Role → ℕ → List ℕ)
           | inr above ↦ some_held role index n held (omega arith) fits
         ]
       ]
-
--- ---- the part that the kernel is entered in
-
--- whether a place of the kernel holds an address
-abbrev pub kernel_holds : ℕ → Place → Bool
-kernel_holds address place =
-    nat_eq (role_number place.role) (role_number Kernel)
-    && (nat_le place.address address && nat_lt address (place.address + place.length))
-
-pub holds_by : (address : ℕ) (place : Place) → place.role ≡ Kernel → place.address ≤ address
-    → address < place.address + place.length → kernel_holds address place ≡ true
-holds_by address place role from below =
-    let named = eq-eqb (role_number place.role) (role_number Kernel) (ap role_number role) in
-    rw (
-      named,
-      le-leb place.address address from,
-      lt-ltb address (place.address + place.length) below,
-    )
-
-module _ (places : List Place) (content : Role → ℕ → List ℕ)
-    (apart : AllPairs (λ p q. end_of p ≤ q.address) (parts_of places content)) where
-  entered_at : (address k : ℕ) (q : Place) → k < length (in_order places)
-      → get_or (in_order places) k q ≡ q
-      → kernel_holds address q ≡ true → is_in_kernel (parts_of places content) address ≡ true
-  entered_at address k q within is passes =
-      let parts = parts_of places content in
-      let named : Bool = nat_eq (role_number q.role) (role_number Kernel) in
-      let over : Bool = nat_le q.address address in
-      let under : Bool = nat_lt address (q.address + q.length) in
-      let split = both_true named (over && under) passes in
-      let bounds = both_true over under split.1 in
-      let from = leb-true q.address address bounds.0 in
-      let below = ltb-true address (q.address + q.length) bounds.1 in
-      let held = content q.role q.index in
-      let part = part_of content q in
-      let here : get_or parts k part ≡ part =
-      get_or-map (part_of content) (in_order places) k q part within
-      ∙ ap (part_of content) is in
-      let many : length parts ≡ length (in_order places) =
-      length-map (in_order places) (part_of content) in
-      let zeros = length-replicate {A = ℕ} (q.length - length held) 0 in
-      let size = length-append held (replicate (q.length - length held) 0) in
-      let low : (get_or parts k part).address ≤ address = rw here from in
-      let high : address + 1 ≤ end_of (get_or parts k part) =
-      rw here (omega (arith, size, zeros)) in
-      let found =
-      found_there parts address 1 k part apart (omega arith) (omega arith) low high
-      ∙ ap Some here in
-      sym (entered_part parts address part (sym found)) ∙ split.0
-
-  pub entered_in : (address : ℕ) → list_any (kernel_holds address) places ≡ true
-      → is_in_kernel (parts_of places content) address ≡ true
-  entered_in address held =
-      let test = kernel_holds address in
-      let any =
-      Any-from_list_any test (in_order places)
-      (list_any-in_order place_key test places ∙ held) in
-      entered_at address any.0 any.1 any.2 any.3 any.4

@@ -9,7 +9,7 @@ use Rattle.bl_walk.specs.Seen.{IsSeenModule, AreSeenModules, InformationShows, I
 use Rattle.bl_walk.specs.Seen.{ParametersShow, IsSeen, text_of}
 use Rattle.bl_walk.specs.SeenFacts.{SeenModuleFacts, SeenFileFacts, SeenFacts}
 use Rattle.bl_walk.proofs.LengthLemmas.{same_some}
-use Rattle.bl_walk.proofs.SoundLemmas.{same_info, same_params}
+use Rattle.bl_walk.proofs.OneToldLemmas.{same_info, same_params}
 
 same_module : (parts : List Part) (m : ModuleInfo) (s t : SeenModuleFacts) → IsSeenModule parts m s
     → IsSeenModule parts m t → s ≡ t

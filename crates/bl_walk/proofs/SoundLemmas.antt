@@ -1,103 +1,30 @@
 -- Where something is seen in an image that is entered as it must be, no fault stands.
-use Rattle.std.proofs.Common.{◌≡◌, ◌-◌, ◌<◌, ◌^◌, ℕ, zero, suc, List, [], ◌∷◌, length, get_or}
-use Rattle.std.proofs.Common.{Option, Some, None, Result, Ok, Err, sym, ap, ◌∙◌, arith, subst}
-use Rattle.std.proofs.Common.{⊎_elim}
+use Rattle.std.proofs.Common.{◌≡◌, ℕ, List, [], Option, Some, None, Result, Ok, Err, sym, ap, ◌∙◌}
+use Rattle.std.proofs.Common.{arith, subst, ⊎_elim}
 use Rattle.std.specs.Prelude.{IfOk, OnOk}
 use Rattle.std.specs.List.{Contains}
-use Rattle.bl_mem.specs.Words.{u32_at}
-use Rattle.bl_mbi.specs.declared.fault.InfoFault.{InfoFault}
-use Rattle.bl_mbi.specs.InformationFacts.{ModuleInfo}
-use Rattle.bl_mbi.specs.InfoFacts.{InfoFacts, IsSpelling}
+use Rattle.bl_mbi.specs.InfoFacts.{InfoFacts}
 use Rattle.bl_mbi.specs.Reading.{info_of}
-use Rattle.bl_mbi.proofs.ReadAgain.{spelled_is_read}
 use Rattle.bl_params.specs.ParamsFacts.{ParamsFacts}
 use Rattle.bl_params.specs.Gdt.{gdt}
 use Rattle.bl_params.specs.Reading.{IsParams}
-use Rattle.bl_params.proofs.ParamsLaws.{one_reading, not_both}
+use Rattle.bl_params.proofs.ParamsLaws.{not_both}
 use Rattle.bl_plan.specs.declared.protocol.Protocol.TheVariants.{Multiboot2, Linux}
-use Rattle.bl_load.specs.Handover.{Part, Handover}
+use Rattle.bl_load.specs.Handover.{Handover}
 use Rattle.bl_walk.specs.Faults.{IsFollowed, IsOutside, HasBadInfo, HasBadState, IsSound}
 use Rattle.bl_walk.specs.Faults.{fixed_part, information, loaded_module, descriptors, boot_params}
 use Rattle.bl_walk.specs.Faults.{command_line, initrd, outside_kernel, outside_parts}
 use Rattle.bl_walk.specs.Faults.{short_information, other_information, other_parameters}
 use Rattle.bl_walk.specs.Faults.{endless_line, other_registers, other_descriptors}
 use Rattle.bl_walk.specs.Inside.{bytes_in, rest_in}
-use Rattle.bl_walk.specs.Seen.{HasTotalSize, IsInformation, InformationSays, AreSeenModules}
-use Rattle.bl_walk.specs.Seen.{InformationShows, AreParameters, ParametersSay, IsLine, IsInitrd}
-use Rattle.bl_walk.specs.Seen.{ParametersShow, IsSeen, text_of}
+use Rattle.bl_walk.specs.Seen.{InformationSays, AreSeenModules, InformationShows, ParametersSay}
+use Rattle.bl_walk.specs.Seen.{IsLine, IsInitrd, ParametersShow, IsSeen, text_of}
 use Rattle.bl_walk.specs.SeenFacts.{SeenModuleFacts, SeenFileFacts, SeenFacts}
 use Rattle.bl_walk.specs.State.{IsEntered}
-use Rattle.bl_walk.proofs.InsideLemmas.{nothing_in, rest_is_inside}
-use Rattle.bl_walk.proofs.LengthLemmas.{same_some, length_in}
-
-not_none : {A : Type 0} (found : Option A) (x : A) → found ≡ Some x → found ≡ None → ⊥
-not_none found x some none = cc
-
-same_ok : (x y : InfoFacts) → (let r : Result InfoFacts InfoFault = Ok x in r) ≡ Ok y → x ≡ y
-same_ok x y same = cc
-
--- ---- the information is one
-
-pub same_size : (h : Handover) (a b : ℕ) → HasTotalSize h a → HasTotalSize h b → a ≡ b
-same_size h a b p q =
-    let same = same_some p.fixed_part q.fixed_part (sym p.front ∙ q.front) in
-    p.told ∙ ap (λ bytes. u32_at bytes 0) same ∙ sym q.told
-
-pub same_information : (h : Handover) (a b : List ℕ) → IsInformation h a → IsInformation h b → a ≡ b
-same_information h a b p q =
-    same_some a b
-    (sym p.whole
-    ∙ ap (bytes_in h.parts h.registers.ebx)
-    (same_size h p.size q.size p.total_size q.total_size) ∙ q.whole)
-
-spelling_read : (bytes : List ℕ) (info : InfoFacts) → IsSpelling bytes info → length bytes < 2 ^ 32
-    → info_of bytes ≡ Ok info
-spelling_read bytes info is fits =
-    let e = is.exact in
-    rw e (spelled_is_read info.name info.facts is.name is.facts (rw (← e) fits))
-
-pub says_read : (h : Handover) (info : InfoFacts) (says : InformationSays h info)
-    → info_of says.bytes ≡ Ok info
-says_read h info says =
-    let is = says.information in
-    let small = is.total_size.small in
-    let long = length_in h.parts h.registers.ebx is.size says.bytes is.whole in
-    spelling_read says.bytes info says.spelling (omega arith)
-
-pub same_info : (h : Handover) (a b : InfoFacts) → InformationSays h a → InformationSays h b → a ≡ b
-same_info h a b p q =
-    same_ok a b
-    (sym (says_read h a p)
-    ∙ ap info_of (same_information h p.bytes q.bytes p.information q.information)
-    ∙ says_read h b q)
-
--- ---- the boot parameters are one
-
-pub same_bytes : (h : Handover) (a b : List ℕ) → AreParameters h a → AreParameters h b → a ≡ b
-same_bytes h a b p q = same_some a b (sym p.whole ∙ q.whole)
-
-pub same_params : (h : Handover) (a b : ParamsFacts) → ParametersSay h a → ParametersSay h b → a ≡ b
-same_params h a b p q =
-    one_reading q.bytes a b
-    (subst (λ bytes. IsParams bytes a) (same_bytes h p.bytes q.bytes p.parameters q.parameters)
-    p.told) q.told
-
--- ---- each module that is told of is seen
-
-seen_at : (parts : List Part) (ms : List ModuleInfo) (ss : List SeenModuleFacts) (k : ℕ)
-    (m : ModuleInfo) → AreSeenModules parts ms ss
-    → k < length ms → get_or ms k m ≡ m
-    → (bytes : List ℕ) × (bytes_in parts m.mod_start (m.mod_end - m.mod_start) ≡ Some bytes)
-seen_at parts [] ss k m are within is = absurd (omega arith)
-seen_at parts (n ∷ ms) [] k m are within is = absurd are
-seen_at parts (n ∷ ms) (s ∷ ss) zero m are within is = (
-  s.bytes,
-  subst
-      (λ (x : ModuleInfo). bytes_in parts x.mod_start (x.mod_end - x.mod_start) ≡ Some s.bytes) is
-      are.0.bytes,
-)
-seen_at parts (n ∷ ms) (s ∷ ss) (suc k) m are within is =
-    seen_at parts ms ss k m are.1 (omega arith) is
+use Rattle.bl_walk.proofs.RangeLemmas.{nothing_in, rest_is_inside}
+use Rattle.bl_walk.proofs.LengthLemmas.{same_some}
+use Rattle.bl_walk.proofs.OneToldLemmas.{not_none, same_size, same_information, says_read}
+use Rattle.bl_walk.proofs.OneToldLemmas.{same_info, same_bytes, same_params, seen_at}
 
 -- ---- Multiboot2
 

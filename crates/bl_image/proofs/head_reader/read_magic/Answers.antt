@@ -4,7 +4,8 @@ use Rattle.std.proofs.lemmas.Result.{err_from_is_err_and}
 use Rattle.bl_image.specs.Fields.{magic_field}
 use Rattle.bl_image.specs.Image.{magic}
 use Rattle.bl_image.proofs.Inputs.{comes_as}
-use Rattle.bl_image.proofs.FieldLemmas.{field_cut, field_shows, text_differs, text_same}
+use Rattle.bl_image.proofs.FieldLemmas.{field_cut, field_shows}
+use Rattle.bl_image.proofs.FieldTests.{text_differs, text_same}
 use Rattle.bl_image.proofs.head_reader.read_magic.Goals as goal
 
 pub returns-in_err-read_exact-clause-field : goal.returns-in_err-read_exact-clause-field

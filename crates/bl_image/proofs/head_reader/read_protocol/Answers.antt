@@ -7,7 +7,8 @@ use Rattle.bl_mem.proofs.WordLaws.{length-u32_bytes}
 use Rattle.bl_image.specs.declared.fault.ImageFault.TheVariants.{BadHeader}
 use Rattle.bl_image.specs.Fields.{protocol_field}
 use Rattle.bl_image.proofs.Inputs.{comes_as}
-use Rattle.bl_image.proofs.FieldLemmas.{field_cut, field_shows, word_tells, not_between}
+use Rattle.bl_image.proofs.FieldLemmas.{field_cut, field_shows, word_tells}
+use Rattle.bl_image.proofs.FieldTests.{not_between}
 use Rattle.bl_image.proofs.ReadAgain.{protocol_fits, protocol_between}
 use Rattle.bl_image.proofs.head_reader.read_protocol.Goals as goal
 

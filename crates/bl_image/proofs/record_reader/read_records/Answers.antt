@@ -7,7 +7,8 @@ use Rattle.std.proofs.lemmas.Result.{err_from_is_err_and}
 use Rattle.bl_image.specs.ImageFaults.{parts_fault, none_before, Before}
 use Rattle.bl_image.proofs.Inputs.{comes_more, comes_as}
 use Rattle.bl_image.proofs.FieldLemmas.{Passed, passed_refuses}
-use Rattle.bl_image.proofs.RecordLemmas.{record_refuses, so_far, judged_more, came_more, sound_more}
+use Rattle.bl_image.proofs.RecordLemmas.{record_refuses}
+use Rattle.bl_image.proofs.SoundLemmas.{so_far, judged_more, came_more, sound_more}
 use Rattle.bl_image.proofs.record_reader.read_records.Goals as goal
 
 pub returns-in_err-place-clause-refused : goal.returns-in_err-place-clause-refused

@@ -8,7 +8,8 @@ use Rattle.bl_image.specs.declared.fault.ImageFault.TheVariants.{BadPart}
 use Rattle.bl_image.specs.Fields.{role_field}
 use Rattle.bl_image.proofs.Inputs.{comes_as}
 use Rattle.bl_image.proofs.ReadAgain.{role_fits, role_between}
-use Rattle.bl_image.proofs.FieldLemmas.{field_cut, field_shows, word_tells, not_between}
+use Rattle.bl_image.proofs.FieldLemmas.{field_cut, field_shows, word_tells}
+use Rattle.bl_image.proofs.FieldTests.{not_between}
 use Rattle.bl_image.proofs.record_reader.read_role.Goals as goal
 
 pub returns-in_err-number-clause-field : goal.returns-in_err-number-clause-field

@@ -4,8 +4,9 @@ use Rattle.std.proofs.lemmas.List.{drop_more, get_or_default}
 use Rattle.bl_mem.specs.Files.{text_at}
 use Rattle.bl_load.specs.Blocks.{span_of}
 use Rattle.bl_load.specs.Parts.{no_segment}
-use Rattle.bl_load.proofs.BlockLemmas.{block_from, block_from_first, first_below, left_behind}
-use Rattle.bl_load.proofs.BlockLemmas.{gap_beside, segment_beside, step_size, block_step}
+use Rattle.bl_load.proofs.BlockLemmas.{block_from}
+use Rattle.bl_load.proofs.BlockStepLemmas.{block_from_first, first_below, left_behind, gap_beside}
+use Rattle.bl_load.proofs.BlockStepLemmas.{segment_beside, step_size, block_step}
 use Rattle.bl_load.proofs.blocks.load_block.Goals as goal
 
 pub loop-segment-init : goal.loop-segment-init

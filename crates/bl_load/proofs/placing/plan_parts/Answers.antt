@@ -18,7 +18,7 @@ use Rattle.bl_load.proofs.ReadingLaws.{reading_rows, reading_rowed, reading_reco
 use Rattle.bl_load.proofs.ReadingLaws.{reading_not_overlap}
 use Rattle.bl_load.proofs.ReadingLemmas.{told_are_rows, told_placed, told_fault, fits_told}
 use Rattle.bl_load.proofs.ReadingLemmas.{can_enter}
-use Rattle.bl_load.proofs.RowPlaceLemmas.{are_inside}
+use Rattle.bl_load.proofs.PlaceBoundLemmas.{are_inside}
 use Rattle.bl_load.proofs.placing.plan_parts.Goals as goal
 
 pub place_rows-requires : goal.place_rows-requires

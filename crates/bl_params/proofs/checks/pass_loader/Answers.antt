@@ -1,5 +1,5 @@
-use Rattle.bl_params.proofs.FormLemmas.{quiet_207, quiet_211, quiet_251, version_is, loader_is}
-use Rattle.bl_params.proofs.FormLemmas.{setup_data_is}
+use Rattle.bl_params.proofs.HeaderFormLemmas.{quiet_207, quiet_211, quiet_251, version_is}
+use Rattle.bl_params.proofs.HeaderFormLemmas.{loader_is, setup_data_is}
 use Rattle.bl_params.proofs.checks.pass_loader.Goals as goal
 
 pub go_on-requires-clause-here : goal.go_on-requires-clause-here

@@ -1,5 +1,7 @@
-use Rattle.bl_params.proofs.FormLemmas.{quiet_1F1, quiet_1FB, quiet_1FF, quiet_203, vid_mode_is}
-use Rattle.bl_params.proofs.FormLemmas.{boot_flag_is, jump_is, long_from, magic_is, sound_more}
+use Rattle.bl_params.proofs.HeaderFormLemmas.{quiet_1F1, quiet_1FB, quiet_1FF, quiet_203}
+use Rattle.bl_params.proofs.HeaderFormLemmas.{vid_mode_is, boot_flag_is, jump_is, long_from}
+use Rattle.bl_params.proofs.HeaderFormLemmas.{magic_is}
+use Rattle.bl_params.proofs.FormLemmas.{sound_more}
 use Rattle.bl_params.proofs.checks.pass_magic.Goals as goal
 
 pub go_on-requires-clause-upto : goal.go_on-requires-clause-upto

@@ -4,7 +4,8 @@ use Rattle.bl_session.specs.Boot.{unstarted}
 use Rattle.bl_session.specs.Phases.{boot_facts}
 use Rattle.bl_session.specs.PhasesKept.{state_of}
 use Rattle.bl_session.specs.declared.attempting.Attempt.TheVariants.{Waits, HandedOver}
-use Rattle.bl_session.proofs.AdvanceLemmas.{begins_at, begins_later, memory_later}
+use Rattle.bl_session.proofs.AdvanceLemmas.{begins_at, begins_later}
+use Rattle.bl_session.proofs.KeptMemoryLemmas.{memory_later}
 use Rattle.bl_session.proofs.advancing.+begin.Goals as goal
 
 pub returns-in-Waits-clause-begun : goal.returns-in-Waits-clause-begun

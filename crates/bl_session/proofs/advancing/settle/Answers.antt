@@ -6,7 +6,7 @@ use Rattle.bl_session.specs.Phases.{boot_facts}
 use Rattle.bl_session.specs.PhasesKept.{state_of}
 use Rattle.bl_session.specs.declared.attempting.Attempt.TheVariants.{Waits, HandedOver}
 use Rattle.bl_session.proofs.AdvanceLemmas.{continues, continues_later, attempt_of_entry}
-use Rattle.bl_session.proofs.AdvanceLemmas.{memory_later}
+use Rattle.bl_session.proofs.KeptMemoryLemmas.{memory_later}
 use Rattle.bl_session.proofs.advancing.settle.Goals as goal
 
 pub returns-in-Waits-clause-continues : goal.returns-in-Waits-clause-continues

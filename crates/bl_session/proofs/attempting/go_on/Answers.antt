@@ -8,7 +8,7 @@ use Rattle.bl_session.specs.Ends.{handed, refused, EndsIn}
 use Rattle.bl_session.specs.Finished.{IsNotHandedOver}
 use Rattle.bl_session.specs.Phases.{handover_held}
 use Rattle.bl_session.proofs.AttemptLemmas.{not_whole, ends_by_spots}
-use Rattle.bl_session.proofs.SpotLemmas.{came_whole}
+use Rattle.bl_session.proofs.WholeLemmas.{came_whole}
 use Rattle.bl_session.proofs.attempting.go_on.Goals as goal
 
 pub returns-then-not-complete-clause-attempt : goal.returns-then-not-complete-clause-attempt

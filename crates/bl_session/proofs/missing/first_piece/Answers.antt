@@ -1,6 +1,6 @@
 use Rattle.std.proofs.Common.{◌∙◌, [], slice_index_or, sym, arith}
 use Rattle.bl_stage.specs.Spots.{spots}
-use Rattle.bl_session.proofs.SpotLemmas.{missing_awaited}
+use Rattle.bl_session.proofs.StoredLemmas.{missing_awaited}
 use Rattle.bl_session.proofs.MissingLemmas.{piece_here, piece_later, piece_none, length-file_spots}
 use Rattle.bl_session.proofs.missing.first_piece.Goals as goal
 

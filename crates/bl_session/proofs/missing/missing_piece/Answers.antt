@@ -1,6 +1,6 @@
 use Rattle.std.proofs.Common.{[], sym, ◌∙◌}
 use Rattle.bl_stage.specs.Spots.{spots}
-use Rattle.bl_session.proofs.SpotLemmas.{whole_came}
+use Rattle.bl_session.proofs.WholeLemmas.{whole_came}
 use Rattle.bl_session.proofs.MissingLemmas.{none_missing}
 use Rattle.bl_session.proofs.missing.missing_piece.Goals as goal
 

@@ -1,8 +1,9 @@
 use Rattle.std.proofs.Common.{◌∙◌, refl, arith}
 use Rattle.std.proofs.lemmas.Result.{err_from_is_err_and}
 use Rattle.bl_session.specs.Menu.{files_of}
-use Rattle.bl_session.proofs.AskLemmas.{sized_orders, asked_none, asked_file, asked_some}
-use Rattle.bl_session.proofs.AskLemmas.{asked_files, asked_sized}
+use Rattle.bl_session.proofs.AskLemmas.{asked_none}
+use Rattle.bl_session.proofs.AskFileLemmas.{sized_orders, asked_file, asked_some, asked_files}
+use Rattle.bl_session.proofs.AskFileLemmas.{asked_sized}
 use Rattle.bl_session.proofs.submitting.submit_files.Goals as goal
 
 pub loop-place-init : goal.loop-place-init

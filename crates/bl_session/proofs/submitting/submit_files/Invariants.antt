@@ -1,7 +1,7 @@
 use Rattle.std.proofs.Common.{◌≡◌, drop}
 use Rattle.bl_session.specs.Menu.{files_of}
 use Rattle.bl_session.specs.Turns.{IsAsked}
-use Rattle.bl_session.proofs.AskLemmas.{sized_orders}
+use Rattle.bl_session.proofs.AskFileLemmas.{sized_orders}
 use Rattle.bl_session.proofs.submitting.submit_files.Given as goal
 
 -- all but the files from this place on were asked for

@@ -1,7 +1,7 @@
 use Rattle.std.proofs.Common.{Bool, ◌&&◌, sym, ap, ◌∙◌}
 use Rattle.bl_stage.specs.Spots.{spots}
 use Rattle.bl_session.specs.Pieces.{is_awaited, spot_of}
-use Rattle.bl_session.proofs.SpotLemmas.{missing_awaited}
+use Rattle.bl_session.proofs.StoredLemmas.{missing_awaited}
 use Rattle.bl_session.proofs.taking.awaits_fault.Goals as goal
 
 pub returns-then-is_of : goal.returns-then-is_of

@@ -3,7 +3,8 @@ use Rattle.bl_stage.specs.Spots.{spots}
 use Rattle.bl_session.specs.Boot.{fault, is_wanted}
 use Rattle.bl_session.specs.Phases.{boot_facts}
 use Rattle.bl_session.specs.PhasesKept.{state_of}
-use Rattle.bl_session.proofs.StepLemmas.{steps_fault, lacks_fault, memory_taken, same_itself}
+use Rattle.bl_session.proofs.StepLemmas.{memory_taken}
+use Rattle.bl_session.proofs.StepFaultLemmas.{steps_fault, lacks_fault, same_itself}
 use Rattle.bl_session.proofs.taking.take_fault.Goals as goal
 
 pub returns-clause-step : goal.returns-clause-step

@@ -1,4 +1,4 @@
-use Rattle.bl_session.proofs.HearLemmas.{lost}
+use Rattle.bl_session.proofs.AnswerLemmas.{lost}
 use Rattle.bl_session.proofs.turn.answer.Goals as goal
 
 pub returns-in-None-clause-left : goal.returns-in-None-clause-left

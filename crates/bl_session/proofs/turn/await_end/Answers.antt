@@ -3,8 +3,9 @@ use Rattle.bl_session.specs.Boot.{BootFacts}
 use Rattle.bl_session.specs.Memory.{IsMemoryIn}
 use Rattle.bl_session.specs.Phases.{state_at}
 use Rattle.bl_session.specs.Turns.{attempts_in}
-use Rattle.bl_session.proofs.AdvanceLemmas.{memory_on, same_on}
-use Rattle.bl_session.proofs.HearLemmas.{at, heard_more, heard_waiting, heard_ended, waiting_memory}
+use Rattle.bl_session.proofs.KeptMemoryLemmas.{memory_on, same_on}
+use Rattle.bl_session.proofs.AnswerLemmas.{at, heard_more, heard_waiting, heard_ended}
+use Rattle.bl_session.proofs.AnswerLemmas.{waiting_memory}
 use Rattle.bl_session.proofs.turn.await_end.Goals as goal
 
 pub answers-preserved : goal.answers-preserved

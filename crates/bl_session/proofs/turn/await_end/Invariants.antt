@@ -3,7 +3,7 @@ use Rattle.bl_mem.specs.Memory.{KeepsRoom}
 use Rattle.bl_stage.specs.Ranges.{IsSameOutside}
 use Rattle.bl_session.specs.Phases.{state_at, is_waiting}
 use Rattle.bl_session.specs.Turns.{IsHeard, attempts_in}
-use Rattle.bl_session.proofs.HearLemmas.{at}
+use Rattle.bl_session.proofs.AnswerLemmas.{at}
 use Rattle.bl_session.proofs.turn.await_end.Given as goal
 
 -- the attempt waits; what was heard so far led from where it stood

@@ -3,8 +3,9 @@ use Rattle.std.proofs.Common.{arith, rules, sym, ap, ◌∙◌}
 use Rattle.std.specs.List.{count_by}
 use Rattle.bl_mem.specs.Memory.{overwrite}
 use Rattle.bl_stage.specs.Cells.{cell_at, is_spare_cell, is_stranded_cell}
-use Rattle.bl_stage.proofs.MoveLemmas.{none_moved, enough_first, none_more, enough_rest, spare_is}
-use Rattle.bl_stage.proofs.MoveLemmas.{one_more, enough_after, spare_before}
+use Rattle.bl_stage.proofs.SpareLemmas.{enough_first, enough_rest, spare_is, enough_after}
+use Rattle.bl_stage.proofs.SpareLemmas.{spare_before}
+use Rattle.bl_stage.proofs.MoveLemmas.{none_moved, none_more, one_more}
 use Rattle.bl_stage.proofs.moves.move_out.Goals as goal
 use Rattle.bl_stage.proofs.moves.move_out.Goals.{then-cell+in-Some, then-cell+in_default, else-cell}
 

@@ -1,6 +1,6 @@
 use Rattle.std.proofs.Common.{◌≤◌, arith, sym, ap, ◌∙◌}
 use Rattle.std.specs.Option.{option_copied}
-use Rattle.bl_walk.proofs.InsideLemmas.{nothing_in, outside_in, inside_in}
+use Rattle.bl_walk.proofs.RangeLemmas.{nothing_in, outside_in, inside_in}
 use Rattle.bl_walk.proofs.inside.bytes_at.Goals as goal
 
 pub returns-then-count-eq0-clause-exact : goal.returns-then-count-eq0-clause-exact

@@ -1,6 +1,6 @@
 use Rattle.std.proofs.Common.{◌-◌, Some, sym, ap, ◌∙◌}
 use Rattle.std.specs.Option.{option_copied}
-use Rattle.bl_walk.proofs.InsideLemmas.{no_rest_in, some_rest_in, all_of}
+use Rattle.bl_walk.proofs.RangeLemmas.{no_rest_in, some_rest_in, all_of}
 use Rattle.bl_walk.proofs.inside.rest_at.Goals as goal
 
 pub returns-in_err-part : goal.returns-in_err-part

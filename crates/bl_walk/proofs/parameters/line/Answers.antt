@@ -1,7 +1,7 @@
 use Rattle.std.proofs.Common.{◌≡◌, sym, ap}
 use Rattle.bl_params.specs.ParamsFacts.{ParamsFacts}
 use Rattle.bl_walk.specs.Faults.{command_line, outside_parts, endless_line}
-use Rattle.bl_walk.proofs.InsideLemmas.{rest_is_outside}
+use Rattle.bl_walk.proofs.RangeLemmas.{rest_is_outside}
 use Rattle.bl_walk.proofs.parameters.line.Goals as goal
 
 pub returns-in_default-clause-fault : goal.returns-in_default-clause-fault

@@ -1,5 +1,5 @@
 use Rattle.std.proofs.Common.{refl}
-use Rattle.bl_mem.proofs.SparseLemmas.{constant_values}
+use Rattle.bl_mem.proofs.ValueLemmas.{constant_values}
 use Rattle.bl_mem.proofs.sparse.Sparse.new.Goals as goal
 
 pub returns-clause-exact : goal.returns-clause-exact

@@ -2,7 +2,8 @@ use Rattle.std.proofs.Common.{◌≡◌, ◌+◌, ◌-◌, length, slice_range, 
 use Rattle.std.proofs.lemmas.List.{places}
 use Rattle.std.proofs.lemmas.Slice.{take-put_mid}
 use Rattle.bl_mem.specs.Sparse.{bytes_of}
-use Rattle.bl_mem.proofs.SparseLemmas.{bytes_of_length, read_on}
+use Rattle.bl_mem.proofs.ValueLemmas.{bytes_of_length}
+use Rattle.bl_mem.proofs.SparseLemmas.{read_on}
 use Rattle.bl_mem.proofs.sparse.SparsePhysMem.read.Goals as goal
 
 pub loop-done-preserved : goal.loop-done-preserved

@@ -1,7 +1,7 @@
 use Rattle.std.proofs.Common.{◌∙◌, arith}
 use Rattle.bl_mem.proofs.SparseLemmas.{write_on}
 use Rattle.bl_mem.specs.Sparse.{bytes_of}
-use Rattle.bl_mem.proofs.SparseLemmas.{bytes_of_length}
+use Rattle.bl_mem.proofs.ValueLemmas.{bytes_of_length}
 use Rattle.bl_mem.proofs.sparse.SparsePhysMem.write.Goals as goal
 
 pub loop-done-preserved : goal.loop-done-preserved

@@ -3,7 +3,7 @@ use Rattle.std.proofs.lemmas.List.{length-replicate, replicate-append-replicate}
 use Rattle.bl_mem.specs.Memory.{overwrite}
 use Rattle.bl_mem.proofs.Overwrites.{overwrite_more}
 use Rattle.bl_mem.specs.Sparse.{bytes_of}
-use Rattle.bl_mem.proofs.SparseLemmas.{bytes_of_length}
+use Rattle.bl_mem.proofs.ValueLemmas.{bytes_of_length}
 use Rattle.bl_mem.proofs.sparse.SparsePhysMem.zero.Goals as goal
 
 pub loop-at-preserved : goal.loop-at-preserved

@@ -1,4 +1,4 @@
-use Rattle.bl_session.proofs.StoreLemmas.{kept_request}
+use Rattle.bl_session.proofs.RequestLemmas.{kept_request}
 use Rattle.bl_session.specs.Stores.{stored_files}
 use Rattle.bl_session.proofs.file_store.FileStoreStore.submit.Goals as goal
 

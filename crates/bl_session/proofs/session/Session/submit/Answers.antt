@@ -1,7 +1,7 @@
 use Rattle.std.proofs.Common.{◌≡◌, ◌∙◌, drop, length, rules, ap, sym}
 use Rattle.bl_session.specs.Menu.{EntryFacts, files_of, entry_at}
 use Rattle.bl_session.specs.Phases.{SessionFacts, phase_facts}
-use Rattle.bl_session.proofs.AskLemmas.{asked_in}
+use Rattle.bl_session.proofs.AskFileLemmas.{asked_in}
 use Rattle.bl_session.proofs.session.Session.submit.Goals as goal
 
 pub returns-clause-err : goal.returns-clause-err

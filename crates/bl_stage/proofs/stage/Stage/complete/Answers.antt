@@ -1,6 +1,6 @@
 use Rattle.std.proofs.Common.{◌∙◌, ap, not}
 use Rattle.std.specs.List.{count_by}
-use Rattle.bl_stage.proofs.FileLemmas.{complete_iff}
+use Rattle.bl_stage.proofs.PieceLemmas.{complete_iff}
 use Rattle.bl_stage.proofs.stage.Stage.complete.Goals as goal
 
 pub returns-clause-exact : goal.returns-clause-exact

@@ -4,7 +4,7 @@ use Rattle.std.proofs.lemmas.List.{with_items_is}
 use Rattle.bl_stage.specs.Staged.{Staging, AreStaged, file_of, with_frames}
 use Rattle.bl_stage.specs.Cells.{ReadsAs, MadeWay}
 use Rattle.bl_stage.specs.Spots.{spots}
-use Rattle.bl_stage.proofs.FileLemmas.{kept_staged, file_evacuated}
+use Rattle.bl_stage.proofs.PieceLemmas.{kept_staged, file_evacuated}
 use Rattle.bl_stage.proofs.SpotLemmas.{spots_same}
 use Rattle.bl_stage.proofs.stage.Stage.evacuate.Goals as goal
 use Rattle.bl_stage.proofs.stage.Stage.evacuate.Goals.{then-made, else-made}

@@ -3,8 +3,8 @@ use Rattle.bl_mem.specs.Memory.{overwrite}
 use Rattle.bl_stage.specs.Staged.{Staging, AreStaged, file_of}
 use Rattle.bl_stage.specs.Spots.{spots}
 use Rattle.bl_stage.specs.Pieces.{slot_in, is_piece}
-use Rattle.bl_stage.proofs.FileLemmas.{IsPiece, kept_staged, found_piece, piece_is, piece_in_file}
-use Rattle.bl_stage.proofs.FileLemmas.{piece_in_others}
+use Rattle.bl_stage.proofs.PieceLemmas.{IsPiece, kept_staged, found_piece, piece_is, piece_in_file}
+use Rattle.bl_stage.proofs.PieceLemmas.{piece_in_others}
 use Rattle.bl_stage.proofs.SpotLemmas.{spots_put}
 use Rattle.bl_stage.proofs.stage.Stage.put.Goals as goal
 

@@ -1,0 +1,73 @@
+-- The numbers of a role, of a protocol and of registers are of one role, one protocol and one list.
+use Rattle.std.proofs.Common.{◌≡◌, ℕ, List, [], ◌∷◌, get_or, refl, sym, ap, ◌∙◌}
+use Rattle.bl_plan.specs.declared.part.Role.{Role}
+use Rattle.bl_plan.specs.declared.part.Role.TheVariants.{Kernel, Module, Information, BootParams}
+use Rattle.bl_plan.specs.declared.part.Role.TheVariants.{CommandLine, Gdt, Initrd}
+use Rattle.bl_plan.specs.Roles as roles
+use Rattle.bl_plan.specs.declared.protocol.Protocol.{Protocol}
+use Rattle.bl_plan.specs.declared.protocol.Protocol.TheVariants.{Multiboot2, Linux}
+use Rattle.bl_load.specs.declared.registers.Registers.{Registers}
+use Rattle.bl_plan.specs.Protocols as protocols
+use Rattle.bl_image.specs.Image.{register_numbers}
+
+-- the role, the protocol and the registers of their numbers
+role_of : ℕ → Role
+role_of n =
+    get_or (Kernel ∷ Kernel ∷ Module ∷ Information ∷ BootParams ∷ CommandLine ∷ Gdt ∷ Initrd ∷ []) n
+    Kernel
+
+role_again : (r : Role) → r ≡ role_of (roles.role_number r)
+unfolding role_of
+role_again Kernel = refl
+role_again Module = refl
+role_again Information = refl
+role_again BootParams = refl
+role_again CommandLine = refl
+role_again Gdt = refl
+role_again Initrd = refl
+
+pub role_same : (r s : Role) → roles.role_number r ≡ roles.role_number s → r ≡ s
+role_same r s e = role_again r ∙ ap role_of e ∙ sym (role_again s)
+
+protocol_of : ℕ → Protocol
+protocol_of n = get_or (Multiboot2 ∷ Multiboot2 ∷ Linux ∷ []) n Multiboot2
+
+protocol_again : (p : Protocol) → p ≡ protocol_of (protocols.protocol_number p)
+unfolding protocol_of
+protocol_again Multiboot2 = refl
+protocol_again Linux = refl
+
+pub protocol_same : (p q : Protocol) → protocols.protocol_number p ≡ protocols.protocol_number q
+    → p ≡ q
+protocol_same p q e = protocol_again p ∙ ap protocol_of e ∙ sym (protocol_again q)
+
+registers_of : List ℕ → Registers
+registers_of l = record {
+  eip = get_or l 0 0;
+  eax = get_or l 1 0;
+  ebx = get_or l 2 0;
+  ecx = get_or l 3 0;
+  edx = get_or l 4 0;
+  esi = get_or l 5 0;
+  edi = get_or l 6 0;
+  ebp = get_or l 7 0;
+  esp = get_or l 8 0;
+  eflags = get_or l 9 0;
+  cr0 = get_or l 10 0;
+  cs = get_or l 11 0;
+  ds = get_or l 12 0;
+  es = get_or l 13 0;
+  fs = get_or l 14 0;
+  gs = get_or l 15 0;
+  ss = get_or l 16 0;
+  gdt_base = get_or l 17 0;
+  gdt_limit = get_or l 18 0;
+  a20 = get_or l 19 0;
+}
+
+registers_again : (r : Registers) → r ≡ registers_of (register_numbers r)
+unfolding registers_of
+registers_again r = refl
+
+pub registers_same : (r s : Registers) → register_numbers r ≡ register_numbers s → r ≡ s
+registers_same r s e = registers_again r ∙ ap registers_of e ∙ sym (registers_again s)

@@ -1,0 +1,94 @@
+-- Each place has tags or the first fault of one.
+use Rattle.std.proofs.Common.{◌≡◌, ◌≤◌, ◌+◌, ◌⊎◌, inl, inr, ℕ, zero, suc, true, false, Option, Some}
+use Rattle.std.proofs.Common.{None, List, [], ◌∷◌, nat_eq, refl, arith}
+use Rattle.std.proofs.lemmas.Bool.{cases_Bool}
+use Rattle.std.proofs.lemmas.Bool.Decides.{nat_tests}
+use Rattle.bl_mem.specs.Words.{u16_at, u32_at}
+use Rattle.bl_mb2head.specs.declared.fault.HeadFault.{HeadFault}
+use Rattle.bl_mb2head.specs.declared.tag.Tag.{Tag}
+use Rattle.bl_mb2head.specs.Tags.{tag_at, after, is_well_formed, fault_at, AreAllTags, IsFirstFault}
+
+pub some_or_none : (fault : Option HeadFault)
+    → ((f : HeadFault) × (fault ≡ Some f)) ⊎ (fault ≡ None)
+some_or_none None = inr refl
+some_or_none (Some f) = inl (f, refl)
+
+-- the first 8 bytes of a sound tag lie before the header's end, and it has no fewer
+record HasRoom (bytes : List ℕ) (end at : ℕ) : Type 0 where
+  before : at + 8 ≤ end
+  size : 8 ≤ u32_at bytes (at + 4)
+
+well_formed_room : (bytes : List ℕ) (end at : ℕ) → is_well_formed bytes end at ≡ true
+    → HasRoom bytes end at
+unfolding is_well_formed
+well_formed_room bytes end at well =
+    record { before = grind (arith, nat_tests); size = grind (arith, nat_tests) }
+
+sound_room : (bytes : List ℕ) (end at : ℕ) → fault_at bytes end at ≡ None → HasRoom bytes end at
+unfolding fault_at
+sound_room bytes end at sound = well_formed_room bytes end at (grind (arith, nat_tests))
+
+-- the tags from a place on, or the first fault among them
+abbrev pub Tagged : List ℕ → ℕ → ℕ → Type 0
+Tagged bytes end at =
+    ((ts : List Tag) × AreAllTags bytes end at ts)
+    ⊎ ((fault : HeadFault) × IsFirstFault bytes end at fault)
+
+one_more : (bytes : List ℕ) (end at : ℕ) → fault_at bytes end at ≡ None
+    → nat_eq (u16_at bytes at) 0 ≡ false → Tagged bytes end (after (tag_at bytes at))
+    → Tagged bytes end at
+one_more bytes end at sound more (inl (ts, all)) =
+    inl (
+      tag_at bytes at ∷ ts,
+      record {
+        next = all.next;
+        tags = (refl, sound, more, all.tags);
+        sound = all.sound;
+        ends = all.ends;
+      },
+    )
+one_more bytes end at sound more (inr (fault, first)) =
+    inr (
+      fault,
+      record {
+        before = tag_at bytes at ∷ first.before;
+        next = first.next;
+        tags = (refl, sound, more, first.tags);
+        faulty = first.faulty;
+      },
+    )
+
+tagged_at : (bytes : List ℕ) (end at : ℕ)
+    → (HasRoom bytes end at → Tagged bytes end (after (tag_at bytes at))) → Tagged bytes end at
+tagged_at bytes end at rest =
+    elim (some_or_none (fault_at bytes end at)) [
+      | inl (fault, faulty) ↦
+          inr (fault, record { before = []; next = at; tags = refl; faulty = faulty })
+      | inr sound ↦ elim (cases_Bool (nat_eq (u16_at bytes at) 0)) [
+        | inl last ↦
+            inl (
+              [],
+              record {
+                next = at;
+                tags = refl;
+                sound = sound;
+                ends = grind (arith, nat_tests);
+              },
+            )
+        | inr more ↦ one_more bytes end at sound more (rest (sound_room bytes end at sound))
+      ]
+    ]
+
+-- each tag leaves fewer bytes before the header's end
+tagged_by : (n : ℕ) (bytes : List ℕ) (end at : ℕ) → end ≤ at + n → Tagged bytes end at
+tagged_by zero bytes end at near =
+    tagged_at bytes end at (λ room. let before = room.before in absurd (omega arith))
+tagged_by (suc n) bytes end at near =
+    tagged_at bytes end at
+    (λ room.
+    tagged_by n bytes end (after (tag_at bytes at)) (omega (arith, room.before, room.size)))
+
+pub tags_or_fault : (bytes : List ℕ) (end at : ℕ)
+    → ((ts : List Tag) × AreAllTags bytes end at ts)
+    ⊎ ((fault : HeadFault) × IsFirstFault bytes end at fault)
+tags_or_fault bytes end at = tagged_by end bytes end at (omega arith)

@@ -1,0 +1,138 @@
+-- A stage's files at first, and if each piece of them came.
+use Rattle.std.proofs.Common.{◌≡◌, ℕ, zero, suc, ◌+◌, ◌-◌, ◌<◌, ◌≤◌, ◌&&◌, Bool, true, false, not}
+use Rattle.std.proofs.Common.{List, [], ◌∷◌, length, map, take, get_or, arith, refl, sym, ap, ◌∙◌}
+use Rattle.std.proofs.Common.{inl, inr}
+use Rattle.std.specs.List.{list_all, range_with_len}
+use Rattle.std.specs.declared.ops.Range.{Range}
+use Rattle.std.proofs.lemmas.Bool.{cases_lt}
+use Rattle.std.proofs.lemmas.List.{get_or_default, get_or-map, length-map, ext_get_or}
+use Rattle.std.proofs.lemmas.List.Sums.{sum_by-cons}
+use Rattle.std.proofs.lemmas.List.FromFn.{length-map-range_with_len, get_or-map-range_with_len}
+use Rattle.bl_map.specs.Room.{frames_of}
+use Rattle.bl_stage.specs.Staged.{Staging, AreStaged, AllCame, file_of, texts_of, fresh, frames_for}
+use Rattle.bl_stage.specs.Staged.{first_of}
+use Rattle.bl_stage.specs.Pieces.{slot_in}
+use Rattle.bl_stage.specs.Spots as stage
+use Rattle.bl_stage.specs.Spots.{Spot, spots, spots_of, spot_at, piece_of, waiting_spots, bytes_of}
+use Rattle.bl_stage.specs.TextLaws.{same_firsts}
+use Rattle.bl_stage.proofs.FileLemmas.{file_within}
+use Rattle.bl_stage.proofs.SpotLaws.{complete_spots, fresh_spots}
+use Rattle.bl_session.specs.Pieces.{is_awaited, are_whole, awaited}
+
+-- ---- at first
+
+each_size : (sizes : List ℕ)
+    → map (λ file. waiting_spots (get_or sizes file 0)) (range_with_len 0 (length sizes))
+    ≡ awaited sizes
+each_size sizes =
+    let d : List Spot = [] in
+    let f : ℕ → List Spot = λ file. waiting_spots (get_or sizes file 0) in
+    let long = length-map-range_with_len f 0 (length sizes) in
+    ext_get_or d _ _ (long ∙ sym (length-map sizes waiting_spots)) (λ k h.
+    get_or-map-range_with_len f 0 (length sizes) k k d (omega arith) (omega arith)
+    ∙ sym (get_or-map waiting_spots sizes k 0 d (omega arith)))
+
+pub first_awaited : (bytes : List ℕ) (pool : Range ℕ) (sizes frames : List ℕ)
+    → spots bytes (fresh pool sizes frames) ≡ awaited sizes
+first_awaited bytes pool sizes frames = fresh_spots bytes pool sizes frames ∙ each_size sizes
+
+-- ---- each came
+
+all_from : {X : Type 0} (p : X → Bool) (f : ℕ → X) (start count : ℕ)
+    → ((i : ℕ) → start ≤ i → i < start + count → p (f i) ≡ true)
+    → list_all p (map f (range_with_len start count)) ≡ true
+all_from p f start zero h = refl
+all_from p f start (suc count) h =
+    rw (h start (omega arith) (omega arith))
+    (all_from p f (start + 1) count (λ i l u. h i (omega arith) (omega arith)))
+
+both : (a b : Bool) → (a && b) ≡ true → (a ≡ true) × (b ≡ true)
+both true b e = (refl, e)
+both false b e = absurd cc
+
+all_at : {X : Type 0} (p : X → Bool) (f : ℕ → X) (start count i : ℕ)
+    → list_all p (map f (range_with_len start count)) ≡ true → start ≤ i → i < start + count
+    → p (f i) ≡ true
+all_at p f start zero i e l u = absurd (omega arith)
+all_at p f start (suc count) i e l u =
+    let parts = both (p (f start)) (list_all p (map f (range_with_len (start + 1) count))) e in
+    elim (cases_lt start i) [
+      | inl later ↦ all_at p f (start + 1) count i parts.1 (omega arith) (omega arith)
+      | inr first ↦ let same : i ≡ start = omega arith in rw same parts.0
+    ]
+
+-- each place in the list of all frames is that of a piece
+find_piece : (sizes : List ℕ) (k : ℕ) → k < frames_for sizes
+    → (file : ℕ) × (index : ℕ) × (file < length sizes) × (index < frames_of (get_or sizes file 0))
+    × (first_of sizes file + index ≡ k)
+find_piece [] k h = absurd (omega arith)
+find_piece (size ∷ sizes) k h =
+    let all = sum_by-cons frames_of size sizes in
+    elim (cases_lt k (frames_of size)) [
+      | inl here ↦ (0, k, omega arith, here, omega arith)
+      | inr behind ↦
+          let found = find_piece sizes (k - frames_of size) (omega arith) in
+          let before = sum_by-cons frames_of size (take found.0 sizes) in
+          let named = found.2 in
+          let is = found.4 in
+          (suc found.0, found.1, omega arith, found.3, omega arith)
+    ]
+
+came_slot : (stage : Staging) (file index : ℕ) → AreStaged stage → AllCame stage
+    → file < length stage.sizes → index < frames_of (get_or stage.sizes file 0)
+    → get_or stage.came (slot_in stage file index) false ≡ true
+came_slot stage file index kept came h i =
+    let within = file_within stage.sizes file h in
+    let all = kept.all in
+    let flags = kept.flags in
+    came (slot_in stage file index) false (omega arith)
+
+pub came_whole : (bytes : List ℕ) (stage : Staging) → AreStaged stage → AllCame stage
+    → are_whole (spots bytes stage) ≡ true
+came_whole bytes stage kept came =
+    let q : Spot → Bool = λ spot. not (is_awaited spot) in
+    all_from (λ (s : List Spot). list_all q s) (λ file. spots_of bytes stage file) 0
+    (length stage.sizes) (λ file l h.
+    all_from q (λ k. spot_at bytes stage file k) 0 (frames_of (get_or stage.sizes file 0)) (λ k m i.
+    rw (came_slot stage file k kept came (omega arith) (omega arith)) refl))
+
+flag_of : (came : Bool) (piece : List ℕ) → not (is_awaited (stage.spot_of came piece)) ≡ true
+    → came ≡ true
+flag_of true piece e = refl
+flag_of false piece e = absurd cc
+
+pub whole_came : (bytes : List ℕ) (stage : Staging) → AreStaged stage
+    → are_whole (spots bytes stage) ≡ true → AllCame stage
+whole_came bytes stage kept whole = λ k d h.
+    let q : Spot → Bool = λ spot. not (is_awaited spot) in
+    let all = kept.all in
+    let flags = kept.flags in
+    let found = find_piece stage.sizes k (omega arith) in
+    let named = found.2 in
+    let within = found.3 in
+    let of_file =
+    all_at (λ (s : List Spot). list_all q s) (λ file. spots_of bytes stage file) 0
+    (length stage.sizes) found.0 whole (omega arith) (omega arith) in
+    let of_piece =
+    all_at q (λ i. spot_at bytes stage found.0 i) 0 (frames_of (get_or stage.sizes found.0 0))
+    found.1 of_file (omega arith) (omega arith) in
+    let came =
+    flag_of (get_or stage.came (slot_in stage found.0 found.1) false)
+    (piece_of (file_of bytes stage found.0) found.1) of_piece in
+    get_or_default stage.came k d false h ∙ ap (λ n. get_or stage.came n false) (sym found.4) ∙ came
+
+-- ---- the files' bytes
+
+map_after : {X Y Z : Type 0} (g : Y → Z) (f : X → Y) (xs : List X)
+    → map g (map f xs) ≡ map (λ x. g (f x)) xs
+map_after g f [] = refl
+map_after g f (x ∷ xs) = ap (λ rest. g (f x) ∷ rest) (map_after g f xs)
+
+pub whole_texts : (bytes : List ℕ) (stage : Staging) → AreStaged stage → AllCame stage
+    → map bytes_of (spots bytes stage) ≡ texts_of bytes stage
+whole_texts bytes stage kept came =
+    let d : List ℕ = [] in
+    map_after bytes_of (λ file. spots_of bytes stage file) (range_with_len 0 (length stage.sizes))
+    ∙ same_firsts d (λ file. bytes_of (spots_of bytes stage file))
+    (λ file. file_of bytes stage file) (length stage.sizes)
+    (λ file h. complete_spots bytes stage file kept came h)

@@ -1,0 +1,196 @@
+-- What a Linux kernel is told stands in the image of the entry's handover.
+use Rattle.std.proofs.Common.{◌≡◌, ◌+◌, ◌≤◌, ◌∷◌, ℕ, true, List, [], length, take, get_or, Option}
+use Rattle.std.proofs.Common.{Some, None, option_map, refl, sym, ap, ◌∙◌, arith, subst, All}
+use Rattle.std.proofs.Common.{AllPairs, nat_lt}
+use Rattle.std.specs.List.{list_any}
+use Rattle.std.proofs.lemmas.Bool.{ltb-false, eqb-true}
+use Rattle.std.proofs.lemmas.List.Elements.{All-head}
+use Rattle.std.proofs.Math.Seq.{take-length}
+use Rattle.bl_map.specs.MachineFacts.{MachineFacts, AreMachineFacts}
+use Rattle.bl_mbi.specs.InformationFacts.{AreBytes}
+use Rattle.bl_bzimage.specs.declared.setup.Setup.{Setup}
+use Rattle.bl_params.specs.BootParams.{boot_params}
+use Rattle.bl_params.specs.BootParamsFacts.{BootParamsFacts, AreTold}
+use Rattle.bl_params.specs.ParamsFacts.{ParamsFacts}
+use Rattle.bl_params.specs.Told.{AreWords, params_of}
+use Rattle.bl_params.proofs.Lengths.{length-boot_params}
+use Rattle.bl_params.proofs.WrittenIsRead.{written_is_read}
+use Rattle.bl_plan.specs.Placed.{ArePlaced}
+use Rattle.bl_plan.specs.declared.part.Place.{Place}
+use Rattle.bl_plan.specs.declared.protocol.Protocol.TheVariants.{Linux}
+use Rattle.bl_plan.specs.declared.part.Role.{Role}
+use Rattle.bl_plan.specs.declared.part.Role.TheVariants.{Kernel, BootParams, CommandLine, Initrd}
+use Rattle.bl_load.specs.Addresses.{address_of}
+use Rattle.bl_load.specs.Handover.{Handover, end_of, filled}
+use Rattle.bl_load.specs.Linux.{IsLinuxKernel}
+use Rattle.bl_load.specs.LinuxRows.{linux_kernel_row, told_of}
+use Rattle.bl_load.specs.Parts.{content_of, handover_of}
+use Rattle.bl_load.specs.PlacingKept.{HasLength}
+use Rattle.bl_load.specs.Reading.{linux}
+use Rattle.bl_load.specs.Rows.{rows_of}
+use Rattle.bl_load.specs.Value.{EntryValue, kernel_file, initrd_file, line_fault, lines_fault}
+use Rattle.bl_load.specs.Value.{lines_of}
+use Rattle.bl_load.proofs.EntryLemmas.{small_address}
+use Rattle.bl_load.proofs.LineLemmas.{sound_text, sound_short, first_sound}
+use Rattle.bl_load.proofs.LinuxLemmas.{linux_rows_are_rows, linux_rowed}
+use Rattle.bl_load.proofs.LinuxToldLemmas.{initrd_fits}
+use Rattle.bl_load.proofs.PlaceBoundLemmas.{are_below, are_filled}
+use Rattle.bl_walk.specs.Inside.{bytes_in}
+use Rattle.bl_walk.specs.Seen.{ParametersSay, IsLine, IsInitrd}
+use Rattle.bl_walk.specs.SeenFacts.{SeenFileFacts}
+use Rattle.bl_walk.specs.Shown.{HasByteLines, some_bytes}
+use Rattle.bl_walk.proofs.InformationLemmas.{is_row, row_held, behind}
+use Rattle.bl_walk.proofs.LineLemmas.{IsLong, held_rest, line_shown}
+use Rattle.bl_walk.proofs.PartLemmas.{is_of, both_true, same_role, held_front}
+use Rattle.bl_walk.proofs.ParametersLemmas.{params_rows, few_told}
+
+-- ---- what a Linux kernel sees
+
+module _ (facts : MachineFacts) (value : EntryValue) (setup : Setup) (places : List Place) where
+  abbrev pub initrd : List ℕ
+  initrd = initrd_file value.files
+
+  abbrev pub content : Role → ℕ → List ℕ
+  content = content_of facts value (linux setup) places
+
+  abbrev pub handover : Handover
+  handover = handover_of facts value (linux setup) places
+
+  abbrev told : BootParamsFacts
+  told = told_of facts value places
+
+  abbrev pub params : ParamsFacts
+  params = params_of setup told
+
+module _ (facts : MachineFacts) (value : EntryValue) (setup : Setup) (places : List Place)
+    (machine : AreMachineFacts facts) (bytes : HasByteLines value)
+    (lines : lines_fault (lines_of value) ≡ None) (is_linux : value.protocol ≡ Linux)
+    (is_kernel : IsLinuxKernel facts.runs value.line (kernel_file value) setup)
+    (placed : ArePlaced facts [] (rows_of facts value (linux setup)) places)
+    (apart : AllPairs (λ p q. end_of p ≤ q.address)
+    (handover_of facts value (linux setup) places).parts) where
+  pub held : (role : Role) (index n : ℕ) → list_any (is_of role index) places ≡ true
+      → n ≤ length (content facts value setup places role index)
+      → bytes_in (handover facts value setup places).parts (address_of role index places) n
+      ≡ Some (take n (content facts value setup places role index))
+  held = held_front places (content facts value setup places) apart
+
+  low : All (λ p. p.address + p.length ≤ 0xFFFFF000) places
+  low =
+      are_below facts [] (rows_of facts value (linux setup)) places placed
+      (linux_rows_are_rows (kernel_file value) setup (initrd facts value setup places)
+      is_kernel.is_setup)
+
+  pub filled_places : All (λ p. 1 ≤ p.length) places
+  filled_places =
+      are_filled facts [] (rows_of facts value (linux setup)) places placed
+      (linux_rows_are_rows (kernel_file value) setup (initrd facts value setup places)
+      is_kernel.is_setup)
+
+  small : (role : Role) → address_of role 0 places ≤ 0xFFFFF000
+  small role = small_address role 0 places 0xFFFFF000 low
+
+  fit : AreWords (told facts value setup places)
+  fit =
+      let kernel = small Kernel in
+      let ramdisk = small Initrd in
+      let line = small CommandLine in
+      record {
+        code32_start = omega arith;
+        ramdisk_image = omega arith;
+        ramdisk_size = initrd_fits facts setup (initrd facts value setup places) places placed low;
+        cmd_line_ptr = omega arith;
+      }
+
+  are_told : AreTold (told facts value setup places).runs
+  are_told = record {
+    few =
+        ltb-false 128 (length facts.runs)
+        (few_told (nat_lt setup.cmdline_size (length value.line))
+        (nat_lt 128 (length facts.runs)) _ _ is_kernel.told);
+    low = machine.runs.low;
+  }
+
+  -- each row behind the kernel's has a place
+  pub placed_row : (role : Role)
+      → list_any (is_row role 0) (params_rows setup (initrd facts value setup places)) ≡ true
+      → list_any (is_of role 0) places ≡ true
+  unfolding params_rows
+  placed_row role among =
+      row_held facts role 0 [] (rows_of facts value (linux setup)) places placed
+      (behind role 0 (linux_kernel_row setup ∷ [])
+      (params_rows setup (initrd facts value setup places)) among)
+
+  params_held : bytes_in (handover facts value setup places).parts
+      (handover facts value setup places).registers.esi 4096
+      ≡ Some (boot_params setup.header (told facts value setup places))
+  unfolding params_rows
+  params_held =
+      let size = length-boot_params setup.header (told facts value setup places) in
+      held BootParams 0 4096 (placed_row BootParams refl) (omega arith)
+      ∙ ap Some
+      (ap (λ (n : ℕ). take n (boot_params setup.header (told facts value setup places))) (sym size)
+      ∙ take-length (boot_params setup.header (told facts value setup places)))
+
+  pub say : ParametersSay (handover facts value setup places) (params facts value setup places)
+  say = record {
+    bytes = boot_params setup.header (told facts value setup places);
+    parameters = record { protocol = is_linux; whole = params_held };
+    told =
+        written_is_read (kernel_file value) setup (told facts value setup places) is_kernel.is_setup
+        are_told fit;
+  }
+
+  -- ---- the line
+
+  line_long : All (IsLong CommandLine 0 4096) places
+  line_long k d within = λ is.
+      let p = get_or places k d in
+      let rowed = linux_rowed facts value setup [] places placed k d within in
+      let names = both_true _ _ is in
+      let role = same_role p.role CommandLine (eqb-true _ _ names.0) in
+      subst (λ (r : Role). HasLength facts value (linux setup) r p.index p.length) role rowed
+
+  pub line_seen : IsLine (handover facts value setup places).parts
+      (params facts value setup places).cmd_line_ptr value.line
+  unfolding params_rows
+  line_seen =
+      let sound = (first_sound (line_fault value.line) (lines_fault value.module_lines) lines).0 in
+      let text =
+      sound_text value.line sound (All-head AreBytes value.line value.module_lines bytes) in
+      let short = sound_short value.line sound in
+      record {
+        rest = filled 4096 value.line;
+        from =
+            held_rest places (content facts value setup places) apart CommandLine 0 4096
+            (placed_row CommandLine refl)
+            line_long (omega arith);
+        text = line_shown value.line 4096 text (omega arith);
+      }
+
+  -- ---- the initial ramdisk
+
+  -- the file of this entry, which has a byte or none
+  pub ramdisk : (file : List ℕ) → initrd facts value setup places ≡ file
+      → (seen : Option SeenFileFacts)
+      × IsInitrd (handover facts value setup places).parts (params facts value setup places)
+      seen
+      × (option_map (λ f. f.bytes) seen ≡ some_bytes file)
+  unfolding params_rows
+  ramdisk [] is = (None, ap length is, refl)
+  ramdisk (byte ∷ bytes) is =
+      let some = ap length is in
+      let row =
+      subst (λ (f : List ℕ). list_any (is_row Initrd 0) (params_rows setup f) ≡ true) (sym is)
+      refl in
+      let there =
+      held Initrd 0 (length (initrd facts value setup places)) (placed_row Initrd row) (omega arith)
+      ∙ ap Some (take-length (initrd facts value setup places)) in (
+        Some
+            record {
+              address = address_of Initrd 0 places;
+              bytes = initrd facts value setup places;
+            },
+        (omega arith, refl, there),
+        ap Some is,
+      )
