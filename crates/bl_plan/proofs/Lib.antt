@@ -1,4 +1,4 @@
-pub mod MultipleLemmas
+pub mod Rounded
 pub mod KindLemmas
 pub mod ApartLemmas
 pub mod BlockLemmas

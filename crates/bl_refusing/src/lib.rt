@@ -100,7 +100,7 @@ impl Refusing {
 
 unsafe impl Allocator for Refusing {
     // A block is the heap's own, so the right to free it is the heap's.
-    ghost dealloc_token = { λ heap ty ptr. ⟦<Global as Allocator>⟧.dealloc_token heap.alloc ty ptr };
+    ghost dealloc_token = { λ heap ty p. ⟦<Global as Allocator>⟧.dealloc_token heap.alloc ty p };
 
     fn allocate(&self, size: usize, align: usize) -> Result<*mut u8, AllocError> {
         if self.refuses_next() {
