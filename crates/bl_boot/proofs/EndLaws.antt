@@ -69,8 +69,8 @@ module _ {F G : Type 0} {answers : F → List ℕ → Answer → Type 0} {faults
         ends_alike a.facts b.facts (sizes_at a entry) (sizes_at b index) (faulty_in f_a entry None)
         (faulty_in f_b index None)
         (value_at a entry) (value_at b index) e f machine sizes
-        (none_if (are_whole (fresh f_a entry)) ∙ sym (none_if (are_whole (fresh f_b index)))) value x
-        y
+        (none_if (are_whole (fresh f_a entry)) ∙ sym (none_if (are_whole (fresh f_b index)))) value
+        x y
 
 facts_of : (s t : ℕ) (x y : List Region) (p q : Range ℕ) → s ≡ t → x ≡ y → p ≡ q
     → ◌≡◌ {A = MachineFacts} record { size = s; runs = x; pool = p }

@@ -106,7 +106,8 @@ after_programs bytes header sound =
             above = one.2.holds.0;
             within = one.1;
             share = one.2.holds.1;
-            least_first = λ k below. shares_none bytes k (λ other. omega (arith, least.least k other));
+            least_first =
+                λ k below. shares_none bytes k (λ other. omega (arith, least.least k other));
             least_second =
                 λ k behind below.
                 false_from_ne_true (share_at bytes i k)

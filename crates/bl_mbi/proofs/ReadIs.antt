@@ -33,7 +33,8 @@ both_read : (l0 l1 l2 : Left) (a b : List ℕ) → IsRead l0 a l1 → IsRead l1 
 both_read l0 l1 l2 a b first second =
     record {
       bytes =
-          first.bytes ∙ ap (λ (xs : List ℕ). a ++ xs) second.bytes ∙ sym (append_assoc a b l2.bytes);
+          first.bytes ∙ ap (λ (xs : List ℕ). a ++ xs) second.bytes
+          ∙ sym (append_assoc a b l2.bytes);
       small = second.small;
     }
 

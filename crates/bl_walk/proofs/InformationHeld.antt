@@ -1,4 +1,4 @@
--- What a Multiboot2 kernel is told fits its fields, and stands in the image of the entry's handover.
+-- What a Multiboot2 kernel is told fits its fields, and stands in the image of its handover.
 use Rattle.std.proofs.Common.{◌≡◌, ◌+◌, ◌<◌, ◌≤◌, ◌^◌, ◌∷◌, ◌++◌, ℕ, true, List, [], length, take}
 use Rattle.std.proofs.Common.{Some, None, refl, arith, All, AllPairs}
 use Rattle.std.specs.Prelude.{is_some, codes}

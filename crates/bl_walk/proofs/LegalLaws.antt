@@ -40,13 +40,14 @@ by_reading : (facts : MachineFacts) (value : EntryValue) (places : List Place) (
 by_reading facts value places (multiboot2 kernel) machine bytes few lines read placed apart =
     record {
       seen =
-          information.seen facts value kernel places machine bytes few lines read.1 placed apart read.0;
+          information.seen facts value kernel places machine bytes few lines read.1 placed apart
+          read.0;
       is_seen =
-          information.information_seen facts value kernel places machine bytes few lines read.1 placed
-          apart read.0;
+          information.information_seen facts value kernel places machine bytes few lines read.1
+          placed apart read.0;
       entry =
-          information.information_shown facts value kernel places machine bytes few lines read.1 placed
-          apart read.0;
+          information.information_shown facts value kernel places machine bytes few lines read.1
+          placed apart read.0;
       entered =
           information.information_entered facts value kernel places machine bytes few lines read.1
           placed apart read.0;
