@@ -2,7 +2,7 @@
 ghost use Rattle.std.specs.Prelude.{◌≡◌, ℕ, ◌%◌, ◌<◌, ◌≤◌, ◌^◌, MatchOption};
 
 /// The least multiple of `align` that is not below `n`, or none where that is no `u64`.
-#[tactic(auto, using(crate::proofs::Rounded::up_multiple, crate::proofs::Rounded::least_multiple))]
+#[tactic(auto, using(crate::proofs::Align::up_multiple, crate::proofs::Align::least_multiple))]
 pub fn round_up(n: u64, align: u64) -> Option<u64>
     requires { 1 ≤ align }
     ensures aligned { MatchOption result (Unit {0}) (λ a. a % align ≡ 0) }
@@ -18,7 +18,7 @@ pub fn round_up(n: u64, align: u64) -> Option<u64>
 }
 
 /// The greatest multiple of `align` that is not above `n`.
-#[tactic(auto, using(crate::proofs::Rounded::cut_multiple, crate::proofs::Rounded::greatest_multiple))]
+#[tactic(auto, using(crate::proofs::Align::cut_multiple, crate::proofs::Align::greatest_multiple))]
 pub fn round_down(n: u64, align: u64) -> u64
     requires { 1 ≤ align }
     ensures aligned { result % align ≡ 0 }
