@@ -1,4 +1,4 @@
-pub mod Rounded
+pub mod Align
 pub mod KindLemmas
 pub mod ApartLemmas
 pub mod BlockLemmas
