@@ -1,9 +1,10 @@
 -- One thing more that a store was asked.
-use Rattle.std.proofs.Common.{◌≡◌, ◌∷◌, ◌++◌, [], List}
-use Rattle.std.proofs.lemmas.List.{map-append}
-use Rattle.bl_probe.specs.Asked.{item_of, items_of}
-use Rattle.bl_probe.specs.declared.calls.upper.attempts.silent_store.Asked.{Asked}
+use Rattle.std.proofs.Common.{◌≡◌, ◌∷◌, ◌++◌, [], List, refl}
+use Rattle.bl_session.specs.History.{Item}
+use Rattle.bl_probe.specs.Asked.{item_of, asked_after}
+use Rattle.bl_probe.specs.declared.calls.upper.attempts.dry_store.Asked.{Asked}
 
-pub items_more : (asked : List Asked) (more : Asked)
-    → items_of (asked ++ more ∷ []) ≡ items_of asked ++ item_of more ∷ []
-items_more asked more = map-append item_of asked (more ∷ [])
+pub asked_more : (given : List Item) (asked : List Asked) (last : Asked)
+    → asked_after given (asked ++ last ∷ []) ≡ asked_after given asked ++ item_of last ∷ []
+asked_more given [] last = refl
+asked_more given (first ∷ asked) last = asked_more (given ++ item_of first ∷ []) asked last

@@ -1,10 +1,14 @@
 //! The calls on menus and boots: `menu MENU ..`, `run MENU ..`, `session MENU .. do STEP; ..`,
-//! `schedules upto=N MENU .. do LETTER; ..`, `words WORD,.. MENU .. do LETTER; ..`.
+//! `schedules upto=N MENU .. do LETTER; ..`, `words WORD,.. MENU .. do LETTER; ..`,
+//! `storm seed=N events=N MENU .. do LETTER; ..`.
 
 mod boot_fields;
 mod building;
+mod draws;
+mod dry_store;
 mod end;
 mod entry_field;
+mod hostile;
 mod laws;
 mod letter;
 mod memory;
@@ -12,9 +16,10 @@ mod menu;
 mod rig;
 mod run;
 mod schedules;
-mod silent_store;
 mod steps;
+mod storm;
 mod sum;
+mod tally;
 mod word;
 
 use crate::fault::RowFault;
@@ -36,6 +41,7 @@ pub fn make(
         "run" => run::answer(alloc, heap, session, words),
         "session" => steps::answer(alloc, heap, session, words),
         "schedules" => schedules::answer(alloc, heap, session, words),
+        "storm" => storm::answer(alloc, heap, session, words),
         "words" => schedules::answer_words(alloc, heap, session, words),
         _ => Err(RowFault::BadRow),
     }

@@ -3,7 +3,8 @@
 //! `file=BYTES`, `file=missing`, `file=long`: the files, by their index. `entry=ENTRY`: the
 //! entries; `entry=ENTRY*COUNT`: one so often; `modules=N`: N more modules of the last one.
 //! `default=N`, `fallback=N,N`. `store=forward`, `reverse`, `silent`, or `script`, and then
-//! `twice=A.F.P,..`, `fail=A.F.P,..`, `picks=N,N,..`.
+//! `twice=A.F.P,..`, `fail=A.F.P,..`, `picks=N,N,..`. `answers=N`: the store gives so many answers,
+//! and then nothing more.
 
 use crate::bytes::{Names, bytes_of};
 use crate::calls::upper::attempts::entry_field::{EntryField, read_entry};
@@ -40,6 +41,7 @@ pub struct BootFields {
     pub default: u32,
     pub fallbacks: Vec<u32>,
     pub store: StoreField,
+    pub answers: Option<u64>,
     pub twice: Vec<Ticket>,
     pub fail: Vec<Ticket>,
     pub picks: Vec<usize>,
@@ -95,6 +97,7 @@ impl BootFields {
             default: 0,
             fallbacks: Vec::new(alloc),
             store: StoreField::Forward,
+            answers: None,
             twice: Vec::new(alloc),
             fail: Vec::new(alloc),
             picks: Vec::new(alloc),
@@ -127,6 +130,7 @@ impl BootFields {
             "default" => self.default = number32(value)?,
             "fallback" => self.fallbacks = read_indices(alloc, value)?,
             "store" => self.store = read_store(value)?,
+            "answers" => self.answers = Some(number(value)?),
             "twice" => self.twice = read_tickets(alloc, value)?,
             "fail" => self.fail = read_tickets(alloc, value)?,
             "picks" => self.picks = read_picks(alloc, value)?,

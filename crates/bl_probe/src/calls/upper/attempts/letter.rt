@@ -14,6 +14,29 @@ pub enum Letter {
     Fault(Ticket),
 }
 
+impl Letter {
+    /// The ticket of a piece or a fault; a start has that of the first piece.
+    pub fn ticket(&self) -> Ticket {
+        match self {
+            Letter::Start => Ticket {
+                attempt: 0,
+                file: 0,
+                piece: 0,
+            },
+            Letter::Piece(ticket, _) => *ticket,
+            Letter::Fault(ticket) => *ticket,
+        }
+    }
+
+    /// The bytes of a piece; a start and a fault have none.
+    pub fn bytes(&self) -> &[u8] {
+        match self {
+            Letter::Piece(_, bytes) => bytes.as_slice(),
+            _ => &[],
+        }
+    }
+}
+
 /// The ticket that `ATTEMPT.FILE.PIECE` is.
 pub fn read_ticket(word: &str) -> Result<Ticket, RowFault> {
     let (attempt, rest) = word.split_once('.').ok_or(RowFault::BadRow)?;

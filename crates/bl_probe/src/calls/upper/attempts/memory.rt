@@ -9,7 +9,7 @@ use std::ops::Range;
 pub const FILL: u8 = 0xa5;
 
 /// The most bytes of memory that are all looked at.
-const MOST_LOOKED_AT: u64 = 0x400_0000;
+pub const MOST_LOOKED_AT: u64 = 0x400_0000;
 
 /// Reads bytes, if they lie in memory.
 pub fn read<M: PhysMem>(memory: &M, at: u64, out: &mut [u8]) -> Result<(), RowFault> {

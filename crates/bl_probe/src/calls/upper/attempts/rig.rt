@@ -71,7 +71,7 @@ impl<'a, 'h> Rig<'a, 'h> {
     }
 
     /// Takes an event; none if memory for the pool ran out.
-    fn event(&mut self, event: Event<'_>) -> Result<Option<Progress>, RowFault> {
+    pub fn event(&mut self, event: Event<'_>) -> Result<Option<Progress>, RowFault> {
         let pool = self.machine.pool();
         if !give_pool(&mut self.memory, &pool)? {
             return Ok(None);

@@ -1,9 +1,9 @@
 //! `run MENU ..`: a whole boot over a store, on the last machine.
 
 use crate::calls::upper::attempts::boot_fields::{BootFields, FileField, StoreField, read_fields};
+use crate::calls::upper::attempts::dry_store::DryStore;
 use crate::calls::upper::attempts::end::{fault_text, outcome_text};
 use crate::calls::upper::attempts::memory::{FILL, outside_word};
-use crate::calls::upper::attempts::silent_store::SilentStore;
 use crate::fault::RowFault;
 use crate::session::Session;
 use bl_map::Machine;
@@ -72,6 +72,24 @@ fn run_text<'h, S: Store + Drop>(
     Ok(format!(in alloc; "{outside}, {text}")?)
 }
 
+/// Boots over the heap, and over a store that may give so many answers alone.
+fn run_upto<'h, S: Store + Drop>(
+    alloc: Global,
+    heap: &'h Refusing,
+    machine: &Machine<&'h Refusing>,
+    menu: &Menu<&'h Refusing>,
+    store: S,
+    answers: Option<u64>,
+) -> Result<String, RowFault> {
+    match answers {
+        Some(answers) => {
+            let store = DryStore::new(heap, store, answers);
+            run_text(alloc, heap, machine, menu, store)
+        }
+        None => run_text(alloc, heap, machine, menu, store),
+    }
+}
+
 /// Boots over the heap. The machine, the menu and the files stand over another, so that their
 /// requests are not refused.
 pub fn answer(
@@ -84,18 +102,15 @@ pub fn answer(
     let beside = Refusing::new(alloc, 0);
     let machine = session.machine_over(&beside)?.ok_or(RowFault::NoMemory)?;
     let menu = fields.menu_beside(&beside)?;
-    let order = match fields.store {
-        StoreField::Forward => Order::Forward,
-        StoreField::Reverse => Order::Reverse,
+    let (order, answers) = match fields.store {
+        StoreField::Forward => (Order::Forward, fields.answers),
+        StoreField::Reverse => (Order::Reverse, fields.answers),
+        StoreField::Silent => (Order::Forward, Some(0)),
         StoreField::Script => {
             let store = fields.script_over(heap, &beside)?;
-            return run_text(alloc, heap, &machine, &menu, store);
-        }
-        StoreField::Silent => {
-            let store = SilentStore::new(heap, fields.files_over(&beside)?);
-            return run_text(alloc, heap, &machine, &menu, store);
+            return run_upto(alloc, heap, &machine, &menu, store, fields.answers);
         }
     };
     let store = FileStore::new(heap, fields.files_over(&beside)?, order);
-    run_text(alloc, heap, &machine, &menu, store)
+    run_upto(alloc, heap, &machine, &menu, store, answers)
 }

@@ -17,7 +17,8 @@ impl Sum {
         }
     }
 
-    fn add_number(&mut self, number: u64) {
+    /// Takes a number, at once.
+    pub fn add_number(&mut self, number: u64) {
         self.value = (self.value ^ number).wrapping_mul(PRIME);
     }
 

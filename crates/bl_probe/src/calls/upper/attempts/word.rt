@@ -36,6 +36,16 @@ impl Alphabet {
     pub fn len(&self) -> usize {
         self.letters.len()
     }
+
+    /// Its letters.
+    pub fn letters(&self) -> &[Letter] {
+        self.letters.as_slice()
+    }
+
+    /// Whether `start` is one of them.
+    pub fn has_start(&self) -> bool {
+        self.has_start
+    }
 }
 
 /// What the sessions of words are made from, each over the heap.
