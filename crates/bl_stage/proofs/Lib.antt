@@ -10,4 +10,3 @@ pub mod MovedCells
 pub mod SpareLemmas
 pub mod MoveLemmas
 pub mod WayLemmas
-pub mod FilledLemmas

@@ -5,4 +5,3 @@ pub mod Ranges
 pub mod Cells
 pub mod Kept
 pub mod TextLaws
-pub mod Filled

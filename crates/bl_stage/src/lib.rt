@@ -10,10 +10,8 @@ mod scrubbing;
 mod stage;
 mod tables;
 mod view;
-mod whole;
 
 pub use fault::StageFault;
 pub use scrubbing::scrub;
 pub use stage::{Put, Stage};
 pub use view::FrameView;
-pub use whole::put_files;
