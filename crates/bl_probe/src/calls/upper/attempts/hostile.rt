@@ -97,8 +97,8 @@ impl<'a> Storm<'a> {
         near
     }
 
-    /// An event near a letter. Under a ticket that is awaited it is a piece of another length, or of
-    /// no bytes; else it is anything.
+    /// An event near a letter. Under a ticket that is awaited it is a piece of another length, or
+    /// of no bytes; else it is anything.
     pub fn hostile(&mut self) -> Option<Event<'a>> {
         let drawn = self.draws.below(self.letters.len() as u64);
         let letter = self.letters.get(drawn as usize)?;
