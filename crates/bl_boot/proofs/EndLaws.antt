@@ -12,30 +12,29 @@ use Rattle.bl_image.specs.Image.{spelling}
 use Rattle.bl_session.specs.Boot.{fresh}
 use Rattle.bl_session.specs.Ends as session
 use Rattle.bl_session.specs.Ends.{End}
-use Rattle.bl_session.specs.Outcome.{no_fault, faulty_in}
+use Rattle.bl_session.specs.Outcome.{File, no_fault, faulty_in}
 use Rattle.bl_session.specs.Pieces.{are_whole}
 use Rattle.bl_session.proofs.EndLaws.{one_end}
 use Rattle.bl_session.proofs.OutcomeLaws.{same_handover}
 use Rattle.bl_desc.specs.Described.{Described}
-use Rattle.bl_boot.specs.Attempted.{boot_of, files_of}
+use Rattle.bl_boot.specs.Attempted.{boot_of}
 use Rattle.bl_boot.specs.Ends.{BootCase, EndsAt, IsBooted, IsMachineOf, Surroundings, sizes_at}
 use Rattle.bl_boot.specs.Ends.{value_at}
-use Rattle.bl_boot.specs.Files.{Answer}
 
 -- two boots
-module _ {F G : Type 0} {answers : F → List ℕ → Answer → Type 0} {faults : F → ℕ} {desc : List ℕ}
+module _ {F G : Type 0} {answers : F → List ℕ → File → Type 0} {faults : F → ℕ} {desc : List ℕ}
     {before after : Surroundings F}
-    {replies : G → List ℕ → Answer → Type 0} {wants : G → ℕ} {other : List ℕ}
+    {replies : G → List ℕ → File → Type 0} {wants : G → ℕ} {other : List ℕ}
     {began ended : Surroundings G} where
   pub one_image : (a : IsBooted answers faults desc before after)
       (b : IsBooted replies wants other began ended)
       → a.case.facts ≡ b.case.facts → value_at a.case a.entry ≡ value_at b.case b.entry
       → (image : List ℕ) × (after.sink ≡ before.sink ++ image) × (ended.sink ≡ began.sink ++ image)
   one_image a b machine value =
-      let f = boot_of a.case.description a.case.facts a.case.answered in
-      let g = boot_of b.case.description b.case.facts b.case.answered in
+      let f = boot_of a.case.description a.case.facts a.case.files in
+      let g = boot_of b.case.description b.case.facts b.case.files in
       let one : a.handover ≡ b.handover =
-      same_handover f g (files_of a.case.answered) (files_of b.case.answered) no_fault no_fault
+      same_handover f g a.case.files b.case.files no_fault no_fault
       a.entry b.entry
       a.earlier b.earlier a.handover b.handover machine value a.outcome b.outcome in (
         spelling a.handover,
@@ -54,9 +53,9 @@ ends_alike : (m n : MachineFacts) (s t : List (Option ℕ)) (p q : Option ℕ) (
 ends_alike m n s t p q v w e f machine sizes faulty value x y =
     one_end n t q w e f (rw (← machine, ← sizes, ← faulty, ← value) x) y
 
-module _ {F G : Type 0} {answers : F → List ℕ → Answer → Type 0} {faults : F → ℕ} {desc : List ℕ}
+module _ {F G : Type 0} {answers : F → List ℕ → File → Type 0} {faults : F → ℕ} {desc : List ℕ}
     {before after : F}
-    {replies : G → List ℕ → Answer → Type 0} {wants : G → ℕ} {other : List ℕ} {began ended : G}
+    {replies : G → List ℕ → File → Type 0} {wants : G → ℕ} {other : List ℕ} {began ended : G}
   where
     pub one_end_at : (a : BootCase answers faults desc before after)
         (b : BootCase replies wants other began ended)
@@ -64,8 +63,8 @@ module _ {F G : Type 0} {answers : F → List ℕ → Answer → Type 0} {faults
         → value_at a entry ≡ value_at b index
         → (e f : End) → EndsAt a entry e → EndsAt b index f → e ≡ f
     one_end_at a b machine entry index sizes value e f x y =
-        let f_a = boot_of a.description a.facts a.answered in
-        let f_b = boot_of b.description b.facts b.answered in
+        let f_a = boot_of a.description a.facts a.files in
+        let f_b = boot_of b.description b.facts b.files in
         ends_alike a.facts b.facts (sizes_at a entry) (sizes_at b index) (faulty_in f_a entry None)
         (faulty_in f_b index None)
         (value_at a entry) (value_at b index) e f machine sizes

@@ -7,12 +7,9 @@ use Rattle.bl_load.specs.Handover.{Handover}
 use Rattle.bl_image.specs.Image.{spelling}
 use Rattle.bl_session.specs.declared.words.RefusedEntry.{RefusedEntry}
 use Rattle.bl_session.specs.declared.fetched.Fetched.{Fetched}
-use Rattle.bl_session.specs.declared.fetched.Fetched.TheVariants.{Missing, TooLong, Bytes}
 use Rattle.bl_session.specs.Boot.{BootFacts, State, handed_over, none_left}
-use Rattle.bl_session.specs.Outcome as session
-use Rattle.bl_session.specs.Outcome.{IsOutcome, no_fault, size_of}
+use Rattle.bl_session.specs.Outcome.{File, IsOutcome, no_fault, size_of}
 use Rattle.bl_session.specs.Phases.{boot_facts}
-use Rattle.bl_session.specs.Stores.{stored_files}
 use Rattle.bl_desc.specs.declared.desc.Description.{Description}
 use Rattle.bl_desc.specs.Described.{Described, described, file_named}
 use Rattle.bl_desc.specs.Views.{view}
@@ -21,12 +18,12 @@ use Rattle.bl_boot.specs.declared.booting.fault.End.TheVariants.{Booted, NoEntry
 use Rattle.bl_boot.specs.declared.booting.fault.EndFault.{EndFault}
 use Rattle.bl_boot.specs.declared.booting.fault.EndFault.TheVariants.{BadDescription, Device}
 use Rattle.bl_boot.specs.declared.booting.fault.EndFault.TheVariants.{NoMemory}
-use Rattle.bl_boot.specs.Files.{Answer, answer_of}
+use Rattle.bl_session.specs.Stores.{file_of, stored_files}
 use Rattle.bl_boot.specs.Found.{AreFound}
-use Rattle.bl_boot.specs.Attempted.{entry_of, names_in, menu_of, files_of}
+use Rattle.bl_boot.specs.Attempted.{entry_of, names_in, menu_of}
 use Rattle.bl_boot.specs.Ends.{IsMachineOf, BootCase, ComesTo, HasInlineFiles, names_sought}
 use Rattle.bl_boot.specs.Ends.{Surroundings}
-use Rattle.bl_boot.specs.Kept.{IsHandFault, HasFaults, FoundEnds, Ends}
+use Rattle.bl_boot.specs.Kept.{IsHandFault, HasFaults, FoundEnds, BootEnds}
 
 -- the sink has one fault more exactly if it had one while the image was written
 pub faults_by : (old new : ℕ) (s t image : List ℕ) (fault : EndFault)
@@ -36,7 +33,7 @@ faults_by old new s t image Device broken = broken.0
 faults_by old new s t image NoMemory kept = kept.0
 
 -- an entry that is not handed over after all
-pub not_handed : (description : Described) (facts : BootFacts) (files : List session.File)
+pub not_handed : (description : Described) (facts : BootFacts) (files : List File)
     (entry : ℕ) (earlier : List RefusedEntry) (handover : Handover)
     → IsOutcome facts files no_fault (handed_over entry earlier handover)
     → (old new : ℕ) (s t u v : List ℕ) (fault : EndFault)
@@ -48,14 +45,6 @@ not_handed description facts files entry earlier handover came old new s t u v D
     unsaid = (entry, earlier, handover, came, broken.1, unsaid)
 not_handed description facts files entry earlier handover came old new s t u v NoMemory kept
     unsaid = (kept.1, unsaid)
-
--- a store has the files that were found
-same_files : {A : Type 0} (files : List (Fetched A))
-    → stored_files files ≡ files_of (map answer_of files)
-same_files [] = refl
-same_files (Missing ∷ files) = ap (λ fs. session.missing ∷ fs) (same_files files)
-same_files (TooLong n ∷ files) = rw (same_files files) refl
-same_files (Bytes bytes ∷ files) = rw (same_files files) refl
 
 -- the bytes describe d
 module _ {A : Type 0} (desc : List ℕ) (d : Description A) (is : described desc ≡ Some (view d))
@@ -72,34 +61,21 @@ module _ {A : Type 0} (desc : List ℕ) (d : Description A) (is : described desc
     sought = rw is refl
 
     -- its machine has these facts, and these files were found
-    module _ {F : Type 0} (answers : F → List ℕ → Answer → Type 0) (faults : F → ℕ)
+    module _ {F : Type 0} (answers : F → List ℕ → File → Type 0) (faults : F → ℕ)
         (facts : MachineFacts)
         (machine : IsMachineOf (view d) facts) (before after : F) {B : Type 0}
         (files : List (Fetched B))
         (found : AreFound answers faults (view d).files (names_in (view d)) before after
-        (map answer_of files)) where
+        (map file_of files)) where
       abbrev this_case : BootCase answers faults desc before after
       this_case = record {
         description = view d;
         facts = facts;
-        answered = map answer_of files;
+        files = map file_of files;
         is_described = is;
         machine = machine;
         found = found;
       }
-
-      -- this came of the run over a store of these files
-      abbrev Came : State → Type 0
-      Came state =
-          IsOutcome (boot_facts facts (menu_of (view d)) (map size_of (stored_files files)))
-          (stored_files files) no_fault state
-
-      comes_to : (state : State) → Came state → ComesTo answers faults this_case state
-      comes_to state came =
-          subst
-          (λ (fs : List session.File).
-          IsOutcome (boot_facts facts (menu_of (view d)) (map size_of fs)) fs no_fault state)
-          (same_files files) came
 
       -- around it the sink and what is said went so
       abbrev around : F → List ℕ → List ℕ → Surroundings F
@@ -110,13 +86,13 @@ module _ {A : Type 0} (desc : List ℕ) (d : Description A) (is : described desc
           → FoundEnds (view d)
           (boot_facts facts (menu_of (view d)) (map size_of (stored_files files)))
           (stored_files files) s t u v ended
-          → Ends answers faults desc (around before s u) (around after t v) ended
+          → BootEnds answers faults desc (around before s u) (around after t v) ended
       ends_by s t u v (Ok Booted) (entry, earlier, handover, came, image, said) = record {
         case = this_case;
         entry = entry;
         earlier = earlier;
         handover = handover;
-        outcome = comes_to (handed_over entry earlier handover) came;
+        outcome = came;
         image = image;
         said = said;
       }
@@ -124,7 +100,7 @@ module _ {A : Type 0} (desc : List ℕ) (d : Description A) (is : described desc
           record {
             case = this_case;
             refused = refused;
-            outcome = comes_to (none_left refused) came;
+            outcome = came;
             nothing = nothing;
             said = said;
           }
@@ -134,7 +110,7 @@ module _ {A : Type 0} (desc : List ℕ) (d : Description A) (is : described desc
         entry = entry;
         earlier = earlier;
         handover = handover;
-        outcome = comes_to (handed_over entry earlier handover) came;
+        outcome = came;
         begun = begun;
         unsaid = unsaid;
       }

@@ -2,16 +2,16 @@
 use Rattle.std.proofs.Common.{◌≡◌, ◌+◌, ◌<◌, ℕ, List, [], ◌∷◌, ◌++◌, All, Bor, get_or, take, length}
 use Rattle.std.proofs.Common.{map, refl, subst, arith}
 use Rattle.std.proofs.lemmas.List.{get_or-map, map-append, length-map, take_more}
-use Rattle.bl_desc.specs.Described.{File}
-use Rattle.bl_boot.specs.Files.{Answer}
+use Rattle.bl_desc.specs.Described.{InlineFile}
+use Rattle.bl_session.specs.Outcome.{File}
 use Rattle.bl_boot.specs.Found.{IsFound, AreFound}
 
 -- ---- found
 
 -- one more is found behind those before
-pub one_more_found : {F : Type 0} (answers : F → List ℕ → Answer → Type 0) (faults : F → ℕ)
-    (inline : List File)
-    (names : List (List ℕ)) (name : List ℕ) (found : List Answer) (answer : Answer)
+pub one_more_found : {F : Type 0} (answers : F → List ℕ → File → Type 0) (faults : F → ℕ)
+    (inline : List InlineFile)
+    (names : List (List ℕ)) (name : List ℕ) (found : List File) (answer : File)
     (before between after : F)
     → AreFound answers faults inline names before between found
     → IsFound answers faults inline name between after answer
@@ -30,9 +30,9 @@ one_more_found answers faults inline (n ∷ names) name (a ∷ found) answer bef
     )
 
 -- there is an answer for each name
-pub answers_for_all : {F : Type 0} (answers : F → List ℕ → Answer → Type 0) (faults : F → ℕ)
-    (inline : List File)
-    (names : List (List ℕ)) (found : List Answer) (before after : F)
+pub answers_for_all : {F : Type 0} (answers : F → List ℕ → File → Type 0) (faults : F → ℕ)
+    (inline : List InlineFile)
+    (names : List (List ℕ)) (found : List File) (before after : F)
     → AreFound answers faults inline names before after found → length found ≡ length names
 answers_for_all answers faults inline [] [] before after is = refl
 answers_for_all answers faults inline [] (a ∷ found) before after is = absurd is

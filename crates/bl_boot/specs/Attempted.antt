@@ -1,5 +1,5 @@
 -- What the menu of a description attempts, and with which files. Own.
-use Rattle.std.specs.Prelude.{ℕ, ◌+◌, ◌-◌, ◌*◌, List, [], ◌∷◌, ◌++◌, map, slice_index_or}
+use Rattle.std.specs.Prelude.{ℕ, ◌+◌, ◌*◌, List, [], ◌∷◌, ◌++◌, map, slice_index_or}
 use Rattle.std.specs.Prelude.{option_to_list, if◌then◌else◌}
 use Rattle.std.specs.Str.{bytes_eq}
 use Rattle.std.specs.List.{list_any, flat_map}
@@ -8,11 +8,9 @@ use Rattle.bl_load.specs.Value.{EntryValue}
 use Rattle.bl_session.specs.Menu.{EntryFacts, MenuFacts}
 use Rattle.bl_session.specs.Attempts.{attempts_of}
 use Rattle.bl_session.specs.Boot.{BootFacts}
-use Rattle.bl_session.specs.Outcome as session
-use Rattle.bl_session.specs.Outcome.{size_of}
+use Rattle.bl_session.specs.Outcome.{File, size_of}
 use Rattle.bl_desc.specs.Described.{Described}
 use Rattle.bl_desc.specs.Entries.{Entry, Form, multiboot2, linux, form_protocol}
-use Rattle.bl_boot.specs.Files.{Answer, missing, too_long, bytes, file_limit}
 
 -- ---- the files of an entry
 
@@ -97,20 +95,11 @@ menu_of description = record {
 
 -- ---- the boot
 
--- a file as it was found
-abbrev pub file_of : Answer → session.File
-file_of missing = session.missing
-file_of (too_long n) = session.too_long (n - (file_limit + 1))
-file_of (bytes file) = session.whole file
-
-abbrev pub files_of : List Answer → List session.File
-files_of answers = map file_of answers
-
 -- what does not change in the boot of a description's menu on a machine of these facts, with these
--- answers for the names
-abbrev pub boot_of : Described → MachineFacts → List Answer → BootFacts
-boot_of description facts answers = record {
+-- files for the names
+abbrev pub boot_of : Described → MachineFacts → List File → BootFacts
+boot_of description facts files = record {
   machine = facts;
   menu = menu_of description;
-  sizes = map size_of (files_of answers);
+  sizes = map size_of files;
 }

@@ -1,25 +1,24 @@
--- How the program's calls end. Own.
+-- How a boot of the program ends. Own.
 use Rattle.std.specs.Prelude.{◌≡◌, ◌≢◌, ◌⊎◌, ℕ, List, [], ◌∷◌, ◌++◌, Option, Some, None, IsSome}
 use Rattle.std.specs.Prelude.{All}
 use Rattle.std.specs.List.{flat_map}
 use Rattle.bl_map.specs.MachineFacts.{MachineFacts}
 use Rattle.bl_map.specs.Faults.{HasFirstFault, IsAccepted}
-use Rattle.bl_map.specs.Kinds.{IsNormalMap, low_kib, high_kib}
+use Rattle.bl_map.specs.Kinds.{IsNormalMap}
 use Rattle.bl_map.specs.declared.fault.MapFault.{MapFault}
 use Rattle.bl_map.specs.declared.fault.MapFault.TheVariants as map_fault
 use Rattle.bl_load.specs.Handover.{Handover}
 use Rattle.bl_image.specs.Begun.{IsBegun}
 use Rattle.bl_image.specs.Image.{spelling}
 use Rattle.bl_desc.specs.Described.{Described, described, file_named}
-use Rattle.bl_boot.specs.Files.{Answer}
 use Rattle.bl_boot.specs.Found.{AreFound}
 use Rattle.bl_load.specs.Value.{EntryValue}
 use Rattle.bl_session.specs.declared.words.RefusedEntry.{RefusedEntry}
 use Rattle.bl_session.specs.Ends.{End}
 use Rattle.bl_session.specs.Boot.{State, handed_over, none_left, sizes_of}
-use Rattle.bl_session.specs.Outcome.{IsOutcome, EntryEnds, value_in, no_fault}
-use Rattle.bl_boot.specs.Attempted.{entry_of, names_in, boot_of, files_of}
-use Rattle.bl_boot.specs.Says.{booted_line, refused_lines, no_entry_line, map_lines}
+use Rattle.bl_session.specs.Outcome.{File, IsOutcome, EntryEnds, value_in, no_fault}
+use Rattle.bl_boot.specs.Attempted.{entry_of, names_in, boot_of}
+use Rattle.bl_boot.specs.Says.{booted_line, refused_lines, no_entry_line}
 
 -- ---- the machine of a description
 
@@ -50,23 +49,23 @@ pub record Surroundings (F : Type 0) : Type 0 where
   pub said : List ℕ
 
 -- with files of a type F: what they may answer for a name, and how many faults they had
-module _ {F : Type 0} (answers : F → List ℕ → Answer → Type 0) (faults : F → ℕ) where
+module _ {F : Type 0} (answers : F → List ℕ → File → Type 0) (faults : F → ℕ) where
   -- what is booted: the description that the bytes are, the facts of its machine, and what was
   -- found for the names of the files of the entries that are attempted
   pub record BootCase (desc : List ℕ) (before after : F) : Type 0 where
     pub description : Described
     pub facts : MachineFacts
-    pub answered : List Answer
+    pub files : List File
     pub is_described : described desc ≡ Some description
     pub machine : IsMachineOf description facts
     pub found : AreFound answers faults description.files (names_in description) before after
-        answered
+        files
 
   -- it comes to this: the first entry that is not refused, with the refusals before it, or none
   abbrev pub ComesTo : {desc : List ℕ} {before after : F} → BootCase desc before after → State
       → Type 0
   ComesTo case state =
-      IsOutcome (boot_of case.description case.facts case.answered) (files_of case.answered)
+      IsOutcome (boot_of case.description case.facts case.files) case.files
       no_fault state
 
   -- an entry was handed over: the sink took its image, and what is said tells it behind the
@@ -111,33 +110,22 @@ names_sought None = []
 names_sought (Some description) = names_in description
 
 -- the value of an entry of a menu, by its index
-abbrev pub value_at : {F : Type 0} {answers : F → List ℕ → Answer → Type 0} {faults : F → ℕ}
+abbrev pub value_at : {F : Type 0} {answers : F → List ℕ → File → Type 0} {faults : F → ℕ}
     {desc : List ℕ} {before after : F}
     → BootCase answers faults desc before after → ℕ → EntryValue
 value_at case entry =
-    value_in (boot_of case.description case.facts case.answered) (files_of case.answered) entry
+    value_in (boot_of case.description case.facts case.files) case.files entry
 
 -- the sizes of its files
-abbrev pub sizes_at : {F : Type 0} {answers : F → List ℕ → Answer → Type 0} {faults : F → ℕ}
+abbrev pub sizes_at : {F : Type 0} {answers : F → List ℕ → File → Type 0} {faults : F → ℕ}
     {desc : List ℕ} {before after : F}
     → BootCase answers faults desc before after → ℕ → List (Option ℕ)
-sizes_at case entry = sizes_of (boot_of case.description case.facts case.answered) entry
+sizes_at case entry = sizes_of (boot_of case.description case.facts case.files) entry
 
 -- what the attempt of it ends in
-abbrev pub EndsAt : {F : Type 0} {answers : F → List ℕ → Answer → Type 0} {faults : F → ℕ}
+abbrev pub EndsAt : {F : Type 0} {answers : F → List ℕ → File → Type 0} {faults : F → ℕ}
     {desc : List ℕ} {before after : F}
     → BootCase answers faults desc before after → ℕ → End → Type 0
 EndsAt case entry end =
-    EntryEnds (boot_of case.description case.facts case.answered) (files_of case.answered) None
+    EntryEnds (boot_of case.description case.facts case.files) case.files None
     entry end
-
--- ---- map
-
--- what is said grew by the map of the machine that the bytes describe
-pub record IsMapped (desc before after : List ℕ) : Type 0 where
-  pub description : Described
-  pub facts : MachineFacts
-  pub is_described : described desc ≡ Some description
-  pub machine : IsMachineOf description facts
-  pub said : after
-      ≡ before ++ map_lines facts.runs (low_kib facts.runs) (high_kib facts.runs) facts.pool

@@ -1,27 +1,28 @@
 -- What is found for the names of files. Own.
 use Rattle.std.specs.Prelude.{◌≡◌, ℕ, List, [], ◌∷◌, MatchOption}
-use Rattle.bl_desc.specs.Described.{File, file_named}
-use Rattle.bl_boot.specs.Files.{Answer, answer_for, KeepsLimit, CountsFault}
+use Rattle.bl_desc.specs.Described.{InlineFile, file_named}
+use Rattle.bl_session.specs.Outcome.{File}
+use Rattle.bl_boot.specs.Files.{answer_for, KeepsLimit, CountsFault}
 
 -- with files of a type F: what they may answer for a name, and how many faults they had
-module _ {F : Type 0} (answers : F → List ℕ → Answer → Type 0) (faults : F → ℕ) where
+module _ {F : Type 0} (answers : F → List ℕ → File → Type 0) (faults : F → ℕ) where
   -- the files answer so for a name: as they may, within the limit, and with one fault more exactly
   -- if it is missing
-  pub record IsFetched (name : List ℕ) (before after : F) (answer : Answer) : Type 0 where
+  pub record IsFetched (name : List ℕ) (before after : F) (answer : File) : Type 0 where
     pub told : answers before name answer
     pub limit : KeepsLimit answer
     pub counted : CountsFault (faults before) (faults after) answer
 
   -- if the description has a file of the name, it is that one, and the files are not asked: they
   -- are as they were; otherwise it is fetched
-  abbrev pub IsFound : List File → List ℕ → F → F → Answer → Type 0
+  abbrev pub IsFound : List InlineFile → List ℕ → F → F → File → Type 0
   IsFound inline name before after answer =
       MatchOption (file_named name inline)
       (IsFetched name before after answer)
       (λ file. (answer ≡ answer_for file) × (after ≡ before))
 
   -- what is found for names, one after the other; a file is asked for each time that it is named
-  abbrev pub AreFound : List File → List (List ℕ) → F → F → List Answer → Type 0
+  abbrev pub AreFound : List InlineFile → List (List ℕ) → F → F → List File → Type 0
   AreFound inline [] before after [] = after ≡ before
   AreFound inline [] before after (answer ∷ answers) = ⊥
   AreFound inline (name ∷ names) before after [] = ⊥

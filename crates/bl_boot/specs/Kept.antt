@@ -4,17 +4,16 @@ use Rattle.bl_image.specs.Begun.{IsBegun}
 use Rattle.bl_desc.specs.Described.{Described}
 use Rattle.bl_desc.specs.declared.fault.DescFault.{DescFault}
 use Rattle.bl_desc.specs.declared.fault.DescFault.TheVariants as desc_fault
-use Rattle.bl_boot.specs.Files.{Answer}
 use Rattle.bl_image.specs.Image.{spelling}
 use Rattle.bl_load.specs.Handover.{Handover}
 use Rattle.bl_session.specs.declared.words.RefusedEntry.{RefusedEntry}
 use Rattle.bl_session.specs.Boot.{BootFacts, handed_over, none_left}
-use Rattle.bl_session.specs.Outcome as session
-use Rattle.bl_session.specs.Outcome.{IsOutcome, no_fault}
+use Rattle.bl_session.specs.Outcome.{File, IsOutcome, no_fault}
 use Rattle.bl_boot.specs.Attempted.{entry_of, names_once}
 use Rattle.bl_boot.specs.Says.{booted_line, refused_lines, no_entry_line}
 use Rattle.bl_boot.specs.Ends.{IsBadMachine, IsBadDescription, IsBooted, IsRefused, IsBroken}
-use Rattle.bl_boot.specs.Ends.{IsMapped, Surroundings}
+use Rattle.bl_boot.specs.Ends.{Surroundings}
+use Rattle.bl_boot.specs.Mapped.{IsMapped}
 use Rattle.bl_boot.specs.declared.booting.fault.EndFault.{EndFault}
 use Rattle.bl_boot.specs.declared.booting.fault.EndFault.TheVariants.{BadDescription, Device}
 use Rattle.bl_boot.specs.declared.booting.fault.EndFault.TheVariants.{NoMemory}
@@ -46,19 +45,19 @@ IsHandFault faults_before faults_after before after image NoMemory =
     (faults_after ≡ faults_before) × (after ≡ before)
 
 -- a boot ends so
-abbrev pub Ends : {F : Type 0} → (F → List ℕ → Answer → Type 0) → (F → ℕ) → List ℕ
+abbrev pub BootEnds : {F : Type 0} → (F → List ℕ → File → Type 0) → (F → ℕ) → List ℕ
     → Surroundings F → Surroundings F → Result End EndFault → Type 0
-Ends answers faults desc before after (Ok Booted) = IsBooted answers faults desc before after
-Ends answers faults desc before after (Ok NoEntryLeft) = IsRefused answers faults desc before after
-Ends answers faults desc before after (Err BadDescription) =
+BootEnds answers faults desc before after (Ok Booted) = IsBooted answers faults desc before after
+BootEnds answers faults desc before after (Ok NoEntryLeft) = IsRefused answers faults desc before after
+BootEnds answers faults desc before after (Err BadDescription) =
     IsBadDescription desc × (after ≡ before)
-Ends answers faults desc before after (Err Device) = IsBroken answers faults desc before after
-Ends answers faults desc before after (Err NoMemory) =
+BootEnds answers faults desc before after (Err Device) = IsBroken answers faults desc before after
+BootEnds answers faults desc before after (Err NoMemory) =
     (after.sink ≡ before.sink) × (after.said ≡ before.said)
 
 -- the boot of what was found for a description ends so: what it came to, of these files, what the
 -- sink took, and what is said
-abbrev pub FoundEnds : Described → BootFacts → List session.File → (s t u v : List ℕ)
+abbrev pub FoundEnds : Described → BootFacts → List File → (s t u v : List ℕ)
     → Result End EndFault → Type 0
 FoundEnds description facts files s t u v (Ok Booted) =
     (entry : ℕ) × (earlier : List RefusedEntry) × (handover : Handover)

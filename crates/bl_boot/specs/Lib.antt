@@ -3,6 +3,7 @@ pub mod Files
 pub mod Found
 pub mod Attempted
 pub mod Ends
+pub mod Mapped
 pub mod Kept
 pub mod WalkSays
 pub mod Walked

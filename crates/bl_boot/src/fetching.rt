@@ -1,6 +1,8 @@
 //! Where the files of a menu come from.
 ghost use Rattle.std.specs.Prelude.{◌≡◌, ℕ, ◌-◌, ◌<◌, ◌^◌, List, IfOk, OnErr};
-ghost use Rattle.bl_boot.specs.Files.{Answer, answer_of, KeepsLimit, CountsFault};
+ghost use Rattle.bl_session.specs.Outcome.{File};
+ghost use Rattle.bl_session.specs.Stores.{file_of};
+ghost use Rattle.bl_boot.specs.Files.{KeepsLimit, CountsFault};
 
 use bl_session::Fetched;
 use std::alloc::{AllocError, Allocator};
@@ -9,14 +11,11 @@ mod mem_files;
 
 pub use mem_files::MemFiles;
 
-/// The greatest length of a file, in bytes. A longer one is not read.
-pub const FILE_LIMIT: u64 = 0x4000_0000;
-
 /// Files by their names. They count their own faults, so that whoever is told that a file is
 /// missing can be shown it.
 pub trait Files {
     /// What may be answered for a name from now on.
-    ghost answers: { Self → List ℕ → Answer → Type 0 };
+    ghost answers: { Self → List ℕ → File → Type 0 };
 
     /// How many faults there were.
     ghost faults: { Self → ℕ };
@@ -24,12 +23,12 @@ pub trait Files {
     /// The file of this name, whole. Want of memory is no fault of the file's.
     fn fetch<A: Allocator>(&mut self, alloc: A, name: &str) -> Result<Fetched<A>, AllocError>
         requires { faults self.old < 2 ^ 64 - 1 }
-        ensures told { IfOk result (λ file. answers self.old name.now (answer_of file)) }
-        ensures same { (file : List ℕ) (answer : Answer) →
+        ensures told { IfOk result (λ file. answers self.old name.now (file_of file)) }
+        ensures same { (file : List ℕ) (answer : File) →
             answers self.new file answer → answers self.old file answer }
-        ensures limit { IfOk result (λ file. KeepsLimit (answer_of file)) }
+        ensures limit { IfOk result (λ file. KeepsLimit (file_of file)) }
         ensures missing { IfOk result (λ file.
-            CountsFault (faults self.old) (faults self.new) (answer_of file)) }
+            CountsFault (faults self.old) (faults self.new) (file_of file)) }
         ensures err { OnErr result (faults self.new ≡ faults self.old) };
 
     /// How many faults there were.

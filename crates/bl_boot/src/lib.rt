@@ -8,9 +8,9 @@ mod mapping;
 mod saying;
 mod walking;
 
-pub use bl_session::Fetched;
+pub use bl_session::{FILE_LIMIT, Fetched};
 pub use booting::boot;
-pub use fetching::{FILE_LIMIT, Files, MemFiles};
+pub use fetching::{Files, MemFiles};
 pub use laws::two_boots;
 pub use mapping::map_to;
 pub use walking::walk_to;

@@ -1,6 +1,7 @@
 //! The map of a description's machine, as it is said.
 ghost use Rattle.std.specs.Prelude.{◌≡◌, ◌⊎◌, ◌++◌};
-ghost use Rattle.bl_boot.specs.Ends.{IsMapped, IsBadDescription};
+ghost use Rattle.bl_boot.specs.Ends.{IsBadDescription};
+ghost use Rattle.bl_boot.specs.Mapped.{IsMapped};
 ghost use Rattle.bl_boot.specs.Kept.{MapEnds};
 
 use crate::booting::{EndFault, machine_of};

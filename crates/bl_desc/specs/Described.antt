@@ -16,9 +16,14 @@ use Rattle.bl_desc.specs.Values.{index_of, indices_of, has_only, at_key, at_key_
 use Rattle.bl_desc.specs.Entries.{Entry, entries_of}
 
 -- a file that stands in the description
-pub record File : Type 0 where
+pub record InlineFile : Type 0 where
   pub name : List ℕ
   pub bytes : List ℕ
+
+-- the bytes of the first file of this name
+abbrev pub file_named : List ℕ → List InlineFile → Option (List ℕ)
+file_named name [] = None
+file_named name (f ∷ fs) = if bytes_eq f.name name then Some f.bytes else file_named name fs
 
 -- what the whole says; the default and each fallback is the index of an entry
 pub record Described : Type 0 where
@@ -26,7 +31,7 @@ pub record Described : Type 0 where
   pub pool : Range ℕ
   pub fill : ℕ
   pub regions : List Region
-  pub files : List File
+  pub files : List InlineFile
   pub entries : List Entry
   pub default : ℕ
   pub fallbacks : List ℕ
@@ -57,7 +62,7 @@ regions_of d = in_tables region_in d
 
 -- ---- file
 
-unfoldable pub file_in : Members → Option File
+unfoldable pub file_in : Members → Option InlineFile
 file_in ms =
     if has_only (codes "name" ∷ codes "hex" ∷ []) ms then (do
       name ← at_key text_of (codes "name") ms
@@ -66,15 +71,15 @@ file_in ms =
     else None
 
 -- one of the files has this name
-abbrev pub has_file : List ℕ → List File → Bool
+abbrev pub has_file : List ℕ → List InlineFile → Bool
 has_file name files = list_any (λ f. bytes_eq f.name name) files
 
 -- no two files have one name
-abbrev pub names_differ : List File → Bool
+abbrev pub names_differ : List InlineFile → Bool
 names_differ [] = true
 names_differ (f ∷ fs) = not (has_file f.name fs) && names_differ fs
 
-unfoldable pub files_of : Data → Option (List File)
+unfoldable pub files_of : Data → Option (List InlineFile)
 files_of d = in_tables file_in d >>= passing names_differ
 
 -- ---- the whole
@@ -107,8 +112,3 @@ described_in ms =
 -- what these bytes describe: UTF-8, the text of a TOML document
 unfoldable pub described : List ℕ → Option Described
 described bytes = if is_utf8 bytes then parse_document bytes >>= described_in else None
-
--- the bytes of the first file of this name
-abbrev pub file_named : List ℕ → List File → Option (List ℕ)
-file_named name [] = None
-file_named name (f ∷ fs) = if bytes_eq f.name name then Some f.bytes else file_named name fs

@@ -7,6 +7,7 @@ use Rattle.std.specs.List.{list_all}
 use Rattle.toml.specs.Data.{Data, Members}
 use Rattle.bl_desc.specs.Values.{◌>>=◌, passing, text_of, has_only, at_key, at_key_or, at_key_if}
 use Rattle.bl_desc.specs.Values.{in_tables}
+use Rattle.bl_plan.specs.Limits.{most_entries, most_modules}
 use Rattle.bl_plan.specs.declared.protocol.Protocol.{Protocol}
 use Rattle.bl_plan.specs.declared.protocol.Protocol.TheVariants.{Multiboot2, Linux}
 
@@ -56,10 +57,6 @@ is_title text = (nat_le 1 (length text) && nat_le (length text) 64) && is_printa
 abbrev pub title_of : Data → Option (List ℕ)
 title_of d = text_of d >>= passing is_title
 
--- an entry has at most so many modules
-abbrev pub most_modules : ℕ
-most_modules = 64
-
 abbrev pub has_few_modules : List Module → Bool
 has_few_modules modules = nat_le (length modules) most_modules
 
@@ -108,11 +105,7 @@ entry_by ms Linux = linux_in ms
 unfoldable pub entry_in : Members → Option Entry
 entry_in ms = at_key protocol_of (codes "protocol") ms >>= entry_by ms
 
--- a menu has at most so many entries
-abbrev pub most_entries : ℕ
-most_entries = 32
-
--- 1 to that many entries
+-- it has an entry, and not too many
 abbrev pub is_menu : List Entry → Bool
 is_menu entries = nat_le 1 (length entries) && nat_le (length entries) most_entries
 

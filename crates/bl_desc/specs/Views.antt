@@ -1,7 +1,8 @@
 -- How a description is seen as what its bytes say, and how its readers answer. Own.
 use Rattle.std.specs.Prelude.{◌≡◌, ◌<◌, ◌≤◌, length, map, All, Option, Some, None, Result, Ok, Err}
-use Rattle.bl_desc.specs.Described.{File, Described}
-use Rattle.bl_desc.specs.Entries.{Module, Form, multiboot2, linux, Entry, most_entries}
+use Rattle.bl_desc.specs.Described.{InlineFile, Described}
+use Rattle.bl_desc.specs.Entries.{Module, Form, multiboot2, linux, Entry}
+use Rattle.bl_plan.specs.Limits.{most_entries}
 use Rattle.bl_desc.specs.declared.desc.FileRow.{FileRow}
 use Rattle.bl_desc.specs.declared.desc.EntryRow.{EntryRow}
 use Rattle.bl_desc.specs.declared.form.EntryForm.{EntryForm}
@@ -11,7 +12,7 @@ use Rattle.bl_desc.specs.declared.desc.Description.{Description}
 use Rattle.bl_desc.specs.declared.fault.DescFault.{DescFault}
 use Rattle.bl_desc.specs.declared.fault.DescFault.TheVariants.{BadDescription, NoMemory}
 
-abbrev pub file_view : {A : Type 0} → FileRow A → File
+abbrev pub file_view : {A : Type 0} → FileRow A → InlineFile
 file_view f = record { name = f.name; bytes = f.bytes }
 
 abbrev pub module_view : {A : Type 0} → ModuleRow A → Module

@@ -27,9 +27,6 @@ pub struct EntryRow<A: Allocator> {
     pub form: EntryForm<A>,
 }
 
-/// The most entries of a menu.
-pub const MOST_ENTRIES: usize = 32;
-
 /// What a description says: the machine, files and the menu, which has 1 to 32 entries.
 ///
 /// `size` is in bytes, `fill` is what each byte of memory holds before the boot, and the regions

@@ -3,16 +3,16 @@ ghost use Rattle.std.specs.Prelude.{◌≡◌, ◌≤◌, length, map, codes, op
 ghost use Rattle.toml.specs.View.{view, table_view, items_view};
 ghost use Rattle.bl_desc.specs.Values as values;
 ghost use Rattle.bl_desc.specs.Entries as spec;
-ghost use Rattle.bl_desc.specs.Entries.{most_entries};
+ghost use Rattle.bl_plan.specs.Limits.{most_entries};
 ghost use Rattle.bl_desc.specs.Views.{Gives, entry_view};
 
-use crate::desc::{EntryRow, MOST_ENTRIES};
+use crate::desc::EntryRow;
 use crate::fault::DescFault;
 use crate::form::EntryForm;
 use crate::keys::{at_key, has_only, text_at, text_if, text_or_empty};
 use crate::modules::modules_at;
 use crate::text::Text;
-use bl_plan::Protocol;
+use bl_plan::{MOST_ENTRIES, Protocol};
 use std::alloc::{AllocError, Allocator};
 use toml::{Table, Value};
 

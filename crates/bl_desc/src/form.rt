@@ -5,9 +5,6 @@ use crate::text::Text;
 use bl_plan::Protocol;
 use std::alloc::Allocator;
 
-/// The most modules that an entry has.
-pub const MOST_MODULES: usize = 64;
-
 /// A module of an entry: `file` names a file, and `line` is the module's line, perhaps empty.
 #[derive(Drop)]
 pub struct ModuleRow<A: Allocator> {

@@ -14,8 +14,9 @@ mod regions;
 mod text;
 mod values;
 
-pub use desc::{Description, EntryRow, FileRow, MOST_ENTRIES, file_named};
+pub use bl_plan::{MOST_ENTRIES, MOST_MODULES};
+pub use desc::{Description, EntryRow, FileRow, file_named};
 pub use fault::DescFault;
-pub use form::{EntryForm, MOST_MODULES, ModuleRow, Modules};
+pub use form::{EntryForm, ModuleRow, Modules};
 pub use read::read_description;
 pub use text::Text;

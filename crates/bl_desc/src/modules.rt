@@ -6,9 +6,10 @@ ghost use Rattle.bl_desc.specs.Entries as spec;
 ghost use Rattle.bl_desc.specs.Views.{Gives, module_view};
 
 use crate::fault::DescFault;
-use crate::form::{MOST_MODULES, ModuleRow, Modules};
+use crate::form::{ModuleRow, Modules};
 use crate::keys::{at_key, has_only, text_at, text_or_empty};
 use crate::text::Text;
+use bl_plan::MOST_MODULES;
 use std::alloc::Allocator;
 use toml::{Table, Value};
 

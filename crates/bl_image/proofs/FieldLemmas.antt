@@ -14,7 +14,7 @@ use Rattle.bl_image.specs.declared.fault.ImageFault.TheVariants.{BadPart, WrongL
 use Rattle.bl_image.specs.declared.fault.ImageFault.TheVariants.{NoMemory}
 use Rattle.bl_image.specs.Fields.{Field, word, long, fields_fault}
 use Rattle.bl_image.specs.Source.{Input, Comes, MayFollow, Shows, Refuses}
-use Rattle.bl_image.specs.SourceKept.{Ends, IsCut, Passes}
+use Rattle.bl_image.specs.SourceKept.{EndsEarly, IsCut, Passes}
 use Rattle.bl_image.proofs.Inputs.{comes_nothing, comes_more}
 
 -- a number is what its bytes spell
@@ -78,7 +78,7 @@ nothing_follows rest bytes e may =
 
 ended_shows : (fault_in : List ℕ → Option ImageFault) (old new : Input) (count : ℕ)
     → ((bytes : List ℕ) → length bytes < count → fault_in bytes ≡ Some WrongLength)
-    → Ends old new count → Shows fault_in old new WrongLength
+    → EndsEarly old new count → Shows fault_in old new WrongLength
 ended_shows fault_in old new count short ends = record {
   came = ends.came;
   comes = ends.comes;

@@ -6,7 +6,7 @@ use Rattle.bl_image.specs.Fields.{Field, fields_fault}
 use Rattle.bl_image.specs.Source.{Input, Comes, IsEnded, Refuses}
 
 -- fewer bytes came than so many, and then the input ended
-pub record Ends (old new : Input) (count : ℕ) : Type 0 where
+pub record EndsEarly (old new : Input) (count : ℕ) : Type 0 where
   pub came : List ℕ
   pub comes : Comes old new came
   pub short : length came < count
@@ -14,7 +14,7 @@ pub record Ends (old new : Input) (count : ℕ) : Type 0 where
 
 -- why fewer came: the input ended; or the device failed, or memory ran out
 abbrev pub IsCut : Input → Input → ℕ → ImageFault → Type 0
-IsCut old new count WrongLength = Ends old new count
+IsCut old new count WrongLength = EndsEarly old new count
 IsCut old new count DeviceFault = Unit {0}
 IsCut old new count NoMemory = Unit {0}
 IsCut old new count fault = ⊥

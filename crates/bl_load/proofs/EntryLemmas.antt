@@ -6,7 +6,7 @@ use Rattle.std.specs.List.{list_any}
 use Rattle.std.proofs.lemmas.List.Elements.{All-nil, All-cons, All-head, All-tail}
 use Rattle.std.specs.declared.ops.Range.{Range}
 use Rattle.bl_mem.specs.declared.segment.Segment.{Segment}
-use Rattle.bl_mem.specs.Contents.{holds}
+use Rattle.bl_mem.specs.Contents.{holds, holds_at}
 use Rattle.bl_map.specs.MachineFacts.{MachineFacts}
 use Rattle.bl_mb2head.specs.declared.relocation.Relocation.{Relocation}
 use Rattle.bl_plan.specs.Planned.{put_in}
@@ -19,12 +19,12 @@ use Rattle.bl_plan.specs.declared.part.Role.{Role}
 use Rattle.bl_plan.specs.Roles.{role_number}
 use Rattle.bl_load.specs.Value.{EntryValue}
 use Rattle.bl_load.specs.Reading.{multiboot2}
-use Rattle.bl_load.specs.Kernel.{KernelFacts, IsKernel, holds_at, entry_fault, counted_entry}
+use Rattle.bl_load.specs.Kernel.{KernelFacts, IsKernel, entry_fault, counted_entry}
 use Rattle.bl_load.specs.KernelKept.{AreLoadable}
 use Rattle.bl_load.specs.Blocks.{low_of, high_of, span_of}
 use Rattle.bl_load.specs.Rows.{segment_rows, block_choice, kernel_rows, information_row, rows_of}
 use Rattle.bl_load.specs.Rows.{module_rows}
-use Rattle.bl_load.specs.Parts.{entry_at}
+use Rattle.bl_load.specs.Parts.{entered_at}
 use Rattle.bl_load.specs.Addresses.{address_of}
 use Rattle.bl_load.proofs.KernelLaws.{entry_held, held_within, high_below}
 use Rattle.bl_load.proofs.SortedLemmas.{low_below, high_above_all}
@@ -113,7 +113,7 @@ entry_small_by : (facts : MachineFacts) (file : List ℕ) (value : EntryValue)
     ++ information_row facts value relocation ∷ [])) places
     → All (λ p. p.address + p.length ≤ 0xFFFFF000) places
     → (entry + address_of Kernel 0 places < 2 ^ 64)
-    × (entry_at entry segments relocation (address_of Kernel 0 places) < 2 ^ 32)
+    × (entered_at entry segments relocation (address_of Kernel 0 places) < 2 ^ 32)
 entry_small_by facts file value segments None entry places loadable above under placed below =
     let high =
     high_below segments 0xFFFFF000
@@ -143,7 +143,7 @@ pub entry_small : (file : List ℕ) (facts : MachineFacts) (value : EntryValue) 
     → ArePlaced facts [] (rows_of facts value (multiboot2 kernel)) places
     → All (λ p. p.address + p.length ≤ 0xFFFFF000) places
     → (low_of kernel.segments ≤ kernel.entry) × (kernel.entry + address_of Kernel 0 places < 2 ^ 64)
-    × (entry_at kernel.entry kernel.segments kernel.relocation (address_of Kernel 0 places)
+    × (entered_at kernel.entry kernel.segments kernel.relocation (address_of Kernel 0 places)
     < 2 ^ 32)
 entry_small file facts value kernel places is loadable placed below =
     let within = entry_within file kernel is in

@@ -9,7 +9,7 @@ use Rattle.std.proofs.lemmas.List.Elements.{All-nil, All-cons, All-head, All-tai
 use Rattle.std.proofs.lemmas.Bool.Decides.{nat_tests}
 use Rattle.std.proofs.lemmas.Grind.{common_steps}
 use Rattle.bl_mem.specs.declared.segment.Segment.{Segment}
-use Rattle.bl_mem.specs.Contents.{holds}
+use Rattle.bl_mem.specs.Contents.{holds, holds_at}
 use Rattle.bl_elf.specs.Elf.{ElfFacts, IsElf}
 use Rattle.bl_elf.proofs.ElfLaws.{elf_few, elf_loadable, elf_apart}
 use Rattle.bl_mb2head.specs.Header.{FitsFile, IsHeader}
@@ -18,7 +18,7 @@ use Rattle.bl_load.specs.declared.refusal.Refusal.TheVariants as refusal
 use Rattle.bl_load.specs.Blocks.{high_of}
 use Rattle.bl_load.specs.declared.refusal.PrepFault.{PrepFault}
 use Rattle.bl_load.specs.declared.refusal.PrepFault.TheVariants as prep
-use Rattle.bl_load.specs.Kernel.{IsLoadedBy, entry_fault, holds_at}
+use Rattle.bl_load.specs.Kernel.{IsLoadedBy, entry_fault}
 use Rattle.bl_load.specs.KernelKept.{IsLoadFault, IsKernelFault, AreLoadable}
 
 none_when : {X : Type 0} (b : Bool) (x : X) → cond b None (Some x) ≡ None → b ≡ true

@@ -7,10 +7,9 @@ use Rattle.std.specs.List.{list_any}
 use Rattle.std.proofs.lemmas.List.Elements.{All-nil, All-cons, All-head, All-tail}
 use Rattle.std.proofs.lemmas.Bool.{cond_both, cases_lt, or_parts}
 use Rattle.bl_mem.specs.declared.segment.Segment.{Segment}
-use Rattle.bl_mem.specs.Contents.{contents_of, holds}
+use Rattle.bl_mem.specs.Contents.{contents_of, holds, holds_at}
 use Rattle.bl_elf.specs.Elf.{AreApart}
 use Rattle.bl_load.specs.Blocks.{low_of, high_of, span_of, byte_at, first_values, block_of}
-use Rattle.bl_load.specs.Kernel.{holds_at}
 use Rattle.bl_load.specs.Loadable.{SegmentsAscend}
 use Rattle.bl_plan.specs.Order.{segment_key, ascending}
 use Rattle.bl_load.proofs.KernelLaws.{held_within}

@@ -1,12 +1,12 @@
 -- A Multiboot2 kernel's file: what is loaded of it, where it is entered, how it may be moved; or
 -- its first fault.
-use Rattle.std.specs.Prelude.{◌≡◌, ℕ, Bool, if◌then◌else◌, List, [], ◌∷◌, Option, Some, None, ◌⊎◌}
+use Rattle.std.specs.Prelude.{◌≡◌, ℕ, if◌then◌else◌, List, [], ◌∷◌, Option, Some, None, ◌⊎◌}
 use Rattle.std.specs.Option.{option_or}
 use Rattle.std.specs.List.{list_any}
 use Rattle.bl_mem.specs.declared.segment.Segment.{Segment}
 use Rattle.bl_elf.specs.Elf.{ElfFacts, IsElf}
 use Rattle.bl_elf.specs.Elf as elf
-use Rattle.bl_mem.specs.Contents.{holds}
+use Rattle.bl_mem.specs.Contents.{holds_at}
 use Rattle.bl_elf.specs.declared.fault.ElfFault.{ElfFault}
 use Rattle.bl_elf.specs.declared.fault.ElfFault.TheVariants as elf_fault
 use Rattle.bl_mb2head.specs.Header.{IsHeader}
@@ -30,9 +30,6 @@ pub record KernelFacts : Type 0 where
 abbrev pub IsLoadedBy : List ℕ → Option Segment → ElfFacts → Type 0
 IsLoadedBy file (Some segment) facts = facts ≡ record { segments = segment ∷ []; entry = None }
 IsLoadedBy file None facts = IsElf file facts
-
-abbrev pub holds_at : ℕ → Segment → Bool
-holds_at a segment = holds segment a
 
 -- the entry that counts must lie in a segment
 abbrev pub entry_fault : List Segment → Option ℕ → Option Refusal

@@ -11,15 +11,15 @@ use Rattle.bl_load.specs.declared.refusal.Refusal.{Refusal}
 use Rattle.bl_load.specs.declared.refusal.Refusal.TheVariants as refusal
 
 -- "e820_table" has room for so many runs ("Zero Page")
-abbrev pub most_runs : ℕ
-most_runs = 128
+abbrev pub most_e820_entries : ℕ
+most_e820_entries = 128
 
 -- what a kernel of this setup can't be told: a line that is longer than "cmdline_size" says; a
 -- memory map of more runs than boot parameters have room for
 abbrev pub telling_fault : List Region → List ℕ → Setup → Option Refusal
 telling_fault runs line setup =
     if nat_lt setup.cmdline_size (length line) then Some refusal.LineTooLong else
-    if nat_lt most_runs (length runs) then Some refusal.MapTooLong else
+    if nat_lt most_e820_entries (length runs) then Some refusal.MapTooLong else
     None
 
 -- the file has this setup, and the kernel can be told this line and these runs

@@ -77,15 +77,15 @@ part_from facts value reading places place =
     (filled place.length (content_of facts value reading places place.role place.index))
 
 -- where the kernel is entered: a block moves its entry with it
-abbrev pub entry_at : ℕ → List Segment → Option Relocation → ℕ → ℕ
-entry_at entry segments None base = entry
-entry_at entry segments (Some r) base = entry - low_of segments + base
+abbrev pub entered_at : ℕ → List Segment → Option Relocation → ℕ → ℕ
+entered_at entry segments None base = entry
+entered_at entry segments (Some r) base = entry - low_of segments + base
 
 -- the registers as the kernel begins, where the parts have these places
 abbrev pub registers_of : Reading → List Place → Registers
 registers_of (multiboot2 kernel) places =
     multiboot2_registers
-    (entry_at kernel.entry kernel.segments kernel.relocation (address_of Kernel 0 places))
+    (entered_at kernel.entry kernel.segments kernel.relocation (address_of Kernel 0 places))
     (address_of Information 0 places)
 registers_of (linux setup) places =
     linux_registers

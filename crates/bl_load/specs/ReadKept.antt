@@ -13,7 +13,7 @@ use Rattle.bl_load.specs.Addresses.{address_of}
 use Rattle.bl_load.specs.Blocks.{low_of}
 use Rattle.bl_load.specs.KernelKept.{AreLoadable, kernel_by}
 use Rattle.bl_load.specs.Linux.{HasLinuxFault}
-use Rattle.bl_load.specs.Parts.{entry_at}
+use Rattle.bl_load.specs.Parts.{entered_at}
 use Rattle.bl_load.specs.PlacingKept.{ModulesEndLow}
 use Rattle.bl_load.specs.PlanFacts.{file_text}
 use Rattle.bl_load.specs.Reading.{Reading, multiboot2, linux}
@@ -46,7 +46,7 @@ abbrev pub CanEnter : Reading → List Place → Type 0
 CanEnter (multiboot2 kernel) places =
     (low_of kernel.segments ≤ kernel.entry)
     × (kernel.entry + address_of role.Kernel 0 places < 2 ^ 64)
-    × (entry_at kernel.entry kernel.segments kernel.relocation (address_of role.Kernel 0 places)
+    × (entered_at kernel.entry kernel.segments kernel.relocation (address_of role.Kernel 0 places)
     < 2 ^ 32)
 CanEnter (linux setup) places = Unit {0}
 

@@ -3,6 +3,7 @@ use Rattle.std.specs.Prelude.{ℕ, ◌+◌, ◌≤◌, if◌then◌else◌, ◌=
 use Rattle.std.specs.Prelude.{slice_index_or, Option, Some, None, option_to_list}
 use Rattle.std.specs.List.{list_any}
 use Rattle.std.specs.Option.{option_or}
+use Rattle.bl_plan.specs.Limits.{most_modules}
 use Rattle.bl_plan.specs.declared.protocol.Protocol.{Protocol}
 use Rattle.bl_plan.specs.declared.protocol.Protocol.TheVariants as protocol
 use Rattle.bl_load.specs.declared.entry.Entry.{Entry}
@@ -53,10 +54,7 @@ abbrev pub file_count : {A : Type 0} → Entry A → ℕ
 file_count (Multiboot2 kernel line modules) = 1 + length modules.items
 file_count (Linux kernel line initrd) = 1 + length (option_to_list initrd)
 
--- an entry has at most so many modules
-abbrev pub most_modules : ℕ
-most_modules = 64
-
+-- it has not too many modules
 abbrev pub HasFewModules : {A : Type 0} → Entry A → Type 0
 HasFewModules (Multiboot2 kernel line modules) = length modules.items ≤ most_modules
 HasFewModules (Linux kernel line initrd) = Unit {0}

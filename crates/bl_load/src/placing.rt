@@ -43,10 +43,10 @@ fn fault_of(fault: PlanFault) -> PrepFault
 }
 
 /// Where the kernel is entered, once the first of its parts stands at `base`.
-fn entry_at<A: Allocator>(kernel: &Kernel<A>, base: u64) -> u64
+fn entered_at<A: Allocator>(kernel: &Kernel<A>, base: u64) -> u64
     requires above { blocks.low_of (kernel_by kernel.now).segments ≤ kernel.now.entry }
     requires below { kernel.now.entry + base < 2 ^ 64 }
-    ensures { result ≡ parts.entry_at kernel.now.entry (kernel_by kernel.now).segments
+    ensures { result ≡ parts.entered_at kernel.now.entry (kernel_by kernel.now).segments
         kernel.now.relocation base }
 {
     match kernel.relocation {
@@ -64,7 +64,7 @@ fn registers_of<A: Allocator>(kernel: &KernelFile<A>, places: &[Place]) -> Regis
     let base = address_of(Role::Kernel, 0, places);
     match kernel {
         KernelFile::Multiboot2(kernel) => {
-            let entry = entry_at(kernel, base as u64) as u32;
+            let entry = entered_at(kernel, base as u64) as u32;
             multiboot2_registers(entry, address_of(Role::Information, 0, places))
         }
         KernelFile::Linux(_) => {

@@ -1,7 +1,7 @@
 -- Whether the pool has frames enough beside the parts. Own.
 use Rattle.std.specs.Prelude.{ℕ, zero, suc, ◌+◌, ◌-◌, ◌*◌, ◌/◌, ◌≤◌, Bool, ◌||◌, if◌then◌else◌}
-use Rattle.std.specs.Prelude.{nat_le, List, [], ◌∷◌, length, All, AllPairs}
-use Rattle.std.specs.List.{list_all}
+use Rattle.std.specs.Prelude.{nat_le, List, length, map, All, AllPairs}
+use Rattle.std.specs.List.{list_all, sum_by}
 use Rattle.std.specs.declared.ops.Range.{Range}
 use Rattle.bl_map.specs.Limits.{frame_size}
 
@@ -13,10 +13,9 @@ frames_of length = (length + (frame_size - 1)) / frame_size
 abbrev pub whole_frames : ℕ → ℕ
 whole_frames length = frames_of length * frame_size
 
--- how many frames the files of an entry need, each in frames of its own
-abbrev pub frames_needed : List (List ℕ) → ℕ
-frames_needed [] = 0
-frames_needed (file ∷ files) = frames_of (length file) + frames_needed files
+-- how many frames files of these lengths need, each in frames of its own
+abbrev pub frames_for : List ℕ → ℕ
+frames_for lengths = sum_by frames_of lengths
 
 -- how many frames a pool has
 abbrev pub frames_in : Range ℕ → ℕ
@@ -45,7 +44,7 @@ open_frames pool ranges = open_among ranges pool.start (frames_in pool)
 
 -- the pool's frames that meet no part are enough for the files
 abbrev pub HasRoomFor : Range ℕ → List (Range ℕ) → List (List ℕ) → Type 0
-HasRoomFor pool ranges files = frames_needed files ≤ open_frames pool ranges
+HasRoomFor pool ranges files = frames_for (map length files) ≤ open_frames pool ranges
 
 -- ranges that go forward, each behind the one before; one may have no byte
 pub record AreAscending (ranges : List (Range ℕ)) : Type 0 where

@@ -9,7 +9,7 @@ ghost use Rattle.bl_params.specs.Kept.{IsSoundUpto, IsQuiet};
 use crate::fault::ParamFault;
 use crate::fields::{
     BOOT_FLAG, BOOT_FLAG_MAGIC, E820_ENTRIES, HEADER, HEADER_MAGIC, HEADER_START,
-    JUMP_DISPLACEMENT, LEAST_END, LEAST_VERSION, LOADER_UNDEFINED, MOST_END, MOST_ENTRIES,
+    JUMP_DISPLACEMENT, LEAST_END, LEAST_VERSION, LOADER_UNDEFINED, MOST_E820_ENTRIES, MOST_END,
     SETUP_DATA, TYPE_OF_LOADER, VERSION, VID_MODE, VID_MODE_NORMAL,
 };
 use crate::numbers::{u16_in, u32_in, u64_in};
@@ -69,7 +69,7 @@ pub fn pass_front(bytes: &[u8]) -> Result<(), ParamFault>
         bytes,
         E820_ENTRIES,
         E820_ENTRIES + 1,
-        bytes[E820_ENTRIES] > MOST_ENTRIES,
+        bytes[E820_ENTRIES] > MOST_E820_ENTRIES,
     )?;
     pass_zeros(bytes, E820_ENTRIES + 1, HEADER_START)?;
     Ok(())

@@ -101,4 +101,4 @@ pub const ENTRY_LENGTH: usize = 8;
 pub const ENTRY_TYPE: usize = 16;
 
 /// How many entries the memory map has at most.
-pub const MOST_ENTRIES: u8 = 128;
+pub const MOST_E820_ENTRIES: u8 = 128;

@@ -1,5 +1,6 @@
 pub mod Roles
 pub mod Protocols
+pub mod Limits
 pub mod Order
 pub mod Permitted
 pub mod Planned

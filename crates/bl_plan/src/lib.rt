@@ -4,6 +4,7 @@
 mod blocked;
 mod fault;
 mod laws;
+mod limits;
 mod order;
 mod part;
 mod placing;
@@ -16,6 +17,7 @@ pub use fault::PlanFault;
 pub use laws::{
     places_are_determined, places_are_legal, places_are_of_rows, rows_have_places_or_a_fault,
 };
+pub use limits::{MOST_ENTRIES, MOST_MODULES};
 pub use order::{Addressed, in_order};
 pub use part::{Choice, Place, Role, Row, Side};
 pub use placing::place_rows;

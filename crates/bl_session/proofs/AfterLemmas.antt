@@ -20,19 +20,19 @@ use Rattle.bl_load.specs.Loadable.{lengths_of, IsBacked}
 use Rattle.bl_load.specs.PlanFacts.{part_by, part_in}
 use Rattle.bl_load.specs.After.{Spans, IsAfter}
 use Rattle.bl_load.proofs.HeldLemmas.{length-bytes_by, map_same}
-use Rattle.bl_session.specs.Ends.{range_of}
+use Rattle.bl_session.specs.Ends.{part_range}
 
 -- the ranges of what a plan hands over are those of its places
 pub ranges_are : {A : Type 0} (texts : List (List ℕ)) (parts : List (PlannedPart A))
     → All (IsBacked (lengths_of texts)) parts
-    → map range_of (map (part_by texts) parts) ≡ map place_range (map (λ part. part.place) parts)
+    → map part_range (map (part_by texts) parts) ≡ map place_range (map (λ part. part.place) parts)
 ranges_are texts [] backed = refl
 ranges_are texts (p ∷ parts) backed =
     let size = length-bytes_by texts p (backed 0 p (omega arith)) in
-    let here : range_of (part_by texts p) ≡ place_range p.place =
+    let here : part_range (part_by texts p) ≡ place_range p.place =
     ap (λ n. let r : Range ℕ = record { start = p.place.address; end = p.place.address + n } in r)
     size in
-    ap (λ (r : Range ℕ). r ∷ map range_of (map (part_by texts) parts)) here
+    ap (λ (r : Range ℕ). r ∷ map part_range (map (part_by texts) parts)) here
     ∙ ap (λ (rs : List (Range ℕ)). place_range p.place ∷ rs)
     (ranges_are texts parts (λ k d within. backed (suc k) d (omega arith)))
 
@@ -97,23 +97,23 @@ pub after_scrub : (pool : Range ℕ) (parts : List Part) (old loaded new : List 
     (λ part. (a : ℕ) → part.address ≤ a → a < part.address + length part.bytes
     → slice_index loaded a ≡ slice_index part.bytes (a - part.address)) parts
     → ((a : ℕ) → All (λ part. ¬ Spans part a) parts → slice_index loaded a ≡ slice_index old a)
-    → ((a : ℕ) → slice_index new a ≡ scrubbed pool (map range_of parts) loaded a)
+    → ((a : ℕ) → slice_index new a ≡ scrubbed pool (map part_range parts) loaded a)
     → IsAfter pool parts old new
 after_scrub pool parts old loaded new in_parts elsewhere after =
-    let keep : List (Range ℕ) = map range_of parts in
+    let keep : List (Range ℕ) = map part_range parts in
     record {
       in_parts = λ k d within a span.
-          let this : get_or keep k (range_of d) ≡ range_of (get_or parts k d) =
-          get_or-map range_of parts k d in
+          let this : get_or keep k (part_range d) ≡ part_range (get_or parts k d) =
+          get_or-map part_range parts k d in
           let kept : has keep a ≡ true =
-          has_one keep k a (range_of d) (rw length-map within) (rw this span.0)
+          has_one keep k a (part_range d) (rw length-map within) (rw this span.0)
           (rw this span.1) in
           after a ∙ scrubbed_kept pool keep loaded a kept ∙ in_parts k d within a span.0 span.1;
       in_pool =
           λ a out here.
           after a
           ∙ scrubbed_cleared pool keep loaded a here
-          (has_none keep a (All-map (λ (r : Range ℕ). ¬ IsIn r a) range_of parts out));
+          (has_none keep a (All-map (λ (r : Range ℕ). ¬ IsIn r a) part_range parts out));
       elsewhere = λ a out away. after a ∙ scrubbed_away pool keep loaded a away ∙ elsewhere a out;
     }
 

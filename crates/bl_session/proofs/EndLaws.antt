@@ -3,14 +3,15 @@ use Rattle.std.proofs.Common.{◌≡◌, ℕ, List, Option, Some, None, ◌⊎�
 use Rattle.std.proofs.Common.{refl, option_map, arith, map}
 use Rattle.std.proofs.lemmas.Bool.{cases_lt}
 use Rattle.bl_map.specs.MachineFacts.{MachineFacts}
-use Rattle.bl_map.specs.Room.{frames_needed, open_frames}
+use Rattle.bl_map.specs.Room.{frames_for, open_frames}
 use Rattle.bl_load.specs.declared.refusal.Refusal.{Refusal}
 use Rattle.bl_load.specs.declared.refusal.Refusal.TheVariants.{FileFault, NoPool}
 use Rattle.bl_load.specs.Value.{EntryValue}
 use Rattle.bl_load.specs.Handover.{Handover}
 use Rattle.bl_load.proofs.HandoverLaws.{one_handover, one_refusal, not_both}
 use Rattle.bl_load.proofs.TotalLaws.{handover_or_refusal}
-use Rattle.bl_session.specs.Ends.{End, handed, refused, range_of, HasRoomBeside, LacksRoom, EndsIn}
+use Rattle.bl_session.specs.Ends.{End, handed, refused, HasRoomBeside, LacksRoom, EndsIn}
+use Rattle.bl_session.specs.Ends.{part_range}
 use Rattle.bl_session.specs.Ends.{Else, Ends, size_refusal}
 
 -- an entry whose parts leave no room is not handed over
@@ -58,8 +59,8 @@ some_end_in facts value =
     room_or_none : (facts : MachineFacts) (value : EntryValue) (handover : Handover)
         → HasRoomBeside facts value handover ⊎ (¬ HasRoomBeside facts value handover)
     room_or_none facts value handover =
-        elim (cases_lt (open_frames facts.pool (map range_of handover.parts))
-        (frames_needed value.files)) [
+        elim (cases_lt (open_frames facts.pool (map part_range handover.parts))
+        (frames_for (map length value.files))) [
           | inl less ↦ inr (λ room. omega (arith, room, less))
           | inr room ↦ inl room
         ]

@@ -10,10 +10,10 @@ use Rattle.bl_load.specs.declared.refusal.Refusal.TheVariants.{FileFault, FileTo
 use Rattle.bl_load.specs.Value.{EntryValue}
 use Rattle.bl_stage.specs.Spots.{waiting_spots}
 use Rattle.bl_session.specs.Ends.{End, refused, EndsIn, Ends, Else, size_refusal, file_refusal}
-use Rattle.bl_session.specs.Ends.{pool_refusal, lengths_of, most_bytes}
+use Rattle.bl_session.specs.Ends.{pool_refusal, lengths_of, file_limit}
 use Rattle.bl_session.specs.Menu.{entry_at}
 use Rattle.bl_session.specs.Boot.{BootFacts, sizes_of, fresh}
-use Rattle.bl_session.specs.Outcome.{File, missing, too_long, whole, size_of, text_of, texts_of}
+use Rattle.bl_session.specs.Outcome.{File, missing, too_long, whole, size_of, file_bytes, texts_of}
 use Rattle.bl_session.proofs.GatherLemmas.{FitAll, fits_first}
 
 -- ---- an entry that its sizes don't refuse has its files whole in the store
@@ -32,15 +32,15 @@ no_refusal false x r e = e
 
 read_one : (place : ℕ) (file : File) (sizes : List (Option ℕ))
     → file_refusal place (size_of file ∷ sizes) ≡ None
-    → (size_of file ≡ Some (length (text_of file))) × (file_refusal (place + 1) sizes ≡ None)
+    → (size_of file ≡ Some (length (file_bytes file))) × (file_refusal (place + 1) sizes ≡ None)
 read_one place missing sizes e = absurd cc
 read_one place (whole bytes) sizes e = (
   refl,
-  no_refusal (nat_lt most_bytes (length bytes)) (file_refusal (place + 1) sizes)
+  no_refusal (nat_lt file_limit (length bytes)) (file_refusal (place + 1) sizes)
       (FileTooLong place) e,
 )
 read_one place (too_long over) sizes e =
-    let long : nat_lt most_bytes (most_bytes + 1 + over) ≡ true = grind (arith, nat_tests) in
+    let long : nat_lt file_limit (file_limit + 1 + over) ≡ true = grind (arith, nat_tests) in
     let some : (if true then Some (FileTooLong place) else file_refusal (place + 1) sizes) ≡ None =
     rw long at e in
     absurd cc
@@ -54,7 +54,7 @@ size_at (f ∷ files) (suc file) = size_at files file
 read_all : (files : List File) (place : ℕ) (indices : List ℕ)
     → file_refusal place (map (λ file. get_or (map size_of files) file None) indices) ≡ None
     → AreRead (map (λ file. get_or (map size_of files) file None) indices)
-    (map (λ file. text_of (get_or files file missing)) indices)
+    (map (λ file. file_bytes (get_or files file missing)) indices)
 read_all files place [] e = tt
 read_all files place (file ∷ indices) e =
     let one =

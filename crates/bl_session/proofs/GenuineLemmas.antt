@@ -10,7 +10,7 @@ use Rattle.bl_session.specs.declared.words.Ticket.{Ticket}
 use Rattle.bl_session.specs.Menu.{entry_at}
 use Rattle.bl_session.specs.Pieces.{awaits, spot_of}
 use Rattle.bl_session.specs.Boot.{BootFacts, EventFacts, piece, running, is_wanted}
-use Rattle.bl_session.specs.Outcome.{File, missing, text_of, texts_of, IsTrueOf}
+use Rattle.bl_session.specs.Outcome.{File, missing, file_bytes, texts_of, IsTrueOf}
 use Rattle.bl_session.specs.History.{Item, submitted, came, failed, nothing, file_under, IsPieceOf}
 use Rattle.bl_session.specs.Run.{IsEventOf, AreToldFaults, IsGenuineItem}
 use Rattle.bl_session.proofs.TicketLemmas.{both, file_both}
@@ -71,7 +71,7 @@ module _ (facts : BootFacts) (files : List File) (faults : ℕ → Option ℕ) w
       file_under given (record { attempt = n; file = ticket.file; piece = ticket.piece })
       ≡ Some (get_or (entry_at facts.menu entry).files ticket.file 0)) number own in
       let text =
-      get_or-map (λ file. text_of (get_or files file missing)) (entry_at facts.menu entry).files
+      get_or-map (λ file. file_bytes (get_or files file missing)) (entry_at facts.menu entry).files
       ticket.file 0 [] named in
       subst (λ (f : Option ℕ). IsPieceOf files f ticket.piece bytes) same is
       ∙ ap (λ (t : List ℕ). piece_of t ticket.piece) (sym text)

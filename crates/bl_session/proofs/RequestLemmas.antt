@@ -11,7 +11,7 @@ use Rattle.bl_session.specs.declared.words.Ticket.{Ticket}
 use Rattle.bl_session.specs.declared.store.Completion.{Completion}
 use Rattle.bl_session.specs.declared.store.Completion.TheVariants.{Piece, Fault}
 use Rattle.bl_session.specs.declared.request.Request.{Request}
-use Rattle.bl_session.specs.Outcome.{File, missing, text_of}
+use Rattle.bl_session.specs.Outcome.{File, missing, file_bytes}
 use Rattle.bl_session.specs.History.{Item, submitted, is_same, file_under, IsPieceOf, IsItemOf}
 use Rattle.bl_session.specs.Faithful.{asked, IsFaithfulItem, IsFaithfulAfter}
 use Rattle.bl_session.specs.Stores.{are_equal, is_piece_of}
@@ -34,7 +34,7 @@ pub marks : (files : List File) (found : Option ℕ) (index : ℕ) (bytes : List
     → (is_piece_of files found index bytes ≡ true) ↔ IsPieceOf files found index bytes
 marks files None index bytes = (λ h. cc, λ h. absurd h)
 marks files (Some file) index bytes =
-    equal_decides bytes (piece_of (text_of (slice_index_or files file missing)) index)
+    equal_decides bytes (piece_of (file_bytes (slice_index_or files file missing)) index)
 
 pub item_is : {A : Type 0} (files : List File) (given : List Item) (answer : Option (Completion A))
     → IsItemOf files given answer (item_of files given answer)

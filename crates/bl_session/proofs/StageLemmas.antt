@@ -9,26 +9,17 @@ use Rattle.std.proofs.lemmas.List.Folds.{list_all_at}
 use Rattle.std.proofs.lemmas.List.FromFn.{length-map-range_with_len, get_or-map-range_with_len}
 use Rattle.std.proofs.lemmas.List.{ext_get_or}
 use Rattle.std.proofs.lemmas.Simd.{map-map}
-use Rattle.std.proofs.lemmas.List.Sums.{sum_by-cons}
-use Rattle.bl_map.specs.Room.{frames_of, frames_needed, is_beside, is_open}
+use Rattle.bl_map.specs.Room.{frames_of, is_beside, is_open, frames_for}
 use Rattle.bl_mem.specs.Files.{AreBelow, AllBeside}
 use Rattle.bl_mem.specs.Memory.{IsIn}
 use Rattle.bl_stage.specs.Ranges.{meets}
 use Rattle.bl_stage.specs.Staged.{Staging, AreStaged, HasPool, IsStagedOn, file_of, table_of}
-use Rattle.bl_stage.specs.Staged.{first_of, texts_of, frames_for, with_frames}
+use Rattle.bl_stage.specs.Staged.{first_of, texts_of, with_frames}
 use Rattle.bl_stage.specs.TextLaws.{same_firsts}
 use Rattle.bl_stage.proofs.FileLemmas.{file_within, read_part}
 use Rattle.bl_stage.proofs.FrameLemmas.{staged_length}
 
 -- ---- how many frames
-
--- as many as their lengths need
-pub needed_by_lengths : (texts : List (List ℕ))
-    → frames_needed texts ≡ frames_for (map (λ text. length text) texts)
-needed_by_lengths [] = refl
-needed_by_lengths (text ∷ texts) =
-    ap (λ n. frames_of (length text) + n) (needed_by_lengths texts)
-    ∙ sym (sum_by-cons frames_of (length text) (map (λ (t : List ℕ). length t) texts))
 
 lengths_are : (bytes : List ℕ) (stage : Staging)
     → map (λ text. length text) (texts_of bytes stage) ≡ stage.sizes
@@ -43,9 +34,8 @@ lengths_are bytes stage =
     ∙ staged_length bytes (table_of stage k) (get_or stage.sizes k 0))
 
 pub texts_needed : (bytes : List ℕ) (stage : Staging)
-    → frames_needed (texts_of bytes stage) ≡ frames_for stage.sizes
-texts_needed bytes stage =
-    needed_by_lengths (texts_of bytes stage) ∙ ap frames_for (lengths_are bytes stage)
+    → frames_for (map length (texts_of bytes stage)) ≡ frames_for stage.sizes
+texts_needed bytes stage = ap frames_for (lengths_are bytes stage)
 
 -- ---- where they lie
 

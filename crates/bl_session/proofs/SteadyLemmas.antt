@@ -10,7 +10,7 @@ use Rattle.bl_session.specs.Pieces.{is_awaited, spot_of}
 use Rattle.bl_session.specs.Boot.{BootFacts, State, unstarted, running, handed_over, none_left}
 use Rattle.bl_session.specs.Boot.{out_of_memory, sizes_of, fresh}
 use Rattle.bl_session.specs.History.{Item}
-use Rattle.bl_session.specs.Outcome.{File, missing, size_of, text_of, texts_of}
+use Rattle.bl_session.specs.Outcome.{File, missing, size_of, file_bytes, texts_of}
 use Rattle.bl_session.specs.Orders.{orders, file_orders}
 use Rattle.bl_session.proofs.EntryEndLemmas.{are_read, length_read}
 use Rattle.bl_session.proofs.TicketLemmas.{IsUntouched, IsAskedOnce, untouched_both, once_last}
@@ -76,12 +76,12 @@ module _ (facts : BootFacts) where
 module _ (facts : BootFacts) (files : List File) (known : facts.sizes ≡ map size_of files) where
   -- what the file at a place of an entry holds
   abbrev pub text_at : (entry place : ℕ) → List ℕ
-  text_at entry place = text_of (get_or files (file_at facts entry place) missing)
+  text_at entry place = file_bytes (get_or files (file_at facts entry place) missing)
 
   text_is : (entry place : ℕ) → place < length (entry_at facts.menu entry).files
       → get_or (texts_of facts files entry) place [] ≡ text_at entry place
   text_is entry place h =
-      get_or-map (λ file. text_of (get_or files file missing)) (entry_at facts.menu entry).files
+      get_or-map (λ file. file_bytes (get_or files file missing)) (entry_at facts.menu entry).files
       place 0 [] h
 
   length_is : (entry place : ℕ) → size_refusal facts.machine (sizes_of facts entry) ≡ None

@@ -14,7 +14,7 @@ use Rattle.bl_session.specs.declared.request.Request.{Request}
 use Rattle.bl_session.specs.declared.queue.Order.{Order}
 use Rattle.bl_session.specs.declared.queue.Order.TheVariants.{Forward, Reverse}
 use Rattle.bl_session.specs.Boot.{EventFacts, piece, fault}
-use Rattle.bl_session.specs.Outcome.{File, missing, text_of}
+use Rattle.bl_session.specs.Outcome.{File, missing, file_bytes}
 use Rattle.bl_session.specs.History.{Item, failed, nothing, is_same, file_under, IsPieceOf}
 use Rattle.bl_session.specs.Faithful.{asked, answered, HasPiece, IsFaithfulItem}
 use Rattle.bl_session.specs.Stores.{item_of_event, item_of_told, event_of, answer_to, next_place}
@@ -65,14 +65,14 @@ if_answered files given false text t ticket = omega arith
 
 if_faithful : (files : List File) (given : List Item) (request : Request) (has : Bool)
     → nat_lt (4096 * request.ticket.piece)
-    (length (text_of (slice_index_or files request.file missing))) ≡ has
+    (length (file_bytes (slice_index_or files request.file missing))) ≡ has
     → WasAsked given request → answered given request.ticket < asked given request.ticket
     → IsFaithfulItem files given
     (item_of_event files given
-    (answer_if has (text_of (slice_index_or files request.file missing)) request.ticket))
+    (answer_if has (file_bytes (slice_index_or files request.file missing)) request.ticket))
 if_faithful files given request true e (some, under) fewer =
     let index = request.ticket.piece in
-    let bytes = piece_of (text_of (slice_index_or files request.file missing)) index in (
+    let bytes = piece_of (file_bytes (slice_index_or files request.file missing)) index in (
       fewer,
       λ one. (marks files (file_under given request.ticket) index bytes).1
           (subst (λ (file : Option ℕ). IsPieceOf files file index bytes) (sym (under one)) refl),
@@ -82,9 +82,9 @@ if_faithful files given request false e (some, under) fewer =
       fewer,
       λ one has.
           not_from_Decides
-          (nat_lt (4096 * index) (length (text_of (slice_index_or files request.file missing))))
+          (nat_lt (4096 * index) (length (file_bytes (slice_index_or files request.file missing))))
           (Decides-ltb (4096 * index)
-          (length (text_of (slice_index_or files request.file missing)))) e
+          (length (file_bytes (slice_index_or files request.file missing)))) e
           (subst (λ (file : Option ℕ). HasPiece files file index) (under one) has),
     )
 
@@ -102,7 +102,7 @@ kept_answer : (files : List File) (front back : List Request) (given : List Item
     → AreKept files (front ++ back)
     (given ++ item_of_event files given (answer_to files request) ∷ [])
 kept_answer files front back given request kept =
-    let text = text_of (slice_index_or files request.file missing) in
+    let text = file_bytes (slice_index_or files request.file missing) in
     let has = nat_lt (4096 * request.ticket.piece) (length text) in
     let item : Item = item_of_event files given (answer_to files request) in
     let apart : AreAskedFor given front × AreAskedFor given (request ∷ back) =

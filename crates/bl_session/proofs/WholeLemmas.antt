@@ -8,8 +8,8 @@ use Rattle.std.proofs.lemmas.Bool.{cases_lt}
 use Rattle.std.proofs.lemmas.List.{get_or_default, get_or-map, length-map, ext_get_or}
 use Rattle.std.proofs.lemmas.List.Sums.{sum_by-cons}
 use Rattle.std.proofs.lemmas.List.FromFn.{length-map-range_with_len, get_or-map-range_with_len}
-use Rattle.bl_map.specs.Room.{frames_of}
-use Rattle.bl_stage.specs.Staged.{Staging, AreStaged, AllCame, file_of, texts_of, fresh, frames_for}
+use Rattle.bl_map.specs.Room.{frames_of, frames_for}
+use Rattle.bl_stage.specs.Staged.{Staging, AreStaged, AllCame, file_of, texts_of, fresh}
 use Rattle.bl_stage.specs.Staged.{first_of}
 use Rattle.bl_stage.specs.Pieces.{slot_in}
 use Rattle.bl_stage.specs.Spots as stage

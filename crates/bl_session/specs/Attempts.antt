@@ -2,6 +2,7 @@
 use Rattle.std.specs.Prelude.{ℕ, ◌+◌, ◌<◌, ◌≤◌, ◌==◌, max, List, [], ◌∷◌, ◌++◌, length, All}
 use Rattle.std.specs.Prelude.{if◌then◌else◌}
 use Rattle.std.specs.List.{list_any}
+use Rattle.bl_plan.specs.Limits.{most_entries}
 use Rattle.bl_load.specs.declared.entry.Entry.{Entry}
 use Rattle.bl_load.specs.Value.{HasFewModules}
 use Rattle.bl_session.specs.Menu.{EntryFacts}
@@ -19,10 +20,6 @@ once_after earlier (index ∷ indices) =
 -- the default, then the fallbacks; one that was named before is left out
 abbrev pub attempts_of : ℕ → List ℕ → List ℕ
 attempts_of default fallbacks = once_after [] (default ∷ fallbacks)
-
--- a menu has at most so many entries
-abbrev pub most_entries : ℕ
-most_entries = 32
 
 -- few entries, with few modules each
 abbrev pub IsSmall : {A : Type 0} → List (Entry A) → Type 0

@@ -4,8 +4,7 @@ use Rattle.std.specs.Prelude.{unwrap_or, if◌then◌else◌, nat_lt}
 use Rattle.std.specs.Option.{option_or}
 use Rattle.std.specs.declared.ops.Range.{Range}
 use Rattle.bl_map.specs.MachineFacts.{MachineFacts}
-use Rattle.bl_map.specs.Room.{frames_in, HasRoomFor}
-use Rattle.bl_stage.specs.Staged.{frames_for}
+use Rattle.bl_map.specs.Room.{frames_in, HasRoomFor, frames_for}
 use Rattle.bl_load.specs.declared.refusal.Refusal.{Refusal}
 use Rattle.bl_load.specs.declared.refusal.Refusal.TheVariants.{NoFile, FileFault, FileTooLong}
 use Rattle.bl_load.specs.declared.refusal.Refusal.TheVariants.{NoPool}
@@ -20,16 +19,16 @@ pub data End : Type 0 where
 -- ---- before any piece comes: by the sizes of the entry's files, in order, the kernel's first;
 -- None is a missing file
 
--- a file has at most so many bytes
-abbrev pub most_bytes : ℕ
-most_bytes = 0x40000000
+-- the greatest length of a file, in bytes
+abbrev pub file_limit : ℕ
+file_limit = 0x40000000
 
 -- the first file that is missing or has too many bytes, from this place on
 abbrev pub file_refusal : ℕ → List (Option ℕ) → Option Refusal
 file_refusal place [] = None
 file_refusal place (None ∷ sizes) = Some (NoFile place)
 file_refusal place (Some size ∷ sizes) =
-    if nat_lt most_bytes size then Some (FileTooLong place) else file_refusal (place + 1) sizes
+    if nat_lt file_limit size then Some (FileTooLong place) else file_refusal (place + 1) sizes
 
 abbrev pub lengths_of : List (Option ℕ) → List ℕ
 lengths_of sizes = map (λ size. unwrap_or size 0) sizes
@@ -45,12 +44,12 @@ size_refusal facts sizes = option_or (file_refusal 0 sizes) (pool_refusal facts 
 
 -- ---- once each file is whole: by the entry's value
 
-abbrev pub range_of : Part → Range ℕ
-range_of part = record { start = part.address; end = end_of part }
+abbrev pub part_range : Part → Range ℕ
+part_range part = record { start = part.address; end = end_of part }
 
 -- beside the parts the pool has frames enough for the files, each file in frames of its own
 abbrev pub HasRoomBeside : MachineFacts → EntryValue → Handover → Type 0
-HasRoomBeside facts value handover = HasRoomFor facts.pool (map range_of handover.parts) value.files
+HasRoomBeside facts value handover = HasRoomFor facts.pool (map part_range handover.parts) value.files
 
 -- the entry could be handed over, but there is no room beside its parts
 pub record LacksRoom (facts : MachineFacts) (value : EntryValue) : Type 0 where

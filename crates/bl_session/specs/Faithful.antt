@@ -2,7 +2,7 @@
 use Rattle.std.specs.Prelude.{◌≡◌, ℕ, ◌+◌, ◌*◌, ◌<◌, true, List, [], ◌∷◌, ◌++◌, length}
 use Rattle.std.specs.Prelude.{slice_index_or, Option, None, Some, if◌then◌else◌}
 use Rattle.bl_session.specs.declared.words.Ticket.{Ticket}
-use Rattle.bl_session.specs.Outcome.{File, missing, text_of}
+use Rattle.bl_session.specs.Outcome.{File, missing, file_bytes}
 use Rattle.bl_session.specs.History.{Item, submitted, came, failed, nothing, is_same, file_under}
 
 -- how often a ticket was asked for
@@ -26,7 +26,7 @@ answered (nothing ∷ items) ticket = answered items ticket
 abbrev pub HasPiece : List File → Option ℕ → ℕ → Type 0
 HasPiece files None index = ⊥
 HasPiece files (Some file) index =
-    4096 * index < length (text_of (slice_index_or files file missing))
+    4096 * index < length (file_bytes (slice_index_or files file missing))
 
 -- an answer after this history: to a ticket that has one to come; of a ticket that was asked for
 -- once it is the piece, and a fault only if its file has no such piece; nothing more is to come

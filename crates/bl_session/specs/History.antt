@@ -5,7 +5,7 @@ use Rattle.bl_stage.specs.Spots.{piece_of}
 use Rattle.bl_session.specs.declared.words.Ticket.{Ticket}
 use Rattle.bl_session.specs.declared.store.Completion.{Completion}
 use Rattle.bl_session.specs.declared.store.Completion.TheVariants.{Piece, Fault}
-use Rattle.bl_session.specs.Outcome.{File, missing, text_of}
+use Rattle.bl_session.specs.Outcome.{File, missing, file_bytes}
 
 -- a file was asked for under a ticket; or an answer: so many bytes came, with a mark whether they
 -- are those of the file at the place of the piece; a fault; nothing more to come
@@ -34,7 +34,7 @@ file_under given ticket = file_after None given ticket
 abbrev pub IsPieceOf : List File → Option ℕ → ℕ → List ℕ → Type 0
 IsPieceOf files None index bytes = ⊥
 IsPieceOf files (Some file) index bytes =
-    bytes ≡ piece_of (text_of (slice_index_or files file missing)) index
+    bytes ≡ piece_of (file_bytes (slice_index_or files file missing)) index
 
 -- what an answer adds to the history so far
 abbrev pub IsItemOf : {A : Type 0} → List File → List Item → Option (Completion A) → Item → Type 0

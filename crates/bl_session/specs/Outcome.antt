@@ -4,7 +4,7 @@ use Rattle.std.specs.Prelude.{None, Some, if◌then◌else◌}
 use Rattle.bl_load.specs.Value.{EntryValue}
 use Rattle.bl_stage.specs.Spots.{Spot, piece_of}
 use Rattle.bl_session.specs.declared.words.RefusedEntry.{RefusedEntry}
-use Rattle.bl_session.specs.Ends.{End, Ends, most_bytes}
+use Rattle.bl_session.specs.Ends.{End, Ends, file_limit}
 use Rattle.bl_session.specs.Menu.{entry_at, value_with}
 use Rattle.bl_session.specs.Pieces.{are_whole, with_piece}
 use Rattle.bl_session.specs.Boot.{BootFacts, EventFacts, piece, fault, State, unstarted, running}
@@ -21,18 +21,18 @@ pub data File : Type 0 where
 
 abbrev pub size_of : File → Option ℕ
 size_of missing = None
-size_of (too_long over) = Some (most_bytes + 1 + over)
+size_of (too_long over) = Some (file_limit + 1 + over)
 size_of (whole bytes) = Some (length bytes)
 
-abbrev pub text_of : File → List ℕ
-text_of missing = []
-text_of (too_long over) = []
-text_of (whole bytes) = bytes
+abbrev pub file_bytes : File → List ℕ
+file_bytes missing = []
+file_bytes (too_long over) = []
+file_bytes (whole bytes) = bytes
 
 -- what an entry's files hold
 abbrev pub texts_of : BootFacts → List File → ℕ → List (List ℕ)
 texts_of facts files entry =
-    map (λ file. text_of (slice_index_or files file missing)) (entry_at facts.menu entry).files
+    map (λ file. file_bytes (slice_index_or files file missing)) (entry_at facts.menu entry).files
 
 -- an entry's value
 abbrev pub value_in : BootFacts → List File → ℕ → EntryValue

@@ -8,7 +8,7 @@ use Rattle.bl_session.specs.declared.boot.Boot.{Boot}
 use Rattle.bl_session.specs.declared.phase.Running.{Running}
 use Rattle.bl_session.specs.declared.phase.Phase.{Phase}
 use Rattle.bl_session.specs.declared.phase.Phase.TheVariants.{Unstarted, Waits, HandedOver, Failed}
-use Rattle.bl_session.specs.Ends.{most_bytes, file_refusal, size_refusal, lengths_of}
+use Rattle.bl_session.specs.Ends.{file_limit, file_refusal, size_refusal, lengths_of}
 use Rattle.bl_session.specs.Menu.{MenuFacts, entry_at}
 use Rattle.bl_session.specs.Boot.{BootFacts, State}
 use Rattle.bl_session.specs.Phases.{state_at, running_facts, phase_facts, boot_facts, EndsWithin}
@@ -45,7 +45,7 @@ running_in boot bytes r = running_state boot.menu.now.attempts bytes r
 
 -- each file has at most the most bytes
 pub record HasSmallFiles (stage : Staging) : Type 0 where
-  pub all : All (λ size. size ≤ most_bytes) stage.sizes
+  pub all : All (λ size. size ≤ file_limit) stage.sizes
 
 -- a piece did not come
 pub record LacksPiece (stage : Staging) : Type 0 where

@@ -120,6 +120,6 @@ IsGenuineRun facts files faults old new =
 
 -- ---- the end of a boot
 
-abbrev pub end_of : {A : Type 0} → Result (Outcome A) (BootFault A) → PhaseFacts
-end_of (Ok outcome) = outcome_facts outcome
-end_of (Err why) = fault_facts why
+abbrev pub boot_end : {A : Type 0} → Result (Outcome A) (BootFault A) → PhaseFacts
+boot_end (Ok outcome) = outcome_facts outcome
+boot_end (Err why) = fault_facts why

@@ -11,16 +11,16 @@ use Rattle.bl_session.specs.declared.fetched.Fetched.TheVariants.{Missing, TooLo
 use Rattle.bl_session.specs.declared.request.Request.{Request}
 use Rattle.bl_session.specs.declared.queue.Order.{Order}
 use Rattle.bl_session.specs.declared.queue.Order.TheVariants.{Forward, Reverse}
-use Rattle.bl_session.specs.Ends.{most_bytes}
+use Rattle.bl_session.specs.Ends.{file_limit}
 use Rattle.bl_session.specs.Boot.{EventFacts, piece, fault}
-use Rattle.bl_session.specs.Outcome.{File, missing, too_long, whole, text_of}
+use Rattle.bl_session.specs.Outcome.{File, missing, too_long, whole, file_bytes}
 use Rattle.bl_session.specs.History.{Item, submitted, came, failed, nothing, file_under}
 
 -- ---- files
 
 abbrev pub file_of : {A : Type 0} → Fetched A → File
 file_of Missing = missing
-file_of (TooLong size) = too_long (size - (most_bytes + 1))
+file_of (TooLong size) = too_long (size - (file_limit + 1))
 file_of (Bytes bytes) = whole bytes
 
 abbrev pub stored_files : {A : Type 0} → List (Fetched A) → List File
@@ -42,7 +42,7 @@ answer_of text ticket =
 
 abbrev pub answer_to : List File → Request → EventFacts
 answer_to files request =
-    answer_of (text_of (slice_index_or files request.file missing)) request.ticket
+    answer_of (file_bytes (slice_index_or files request.file missing)) request.ticket
 
 -- ---- a history, one answer longer
 
@@ -56,7 +56,7 @@ are_equal (x ∷ xs) (y ∷ ys) = (x == y) && are_equal xs ys
 abbrev pub is_piece_of : List File → Option ℕ → ℕ → List ℕ → Bool
 is_piece_of files None index bytes = false
 is_piece_of files (Some file) index bytes =
-    are_equal bytes (piece_of (text_of (slice_index_or files file missing)) index)
+    are_equal bytes (piece_of (file_bytes (slice_index_or files file missing)) index)
 
 abbrev pub item_of_event : List File → List Item → EventFacts → Item
 item_of_event files given (piece ticket bytes) =

@@ -3,7 +3,7 @@ ghost use Rattle.std.specs.Prelude.{◌≡◌, ◌≢◌, ◌++◌, ℕ, List, S
 ghost use Rattle.bl_session.specs.History.{Item};
 ghost use Rattle.bl_session.specs.Orders.{orders};
 ghost use Rattle.bl_session.specs.Phases.{state_at, is_waiting, not_started, EndsWithin};
-ghost use Rattle.bl_session.specs.Run.{end_of};
+ghost use Rattle.bl_session.specs.Run.{boot_end};
 ghost use Rattle.bl_session.specs.Turns.{IsAsked, missing_in};
 
 use crate::missing::missing_piece;
@@ -68,7 +68,7 @@ impl<'a, A: Allocator + Copy> Session<'a, A> {
     pub(crate) fn into_outcome(self) -> Result<Outcome<A>, BootFault<A>>
         requires started { self.phase ≢ not_started }
         requires ended { is_waiting self.phase ≡ false }
-        ensures end { end_of result ≡ self.entry.phase }
+        ensures end { boot_end result ≡ self.entry.phase }
         ensures inside { IfOk result (λ outcome.
             EndsWithin self.entry.boot.machine.size outcome.handoff) }
     {

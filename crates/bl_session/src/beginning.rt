@@ -14,8 +14,8 @@ use bl_map::Machine;
 use bl_stage::{Stage, StageFault};
 use std::alloc::{AllocError, Allocator};
 
-/// The most bytes of a file.
-pub const MOST_BYTES: u64 = 0x4000_0000;
+/// The greatest length of a file, in bytes. A longer one is not read.
+pub const FILE_LIMIT: u64 = 0x4000_0000;
 
 /// Appends the indices of modules' files.
 fn push_modules<A: Allocator>(
@@ -65,7 +65,7 @@ fn length_of(place: u32, size: Option<u64>) -> Result<u64, Refusal>
 {
     match size {
         None => Err(Refusal::NoFile(place)),
-        Some(size) if size > MOST_BYTES => Err(Refusal::FileTooLong(place)),
+        Some(size) if size > FILE_LIMIT => Err(Refusal::FileTooLong(place)),
         Some(size) => Ok(size),
     }
 }

@@ -11,7 +11,7 @@ ghost use Rattle.bl_session.specs.Faithful.{IsFaithful};
 ghost use Rattle.bl_session.specs.Outcome.{Faults, IsOutcome, HasEnded, missing};
 ghost use Rattle.bl_session.specs.Outcome as outcome;
 ghost use Rattle.bl_session.specs.Phases.{boot_facts, state_at, is_waiting, not_started};
-ghost use Rattle.bl_session.specs.Run.{IsRun, IsGenuineRun, end_of};
+ghost use Rattle.bl_session.specs.Run.{IsRun, IsGenuineRun, boot_end};
 
 use crate::menu::Menu;
 use crate::session::Session;
@@ -40,8 +40,8 @@ fn sizes_of<S: Store, A: Allocator>(
     Ok(sizes)
 }
 
-/// A boot that has ended, for want of memory aside.
-fn boot<'a, M: PhysMem, S: Store, A: Allocator + Copy>(
+/// A session that has ended: a boot, but for what want of memory answers.
+fn run_session<'a, M: PhysMem, S: Store, A: Allocator + Copy>(
     alloc: A,
     memory: &mut M,
     store: &mut S,
@@ -95,19 +95,19 @@ pub fn run<M: PhysMem, S: Store, A: Allocator + Copy>(
     requires { length (M.bytes memory.old) ≡ machine.now.size }
     ensures run { IsRun (boot_facts machine.now menu.now (map outcome.size_of (S.files store.old)))
         (S.files store.old) (S.given store.old) (S.given store.new)
-        (state_at (M.bytes memory.new) (end_of result)) }
+        (state_at (M.bytes memory.new) (boot_end result)) }
     ensures outcome { (faults : Faults) → IsGenuineRun
         (boot_facts machine.now menu.now (map outcome.size_of (S.files store.old)))
         (S.files store.old) faults (S.given store.old) (S.given store.new)
-        → HasEnded (state_at (M.bytes memory.new) (end_of result))
+        → HasEnded (state_at (M.bytes memory.new) (boot_end result))
         → IsOutcome (boot_facts machine.now menu.now (map outcome.size_of (S.files store.old)))
-        (S.files store.old) faults (state_at (M.bytes memory.new) (end_of result)) }
+        (S.files store.old) faults (state_at (M.bytes memory.new) (boot_end result)) }
     ensures faithful { S.given store.old ≡ []
         → IsFaithful (S.files store.old) (S.given store.new)
-        → HasEnded (state_at (M.bytes memory.new) (end_of result))
+        → HasEnded (state_at (M.bytes memory.new) (boot_end result))
         → IsOutcome (boot_facts machine.now menu.now (map outcome.size_of (S.files store.old)))
-        (S.files store.old) (λ _. None) (state_at (M.bytes memory.new) (end_of result)) }
-    ensures memory { IsMemoryIn machine.now.pool (state_at (M.bytes memory.new) (end_of result))
+        (S.files store.old) (λ _. None) (state_at (M.bytes memory.new) (boot_end result)) }
+    ensures memory { IsMemoryIn machine.now.pool (state_at (M.bytes memory.new) (boot_end result))
         (M.bytes memory.old) (M.bytes memory.new) }
     ensures inside { IfOk result (λ outcome. All (λ place.
         place.address + place.length ≤ machine.now.size) outcome.handoff.places) }
@@ -115,7 +115,7 @@ pub fn run<M: PhysMem, S: Store, A: Allocator + Copy>(
     ensures size { length (M.bytes memory.new) ≡ length (M.bytes memory.old) }
     ensures kept { KeepsRoom (M.room memory.old) (M.room memory.new) }
 {
-    match boot(alloc, memory, store, machine, menu) {
+    match run_session(alloc, memory, store, machine, menu) {
         Ok(session) => session.into_outcome(),
         Err(_) => Err(BootFault::NoMemory),
     }

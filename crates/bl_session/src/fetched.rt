@@ -2,10 +2,10 @@
 ghost use Rattle.std.specs.Prelude.{◌≡◌, ◌↔◌, ℕ, ◌*◌, ◌<◌, ◌^◌, length};
 ghost use Rattle.std.specs.Prelude.{IfSome, IsSome, slice_index_or};
 ghost use Rattle.bl_stage.specs.Spots.{piece_of};
-ghost use Rattle.bl_session.specs.Outcome.{missing, size_of, text_of};
+ghost use Rattle.bl_session.specs.Outcome.{missing, size_of, file_bytes};
 ghost use Rattle.bl_session.specs.Stores.{file_of, stored_files};
 
-use crate::beginning::MOST_BYTES;
+use crate::beginning::FILE_LIMIT;
 use bl_mem::Bytes;
 use std::alloc::Allocator;
 
@@ -17,7 +17,7 @@ const PIECE: usize = 4096;
 pub enum Fetched<A: Allocator> {
     /// There is no such file, or it can't be read.
     Missing,
-    /// A file of so many bytes, none of which is kept. A length that is not above `MOST_BYTES`
+    /// A file of so many bytes, none of which is kept. A length that is not above `FILE_LIMIT`
     /// counts as the least that is.
     TooLong(u64),
     /// Its bytes.
@@ -31,16 +31,16 @@ impl<A: Allocator> Fetched<A> {
     {
         match self {
             Fetched::Missing => None,
-            Fetched::TooLong(size) => Some((*size).max(MOST_BYTES + 1)),
+            Fetched::TooLong(size) => Some((*size).max(FILE_LIMIT + 1)),
             Fetched::Bytes(bytes) => Some(bytes.len() as u64),
         }
     }
 
     /// The bytes of a piece; none if the file is not kept or has no such piece.
     pub fn piece(&self, index: u32) -> Option<&[u8]>
-        ensures some { IsSome result ↔ (4096 * index < length (text_of (file_of self.now))) }
+        ensures some { IsSome result ↔ (4096 * index < length (file_bytes (file_of self.now))) }
         ensures piece { IfSome result (λ piece.
-            piece.now ≡ piece_of (text_of (file_of self.now)) index) }
+            piece.now ≡ piece_of (file_bytes (file_of self.now)) index) }
     {
         match self {
             Fetched::Missing | Fetched::TooLong(_) => None,
@@ -62,9 +62,9 @@ pub(crate) fn size_in<A: Allocator>(files: &[Fetched<A>], file: u32) -> Option<u
 /// The bytes of a piece of a file of these, if there is one.
 pub(crate) fn piece_in<A: Allocator>(files: &[Fetched<A>], file: u32, index: u32) -> Option<&[u8]>
     ensures some { IsSome result ↔ (4096 * index
-        < length (text_of (slice_index_or (stored_files files.now) file missing))) }
+        < length (file_bytes (slice_index_or (stored_files files.now) file missing))) }
     ensures piece { IfSome result (λ piece. piece.now
-        ≡ piece_of (text_of (slice_index_or (stored_files files.now) file missing)) index) }
+        ≡ piece_of (file_bytes (slice_index_or (stored_files files.now) file missing)) index) }
 {
     match files.get(file as usize) {
         Some(file) => file.piece(index),

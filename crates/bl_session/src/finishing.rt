@@ -69,7 +69,7 @@ fn prepare_staged<M: PhysMem, A: Allocator + Copy>(
 
 /// Makes way for the ranges of an entry's parts, or refuses the entry if the pool has too few
 /// frames beside them.
-fn make_way<M: PhysMem, A: Allocator>(
+fn evacuate_ranges<M: PhysMem, A: Allocator>(
     stage: &mut Stage<A>,
     memory: &mut M,
     ranges: &[Range<u64>],
@@ -166,7 +166,7 @@ pub fn finish<M: PhysMem, A: Allocator + Copy>(
     // what this ensures says where the pool lies
     machine.pool();
     let plan = prepare_staged(alloc, machine, entry, stage, memory)?;
-    make_way(stage, memory, plan.ranges())?;
+    evacuate_ranges(stage, memory, plan.ranges())?;
     memory.reserve(plan.ranges())?;
     Ok(hand_over(machine, stage, memory, plan))
 }

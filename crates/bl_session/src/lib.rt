@@ -29,7 +29,8 @@ mod taking;
 mod turn;
 mod words;
 
-pub use beginning::MOST_BYTES;
+pub use beginning::FILE_LIMIT;
+pub use bl_plan::{MOST_ENTRIES, MOST_MODULES};
 pub use booting::run;
 pub use fetched::Fetched;
 pub use file_store::FileStore;
@@ -38,7 +39,7 @@ pub use laws::{
     each_attempt_ends, each_step_leads_on, ends_are_determined, first_entry_not_refused,
     steps_are_determined, two_boots,
 };
-pub use menu::{MOST_ENTRIES, MOST_MODULES, Menu, MenuFault, order_attempts};
+pub use menu::{Menu, MenuFault, order_attempts};
 pub use queue::Order;
 pub use run_laws::{
     faithful_stores_boot_by_their_files, marked_histories_are_genuine,

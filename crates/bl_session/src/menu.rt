@@ -17,12 +17,6 @@ mod fault;
 
 pub use fault::MenuFault;
 
-/// The most entries of a menu.
-pub const MOST_ENTRIES: usize = 32;
-
-/// The most modules of an entry.
-pub const MOST_MODULES: usize = 64;
-
 /// Entries, and the order in which they are attempted.
 #[derive(Drop)]
 pub struct Menu<A: Allocator> {
@@ -34,7 +28,7 @@ impl<A: Allocator> Model for Menu<A> {
     ghost use Rattle.std.specs.Prelude.{◌<◌, ◌≤◌, length, map, All};
     ghost use Rattle.bl_load.specs.Value.{HasFewModules};
     ghost use Rattle.bl_session.specs.Menu.{MenuFacts, facts_of};
-    ghost use Rattle.bl_session.specs.Attempts.{most_entries};
+    ghost use Rattle.bl_plan.specs.Limits.{most_entries};
 
     ghost Value = { MenuFacts };
 

@@ -8,11 +8,10 @@ use Rattle.std.specs.declared.ops.Range.{Range}
 use Rattle.std.proofs.lemmas.Bool.{cases_lt}
 use Rattle.std.proofs.lemmas.List.{take_all, append_assoc, append-nil, get_or-replicate}
 use Rattle.std.proofs.lemmas.List.{length-replicate, get_or_past}
-use Rattle.std.proofs.lemmas.List.Sums.{sum_by-cons}
 use Rattle.std.proofs.lemmas.List.FromFn.{map-range_with_len_more}
-use Rattle.bl_map.specs.Room.{frames_of, frames_needed}
+use Rattle.bl_map.specs.Room.{frames_of, frames_for}
 use Rattle.bl_stage.specs.Cells.{ReadsAs}
-use Rattle.bl_stage.specs.Staged.{Staging, AreStaged, AllCame, file_of, fresh, frames_for, table_of}
+use Rattle.bl_stage.specs.Staged.{Staging, AreStaged, AllCame, file_of, fresh, table_of}
 use Rattle.bl_stage.specs.Pieces.{slot_in}
 use Rattle.bl_stage.specs.Spots.{Spot, waits, has, spot_at, spots_of, spots, piece_of}
 use Rattle.bl_stage.specs.Spots.{waiting_spots, bytes_of}
@@ -21,13 +20,6 @@ use Rattle.bl_stage.proofs.FileLemmas.{file_within}
 use Rattle.bl_stage.proofs.PieceLemmas.{file_evacuated}
 use Rattle.bl_stage.specs.TextLaws.{same_firsts}
 use Rattle.bl_stage.proofs.SpotLemmas.{piece_long}
-
--- files need as many frames as by their bytes
-pub frames_for_files : (files : List (List ℕ)) → frames_needed files ≡ frames_for (map length files)
-frames_for_files [] = refl
-frames_for_files (file ∷ files) =
-    ap (λ n. frames_of (length file) + n) (frames_for_files files)
-    ∙ sym (sum_by-cons frames_of (length file) (map length files))
 
 -- a stage to which no piece came waits for each
 pub fresh_spots : (bytes : List ℕ) (pool : Range ℕ) (sizes frames : List ℕ)

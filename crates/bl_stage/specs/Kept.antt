@@ -4,7 +4,8 @@ use Rattle.std.specs.List.{count_by}
 use Rattle.std.specs.declared.ops.Range.{Range}
 use Rattle.bl_stage.specs.declared.cell.Cell.{Cell}
 use Rattle.bl_stage.specs.Cells.{AreHeld}
-use Rattle.bl_stage.specs.Staged.{frames_for, first_of}
+use Rattle.bl_stage.specs.Staged.{first_of}
+use Rattle.bl_map.specs.Room.{frames_for}
 
 pub record IsKept (base : ℕ) (pool : Range ℕ) (sizes starts frames : List ℕ) (came : List Bool)
     (cells : List Cell) (waiting : ℕ) : Type 0 where

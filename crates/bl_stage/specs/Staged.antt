@@ -2,9 +2,9 @@
 -- has the addresses from 4096 * n on. Own.
 use Rattle.std.specs.Prelude.{◌≡◌, ℕ, ◌+◌, ◌*◌, ◌/◌, ◌%◌, ◌<◌, ◌≤◌, List, length, take, map}
 use Rattle.std.specs.Prelude.{slice_index, slice_range, replicate, Bool, true, false, All}
-use Rattle.std.specs.List.{range_with_len, sum_by}
+use Rattle.std.specs.List.{range_with_len}
 use Rattle.std.specs.declared.ops.Range.{Range}
-use Rattle.bl_map.specs.Room.{frames_of}
+use Rattle.bl_map.specs.Room.{frames_of, frames_for}
 
 -- the address of a file's byte i, if these are the numbers of its frames
 abbrev pub place_of : List ℕ → ℕ → ℕ
@@ -21,10 +21,6 @@ pub record Staging : Type 0 where
   pub sizes : List ℕ
   pub frames : List ℕ
   pub came : List Bool
-
--- how many frames these files need
-abbrev pub frames_for : List ℕ → ℕ
-frames_for sizes = sum_by frames_of sizes
 
 -- how many frames stand before a file's own
 abbrev pub first_of : List ℕ → ℕ → ℕ

@@ -2,7 +2,8 @@
 ghost use Rattle.std.specs.Prelude.{◌≡◌, ℕ, ◌+◌, ◌/◌, ◌<◌, ◌≤◌, ◌^◌, ◌↔◌, IfOk, IfSome, IsNone};
 ghost use Rattle.std.specs.Prelude.{length, slice_index, None, map};
 ghost use Rattle.bl_stage.specs.Cells.{cell_at, AreHeld};
-ghost use Rattle.bl_stage.specs.Staged.{frames_for, first_of, AreApart};
+ghost use Rattle.bl_stage.specs.Staged.{first_of, AreApart};
+ghost use Rattle.bl_map.specs.Room.{frames_for};
 
 use crate::cell::Cell;
 use bl_map::{FRAME, frames_of};

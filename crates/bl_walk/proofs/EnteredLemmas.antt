@@ -5,7 +5,7 @@ use Rattle.std.specs.List.{list_any}
 use Rattle.std.proofs.Math.Bool.{or-true}
 use Rattle.std.specs.declared.ops.Range.{Range}
 use Rattle.bl_map.specs.MachineFacts.{MachineFacts}
-use Rattle.bl_mem.specs.Contents.{holds}
+use Rattle.bl_mem.specs.Contents.{holds, holds_at}
 use Rattle.bl_mem.specs.declared.segment.Segment.{Segment}
 use Rattle.bl_plan.specs.Placed.{ArePlaced, range_of}
 use Rattle.bl_plan.specs.Planned.{put_in}
@@ -14,8 +14,8 @@ use Rattle.bl_plan.specs.declared.part.Role.TheVariants.{Kernel}
 use Rattle.bl_plan.specs.declared.part.Row.{Row}
 use Rattle.bl_load.specs.Addresses.{address_of}
 use Rattle.bl_load.specs.Blocks.{low_of, span_of}
-use Rattle.bl_load.specs.Kernel.{KernelFacts, IsKernel, holds_at, entry_fault, counted_entry}
-use Rattle.bl_load.specs.Parts.{entry_at}
+use Rattle.bl_load.specs.Kernel.{KernelFacts, IsKernel, entry_fault, counted_entry}
+use Rattle.bl_load.specs.Parts.{entered_at}
 use Rattle.bl_load.specs.Rows.{segment_rows, kernel_rows}
 use Rattle.bl_load.proofs.EntryLemmas.{entry_within}
 use Rattle.bl_load.proofs.KernelLaws.{entry_held, held_within}
@@ -75,13 +75,13 @@ module _ (facts : MachineFacts) (file : List ℕ) (kernel : KernelFacts) (rest :
       → ArePlaced facts [] (kernel_rows kernel.segments kernel.relocation ++ rest) places
       → list_any
       (kernel_holds
-      (entry_at kernel.entry kernel.segments kernel.relocation
+      (entered_at kernel.entry kernel.segments kernel.relocation
       (address_of Kernel 0 places))) places ≡ true
   entered_place places placed =
       elim kernel.relocation as (λ given.
       ArePlaced facts [] (kernel_rows kernel.segments given ++ rest) places
       → list_any
-      (kernel_holds (entry_at kernel.entry kernel.segments given (address_of Kernel 0 places)))
+      (kernel_holds (entered_at kernel.entry kernel.segments given (address_of Kernel 0 places)))
       places ≡ true) [
         | None ↦
             λ at.
@@ -93,7 +93,7 @@ module _ (facts : MachineFacts) (file : List ℕ) (kernel : KernelFacts) (rest :
             ArePlaced facts [] (kernel_rows kernel.segments (Some r) ++ rest) ps
             → list_any
             (kernel_holds
-            (entry_at kernel.entry kernel.segments (Some r) (address_of Kernel 0 ps))) ps
+            (entered_at kernel.entry kernel.segments (Some r) (address_of Kernel 0 ps))) ps
             ≡ true) [
               | [] ↦ λ none. absurd none
               | (p ∷ ps) ↦ λ block. (

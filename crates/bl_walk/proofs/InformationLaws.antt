@@ -13,7 +13,7 @@ use Rattle.bl_plan.specs.declared.part.Role.TheVariants.{Kernel, Module, Informa
 use Rattle.bl_load.specs.Addresses.{address_of}
 use Rattle.bl_load.specs.Handover.{end_of}
 use Rattle.bl_load.specs.Kernel.{KernelFacts, IsKernel}
-use Rattle.bl_load.specs.Parts.{handover_of, entry_at}
+use Rattle.bl_load.specs.Parts.{handover_of, entered_at}
 use Rattle.bl_load.specs.Reading.{multiboot2}
 use Rattle.bl_load.specs.Rows.{rows_of, kernel_rows, module_rows}
 use Rattle.bl_load.specs.Value.{EntryValue, kernel_file, module_file, lines_fault, lines_of}
@@ -141,7 +141,7 @@ module _ (facts : MachineFacts) (value : EntryValue) (kernel : KernelFacts) (pla
         split.places_rest seen split.placed_first
         (ap
         (λ (ps : List Place).
-        entry_at kernel.entry kernel.segments kernel.relocation (address_of Kernel 0 ps))
+        entered_at kernel.entry kernel.segments kernel.relocation (address_of Kernel 0 ps))
         split.both) kernel_seen
 
     modules : ShowsModules value seen

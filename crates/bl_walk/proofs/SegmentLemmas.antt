@@ -13,7 +13,7 @@ use Rattle.bl_plan.specs.declared.part.Place.{Place}
 use Rattle.bl_plan.specs.declared.part.Role.TheVariants.{Kernel}
 use Rattle.bl_load.specs.Addresses.{address_of}
 use Rattle.bl_load.specs.Blocks.{span_of}
-use Rattle.bl_load.specs.Parts.{entry_at}
+use Rattle.bl_load.specs.Parts.{entered_at}
 use Rattle.bl_load.specs.Rows.{segment_rows, kernel_rows}
 use Rattle.bl_load.proofs.RowPlaceLemmas.{Anywhere}
 use Rattle.bl_walk.specs.SeenFacts.{SeenFacts}
@@ -82,7 +82,7 @@ kernel_rows_of_kernel segments (Some r) =
 pub segments_shown : (facts : MachineFacts) (segments : List Segment) (entry : ℕ)
     (given : Option Relocation) (first others : List Place) (seen : SeenFacts)
     → ArePlaced facts [] (kernel_rows segments given) first
-    → seen.entry ≡ entry_at entry segments given (address_of Kernel 0 (first ++ others))
+    → seen.entry ≡ entered_at entry segments given (address_of Kernel 0 (first ++ others))
     → seen.kernel ≡ map seen_place (in_order first) → ShowsSegments segments entry given seen
 segments_shown facts segments entry None first others seen placed at kernel =
     (at, kernel ∙ in_order_seen first segments (segments_seen facts [] 0 segments first placed))
@@ -94,6 +94,6 @@ segments_shown facts segments entry (Some r) (p ∷ []) others seen placed at ke
     ap (λ (q : Place). address_of Kernel 0 (q ∷ others)) placed.1 in
     let size : p.length ≡ span_of segments = ap (λ (q : Place). q.length) placed.1 in (
       p.address,
-      at ∙ ap (entry_at entry segments (Some r)) base,
+      at ∙ ap (entered_at entry segments (Some r)) base,
       kernel ∙ (λ i. record { address = p.address; length = size i } ∷ []),
     )

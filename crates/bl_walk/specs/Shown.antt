@@ -15,7 +15,7 @@ use Rattle.bl_plan.specs.declared.protocol.Protocol.TheVariants.{Multiboot2, Lin
 use Rattle.bl_load.specs.Blocks.{span_of}
 use Rattle.bl_load.specs.Kernel.{KernelFacts, IsKernel}
 use Rattle.bl_load.specs.LinuxRows.{linux_kernel_row}
-use Rattle.bl_load.specs.Parts.{entry_at}
+use Rattle.bl_load.specs.Parts.{entered_at}
 use Rattle.bl_load.specs.Value.{EntryValue, kernel_file, module_file, initrd_file, lines_of}
 use Rattle.bl_walk.specs.SeenFacts.{SeenFacts}
 use Rattle.bl_walk.specs.declared.seen.SeenPart.{SeenPart}
@@ -31,7 +31,7 @@ abbrev pub ShowsSegments : List Segment → ℕ → Option Relocation → SeenFa
 ShowsSegments segments entry None seen =
     (seen.entry ≡ entry) × (seen.kernel ≡ map segment_part (ascending segments))
 ShowsSegments segments entry (Some r) seen =
-    (base : ℕ) × (seen.entry ≡ entry_at entry segments (Some r) base)
+    (base : ℕ) × (seen.entry ≡ entered_at entry segments (Some r) base)
     × (seen.kernel ≡ record { address = base; length = span_of segments } ∷ [])
 
 -- a Linux kernel lies in one part, as long as its setup asks for, and is entered at its first byte

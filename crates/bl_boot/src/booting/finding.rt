@@ -4,17 +4,19 @@ ghost use Rattle.std.specs.Prelude.{length, map};
 ghost use Rattle.bl_boot.specs.Found.{AreFound, IsFound};
 ghost use Rattle.bl_desc.specs.Described.{file_named};
 ghost use Rattle.bl_desc.specs.Views.{view};
-ghost use Rattle.bl_boot.specs.Files.{Answer, answer_for, answer_of};
+ghost use Rattle.bl_session.specs.Outcome.{File};
+ghost use Rattle.bl_session.specs.Stores.{file_of};
+ghost use Rattle.bl_boot.specs.Files.{answer_for};
 
-use crate::fetching::{FILE_LIMIT, Files};
+use crate::fetching::Files;
 use bl_desc::Description;
 use bl_mem::Bytes;
-use bl_session::Fetched;
+use bl_session::{FILE_LIMIT, Fetched};
 use std::alloc::{AllocError, Allocator};
 
 /// A file that stands in the description.
 fn copy_of<A: Allocator>(alloc: A, file: &[u8]) -> Result<Fetched<A>, AllocError>
-    ensures { IfOk result (λ copy. answer_of copy ≡ answer_for file.now) }
+    ensures { IfOk result (λ copy. file_of copy ≡ answer_for file.now) }
 {
     let length = file.len() as u64;
     if length > FILE_LIMIT {
@@ -32,10 +34,10 @@ fn find_file<A: Allocator + Copy, F: Files>(
 ) -> Result<Fetched<A>, AllocError>
     requires { F.faults files.old < 2 ^ 64 - 1 }
     ensures found { IfOk result (λ file. IsFound F.answers F.faults (view description.now).files
-        name.now files.old files.new (answer_of file)) }
+        name.now files.old files.new (file_of file)) }
     ensures inline { IsSome (file_named name.now (view description.now).files) →
         files.new ≡ files.old }
-    ensures same { (file : List ℕ) (answer : Answer) →
+    ensures same { (file : List ℕ) (answer : File) →
         F.answers files.new file answer → F.answers files.old file answer }
     ensures missing { (F.faults files.old ≤ F.faults files.new)
         × (F.faults files.new ≤ F.faults files.old + 1) }
@@ -56,14 +58,14 @@ pub fn find_files<A: Allocator + Copy, F: Files>(
     requires { F.faults files.old + length names.now < 2 ^ 64 }
     ensures found { IfOk result (λ found.
         AreFound F.answers F.faults (view description.now).files (map (λ n. n.now) names.now)
-        files.old files.new (map answer_of found.items)) }
+        files.old files.new (map file_of found.items)) }
 
     // Files that stand in the description are not asked for.
     ensures inline { All (λ name. IsSome (file_named name (view description.now).files))
         (map (λ n. n.now) names.now) → files.new ≡ files.old }
 
     // The files answer as before, and each name is missing once at most.
-    ensures same { (file : List ℕ) (answer : Answer) →
+    ensures same { (file : List ℕ) (answer : File) →
         F.answers files.new file answer → F.answers files.old file answer }
     ensures missing { (F.faults files.old ≤ F.faults files.new)
         × (F.faults files.new ≤ F.faults files.old + length names.now) }

@@ -7,7 +7,7 @@ ghost use Rattle.bl_boot.specs.Kept.{FoundEnds, HasFaults};
 ghost use Rattle.bl_desc.specs.Views.{view};
 
 use crate::booting::fault::{End, EndFault};
-use crate::booting::handing::{hand_over, say_none_left};
+use crate::booting::handing::{say_none_left, write_handover};
 use bl_desc::Description;
 use bl_image::Sink;
 use bl_map::Machine;
@@ -50,7 +50,7 @@ pub fn boot_found<A: Allocator + Copy, M: PhysMem, S: Sink, B: Allocator>(
     match ended {
         Ok(outcome) => {
             let title = title_of(description, outcome.entry);
-            hand_over(alloc, &outcome, memory, title, out, say)?;
+            write_handover(alloc, &outcome, memory, title, out, say)?;
             Ok(End::Booted)
         }
         Err(BootFault::NoEntryLeft(refused)) => {

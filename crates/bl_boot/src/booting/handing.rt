@@ -32,7 +32,7 @@ pub fn say_none_left<A: Allocator + Copy, B: Allocator>(
 /// Writes the image of what memory holds, and appends the lines of the boot: those of the entries
 /// that were refused before, and that of the entry with its title. The lines are formed and have
 /// their place before the image is begun, so that a fault leaves the text as it was.
-pub fn hand_over<A: Allocator + Copy, M: PhysMem, S: Sink, B: Allocator>(
+pub fn write_handover<A: Allocator + Copy, M: PhysMem, S: Sink, B: Allocator>(
     alloc: A,
     outcome: &Outcome<A>,
     memory: &M,

@@ -2,9 +2,9 @@
 ghost use Rattle.std.specs.Prelude.{◌≡◌, ◌≢◌, ℕ, List, ◌+◌, ◌<◌, ◌≤◌, ◌^◌, length};
 ghost use Rattle.bl_boot.specs.Ends.{HasInlineFiles, names_sought, IsBooted, IsRefused};
 ghost use Rattle.bl_boot.specs.Ends.{IsBadDescription, IsBroken};
-ghost use Rattle.bl_boot.specs.Kept.{Ends, HasFaults};
+ghost use Rattle.bl_boot.specs.Kept.{BootEnds, HasFaults};
 ghost use Rattle.bl_boot.specs.Attempted.{most_names};
-ghost use Rattle.bl_boot.specs.Files.{Answer};
+ghost use Rattle.bl_session.specs.Outcome.{File};
 ghost use Rattle.bl_desc.specs.Described.{described};
 
 use crate::booting::fault::{End, EndFault};
@@ -42,12 +42,12 @@ fn run_boot<A: Allocator + Copy, F: Files, S: Sink, B: Allocator>(
 ) -> Result<End, EndFault>
     requires files { F.faults files.old < 2 ^ 63 }
     requires sink { S.faults out.old < 2 ^ 63 }
-    ensures ends { Ends F.answers F.faults desc.now
+    ensures ends { BootEnds F.answers F.faults desc.now
         (record { files = files.old; sink = S.contents out.old; said = say.old.items })
         (record { files = files.new; sink = S.contents out.new; said = say.new.items }) result }
     ensures faults { HasFaults (S.faults out.old) (S.faults out.new) result }
     ensures inline { HasInlineFiles desc.now → files.new ≡ files.old }
-    ensures same_files { (file : List ℕ) (answer : Answer) →
+    ensures same_files { (file : List ℕ) (answer : File) →
         F.answers files.new file answer → F.answers files.old file answer }
     ensures missing { (F.faults files.old ≤ F.faults files.new)
         × (F.faults files.new ≤ F.faults files.old + length (names_sought (described desc.now))) }
@@ -116,7 +116,7 @@ pub fn boot<A: Allocator + Copy, F: Files, S: Sink, B: Allocator>(
     // Files that stand in the description are not asked for. The files answer as before, and each
     // name that is looked for is missing once at most; these are few.
     ensures inline { HasInlineFiles desc.now → files.new ≡ files.old }
-    ensures same_files { (file : List ℕ) (answer : Answer) →
+    ensures same_files { (file : List ℕ) (answer : File) →
         F.answers files.new file answer → F.answers files.old file answer }
     ensures missing { (F.faults files.old ≤ F.faults files.new)
         × (F.faults files.new ≤ F.faults files.old + length (names_sought (described desc.now))) }

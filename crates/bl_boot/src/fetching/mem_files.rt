@@ -1,8 +1,8 @@
 //! Files in memory.
-use crate::fetching::{FILE_LIMIT, Files};
+use crate::fetching::Files;
 use bl_desc::{FileRow, file_named};
 use bl_mem::Bytes;
-use bl_session::Fetched;
+use bl_session::{FILE_LIMIT, Fetched};
 use std::alloc::{AllocError, Allocator};
 use std::marker::Model;
 

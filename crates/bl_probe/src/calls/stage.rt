@@ -3,7 +3,8 @@
 //! other. The memory has the machine's size, is a5 everywhere and one block; that of
 //! `sparse_stage ..` keeps only the chunks which have room.
 ghost use Rattle.std.specs.Prelude.{All, IsTrue, ◌≡◌, ◌≤◌, ◌<◌, ◌%◌, length};
-ghost use Rattle.bl_stage.specs.Staged.{AreApart, frames_for};
+ghost use Rattle.bl_stage.specs.Staged.{AreApart};
+ghost use Rattle.bl_map.specs.Room.{frames_for};
 
 use crate::calls::staging::{Staging, fault_text, step};
 use crate::fault::RowFault;

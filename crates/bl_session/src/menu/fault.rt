@@ -4,8 +4,8 @@ ghost use Rattle.bl_load.specs.Value.{HasFewModules};
 ghost use Rattle.bl_session.specs.Attempts.{IsSmall, NameEntries};
 ghost use Rattle.bl_session.specs.declared.menu.fault.MenuFault.TheVariants.{NoMemory};
 
-use crate::menu::{MOST_ENTRIES, MOST_MODULES};
 use bl_load::Entry;
+use bl_plan::{MOST_ENTRIES, MOST_MODULES};
 use std::alloc::{AllocError, AllocFailed, Allocator};
 use thiserror::Error;
 

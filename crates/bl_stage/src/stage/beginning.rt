@@ -2,7 +2,8 @@
 ghost use Rattle.std.specs.Prelude.{◌≡◌, ℕ, ◌+◌, ◌*◌, ◌<◌, ◌≤◌, ◌↔◌, length, slice_index, IfErr};
 ghost use Rattle.std.specs.Prelude.{◌/◌, ◌%◌, ◌^◌, IfOk, All, List, Err, map};
 ghost use Rattle.bl_map.specs.Room as room;
-ghost use Rattle.bl_stage.specs.Staged.{frames_for, AreStaged, fresh, AreApart};
+ghost use Rattle.bl_stage.specs.Staged.{AreStaged, fresh, AreApart};
+ghost use Rattle.bl_map.specs.Room.{frames_for};
 
 use crate::cell::Cell;
 use crate::fault::StageFault;

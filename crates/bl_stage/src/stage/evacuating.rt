@@ -3,7 +3,8 @@ ghost use Rattle.std.specs.Prelude.{◌≡◌, ℕ, ◌<◌, ◌↔◌, length, 
 ghost use Rattle.std.specs.Prelude.{OnOk, false};
 ghost use Rattle.bl_mem.specs.Memory.{HasRoom, KeepsRoom};
 ghost use Rattle.bl_map.specs.Room as room;
-ghost use Rattle.bl_stage.specs.Staged.{file_of, frames_for, with_frames, HasPool};
+ghost use Rattle.bl_stage.specs.Staged.{file_of, with_frames, HasPool};
+ghost use Rattle.bl_map.specs.Room.{frames_for};
 ghost use Rattle.bl_stage.specs.Spots.{spots};
 ghost use Rattle.bl_stage.specs.Ranges.{meets, IsSameOutside};
 

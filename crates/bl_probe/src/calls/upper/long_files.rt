@@ -1,5 +1,5 @@
 //! Files that are all too long.
-ghost use Rattle.bl_boot.specs.Files.{too_long};
+ghost use Rattle.bl_session.specs.Outcome.{too_long};
 
 use bl_boot::{FILE_LIMIT, Fetched, Files};
 use std::alloc::{AllocError, Allocator};
@@ -9,9 +9,9 @@ use std::alloc::{AllocError, Allocator};
 pub struct LongFiles;
 
 impl Files for LongFiles {
-    ghost use Rattle.std.specs.Prelude.{◌≡◌, ◌+◌};
+    ghost use Rattle.std.specs.Prelude.{◌≡◌};
 
-    ghost answers = { λ _ _ answer. answer ≡ too_long (0x40000000 + 1) };
+    ghost answers = { λ _ _ answer. answer ≡ too_long 0 };
 
     ghost faults = { λ _. 0 };
 

@@ -2,32 +2,32 @@ use Rattle.std.proofs.Common.{List, [], None, map, refl, sym, subst}
 use Rattle.bl_session.specs.History.{Item}
 use Rattle.bl_session.specs.Outcome.{size_of}
 use Rattle.bl_session.specs.Phases.{PhaseFacts, boot_facts, state_at}
-use Rattle.bl_session.specs.Run.{IsRun, end_of}
+use Rattle.bl_session.specs.Run.{IsRun, boot_end}
 use Rattle.bl_session.proofs.ScheduleLaws.{run_ended}
 use Rattle.bl_session.proofs.FaithfulLaws.{faithful_is_genuine}
 use Rattle.bl_session.proofs.booting.run.Goals as goal
 
 pub returns-in-Ok-clause-outcome : goal.returns-in-Ok-clause-outcome
 returns-in-Ok-clause-outcome g c = λ faults genuine ended.
-    let bytes = g.M.PhysMem.bytes c.boot.new.memory in
+    let bytes = g.M.PhysMem.bytes c.run_session.new.memory in
     let files = g.S.Store.files c.args.store.now in
     let old = g.S.Store.given c.args.store.now in
-    let new = g.S.Store.given c.boot.new.store in
+    let new = g.S.Store.given c.run_session.new.store in
     let facts = boot_facts c.args.machine.now c.args.menu.now (map size_of files) in
     let run =
     subst (λ (p : PhaseFacts). IsRun facts files old new (state_at bytes p))
     (sym c.into_outcome.ensures.end) c.in-Ok.ensures.run in
-    run_ended facts files faults refl old new (state_at bytes (end_of c.into_outcome.result)) run
+    run_ended facts files faults refl old new (state_at bytes (boot_end c.into_outcome.result)) run
     genuine ended
 
 pub returns-in-Ok-clause-faithful : goal.returns-in-Ok-clause-faithful
 returns-in-Ok-clause-faithful g c = λ none faithful ended.
-    let bytes = g.M.PhysMem.bytes c.boot.new.memory in
+    let bytes = g.M.PhysMem.bytes c.run_session.new.memory in
     let files = g.S.Store.files c.args.store.now in
     let old = g.S.Store.given c.args.store.now in
-    let new = g.S.Store.given c.boot.new.store in
+    let new = g.S.Store.given c.run_session.new.store in
     let facts = boot_facts c.args.machine.now c.args.menu.now (map size_of files) in
-    let end = end_of c.into_outcome.result in
+    let end = boot_end c.into_outcome.result in
     let run =
     subst (λ (p : PhaseFacts). IsRun facts files old new (state_at bytes p))
     (sym c.into_outcome.ensures.end) c.in-Ok.ensures.run in

@@ -20,23 +20,23 @@ returns-in_err-plan-clause-err g c =
     (unprepared c.args.machine.now value c.in_err-plan.field-0.0 old
     c.in_err-plan.ensures.fault)
 
-pub make_way-requires-clause-inside : goal.make_way-requires-clause-inside
-make_way-requires-clause-inside g c = rw c.requires.pool (λ some.
+pub evacuate_ranges-requires-clause-inside : goal.evacuate_ranges-requires-clause-inside
+evacuate_ranges-requires-clause-inside g c = rw c.requires.pool (λ some.
     let end = pool_in_memory c.args.machine.now c.pool.ensures.facts some in
     omega (arith, end, c.requires.size))
 
-pub returns-in_err-make_way-clause-err : goal.returns-in_err-make_way-clause-err
-returns-in_err-make_way-clause-err g c =
+pub returns-in_err-evacuate_ranges-clause-err : goal.returns-in_err-evacuate_ranges-clause-err
+returns-in_err-evacuate_ranges-clause-err g c =
     let texts = texts_of (g.M.PhysMem.bytes c.args.memory.now) c.args.stage.now in
     let p =
-    err_from_is_err_and c.from_residual-in_err-make_way.result
-    c.from_residual-in_err-make_way.ensures.1 in
-    let refused = c.in_err-make_way.ensures.refused in
+    err_from_is_err_and c.from_residual-in_err-evacuate_ranges.result
+    c.from_residual-in_err-evacuate_ranges.ensures.1 in
+    let refused = c.in_err-evacuate_ranges.ensures.refused in
     let full = rw (c.requires.pool, c.ranges-2.ensures) at refused.1 in
     rw (p.1, p.2, refused.0) (
       lacks_room c.args.machine.now texts c.args.entry.now c.in_ok-plan.plan
           c.in_ok-plan.ensures.handover c.in_ok-plan.ensures.loadable.backed full,
-      c.in_err-make_way.ensures.unchanged.1,
+      c.in_err-evacuate_ranges.ensures.unchanged.1,
     )
 
 pub reserve-requires-clause-forward : goal.reserve-requires-clause-forward
@@ -46,25 +46,25 @@ reserve-requires-clause-forward g c = rw c.ranges-3.ensures
 
 pub reserve-requires-clause-inside : goal.reserve-requires-clause-inside
 reserve-requires-clause-inside g c = rw c.ranges-3.ensures
-    (All-map (λ (r : Range ℕ). r.end ≤ length (g.M.PhysMem.bytes c.make_way.new.memory)) range_of
+    (All-map (λ (r : Range ℕ). r.end ≤ length (g.M.PhysMem.bytes c.evacuate_ranges.new.memory)) range_of
     (places_of c.in_ok-plan.plan)
     (λ k d h. let i = c.in_ok-plan.ensures.loadable.inside k d h in
-    omega (arith, i, c.requires.size, c.make_way.ensures.size)))
+    omega (arith, i, c.requires.size, c.evacuate_ranges.ensures.size)))
 
 pub hand_over-requires-clause-held : goal.hand_over-requires-clause-held
-hand_over-requires-clause-held g c = rw c.reserve.ensures.same c.in_ok-make_way.ensures.held
+hand_over-requires-clause-held g c = rw c.reserve.ensures.same c.in_ok-evacuate_ranges.ensures.held
 
 pub hand_over-requires-clause-room : goal.hand_over-requires-clause-room
 hand_over-requires-clause-room g c = rw (← c.ranges-3.ensures) c.in_ok-reserve.ensures.made
 
 pub hand_over-requires-clause-beside : goal.hand_over-requires-clause-beside
-hand_over-requires-clause-beside g c = rw (← c.ranges-2.ensures) c.in_ok-make_way.ensures.beside
+hand_over-requires-clause-beside g c = rw (← c.ranges-2.ensures) c.in_ok-evacuate_ranges.ensures.beside
 
 pub hand_over-requires-clause-inside : goal.hand_over-requires-clause-inside
 hand_over-requires-clause-inside g c = λ some.
     let end = pool_in_memory c.args.machine.now c.pool.ensures.facts some in
     let size = ap (λ (m : List ℕ). length m) c.reserve.ensures.same in
-    omega (arith, end, size, c.requires.size, c.make_way.ensures.size)
+    omega (arith, end, size, c.requires.size, c.evacuate_ranges.ensures.size)
 
 pub returns-clause-ok : goal.returns-clause-ok
 returns-clause-ok g c =
@@ -73,11 +73,11 @@ returns-clause-ok g c =
     let texts = texts_of old c.args.stage.now in
     let plan = c.in_ok-plan.plan in
     let handover = handover_by texts plan in
-    let beside = rw (c.requires.pool, c.ranges-2.ensures) at c.in_ok-make_way.ensures.room in
-    let read : texts_of (g.M.PhysMem.bytes c.reserve.new.self) c.make_way.new.stage ≡ texts =
-    ap (λ m. texts_of m c.make_way.new.stage) c.reserve.ensures.same
-    ∙ c.in_ok-make_way.ensures.texts in
-    let outside = rw (c.requires.pool, ← c.reserve.ensures.same) at c.make_way.ensures.outside in
+    let beside = rw (c.requires.pool, c.ranges-2.ensures) at c.in_ok-evacuate_ranges.ensures.room in
+    let read : texts_of (g.M.PhysMem.bytes c.reserve.new.self) c.evacuate_ranges.new.stage ≡ texts =
+    ap (λ m. texts_of m c.evacuate_ranges.new.stage) c.reserve.ensures.same
+    ∙ c.in_ok-evacuate_ranges.ensures.texts in
+    let outside = rw (c.requires.pool, ← c.reserve.ensures.same) at c.evacuate_ranges.ensures.outside in
     let after = rw read at c.hand_over.ensures.after in
     let size = ap (λ (m : List ℕ). length m) c.reserve.ensures.same in
     record {
@@ -96,7 +96,7 @@ returns-clause-ok g c =
             i,
             size,
             c.requires.size,
-            c.make_way.ensures.size,
+            c.evacuate_ranges.ensures.size,
             c.hand_over.ensures.size,
           ));
       after =

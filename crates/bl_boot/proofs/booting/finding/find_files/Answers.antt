@@ -2,7 +2,7 @@ use Rattle.std.proofs.Common.{◌∙◌, arith, map, get_or, take, IsSome}
 use Rattle.std.proofs.lemmas.List.{map-append}
 use Rattle.bl_desc.specs.Described.{file_named}
 use Rattle.bl_desc.specs.Views.{view}
-use Rattle.bl_boot.specs.Files.{answer_of}
+use Rattle.bl_session.specs.Stores.{file_of}
 use Rattle.bl_boot.proofs.FileLemmas.{no_name, one_more_found, stands_at, names_grow}
 use Rattle.bl_boot.proofs.booting.finding.find_files.Goals as goal
 
@@ -15,7 +15,7 @@ loop-name-preserved g c =
     let found =
     one_more_found g.F.Files.answers g.F.Files.faults inline (map (λ n. n.now) (take i names))
     here.now
-    (map answer_of c.loop-name.found.items) (answer_of c.in_ok-answer.answer) c.args.files.now
+    (map file_of c.loop-name.found.items) (file_of c.in_ok-answer.answer) c.args.files.now
     c.loop-name.files c.find_file.new.files
     c.loop-name.invariant.0 c.in_ok-answer.ensures.found in
     let more = names_grow names i c.loop-name-test.true in

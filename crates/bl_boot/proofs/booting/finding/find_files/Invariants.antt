@@ -1,7 +1,8 @@
 use Rattle.std.proofs.Common.{◌≡◌, ◌+◌, ◌≤◌, ℕ, List, IsSome, All, take, map}
 use Rattle.bl_desc.specs.Described.{file_named}
 use Rattle.bl_desc.specs.Views.{view}
-use Rattle.bl_boot.specs.Files.{Answer, answer_of}
+use Rattle.bl_session.specs.Outcome.{File}
+use Rattle.bl_session.specs.Stores.{file_of}
 use Rattle.bl_boot.specs.Found.{AreFound}
 use Rattle.bl_boot.proofs.booting.finding.find_files.Given as goal
 
@@ -9,10 +10,10 @@ abbrev pub invariant-loop-name : goal.invariant-loop-name
 invariant-loop-name g l =
     AreFound g.F.Files.answers g.F.Files.faults (view l.description).files
     (map (λ n. n.now) (take l.name-index l.names))
-    l.initial.files l.files (map answer_of l.found.items)
+    l.initial.files l.files (map file_of l.found.items)
     × (All (λ name. IsSome (file_named name (view l.description).files)) (map (λ n. n.now) l.names)
     → l.files ≡ l.initial.files)
-    × ((file : List ℕ) (answer : Answer) → g.F.Files.answers l.files file answer
+    × ((file : List ℕ) (answer : File) → g.F.Files.answers l.files file answer
     → g.F.Files.answers l.initial.files file answer)
     × (g.F.Files.faults l.initial.files ≤ g.F.Files.faults l.files)
     × (g.F.Files.faults l.files ≤ g.F.Files.faults l.initial.files + l.name-index)

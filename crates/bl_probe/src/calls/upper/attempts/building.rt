@@ -3,7 +3,7 @@
 use crate::calls::upper::attempts::boot_fields::{BootFields, FileField};
 use crate::fault::RowFault;
 use bl_refusing::Refusing;
-use bl_session::{MOST_BYTES, Menu, MenuFault};
+use bl_session::{FILE_LIMIT, Menu, MenuFault};
 use std::alloc::{AllocError, Global};
 
 impl BootFields {
@@ -31,7 +31,7 @@ impl BootFields {
         for file in &self.files {
             sizes.push(match file {
                 FileField::Missing => None,
-                FileField::Long => Some(MOST_BYTES + 1),
+                FileField::Long => Some(FILE_LIMIT + 1),
                 FileField::Whole(bytes) => Some(bytes.len() as u64),
             })?;
         }

@@ -9,7 +9,7 @@ use crate::session::Session;
 use bl_map::Machine;
 use bl_mem::{Bytes, PhysMem, Sparse};
 use bl_refusing::Refusing;
-use bl_session::{Fetched, FileStore, MOST_BYTES, Menu, Order, ScriptStore, Store, run};
+use bl_session::{FILE_LIMIT, Fetched, FileStore, Menu, Order, ScriptStore, Store, run};
 use std::alloc::{AllocError, Global};
 
 impl BootFields {
@@ -22,7 +22,7 @@ impl BootFields {
         for file in &self.files {
             files.push(match file {
                 FileField::Missing => Fetched::Missing,
-                FileField::Long => Fetched::TooLong(MOST_BYTES + 1),
+                FileField::Long => Fetched::TooLong(FILE_LIMIT + 1),
                 FileField::Whole(bytes) => { Fetched::Bytes(Bytes::copy(heap, bytes.as_slice())?) }
             })?;
         }

@@ -1,9 +1,9 @@
 use Rattle.std.proofs.Common.{◌<◌, refl, ap, inl, inr, arith, rules}
 use Rattle.std.proofs.lemmas.Bool.{cases_lt}
-use Rattle.bl_map.specs.Room.{open_frames}
-use Rattle.bl_stage.specs.Staged.{Staging, frames_for}
+use Rattle.bl_map.specs.Room.{open_frames, frames_for}
+use Rattle.bl_stage.specs.Staged.{Staging}
 use Rattle.bl_session.proofs.StageLemmas.{texts_needed, files_below, files_beside}
-use Rattle.bl_session.proofs.finishing.make_way.Goals as goal
+use Rattle.bl_session.proofs.finishing.evacuate_ranges.Goals as goal
 
 pub returns-then-is_err-clause-refused : goal.returns-then-is_err-clause-refused
 returns-then-is_err-clause-refused g c =

@@ -8,7 +8,7 @@ use Rattle.bl_session.specs.Outcome.{missing, size_of}
 use Rattle.bl_session.specs.Phases.{SessionFacts, boot_facts, state_at}
 use Rattle.bl_session.specs.Run.{world_of}
 use Rattle.bl_session.proofs.RunLemmas.{unbegun, has_started, run_started}
-use Rattle.bl_session.proofs.booting.boot.Goals as goal
+use Rattle.bl_session.proofs.booting.run_session.Goals as goal
 
 pub returns-in_err-sizes-clause-lacking : goal.returns-in_err-sizes-clause-lacking
 returns-in_err-sizes-clause-lacking g c =
