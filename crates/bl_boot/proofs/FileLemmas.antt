@@ -8,7 +8,7 @@ use Rattle.bl_boot.specs.Found.{IsFound, AreFound}
 
 -- ---- found
 
--- one more is found behind those before
+-- one more is found after those before
 pub one_more_found : {F : Type 0} (answers : F → List ℕ → File → Type 0) (faults : F → ℕ)
     (inline : List InlineFile)
     (names : List (List ℕ)) (name : List ℕ) (found : List File) (answer : File)

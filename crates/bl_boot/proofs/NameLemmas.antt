@@ -15,7 +15,8 @@ use Rattle.bl_desc.specs.declared.form.EntryForm.TheVariants.{Multiboot2, Linux}
 use Rattle.bl_desc.specs.Described.{Described}
 use Rattle.bl_desc.specs.Entries.{Entry}
 use Rattle.bl_desc.specs.Views.{HasMenu, entry_view, form_view, view}
-use Rattle.bl_boot.specs.Attempted.{entry_of, file_names, names_beside, names_once, names_in}
+use Rattle.bl_session.specs.Attempts.{once_by}
+use Rattle.bl_boot.specs.Attempted.{entry_of, file_names, names_beside, names_in}
 use Rattle.bl_boot.specs.Attempted.{no_entry}
 use Rattle.bl_boot.specs.Kept.{names_with}
 
@@ -74,11 +75,11 @@ few_if : (b : Bool) (name : List ℕ) (rest kept names : List (List ℕ)) → le
 few_if true name rest kept names r k = omega (arith, r)
 few_if false name rest kept names r k = omega (arith, k)
 
-few_once : (earlier names : List (List ℕ)) → length (names_once earlier names) ≤ length names
+few_once : (earlier names : List (List ℕ)) → length (once_by bytes_eq earlier names) ≤ length names
 few_once earlier [] = omega arith
 few_once earlier (name ∷ names) =
-    few_if (list_any (λ n. bytes_eq n name) earlier) name (names_once earlier names)
-    (names_once (earlier ++ name ∷ []) names) names
+    few_if (list_any (λ n. bytes_eq n name) earlier) name (once_by bytes_eq earlier names)
+    (once_by bytes_eq (earlier ++ name ∷ []) names) names
     (few_once earlier names) (few_once (earlier ++ name ∷ []) names)
 
 pub few_names : {A : Type 0} (d : Description A) → HasMenu d → length (names_in (view d)) ≤ 32 * 65

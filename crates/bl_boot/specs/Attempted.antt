@@ -2,11 +2,11 @@
 use Rattle.std.specs.Prelude.{ℕ, ◌+◌, ◌*◌, List, [], ◌∷◌, ◌++◌, map, slice_index_or}
 use Rattle.std.specs.Prelude.{option_to_list, if◌then◌else◌}
 use Rattle.std.specs.Str.{bytes_eq}
-use Rattle.std.specs.List.{list_any, flat_map}
+use Rattle.std.specs.List.{flat_map}
 use Rattle.bl_map.specs.MachineFacts.{MachineFacts}
 use Rattle.bl_load.specs.Value.{EntryValue}
 use Rattle.bl_session.specs.Menu.{EntryFacts, MenuFacts}
-use Rattle.bl_session.specs.Attempts.{attempts_of}
+use Rattle.bl_session.specs.Attempts.{once_by, attempts_of}
 use Rattle.bl_session.specs.Boot.{BootFacts}
 use Rattle.bl_session.specs.Outcome.{File, size_of}
 use Rattle.bl_desc.specs.Described.{Described}
@@ -45,26 +45,18 @@ entry_value entry files = record {
 abbrev pub attempted : Described → List ℕ
 attempted description = attempts_of description.default description.fallbacks
 
--- what is read behind the last entry
+-- what is read after the last entry
 abbrev pub no_entry : Entry
 no_entry = record { title = []; kernel = []; line = []; form = multiboot2 [] }
 
 abbrev pub entry_of : Described → ℕ → Entry
 entry_of description index = slice_index_or description.entries index no_entry
 
--- of these names each one that is not among the earlier ones, once
-abbrev pub names_once : List (List ℕ) → List (List ℕ) → List (List ℕ)
-names_once earlier [] = []
-names_once earlier (name ∷ names) =
-    if list_any (λ n. bytes_eq n name) earlier
-    then names_once earlier names
-    else name ∷ names_once (earlier ++ name ∷ []) names
-
 -- the names of the files of these entries, by their index, in order, one that was named before left
 -- out
 abbrev pub names_of_entries : Described → List ℕ → List (List ℕ)
 names_of_entries description indices =
-    names_once [] (flat_map (λ index. file_names (entry_of description index)) indices)
+    once_by bytes_eq [] (flat_map (λ index. file_names (entry_of description index)) indices)
 
 -- the names that are looked for: those of the entries that are attempted
 abbrev pub names_in : Described → List (List ℕ)
@@ -74,7 +66,8 @@ names_in description = names_of_entries description (attempted description)
 abbrev pub most_names : ℕ
 most_names = 32 * 65
 
--- the index of a file: the place of its name among these, or how many they are if it is not there
+-- the index of a file: the place of its name among these. A name that is not looked for, since its
+-- entry is not attempted, has the place after the last
 abbrev pub index_of : List (List ℕ) → List ℕ → ℕ
 index_of [] name = 0
 index_of (n ∷ names) name = if bytes_eq n name then 0 else 1 + index_of names name

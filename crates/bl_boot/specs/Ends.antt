@@ -68,7 +68,7 @@ module _ {F : Type 0} (answers : F → List ℕ → File → Type 0) (faults : F
       IsOutcome (boot_of case.description case.facts case.files) case.files
       no_fault state
 
-  -- an entry was handed over: the sink took its image, and what is said tells it behind the
+  -- an entry was handed over: the sink took its image, and what is said tells it after the
   -- refusals before it
   pub record IsBooted (desc : List ℕ) (before after : Surroundings F) : Type 0 where
     pub case : BootCase desc before.files after.files

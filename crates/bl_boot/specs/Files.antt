@@ -1,6 +1,6 @@
 -- What may be found for the name of a file. Own.
-use Rattle.std.specs.Prelude.{◌≡◌, ℕ, ◌+◌, ◌-◌, ◌<◌, ◌≤◌, if◌then◌else◌, nat_lt, List, length, Option}
-use Rattle.std.specs.Prelude.{Some, None}
+use Rattle.std.specs.Prelude.{◌≡◌, ℕ, ◌+◌, ◌-◌, ◌<◌, ◌≤◌, if◌then◌else◌, nat_lt, List, length}
+use Rattle.std.specs.Prelude.{Option, Some, None}
 use Rattle.bl_session.specs.declared.fetched.Fetched.{Fetched}
 use Rattle.bl_session.specs.declared.fetched.Fetched.TheVariants as fetched
 use Rattle.bl_session.specs.Ends.{file_limit}

@@ -1,5 +1,6 @@
 -- What the code keeps of how a call ends, by its result. Own.
 use Rattle.std.specs.Prelude.{◌≡◌, ℕ, ◌+◌, ◌++◌, List, Result, Ok, Err}
+use Rattle.std.specs.Str.{bytes_eq}
 use Rattle.bl_image.specs.Begun.{IsBegun}
 use Rattle.bl_desc.specs.Described.{Described}
 use Rattle.bl_desc.specs.declared.fault.DescFault.{DescFault}
@@ -9,7 +10,8 @@ use Rattle.bl_load.specs.Handover.{Handover}
 use Rattle.bl_session.specs.declared.words.RefusedEntry.{RefusedEntry}
 use Rattle.bl_session.specs.Boot.{BootFacts, handed_over, none_left}
 use Rattle.bl_session.specs.Outcome.{File, IsOutcome, no_fault}
-use Rattle.bl_boot.specs.Attempted.{entry_of, names_once}
+use Rattle.bl_session.specs.Attempts.{once_by}
+use Rattle.bl_boot.specs.Attempted.{entry_of}
 use Rattle.bl_boot.specs.Says.{booted_line, refused_lines, no_entry_line}
 use Rattle.bl_boot.specs.Ends.{IsBadMachine, IsBadDescription, IsBooted, IsRefused, IsBroken}
 use Rattle.bl_boot.specs.Ends.{Surroundings}
@@ -25,9 +27,9 @@ abbrev pub fault_of : DescFault → EndFault
 fault_of desc_fault.BadDescription = BadDescription
 fault_of desc_fault.NoMemory = NoMemory
 
--- the names so far, and behind them what these add: each one that is not there yet
+-- the names so far, and after them what these add: each one that is not there yet
 abbrev pub names_with : List (List ℕ) → List (List ℕ) → List (List ℕ)
-names_with earlier names = earlier ++ names_once earlier names
+names_with earlier names = earlier ++ once_by bytes_eq earlier names
 
 -- why there is no such machine: a rule is broken, or memory ran out
 abbrev pub IsMachineFault : Described → EndFault → Type 0
@@ -48,7 +50,8 @@ IsHandFault faults_before faults_after before after image NoMemory =
 abbrev pub BootEnds : {F : Type 0} → (F → List ℕ → File → Type 0) → (F → ℕ) → List ℕ
     → Surroundings F → Surroundings F → Result End EndFault → Type 0
 BootEnds answers faults desc before after (Ok Booted) = IsBooted answers faults desc before after
-BootEnds answers faults desc before after (Ok NoEntryLeft) = IsRefused answers faults desc before after
+BootEnds answers faults desc before after (Ok NoEntryLeft) =
+    IsRefused answers faults desc before after
 BootEnds answers faults desc before after (Err BadDescription) =
     IsBadDescription desc × (after ≡ before)
 BootEnds answers faults desc before after (Err Device) = IsBroken answers faults desc before after

@@ -16,7 +16,7 @@ use Rattle.bl_boot.specs.Says.{hex16}
 unfoldable pub hex8 : ℕ → List ℕ
 hex8 n = replicate (8 - length (digits 16 false n)) 48 ++ digits 16 false n
 
--- a text: how many bytes it has, and behind a space its bytes in hexadecimal digits, if there are
+-- a text: how many bytes it has, and after a space its bytes in hexadecimal digits, if there are
 -- any
 unfoldable pub text_word : List ℕ → List ℕ
 text_word bytes =

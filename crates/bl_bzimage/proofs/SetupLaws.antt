@@ -42,7 +42,7 @@ both true true e = (refl, refl)
 both true false e = cc
 both false b e = cc
 
--- a check that was passed, and those behind it
+-- a check that was passed, and those after it
 passed : (broken : Bool) (fault : SetupFault) (rest : Option SetupFault)
     → (if broken then Some fault else rest) ≡ None → (broken ≡ false) × (rest ≡ None)
 passed true fault rest e = cc

@@ -17,7 +17,7 @@ abbrev pub header_end : List ℕ → ℕ
 header_end bytes = min (0x202 + slice_index bytes 0x201) 0x290
 
 -- "setup_sects": the size of the setup in sectors of 512 bytes, where 0 means 4; the boot sector
--- comes before it, and the payload behind it ("Loading The Rest of The Kernel")
+-- comes before it, and the payload after it ("Loading The Rest of The Kernel")
 abbrev pub payload_at : List ℕ → ℕ
 payload_at bytes = ((if slice_index bytes 0x1F1 == 0 then 4 else slice_index bytes 0x1F1) + 1) * 512
 

@@ -7,7 +7,7 @@ pub const LEAST_FILE: u64 = 1024;
 /// How many bytes a sector has.
 pub const SECTOR: u64 = 512;
 
-/// `setup_sects`, the sectors of setup behind the boot sector; the first field of the header.
+/// `setup_sects`, the sectors of setup after the boot sector; the first field of the header.
 pub const SETUP_SECTS: u64 = 0x1F1;
 
 /// The number of sectors that a `setup_sects` of 0 means.
@@ -19,7 +19,7 @@ pub const BOOT_FLAG: u64 = 0x1FE;
 /// What `boot_flag` is.
 pub const BOOT_FLAG_MAGIC: u16 = 0xAA55;
 
-/// The second byte of `jump`: how far the header reaches behind 0x202.
+/// The second byte of `jump`: how far the header reaches after 0x202.
 pub const JUMP_DISPLACEMENT: u64 = 0x201;
 
 /// `header`, a magic number; what `jump` counts from.

@@ -45,7 +45,7 @@ one_more seen read vs i v front after x within at_i here same =
     items_view-drop vs i v within ∙ ap (λ (w : Value). item (view w) rest) (sym at_i) in
     rw (same, map-append, there, here) (front_grows (map seen front) (seen x) (each_item read rest))
 
--- behind the last item all is read
+-- after the last item all is read
 pub all_read : {Y : Type 0} (read : Data → Option Y) (vs : List Value) (i : ℕ) (front : List Y)
     → length vs ≤ i
     → with_front front (each_item read (items_view (drop i vs))) ≡ each_item read (items_view vs)

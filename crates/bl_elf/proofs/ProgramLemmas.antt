@@ -8,7 +8,7 @@ use Rattle.bl_elf.specs.declared.program.ProgramHeader.{ProgramHeader}
 use Rattle.bl_elf.specs.Program.{program_header, headers_from, is_loadable, segment_of, segments_of}
 use Rattle.bl_elf.specs.Program.{is_entered, program_fault}
 
--- the program headers from the i-th on are the i-th and those behind it
+-- the program headers from the i-th on are the i-th and those after it
 headers_more : (bytes : List ℕ) (i count : ℕ) → i < count
     → headers_from bytes i (count - i)
     ≡ program_header bytes i ∷ headers_from bytes (i + 1) (count - (i + 1))
@@ -21,7 +21,7 @@ pub find_here : (bytes : List ℕ) (entry i count : ℕ) → i < count
     → find (is_entered entry) (headers_from bytes i (count - i)) ≡ Some (program_header bytes i)
 find_here bytes entry i count within entered = rw (headers_more bytes i count within, entered) refl
 
--- or it stands behind the i-th
+-- or it stands after the i-th
 pub find_behind : (bytes : List ℕ) (entry i count : ℕ) → i < count
     → is_entered entry (program_header bytes i) ≡ false
     → find (is_entered entry) (headers_from bytes i (count - i))

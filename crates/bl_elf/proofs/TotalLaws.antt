@@ -23,7 +23,7 @@ IsFaulty bytes i = (fault : ElfFault) × (fault_at bytes i ≡ Some fault)
 abbrev Share : List ℕ → ℕ → ℕ → Type 0
 Share bytes i j = (i < j) × (share_at bytes i j ≡ true)
 
--- the least program header behind the i-th that shares a physical byte with it
+-- the least program header after the i-th that shares a physical byte with it
 abbrev SharesOne : List ℕ → ℕ → Type 0
 SharesOne bytes i = SomeBelow (Share bytes i) (header_of bytes).e_phnum
 

@@ -1,5 +1,5 @@
 //! The numbers of the file format (System V gABI, "ELF Identification", "ELF Header", "Program
-//! Header"). A field is named by its offset from the first byte of its header, with 32 or 64 behind
+//! Header"). A field is named by its offset from the first byte of its header, with 32 or 64 after
 //! the name where the classes differ. Offsets and sizes count bytes.
 
 /// The first word of a file, the bytes 7F 45 4C 46: `EI_MAG0` to `EI_MAG3` ("ELF Identification").

@@ -9,7 +9,7 @@ use crate::header::Header;
 use crate::program::program_header;
 use bl_mem::ByteView;
 
-/// The least program header behind the `i`-th that shares a physical byte with it.
+/// The least program header after the `i`-th that shares a physical byte with it.
 fn overlap_after<V: ByteView>(view: &V, header: Header, i: u16) -> Option<u16>
     requires header { IsHeaderOf (V.bytes view.now) header }
     requires within { i < header.e_phnum }

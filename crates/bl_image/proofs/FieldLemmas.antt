@@ -1,4 +1,4 @@
--- Fields that came one after the other, and what is left to be judged behind them.
+-- Fields that came one after the other, and what is left to be judged after them.
 use Rattle.std.proofs.Common.{◌≡◌, ◌+◌, ◌≤◌, ◌<◌, ◌^◌, ℕ, Bool, true, false, List, [], ◌∷◌, ◌++◌}
 use Rattle.std.proofs.Common.{length, Option, Some, refl, sym, ap, ◌∙◌, subst, arith, append_assoc}
 use Rattle.std.proofs.Common.{length-append}
@@ -157,7 +157,7 @@ passed_shows {fault_in = fault_in} p s = record {
       ∙ s.shown bytes may;
 }
 
--- what is refused behind it is refused
+-- what is refused after it is refused
 pub passed_refuses : {fault_in left : List ℕ → Option ImageFault} {old mid : Input}
     → Passed fault_in old mid left → (new : Input) (fault : ImageFault) → Refuses left mid new fault
     → Refuses fault_in old new fault

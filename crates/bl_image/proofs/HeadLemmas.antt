@@ -35,7 +35,7 @@ six_pieces : (a b c d e f : List ℕ)
     → ((((a ++ b) ++ c) ++ d) ++ e) ++ f ≡ a ++ (b ++ (c ++ (d ++ (e ++ f))))
 six_pieces a b c d e f = simp append_assoc
 
--- the fields of the head, one behind the other
+-- the fields of the head, one after the other
 pub head_is : (p : Protocol) (r : Registers) (count : ℕ)
     → ((((magic ++ u32_bytes 1) ++ u32_bytes (protocols.protocol_number p))
     ++ flat_map u32_bytes (register_numbers r)) ++ u32_bytes count) ++ u32_bytes 0

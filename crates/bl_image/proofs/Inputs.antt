@@ -41,7 +41,7 @@ pub comes_as : {old new : Input} {bytes other : List ℕ} → bytes ≡ other �
     → Comes old new other
 comes_as {old = old} {new = new} e h = let P : List ℕ → Type 0 = λ l. Comes old new l in subst P e h
 
--- the first bytes of a piece that was put behind others
+-- the first bytes of a piece that was put after others
 pub take_piece : (done k n : ℕ) (out piece : List ℕ) → done ≤ length out → n ≤ length piece
     → take (done + n) (put_mid done k out piece) ≡ take done out ++ take n piece
 take_piece done k n out piece h within =
@@ -51,7 +51,7 @@ take_piece done k n out piece h within =
     ∙ take-append-add front (piece ++ post_of done k out) n
     ∙ ap (λ (l : List ℕ). front ++ l) (take-append-le n piece (post_of done k out) within)
 
--- a part of bytes, behind those before it and before those behind it
+-- a part of bytes, after those before it and before those after it
 pub part_given : (bytes : List ℕ) (at n : ℕ) → at + n ≤ length bytes
     → take (at + n) bytes ≡ take at bytes ++ slice_range bytes at (at + n)
 part_given bytes at n h =

@@ -96,7 +96,7 @@ flat_map-take {X = X} f xs k x e h =
     ∙ ap (λ (l : List ℕ). flat_map f (take k xs) ++ l)
     (flat_map-cons f (get_or xs k x) [] ∙ append-nil (f (get_or xs k x)) ∙ ap f (sym e))
 
--- a buffer that begins with a front and the records of the first places, and one more record behind
+-- a buffer that begins with a front and the records of the first places, and one more record after
 -- them
 pub records_more : (front old new : List ℕ) (ps : List Place) (i : ℕ) (p : Place)
     → p ≡ get_or ps i p → i < length ps

@@ -40,7 +40,7 @@ and_record before address count = record {
 abbrev pub end_fault : ℕ → List ℕ → Option ImageFault
 end_fault count bytes = if length bytes == count then None else Some WrongLength
 
--- the first fault where so many records must begin, and behind them the bytes of all parts, and
+-- the first fault where so many records must begin, and after them the bytes of all parts, and
 -- nothing else
 abbrev pub parts_fault : ℕ → Before → List ℕ → Option ImageFault
 parts_fault zero before bytes = end_fault before.bytes bytes

@@ -5,7 +5,7 @@ use Rattle.bl_load.specs.Handover.{Part, Handover, end_of}
 use Rattle.bl_image.specs.Image.{spelling}
 use Rattle.bl_image.specs.Spellable.{IsSpellable}
 
--- the second part begins at the end of the first, or behind it
+-- the second part begins at the end of the first, or after it
 abbrev pub PartAscends : Part → Part → Type 0
 PartAscends p q = end_of p ≤ q.address
 

@@ -34,7 +34,7 @@ pub record IsNext (before : ℕ) (place : Place) : Type 0 where
   pub filled : 1 ≤ place.length
   pub below : place.address + place.length ≤ 2 ^ 32
 
--- records that may stand one behind the other, up to that end
+-- records that may stand one after the other, up to that end
 pub record AreSound (places : List Place) (end : ℕ) : Type 0 where
   pub filled : All (λ place. 1 ≤ place.length) places
   pub below : All (λ place. place.address + place.length ≤ 2 ^ 32) places

@@ -19,7 +19,7 @@ pub enum ImageFault {
     #[error("bad version")]
     BadVersion,
 
-    /// The protocol is neither 1 nor 2, there are more than 256 parts, or the word behind their
+    /// The protocol is neither 1 nor 2, there are more than 256 parts, or the word after their
     /// number is not 0.
     #[error("bad header")]
     BadHeader,

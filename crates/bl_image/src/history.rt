@@ -5,7 +5,7 @@ ghost use Rattle.std.specs.Borrow.{ftrue};
 use std::io::Write;
 use std::marker::Model;
 
-/// What a writer told that it held at the start, and behind it the bytes that it said it took since
+/// What a writer told that it held at the start, and after it the bytes that it said it took since
 /// then. It has no bytes of its own: nothing of it is there as the program runs.
 #[derive(Drop)]
 pub(crate) struct History {

@@ -72,7 +72,7 @@ impl<A: Allocator> ImagePart<A> {
 }
 
 /// What an image says: the protocol, the registers as the kernel begins, and the parts with their
-/// bytes in address order. There are at most 256 parts; none is empty, each begins at or behind the
+/// bytes in address order. There are at most 256 parts; none is empty, each begins at or after the
 /// end of the one before, and none ends above 4 GiB.
 #[derive(Drop)]
 pub struct Image<A: Allocator> {

@@ -7,7 +7,7 @@ use std::marker::Model;
 /// A sink over a writer of std. Each error of the writer is a fault, and so is a write that takes
 /// nothing of a part that is not empty.
 ///
-/// Its contents are what the writer told that it held at the start, and behind it what the writer
+/// Its contents are what the writer told that it held at the start, and after it what the writer
 /// said it took. A writer that always tells, as a `Vec` does, holds just that. Of a device no
 /// contract knows what it holds.
 #[derive(Drop)]

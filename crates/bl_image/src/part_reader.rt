@@ -66,7 +66,7 @@ fn read_part<S: Source, A: Allocator>(
     Ok(ImagePart::new(place.role, place.index, place.address, bytes))
 }
 
-/// Reads the parts at these places, one behind the other.
+/// Reads the parts at these places, one after the other.
 pub(crate) fn read_parts<S: Source, A: Allocator + Copy>(
     alloc: A,
     source: &mut S,

@@ -12,7 +12,7 @@ use Rattle.bl_mem.specs.Contents.{contents_of, holds}
 use Rattle.bl_load.specs.Blocks.{low_of, high_of, span_of, byte_at, first_values, block_of}
 use Rattle.bl_load.specs.Loadable.{IsCopied, SegmentsAscend}
 
--- segments from a linked address on, each behind the zeros of the gap before it
+-- segments from a linked address on, each after the zeros of the gap before it
 abbrev pub block_from : List ℕ → ℕ → List Segment → List ℕ
 block_from text start [] = []
 block_from text start (s ∷ segments) =
@@ -77,7 +77,7 @@ unfolding block_of
 length-block_of text segments =
     length-first_values (span_of segments) (λ i. byte_at text segments (low_of segments + i))
 
--- segments end behind where they begin
+-- segments end after where they begin
 high_above : (text : List ℕ) (start : ℕ) (s : Segment) (segments : List Segment)
     → All (IsCopied (length text)) (s ∷ segments) → All (λ t. start ≤ t.address) (s ∷ segments)
     → start < high_of (s ∷ segments)

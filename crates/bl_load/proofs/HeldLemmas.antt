@@ -9,7 +9,7 @@ use Rattle.std.proofs.lemmas.List.Elements.{All-map}
 use Rattle.std.proofs.lemmas.Bool.{cases_lt}
 use Rattle.std.proofs.lemmas.Simd.{map-map}
 use Rattle.std.specs.declared.ops.Range.{Range}
-use Rattle.bl_mem.specs.Files.{AllBeside, IsBeside}
+use Rattle.bl_mem.specs.Files.{AllBeside, IsBeside, text_at}
 use Rattle.bl_mem.specs.Memory.{AllHaveRoom, HasRoom}
 use Rattle.bl_plan.specs.declared.part.Place.{Place}
 use Rattle.bl_plan.specs.Placed.{Covers, range_of}
@@ -19,7 +19,7 @@ use Rattle.bl_load.specs.declared.plan.PlannedPart.{PlannedPart}
 use Rattle.bl_load.specs.declared.plan.Plan.{Plan}
 use Rattle.bl_load.specs.Handover.{part_at, written}
 use Rattle.bl_load.specs.Place.{place_of}
-use Rattle.bl_load.specs.PlanFacts.{file_text, content_by, bytes_by, part_by, part_in, places_of}
+use Rattle.bl_load.specs.PlanFacts.{content_by, bytes_by, part_by, part_in, places_of}
 use Rattle.bl_load.specs.HandoffFacts.{Ascends}
 use Rattle.bl_load.specs.Kept.{CanLoad}
 use Rattle.bl_load.specs.Loadable.{lengths_of, content_length, IsThere, IsBacked, IsLoadable}
@@ -60,7 +60,7 @@ AllPairs-map R f (x ∷ xs) h i j d ij within =
 
 -- a file's length, by the list of lengths
 pub length_at : (texts : List (List ℕ)) (file : ℕ)
-    → slice_index (lengths_of texts) file ≡ length (file_text texts file)
+    → slice_index (lengths_of texts) file ≡ length (text_at texts file)
 length_at texts file = get_or-map (λ (text : List ℕ). length text) texts file []
 
 -- a file of the list of lengths is one of the texts
@@ -81,7 +81,7 @@ length-content_by texts (File file offset count) there =
       | inr none ↦ search (rules, places)
     ]
 length-content_by texts (Block file segments) there =
-    length-block_of (file_text texts file) segments.items
+    length-block_of (text_at texts file) segments.items
 
 -- a part has as many bytes as its place
 pub length-bytes_by : {A : Type 0} (texts : List (List ℕ)) (part : PlannedPart A)

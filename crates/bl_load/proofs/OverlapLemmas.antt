@@ -38,7 +38,7 @@ stays_free taken s t row size apart free = λ a low high.
     (λ here. apart a (omega (arith, here.0), omega (arith, here.1)) (low, high))
     (free a low high)
 
--- segments that are apart and free have no overlap before what is placed behind them
+-- segments that are apart and free have no overlap before what is placed after them
 segments_no_overlap : (facts : MachineFacts) (taken : List (Range ℕ)) (k : ℕ)
     (segments : List Segment) (rest : List Row) → All (IsFreeSegment taken) segments
     → AreRelated AreApart segments

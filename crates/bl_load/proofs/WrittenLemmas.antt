@@ -8,7 +8,7 @@ use Rattle.bl_mem.proofs.Overwrites.{length-overwrite, get_or-overwrite_in, get_
 use Rattle.bl_mem.proofs.Overwrites.{get_or-overwrite_above, overwrite_more}
 use Rattle.bl_load.specs.Handover.{Part, written}
 
--- zeros right behind what was written
+-- zeros right after what was written
 pub zeros_behind : (m content : List ℕ) (at count wide : ℕ) → length content ≡ count → count ≤ wide
     → at + wide ≤ length m
     → overwrite (overwrite m at content) (at + count) (replicate (at + wide - (at + count)) 0)
@@ -23,7 +23,7 @@ zeros_behind m content at count wide is short inside =
 abbrev pub EndsWithin : ℕ → Part → Type 0
 EndsWithin size part = part.address + length part.bytes ≤ size
 
--- the second part begins behind the first
+-- the second part begins after the first
 abbrev pub IsBefore : Part → Part → Type 0
 IsBefore p q = p.address + length p.bytes ≤ q.address
 

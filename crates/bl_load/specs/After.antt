@@ -8,8 +8,8 @@ use Rattle.bl_load.specs.Handover.{Part, end_of}
 abbrev pub Spans : Part → ℕ → Type 0
 Spans part a = (part.address ≤ a) × (a < end_of part)
 
--- the byte at each address: the part's where a part spans it; else 0 where the pool has it; else
--- the one before. Where no entry is left there are no parts.
+-- the byte at each address: the part's if a part spans it; else 0 if the pool has it; else the one
+-- before. If no entry is left there are no parts.
 pub record IsAfter (pool : Range ℕ) (parts : List Part) (old new : List ℕ) : Type 0 where
   pub in_parts :
       All (λ part. (a : ℕ) → Spans part a

@@ -11,7 +11,7 @@ low_of [] = 0
 low_of (s ∷ []) = s.address
 low_of (s ∷ t ∷ segments) = min s.address (low_of (t ∷ segments))
 
--- the address behind the last byte of segments
+-- the address after the last byte of segments
 abbrev pub high_of : List Segment → ℕ
 high_of [] = 0
 high_of (s ∷ segments) = max (s.address + s.memsz) (high_of segments)

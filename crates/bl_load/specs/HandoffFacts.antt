@@ -10,7 +10,7 @@ pub record HandoffFacts : Type 0 where
   pub registers : Registers
   pub places : List Place
 
--- the second place lies behind the first
+-- the second place lies after the first
 abbrev pub Ascends : Place → Place → Type 0
 Ascends p q = p.address + p.length ≤ q.address
 

@@ -13,7 +13,7 @@ pub record Part : Type 0 where
   pub address : ℕ
   pub bytes : List ℕ
 
--- the address behind a part's last byte
+-- the address after a part's last byte
 abbrev pub end_of : Part → ℕ
 end_of part = part.address + length part.bytes
 
@@ -28,7 +28,7 @@ abbrev pub part_at : Place → List ℕ → Part
 part_at place bytes =
     record { role = place.role; index = place.index; address = place.address; bytes = bytes }
 
--- zeros behind a content, up to a length
+-- a content and zeros after it, up to a length; one that is longer stays as it is
 abbrev pub filled : ℕ → List ℕ → List ℕ
 filled count content = content ++ replicate (count - length content) 0
 

@@ -24,7 +24,7 @@ pub record IsCopied (size : ℕ) (s : Segment) : Type 0 where
   pub inside : 1 ≤ s.filesz → s.offset + s.filesz ≤ size
   pub low : s.address + s.memsz ≤ 2 ^ 62
 
--- the second lies behind the first
+-- the second lies after the first
 abbrev pub SegmentsAscend : Segment → Segment → Type 0
 SegmentsAscend s t = s.address + s.memsz ≤ t.address
 

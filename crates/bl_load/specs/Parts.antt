@@ -33,7 +33,7 @@ use Rattle.bl_load.specs.Handover.{Part, Handover, part_at, filled}
 use Rattle.bl_load.specs.declared.refusal.PrepFault.{PrepFault}
 use Rattle.bl_load.specs.declared.refusal.PrepFault.TheVariants as prep_fault
 
--- what is read behind the last segment
+-- what is read after the last segment
 abbrev pub no_segment : Segment
 no_segment = record { offset = 0; address = 0; filesz = 0; memsz = 0 }
 
@@ -127,7 +127,7 @@ HasPlaceFault facts value refused =
     (reading : Reading) × IsRead facts value reading
     × HasRowFault facts (rows_of facts value reading) refused
 
--- a check that refuses, or what comes behind it
+-- the first check refuses; or it does not, and the rest does
 abbrev pub Then : Option Refusal → (Refusal → Type 0) → Refusal → Type 0
 Then first rest refused = (first ≡ Some refused) ⊎ ((first ≡ None) × rest refused)
 

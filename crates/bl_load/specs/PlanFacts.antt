@@ -1,5 +1,6 @@
 -- What a plan holds, where the files hold these texts.
-use Rattle.std.specs.Prelude.{ℕ, ◌+◌, List, [], map, slice_range, slice_index_or}
+use Rattle.std.specs.Prelude.{ℕ, ◌+◌, List, map, slice_range}
+use Rattle.bl_mem.specs.Files.{text_at}
 use Rattle.bl_plan.specs.declared.part.Place.{Place}
 use Rattle.bl_load.specs.declared.plan.Content.{Content}
 use Rattle.bl_load.specs.declared.plan.Content.TheVariants.{Own, File, Block}
@@ -10,16 +11,12 @@ use Rattle.bl_load.specs.declared.registers.Registers.{Registers}
 use Rattle.bl_load.specs.Blocks.{block_of}
 use Rattle.bl_load.specs.Handover.{Part, Handover, part_at, filled}
 
--- the bytes of a file of these
-abbrev pub file_text : List (List ℕ) → ℕ → List ℕ
-file_text texts file = slice_index_or texts file []
-
 -- what a content holds
 abbrev pub content_by : {A : Type 0} → List (List ℕ) → Content A → List ℕ
 content_by texts (Own bytes) = bytes
 content_by texts (File file offset count) =
-    slice_range (file_text texts file) offset (offset + count)
-content_by texts (Block file segments) = block_of (file_text texts file) segments.items
+    slice_range (text_at texts file) offset (offset + count)
+content_by texts (Block file segments) = block_of (text_at texts file) segments.items
 
 abbrev pub bytes_by : {A : Type 0} → List (List ℕ) → PlannedPart A → List ℕ
 bytes_by texts part = filled part.place.length (content_by texts part.content)

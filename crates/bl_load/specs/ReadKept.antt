@@ -15,7 +15,7 @@ use Rattle.bl_load.specs.KernelKept.{AreLoadable, kernel_by}
 use Rattle.bl_load.specs.Linux.{HasLinuxFault}
 use Rattle.bl_load.specs.Parts.{entered_at}
 use Rattle.bl_load.specs.PlacingKept.{ModulesEndLow}
-use Rattle.bl_load.specs.PlanFacts.{file_text}
+use Rattle.bl_mem.specs.Files.{text_at}
 use Rattle.bl_load.specs.Reading.{Reading, multiboot2, linux}
 use Rattle.bl_load.specs.Value.{EntryValue, initrd_file}
 
@@ -32,7 +32,7 @@ protocol_by (linux setup) = protocol.Linux
 -- loaded
 abbrev pub HasFiles : List (List ℕ) → ℕ → Reading → Type 0
 HasFiles texts modules (multiboot2 kernel) =
-    (length texts ≡ 1 + modules) × AreLoadable (file_text texts 0) kernel.segments
+    (length texts ≡ 1 + modules) × AreLoadable (text_at texts 0) kernel.segments
 HasFiles texts modules (linux setup) = 1 ≤ length texts
 
 -- what is told of the parts fits 32 bits

@@ -1,4 +1,4 @@
--- What is booted, told apart from where it lies: an entry's value. Own.
+-- An entry's value: what is booted, wherever its files lie and whatever they are called. Own.
 use Rattle.std.specs.Prelude.{ℕ, ◌+◌, ◌≤◌, if◌then◌else◌, ◌==◌, nat_lt, List, [], ◌∷◌, length, map}
 use Rattle.std.specs.Prelude.{slice_index_or, Option, Some, None, option_to_list}
 use Rattle.std.specs.List.{list_any}
@@ -40,11 +40,11 @@ value_of texts (Linux kernel line initrd) = linux_value texts line
 abbrev pub kernel_file : EntryValue → List ℕ
 kernel_file value = slice_index_or value.files 0 []
 
--- the bytes of the file of module k, which comes behind the kernel's
+-- the bytes of the file of module k, which comes after the kernel's
 abbrev pub module_file : List (List ℕ) → ℕ → List ℕ
 module_file files k = slice_index_or files (k + 1) []
 
--- the bytes of the initial ramdisk of a Linux entry, which comes behind the kernel's; none if there
+-- the bytes of the initial ramdisk of a Linux entry, which comes after the kernel's; none if there
 -- is no such file
 abbrev pub initrd_file : List (List ℕ) → List ℕ
 initrd_file files = slice_index_or files 1 []

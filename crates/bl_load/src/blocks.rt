@@ -9,7 +9,7 @@ ghost use Rattle.bl_load.specs.Loadable.{IsCopied, SegmentsAscend};
 use crate::copying::copy;
 use bl_mem::{FileSet, PhysMem, Segment};
 
-/// Writes a segment at `at`: its bytes of the file, and zeros behind them.
+/// Writes a segment at `at`: its bytes of the file, and zeros after them.
 fn load_segment<M: PhysMem, F: FileSet>(
     memory: &mut M,
     at: u64,
@@ -38,7 +38,7 @@ fn load_segment<M: PhysMem, F: FileSet>(
 }
 
 /// Writes the block of these segments at `at`, and says how long it is. Each of its bytes is
-/// written once: zeros go into the gaps and behind the bytes of the file alone.
+/// written once: zeros go into the gaps and after the bytes of the file alone.
 pub(crate) fn load_block<M: PhysMem, F: FileSet>(
     memory: &mut M,
     at: u64,

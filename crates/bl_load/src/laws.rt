@@ -33,7 +33,7 @@ pub fn handovers_are_legal()
 {}
 
 /// The parts of what is handed over lie in memory that may be used, beside one another: none is
-/// empty, each of its bytes is usable, and each part begins at or behind the end of those before it
+/// empty, each of its bytes is usable, and each part begins at or after the end of those before it
 /// in the list.
 pub fn parts_are_apart_and_usable()
     ensures filled { (facts : MachineFacts) (value : EntryValue) (h : Handover)

@@ -9,7 +9,8 @@ ghost use Rattle.bl_load.specs.LinuxRows as table;
 ghost use Rattle.bl_load.specs.Reading.{linux};
 ghost use Rattle.bl_load.specs.Parts.{content_of, payload_of};
 ghost use Rattle.bl_bzimage.specs.Setup.{IsSetup};
-ghost use Rattle.bl_load.specs.PlanFacts.{content_by, file_text};
+ghost use Rattle.bl_load.specs.PlanFacts.{content_by};
+ghost use Rattle.bl_mem.specs.Files.{text_at};
 ghost use Rattle.bl_load.specs.Loadable.{lengths_of, content_length, IsThere, StaysInFiles};
 ghost use Rattle.bl_load.specs.PlacingKept.{IsRowed, IsLow};
 ghost use Rattle.bl_load.specs.SourceKept.{texts_in, value_as};
@@ -92,9 +93,9 @@ fn initrd_content<A: Allocator, V: ByteView>(files: &[V]) -> Content<A>
 /// The content of the kernel's part: its payload.
 fn payload_content<A: Allocator, V: ByteView>(files: &[V], setup: &Setup) -> Content<A>
     requires some { 1 ≤ length files.now }
-    requires setup { IsSetup (file_text (map V.bytes files.now) 0) setup.now }
+    requires setup { IsSetup (text_at (map V.bytes files.now) 0) setup.now }
     ensures content { content_by (map V.bytes files.now) result
-        ≡ payload_of (file_text (map V.bytes files.now) 0) setup.now }
+        ≡ payload_of (text_at (map V.bytes files.now) 0) setup.now }
     ensures there { IsThere (lengths_of (map V.bytes files.now)) result }
     ensures length { content_length result ≡ setup.now.payload_size }
     ensures lean { StaysInFiles role.Kernel result }
@@ -116,7 +117,7 @@ pub fn linux_content<A: Allocator + Copy, V: ByteView>(
 ) -> Result<Content<A>, AllocError>
     requires some { 1 ≤ length source.now.files.now }
     requires kernel { IsLinuxKernel source.now.machine.now.runs source.now.line.now
-        (file_text (texts_in source.now) 0) setup.now }
+        (text_at (texts_in source.now) 0) setup.now }
     requires size { length (initrd_file (texts_in source.now)) < 2 ^ 32 }
     requires low { All IsLow places.now }
     requires rowed { IsRowed source.now.machine.now (value_as (linux setup.now) source.now)

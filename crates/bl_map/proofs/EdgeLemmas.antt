@@ -57,7 +57,7 @@ same_holds : (r : Region) (at later : ℕ) → nat_lt at r.base ≡ nat_lt later
     → nat_lt at (end_of r) ≡ nat_lt later (end_of r) → holds r at ≡ holds r later
 same_holds r at later a b = grind (arith, nat_tests)
 
--- where no region begins or ends behind an address and up to a later one, both have one kind
+-- where no region begins or ends after an address and up to a later one, both have one kind
 pub same_kind : (regions : List Region) (at later : ℕ) → at ≤ later
     → edges_above regions later ≡ edges_above regions at
     → kind_at regions at ≡ kind_at regions later

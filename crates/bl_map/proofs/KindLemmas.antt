@@ -48,7 +48,7 @@ kind_at-push (x ∷ rs) r a =
     max_assoc : (m n k : ℕ) → max m (max n k) ≡ max (max m n) k
     max_assoc m n k = omega arith
 
--- no kind behind all regions
+-- no kind after all regions
 pub none_behind : (rs : List Region) (n a : ℕ) → All (λ r. end_of r ≤ n) rs → n ≤ a
     → kind_at rs a ≡ 0
 none_behind [] n a all high = refl

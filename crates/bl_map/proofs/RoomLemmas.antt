@@ -47,7 +47,7 @@ AreBehind pool ranges k next =
 
 module _ (pool : Range ℕ) (ranges : List (Range ℕ)) (ascend : AreAscending ranges) (k : ℕ)
     (here : k < length ranges) (next : ℕ) (behind : AreBehind pool ranges k next) where
-  -- a frame from the next one on that lies before the k-th range is open: the ranges behind that
+  -- a frame from the next one on that lies before the k-th range is open: the ranges after that
   -- one begin no lower
   open_before : (i : ℕ) (d : Range ℕ) → next ≤ i → i < frames_in pool
       → pool.start + 4096 * i + 4096 ≤ (get_or ranges k d).start

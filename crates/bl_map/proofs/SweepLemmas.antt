@@ -47,7 +47,7 @@ upto_none regions =
       same_kinds = λ a below. absurd (omega arith);
     }
 
--- nothing is held behind the runs
+-- nothing is held after the runs
 none_yet : (regions runs : List Region) (at a : ℕ) → All (EndsBefore regions at) runs → at ≤ a
     → kind_at runs a ≡ 0
 none_yet regions runs at a ended from =

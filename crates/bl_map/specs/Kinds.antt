@@ -42,11 +42,11 @@ kind_at [] a = 0
 kind_at (region ∷ regions) a =
     max (if holds region a then kind_number region.kind else 0) (kind_at regions a)
 
--- q lies behind p, and has another kind where the two adjoin
+-- q lies after p, and has another kind where the two adjoin
 abbrev pub ComesBefore : Region → Region → Type 0
 ComesBefore p q = (end_of p ≤ q.base) × (end_of p ≡ q.base → p.kind ≢ q.kind)
 
--- runs are not empty, ascend, and are the longest of one kind
+-- runs are not empty, end at most at 2^52, ascend, and are the longest of one kind
 pub record AreRuns (runs : List Region) : Type 0 where
   pub filled : All (λ run. 1 ≤ run.length) runs
   pub low : All (λ run. end_of run ≤ region_limit) runs

@@ -12,14 +12,15 @@ least_size = 0x100000
 abbrev pub most_size : ℕ
 most_size = 2 ^ 32
 
--- a machine is made of so many regions at most, each of which ends at most there; its normal map
--- has so many runs at most
+-- a machine is made of at most so many regions
 abbrev pub most_regions : ℕ
 most_regions = 128
 
+-- where a region ends at most
 abbrev pub region_limit : ℕ
 region_limit = 2 ^ 52
 
+-- a normal map has at most so many runs
 abbrev pub most_runs : ℕ
 most_runs = 256
 

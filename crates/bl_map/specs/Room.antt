@@ -46,7 +46,7 @@ open_frames pool ranges = open_among ranges pool.start (frames_in pool)
 abbrev pub HasRoomFor : Range ℕ → List (Range ℕ) → List (List ℕ) → Type 0
 HasRoomFor pool ranges files = frames_for (map length files) ≤ open_frames pool ranges
 
--- ranges that go forward, each behind the one before; one may have no byte
+-- ranges that go forward, each after the one before; one may have no byte
 pub record AreAscending (ranges : List (Range ℕ)) : Type 0 where
   pub forward : All (λ range. range.start ≤ range.end) ranges
   pub in_order : AllPairs (λ p q. p.end ≤ q.start) ranges

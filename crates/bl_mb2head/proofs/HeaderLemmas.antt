@@ -12,7 +12,7 @@ ends_in_file bytes h begins = grind (arith, nat_tests, begins.whole)
 pub ends_in_front : (bytes : List ℕ) (h : ℕ) → BeginsAt bytes h → end_of bytes h ≤ 32768
 ends_in_front bytes h begins = grind (arith, nat_tests, begins.whole)
 
--- fields that lie before the header's end lie before what is behind it
+-- fields that lie before the header's end lie before what is after it
 pub lies_before : (tag : Option Tag) (fields end later : ℕ)
     → IfSome tag (λ t. t.place + fields ≤ end) → end ≤ later
     → IfSome tag (λ t. t.place + fields ≤ later)

@@ -23,7 +23,7 @@ pub unknown_here : (bytes : List ℕ) (at count i : ℕ) → i < count
     ≡ Some (u32_at bytes (at + 4 * i))
 unknown_here bytes at count i lt unknown = rw (words_from bytes at count i lt, unknown) refl
 
--- past a type that can be given, the first that can't is that of the words behind it
+-- past a type that can be given, the first that can't is that of the words after it
 pub unknown_from : (bytes : List ℕ) (at count i : ℕ) → i < count
     → can_be_given (u32_at bytes (at + 4 * i)) ≡ true
     → find (λ kind. not (can_be_given kind)) (words_at bytes (at + 4 * i) (count - i))
@@ -43,7 +43,7 @@ push bytes end at next [] t tags is sound more = (
 push bytes end at next (s ∷ ts) t tags is sound more =
     (tags.0, tags.1, tags.2, push bytes end (after s) next ts t tags.3 is sound more)
 
--- one more tag behind the tags up to a place
+-- one more tag after the tags up to a place
 pub AreTags-push : (bytes : List ℕ) (end at next : ℕ) (ts : List Tag) (t : Tag)
     → AreTags bytes end at next ts → t ≡ tag_at bytes next → fault_at bytes end next ≡ None
     → (t.kind ≡ 0 → ⊥) → AreTags bytes end at ((next + t.size + 7) / 8 * 8) (ts ++ t ∷ [])

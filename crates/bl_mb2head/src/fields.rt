@@ -31,7 +31,7 @@ pub const CHECKSUM: u64 = 12;
 /// Where the tags begin (3.1.1).
 pub const TAGS: u64 = 16;
 
-/// `flags` of a tag, behind its type (3.1.3).
+/// `flags` of a tag, after its type (3.1.3).
 pub const FLAGS: u64 = 2;
 
 /// The bit of `flags` by which a tag may be ignored (3.1.3).

@@ -9,7 +9,7 @@ use crate::fields::{
 };
 use bl_mem::{ByteView, u32_at};
 
-/// Whether a header stands at `at`, which is a multiple of 8 with 16 bytes behind it.
+/// Whether a header stands at `at`, which is a multiple of 8 with 16 bytes after it.
 fn is_header_at<V: ByteView>(view: &V, at: u64) -> bool
     requires aligned { at % ALIGNMENT ≡ 0 }
     requires in_file { at + TAGS ≤ length (V.bytes view.now) }

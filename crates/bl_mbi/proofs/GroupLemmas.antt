@@ -43,7 +43,7 @@ pub modules_small : (facts : InformationFacts) → HasSpelling facts
     → sum_by (λ m. tag_size (length m.line + 9)) facts.modules < 2 ^ 32
 modules_small facts is = omega (arith, sum_lines facts.modules, is.small)
 
--- the groups, one behind the other, are the spelling
+-- the groups, one after the other, are the spelling
 pub spelled : (o p q r s t : List ℕ) (facts : InformationFacts) (size : ℕ) → size ≡ info_size facts
     → p ≡ o ++ u32_bytes size → q ≡ p ++ u32_bytes 0
     → r

@@ -19,7 +19,7 @@ use Rattle.bl_mbi.proofs.TagIs.{IsRead, drop_small}
 use Rattle.bl_mbi.proofs.ReadIs.{text_tag_at_is, modules_at_are, memory_at_is, map_at_is}
 use Rattle.bl_mbi.proofs.ReadIs.{copy_at_is, load_base_at_is, end_at_is}
 
--- the tags that were read, one behind the other
+-- the tags that were read, one after the other
 record IsInOrder (left : Left) (info : InfoFacts) : Type 0 where
   bytes : left.bytes ≡ tags info.name info.facts
   name : IsText info.name

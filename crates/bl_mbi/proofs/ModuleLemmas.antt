@@ -1,4 +1,4 @@
--- Modules that are read one behind the other.
+-- Modules that are read one after the other.
 use Rattle.std.proofs.Common.{◌≡◌, ◌≤◌, ◌+◌, ◌-◌, ℕ, zero, suc, true, false, List, [], ◌∷◌, ◌++◌}
 use Rattle.std.proofs.Common.{length, Result, Ok, Err, arith, refl, sym, ap, ◌∙◌, append_assoc}
 use Rattle.std.proofs.Common.{length-append}
@@ -11,7 +11,7 @@ use Rattle.bl_mbi.specs.InformationFacts.{ModuleInfo}
 use Rattle.bl_mbi.specs.Fields.{◌>>=◌, Fails, Left, is_next}
 use Rattle.bl_mbi.specs.Reading.{module_at, modules_upto, modules_at}
 
--- what was read, and behind it what is still read
+-- what was read, and after it what is still read
 abbrev pub behind : List ModuleInfo → Result (List ModuleInfo × Left) InfoFault
     → Result (List ModuleInfo × Left) InfoFault
 behind done (Ok more) = Ok (done ++ more.0, more.1)

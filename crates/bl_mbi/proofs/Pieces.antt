@@ -5,7 +5,7 @@ use Rattle.bl_mem.specs.Words.{u32_bytes}
 use Rattle.bl_mbi.specs.Tags.{padding, module_body, module_tag}
 use Rattle.bl_mbi.proofs.Sizes.{length-module_body}
 
--- seven pieces, one behind the other
+-- seven pieces, one after the other
 pub appended_7 : (o p q r s t u v a b c d e f h : List ℕ) → p ≡ o ++ a → q ≡ p ++ b → r ≡ q ++ c
     → s ≡ r ++ d → t ≡ s ++ e → u ≡ t ++ f → v ≡ u ++ h
     → v ≡ o ++ (a ++ (b ++ (c ++ (d ++ (e ++ (f ++ h))))))

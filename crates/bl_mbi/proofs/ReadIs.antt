@@ -27,7 +27,7 @@ use Rattle.bl_mbi.proofs.MapBodyIs.{map_is}
 nothing_read : (left : Left) → AreBytes left.bytes → IsRead left [] left
 nothing_read left small = record { bytes = refl; small = small }
 
--- one piece behind another
+-- one piece after another
 both_read : (l0 l1 l2 : Left) (a b : List ℕ) → IsRead l0 a l1 → IsRead l1 b l2
     → IsRead l0 (a ++ b) l2
 both_read l0 l1 l2 a b first second =

@@ -1,4 +1,4 @@
--- Entries of a memory map that are read one behind the other.
+-- Entries of a memory map that are read one after the other.
 use Rattle.std.proofs.Common.{◌≡◌, ◌<◌, ◌+◌, ◌-◌, ◌*◌, ℕ, suc, Option, Some, None, List, [], ◌∷◌}
 use Rattle.std.proofs.Common.{◌++◌, drop, arith, refl, sym, ap, ◌∙◌, append_assoc, option_map}
 use Rattle.std.specs.Prelude.{option_and_then}
@@ -6,7 +6,7 @@ use Rattle.std.proofs.lemmas.List.{drop-drop}
 use Rattle.bl_map.specs.declared.region.Region.{Region}
 use Rattle.bl_mbi.specs.Bodies.{run_of, runs_of}
 
--- what was read, and behind it what is still read
+-- what was read, and after it what is still read
 abbrev pub behind : List Region → Option (List Region) → Option (List Region)
 behind done more = option_map (λ runs. done ++ runs) more
 

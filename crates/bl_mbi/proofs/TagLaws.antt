@@ -35,7 +35,7 @@ zeros_only : (n : ℕ) → list_all (λ b. b == 0) (replicate n 0) ≡ true
 zeros_only zero = refl
 zeros_only (suc n) = zeros_only n
 
--- behind type and size stands the body
+-- after type and size stands the body
 behind_head : (kind : ℕ) (body rest : List ℕ)
     → drop 8 (tag kind body ++ rest) ≡ body ++ (padding (length body) ++ rest)
 behind_head kind body rest =

@@ -25,7 +25,7 @@ use Rattle.bl_mbi.proofs.TagLaws.{tag_again, next_tag}
 use Rattle.bl_mbi.proofs.BodyLaws.{text_again, module_again, memory_again, map_again}
 use Rattle.bl_mbi.proofs.BodyLaws.{load_base_again}
 
--- the bytes that are left from an offset on, and what is left behind a piece of them
+-- the bytes that are left from an offset on, and what is left after a piece of them
 abbrev pub from : ℕ → List ℕ → Left
 from at bytes = record { at = at; bytes = bytes }
 
@@ -181,7 +181,7 @@ no_old at (Some new) base = next_tag 14 15 at new (load_base_tag base ++ tag 0 [
 no_old at None None = next_end 14 at
 no_old at None (Some base) = next_tag 14 21 at (u32_bytes base) (tag 0 []) (lit< tt)
 
--- the tags, one behind the other
+-- the tags, one after the other
 pub in_order : (l0 l1 l2 l3 l4 l5 l6 l7 l8 : Left) (name : List ℕ) (facts : InformationFacts)
     → text_tag_at 1 l0 ≡ Ok (facts.line, l1) → text_tag_at 2 l1 ≡ Ok (name, l2)
     → modules_at l2 ≡ Ok (facts.modules, l3)

@@ -10,7 +10,7 @@ use Rattle.bl_map.specs.Limits.{region_limit}
 use Rattle.bl_mbi.specs.InformationFacts.{ModuleInfo}
 use Rattle.bl_mbi.specs.Fields.{word, long}
 
--- 3.6.5 "Boot command line", 3.6.9 "Boot loader name": a text with its one zero behind it
+-- 3.6.5 "Boot command line", 3.6.9 "Boot loader name": a text with its one zero after it
 unfoldable pub text_of : List ℕ → Option (List ℕ)
 text_of body =
     if length body == 0 then None else
@@ -42,7 +42,7 @@ run_of bytes =
     option_map (λ kind. record { base = long bytes; length = long (drop 8 bytes); kind = kind })
     (kind_of (word (drop 16 bytes)))
 
--- so many entries, one behind the other
+-- so many entries, one after the other
 abbrev pub runs_of : ℕ → List ℕ → Option (List Region)
 runs_of zero bytes = Some []
 runs_of (suc n) bytes =

@@ -7,7 +7,7 @@ use Rattle.bl_mbi.specs.declared.fault.InfoFault.{InfoFault}
 use Rattle.bl_mbi.specs.declared.fault.InfoFault.TheVariants.{BadTag, BadOrder, NoMemory}
 use Rattle.bl_mbi.specs.Size.{padded}
 
--- one step behind the other, up to the first fault
+-- one step after the other, up to the first fault
 infixl 10 ◌>>=◌
 abbrev pub ◌>>=◌ : {A B : Type 0} → Result A InfoFault → (A → Result B InfoFault)
     → Result B InfoFault
@@ -40,7 +40,7 @@ pub record Left : Type 0 where
 abbrev pub is_next : ℕ → Left → Bool
 is_next kind left = nat_le 8 (length left.bytes) && (word left.bytes == kind)
 
--- the body of the tag there, which must be of this type, and what is left behind it: type and size
+-- the body of the tag there, which must be of this type, and what is left after it: type and size
 -- take 8 bytes, the size counts them and the body, zeros follow up to a multiple of 8
 unfoldable pub tag_at : ℕ → Left → Result (List ℕ × Left) InfoFault
 tag_at kind left =

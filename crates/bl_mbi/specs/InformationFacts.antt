@@ -7,7 +7,7 @@ use Rattle.bl_map.specs.Limits.{region_limit}
 use Rattle.bl_map.specs.Kinds.{end_of}
 use Rattle.bl_mbi.specs.Size.{size_of}
 
--- 3.6.6 "Modules": the addresses of its first byte and behind its last one, and its line
+-- 3.6.6 "Modules": the addresses of its first byte and after its last one, and its line
 pub record ModuleInfo : Type 0 where
   pub mod_start : ℕ
   pub mod_end : ℕ

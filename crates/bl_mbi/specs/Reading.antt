@@ -62,7 +62,7 @@ load_base_at left =
       base ← or_bad left.at (load_base_of tag.0)
       Ok (Some base, tag.1)
 
--- the tag that ends the information, with nothing behind it
+-- the tag that ends the information, with nothing after it
 unfoldable pub end_at : Left → Result (Unit {0}) InfoFault
 end_at left = do
   tag ← tag_at 0 left

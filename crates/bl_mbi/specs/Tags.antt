@@ -7,7 +7,7 @@ use Rattle.bl_map.specs.Kinds.{kind_number}
 use Rattle.bl_mem.specs.Words.{u32_bytes, u64_bytes}
 use Rattle.bl_mbi.specs.InformationFacts.{ModuleInfo}
 
--- zeros behind so many bytes, up to the next multiple of 8
+-- zeros after so many bytes, up to the next multiple of 8
 abbrev pub padding : ℕ → List ℕ
 padding n = replicate ((8 - n % 8) % 8) 0
 

@@ -38,7 +38,7 @@ fn has_zero(bytes: &[u8]) -> bool
     bytes.iter().any(|b| *b == 0)
 }
 
-/// A text that has its one zero behind it.
+/// A text that has its one zero after it.
 #[tactic(auto, unfolding(crate::specs::Bodies::text_of))]
 pub(crate) fn text_of(body: &[u8]) -> Option<&[u8]>
     ensures { option_map (λ text. text.now) result ≡ spec.text_of body.now }
@@ -116,7 +116,7 @@ fn run_of(bytes: &[u8]) -> Option<Region>
     Some(Region { base, length, kind })
 }
 
-/// The entries of a memory map, one behind the other.
+/// The entries of a memory map, one after the other.
 fn runs_of<A: Allocator>(alloc: A, at: u64, bytes: &[u8]) -> Result<Vec<Region, A>, InfoFault>
     requires { length bytes.now % 24 ≡ 0 }
     ensures { Gives (λ runs. runs.items) result

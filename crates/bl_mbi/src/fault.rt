@@ -16,7 +16,7 @@ pub enum InfoFault {
     #[error("wrong length")]
     WrongLength,
 
-    /// The word behind `total_size`, which is reserved, is not 0.
+    /// The word after `total_size`, which is reserved, is not 0.
     #[error("bad reserved word")]
     BadReserved,
 
@@ -30,7 +30,7 @@ pub enum InfoFault {
     BadTag(u64),
 
     /// At this offset another tag should begin than does: its type is unknown, out of order or
-    /// repeated, or one that must stand is missing; also where no byte is left for it. Bytes behind
+    /// repeated, or one that must stand is missing; also where no byte is left for it. Bytes after
     /// the end tag are in no order either: the offset is that of the first of them.
     #[error("bad order at {0}")]
     BadOrder(u64),

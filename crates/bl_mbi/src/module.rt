@@ -4,7 +4,7 @@ use std::alloc::Allocator;
 use std::marker::Model;
 
 /// A module that was loaded (Multiboot2 3.6.6 "Modules"): the physical addresses of its first byte
-/// and behind its last one, both in bytes, and its line without a zero at its end. An empty module
+/// and after its last one, both in bytes, and its line without a zero at its end. An empty module
 /// has `mod_end` equal to `mod_start`.
 #[derive(Drop)]
 pub struct Module<A: Allocator> {

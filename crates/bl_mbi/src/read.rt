@@ -21,7 +21,7 @@ fn is_next(kind: u32, rest: Rest) -> bool
     rest.bytes.len() >= 8 && word(rest.bytes) == kind
 }
 
-/// The body of the tag there, which must be of this type, and what is left behind it.
+/// The body of the tag there, which must be of this type, and what is left after it.
 #[tactic(auto, unfolding(crate::specs::Fields::tag_at))]
 fn tag_at<'a>(kind: u32, rest: Rest<'a>) -> Result<(&'a [u8], Rest<'a>), InfoFault>
     ensures read { Gives (λ x. (x.0.now, left_of x.1)) result
@@ -153,7 +153,7 @@ pub(crate) fn load_base_at<'a>(rest: Rest<'a>) -> Result<(Option<u32>, Rest<'a>)
     Ok((Some(load_base), after))
 }
 
-/// The tag that ends the information, with nothing behind it.
+/// The tag that ends the information, with nothing after it.
 #[tactic(auto, unfolding(crate::specs::Reading::end_at))]
 pub(crate) fn end_at(rest: Rest) -> Result<(), InfoFault>
     ensures { Gives (λ _. tt) result (spec.end_at (left_of rest.entry)) }

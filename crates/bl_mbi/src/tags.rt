@@ -16,7 +16,7 @@ use bl_map::Region;
 use bl_mem::{Bytes, put_bytes, put_u32, put_u64};
 use std::alloc::Allocator;
 
-/// Appends zeros behind `len` bytes of a body, up to the next multiple of 8.
+/// Appends zeros after `len` bytes of a body, up to the next multiple of 8.
 fn put_padding<A: Allocator>(out: &mut Vec<u8, A>, len: u64)
     requires { vec_len out.old + (8 - len % 8) % 8 ≤ vec_capacity out.old }
     ensures items { out.new.items ≡ out.old.items ++ padding len }

@@ -15,7 +15,7 @@ use Rattle.bl_mem.proofs.Overwrites.{get_or-overwrite_above, overwrite_more, ran
 use Rattle.bl_mem.proofs.ValueLemmas.{same_values, values_range, values_overwritten}
 
 module _ (chunks : BTreeMap ℕ (List ℕ)) (fill size at : ℕ) where
-  -- a byte behind `at` in the same chunk, of which it is known whether it is kept
+  -- a byte after `at` in the same chunk, of which it is known whether it is kept
   byte_found : (found : Option (List ℕ)) (k : ℕ) → get nat_cmp chunks (at / 65536) ≡ found
       → at % 65536 + k < 65536 → byte_at chunks fill (at + k) ≡ byte_in fill found (at % 65536 + k)
   byte_found found k is h =

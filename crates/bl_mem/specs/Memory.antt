@@ -6,7 +6,7 @@ use Rattle.std.specs.declared.ops.Range.{Range}
 abbrev pub overwrite : List ℕ → ℕ → List ℕ → List ℕ
 overwrite bytes at part = take at bytes ++ part ++ drop (at + length part) bytes
 
--- the address lies in the range, whose end lies behind it
+-- the address is the range's start or after it, and before its end
 abbrev pub IsIn : Range ℕ → ℕ → Type 0
 IsIn range a = (range.start ≤ a) × (a < range.end)
 

@@ -26,7 +26,7 @@ fn reach<A: Allocator>(kept: &mut Vec<u8, A>, plain: u8, place: usize)
     }
 }
 
-/// Writes a part over what is kept from `place` on, and keeps what goes on behind it.
+/// Writes a part over what is kept from `place` on, and keeps what goes on after it.
 fn put_over<A: Allocator>(kept: &mut Vec<u8, A>, place: usize, part: &[u8])
     requires from { place ≤ vec_len kept.old }
     requires room { place + length part.now ≤ vec_capacity kept.old }
@@ -42,7 +42,7 @@ fn put_over<A: Allocator>(kept: &mut Vec<u8, A>, place: usize, part: &[u8])
     }
 }
 
-/// Writes `count` zeros over what is kept from `place` on, and keeps those behind it.
+/// Writes `count` zeros over what is kept from `place` on, and keeps those after it.
 fn zero_over<A: Allocator>(kept: &mut Vec<u8, A>, place: usize, count: usize)
     requires from { place ≤ vec_len kept.old }
     requires room { place + count ≤ vec_capacity kept.old }
@@ -58,7 +58,7 @@ fn zero_over<A: Allocator>(kept: &mut Vec<u8, A>, place: usize, count: usize)
     }
 }
 
-/// Copies what is kept from `place` on, and puts `plain` for each byte behind it.
+/// Copies what is kept from `place` on, and puts `plain` for each byte after it.
 fn copy_or_fill(kept: &[u8], plain: u8, place: usize, out: &mut [u8])
     requires short { length kept.now ≤ 65536 }
     requires inside { place + length out.old ≤ 65536 }
@@ -73,7 +73,7 @@ fn copy_or_fill(kept: &[u8], plain: u8, place: usize, out: &mut [u8])
 
 /// A chunk of memory, seen as its 65536 bytes.
 ///
-/// The bytes up to the last one that was written are kept, and all behind them are `plain`. Room
+/// The bytes up to the last one that was written are kept, and all after them are `plain`. Room
 /// for all is asked for at once, but nothing is written into it until the chunk is.
 #[derive(Drop)]
 pub struct Chunk<A: Allocator> {

@@ -15,7 +15,7 @@ pub record IsEntry (bytes : List ℕ) (at : ℕ) (run : Region) : Type 0 where
   pub size : run.length ≡ u64_at bytes (at + 8)
   pub kind : kind_number run.kind ≡ u32_at bytes (at + 16)
 
--- the entries from an offset on, one behind the other
+-- the entries from an offset on, one after the other
 abbrev pub AreEntries : List ℕ → ℕ → List Region → Type 0
 AreEntries bytes at [] = Unit {0}
 AreEntries bytes at (run ∷ runs) = IsEntry bytes at run × AreEntries bytes (at + 20) runs

@@ -22,7 +22,7 @@ pub const BOOT_FLAG: usize = 0x1FE;
 /// What `boot_flag` is.
 pub const BOOT_FLAG_MAGIC: u16 = 0xAA55;
 
-/// The second byte of `jump`: how far the header reaches behind 0x202.
+/// The second byte of `jump`: how far the header reaches after 0x202.
 pub const JUMP_DISPLACEMENT: usize = 0x201;
 
 /// `header`, a magic number; what `jump` counts from.

@@ -19,7 +19,7 @@ ends_ascend ranges apart = λ i j d order within.
           let f = ap (λ (n : ℕ). (get_or ranges n d).end) e in omega arith
     ]
 
--- where the ranges before n end at the start of the bytes, and those from n on start behind them,
+-- where the ranges before n end at the start of the bytes, and those from n on start after them,
 -- no range meets them
 pub open_where : (ranges : List (Range ℕ)) (n start end : ℕ) → AreApart ranges
     → AllWithin (λ range. range.end ≤ start) ranges 0 n

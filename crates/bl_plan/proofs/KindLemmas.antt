@@ -49,7 +49,7 @@ usable_in_run (run ∷ runs) (suc k) a d are inside h =
     ∙ usable_in_run runs k a d (fewer_runs run runs are) (omega arith) h
 
 -- where the runs of kind usable before k end at `from` or below, an address from there on that has
--- that kind lies in run k or behind it
+-- that kind lies in run k or after it
 usable_from : (runs : List Region) (k from a : ℕ)
     → ((j : ℕ) (e : Region) → j < k → (get_or runs j e).kind ≡ Usable
     → end_of (get_or runs j e) ≤ from)
@@ -129,7 +129,7 @@ usable_more runs k from start end a d are within usable no_gap so_far above belo
       ]
     ]
 
--- no run up to k ends behind run k
+-- no run up to k ends after run k
 pub ends_more : (runs : List Region) (k j : ℕ) (d e : Region) → AreRuns runs → k < length runs
     → j < k + 1 → end_of (get_or runs j e) ≤ end_of (get_or runs k d)
 ends_more runs k j d e are within before =

@@ -13,7 +13,7 @@ use Rattle.bl_plan.specs.declared.fault.PlanFault.TheVariants.{NotUsable, Overla
 abbrev pub AllOpen : List (Range ℕ) → ℕ → ℕ → Type 0
 AllOpen taken start end = (a : ℕ) → start ≤ a → a < end → All (λ range. ¬ IsIn range a) taken
 
--- an address for so many bytes between low and high, beside the ranges that are taken
+-- an address at which so many bytes lie between low and high, all usable, none in a taken range
 pub record IsPermitted (facts : MachineFacts) (taken : List (Range ℕ))
     (length align low high a : ℕ) : Type 0 where
   pub aligned : a % align ≡ 0

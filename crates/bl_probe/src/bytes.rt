@@ -19,7 +19,7 @@ fn push_number(bytes: &mut Vec<u8>, kind: &str, digits: &str) -> Result<(), RowF
     Ok(())
 }
 
-/// Appends numbers of one width, which stand behind its name: `u32:N,N,N`.
+/// Appends numbers of one width, which stand after its name: `u32:N,N,N`.
 fn push_numbers(bytes: &mut Vec<u8>, kind: &str, list: &str) -> Result<(), RowFault> {
     for digits in list.split(',') {
         push_number(bytes, kind, digits)?;

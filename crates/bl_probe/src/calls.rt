@@ -25,7 +25,7 @@ use crate::session::Session;
 use bl_refusing::Refusing;
 use std::alloc::Global;
 
-/// What a call is made with: bytes, which were read from their pieces, or the words behind its
+/// What a call is made with: bytes, which were read from their pieces, or the words after its
 /// name.
 #[derive(Clone, Copy)]
 pub enum Argument<'a> {
@@ -33,7 +33,7 @@ pub enum Argument<'a> {
     Words(&'a str),
 }
 
-/// Whether the words behind this name are bytes, and nothing else.
+/// Whether the words after this name are bytes, and nothing else.
 pub fn takes_bytes(name: &str) -> bool {
     match name {
         "elf" | "header" | "own" => true,

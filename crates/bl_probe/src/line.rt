@@ -11,7 +11,7 @@ pub enum Line<'a> {
     Text { name: &'a str },
     /// `> ..`: the next line of a text, with all its blanks but the first.
     More { line: &'a str },
-    /// `SENTENCE | CALL`, and perhaps an answer behind it.
+    /// `SENTENCE | CALL`, and perhaps an answer after it.
     Row { sentence: &'a str, call: &'a str },
     /// Anything else.
     Bad,

@@ -31,7 +31,7 @@ pub fn byte(digits: &str) -> Result<u8, RowFault> {
     u8::from_str_radix(digits, 16).ok().ok_or(RowFault::BadRow)
 }
 
-/// What stands behind `NAME=`.
+/// What stands after `NAME=`.
 pub fn field<'a>(word: &'a str, name: &str) -> Result<&'a str, RowFault> {
     match word.split_once('=') {
         Some((key, value)) if key == name => Ok(value),
@@ -39,7 +39,7 @@ pub fn field<'a>(word: &'a str, name: &str) -> Result<&'a str, RowFault> {
     }
 }
 
-/// The number that stands behind `NAME=`.
+/// The number that stands after `NAME=`.
 pub fn number_field(word: &str, name: &str) -> Result<u64, RowFault> {
     number(field(word, name)?)
 }

@@ -15,7 +15,7 @@ pub enum Way {
     EachCut,
     /// Over all bytes with one of them set to a value.
     EachSet { value: u8 },
-    /// Over all bytes, where the first of the fields of two bytes is swapped with each field behind
+    /// Over all bytes, where the first of the fields of two bytes is swapped with each field after
     /// it, up to an end.
     EachSwap { fields: Range<u64> },
 }

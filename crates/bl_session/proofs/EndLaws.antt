@@ -1,6 +1,6 @@
 -- Each attempt has exactly one end.
 use Rattle.std.proofs.Common.{◌≡◌, ℕ, List, Option, Some, None, ◌⊎◌, inl, inr, sym, ap, subst, ◌∙◌}
-use Rattle.std.proofs.Common.{refl, option_map, arith, map}
+use Rattle.std.proofs.Common.{refl, option_map, arith, map, length}
 use Rattle.std.proofs.lemmas.Bool.{cases_lt}
 use Rattle.bl_map.specs.MachineFacts.{MachineFacts}
 use Rattle.bl_map.specs.Room.{frames_for, open_frames}

@@ -117,7 +117,7 @@ module _ (facts : BootFacts) (files : List File) where
             (sym (is_event event other p f q)) steps)
         same_state false false e f stays other_stays = other_stays ∙ sym stays
 
-    -- the faults behind it, and that of this attempt if it ended
+    -- the faults after it, and that of this attempt if it ended
     pub taken : (event : EventFacts) (next : World) (items : List Item)
         → IsAnswer files given earlier spots item event → Steps facts here event next.state
         → next.owed ≡ orders_after facts here next.state

@@ -129,7 +129,7 @@ piece_awaited i (has bytes ∷ all) k e =
     let more = piece_awaited (i + 1) all k e in
     (suc more.0, (let q = more.1 in omega arith), more.2)
 
--- the file lies so far behind this place
+-- the file lies so far after this place
 abbrev pub IsAwaitedFrom : (attempt place : ℕ) → List (List Spot) → Ticket → Type 0
 IsAwaitedFrom attempt place files ticket =
     (d : ℕ) × (ticket.file ≡ place + d) × (ticket.attempt ≡ attempt)

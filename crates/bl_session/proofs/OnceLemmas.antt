@@ -8,7 +8,11 @@ use Rattle.std.proofs.lemmas.List.Folds.{list_any-append}
 use Rattle.std.proofs.lemmas.Map.Steps.{length-le_from_distinct_below}
 use Rattle.std.specs.List.{IsDistinct, AllByRecursion}
 use Rattle.std.specs.Prelude.{eqb}
-use Rattle.bl_session.specs.Attempts.{once_after, attempts_of}
+use Rattle.bl_session.specs.Attempts.{once_by, attempts_of}
+
+-- each index that is not among the earlier ones, once
+abbrev once : List ℕ → List ℕ → List ℕ
+once earlier xs = once_by (λ i j. i == j) earlier xs
 
 -- ---- each is one that was named
 
@@ -23,12 +27,12 @@ all_if count x true rest kept h hr hk = hr
 all_if count x false rest kept h hr hk = all_cons count x kept h hk
 
 all_once_after : (count : ℕ) (earlier xs : List ℕ) → All (λ y. y < count) xs
-    → All (λ y. y < count) (once_after earlier xs)
+    → All (λ y. y < count) (once earlier xs)
 all_once_after count earlier [] h = h
 all_once_after count earlier (x ∷ xs) h =
     let rest : All (λ y. y < count) xs = λ k d l. h (suc k) d (omega arith) in
-    all_if count x (list_any (λ i. i == x) earlier) (once_after earlier xs)
-    (once_after (earlier ++ x ∷ []) xs) (h 0 0 (omega arith))
+    all_if count x (list_any (λ i. i == x) earlier) (once earlier xs)
+    (once (earlier ++ x ∷ []) xs) (h 0 0 (omega arith))
     (all_once_after count earlier xs rest) (all_once_after count (earlier ++ x ∷ []) xs rest)
 
 pub all_attempts : (count default : ℕ) (fallbacks : List ℕ) → default < count
@@ -70,11 +74,11 @@ new_if : (earlier : List ℕ) (x : ℕ) (b : Bool) (rest kept : List ℕ)
 new_if earlier x true rest kept e hr hk = hr
 new_if earlier x false rest kept e hr hk = (e, less earlier x kept hk)
 
-new_once : (earlier xs : List ℕ) → AllByRecursion (IsNew earlier) (once_after earlier xs)
+new_once : (earlier xs : List ℕ) → AllByRecursion (IsNew earlier) (once earlier xs)
 new_once earlier [] = tt
 new_once earlier (x ∷ xs) =
-    new_if earlier x (list_any (λ i. i == x) earlier) (once_after earlier xs)
-    (once_after (earlier ++ x ∷ []) xs) refl (new_once earlier xs)
+    new_if earlier x (list_any (λ i. i == x) earlier) (once earlier xs)
+    (once (earlier ++ x ∷ []) xs) refl (new_once earlier xs)
     (new_once (earlier ++ x ∷ []) xs)
 
 distinct_if : (earlier : List ℕ) (x : ℕ) (b : Bool) (rest kept : List ℕ) → IsDistinct eqb rest
@@ -84,12 +88,12 @@ unfolding IsDistinct
 distinct_if earlier x true rest kept hr hk new = hr
 distinct_if earlier x false rest kept hr hk new = (apart earlier x kept new, hk)
 
-distinct_once : (earlier xs : List ℕ) → IsDistinct eqb (once_after earlier xs)
+distinct_once : (earlier xs : List ℕ) → IsDistinct eqb (once earlier xs)
 unfolding IsDistinct
 distinct_once earlier [] = tt
 distinct_once earlier (x ∷ xs) =
-    distinct_if earlier x (list_any (λ i. i == x) earlier) (once_after earlier xs)
-    (once_after (earlier ++ x ∷ []) xs) (distinct_once earlier xs)
+    distinct_if earlier x (list_any (λ i. i == x) earlier) (once earlier xs)
+    (once (earlier ++ x ∷ []) xs) (distinct_once earlier xs)
     (distinct_once (earlier ++ x ∷ []) xs) (new_once (earlier ++ x ∷ []) xs)
 
 among_if : (count q x : ℕ) (xs : List ℕ) (b : Bool) → eqb q x ≡ b → x < count
@@ -118,13 +122,13 @@ few_attempts count default fallbacks h hs =
 
 more_if : (b : Bool) (earlier xs : List ℕ) (x : ℕ)
     → (if b then earlier else earlier ++ x ∷ [])
-    ++ once_after (if b then earlier else earlier ++ x ∷ []) xs
-    ≡ earlier ++ (if b then once_after earlier xs else x ∷ once_after (earlier ++ x ∷ []) xs)
+    ++ once (if b then earlier else earlier ++ x ∷ []) xs
+    ≡ earlier ++ (if b then once earlier xs else x ∷ once (earlier ++ x ∷ []) xs)
 more_if true earlier xs x = refl
-more_if false earlier xs x = append_assoc earlier (x ∷ []) (once_after (earlier ++ x ∷ []) xs)
+more_if false earlier xs x = append_assoc earlier (x ∷ []) (once (earlier ++ x ∷ []) xs)
 
 pub once_more : (earlier rest xs : List ℕ) (x : ℕ) → rest ≡ x ∷ xs
     → (if list_any (λ i. i == x) earlier then earlier else earlier ++ x ∷ [])
-    ++ once_after (if list_any (λ i. i == x) earlier then earlier else earlier ++ x ∷ []) xs
-    ≡ earlier ++ once_after earlier rest
+    ++ once (if list_any (λ i. i == x) earlier then earlier else earlier ++ x ∷ []) xs
+    ≡ earlier ++ once earlier rest
 once_more earlier rest xs x e = rw e (more_if (list_any (λ i. i == x) earlier) earlier xs x)

@@ -94,7 +94,7 @@ untouched_files attempt place (index ∷ indices) (spots ∷ files) t differs =
     (λ piece l (a, f, p). differs (a, omega arith)))
     (untouched_files attempt (place + 1) indices files t (λ (a, l). differs (a, omega arith)))
 
--- a piece of the file that stands at this place behind the first one
+-- a piece of the file that stands at this place after the first one
 pub once_files : (attempt place : ℕ) (indices : List ℕ) (files : List (List Spot)) (i : ℕ)
     (t : Ticket) → t.attempt ≡ attempt → t.file ≡ place + i → i < length indices → i < length files
     → t.piece < length (get_or files i [])

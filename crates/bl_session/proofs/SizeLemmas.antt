@@ -9,7 +9,7 @@ use Rattle.bl_stage.specs.Staged.{Staging}
 use Rattle.bl_session.specs.Ends.{file_limit, file_refusal, lengths_of}
 use Rattle.bl_session.specs.PhasesKept.{HasSmallFiles}
 
--- the first is small, and none behind it is refused
+-- the first is small, and none after it is refused
 first_small : (place size : ℕ) (sizes : List (Option ℕ)) (long : Bool)
     → nat_lt file_limit size ≡ long
     → (if long then Some (FileTooLong place) else file_refusal (place + 1) sizes) ≡ None

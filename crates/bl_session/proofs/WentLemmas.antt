@@ -17,7 +17,7 @@ use Rattle.bl_session.specs.Boot.{EntryEndsIn, GoesOn, Continues, BeginsUnless, 
 use Rattle.bl_session.specs.Boot.{Takes, Steps}
 
 -- the boot has ended; or an attempt has just begun, with at least this many refusals before it and
--- fewer than so many attempts behind it
+-- fewer than so many attempts after it
 abbrev pub IsNewFrom : BootFacts → (count number : ℕ) → State → Type 0
 IsNewFrom facts count number unstarted = ⊥
 IsNewFrom facts count number (running entry rest earlier files) =
@@ -36,7 +36,7 @@ new_later facts count more low high (handed_over entry earlier handover) c h is 
 new_later facts count more low high (none_left earlier) c h is = tt
 new_later facts count more low high out_of_memory c h is = tt
 
--- an attempt that ended, if each one behind it is new
+-- an attempt that ended, if each one after it is new
 pub new_goes : (facts : BootFacts) (rest : List ℕ) (entry : ℕ) (earlier : List RefusedEntry)
     (end : End) (new : State)
     → ((r : List RefusedEntry) (s : State) → Begins facts rest r s

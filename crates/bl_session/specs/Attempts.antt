@@ -1,5 +1,5 @@
 -- The attempts of a menu, and what refuses a menu. Own.
-use Rattle.std.specs.Prelude.{ℕ, ◌+◌, ◌<◌, ◌≤◌, ◌==◌, max, List, [], ◌∷◌, ◌++◌, length, All}
+use Rattle.std.specs.Prelude.{ℕ, ◌+◌, ◌<◌, ◌≤◌, ◌==◌, Bool, max, List, [], ◌∷◌, ◌++◌, length, All}
 use Rattle.std.specs.Prelude.{if◌then◌else◌}
 use Rattle.std.specs.List.{list_any}
 use Rattle.bl_plan.specs.Limits.{most_entries}
@@ -9,17 +9,17 @@ use Rattle.bl_session.specs.Menu.{EntryFacts}
 use Rattle.bl_session.specs.declared.menu.fault.MenuFault.{MenuFault}
 use Rattle.bl_session.specs.declared.menu.fault.MenuFault.TheVariants.{BadIndex, TooMany, NoMemory}
 
--- of these indices each one that is not among the earlier ones, once
-abbrev pub once_after : List ℕ → List ℕ → List ℕ
-once_after earlier [] = []
-once_after earlier (index ∷ indices) =
-    if list_any (λ i. i == index) earlier
-    then once_after earlier indices
-    else index ∷ once_after (earlier ++ index ∷ []) indices
+-- of these each one that is not among the earlier ones, once, where two are the same by this test
+abbrev pub once_by : {X : Type 0} → (X → X → Bool) → List X → List X → List X
+once_by same earlier [] = []
+once_by same earlier (x ∷ xs) =
+    if list_any (λ y. same y x) earlier
+    then once_by same earlier xs
+    else x ∷ once_by same (earlier ++ x ∷ []) xs
 
 -- the default, then the fallbacks; one that was named before is left out
 abbrev pub attempts_of : ℕ → List ℕ → List ℕ
-attempts_of default fallbacks = once_after [] (default ∷ fallbacks)
+attempts_of default fallbacks = once_by (λ i j. i == j) [] (default ∷ fallbacks)
 
 -- few entries, with few modules each
 abbrev pub IsSmall : {A : Type 0} → List (Entry A) → Type 0

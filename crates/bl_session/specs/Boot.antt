@@ -26,7 +26,8 @@ pub data EventFacts : Type 0 where
   piece : Ticket → (bytes : List ℕ) → EventFacts
   fault : Ticket → EventFacts
 
--- where a boot stands: the attempt that runs has as number how many entries were refused earlier
+-- where a boot stands. While an attempt runs: its entry, the entries that are left, the refusals so
+-- far (how many they are is the attempt's number), and what came of each of its files
 pub data State : Type 0 where
   unstarted : State
   running :
@@ -53,11 +54,12 @@ EntryEndsIn facts entry texts = EndsIn facts.machine (value_with (entry_at facts
 
 -- ---- attempts, one after the other
 
--- what comes behind an attempt: with these refusals, this state
+-- the rest of a boot: with these refusals so far, it leads to this state
 abbrev pub Sequel : Type 1
 Sequel = List RefusedEntry → State → Type 0
 
--- the attempt of an entry ended so: it is handed over, or the boot goes on with one more refusal
+-- the attempt of an entry ended so: a handover ends the boot; a refusal is added to those so far,
+-- and the rest of the boot follows
 abbrev pub GoesOn : Sequel → ℕ → List RefusedEntry → End → State → Type 0
 GoesOn next entry earlier (handed handover) state = state ≡ handed_over entry earlier handover
 GoesOn next entry earlier (refused refusal) state =

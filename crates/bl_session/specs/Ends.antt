@@ -49,7 +49,8 @@ part_range part = record { start = part.address; end = end_of part }
 
 -- beside the parts the pool has frames enough for the files, each file in frames of its own
 abbrev pub HasRoomBeside : MachineFacts → EntryValue → Handover → Type 0
-HasRoomBeside facts value handover = HasRoomFor facts.pool (map part_range handover.parts) value.files
+HasRoomBeside facts value handover =
+    HasRoomFor facts.pool (map part_range handover.parts) value.files
 
 -- the entry could be handed over, but there is no room beside its parts
 pub record LacksRoom (facts : MachineFacts) (value : EntryValue) : Type 0 where
@@ -65,7 +66,7 @@ EndsIn facts value (refused refusal) =
 
 -- ---- a whole attempt
 
--- a check that refuses, or what comes behind it
+-- if the check refuses, that is the end; else the rest tells it
 abbrev pub Else : Option Refusal → (End → Type 0) → End → Type 0
 Else None rest end = rest end
 Else (Some refusal) rest end = end ≡ refused refusal

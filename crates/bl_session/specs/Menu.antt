@@ -4,7 +4,7 @@ use Rattle.bl_load.specs.declared.entry.Entry.{Entry}
 use Rattle.bl_load.specs.declared.entry.Entry.TheVariants.{Multiboot2, Linux}
 use Rattle.bl_load.specs.Value.{EntryValue, value_of, multiboot2_value}
 
--- an entry: its files by their index, the kernel's first, and its value, but for what these hold
+-- an entry: the indices of its files, the kernel's first, and its value with no files yet
 pub record EntryFacts : Type 0 where
   pub files : List ℕ
   pub blank : EntryValue
@@ -25,7 +25,7 @@ pub record MenuFacts : Type 0 where
   pub entries : List EntryFacts
   pub attempts : List ℕ
 
--- what is read behind the last entry
+-- what is read after the last entry
 abbrev pub no_entry : EntryFacts
 no_entry = record { files = []; blank = multiboot2_value [] [] [] }
 

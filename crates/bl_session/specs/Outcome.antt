@@ -13,7 +13,7 @@ use Rattle.bl_session.specs.Boot.{is_wanted, Steps}
 
 -- ---- the files of a menu
 
--- a file is missing, has more than the most bytes, by one and so many, or has these bytes
+-- a file is missing, or too long (it has file_limit + 1 + over bytes), or has these bytes
 pub data File : Type 0 where
   missing : File
   too_long : (over : ℕ) → File
@@ -77,8 +77,8 @@ IsGenuine facts files faults state (event ∷ events) =
 
 -- ---- the outcome
 
--- the file of which a fault comes, if the files have pieces; those without pieces are whole as the
--- attempt begins
+-- the file of which a fault comes. If the files have no byte there is no piece, so that no fault
+-- can come: they are whole as the attempt begins
 abbrev pub faulty_in : BootFacts → ℕ → Option ℕ → Option ℕ
 faulty_in facts entry faulty = if are_whole (fresh facts entry) then None else faulty
 

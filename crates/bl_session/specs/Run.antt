@@ -61,7 +61,7 @@ Hears facts files given state [] item new =
     × StepsOrFails facts state event new.state
     × (new.owed ≡ orders_after facts state new.state)
 
--- these items, after this history, lead from a world to a state; memory may run out behind the last
+-- these items, after this history, lead from a world to a state; memory may run out after the last
 abbrev pub Reads : BootFacts → List File → List Item → World → List Item → State → Type 0
 Reads facts files given old [] new = (new ≡ old.state) ⊎ (new ≡ out_of_memory)
 Reads facts files given old (item ∷ items) new =

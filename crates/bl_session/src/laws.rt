@@ -62,7 +62,7 @@ pub fn first_entry_not_refused()
 /// Two boots on machines of equal facts that hand over entries of equal values hand over the same.
 /// Everything else may differ: memory, the order of pieces, the menus with their other entries, the
 /// files' indices, and what was refused before.
-pub fn two_boots()
+pub fn two_outcomes()
     ensures handover { (facts : BootFacts) (files : List File) (faults : ℕ → Option ℕ)
         (entry : ℕ) (earlier : List RefusedEntry) (h : Handover)
         → IsOutcome facts files faults (handed_over entry earlier h)

@@ -49,7 +49,7 @@ impl<A: Allocator> Queue<A> {
         self.requests.len() - self.taken
     }
 
-    /// One more, behind the others.
+    /// One more, after the others.
     pub(crate) fn push(&mut self, request: Request) -> Result<(), AllocError>
         ensures ok { OnOk result (self.new ≡ self.old ++ request ∷ []) }
         ensures err { OnErr result (self.new ≡ self.old) }

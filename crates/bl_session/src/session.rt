@@ -88,7 +88,7 @@ fn progress_of<A: Allocator>(
 
 impl<'a, A: Allocator + Copy> Session<'a, A> {
     /// A boot of this menu on this machine, not started. `sizes` has the length of each file of the
-    /// menu, by its index; `None` is a missing file, and so is one behind the end.
+    /// menu, by its index; `None` is a missing file, and so is one after the end.
     pub fn new(
         alloc: A,
         machine: &'a Machine<A>,

@@ -15,7 +15,7 @@ abbrev pub staged : List ℕ → List ℕ → ℕ → List ℕ
 staged bytes frames size = map (λ i. slice_index bytes (place_of frames i)) (range_with_len 0 size)
 
 -- a stage: the pool's addresses, the files' sizes in bytes, the frames of all files, one file's
--- behind the other's, and for each of these frames whether its piece came
+-- after the other's, and for each of these frames whether its piece came
 pub record Staging : Type 0 where
   pub pool : Range ℕ
   pub sizes : List ℕ

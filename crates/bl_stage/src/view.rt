@@ -17,7 +17,7 @@ pub struct FrameView<'a, M: PhysMem> {
     ghost enough: { size ≤ 4096 * length frames.now },
 }
 
-/// Whether the frame at `end` of the list lies as far behind the one at `first` as in the list.
+/// Whether the frame at `end` of the list lies as far after the one at `first` as in the list.
 fn is_side(frames: &[u64], first: usize, end: usize) -> bool
     requires first { first ≤ end }
     requires end { end < length frames.now }

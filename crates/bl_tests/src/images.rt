@@ -39,7 +39,7 @@ const FRONT: [u8; 152] = [
     1, 0, 0, 0, 1, 0, 0, 0, 16, 0, 0, 0, 0, 0, 0, 0, 5, 0, 1, 0, 0, 0, 0, 0,
 ];
 
-// The byte of the image at `i`: behind the front the five bytes from 90 on, then 0 to 250 over and
+// The byte of the image at `i`: after the front the five bytes from 90 on, then 0 to 250 over and
 // over.
 fn wanted(i: usize) -> u8 {
     match i {

@@ -56,7 +56,7 @@ row_held facts role index taken (row ∷ rows) (p ∷ places) placed held =
           h in rw here later)
     ] refl held
 
--- a row behind others
+-- a row after others
 pub behind : (role : Role) (index : ℕ) (first rows : List Row)
     → list_any (is_row role index) rows ≡ true → list_any (is_row role index) (first ++ rows) ≡ true
 behind role index first rows held =

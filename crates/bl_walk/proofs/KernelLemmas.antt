@@ -135,7 +135,7 @@ kernel_places first others of_kernel other =
     ∙ among_others (in_order first) others other
     ∙ all_of_kernel (in_order first) (in_order_all place_key IsOfKernel first of_kernel)
 
--- places of rows and of the rows behind them
+-- places of rows and of the rows after them
 pub record AreSplit (facts : MachineFacts) (taken : List (Range ℕ)) (first rest : List Row)
     (places : List Place) : Type 0 where
   pub places_first : List Place

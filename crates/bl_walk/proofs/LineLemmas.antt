@@ -1,4 +1,4 @@
--- The line of a Linux kernel in its part: its text, and zeros behind it.
+-- The line of a Linux kernel in its part: its text, and zeros after it.
 use Rattle.std.proofs.Common.{◌≡◌, ◌+◌, ◌-◌, ◌<◌, ◌≤◌, ℕ, suc, Bool, true, false, List, ◌∷◌, ◌++◌}
 use Rattle.std.proofs.Common.{length, drop, get_or, replicate, Some, nat_lt, refl, sym, ap, ap₂}
 use Rattle.std.proofs.Common.{◌∙◌, arith, subst, All, AllPairs, length-append}
@@ -85,7 +85,7 @@ module _ (places : List Place) (content : Role → ℕ → List ℕ)
 
 -- ---- the text
 
--- the first zero stands behind it
+-- the first zero stands after it
 zero_behind : (line rest : List ℕ) → IsText line
     → position_or_len (λ b. b == 0) (line ++ 0 ∷ rest) ≡ length line
 zero_behind line rest text =

@@ -111,7 +111,7 @@ module _ (facts : MachineFacts) (value : EntryValue) (setup : Setup) (places : L
     low = machine.runs.low;
   }
 
-  -- each row behind the kernel's has a place
+  -- each row after the kernel's has a place
   pub placed_row : (role : Role)
       → list_any (is_row role 0) (params_rows setup (initrd facts value setup places)) ≡ true
       → list_any (is_of role 0) places ≡ true

@@ -102,7 +102,7 @@ front bytes rest a b n same fits =
 
 -- ---- parts at places
 
--- the part at a place: its content, and zeros behind it
+-- the part at a place: its content, and zeros after it
 abbrev pub part_of : (Role → ℕ → List ℕ) → Place → Part
 part_of content place = part_at place (filled place.length (content place.role place.index))
 

@@ -42,7 +42,7 @@ text_by (c ∷ text) is =
 pub name_is : IsText (codes "bootcore")
 name_is = text_by (codes "bootcore") refl
 
--- no row behind the kernel's is one of the kernel
+-- no row after the kernel's is one of the kernel
 module_rows_other : (files : List (List ℕ)) (k : ℕ) (module_lines : List (List ℕ))
     → All (Anywhere IsOther) (module_rows files k module_lines)
 module_rows_other files k [] = All-nil (Anywhere IsOther)

@@ -14,7 +14,7 @@ use bl_mbi::{Info, read_info};
 use bl_mem::{SliceView, u32_at};
 use std::alloc::Allocator;
 
-/// How many bytes total_size and the reserved word behind it take (Multiboot2 3.6 "Boot information
+/// How many bytes total_size and the reserved word after it take (Multiboot2 3.6 "Boot information
 /// format").
 const FIXED_PART: u32 = 8;
 

@@ -21,7 +21,7 @@ pub fn low_of(segments: &[Segment]) -> u64
     }
 }
 
-/// The address behind the last byte of segments, which may lie above 2^64.
+/// The address after the last byte of segments, which may lie above 2^64.
 fn high_of(segments: &[Segment]) -> u128
     ensures value { result ≡ blocks.high_of segments.now }
     ensures small { result < 2 ^ 65 }

@@ -1,7 +1,7 @@
 //! `machine size=SIZE pool=START..END region=BASE+LENGTH:KIND ..`: the machine that later rows
 //! are about.
 //!
-//! A region may stand there several times: `BASE+LENGTH:KIND*COUNT`, or each a step behind the
+//! A region may stand there several times: `BASE+LENGTH:KIND*COUNT`, or each a step after the
 //! last: `..*COUNT/STEP`.
 
 use crate::fault::RowFault;
@@ -72,7 +72,7 @@ pub fn region(word: &str) -> Result<Region, RowFault> {
     })
 }
 
-/// How often a region stands there, and how far each lies behind the one before: `COUNT`, or
+/// How often a region stands there, and how far each lies after the one before: `COUNT`, or
 /// `COUNT/STEP`.
 fn repeats(text: &str) -> Result<(u64, u64), RowFault> {
     match text.split_once('/') {
@@ -81,7 +81,7 @@ fn repeats(text: &str) -> Result<(u64, u64), RowFault> {
     }
 }
 
-/// Appends a region, or as many as stand behind a `*`.
+/// Appends a region, or as many as stand after a `*`.
 fn push_regions(regions: &mut Vec<Region>, word: &str) -> Result<(), RowFault> {
     let Some((word, text)) = word.split_once('*') else {
         regions.push(region(word)?)?;

@@ -1,4 +1,4 @@
-//! `spell N BYTES`: the bytes that the writers append and fill for a number, and behind them
+//! `spell N BYTES`: the bytes that the writers append and fill for a number, and after them
 //! those of BYTES.
 
 use crate::bytes::bytes_of;

@@ -31,7 +31,7 @@ use bl_refusing::Refusing;
 pub use laws::call_laws;
 use std::alloc::Global;
 
-/// Whether the words behind this name are bytes, and nothing else.
+/// Whether the words after this name are bytes, and nothing else.
 pub fn takes_bytes(name: &str) -> bool {
     match name {
         "describe" | "read_info" | "read_image" | "image_fault" | "walk" => true,

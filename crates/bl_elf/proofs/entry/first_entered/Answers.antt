@@ -1,4 +1,4 @@
--- A program header that holds the entry is the first, and one that does not leaves those behind it.
+-- A program header that holds the entry is the first, and one that does not leaves those after it.
 use Rattle.std.proofs.Common.{◌≡◌, length, true, false, None, sym, ◌∙◌}
 use Rattle.bl_elf.specs.Program.{is_entered, program_header, program_fault}
 use Rattle.bl_elf.specs.Elf.{IsIndex}

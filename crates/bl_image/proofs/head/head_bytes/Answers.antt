@@ -4,7 +4,7 @@ use Rattle.bl_image.specs.declared.head.TheConstants.{VERSION}
 use Rattle.bl_image.specs.Image.{register_numbers}
 use Rattle.bl_image.proofs.head.head_bytes.Goals as goal
 
--- the registers are the words behind the version and the protocol
+-- the registers are the words after the version and the protocol
 pub returns-clause-fit : goal.returns-clause-fit
 returns-clause-fit c =
     let fits : ℕ → Type 0 = λ n. n < 2 ^ 32 in

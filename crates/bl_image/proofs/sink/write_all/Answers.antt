@@ -4,7 +4,7 @@ use Rattle.std.proofs.lemmas.List.{places, same_lists}
 use Rattle.bl_image.proofs.Ways.{way_as, way_goes_on}
 use Rattle.bl_image.proofs.sink.write_all.Goals as goal
 
--- what is left behind the bytes that were taken
+-- what is left after the bytes that were taken
 within-more : (bytes : List ℕ) (done n : ℕ) → done ≤ length bytes
     → n ≤ length (take (length bytes - done) (drop done bytes)) → done + n ≤ length bytes
 within-more bytes done n h w =

@@ -14,7 +14,7 @@ use bl_image::Source;
 use bl_refusing::Refusing;
 use std::alloc::Global;
 
-/// What is said of an image behind what was said before, and what is blamed.
+/// What is said of an image after what was said before, and what is blamed.
 fn walked_text(
     alloc: Global,
     heap: &Refusing,

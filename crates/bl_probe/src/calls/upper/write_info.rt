@@ -1,4 +1,4 @@
-//! `write_info line=BYTES FIELD .. of BYTES`: boot information behind bytes that stand there
+//! `write_info line=BYTES FIELD .. of BYTES`: boot information after bytes that stand there
 //! already, on a machine of 636 and 3072 KiB with three runs.
 //!
 //! A FIELD is `module=START..END:BYTES` (at most two), `old=BYTES`, `new=BYTES` or `base=ADDRESS`.
@@ -18,7 +18,7 @@ use std::alloc::{AllocError, Global};
 mod facts;
 mod row;
 
-/// Writes the information over the heap, behind bytes that stand there.
+/// Writes the information over the heap, after bytes that stand there.
 fn written(
     alloc: Global,
     heap: &Refusing,
@@ -38,7 +38,7 @@ fn written(
     Ok(format!(in alloc; "{said}, {bytes}")?)
 }
 
-/// Writes the facts of the words behind the bytes.
+/// Writes the facts of the words after the bytes.
 pub fn answer(
     alloc: Global,
     heap: &Refusing,

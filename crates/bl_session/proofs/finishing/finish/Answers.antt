@@ -46,8 +46,8 @@ reserve-requires-clause-forward g c = rw c.ranges-3.ensures
 
 pub reserve-requires-clause-inside : goal.reserve-requires-clause-inside
 reserve-requires-clause-inside g c = rw c.ranges-3.ensures
-    (All-map (λ (r : Range ℕ). r.end ≤ length (g.M.PhysMem.bytes c.evacuate_ranges.new.memory)) range_of
-    (places_of c.in_ok-plan.plan)
+    (All-map (λ (r : Range ℕ). r.end ≤ length (g.M.PhysMem.bytes c.evacuate_ranges.new.memory))
+    range_of (places_of c.in_ok-plan.plan)
     (λ k d h. let i = c.in_ok-plan.ensures.loadable.inside k d h in
     omega (arith, i, c.requires.size, c.evacuate_ranges.ensures.size)))
 
@@ -58,7 +58,8 @@ pub hand_over-requires-clause-room : goal.hand_over-requires-clause-room
 hand_over-requires-clause-room g c = rw (← c.ranges-3.ensures) c.in_ok-reserve.ensures.made
 
 pub hand_over-requires-clause-beside : goal.hand_over-requires-clause-beside
-hand_over-requires-clause-beside g c = rw (← c.ranges-2.ensures) c.in_ok-evacuate_ranges.ensures.beside
+hand_over-requires-clause-beside g c =
+    rw (← c.ranges-2.ensures) c.in_ok-evacuate_ranges.ensures.beside
 
 pub hand_over-requires-clause-inside : goal.hand_over-requires-clause-inside
 hand_over-requires-clause-inside g c = λ some.
@@ -77,7 +78,8 @@ returns-clause-ok g c =
     let read : texts_of (g.M.PhysMem.bytes c.reserve.new.self) c.evacuate_ranges.new.stage ≡ texts =
     ap (λ m. texts_of m c.evacuate_ranges.new.stage) c.reserve.ensures.same
     ∙ c.in_ok-evacuate_ranges.ensures.texts in
-    let outside = rw (c.requires.pool, ← c.reserve.ensures.same) at c.evacuate_ranges.ensures.outside in
+    let outside =
+    rw (c.requires.pool, ← c.reserve.ensures.same) at c.evacuate_ranges.ensures.outside in
     let after = rw read at c.hand_over.ensures.after in
     let size = ap (λ (m : List ℕ). length m) c.reserve.ensures.same in
     record {

@@ -10,7 +10,7 @@ use bl_plan::Protocol;
 use bl_refusing::Refusing;
 use std::alloc::{AllocError, Global};
 
-/// A file of an entry behind its kernel, with its line. That of an initial ramdisk is not used.
+/// A file of an entry after its kernel, with its line. That of an initial ramdisk is not used.
 #[derive(Drop)]
 pub struct ModuleField {
     file: u32,
@@ -74,7 +74,7 @@ pub fn read_entry(alloc: Global, names: &Names, text: &str) -> Result<EntryField
 }
 
 impl EntryField {
-    /// Adds a module without a line so often, of the file behind the kernel's.
+    /// Adds a module without a line so often, of the file after the kernel's.
     pub fn add_modules(&mut self, alloc: Global, count: u64) -> Result<(), AllocError> {
         let file = self.kernel.wrapping_add(1);
         for _ in 0..count {

@@ -1,5 +1,5 @@
 use Rattle.bl_session.proofs.OutcomeLaws.{is_handover, same_handover}
-use Rattle.bl_session.proofs.laws.two_boots.Goals as goal
+use Rattle.bl_session.proofs.laws.two_outcomes.Goals as goal
 
 pub returns-clause-handover : goal.returns-clause-handover
 returns-clause-handover c = is_handover
