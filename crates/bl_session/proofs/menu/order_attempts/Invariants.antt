@@ -1,4 +1,4 @@
-use Rattle.std.proofs.Common.{◌≡◌, ◌++◌, drop}
+use Rattle.std.proofs.Common.{◌≡◌, ◌++◌, ◌==◌, drop}
 use Rattle.bl_session.specs.Attempts.{attempts_of, once_by}
 use Rattle.bl_session.proofs.menu.order_attempts.Given as goal
 
