@@ -8,8 +8,9 @@ use Rattle.bl_image.specs.Image.{spelling}
 use Rattle.bl_session.specs.declared.words.RefusedEntry.{RefusedEntry}
 use Rattle.bl_session.specs.declared.fetched.Fetched.{Fetched}
 use Rattle.bl_session.specs.Boot.{BootFacts, State, handed_over, none_left}
-use Rattle.bl_session.specs.Outcome.{File, IsOutcome, no_fault, size_of}
+use Rattle.bl_session.specs.Outcome.{File, IsOutcome, no_fault, size_of, value_in}
 use Rattle.bl_session.specs.Phases.{boot_facts}
+use Rattle.bl_walk.specs.Shown.{HasByteLines}
 use Rattle.bl_desc.specs.declared.desc.Description.{Description}
 use Rattle.bl_desc.specs.Described.{Described, described, file_named}
 use Rattle.bl_desc.specs.Views.{view}
@@ -20,7 +21,7 @@ use Rattle.bl_boot.specs.declared.booting.fault.EndFault.TheVariants.{BadDescrip
 use Rattle.bl_boot.specs.declared.booting.fault.EndFault.TheVariants.{NoMemory}
 use Rattle.bl_session.specs.Stores.{file_of, stored_files}
 use Rattle.bl_boot.specs.Found.{AreFound}
-use Rattle.bl_boot.specs.Attempted.{entry_of, names_in, menu_of}
+use Rattle.bl_boot.specs.Attempted.{entry_of, names_in, menu_of, boot_of}
 use Rattle.bl_boot.specs.Ends.{IsMachineOf, BootCase, ComesTo, HasInlineFiles, names_sought}
 use Rattle.bl_boot.specs.Ends.{Surroundings}
 use Rattle.bl_boot.specs.Kept.{IsHandFault, HasFaults, FoundEnds, BootEnds}
@@ -60,13 +61,15 @@ module _ {A : Type 0} (desc : List ℕ) (d : Description A) (is : described desc
     pub sought : names_sought (described desc) ≡ names_in (view d)
     sought = rw is refl
 
-    -- its machine has these facts, and these files were found
+    -- its machine has these facts, these files were found, and lines are bytes
     module _ {F : Type 0} (answers : F → List ℕ → File → Type 0) (faults : F → ℕ)
         (facts : MachineFacts)
         (machine : IsMachineOf (view d) facts) (before after : F) {B : Type 0}
         (files : List (Fetched B))
         (found : AreFound answers faults (view d).files (names_in (view d)) before after
-        (map file_of files)) where
+        (map file_of files))
+        (lines : (entry : ℕ) → HasByteLines
+        (value_in (boot_of (view d) facts (map file_of files)) (map file_of files) entry)) where
       abbrev this_case : BootCase answers faults desc before after
       this_case = record {
         description = view d;
@@ -87,12 +90,14 @@ module _ {A : Type 0} (desc : List ℕ) (d : Description A) (is : described desc
           (boot_facts facts (menu_of (view d)) (map size_of (stored_files files)))
           (stored_files files) s t u v ended
           → BootEnds answers faults desc (around before s u) (around after t v) ended
-      ends_by s t u v (Ok Booted) (entry, earlier, handover, came, image, said) = record {
+      ends_by s t u v (Ok Booted) (entry, earlier, handover, came, kept, image, said) = record {
         case = this_case;
         entry = entry;
         earlier = earlier;
         handover = handover;
         outcome = came;
+        lines = lines entry;
+        kept = kept;
         image = image;
         said = said;
       }

@@ -2,5 +2,10 @@ pub mod HexLemmas
 pub mod FileLemmas
 pub mod NameLemmas
 pub mod MenuLemmas
+pub mod ValueLemmas
 pub mod EndLemmas
 pub mod EndLaws
+pub mod RunLemmas
+pub mod ReadLemmas
+pub mod ModuleLemmas
+pub mod ShownLaws

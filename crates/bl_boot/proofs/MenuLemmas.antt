@@ -1,9 +1,8 @@
 -- The menu of a description.
-use Rattle.std.proofs.Common.{◌≡◌, ◌∙◌, ◌+◌, ◌<◌, ℕ, zero, suc, List, [], ◌∷◌, ◌++◌, All, get_or}
-use Rattle.std.proofs.Common.{length, map, take, ap, sym, refl, arith}
+use Rattle.std.proofs.Common.{◌≡◌, ◌∙◌, ◌+◌, ◌<◌, ℕ, List, [], ◌∷◌, ◌++◌, get_or, length, map, take}
+use Rattle.std.proofs.Common.{ap, sym, refl}
 use Rattle.std.proofs.lemmas.List.{map-append, take_more}
 use Rattle.bl_load.specs.declared.entry.Entry.{Entry}
-use Rattle.bl_load.specs.Value.{HasFewModules}
 use Rattle.bl_session.specs.Attempts.{IsSmall, NameEntries, HasMenuFault}
 use Rattle.bl_session.specs.Menu.{EntryFacts, facts_of}
 use Rattle.bl_session.specs.declared.menu.fault.MenuFault.{MenuFault}
@@ -39,7 +38,3 @@ entries_more {A} names rows i row entries entry here within so same =
     ∙ sym (map-append (entry_facts names) (map entry_view (take i rows)) (entry_view row ∷ []))
     ∙ sym (ap (map (entry_facts names)) (map-append entry_view (take i rows) (row ∷ [])))
     ∙ sym (ap (λ (rs : List (EntryRow A)). map (entry_facts names) (map entry_view rs)) more)
-
-pub few_one : {A : Type 0} (entry : Entry A) → HasFewModules entry → All HasFewModules (entry ∷ [])
-few_one entry few zero d within = few
-few_one entry few (suc k) d within = absurd (omega (arith, within))

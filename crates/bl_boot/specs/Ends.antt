@@ -10,6 +10,7 @@ use Rattle.bl_map.specs.declared.fault.MapFault.TheVariants as map_fault
 use Rattle.bl_load.specs.Handover.{Handover}
 use Rattle.bl_image.specs.Begun.{IsBegun}
 use Rattle.bl_image.specs.Image.{spelling}
+use Rattle.bl_image.specs.ImageParts.{IsKept}
 use Rattle.bl_desc.specs.Described.{Described, described, file_named}
 use Rattle.bl_boot.specs.Found.{AreFound}
 use Rattle.bl_load.specs.Value.{EntryValue}
@@ -17,6 +18,7 @@ use Rattle.bl_session.specs.declared.words.RefusedEntry.{RefusedEntry}
 use Rattle.bl_session.specs.Ends.{End}
 use Rattle.bl_session.specs.Boot.{State, handed_over, none_left, sizes_of}
 use Rattle.bl_session.specs.Outcome.{File, IsOutcome, EntryEnds, value_in, no_fault}
+use Rattle.bl_walk.specs.Shown.{HasByteLines}
 use Rattle.bl_boot.specs.Attempted.{entry_of, names_in, boot_of}
 use Rattle.bl_boot.specs.Says.{booted_line, refused_lines, no_entry_line}
 
@@ -68,14 +70,17 @@ module _ {F : Type 0} (answers : F → List ℕ → File → Type 0) (faults : F
       IsOutcome (boot_of case.description case.facts case.files) case.files
       no_fault state
 
-  -- an entry was handed over: the sink took its image, and what is said tells it after the
-  -- refusals before it
+  -- an entry, whose lines are bytes, was handed over: the sink took its image, which keeps all of
+  -- what is handed over, and what is said tells the entry after the refusals before it
   pub record IsBooted (desc : List ℕ) (before after : Surroundings F) : Type 0 where
     pub case : BootCase desc before.files after.files
     pub entry : ℕ
     pub earlier : List RefusedEntry
     pub handover : Handover
     pub outcome : ComesTo case (handed_over entry earlier handover)
+    pub lines : HasByteLines (value_in (boot_of case.description case.facts case.files)
+        case.files entry)
+    pub kept : IsKept handover
     pub image : after.sink ≡ before.sink ++ spelling handover
     pub said : after.said ≡ before.said
         ++ (refused_lines earlier ++ booted_line entry (entry_of case.description entry).title)

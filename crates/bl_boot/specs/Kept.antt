@@ -6,6 +6,7 @@ use Rattle.bl_desc.specs.Described.{Described}
 use Rattle.bl_desc.specs.declared.fault.DescFault.{DescFault}
 use Rattle.bl_desc.specs.declared.fault.DescFault.TheVariants as desc_fault
 use Rattle.bl_image.specs.Image.{spelling}
+use Rattle.bl_image.specs.ImageParts.{IsKept}
 use Rattle.bl_load.specs.Handover.{Handover}
 use Rattle.bl_session.specs.declared.words.RefusedEntry.{RefusedEntry}
 use Rattle.bl_session.specs.Boot.{BootFacts, handed_over, none_left}
@@ -65,7 +66,7 @@ abbrev pub FoundEnds : Described → BootFacts → List File → (s t u v : List
 FoundEnds description facts files s t u v (Ok Booted) =
     (entry : ℕ) × (earlier : List RefusedEntry) × (handover : Handover)
     × IsOutcome facts files no_fault (handed_over entry earlier handover)
-    × (t ≡ s ++ spelling handover)
+    × IsKept handover × (t ≡ s ++ spelling handover)
     × (v ≡ u ++ (refused_lines earlier ++ booted_line entry (entry_of description entry).title))
 FoundEnds description facts files s t u v (Ok NoEntryLeft) =
     (refused : List RefusedEntry) × IsOutcome facts files no_fault (none_left refused)

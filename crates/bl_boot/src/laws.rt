@@ -1,7 +1,14 @@
-//! Two boots.
+//! Laws of boots.
 ghost use Rattle.std.specs.Prelude.{◌≡◌, ◌++◌, ℕ, List};
 ghost use Rattle.bl_map.specs.MachineFacts.{MachineFacts};
 ghost use Rattle.bl_map.specs.Kinds.{kind_at};
+ghost use Rattle.bl_load.specs.Handover.{Handover};
+ghost use Rattle.bl_image.specs.Image.{spelling};
+ghost use Rattle.bl_image.specs.ImageParts.{IsImage};
+ghost use Rattle.bl_walk.specs.Faults.{IsSound};
+ghost use Rattle.bl_walk.specs.Seen.{IsSeen};
+ghost use Rattle.bl_walk.specs.SeenFacts.{SeenFacts};
+ghost use Rattle.bl_walk.specs.Shown.{ShowsEntry};
 ghost use Rattle.bl_session.specs.Ends.{End};
 ghost use Rattle.bl_desc.specs.Described.{Described};
 ghost use Rattle.bl_boot.specs.Ends.{BootCase, IsBooted, IsMachineOf, Surroundings};
@@ -35,4 +42,16 @@ pub fn two_boots<F: Files, G: Files>()
     ensures same_facts { (one two : Described) (f g : MachineFacts) →
         IsMachineOf one f → IsMachineOf two g → one.size ≡ two.size → one.pool ≡ two.pool →
         ((a : ℕ) → kind_at one.regions a ≡ kind_at two.regions a) → f ≡ g }
+{}
+
+/// Whatever is read from the image of an entry that was booted shows that entry and nothing else,
+/// and no fault stands in it.
+pub fn booted_images_show_their_entries<F: Files>()
+    ensures seen { (desc : List ℕ) (before after : Surroundings F)
+        (b : IsBooted F.answers F.faults desc before after) (image : Handover) (seen : SeenFacts)
+        → IsImage (spelling b.handover) image → IsSeen image seen
+        → ShowsEntry b.case.facts (value_at b.case b.entry) seen }
+    ensures sound { (desc : List ℕ) (before after : Surroundings F)
+        (b : IsBooted F.answers F.faults desc before after) (image : Handover)
+        → IsImage (spelling b.handover) image → IsSound image }
 {}

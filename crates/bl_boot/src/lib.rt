@@ -11,6 +11,6 @@ mod walking;
 pub use bl_session::{FILE_LIMIT, Fetched};
 pub use booting::boot;
 pub use fetching::{Files, MemFiles};
-pub use laws::two_boots;
+pub use laws::{booted_images_show_their_entries, two_boots};
 pub use mapping::map_to;
 pub use walking::walk_to;

@@ -1,6 +1,7 @@
 //! An entry is handed over, or it is told that none is left.
 ghost use Rattle.std.specs.Prelude.{◌≡◌, ◌+◌, ◌<◌, ◌≤◌, ◌^◌, ◌++◌, length, All, OnOk, OnErr, IfErr};
 ghost use Rattle.bl_image.specs.Image.{spelling};
+ghost use Rattle.bl_image.specs.ImageParts.{IsKept};
 ghost use Rattle.bl_session.specs.Phases.{handover_held};
 ghost use Rattle.bl_boot.specs.Kept.{IsHandFault};
 ghost use Rattle.bl_boot.specs.Says.{booted_line, refused_lines, no_entry_line};
@@ -45,6 +46,8 @@ pub fn write_handover<A: Allocator + Copy, M: PhysMem, S: Sink, B: Allocator>(
     requires faults { S.faults out.old < 2 ^ 63 }
     ensures image { OnOk result (S.contents out.new ≡ S.contents out.old
         ++ spelling (handover_held (M.bytes memory.now) outcome.now.handoff)) }
+    ensures kept { OnOk result
+        (IsKept (handover_held (M.bytes memory.now) outcome.now.handoff)) }
     ensures said { OnOk result (say.new.items ≡ say.old.items
         ++ (refused_lines outcome.now.refused.items ++ booted_line outcome.now.entry title.now)) }
     ensures sound { OnOk result (S.faults out.new ≡ S.faults out.old) }

@@ -1,8 +1,10 @@
-use Rattle.std.proofs.Common.{◌≡◌, ◌∙◌, length, ap, arith}
+use Rattle.std.proofs.Common.{◌≡◌, ◌∙◌, length, map, ap, arith}
+use Rattle.bl_session.specs.Stores.{file_of}
 use Rattle.bl_desc.specs.Views.{view}
 use Rattle.bl_boot.specs.Attempted.{names_in}
 use Rattle.bl_boot.proofs.EndLemmas.{inline_in, sought, ends_by}
 use Rattle.bl_boot.proofs.NameLemmas.{as_many}
+use Rattle.bl_boot.proofs.ValueLemmas.{byte_lines}
 use Rattle.bl_boot.proofs.booting.running.run_boot.Goals as goal
 
 pub returns-in_err-found-clause-inline : goal.returns-in_err-found-clause-inline
@@ -29,8 +31,11 @@ returns-clause-ends g c =
     g.F.Files.answers g.F.Files.faults
     c.in_ok-machine.machine c.in_ok-machine.ensures.machine _ _ c.in_ok-found.found.items
     (rw (c.deref-2.ensures.value, c.in_ok-names.ensures.names) at c.in_ok-found.ensures.found)
+    (λ entry. byte_lines (view c.in_ok-description.description) c.in_ok-machine.machine
+    (map file_of c.in_ok-found.found.items) entry
+    c.in_ok-menu.menu c.in_ok-menu.ensures.menu c.in_ok-menu.ensures.bytes)
     _ _ _ _ c.boot_found.result
-    (rw (c.new-store.ensures, c.in_ok-menu.ensures) at c.boot_found.ensures.ends)
+    (rw (c.new-store.ensures, c.in_ok-menu.ensures.menu) at c.boot_found.ensures.ends)
 
 pub returns-clause-inline : goal.returns-clause-inline
 returns-clause-inline g c = λ has. c.in_ok-found.ensures.inline
