@@ -1,13 +1,13 @@
 -- How boots end.
-use Rattle.std.proofs.Common.{◌≡◌, ◌∙◌, ℕ, List, [], ◌∷◌, ◌++◌, None, Some, Result, Ok, Err, All}
-use Rattle.std.proofs.Common.{IsSome, map, ap, refl, sym, subst}
+use Rattle.std.proofs.Common.{◌≡◌, ◌∙◌, ℕ, List, Some, Result, Ok, Err, All}
+use Rattle.std.proofs.Common.{IsSome, map, refl, sym, subst}
 use Rattle.std.proofs.lemmas.Option.{same_Some}
 use Rattle.bl_map.specs.MachineFacts.{MachineFacts}
 use Rattle.bl_load.specs.Handover.{Handover}
 use Rattle.bl_image.specs.Image.{spelling}
 use Rattle.bl_session.specs.declared.words.RefusedEntry.{RefusedEntry}
 use Rattle.bl_session.specs.declared.fetched.Fetched.{Fetched}
-use Rattle.bl_session.specs.Boot.{BootFacts, State, handed_over, none_left}
+use Rattle.bl_session.specs.Boot.{BootFacts, handed_over}
 use Rattle.bl_session.specs.Outcome.{File, IsOutcome, no_fault, size_of, value_in}
 use Rattle.bl_session.specs.Phases.{boot_facts}
 use Rattle.bl_walk.specs.Shown.{HasByteLines}
@@ -21,8 +21,8 @@ use Rattle.bl_boot.specs.declared.booting.fault.EndFault.TheVariants.{BadDescrip
 use Rattle.bl_boot.specs.declared.booting.fault.EndFault.TheVariants.{NoMemory}
 use Rattle.bl_session.specs.Stores.{file_of, stored_files}
 use Rattle.bl_boot.specs.Found.{AreFound}
-use Rattle.bl_boot.specs.Attempted.{entry_of, names_in, menu_of, boot_of}
-use Rattle.bl_boot.specs.Ends.{IsMachineOf, BootCase, ComesTo, HasInlineFiles, names_sought}
+use Rattle.bl_boot.specs.Attempted.{names_in, menu_of, boot_of}
+use Rattle.bl_boot.specs.Ends.{IsMachineOf, BootCase, HasInlineFiles, names_sought}
 use Rattle.bl_boot.specs.Ends.{Surroundings}
 use Rattle.bl_boot.specs.Kept.{IsHandFault, HasFaults, FoundEnds, BootEnds}
 

@@ -1,6 +1,6 @@
 -- The names that are looked for.
-use Rattle.std.proofs.Common.{◌≡◌, ◌∙◌, ◌*◌, ◌≤◌, ◌<◌, ℕ, zero, suc, List, [], ◌∷◌, ◌++◌, Bor, Bool}
-use Rattle.std.proofs.Common.{true, false, All, Result, Ok, Err, IfOk, None, Some, if◌then◌else◌}
+use Rattle.std.proofs.Common.{◌≡◌, ◌∙◌, ◌*◌, ◌≤◌, ℕ, zero, suc, List, [], ◌∷◌, ◌++◌, Bor, Bool}
+use Rattle.std.proofs.Common.{true, false, Result, Ok, Err, IfOk, None, Some, if◌then◌else◌}
 use Rattle.std.proofs.Common.{length, map, get_or, ap, sym, refl, arith, append_assoc}
 use Rattle.std.specs.Str.{bytes_eq}
 use Rattle.std.specs.List.{list_any}
@@ -12,8 +12,6 @@ use Rattle.bl_desc.specs.declared.desc.Description.{Description}
 use Rattle.bl_desc.specs.declared.desc.EntryRow.{EntryRow}
 use Rattle.bl_desc.specs.declared.form.EntryForm.{EntryForm}
 use Rattle.bl_desc.specs.declared.form.EntryForm.TheVariants.{Multiboot2, Linux}
-use Rattle.bl_desc.specs.Described.{Described}
-use Rattle.bl_desc.specs.Entries.{Entry}
 use Rattle.bl_desc.specs.Views.{HasMenu, entry_view, form_view, view}
 use Rattle.bl_session.specs.Attempts.{once_by}
 use Rattle.bl_boot.specs.Attempted.{entry_of, file_names, names_beside, names_in}

@@ -1,5 +1,5 @@
 -- What the code keeps of how a walk ends, by its result.
-use Rattle.std.specs.Prelude.{◌≡◌, ℕ, ◌+◌, List, Result, Ok, Err}
+use Rattle.std.specs.Prelude.{◌≡◌, ℕ, List, Result, Ok, Err}
 use Rattle.bl_image.specs.Faults.{image_fault_number}
 use Rattle.bl_image.specs.Source.{Input}
 use Rattle.bl_image.specs.declared.fault.ImageFault.{ImageFault}

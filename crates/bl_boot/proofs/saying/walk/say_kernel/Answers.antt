@@ -1,7 +1,7 @@
-use Rattle.std.proofs.Common.{rules, arith, ◌≡◌, ◌++◌, ◌+◌, ◌^◌, ◌-◌, length}
+use Rattle.std.proofs.Common.{rules, arith, ◌≡◌, ◌++◌, ◌^◌, ◌-◌}
 use Rattle.std.specs.Prelude.{codes, decimal}
 use Rattle.std.proofs.lemmas.Grind.{common_steps}
-use Rattle.bl_boot.proofs.HexLemmas.{hex_hole, hex16_hole, hex8_hole, hex8_is}
+use Rattle.bl_boot.proofs.HexLemmas.{hex8_hole, hex8_is}
 use Rattle.bl_boot.specs.WalkSays.{kernel_line}
 use Rattle.bl_boot.proofs.saying.walk.say_kernel.Goals as goal
 

@@ -1,4 +1,4 @@
-use Rattle.std.proofs.Common.{rules, arith, ◌≡◌, ◌++◌}
+use Rattle.std.proofs.Common.{rules, arith, ◌≡◌}
 use Rattle.std.proofs.lemmas.Grind.{common_steps}
 use Rattle.bl_boot.specs.Says.{hex16}
 use Rattle.bl_boot.proofs.HexLemmas.{hex_hole, hex16_hole}
