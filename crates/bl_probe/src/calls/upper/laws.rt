@@ -1,7 +1,7 @@
 //! The laws of the definitions, which are functions that do nothing.
 
 use crate::calls::upper::attempts;
-use bl_boot::{MemFiles, two_boots};
+use bl_boot::{MemFiles, booted_images_show_their_entries, two_boots};
 use bl_image::{image_tells_all, images_have_no_fault, what_has_no_fault_is_an_image};
 use bl_load::{handovers_are_determined, handovers_are_legal, parts_are_apart_and_usable};
 use bl_mbi::{read_is_spelled, spelled_is_read};
@@ -29,4 +29,5 @@ pub fn call_laws() {
     seen_runs_end_low();
     attempts::call_laws();
     two_boots::<MemFiles<Global>, MemFiles<Global>>();
+    booted_images_show_their_entries::<MemFiles<Global>>();
 }
