@@ -11,7 +11,8 @@ use bl_mem::PhysMem;
 use bl_plan::Place;
 use std::alloc::Allocator;
 
-/// Writes what stands in memory from `at` on, as much as the buffer holds.
+/// Writes what stands in memory from `at` on, as much as the buffer holds: as memory lends it, else
+/// by way of the buffer.
 fn write_piece<M: PhysMem, S: Sink>(
     memory: &M,
     sink: &mut S,
@@ -27,11 +28,17 @@ fn write_piece<M: PhysMem, S: Sink>(
         (slice_range (M.bytes memory.now) at (at + length buffer.old))) }
     ensures fault { OnErr result (S.faults sink.new ≡ S.faults sink.old + 1) }
 {
-    memory.read(at, buffer);
-    write_all(sink, buffer)
+    match memory.lend(at, buffer.len()) {
+        Some(part) => write_all(sink, part),
+        None => {
+            memory.read(at, buffer);
+            write_all(sink, buffer)
+        }
+    }
 }
 
-/// Writes what stands in memory at a place, in pieces of the buffer's length.
+/// Writes what stands in memory at a place, in pieces that end where an address is a multiple of the
+/// buffer's length: so memory that keeps blocks of that length lends each.
 fn write_part<M: PhysMem, S: Sink>(
     memory: &M,
     sink: &mut S,
@@ -53,9 +60,9 @@ fn write_part<M: PhysMem, S: Sink>(
     let most = buffer.len() as u64;
     let mut done = 0u64;
     while done < place.length {
-        let next = (place.length - done).min(most);
-        let piece = &mut buffer[..next as usize];
-        write_piece(memory, sink, place.address + done, piece)?;
+        let at = place.address + done;
+        let next = (place.length - done).min(most - at % most);
+        write_piece(memory, sink, at, &mut buffer[..next as usize])?;
         done += next;
     }
     Ok(())

@@ -1,7 +1,7 @@
 -- What a chunk's bytes are, of which only the first are kept, as they are read, written and
 -- cleared.
 use Rattle.std.proofs.Common.{◌≡◌, ℕ, ◌+◌, ◌-◌, ◌≤◌, List, ◌++◌, length, min, take, drop}
-use Rattle.std.proofs.Common.{slice_range, replicate, arith, rules}
+use Rattle.std.proofs.Common.{slice_range, replicate, Option, None, Some, IfSome, ◌∙◌, arith, rules}
 use Rattle.std.proofs.lemmas.List.{places, same_lists}
 use Rattle.bl_mem.specs.Memory.{overwrite}
 use Rattle.bl_mem.specs.Chunk.{filled_to}
@@ -49,3 +49,9 @@ pub written_twice : (old front back : List ℕ) (place : ℕ) → place ≤ leng
     (drop place (front ++ drop place old))) ≡ front ++ back
 written_twice old front back place within first =
     same_lists _ _ (search (rules, places)) (λ k d h. grind (arith, places))
+
+-- what is lent is what is read there
+pub lent_on : {B : Type 0} → (lent : Option B) (now : B → List ℕ) (part bytes : List ℕ) → part ≡ bytes
+    → IfSome lent (λ piece. now piece ≡ part) → IfSome lent (λ piece. now piece ≡ bytes)
+lent_on None now part bytes same is = is
+lent_on (Some piece) now part bytes same is = is ∙ same

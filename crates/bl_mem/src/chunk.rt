@@ -1,6 +1,6 @@
 //! Bytes of memory in a row, of which only the first are kept.
 ghost use Rattle.std.specs.Prelude.{◌≡◌, ℕ, ◌+◌, ◌≤◌, length, replicate, slice_range};
-ghost use Rattle.std.specs.Prelude.{IfOk, vec_len, vec_capacity};
+ghost use Rattle.std.specs.Prelude.{IfOk, IfSome, vec_len, vec_capacity};
 ghost use Rattle.bl_mem.specs.Chunk.{filled_to};
 ghost use Rattle.bl_mem.specs.Memory.{overwrite};
 
@@ -111,6 +111,19 @@ impl<A: Allocator> Chunk<A> {
         ensures whole { length self.now ≡ 65536 }
     {
         copy_or_fill(&self.kept, self.plain, place, out);
+    }
+
+    /// The `count` bytes from `place` on, if they all are kept.
+    pub fn lend(&self, place: usize, count: usize) -> Option<&[u8]>
+        requires { place + count ≤ 65536 }
+        ensures exact { IfSome result
+            (λ part. part.now ≡ slice_range self.now place (place + count)) }
+        ensures whole { length self.now ≡ 65536 }
+    {
+        if place + count > self.kept.len() {
+            return None;
+        }
+        Some(&self.kept[place..place + count])
     }
 
     /// Puts bytes in.

@@ -32,6 +32,8 @@ impl<A: Allocator> Flat<A> {
 }
 
 impl<A: Allocator> PhysMem for Flat<A> {
+    ghost use Rattle.std.specs.Prelude.{◌≡◌, ◌+◌, ◌≤◌, length, slice_range, IfSome, IsSome};
+
     ghost bytes = { λ flat. flat };
 
     ghost room = { λ _ _. Unit {0} };
@@ -43,6 +45,16 @@ impl<A: Allocator> PhysMem for Flat<A> {
     fn read(&self, at: u64, out: &mut [u8]) {
         let held = &self.held[at as usize..];
         out.copy_from_slice(&held[..out.len()]);
+    }
+
+    fn lend(&self, at: u64, count: usize) -> Option<&[u8]>
+        requires { at + count ≤ length self.now }
+        ensures exact { IfSome result (λ part. part.now ≡ slice_range self.now at (at + count)) }
+        ensures some { IsSome result }
+    {
+        let held = self.held.as_slice();
+        let from = at as usize;
+        Some(&held[from..from + count])
     }
 
     fn reserve(&mut self, _ranges: &[Range<u64>]) -> Result<(), AllocError> {

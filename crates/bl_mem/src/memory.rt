@@ -1,6 +1,6 @@
 //! What a loader asks of a machine's memory.
 ghost use Rattle.std.specs.Prelude.{◌≡◌, ℕ, ◌+◌, ◌-◌, ◌≤◌, List, length, replicate, slice_range};
-ghost use Rattle.std.specs.Prelude.{All, OnOk};
+ghost use Rattle.std.specs.Prelude.{All, OnOk, IfSome};
 ghost use Rattle.bl_mem.specs.Memory.{overwrite, HasRoom, AllHaveRoom, KeepsRoom};
 
 use std::alloc::AllocError;
@@ -26,6 +26,17 @@ pub trait PhysMem {
     fn read(&self, at: u64, out: &mut [u8])
         requires { at + length out.old ≤ length (bytes self.now) }
         ensures { out.new ≡ slice_range (bytes self.now) at (at + length out.old) };
+
+    /// Lends the `count` bytes from address `at` on, so that whoever only hands them on copies none.
+    /// A memory in which they don't lie together lends nothing; `read` gives them all the same.
+    fn lend(&self, at: u64, count: usize) -> Option<&[u8]>
+        requires { at + count ≤ length (bytes self.now) }
+        ensures { IfSome result
+            (λ part. part.now ≡ slice_range (bytes self.now) at (at + count)) }
+    {
+        let _nothing = (at, count);
+        None
+    }
 
     /// Gives room to all addresses of the ranges, or answers that memory ran out, perhaps with room
     /// for some of them. No byte changes by it.

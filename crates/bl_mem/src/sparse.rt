@@ -1,6 +1,6 @@
 //! Memory of which only some chunks are kept.
 ghost use Rattle.std.specs.Prelude.{◌≡◌, ℕ, ◌+◌, ◌%◌, ◌/◌, ◌≤◌, length, replicate, slice_range};
-ghost use Rattle.std.specs.Prelude.{IfOk, OnOk, IsOk};
+ghost use Rattle.std.specs.Prelude.{IfOk, OnOk, IsOk, IfSome};
 ghost use Rattle.bl_mem.specs.Memory.{overwrite, HasRoom, KeepsRoom};
 ghost use Rattle.bl_mem.specs.Sparse.{bytes_of, IsHeld};
 
@@ -84,6 +84,20 @@ impl<A: Allocator + Copy> Sparse<A> {
         }
     }
 
+    /// Lends bytes of one chunk, if it keeps them.
+    fn lend_chunk(&self, at: u64, count: usize) -> Option<&[u8]>
+        requires inside { at + count ≤ self.now.size }
+        requires one { at % 65536 + count ≤ 65536 }
+        ensures { IfSome result (λ part. part.now
+            ≡ slice_range (bytes_of self.now.chunks self.now.fill self.now.size)
+            at (at + count)) }
+    {
+        match self.chunks.get(&(at / CHUNK)) {
+            Some(chunk) => chunk.lend((at % CHUNK) as usize, count),
+            None => None,
+        }
+    }
+
     /// Writes bytes of one chunk.
     fn write_chunk(&mut self, at: u64, part: &[u8])
         requires inside { at + length part.now ≤ self.old.size }
@@ -135,6 +149,15 @@ impl<A: Allocator + Copy> PhysMem for Sparse<A> {
             self.read_chunk(here, &mut out[done..done + next]);
             done += next;
         }
+    }
+
+    fn lend(&self, at: u64, count: usize) -> Option<&[u8]> {
+        let _size = self.size;
+        let place = (at % CHUNK) as usize;
+        if count > CHUNK as usize - place {
+            return None;
+        }
+        self.lend_chunk(at, count)
     }
 
     fn reserve(&mut self, ranges: &[Range<u64>]) -> Result<(), AllocError> {
