@@ -5,20 +5,8 @@
 //! is the input and the wanted output at once. The language of rows stands in README.md.
 #![tactic(auto)]
 
-mod bytes;
-mod calls;
-mod changed;
-mod fault;
-mod line;
-mod parse;
-mod runs;
-mod session;
-mod show;
-mod sweep;
-mod unasked;
-mod way;
-
-use session::Session;
+use bl_row_boots::AllCalls;
+use bl_rows::session::Session;
 use std::io;
 use std::io::{BufRead, BufReader, BufWriter, Write};
 
@@ -26,7 +14,7 @@ fn main(rt: HostRuntime) -> io::Result<()> {
     let mut session = Session::new(rt.alloc());
     let mut out = BufWriter::new(rt.alloc(), io::writer(&rt))?;
     for line in BufReader::new(rt.alloc(), rt.reader())?.lines(rt.alloc()) {
-        let answered = session.answer_line(line?.as_str())?;
+        let answered = session.answer_line(&AllCalls, line?.as_str())?;
         writeln!(out, "{answered}")?;
     }
     out.flush()

@@ -1,0 +1,3 @@
+//! The calls, by their names.
+
+pub mod upper;

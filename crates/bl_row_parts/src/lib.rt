@@ -1,0 +1,5 @@
+//! Rows on one entry: boot information, its handover, images, what a kernel sees, the command line,
+//! descriptions. For tests alone.
+#![tactic(auto)]
+
+pub mod calls;
