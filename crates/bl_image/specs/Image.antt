@@ -1,5 +1,5 @@
 -- The image of a handover, version 1: its one spelling. All numbers are little-endian. Own.
-use Rattle.std.specs.Prelude.{ℕ, ◌+◌, List, [], ◌∷◌, ◌++◌, length, codes}
+use Rattle.std.specs.Prelude.{ℕ, List, [], ◌∷◌, ◌++◌, length, codes}
 use Rattle.std.specs.List.{flat_map}
 use Rattle.bl_mem.specs.Words.{u32_bytes, u64_bytes}
 use Rattle.bl_plan.specs.declared.part.Role.{Role}

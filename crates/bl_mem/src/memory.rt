@@ -34,7 +34,6 @@ pub trait PhysMem {
         ensures { IfSome result
             (λ part. part.now ≡ slice_range (bytes self.now) at (at + count)) }
     {
-        let _nothing = (at, count);
         None
     }
 

@@ -1,7 +1,7 @@
 //! `memory size=SIZE fill=BYTE STEP; STEP ..`: one step after the other on new memory in one
 //! block; `sparse ..`: on memory that keeps only the chunks which have room.
 //!
-//! A step is `size`, `read AT LENGTH`, `write AT,AT BYTES`, `zero START..END` or
+//! A step is `size`, `read AT LENGTH`, `lend AT LENGTH`, `write AT,AT BYTES`, `zero START..END` or
 //! `reserve START..END ..`. What is written or cleared is given room first.
 
 ghost use Rattle.std.specs.Prelude.{All, IfOk, IsTrue, OnOk, length, ◌≤◌};
@@ -64,6 +64,17 @@ fn read<M: PhysMem>(alloc: Global, memory: &M, at: u64, length: u64) -> Result<S
     Ok(bytes_text(alloc, out.as_slice())?)
 }
 
+fn lend<M: PhysMem>(alloc: Global, memory: &M, at: u64, length: u64) -> Result<String, RowFault> {
+    let size = memory.size();
+    if size < at || size - at < length {
+        return Err(RowFault::BadRow);
+    }
+    match memory.lend(at, length as usize) {
+        Some(part) => Ok(bytes_text(alloc, part)?),
+        None => Ok(String::from_str(alloc, "nothing")?),
+    }
+}
+
 fn write<M: PhysMem>(memory: &mut M, at: u64, part: &[u8]) -> Result<bool, RowFault> {
     let end = at.checked_add(part.len() as u64).ok_or(RowFault::BadRow)?;
     if !give_room(memory, &(at..end))? {
@@ -121,6 +132,10 @@ pub fn step<M: PhysMem>(
         ("read", words) => {
             let (at, length) = split_word(words);
             return read(alloc, memory, number(at)?, number(length)?);
+        }
+        ("lend", words) => {
+            let (at, length) = split_word(words);
+            return lend(alloc, memory, number(at)?, number(length)?);
         }
         ("write", words) => write_words(alloc, names, memory, words)?,
         ("zero", word) => zero(memory, range(word)?)?,
