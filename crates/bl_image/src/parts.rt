@@ -37,8 +37,8 @@ fn write_piece<M: PhysMem, S: Sink>(
     }
 }
 
-/// Writes what stands in memory at a place, in pieces that end where an address is a multiple of the
-/// buffer's length: so memory that keeps blocks of that length lends each.
+/// Writes what stands in memory at a place, in pieces that end where an address is a multiple of
+/// the buffer's length: so memory that keeps blocks of that length lends each.
 fn write_part<M: PhysMem, S: Sink>(
     memory: &M,
     sink: &mut S,

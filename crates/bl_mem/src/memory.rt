@@ -27,8 +27,8 @@ pub trait PhysMem {
         requires { at + length out.old ≤ length (bytes self.now) }
         ensures { out.new ≡ slice_range (bytes self.now) at (at + length out.old) };
 
-    /// Lends the `count` bytes from address `at` on, so that whoever only hands them on copies none.
-    /// A memory in which they don't lie together lends nothing; `read` gives them all the same.
+    /// Lends the `count` bytes from address `at` on, so that whoever only hands them on copies
+    /// none. A memory in which they don't lie together lends nothing; `read` gives them always.
     fn lend(&self, at: u64, count: usize) -> Option<&[u8]>
         requires { at + count ≤ length (bytes self.now) }
         ensures { IfSome result

@@ -3,7 +3,8 @@
 use Rattle.std.specs.Prelude.{ℕ, List, [], ◌∷◌, ◌++◌, min}
 use Rattle.bl_session.specs.History.{Item, submitted, nothing}
 use Rattle.bl_row_boots.specs.declared.calls.upper.attempts.dry_store.Asked.{Asked}
-use Rattle.bl_row_boots.specs.declared.calls.upper.attempts.dry_store.Asked.TheVariants.{Piece, More}
+use Rattle.bl_row_boots.specs.declared.calls.upper.attempts.dry_store.Asked.TheVariants.{Piece}
+use Rattle.bl_row_boots.specs.declared.calls.upper.attempts.dry_store.Asked.TheVariants.{More}
 
 abbrev pub item_of : Asked → Item
 item_of (Piece file ticket) = submitted file ticket

@@ -1,5 +1,5 @@
-//! Rows on boots: menus, runs, sessions, whole boots and walks. With them stand all calls that a row
-//! can name. For tests alone.
+//! Rows on boots: menus, runs, sessions, whole boots and walks. With them stand all calls that a
+//! row can name. For tests alone.
 #![tactic(auto)]
 
 mod calls;

@@ -1,9 +1,5 @@
-//! `memory size=SIZE fill=BYTE STEP; STEP ..`: one step after the other on new memory in one
-//! block; `sparse ..`: on memory that keeps only the chunks which have room.
-//!
-//! A step is `size`, `read AT LENGTH`, `lend AT LENGTH`, `write AT,AT BYTES`, `zero START..END` or
-//! `reserve START..END ..`. What is written or cleared is given room first.
-
+//! `memory size=SIZE fill=BYTE STEP; STEP ..` and `sparse ..`: one step after the other on new
+//! memory in one block, or on memory that keeps only the chunks which have room.
 ghost use Rattle.std.specs.Prelude.{All, IfOk, IsTrue, OnOk, length, ◌≤◌};
 ghost use Rattle.bl_mem.specs.Memory.{HasRoom};
 
