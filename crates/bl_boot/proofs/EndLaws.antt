@@ -9,6 +9,7 @@ use Rattle.bl_map.proofs.MapLaws.{one_normal_map}
 use Rattle.bl_load.specs.Handover.{Handover}
 use Rattle.bl_load.specs.Value.{EntryValue}
 use Rattle.bl_image.specs.Image.{spelling}
+use Rattle.bl_image.specs.Versions.{written_version}
 use Rattle.bl_session.specs.Boot.{fresh}
 use Rattle.bl_session.specs.Ends as session
 use Rattle.bl_session.specs.Ends.{End}
@@ -37,9 +38,9 @@ module _ {F G : Type 0} {answers : F → List ℕ → File → Type 0} {faults :
       same_handover f g a.case.files b.case.files no_fault no_fault
       a.entry b.entry
       a.earlier b.earlier a.handover b.handover machine value a.outcome b.outcome in (
-        spelling a.handover,
+        spelling written_version a.handover,
         a.image,
-        b.image ∙ ap (λ (h : Handover). began.sink ++ spelling h) (sym one),
+        b.image ∙ ap (λ (h : Handover). began.sink ++ spelling written_version h) (sym one),
       )
 
 -- without a fault no file is faulty

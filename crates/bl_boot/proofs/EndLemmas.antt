@@ -1,16 +1,18 @@
 -- How boots end.
-use Rattle.std.proofs.Common.{◌≡◌, ◌∙◌, ℕ, List, Some, Result, Ok, Err, All}
+use Rattle.std.proofs.Common.{◌≡◌, ◌∙◌, ◌++◌, ℕ, List, [], Some, Result, Ok, Err, All}
 use Rattle.std.proofs.Common.{IsSome, map, refl, sym, subst}
+use Rattle.std.proofs.lemmas.List.{append-nil}
 use Rattle.std.proofs.lemmas.Option.{same_Some}
 use Rattle.bl_map.specs.MachineFacts.{MachineFacts}
+use Rattle.bl_load.specs.ByteLines.{HasByteLines}
 use Rattle.bl_load.specs.Handover.{Handover}
 use Rattle.bl_image.specs.Image.{spelling}
+use Rattle.bl_image.specs.Versions.{written_version}
 use Rattle.bl_session.specs.declared.words.RefusedEntry.{RefusedEntry}
 use Rattle.bl_session.specs.declared.fetched.Fetched.{Fetched}
 use Rattle.bl_session.specs.Boot.{BootFacts, handed_over}
 use Rattle.bl_session.specs.Outcome.{File, IsOutcome, no_fault, size_of, value_in}
 use Rattle.bl_session.specs.Phases.{boot_facts}
-use Rattle.bl_walk.specs.Shown.{HasByteLines}
 use Rattle.bl_desc.specs.declared.desc.Description.{Description}
 use Rattle.bl_desc.specs.Described.{Described, described, file_named}
 use Rattle.bl_desc.specs.Views.{view}
@@ -20,11 +22,11 @@ use Rattle.bl_boot.specs.declared.booting.fault.EndFault.{EndFault}
 use Rattle.bl_boot.specs.declared.booting.fault.EndFault.TheVariants.{BadDescription, Device}
 use Rattle.bl_boot.specs.declared.booting.fault.EndFault.TheVariants.{NoMemory}
 use Rattle.bl_session.specs.Stores.{file_of, stored_files}
-use Rattle.bl_boot.specs.Found.{AreFound}
+use Rattle.bl_boot.specs.Found.{AreFound, AsksFirst, names_asked}
 use Rattle.bl_boot.specs.Attempted.{names_in, menu_of, boot_of}
-use Rattle.bl_boot.specs.Ends.{IsMachineOf, BootCase, HasInlineFiles, names_sought}
+use Rattle.bl_boot.specs.Ends.{IsMachineOf, BootCase, HasInlineFiles, names_sought, names_fetched}
 use Rattle.bl_boot.specs.Ends.{Surroundings}
-use Rattle.bl_boot.specs.Kept.{IsHandFault, HasFaults, FoundEnds, BootEnds}
+use Rattle.bl_boot.specs.Kept.{IsMachineFault, IsHandFault, HasFaults, HasAsked, FoundEnds, BootEnds}
 
 -- the sink has one fault more exactly if it had one while the image was written
 pub faults_by : (old new : ℕ) (s t image : List ℕ) (fault : EndFault)
@@ -38,7 +40,7 @@ pub not_handed : (description : Described) (facts : BootFacts) (files : List Fil
     (entry : ℕ) (earlier : List RefusedEntry) (handover : Handover)
     → IsOutcome facts files no_fault (handed_over entry earlier handover)
     → (old new : ℕ) (s t u v : List ℕ) (fault : EndFault)
-    → IsHandFault old new s t (spelling handover) fault → v ≡ u
+    → IsHandFault old new s t (spelling written_version handover) fault → v ≡ u
     → FoundEnds description facts files s t u v (Err fault)
 not_handed description facts files entry earlier handover came old new s t u v BadDescription never
     unsaid = absurd never
@@ -46,6 +48,33 @@ not_handed description facts files entry earlier handover came old new s t u v D
     unsaid = (entry, earlier, handover, came, broken.1, unsaid)
 not_handed description facts files entry earlier handover came old new s t u v NoMemory kept
     unsaid = (kept.1, unsaid)
+
+-- ---- the names that were asked for
+
+-- none of them is a beginning of them, and so are all
+pub none_asked : (names before : List (List ℕ)) → AsksFirst names before before
+none_asked names before =
+    record { first = []; left = names; names_are = refl; after_is = sym (append-nil before) }
+
+pub all_asked : (names before after : List (List ℕ)) → after ≡ before ++ names
+    → AsksFirst names before after
+all_asked names before after is =
+    record { first = names; left = []; names_are = sym (append-nil names); after_is = is }
+
+-- none is, if there is no machine
+pub asked_without : (description : Described) (names before : List (List ℕ)) (fault : EndFault)
+    → IsMachineFault description fault → HasAsked names before before (Err fault)
+asked_without description names before BadDescription is = none_asked names before
+asked_without description names before Device is = absurd is
+asked_without description names before NoMemory is = none_asked names before
+
+-- all are, before the boot of what was found
+pub asked_by : (ended : Result End EndFault) (names before after : List (List ℕ))
+    → after ≡ before ++ names → HasAsked names before after ended
+asked_by (Ok end) names before after all = all
+asked_by (Err BadDescription) names before after all = all_asked names before after all
+asked_by (Err Device) names before after all = all
+asked_by (Err NoMemory) names before after all = all_asked names before after all
 
 -- the bytes describe d
 module _ {A : Type 0} (desc : List ℕ) (d : Description A) (is : described desc ≡ Some (view d))
@@ -60,6 +89,9 @@ module _ {A : Type 0} (desc : List ℕ) (d : Description A) (is : described desc
 
     pub sought : names_sought (described desc) ≡ names_in (view d)
     sought = rw is refl
+
+    pub fetched : names_fetched (described desc) ≡ names_asked (view d).files (names_in (view d))
+    fetched = rw is refl
 
     -- its machine has these facts, these files were found, and lines are bytes
     module _ {F : Type 0} (answers : F → List ℕ → File → Type 0) (faults : F → ℕ)

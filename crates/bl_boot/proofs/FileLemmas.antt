@@ -1,10 +1,12 @@
 -- What is found for names, one after the other.
-use Rattle.std.proofs.Common.{◌≡◌, ◌+◌, ◌<◌, ℕ, List, [], ◌∷◌, ◌++◌, All, Bor, get_or, take, length}
-use Rattle.std.proofs.Common.{map, refl, subst, arith}
-use Rattle.std.proofs.lemmas.List.{get_or-map, map-append, length-map, take_more}
-use Rattle.bl_desc.specs.Described.{InlineFile}
+use Rattle.std.proofs.Common.{◌≡◌, ◌∙◌, ◌+◌, ◌<◌, ℕ, List, [], ◌∷◌, ◌++◌, All, Bor, get_or, take}
+use Rattle.std.proofs.Common.{drop, length, map, refl, sym, ap, subst, arith, append_assoc}
+use Rattle.std.specs.Prelude.{is_none}
+use Rattle.std.proofs.lemmas.List.{get_or-map, map-append, length-map, take_more, take-append-drop}
+use Rattle.std.proofs.lemmas.List.Elements.{filter-append}
+use Rattle.bl_desc.specs.Described.{InlineFile, file_named}
 use Rattle.bl_session.specs.Outcome.{File}
-use Rattle.bl_boot.specs.Found.{IsFound, AreFound}
+use Rattle.bl_boot.specs.Found.{IsFound, AreFound, AsksFirst, names_asked}
 
 -- ---- found
 
@@ -59,3 +61,41 @@ pub names_grow : (names : List (Bor (List ℕ))) (i : ℕ) → i < length names
     → map (λ n. n.now) (take (i + 1) names)
     ≡ map (λ n. n.now) (take i names) ++ (get_or names i no_name).now ∷ []
 names_grow names i within = rw (take_more names i no_name within, map-append) refl
+
+-- ---- asked
+
+-- one name more is asked for, if no file of the description has it
+pub one_more_asked : (inline : List InlineFile) (names : List (Bor (List ℕ))) (i : ℕ)
+    (before between after : List (List ℕ)) → i < length names
+    → between ≡ before ++ names_asked inline (map (λ n. n.now) (take i names))
+    → after ≡ between ++ names_asked inline ((get_or names i no_name).now ∷ [])
+    → after ≡ before ++ names_asked inline (map (λ n. n.now) (take (i + 1) names))
+one_more_asked inline names i before between after within so_far one =
+    let first : List (List ℕ) = map (λ (n : Bor (List ℕ)). n.now) (take i names) in
+    let next : List (List ℕ) = (get_or names i no_name).now ∷ [] in
+    one ∙ ap (λ (asked : List (List ℕ)). asked ++ names_asked inline next) so_far
+    ∙ append_assoc before (names_asked inline first) (names_asked inline next)
+    ∙ ap (λ (asked : List (List ℕ)). before ++ asked)
+    (sym (filter-append (λ (name : List ℕ). is_none (file_named name inline)) first next))
+    ∙ ap (λ (all : List (List ℕ)). before ++ names_asked inline all)
+    (sym (names_grow names i within))
+
+-- of names the first ones were asked for
+pub asks_first : (inline : List InlineFile) (names : List (Bor (List ℕ))) (i : ℕ)
+    (before after : List (List ℕ))
+    → after ≡ before ++ names_asked inline (map (λ n. n.now) (take i names))
+    → AsksFirst (names_asked inline (map (λ n. n.now) names)) before after
+asks_first inline names i before after is =
+    let text : Bor (List ℕ) → List ℕ = λ n. n.now in
+    let first : List (List ℕ) = map text (take i names) in
+    let left : List (List ℕ) = map text (drop i names) in
+    record {
+      first = names_asked inline first;
+      left = names_asked inline left;
+      names_are =
+          ap (λ (all : List (Bor (List ℕ))). names_asked inline (map text all))
+          (sym (take-append-drop i names))
+          ∙ ap (names_asked inline) (map-append text (take i names) (drop i names))
+          ∙ filter-append (λ (name : List ℕ). is_none (file_named name inline)) first left;
+      after_is = is;
+    }

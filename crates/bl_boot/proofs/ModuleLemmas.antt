@@ -17,16 +17,15 @@ use Rattle.bl_plan.specs.declared.protocol.Protocol.TheVariants.{Multiboot2, Lin
 use Rattle.bl_desc.specs.Values.{◌>>=◌, passing, number_of, byte_of, text_of, range_of, index_of}
 use Rattle.bl_desc.specs.Values.{indices_of, optional, at_key, at_key_or, at_key_if}
 use Rattle.bl_desc.specs.Values.{in_tables}
-use Rattle.bl_desc.specs.Entries.{Module, Entry, multiboot2, linux, module_in, title_of}
-use Rattle.bl_desc.specs.Entries.{has_few_modules, modules_of, multiboot2_in, linux_in, protocol_of}
+use Rattle.bl_desc.specs.Entries.{Module, Form, Entry, module_in, title_of}
+use Rattle.bl_desc.specs.Entries.{has_few_modules, modules_of, protocol_row, protocol_of}
 use Rattle.bl_desc.specs.Entries.{entry_by, entry_in, is_menu, entries_of}
 use Rattle.bl_desc.specs.Described.{Described, InlineFile, described, described_in, regions_of}
 use Rattle.bl_desc.specs.Described.{files_of}
-use Rattle.bl_boot.specs.Attempted.{module_lines}
 use Rattle.bl_boot.proofs.ReadLemmas.{all_tables, bound, stood, tested}
 
 abbrev pub HasFewLines : Entry → Type 0
-HasFewLines entry = length (module_lines entry.form) ≤ most_modules
+HasFewLines entry = length (map (λ m. m.line) entry.form.modules) ≤ most_modules
 
 few_of : (d : Data) (modules : List Module) → modules_of d ≡ Some modules
     → length modules ≤ most_modules
@@ -50,46 +49,31 @@ few_lines : (modules : List Module) → length modules ≤ most_modules
     → length (map (λ (m : Module). m.line) modules) ≤ most_modules
 few_lines modules few = rw length-map few
 
-few_same : (one entry : Entry) → HasFewLines one → Some one ≡ Some entry → HasFewLines entry
-few_same one entry few is = subst HasFewLines (same_Some one entry is) few
-
-few_multiboot2 : (ms : Members) (entry : Entry) → multiboot2_in ms ≡ Some entry → HasFewLines entry
-unfolding multiboot2_in
-few_multiboot2 ms entry is =
-    let keys = tested _ _ entry is in
-    let title = bound (at_key title_of (codes "title") ms) _ entry keys.1 in
-    let kernel = bound (at_key text_of (codes "kernel") ms) _ entry title.2 in
-    let line = bound (at_key_or [] text_of (codes "line") ms) _ entry kernel.2 in
-    let modules = bound (at_key_or [] modules_of (codes "module") ms) _ entry line.2 in
+-- so what an entry has beside its kernel
+few_form : (ms : Members) (protocol : Protocol) (form : Form)
+    → (protocol_row protocol).form ms ≡ Some form → length form.modules ≤ most_modules
+few_form ms Multiboot2 form is =
+    let modules = bound (at_key_or [] modules_of (codes "module") ms) _ form is in
     let few = few_if (get_member (codes "module") ms) modules.0 modules.1 in
-    few_same
-    record {
-      title = title.0;
-      kernel = kernel.0;
-      line = line.0;
-      form = multiboot2 modules.0;
-    }
-    entry (few_lines modules.0 few) modules.2
-
-few_linux : (ms : Members) (entry : Entry) → linux_in ms ≡ Some entry → HasFewLines entry
-unfolding linux_in
-few_linux ms entry is =
-    let keys = tested _ _ entry is in
-    let title = bound (at_key title_of (codes "title") ms) _ entry keys.1 in
-    let kernel = bound (at_key text_of (codes "kernel") ms) _ entry title.2 in
-    let line = bound (at_key_or [] text_of (codes "line") ms) _ entry kernel.2 in
-    let initrd = bound (at_key_if text_of (codes "initrd") ms) _ entry line.2 in
-    few_same
-    record { title = title.0; kernel = kernel.0; line = line.0; form = linux initrd.0 }
-    entry none initrd.2
+    subst (λ (f : Form). length f.modules ≤ most_modules) (same_Some _ form modules.2) few
+few_form ms Linux form is =
+    let initrd = bound (at_key_if text_of (codes "initrd") ms) _ form is in
+    subst (λ (f : Form). length f.modules ≤ most_modules) (same_Some _ form initrd.2) none
   where
     none : 0 ≤ most_modules
     none = omega arith
 
 few_by : (ms : Members) (protocol : Protocol) (entry : Entry) → entry_by ms protocol ≡ Some entry
     → HasFewLines entry
-few_by ms Multiboot2 entry is = few_multiboot2 ms entry is
-few_by ms Linux entry is = few_linux ms entry is
+unfolding entry_by
+few_by ms protocol entry is =
+    let keys = tested _ _ entry is in
+    let title = bound (at_key title_of (codes "title") ms) _ entry keys.1 in
+    let kernel = bound (at_key text_of (codes "kernel") ms) _ entry title.2 in
+    let line = bound (at_key_or [] text_of (codes "line") ms) _ entry kernel.2 in
+    let form = bound ((protocol_row protocol).form ms) _ entry line.2 in
+    subst HasFewLines (same_Some _ entry form.2)
+    (few_lines form.0.modules (few_form ms protocol form.0 form.1))
 
 few_in : (ms : Members) (entry : Entry) → entry_in ms ≡ Some entry → HasFewLines entry
 unfolding entry_in

@@ -7,6 +7,8 @@ use Rattle.bl_load.specs.Handover.{Handover}
 use Rattle.bl_load.specs.Parts.{IsHandover}
 use Rattle.bl_image.specs.Image.{spelling}
 use Rattle.bl_image.specs.ImageParts.{IsImage}
+use Rattle.bl_image.specs.Versions.{written_version}
+use Rattle.bl_image.specs.declared.version.Version.{Version}
 use Rattle.bl_walk.specs.Faults.{IsSound}
 use Rattle.bl_walk.specs.Seen.{IsSeen}
 use Rattle.bl_walk.specs.SeenFacts.{SeenFacts}
@@ -43,15 +45,15 @@ module _ {F : Type 0} {answers : F → List ℕ → File → Type 0} {faults : F
       machine : AreMachineFacts b.case.facts
       machine = machine_facts b.case.description b.case.facts b.case.machine
 
-      pub booted_image_shows : (image : Handover) (seen : SeenFacts)
-          → IsImage (spelling b.handover) image → IsSeen image seen
+      pub booted_image_shows : (version : Version) (image : Handover) (seen : SeenFacts)
+          → IsImage version (spelling written_version b.handover) image → IsSeen image seen
           → ShowsEntry b.case.facts (value_at b.case b.entry) seen
-      booted_image_shows image seen is sees =
-          images_show b.case.facts (value_at b.case b.entry) b.handover image seen machine b.lines
-          (few_lines b.case b.entry) handed b.kept is sees
+      booted_image_shows version image seen is sees =
+          images_show b.case.facts (value_at b.case b.entry) written_version version b.handover
+          image seen machine b.lines (few_lines b.case b.entry) handed b.kept is sees
 
-      pub booted_image_is_sound : (image : Handover) → IsImage (spelling b.handover) image
-          → IsSound image
-      booted_image_is_sound image is =
-          images_are_sound b.case.facts (value_at b.case b.entry) b.handover image machine b.lines
-          (few_lines b.case b.entry) handed b.kept is
+      pub booted_image_is_sound : (version : Version) (image : Handover)
+          → IsImage version (spelling written_version b.handover) image → IsSound image
+      booted_image_is_sound version image is =
+          images_are_sound b.case.facts (value_at b.case b.entry) written_version version b.handover
+          image machine b.lines (few_lines b.case b.entry) handed b.kept is

@@ -1,43 +1,34 @@
 -- What the menu of a description attempts, and with which files. Own.
-use Rattle.std.specs.Prelude.{ℕ, ◌+◌, ◌*◌, List, [], ◌∷◌, map, slice_index_or}
+use Rattle.std.specs.Prelude.{ℕ, ◌+◌, ◌*◌, List, [], ◌∷◌, ◌++◌, map, slice_index_or}
 use Rattle.std.specs.Prelude.{option_to_list, if◌then◌else◌}
 use Rattle.std.specs.Str.{bytes_eq}
 use Rattle.std.specs.List.{flat_map}
 use Rattle.bl_map.specs.MachineFacts.{MachineFacts}
-use Rattle.bl_load.specs.Value.{EntryValue}
+use Rattle.bl_plan.specs.declared.protocol.Protocol.TheVariants.{Multiboot2}
+use Rattle.bl_load.specs.Value.{EntryValue, value_from}
 use Rattle.bl_session.specs.Menu.{EntryFacts, MenuFacts}
 use Rattle.bl_session.specs.Attempts.{once_by, attempts_of}
 use Rattle.bl_session.specs.Boot.{BootFacts}
 use Rattle.bl_session.specs.Outcome.{File, size_of}
 use Rattle.bl_desc.specs.Described.{Described}
-use Rattle.bl_desc.specs.Entries.{Entry, Form, multiboot2, linux, form_protocol}
+use Rattle.bl_desc.specs.Entries.{Entry, Form, bare_form}
 
 -- ---- the files of an entry
 
--- the names of the files beside the kernel, in order: those of the modules, or that of the initial
--- ramdisk
+-- the names of the files beside the kernel, in order: that of the initial ramdisk, or those of the
+-- modules
 abbrev pub names_beside : Form → List (List ℕ)
-names_beside (multiboot2 modules) = map (λ m. m.file) modules
-names_beside (linux initrd) = option_to_list initrd
+names_beside form = option_to_list form.initrd ++ map (λ m. m.file) form.modules
 
 -- the names of an entry's files, in order: the kernel's, then those beside it; one may be named
 -- twice
 abbrev pub file_names : Entry → List (List ℕ)
 file_names entry = entry.kernel ∷ names_beside entry.form
 
--- the lines of the modules
-abbrev pub module_lines : Form → List (List ℕ)
-module_lines (multiboot2 modules) = map (λ m. m.line) modules
-module_lines (linux initrd) = []
-
 -- the value of an entry whose files hold these texts
 abbrev pub entry_value : Entry → List (List ℕ) → EntryValue
-entry_value entry files = record {
-  protocol = form_protocol entry.form;
-  line = entry.line;
-  files = files;
-  module_lines = module_lines entry.form;
-}
+entry_value entry files =
+    value_from entry.form.protocol files entry.line (map (λ m. m.line) entry.form.modules)
 
 -- ---- the files of a menu
 
@@ -47,7 +38,7 @@ attempted description = attempts_of description.default description.fallbacks
 
 -- what is read after the last entry
 abbrev pub no_entry : Entry
-no_entry = record { title = []; kernel = []; line = []; form = multiboot2 [] }
+no_entry = record { title = []; kernel = []; line = []; form = bare_form Multiboot2 }
 
 abbrev pub entry_of : Described → ℕ → Entry
 entry_of description index = slice_index_or description.entries index no_entry

@@ -6,18 +6,19 @@ use Rattle.bl_map.specs.Faults.{HasFirstFault, IsAccepted}
 use Rattle.bl_map.specs.Kinds.{IsNormalMap}
 use Rattle.bl_map.specs.declared.fault.MapFault.{MapFault}
 use Rattle.bl_map.specs.declared.fault.MapFault.TheVariants as map_fault
+use Rattle.bl_load.specs.ByteLines.{HasByteLines}
 use Rattle.bl_load.specs.Handover.{Handover}
 use Rattle.bl_image.specs.Begun.{IsBegun}
 use Rattle.bl_image.specs.Image.{spelling}
 use Rattle.bl_image.specs.ImageParts.{IsKept}
+use Rattle.bl_image.specs.Versions.{written_version}
 use Rattle.bl_desc.specs.Described.{Described, described, file_named}
-use Rattle.bl_boot.specs.Found.{AreFound}
+use Rattle.bl_boot.specs.Found.{AreFound, names_asked}
 use Rattle.bl_load.specs.Value.{EntryValue}
 use Rattle.bl_session.specs.declared.words.RefusedEntry.{RefusedEntry}
 use Rattle.bl_session.specs.Ends.{End}
 use Rattle.bl_session.specs.Boot.{State, handed_over, none_left, sizes_of}
 use Rattle.bl_session.specs.Outcome.{File, IsOutcome, EntryEnds, value_in, no_fault}
-use Rattle.bl_walk.specs.Shown.{HasByteLines}
 use Rattle.bl_boot.specs.Attempted.{entry_of, names_in, boot_of}
 use Rattle.bl_boot.specs.Says.{booted_line, refused_lines, no_entry_line}
 
@@ -80,7 +81,7 @@ module _ {F : Type 0} (answers : F → List ℕ → File → Type 0) (faults : F
     pub lines : HasByteLines (value_in (boot_of case.description case.facts case.files)
         case.files entry)
     pub kept : IsKept handover
-    pub image : after.sink ≡ before.sink ++ spelling handover
+    pub image : after.sink ≡ before.sink ++ spelling written_version handover
     pub said : after.said ≡ before.said
         ++ (refused_lines earlier ++ booted_line entry (entry_of case.description entry).title)
 
@@ -99,7 +100,7 @@ module _ {F : Type 0} (answers : F → List ℕ → File → Type 0) (faults : F
     pub earlier : List RefusedEntry
     pub handover : Handover
     pub outcome : ComesTo case (handed_over entry earlier handover)
-    pub begun : IsBegun before.sink after.sink (spelling handover)
+    pub begun : IsBegun before.sink after.sink (spelling written_version handover)
     pub unsaid : after.said ≡ before.said
 
 -- the bytes describe a menu; each file of the entries that are attempted stands in the description
@@ -112,6 +113,11 @@ pub record HasInlineFiles (desc : List ℕ) : Type 0 where
 abbrev pub names_sought : Option Described → List (List ℕ)
 names_sought None = []
 names_sought (Some description) = names_in description
+
+-- those of them that files are asked for
+abbrev pub names_fetched : Option Described → List (List ℕ)
+names_fetched None = []
+names_fetched (Some description) = names_asked description.files (names_in description)
 
 -- the value of an entry of a menu, by its index
 abbrev pub value_at : {F : Type 0} {answers : F → List ℕ → File → Type 0} {faults : F → ℕ}

@@ -29,16 +29,24 @@ KeepsLimit missing = Unit {0}
 KeepsLimit (too_long over) = Unit {0}
 KeepsLimit (whole bytes) = length bytes ≤ file_limit
 
+-- a file is too long only if it is longer than the limit; so it is its own length that is told,
+-- where only one answer may be told
+abbrev pub TellsLength : {A : Type 0} → Fetched A → Type 0
+TellsLength fetched.Missing = Unit {0}
+TellsLength (fetched.TooLong n) = file_limit < n
+TellsLength (fetched.Bytes file) = Unit {0}
+
 -- there is one fault more exactly if the file is missing
 abbrev pub CountsFault : ℕ → ℕ → File → Type 0
 CountsFault before after missing = after ≡ before + 1
 CountsFault before after (too_long over) = after ≡ before
 CountsFault before after (whole bytes) = after ≡ before
 
--- files in memory, and how many names were missing so far
+-- files in memory, how many names were missing so far, and those that were asked for
 pub record MemFilesFacts : Type 0 where
   pub files : List InlineFile
   pub faults : ℕ
+  pub asked : List (List ℕ)
 
 -- ---- what the code keeps
 

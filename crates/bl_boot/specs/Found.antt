@@ -1,5 +1,6 @@
 -- What is found for the names of files. Own.
-use Rattle.std.specs.Prelude.{◌≡◌, ℕ, List, [], ◌∷◌, MatchOption}
+use Rattle.std.specs.Prelude.{◌≡◌, ℕ, ◌++◌, List, [], ◌∷◌, is_none, MatchOption}
+use Rattle.std.specs.List.{filter}
 use Rattle.bl_desc.specs.Described.{InlineFile, file_named}
 use Rattle.bl_session.specs.Outcome.{File}
 use Rattle.bl_boot.specs.Files.{answer_for, KeepsLimit, CountsFault}
@@ -29,3 +30,16 @@ module _ {F : Type 0} (answers : F → List ℕ → File → Type 0) (faults : F
   AreFound inline (name ∷ names) before after (answer ∷ answers) =
       (between : F) × IsFound inline name before between answer
       × AreFound inline names between after answers
+
+-- ---- what is asked for
+
+-- of these names, those that the files are asked for: all but the description's own
+abbrev pub names_asked : List InlineFile → List (List ℕ) → List (List ℕ)
+names_asked inline names = filter (λ name. is_none (file_named name inline)) names
+
+-- of these names the first ones, perhaps none, perhaps all, were asked for after those before
+pub record AsksFirst (names before after : List (List ℕ)) : Type 0 where
+  pub first : List (List ℕ)
+  pub left : List (List ℕ)
+  pub names_are : names ≡ first ++ left
+  pub after_is : after ≡ before ++ first

@@ -7,12 +7,14 @@ use Rattle.bl_desc.specs.declared.fault.DescFault.{DescFault}
 use Rattle.bl_desc.specs.declared.fault.DescFault.TheVariants as desc_fault
 use Rattle.bl_image.specs.Image.{spelling}
 use Rattle.bl_image.specs.ImageParts.{IsKept}
+use Rattle.bl_image.specs.Versions.{written_version}
 use Rattle.bl_load.specs.Handover.{Handover}
 use Rattle.bl_session.specs.declared.words.RefusedEntry.{RefusedEntry}
 use Rattle.bl_session.specs.Boot.{BootFacts, handed_over, none_left}
 use Rattle.bl_session.specs.Outcome.{File, IsOutcome, no_fault}
 use Rattle.bl_session.specs.Attempts.{once_by}
 use Rattle.bl_boot.specs.Attempted.{entry_of}
+use Rattle.bl_boot.specs.Found.{AsksFirst}
 use Rattle.bl_boot.specs.Says.{booted_line, refused_lines, no_entry_line}
 use Rattle.bl_boot.specs.Ends.{IsBadMachine, IsBadDescription, IsBooted, IsRefused, IsBroken}
 use Rattle.bl_boot.specs.Ends.{Surroundings}
@@ -66,7 +68,7 @@ abbrev pub FoundEnds : Described → BootFacts → List File → (s t u v : List
 FoundEnds description facts files s t u v (Ok Booted) =
     (entry : ℕ) × (earlier : List RefusedEntry) × (handover : Handover)
     × IsOutcome facts files no_fault (handed_over entry earlier handover)
-    × IsKept handover × (t ≡ s ++ spelling handover)
+    × IsKept handover × (t ≡ s ++ spelling written_version handover)
     × (v ≡ u ++ (refused_lines earlier ++ booted_line entry (entry_of description entry).title))
 FoundEnds description facts files s t u v (Ok NoEntryLeft) =
     (refused : List RefusedEntry) × IsOutcome facts files no_fault (none_left refused)
@@ -75,7 +77,7 @@ FoundEnds description facts files s t u v (Err BadDescription) = ⊥
 FoundEnds description facts files s t u v (Err Device) =
     (entry : ℕ) × (earlier : List RefusedEntry) × (handover : Handover)
     × IsOutcome facts files no_fault (handed_over entry earlier handover)
-    × IsBegun s t (spelling handover) × (v ≡ u)
+    × IsBegun s t (spelling written_version handover) × (v ≡ u)
 FoundEnds description facts files s t u v (Err NoMemory) = (t ≡ s) × (v ≡ u)
 
 -- the sink has one fault more exactly where the boot ends in a fault of the sink
@@ -84,6 +86,14 @@ HasFaults before after (Err Device) = after ≡ before + 1
 HasFaults before after (Err BadDescription) = after ≡ before
 HasFaults before after (Err NoMemory) = after ≡ before
 HasFaults before after (Ok ended) = after ≡ before
+
+-- these names were asked for where the boot came to an end, or the sink had a fault; else the first
+-- of them
+abbrev pub HasAsked : (names before after : List (List ℕ)) → Result End EndFault → Type 0
+HasAsked names before after (Ok ended) = after ≡ before ++ names
+HasAsked names before after (Err Device) = after ≡ before ++ names
+HasAsked names before after (Err BadDescription) = AsksFirst names before after
+HasAsked names before after (Err NoMemory) = AsksFirst names before after
 
 -- a map ends so
 abbrev pub MapEnds : List ℕ → List ℕ → List ℕ → Result (Unit {0}) EndFault → Type 0

@@ -7,7 +7,7 @@ use Rattle.hex.specs.Hex.{encode_lower}
 use Rattle.bl_map.specs.declared.region.Region.{Region}
 use Rattle.bl_map.specs.Kinds.{kind_number, end_of}
 use Rattle.bl_plan.specs.declared.protocol.Protocol.{Protocol}
-use Rattle.bl_plan.specs.declared.protocol.Protocol.TheVariants.{Multiboot2, Linux}
+use Rattle.bl_desc.specs.Entries.{protocol_row}
 use Rattle.bl_walk.specs.SeenFacts.{SeenModuleFacts, SeenFileFacts, SeenFacts}
 use Rattle.bl_walk.specs.declared.seen.SeenPart.{SeenPart}
 use Rattle.bl_boot.specs.Says.{hex16}
@@ -23,12 +23,9 @@ text_word bytes =
     if length bytes == 0 then codes "0" else
     decimal (length bytes) ++ codes " " ++ encode_lower bytes
 
-abbrev pub protocol_word : Protocol → List ℕ
-protocol_word Multiboot2 = codes "multiboot2"
-protocol_word Linux = codes "linux"
-
+-- a protocol is called as in a description
 abbrev pub protocol_line : Protocol → List ℕ
-protocol_line protocol = codes "protocol " ++ protocol_word protocol ++ codes "\n"
+protocol_line protocol = codes "protocol " ++ (protocol_row protocol).word ++ codes "\n"
 
 abbrev pub entry_line : ℕ → List ℕ
 entry_line entry = codes "entry " ++ hex8 entry ++ codes "\n"

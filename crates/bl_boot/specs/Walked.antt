@@ -1,6 +1,7 @@
 -- How a walk of an image ends. Own.
 use Rattle.std.specs.Prelude.{◌≡◌, ◌≢◌, ◌⊎◌, ℕ, List, ◌++◌, codes, decimal}
 use Rattle.bl_load.specs.Handover.{Handover}
+use Rattle.bl_image.specs.declared.version.Version.{Version}
 use Rattle.bl_image.specs.Image.{spelling}
 use Rattle.bl_image.specs.ImageFaults.{image_fault}
 use Rattle.bl_image.specs.Faults.{image_fault_number}
@@ -14,9 +15,10 @@ use Rattle.bl_walk.specs.declared.fault.WalkFault.{WalkFault}
 use Rattle.bl_walk.specs.declared.fault.WalkFault.TheVariants as walking
 use Rattle.bl_boot.specs.WalkSays.{walk_lines}
 
--- the image of a handover came from the source, and then its end
+-- the image of a handover, in a version, came from the source, and then its end
 pub record IsRead (before after : Input) (handover : Handover) : Type 0 where
-  pub came : Comes before after (spelling handover)
+  pub version : Version
+  pub came : Comes before after (spelling version handover)
   pub ended : IsEnded after
 
 -- what is seen in the image that came was said

@@ -5,6 +5,8 @@ ghost use Rattle.bl_map.specs.Kinds.{kind_at};
 ghost use Rattle.bl_load.specs.Handover.{Handover};
 ghost use Rattle.bl_image.specs.Image.{spelling};
 ghost use Rattle.bl_image.specs.ImageParts.{IsImage};
+ghost use Rattle.bl_image.specs.Versions.{written_version};
+ghost use Rattle.bl_image.specs.declared.version.Version.{Version};
 ghost use Rattle.bl_walk.specs.Faults.{IsSound};
 ghost use Rattle.bl_walk.specs.Seen.{IsSeen};
 ghost use Rattle.bl_walk.specs.SeenFacts.{SeenFacts};
@@ -48,10 +50,12 @@ pub fn two_boots<F: Files, G: Files>()
 /// and no fault stands in it.
 pub fn booted_images_show_their_entries<F: Files>()
     ensures seen { (desc : List ℕ) (before after : Surroundings F)
-        (b : IsBooted F.answers F.faults desc before after) (image : Handover) (seen : SeenFacts)
-        → IsImage (spelling b.handover) image → IsSeen image seen
+        (b : IsBooted F.answers F.faults desc before after) (version : Version)
+        (image : Handover) (seen : SeenFacts)
+        → IsImage version (spelling written_version b.handover) image → IsSeen image seen
         → ShowsEntry b.case.facts (value_at b.case b.entry) seen }
     ensures sound { (desc : List ℕ) (before after : Surroundings F)
-        (b : IsBooted F.answers F.faults desc before after) (image : Handover)
-        → IsImage (spelling b.handover) image → IsSound image }
+        (b : IsBooted F.answers F.faults desc before after) (version : Version)
+        (image : Handover) → IsImage version (spelling written_version b.handover) image
+        → IsSound image }
 {}

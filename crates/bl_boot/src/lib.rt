@@ -10,7 +10,7 @@ mod walking;
 
 pub use bl_session::{FILE_LIMIT, Fetched};
 pub use booting::boot;
-pub use fetching::{Files, MemFiles};
+pub use fetching::{AskedNames, Files, MemFiles};
 pub use laws::{booted_images_show_their_entries, two_boots};
 pub use mapping::map_to;
 pub use walking::walk_to;

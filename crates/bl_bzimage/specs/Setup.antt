@@ -59,7 +59,7 @@ is_whole bytes = nat_le 0x264 (header_end bytes) && nat_lt (payload_at bytes) (l
 abbrev pub is_relocatable : List ℕ → Bool
 is_relocatable bytes = not (slice_index bytes 0x234 == 0)
 
--- "kernel_alignment" of a relocatable kernel
+-- own: "kernel_alignment" of a relocatable kernel is a power of two
 abbrev pub has_alignment : List ℕ → Bool
 has_alignment bytes = not (is_relocatable bytes) || is_power_of_two (u32_at bytes 0x230)
 

@@ -70,7 +70,8 @@ fn is_relocatable<V: ByteView>(view: &V) -> bool
     u8_at(view, RELOCATABLE_KERNEL) != 0
 }
 
-/// Whether a relocatable kernel has an alignment.
+/// Whether the alignment of a relocatable kernel is a power of two. The boot protocol does not say
+/// that it is; no other one is taken.
 pub fn has_alignment<V: ByteView>(view: &V) -> bool
     requires { LEAST_FILE ≤ length (V.bytes view.now) }
     ensures { result ≡ spec.has_alignment (V.bytes view.now) }

@@ -10,7 +10,8 @@ use thiserror::Error;
 ///   0x10000.
 /// - `SetupCut`: the header ends before `init_size` does, or the file ends with its setup, so that
 ///   there is no payload.
-/// - `BadAlign`: the kernel is relocatable, and `kernel_alignment` is no power of two.
+/// - `BadAlign`: the kernel is relocatable, and `kernel_alignment` is no power of two (own: the
+///   boot protocol does not ask for one).
 /// - `BadPreferred`: the kernel is not relocatable, and `pref_address` is below 1 MiB or above 32
 ///   bits.
 #[derive(Clone, Copy, Debug, PartialEq, Eq, Error)]

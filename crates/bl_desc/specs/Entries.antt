@@ -1,9 +1,9 @@
 -- What a boot description says of its menu: for each table of an entry or a module a function from
 -- the table's keys to a record, or to none if the table is a bad one. Own.
-use Rattle.std.specs.Prelude.{ℕ, Bool, ◌&&◌, if◌then◌else◌, nat_le, List, [], ◌∷◌, length, Option}
-use Rattle.std.specs.Prelude.{Some, None, codes}
+use Rattle.std.specs.Prelude.{ℕ, Bool, ◌&&◌, if◌then◌else◌, nat_le, List, [], ◌∷◌, ◌++◌, length}
+use Rattle.std.specs.Prelude.{Option, Some, None, codes}
 use Rattle.std.specs.Str.{bytes_eq}
-use Rattle.std.specs.List.{list_all}
+use Rattle.std.specs.List.{find, list_all}
 use Rattle.toml.specs.Data.{Data, Members}
 use Rattle.bl_desc.specs.Values.{◌>>=◌, passing, text_of, has_only, at_key, at_key_or, at_key_if}
 use Rattle.bl_desc.specs.Values.{in_tables}
@@ -16,16 +16,16 @@ pub record Module : Type 0 where
   pub file : List ℕ
   pub line : List ℕ
 
--- what an entry has beside its kernel, by its protocol: modules, or perhaps an initial ramdisk,
--- which is the name of a file
-pub data Form : Type 0 where
-  multiboot2 : List Module → Form
-  linux : Option (List ℕ) → Form
+-- what an entry has beside its kernel: modules, and perhaps an initial ramdisk, which is the name of
+-- a file; its protocol says which it may have
+pub record Form : Type 0 where
+  pub protocol : Protocol
+  pub modules : List Module
+  pub initrd : Option (List ℕ)
 
--- the protocol that a form is of
-abbrev pub form_protocol : Form → Protocol
-form_protocol (multiboot2 modules) = Multiboot2
-form_protocol (linux initrd) = Linux
+-- nothing beside the kernel
+abbrev pub bare_form : Protocol → Form
+bare_form protocol = record { protocol = protocol; modules = []; initrd = None }
 
 -- an entry of the menu; kernel is the name of a file
 pub record Entry : Type 0 where
@@ -44,7 +44,7 @@ module_in ms =
       Some record { file = file; line = line })
     else None
 
--- ---- entry
+-- ---- title, modules
 
 -- each byte is printable ASCII
 abbrev pub is_printable : List ℕ → Bool
@@ -63,47 +63,60 @@ has_few_modules modules = nat_le (length modules) most_modules
 unfoldable pub modules_of : Data → Option (List Module)
 modules_of d = in_tables module_in d >>= passing has_few_modules
 
--- an entry of the protocol multiboot2: it may have modules
-unfoldable pub multiboot2_in : Members → Option Entry
-multiboot2_in ms =
-    if has_only
-    (codes "title" ∷ codes "protocol" ∷ codes "kernel" ∷ codes "line" ∷ codes "module" ∷ []) ms
-    then (do
-      title ← at_key title_of (codes "title") ms
-      kernel ← at_key text_of (codes "kernel") ms
-      line ← at_key_or [] text_of (codes "line") ms
-      modules ← at_key_or [] modules_of (codes "module") ms
-      Some record { title = title; kernel = kernel; line = line; form = multiboot2 modules })
-    else None
+-- ---- protocol
 
--- an entry of the protocol linux: it may have an initial ramdisk
-unfoldable pub linux_in : Members → Option Entry
-linux_in ms =
-    if has_only
-    (codes "title" ∷ codes "protocol" ∷ codes "kernel" ∷ codes "line" ∷ codes "initrd" ∷ []) ms
-    then (do
-      title ← at_key title_of (codes "title") ms
-      kernel ← at_key text_of (codes "kernel") ms
-      line ← at_key_or [] text_of (codes "line") ms
-      initrd ← at_key_if text_of (codes "initrd") ms
-      Some record { title = title; kernel = kernel; line = line; form = linux initrd })
-    else None
+-- what a protocol is called, under which keys its entries say what they have beside their kernel, and
+-- what is read from these
+pub record ProtocolRow : Type 0 where
+  pub word : List ℕ
+  pub keys : List (List ℕ)
+  pub form : Members → Option Form
 
+-- with multiboot2 an entry may have modules
+abbrev pub multiboot2_form : Members → Option Form
+multiboot2_form ms = do
+  modules ← at_key_or [] modules_of (codes "module") ms
+  Some (record (bare_form Multiboot2) { modules = modules })
+
+-- with linux it may have an initial ramdisk
+abbrev pub linux_form : Members → Option Form
+linux_form ms = do
+  initrd ← at_key_if text_of (codes "initrd") ms
+  Some (record (bare_form Linux) { initrd = initrd })
+
+abbrev pub protocol_row : Protocol → ProtocolRow
+protocol_row Multiboot2 =
+    record { word = codes "multiboot2"; keys = codes "module" ∷ []; form = multiboot2_form }
+protocol_row Linux = record { word = codes "linux"; keys = codes "initrd" ∷ []; form = linux_form }
+
+-- the protocol that is called so
 abbrev pub protocol_named : List ℕ → Option Protocol
 protocol_named name =
-    if bytes_eq name (codes "multiboot2") then Some Multiboot2 else
-    if bytes_eq name (codes "linux") then Some Linux else
-    None
+    find (λ protocol. bytes_eq name (protocol_row protocol).word) (Multiboot2 ∷ Linux ∷ [])
 
 abbrev pub protocol_of : Data → Option Protocol
 protocol_of d = text_of d >>= protocol_named
 
-abbrev pub entry_by : Members → Protocol → Option Entry
-entry_by ms Multiboot2 = multiboot2_in ms
-entry_by ms Linux = linux_in ms
+-- ---- entry
+
+-- the keys that an entry of each protocol has
+abbrev pub entry_keys : List (List ℕ)
+entry_keys = codes "title" ∷ codes "protocol" ∷ codes "kernel" ∷ codes "line" ∷ []
+
+unfoldable pub entry_by : Members → Protocol → Option Entry
+entry_by ms protocol =
+    if has_only (entry_keys ++ (protocol_row protocol).keys) ms then (do
+      title ← at_key title_of (codes "title") ms
+      kernel ← at_key text_of (codes "kernel") ms
+      line ← at_key_or [] text_of (codes "line") ms
+      form ← (protocol_row protocol).form ms
+      Some record { title = title; kernel = kernel; line = line; form = form })
+    else None
 
 unfoldable pub entry_in : Members → Option Entry
 entry_in ms = at_key protocol_of (codes "protocol") ms >>= entry_by ms
+
+-- ---- menu
 
 -- it has an entry, and not too many
 abbrev pub is_menu : List Entry → Bool

@@ -1,5 +1,5 @@
 //! The entries of a description.
-ghost use Rattle.std.specs.Prelude.{◌≡◌, ◌≤◌, length, map, codes, option_map, IfOk};
+ghost use Rattle.std.specs.Prelude.{◌≡◌, ◌≤◌, length, map, codes, IfOk};
 ghost use Rattle.toml.specs.View.{view, table_view, items_view};
 ghost use Rattle.bl_desc.specs.Values as values;
 ghost use Rattle.bl_desc.specs.Entries as spec;
@@ -8,12 +8,11 @@ ghost use Rattle.bl_desc.specs.Views.{Gives, entry_view};
 
 use crate::desc::EntryRow;
 use crate::fault::DescFault;
-use crate::form::EntryForm;
-use crate::keys::{at_key, has_only, text_at, text_if, text_or_empty};
-use crate::modules::modules_at;
+use crate::keys::{at_key, text_at, text_or_empty};
+use crate::protocols::{form_in, has_keys, protocol_in};
 use crate::text::Text;
 use bl_plan::{MOST_ENTRIES, Protocol};
-use std::alloc::{AllocError, Allocator};
+use std::alloc::Allocator;
 use toml::{Table, Value};
 
 /// Whether each byte of a text is printable ASCII.
@@ -44,72 +43,26 @@ fn title_in(table: &Table) -> Result<&str, DescFault>
     Ok(title)
 }
 
-/// The protocol of this name.
-fn protocol_named(name: &str) -> Option<Protocol>
-    ensures { result ≡ spec.protocol_named name.now }
+#[tactic(auto, unfolding(crate::specs::Entries::entry_by))]
+fn entry_by<A: Allocator + Copy>(
+    alloc: A,
+    table: &Table,
+    protocol: Protocol,
+) -> Result<EntryRow<A>, DescFault>
+    ensures { Gives entry_view result (spec.entry_by (table_view table.now) protocol) }
 {
-    match name {
-        "multiboot2" => Some(Protocol::Multiboot2),
-        "linux" => Some(Protocol::Linux),
-        _ => None,
-    }
-}
-
-fn protocol_in(table: &Table) -> Result<Protocol, DescFault>
-    ensures { Gives (λ p. p) result
-        (values.at_key spec.protocol_of (codes "protocol") (table_view table.now)) }
-{
-    let name = text_at(table, "protocol")?;
-    protocol_named(name).ok_or(DescFault::BadDescription)
-}
-
-/// A text of one's own, of one that may be left out.
-fn own_text<A: Allocator>(alloc: A, text: Option<&str>) -> Result<Option<Text<A>>, AllocError>
-    ensures { IfOk result (λ own. own ≡ option_map (λ s. s.now) text.entry) }
-{
-    match text {
-        Some(text) => Ok(Some(Text::from(String::from_str(alloc, text)?))),
-        None => Ok(None),
-    }
-}
-
-#[tactic(auto, unfolding(crate::specs::Entries::multiboot2_in))]
-fn multiboot2_in<A: Allocator + Copy>(alloc: A, table: &Table) -> Result<EntryRow<A>, DescFault>
-    ensures { Gives entry_view result (spec.multiboot2_in (table_view table.now)) }
-{
-    if !has_only(table, &["title", "protocol", "kernel", "line", "module"]) {
+    if !has_keys(table, protocol) {
         return Err(DescFault::BadDescription);
     }
     let title = title_in(table)?;
     let kernel = text_at(table, "kernel")?;
     let line = text_or_empty(table, "line")?;
-    let modules = modules_at(alloc, table)?;
+    let form = form_in(alloc, table, protocol)?;
     Ok(EntryRow {
         title: Text::from(String::from_str(alloc, title)?),
         kernel: Text::from(String::from_str(alloc, kernel)?),
         line: Text::from(String::from_str(alloc, line)?),
-        form: EntryForm::Multiboot2 { modules },
-    })
-}
-
-#[tactic(auto, unfolding(crate::specs::Entries::linux_in))]
-fn linux_in<A: Allocator + Copy>(alloc: A, table: &Table) -> Result<EntryRow<A>, DescFault>
-    ensures { Gives entry_view result (spec.linux_in (table_view table.now)) }
-{
-    if !has_only(table, &["title", "protocol", "kernel", "line", "initrd"]) {
-        return Err(DescFault::BadDescription);
-    }
-    let title = title_in(table)?;
-    let kernel = text_at(table, "kernel")?;
-    let line = text_or_empty(table, "line")?;
-    let initrd = text_if(table, "initrd")?;
-    Ok(EntryRow {
-        title: Text::from(String::from_str(alloc, title)?),
-        kernel: Text::from(String::from_str(alloc, kernel)?),
-        line: Text::from(String::from_str(alloc, line)?),
-        form: EntryForm::Linux {
-            initrd: own_text(alloc, initrd)?,
-        },
+        form,
     })
 }
 
@@ -117,10 +70,8 @@ fn linux_in<A: Allocator + Copy>(alloc: A, table: &Table) -> Result<EntryRow<A>,
 fn entry_in<A: Allocator + Copy>(alloc: A, table: &Table) -> Result<EntryRow<A>, DescFault>
     ensures { Gives entry_view result (spec.entry_in (table_view table.now)) }
 {
-    match protocol_in(table)? {
-        Protocol::Multiboot2 => multiboot2_in(alloc, table),
-        Protocol::Linux => linux_in(alloc, table),
-    }
+    let protocol = protocol_in(table)?;
+    entry_by(alloc, table, protocol)
 }
 
 /// An entry, from an item of an array of tables.

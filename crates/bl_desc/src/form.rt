@@ -29,12 +29,11 @@ pub enum EntryForm<A: Allocator> {
 
 impl<A: Allocator> EntryForm<A> {
     ghost use Rattle.std.specs.Prelude.{◌≡◌};
-    ghost use Rattle.bl_desc.specs.Entries.{form_protocol};
     ghost use Rattle.bl_desc.specs.Views.{form_view};
 
     /// The protocol.
     pub fn protocol(&self) -> Protocol
-        ensures { result ≡ form_protocol (form_view self.now) }
+        ensures { result ≡ (form_view self.now).protocol }
     {
         match self {
             EntryForm::Multiboot2 { .. } => Protocol::Multiboot2,

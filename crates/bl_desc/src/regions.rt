@@ -7,23 +7,10 @@ ghost use Rattle.bl_desc.specs.Views.{Gives};
 
 use crate::fault::DescFault;
 use crate::keys::{at_key, has_only, number_at, text_at};
-use bl_map::{Kind, Region};
+use crate::kinds::kind_named;
+use bl_map::Region;
 use std::alloc::Allocator;
 use toml::{Table, Value};
-
-/// The kind of memory of this name.
-fn kind_named(name: &str) -> Option<Kind>
-    ensures { result ≡ spec.kind_named name.now }
-{
-    match name {
-        "usable" => Some(Kind::Usable),
-        "reserved" => Some(Kind::Reserved),
-        "acpi" => Some(Kind::Acpi),
-        "nvs" => Some(Kind::Nvs),
-        "bad" => Some(Kind::Bad),
-        _ => None,
-    }
-}
 
 #[tactic(auto, unfolding(crate::specs::Described::region_in))]
 fn region_in(table: &Table) -> Result<Region, DescFault>

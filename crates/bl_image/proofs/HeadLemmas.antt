@@ -1,117 +1,131 @@
--- The head of an image, field by field.
-use Rattle.std.proofs.Common.{◌≡◌, ◌≤◌, ◌<◌, ◌^◌, ℕ, true, List, [], ◌∷◌, ◌++◌, length, drop, None}
-use Rattle.std.proofs.Common.{refl, sym, ap, ◌∙◌, arith, append_assoc}
+-- The head of an image, judged field by field.
+use Rattle.std.proofs.Common.{◌≡◌, ℕ, true, List, [], ◌∷◌, ◌++◌, drop, None, Option}
+use Rattle.std.proofs.Common.{refl, ap, ◌∙◌, append_assoc, lit<}
 use Rattle.std.specs.Prelude.{nat_le, ◌==◌, ◌&&◌}
-use Rattle.std.proofs.lemmas.List.{append-nil}
-use Rattle.std.proofs.lemmas.Bool.Decides.{nat_tests}
-use Rattle.std.proofs.lemmas.Grind.{flat_map-append}
-use Rattle.std.specs.List.{flat_map}
+use Rattle.std.proofs.lemmas.List.{drop_at}
 use Rattle.bl_mem.specs.Words.{number_at, u32_at, u32_bytes}
 use Rattle.bl_mem.proofs.WordLaws.{length-u32_bytes, u32_again}
 use Rattle.bl_plan.specs.declared.protocol.Protocol.{Protocol}
-use Rattle.bl_plan.specs.Protocols as protocols
-use Rattle.bl_load.specs.declared.registers.Registers.{Registers}
-use Rattle.bl_image.specs.declared.fault.ImageFault.TheVariants.{BadVersion, BadHeader}
-use Rattle.bl_image.specs.Image.{magic, head, register_numbers}
-use Rattle.bl_image.specs.Fields.{Field, fields_fault, head_fields, magic_field, version_field}
-use Rattle.bl_image.specs.Fields.{protocol_field, registers_field, count_field, zero_field}
-use Rattle.bl_image.specs.ImageFaults.{image_fault, parts_fault, none_before}
-use Rattle.bl_image.specs.Source.{Input, Refuses}
+use Rattle.bl_plan.specs.Protocols.{protocol_number}
 use Rattle.bl_image.specs.declared.fault.ImageFault.{ImageFault}
+use Rattle.bl_image.specs.declared.fault.ImageFault.TheVariants.{BadVersion, BadHeader}
+use Rattle.bl_image.specs.declared.version.Version.{Version}
+use Rattle.bl_image.specs.declared.version.Version.TheVariants.{One}
+use Rattle.bl_image.specs.Image.{magic}
+use Rattle.bl_image.specs.Fields.{fields_fault, opening_fields, magic_field, version_field}
+use Rattle.bl_image.specs.Fields.{protocol_field}
+use Rattle.bl_image.specs.ImageFaults.{first, head_fault}
+use Rattle.bl_image.specs.Layouts.{layout, layout_of, layout_fields}
+use Rattle.bl_image.specs.Source.{Input, Comes, Refuses}
+use Rattle.bl_image.specs.Versions.{version_number}
+use Rattle.bl_image.proofs.FieldLemmas.{field_passes, word_tells, Passed, passed_more}
+use Rattle.bl_image.proofs.FieldLemmas.{passed_refuses}
+use Rattle.bl_image.proofs.Inputs.{comes_more}
+use Rattle.bl_image.proofs.NumbersAgain.{version_fits, protocol_fits, protocol_between}
 use Rattle.bl_image.proofs.RecordLemmas.{first_refuses}
-use Rattle.bl_image.proofs.NumberLemmas.{length-u32s}
-use Rattle.bl_image.proofs.ReadAgain.{protocol_fits, protocol_between}
-use Rattle.bl_image.proofs.FieldLemmas.{field_passes, word_tells}
 
-head_end : (numbers : List ℕ) (count : ℕ)
-    → flat_map u32_bytes numbers ++ (u32_bytes count ++ u32_bytes 0)
-    ≡ flat_map u32_bytes (numbers ++ count ∷ 0 ∷ [])
-head_end numbers count =
-    ap (λ (l : List ℕ). flat_map u32_bytes numbers ++ (u32_bytes count ++ l))
-    (sym (append-nil (u32_bytes 0)))
-    ∙ sym (flat_map-append u32_bytes numbers (count ∷ 0 ∷ []))
+pub version_passes : (v : Version) → version_field.passes (u32_bytes (version_number v)) ≡ true
+unfolding version_field
+version_passes One = word_tells (λ k. k == 1) BadVersion 1 true (lit< tt) refl
 
-six_pieces : (a b c d e f : List ℕ)
-    → ((((a ++ b) ++ c) ++ d) ++ e) ++ f ≡ a ++ (b ++ (c ++ (d ++ (e ++ f))))
-six_pieces a b c d e f = simp append_assoc
+pub protocol_passes : (version : ℕ) (p : Protocol)
+    → (protocol_field version).passes (u32_bytes (protocol_number p)) ≡ true
+unfolding protocol_field
+protocol_passes version p =
+    word_tells (λ k. nat_le 1 k && nat_le k 2) BadHeader (protocol_number p) true
+    (protocol_fits p) (protocol_between p)
 
--- the fields of the head, one after the other
-pub head_is : (p : Protocol) (r : Registers) (count : ℕ)
-    → ((((magic ++ u32_bytes 1) ++ u32_bytes (protocols.protocol_number p))
-    ++ flat_map u32_bytes (register_numbers r)) ++ u32_bytes count) ++ u32_bytes 0
-    ≡ head p r count
-head_is p r count =
-    six_pieces magic (u32_bytes 1) (u32_bytes (protocols.protocol_number p))
-    (flat_map u32_bytes (register_numbers r)) (u32_bytes count) (u32_bytes 0)
-    ∙ ap (λ (l : List ℕ). magic ++ (u32_bytes 1 ++ (u32_bytes (protocols.protocol_number p) ++ l)))
-    (head_end (register_numbers r) count)
+-- ---- magic and version came: the protocol is to be judged, and what it tells
 
-pub seven_pieces : (a b c d e f x : List ℕ)
-    → (((((a ++ b) ++ c) ++ d) ++ e) ++ f) ++ x ≡ a ++ (b ++ (c ++ (d ++ (e ++ (f ++ x)))))
-seven_pieces a b c d e f x = simp append_assoc
+abbrev pub after_version : ℕ → List ℕ → Option ImageFault
+after_version version bytes =
+    first (fields_fault (protocol_field version ∷ []) bytes)
+    (fields_fault (layout_fields (layout version (u32_at bytes 0))) (drop 4 bytes))
 
-six_pass : (fa fb fc fd fe ff : Field) (a b c d e f x : List ℕ)
-    → length a ≡ fa.size → fa.passes a ≡ true → length b ≡ fb.size → fb.passes b ≡ true
-    → length c ≡ fc.size → fc.passes c ≡ true
-    → length d ≡ fd.size → fd.passes d ≡ true → length e ≡ fe.size → fe.passes e ≡ true
-    → length f ≡ ff.size → ff.passes f ≡ true
-    → fields_fault (fa ∷ fb ∷ fc ∷ fd ∷ fe ∷ ff ∷ []) ((((((a ++ b) ++ c) ++ d) ++ e) ++ f) ++ x)
-    ≡ None
-six_pass fa fb fc fd fe ff a b c d e f x la pa lb pb lc pc ld pd le pe lf pf =
-    ap (fields_fault (fa ∷ fb ∷ fc ∷ fd ∷ fe ∷ ff ∷ [])) (seven_pieces a b c d e f x)
-    ∙ field_passes fa (fb ∷ fc ∷ fd ∷ fe ∷ ff ∷ []) a (b ++ (c ++ (d ++ (e ++ (f ++ x))))) la pa
-    ∙ field_passes fb (fc ∷ fd ∷ fe ∷ ff ∷ []) b (c ++ (d ++ (e ++ (f ++ x)))) lb pb
-    ∙ field_passes fc (fd ∷ fe ∷ ff ∷ []) c (d ++ (e ++ (f ++ x))) lc pc
-    ∙ field_passes fd (fe ∷ ff ∷ []) d (e ++ (f ++ x)) ld pd
-    ∙ field_passes fe (ff ∷ []) e (f ++ x) le pe
-    ∙ field_passes ff [] f x lf pf
+opened_by : (version : ℕ) (bytes x : List ℕ) → fields_fault opening_fields bytes ≡ None
+    → u32_at bytes 8 ≡ version
+    → drop 12 bytes ≡ x → drop 16 bytes ≡ drop 4 x → head_fault bytes ≡ after_version version x
+unfolding head_fault
+opened_by version bytes x sound is behind further = rw (sound, is, behind, further) refl
 
--- a head has no fault
-head_passes : (p : Protocol) (r : Registers) (count : ℕ) (x : List ℕ) → count ≤ 256
-    → fields_fault head_fields (head p r count ++ x) ≡ None
-unfolding magic_field version_field protocol_field registers_field count_field zero_field
-head_passes p r count x few =
-    ap (λ (l : List ℕ). fields_fault head_fields (l ++ x)) (sym (head_is p r count))
-    ∙ six_pass magic_field version_field protocol_field registers_field count_field zero_field
-    magic (u32_bytes 1) (u32_bytes (protocols.protocol_number p))
-    (flat_map u32_bytes (register_numbers r)) (u32_bytes count) (u32_bytes 0) x
-    refl refl
-    (length-u32_bytes 1) (word_tells (λ k. k == 1) BadVersion 1 true (omega arith) refl)
-    (length-u32_bytes (protocols.protocol_number p))
-    (word_tells (λ k. nat_le 1 k && nat_le k 2) BadHeader (protocols.protocol_number p) true
-    (protocol_fits p) (protocol_between p))
-    (length-u32s (register_numbers r)) refl
-    (length-u32_bytes count)
-    (word_tells (λ k. nat_le k 256) BadHeader count true (omega arith)
-    (grind (arith, nat_tests)))
-    (length-u32_bytes 0) (word_tells (λ k. k == 0) BadHeader 0 true (omega arith) refl)
+opening_passes : (v : Version) (x : List ℕ)
+    → fields_fault opening_fields ((magic ++ u32_bytes (version_number v)) ++ x) ≡ None
+unfolding magic_field version_field
+opening_passes v x =
+    let b : List ℕ = u32_bytes (version_number v) in
+    ap (fields_fault opening_fields) (append_assoc magic b x)
+    ∙ field_passes magic_field (version_field ∷ []) magic (b ++ x) refl refl
+    ∙ field_passes version_field [] b x (length-u32_bytes (version_number v)) (version_passes v)
 
--- it has 104 bytes, and the number of parts stands at 96
-count_stands : (p : Protocol) (r : Registers) (count : ℕ) (x : List ℕ) → count < 2 ^ 32
-    → u32_at (head p r count ++ x) 96 ≡ count
-unfolding number_at u32_bytes
-count_stands p r count x fits = u32_again count (u32_bytes 0 ++ x) fits
+version_stands : (v : Version) (x : List ℕ)
+    → u32_at ((magic ++ u32_bytes (version_number v)) ++ x) 8 ≡ version_number v
+unfolding number_at
+version_stands v x = u32_again (version_number v) x (version_fits v)
 
-behind_head : (p : Protocol) (r : Registers) (count : ℕ) (x : List ℕ)
-    → drop 104 (head p r count ++ x) ≡ x
+behind_version : (n : ℕ) (x : List ℕ) → drop 12 ((magic ++ u32_bytes n) ++ x) ≡ x
 unfolding u32_bytes
-behind_head p r count x = refl
+behind_version n x = refl
 
--- and leaves the parts to be judged
-pub head_front : (p : Protocol) (r : Registers) (count : ℕ) (x : List ℕ) → count ≤ 256
-    → image_fault (head p r count ++ x) ≡ parts_fault count none_before x
-unfolding image_fault
-head_front p r count x few =
-    rw (
-      head_passes p r count x few,
-      count_stands p r count x (omega arith),
-      behind_head p r count x,
-    ) refl
+further : (n : ℕ) (x : List ℕ) → drop 16 ((magic ++ u32_bytes n) ++ x) ≡ drop 4 x
+unfolding u32_bytes
+further n x = refl
 
--- a fault of the head is the image's
-pub head_refuses : (old new : Input) (fault : ImageFault)
-    → Refuses (fields_fault head_fields) old new fault → Refuses image_fault old new fault
-unfolding image_fault
-head_refuses old new fault s =
-    first_refuses (fields_fault head_fields)
-    (λ bytes. parts_fault (u32_at bytes 96) none_before (drop 104 bytes)) old new fault s
+pub opened : (v : Version) (x : List ℕ)
+    → head_fault ((magic ++ u32_bytes (version_number v)) ++ x) ≡ after_version (version_number v) x
+opened v x =
+    let n = version_number v in
+    opened_by n ((magic ++ u32_bytes n) ++ x) x (opening_passes v x) (version_stands v x)
+    (behind_version n x) (further n x)
+
+pub opened_passed : {old mid new : Input} (v : Version) → Comes old mid magic
+    → Comes mid new (u32_bytes (version_number v))
+    → Passed head_fault old new (after_version (version_number v))
+opened_passed v first_came then_came =
+    record { done = _; comes = comes_more first_came then_came; on = opened v }
+
+-- ---- the protocol came: what it tells is to be judged
+
+told_by : (version protocol : ℕ) (bytes x : List ℕ)
+    → fields_fault (protocol_field version ∷ []) bytes ≡ None → drop 4 bytes ≡ x
+    → after_version version bytes ≡ fields_fault (layout_fields (layout version protocol)) x
+told_by version protocol bytes x sound behind = rw (sound, behind) refl
+
+pub told : (version : ℕ) (p : Protocol) (x : List ℕ)
+    → after_version version (u32_bytes (protocol_number p) ++ x)
+    ≡ fields_fault (layout_fields (layout version (protocol_number p))) x
+unfolding protocol_field
+told version p x =
+    let b : List ℕ = u32_bytes (protocol_number p) in
+    let size = length-u32_bytes (protocol_number p) in
+    told_by version (protocol_number p) (b ++ x) x
+    (field_passes (protocol_field version) [] b x size (protocol_passes version p))
+    (drop_at b x 4 size)
+
+pub told_passed : {old mid new : Input} (version : ℕ) (p : Protocol)
+    → Passed head_fault old mid (after_version version)
+    → Comes mid new (u32_bytes (protocol_number p))
+    → Passed head_fault old new
+    (fields_fault (layout_fields (layout version (protocol_number p))))
+told_passed version p passed comes =
+    passed_more (u32_bytes (protocol_number p)) passed comes (told version p)
+
+-- ---- faults of the head's beginning are faults of the head
+
+pub opening_refuses : (old new : Input) (fault : ImageFault)
+    → Refuses (fields_fault opening_fields) old new fault → Refuses head_fault old new fault
+unfolding head_fault
+opening_refuses old new fault s =
+    first_refuses (fields_fault opening_fields)
+    (λ bytes.
+    first (fields_fault (protocol_field (u32_at bytes 8) ∷ []) (drop 12 bytes))
+    (fields_fault (layout_fields (layout_of bytes)) (drop 16 bytes))) old new fault s
+
+pub protocol_refuses : {old mid : Input} (version : ℕ)
+    → Passed head_fault old mid (after_version version) → (new : Input) (fault : ImageFault)
+    → Refuses (fields_fault (protocol_field version ∷ [])) mid new fault
+    → Refuses head_fault old new fault
+protocol_refuses {mid = mid} version passed new fault s =
+    passed_refuses passed new fault
+    (first_refuses (fields_fault (protocol_field version ∷ []))
+    (λ bytes.
+    fields_fault (layout_fields (layout version (u32_at bytes 0))) (drop 4 bytes)) mid new fault s)

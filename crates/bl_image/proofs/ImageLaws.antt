@@ -1,26 +1,29 @@
 -- An image has no fault, and is read.
 use Rattle.std.proofs.Common.{◌≡◌, ◌+◌, ◌≤◌, ◌<◌, ◌^◌, ℕ, suc, List, [], ◌∷◌, ◌++◌, length, All}
 use Rattle.std.proofs.Common.{Some, None, Result, Ok, Err, refl, sym, ap, ◌∙◌, arith, append_assoc}
-use Rattle.std.proofs.Common.{length-append}
+use Rattle.std.proofs.Common.{length-append, map}
+use Rattle.std.proofs.lemmas.List.{length-map}
 use Rattle.std.specs.Prelude.{MatchResult, ◌==◌, true}
 use Rattle.std.proofs.lemmas.Bool.Decides.{nat_tests}
 use Rattle.std.proofs.lemmas.List.Elements.{All-tail}
 use Rattle.std.proofs.lemmas.List.Concat.{flat_map-cons}
 use Rattle.std.specs.List.{flat_map}
 use Rattle.bl_plan.proofs.OrderLemmas.{AreRelated, pairs_related}
+use Rattle.bl_load.specs.HandoffFacts.{Ascends}
 use Rattle.bl_load.specs.Handover.{Part, Handover, end_of}
 use Rattle.bl_image.specs.declared.fault.ImageFault.{ImageFault}
 use Rattle.bl_image.specs.declared.fault.ImageFault.TheVariants.{BadMagic, BadVersion, BadHeader}
 use Rattle.bl_image.specs.declared.fault.ImageFault.TheVariants.{BadPart, WrongLength, DeviceFault}
 use Rattle.bl_image.specs.declared.fault.ImageFault.TheVariants.{NoMemory}
+use Rattle.bl_image.specs.declared.version.Version.{Version}
 use Rattle.bl_image.specs.Image.{part_record, spelling}
 use Rattle.bl_image.specs.ImageFaults.{Before, and_record, parts_fault, end_fault, none_before}
 use Rattle.bl_image.specs.ImageFaults.{image_fault}
-use Rattle.bl_image.specs.ImageParts.{PartAscends, IsKept, IsImage}
-use Rattle.bl_image.specs.RecordsKept.{IsNext, place_of}
+use Rattle.bl_image.specs.ImageParts.{place_of, PartAscends, IsKept, IsImage}
+use Rattle.bl_image.specs.RecordsKept.{IsNext}
 use Rattle.bl_image.specs.Source.{Fails, IsOfTheMoment}
-use Rattle.bl_image.proofs.HeadLemmas.{head_front}
-use Rattle.bl_image.proofs.PartLemmas.{all_bytes}
+use Rattle.bl_image.proofs.FrontLemmas.{head_front}
+use Rattle.bl_image.proofs.PartLemmas.{all_bytes, all_under, related_under}
 use Rattle.bl_image.proofs.ReadAgain.{image_is_read_again}
 use Rattle.bl_image.proofs.RecordLemmas.{parts_step}
 
@@ -33,7 +36,7 @@ record IsSoundPart (part : Part) : Type 0 where
 parts_sound : (parts : List Part) (before : Before) (x : List ℕ)
     → All (λ (part : Part). before.end ≤ part.address) parts → AreRelated PartAscends parts
     → All IsSoundPart parts
-    → parts_fault (length parts) before (flat_map part_record parts ++ x)
+    → parts_fault 7 (length parts) before (flat_map part_record parts ++ x)
     ≡ end_fault (before.bytes + length (all_bytes parts)) x
 parts_sound [] before x above related sound = ap (λ (n : ℕ). end_fault n x) (omega arith)
 parts_sound (part ∷ parts) before x above related sound =
@@ -47,9 +50,9 @@ parts_sound (part ∷ parts) before x above related sound =
     } in
     let after : Before = and_record before part.address (length part.bytes) in
     let size = length-append part.bytes (all_bytes parts) in
-    ap (λ (l : List ℕ). parts_fault (suc (length parts)) before (l ++ x))
+    ap (λ (l : List ℕ). parts_fault 7 (suc (length parts)) before (l ++ x))
     (flat_map-cons part_record part parts)
-    ∙ ap (parts_fault (suc (length parts)) before)
+    ∙ ap (parts_fault 7 (suc (length parts)) before)
     (append_assoc (part_record part) (flat_map part_record parts) x)
     ∙ parts_step (length parts) before (place_of part) (flat_map part_record parts ++ x) next
     ∙ parts_sound parts after x related.0 related.1 (All-tail IsSoundPart part parts sound)
@@ -64,19 +67,23 @@ sound_parts h kept k d within =
     let fits = kept.spellable.parts k d within in
     record {
       index = fits.index;
-      filled = kept.parts.filled k d within;
-      below = kept.parts.below k d within;
+      filled = all_under (λ p. 1 ≤ p.length) h.parts kept.handoff.filled k d within;
+      below =
+          all_under (λ p. p.address + p.length ≤ 2 ^ 32) h.parts kept.handoff.below k d within;
     }
 
 -- the image of what an image keeps has no fault
-pub image_sound : (h : Handover) → IsKept h → image_fault (spelling h) ≡ None
-image_sound h kept =
+pub image_sound : (version : Version) (h : Handover) → IsKept h
+    → image_fault (spelling version h) ≡ None
+image_sound version h kept =
     let records : List ℕ = flat_map part_record h.parts in
     let bytes : List ℕ = all_bytes h.parts in
-    let few : length h.parts ≤ 256 = kept.parts.few in
-    head_front h.protocol h.registers (length h.parts) (records ++ bytes) few
+    let few : length (map place_of h.parts) ≤ 256 = kept.handoff.few in
+    let same = length-map h.parts place_of in
+    head_front version h.protocol h.registers (length h.parts) (records ++ bytes) (omega arith)
     ∙ parts_sound h.parts none_before bytes (λ k d within. omega arith)
-    (pairs_related PartAscends h.parts kept.parts.ascending) (sound_parts h kept)
+    (related_under h.parts (pairs_related Ascends (map place_of h.parts) kept.handoff.ascending))
+    (sound_parts h kept)
     ∙ whole_ends bytes
 
 no_fault : (bytes : List ℕ) (fault : ImageFault) → image_fault bytes ≡ None
@@ -95,9 +102,12 @@ refused_for_now bytes NoMemory e f = tt
 
 -- an image is read as what it spells
 pub accepted_by : (r : Result Handover ImageFault) (bytes : List ℕ)
-    → MatchResult r (IsImage bytes) (Fails image_fault bytes) → (handover : Handover)
-    → IsImage bytes handover → MatchResult r (λ image. image ≡ handover) IsOfTheMoment
-accepted_by (Ok image) bytes read handover is =
-    image_is_read_again image handover read.kept.spellable is.kept.spellable (sym read.is ∙ is.is)
-accepted_by (Err fault) bytes fails handover is =
-    refused_for_now bytes fault (ap image_fault is.is ∙ image_sound handover is.kept) fails
+    → MatchResult r (λ image. (version : Version) × IsImage version bytes image)
+    (Fails image_fault bytes)
+    → (version : Version) (handover : Handover) → IsImage version bytes handover
+    → MatchResult r (λ image. image ≡ handover) IsOfTheMoment
+accepted_by (Ok image) bytes read version handover is =
+    (image_is_read_again read.0 version image handover read.1.kept.spellable is.kept.spellable
+    (sym read.1.is ∙ is.is)).1
+accepted_by (Err fault) bytes fails version handover is =
+    refused_for_now bytes fault (ap image_fault is.is ∙ image_sound version handover is.kept) fails

@@ -9,6 +9,7 @@ use Rattle.bl_image.specs.declared.fault.ImageFault.{ImageFault}
 use Rattle.bl_image.specs.declared.fault.ImageFault.TheVariants.{BadMagic, BadVersion, BadHeader}
 use Rattle.bl_image.specs.declared.fault.ImageFault.TheVariants.{BadPart, WrongLength, DeviceFault}
 use Rattle.bl_image.specs.declared.fault.ImageFault.TheVariants.{NoMemory}
+use Rattle.bl_image.specs.declared.version.Version.{Version}
 use Rattle.bl_image.specs.Image.{spelling}
 use Rattle.bl_image.specs.ImageFaults.{image_fault}
 use Rattle.bl_image.specs.ImageParts.{IsKept, IsImage}
@@ -47,13 +48,19 @@ fails_known old new DeviceFault bytes e s = tt
 fails_known old new NoMemory bytes e s = tt
 
 pub known_by : (r : Result Handover ImageFault) (old new : Input)
-    → IfOk r (λ image. Comes old new (spelling image)) → OnOk r (IsEnded new) → IfOk r IsKept
+    → IfOk r (λ image. (version : Version) × Comes old new (spelling version image))
+    → OnOk r (IsEnded new) → IfOk r IsKept
     → IfErr r (Refuses image_fault old new)
     → (bytes : List ℕ) → old.rest ≡ Some bytes
-    → MatchResult r (IsImage bytes) (Fails image_fault bytes)
-known_by (Ok image) old new comes ended kept refused bytes e = record {
-  is = all_came old.rest new.rest (spelling image) bytes e ended comes.rest_is;
-  kept = kept;
-}
+    → MatchResult r (λ image. (version : Version) × IsImage version bytes image)
+    (Fails image_fault bytes)
+known_by (Ok image) old new comes ended kept refused bytes e = (
+  comes.0,
+  record {
+    is =
+        all_came old.rest new.rest (spelling comes.0 image) bytes e ended comes.1.rest_is;
+    kept = kept;
+  },
+)
 known_by (Err fault) old new comes ended kept refused bytes e =
     fails_known old new fault bytes e refused

@@ -1,11 +1,13 @@
 mod FieldLemmas
 mod FieldTests
 mod HeadLemmas
+mod FrontLemmas
 mod Listed
 mod ImageLaws
 mod KnownLemmas
 mod PartLemmas
 mod RecordLemmas
+mod RegisterLemmas
 mod SoundLemmas
 mod NoFaultLemmas
 mod FoundLemmas

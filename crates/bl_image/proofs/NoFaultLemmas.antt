@@ -1,7 +1,7 @@
 -- Fields that have no fault, and the numbers that their bytes spell.
 use Rattle.std.proofs.Common.{◌≡◌, ◌+◌, ◌*◌, ◌≤◌, ◌<◌, ◌^◌, ℕ, zero, suc, Bool, true, false, List}
 use Rattle.std.proofs.Common.{[], ◌∷◌, ◌++◌, length, get_or, slice_index, take, drop, All, Option}
-use Rattle.std.proofs.Common.{Some, None, refl, sym, ap, ◌∙◌, arith, ⊎_elim}
+use Rattle.std.proofs.Common.{Some, None, refl, sym, ap, ◌∙◌, arith, append_assoc, ⊎_elim}
 use Rattle.std.specs.Prelude.{nat_lt, nat_le, not, ◌&&◌, if◌then◌else◌}
 use Rattle.std.specs.List.{flat_map}
 use Rattle.std.proofs.lemmas.Nat.{le_bytes_4, le_bytes_8}
@@ -25,7 +25,6 @@ use Rattle.bl_image.specs.declared.fault.ImageFault.{ImageFault}
 use Rattle.bl_image.specs.Image.{register_numbers}
 use Rattle.bl_image.specs.Fields.{Field, fields_fault}
 use Rattle.bl_image.specs.ImageFaults.{first}
-use Rattle.bl_image.proofs.HeadLemmas.{seven_pieces}
 use Rattle.bl_image.proofs.Listed.{listed_20}
 
 -- each element is a byte
@@ -174,6 +173,10 @@ role_by (suc (suc (suc (suc (suc zero))))) h k = (CommandLine, refl)
 role_by (suc (suc (suc (suc (suc (suc zero)))))) h k = (Gdt, refl)
 role_by (suc (suc (suc (suc (suc (suc (suc zero))))))) h k = (Initrd, refl)
 role_by (suc (suc (suc (suc (suc (suc (suc (suc n)))))))) h k = absurd (omega arith)
+
+seven_pieces : (a b c d e f x : List ℕ)
+    → (((((a ++ b) ++ c) ++ d) ++ e) ++ f) ++ x ≡ a ++ (b ++ (c ++ (d ++ (e ++ (f ++ x)))))
+seven_pieces a b c d e f x = simp append_assoc
 
 pub chained : (a b c d e f x x5 x4 x3 x2 x1 w : List ℕ) → f ++ x ≡ x5 → e ++ x5 ≡ x4 → d ++ x4 ≡ x3
     → c ++ x3 ≡ x2 → b ++ x2 ≡ x1 → a ++ x1 ≡ w

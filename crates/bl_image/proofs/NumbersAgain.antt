@@ -1,5 +1,6 @@
--- The numbers of a role, of a protocol and of registers are of one role, one protocol and one list.
-use Rattle.std.proofs.Common.{◌≡◌, ℕ, List, [], ◌∷◌, get_or, refl, sym, ap, ◌∙◌}
+-- The numbers of a version, of a role, of a protocol and of registers are of one of these alone.
+use Rattle.std.proofs.Common.{◌≡◌, ◌<◌, ◌^◌, ℕ, List, [], ◌∷◌, get_or, refl, sym, ap, ◌∙◌, lit<}
+use Rattle.std.specs.Prelude.{nat_le, ◌&&◌, true}
 use Rattle.bl_plan.specs.declared.part.Role.{Role}
 use Rattle.bl_plan.specs.declared.part.Role.TheVariants.{Kernel, Module, Information, BootParams}
 use Rattle.bl_plan.specs.declared.part.Role.TheVariants.{CommandLine, Gdt, Initrd}
@@ -9,6 +10,9 @@ use Rattle.bl_plan.specs.declared.protocol.Protocol.TheVariants.{Multiboot2, Lin
 use Rattle.bl_load.specs.declared.registers.Registers.{Registers}
 use Rattle.bl_plan.specs.Protocols as protocols
 use Rattle.bl_image.specs.Image.{register_numbers}
+use Rattle.bl_image.specs.declared.version.Version.{Version}
+use Rattle.bl_image.specs.declared.version.Version.TheVariants.{One}
+use Rattle.bl_image.specs.Versions.{version_number}
 
 -- the role, the protocol and the registers of their numbers
 role_of : ℕ → Role
@@ -26,6 +30,25 @@ role_again CommandLine = refl
 role_again Gdt = refl
 role_again Initrd = refl
 
+pub role_between : (r : Role)
+    → nat_le 1 (roles.role_number r) && nat_le (roles.role_number r) 7 ≡ true
+role_between Kernel = refl
+role_between Module = refl
+role_between Information = refl
+role_between BootParams = refl
+role_between CommandLine = refl
+role_between Gdt = refl
+role_between Initrd = refl
+
+pub role_fits : (r : Role) → roles.role_number r < 2 ^ 32
+role_fits Kernel = lit< tt
+role_fits Module = lit< tt
+role_fits Information = lit< tt
+role_fits BootParams = lit< tt
+role_fits CommandLine = lit< tt
+role_fits Gdt = lit< tt
+role_fits Initrd = lit< tt
+
 pub role_same : (r s : Role) → roles.role_number r ≡ roles.role_number s → r ≡ s
 role_same r s e = role_again r ∙ ap role_of e ∙ sym (role_again s)
 
@@ -36,6 +59,21 @@ protocol_again : (p : Protocol) → p ≡ protocol_of (protocols.protocol_number
 unfolding protocol_of
 protocol_again Multiboot2 = refl
 protocol_again Linux = refl
+
+pub protocol_fits : (p : Protocol) → protocols.protocol_number p < 2 ^ 32
+protocol_fits Multiboot2 = lit< tt
+protocol_fits Linux = lit< tt
+
+pub protocol_between : (p : Protocol)
+    → nat_le 1 (protocols.protocol_number p) && nat_le (protocols.protocol_number p) 2 ≡ true
+protocol_between Multiboot2 = refl
+protocol_between Linux = refl
+
+pub version_fits : (v : Version) → version_number v < 2 ^ 32
+version_fits One = lit< tt
+
+pub version_same : (v w : Version) → version_number v ≡ version_number w → v ≡ w
+version_same One One e = refl
 
 pub protocol_same : (p q : Protocol) → protocols.protocol_number p ≡ protocols.protocol_number q
     → p ≡ q

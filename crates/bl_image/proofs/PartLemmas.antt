@@ -10,17 +10,18 @@ use Rattle.std.proofs.lemmas.Bool.Decides.{nat_tests}
 use Rattle.std.specs.List.{flat_map}
 use Rattle.bl_plan.specs.declared.part.Place.{Place}
 use Rattle.bl_plan.specs.declared.protocol.Protocol.{Protocol}
-use Rattle.bl_plan.proofs.OrderLemmas.{AreRelated, pairs_related, related_pairs}
+use Rattle.bl_plan.proofs.OrderLemmas.{AreRelated}
 use Rattle.bl_load.specs.declared.registers.Registers.{Registers}
 use Rattle.bl_load.specs.Handover.{Part}
-use Rattle.bl_load.specs.HandoffFacts.{Ascends, AreRecords}
-use Rattle.bl_load.specs.PlanFacts.{part_in}
+use Rattle.bl_load.specs.HandoffFacts.{Ascends, AreHandoffFacts}
+use Rattle.bl_load.specs.PlanFacts.{part_in, handover_in}
 use Rattle.bl_image.specs.declared.fault.ImageFault.{ImageFault}
 use Rattle.bl_image.specs.declared.fault.ImageFault.TheVariants.{WrongLength}
+use Rattle.bl_image.specs.declared.version.Version.{Version}
 use Rattle.bl_image.specs.Image.{head, part_record, spelling, register_numbers}
-use Rattle.bl_image.specs.RecordsKept.{place_record, bytes_at, place_of, PlaceFits}
+use Rattle.bl_image.specs.RecordsKept.{place_record, bytes_at, PlaceFits}
 use Rattle.bl_image.specs.ImageFaults.{end_fault}
-use Rattle.bl_image.specs.ImageParts.{PartAscends, AreImageParts, IsKept}
+use Rattle.bl_image.specs.ImageParts.{place_of, handoff_of, PartAscends, IsKept}
 use Rattle.bl_image.specs.Source.{Input, Comes}
 use Rattle.bl_image.specs.SourceKept.{IsCut}
 use Rattle.bl_image.specs.Spellable.{FitsRecord}
@@ -77,43 +78,34 @@ records_at (part ∷ parts) =
     ∙ sym (flat_map-cons part_record part parts)
 
 -- head, records, parts, and nothing: an image
-pub spelled_by : (protocol : Protocol) (registers : Registers) (count : ℕ) (ps : List Place)
-    (parts : List Part) → map place_of parts ≡ ps → length ps ≡ count
-    → ((head protocol registers count ++ flat_map place_record ps) ++ all_bytes parts) ++ []
-    ≡ spelling (record { protocol = protocol; registers = registers; parts = parts })
-spelled_by protocol registers count ps parts are size =
-    append-nil ((head protocol registers count ++ flat_map place_record ps) ++ all_bytes parts)
-    ∙ append_assoc (head protocol registers count) (flat_map place_record ps) (all_bytes parts)
-    ∙ ap (λ (l : List ℕ). head protocol registers count ++ (l ++ all_bytes parts))
+pub spelled_by : (version : Version) (protocol : Protocol) (registers : Registers) (count : ℕ)
+    (ps : List Place) (parts : List Part) → map place_of parts ≡ ps → length ps ≡ count
+    → ((head version protocol registers count ++ flat_map place_record ps) ++ all_bytes parts) ++ []
+    ≡ spelling version (record { protocol = protocol; registers = registers; parts = parts })
+spelled_by version protocol registers count ps parts are size =
+    append-nil
+    ((head version protocol registers count ++ flat_map place_record ps) ++ all_bytes parts)
+    ∙ append_assoc (head version protocol registers count) (flat_map place_record ps)
+    (all_bytes parts)
+    ∙ ap (λ (l : List ℕ). head version protocol registers count ++ (l ++ all_bytes parts))
     (ap (flat_map place_record) (sym are) ∙ records_at parts)
-    ∙ ap (λ (n : ℕ). head protocol registers n ++ (flat_map part_record parts ++ all_bytes parts))
+    ∙ ap
+    (λ (n : ℕ).
+    head version protocol registers n ++ (flat_map part_record parts ++ all_bytes parts))
     (sym size ∙ ap length (sym are) ∙ length-map parts place_of)
 
-all_under : (P : Place → Type 0) (parts : List Part) → All P (map place_of parts)
+pub all_under : (P : Place → Type 0) (parts : List Part) → All P (map place_of parts)
     → All (λ (part : Part). P (place_of part)) parts
 all_under P [] h k d within = absurd (omega arith)
 all_under P (part ∷ parts) h zero d within = h 0 (place_of part) (omega arith)
 all_under P (part ∷ parts) h (suc k) d within =
     all_under P parts (λ j e inside. h (suc j) e (omega arith)) k d (omega arith)
 
-related_under : (parts : List Part) → AreRelated Ascends (map place_of parts)
+pub related_under : (parts : List Part) → AreRelated Ascends (map place_of parts)
     → AreRelated PartAscends parts
 related_under [] h = tt
 related_under (part ∷ parts) h =
     (all_under (Ascends (place_of part)) parts h.0, related_under parts h.1)
-
--- parts at the places of records are an image's
-pub image_parts : (parts : List Part) → AreRecords (map place_of parts) → AreImageParts parts
-image_parts parts records = record {
-  few =
-      let few : length (map place_of parts) ≤ 256 = records.few in
-      let same = length-map parts place_of in omega arith;
-  filled = all_under (λ (p : Place). 1 ≤ p.length) parts records.filled;
-  below = all_under (λ (p : Place). p.address + p.length ≤ 2 ^ 32) parts records.below;
-  ascending =
-      related_pairs PartAscends parts
-      (related_under parts (pairs_related Ascends (map place_of parts) records.ascending));
-}
 
 parts_fit : (parts : List Part) → All PlaceFits (map place_of parts) → All FitsRecord parts
 parts_fit parts h k d within =
@@ -121,22 +113,35 @@ parts_fit parts h k d within =
     all_under PlaceFits parts h k d within in
     record { index = fits.index; address = fits.address; count = fits.count }
 
-pub image_kept : (protocol : Protocol) (registers : Registers) (ps : List Place) (parts : List Part)
-    → map place_of parts ≡ ps → AreRecords ps → All PlaceFits ps
+-- parts at the places of a handoff are what a handoff keeps
+pub parts_kept : (protocol : Protocol) (registers : Registers) (ps : List Place)
+    (parts : List Part) → map place_of parts ≡ ps
+    → AreHandoffFacts (record { protocol = protocol; registers = registers; places = ps })
+    → AreHandoffFacts
+    (handoff_of (record { protocol = protocol; registers = registers; parts = parts }))
+parts_kept protocol registers ps parts are kept =
+    subst
+    (λ (l : List Place).
+    AreHandoffFacts (record { protocol = protocol; registers = registers; places = l })) (sym are)
+    kept
+
+pub image_kept : (protocol : Protocol) (registers : Registers) (ps : List Place)
+    (parts : List Part) → map place_of parts ≡ ps
+    → AreHandoffFacts (record { protocol = protocol; registers = registers; places = ps })
+    → All PlaceFits ps
     → All (λ n. n < 2 ^ 32) (register_numbers registers)
     → IsKept (record { protocol = protocol; registers = registers; parts = parts })
-image_kept protocol registers ps parts are records fit registers_fit =
-    let at : AreRecords (map place_of parts) = subst AreRecords (sym are) records in
-    let all : All PlaceFits (map place_of parts) = subst (All PlaceFits) (sym are) fit in
-    let whole = image_parts parts at in
+image_kept protocol registers ps parts are kept fit registers_fit =
+    let few : length ps ≤ 256 = kept.few in
+    let same = length-map parts place_of in
+    let size = ap length are in
     record {
-      parts = whole;
+      handoff = parts_kept protocol registers ps parts are kept;
       spellable =
           record {
             registers = registers_fit;
-            count = let few : length parts ≤ 256 = whole.few in
-                omega arith;
-            parts = parts_fit parts all;
+            count = omega arith;
+            parts = parts_fit parts (subst (All PlaceFits) (sym are) fit);
           };
     }
 
@@ -151,11 +156,12 @@ places_in bytes (p ∷ ps) h =
     ap (λ (q : Place). q ∷ map place_of (map (part_in bytes) ps)) (ap made size)
     ∙ ap (λ (l : List Place). p ∷ l) (places_in bytes ps (λ k d within. h (suc k) d (omega arith)))
 
-pub memory_parts : (bytes : List ℕ) (ps : List Place) → All (EndsIn bytes) ps → AreRecords ps
-    → AreImageParts (map (part_in bytes) ps)
-memory_parts bytes ps inside records =
-    image_parts (map (part_in bytes) ps)
-    (subst AreRecords (sym (places_in bytes ps inside)) records)
+pub memory_kept : (bytes : List ℕ) (protocol : Protocol) (r : Registers) (ps : List Place)
+    → All (EndsIn bytes) ps
+    → AreHandoffFacts (record { protocol = protocol; registers = r; places = ps })
+    → AreHandoffFacts (handoff_of (handover_in bytes protocol r ps))
+memory_kept bytes protocol r ps inside kept =
+    parts_kept protocol r ps (map (part_in bytes) ps) (places_in bytes ps inside) kept
 
 pub parts_in-more : (bytes : List ℕ) (ps : List Place) (i : ℕ) (p : Place) → p ≡ get_or ps i p
     → i < length ps

@@ -1,26 +1,26 @@
 -- An image is read again: the handover that it spells is one.
-use Rattle.std.proofs.Common.{◌≡◌, ◌+◌, ◌^◌, ◌<◌, ℕ, List, [], ◌∷◌, ◌++◌, length, get_or, take}
-use Rattle.std.proofs.Common.{drop, All, refl, sym, ap, ◌∙◌, arith, lit<, length-append}
+use Rattle.std.proofs.Common.{◌≡◌, ◌^◌, ◌<◌, ℕ, List, [], ◌∷◌, ◌++◌, length}
+use Rattle.std.proofs.Common.{All, refl, sym, ap, ◌∙◌, arith, length-append}
 use Rattle.std.proofs.Common.{append_assoc}
-use Rattle.std.specs.Prelude.{nat_le, ◌&&◌, true}
-use Rattle.std.proofs.lemmas.List.Elements.{All-cons, All-append, All-tail, All-nil}
+use Rattle.std.proofs.lemmas.List.Elements.{All-tail}
 use Rattle.std.specs.List.{flat_map}
 use Rattle.bl_plan.specs.declared.part.Role.{Role}
-use Rattle.bl_plan.specs.declared.part.Role.TheVariants.{Kernel, Module, Information, BootParams}
-use Rattle.bl_plan.specs.declared.part.Role.TheVariants.{CommandLine, Gdt, Initrd}
-use Rattle.bl_plan.specs.Roles as roles
 use Rattle.bl_plan.specs.declared.protocol.Protocol.{Protocol}
-use Rattle.bl_plan.specs.declared.protocol.Protocol.TheVariants.{Multiboot2, Linux}
 use Rattle.bl_load.specs.declared.registers.Registers.{Registers}
 use Rattle.bl_plan.specs.Protocols as protocols
 use Rattle.bl_load.specs.Handover.{Part, Handover}
 use Rattle.bl_mem.specs.Words.{u32_bytes, u64_bytes}
 use Rattle.bl_mem.proofs.WordLaws.{length-u32_bytes, length-u64_bytes}
-use Rattle.bl_image.specs.Image.{magic, register_numbers, part_record, spelling}
+use Rattle.bl_image.specs.declared.version.Version.{Version}
+use Rattle.bl_image.specs.declared.version.Version.TheVariants.{One}
+use Rattle.bl_image.specs.Image.{magic, register_numbers, spelled_registers, head, part_record}
+use Rattle.bl_image.specs.Image.{spelling}
+use Rattle.bl_image.specs.Versions.{version_number}
 use Rattle.bl_image.specs.Spellable.{FitsRecord, IsSpellable}
 use Rattle.bl_image.proofs.NumberLemmas.{front_same, back_same, length-u32s, u32_same, u64_same}
 use Rattle.bl_image.proofs.NumberLemmas.{u32s_same}
-use Rattle.bl_image.proofs.NumbersAgain.{role_same, protocol_same, registers_same}
+use Rattle.bl_image.proofs.NumbersAgain.{role_same, protocol_same, registers_same, version_same}
+use Rattle.bl_image.proofs.NumbersAgain.{role_fits, version_fits, protocol_fits}
 
 -- two parts with one record
 record IsAlike (p q : Part) : Type 0 where
@@ -28,29 +28,6 @@ record IsAlike (p q : Part) : Type 0 where
   index : p.index ≡ q.index
   address : p.address ≡ q.address
   count : length p.bytes ≡ length q.bytes
-
-pair_fits : (top m n : ℕ) → m < top → n < top → All (λ k. k < top) (m ∷ n ∷ [])
-pair_fits top m n hm hn =
-    All-cons (λ k. k < top) m (n ∷ []) hm (All-cons (λ k. k < top) n [] hn (All-nil (λ k. k < top)))
-
-pub role_between : (r : Role)
-    → nat_le 1 (roles.role_number r) && nat_le (roles.role_number r) 7 ≡ true
-role_between Kernel = refl
-role_between Module = refl
-role_between Information = refl
-role_between BootParams = refl
-role_between CommandLine = refl
-role_between Gdt = refl
-role_between Initrd = refl
-
-pub role_fits : (r : Role) → roles.role_number r < 2 ^ 32
-role_fits Kernel = lit< tt
-role_fits Module = lit< tt
-role_fits Information = lit< tt
-role_fits BootParams = lit< tt
-role_fits CommandLine = lit< tt
-role_fits Gdt = lit< tt
-role_fits Initrd = lit< tt
 
 record_same : (p q : Part) → FitsRecord p → FitsRecord q → part_record p ≡ part_record q
     → IsAlike p q
@@ -124,50 +101,73 @@ parts_same (p ∷ ps) (q ∷ qs) alike e =
     let rest : ps ≡ qs = parts_same ps qs alike.1 (back_same _ _ _ _ alike.0.count e) in
     cc
 
--- the numbers of the head
-abbrev words : Handover → List ℕ
-words h =
-    1 ∷ protocols.protocol_number h.protocol
-    ∷ (register_numbers h.registers ++ length h.parts ∷ 0 ∷ [])
+-- ---- heads
 
-pub protocol_fits : (p : Protocol) → protocols.protocol_number p < 2 ^ 32
-protocol_fits Multiboot2 = lit< tt
-protocol_fits Linux = lit< tt
-
-pub protocol_between : (p : Protocol)
-    → nat_le 1 (protocols.protocol_number p) && nat_le (protocols.protocol_number p) 2 ≡ true
-protocol_between Multiboot2 = refl
-protocol_between Linux = refl
-
-words_fit : (h : Handover) → IsSpellable h → All (λ n. n < 2 ^ 32) (words h)
-words_fit h s =
-    let fits : (n : ℕ) → Type 0 = λ n. n < 2 ^ 32 in
-    let last : List ℕ = length h.parts ∷ 0 ∷ [] in
-    let rest : List ℕ = register_numbers h.registers ++ last in
-    let end : All fits last = pair_fits (2 ^ 32) (length h.parts) 0 s.count (lit< tt) in
-    All-cons fits 1 (protocols.protocol_number h.protocol ∷ rest) (lit< tt)
-    (All-cons fits (protocols.protocol_number h.protocol) rest (protocol_fits h.protocol)
-    (All-append fits (register_numbers h.registers) last s.registers end))
-
-words_same : (h k : Handover) → IsSpellable h → IsSpellable k → (x y : List ℕ)
-    → (magic ++ flat_map u32_bytes (words h)) ++ x ≡ (magic ++ flat_map u32_bytes (words k)) ++ y
-    → (words h ≡ words k) × (x ≡ y)
-words_same h k sh sk x y e =
-    let wide : length (flat_map u32_bytes (words h)) ≡ length (flat_map u32_bytes (words k)) =
-    length-u32s (words h) ∙ sym (length-u32s (words k)) in
-    let front : length (magic ++ flat_map u32_bytes (words h))
-    ≡ length (magic ++ flat_map u32_bytes (words k)) =
-    length-append magic (flat_map u32_bytes (words h)) ∙ ap (λ (n : ℕ). length magic + n) wide
-    ∙ sym (length-append magic (flat_map u32_bytes (words k))) in
-    let heads : magic ++ flat_map u32_bytes (words h) ≡ magic ++ flat_map u32_bytes (words k) =
-    front_same (magic ++ flat_map u32_bytes (words h)) (magic ++ flat_map u32_bytes (words k)) x
-    y front e in (
-      u32s_same (words h) (words k) (words_fit h sh) (words_fit k sk) refl
-          (back_same magic magic (flat_map u32_bytes (words h)) (flat_map u32_bytes (words k)) refl
-          heads),
-      back_same (magic ++ flat_map u32_bytes (words h))
-          (magic ++ flat_map u32_bytes (words k)) x y front e,
+-- the same registers, and what follows
+registers_alike : (v : Version) (r s : Registers) → All (λ n. n < 2 ^ 32) (register_numbers r)
+    → All (λ n. n < 2 ^ 32) (register_numbers s) → (x y : List ℕ)
+    → spelled_registers v r ++ x ≡ spelled_registers v s ++ y → (r ≡ s) × (x ≡ y)
+registers_alike One r s hr hs x y e =
+    let wide : length (flat_map u32_bytes (register_numbers r))
+    ≡ length (flat_map u32_bytes (register_numbers s)) =
+    length-u32s (register_numbers r) ∙ sym (length-u32s (register_numbers s)) in (
+      registers_same r s
+          (u32s_same (register_numbers r) (register_numbers s) hr hs refl
+          (front_same _ _ _ _ wide e)),
+      back_same _ _ _ _ wide e,
     )
+
+record IsSameHead (v w : Version) (h k : Handover) (x y : List ℕ) : Type 0 where
+  version : v ≡ w
+  protocol : h.protocol ≡ k.protocol
+  registers : h.registers ≡ k.registers
+  count : length h.parts ≡ length k.parts
+  rest : x ≡ y
+
+six_pieces : (a b c d e f x : List ℕ)
+    → (a ++ (b ++ (c ++ (d ++ (e ++ f))))) ++ x ≡ a ++ (b ++ (c ++ (d ++ (e ++ (f ++ x)))))
+six_pieces a b c d e f x = simp append_assoc
+
+head_pieces : (v : Version) (h : Handover) (x : List ℕ)
+    → head v h.protocol h.registers (length h.parts) ++ x
+    ≡ magic
+    ++ (u32_bytes (version_number v) ++ (u32_bytes (protocols.protocol_number h.protocol)
+    ++ (spelled_registers v h.registers ++ (u32_bytes (length h.parts) ++ (u32_bytes 0 ++ x)))))
+head_pieces v h x =
+    six_pieces magic (u32_bytes (version_number v))
+    (u32_bytes (protocols.protocol_number h.protocol)) (spelled_registers v h.registers)
+    (u32_bytes (length h.parts)) (u32_bytes 0) x
+
+heads_same : (v w : Version) (h k : Handover) → IsSpellable h → IsSpellable k → (x y : List ℕ)
+    → head v h.protocol h.registers (length h.parts) ++ x
+    ≡ head w k.protocol k.registers (length k.parts) ++ y
+    → IsSameHead v w h k x y
+heads_same v w h k sh sk x y e =
+    let u32s : (m n : ℕ) → length (u32_bytes m) ≡ length (u32_bytes n) =
+    λ m n. length-u32_bytes m ∙ sym (length-u32_bytes n) in
+    let pieces = sym (head_pieces v h x) ∙ e ∙ head_pieces w k y in
+    let after_magic = back_same magic magic _ _ refl pieces in
+    let version : v ≡ w =
+    version_same v w
+    (u32_same _ _ (version_fits v) (version_fits w) (front_same _ _ _ _ (u32s _ _) after_magic)) in
+    let after_version = back_same _ _ _ _ (u32s _ _) after_magic in
+    let after_protocol = back_same _ _ _ _ (u32s _ _) after_version in
+    let end : List ℕ = u32_bytes (length k.parts) ++ (u32_bytes 0 ++ y) in
+    let registers =
+    registers_alike v h.registers k.registers sh.registers sk.registers _ _
+    (after_protocol
+    ∙ ap (λ (u : Version). spelled_registers u k.registers ++ end) (sym version)) in
+    record {
+      version = version;
+      protocol =
+          protocol_same h.protocol k.protocol
+          (u32_same _ _ (protocol_fits h.protocol) (protocol_fits k.protocol)
+          (front_same _ _ _ _ (u32s _ _) after_version));
+      registers = registers.0;
+      count = u32_same _ _ sh.count sk.count (front_same _ _ _ _ (u32s _ _) registers.1);
+      rest = back_same (u32_bytes 0) (u32_bytes 0) x y refl
+          (back_same _ _ _ _ (u32s _ _) registers.1);
+    }
 
 handover_same : (h k : Handover) → h.protocol ≡ k.protocol → h.registers ≡ k.registers
     → h.parts ≡ k.parts → h ≡ k
@@ -178,13 +178,11 @@ handover_same h k protocol registers parts =
     ∙ ap (λ (r : Registers). made k.protocol r h.parts) registers
     ∙ ap (λ (ps : List Part). made k.protocol k.registers ps) parts
 
-pub image_is_read_again : (h k : Handover) → IsSpellable h → IsSpellable k → spelling h ≡ spelling k
-    → h ≡ k
-image_is_read_again h k sh sk e =
-    let top = words_same h k sh sk _ _ e in
-    let count : length h.parts ≡ length k.parts = ap (λ (l : List ℕ). get_or l 22 0) top.0 in
-    let below = records_same h.parts k.parts sh.parts sk.parts count _ _ top.1 in
-    handover_same h k
-    (protocol_same h.protocol k.protocol (ap (λ (l : List ℕ). get_or l 1 0) top.0))
-    (registers_same h.registers k.registers (ap (λ (l : List ℕ). take 20 (drop 2 l)) top.0))
-    (parts_same h.parts k.parts below.0 below.1)
+pub image_is_read_again : (v w : Version) (h k : Handover) → IsSpellable h → IsSpellable k
+    → spelling v h ≡ spelling w k → (v ≡ w) × (h ≡ k)
+image_is_read_again v w h k sh sk e =
+    let top = heads_same v w h k sh sk _ _ e in
+    let below = records_same h.parts k.parts sh.parts sk.parts top.count _ _ top.rest in (
+      top.version,
+      handover_same h k top.protocol top.registers (parts_same h.parts k.parts below.0 below.1),
+    )

@@ -17,7 +17,7 @@ use Rattle.bl_image.specs.Fields.{Field, fields_fault, record_fields, role_field
 use Rattle.bl_image.specs.Fields.{address_field, length_field}
 use Rattle.bl_image.specs.ImageFaults.{first, record_fault, Before, and_record, parts_fault}
 use Rattle.bl_image.specs.Source.{Input, Shows, Refuses}
-use Rattle.bl_image.proofs.ReadAgain.{role_fits, role_between}
+use Rattle.bl_image.proofs.NumbersAgain.{role_fits, role_between}
 use Rattle.bl_image.proofs.FieldLemmas.{field_passes, word_tells, long_tells}
 
 shows_as : (fault_in other : List ℕ → Option ImageFault) (old new : Input) (fault : ImageFault)
@@ -53,12 +53,12 @@ first_refuses fault_in later old new fault s =
 
 -- a record's fault among the records that are left
 pub record_refuses : (n : ℕ) (before : Before) (old new : Input) (fault : ImageFault)
-    → Refuses (record_fault before.count before.end) old new fault
-    → Refuses (parts_fault (suc n) before) old new fault
+    → Refuses (record_fault 7 before.count before.end) old new fault
+    → Refuses (parts_fault 7 (suc n) before) old new fault
 record_refuses n before old new fault s =
-    first_refuses (record_fault before.count before.end)
+    first_refuses (record_fault 7 before.count before.end)
     (λ bytes.
-    parts_fault n (and_record before (u64_at bytes 8) (u64_at bytes 16)) (drop 24 bytes))
+    parts_fault 7 n (and_record before (u64_at bytes 8) (u64_at bytes 16)) (drop 24 bytes))
     old new fault s
 
 pub four_pieces : (a b c x : List ℕ) → ((a ++ b) ++ c) ++ x ≡ a ++ (b ++ (c ++ x))
@@ -80,10 +80,10 @@ front role index address x =
 
 front_passes : (part before : ℕ) (role : Role) (index address : ℕ) (x : List ℕ) → index < 2 ^ 32
     → address < 2 ^ 64 → before ≤ address
-    → fields_fault (record_fields part before) (front role index address x) ≡ None
+    → fields_fault (record_fields 7 part before) (front role index address x) ≡ None
 unfolding role_field index_field address_field
 front_passes part before role index address x hi ha above =
-    three_pass (role_field part) (index_field part) (address_field part before)
+    three_pass (role_field 7 part) (index_field part) (address_field part before)
     (u32_bytes (roles.role_number role)) (u32_bytes index) (u64_bytes address) x
     (length-u32_bytes (roles.role_number role))
     (word_tells (λ k. nat_le 1 k && nat_le k 7) (BadPart part) (roles.role_number role) true
@@ -105,7 +105,7 @@ behind_front role index address x = refl
 -- they leave the length to be judged
 pub record_front : (part before : ℕ) (role : Role) (index address : ℕ) (x : List ℕ) → index < 2 ^ 32
     → address < 2 ^ 64 → before ≤ address
-    → record_fault part before (front role index address x)
+    → record_fault 7 part before (front role index address x)
     ≡ fields_fault (length_field part address ∷ []) x
 record_front part before role index address x hi ha above =
     rw (
@@ -118,14 +118,14 @@ pub regroup : (r i a n x : List ℕ) → (r ++ (i ++ (a ++ n))) ++ x ≡ ((r ++ 
 regroup r i a n x = simp append_assoc
 
 record_passes : (part before : ℕ) (p : Place) (x : List ℕ) → IsNext before p
-    → record_fault part before (place_record p ++ x) ≡ None
+    → record_fault 7 part before (place_record p ++ x) ≡ None
 unfolding length_field
 record_passes part before p x next =
     let fits : p.address < 2 ^ 64 = omega (arith, next.below) in
     let small : p.length < 2 ^ 64 = omega (arith, next.below) in
     let filled : 1 ≤ p.length = next.filled in
     let below : p.address + p.length ≤ 2 ^ 32 = next.below in
-    ap (record_fault part before)
+    ap (record_fault 7 part before)
     (regroup (u32_bytes (roles.role_number p.role)) (u32_bytes p.index) (u64_bytes p.address)
     (u64_bytes p.length) x)
     ∙ record_front part before p.role p.index p.address (u64_bytes p.length ++ x) next.index fits
@@ -154,8 +154,8 @@ behind_record p x = refl
 
 -- one record leaves the others to be judged
 pub parts_step : (n : ℕ) (before : Before) (p : Place) (x : List ℕ) → IsNext before.end p
-    → parts_fault (suc n) before (place_record p ++ x)
-    ≡ parts_fault n (and_record before p.address p.length) x
+    → parts_fault 7 (suc n) before (place_record p ++ x)
+    ≡ parts_fault 7 n (and_record before p.address p.length) x
 parts_step n before p x next =
     let fits : p.address < 2 ^ 64 = omega (arith, next.below) in
     let small : p.length < 2 ^ 64 = omega (arith, next.below) in

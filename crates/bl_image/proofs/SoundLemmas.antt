@@ -8,7 +8,9 @@ use Rattle.std.proofs.lemmas.Grind.{flat_map-append}
 use Rattle.std.specs.List.{flat_map}
 use Rattle.bl_plan.specs.declared.part.Place.{Place}
 use Rattle.bl_plan.proofs.OrderLemmas.{AreRelated, pairs_related, related_pairs}
-use Rattle.bl_load.specs.HandoffFacts.{Ascends, AreRecords}
+use Rattle.bl_plan.specs.declared.protocol.Protocol.{Protocol}
+use Rattle.bl_load.specs.declared.registers.Registers.{Registers}
+use Rattle.bl_load.specs.HandoffFacts.{Ascends, AreHandoffFacts}
 use Rattle.bl_image.specs.RecordsKept.{place_record, IsNext, AreSound, bytes_at, PlaceFits}
 use Rattle.bl_image.specs.ImageFaults.{Before, parts_fault, none_before}
 use Rattle.bl_image.proofs.RecordLemmas.{parts_step}
@@ -31,23 +33,23 @@ so_far count end ps = record { count = count; end = end; bytes = bytes_at ps }
 pub judged_more : (count part : ℕ) (ps : List Place) (end : ℕ) (p : Place) → part < count
     → IsNext end p
     → ((bytes : List ℕ)
-    → parts_fault count none_before (flat_map place_record ps ++ bytes)
-    ≡ parts_fault (count - part) (so_far part end ps) bytes)
+    → parts_fault 7 count none_before (flat_map place_record ps ++ bytes)
+    ≡ parts_fault 7 (count - part) (so_far part end ps) bytes)
     → (bytes : List ℕ)
-    → parts_fault count none_before (flat_map place_record (ps ++ p ∷ []) ++ bytes)
-    ≡ parts_fault (count - (part + 1)) (so_far (part + 1) (p.address + p.length) (ps ++ p ∷ []))
+    → parts_fault 7 count none_before (flat_map place_record (ps ++ p ∷ []) ++ bytes)
+    ≡ parts_fault 7 (count - (part + 1)) (so_far (part + 1) (p.address + p.length) (ps ++ p ∷ []))
     bytes
 judged_more count part ps end p inside next judged bytes =
     let left : count - part ≡ suc (count - (part + 1)) = omega arith in
-    ap (λ (l : List ℕ). parts_fault count none_before (l ++ bytes)) (came_more ps p)
-    ∙ ap (parts_fault count none_before)
+    ap (λ (l : List ℕ). parts_fault 7 count none_before (l ++ bytes)) (came_more ps p)
+    ∙ ap (parts_fault 7 count none_before)
     (append_assoc (flat_map place_record ps) (place_record p) bytes)
     ∙ judged (place_record p ++ bytes)
-    ∙ ap (λ (n : ℕ). parts_fault n (so_far part end ps) (place_record p ++ bytes)) left
+    ∙ ap (λ (n : ℕ). parts_fault 7 n (so_far part end ps) (place_record p ++ bytes)) left
     ∙ parts_step (count - (part + 1)) (so_far part end ps) p bytes next
     ∙ ap
     (λ (n : ℕ).
-    parts_fault (count - (part + 1))
+    parts_fault 7 (count - (part + 1))
     (record { count = part + 1; end = p.address + p.length; bytes = n }) bytes)
     (sym (bytes_at-more ps p))
 
@@ -95,8 +97,21 @@ sound_more ps end p sound next =
           (record { index = next.index; address = omega arith; count = omega arith });
     }
 
-pub sound_records : (ps : List Place) (end : ℕ) → length ps ≤ 256 → AreSound ps end → AreRecords ps
-sound_records ps end few sound = record {
+-- up to 4 GiB
+pub sound_low : (ps : List Place) (end : ℕ) → AreSound ps end → AreSound ps (2 ^ 32)
+sound_low ps end sound = record {
+  filled = sound.filled;
+  below = sound.below;
+  upto = sound.below;
+  ascending = sound.ascending;
+  fit = sound.fit;
+}
+
+-- at most 256 of them are what a handoff keeps
+pub sound_kept : (protocol : Protocol) (registers : Registers) (ps : List Place) (end : ℕ)
+    → length ps ≤ 256 → AreSound ps end
+    → AreHandoffFacts (record { protocol = protocol; registers = registers; places = ps })
+sound_kept protocol registers ps end few sound = record {
   few = few;
   filled = sound.filled;
   below = sound.below;

@@ -14,6 +14,7 @@ use Rattle.bl_plan.specs.declared.protocol.Protocol.{Protocol}
 use Rattle.bl_load.specs.declared.registers.Registers.{Registers}
 use Rattle.bl_load.specs.Handover.{Part}
 use Rattle.bl_load.specs.PlanFacts.{part_in, handover_in}
+use Rattle.bl_image.specs.declared.version.Version.{Version}
 use Rattle.bl_image.specs.Image.{head, record_of, part_record, spelling}
 use Rattle.bl_image.specs.RecordsKept.{place_record, place_bytes}
 
@@ -47,35 +48,35 @@ bytes_in bytes (p ∷ ps) =
     ∙ sym (flat_map-cons (λ (part : Part). part.bytes) (part_in bytes p) (map (part_in bytes) ps))
 
 -- head, records and bytes of these places are the image
-spelling_in : (bytes : List ℕ) (protocol : Protocol) (r : Registers) (ps : List Place)
+spelling_in : (version : Version) (bytes : List ℕ) (protocol : Protocol) (r : Registers) (ps : List Place)
     → All (EndsIn bytes) ps
-    → spelling (handover_in bytes protocol r ps)
-    ≡ head protocol r (length ps)
+    → spelling version (handover_in bytes protocol r ps)
+    ≡ head version protocol r (length ps)
     ++ (flat_map place_record ps ++ flat_map (place_bytes bytes) ps)
-spelling_in bytes protocol r ps h =
+spelling_in version bytes protocol r ps h =
     ap (λ (n : ℕ).
-    head protocol r n
+    head version protocol r n
     ++ (flat_map part_record (map (part_in bytes) ps)
     ++ flat_map (λ (part : Part). part.bytes) (map (part_in bytes) ps)))
     (length-map ps (part_in bytes))
     ∙ ap
     (λ (l : List ℕ).
-    head protocol r (length ps)
+    head version protocol r (length ps)
     ++ (l ++ flat_map (λ (part : Part). part.bytes) (map (part_in bytes) ps)))
     (sym (records_in bytes ps h))
-    ∙ ap (λ (l : List ℕ). head protocol r (length ps) ++ (flat_map place_record ps ++ l))
+    ∙ ap (λ (l : List ℕ). head version protocol r (length ps) ++ (flat_map place_record ps ++ l))
     (sym (bytes_in bytes ps))
 
 -- with what stands before the bytes as one piece
-pub image_in : (bytes : List ℕ) (protocol : Protocol) (r : Registers) (ps : List Place)
+pub image_in : (version : Version) (bytes : List ℕ) (protocol : Protocol) (r : Registers) (ps : List Place)
     → All (EndsIn bytes) ps
-    → spelling (handover_in bytes protocol r ps)
-    ≡ (head protocol r (length ps) ++ flat_map place_record ps)
+    → spelling version (handover_in bytes protocol r ps)
+    ≡ (head version protocol r (length ps) ++ flat_map place_record ps)
     ++ flat_map (place_bytes bytes) ps
-image_in bytes protocol r ps h =
-    spelling_in bytes protocol r ps h
+image_in version bytes protocol r ps h =
+    spelling_in version bytes protocol r ps h
     ∙ sym
-    (append_assoc (head protocol r (length ps)) (flat_map place_record ps)
+    (append_assoc (head version protocol r (length ps)) (flat_map place_record ps)
     (flat_map (place_bytes bytes) ps))
 
 -- the first of what is left

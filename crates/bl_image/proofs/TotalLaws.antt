@@ -12,15 +12,15 @@ use Rattle.std.proofs.lemmas.List.Concat.{flat_map-cons}
 use Rattle.bl_plan.specs.declared.part.Place.{Place}
 use Rattle.bl_plan.proofs.OrderLemmas.{AreRelated, related_pairs}
 use Rattle.bl_load.specs.Handover.{Part, Handover}
-use Rattle.bl_load.specs.HandoffFacts.{Ascends, AreRecords}
+use Rattle.bl_load.specs.HandoffFacts.{Ascends, AreHandoffFacts}
 use Rattle.bl_image.specs.declared.fault.ImageFault.TheVariants.{WrongLength}
+use Rattle.bl_image.specs.declared.version.Version.{Version}
 use Rattle.bl_image.specs.Image.{head}
-use Rattle.bl_image.specs.RecordsKept.{place_record, bytes_at, place_of, PlaceFits}
-use Rattle.bl_image.specs.Fields.{fields_fault, head_fields}
-use Rattle.bl_image.specs.ImageFaults.{image_fault, parts_fault, Before, and_record, none_before}
-use Rattle.bl_image.specs.ImageFaults.{end_fault}
-use Rattle.bl_image.specs.ImageParts.{IsImage}
-use Rattle.bl_image.proofs.HeadLemmas.{head_front}
+use Rattle.bl_image.specs.RecordsKept.{place_record, bytes_at, PlaceFits}
+use Rattle.bl_image.specs.ImageFaults.{head_fault, image_fault, parts_fault, Before, and_record}
+use Rattle.bl_image.specs.ImageFaults.{none_before, end_fault}
+use Rattle.bl_image.specs.ImageParts.{place_of, IsImage}
+use Rattle.bl_image.proofs.FrontLemmas.{head_front}
 use Rattle.bl_image.proofs.PartLemmas.{all_bytes, spelled_by, image_kept}
 use Rattle.bl_image.proofs.RecordLemmas.{parts_step}
 use Rattle.bl_image.proofs.NoFaultLemmas.{IsSmall, first_none}
@@ -49,7 +49,7 @@ end_none : (count : ℕ) (bytes : List ℕ) → end_fault count bytes ≡ None �
 end_none count bytes e = (Decides-eqb (length bytes) count).0 (kept_none (length bytes == count) e)
 
 places_found : (count : ℕ) (before : Before) (bytes : List ℕ) → IsSmall bytes
-    → parts_fault count before bytes ≡ None → PlacesFound count before bytes
+    → parts_fault 7 count before bytes ≡ None → PlacesFound count before bytes
 places_found zero before bytes small none = record {
   places = [];
   tail = bytes;
@@ -64,9 +64,9 @@ places_found (suc count) before bytes small none =
     let here = record_found before.count before.end bytes small (first_none _ _ none).0 in
     let p = here.place in
     let after : Before = and_record before p.address p.length in
-    let left : parts_fault count after here.rest ≡ None =
+    let left : parts_fault 7 count after here.rest ≡ None =
     sym (parts_step count before p here.rest here.next)
-    ∙ ap (parts_fault (suc count) before) here.is ∙ none in
+    ∙ ap (parts_fault 7 (suc count) before) here.is ∙ none in
     let others = places_found count after here.rest here.small left in
     let next = here.next in
     let above : before.end ≤ p.address = next.above in
@@ -112,20 +112,24 @@ split_tail (p ∷ ps) tail size =
           ∙ ap (λ (l : List ℕ). take p.length tail ++ l) rest.2 ∙ take-append-drop p.length tail,
     )
 
-head_none : (bytes : List ℕ) → image_fault bytes ≡ None → fields_fault head_fields bytes ≡ None
+head_none : (bytes : List ℕ) → image_fault bytes ≡ None → head_fault bytes ≡ None
 unfolding image_fault
 head_none bytes e = (first_none _ _ e).0
 
 -- bytes that have no fault are an image
 pub image_found : (bytes : List ℕ) → IsSmall bytes → image_fault bytes ≡ None
-    → (handover : Handover) × IsImage bytes handover
+    → (version : Version) × (handover : Handover) × IsImage version bytes handover
 image_found bytes small none =
     let h = head_found bytes small (head_none bytes none) in
-    let left : parts_fault h.count none_before h.rest ≡ None =
-    sym (head_front h.protocol h.registers h.count h.rest h.few) ∙ ap image_fault h.is ∙ none in
+    let top : List ℕ = head h.version h.protocol h.registers h.count in
+    let left : parts_fault 7 h.count none_before h.rest ≡ None =
+    sym (head_front h.version h.protocol h.registers h.count h.rest h.few)
+    ∙ ap image_fault h.is ∙ none in
     let f = places_found h.count none_before h.rest h.small left in
     let parts = split_tail f.places f.tail (let long = f.long in omega arith) in
-    let records : AreRecords f.places = record {
+    let kept : AreHandoffFacts
+    (record { protocol = h.protocol; registers = h.registers; places = f.places }) =
+    record {
       few = let size = f.size in let few = h.few in omega arith;
       filled = λ k d within. (f.each k d within).filled;
       below = λ k d within. (f.each k d within).below;
@@ -135,24 +139,20 @@ image_found bytes small none =
     λ k d within. let e =
     f.each k d within in
     record { index = e.index; address = omega arith; count = omega arith } in
-    let spelled = spelled_by h.protocol h.registers h.count f.places parts.0 parts.1 f.size in
-    let pieces : (head h.protocol h.registers h.count ++ flat_map place_record f.places)
-    ++ all_bytes parts.0 ≡ bytes =
-    append_assoc (head h.protocol h.registers h.count) (flat_map place_record f.places)
-    (all_bytes parts.0)
-    ∙ ap
-    (λ (l : List ℕ).
-    head h.protocol h.registers h.count ++ (flat_map place_record f.places ++ l)) parts.2
-    ∙ ap (λ (l : List ℕ). head h.protocol h.registers h.count ++ l) f.is
+    let spelled =
+    spelled_by h.version h.protocol h.registers h.count f.places parts.0 parts.1 f.size in
+    let pieces : (top ++ flat_map place_record f.places) ++ all_bytes parts.0 ≡ bytes =
+    append_assoc top (flat_map place_record f.places) (all_bytes parts.0)
+    ∙ ap (λ (l : List ℕ). top ++ (flat_map place_record f.places ++ l)) parts.2
+    ∙ ap (λ (l : List ℕ). top ++ l) f.is
     ∙ h.is in (
+      h.version,
       record { protocol = h.protocol; registers = h.registers; parts = parts.0 },
       record {
         is =
             sym pieces
-            ∙ sym
-            (append-nil
-            ((head h.protocol h.registers h.count ++ flat_map place_record f.places)
-            ++ all_bytes parts.0)) ∙ spelled;
-        kept = image_kept h.protocol h.registers f.places parts.0 parts.1 records fit h.fit;
+            ∙ sym (append-nil ((top ++ flat_map place_record f.places) ++ all_bytes parts.0))
+            ∙ spelled;
+        kept = image_kept h.protocol h.registers f.places parts.0 parts.1 kept fit h.fit;
       },
     )

@@ -1,4 +1,4 @@
--- The fields of an image, in their order, and the first fault among them. Own.
+-- The fields of an image, and the first fault among fields. Own.
 use Rattle.std.specs.Prelude.{ℕ, ◌+◌, ◌^◌, Bool, true, not, ◌&&◌, if◌then◌else◌, ◌==◌}
 use Rattle.std.specs.Prelude.{nat_lt, nat_le, List, [], ◌∷◌, length, take, drop, bytes_eq}
 use Rattle.std.specs.Prelude.{Option, Some, None}
@@ -31,34 +31,34 @@ fields_fault (field ∷ fields) bytes =
     if not (field.passes (take field.size bytes)) then Some field.fault else
     fields_fault fields (drop field.size bytes)
 
--- the fields of the head
+-- the fields that each image begins with
 unfoldable pub magic_field : Field
 magic_field = record { size = 8; passes = bytes_eq magic; fault = BadMagic }
 
 unfoldable pub version_field : Field
 version_field = word (λ version. version == 1) BadVersion
 
--- 1 is Multiboot2, 2 is Linux
-unfoldable pub protocol_field : Field
-protocol_field = word (λ protocol. nat_le 1 protocol && nat_le protocol 2) BadHeader
+abbrev pub opening_fields : List Field
+opening_fields = magic_field ∷ version_field ∷ []
 
--- 20 numbers of 32 bits, of any value
-unfoldable pub registers_field : Field
-registers_field = record { size = 80; passes = λ bytes. true; fault = BadHeader }
+-- the protocol of an image of this version: 1 is Multiboot2, 2 is Linux
+unfoldable pub protocol_field : ℕ → Field
+protocol_field version = word (λ protocol. nat_le 1 protocol && nat_le protocol 2) BadHeader
 
+-- a register that may be anything
+unfoldable pub register_field : Field
+register_field = word (λ register. true) BadHeader
+
+-- the fields behind the registers
 unfoldable pub count_field : Field
 count_field = word (λ count. nat_le count most_parts) BadHeader
 
 unfoldable pub zero_field : Field
 zero_field = word (λ zero. zero == 0) BadHeader
 
-abbrev pub head_fields : List Field
-head_fields =
-    magic_field ∷ version_field ∷ protocol_field ∷ registers_field ∷ count_field ∷ zero_field ∷ []
-
--- the fields of a record
-unfoldable pub role_field : ℕ → Field
-role_field part = word (λ role. nat_le 1 role && nat_le role 7) (BadPart part)
+-- the fields of a record, the greatest number of a role first
+unfoldable pub role_field : ℕ → ℕ → Field
+role_field most part = word (λ role. nat_le 1 role && nat_le role most) (BadPart part)
 
 unfoldable pub index_field : ℕ → Field
 index_field part = word (λ index. true) (BadPart part)
@@ -73,5 +73,6 @@ length_field part address =
     long (λ count. nat_le 1 count && nat_le (address + count) (2 ^ 32)) (BadPart part)
 
 -- the fields of a record but its length, which must fit the address
-abbrev pub record_fields : ℕ → ℕ → List Field
-record_fields part before = role_field part ∷ index_field part ∷ address_field part before ∷ []
+abbrev pub record_fields : ℕ → ℕ → ℕ → List Field
+record_fields most part before =
+    role_field most part ∷ index_field part ∷ address_field part before ∷ []

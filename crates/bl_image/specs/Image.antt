@@ -1,4 +1,4 @@
--- The image of a handover, version 1: its one spelling. All numbers are little-endian. Own.
+-- The image of a handover: its one spelling in each version. All numbers are little-endian. Own.
 use Rattle.std.specs.Prelude.{ℕ, List, [], ◌∷◌, ◌++◌, length, codes}
 use Rattle.std.specs.List.{flat_map}
 use Rattle.bl_mem.specs.Words.{u32_bytes, u64_bytes}
@@ -8,6 +8,9 @@ use Rattle.bl_plan.specs.declared.protocol.Protocol.{Protocol}
 use Rattle.bl_load.specs.declared.registers.Registers.{Registers}
 use Rattle.bl_plan.specs.Protocols as protocols
 use Rattle.bl_load.specs.Handover.{Part, Handover}
+use Rattle.bl_image.specs.declared.version.Version.{Version}
+use Rattle.bl_image.specs.declared.version.Version.TheVariants.{One}
+use Rattle.bl_image.specs.Versions.{version_number}
 
 -- `BLIMAGE` and a zero byte
 abbrev pub magic : List ℕ
@@ -19,12 +22,16 @@ register_numbers r =
     r.eip ∷ r.eax ∷ r.ebx ∷ r.ecx ∷ r.edx ∷ r.esi ∷ r.edi ∷ r.ebp ∷ r.esp ∷ r.eflags
     ∷ r.cr0 ∷ r.cs ∷ r.ds ∷ r.es ∷ r.fs ∷ r.gs ∷ r.ss ∷ r.gdt_base ∷ r.gdt_limit ∷ r.a20 ∷ []
 
--- the magic; version, protocol; the registers; the number of parts, a zero word: each number in 32
--- bits
-abbrev pub head : Protocol → Registers → ℕ → List ℕ
-head protocol registers count =
-    magic ++ flat_map u32_bytes
-    (1 ∷ protocols.protocol_number protocol ∷ (register_numbers registers ++ count ∷ 0 ∷ []))
+-- the registers: in version 1 each number in 32 bits
+abbrev pub spelled_registers : Version → Registers → List ℕ
+spelled_registers One registers = flat_map u32_bytes (register_numbers registers)
+
+-- the magic; version and protocol; the registers; the number of parts, a zero word: what is no
+-- register in 32 bits
+abbrev pub head : Version → Protocol → Registers → ℕ → List ℕ
+head version protocol registers count =
+    magic ++ (u32_bytes (version_number version) ++ (u32_bytes (protocols.protocol_number protocol)
+    ++ (spelled_registers version registers ++ (u32_bytes count ++ u32_bytes 0))))
 
 -- a record: role and index in 32 bits, address and length in 64
 abbrev pub record_of : Role → ℕ → ℕ → ℕ → List ℕ
@@ -37,7 +44,7 @@ part_record part = record_of part.role part.index part.address (length part.byte
 
 -- the head, a record for each part in the order of addresses, the bytes of the parts in the same
 -- order
-abbrev pub spelling : Handover → List ℕ
-spelling h =
-    head h.protocol h.registers (length h.parts)
+abbrev pub spelling : Version → Handover → List ℕ
+spelling version h =
+    head version h.protocol h.registers (length h.parts)
     ++ (flat_map part_record h.parts ++ flat_map (λ part. part.bytes) h.parts)

@@ -1,21 +1,31 @@
--- The first fault of bytes that should be an image, version 1, in the order of reading. Own.
+-- The first fault of bytes that should be an image, in the order of reading. Own.
 use Rattle.std.specs.Prelude.{ℕ, zero, suc, ◌+◌, if◌then◌else◌, ◌==◌}
 use Rattle.std.specs.Prelude.{List, [], ◌∷◌, length, drop, Option, Some, None}
 use Rattle.bl_mem.specs.Words.{u32_at, u64_at}
 use Rattle.bl_image.specs.declared.fault.ImageFault.{ImageFault}
 use Rattle.bl_image.specs.declared.fault.ImageFault.TheVariants.{WrongLength}
-use Rattle.bl_image.specs.Fields.{fields_fault, head_fields, record_fields, length_field}
+use Rattle.bl_image.specs.Fields.{fields_fault, opening_fields, protocol_field, record_fields}
+use Rattle.bl_image.specs.Fields.{length_field}
+use Rattle.bl_image.specs.Layouts.{layout_of, layout_fields}
 
 -- what comes first, else what comes later
 abbrev pub first : Option ImageFault → Option ImageFault → Option ImageFault
 first None later = later
 first (Some fault) later = Some fault
 
--- the first fault of a record, of 24 bytes: its address stands at 8, its length at 16; the part
--- before ends there
-abbrev pub record_fault : ℕ → ℕ → List ℕ → Option ImageFault
-record_fault part before bytes =
-    first (fields_fault (record_fields part before) bytes)
+-- the first fault of a head: of what each image begins with; of the protocol, which must be one of
+-- the version; of what the layout tells
+unfoldable pub head_fault : List ℕ → Option ImageFault
+head_fault bytes =
+    first (fields_fault opening_fields bytes)
+    (first (fields_fault (protocol_field (u32_at bytes 8) ∷ []) (drop 12 bytes))
+    (fields_fault (layout_fields (layout_of bytes)) (drop 16 bytes)))
+
+-- the first fault of a record, of 24 bytes, whose role's number is at most this one: its address
+-- stands at 8, its length at 16; the part before ends there
+abbrev pub record_fault : ℕ → ℕ → ℕ → List ℕ → Option ImageFault
+record_fault most part before bytes =
+    first (fields_fault (record_fields most part before) bytes)
     (fields_fault (length_field part (u64_at bytes 8) ∷ []) (drop 16 bytes))
 
 -- what the records so far say: how many they are, where the last one's part ends, how many bytes
@@ -40,17 +50,17 @@ and_record before address count = record {
 abbrev pub end_fault : ℕ → List ℕ → Option ImageFault
 end_fault count bytes = if length bytes == count then None else Some WrongLength
 
--- the first fault where so many records must begin, and after them the bytes of all parts, and
--- nothing else
-abbrev pub parts_fault : ℕ → Before → List ℕ → Option ImageFault
-parts_fault zero before bytes = end_fault before.bytes bytes
-parts_fault (suc n) before bytes =
-    first (record_fault before.count before.end bytes)
-    (parts_fault n (and_record before (u64_at bytes 8) (u64_at bytes 16)) (drop 24 bytes))
+-- the first fault where so many records must begin, with numbers of roles up to the first, and
+-- after them the bytes of all parts, and nothing else
+abbrev pub parts_fault : ℕ → ℕ → Before → List ℕ → Option ImageFault
+parts_fault most zero before bytes = end_fault before.bytes bytes
+parts_fault most (suc n) before bytes =
+    first (record_fault most before.count before.end bytes)
+    (parts_fault most n (and_record before (u64_at bytes 8) (u64_at bytes 16)) (drop 24 bytes))
 
--- the first fault of an image: of its head, of 104 bytes, where the number of parts stands at 96;
--- of what follows
+-- the first fault of an image: of its head; of what follows, where the layout says
 unfoldable pub image_fault : List ℕ → Option ImageFault
 image_fault bytes =
-    first (fields_fault head_fields bytes)
-    (parts_fault (u32_at bytes 96) none_before (drop 104 bytes))
+    first (head_fault bytes)
+    (parts_fault (layout_of bytes).most_role (u32_at bytes (layout_of bytes).count_at) none_before
+    (drop (layout_of bytes).records_at bytes))

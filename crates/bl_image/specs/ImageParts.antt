@@ -1,27 +1,36 @@
--- What the parts of an image keep. Own.
-use Rattle.std.specs.Prelude.{◌≡◌, ℕ, ◌≤◌, ◌^◌, List, length, All, AllPairs}
-use Rattle.bl_load.specs.HandoffFacts.{most_parts}
+-- What an image keeps, and which bytes are one. Own.
+use Rattle.std.specs.Prelude.{◌≡◌, ℕ, ◌≤◌, List, length, map}
+use Rattle.bl_plan.specs.declared.part.Place.{Place}
+use Rattle.bl_load.specs.HandoffFacts.{HandoffFacts, AreHandoffFacts}
 use Rattle.bl_load.specs.Handover.{Part, Handover, end_of}
+use Rattle.bl_image.specs.declared.version.Version.{Version}
 use Rattle.bl_image.specs.Image.{spelling}
 use Rattle.bl_image.specs.Spellable.{IsSpellable}
+
+-- the place of a part
+abbrev pub place_of : Part → Place
+place_of part = record {
+  role = part.role;
+  index = part.index;
+  address = part.address;
+  length = length part.bytes;
+}
+
+-- what a handoff of a handover says
+abbrev pub handoff_of : Handover → HandoffFacts
+handoff_of h =
+    record { protocol = h.protocol; registers = h.registers; places = map place_of h.parts }
 
 -- the second part begins at the end of the first, or after it
 abbrev pub PartAscends : Part → Part → Type 0
 PartAscends p q = end_of p ≤ q.address
 
--- they are few, none is empty, each ends at most at 4 GiB, and they ascend
-pub record AreImageParts (parts : List Part) : Type 0 where
-  pub few : length parts ≤ most_parts
-  pub filled : All (λ part. 1 ≤ length part.bytes) parts
-  pub below : All (λ part. end_of part ≤ 2 ^ 32) parts
-  pub ascending : AllPairs PartAscends parts
-
--- what an image keeps: its parts, and that its numbers fit
+-- what an image keeps: what a handoff does, and that its numbers fit
 pub record IsKept (handover : Handover) : Type 0 where
-  pub parts : AreImageParts handover.parts
+  pub handoff : AreHandoffFacts (handoff_of handover)
   pub spellable : IsSpellable handover
 
--- these bytes are the image of this handover
-pub record IsImage (bytes : List ℕ) (handover : Handover) : Type 0 where
-  pub is : bytes ≡ spelling handover
+-- these bytes are the image of this handover in this version
+pub record IsImage (version : Version) (bytes : List ℕ) (handover : Handover) : Type 0 where
+  pub is : bytes ≡ spelling version handover
   pub kept : IsKept handover

@@ -4,8 +4,10 @@ pub mod Fields
 pub mod Image
 pub mod ImageFaults
 pub mod ImageParts
+pub mod Layouts
 pub mod RecordsKept
 pub mod Source
 pub mod SourceKept
 pub mod Sources
 pub mod Spellable
+pub mod Versions

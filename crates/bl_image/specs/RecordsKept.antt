@@ -2,7 +2,6 @@
 use Rattle.std.specs.Prelude.{ℕ, ◌+◌, ◌<◌, ◌≤◌, ◌^◌, List, [], ◌∷◌, length, All, AllPairs}
 use Rattle.std.specs.Prelude.{slice_range}
 use Rattle.bl_plan.specs.declared.part.Place.{Place}
-use Rattle.bl_load.specs.Handover.{Part}
 use Rattle.bl_load.specs.HandoffFacts.{Ascends}
 use Rattle.bl_image.specs.Image.{record_of, register_numbers}
 use Rattle.bl_load.specs.declared.registers.Registers.{Registers}
@@ -46,12 +45,3 @@ pub record AreSound (places : List Place) (end : ℕ) : Type 0 where
 abbrev pub bytes_at : List Place → ℕ
 bytes_at [] = 0
 bytes_at (place ∷ places) = place.length + bytes_at places
-
--- the place of a part
-abbrev pub place_of : Part → Place
-place_of part = record {
-  role = part.role;
-  index = part.index;
-  address = part.address;
-  length = length part.bytes;
-}

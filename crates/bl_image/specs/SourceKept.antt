@@ -1,5 +1,5 @@
 -- What the code keeps as it reads a source. Own.
-use Rattle.std.specs.Prelude.{◌≡◌, ◌<◌, ℕ, true, List, ◌∷◌, length, Result, MatchResult}
+use Rattle.std.specs.Prelude.{◌≡◌, ◌<◌, ℕ, true, List, ◌∷◌, ◌++◌, length, Result, MatchResult}
 use Rattle.bl_image.specs.declared.fault.ImageFault.{ImageFault}
 use Rattle.bl_image.specs.declared.fault.ImageFault.TheVariants.{WrongLength, DeviceFault, NoMemory}
 use Rattle.bl_image.specs.Fields.{Field, fields_fault}
@@ -25,9 +25,23 @@ pub record Passes (field : Field) (old new : Input) (bytes : List ℕ) : Type 0 
   pub size : length bytes ≡ field.size
   pub passes : field.passes bytes ≡ true
 
+-- these fields came, and leave to be judged what follows
+pub record PassAll (fields : List Field) (old new : Input) (bytes : List ℕ) : Type 0 where
+  pub comes : Comes old new bytes
+  pub on : (others : List Field) (more : List ℕ)
+      → fields_fault (fields ++ others) (bytes ++ more) ≡ fields_fault others more
+
 -- what was read is the field; or it has a fault, whatever fields follow
 abbrev pub Reads : {X : Type 0} → Field → Input → Input → (X → List ℕ) → Result X ImageFault
     → Type 0
 Reads field old new spelled result =
     MatchResult result (λ value. Passes field old new (spelled value))
     (λ fault. (fields : List Field) → Refuses (fields_fault (field ∷ fields)) old new fault)
+
+-- the same of several fields
+abbrev pub ReadAll : {X : Type 0} → List Field → Input → Input → (X → List ℕ)
+    → Result X ImageFault
+    → Type 0
+ReadAll fields old new spelled result =
+    MatchResult result (λ value. PassAll fields old new (spelled value))
+    (λ fault. (others : List Field) → Refuses (fields_fault (fields ++ others)) old new fault)

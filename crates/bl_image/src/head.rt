@@ -2,30 +2,41 @@
 ghost use Rattle.std.specs.Prelude.{◌≡◌, ◌+◌, ◌*◌, ◌<◌, ◌≤◌, ◌^◌, ◌++◌, length, take, All, OnOk};
 ghost use Rattle.std.specs.Prelude.{OnErr};
 ghost use Rattle.std.specs.List.{flat_map};
-ghost use Rattle.bl_load.specs.HandoffFacts.{AreRecords};
+ghost use Rattle.bl_load.specs.HandoffFacts.{AreHandoffFacts};
 ghost use Rattle.bl_image.specs.Begun.{IsBegun};
 ghost use Rattle.bl_image.specs.Image.{head, register_numbers};
 ghost use Rattle.bl_image.specs.RecordsKept.{place_record, AreSpellable};
+ghost use Rattle.bl_image.specs.Versions.{written_version};
 
+use crate::places::Places;
 use crate::sink::{DeviceFault, Sink, write_all};
-use bl_load::{Handoff, Protocol, Registers};
+use crate::version::Version;
+use bl_load::{Protocol, Registers};
 use bl_mem::{write_u32s, write_u64s};
 use bl_plan::Place;
-use std::alloc::Allocator;
 
 /// What an image begins with.
 pub(crate) const MAGIC: [u8; 8] = *b"BLIMAGE\0";
 
-/// The version of the format.
-pub(crate) const VERSION: u32 = 1;
+/// How many parts an image has at most.
+pub(crate) const MOST_PARTS: u32 = 256;
+
+/// How many bytes the head that is written has.
+const HEAD: usize = 104;
+
+/// How many bytes a record has.
+const RECORD: usize = 24;
+
+/// How many bytes stand at most before those of the parts.
+pub(crate) const MOST_FRONT: usize = HEAD + RECORD * MOST_PARTS as usize;
 
 /// The head of an image with so many parts.
-fn head_bytes(protocol: Protocol, r: &Registers, count: u32) -> [u8; 104]
-    ensures bytes { result ≡ head protocol r.now count }
+fn head_bytes(protocol: Protocol, r: &Registers, count: u32) -> [u8; HEAD]
+    ensures bytes { result ≡ head written_version protocol r.now count }
     ensures fit { All (λ n. n < 2 ^ 32) (register_numbers r.now) }
 {
     let words: [u32; 24] = [
-        VERSION,
+        Version::One.number(),
         protocol.number(),
         r.eip,
         r.eax,
@@ -50,18 +61,18 @@ fn head_bytes(protocol: Protocol, r: &Registers, count: u32) -> [u8; 104]
         count,
         0,
     ];
-    let mut bytes = [0u8; 104];
+    let mut bytes = [0u8; HEAD];
     bytes[..8].copy_from_slice(&MAGIC);
     write_u32s(&words, &mut bytes[8..]);
     bytes
 }
 
 /// The record of a part.
-fn record_bytes(place: &Place) -> [u8; 24]
+fn record_bytes(place: &Place) -> [u8; RECORD]
     ensures bytes { result ≡ place_record place.now }
     ensures index { place.now.index < 2 ^ 32 }
 {
-    let mut bytes = [0u8; 24];
+    let mut bytes = [0u8; RECORD];
     write_u32s(&[place.role.number(), place.index], &mut bytes[..8]);
     write_u64s(&[place.address, place.length], &mut bytes[8..]);
     bytes
@@ -76,47 +87,61 @@ fn put(buffer: &mut [u8], at: usize, bytes: &[u8])
     buffer[at..end].copy_from_slice(bytes);
 }
 
-/// Puts all that stands before the parts' bytes into the buffer, and says how many bytes it has:
-/// 104, and 24 for each of at most 256 parts.
-fn put_front<A: Allocator>(buffer: &mut [u8], handoff: &Handoff<A>) -> usize
-    requires { 6248 ≤ length buffer.old }
+/// Puts all that stands before the parts' bytes into the buffer, and says how many bytes it has.
+fn put_front<P: Places>(
+    buffer: &mut [u8],
+    protocol: Protocol,
+    registers: &Registers,
+    places: &P,
+) -> usize
+    requires room { MOST_FRONT ≤ length buffer.old }
+    requires kept { AreHandoffFacts (record {
+      protocol = protocol;
+      registers = registers.now;
+      places = P.places places.now;
+    }) }
     ensures within { result ≤ length buffer.new }
     ensures front { take result buffer.new
-        ≡ head handoff.now.protocol handoff.now.registers (length handoff.now.places)
-        ++ flat_map place_record handoff.now.places }
-    ensures fit { AreSpellable handoff.now.registers handoff.now.places }
-    ensures records { AreRecords handoff.now.places }
+        ≡ head written_version protocol registers.now (length (P.places places.now))
+        ++ flat_map place_record (P.places places.now) }
+    ensures fit { AreSpellable registers.now (P.places places.now) }
 {
-    let count = handoff.len();
-    let registers = handoff.registers();
-    let bytes = head_bytes(handoff.protocol(), &registers, count as u32);
+    let count = places.count();
+    let bytes = head_bytes(protocol, registers, count as u32);
     put(buffer, 0, &bytes);
     for i in 0..count {
-        let place = handoff.place(i);
-        put(buffer, 104 + 24 * i, &record_bytes(&place));
+        let place = places.place_at(i);
+        put(buffer, HEAD + RECORD * i, &record_bytes(&place));
     }
-    104 + 24 * count
+    HEAD + RECORD * count
 }
 
-/// Writes all that stands before the parts' bytes, at once.
-pub(crate) fn write_front<S: Sink, A: Allocator>(
+/// Writes all that stands before the parts' bytes, at once: the head with this protocol and these
+/// registers, and the records of these places, which are a handoff's.
+pub(crate) fn write_front<S: Sink, P: Places>(
     sink: &mut S,
-    handoff: &Handoff<A>,
+    protocol: Protocol,
+    registers: &Registers,
+    places: &P,
     buffer: &mut [u8],
 ) -> Result<(), DeviceFault>
-    requires room { 6248 ≤ length buffer.old }
+    requires room { MOST_FRONT ≤ length buffer.old }
+    requires kept { AreHandoffFacts (record {
+      protocol = protocol;
+      registers = registers.now;
+      places = P.places places.now;
+    }) }
     requires faults { S.faults sink.old < 2 ^ 63 }
     ensures ok { OnOk result (S.contents sink.new ≡ S.contents sink.old
-        ++ (head handoff.now.protocol handoff.now.registers (length handoff.now.places)
-        ++ flat_map place_record handoff.now.places)) }
+        ++ (head written_version protocol registers.now (length (P.places places.now))
+        ++ flat_map place_record (P.places places.now))) }
     ensures sound { OnOk result (S.faults sink.new ≡ S.faults sink.old) }
     ensures begun { OnErr result (IsBegun (S.contents sink.old) (S.contents sink.new)
-        (head handoff.now.protocol handoff.now.registers (length handoff.now.places)
-        ++ flat_map place_record handoff.now.places)) }
+        (head written_version protocol registers.now (length (P.places places.now))
+        ++ flat_map place_record (P.places places.now))) }
     ensures fault { OnErr result (S.faults sink.new ≡ S.faults sink.old + 1) }
-    ensures fit { AreSpellable handoff.now.registers handoff.now.places }
-    ensures records { AreRecords handoff.now.places }
+    ensures fit { AreSpellable registers.now (P.places places.now) }
 {
-    let count = put_front(buffer, handoff);
+    let count = put_front(buffer, protocol, registers, places);
     write_all(sink, &buffer[..count])
 }

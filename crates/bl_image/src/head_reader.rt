@@ -1,30 +1,27 @@
 //! The head of an image, read.
-ghost use Rattle.std.specs.Prelude.{◌≡◌, ◌+◌, ◌≤◌, ◌<◌, ◌^◌, length, All, MatchOption};
-ghost use Rattle.std.specs.Prelude.{IfOk, IfErr};
+ghost use Rattle.std.specs.Prelude.{◌≡◌, ◌+◌, ◌≤◌, ◌<◌, ◌^◌, ℕ, All, MatchOption, IfOk, IfErr};
 ghost use Rattle.bl_mem.specs.Words.{u32_bytes};
 ghost use Rattle.bl_plan.specs.Protocols as protocols;
-ghost use Rattle.std.specs.List.{flat_map};
 ghost use Rattle.bl_load.specs.HandoffFacts.{most_parts};
 ghost use Rattle.bl_image.specs.Fields as fields;
 ghost use Rattle.bl_image.specs.Image.{magic, head, register_numbers};
+ghost use Rattle.bl_image.specs.ImageFaults.{head_fault};
 ghost use Rattle.bl_image.specs.Source.{Comes, Refuses, faults_met};
 ghost use Rattle.bl_image.specs.SourceKept.{Reads};
+ghost use Rattle.bl_image.specs.Versions.{version_number};
 
 use crate::fault::ImageFault;
-use crate::fields::{read_exact, read_u32, read_u32s};
-use crate::head::{MAGIC, VERSION};
+use crate::fields::{read_exact, read_u32};
+use crate::head::{MAGIC, MOST_PARTS};
+use crate::register_reader::read_registers;
 use crate::source::Source;
+use crate::version::Version;
 use bl_load::{Protocol, Registers};
-
-/// How many parts an image has at most.
-const MOST_PARTS: u32 = 256;
-
-/// How many registers an image has.
-const REGISTERS: usize = 20;
 
 /// What the head of an image says.
 #[derive(Clone, Copy)]
 pub(crate) struct Head {
+    pub(crate) version: Version,
     pub(crate) protocol: Protocol,
     pub(crate) registers: Registers,
     pub(crate) count: u32,
@@ -44,16 +41,27 @@ fn read_magic<S: Source>(source: &mut S) -> Result<(), ImageFault>
     Ok(())
 }
 
-fn read_version<S: Source>(source: &mut S) -> Result<(), ImageFault>
+fn version_of(number: u32) -> Option<Version>
+    ensures { MatchOption result (¬ (number ≡ 1))
+        (λ version. version_number version ≡ number) }
+{
+    match number {
+        1 => Some(Version::One),
+        _ => None,
+    }
+}
+
+fn read_version<S: Source>(source: &mut S) -> Result<Version, ImageFault>
     requires { S.faults source.old < 2 ^ 63 }
     ensures field { Reads fields.version_field (S.input source.old) (S.input source.new)
-        (λ _. u32_bytes 1) result }
+        (λ version. u32_bytes (version_number version)) result }
     ensures faults { S.faults source.new ≡ S.faults source.old + faults_met result }
 {
-    if read_u32(source)? != VERSION {
+    let number = read_u32(source)?;
+    let Some(version) = version_of(number) else {
         return Err(ImageFault::BadVersion);
-    }
-    Ok(())
+    };
+    Ok(version)
 }
 
 fn protocol_of(number: u32) -> Option<Protocol>
@@ -68,9 +76,11 @@ fn protocol_of(number: u32) -> Option<Protocol>
     }
 }
 
+/// Reads the protocol, which each version has.
 fn read_protocol<S: Source>(source: &mut S) -> Result<Protocol, ImageFault>
     requires { S.faults source.old < 2 ^ 63 }
-    ensures field { Reads fields.protocol_field (S.input source.old) (S.input source.new)
+    ensures field { (version : ℕ) → Reads (fields.protocol_field version)
+        (S.input source.old) (S.input source.new)
         (λ protocol. u32_bytes (protocols.protocol_number protocol)) result }
     ensures faults { S.faults source.new ≡ S.faults source.old + faults_met result }
 {
@@ -79,47 +89,6 @@ fn read_protocol<S: Source>(source: &mut S) -> Result<Protocol, ImageFault>
         return Err(ImageFault::BadHeader);
     };
     Ok(protocol)
-}
-
-/// The registers that have these numbers, in their order.
-fn registers_of(n: &[u32; REGISTERS]) -> Registers
-    ensures { register_numbers result ≡ n.now }
-{
-    Registers {
-        eip: n[0],
-        eax: n[1],
-        ebx: n[2],
-        ecx: n[3],
-        edx: n[4],
-        esi: n[5],
-        edi: n[6],
-        ebp: n[7],
-        esp: n[8],
-        eflags: n[9],
-        cr0: n[10],
-        cs: n[11],
-        ds: n[12],
-        es: n[13],
-        fs: n[14],
-        gs: n[15],
-        ss: n[16],
-        gdt_base: n[17],
-        gdt_limit: n[18],
-        a20: n[19],
-    }
-}
-
-fn read_registers<S: Source>(source: &mut S) -> Result<Registers, ImageFault>
-    requires { S.faults source.old < 2 ^ 63 }
-    ensures field { Reads fields.registers_field (S.input source.old) (S.input source.new)
-        (λ registers. flat_map u32_bytes (register_numbers registers)) result }
-    ensures fit { IfOk result
-        (λ registers. All (λ n. n < 2 ^ 32) (register_numbers registers)) }
-    ensures faults { S.faults source.new ≡ S.faults source.old + faults_met result }
-{
-    let mut numbers = [0u32; REGISTERS];
-    read_u32s(source, &mut numbers)?;
-    Ok(registers_of(&numbers))
 }
 
 fn read_count<S: Source>(source: &mut S) -> Result<u32, ImageFault>
@@ -148,24 +117,25 @@ fn read_zero<S: Source>(source: &mut S) -> Result<(), ImageFault>
     Ok(())
 }
 
-/// Reads the head of an image, field by field.
+/// Reads the head of an image, field by field: first what tells how it goes on.
 pub(crate) fn read_head<S: Source>(source: &mut S) -> Result<Head, ImageFault>
     requires { S.faults source.old < 2 ^ 63 }
     ensures ok { IfOk result (λ h. Comes (S.input source.old) (S.input source.new)
-        (head h.protocol h.registers h.count)) }
+        (head h.version h.protocol h.registers h.count)) }
     ensures fit { IfOk result (λ h. All (λ n. n < 2 ^ 32) (register_numbers h.registers)) }
     ensures few { IfOk result (λ h. h.count ≤ most_parts) }
-    ensures refused { IfErr result (Refuses (fields.fields_fault fields.head_fields)
-        (S.input source.old) (S.input source.new)) }
+    ensures refused { IfErr result
+        (Refuses head_fault (S.input source.old) (S.input source.new)) }
     ensures faults { S.faults source.new ≡ S.faults source.old + faults_met result }
 {
     read_magic(source)?;
-    read_version(source)?;
+    let version = read_version(source)?;
     let protocol = read_protocol(source)?;
-    let registers = read_registers(source)?;
+    let registers = read_registers(source, version)?;
     let count = read_count(source)?;
     read_zero(source)?;
     Ok(Head {
+        version,
         protocol,
         registers,
         count,

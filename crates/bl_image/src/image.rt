@@ -83,7 +83,8 @@ pub struct Image<A: Allocator> {
 
 impl<A: Allocator> Model for Image<A> {
     ghost use Rattle.bl_load.specs.Handover.{Handover};
-    ghost use Rattle.bl_image.specs.ImageParts.{AreImageParts};
+    ghost use Rattle.bl_load.specs.HandoffFacts.{AreHandoffFacts};
+    ghost use Rattle.bl_image.specs.ImageParts.{handoff_of};
 
     ghost Value = { Handover };
 
@@ -93,12 +94,17 @@ impl<A: Allocator> Model for Image<A> {
       parts = i.parts.items;
     } };
 
-    ghost invariant = { λ i. AreImageParts i.parts.items };
+    ghost invariant = { λ i. AreHandoffFacts (handoff_of (record {
+      protocol = i.protocol;
+      registers = i.registers;
+      parts = i.parts.items;
+    })) };
 }
 
 impl<A: Allocator> Image<A> {
-    ghost use Rattle.std.specs.Prelude.{◌≡◌, ◌<◌, length, slice_get, Some};
-    ghost use Rattle.bl_image.specs.ImageParts.{AreImageParts};
+    ghost use Rattle.std.specs.Prelude.{◌≡◌, ◌<◌, length, slice_get, Some, AllPairs};
+    ghost use Rattle.bl_load.specs.HandoffFacts.{AreHandoffFacts};
+    ghost use Rattle.bl_image.specs.ImageParts.{handoff_of, PartAscends};
 
     /// An image with these parts.
     pub(crate) fn new(
@@ -106,7 +112,11 @@ impl<A: Allocator> Image<A> {
         registers: Registers,
         parts: Vec<ImagePart<A>, A>,
     ) -> Image<A>
-        requires { AreImageParts parts.items }
+        requires { AreHandoffFacts (handoff_of (record {
+          protocol = protocol;
+          registers = registers;
+          parts = parts.items;
+        })) }
         ensures { result ≡ record {
           protocol = protocol;
           registers = registers;
@@ -137,7 +147,7 @@ impl<A: Allocator> Image<A> {
     /// How many parts there are, at most 256.
     pub fn len(&self) -> usize
         ensures len { result ≡ length self.now.parts }
-        ensures parts { AreImageParts self.now.parts }
+        ensures kept { AreHandoffFacts (handoff_of self.now) }
     {
         self.parts.len()
     }
@@ -153,7 +163,8 @@ impl<A: Allocator> Image<A> {
     /// All parts, in address order.
     pub fn parts(&self) -> &[ImagePart<A>]
         ensures parts { result.now ≡ self.now.parts }
-        ensures kept { AreImageParts result.now }
+        ensures ascending { AllPairs PartAscends result.now }
+        ensures kept { AreHandoffFacts (handoff_of self.now) }
     {
         self.parts.as_slice()
     }

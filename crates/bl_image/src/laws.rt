@@ -5,19 +5,22 @@ ghost use Rattle.bl_image.specs.Image.{spelling};
 ghost use Rattle.bl_image.specs.ImageFaults.{image_fault};
 ghost use Rattle.bl_image.specs.ImageParts.{IsKept, IsImage};
 ghost use Rattle.bl_image.specs.Spellable.{IsSpellable};
+ghost use Rattle.bl_image.specs.declared.version.Version.{Version};
 
-/// Two handovers whose numbers fit have one image only where they are one.
+/// Two handovers whose numbers fit have one image only where they are one, in one version.
 pub fn image_tells_all()
-    ensures { (h k : Handover) → IsSpellable h → IsSpellable k → spelling h ≡ spelling k → h ≡ k }
+    ensures { (version other : Version) (h k : Handover) → IsSpellable h → IsSpellable k
+        → spelling version h ≡ spelling other k → (version ≡ other) × (h ≡ k) }
 {}
 
 /// The image of what an image keeps has no fault.
 pub fn images_have_no_fault()
-    ensures { (h : Handover) → IsKept h → image_fault (spelling h) ≡ None }
+    ensures { (version : Version) (h : Handover) → IsKept h
+        → image_fault (spelling version h) ≡ None }
 {}
 
 /// Bytes that have no fault are an image.
 pub fn what_has_no_fault_is_an_image()
     ensures { (bytes : List ℕ) → ((k : ℕ) → slice_index bytes k < 256) → image_fault bytes ≡ None
-        → (handover : Handover) × IsImage bytes handover }
+        → (version : Version) × (handover : Handover) × IsImage version bytes handover }
 {}

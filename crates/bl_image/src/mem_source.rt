@@ -85,11 +85,12 @@ impl<A: Allocator> Source for MemSource<A> {
         ensures nothing { OnErr result (Comes (input_of self.old) (input_of self.new) []) }
         ensures fault { OnErr result (self.new.faults ≡ self.old.faults + 1) }
 
-        // As much as it may; a fault only where its read has come.
+        // As much as it may; a fault exactly where its read has come.
         ensures most { MatchResult result
             (λ count. count ≡ min (length out.new)
             (min self.old.step (length self.old.bytes - self.old.at)))
             (λ _. self.old.fail ≡ 1) }
+        ensures due { OnOk result (¬ (self.old.fail ≡ 1)) }
         ensures next { self.new.fail ≡ self.old.fail - 1 }
         ensures same { (self.new.bytes ≡ self.old.bytes) × (self.new.step ≡ self.old.step) }
     {

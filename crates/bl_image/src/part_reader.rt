@@ -1,8 +1,9 @@
 //! The bytes of an image's parts, read.
-ghost use Rattle.std.specs.Prelude.{◌≡◌, ◌+◌, ◌≤◌, ◌<◌, ◌^◌, length, map, IfOk, IfErr};
+ghost use Rattle.std.specs.Prelude.{◌≡◌, ◌+◌, ◌≤◌, ◌<◌, ◌^◌, length, map, All, IfOk};
+ghost use Rattle.std.specs.Prelude.{IfErr};
 ghost use Rattle.std.specs.List.{flat_map};
-ghost use Rattle.bl_load.specs.HandoffFacts.{AreRecords};
-ghost use Rattle.bl_image.specs.RecordsKept.{bytes_at, place_of};
+ghost use Rattle.bl_image.specs.ImageParts.{place_of};
+ghost use Rattle.bl_image.specs.RecordsKept.{bytes_at};
 ghost use Rattle.bl_image.specs.Source.{Comes, faults_met};
 ghost use Rattle.bl_image.specs.SourceKept.{IsCut};
 
@@ -75,7 +76,7 @@ pub(crate) fn read_parts<S: Source, A: Allocator + Copy>(
 ) -> Result<Vec<ImagePart<A>, A>, ImageFault>
     requires faults { S.faults source.old < 2 ^ 63 }
     requires room { 1 ≤ length buffer.old }
-    requires records { AreRecords places.now }
+    requires few { All (λ place. place.length ≤ 2 ^ 32) places.now }
     ensures ok { IfOk result (λ parts. Comes (S.input source.old) (S.input source.new)
         (flat_map (λ part. part.bytes) parts.items)) }
     ensures places { IfOk result (λ parts. map place_of parts.items ≡ places.now) }

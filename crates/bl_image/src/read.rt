@@ -6,6 +6,7 @@ ghost use Rattle.bl_image.specs.Image.{spelling};
 ghost use Rattle.bl_image.specs.ImageFaults.{image_fault, end_fault};
 ghost use Rattle.bl_image.specs.ImageParts.{IsKept, IsImage};
 ghost use Rattle.bl_image.specs.Source.{Comes, IsEnded, Refuses, Fails, IsOfTheMoment, faults_met};
+ghost use Rattle.bl_image.specs.declared.version.Version.{Version};
 
 use crate::fault::ImageFault;
 use crate::head_reader::read_head;
@@ -40,8 +41,8 @@ fn read_whole<S: Source, A: Allocator + Copy>(
     source: &mut S,
 ) -> Result<Image<A>, ImageFault>
     requires { S.faults source.old < 2 ^ 63 }
-    ensures ok { IfOk result
-        (λ image. Comes (S.input source.old) (S.input source.new) (spelling image)) }
+    ensures ok { IfOk result (λ image. (version : Version)
+        × Comes (S.input source.old) (S.input source.new) (spelling version image)) }
     ensures ended { OnOk result (IsEnded (S.input source.new)) }
     ensures kept { IfOk result IsKept }
     ensures refused { IfErr result
@@ -66,9 +67,9 @@ pub fn read_image<S: Source, A: Allocator + Copy>(
 ) -> Result<Image<A>, ImageFault>
     requires { S.faults source.old < 2 ^ 63 }
 
-    // The image's one spelling came, and then the end.
-    ensures ok { IfOk result
-        (λ image. Comes (S.input source.old) (S.input source.new) (spelling image)) }
+    // The image's one spelling in a version came, and then the end.
+    ensures ok { IfOk result (λ image. (version : Version)
+        × Comes (S.input source.old) (S.input source.new) (spelling version image)) }
     ensures ended { OnOk result (IsEnded (S.input source.new)) }
     ensures kept { IfOk result IsKept }
 
@@ -81,9 +82,10 @@ pub fn read_image<S: Source, A: Allocator + Copy>(
 
     // Where it is known what is to come, that decides.
     ensures known { (bytes : List ℕ) → (S.input source.old).rest ≡ Some bytes
-        → MatchResult result (IsImage bytes) (Fails image_fault bytes) }
+        → MatchResult result (λ image. (version : Version) × IsImage version bytes image)
+        (Fails image_fault bytes) }
     ensures accepts { (bytes : List ℕ) → (S.input source.old).rest ≡ Some bytes
-        → (handover : Handover) → IsImage bytes handover
+        → (version : Version) (handover : Handover) → IsImage version bytes handover
         → MatchResult result (λ image. image ≡ handover) IsOfTheMoment }
 {
     read_whole(alloc, source)

@@ -1,12 +1,13 @@
 //! The records of an image, read.
 ghost use Rattle.std.specs.Prelude.{◌≡◌, ◌+◌, ◌≤◌, ◌<◌, ◌^◌, List, ℕ, ◌++◌, length, nat_le};
-ghost use Rattle.std.specs.Prelude.{◌&&◌, All, IfOk, IfErr, MatchOption};
+ghost use Rattle.std.specs.Prelude.{◌&&◌, IfOk, IfErr, MatchOption};
 ghost use Rattle.std.specs.List.{flat_map};
 ghost use Rattle.bl_mem.specs.Words.{u32_bytes, u64_bytes};
 ghost use Rattle.bl_plan.specs.Roles as roles;
-ghost use Rattle.bl_load.specs.HandoffFacts.{AreRecords, most_parts};
+ghost use Rattle.bl_load.specs.HandoffFacts.{most_parts};
 ghost use Rattle.bl_image.specs.Fields as fields;
-ghost use Rattle.bl_image.specs.RecordsKept.{place_record, IsNext, bytes_at, PlaceFits};
+ghost use Rattle.bl_image.specs.Layouts.{layout_1};
+ghost use Rattle.bl_image.specs.RecordsKept.{place_record, IsNext, AreSound, bytes_at};
 ghost use Rattle.bl_image.specs.ImageFaults.{record_fault, parts_fault, end_fault, none_before};
 ghost use Rattle.bl_image.specs.Source.{Comes, Refuses, faults_met};
 ghost use Rattle.bl_image.specs.SourceKept.{Reads};
@@ -39,7 +40,8 @@ fn role_of(number: u32) -> Option<Role>
 
 fn read_role<S: Source>(source: &mut S, part: u32) -> Result<Role, ImageFault>
     requires { S.faults source.old < 2 ^ 63 }
-    ensures field { Reads (fields.role_field part) (S.input source.old) (S.input source.new)
+    ensures field { Reads (fields.role_field layout_1.most_role part)
+        (S.input source.old) (S.input source.new)
         (λ role. u32_bytes (roles.role_number role)) result }
     ensures faults { S.faults source.new ≡ S.faults source.old + faults_met result }
 {
@@ -113,7 +115,8 @@ fn read_record<S: Source>(source: &mut S, part: u32, before: u64) -> Result<Plac
         (λ place. Comes (S.input source.old) (S.input source.new) (place_record place)) }
     ensures next { IfOk result (IsNext before) }
     ensures refused { IfErr result
-        (Refuses (record_fault part before) (S.input source.old) (S.input source.new)) }
+        (Refuses (record_fault layout_1.most_role part before)
+        (S.input source.old) (S.input source.new)) }
     ensures faults { S.faults source.new ≡ S.faults source.old + faults_met result }
 {
     let role = read_role(source, part)?;
@@ -139,12 +142,12 @@ pub(crate) fn read_records<S: Source, A: Allocator>(
     ensures ok { IfOk result (λ places. Comes (S.input source.old) (S.input source.new)
         (flat_map place_record places.items)) }
     ensures count { IfOk result (λ places. length places.items ≡ count) }
-    ensures records { IfOk result (λ places. AreRecords places.items) }
-    ensures fit { IfOk result (λ places. All PlaceFits places.items) }
+    ensures sound { IfOk result (λ places. AreSound places.items (2 ^ 32)) }
     ensures judged { IfOk result (λ places. (bytes : List ℕ)
-        → parts_fault count none_before (flat_map place_record places.items ++ bytes)
+        → parts_fault layout_1.most_role count none_before
+        (flat_map place_record places.items ++ bytes)
         ≡ end_fault (bytes_at places.items) bytes) }
-    ensures refused { IfErr result (Refuses (parts_fault count none_before)
+    ensures refused { IfErr result (Refuses (parts_fault layout_1.most_role count none_before)
         (S.input source.old) (S.input source.new)) }
     ensures faults { S.faults source.new ≡ S.faults source.old + faults_met result }
 {

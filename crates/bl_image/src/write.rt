@@ -4,6 +4,7 @@ ghost use Rattle.bl_load.specs.PlanFacts.{handover_in};
 ghost use Rattle.bl_image.specs.Begun.{IsBegun};
 ghost use Rattle.bl_image.specs.Image.{spelling};
 ghost use Rattle.bl_image.specs.ImageParts.{IsKept};
+ghost use Rattle.bl_image.specs.Versions.{written_version};
 
 use crate::fault::ImageFault;
 use crate::head::write_front;
@@ -28,11 +29,11 @@ pub fn write_image<M: PhysMem, S: Sink, A: Allocator>(
         handoff.now.places }
     requires faults { S.faults sink.old < 2 ^ 63 }
     ensures ok { OnOk result (S.contents sink.new ≡ S.contents sink.old
-        ++ spelling (handover_in (M.bytes memory.now)
+        ++ spelling written_version (handover_in (M.bytes memory.now)
         handoff.now.protocol handoff.now.registers handoff.now.places)) }
     ensures sound { OnOk result (S.faults sink.new ≡ S.faults sink.old) }
     ensures begun { OnErr result (IsBegun (S.contents sink.old) (S.contents sink.new)
-        (spelling (handover_in (M.bytes memory.now)
+        (spelling written_version (handover_in (M.bytes memory.now)
         handoff.now.protocol handoff.now.registers handoff.now.places))) }
     ensures fault { OnErr result (S.faults sink.new ≡ S.faults sink.old + 1) }
     ensures device { IfErr result (λ fault. fault ≡ ImageFault.DeviceFault) }
@@ -42,8 +43,16 @@ pub fn write_image<M: PhysMem, S: Sink, A: Allocator>(
     ensures kept { IsKept (handover_in (M.bytes memory.now)
         handoff.now.protocol handoff.now.registers handoff.now.places) }
 {
+    // What a handoff keeps is told with its length.
+    let _len = handoff.len();
     let mut buffer = [0u8; BUFFER];
-    write_front(sink, handoff, &mut buffer)?;
+    write_front(
+        sink,
+        handoff.protocol(),
+        &handoff.registers(),
+        handoff,
+        &mut buffer,
+    )?;
     write_parts(memory, sink, handoff, &mut buffer)?;
     Ok(())
 }

@@ -1,51 +1,107 @@
-//! The command that clap is given.
-ghost use Rattle.std.specs.Prelude.{◌≡◌, false, IfOk};
-ghost use Rattle.clap.specs.Words.{app_of};
+//! The command that clap is given. Each of its parts is a function of its own: clap's types are
+//! large, and a proof goes over all that a function holds.
+ghost use Rattle.std.specs.Prelude.{◌≡◌, true, false, IfOk, codes};
+ghost use Rattle.clap.specs.Words.{app_of, new_app, new_rule, rule_of, with_rule, with_subcommand};
 ghost use Rattle.clap.specs.declared.builder.command.Command.TheViews.{out-Command as fields_of};
-ghost use Rattle.bl_line.specs.Lines.{WithOrders, boot_app, map_app, walk_app, line_app};
+ghost use Rattle.bl_line.specs.Lines.{WithOrders, boot_app, map_app, walk_app, top_app, line_app};
+ghost use Rattle.bl_line.specs.Lines.{out_rule, order_rule};
 
 use clap::{Arg, Command};
 use std::alloc::{AllocError, Global};
 
 static ORDERS: [&str; 2] = ["forward", "reverse"];
 
+/// An argument that must be given, by its place.
+fn given_arg<'a>(global: Global, id: &'a str) -> Arg<'a>
+    ensures local { result.global ≡ false }
+    ensures rule { rule_of result ≡ record (new_rule id.entry.now) { required = true } }
+{
+    Arg::new(global, id).required(true)
+}
+
+/// The path of the image.
+fn out_arg<'a>(global: Global) -> Arg<'a>
+    ensures local { result.global ≡ false }
+    ensures rule { rule_of result ≡ out_rule }
+{
+    Arg::new(global, "out").long("out").required(true)
+}
+
+/// The order of a file's pieces, which need not be given.
+fn order_arg<'a>(global: Global) -> Arg<'a>
+    ensures local { result.global ≡ false }
+    ensures rule { WithOrders (λ parser. rule_of result ≡ order_rule parser) }
+{
+    Arg::new(global, "order")
+        .long("order")
+        .value_parser(ORDERS.as_slice())
+}
+
+/// A command of this name with one argument, which must be given.
+fn command_of<'a>(global: Global, name: &'a str, id: &'a str) -> Result<Command<'a>, AllocError>
+    ensures local { IfOk result (λ c. (fields_of c).has_globals ≡ false) }
+    ensures app { IfOk result (λ c. app_of c
+        ≡ with_rule (new_app name.entry.now) (record (new_rule id.entry.now) { required = true })) }
+{
+    Command::new(global, name).arg(given_arg(global, id))
+}
+
 fn boot_command<'a>(global: Global) -> Result<Command<'a>, AllocError>
     ensures local { IfOk result (λ c. (fields_of c).has_globals ≡ false) }
     ensures app { IfOk result (λ c. WithOrders (λ parser. app_of c ≡ boot_app parser)) }
 {
-    let desc = Arg::new(global, "desc").required(true);
-    let out = Arg::new(global, "out").long("out").required(true);
-    let order = Arg::new(global, "order")
-        .long("order")
-        .value_parser(ORDERS.as_slice());
-    Command::new(global, "boot").arg(desc)?.arg(out)?.arg(order)
+    command_of(global, "boot", "desc")?
+        .arg(out_arg(global))?
+        .arg(order_arg(global))
 }
 
 fn map_command<'a>(global: Global) -> Result<Command<'a>, AllocError>
     ensures local { IfOk result (λ c. (fields_of c).has_globals ≡ false) }
     ensures app { IfOk result (λ c. app_of c ≡ map_app) }
 {
-    let desc = Arg::new(global, "desc").required(true);
-    Command::new(global, "map").arg(desc)
+    command_of(global, "map", "desc")
 }
 
 fn walk_command<'a>(global: Global) -> Result<Command<'a>, AllocError>
     ensures local { IfOk result (λ c. (fields_of c).has_globals ≡ false) }
     ensures app { IfOk result (λ c. app_of c ≡ walk_app) }
 {
-    let image = Arg::new(global, "image").required(true);
-    Command::new(global, "walk").arg(image)
+    command_of(global, "walk", "image")
+}
+
+/// The program's command, before it has subcommands.
+fn top_command<'a>(global: Global) -> Command<'a>
+    ensures { app_of result ≡ top_app }
+{
+    Command::new(global, "bootcore")
+        .subcommand_required(true)
+        .disable_help_subcommand(true)
+}
+
+fn with_boot<'a>(global: Global, top: Command<'a>) -> Result<Command<'a>, AllocError>
+    ensures { IfOk result (λ c. WithOrders (λ parser.
+        app_of c ≡ with_subcommand (app_of top.entry) (boot_app parser).top)) }
+{
+    top.subcommand(boot_command(global)?)
+}
+
+fn with_map<'a>(global: Global, top: Command<'a>) -> Result<Command<'a>, AllocError>
+    ensures { IfOk result (λ c. app_of c ≡ with_subcommand (app_of top.entry) map_app.top) }
+{
+    top.subcommand(map_command(global)?)
+}
+
+fn with_walk<'a>(global: Global, top: Command<'a>) -> Result<Command<'a>, AllocError>
+    ensures { IfOk result (λ c. app_of c ≡ with_subcommand (app_of top.entry) walk_app.top) }
+{
+    top.subcommand(walk_command(global)?)
 }
 
 /// The program's command, with its subcommands.
 pub fn line_command<'a>(global: Global) -> Result<Command<'a>, AllocError>
     ensures { IfOk result (λ c. WithOrders (λ parser. app_of c ≡ line_app parser)) }
 {
-    let boot = boot_command(global)?;
-    let map = map_command(global)?;
-    let walk = walk_command(global)?;
-    let top = Command::new(global, "bootcore")
-        .subcommand_required(true)
-        .disable_help_subcommand(true);
-    top.subcommand(boot)?.subcommand(map)?.subcommand(walk)
+    let top = with_boot(global, top_command(global))?;
+    let top = with_map(global, top)?;
+    with_walk(global, top)
 }

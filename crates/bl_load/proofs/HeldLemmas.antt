@@ -130,7 +130,7 @@ module _ {A : Type 0} (texts : List (List ℕ)) (size : ℕ) (plan : Plan A)
   pub all_are_before : AllPairs IsBefore (map (part_by texts) plan.parts.items)
   all_are_before = AllPairs-map IsBefore (part_by texts) plan.parts.items (λ i j d ij within.
       let up =
-      pairs_under Ascends place_of plan.parts.items loadable.records.ascending i j d ij
+      pairs_under Ascends place_of plan.parts.items loadable.kept.ascending i j d ij
       within in
       let count =
       length-bytes_by texts (get_or plan.parts.items i d) (loadable.backed i d (omega arith)) in

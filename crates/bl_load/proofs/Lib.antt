@@ -14,6 +14,7 @@ pub mod ModuleLemmas
 pub mod OverlapLemmas
 pub mod RowPlaceLemmas
 pub mod PlaceBoundLemmas
+pub mod LinuxKernelLemmas
 pub mod LinuxLemmas
 pub mod FullLemmas
 pub mod ReadingLaws
@@ -29,4 +30,3 @@ pub mod HandoverLaws
 pub mod LegalLaws
 pub mod TotalLaws
 pub mod PartLaws
-pub mod RangeLemmas

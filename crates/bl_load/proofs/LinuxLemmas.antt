@@ -1,9 +1,10 @@
 -- What the rows of a Linux entry have, and their places.
-use Rattle.std.proofs.Common.{◌≡◌, ◌<◌, ◌≤◌, ◌+◌, ◌^◌, ℕ, Bool, true, false, List, [], ◌∷◌, length}
-use Rattle.std.proofs.Common.{Option, Some, None, cond, arith, refl, sym, subst, ◌∙◌, All, inl, inr}
-use Rattle.std.proofs.Common.{nat_eq}
+use Rattle.std.proofs.Common.{◌≡◌, ◌≤◌, ◌+◌, ℕ, Bool, true, false, List, [], ◌∷◌, length}
+use Rattle.std.proofs.Common.{cond, arith, refl, sym, subst, All, inl, inr}
+use Rattle.std.proofs.Common.{nat_eq, ◌++◌, length-append, Option, Some, None}
+use Rattle.std.specs.Prelude.{option_to_list}
 use Rattle.std.proofs.lemmas.Bool.{cond_both}
-use Rattle.std.proofs.lemmas.List.Elements.{All-nil, All-cons}
+use Rattle.std.proofs.lemmas.List.Elements.{All-nil, All-cons, All-append}
 use Rattle.std.specs.declared.ops.Range.{Range}
 use Rattle.bl_map.specs.Limits.{most_size}
 use Rattle.bl_map.specs.MachineFacts.{MachineFacts}
@@ -15,23 +16,22 @@ use Rattle.bl_bzimage.proofs.SetupLaws.{payload_is_tail}
 use Rattle.bl_mem.specs.Memory.{IsIn}
 use Rattle.bl_plan.specs.Permitted.{AllOpen}
 use Rattle.bl_plan.specs.Placed.{ArePlaced, IsRow, IsFirstFault, HasFault}
-use Rattle.bl_plan.specs.Order.{in_order}
 use Rattle.bl_plan.specs.declared.fault.PlanFault.TheVariants.{Overlap}
 use Rattle.bl_plan.specs.declared.part.Place.{Place}
 use Rattle.bl_plan.specs.declared.part.Role.{Role}
 use Rattle.bl_plan.specs.declared.part.Role.TheVariants.{Kernel, BootParams, CommandLine, Gdt}
 use Rattle.bl_plan.specs.declared.part.Row.{Row}
+use Rattle.bl_plan.specs.declared.protocol.Protocol.{Protocol}
+use Rattle.bl_plan.specs.declared.protocol.Protocol.TheVariants as protocols
 use Rattle.bl_plan.proofs.PlaceLaws.{as_many}
-use Rattle.bl_load.specs.HandoffFacts.{AreRecords}
 use Rattle.bl_load.specs.LinuxRows.{high_start, moved_row, fixed_row, linux_kernel_row, frame_row}
-use Rattle.bl_load.specs.LinuxRows.{line_limit, initrd_rows, linux_rows}
+use Rattle.bl_load.specs.LinuxRows.{line_limit, paging_row, front_rows, initrd_rows, linux_rows}
 use Rattle.bl_load.specs.PlacingKept.{HasLength, IsRowed}
 use Rattle.bl_load.specs.Reading.{linux}
 use Rattle.bl_load.specs.Rows.{rows_of}
 use Rattle.bl_load.specs.Value.{EntryValue, initrd_file}
 use Rattle.bl_load.proofs.RowLemmas.{some_frames}
 use Rattle.bl_load.proofs.RowPlaceLemmas.{Anywhere, each_place}
-use Rattle.bl_load.proofs.PlaceBoundLemmas.{records}
 
 -- ---- they are rows
 
@@ -52,44 +52,61 @@ initrd_rows_are setup (byte ∷ bytes) =
     let frames = some_frames (length (byte ∷ bytes)) (omega arith) in
     All-cons IsRow _ [] (record { filled = omega arith; choice = omega arith }) (All-nil IsRow)
 
--- what holds of each row of the table holds of all
-each_row : (P : Row → Type 0) (setup : Setup) (initrd : List ℕ) → P (linux_kernel_row setup)
+-- a protocol's page tables have some bytes and a choice
+paging_row_is : (protocol : Protocol) → All IsRow (option_to_list (paging_row protocol))
+paging_row_is protocols.Multiboot2 = All-nil IsRow
+paging_row_is protocols.Linux = All-nil IsRow
+
+-- what holds of each row before the initrd's holds of all
+each_front : (P : Row → Type 0) (protocol : Protocol) (setup : Setup) → P (linux_kernel_row setup)
     → P (frame_row BootParams most_size) → P (frame_row CommandLine line_limit)
     → P (frame_row Gdt most_size)
-    → All P (initrd_rows setup initrd) → All P (linux_rows setup initrd)
-each_row P setup initrd kernel params line gdt rest =
+    → All P (option_to_list (paging_row protocol)) → All P (front_rows protocol setup)
+each_front P protocol setup kernel params line gdt paging =
+    let tables = option_to_list (paging_row protocol) in
     All-cons P (linux_kernel_row setup)
     (frame_row BootParams most_size ∷ frame_row CommandLine line_limit ∷ frame_row Gdt most_size
-    ∷ initrd_rows setup initrd) kernel
+    ∷ tables) kernel
     (All-cons P (frame_row BootParams most_size)
-    (frame_row CommandLine line_limit ∷ frame_row Gdt most_size ∷ initrd_rows setup initrd)
-    params
-    (All-cons P (frame_row CommandLine line_limit)
-    (frame_row Gdt most_size ∷ initrd_rows setup initrd) line
-    (All-cons P (frame_row Gdt most_size) (initrd_rows setup initrd) gdt rest)))
+    (frame_row CommandLine line_limit ∷ frame_row Gdt most_size ∷ tables) params
+    (All-cons P (frame_row CommandLine line_limit) (frame_row Gdt most_size ∷ tables) line
+    (All-cons P (frame_row Gdt most_size) tables gdt paging)))
 
 -- the rows of a setup have some bytes and a choice
-pub linux_rows_are_rows : (file : List ℕ) (setup : Setup) (initrd : List ℕ) → IsSetup file setup
-    → All IsRow (linux_rows setup initrd)
-linux_rows_are_rows file setup initrd is =
-    each_row IsRow setup initrd (kernel_row_is file setup is) (frame_row_is BootParams most_size)
-    (frame_row_is CommandLine line_limit) (frame_row_is Gdt most_size)
-    (initrd_rows_are setup initrd)
+pub front_rows_are_rows : (protocol : Protocol) (file : List ℕ) (setup : Setup) → IsSetup file setup
+    → All IsRow (front_rows protocol setup)
+front_rows_are_rows protocol file setup is =
+    each_front IsRow protocol setup (kernel_row_is file setup is)
+    (frame_row_is BootParams most_size)
+    (frame_row_is CommandLine line_limit) (frame_row_is Gdt most_size) (paging_row_is protocol)
+
+pub linux_rows_are_rows : (protocol : Protocol) (file : List ℕ) (setup : Setup) (initrd : List ℕ)
+    → IsSetup file setup → All IsRow (linux_rows protocol setup initrd)
+linux_rows_are_rows protocol file setup initrd is =
+    All-append IsRow (front_rows protocol setup) (initrd_rows setup initrd)
+    (front_rows_are_rows protocol file setup is) (initrd_rows_are setup initrd)
 
 -- ---- how many they are
+
+at_most_one : (row : Option Row) → length (option_to_list row) ≤ 1
+at_most_one None = omega arith
+at_most_one (Some row) = omega arith
 
 few_initrd_rows : (setup : Setup) (initrd : List ℕ) → length (initrd_rows setup initrd) ≤ 1
 few_initrd_rows setup [] = omega arith
 few_initrd_rows setup (byte ∷ bytes) = omega arith
 
--- there are at most five rows, and as many places
-pub linux_few : (facts : MachineFacts) (setup : Setup) (initrd : List ℕ) (taken : List (Range ℕ))
-    (places : List Place) → ArePlaced facts taken (linux_rows setup initrd) places
-    → length places ≤ 5
-linux_few facts setup initrd taken places placed =
+-- there are at most six rows, and as many places
+pub linux_few : (facts : MachineFacts) (protocol : Protocol) (setup : Setup) (initrd : List ℕ)
+    (taken : List (Range ℕ)) (places : List Place)
+    → ArePlaced facts taken (linux_rows protocol setup initrd) places → length places ≤ 6
+linux_few facts protocol setup initrd taken places placed =
+    let tables = option_to_list (paging_row protocol) in
+    let one = at_most_one (paging_row protocol) in
     let few = few_initrd_rows setup initrd in
-    let same = as_many facts taken (linux_rows setup initrd) places placed in
-    omega (arith, few, same)
+    let both = length-append tables (initrd_rows setup initrd) in
+    let same = as_many facts taken (linux_rows protocol setup initrd) places placed in
+    omega (arith, one, few, both, same)
 
 -- ---- each place has the length that its role and its index ask for
 
@@ -118,27 +135,23 @@ module _ (facts : MachineFacts) (value : EntryValue) (setup : Setup) where
       (omega arith, refl))
       (All-nil (Anywhere (IsRowed facts value (linux setup))))
 
+  paging_rowed : (protocol : Protocol)
+      → All (Anywhere (IsRowed facts value (linux setup))) (option_to_list (paging_row protocol))
+  paging_rowed protocols.Multiboot2 = All-nil (Anywhere (IsRowed facts value (linux setup)))
+  paging_rowed protocols.Linux = All-nil (Anywhere (IsRowed facts value (linux setup)))
+
   pub linux_rowed : (taken : List (Range ℕ)) (places : List Place)
       → ArePlaced facts taken (rows_of facts value (linux setup)) places
       → All (IsRowed facts value (linux setup)) places
   linux_rowed taken places placed =
       each_place facts (IsRowed facts value (linux setup)) taken (rows_of facts value (linux setup))
       places
-      (each_row (Anywhere (IsRowed facts value (linux setup))) setup (initrd_file value.files)
-      kernel_row_rowed (λ a. refl) (λ a. refl) (λ a. refl)
+      (All-append (Anywhere (IsRowed facts value (linux setup))) (front_rows value.protocol setup)
+      (initrd_rows setup (initrd_file value.files))
+      (each_front (Anywhere (IsRowed facts value (linux setup))) value.protocol setup
+      kernel_row_rowed (λ a. refl) (λ a. refl) (λ a. refl) (paging_rowed value.protocol))
       (initrd_rows_rowed (initrd_file value.files) refl))
       placed
-
--- ---- they are those of records
-
-pub linux_records : (file : List ℕ) (facts : MachineFacts) (value : EntryValue) (setup : Setup)
-    (places : List Place) → IsSetup file setup
-    → ArePlaced facts [] (rows_of facts value (linux setup)) places
-    → AreRecords (in_order places)
-linux_records file facts value setup places is placed =
-    let few = linux_few facts setup (initrd_file value.files) [] places placed in
-    records facts (rows_of facts value (linux setup)) places
-    (linux_rows_are_rows file setup (initrd_file value.files) is) (omega (arith, few)) placed
 
 -- ---- none overlaps another: the first alone has a fixed place
 
@@ -159,15 +172,26 @@ initrd_no_overlap facts taken setup [] has = has
 initrd_no_overlap facts taken setup (byte ∷ bytes) (inl here) = here
 initrd_no_overlap facts taken setup (byte ∷ bytes) (inr later) = later.2
 
-rows_no_overlap : (facts : MachineFacts) (setup : Setup) (initrd : List ℕ)
-    → IsFirstFault facts [] (linux_rows setup initrd) Overlap → ⊥
-rows_no_overlap facts setup initrd (inl here) = kernel_no_overlap facts setup here
-rows_no_overlap facts setup initrd (inr (a, _, inl here)) = here
-rows_no_overlap facts setup initrd (inr (a, _, inr (b, _, inl here))) = here
-rows_no_overlap facts setup initrd (inr (a, _, inr (b, _, inr (c, _, inl here)))) = here
-rows_no_overlap facts setup initrd (inr (a, _, inr (b, _, inr (c, _, inr (d, _, later))))) =
-    initrd_no_overlap facts _ setup initrd later
+-- nor do page tables
+paging_no_overlap : (facts : MachineFacts) (taken : List (Range ℕ)) (protocol : Protocol)
+    (setup : Setup) (initrd : List ℕ)
+    → IsFirstFault facts taken (option_to_list (paging_row protocol) ++ initrd_rows setup initrd)
+    Overlap → ⊥
+paging_no_overlap facts taken protocols.Multiboot2 setup initrd has =
+    initrd_no_overlap facts taken setup initrd has
+paging_no_overlap facts taken protocols.Linux setup initrd has =
+    initrd_no_overlap facts taken setup initrd has
+
+rows_no_overlap : (facts : MachineFacts) (protocol : Protocol) (setup : Setup) (initrd : List ℕ)
+    → IsFirstFault facts [] (linux_rows protocol setup initrd) Overlap → ⊥
+rows_no_overlap facts p setup initrd (inl here) = kernel_no_overlap facts setup here
+rows_no_overlap facts p setup initrd (inr (a, _, inl here)) = here
+rows_no_overlap facts p setup initrd (inr (a, _, inr (b, _, inl here))) = here
+rows_no_overlap facts p setup initrd (inr (a, _, inr (b, _, inr (c, _, inl here)))) = here
+rows_no_overlap facts p setup initrd (inr (a, _, inr (b, _, inr (c, _, inr (d, _, later))))) =
+    paging_no_overlap facts _ p setup initrd later
 
 pub linux_no_overlap : (facts : MachineFacts) (value : EntryValue) (setup : Setup)
     → IsFirstFault facts [] (rows_of facts value (linux setup)) Overlap → ⊥
-linux_no_overlap facts value setup has = rows_no_overlap facts setup (initrd_file value.files) has
+linux_no_overlap facts value setup has =
+    rows_no_overlap facts value.protocol setup (initrd_file value.files) has

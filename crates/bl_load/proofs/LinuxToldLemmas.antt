@@ -17,10 +17,10 @@ use Rattle.bl_plan.specs.declared.part.Choice.TheVariants.{Highest}
 use Rattle.bl_plan.specs.declared.fault.PlanFault.{PlanFault}
 use Rattle.bl_plan.specs.declared.fault.PlanFault.TheVariants.{NotUsable, Overlap, NoRoom, NoMemory}
 use Rattle.bl_plan.specs.declared.part.Place.{Place}
-use Rattle.bl_plan.specs.declared.part.Role.TheVariants.{BootParams, CommandLine, Gdt, Initrd}
+use Rattle.bl_plan.specs.declared.part.Role.TheVariants.{Initrd}
 use Rattle.bl_plan.specs.declared.part.Row.{Row}
-use Rattle.bl_load.specs.LinuxRows.{linux_kernel_row, frame_row, line_limit, initrd_rows}
-use Rattle.bl_load.specs.LinuxRows.{linux_rows}
+use Rattle.bl_plan.specs.declared.protocol.Protocol.{Protocol}
+use Rattle.bl_load.specs.LinuxRows.{front_rows, initrd_rows, linux_rows}
 use Rattle.bl_load.specs.PlacingKept.{IsLow, told_length, told_initrd_rows, told_linux_rows}
 use Rattle.bl_load.proofs.NoRoomLemmas.{Alike, alike_lengths, behind_placed, behind_fault}
 use Rattle.bl_load.proofs.RowLemmas.{some_frames}
@@ -35,7 +35,7 @@ alike size some =
 initrd_choice : Setup → Choice
 initrd_choice setup = Highest 4096 4096 (setup.initrd_addr_max + 1)
 
-module _ (facts : MachineFacts) (setup : Setup) where
+module _ (facts : MachineFacts) (protocol : Protocol) (setup : Setup) where
   -- so many bytes are nowhere usable
   none_permitted : (taken : List (Range ℕ)) (align low high count a : ℕ) → most_size < count
       → IsPermitted facts taken count align low high a → ⊥
@@ -102,26 +102,18 @@ module _ (facts : MachineFacts) (setup : Setup) where
       ]
   told_initrd_fault fault (byte ∷ bytes) taken (inr (a, chosen, later)) = absurd later
 
-  -- the rows before it
-  first_rows : List Row
-  first_rows =
-      linux_kernel_row setup ∷ frame_row BootParams most_size ∷ frame_row CommandLine line_limit
-      ∷ frame_row Gdt most_size ∷ []
-
   pub linux_as_placed : (initrd : List ℕ) (places : List Place)
-      → ArePlaced facts [] (told_linux_rows setup initrd) places
-      → ArePlaced facts [] (linux_rows setup initrd) places
-  unfolding first_rows
+      → ArePlaced facts [] (told_linux_rows protocol setup initrd) places
+      → ArePlaced facts [] (linux_rows protocol setup initrd) places
   linux_as_placed initrd places placed =
-      behind_placed facts first_rows (told_initrd_rows setup initrd) (initrd_rows setup initrd)
+      behind_placed facts (front_rows protocol setup) (told_initrd_rows setup initrd) (initrd_rows setup initrd)
       (told_initrd_placed initrd) [] places placed
 
   pub linux_as_fault : (fault : PlanFault) (initrd : List ℕ)
-      → IsFirstFault facts [] (told_linux_rows setup initrd) fault
-      → IsFirstFault facts [] (linux_rows setup initrd) fault
-  unfolding first_rows
+      → IsFirstFault facts [] (told_linux_rows protocol setup initrd) fault
+      → IsFirstFault facts [] (linux_rows protocol setup initrd) fault
   linux_as_fault fault initrd has =
-      behind_fault facts fault first_rows (told_initrd_rows setup initrd) (initrd_rows setup initrd)
+      behind_fault facts fault (front_rows protocol setup) (told_initrd_rows setup initrd) (initrd_rows setup initrd)
       (told_initrd_fault fault initrd) [] has
 
   -- ---- the initrd has a place, which is as long as its file
@@ -148,7 +140,6 @@ module _ (facts : MachineFacts) (setup : Setup) where
       (All-tail IsLow p places low)
 
   pub initrd_fits : (initrd : List ℕ) (places : List Place)
-      → ArePlaced facts [] (linux_rows setup initrd) places → All IsLow places
+      → ArePlaced facts [] (linux_rows protocol setup initrd) places → All IsLow places
       → length initrd < 2 ^ 32
-  unfolding first_rows
-  initrd_fits initrd places placed low = behind_small initrd first_rows [] places placed low
+  initrd_fits initrd places placed low = behind_small initrd (front_rows protocol setup) [] places placed low

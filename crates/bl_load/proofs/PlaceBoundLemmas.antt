@@ -7,9 +7,11 @@ use Rattle.bl_map.specs.MachineFacts.{MachineFacts}
 use Rattle.bl_plan.specs.Placed.{ArePlaced, IsRow, IsApart}
 use Rattle.bl_plan.specs.declared.part.Row.{Row}
 use Rattle.bl_plan.specs.declared.part.Place.{Place}
+use Rattle.bl_plan.specs.declared.protocol.Protocol.{Protocol}
 use Rattle.bl_plan.proofs.PlaceLaws.{all_usable, all_apart}
 use Rattle.bl_plan.specs.Order.{place_key, in_order}
-use Rattle.bl_load.specs.HandoffFacts.{Ascends, AreRecords, most_parts}
+use Rattle.bl_load.specs.declared.registers.Registers.{Registers}
+use Rattle.bl_load.specs.HandoffFacts.{Ascends, AreHandoffFacts, most_parts}
 use Rattle.bl_plan.proofs.OrderLemmas.{in_order_all, in_order_pairs, in_order_sorted}
 use Rattle.bl_plan.proofs.OrderCountLemmas.{length-in_order}
 use Rattle.bl_load.proofs.RowPlaceLemmas.{Anywhere, each_place}
@@ -73,10 +75,13 @@ in_order_ascends places filled apart i j d ij within =
       | inr free ↦ free
     ]
 
--- at most 256 places of rows are those of records
-pub records : (facts : MachineFacts) (rows : List Row) (places : List Place) → All IsRow rows
-    → length places ≤ most_parts → ArePlaced facts [] rows places → AreRecords (in_order places)
-records facts rows places are few placed =
+-- at most 256 places of rows, in order, are what a handoff keeps
+pub handoff_kept : (facts : MachineFacts) (protocol : Protocol) (registers : Registers)
+    (rows : List Row) (places : List Place) → All IsRow rows → length places ≤ most_parts
+    → ArePlaced facts [] rows places
+    → AreHandoffFacts
+    (record { protocol = protocol; registers = registers; places = in_order places })
+handoff_kept facts protocol registers rows places are few placed =
     let filled = are_filled facts [] rows places placed are in
     let same = length-in_order place_key places in
     record {

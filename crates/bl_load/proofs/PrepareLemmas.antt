@@ -1,14 +1,16 @@
 -- What is prepared of an entry by its lines and its kernel.
 use Rattle.std.proofs.Common.{◌≡◌, ◌≤◌, ℕ, List, [], ◌∷◌, length, get_or, map, None, arith, refl}
-use Rattle.std.proofs.Common.{sym, ap, ◌∙◌, inl, inr}
+use Rattle.std.proofs.Common.{true, sym, ap, ◌∙◌, inl, inr}
 use Rattle.std.proofs.lemmas.List.{get_or-map}
 use Rattle.bl_map.specs.MachineFacts.{MachineFacts}
 use Rattle.bl_load.specs.declared.refusal.PrepFault.{PrepFault}
 use Rattle.bl_load.specs.declared.refusal.PrepFault.TheVariants as prep
+use Rattle.bl_plan.specs.declared.protocol.Protocol.{Protocol}
 use Rattle.bl_load.specs.Handover.{Handover}
 use Rattle.bl_load.specs.KernelKept.{IsKernelFault}
 use Rattle.bl_load.specs.ReadKept.{IsLinuxFault}
 use Rattle.bl_load.specs.Value.{EntryValue, multiboot2_value, linux_value, lines_fault, lines_of}
+use Rattle.bl_load.specs.Protocols.{has_params}
 use Rattle.bl_load.specs.Reading.{Reading, IsRead}
 use Rattle.bl_load.specs.Rows.{rows_of}
 use Rattle.bl_load.specs.Parts.{IsHandover, IsPrepFault}
@@ -51,9 +53,11 @@ refused_multiboot2 facts texts line lines sound (prep.Refused refused) has =
     inr (sound, inl (inl (refl, has)))
 refused_multiboot2 facts texts line lines sound prep.NoMemory has = tt
 
-pub refused_linux : (facts : MachineFacts) (texts : List (List ℕ)) (line : List ℕ)
-    → lines_fault (line ∷ []) ≡ None → (fault : PrepFault)
-    → IsLinuxFault facts.runs line (text_at texts 0) fault
-    → IsPrepFault facts (linux_value texts line) fault
-refused_linux facts texts line sound (prep.Refused refused) has = inr (sound, inl (inr (refl, has)))
-refused_linux facts texts line sound prep.NoMemory has = tt
+pub refused_linux : (facts : MachineFacts) (protocol : Protocol) (texts : List (List ℕ))
+    (line : List ℕ) → has_params protocol ≡ true → lines_fault (line ∷ []) ≡ None
+    → (fault : PrepFault)
+    → IsLinuxFault protocol facts.runs line (text_at texts 0) fault
+    → IsPrepFault facts (linux_value protocol texts line) fault
+refused_linux facts protocol texts line params sound (prep.Refused refused) has =
+    inr (sound, inl (inr (params, has)))
+refused_linux facts protocol texts line params sound prep.NoMemory has = tt

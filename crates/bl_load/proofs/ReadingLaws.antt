@@ -1,27 +1,31 @@
 -- What was read of a kernel, by its protocol: its rows are rows and few, none overlaps another, and
 -- each place has the length of what stands there.
-use Rattle.std.specs.Prelude.{max}
+use Rattle.std.specs.Prelude.{max, unwrap_or}
 use Rattle.std.proofs.Common.{◌≡◌, ◌≢◌, ◌≤◌, ◌+◌, ℕ, List, [], length, None, arith, rules, subst}
 use Rattle.std.proofs.Common.{All, slice_range, nat_eq}
 use Rattle.std.proofs.lemmas.Bool.{cond_both}
 use Rattle.std.proofs.lemmas.List.{places}
 use Rattle.bl_map.specs.MachineFacts.{MachineFacts}
 use Rattle.bl_bzimage.specs.declared.setup.Setup.{Setup}
-use Rattle.bl_params.specs.Gdt.{gdt}
 use Rattle.bl_params.proofs.Lengths.{length-boot_params}
 use Rattle.bl_plan.specs.Order.{in_order}
 use Rattle.bl_plan.specs.Placed.{ArePlaced, IsRow, IsFirstFault, IsPlacingFault}
 use Rattle.bl_plan.specs.declared.fault.PlanFault.{PlanFault}
 use Rattle.bl_plan.specs.declared.fault.PlanFault.TheVariants.{Overlap}
 use Rattle.bl_plan.specs.declared.part.Place.{Place}
+use Rattle.bl_plan.specs.declared.protocol.Protocol.{Protocol}
 use Rattle.bl_plan.specs.declared.part.Role.{Role}
 use Rattle.bl_plan.specs.declared.part.Role.TheVariants.{Kernel, Module, Information, BootParams}
 use Rattle.bl_plan.specs.declared.part.Role.TheVariants.{CommandLine, Gdt, Initrd}
-use Rattle.bl_load.specs.HandoffFacts.{AreRecords, most_parts}
+use Rattle.bl_plan.specs.declared.protocol.Protocol.{Protocol}
+use Rattle.bl_plan.specs.declared.protocol.Protocol.TheVariants as protocols
+use Rattle.bl_load.specs.declared.registers.Registers.{Registers}
+use Rattle.bl_load.specs.HandoffFacts.{AreHandoffFacts, most_parts}
 use Rattle.bl_load.specs.Kernel.{KernelFacts}
 use Rattle.bl_load.specs.LinuxRows.{fixed_row, moved_row, linux_kernel_row, told_of}
 use Rattle.bl_load.specs.Parts.{content_of, payload_of}
 use Rattle.bl_load.specs.PlacingKept.{HasLength, IsRowed}
+use Rattle.bl_load.specs.Protocols.{descriptors_of}
 use Rattle.bl_load.specs.Reading.{Reading, multiboot2, linux, IsRead}
 use Rattle.bl_load.specs.Rows.{rows_of}
 use Rattle.bl_load.specs.Value.{EntryValue, kernel_file, module_file, initrd_file, line_fault}
@@ -29,12 +33,13 @@ use Rattle.bl_load.specs.Value.{lines_fault, lines_of}
 use Rattle.bl_load.proofs.FullLemmas.{IsFull, kernel_full, kernel_few, kernel_apart, kernel_short}
 use Rattle.bl_load.proofs.InformationLemmas.{information_short}
 use Rattle.bl_load.proofs.LineLemmas.{first_sound, sound_short}
+use Rattle.bl_load.proofs.LinuxKernelLemmas.{setup_is}
 use Rattle.bl_load.proofs.LinuxLemmas.{linux_rows_are_rows, linux_few, linux_rowed}
 use Rattle.bl_load.proofs.LinuxLemmas.{linux_no_overlap}
 use Rattle.bl_load.proofs.OverlapLemmas.{no_overlap}
 use Rattle.bl_load.proofs.RowLemmas.{kernel_rows_are_rows, few_places, some_frames}
 use Rattle.bl_load.proofs.RowPlaceLemmas.{each_rowed}
-use Rattle.bl_load.proofs.PlaceBoundLemmas.{records}
+use Rattle.bl_load.proofs.PlaceBoundLemmas.{handoff_kept}
 
 -- ---- its rows
 
@@ -45,7 +50,8 @@ reading_rows facts value (multiboot2 kernel) is =
     let full = kernel_full (kernel_file value) kernel is.1 in
     kernel_rows_are_rows facts value kernel full.0 (λ k d within. (full.1 k d within).filled)
 reading_rows facts value (linux setup) is =
-    linux_rows_are_rows (kernel_file value) setup (initrd_file value.files) is.1.is_setup
+    linux_rows_are_rows value.protocol (kernel_file value) setup (initrd_file value.files)
+    (setup_is is.1)
 
 -- none overlaps another
 pub reading_no_overlap : (facts : MachineFacts) (value : EntryValue) (reading : Reading)
@@ -76,17 +82,20 @@ reading_few facts value (multiboot2 kernel) places is few placed =
     few placed in
     omega (arith, most)
 reading_few facts value (linux setup) places is few placed =
-    let most = linux_few facts setup (initrd_file value.files) [] places placed in
+    let most = linux_few facts value.protocol setup (initrd_file value.files) [] places placed in
     omega (arith, most)
 
--- so they are those of records
-pub reading_records : (facts : MachineFacts) (value : EntryValue) (reading : Reading)
-    (places : List Place) → IsRead facts value reading → length value.module_lines ≤ 64
+-- so they are what a handoff keeps
+pub reading_kept : (facts : MachineFacts) (value : EntryValue) (reading : Reading)
+    (protocol : Protocol) (registers : Registers) (places : List Place)
+    → IsRead facts value reading → length value.module_lines ≤ 64
     → ArePlaced facts [] (rows_of facts value reading) places
-    → AreRecords (in_order places)
-reading_records facts value reading places is few placed =
-    records facts (rows_of facts value reading) places (reading_rows facts value reading is)
-    (reading_few facts value reading places is few placed) placed
+    → AreHandoffFacts
+    (record { protocol = protocol; registers = registers; places = in_order places })
+reading_kept facts value reading protocol registers places is few placed =
+    handoff_kept facts protocol registers (rows_of facts value reading) places
+    (reading_rows facts value reading is) (reading_few facts value reading places is few placed)
+    placed
 
 -- each has the length that its role and its index ask for
 pub reading_rowed : (facts : MachineFacts) (value : EntryValue) (reading : Reading)
@@ -127,8 +136,10 @@ payload_fits setup =
     cond_both (nat_eq setup.relocatable_kernel 0) (fixed_row setup) (moved_row setup)
     (λ row. setup.payload_size ≤ row.length) (λ _. omega arith) (λ _. omega arith)
 
-length-gdt : length gdt ≡ 32
-length-gdt = omega arith
+-- descriptors fit a frame
+descriptors_short : (protocol : Protocol) → length (unwrap_or (descriptors_of protocol) []) ≤ 4096
+descriptors_short protocols.Multiboot2 = omega arith
+descriptors_short protocols.Linux = omega arith
 
 linux_short : (facts : MachineFacts) (value : EntryValue) (setup : Setup) (places : List Place)
     (role : Role) (i count : ℕ) → line_fault value.line ≡ None
@@ -141,7 +152,8 @@ linux_short facts value setup places BootParams i count sound has =
     let size = length-boot_params setup.header (told_of facts value places) in omega arith
 linux_short facts value setup places CommandLine i count sound has =
     let short = sound_short value.line sound in omega arith
-linux_short facts value setup places Gdt i count sound has = let size = length-gdt in omega arith
+linux_short facts value setup places Gdt i count sound has =
+    let size = descriptors_short value.protocol in omega arith
 linux_short facts value setup places Initrd i count sound has =
     let size = has.1 in
     let frames = some_frames (length (initrd_file value.files)) has.0 in omega arith

@@ -14,6 +14,7 @@ use Rattle.bl_load.specs.Rows.{rows_of}
 use Rattle.bl_load.specs.ReadKept.{HasFiles, FitsTold, CanEnter}
 use Rattle.bl_load.specs.Value.{EntryValue, kernel_file, initrd_file}
 use Rattle.bl_load.proofs.EntryLemmas.{entry_small}
+use Rattle.bl_load.proofs.LinuxKernelLemmas.{setup_is}
 use Rattle.bl_load.proofs.LinuxToldLemmas.{linux_as_placed, linux_as_fault, initrd_fits}
 use Rattle.bl_load.proofs.LinuxToldRows.{told_linux_rows_are}
 use Rattle.bl_load.proofs.NoRoomLemmas.{as_placed, placing_fault}
@@ -27,7 +28,8 @@ module _ (facts : MachineFacts) (value : EntryValue) where
   told_are_rows (multiboot2 kernel) modules is has =
       told_rows_are_rows (kernel_file value) facts value kernel has.1
   told_are_rows (linux setup) modules is has =
-      told_linux_rows_are (kernel_file value) setup (initrd_file value.files) is.1.is_setup
+      told_linux_rows_are value.protocol (kernel_file value) setup (initrd_file value.files)
+      (setup_is is.1)
 
   -- their places are those of the entry's rows
   pub told_placed : (reading : Reading) (places : List Place)
@@ -35,7 +37,7 @@ module _ (facts : MachineFacts) (value : EntryValue) where
       → ArePlaced facts [] (rows_of facts value reading) places
   told_placed (multiboot2 kernel) places placed = as_placed facts value kernel places placed
   told_placed (linux setup) places placed =
-      linux_as_placed facts setup (initrd_file value.files) places placed
+      linux_as_placed facts value.protocol setup (initrd_file value.files) places placed
 
   -- and so is their fault
   pub told_fault : (reading : Reading) (fault : PlanFault)
@@ -43,11 +45,11 @@ module _ (facts : MachineFacts) (value : EntryValue) where
       → IsPlacingFault facts (rows_of facts value reading) fault
   told_fault (multiboot2 kernel) fault has = placing_fault facts value kernel fault has
   told_fault (linux setup) NotUsable has =
-      linux_as_fault facts setup NotUsable (initrd_file value.files) has
+      linux_as_fault facts value.protocol setup NotUsable (initrd_file value.files) has
   told_fault (linux setup) Overlap has =
-      linux_as_fault facts setup Overlap (initrd_file value.files) has
+      linux_as_fault facts value.protocol setup Overlap (initrd_file value.files) has
   told_fault (linux setup) NoRoom has =
-      linux_as_fault facts setup NoRoom (initrd_file value.files) has
+      linux_as_fault facts value.protocol setup NoRoom (initrd_file value.files) has
   told_fault (linux setup) NoMemory has = tt
 
   -- what is told of the parts fits 32 bits
@@ -57,7 +59,7 @@ module _ (facts : MachineFacts) (value : EntryValue) where
   fits_told (multiboot2 kernel) places placed rowed low =
       modules_end_low facts value kernel places placed rowed low
   fits_told (linux setup) places placed rowed low =
-      initrd_fits facts setup (initrd_file value.files) places placed low
+      initrd_fits facts value.protocol setup (initrd_file value.files) places placed low
 
   -- and so does the entry
   pub can_enter : (reading : Reading) (modules : ℕ) (places : List Place)

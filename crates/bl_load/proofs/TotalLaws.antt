@@ -1,9 +1,10 @@
 -- Each entry has a handover or a first refusal.
-use Rattle.std.proofs.Common.{◌≡◌, ◌≢◌, ℕ, List, [], ◌∷◌, Option, Some, None, ◌⊎◌, inl, inr, refl}
+use Rattle.std.proofs.Common.{◌≡◌, ◌≢◌, ℕ, true, List, [], ◌∷◌, Option, Some, None, ◌⊎◌, inl, inr}
+use Rattle.std.proofs.Common.{refl}
 use Rattle.bl_mem.specs.declared.segment.Segment.{Segment}
 use Rattle.bl_map.specs.MachineFacts.{MachineFacts}
 use Rattle.bl_map.specs.declared.region.Region.{Region}
-use Rattle.bl_bzimage.specs.Setup.{IsSetup, setup_fault, setup_of}
+use Rattle.bl_bzimage.specs.Setup.{setup_of}
 use Rattle.bl_bzimage.specs.declared.setup.Setup.{Setup}
 use Rattle.bl_elf.specs.Elf.{ElfFacts}
 use Rattle.bl_elf.specs.declared.fault.ElfFault.{ElfFault}
@@ -24,7 +25,8 @@ use Rattle.bl_load.specs.Value.{EntryValue, kernel_file, lines_fault, lines_of}
 use Rattle.bl_load.specs.Kernel.{KernelFacts, IsLoadedBy, IsKernel, HasLoadFault, HasKernelFault}
 use Rattle.bl_load.specs.Kernel.{entry_fault, counted_entry, head_refusal, elf_refusal}
 use Rattle.bl_load.specs.Reading.{Reading, multiboot2, linux, IsRead, HasReadFault}
-use Rattle.bl_load.specs.Linux.{IsLinuxKernel, HasLinuxFault, setup_refusal, telling_fault}
+use Rattle.bl_load.specs.Linux.{IsLinuxKernel, HasLinuxFault, linux_fault}
+use Rattle.bl_load.specs.Protocols.{has_params}
 use Rattle.bl_load.specs.Rows.{rows_of}
 use Rattle.bl_load.specs.Handover.{Handover}
 use Rattle.bl_load.specs.Parts.{IsHandover, IsRefusal, HasRowFault, handover_of}
@@ -99,24 +101,19 @@ kernel_or_fault file =
 
 -- ---- a Linux kernel's file
 
-linux_or_fault : (runs : List Region) (line file : List ℕ)
-    → ((setup : Setup) × IsLinuxKernel runs line file setup)
-    ⊎ ((r : Refusal) × HasLinuxFault runs line file r)
-linux_or_fault runs line file =
-    elim (some_or_none (setup_fault file)) [
-      | inl (fault, has) ↦ inr (setup_refusal fault, inl (fault, has, refl))
-      | inr sound ↦
-          let is : IsSetup file (setup_of file) = record { sound = sound; is = refl } in
-          elim (some_or_none (telling_fault runs line (setup_of file))) [
-            | inl (r, has) ↦ inr (r, inr (setup_of file, is, has))
-            | inr told ↦ inl (setup_of file, record { is_setup = is; told = told })
-          ]
+linux_or_fault : (protocol : Protocol) (runs : List Region) (line file : List ℕ)
+    → ((setup : Setup) × IsLinuxKernel protocol runs line file setup)
+    ⊎ ((r : Refusal) × HasLinuxFault protocol runs line file r)
+linux_or_fault protocol runs line file =
+    elim (some_or_none (linux_fault protocol runs line file)) [
+      | inl (r, has) ↦ inr (r, has)
+      | inr sound ↦ inl (setup_of file, record { sound = sound; is = refl })
     ]
 
--- ---- what a protocol adds: its reading
+-- ---- by the entry's protocol
 
--- the entry has one of two protocols
-is_either : (p : Protocol) → (p ≡ protocol.Multiboot2) ⊎ (p ≡ protocol.Linux)
+-- its kernel is a Multiboot2 kernel, or is handed boot parameters
+is_either : (p : Protocol) → (p ≡ protocol.Multiboot2) ⊎ (has_params p ≡ true)
 is_either protocol.Multiboot2 = inl refl
 is_either protocol.Linux = inr refl
 
@@ -129,7 +126,7 @@ read_or_fault facts value =
         | inl (kernel, is_kernel) ↦ inl (multiboot2 kernel, (is, is_kernel))
         | inr (r, has) ↦ inr (r, inl (is, has))
       ]
-      | inr is ↦ elim (linux_or_fault facts.runs value.line (kernel_file value)) [
+      | inr is ↦ elim (linux_or_fault value.protocol facts.runs value.line (kernel_file value)) [
         | inl (setup, is_kernel) ↦ inl (linux setup, (is, is_kernel))
         | inr (r, has) ↦ inr (r, inr (is, has))
       ]

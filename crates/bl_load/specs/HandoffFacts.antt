@@ -18,10 +18,10 @@ Ascends p q = p.address + p.length ≤ q.address
 abbrev pub most_parts : ℕ
 most_parts = 256
 
--- the places keep this, and so do the records of an image: they are few, none empty, ascending,
--- below 4 GiB
-pub record AreRecords (places : List Place) : Type 0 where
-  pub few : length places ≤ most_parts
-  pub filled : All (λ place. 1 ≤ place.length) places
-  pub below : All (λ place. place.address + place.length ≤ 2 ^ 32) places
-  pub ascending : AllPairs Ascends places
+-- what a handoff keeps, and the handover of an image too: its places are few, none is empty, each
+-- ends at most at 4 GiB, and they ascend
+pub record AreHandoffFacts (handoff : HandoffFacts) : Type 0 where
+  pub few : length handoff.places ≤ most_parts
+  pub filled : All (λ place. 1 ≤ place.length) handoff.places
+  pub below : All (λ place. place.address + place.length ≤ 2 ^ 32) handoff.places
+  pub ascending : AllPairs Ascends handoff.places

@@ -1,5 +1,5 @@
 -- What the code keeps of a plan. It speaks of the files' lengths alone, and not of their bytes.
-use Rattle.std.specs.Prelude.{ℕ, ◌+◌, ◌≤◌, List, length, map}
+use Rattle.std.specs.Prelude.{ℕ, ◌+◌, ◌≤◌, List, map}
 use Rattle.bl_mem.specs.Files.{IsBeside}
 use Rattle.bl_mem.specs.Memory.{HasRoom}
 use Rattle.bl_load.specs.declared.plan.PlannedPart.{PlannedPart}

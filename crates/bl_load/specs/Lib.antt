@@ -15,9 +15,11 @@ pub mod Reading
 pub mod LinuxRows
 pub mod Rows
 pub mod Registers
+pub mod Protocols
 pub mod Parts
 pub mod PlacingKept
 pub mod ReadKept
 pub mod SourceKept
 pub mod Legal
 pub mod After
+pub mod ByteLines

@@ -1,14 +1,33 @@
 -- A Linux kernel's file: its setup, or its first fault (Linux/x86 Boot Protocol, "Details of Header
 -- Fields").
-use Rattle.std.specs.Prelude.{◌≡◌, ℕ, if◌then◌else◌, nat_lt, List, length, Option, Some, None, ◌⊎◌}
+use Rattle.std.specs.Prelude.{◌≡◌, ℕ, if◌then◌else◌, nat_lt, List, length, Option, Some, None}
+use Rattle.std.specs.Prelude.{option_map}
+use Rattle.std.specs.Option.{option_or}
 use Rattle.bl_map.specs.declared.region.Region.{Region}
 use Rattle.bl_bzimage.specs.declared.setup.Setup.{Setup}
 use Rattle.bl_bzimage.specs.declared.fault.SetupFault.{SetupFault}
 use Rattle.bl_bzimage.specs.declared.fault.SetupFault.TheVariants as setup_fault
-use Rattle.bl_bzimage.specs.Setup.{IsSetup}
+use Rattle.bl_bzimage.specs.Setup.{setup_of}
 use Rattle.bl_bzimage.specs.Setup as bzimage
+use Rattle.bl_plan.specs.declared.protocol.Protocol.{Protocol}
+use Rattle.bl_plan.specs.declared.protocol.Protocol.TheVariants.{Multiboot2, Linux}
 use Rattle.bl_load.specs.declared.refusal.Refusal.{Refusal}
 use Rattle.bl_load.specs.declared.refusal.Refusal.TheVariants as refusal
+
+-- the setup's fault as a refusal of the entry
+abbrev pub setup_refusal : SetupFault → Refusal
+setup_refusal setup_fault.NotBzImage = refusal.NotBzImage
+setup_refusal setup_fault.OldProtocol = refusal.OldProtocol
+setup_refusal setup_fault.NotHigh = refusal.NotHigh
+setup_refusal setup_fault.SetupCut = refusal.SetupCut
+setup_refusal setup_fault.BadAlign = refusal.BadAlign
+setup_refusal setup_fault.BadPreferred = refusal.BadPreferred
+
+-- why a kernel of this setup can't be entered by a protocol: each has the 32-bit entry ("32-bit Boot
+-- Protocol"), and Multiboot2 asks nothing of a setup
+abbrev pub entering_fault : Protocol → Setup → Option Refusal
+entering_fault Multiboot2 setup = None
+entering_fault Linux setup = None
 
 -- "e820_table" has room for so many runs ("Zero Page")
 abbrev pub most_e820_entries : ℕ
@@ -22,23 +41,19 @@ telling_fault runs line setup =
     if nat_lt most_e820_entries (length runs) then Some refusal.MapTooLong else
     None
 
--- the file has this setup, and the kernel can be told this line and these runs
-pub record IsLinuxKernel (runs : List Region) (line file : List ℕ) (setup : Setup) : Type 0 where
-  pub is_setup : IsSetup file setup
-  pub told : telling_fault runs line setup ≡ None
+-- the first fault of a file whose kernel is entered by this protocol, and is told this line and
+-- these runs: the setup's, then why it can't be entered, then what it can't be told
+abbrev pub linux_fault : Protocol → List Region → List ℕ → List ℕ → Option Refusal
+linux_fault protocol runs line file =
+    option_or (option_map setup_refusal (bzimage.setup_fault file))
+    (option_or (entering_fault protocol (setup_of file)) (telling_fault runs line (setup_of file)))
 
--- the setup's fault as a refusal of the entry
-abbrev pub setup_refusal : SetupFault → Refusal
-setup_refusal setup_fault.NotBzImage = refusal.NotBzImage
-setup_refusal setup_fault.OldProtocol = refusal.OldProtocol
-setup_refusal setup_fault.NotHigh = refusal.NotHigh
-setup_refusal setup_fault.SetupCut = refusal.SetupCut
-setup_refusal setup_fault.BadAlign = refusal.BadAlign
-setup_refusal setup_fault.BadPreferred = refusal.BadPreferred
+-- the file has none, and this is its setup
+pub record IsLinuxKernel (protocol : Protocol) (runs : List Region) (line file : List ℕ)
+    (setup : Setup) : Type 0 where
+  pub sound : linux_fault protocol runs line file ≡ None
+  pub is : setup ≡ setup_of file
 
--- the first fault: the setup's, and then what the kernel can't be told
-abbrev pub HasLinuxFault : List Region → List ℕ → List ℕ → Refusal → Type 0
-HasLinuxFault runs line file refused =
-    ((fault : SetupFault) × (bzimage.setup_fault file ≡ Some fault)
-    × (refused ≡ setup_refusal fault))
-    ⊎ ((setup : Setup) × IsSetup file setup × (telling_fault runs line setup ≡ Some refused))
+-- the file has this one
+abbrev pub HasLinuxFault : Protocol → List Region → List ℕ → List ℕ → Refusal → Type 0
+HasLinuxFault protocol runs line file refused = linux_fault protocol runs line file ≡ Some refused

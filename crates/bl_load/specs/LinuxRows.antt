@@ -1,12 +1,15 @@
 -- The table of places of a Linux entry's parts (Linux/x86 Boot Protocol: "kernel_alignment",
 -- "pref_address", "init_size", "initrd_addr_max"; what the text leaves open is own), and what the
 -- kernel is told of them.
-use Rattle.std.specs.Prelude.{ℕ, ◌+◌, ◌-◌, max, if◌then◌else◌, ◌==◌, List, [], ◌∷◌, length}
+use Rattle.std.specs.Prelude.{ℕ, ◌+◌, ◌-◌, max, if◌then◌else◌, ◌==◌, List, [], ◌∷◌, ◌++◌, length}
+use Rattle.std.specs.Prelude.{Option, None, option_to_list}
 use Rattle.bl_map.specs.MachineFacts.{MachineFacts}
 use Rattle.bl_map.specs.Limits.{frame_size, first_usable, most_size}
 use Rattle.bl_map.specs.Room.{whole_frames}
 use Rattle.bl_bzimage.specs.declared.setup.Setup.{Setup}
 use Rattle.bl_params.specs.BootParamsFacts.{BootParamsFacts}
+use Rattle.bl_plan.specs.declared.protocol.Protocol.{Protocol}
+use Rattle.bl_plan.specs.declared.protocol.Protocol.TheVariants as protocols
 use Rattle.bl_plan.specs.declared.part.Row.{Row}
 use Rattle.bl_plan.specs.declared.part.Place.{Place}
 use Rattle.bl_plan.specs.declared.part.Role.{Role}
@@ -56,6 +59,21 @@ frame_row role high = record {
 abbrev pub line_limit : ℕ
 line_limit = 0xA0000
 
+-- page tables are a part where a kernel is entered with paging; each one is entered without
+-- ("32-bit Boot Protocol")
+abbrev pub paging_row : Protocol → Option Row
+paging_row protocols.Multiboot2 = None
+paging_row protocols.Linux = None
+
+-- the rows before the initrd's
+abbrev pub front_rows : Protocol → Setup → List Row
+front_rows protocol setup =
+    linux_kernel_row setup
+    ∷ frame_row BootParams most_size
+    ∷ frame_row CommandLine line_limit
+    ∷ frame_row Gdt most_size
+    ∷ option_to_list (paging_row protocol)
+
 -- the initrd, in whole frames, at the highest place of which no byte lies above "initrd_addr_max";
 -- an empty one is no part
 abbrev pub initrd_rows : Setup → List ℕ → List Row
@@ -67,14 +85,9 @@ initrd_rows setup (byte ∷ bytes) = record {
   choice = Highest frame_size first_usable (setup.initrd_addr_max + 1);
 } ∷ []
 
--- the rows of a Linux entry whose initial ramdisk has these bytes
-abbrev pub linux_rows : Setup → List ℕ → List Row
-linux_rows setup initrd =
-    linux_kernel_row setup
-    ∷ frame_row BootParams most_size
-    ∷ frame_row CommandLine line_limit
-    ∷ frame_row Gdt most_size
-    ∷ initrd_rows setup initrd
+-- the rows of a Linux entry of this protocol whose initial ramdisk has these bytes
+abbrev pub linux_rows : Protocol → Setup → List ℕ → List Row
+linux_rows protocol setup initrd = front_rows protocol setup ++ initrd_rows setup initrd
 
 -- what boot parameters tell, where the parts have these places: without an initrd its address and
 -- its length are 0

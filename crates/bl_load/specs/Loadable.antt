@@ -9,8 +9,8 @@ use Rattle.bl_load.specs.declared.plan.Content.TheVariants.{Own, File, Block}
 use Rattle.bl_load.specs.declared.plan.PlannedPart.{PlannedPart}
 use Rattle.bl_load.specs.declared.plan.Plan.{Plan}
 use Rattle.bl_load.specs.Blocks.{span_of}
-use Rattle.bl_load.specs.HandoffFacts.{AreRecords}
-use Rattle.bl_load.specs.PlanFacts.{places_of}
+use Rattle.bl_load.specs.HandoffFacts.{AreHandoffFacts}
+use Rattle.bl_load.specs.PlanFacts.{places_of, handoff_by}
 
 -- the lengths of files
 abbrev pub lengths_of : List (List ℕ) → List ℕ
@@ -49,7 +49,8 @@ pub record IsBacked {A : Type 0} (lengths : List ℕ) (part : PlannedPart A) : T
   pub there : IsThere lengths part.content
   pub short : content_length part.content ≤ part.place.length
 
--- what a part of this role holds is made by the loader, and no file's bytes
+-- what a part of this role holds is made by the loader: no file's bytes, but in boot parameters the
+-- setup header of the kernel's file
 abbrev pub IsMade : Role → Type 0
 IsMade role.Kernel = ⊥
 IsMade role.Module = ⊥
@@ -66,14 +67,14 @@ StaysInFiles r (Own bytes) = IsMade r
 StaysInFiles r (File file offset count) = Unit {0}
 StaysInFiles r (Block file segments) = Unit {0}
 
--- a plan holds none of the files' bytes, so it takes no memory in proportion to what a header
--- claims
+-- a plan holds none of the files' bytes but a Linux kernel's setup header, which has at most 0x9F, so
+-- it takes no memory in proportion to what a header claims
 abbrev pub IsLean : {A : Type 0} → List (PlannedPart A) → Type 0
 IsLean parts = All (λ part. StaysInFiles part.place.role part.content) parts
 
 -- a plan can be loaded out of files of these lengths into memory of this size: its contents are
--- there, and its places are those of records inside it
+-- there, its places are inside it, and it is what a handoff keeps
 pub record IsLoadable {A : Type 0} (lengths : List ℕ) (size : ℕ) (plan : Plan A) : Type 0 where
   pub backed : All (IsBacked lengths) plan.parts.items
   pub inside : All (λ place. place.address + place.length ≤ size) (places_of plan)
-  pub records : AreRecords (places_of plan)
+  pub kept : AreHandoffFacts (handoff_by plan)

@@ -1,6 +1,6 @@
 -- What an entry hands over on a machine, or its first refusal.
 use Rattle.std.specs.Prelude.{◌≡◌, ℕ, ◌+◌, ◌-◌, List, [], map, slice_index_or, slice_range, ◌⊎◌}
-use Rattle.std.specs.Prelude.{Option, Some, None, codes}
+use Rattle.std.specs.Prelude.{Option, Some, None, unwrap_or, codes}
 use Rattle.bl_mem.specs.Contents.{file_part}
 use Rattle.bl_mem.specs.declared.segment.Segment.{Segment}
 use Rattle.bl_map.specs.MachineFacts.{MachineFacts}
@@ -11,6 +11,8 @@ use Rattle.bl_plan.specs.declared.part.Role.{Role}
 use Rattle.bl_plan.specs.declared.part.Role.TheVariants.{Kernel, Module, Information, BootParams}
 use Rattle.bl_plan.specs.declared.part.Role.TheVariants.{CommandLine, Gdt, Initrd}
 use Rattle.bl_plan.specs.declared.part.Place.{Place}
+use Rattle.bl_plan.specs.declared.protocol.Protocol.{Protocol}
+use Rattle.bl_plan.specs.declared.protocol.Protocol.TheVariants as protocols
 use Rattle.bl_plan.specs.declared.fault.PlanFault.{PlanFault}
 use Rattle.bl_plan.specs.declared.fault.PlanFault.TheVariants as plan_fault
 use Rattle.bl_plan.specs.declared.part.Row.{Row}
@@ -20,7 +22,6 @@ use Rattle.bl_load.specs.declared.registers.Registers.{Registers}
 use Rattle.bl_load.specs.Addresses.{address_of}
 use Rattle.bl_bzimage.specs.declared.setup.Setup.{Setup}
 use Rattle.bl_params.specs.BootParams.{boot_params}
-use Rattle.bl_params.specs.Gdt.{gdt}
 use Rattle.bl_load.specs.Value.{EntryValue, kernel_file, module_file, initrd_file, lines_fault}
 use Rattle.bl_load.specs.Value.{lines_of}
 use Rattle.bl_load.specs.Reading.{Reading, multiboot2, linux, IsRead, HasReadFault}
@@ -28,6 +29,7 @@ use Rattle.bl_load.specs.Blocks.{low_of, block_of}
 use Rattle.bl_load.specs.Rows.{rows_of, information_of}
 use Rattle.bl_load.specs.LinuxRows.{told_of}
 use Rattle.bl_load.specs.Registers.{multiboot2_registers, linux_registers}
+use Rattle.bl_load.specs.Protocols.{descriptors_of}
 use Rattle.bl_plan.specs.Order.{in_order}
 use Rattle.bl_load.specs.Handover.{Part, Handover, part_at, filled}
 use Rattle.bl_load.specs.declared.refusal.PrepFault.{PrepFault}
@@ -67,7 +69,7 @@ content_of facts value (linux setup) places Information i = []
 content_of facts value (linux setup) places BootParams i =
     boot_params setup.header (told_of facts value places)
 content_of facts value (linux setup) places CommandLine i = value.line
-content_of facts value (linux setup) places Gdt i = gdt
+content_of facts value (linux setup) places Gdt i = unwrap_or (descriptors_of value.protocol) []
 content_of facts value (linux setup) places Initrd i = initrd_file value.files
 
 -- the part of an entry at one of its places
@@ -76,26 +78,30 @@ part_from facts value reading places place =
     part_at place
     (filled place.length (content_of facts value reading places place.role place.index))
 
--- where the kernel is entered: a block moves its entry with it
+-- where a Multiboot2 kernel is entered: a block moves its entry with it
 abbrev pub entered_at : ℕ → List Segment → Option Relocation → ℕ → ℕ
 entered_at entry segments None base = entry
 entered_at entry segments (Some r) base = entry - low_of segments + base
 
+-- where the kernel begins, where the parts have these places: a Linux kernel with its first byte
+abbrev pub start_of : Reading → List Place → ℕ
+start_of (multiboot2 kernel) places =
+    entered_at kernel.entry kernel.segments kernel.relocation (address_of Kernel 0 places)
+start_of (linux setup) places = address_of Kernel 0 places
+
 -- the registers as the kernel begins, where the parts have these places
-abbrev pub registers_of : Reading → List Place → Registers
-registers_of (multiboot2 kernel) places =
-    multiboot2_registers
-    (entered_at kernel.entry kernel.segments kernel.relocation (address_of Kernel 0 places))
-    (address_of Information 0 places)
-registers_of (linux setup) places =
+abbrev pub registers_of : Protocol → Reading → List Place → Registers
+registers_of protocols.Multiboot2 reading places =
+    multiboot2_registers (start_of reading places) (address_of Information 0 places)
+registers_of protocols.Linux reading places =
     linux_registers
-    (address_of Kernel 0 places) (address_of BootParams 0 places) (address_of Gdt 0 places)
+    (start_of reading places) (address_of BootParams 0 places) (address_of Gdt 0 places)
 
 -- what an entry hands over, where its rows have these places
 abbrev pub handover_of : MachineFacts → EntryValue → Reading → List Place → Handover
 handover_of facts value reading places = record {
   protocol = value.protocol;
-  registers = registers_of reading places;
+  registers = registers_of value.protocol reading places;
   parts = map (part_from facts value reading places) (in_order places);
 }
 

@@ -13,6 +13,7 @@ use Rattle.bl_plan.specs.declared.part.Choice.TheVariants.{Lowest, Highest}
 use Rattle.bl_map.specs.Limits.{frame_size, first_usable, most_size}
 use Rattle.bl_mbi.specs.Size.{tag_size}
 use Rattle.bl_load.specs.Kernel.{KernelFacts}
+use Rattle.bl_plan.specs.declared.protocol.Protocol.{Protocol}
 use Rattle.bl_plan.specs.declared.part.Row.{Row}
 use Rattle.bl_plan.specs.declared.part.Place.{Place}
 use Rattle.bl_plan.specs.declared.fault.PlanFault.{PlanFault}
@@ -24,7 +25,7 @@ use Rattle.bl_load.specs.Addresses.{address_of}
 use Rattle.bl_load.specs.Value.{EntryValue, module_file, initrd_file}
 use Rattle.bl_load.specs.Reading.{Reading, multiboot2, linux}
 use Rattle.bl_bzimage.specs.declared.setup.Setup.{Setup}
-use Rattle.bl_load.specs.LinuxRows.{linux_kernel_row, frame_row, line_limit}
+use Rattle.bl_load.specs.LinuxRows.{linux_kernel_row, front_rows}
 use Rattle.bl_load.specs.Blocks.{span_of}
 use Rattle.bl_load.specs.Rows.{kernel_rows, module_length, information_row, rows_of, information_of}
 use Rattle.bl_load.specs.Handover.{Handover}
@@ -48,15 +49,19 @@ HasLength facts value (multiboot2 kernel) Information i count =
     count ≡ whole_frames (info_size (information_of facts value kernel.relocation []))
 HasLength facts value (multiboot2 kernel) Module i count =
     (i < length value.module_lines) × (count ≡ module_length (module_file value.files i))
-HasLength facts value (multiboot2 kernel) _ i count = ⊥
+HasLength facts value (multiboot2 kernel) BootParams i count = ⊥
+HasLength facts value (multiboot2 kernel) CommandLine i count = ⊥
+HasLength facts value (multiboot2 kernel) Gdt i count = ⊥
+HasLength facts value (multiboot2 kernel) Initrd i count = ⊥
 HasLength facts value (linux setup) Kernel i count = count ≡ (linux_kernel_row setup).length
+HasLength facts value (linux setup) Module i count = ⊥
+HasLength facts value (linux setup) Information i count = ⊥
 HasLength facts value (linux setup) BootParams i count = count ≡ frame_size
 HasLength facts value (linux setup) CommandLine i count = count ≡ frame_size
 HasLength facts value (linux setup) Gdt i count = count ≡ frame_size
 HasLength facts value (linux setup) Initrd i count =
     (1 ≤ length (initrd_file value.files))
     × (count ≡ whole_frames (length (initrd_file value.files)))
-HasLength facts value (linux setup) _ i count = ⊥
 
 abbrev pub IsRowed : MachineFacts → EntryValue → Reading → Place → Type 0
 IsRowed facts value reading place =
@@ -119,18 +124,14 @@ told_initrd_rows setup [] = []
 told_initrd_rows setup (byte ∷ bytes) = told_initrd_row setup (length (byte ∷ bytes)) ∷ []
 
 -- the rows of a Linux entry as the code tells them
-abbrev pub told_linux_rows : Setup → List ℕ → List Row
-told_linux_rows setup initrd =
-    linux_kernel_row setup
-    ∷ frame_row BootParams most_size
-    ∷ frame_row CommandLine line_limit
-    ∷ frame_row Gdt most_size
-    ∷ told_initrd_rows setup initrd
+abbrev pub told_linux_rows : Protocol → Setup → List ℕ → List Row
+told_linux_rows protocol setup initrd = front_rows protocol setup ++ told_initrd_rows setup initrd
 
 -- by what was read of the kernel
 abbrev pub told_rows_by : MachineFacts → EntryValue → Reading → List Row
 told_rows_by facts value (multiboot2 kernel) = told_rows_of facts value kernel
-told_rows_by facts value (linux setup) = told_linux_rows setup (initrd_file value.files)
+told_rows_by facts value (linux setup) =
+    told_linux_rows value.protocol setup (initrd_file value.files)
 
 -- ---- how long the tags of modules are
 

@@ -9,6 +9,7 @@ use Rattle.bl_load.specs.declared.plan.Plan.{Plan}
 use Rattle.bl_plan.specs.declared.protocol.Protocol.{Protocol}
 use Rattle.bl_load.specs.declared.registers.Registers.{Registers}
 use Rattle.bl_load.specs.Blocks.{block_of}
+use Rattle.bl_load.specs.HandoffFacts.{HandoffFacts}
 use Rattle.bl_load.specs.Handover.{Part, Handover, part_at, filled}
 
 -- what a content holds
@@ -36,6 +37,11 @@ handover_by texts plan =
 -- the places of a plan
 abbrev pub places_of : {A : Type 0} → Plan A → List Place
 places_of plan = map (λ part. part.place) plan.parts.items
+
+-- what a handoff of a plan says
+abbrev pub handoff_by : {A : Type 0} → Plan A → HandoffFacts
+handoff_by plan =
+    record { protocol = plan.protocol; registers = plan.registers; places = places_of plan }
 
 -- a part as memory holds it
 abbrev pub part_in : List ℕ → Place → Part

@@ -3,7 +3,6 @@ use Rattle.std.specs.Prelude.{◌≡◌, ◌+◌, ◌<◌, ◌≤◌, ◌^◌, �
 use Rattle.bl_map.specs.declared.region.Region.{Region}
 use Rattle.bl_plan.specs.declared.part.Place.{Place}
 use Rattle.bl_plan.specs.declared.protocol.Protocol.{Protocol}
-use Rattle.bl_plan.specs.declared.protocol.Protocol.TheVariants as protocol
 use Rattle.bl_plan.specs.declared.part.Role.TheVariants as role
 use Rattle.bl_load.specs.declared.kernel.KernelFile.{KernelFile}
 use Rattle.bl_load.specs.declared.kernel.KernelFile.TheVariants.{Multiboot2, Linux}
@@ -23,10 +22,6 @@ use Rattle.bl_load.specs.Value.{EntryValue, initrd_file}
 abbrev pub reading_by : {A : Type 0} → KernelFile A → Reading
 reading_by (Multiboot2 kernel) = multiboot2 (kernel_by kernel)
 reading_by (Linux setup) = linux setup
-
-abbrev pub protocol_by : Reading → Protocol
-protocol_by (multiboot2 kernel) = protocol.Multiboot2
-protocol_by (linux setup) = protocol.Linux
 
 -- there are files for what was read, and so many modules; a Multiboot2 kernel's segments can be
 -- loaded
@@ -51,6 +46,7 @@ CanEnter (multiboot2 kernel) places =
 CanEnter (linux setup) places = Unit {0}
 
 -- a Linux kernel's fault as one of preparing: it stands, or memory ran out
-abbrev pub IsLinuxFault : List Region → List ℕ → List ℕ → PrepFault → Type 0
-IsLinuxFault runs line file (prep_fault.Refused refused) = HasLinuxFault runs line file refused
-IsLinuxFault runs line file prep_fault.NoMemory = Unit {0}
+abbrev pub IsLinuxFault : Protocol → List Region → List ℕ → List ℕ → PrepFault → Type 0
+IsLinuxFault protocol runs line file (prep_fault.Refused refused) =
+    HasLinuxFault protocol runs line file refused
+IsLinuxFault protocol runs line file prep_fault.NoMemory = Unit {0}

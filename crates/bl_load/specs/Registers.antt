@@ -57,3 +57,21 @@ linux_registers kernel boot_params gdt = record {
   gdt_limit = 31;
   a20 = 1;
 }
+
+-- ---- the registers that hold addresses, whichever state they are of
+
+-- where the kernel is entered: eip
+abbrev pub entry_in : Registers → ℕ
+entry_in registers = registers.eip
+
+-- where a Multiboot2 kernel finds its information: ebx (3.3)
+abbrev pub information_in : Registers → ℕ
+information_in registers = registers.ebx
+
+-- where a Linux kernel finds its boot parameters: esi ("32-bit Boot Protocol")
+abbrev pub params_in : Registers → ℕ
+params_in registers = registers.esi
+
+-- where the descriptors of segments stand: the base that gdtr holds
+abbrev pub gdt_in : Registers → ℕ
+gdt_in registers = registers.gdt_base

@@ -105,4 +105,5 @@ rows_of facts value (multiboot2 kernel) =
     kernel_rows kernel.segments kernel.relocation
     ++ (module_rows value.files 0 value.module_lines
     ++ information_row facts value kernel.relocation ∷ [])
-rows_of facts value (linux setup) = linux_rows setup (initrd_file value.files)
+rows_of facts value (linux setup) =
+    linux_rows value.protocol setup (initrd_file value.files)

@@ -3,9 +3,9 @@ use Rattle.std.specs.Prelude.{ℕ, List, length, map}
 use Rattle.bl_mem.specs.declared.view.ByteView.{Ghosts}
 use Rattle.bl_load.specs.declared.source.Source.{Source}
 use Rattle.bl_load.specs.Kept.{lines_by}
-use Rattle.bl_load.specs.ReadKept.{reading_by, protocol_by, HasFiles}
+use Rattle.bl_load.specs.ReadKept.{reading_by, HasFiles}
 use Rattle.bl_load.specs.Reading.{Reading, IsRead}
-use Rattle.bl_load.specs.Value.{EntryValue}
+use Rattle.bl_load.specs.Value.{EntryValue, value_from}
 
 -- the files' bytes
 abbrev pub texts_in : {A : Type 0} → {V : Type 0} → {view : Ghosts V} → Source A V view
@@ -16,19 +16,10 @@ texts_in {view = view} source = map view.bytes source.files.now
 abbrev pub reading_in : {A : Type 0} → {V : Type 0} → {view : Ghosts V} → Source A V view → Reading
 reading_in source = reading_by source.kernel.now
 
--- the entry's value, where its kernel was read so
-abbrev pub value_as : {A : Type 0} → {V : Type 0} → {view : Ghosts V} → Reading → Source A V view
-    → EntryValue
-value_as reading source = record {
-  protocol = protocol_by reading;
-  line = source.line.now;
-  files = texts_in source;
-  module_lines = lines_by source.modules.now;
-}
-
 -- the entry's value
 abbrev pub value_in : {A : Type 0} → {V : Type 0} → {view : Ghosts V} → Source A V view → EntryValue
-value_in source = value_as (reading_in source) source
+value_in source =
+    value_from source.protocol (texts_in source) source.line.now (lines_by source.modules.now)
 
 -- the kernel was read so, and there is what it needs
 pub record IsReady {A : Type 0} {V : Type 0} {view : Ghosts V}

@@ -5,7 +5,7 @@ use Rattle.std.specs.List.{list_any}
 use Rattle.std.specs.Option.{option_or}
 use Rattle.bl_plan.specs.Limits.{most_modules}
 use Rattle.bl_plan.specs.declared.protocol.Protocol.{Protocol}
-use Rattle.bl_plan.specs.declared.protocol.Protocol.TheVariants as protocol
+use Rattle.bl_plan.specs.declared.protocol.Protocol.TheVariants as protocols
 use Rattle.bl_load.specs.declared.entry.Entry.{Entry}
 use Rattle.bl_load.specs.declared.entry.Entry.TheVariants.{Multiboot2, Linux}
 use Rattle.bl_load.specs.declared.refusal.Refusal.{Refusal}
@@ -19,22 +19,25 @@ pub record EntryValue : Type 0 where
   pub files : List (List ℕ)
   pub module_lines : List (List ℕ)
 
--- the value of a Multiboot2 entry with this line and these lines of its modules, whose files hold
--- these texts
-abbrev pub multiboot2_value : List (List ℕ) → List ℕ → List (List ℕ) → EntryValue
-multiboot2_value texts line lines =
-    record { protocol = protocol.Multiboot2; line = line; files = texts; module_lines = lines }
+-- the value of an entry of this protocol with this line and these lines of its modules, whose files
+-- hold these texts
+abbrev pub value_from : Protocol → List (List ℕ) → List ℕ → List (List ℕ) → EntryValue
+value_from protocol texts line lines =
+    record { protocol = protocol; line = line; files = texts; module_lines = lines }
 
--- the value of a Linux entry with this line
-abbrev pub linux_value : List (List ℕ) → List ℕ → EntryValue
-linux_value texts line =
-    record { protocol = protocol.Linux; line = line; files = texts; module_lines = [] }
+-- that of a Multiboot2 entry
+abbrev pub multiboot2_value : List (List ℕ) → List ℕ → List (List ℕ) → EntryValue
+multiboot2_value texts line lines = value_from protocols.Multiboot2 texts line lines
+
+-- that of a Linux entry, by the protocol that its kernel is entered with
+abbrev pub linux_value : Protocol → List (List ℕ) → List ℕ → EntryValue
+linux_value protocol texts line = value_from protocol texts line []
 
 -- the value of an entry whose files hold these texts
 abbrev pub value_of : {A : Type 0} → List (List ℕ) → Entry A → EntryValue
 value_of texts (Multiboot2 kernel line modules) =
     multiboot2_value texts line (map (λ m. m.line) modules.items)
-value_of texts (Linux kernel line initrd) = linux_value texts line
+value_of texts (Linux kernel line initrd) = linux_value protocols.Linux texts line
 
 -- the bytes of the kernel's file
 abbrev pub kernel_file : EntryValue → List ℕ
@@ -54,10 +57,10 @@ abbrev pub file_count : {A : Type 0} → Entry A → ℕ
 file_count (Multiboot2 kernel line modules) = 1 + length modules.items
 file_count (Linux kernel line initrd) = 1 + length (option_to_list initrd)
 
--- it has not too many modules
-abbrev pub HasFewModules : {A : Type 0} → Entry A → Type 0
-HasFewModules (Multiboot2 kernel line modules) = length modules.items ≤ most_modules
-HasFewModules (Linux kernel line initrd) = Unit {0}
+-- what an entry may hold: not too many modules
+abbrev pub IsWithinLimits : {A : Type 0} → Entry A → Type 0
+IsWithinLimits (Multiboot2 kernel line modules) = length modules.items ≤ most_modules
+IsWithinLimits (Linux kernel line initrd) = Unit {0}
 
 -- a line has at most so many bytes
 abbrev pub most_line : ℕ

@@ -10,7 +10,7 @@ ghost use Rattle.bl_load.specs.Parts.{content_of};
 ghost use Rattle.bl_load.specs.PlanFacts.{content_by};
 ghost use Rattle.bl_mem.specs.Files.{text_at};
 ghost use Rattle.bl_load.specs.Loadable.{lengths_of, content_length, IsThere, StaysInFiles};
-ghost use Rattle.bl_load.specs.SourceKept.{texts_in, value_as};
+ghost use Rattle.bl_load.specs.SourceKept.{texts_in, value_in};
 ghost use Rattle.bl_load.specs.PlacingKept.{HasKernelLength, IsRowed, IsLow, ModulesEndLow};
 
 use crate::information::information;
@@ -91,13 +91,11 @@ pub fn multiboot2_content<A: Allocator + Copy, V: ByteView>(
     requires ends { ModulesEndLow (texts_in source.now) places.now
         (length source.now.modules.now) }
     requires low { All IsLow places.now }
-    requires rowed { IsRowed source.now.machine.now
-        (value_as (multiboot2 (kernel_by kernel.now)) source.now)
+    requires rowed { IsRowed source.now.machine.now (value_in source.now)
         (multiboot2 (kernel_by kernel.now)) place.now }
     requires small { place.now.length ≤ 2 ^ 32 }
     ensures content { IfOk result (λ content. content_by (texts_in source.now) content
-        ≡ content_of source.now.machine.now
-        (value_as (multiboot2 (kernel_by kernel.now)) source.now)
+        ≡ content_of source.now.machine.now (value_in source.now)
         (multiboot2 (kernel_by kernel.now)) places.now place.now.role place.now.index) }
     ensures there { IfOk result (λ content. IsThere (lengths_of (texts_in source.now)) content) }
     ensures short { IfOk result (λ content. content_length content ≤ place.now.length) }
@@ -110,6 +108,6 @@ pub fn multiboot2_content<A: Allocator + Copy, V: ByteView>(
             let bytes = information(alloc, source, &kernel.relocation, places)?;
             Ok(Content::Own(bytes))
         }
-        _ => unreachable!(),
+        Role::BootParams | Role::CommandLine | Role::Gdt | Role::Initrd => unreachable!(),
     }
 }

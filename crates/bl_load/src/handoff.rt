@@ -20,7 +20,7 @@ impl<A: Allocator> Model for Handoff<A> {
     ghost use Rattle.std.specs.Prelude.{◌≡◌, map};
     ghost use Rattle.bl_plan.specs.Placed.{range_of};
     ghost use Rattle.bl_load.specs.Place.{place_of};
-    ghost use Rattle.bl_load.specs.HandoffFacts.{HandoffFacts, AreRecords};
+    ghost use Rattle.bl_load.specs.HandoffFacts.{HandoffFacts, AreHandoffFacts};
 
     ghost Value = { HandoffFacts };
 
@@ -30,14 +30,17 @@ impl<A: Allocator> Model for Handoff<A> {
       places = map place_of h.parts.items;
     } };
 
-    ghost invariant = { λ h. AreRecords (map place_of h.parts.items)
-        × (h.ranges.items ≡ map range_of (map place_of h.parts.items)) };
+    ghost invariant = { λ h. AreHandoffFacts (record {
+      protocol = h.protocol;
+      registers = h.registers;
+      places = map place_of h.parts.items;
+    }) × (h.ranges.items ≡ map range_of (map place_of h.parts.items)) };
 }
 
 impl<A: Allocator> Handoff<A> {
     ghost use Rattle.std.specs.Prelude.{◌≡◌, ◌<◌, length, map, slice_index_or};
     ghost use Rattle.bl_plan.specs.Placed.{range_of};
-    ghost use Rattle.bl_load.specs.HandoffFacts.{AreRecords};
+    ghost use Rattle.bl_load.specs.HandoffFacts.{AreHandoffFacts};
 
     /// How the kernel is entered.
     pub fn protocol(&self) -> Protocol
@@ -56,7 +59,7 @@ impl<A: Allocator> Handoff<A> {
     /// How many parts there are, at most 256.
     pub fn len(&self) -> usize
         ensures len { result ≡ length self.now.places }
-        ensures records { AreRecords self.now.places }
+        ensures kept { AreHandoffFacts self.now }
     {
         self.parts.len()
     }

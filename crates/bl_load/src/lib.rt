@@ -18,10 +18,12 @@ mod parts;
 mod placing;
 mod plan;
 mod preparing;
+mod protocols;
 mod refusal;
 mod registers;
 mod rows;
 mod source;
+mod words;
 
 pub use bl_plan::Protocol;
 pub use entry::{Entry, MOST_LINE, Module};
@@ -33,5 +35,6 @@ pub use laws::{
 pub use loading::load;
 pub use plan::{Content, Plan, PlannedPart};
 pub use preparing::prepare;
+pub use protocols::descriptors_of;
 pub use refusal::{PrepFault, Refusal};
 pub use registers::{Registers, linux_registers, multiboot2_registers};

@@ -1,7 +1,7 @@
 //! A Linux kernel's file.
 ghost use Rattle.std.specs.Prelude.{◌≡◌, Some, None, IfOk, IfErr, MatchResult};
 ghost use Rattle.bl_load.specs.Linux as linux;
-ghost use Rattle.bl_load.specs.Linux.{IsLinuxKernel, telling_fault};
+ghost use Rattle.bl_load.specs.Linux.{IsLinuxKernel, entering_fault, telling_fault};
 ghost use Rattle.bl_load.specs.ReadKept.{IsLinuxFault};
 ghost use Rattle.bl_load.specs.declared.refusal.PrepFault.TheVariants.{Refused};
 
@@ -9,6 +9,7 @@ use crate::refusal::{PrepFault, Refusal};
 use bl_bzimage::{Setup, SetupFault, read_setup};
 use bl_map::Region;
 use bl_mem::ByteView;
+use bl_plan::Protocol;
 
 /// How many runs of the memory map boot parameters have room for ("Zero Page", `e820_table`).
 const MOST_RUNS: usize = 128;
@@ -35,6 +36,18 @@ impl From<SetupFault> for PrepFault {
     }
 }
 
+/// Checks that a kernel can be entered by the protocol. Each kernel has the 32-bit entry.
+fn check_entering(protocol: Protocol, setup: &Setup) -> Result<(), Refusal>
+    ensures { MatchResult result
+        (λ _. entering_fault protocol setup.now ≡ None)
+        (λ refusal. entering_fault protocol setup.now ≡ Some refusal) }
+{
+    match protocol {
+        Protocol::Multiboot2 => Ok(()),
+        Protocol::Linux => Ok(()),
+    }
+}
+
 /// Checks what a kernel is told: first that `cmdline_size` allows the line, then that boot
 /// parameters have room for the memory map.
 fn check_told(setup: &Setup, line: &[u8], runs: &[Region]) -> Result<(), Refusal>
@@ -51,13 +64,19 @@ fn check_told(setup: &Setup, line: &[u8], runs: &[Region]) -> Result<(), Refusal
     Ok(())
 }
 
-/// What is read of a Linux kernel's file, which is told this line and this memory map, or the first
-/// fault.
-pub fn read_linux<V: ByteView>(file: &V, line: &[u8], runs: &[Region]) -> Result<Setup, PrepFault>
-    ensures kernel { IfOk result (IsLinuxKernel runs.now line.now (V.bytes file.now)) }
-    ensures fault { IfErr result (IsLinuxFault runs.now line.now (V.bytes file.now)) }
+/// What is read of a Linux kernel's file, whose kernel is entered by this protocol and told this
+/// line and this memory map, or the first fault.
+pub fn read_linux<V: ByteView>(
+    protocol: Protocol,
+    file: &V,
+    line: &[u8],
+    runs: &[Region],
+) -> Result<Setup, PrepFault>
+    ensures kernel { IfOk result (IsLinuxKernel protocol runs.now line.now (V.bytes file.now)) }
+    ensures fault { IfErr result (IsLinuxFault protocol runs.now line.now (V.bytes file.now)) }
 {
     let setup = read_setup(file)?;
+    check_entering(protocol, &setup)?;
     check_told(&setup, line, runs)?;
     Ok(setup)
 }

@@ -1,11 +1,12 @@
 //! The contents of a Linux entry's parts, at their places.
-ghost use Rattle.std.specs.Prelude.{◌≡◌, ◌≤◌, ◌<◌, ◌^◌, All, IfOk, length, map};
+ghost use Rattle.std.specs.Prelude.{◌≡◌, ◌≤◌, ◌<◌, ◌^◌, [], All, IfOk, length, map, unwrap_or};
 ghost use Rattle.bl_params.specs.BootParams as params;
 ghost use Rattle.bl_plan.specs.declared.part.Role.TheVariants as role;
 ghost use Rattle.bl_load.specs.Value.{initrd_file};
 ghost use Rattle.bl_load.specs.Linux.{IsLinuxKernel};
 ghost use Rattle.bl_load.specs.Addresses as addresses;
 ghost use Rattle.bl_load.specs.LinuxRows as table;
+ghost use Rattle.bl_load.specs.Protocols as protocols;
 ghost use Rattle.bl_load.specs.Reading.{linux};
 ghost use Rattle.bl_load.specs.Parts.{content_of, payload_of};
 ghost use Rattle.bl_bzimage.specs.Setup.{IsSetup};
@@ -13,17 +14,18 @@ ghost use Rattle.bl_load.specs.PlanFacts.{content_by};
 ghost use Rattle.bl_mem.specs.Files.{text_at};
 ghost use Rattle.bl_load.specs.Loadable.{lengths_of, content_length, IsThere, StaysInFiles};
 ghost use Rattle.bl_load.specs.PlacingKept.{IsRowed, IsLow};
-ghost use Rattle.bl_load.specs.SourceKept.{texts_in, value_as};
+ghost use Rattle.bl_load.specs.SourceKept.{texts_in, value_in};
 
 use crate::addresses::address_of;
 use crate::linux_rows::initrd_size;
 use crate::plan::Content;
+use crate::protocols::descriptors_of;
 use crate::source::Source;
 use bl_bzimage::Setup;
 use bl_map::Machine;
 use bl_mem::{ByteView, Bytes};
-use bl_params::{ParamFacts, gdt, write_params};
-use bl_plan::{Place, Role};
+use bl_params::{ParamFacts, write_params};
+use bl_plan::{Place, Protocol, Role};
 use std::alloc::{AllocError, Allocator};
 
 /// What a kernel is told of an entry's parts, where they have these places.
@@ -65,13 +67,22 @@ fn boot_params<A: Allocator + Copy, V: ByteView>(
     requires size { length (initrd_file (texts_in source.now)) < 2 ^ 32 }
     requires low { All IsLow places.now }
     ensures { IfOk result (λ bytes. bytes ≡ params.boot_params setup.now.header
-        (table.told_of source.now.machine.now (value_as (linux setup.now) source.now)
-        places.now)) }
+        (table.told_of source.now.machine.now (value_in source.now) places.now)) }
 {
     let facts = told_of(alloc, source.machine, initrd_size(source.files), places)?;
     let mut bytes = [0u8; 4096];
     write_params(setup, &facts, &mut bytes);
     Bytes::copy(alloc, &bytes)
+}
+
+/// The descriptors that a kernel of this protocol is handed.
+fn descriptors<A: Allocator>(alloc: A, protocol: Protocol) -> Result<Bytes<A>, AllocError>
+    ensures { IfOk result (λ bytes. bytes ≡ unwrap_or (protocols.descriptors_of protocol) []) }
+{
+    match descriptors_of(protocol) {
+        Some(bytes) => Bytes::copy(alloc, &bytes),
+        None => Bytes::copy(alloc, &[]),
+    }
 }
 
 /// The content of the initrd's part: its whole file.
@@ -116,14 +127,14 @@ pub fn linux_content<A: Allocator + Copy, V: ByteView>(
     place: &Place,
 ) -> Result<Content<A>, AllocError>
     requires some { 1 ≤ length source.now.files.now }
-    requires kernel { IsLinuxKernel source.now.machine.now.runs source.now.line.now
-        (text_at (texts_in source.now) 0) setup.now }
+    requires setup { IsSetup (text_at (texts_in source.now) 0) setup.now }
+    requires few { length source.now.machine.now.runs ≤ 128 }
     requires size { length (initrd_file (texts_in source.now)) < 2 ^ 32 }
     requires low { All IsLow places.now }
-    requires rowed { IsRowed source.now.machine.now (value_as (linux setup.now) source.now)
+    requires rowed { IsRowed source.now.machine.now (value_in source.now)
         (linux setup.now) place.now }
     ensures content { IfOk result (λ content. content_by (texts_in source.now) content
-        ≡ content_of source.now.machine.now (value_as (linux setup.now) source.now)
+        ≡ content_of source.now.machine.now (value_in source.now)
         (linux setup.now) places.now place.now.role place.now.index) }
     ensures there { IfOk result (λ content. IsThere (lengths_of (texts_in source.now)) content) }
     ensures short { IfOk result (λ content. content_length content ≤ place.now.length) }
@@ -133,8 +144,8 @@ pub fn linux_content<A: Allocator + Copy, V: ByteView>(
         Role::Kernel => Ok(payload_content(source.files, setup)),
         Role::BootParams => Ok(Content::Own(boot_params(alloc, source, setup, places)?)),
         Role::CommandLine => Ok(Content::Own(Bytes::copy(alloc, source.line)?)),
-        Role::Gdt => Ok(Content::Own(Bytes::copy(alloc, &gdt())?)),
+        Role::Gdt => Ok(Content::Own(descriptors(alloc, source.protocol)?)),
         Role::Initrd => Ok(initrd_content(source.files)),
-        _ => unreachable!(),
+        Role::Module | Role::Information => unreachable!(),
     }
 }

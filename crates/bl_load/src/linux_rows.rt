@@ -9,7 +9,7 @@ use crate::rows::told_length;
 use bl_bzimage::Setup;
 use bl_map::{FIRST_USABLE, FRAME, HIGH_START, MOST_SIZE};
 use bl_mem::ByteView;
-use bl_plan::{Choice, Role, Row};
+use bl_plan::{Choice, Protocol, Role, Row};
 use std::alloc::{AllocError, Allocator};
 
 /// Where the line ends at most ("cmd_line_ptr").
@@ -76,6 +76,16 @@ fn frame_row(role: Role, high: u64) -> Row
     }
 }
 
+/// The row of the page tables that a kernel of this protocol is entered with, if any.
+fn paging_row(protocol: Protocol) -> Option<Row>
+    ensures { result ≡ table.paging_row protocol }
+{
+    match protocol {
+        Protocol::Multiboot2 => None,
+        Protocol::Linux => None,
+    }
+}
+
 /// How many bytes the initrd has, 0 where there is none.
 pub fn initrd_size<V: ByteView>(files: &[V]) -> u64
     ensures { result ≡ length (initrd_file (map V.bytes files.now)) }
@@ -113,19 +123,23 @@ fn push_initrd_row<A: Allocator>(
 /// The rows of a Linux entry's parts.
 pub fn linux_rows<A: Allocator, V: ByteView>(
     alloc: A,
+    protocol: Protocol,
     setup: &Setup,
     files: &[V],
 ) -> Result<Vec<Row, A>, AllocError>
     requires { setup.now.relocatable_kernel ≡ 0
         → (0x100000 ≤ setup.now.pref_address) × (setup.now.pref_address < 2 ^ 32) }
     ensures { IfOk result (λ rows. rows.items
-        ≡ kept.told_linux_rows setup.now (initrd_file (map V.bytes files.now))) }
+        ≡ kept.told_linux_rows protocol setup.now (initrd_file (map V.bytes files.now))) }
 {
     let mut rows = Vec::new(alloc);
     rows.push(kernel_row(setup))?;
     rows.push(frame_row(Role::BootParams, MOST_SIZE))?;
     rows.push(frame_row(Role::CommandLine, LINE_LIMIT))?;
     rows.push(frame_row(Role::Gdt, MOST_SIZE))?;
+    if let Some(row) = paging_row(protocol) {
+        rows.push(row)?;
+    }
     push_initrd_row(&mut rows, setup, initrd_size(files))?;
     Ok(rows)
 }

@@ -12,7 +12,7 @@ ghost use Rattle.bl_load.specs.PlacingKept.{IsLow, IsPlacedHandover, IsPlaceFaul
 ghost use Rattle.bl_load.specs.Place.{place_of};
 ghost use Rattle.bl_load.specs.PlanFacts.{handover_by};
 ghost use Rattle.bl_load.specs.Loadable.{lengths_of, IsLoadable, IsLean};
-ghost use Rattle.bl_load.specs.ReadKept.{reading_by, protocol_by, CanEnter};
+ghost use Rattle.bl_load.specs.ReadKept.{reading_by, CanEnter};
 ghost use Rattle.bl_load.specs.SourceKept.{texts_in, reading_in, value_in, IsReady};
 
 use crate::addresses::address_of;
@@ -42,7 +42,7 @@ fn fault_of(fault: PlanFault) -> PrepFault
     }
 }
 
-/// Where the kernel is entered, once the first of its parts stands at `base`.
+/// Where a Multiboot2 kernel is entered, once the first of its parts stands at `base`.
 fn entered_at<A: Allocator>(kernel: &Kernel<A>, base: u64) -> u64
     requires above { blocks.low_of (kernel_by kernel.now).segments ≤ kernel.now.entry }
     requires below { kernel.now.entry + base < 2 ^ 64 }
@@ -55,21 +55,37 @@ fn entered_at<A: Allocator>(kernel: &Kernel<A>, base: u64) -> u64
     }
 }
 
-/// The registers as the kernel begins, where its parts have these places.
-fn registers_of<A: Allocator>(kernel: &KernelFile<A>, places: &[Place]) -> Registers
+/// Where the kernel begins, where its parts have these places: a Linux kernel with its first byte.
+fn start_of<A: Allocator>(kernel: &KernelFile<A>, places: &[Place]) -> u32
     requires low { All IsLow places.now }
     requires enter { CanEnter (reading_by kernel.now) places.now }
-    ensures { result ≡ parts.registers_of (reading_by kernel.now) places.now }
+    ensures { result ≡ parts.start_of (reading_by kernel.now) places.now }
 {
     let base = address_of(Role::Kernel, 0, places);
     match kernel {
-        KernelFile::Multiboot2(kernel) => {
-            let entry = entered_at(kernel, base as u64) as u32;
-            multiboot2_registers(entry, address_of(Role::Information, 0, places))
+        KernelFile::Multiboot2(kernel) => entered_at(kernel, base as u64) as u32,
+        KernelFile::Linux(_) => base,
+    }
+}
+
+/// The registers as a kernel of this protocol begins, where its parts have these places.
+fn registers_of<A: Allocator>(
+    protocol: Protocol,
+    kernel: &KernelFile<A>,
+    places: &[Place],
+) -> Registers
+    requires low { All IsLow places.now }
+    requires enter { CanEnter (reading_by kernel.now) places.now }
+    ensures { result ≡ parts.registers_of protocol (reading_by kernel.now) places.now }
+{
+    let start = start_of(kernel, places);
+    match protocol {
+        Protocol::Multiboot2 => {
+            multiboot2_registers(start, address_of(Role::Information, 0, places))
         }
-        KernelFile::Linux(_) => {
+        Protocol::Linux => {
             let boot_params = address_of(Role::BootParams, 0, places);
-            linux_registers(base, boot_params, address_of(Role::Gdt, 0, places))
+            linux_registers(start, boot_params, address_of(Role::Gdt, 0, places))
         }
     }
 }
@@ -85,17 +101,7 @@ fn rows_of<A: Allocator, V: ByteView>(
 {
     match source.kernel {
         KernelFile::Multiboot2(kernel) => multiboot2_rows(alloc, source, kernel),
-        KernelFile::Linux(setup) => linux_rows(alloc, setup, source.files),
-    }
-}
-
-/// How a kernel that was read is entered.
-fn protocol_of<A: Allocator>(kernel: &KernelFile<A>) -> Protocol
-    ensures { result ≡ protocol_by (reading_by kernel.now) }
-{
-    match kernel {
-        KernelFile::Multiboot2(_) => Protocol::Multiboot2,
-        KernelFile::Linux(_) => Protocol::Linux,
+        KernelFile::Linux(setup) => linux_rows(alloc, source.protocol, setup, source.files),
     }
 }
 
@@ -134,12 +140,12 @@ pub fn plan_parts<A: Allocator + Copy, V: ByteView>(
         Ok(places) => places,
         Err(fault) => return Err(fault_of(fault)),
     };
-    let registers = registers_of(source.kernel, places.as_slice());
+    let registers = registers_of(source.protocol, source.kernel, places.as_slice());
     let sorted = in_order(alloc, places.as_slice())?;
     let parts = parts_at(alloc, source, places.as_slice(), sorted.as_slice())?;
     let ranges = ranges_of(alloc, parts.as_slice())?;
     Ok(Plan {
-        protocol: protocol_of(source.kernel),
+        protocol: source.protocol,
         registers,
         parts,
         ranges,

@@ -12,7 +12,8 @@ use std::ops::Range;
 /// Where the bytes of a part come from.
 #[derive(Drop)]
 pub enum Content<A: Allocator> {
-    /// These bytes, which the plan holds: what the loader makes, and a copy of a line.
+    /// These bytes, which the plan holds: what the loader makes, and a copy of a line. Boot
+    /// parameters have a Linux kernel's setup header in them.
     Own(Bytes<A>),
 
     /// `count` bytes of a file, from `offset` on. Nothing is read where `count` is 0.

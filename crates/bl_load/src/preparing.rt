@@ -1,11 +1,12 @@
 //! What is loaded for an entry on a machine, or its first refusal.
-ghost use Rattle.std.specs.Prelude.{◌≡◌, ◌==◌, ◌≤◌, ◌<◌, ◌+◌, ◌∷◌, Some, None, IfOk, IfErr};
+ghost use Rattle.std.specs.Prelude.{◌≡◌, ◌==◌, ◌≤◌, ◌<◌, ◌+◌, ◌∷◌, Some, None, IfOk, IfErr, true};
 ghost use Rattle.std.specs.Prelude.{MatchResult, length, map};
 ghost use Rattle.std.specs.List.{list_any};
 ghost use Rattle.bl_load.specs.Value.{value_of, multiboot2_value, linux_value, line_fault};
-ghost use Rattle.bl_load.specs.Value.{lines_fault, file_count, HasFewModules};
+ghost use Rattle.bl_load.specs.Value.{lines_fault, file_count, IsWithinLimits};
 ghost use Rattle.bl_load.specs.Parts.{IsHandover, IsPrepFault};
 ghost use Rattle.bl_load.specs.PlanFacts.{handover_by};
+ghost use Rattle.bl_load.specs.Protocols.{has_params};
 ghost use Rattle.bl_load.specs.Kept.{lines_by};
 ghost use Rattle.bl_load.specs.Loadable.{lengths_of, IsLoadable, IsLean};
 
@@ -18,6 +19,7 @@ use crate::refusal::{PrepFault, Refusal};
 use crate::source::Source;
 use bl_map::Machine;
 use bl_mem::ByteView;
+use bl_plan::Protocol;
 use std::alloc::Allocator;
 
 /// Whether a line has a zero byte.
@@ -90,6 +92,7 @@ fn prepare_multiboot2<A: Allocator + Copy, V: ByteView>(
     check_lines(line, modules)?;
     let kernel = KernelFile::Multiboot2(read_kernel(alloc, &files[0])?);
     let source = Source {
+        protocol: Protocol::Multiboot2,
         machine,
         line,
         modules,
@@ -99,26 +102,30 @@ fn prepare_multiboot2<A: Allocator + Copy, V: ByteView>(
     plan_parts(alloc, &source)
 }
 
-/// What is loaded for a Linux entry of this line, or its first refusal.
+/// What is loaded for a Linux entry of this line, whose kernel is entered by this protocol, or its
+/// first refusal.
 fn prepare_linux<A: Allocator + Copy, V: ByteView>(
     alloc: A,
+    protocol: Protocol,
     machine: &Machine<A>,
     line: &[u8],
     files: &[V],
 ) -> Result<Plan<A>, PrepFault>
+    requires params { has_params protocol ≡ true }
     requires files { 1 ≤ length files.now }
     ensures handover { IfOk result (λ plan. IsHandover machine.now
-        (linux_value (map V.bytes files.now) line.now)
+        (linux_value protocol (map V.bytes files.now) line.now)
         (handover_by (map V.bytes files.now) plan)) }
     ensures loadable { IfOk result (λ plan. IsLoadable
         (lengths_of (map V.bytes files.now)) machine.now.size plan) }
     ensures lean { IfOk result (λ plan. IsLean plan.parts.items) }
     ensures fault { IfErr result (λ fault. IsPrepFault machine.now
-        (linux_value (map V.bytes files.now) line.now) fault) }
+        (linux_value protocol (map V.bytes files.now) line.now) fault) }
 {
     check_line(line)?;
-    let kernel = KernelFile::Linux(read_linux(&files[0], line, machine.normal())?);
+    let kernel = KernelFile::Linux(read_linux(protocol, &files[0], line, machine.normal())?);
     let source = Source {
+        protocol,
         machine,
         line,
         modules: &[],
@@ -143,13 +150,14 @@ pub fn prepare<A: Allocator + Copy, V: ByteView>(
     files: &[V],
 ) -> Result<Plan<A>, PrepFault>
     requires files { length files.now ≡ file_count entry.now }
-    requires modules { HasFewModules entry.now }
+    requires limits { IsWithinLimits entry.now }
     ensures handover { IfOk result (λ plan. IsHandover machine.now
         (value_of (map V.bytes files.now) entry.now) (handover_by (map V.bytes files.now) plan)) }
     ensures loadable { IfOk result (λ plan. IsLoadable
         (lengths_of (map V.bytes files.now)) machine.now.size plan) }
 
-    // Of the files' bytes a plan holds none: only what the loader makes has bytes of its own.
+    // Of the files' bytes a plan holds none but a Linux kernel's setup header, which stands in the
+    // boot parameters: only what the loader makes has bytes of its own.
     ensures lean { IfOk result (λ plan. IsLean plan.parts.items) }
 
     ensures fault { IfErr result (λ fault. IsPrepFault machine.now
@@ -159,6 +167,8 @@ pub fn prepare<A: Allocator + Copy, V: ByteView>(
         Entry::Multiboot2 { line, modules, .. } => {
             prepare_multiboot2(alloc, machine, line.as_slice(), modules.as_slice(), files)
         }
-        Entry::Linux { line, .. } => prepare_linux(alloc, machine, line.as_slice(), files),
+        Entry::Linux { line, .. } => {
+            prepare_linux(alloc, Protocol::Linux, machine, line.as_slice(), files)
+        }
     }
 }

@@ -29,6 +29,40 @@ pub struct Registers {
     pub a20: u32,
 }
 
+impl Registers {
+    ghost use Rattle.std.specs.Prelude.{◌≡◌};
+    ghost use Rattle.bl_load.specs.Registers.{entry_in, information_in, params_in, gdt_in};
+
+    /// Where the kernel is entered.
+    pub fn entry(self) -> u64
+        ensures { result ≡ entry_in self }
+    {
+        self.eip as u64
+    }
+
+    /// Where a Multiboot2 kernel finds its information (Multiboot2 3.3 "I386 machine state").
+    pub fn information(self) -> u64
+        ensures { result ≡ information_in self }
+    {
+        self.ebx as u64
+    }
+
+    /// Where a Linux kernel finds its boot parameters (Linux/x86 boot protocol, "32-bit boot
+    /// protocol").
+    pub fn params(self) -> u64
+        ensures { result ≡ params_in self }
+    {
+        self.esi as u64
+    }
+
+    /// Where the descriptors of segments stand.
+    pub fn gdt(self) -> u64
+        ensures { result ≡ gdt_in self }
+    {
+        self.gdt_base as u64
+    }
+}
+
 /// What `eax` tells a kernel: it was loaded by a boot loader of Multiboot2 (3.3 "I386 machine
 /// state").
 const BOOTLOADER_MAGIC: u32 = 0x36D7_6289;

@@ -8,8 +8,7 @@ ghost use Rattle.bl_load.specs.Value.{multiboot2_value};
 ghost use Rattle.bl_load.specs.Kept.{lines_by};
 ghost use Rattle.bl_load.specs.PlacingKept as kept;
 ghost use Rattle.bl_load.specs.KernelKept.{kernel_by};
-ghost use Rattle.bl_load.specs.Reading.{multiboot2};
-ghost use Rattle.bl_load.specs.SourceKept.{value_as};
+ghost use Rattle.bl_load.specs.SourceKept.{value_in};
 
 use crate::entry::Module;
 use crate::kernel::Kernel;
@@ -124,8 +123,7 @@ pub fn multiboot2_rows<A: Allocator, V: ByteView>(
     requires few { length (kernel_by kernel.now).segments ≤ 128 }
     requires span { blocks.span_of (kernel_by kernel.now).segments < 2 ^ 64 }
     ensures { IfOk result (λ rows. rows.items ≡ kept.told_rows_of source.now.machine.now
-        (value_as (multiboot2 (kernel_by kernel.now)) source.now)
-        (kernel_by kernel.now)) }
+        (value_in source.now) (kernel_by kernel.now)) }
 {
     let mut rows = Vec::new(alloc);
     push_kernel_rows(&mut rows, kernel)?;

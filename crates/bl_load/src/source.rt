@@ -6,12 +6,14 @@ use crate::entry::Module;
 use crate::kernel::KernelFile;
 use bl_map::Machine;
 use bl_mem::ByteView;
+use bl_plan::Protocol;
 use std::alloc::Allocator;
 
-/// What the parts of an entry are made of: the machine, the entry's line and its modules, its
-/// files, the kernel first, and what was read of its kernel. The lines have no fault.
+/// What the parts of an entry are made of: its protocol, the machine, the entry's line and its
+/// modules, its files, the kernel first, and what was read of its kernel. The lines have no fault.
 #[derive(Drop)]
 pub struct Source<'a, A: Allocator, V: ByteView> {
+    pub protocol: Protocol,
     pub machine: &'a Machine<A>,
     pub line: &'a [u8],
     pub modules: &'a [Module<A>],

@@ -9,6 +9,13 @@ use Rattle.bl_map.specs.Limits.{most_regions, region_limit}
 use Rattle.bl_map.specs.Kinds.{end_of}
 use Rattle.bl_map.specs.MachineFacts.{IsSize, IsPool}
 
+abbrev pub map_fault_number : MapFault → ℕ
+map_fault_number BadSize = 1
+map_fault_number (BadRegion index) = 2
+map_fault_number TooManyRegions = 3
+map_fault_number BadPool = 4
+map_fault_number NoMemory = 5
+
 -- a region ends at most at 2^52
 abbrev pub IsLow : Region → Type 0
 IsLow region = end_of region ≤ region_limit

@@ -21,6 +21,23 @@ pub enum MapFault {
     NoMemory,
 }
 
+impl MapFault {
+    ghost use Rattle.bl_map.specs.Faults.{map_fault_number};
+
+    /// The fault's number, 1 to 5.
+    pub fn number(self) -> u32
+        ensures { result ≡ map_fault_number self }
+    {
+        match self {
+            MapFault::BadSize => 1,
+            MapFault::BadRegion(_) => 2,
+            MapFault::TooManyRegions => 3,
+            MapFault::BadPool => 4,
+            MapFault::NoMemory => 5,
+        }
+    }
+}
+
 impl From<AllocError> for MapFault {
     ghost from_gives = { λ _ fault. fault ≡ NoMemory };
 

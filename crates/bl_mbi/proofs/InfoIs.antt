@@ -1,6 +1,6 @@
 -- Boot information that is read is spelled so.
-use Rattle.std.proofs.Common.{◌≡◌, ◌≤◌, ◌+◌, ℕ, List, [], ◌++◌, length, drop, Ok, arith, refl, sym}
-use Rattle.std.proofs.Common.{ap, ap₂, ◌∙◌, length-drop}
+use Rattle.std.proofs.Common.{◌≡◌, ◌≤◌, ◌+◌, ℕ, List, [], ◌++◌, length, drop, Ok, arith, sym}
+use Rattle.std.proofs.Common.{ap, ap₂, ◌∙◌, append_assoc, length-drop}
 use Rattle.std.specs.Prelude.{nat_eq, nat_lt, not}
 use Rattle.std.proofs.lemmas.Bool.{not-false}
 use Rattle.std.proofs.lemmas.Bool.Decides.{nat_tests}
@@ -14,10 +14,11 @@ use Rattle.bl_mbi.specs.Fields.{Left, word}
 use Rattle.bl_mbi.specs.Reading.{text_tag_at, modules_at, memory_at, map_at, copy_at, load_base_at}
 use Rattle.bl_mbi.specs.Reading.{end_at, tags_of, info_of}
 use Rattle.bl_mbi.proofs.Inverse.{passed, made, same_ok}
+use Rattle.bl_mbi.proofs.Sizes.{length-tag}
 use Rattle.bl_mbi.proofs.WordLaws.{word_then}
 use Rattle.bl_mbi.proofs.TagIs.{IsRead, drop_small}
-use Rattle.bl_mbi.proofs.ReadIs.{text_tag_at_is, modules_at_are, memory_at_is, map_at_is}
-use Rattle.bl_mbi.proofs.ReadIs.{copy_at_is, load_base_at_is, end_at_is}
+use Rattle.bl_mbi.proofs.ReadIs.{both_read, text_tag_at_is, modules_at_are, memory_at_is}
+use Rattle.bl_mbi.proofs.ReadIs.{map_at_is, copy_at_is, load_base_at_is, end_at_is}
 
 -- the tags that were read, one after the other
 record IsInOrder (left : Left) (info : InfoFacts) : Type 0 where
@@ -25,12 +26,23 @@ record IsInOrder (left : Left) (info : InfoFacts) : Type 0 where
   name : IsText info.name
   facts : FitsFields info.facts
 
-in_order : (l0 l1 l2 l3 l4 l5 l6 l7 l8 : Left) (a b c d e f g h i : List ℕ) → IsRead l0 a l1
+end_stands : 1 ≤ length (tag 0 [])
+end_stands = omega (arith, length-tag 0 [])
+
+-- the end tag stands behind the last of them, so the end cuts none
+in_order : (l0 l1 l2 l3 l4 l5 l6 l7 l8 : Left) (a b c d e f g h : List ℕ) → IsRead l0 a l1
     → IsRead l1 b l2 → IsRead l2 c l3 → IsRead l3 d l4 → IsRead l4 e l5 → IsRead l5 f l6
-    → IsRead l6 g l7 → IsRead l7 h l8 → l8.bytes ≡ i
-    → l0.bytes ≡ a ++ (b ++ (c ++ (d ++ (e ++ (f ++ (g ++ (h ++ i)))))))
-in_order l0 l1 l2 l3 l4 l5 l6 l7 l8 a b c d e f g h i r1 r2 r3 r4 r5 r6 r7 r8 last =
-    rw (r1.bytes, r2.bytes, r3.bytes, r4.bytes, r5.bytes, r6.bytes, r7.bytes, r8.bytes, last) refl
+    → IsRead l6 g l7 → IsRead l7 h l8 → l8.bytes ≡ tag 0 []
+    → l0.bytes ≡ a ++ (b ++ (c ++ (d ++ (e ++ (f ++ (g ++ (h ++ tag 0 [])))))))
+in_order l0 l1 l2 l3 l4 l5 l6 l7 l8 a b c d e f g h r1 r2 r3 r4 r5 r6 r7 r8 last =
+    let from_7 = both_read l6 l7 l8 g h r7 r8 in
+    let from_6 = both_read l5 l6 l8 f _ r6 from_7 in
+    let from_5 = both_read l4 l5 l8 e _ r5 from_6 in
+    let from_4 = both_read l3 l4 l8 d _ r4 from_5 in
+    let from_3 = both_read l2 l3 l8 c _ r3 from_4 in
+    let from_2 = both_read l1 l2 l8 b _ r2 from_3 in
+    let from_1 = both_read l0 l1 l8 a _ r1 from_2 in
+    from_1.bytes (rw last end_stands) ∙ rw last (simp append_assoc)
 
 tags_are : (left : Left) (info : InfoFacts) → AreBytes left.bytes → tags_of left ≡ Ok info
     → IsInOrder left info
@@ -69,7 +81,7 @@ tags_are left info small h =
     let is : IsInOrder left info_is = record {
       bytes =
           in_order left s1.0.1 s2.0.1 s3.0.1 s4.0.1 s5.0.1 s6.0.1 s7.0.1 s8.0.1
-          _ _ _ _ _ _ _ _ _ line.0 name.0 modules.0 memory.0 map.0 old.0 new.0 base.0 end;
+          _ _ _ _ _ _ _ _ line.0 name.0 modules.0 memory.0 map.0 old.0 new.0 base.0 end;
       name = name.1;
       facts =
           record {

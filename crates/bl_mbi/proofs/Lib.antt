@@ -8,6 +8,7 @@ pub mod ModuleLemmas
 pub mod Pieces
 pub mod TagsAgain
 pub mod ReadAgain
+pub mod ReadGroupLemmas
 pub mod ReadIs
 pub mod ReadLaws
 pub mod RunLemmas

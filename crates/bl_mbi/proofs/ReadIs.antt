@@ -1,7 +1,7 @@
 -- Tags that are read are spelled so.
 use Rattle.std.proofs.Common.{◌≡◌, ◌<◌, ◌≤◌, ◌^◌, ℕ, zero, suc, Option, Some, None, List, [], ◌∷◌}
 use Rattle.std.proofs.Common.{◌++◌, length, Ok, arith, refl, sym, ap, ap₂, ◌∙◌, append_assoc, inl}
-use Rattle.std.proofs.Common.{inr}
+use Rattle.std.proofs.Common.{inr, length-append}
 use Rattle.std.specs.Prelude.{nat_eq, not, All, IfSome}
 use Rattle.std.specs.List.{flat_map}
 use Rattle.std.proofs.lemmas.Bool.{not-false}
@@ -19,22 +19,24 @@ use Rattle.bl_mbi.specs.Bodies.{text_of, module_of, memory_of, map_of, load_base
 use Rattle.bl_mbi.specs.Reading.{text_tag_at, module_at, modules_upto, modules_at, memory_at}
 use Rattle.bl_mbi.specs.Reading.{map_at, copy_at, load_base_at, end_at}
 use Rattle.bl_mbi.proofs.Inverse.{passed, passed_last, made, not_bad, chosen, same_ok}
-use Rattle.bl_mbi.proofs.TagIs.{IsRead, tag_is}
+use Rattle.bl_mbi.proofs.TagIs.{IsRead, tag_is, empty_tag_is}
 use Rattle.bl_mbi.proofs.BodyIs.{text_is, module_is, memory_is, load_base_is}
 use Rattle.bl_mbi.proofs.MapBodyIs.{map_is}
 
 -- nothing was read
 nothing_read : (left : Left) → AreBytes left.bytes → IsRead left [] left
-nothing_read left small = record { bytes = refl; small = small }
+nothing_read left small = record { bytes = λ _. refl; small = small }
 
 -- one piece after another
-both_read : (l0 l1 l2 : Left) (a b : List ℕ) → IsRead l0 a l1 → IsRead l1 b l2
+pub both_read : (l0 l1 l2 : Left) (a b : List ℕ) → IsRead l0 a l1 → IsRead l1 b l2
     → IsRead l0 (a ++ b) l2
 both_read l0 l1 l2 a b first second =
     record {
-      bytes =
-          first.bytes ∙ ap (λ (xs : List ℕ). a ++ xs) second.bytes
-          ∙ sym (append_assoc a b l2.bytes);
+      bytes = λ more.
+          let after = second.bytes more in
+          let len = length-append b l2.bytes in
+          first.bytes (omega (arith, more, len, ap length after))
+          ∙ ap (λ (xs : List ℕ). a ++ xs) after ∙ sym (append_assoc a b l2.bytes);
       small = second.small;
     }
 
@@ -182,8 +184,8 @@ end_at_is left small h =
     let s1 = made (tag_at 0 left) _ tt h in
     let s2 = passed (not (nat_eq (length s1.0.0) 0)) _ _ tt s1.2 in
     let s3 = passed_last (nat_eq (length s1.0.1.bytes) 0) _ _ tt s2.1 in
-    let whole = tag_is 0 left s1.0 small s1.1 in
-    let no_body : s1.0.0 ≡ [] = drop_all 0 s1.0.0 (grind (arith, nat_tests, not-false _ s2.0)) in
+    let empty : length s1.0.0 ≡ 0 = grind (arith, nat_tests, not-false _ s2.0) in
+    let no_body : s1.0.0 ≡ [] = drop_all 0 s1.0.0 (omega arith) in
     let no_rest : s1.0.1.bytes ≡ [] = drop_all 0 s1.0.1.bytes (grind (arith, nat_tests, s3.0)) in
-    whole.0.bytes ∙ ap₂ (λ (body rest : List ℕ). tag 0 body ++ rest) no_body no_rest
+    empty_tag_is 0 left s1.0 small s1.1 empty ∙ ap₂ (λ (body rest : List ℕ). tag 0 body ++ rest) no_body no_rest
     ∙ append-nil (tag 0 [])

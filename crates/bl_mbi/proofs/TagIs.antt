@@ -1,7 +1,7 @@
 -- A tag that is read is spelled so.
 use Rattle.std.proofs.Common.{◌≡◌, ◌<◌, ◌≤◌, ◌+◌, ◌-◌, ◌%◌, ℕ, true, List, [], ◌∷◌, ◌++◌, length}
 use Rattle.std.proofs.Common.{take, drop, replicate, Ok, arith, rules, refl, sym, ap, ap₂, ◌∙◌}
-use Rattle.std.proofs.Common.{append_assoc}
+use Rattle.std.proofs.Common.{append_assoc, length-drop}
 use Rattle.std.specs.Prelude.{slice_range, ◌==◌, nat_eq, nat_lt, not}
 use Rattle.std.specs.List.{list_all}
 use Rattle.std.proofs.lemmas.Bool.{and_parts, not-false}
@@ -16,9 +16,9 @@ use Rattle.bl_mbi.specs.Fields.{Left, word, tag_at}
 use Rattle.bl_mbi.proofs.Inverse.{passed, same_ok}
 use Rattle.bl_mbi.proofs.WordLaws.{word_then}
 
--- a piece was read, and this is left
+-- a piece was read, and this is left; where that is nothing, the end may have cut the piece
 pub record IsRead (left : Left) (piece : List ℕ) (after : Left) : Type 0 where
-  pub bytes : left.bytes ≡ piece ++ after.bytes
+  pub bytes : 1 ≤ length after.bytes → left.bytes ≡ piece ++ after.bytes
   pub small : AreBytes after.bytes
 
 pub drop_small : (n : ℕ) (bytes : List ℕ) → AreBytes bytes → AreBytes (drop n bytes)
@@ -39,7 +39,7 @@ record IsPassed (kind : ℕ) (left : Left) (read : List ℕ × Left) : Type 0 wh
   long : 8 ≤ length left.bytes
   kind_is : word left.bytes ≡ kind
   large : 8 ≤ word (drop 4 left.bytes)
-  fits : padded (word (drop 4 left.bytes)) ≤ length left.bytes
+  fits : word (drop 4 left.bytes) ≤ length left.bytes
   zeros : list_all (λ b. b == 0)
       (slice_range left.bytes (word (drop 4 left.bytes)) (padded (word (drop 4 left.bytes)))) ≡ true
   body : slice_range left.bytes 8 (word (drop 4 left.bytes)) ≡ read.0
@@ -54,7 +54,7 @@ passes kind left read h =
     let s2 = passed (nat_lt (length left.bytes) 8) _ _ read s1.1 in
     let s3 = passed (not (nat_eq (word left.bytes) kind)) _ _ read s2.1 in
     let s4 = passed (nat_lt size 8) _ _ read s3.1 in
-    let s5 = passed (nat_lt (length left.bytes) (padded size)) _ _ read s4.1 in
+    let s5 = passed (nat_lt (length left.bytes) size) _ _ read s4.1 in
     let s6 =
     passed (not (list_all (λ b. b == 0) (slice_range left.bytes size (padded size)))) _ _ read
     s5.1 in
@@ -70,10 +70,21 @@ passes kind left read h =
       rest = ap (λ (r : List ℕ × Left). r.1.bytes) is;
     }
 
-pub tag_is : (kind : ℕ) (left : Left) (read : List ℕ × Left) → AreBytes left.bytes
-    → tag_at kind left ≡ Ok read → IsRead left (tag kind read.0) read.1 × AreBytes read.0
-tag_is kind left read small h =
-    let p = passes kind left read h in
+-- its size counts type and size and the body
+size_is : (kind : ℕ) (left : Left) (read : List ℕ × Left) → IsPassed kind left read
+    → word (drop 4 left.bytes) ≡ 8 + length read.0
+size_is kind left read p =
+    let size = word (drop 4 left.bytes) in
+    let large = p.large in
+    let fits = p.fits in
+    let body_len : length (slice_range left.bytes 8 size) ≡ size - 8 = search (rules, places) in
+    rw (← p.body) (omega arith)
+
+-- a tag whose padding is all there is spelled so
+whole_tag_is : (kind : ℕ) (left : Left) (read : List ℕ × Left) → AreBytes left.bytes
+    → IsPassed kind left read → padded (word (drop 4 left.bytes)) ≤ length left.bytes
+    → left.bytes ≡ tag kind read.0 ++ read.1.bytes
+whole_tag_is kind left read small p enough =
     let bytes = left.bytes in
     let size = word (drop 4 bytes) in
     let whole = padded size in
@@ -81,7 +92,6 @@ tag_is kind left read small h =
     let pad = slice_range bytes size whole in
     let long = p.long in
     let large = p.large in
-    let fits = p.fits in
     let front : u32_bytes (word bytes) ++ drop 4 bytes ≡ bytes =
     word_then bytes small (omega arith) in
     let second : u32_bytes size ++ drop 4 (drop 4 bytes) ≡ drop 4 bytes =
@@ -111,9 +121,27 @@ tag_is kind left read small h =
     u32_bytes kind ++ (u32_bytes (8 + length body) ++ (body ++ (xs ++ drop whole bytes))))
     pad_is
     ∙ simp append_assoc in
-    let is : IsRead left (tag kind body) record { at = read.1.at; bytes = drop whole bytes }
-    × AreBytes body = (
-      record { bytes = spelled; small = drop_small whole bytes small },
-      take_small (size - 8) (drop 8 bytes) (drop_small 8 bytes small),
-    ) in
-    rw (← p.body, ← p.rest) is
+    rw (← p.body, ← p.rest) spelled
+
+-- where something is left after a tag, its padding is all there
+pub tag_is : (kind : ℕ) (left : Left) (read : List ℕ × Left) → AreBytes left.bytes
+    → tag_at kind left ≡ Ok read → IsRead left (tag kind read.0) read.1 × AreBytes read.0
+tag_is kind left read small h =
+    let p = passes kind left read h in
+    let size = word (drop 4 left.bytes) in
+    let is : IsRead left (tag kind read.0) read.1 = record {
+      bytes = λ more.
+          whole_tag_is kind left read small p
+          (omega (arith, more, length-drop (padded size) left.bytes, ap length p.rest));
+      small = rw (← p.rest) (drop_small (padded size) left.bytes small);
+    } in
+    (is, rw (← p.body) (take_small (size - 8) (drop 8 left.bytes) (drop_small 8 left.bytes small)))
+
+-- a tag with no body has no padding
+pub empty_tag_is : (kind : ℕ) (left : Left) (read : List ℕ × Left) → AreBytes left.bytes
+    → tag_at kind left ≡ Ok read → length read.0 ≡ 0
+    → left.bytes ≡ tag kind read.0 ++ read.1.bytes
+empty_tag_is kind left read small h empty =
+    let p = passes kind left read h in
+    let long = p.long in
+    whole_tag_is kind left read small p (omega (arith, size_is kind left read p))

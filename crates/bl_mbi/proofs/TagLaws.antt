@@ -15,7 +15,7 @@ use Rattle.bl_mbi.proofs.WordLaws.{word_front, behind_word}
 
 -- the checks of a tag, each of which is passed
 tag_at_ok : (kind size : ℕ) (left : Left) → 8 ≤ length left.bytes → word left.bytes ≡ kind
-    → word (drop 4 left.bytes) ≡ size → 8 ≤ size → padded size ≤ length left.bytes
+    → word (drop 4 left.bytes) ≡ size → 8 ≤ size → size ≤ length left.bytes
     → list_all (λ b. b == 0) (slice_range left.bytes size (padded size)) ≡ true
     → tag_at kind left
     ≡ Ok (
@@ -28,7 +28,7 @@ tag_at_ok kind size left long kind_is size_is large fits zeros =
     let not_short : nat_lt (length left.bytes) 8 ≡ false = grind (arith, nat_tests) in
     let same_kind : nat_eq kind kind ≡ true = grind (arith, nat_tests) in
     let not_small : nat_lt size 8 ≡ false = grind (arith, nat_tests) in
-    let not_cut : nat_lt (length left.bytes) (padded size) ≡ false = grind (arith, nat_tests) in
+    let not_cut : nat_lt (length left.bytes) size ≡ false = grind (arith, nat_tests) in
     rw (not_empty, not_short, kind_is, same_kind, size_is, not_small, not_cut, zeros) refl
 
 zeros_only : (n : ℕ) → list_all (λ b. b == 0) (replicate n 0) ≡ true

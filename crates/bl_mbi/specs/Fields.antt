@@ -41,7 +41,8 @@ abbrev pub is_next : ℕ → Left → Bool
 is_next kind left = nat_le 8 (length left.bytes) && (word left.bytes == kind)
 
 -- the body of the tag there, which must be of this type, and what is left after it: type and size
--- take 8 bytes, the size counts them and the body, zeros follow up to a multiple of 8
+-- take 8 bytes, the size counts them and the body, zeros follow up to a multiple of 8. The end may
+-- cut these zeros, and then nothing is left at that multiple.
 unfoldable pub tag_at : ℕ → Left → Result (List ℕ × Left) InfoFault
 tag_at kind left =
     if length left.bytes == 0 then Err (BadOrder left.at) else
@@ -49,7 +50,7 @@ tag_at kind left =
     if not (word left.bytes == kind) then Err (BadOrder left.at) else
     let size = word (drop 4 left.bytes) in
     if nat_lt size 8 then Err (BadTag left.at) else
-    if nat_lt (length left.bytes) (padded size) then Err (BadTag left.at) else
+    if nat_lt (length left.bytes) size then Err (BadTag left.at) else
     let padding = slice_range left.bytes size (padded size) in
     if not (list_all (λ b. b == 0) padding) then Err (BadTag left.at) else
     let after : Left =

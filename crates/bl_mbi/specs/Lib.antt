@@ -1,7 +1,9 @@
 pub mod Bodies
+pub mod Faults
 pub mod Fields
 pub mod Groups
 pub mod InformationFacts
+pub mod ReadGroups
 pub mod Reading
 pub mod Size
 pub mod Spelling

@@ -40,6 +40,23 @@ pub enum InfoFault {
     NoMemory,
 }
 
+impl InfoFault {
+    ghost use Rattle.bl_mbi.specs.Faults.{info_fault_number};
+
+    /// The fault's number, 61 to 65.
+    pub fn number(self) -> u32
+        ensures { result ≡ info_fault_number self }
+    {
+        match self {
+            InfoFault::WrongLength => 61,
+            InfoFault::BadReserved => 62,
+            InfoFault::BadTag(_) => 63,
+            InfoFault::BadOrder(_) => 64,
+            InfoFault::NoMemory => 65,
+        }
+    }
+}
+
 impl From<AllocError> for InfoFault {
     ghost from_gives = { λ _ fault. fault ≡ NoMemory };
 

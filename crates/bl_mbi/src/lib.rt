@@ -10,6 +10,7 @@ mod bodies;
 mod facts;
 mod fault;
 mod format;
+mod groups;
 mod info;
 mod laws;
 mod module;

@@ -9,7 +9,7 @@ use crate::bodies::{are_zeros, load_base_of, map_of, memory_of, module_of, text_
 use crate::fault::InfoFault;
 use crate::format::{TAG_BASIC_MEMORY, TAG_END, TAG_LOAD_BASE, TAG_MEMORY_MAP, TAG_MODULE};
 use crate::module::Module;
-use crate::rest::Rest;
+use crate::rest::{Rest, behind, first};
 use bl_map::Region;
 use bl_mem::Bytes;
 use std::alloc::Allocator;
@@ -42,15 +42,15 @@ fn tag_at<'a>(kind: u32, rest: Rest<'a>) -> Result<(&'a [u8], Rest<'a>), InfoFau
     if size < 8 {
         return Err(InfoFault::BadTag(rest.at));
     }
-    if rest.bytes.len() < whole {
+    if rest.bytes.len() < size {
         return Err(InfoFault::BadTag(rest.at));
     }
-    if !are_zeros(&rest.bytes[size..whole]) {
+    if !are_zeros(first(behind(rest.bytes, size), whole - size)) {
         return Err(InfoFault::BadTag(rest.at));
     }
     let after = Rest {
         at: rest.at + whole as u64,
-        bytes: &rest.bytes[whole..],
+        bytes: behind(rest.bytes, whole),
     };
     Ok((&rest.bytes[8..size], after))
 }

@@ -8,26 +8,18 @@ ghost use Rattle.bl_mbi.specs.Reading as spec;
 
 use crate::bodies::word;
 use crate::fault::InfoFault;
-use crate::format::{TAG_ACPI_NEW, TAG_ACPI_OLD, TAG_BOOT_LOADER_NAME, TAG_COMMAND_LINE};
+use crate::groups::{last_at, map_tags_at, texts_at};
 use crate::info::Info;
-use crate::read::{copy_at, end_at, load_base_at, map_at, memory_at, modules_at, text_tag_at};
 use crate::rest::Rest;
 use std::alloc::Allocator;
 
 /// What the tags tell.
-#[tactic(auto, unfolding(crate::specs::Reading::tags_of))]
 fn tags_of<A: Allocator + Copy>(alloc: A, rest: Rest) -> Result<Info<A>, InfoFault>
     ensures { Gives (λ info. info) result (spec.tags_of (left_of rest.entry)) }
 {
-    let (line, rest) = text_tag_at(alloc, TAG_COMMAND_LINE, rest)?;
-    let (name, rest) = text_tag_at(alloc, TAG_BOOT_LOADER_NAME, rest)?;
-    let (modules, rest) = modules_at(alloc, rest)?;
-    let ((mem_lower, mem_upper), rest) = memory_at(rest)?;
-    let (runs, rest) = map_at(alloc, rest)?;
-    let (rsdp_old, rest) = copy_at(alloc, TAG_ACPI_OLD, rest)?;
-    let (rsdp_new, rest) = copy_at(alloc, TAG_ACPI_NEW, rest)?;
-    let (load_base, rest) = load_base_at(rest)?;
-    end_at(rest)?;
+    let ((line, name, modules), rest) = texts_at(alloc, rest)?;
+    let (((mem_lower, mem_upper), runs), rest) = map_tags_at(alloc, rest)?;
+    let (rsdp_old, rsdp_new, load_base) = last_at(alloc, rest)?;
     Ok(Info {
         name,
         line,

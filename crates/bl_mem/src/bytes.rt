@@ -1,11 +1,11 @@
 //! Bytes that a value owns.
-ghost use Rattle.std.specs.Prelude.{◌≡◌, ◌==◌, ℕ, List, length, IfOk};
+ghost use Rattle.std.specs.Prelude.{◌≡◌, ◌==◌, ◌<◌, ℕ, List, length, All, IfOk};
 
 use std::alloc::{AllocError, Allocator};
 use std::marker::Model;
 
-/// A vector of bytes whose room does not count: contracts see the list alone. To wrap a vector, and
-/// to get it back, takes no memory.
+/// A vector of bytes whose room does not count: contracts see the list alone, in which each number
+/// is below 256. To wrap a vector, and to get it back, takes no memory.
 #[derive(Drop)]
 pub struct Bytes<A: Allocator> {
     held: Vec<u8, A>,
@@ -15,6 +15,8 @@ impl<A: Allocator> Model for Bytes<A> {
     ghost Value = { List ℕ };
 
     ghost view = { λ bytes. bytes.held.items };
+
+    ghost invariant = { λ bytes. All (λ b. b < 256) bytes.held.items };
 }
 
 impl<A: Allocator> Bytes<A> {
@@ -46,6 +48,13 @@ impl<A: Allocator> Bytes<A> {
         ensures { result ≡ (length self.now == 0) }
     {
         self.held.is_empty()
+    }
+
+    /// Nothing is done: for what it ensures, which is true of each value.
+    pub fn are_bytes(&self)
+        ensures { All (λ b. b < 256) self.now }
+    {
+        let _ = &self.held;
     }
 
     /// The vector that was wrapped.

@@ -47,7 +47,7 @@ number_same n at xs ys same =
     ∙ sym (drop_index ys at j))
 
 -- a number's bytes are that number
-number_told : (n at x : ℕ) (bytes : List ℕ) → x < 256 ^ n
+pub number_told : (n at x : ℕ) (bytes : List ℕ) → x < 256 ^ n
     → ((k : ℕ) → at ≤ k → k < at + n
     → slice_index bytes k ≡ slice_index (number_bytes n x) (k - at)) → number_at n bytes at ≡ x
 unfolding number_at number_bytes

@@ -11,3 +11,6 @@ pub mod WrittenIsRead
 pub mod ParamsLaws
 pub mod Lengths
 pub mod RunLemmas
+pub mod PagingLemmas
+pub mod TranslationLemmas
+pub mod PagingLaws

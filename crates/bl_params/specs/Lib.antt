@@ -1,8 +1,11 @@
 pub mod BootParamsFacts
 pub mod ParamsFacts
+pub mod Faults
 pub mod Fields
 pub mod BootParams
 pub mod Gdt
+pub mod Paging
+pub mod Translation
 pub mod Form
 pub mod Reading
 pub mod Kept

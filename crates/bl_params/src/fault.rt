@@ -22,6 +22,21 @@ pub enum ParamFault {
     NoMemory,
 }
 
+impl ParamFault {
+    ghost use Rattle.bl_params.specs.Faults.{param_fault_number};
+
+    /// The fault's number, 66 to 68.
+    pub fn number(self) -> u32
+        ensures { result ≡ param_fault_number self }
+    {
+        match self {
+            ParamFault::WrongLength => 66,
+            ParamFault::BadParams(_) => 67,
+            ParamFault::NoMemory => 68,
+        }
+    }
+}
+
 impl From<AllocError> for ParamFault {
     ghost from_gives = { λ _ fault. fault ≡ NoMemory };
 

@@ -1,11 +1,14 @@
 //! Laws of the definitions.
-ghost use Rattle.std.specs.Prelude.{◌≡◌, ◌^◌, ◌≤◌, ℕ, List, length, take, All};
+ghost use Rattle.std.specs.Prelude.{◌≡◌, ◌^◌, ◌+◌, ◌<◌, ◌≤◌, ℕ, List, length, take, All};
+ghost use Rattle.std.specs.Prelude.{None, Some};
 ghost use Rattle.bl_map.specs.Kinds.{end_of};
 ghost use Rattle.bl_bzimage.specs.declared.setup.Setup.{Setup};
 ghost use Rattle.bl_bzimage.specs.Setup.{IsSetup};
 ghost use Rattle.bl_params.specs.BootParams.{boot_params};
 ghost use Rattle.bl_params.specs.BootParamsFacts.{BootParamsFacts, AreTold};
 ghost use Rattle.bl_params.specs.Gdt.{gdt, gdt_part};
+ghost use Rattle.bl_params.specs.Paging.{paging};
+ghost use Rattle.bl_params.specs.Translation.{translation};
 ghost use Rattle.bl_params.specs.Reading.{IsParams, HasFirstFault};
 ghost use Rattle.bl_params.specs.ParamsFacts.{ParamsFacts};
 ghost use Rattle.bl_params.specs.declared.fault.ParamFault.{ParamFault};
@@ -41,4 +44,13 @@ pub fn runs_end_low()
 pub fn gdt_part_begins_with_gdt()
     ensures front { take 32 gdt_part ≡ gdt }
     ensures long { length gdt_part ≡ 4096 }
+{}
+
+/// The page tables at an address whose six frames end at most at 2^32 translate each address below
+/// 2^32 to itself, and no other.
+pub fn paging_keeps_addresses()
+    ensures below { (base a : ℕ) → base + 0x6000 ≤ 2 ^ 32 → a < 2 ^ 32
+        → translation (paging base) base a ≡ Some a }
+    ensures above { (base a : ℕ) → base + 0x6000 ≤ 2 ^ 32 → 2 ^ 32 ≤ a
+        → translation (paging base) base a ≡ None }
 {}

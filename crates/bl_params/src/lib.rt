@@ -3,21 +3,30 @@
 
 mod checks;
 mod descriptors;
+mod descriptors64;
 mod entries;
 mod facts;
 mod fault;
 mod fields;
 mod laws;
 mod numbers;
+mod paging;
 mod params;
 mod put;
 mod reader;
+mod translation;
 mod write;
 
 pub use descriptors::gdt;
+pub use descriptors64::gdt64;
 pub use facts::ParamFacts;
 pub use fault::ParamFault;
-pub use laws::{gdt_part_begins_with_gdt, params_are_determined, runs_end_low, written_is_read};
+pub use laws::{
+    gdt_part_begins_with_gdt, paging_keeps_addresses, params_are_determined, runs_end_low,
+    written_is_read,
+};
+pub use paging::page_tables;
 pub use params::Params;
 pub use reader::read_params;
+pub use translation::translate;
 pub use write::write_params;

@@ -5,7 +5,7 @@
 //! is the input and the wanted output at once. The language of rows stands in README.md.
 #![tactic(auto)]
 
-use bl_row_boots::AllCalls;
+use bl_row_boots::calls::AllCalls;
 use bl_rows::session::Session;
 use std::io;
 use std::io::{BufRead, BufReader, BufWriter, Write};

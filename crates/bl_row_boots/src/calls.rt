@@ -1,32 +1,33 @@
 //! The calls, by their names.
 
-mod upper;
-
-use bl_refusing::Refusing;
-use bl_rows::calls::{Argument, Calls};
-use bl_rows::fault::RowFault;
-use bl_rows::session::Session;
-use std::alloc::Global;
+use crate::{boot, walk_to};
+use bl_row_parts::calls;
+use bl_rows::calls::Calls;
+use bl_rows::row::Row;
 
 /// All calls that a row can name.
 pub struct AllCalls;
 
 impl Calls for AllCalls {
     fn takes_bytes(&self, name: &str) -> bool {
-        bl_row_parts::calls::upper::takes_bytes(name)
+        calls::takes_bytes(name)
     }
 
-    fn make(
-        &self,
-        alloc: Global,
-        heap: &Refusing,
-        session: &mut Session,
-        name: &str,
-        argument: Argument<'_>,
-    ) -> Result<String, RowFault> {
-        match argument {
-            Argument::Words(words) => upper::make_plain(alloc, heap, session, name, words),
-            Argument::Bytes(bytes) => upper::make_over(alloc, heap, session, name, bytes),
+    fn make_plain(&self, row: &mut Row<'_>) {
+        match row.word() {
+            "fetch" => boot::answer_fetch(row),
+            name => calls::make_plain(row, name),
+        }
+    }
+
+    fn make_over(&self, row: &mut Row<'_>) {
+        match row.word() {
+            "walk_to" => walk_to::answer(row),
+            "walks_to" => walk_to::answer_each(row),
+            "boot" => boot::answer_boot(row),
+            "boots" => boot::answer_boots(row),
+            "map" => boot::answer_map(row),
+            name => calls::make_over(row, name),
         }
     }
 }

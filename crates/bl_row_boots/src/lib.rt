@@ -1,7 +1,8 @@
-//! Rows on boots: menus, runs, sessions, whole boots and walks. With them stand all calls that a
-//! row can name. For tests alone.
+//! Rows on whole boots and walks; and all calls together. For tests alone.
 #![tactic(auto)]
 
-mod calls;
-
-pub use calls::AllCalls;
+mod beside;
+mod boot;
+pub mod calls;
+mod long_files;
+mod walk_to;

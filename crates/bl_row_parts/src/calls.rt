@@ -1,3 +1,49 @@
-//! The calls, by their names.
+//! The calls on an entry, by their names. Every other call is one of bl_rows.
 
-pub mod upper;
+use crate::{
+    describe, handoff, image, line, read_image, read_info, refusal, sink, walk, write_info,
+};
+use crate::attempts::{menu, run, steps};
+use bl_rows::calls;
+use bl_rows::row::Row;
+
+/// Whether the words after this name are bytes, and nothing else.
+pub fn takes_bytes(name: &str) -> bool {
+    match name {
+        "describe" | "read_info" | "read_image" | "image_fault" | "walk" => true,
+        _ => calls::takes_bytes(name),
+    }
+}
+
+/// Makes a call of this name, whose words are left in the row.
+pub fn make_plain(row: &mut Row<'_>, name: &str) {
+    match name {
+        "refusal" => refusal::answer(row),
+        "sink" => sink::answer(row),
+        "line" => line::answer(row),
+        "menu" => menu::answer(row),
+        "run" => run::answer(row),
+        "session" => steps::answer(row),
+        _ => calls::make_plain(row, name),
+    }
+}
+
+/// Makes a call of this name over the row's bytes.
+pub fn make_over(row: &mut Row<'_>, name: &str) {
+    match name {
+        "read_info" => read_info::answer(row),
+        "write_info" => write_info::answer(row),
+        "prepare" => handoff::answer_prepare(row),
+        "load" => handoff::answer_load(row),
+        "image" => image::answer(row),
+        "images" => image::answer_each(row),
+        "image_of" => image::answer_held(row),
+        "read_image" => read_image::answer(row),
+        "image_fault" => read_image::answer_fault(row),
+        "read_images" => read_image::answer_each(row),
+        "walk" => walk::answer(row),
+        "describe" => describe::answer(row),
+        "named" => describe::answer_named(row),
+        _ => calls::make_over(row, name),
+    }
+}

@@ -1,5 +1,20 @@
 //! Rows on one entry: boot information, its handover, images, what a kernel sees, the command line,
-//! descriptions. For tests alone.
+//! descriptions; and on menus and their attempts. For tests alone.
 #![tactic(auto)]
 
+mod attempts;
 pub mod calls;
+mod describe;
+mod entry;
+mod handoff;
+mod image;
+mod line;
+mod pairs;
+mod prepared;
+mod read_image;
+mod read_info;
+mod refusal;
+mod sink;
+pub mod source;
+mod walk;
+mod write_info;

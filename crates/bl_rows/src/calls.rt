@@ -4,7 +4,6 @@ mod elf;
 mod facts;
 mod frames;
 mod header;
-mod laws;
 mod linux;
 pub mod machine;
 pub mod memory;
@@ -19,35 +18,18 @@ mod staging;
 mod table;
 mod view;
 
-use crate::fault::RowFault;
-use crate::parse::split_word;
-use crate::session::Session;
-use bl_refusing::Refusing;
-pub use laws::call_laws;
-use std::alloc::Global;
-
-/// What a call is made with: bytes, which were read from their pieces, or the words after its
-/// name.
-#[derive(Clone, Copy)]
-pub enum Argument<'a> {
-    Bytes(&'a [u8]),
-    Words(&'a str),
-}
+use crate::row::Row;
 
 /// The calls that rows can name.
 pub trait Calls {
     /// Whether the words after this name are bytes, and nothing else.
     fn takes_bytes(&self, name: &str) -> bool;
 
-    /// Makes a call over the heap, once.
-    fn make(
-        &self,
-        alloc: Global,
-        heap: &Refusing,
-        session: &mut Session,
-        name: &str,
-        argument: Argument<'_>,
-    ) -> Result<String, RowFault>;
+    /// Makes a call `NAME WORDS`, once.
+    fn make_plain(&self, row: &mut Row<'_>);
+
+    /// Makes a call `NAME WORDS of BYTES`, or `NAME BYTES` without words, once.
+    fn make_over(&self, row: &mut Row<'_>);
 }
 
 /// Whether the words after this name are bytes, and nothing else.
@@ -59,51 +41,40 @@ pub fn takes_bytes(name: &str) -> bool {
     }
 }
 
-/// Makes a call `NAME WORDS` over the heap, once.
-pub fn make_plain(
-    alloc: Global,
-    heap: &Refusing,
-    session: &mut Session,
-    name: &str,
-    words: &str,
-) -> Result<String, RowFault> {
-    match (name, words) {
-        ("machine", words) => machine::answer(alloc, heap, session, words),
-        ("normal", "") => normal::answer(alloc, heap, session),
-        ("facts", words) => facts::answer(alloc, heap, session, words),
-        ("frames", words) => frames::answer(alloc, words),
-        ("plan", steps) => plan::answer(alloc, heap, session, steps),
-        ("places", rows) => places::answer(alloc, heap, session, rows),
-        ("kind", digits) => table::answer_kind(alloc, digits),
-        ("numbers", "") => table::answer(alloc),
-        ("memory", words) => memory::answer(alloc, heap, session, words),
-        ("sparse", words) => memory::answer_sparse(alloc, heap, session, words),
-        ("holds", words) => segments::answer_holds(alloc, words),
-        ("order", words) => segments::answer_order(alloc, heap, words),
-        ("stage", words) => stage::answer(alloc, heap, session, words),
-        ("sparse_stage", words) => stage::answer_sparse(alloc, heap, session, words),
-        ("spell", words) => spell::answer(alloc, session, words),
-        ("view", words) => view::answer(alloc, session, words),
-        ("gdt", "") => linux::answer_gdt(alloc),
-        _ => Err(RowFault::BadRow),
+/// Makes a call of this name, whose words are left in the row.
+pub fn make_plain(row: &mut Row<'_>, name: &str) {
+    match name {
+        "machine" => machine::answer(row),
+        "normal" => normal::answer(row),
+        "facts" => facts::answer(row),
+        "frames" => frames::answer(row),
+        "plan" => plan::answer(row),
+        "places" => places::answer(row),
+        "kind" => table::answer_kind(row),
+        "numbers" => table::answer(row),
+        "memory" => memory::answer(row),
+        "sparse" => memory::answer_sparse(row),
+        "holds" => segments::answer_holds(row),
+        "order" => segments::answer_order(row),
+        "stage" => stage::answer(row),
+        "sparse_stage" => stage::answer_sparse(row),
+        "spell" => spell::answer(row),
+        "view" => view::answer(row),
+        "gdt" => linux::answer_gdt(row),
+        _ => row.refuse(),
     }
 }
 
-/// Makes a call `NAME WORDS of BYTES`, or `NAME BYTES` without words, over the heap, once.
-pub fn make_over(
-    alloc: Global,
-    heap: &Refusing,
-    call: &str,
-    bytes: &[u8],
-) -> Result<String, RowFault> {
-    match split_word(call) {
-        ("elf", "") => elf::answer(alloc, heap, bytes),
-        ("header", "") => header::answer(alloc, bytes),
-        ("own", "") => own::answer(alloc, heap, bytes),
-        ("read_setup", "") => linux::answer_setup(alloc, bytes),
-        ("setup_fault", "") => linux::answer_fault(alloc, bytes),
-        ("read_params", "") => linux::answer_read(alloc, heap, bytes),
-        ("write_params", words) => linux::answer_write(alloc, words, bytes),
-        _ => Err(RowFault::BadRow),
+/// Makes a call of this name over the row's bytes.
+pub fn make_over(row: &mut Row<'_>, name: &str) {
+    match name {
+        "elf" => elf::answer(row),
+        "header" => header::answer(row),
+        "own" => own::answer(row),
+        "read_setup" => linux::answer_setup(row),
+        "setup_fault" => linux::answer_fault(row),
+        "read_params" => linux::answer_read(row),
+        "write_params" => linux::answer_write(row),
+        _ => row.refuse(),
     }
 }

@@ -2,15 +2,13 @@
 //! below an entry's handover. For tests alone.
 #![tactic(auto)]
 
-pub mod bytes;
 pub mod calls;
-mod changed;
-pub mod fault;
 mod line;
-pub mod parse;
+pub mod pieces;
+mod reading;
+pub mod row;
 pub mod runs;
+mod saying;
 pub mod session;
-pub mod show;
 mod sweep;
-pub mod unasked;
 mod way;

@@ -17,8 +17,14 @@ pub enum Line<'a> {
     Bad,
 }
 
+/// The first word, and what follows it, which may be nothing.
+pub fn split_word(text: &str) -> (&str, &str) {
+    let (word, rest) = text.split_once(" ").unwrap_or((text, ""));
+    (word, rest.trim())
+}
+
 fn read_let(rest: &str) -> Line<'_> {
-    match rest.split_once('=') {
+    match rest.split_once("=") {
         Some((name, pieces)) => Line::Let {
             name: name.trim(),
             pieces: pieces.trim(),
@@ -27,21 +33,11 @@ fn read_let(rest: &str) -> Line<'_> {
     }
 }
 
-fn read_more(rest: &str) -> Line<'_> {
-    match rest.strip_prefix(' ') {
-        Some(line) => Line::More { line },
-        None => Line::More { line: rest },
-    }
-}
-
 fn read_row(line: &str) -> Line<'_> {
-    let Some((sentence, rest)) = line.split_once('|') else {
+    let Some((sentence, rest)) = line.split_once("|") else {
         return Line::Bad;
     };
-    let call = match rest.split_once('|') {
-        Some((call, _)) => call,
-        None => rest,
-    };
+    let (call, _answer) = rest.split_once("|").unwrap_or((rest, ""));
     Line::Row {
         sentence: sentence.trim(),
         call: call.trim(),
@@ -50,11 +46,13 @@ fn read_row(line: &str) -> Line<'_> {
 
 /// What a line is.
 pub fn read_line(line: &str) -> Line<'_> {
-    if line.is_empty() || line.starts_with('#') {
+    if line.is_empty() || line.starts_with("#") {
         return Line::Plain;
     }
-    if let Some(rest) = line.strip_prefix('>') {
-        return read_more(rest);
+    if let Some(rest) = line.strip_prefix(">") {
+        return Line::More {
+            line: rest.strip_prefix(" ").unwrap_or(rest),
+        };
     }
     if let Some(rest) = line.strip_prefix("let ") {
         return read_let(rest);

@@ -2,77 +2,86 @@
 
 use std::alloc::{AllocError, Global};
 
-/// Numbered answers, one text for each longest run of equal ones: `0..f: ANSWER; 10: ANSWER`.
+/// Numbered answers, one text for each longest run of equal ones: `0..f: ANSWER; 10: ANSWER`. Want
+/// of memory is kept until the end.
 #[derive(Drop)]
 pub struct Runs {
-    alloc: Global,
     is_hexadecimal: bool,
     text: String,
+    is_short: bool,
 
-    // The run that goes on: none while nothing was added.
+    // The run that goes on.
+    is_begun: bool,
     first: u64,
     last: u64,
-    answer: Option<String>,
+    answer: String,
 }
 
 impl Runs {
     /// No answers yet. Their numbers are written hexadecimal, or decimal.
     pub fn new(alloc: Global, is_hexadecimal: bool) -> Runs {
         Runs {
-            alloc,
             is_hexadecimal,
             text: String::new(alloc),
+            is_short: false,
+            is_begun: false,
             first: 0,
             last: 0,
-            answer: None,
+            answer: String::new(alloc),
         }
     }
 
-    /// The numbers of the run.
-    fn numbers(&self) -> Result<String, AllocError> {
-        let alloc = self.alloc;
-        let first = self.first;
-        let last = self.last;
-        match (self.is_hexadecimal, first == last) {
-            (true, true) => format!(in alloc; "{first:x}"),
-            (true, false) => format!(in alloc; "{first:x}..{last:x}"),
-            (false, true) => format!(in alloc; "{first}"),
-            (false, false) => format!(in alloc; "{first}..{last}"),
+    fn push_number(&mut self, number: u64) {
+        let pushed = if self.is_hexadecimal {
+            write!(self.text, "{number:x}")
+        } else {
+            write!(self.text, "{number}")
+        };
+        self.is_short = self.is_short || pushed.is_err();
+    }
+
+    fn push(&mut self, text: &str) {
+        if self.text.push_str(text).is_err() {
+            self.is_short = true;
         }
     }
 
     /// Writes the run that goes on, if there is one.
-    fn end_run(&mut self) -> Result<(), AllocError> {
-        let Some(answer) = self.answer.take() else {
-            return Ok(());
-        };
-        if !self.text.is_empty() {
-            self.text.push_str("; ")?;
+    fn end_run(&mut self) {
+        if !self.is_begun {
+            return;
         }
-        let numbers = self.numbers()?;
-        self.text.push_str(numbers.as_str())?;
-        self.text.push_str(": ")?;
-        self.text.push_str(answer.as_str())
+        if !self.text.is_empty() {
+            self.push("; ");
+        }
+        self.push_number(self.first);
+        if self.first != self.last {
+            self.push("..");
+            self.push_number(self.last);
+        }
+        self.push(": ");
+        if self.text.push_str(self.answer.as_str()).is_err() {
+            self.is_short = true;
+        }
     }
 
     /// Adds the answer of a call, whose number follows that of the call before.
-    pub fn add(&mut self, number: u64, answer: String) -> Result<(), AllocError> {
-        let goes_on = match &self.answer {
-            Some(before) => before.as_str() == answer.as_str(),
-            None => false,
-        };
-        if !goes_on {
-            self.end_run()?;
+    pub fn add(&mut self, number: u64, answer: String) {
+        if !self.is_begun || self.answer.as_str() != answer.as_str() {
+            self.end_run();
+            self.is_begun = true;
             self.first = number;
-            self.answer = Some(answer);
+            self.answer = answer;
         }
         self.last = number;
-        Ok(())
     }
 
     /// The line.
     pub fn finish(mut self) -> Result<String, AllocError> {
-        self.end_run()?;
+        self.end_run();
+        if self.is_short {
+            return Err(AllocError);
+        }
         Ok(self.text)
     }
 }

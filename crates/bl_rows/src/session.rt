@@ -1,11 +1,11 @@
 //! What earlier lines leave for later ones.
 
-use crate::bytes::{Names, bytes_of};
 use crate::calls::Calls;
 use crate::calls::machine::MachineRow;
-use crate::fault::RowFault;
-use crate::line::{Line, read_line};
-use crate::sweep::answer_call;
+use crate::line::{Line, read_line, split_word};
+use crate::pieces::{Names, Pieces};
+use crate::sweep::Sweep;
+use crate::way::read_way;
 use std::alloc::{AllocError, Global};
 use std::collections::BTreeMap;
 
@@ -13,7 +13,7 @@ use std::collections::BTreeMap;
 /// that was accepted.
 #[derive(Drop)]
 pub struct Session {
-    alloc: Global,
+    pub alloc: Global,
     text: Option<String>,
     pub names: Names,
     pub machine: Option<MachineRow>,
@@ -30,57 +30,77 @@ impl Session {
         }
     }
 
-    /// Gives bytes a name.
-    fn name_bytes(&mut self, name: &str, pieces: &str) -> Result<(), RowFault> {
-        let bytes = bytes_of(self.alloc, &self.names, pieces)?;
+    /// Gives bytes a name. Whether these words are bytes.
+    fn name_bytes(&mut self, name: &str, words: &str) -> Result<bool, AllocError> {
+        let mut pieces = Pieces::new(self.alloc, &self.names);
+        pieces.add(words);
+        if pieces.is_short() {
+            return Err(AllocError);
+        }
+        if pieces.is_bad() {
+            return Ok(false);
+        }
+        let bytes = pieces.finish();
         let name = String::from_str(self.alloc, name)?;
         self.names.insert(name, bytes)?;
-        Ok(())
+        Ok(true)
     }
 
     /// Begins a text, which is empty so far.
-    fn begin_text(&mut self, name: &str) -> Result<(), RowFault> {
-        self.name_bytes(name, "")?;
+    fn begin_text(&mut self, name: &str) -> Result<bool, AllocError> {
         self.text = Some(String::from_str(self.alloc, name)?);
-        Ok(())
+        self.name_bytes(name, "")
     }
 
-    /// Appends a line, and its line feed, to the text that was begun last.
-    fn add_line(&mut self, line: &str) -> Result<(), RowFault> {
-        let name = self.text.as_ref().ok_or(RowFault::BadRow)?;
-        let bytes = self.names.get_mut(name.as_str()).ok_or(RowFault::BadRow)?;
+    /// Appends a line, and its line feed, to the text that was begun last. Whether one was.
+    fn add_line(&mut self, line: &str) -> Result<bool, AllocError> {
+        let Some(name) = &self.text else {
+            return Ok(false);
+        };
+        let Some(bytes) = self.names.get_mut(name.as_str()) else {
+            return Ok(false);
+        };
         bytes.extend_from_slice(line.as_bytes())?;
         bytes.push(b'\n')?;
-        Ok(())
+        Ok(true)
+    }
+
+    /// What a row's call answers.
+    fn answer_call<C: Calls>(&mut self, calls: &C, words: &str) -> Result<String, AllocError> {
+        let (way, call) = read_way(words);
+        let (name, words) = split_word(call);
+        let (call, over) = match call.split_once(" of ") {
+            Some((call, bytes)) => (call, Some(bytes)),
+            None if calls.takes_bytes(name) => (name, Some(words)),
+            None => (call, None),
+        };
+        let mut sweep = Sweep::new(self, call, over);
+        sweep.make(calls, way);
+        let made = sweep.made.take();
+        let answer = sweep.finish();
+        if made.is_some() {
+            self.machine = made;
+        }
+        answer
     }
 
     /// The line as it is written: a row with its answer, every other line as it stands.
     pub fn answer_line<C: Calls>(&mut self, calls: &C, line: &str) -> Result<String, AllocError> {
         let alloc = self.alloc;
-        let done = match read_line(line) {
-            Line::Plain => Ok(()),
-            Line::Bad => Err(RowFault::BadRow),
-            Line::Let { name, pieces } => self.name_bytes(name, pieces),
-            Line::Text { name } => self.begin_text(name),
-            Line::More { line } => self.add_line(line),
+        let is_read = match read_line(line) {
+            Line::Plain => true,
+            Line::Bad => false,
+            Line::Let { name, pieces } => self.name_bytes(name, pieces)?,
+            Line::Text { name } => self.begin_text(name)?,
+            Line::More { line } => self.add_line(line)?,
             Line::Row { sentence, call } => {
-                let answer = in_words(alloc, answer_call(alloc, calls, self, call))?;
+                let answer = self.answer_call(calls, call)?;
                 return format!(in alloc; "{sentence} | {call} | {answer}");
             }
         };
-        match done {
-            Ok(()) => String::from_str(alloc, line),
-            Err(RowFault::BadRow) => format!(in alloc; "{line} | bad row"),
-            Err(RowFault::NoMemory) => Err(AllocError),
+        if is_read {
+            return String::from_str(alloc, line);
         }
-    }
-}
-
-/// An answer, or `bad row` in its place.
-fn in_words(alloc: Global, answer: Result<String, RowFault>) -> Result<String, AllocError> {
-    match answer {
-        Ok(text) => Ok(text),
-        Err(RowFault::BadRow) => String::from_str(alloc, "bad row"),
-        Err(RowFault::NoMemory) => Err(AllocError),
+        format!(in alloc; "{line} | bad row")
     }
 }

@@ -1,194 +1,231 @@
-//! How often a call is made, and over which memory.
+//! How often a row's call is made, over which memory and which bytes.
 
-use crate::bytes::bytes_of;
-use crate::calls::{Argument, Calls};
-use crate::changed::{with_set, with_swapped};
-use crate::fault::RowFault;
-use crate::parse::split_word;
+use crate::calls::Calls;
+use crate::calls::machine::MachineRow;
+use crate::pieces::Pieces;
+use crate::row::Row;
 use crate::runs::Runs;
 use crate::session::Session;
-use crate::unasked::mark_unasked;
-use crate::way::{Way, read_way};
+use crate::way::Way;
 use bl_refusing::Refusing;
-use std::alloc::Global;
-use std::ops::Range;
+use std::alloc::{AllocError, Global};
 
 /// More requests than any call of a row makes.
 const REQUESTS: u64 = 100_000;
 
-/// What a call said, and whether a request of its was refused.
+/// What a call is made over: memory, and the first of some bytes.
+#[derive(Drop)]
+struct Over {
+    heap: Refusing,
+    bytes: Vec<u8>,
+    length: usize,
+}
+
+/// A call that is made over and over, and its last answer.
+#[derive(Drop)]
+pub struct Sweep<'s, 'c> {
+    alloc: Global,
+    session: &'s Session,
+    call: &'c str,
+    is_over_bytes: bool,
+    bytes: Vec<u8>,
+
+    /// The machine that the last call made.
+    pub made: Option<MachineRow>,
+    text: String,
+    was_refused: bool,
+    is_bad: bool,
+    is_short: bool,
+}
+
+/// What a call that was made leaves.
 #[derive(Drop)]
 struct Said {
     text: String,
-    was_refused: bool,
+    made: Option<MachineRow>,
+    is_bad: bool,
+    is_short: bool,
 }
 
-/// Makes the call where its `nth` request is refused and all after it; at 0 none is. Its answer
-/// tells if memory ran out though nothing was refused, and if a block was not given back.
-fn once<C: Calls>(
-    alloc: Global,
+/// Makes a call once. Its answer tells if memory ran out though nothing was refused, and if a
+/// block was not given back.
+fn make<'a, C: Calls>(
     calls: &C,
-    session: &mut Session,
-    nth: u64,
-    name: &str,
-    argument: Argument<'_>,
-) -> Result<Said, RowFault> {
-    let heap = Refusing::new(alloc, nth);
-    let mut text = calls.make(alloc, &heap, session, name, argument)?;
-    let was_refused = heap.has_refused();
-    mark_unasked(&heap, 0, &mut text)?;
-    if heap.held() != 0 {
-        text.push_str(", and leaks")?;
+    over: &'a Over,
+    session: &'a Session,
+    call: &'a str,
+    is_over_bytes: bool,
+) -> Said {
+    let bytes = over.bytes.as_slice();
+    let bytes = &bytes[..over.length.min(bytes.len())];
+    let mut row = Row::new(&over.heap, session, call, bytes);
+    if is_over_bytes {
+        calls.make_over(&mut row);
+    } else {
+        calls.make_plain(&mut row);
     }
-    Ok(Said { text, was_refused })
-}
-
-fn each_refusal<C: Calls>(
-    alloc: Global,
-    calls: &C,
-    session: &mut Session,
-    name: &str,
-    argument: Argument<'_>,
-) -> Result<String, RowFault> {
-    let mut runs = Runs::new(alloc, false);
-    for nth in 1..REQUESTS {
-        let said = once(alloc, calls, session, nth, name, argument)?;
-        let was_refused = said.was_refused;
-        runs.add(nth, said.text)?;
-        if !was_refused {
-            return Ok(runs.finish()?);
-        }
+    row.end();
+    row.mark_unasked(0);
+    if over.heap.held() != 0 {
+        row.say(", and leaks");
     }
-    Err(RowFault::BadRow)
-}
-
-fn each_cut<C: Calls>(
-    alloc: Global,
-    calls: &C,
-    session: &mut Session,
-    name: &str,
-    bytes: &[u8],
-) -> Result<String, RowFault> {
-    let mut runs = Runs::new(alloc, true);
-    for length in 0..bytes.len() + 1 {
-        let argument = Argument::Bytes(&bytes[..length]);
-        let said = once(alloc, calls, session, 0, name, argument)?;
-        runs.add(length as u64, said.text)?;
-    }
-    Ok(runs.finish()?)
-}
-
-fn each_set<C: Calls>(
-    alloc: Global,
-    calls: &C,
-    session: &mut Session,
-    value: u8,
-    name: &str,
-    bytes: &[u8],
-) -> Result<String, RowFault> {
-    let mut runs = Runs::new(alloc, true);
-    for at in 0..bytes.len() {
-        let changed = with_set(alloc, bytes, at, value)?;
-        let argument = Argument::Bytes(changed.as_slice());
-        let said = once(alloc, calls, session, 0, name, argument)?;
-        runs.add(at as u64, said.text)?;
-    }
-    Ok(runs.finish()?)
-}
-
-fn each_swap<C: Calls>(
-    alloc: Global,
-    calls: &C,
-    session: &mut Session,
-    fields: Range<u64>,
-    name: &str,
-    bytes: &[u8],
-) -> Result<String, RowFault> {
-    let at = fields.start as usize;
-    if at % 2 != 0 {
-        return Err(RowFault::BadRow);
-    }
-    let mut runs = Runs::new(alloc, true);
-    for half in 0..bytes.len() / 2 {
-        let by = half * 2;
-        if at < by && (by as u64) < fields.end {
-            let changed = with_swapped(alloc, bytes, at, by)?;
-            let argument = Argument::Bytes(changed.as_slice());
-            let said = once(alloc, calls, session, 0, name, argument)?;
-            runs.add(by as u64, said.text)?;
-        }
-    }
-    Ok(runs.finish()?)
-}
-
-fn answer_once<C: Calls>(
-    alloc: Global,
-    calls: &C,
-    session: &mut Session,
-    nth: u64,
-    name: &str,
-    argument: Argument<'_>,
-) -> Result<String, RowFault> {
-    Ok(once(alloc, calls, session, nth, name, argument)?.text)
-}
-
-fn answer_words<C: Calls>(
-    alloc: Global,
-    calls: &C,
-    session: &mut Session,
-    way: Way,
-    name: &str,
-    argument: Argument<'_>,
-) -> Result<String, RowFault> {
-    match way {
-        Way::Once { nth } => answer_once(alloc, calls, session, nth, name, argument),
-        Way::EachRefusal => each_refusal(alloc, calls, session, name, argument),
-        _ => Err(RowFault::BadRow),
+    Said {
+        is_bad: row.is_bad(),
+        is_short: row.is_short(),
+        made: row.made.take(),
+        text: row.take_text(),
     }
 }
 
-fn answer_bytes<C: Calls>(
-    alloc: Global,
-    calls: &C,
-    session: &mut Session,
-    way: Way,
-    name: &str,
-    words: &str,
-) -> Result<String, RowFault> {
-    let bytes = bytes_of(alloc, &session.names, words)?;
-    match way {
-        Way::EachCut => each_cut(alloc, calls, session, name, bytes.as_slice()),
-        Way::EachSet { value } => each_set(alloc, calls, session, value, name, bytes.as_slice()),
-        Way::EachSwap { fields } => each_swap(
+impl<'s, 'c> Sweep<'s, 'c> {
+    /// The call `NAME WORDS`, which was not made yet, over the bytes of other words if there are
+    /// some.
+    pub fn new(
+        session: &'s Session,
+        call: &'c str,
+        over: Option<&str>,
+    ) -> Sweep<'s, 'c> {
+        let alloc = session.alloc;
+        let mut pieces = Pieces::new(alloc, &session.names);
+        pieces.add(over.unwrap_or(""));
+        Sweep {
             alloc,
-            calls,
             session,
-            fields,
-            name,
-            bytes.as_slice(),
-        ),
-        _ => {
-            let argument = Argument::Bytes(bytes.as_slice());
-            answer_words(alloc, calls, session, way, name, argument)
+            call,
+            is_bad: pieces.is_bad(),
+            is_short: pieces.is_short(),
+            is_over_bytes: over.is_some(),
+            bytes: pieces.finish(),
+            made: None,
+            text: String::new(alloc),
+            was_refused: false,
         }
     }
-}
 
-/// What a row's call answers.
-pub fn answer_call<C: Calls>(
-    alloc: Global,
-    calls: &C,
-    session: &mut Session,
-    call: &str,
-) -> Result<String, RowFault> {
-    let (way, call) = read_way(call)?;
-    if let Some((name, words)) = call.split_once(" of ") {
-        return answer_bytes(alloc, calls, session, way, name, words);
+    /// Makes the call over the first `length` bytes, where its `nth` request is refused and all
+    /// after it; at 0 none is.
+    fn once<C: Calls>(&mut self, calls: &C, nth: u64, length: usize) {
+        let over = Over {
+            heap: Refusing::new(self.alloc, nth),
+            bytes: std::mem::replace(&mut self.bytes, Vec::new(self.alloc)),
+            length,
+        };
+        let said = make(calls, &over, self.session, self.call, self.is_over_bytes);
+        self.was_refused = over.heap.has_refused();
+        self.bytes = over.bytes;
+        self.is_bad = self.is_bad || said.is_bad;
+        self.is_short = self.is_short || said.is_short;
+        self.made = said.made;
+        self.text = said.text;
     }
-    let (name, words) = split_word(call);
-    if calls.takes_bytes(name) {
-        return answer_bytes(alloc, calls, session, way, name, words);
+
+    /// Adds the last answer to others.
+    fn add_to(&mut self, runs: &mut Runs, number: u64) {
+        let text = std::mem::replace(&mut self.text, String::new(self.alloc));
+        runs.add(number, text);
     }
-    let argument = Argument::Words(words);
-    answer_words(alloc, calls, session, way, name, argument)
+
+    fn take(&mut self, runs: Runs) {
+        match runs.finish() {
+            Ok(text) => self.text = text,
+            Err(AllocError) => self.is_short = true,
+        }
+    }
+
+    /// Makes the call where the first request is refused, the second, .. until none was.
+    fn each_refusal<C: Calls>(&mut self, calls: &C) {
+        let mut runs = Runs::new(self.alloc, false);
+        for nth in 1..REQUESTS {
+            self.once(calls, nth, usize::MAX);
+            self.add_to(&mut runs, nth);
+            if self.is_bad || !self.was_refused {
+                return self.take(runs);
+            }
+        }
+        self.is_bad = true;
+    }
+
+    /// Makes the call over the first bytes, from none to all.
+    fn each_cut<C: Calls>(&mut self, calls: &C) {
+        let mut runs = Runs::new(self.alloc, true);
+        for length in 0..self.bytes.len() + 1 {
+            self.once(calls, 0, length);
+            self.add_to(&mut runs, length as u64);
+        }
+        self.take(runs);
+    }
+
+    /// Puts another byte at a place, if there is one, and answers the one that was there.
+    fn exchange(&mut self, at: usize, byte: u8) -> u8 {
+        match self.bytes.as_mut_slice().get_mut(at) {
+            Some(place) => std::mem::replace(place, byte),
+            None => byte,
+        }
+    }
+
+    /// Makes the call over all bytes with one of them set to a value, for each.
+    fn each_set<C: Calls>(&mut self, calls: &C, value: u8) {
+        let mut runs = Runs::new(self.alloc, true);
+        for at in 0..self.bytes.len() {
+            let before = self.exchange(at, value);
+            self.once(calls, 0, usize::MAX);
+            self.add_to(&mut runs, at as u64);
+            let _value = self.exchange(at, before);
+        }
+        self.take(runs);
+    }
+
+    /// Swaps the two bytes at a place with the two at another.
+    fn swap(&mut self, at: usize, by: usize) {
+        for i in 0..2usize {
+            let at = at.saturating_add(i);
+            let by = by.saturating_add(i);
+            let first = self.exchange(at, 0);
+            let second = self.exchange(by, first);
+            let _zero = self.exchange(at, second);
+        }
+    }
+
+    /// Makes the call over all bytes, where the two at `at` are swapped with each two after them, up
+    /// to an end. The place must be even.
+    fn each_swap<C: Calls>(&mut self, calls: &C, at: u64, end: u64) {
+        if at % 2 != 0 {
+            self.is_bad = true;
+            return;
+        }
+        let mut runs = Runs::new(self.alloc, true);
+        for half in 0..self.bytes.len() / 2 {
+            let by = half as u64 * 2;
+            if at < by && by < end {
+                self.swap(at as usize, by as usize);
+                self.once(calls, 0, usize::MAX);
+                self.add_to(&mut runs, by);
+                self.swap(at as usize, by as usize);
+            }
+        }
+        self.take(runs);
+    }
+
+    /// Makes the call this way.
+    pub fn make<C: Calls>(&mut self, calls: &C, way: Way) {
+        match way {
+            Way::Once(nth) => self.once(calls, nth, usize::MAX),
+            Way::EachRefusal => self.each_refusal(calls),
+            Way::EachCut if self.is_over_bytes => self.each_cut(calls),
+            Way::EachSet(value) if self.is_over_bytes => self.each_set(calls, value),
+            Way::EachSwap(at, end) if self.is_over_bytes => self.each_swap(calls, at, end),
+            _ => self.is_bad = true,
+        }
+    }
+
+    /// The answer.
+    pub fn finish(self) -> Result<String, AllocError> {
+        if self.is_short {
+            return Err(AllocError);
+        }
+        if self.is_bad {
+            return String::from_str(self.alloc, "bad row");
+        }
+        Ok(self.text)
+    }
 }

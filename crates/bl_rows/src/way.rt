@@ -1,52 +1,67 @@
 //! How often a row's call is made, and over which bytes.
 
-use crate::fault::RowFault;
-use crate::parse::{byte, range, split_word};
-use std::ops::Range;
+use crate::line::split_word;
 
 /// How a call is made.
-#[derive(Drop)]
+#[derive(Clone, Copy)]
 pub enum Way {
-    /// Once, where the `nth` request is refused, or none at 0.
-    Once { nth: u64 },
+    /// Once, where the request of this number is refused and all after it, or none at 0.
+    Once(u64),
     /// Where the first request is refused, the second, .. until none was.
     EachRefusal,
     /// Over the first bytes, from none to all.
     EachCut,
     /// Over all bytes with one of them set to a value.
-    EachSet { value: u8 },
-    /// Over all bytes, where the first of the fields of two bytes is swapped with each field after
-    /// it, up to an end.
-    EachSwap { fields: Range<u64> },
+    EachSet(u8),
+    /// Over all bytes, where the two at a place are swapped with each two after them, up to an end.
+    EachSwap(u64, u64),
+    /// Not at all: the row can't be read.
+    Bad,
+}
+
+fn refusal_of(digits: &str) -> Way {
+    match digits.parse::<u64>() {
+        Ok(nth) => Way::Once(nth),
+        Err(_) => Way::Bad,
+    }
+}
+
+fn set_of(digits: &str) -> Way {
+    match u8::from_str_radix(digits, 16) {
+        Ok(value) => Way::EachSet(value),
+        Err(_) => Way::Bad,
+    }
+}
+
+fn swap_of(fields: &str) -> Way {
+    let (start, end) = fields.split_once("..").unwrap_or(("", ""));
+    match (u64::from_str_radix(start, 16), u64::from_str_radix(end, 16)) {
+        (Ok(start), Ok(end)) => Way::EachSwap(start, end),
+        _ => Way::Bad,
+    }
+}
+
+fn read_each(words: &str) -> (Way, &str) {
+    let (kind, call) = split_word(words);
+    let (field, rest) = split_word(call);
+    match kind {
+        "refusal" => (Way::EachRefusal, call),
+        "cut" => (Way::EachCut, call),
+        "set" => (set_of(field), rest),
+        "swap" => (swap_of(field), rest),
+        _ => (Way::Bad, ""),
+    }
 }
 
 /// How the call is made, and the call.
-pub fn read_way(call: &str) -> Result<(Way, &str), RowFault> {
-    match split_word(call) {
-        ("refuse", rest) => {
+pub fn read_way(words: &str) -> (Way, &str) {
+    let (kind, rest) = split_word(words);
+    match kind {
+        "refuse" => {
             let (nth, call) = split_word(rest);
-            let nth = nth.parse::<u64>().ok().ok_or(RowFault::BadRow)?;
-            Ok((Way::Once { nth }, call))
+            (refusal_of(nth), call)
         }
-        ("each", rest) => match split_word(rest) {
-            ("refusal", call) => Ok((Way::EachRefusal, call)),
-            ("cut", call) => Ok((Way::EachCut, call)),
-            ("set", rest) => {
-                let (value, call) = split_word(rest);
-                Ok((
-                    Way::EachSet {
-                        value: byte(value)?,
-                    },
-                    call,
-                ))
-            }
-            ("swap", rest) => {
-                let (fields, call) = split_word(rest);
-                let fields = range(fields)?;
-                Ok((Way::EachSwap { fields }, call))
-            }
-            _ => Err(RowFault::BadRow),
-        },
-        _ => Ok((Way::Once { nth: 0 }, call)),
+        "each" => read_each(rest),
+        _ => (Way::Once(0), words),
     }
 }

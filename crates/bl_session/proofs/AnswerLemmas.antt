@@ -8,7 +8,7 @@ use Rattle.bl_session.specs.declared.words.Ticket.{Ticket}
 use Rattle.bl_session.specs.declared.words.Progress.{Progress}
 use Rattle.bl_session.specs.declared.words.Progress.TheVariants.{Waiting}
 use Rattle.bl_session.specs.Boot.{BootFacts, piece, fault, State, StepsOrFails, attempt_of}
-use Rattle.bl_session.specs.Boot.{progress}
+use Rattle.bl_session.specs.Boot.{is_running, progress}
 use Rattle.bl_session.specs.Outcome.{File}
 use Rattle.bl_session.specs.History.{Item, came, failed, nothing, file_under, IsPieceOf}
 use Rattle.bl_session.specs.Orders.{orders, orders_after}
@@ -71,7 +71,15 @@ lost facts (hands_over n refusals handoff) new before after ticket p w first ste
 lost facts (has_none refusals) new before after ticket p w first step told = absurd cc
 lost facts lacks_memory new before after ticket p w first step told = absurd cc
 
--- ---- memory, while an attempt waits
+-- ---- while an attempt waits
+
+pub running_waiting : (bytes : List ℕ) (phase : PhaseFacts) → is_waiting phase ≡ true
+    → is_running (state_at bytes phase) ≡ true
+running_waiting bytes (waits entry rest earlier stage) w = refl
+running_waiting bytes not_started w = absurd cc
+running_waiting bytes (hands_over n refusals handoff) w = absurd cc
+running_waiting bytes (has_none refusals) w = absurd cc
+running_waiting bytes lacks_memory w = absurd cc
 
 pub waiting_memory : (pool : Range ℕ) (phase : PhaseFacts) (bytes old new : List ℕ)
     → is_waiting phase ≡ true → IsMemoryIn pool (state_at bytes phase) old new

@@ -14,7 +14,8 @@ use Rattle.bl_load.specs.Parts.{IsHandover, IsPrepFault}
 use Rattle.bl_load.specs.PlanFacts.{handover_by, places_of}
 use Rattle.bl_load.specs.Value.{EntryValue, value_of}
 use Rattle.bl_session.specs.Ends.{EndsIn, HasRoomBeside, refused}
-use Rattle.bl_session.specs.Finished.{IsNotHandedOver}
+use Rattle.bl_stage.specs.Staged.{Staging}
+use Rattle.bl_session.specs.Finished.{IsNotHandedOver, IsStageLeft}
 use Rattle.bl_session.proofs.AfterLemmas.{ranges_are}
 
 -- a fault of preparing changed nothing
@@ -22,6 +23,11 @@ pub unprepared : (facts : MachineFacts) (value : EntryValue) (fault : PrepFault)
     → IsPrepFault facts value fault → IsNotHandedOver facts value fault old old
 unprepared facts value (Refused refusal) old is = (inl is, refl)
 unprepared facts value NoMemory old is = λ a out. refl
+
+pub left_same : (fault : PrepFault) (stage : Staging) (bytes : List ℕ)
+    → IsStageLeft fault stage stage bytes bytes
+left_same (Refused refusal) stage bytes = refl
+left_same NoMemory stage bytes = refl
 
 files_are : {A : Type 0} (texts : List (List ℕ)) (entry : Entry A)
     → (value_of texts entry).files ≡ texts

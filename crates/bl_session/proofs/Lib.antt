@@ -12,6 +12,7 @@ pub mod AwaitedAnswers
 pub mod HeardLemmas
 pub mod FaithfulLaws
 pub mod OnceLemmas
+pub mod MenuLemmas
 pub mod SpotLemmas
 pub mod StoredLemmas
 pub mod WholeLemmas

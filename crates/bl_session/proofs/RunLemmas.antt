@@ -6,7 +6,8 @@ use Rattle.std.specs.List.{range_with_len}
 use Rattle.std.specs.declared.ops.Range.{Range}
 use Rattle.bl_map.specs.MachineFacts.{MachineFacts}
 use Rattle.bl_mem.specs.Memory.{HasRoom, KeepsRoom}
-use Rattle.bl_session.specs.Boot.{BootFacts, State, unstarted, out_of_memory, StartsOrFails}
+use Rattle.bl_session.specs.Boot.{BootFacts, State, unstarted, out_of_memory, is_running}
+use Rattle.bl_session.specs.Boot.{StartsOrFails}
 use Rattle.bl_session.specs.Outcome.{File, missing, size_of}
 use Rattle.bl_session.specs.Attempts.{files_named}
 use Rattle.bl_session.specs.Menu.{MenuFacts}
@@ -47,21 +48,24 @@ pub lacks_orders : (facts now : BootFacts) (files : List File) (first mid asked 
     (start : World) (old : State) → now ≡ facts
     → IsHeard facts files first mid start (world_of facts old)
     → (rest : List Item) × IsAsked (orders now old) rest mid asked
+    → is_running old ≡ true
     → (world : World) × IsHeard facts files first asked start world
-lacks_orders facts now files first mid asked start old e so_far part =
+    × (is_running world.state ≡ true)
+lacks_orders facts now files first mid asked start old e so_far part runs =
     let mine = subst (λ (b : BootFacts). IsAsked (orders b old) part.0 mid asked) e part.1 in
     let end : World = record { state = old; owed = part.0 } in (
       end,
       heard_on facts files first mid asked start (world_of facts old) end so_far
           (heard_asked facts files mid asked old (orders facts old) part.0 mine),
+      runs,
     )
 
 -- memory ran out while it took answers
 pub lacks_answers : (facts now : BootFacts) (files those : List File)
     (first mid asked last : List Item) (start : World) (old : State) → now ≡ facts → those ≡ files
     → IsHeard facts files first mid start (world_of facts old) → asked ≡ mid ++ orders now old
-    → (world : World) × IsHeard now those asked last (at old) world
-    → (world : World) × IsHeard facts files first last start world
+    → (world : World) × IsHeard now those asked last (at old) world × (is_running world.state ≡ true)
+    → (world : World) × IsHeard facts files first last start world × (is_running world.state ≡ true)
 lacks_answers facts now files those first mid asked last start old e f so_far given more =
     let mine : IsHeard facts files asked last (at old) more.0 =
     subst (λ (b : BootFacts). IsHeard b files asked last (at old) more.0) e
@@ -72,6 +76,7 @@ lacks_answers facts now files those first mid asked last start old e f so_far gi
       heard_on facts files first asked last start (at old) more.0
           (heard_on facts files first mid asked start (world_of facts old) (at old) so_far
           (heard_orders facts files mid asked old orders_given)) mine,
+      more.2,
     )
 
 -- ---- the whole
@@ -80,7 +85,8 @@ pub is_run : (facts now : BootFacts) (files those : List File) (old new : List I
     (begun end : State) (world : World) → now ≡ facts → those ≡ files
     → StartsOrFails facts unstarted begun
     → IsHeard now those old new (world_of now begun) world
-    → (end ≡ world.state) ⊎ (end ≡ out_of_memory) → IsRun facts files old new end
+    → (end ≡ world.state) ⊎ ((end ≡ out_of_memory) × (is_running world.state ≡ true))
+    → IsRun facts files old new end
 is_run facts now files those old new begun end world e f starts heard is =
     let mine : IsHeard facts files old new (world_of facts begun) world =
     subst (λ (b : BootFacts). IsHeard b files old new (world_of b begun) world) e
@@ -103,7 +109,7 @@ pub run_started : (machine : MachineFacts) (menu : MenuFacts) (files : List File
     → boot ≡ boot_facts machine menu sizes → unbegun_phase ≡ not_started → now ≡ boot
     → StartsOrFails boot (state_at before unbegun_phase) (state_at after begun)
     → IsHeard now files old new (world_of now (state_at after begun)) world
-    → (end ≡ world.state) ⊎ (end ≡ out_of_memory)
+    → (end ≡ world.state) ⊎ ((end ≡ out_of_memory) × (is_running world.state ≡ true))
     → IsRun (boot_facts machine menu (map size_of files)) files old new end
 run_started machine menu files sizes boot now unbegun_phase begun before after old new world end
     asked e first same starts heard is =

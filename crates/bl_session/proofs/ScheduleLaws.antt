@@ -82,7 +82,7 @@ module _ (facts : BootFacts) (files : List File) (faults : ℕ → Option ℕ) w
   lost_not : (given : List Item) (world : World) (items : List Item) (end : State)
       → LacksMemory world → Reads facts files given world items end → HasEnded end → ⊥
   lost_not given world [] end (is, none) (inl same) ended = ended_not end (same ∙ is) ended
-  lost_not given world [] end (is, none) (inr lost) ended = ended_not end lost ended
+  lost_not given world [] end (is, none) (inr (lost, runs)) ended = ended_not end lost ended
   lost_not given world (item ∷ items) end lost (next, hears, reads) ended =
       hears_nothing facts files given world item next lost hears
 
@@ -112,7 +112,8 @@ module _ (facts : BootFacts) (files : List File) (faults : ℕ → Option ℕ) w
       → HasEnded end
       → IsScheduled world.state end
   schedule [] given world end asked genuine (inl same) ended = ([], tt, same)
-  schedule [] given world end asked genuine (inr lost) ended = absurd (ended_not end lost ended)
+  schedule [] given world end asked genuine (inr (lost, runs)) ended =
+      absurd (ended_not end lost ended)
   schedule (item ∷ items) given world end asked genuine (next, hears, reads) ended =
       elim (heard given world.state world.owed item next asked genuine.0 hears) [
         | inl (now, inl stays) ↦

@@ -4,7 +4,8 @@ use Rattle.std.proofs.Common.{◌∷◌, ◌++◌, length, refl, sym, ap, subst,
 use Rattle.std.proofs.lemmas.List.{append-nil}
 use Rattle.bl_session.specs.declared.words.Progress.TheVariants.{Waiting, Next}
 use Rattle.bl_session.specs.Boot.{BootFacts, EventFacts, State, unstarted, running, handed_over}
-use Rattle.bl_session.specs.Boot.{none_left, out_of_memory, attempt_of, progress, StepsOrFails}
+use Rattle.bl_session.specs.Boot.{none_left, out_of_memory, is_running, attempt_of, progress}
+use Rattle.bl_session.specs.Boot.{StepsOrFails}
 use Rattle.bl_session.specs.Outcome.{File}
 use Rattle.bl_session.specs.History.{Item}
 use Rattle.bl_session.specs.Orders.{orders, orders_after}
@@ -103,9 +104,11 @@ heard_answer facts files old new state later item event given is step = record {
 
 pub reads_to : (facts : BootFacts) (files : List File) (given : List Item) (a b : World)
     (items : List Item) (end : State) → LeadsOn facts files given a items b
-    → (end ≡ b.state) ⊎ (end ≡ out_of_memory) → Reads facts files given a items end
+    → (end ≡ b.state) ⊎ ((end ≡ out_of_memory) × (is_running b.state ≡ true))
+    → Reads facts files given a items end
 reads_to facts files given a b [] end leads (inl is) = inl (is ∙ ap (λ (w : World). w.state) leads)
-reads_to facts files given a b [] end leads (inr is) = inr is
+reads_to facts files given a b [] end leads (inr (lost, runs)) =
+    inr (lost, subst (λ (w : World). is_running w.state ≡ true) leads runs)
 reads_to facts files given a b (item ∷ items) end leads is =
     (leads.0, leads.1, reads_to facts files (given ++ item ∷ []) leads.0 b items end leads.2 is)
 

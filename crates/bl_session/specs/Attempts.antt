@@ -4,7 +4,7 @@ use Rattle.std.specs.Prelude.{if◌then◌else◌}
 use Rattle.std.specs.List.{list_any}
 use Rattle.bl_plan.specs.Limits.{most_entries}
 use Rattle.bl_load.specs.declared.entry.Entry.{Entry}
-use Rattle.bl_load.specs.Value.{HasFewModules}
+use Rattle.bl_load.specs.Value.{IsWithinLimits}
 use Rattle.bl_session.specs.Menu.{EntryFacts}
 use Rattle.bl_session.specs.declared.menu.fault.MenuFault.{MenuFault}
 use Rattle.bl_session.specs.declared.menu.fault.MenuFault.TheVariants.{BadIndex, TooMany, NoMemory}
@@ -23,7 +23,7 @@ attempts_of default fallbacks = once_by (λ i j. i == j) [] (default ∷ fallbac
 
 -- few entries, with few modules each
 abbrev pub IsSmall : {A : Type 0} → List (Entry A) → Type 0
-IsSmall entries = (length entries ≤ most_entries) × All HasFewModules entries
+IsSmall entries = (length entries ≤ most_entries) × All IsWithinLimits entries
 
 -- each index names one of so many entries
 abbrev pub NameEntries : ℕ → ℕ → List ℕ → Type 0
@@ -36,6 +36,12 @@ HasMenuFault entries default fallbacks BadIndex =
     IsSmall entries × (¬ NameEntries (length entries) default fallbacks)
 HasMenuFault entries default fallbacks NoMemory =
     IsSmall entries × NameEntries (length entries) default fallbacks
+
+-- the number of why there is no menu
+abbrev pub menu_fault_number : MenuFault → ℕ
+menu_fault_number BadIndex = 51
+menu_fault_number TooMany = 52
+menu_fault_number NoMemory = 53
 
 -- the greatest of these indices plus 1, or 0 if there is none
 abbrev pub count_to : List ℕ → ℕ

@@ -129,6 +129,14 @@ is_taken (handed_over entry earlier handover) event = false
 is_taken (none_left earlier) event = false
 is_taken out_of_memory event = false
 
+-- an attempt runs
+abbrev pub is_running : State → Bool
+is_running (running entry rest earlier files) = true
+is_running unstarted = false
+is_running (handed_over entry earlier handover) = false
+is_running (none_left earlier) = false
+is_running out_of_memory = false
+
 -- the event ends the attempt that runs: its last piece, or a fault
 abbrev pub ends_attempt : State → EventFacts → Bool
 ends_attempt (running entry rest earlier files) (piece ticket bytes) =

@@ -2,6 +2,7 @@
 use Rattle.std.specs.Prelude.{◌≡◌, ◌+◌, ◌≤◌, ℕ, List, length, All}
 use Rattle.bl_map.specs.MachineFacts.{MachineFacts}
 use Rattle.bl_stage.specs.Ranges.{IsSameOutside}
+use Rattle.bl_stage.specs.Staged.{Staging, texts_of}
 use Rattle.bl_load.specs.After.{IsAfter}
 use Rattle.bl_load.specs.HandoffFacts.{HandoffFacts}
 use Rattle.bl_load.specs.Handover.{Handover}
@@ -28,3 +29,9 @@ abbrev pub IsNotHandedOver : MachineFacts → EntryValue → PrepFault → (old 
 IsNotHandedOver facts value (Refused refusal) old new =
     EndsIn facts value (refused refusal) × (new ≡ old)
 IsNotHandedOver facts value NoMemory old new = IsSameOutside facts.pool old new
+
+-- what is left of the entry's staged files then, where memory had and has these bytes: after a
+-- refusal the stage is as before; after want of memory each file reads as before
+abbrev pub IsStageLeft : PrepFault → (old new : Staging) → (before after : List ℕ) → Type 0
+IsStageLeft (Refused refusal) old new before after = new ≡ old
+IsStageLeft NoMemory old new before after = texts_of after new ≡ texts_of before old

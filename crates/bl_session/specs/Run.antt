@@ -8,8 +8,8 @@ use Rattle.bl_session.specs.declared.words.BootFault.{BootFault}
 use Rattle.bl_session.specs.declared.words.Outcome.{Outcome}
 use Rattle.bl_session.specs.Pieces.{with_piece, are_whole}
 use Rattle.bl_session.specs.Boot.{BootFacts, EventFacts, piece, fault, State, unstarted, running}
-use Rattle.bl_session.specs.Boot.{handed_over, none_left, out_of_memory, is_wanted, StepsOrFails}
-use Rattle.bl_session.specs.Boot.{StartsOrFails}
+use Rattle.bl_session.specs.Boot.{handed_over, none_left, out_of_memory, is_running, is_wanted}
+use Rattle.bl_session.specs.Boot.{StartsOrFails, StepsOrFails}
 use Rattle.bl_session.specs.Outcome.{File, Faults}
 use Rattle.bl_session.specs.History.{Item, submitted, came, failed, nothing, file_under, IsPieceOf}
 use Rattle.bl_session.specs.Orders.{orders, orders_after, first_ticket}
@@ -61,9 +61,11 @@ Hears facts files given state [] item new =
     × StepsOrFails facts state event new.state
     × (new.owed ≡ orders_after facts state new.state)
 
--- these items, after this history, lead from a world to a state; memory may run out after the last
+-- these items, after this history, lead from a world to a state; while an attempt runs, memory may
+-- run out after the last
 abbrev pub Reads : BootFacts → List File → List Item → World → List Item → State → Type 0
-Reads facts files given old [] new = (new ≡ old.state) ⊎ (new ≡ out_of_memory)
+Reads facts files given old [] new =
+    (new ≡ old.state) ⊎ ((new ≡ out_of_memory) × (is_running old.state ≡ true))
 Reads facts files given old (item ∷ items) new =
     (next : World) × Hears facts files given old.state old.owed item next
     × Reads facts files (given ++ item ∷ []) next items new

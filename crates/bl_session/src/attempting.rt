@@ -1,7 +1,7 @@
 //! One attempt: it begins, and ends once each piece of its files came.
 ghost use Rattle.std.specs.Prelude.{◌≡◌, None, IfOk, OnErr, length, map, slice_index_or, true};
 ghost use Rattle.bl_mem.specs.Memory.{HasRoom, KeepsRoom};
-ghost use Rattle.bl_load.specs.Value.{HasFewModules};
+ghost use Rattle.bl_load.specs.Value.{IsWithinLimits};
 ghost use Rattle.bl_stage.specs.Ranges.{IsSameOutside};
 ghost use Rattle.bl_stage.specs.Spots.{spots};
 ghost use Rattle.bl_session.specs.Attempt.{IsAttempt, IsBegun, IsMemoryOf, KeepsAttempt};
@@ -33,7 +33,7 @@ pub fn go_on<M: PhysMem, A: Allocator + Copy>(
     stage: Stage<A>,
     memory: &mut M,
 ) -> Result<Attempt<A>, AllocError>
-    requires modules { HasFewModules entry.now }
+    requires modules { IsWithinLimits entry.now }
     requires files { length stage.sizes ≡ length (files_of entry.now) }
     requires small { HasSmallFiles stage }
     requires pool { stage.pool ≡ machine.now.pool }
@@ -50,6 +50,7 @@ pub fn go_on<M: PhysMem, A: Allocator + Copy>(
     ensures size { length (M.bytes memory.new) ≡ length (M.bytes memory.old) }
     ensures kept { KeepsRoom (M.room memory.old) (M.room memory.new) }
 {
+    stage.are_staged();
     if !stage.complete() {
         return Ok(Attempt::Waits(stage));
     }
@@ -69,7 +70,7 @@ pub fn begin_attempt<M: PhysMem, A: Allocator + Copy>(
     sizes: &[Option<u64>],
     memory: &mut M,
 ) -> Result<Attempt<A>, AllocError>
-    requires modules { HasFewModules entry.now }
+    requires modules { IsWithinLimits entry.now }
     requires size { length (M.bytes memory.old) ≡ machine.now.size }
     requires room { HasRoom (M.room memory.old) machine.now.pool.start machine.now.pool.end }
     ensures begun { IfOk result (IsBegun machine.now (facts_of entry.now)

@@ -2,7 +2,7 @@
 ghost use Rattle.std.specs.Prelude.{◌≡◌, ◌≤◌, ◌+◌, ◌++◌, ◌∷◌, ℕ, List, None, Some, Option, IfOk};
 ghost use Rattle.std.specs.Prelude.{IfErr};
 ghost use Rattle.std.specs.Prelude.{length, map, slice_index_or, MatchResult};
-ghost use Rattle.bl_load.specs.Value.{HasFewModules};
+ghost use Rattle.bl_load.specs.Value.{IsWithinLimits};
 ghost use Rattle.bl_stage.specs.Staged.{AreStaged};
 ghost use Rattle.bl_session.specs.Ends.{file_refusal, size_refusal};
 ghost use Rattle.bl_session.specs.Ends as ends;
@@ -33,7 +33,7 @@ fn push_modules<A: Allocator>(
 
 /// The indices of an entry's files, in order, the kernel's first.
 pub fn files_of<A: Allocator + Copy>(alloc: A, entry: &Entry<A>) -> Result<Vec<u32, A>, AllocError>
-    requires { HasFewModules entry.now }
+    requires { IsWithinLimits entry.now }
     ensures { IfOk result (λ files. files.items ≡ menu.files_of entry.now) }
 {
     let mut files = Vec::new(alloc);
@@ -108,7 +108,7 @@ pub fn begin_stage<A: Allocator + Copy>(
     entry: &Entry<A>,
     sizes: &[Option<u64>],
 ) -> Result<Stage<A>, PrepFault>
-    requires { HasFewModules entry.now }
+    requires { IsWithinLimits entry.now }
     ensures fresh { IfOk result (IsFresh machine.now
         (map (λ file. slice_index_or sizes.now file None) (menu.files_of entry.now))) }
     ensures fits { IfOk result (λ _. size_refusal machine.now

@@ -12,8 +12,8 @@ ghost use Rattle.bl_load.specs.After.{IsAfter};
 ghost use Rattle.bl_load.specs.Loadable.{lengths_of, IsLoadable};
 ghost use Rattle.bl_load.specs.Parts.{IsHandover, IsPrepFault};
 ghost use Rattle.bl_load.specs.PlanFacts.{handover_by, handover_in, places_of};
-ghost use Rattle.bl_load.specs.Value.{value_of, file_count, HasFewModules};
-ghost use Rattle.bl_session.specs.Finished.{IsHandedOver, IsNotHandedOver};
+ghost use Rattle.bl_load.specs.Value.{value_of, file_count, IsWithinLimits};
+ghost use Rattle.bl_session.specs.Finished.{IsHandedOver, IsNotHandedOver, IsStageLeft};
 
 use bl_load::{Entry, Handoff, Plan, PrepFault, Refusal, load, prepare};
 use bl_map::Machine;
@@ -52,7 +52,7 @@ fn prepare_staged<M: PhysMem, A: Allocator + Copy>(
     memory: &M,
 ) -> Result<Plan<A>, PrepFault>
     requires files { length stage.now.sizes ≡ file_count entry.now }
-    requires modules { HasFewModules entry.now }
+    requires modules { IsWithinLimits entry.now }
     requires complete { AllCame stage.now }
     requires inside { HasPool (M.bytes memory.now) stage.now.pool }
     ensures handover { IfOk result (λ plan. IsHandover machine.now
@@ -95,8 +95,6 @@ fn evacuate_ranges<M: PhysMem, A: Allocator>(
     if stage.evacuate(memory, ranges).is_err() {
         return Err(Refusal::NoPool);
     }
-    // what this ensures says where the files' frames lie now
-    stage.complete();
     Ok(())
 }
 
@@ -136,8 +134,9 @@ fn hand_over<M: PhysMem, A: Allocator>(
 /// 3. memory for the parts, where they have no room yet.
 ///
 /// `Ok`: memory holds the parts, the pool is 0 outside of them, and every other byte is as before.
-/// `Refused`: no byte changed. `NoMemory` may be answered at any growth, and then no byte outside
-/// the pool changed. No address loses its room.
+/// `Refused`: no byte changed, and the stage is as before. `NoMemory` may be answered at any growth,
+/// and then no byte outside the pool changed, and each file reads as before. No address loses its
+/// room.
 ///
 /// The stage is that of the machine's pool, and has one file for each file of the entry, in order.
 pub fn finish<M: PhysMem, A: Allocator + Copy>(
@@ -149,7 +148,7 @@ pub fn finish<M: PhysMem, A: Allocator + Copy>(
 ) -> Result<Handoff<A>, PrepFault>
     requires complete { AllCame stage.old }
     requires files { length stage.old.sizes ≡ file_count entry.now }
-    requires modules { HasFewModules entry.now }
+    requires modules { IsWithinLimits entry.now }
     requires pool { stage.old.pool ≡ machine.now.pool }
     requires size { length (M.bytes memory.old) ≡ machine.now.size }
     requires room { HasRoom (M.room memory.old) machine.now.pool.start machine.now.pool.end }
@@ -158,6 +157,8 @@ pub fn finish<M: PhysMem, A: Allocator + Copy>(
         (M.bytes memory.old) (M.bytes memory.new)) }
     ensures err { IfErr result (λ fault. IsNotHandedOver machine.now
         (value_of (texts_of (M.bytes memory.old) stage.old) entry.now) fault
+        (M.bytes memory.old) (M.bytes memory.new)) }
+    ensures left { IfErr result (λ fault. IsStageLeft fault stage.old stage.new
         (M.bytes memory.old) (M.bytes memory.new)) }
     ensures stage { stage.new ≡ with_frames stage.old stage.new.frames }
     ensures size { length (M.bytes memory.new) ≡ length (M.bytes memory.old) }

@@ -1,6 +1,8 @@
 //! Laws of the definitions.
-ghost use Rattle.std.specs.Prelude.{◌≡◌, ℕ, List, [], Option, map};
+ghost use Rattle.std.specs.Prelude.{◌≡◌, ◌≤◌, ℕ, List, [], Option, map, length, All};
 ghost use Rattle.bl_map.specs.MachineFacts.{MachineFacts};
+ghost use Rattle.bl_plan.specs.Limits.{most_modules};
+ghost use Rattle.bl_load.specs.ByteLines.{HasByteLines};
 ghost use Rattle.bl_load.specs.Value.{EntryValue};
 ghost use Rattle.bl_session.specs.Ends.{End, Ends, EndsIn};
 ghost use Rattle.bl_session.specs.Boot.{BootFacts, EventFacts, State, Starts, Steps};
@@ -44,10 +46,11 @@ pub fn each_step_leads_on()
         → (new : State) × Steps facts old event new }
 {}
 
-/// Each schedule that is genuine for these files and faults and ends a boot ends it with the first
-/// entry that is not refused, and with the refusals before it, in whatever order its pieces come,
-/// with whatever events beside them that are not wanted: repeated pieces, strange ones, and late
-/// ones of refused attempts. Where each entry is refused, it ends with all refusals.
+/// Each schedule that is genuine for these files and faults (of each attempt its first wanted fault,
+/// or none) and ends a boot ends it with the first entry that is not refused, and with the refusals
+/// before it, in whatever order its pieces come, with whatever events beside them that are not
+/// wanted: repeated pieces, strange ones, and late ones of refused attempts. Where each entry is
+/// refused, it ends with all refusals.
 pub fn first_entry_not_refused()
     ensures exact { (facts : BootFacts) (files : List File) (faults : ℕ → Option ℕ)
         (events : List EventFacts) (begun end : State) → facts.sizes ≡ map size_of files
@@ -73,4 +76,16 @@ pub fn two_outcomes()
         → value_in facts files entry ≡ value_in other those index
         → IsOutcome facts files faults (handed_over entry earlier h)
         → IsOutcome other those fails (handed_over index before k) → h ≡ k }
+{}
+
+/// The value of each entry of a menu, whatever its files hold, has lines of bytes and at most 64
+/// modules, where the menu's entries have, as `Menu::new` says. So what is handed over shows its
+/// kernel the entry.
+pub fn values_have_their_entries_lines()
+    ensures bytes { (facts : BootFacts) (files : List File) (entry : ℕ)
+        → All (λ e. HasByteLines e.blank) facts.menu.entries
+        → HasByteLines (value_in facts files entry) }
+    ensures few { (facts : BootFacts) (files : List File) (entry : ℕ)
+        → All (λ e. length e.blank.module_lines ≤ most_modules) facts.menu.entries
+        → length (value_in facts files entry).module_lines ≤ most_modules }
 {}

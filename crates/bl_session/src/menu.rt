@@ -1,19 +1,24 @@
 //! The menu, and the order in which its entries are attempted.
 ghost use Rattle.std.specs.Prelude.{◌≡◌, ◌∷◌, ◌++◌, ◌==◌, ◌+◌, ◌<◌, ◌≤◌, ◌^◌, ℕ, [], length, map};
-ghost use Rattle.std.specs.Prelude.{IfErr, IfOk, OnOk, slice_index_or, if◌then◌else◌};
+ghost use Rattle.std.specs.Prelude.{All, IfErr, IfOk, OnOk, slice_index_or, if◌then◌else◌};
 ghost use Rattle.std.specs.List.{list_any};
-ghost use Rattle.bl_load.specs.Value.{HasFewModules};
-ghost use Rattle.bl_session.specs.Menu.{files_of, facts_of, entry_at};
+ghost use Rattle.bl_load.specs.ByteLines.{HasByteLines};
+ghost use Rattle.bl_load.specs.Value.{IsWithinLimits, value_of};
+ghost use Rattle.bl_session.specs.Menu.{facts_of, entry_at};
 ghost use Rattle.bl_session.specs.Attempts.{attempts_of, IsSmall, NameEntries, HasMenuFault};
-ghost use Rattle.bl_session.specs.Attempts.{count_to};
 ghost use Rattle.bl_session.specs.Attempts as attempts;
+ghost use Rattle.bl_plan.specs.Limits.{most_modules};
 
 use crate::menu::fault::{is_small, name_entries};
-use bl_load::{Entry, Module};
+use crate::menu::lines::learn_lines;
+use crate::menu::naming::files_named;
+use bl_load::Entry;
 use std::alloc::{AllocError, Allocator};
 use std::marker::Model;
 
 mod fault;
+mod lines;
+mod naming;
 
 pub use fault::MenuFault;
 
@@ -25,8 +30,9 @@ pub struct Menu<A: Allocator> {
 }
 
 impl<A: Allocator> Model for Menu<A> {
-    ghost use Rattle.std.specs.Prelude.{◌<◌, ◌≤◌, length, map, All};
-    ghost use Rattle.bl_load.specs.Value.{HasFewModules};
+    ghost use Rattle.std.specs.Prelude.{◌<◌, ◌≤◌, [], length, map, All};
+    ghost use Rattle.bl_load.specs.ByteLines.{HasByteLines};
+    ghost use Rattle.bl_load.specs.Value.{IsWithinLimits, value_of};
     ghost use Rattle.bl_session.specs.Menu.{MenuFacts, facts_of};
     ghost use Rattle.bl_plan.specs.Limits.{most_entries};
 
@@ -39,7 +45,8 @@ impl<A: Allocator> Model for Menu<A> {
 
     ghost invariant = { λ menu.
         All (λ entry. entry < length menu.entries.items) menu.attempts.items
-        × All HasFewModules menu.entries.items
+        × All IsWithinLimits menu.entries.items
+        × All (λ entry. HasByteLines (value_of [] entry)) menu.entries.items
         × (length menu.attempts.items ≤ most_entries) };
 }
 
@@ -86,6 +93,9 @@ impl<A: Allocator + Copy> Menu<A> {
     /// - `TooMany`: there are more than 32 entries, or more than 64 modules in one.
     /// - `BadIndex`: the default or a fallback names no entry, as each index does if there is none.
     /// - `NoMemory`: there was no memory for the list of attempts.
+    ///
+    /// The lines of each entry are bytes, and it has at most 64 modules, so that of what it hands
+    /// over its kernel sees the entry.
     pub fn new(
         alloc: A,
         entries: Vec<Entry<A>, A>,
@@ -99,6 +109,9 @@ impl<A: Allocator + Copy> Menu<A> {
         ensures allowed { OnOk result (IsSmall entries.items
             × NameEntries (length entries.items) default fallbacks.now) }
         ensures first_fault { IfErr result (HasMenuFault entries.items default fallbacks.now) }
+        ensures bytes { IfOk result (λ menu. All (λ entry. HasByteLines entry.blank) menu.entries) }
+        ensures few { IfOk result (λ menu.
+            All (λ entry. length entry.blank.module_lines ≤ most_modules) menu.entries) }
     {
         let offered = entries.as_slice();
         if !is_small(offered) {
@@ -107,48 +120,9 @@ impl<A: Allocator + Copy> Menu<A> {
         if !name_entries(offered, default, fallbacks) {
             return Err(MenuFault::BadIndex);
         }
+        learn_lines(offered);
         let attempts = order_attempts(alloc, default, fallbacks)?;
         Ok(Menu { entries, attempts })
-    }
-}
-
-/// The greatest index of a file of modules plus 1, or 0 if there is none.
-fn module_files<A: Allocator>(modules: &[Module<A>]) -> usize
-    ensures count { result ≡ count_to (map (λ m. m.file) modules.now) }
-    ensures few { result ≤ 2 ^ 32 }
-{
-    match modules {
-        [] => 0,
-        [module, rest @ ..] => (module.file as usize + 1).max(module_files(rest)),
-    }
-}
-
-/// The greatest index of a file of an entry plus 1.
-fn entry_files<A: Allocator>(entry: &Entry<A>) -> usize
-    ensures count { result ≡ count_to (files_of entry.now) }
-    ensures few { result ≤ 2 ^ 32 }
-{
-    match entry {
-        Entry::Multiboot2 {
-            kernel,
-            modules,
-            ..
-        } => (*kernel as usize + 1).max(module_files(modules)),
-        Entry::Linux { kernel, initrd, .. } => match initrd {
-            Some(file) => (*kernel as usize + 1).max(*file as usize + 1),
-            None => *kernel as usize + 1,
-        },
-    }
-}
-
-/// The greatest index of a file of entries plus 1, or 0 if there is none.
-fn files_named<A: Allocator>(entries: &[Entry<A>]) -> usize
-    ensures count { result ≡ attempts.files_named (map facts_of entries.now) }
-    ensures few { result ≤ 2 ^ 32 }
-{
-    match entries {
-        [] => 0,
-        [entry, rest @ ..] => entry_files(entry).max(files_named(rest)),
     }
 }
 
@@ -183,7 +157,8 @@ impl<A: Allocator> Menu<A> {
     pub fn entry(&self, index: u32) -> &Entry<A>
         requires { index < length self.now.entries }
         ensures entry { facts_of result.now ≡ entry_at self.now index }
-        ensures few { HasFewModules result.now }
+        ensures few { IsWithinLimits result.now }
+        ensures bytes { HasByteLines (value_of [] result.now) }
     {
         &self.entries[index as usize]
     }

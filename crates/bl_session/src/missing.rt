@@ -50,8 +50,7 @@ pub fn missing_piece<A: Allocator>(attempt: u32, stage: &Stage<A>) -> Ticket
     requires lacks { LacksPiece stage.now }
     ensures { (bytes : List ℕ) → first_ticket attempt 0 (spots bytes stage.now) ≡ Some result }
 {
-    // what this ensures says that each piece has its place in memory
-    stage.complete();
+    stage.are_staged();
     match first_missing(attempt, stage) {
         Some(ticket) => ticket,
         None => unreachable!(),

@@ -11,8 +11,9 @@ ghost use Rattle.bl_session.specs.Faithful.{IsFaithful};
 /// is not refused, and with the refusals before it; if each entry is refused, with all
 /// refusals. For what it asked and heard is a schedule: each answer is an event, and a piece that
 /// is marked as its file's holds the bytes of the entry's own file, since under each ticket of the
-/// attempt that runs its own file was asked for last. So neither the order of the answers counts,
-/// nor what comes beside them, nor what the store was asked before.
+/// attempt that runs its own file was asked for last. So for the same faults, of each attempt its
+/// first wanted fault or none, neither the order of the answers counts, nor what comes beside them,
+/// nor what the store was asked before. Of several wanted faults of an attempt the first decides.
 pub fn runs_end_with_the_first_entry_not_refused()
     ensures schedule { (facts : BootFacts) (files : List File) (faults : Faults)
         (old new : List Item) (end : State)

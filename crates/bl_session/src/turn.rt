@@ -3,7 +3,7 @@ ghost use Rattle.std.specs.Prelude.{◌≡◌, ◌≢◌, ◌<◌, [], ℕ, List
 ghost use Rattle.std.specs.Prelude.{IfOk, OnOk, OnErr};
 ghost use Rattle.bl_mem.specs.Memory.{HasRoom, KeepsRoom};
 ghost use Rattle.bl_stage.specs.Ranges.{IsSameOutside};
-ghost use Rattle.bl_session.specs.Boot.{StepsOrFails, attempt_of};
+ghost use Rattle.bl_session.specs.Boot.{StepsOrFails, attempt_of, is_running};
 ghost use Rattle.bl_session.specs.Boot as boot;
 ghost use Rattle.bl_session.specs.Memory.{IsMemoryIn};
 ghost use Rattle.bl_session.specs.Orders.{orders_after};
@@ -129,7 +129,8 @@ fn await_end<M: PhysMem, S: Store, A: Allocator + Copy>(
         (M.bytes memory.old) (M.bytes memory.new)) }
     ensures lacking { OnErr result ((world : World) × IsHeard session.old.boot (S.files store.old)
         (S.given store.old) (S.given store.new)
-        (record { state = state_at (M.bytes memory.old) session.old.phase; owed = [] }) world) }
+        (record { state = state_at (M.bytes memory.old) session.old.phase; owed = [] }) world
+        × (is_running world.state ≡ true)) }
     ensures outside { OnErr result (IsSameOutside session.old.boot.machine.pool
         (M.bytes memory.old) (M.bytes memory.new)) }
     ensures files { S.files store.new ≡ S.files store.old }
@@ -169,7 +170,8 @@ pub fn drive<M: PhysMem, S: Store, A: Allocator + Copy>(
         (state_at (M.bytes memory.new) session.new.phase) first (M.bytes memory.new)) }
     ensures lacking { OnErr result ((world : World) × IsHeard session.old.boot (S.files store.old)
         (S.given store.old) (S.given store.new)
-        (world_of session.old.boot (state_at (M.bytes memory.old) session.old.phase)) world) }
+        (world_of session.old.boot (state_at (M.bytes memory.old) session.old.phase)) world
+        × (is_running world.state ≡ true)) }
     ensures outside { OnErr result ((first : List ℕ)
         → IsMemoryIn session.old.boot.machine.pool
         (state_at (M.bytes memory.old) session.old.phase) first (M.bytes memory.old)

@@ -1,4 +1,6 @@
 //! Tickets, events, refusals, outcomes.
+ghost use Rattle.std.specs.Prelude.{◌≡◌};
+
 use bl_load::{Handoff, Refusal};
 use std::alloc::Allocator;
 
@@ -49,8 +51,22 @@ pub struct Outcome<A: Allocator> {
 /// Why nothing is handed over.
 #[derive(Drop)]
 pub enum BootFault<A: Allocator> {
-    /// Each entry was refused: all refusals, in order. Its number is 40.
+    /// Each entry was refused: all refusals, in order.
     NoEntryLeft(Vec<RefusedEntry, A>),
-    /// Memory ran out. Its number is 41.
+    /// Memory ran out.
     NoMemory,
+}
+
+impl<A: Allocator> BootFault<A> {
+    ghost use Rattle.bl_session.specs.Phases.{boot_fault_number};
+
+    /// The fault's number, 40 or 41.
+    pub fn number(&self) -> u32
+        ensures { result ≡ boot_fault_number self.now }
+    {
+        match self {
+            BootFault::NoEntryLeft(_) => 40,
+            BootFault::NoMemory => 41,
+        }
+    }
 }

@@ -16,8 +16,7 @@ impl<A: Allocator> FileSet for Stage<A> {
     }
 
     fn read<M: PhysMem>(&self, memory: &M, file: usize, at: u64, out: &mut [u8]) {
-        // what this ensures says where the file's frames lie
-        self.complete();
+        self.are_staged();
         self.lies_in(memory, file).read(at, out);
     }
 

@@ -2,10 +2,12 @@
 use Rattle.std.proofs.Common.{◌≡◌, ℕ, ◌+◌, ◌≤◌, ◌^◌, List, [], ◌∷◌, zero, suc, arith, All, AllPairs}
 use Rattle.std.proofs.lemmas.List.Elements.{All-cons, All-nil}
 use Rattle.bl_plan.specs.declared.part.Place.{Place}
+use Rattle.bl_plan.specs.declared.protocol.Protocol.{Protocol}
 use Rattle.bl_load.specs.declared.plan.Content.TheVariants.{File}
 use Rattle.bl_load.specs.declared.plan.PlannedPart.{PlannedPart}
 use Rattle.bl_load.specs.declared.plan.Plan.{Plan}
-use Rattle.bl_load.specs.HandoffFacts.{Ascends, AreRecords}
+use Rattle.bl_load.specs.declared.registers.Registers.{Registers}
+use Rattle.bl_load.specs.HandoffFacts.{Ascends, AreHandoffFacts}
 use Rattle.bl_load.specs.Loadable.{IsBacked, IsLoadable}
 
 pairs_more : {X : Type 0} (R : X → X → Type 0) (x : X) (xs : List X) → All (R x) xs → AllPairs R xs
@@ -30,9 +32,10 @@ file_backed : {A : Type 0} (size : ℕ) (place : Place) (offset : ℕ) → offse
     → IsBacked {A = A} (size ∷ []) (part_of place offset)
 file_backed size place offset h = record { there = (omega arith, λ _. h); short = omega arith }
 
-two_records : (p q : Place) → 1 ≤ p.length → 1 ≤ q.length → Ascends p q
-    → q.address + q.length ≤ 2 ^ 32 → AreRecords (p ∷ q ∷ [])
-two_records p q hp hq up top =
+two_kept : (protocol : Protocol) (registers : Registers) (p q : Place)
+    → 1 ≤ p.length → 1 ≤ q.length → Ascends p q → q.address + q.length ≤ 2 ^ 32
+    → AreHandoffFacts (record { protocol = protocol; registers = registers; places = p ∷ q ∷ [] })
+two_kept protocol registers p q hp hq up top =
     record {
       few = omega arith;
       filled = all_two (λ (place : Place). 1 ≤ place.length) p q hp hq;
@@ -56,5 +59,6 @@ two_loadable long size plan p q a b items at bt hp hq up inside small =
           rw items
           (all_two (λ (place : Place). place.address + place.length ≤ size) p q (omega arith)
           inside);
-      records = rw items (two_records p q hp hq up (omega arith));
+      kept =
+          rw items (two_kept plan.protocol plan.registers p q hp hq up (omega arith));
     }

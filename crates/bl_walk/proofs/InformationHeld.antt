@@ -14,6 +14,7 @@ use Rattle.bl_plan.specs.declared.part.Role.{Role}
 use Rattle.bl_plan.specs.declared.part.Role.TheVariants.{Kernel, Module, Information}
 use Rattle.bl_plan.specs.declared.part.Row.{Row}
 use Rattle.bl_load.specs.Addresses.{address_of}
+use Rattle.bl_load.specs.ByteLines.{HasByteLines}
 use Rattle.bl_load.specs.Handover.{Part, Handover, end_of}
 use Rattle.bl_load.specs.Kernel.{KernelFacts, IsKernel}
 use Rattle.bl_load.specs.Parts.{content_of, handover_of}
@@ -30,7 +31,6 @@ use Rattle.bl_load.proofs.RowLemmas.{kernel_rows_are_rows}
 use Rattle.bl_load.proofs.RowPlaceLemmas.{each_rowed}
 use Rattle.bl_load.proofs.PlaceBoundLemmas.{are_below}
 use Rattle.bl_walk.specs.Inside.{bytes_in}
-use Rattle.bl_walk.specs.Shown.{HasByteLines}
 use Rattle.bl_walk.proofs.PartLemmas.{is_of, held_front}
 use Rattle.bl_walk.proofs.InformationLemmas.{row_held, behind, before, module_row, modules_fit}
 use Rattle.bl_walk.proofs.TextLemmas.{lines_short, base_fits}

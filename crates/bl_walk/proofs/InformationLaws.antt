@@ -1,6 +1,6 @@
 -- The image of a Multiboot2 entry's handover shows the entry.
 use Rattle.std.proofs.Common.{◌≡◌, zero-add, ◌≤◌, ◌++◌, List, [], map, length, take, Some, None}
-use Rattle.std.proofs.Common.{refl, sym, ap, ◌∙◌, inl, arith, subst, AllPairs}
+use Rattle.std.proofs.Common.{ℕ, refl, sym, ap, ◌∙◌, inl, arith, subst, AllPairs}
 use Rattle.std.specs.Prelude.{codes}
 use Rattle.std.proofs.Math.Seq.{take-length}
 use Rattle.bl_map.specs.MachineFacts.{MachineFacts, AreMachineFacts}
@@ -11,19 +11,24 @@ use Rattle.bl_plan.specs.declared.protocol.Protocol.{Protocol}
 use Rattle.bl_plan.specs.declared.protocol.Protocol.TheVariants.{Multiboot2}
 use Rattle.bl_plan.specs.declared.part.Role.TheVariants.{Kernel, Module, Information}
 use Rattle.bl_load.specs.Addresses.{address_of}
+use Rattle.bl_load.specs.ByteLines.{HasByteLines}
 use Rattle.bl_load.specs.Handover.{end_of}
 use Rattle.bl_load.specs.Kernel.{KernelFacts, IsKernel}
-use Rattle.bl_load.specs.Parts.{handover_of, entered_at}
+use Rattle.bl_load.specs.Parts.{handover_of, entered_at, start_of}
 use Rattle.bl_load.specs.Reading.{multiboot2}
+use Rattle.bl_load.specs.Registers.{information_in}
 use Rattle.bl_load.specs.Rows.{rows_of, kernel_rows, module_rows}
 use Rattle.bl_load.specs.Value.{EntryValue, kernel_file, module_file, lines_fault, lines_of}
 use Rattle.bl_walk.specs.Seen.{HasTotalSize, IsInformation, InformationSays, InformationShows}
-use Rattle.bl_walk.specs.Seen.{IsSeen, kernel_in}
+use Rattle.bl_walk.specs.Seen.{IsSeen}
+use Rattle.bl_walk.specs.Kept.{seen_alone}
 use Rattle.bl_walk.specs.SeenFacts.{SeenFacts}
 use Rattle.bl_walk.specs.Shown.{ShowsSegments, ShowsKernel, ShowsModules, ShowsFiles, ShowsEntry}
-use Rattle.bl_walk.specs.Shown.{HasByteLines}
-use Rattle.bl_walk.specs.State.{IsEntered, entry_registers}
+use Rattle.bl_walk.specs.State.{IsEntered}
+use Rattle.bl_walk.specs.Inside.{bytes_in}
 use Rattle.bl_walk.proofs.EnteredLemmas.{entered_place}
+use Rattle.bl_walk.proofs.OneToldLemmas.{no_descriptors}
+use Rattle.bl_walk.proofs.RegisterLemmas.{as_entered, entered_from, information_from}
 use Rattle.bl_walk.proofs.KernelLemmas.{AreSplit, are_split, first_places, kernel_shown, seen_place}
 use Rattle.bl_walk.proofs.SegmentLemmas.{kernel_rows_of_kernel, segments_shown}
 use Rattle.bl_walk.proofs.EntryPartLemmas.{entered_in}
@@ -41,16 +46,21 @@ module _ (facts : MachineFacts) (value : EntryValue) (kernel : KernelFacts) (pla
     (apart : AllPairs (λ p q. end_of p ≤ q.address)
     (handover_of facts value (multiboot2 kernel) places).parts) where
   module _ (protocol : value.protocol ≡ Multiboot2) where
+    information_there : information_in (handover facts value kernel places).registers
+        ≡ address_of Information 0 places
+    information_there = information_from (multiboot2 kernel) places value.protocol protocol
+
     total : HasTotalSize (handover facts value kernel places)
         (length (text facts value kernel places))
     total = record {
       protocol = protocol;
-      fixed_part = take 8 (text facts value kernel places);
-      front =
+      word = take 4 (text facts value kernel places);
+      whole =
           let least =
           long facts value kernel places machine bytes few lines is_kernel placed apart in
-          held facts value kernel places machine bytes few lines is_kernel placed apart
-          Information 0 8
+          ap (λ (a : ℕ). bytes_in (parts facts value kernel places) a 4) information_there
+          ∙ held facts value kernel places machine bytes few lines is_kernel placed apart
+          Information 0 4
           (information_held facts value kernel places machine bytes few lines is_kernel
           placed apart) (omega arith);
       told =
@@ -66,7 +76,11 @@ module _ (facts : MachineFacts) (value : EntryValue) (kernel : KernelFacts) (pla
       total_size = total;
       least = long facts value kernel places machine bytes few lines is_kernel placed apart;
       whole =
-          held facts value kernel places machine bytes few lines is_kernel placed apart Information
+          ap
+          (λ (a : ℕ).
+          bytes_in (parts facts value kernel places) a (length (text facts value kernel places)))
+          information_there
+          ∙ held facts value kernel places machine bytes few lines is_kernel placed apart Information
           0 (length (text facts value kernel places))
           (information_held facts value kernel places machine bytes few lines is_kernel placed
           apart) (omega arith)
@@ -88,14 +102,8 @@ module _ (facts : MachineFacts) (value : EntryValue) (kernel : KernelFacts) (pla
     }
 
     abbrev pub seen : SeenFacts
-    seen = record {
-      protocol = value.protocol;
-      entry = (handover facts value kernel places).registers.eip;
-      line = value.line;
-      kernel = kernel_in (handover facts value kernel places).parts;
+    seen = record (seen_alone (handover facts value kernel places) value.line facts.runs) {
       modules = shown_modules value.files places 0 value.module_lines;
-      initrd = None;
-      map = facts.runs;
     }
 
     shows : InformationShows (handover facts value kernel places) seen
@@ -139,7 +147,8 @@ module _ (facts : MachineFacts) (value : EntryValue) (kernel : KernelFacts) (pla
     segments =
         segments_shown facts kernel.segments kernel.entry kernel.relocation split.places_first
         split.places_rest seen split.placed_first
-        (ap
+        (entered_from (multiboot2 kernel) places value.protocol
+        ∙ ap
         (λ (ps : List Place).
         entered_at kernel.entry kernel.segments kernel.relocation (address_of Kernel 0 ps))
         split.both) kernel_seen
@@ -167,17 +176,13 @@ module _ (facts : MachineFacts) (value : EntryValue) (kernel : KernelFacts) (pla
 
     pub information_entered : IsEntered (handover facts value kernel places)
     information_entered =
-        let address = (handover facts value kernel places).registers.eip in
+        let start = start_of (multiboot2 kernel) places in
         let rest = module_rows value.files 0 value.module_lines ++ last facts value kernel places in
         record {
-          registers =
-              subst
-              (λ (p : Protocol).
-              (handover facts value kernel places).registers
-              ≡ entry_registers p (handover facts value kernel places).registers)
-              (sym protocol) refl;
+          registers = as_entered (multiboot2 kernel) places value.protocol;
           kernel =
-              entered_in places (content facts value kernel places) apart address
-              (entered_place facts (kernel_file value) kernel rest is_kernel places placed);
-          descriptors = λ linux. absurd (cc);
+              rw (entered_from (multiboot2 kernel) places value.protocol)
+              (entered_in places (content facts value kernel places) apart start
+              (entered_place facts (kernel_file value) kernel rest is_kernel places placed));
+          descriptors = λ gdt handed. absurd (no_descriptors value.protocol gdt protocol handed);
         }

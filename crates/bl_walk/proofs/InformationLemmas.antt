@@ -5,7 +5,7 @@ use Rattle.std.proofs.Common.{nat_eq, refl, sym, ap, ◌∙◌, inl, inr, arith,
 use Rattle.std.specs.List.{list_any}
 use Rattle.std.proofs.lemmas.Bool.{eq-eqb, cases_lt}
 use Rattle.std.proofs.Math.Bool.{or-true}
-use Rattle.std.proofs.lemmas.List.{append_assoc, take_at}
+use Rattle.std.proofs.lemmas.List.{append-nil, take_at}
 use Rattle.std.proofs.lemmas.List.Elements.{All-head, All-tail, All-cons, All-nil}
 use Rattle.std.proofs.lemmas.List.Folds.{list_any-append}
 use Rattle.std.specs.declared.ops.Range.{Range}
@@ -86,22 +86,20 @@ module_row files k index (line ∷ lines) low high =
 
 -- the first word of a spelling is its length
 pub first_word : (name : List ℕ) (facts : InformationFacts) → length (spelling name facts) < 2 ^ 32
-    → length (spelling name facts) ≡ u32_at (take 8 (spelling name facts)) 0
+    → length (spelling name facts) ≡ u32_at (take 4 (spelling name facts)) 0
 unfolding spelling
 first_word name facts small =
     let size = 8 + length (tags name facts) in
     let first = u32_bytes size in
-    let second = u32_bytes 0 in
-    let one = length-u32_bytes size in
+    let behind = u32_bytes 0 ++ tags name facts in
+    let one : length first ≡ 4 = length-u32_bytes size in
     let two = length-u32_bytes 0 in
-    let both = length-append first (second ++ tags name facts) in
-    let rest = length-append second (tags name facts) in
-    let long : length (first ++ (second ++ tags name facts)) ≡ size = omega arith in
-    let front_long : length (first ++ second) ≡ 8 = omega (arith, length-append first second) in
-    let front : take 8 (first ++ (second ++ tags name facts)) ≡ first ++ second =
-    ap (take 8) (sym (append_assoc first second (tags name facts)))
-    ∙ take_at (first ++ second) (tags name facts) 8 front_long in
-    long ∙ sym (u32_again size second (omega arith)) ∙ ap (λ bytes. u32_at bytes 0) (sym front)
+    let both = length-append first behind in
+    let rest = length-append (u32_bytes 0) (tags name facts) in
+    let long : length (first ++ behind) ≡ size = omega arith in
+    let word : take 4 (first ++ behind) ≡ first ++ [] =
+    take_at first behind 4 one ∙ sym (append-nil first) in
+    long ∙ sym (u32_again size [] (omega arith)) ∙ ap (λ bytes. u32_at bytes 0) (sym word)
 
 -- each module that is told of fits its tag
 pub modules_fit : (files : List (List ℕ)) (places : List Place) (k : ℕ) (lines : List (List ℕ))

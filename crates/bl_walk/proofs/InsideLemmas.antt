@@ -1,6 +1,6 @@
 -- The one part in which a range can lie, among parts that ascend.
 use Rattle.std.proofs.Common.{◌≡◌, ◌+◌, ◌-◌, ◌<◌, ◌≤◌, inl, inr, ℕ, true, false, List, [], length}
-use Rattle.std.proofs.Common.{get_or, Some, None, sym, ap, ◌∙◌, arith, subst}
+use Rattle.std.proofs.Common.{get_or, Some, None, sym, ap, ◌∙◌, arith, subst, AllPairs}
 use Rattle.std.specs.List.{slice_get, position_or_len}
 use Rattle.std.specs.List.Sorted.{IsNonDecreasingBy, IsPartitionedBy, IsPartitionPoint}
 use Rattle.std.proofs.lemmas.Bool.{leb-true, cases_order}
@@ -11,7 +11,7 @@ use Rattle.std.proofs.lemmas.List.Sorted.{IsPartitionedBy-leb}
 use Rattle.std.proofs.lemmas.Option.{slice_get_past, slice_get-get_or}
 use Rattle.bl_plan.specs.declared.part.Role.TheVariants.{Kernel}
 use Rattle.bl_load.specs.Handover.{Part, end_of}
-use Rattle.bl_image.specs.ImageParts.{AreImageParts}
+use Rattle.bl_image.specs.ImageParts.{PartAscends}
 use Rattle.bl_walk.specs.Inside.{lies_in, part_with}
 use Rattle.bl_walk.specs.Kept.{begins_upto}
 
@@ -19,7 +19,7 @@ use Rattle.bl_walk.specs.Kept.{begins_upto}
 no_part : Part
 no_part = record { role = Kernel; index = 0; address = 0; bytes = [] }
 
-ascending : (parts : List Part) → AreImageParts parts
+ascending : (parts : List Part) → AllPairs PartAscends parts
     → IsNonDecreasingBy (λ (p : Part). p.address) parts
 ascending parts kept i j d le within =
     elim (cases_order i j) [
@@ -27,13 +27,13 @@ ascending parts kept i j d le within =
           (let equal : (get_or parts i d).address ≡ (get_or parts j d).address =
           ap (λ k. (get_or parts k d).address) same in omega arith)
       | inr other ↦ elim other [
-        | inl before ↦ (let behind = kept.ascending i j d before within in omega arith)
+        | inl before ↦ (let behind = kept i j d before within in omega arith)
         | inr after ↦ absurd (omega arith)
       ]
     ]
 
 -- so they can be searched by halves
-pub partitioned : (parts : List Part) (address : ℕ) → AreImageParts parts
+pub partitioned : (parts : List Part) (address : ℕ) → AllPairs PartAscends parts
     → IsPartitionedBy (begins_upto address) parts
 partitioned parts address kept =
     IsPartitionedBy-leb (λ (p : Part). p.address) parts address (ascending parts kept)
@@ -60,7 +60,7 @@ found_none parts address count point =
     (λ lt. absurd (omega arith)) in
     find_at p parts ∙ ap (slice_get parts) last ∙ slice_get_past parts (length parts) (omega arith)
 
-module _ (parts : List Part) (address count begun at : ℕ) (d : Part) (kept : AreImageParts parts)
+module _ (parts : List Part) (address count begun at : ℕ) (d : Part) (kept : AllPairs PartAscends parts)
     (some : 1 ≤ count)
     (point : IsPartitionPoint (λ part. begins_upto address part ≡ true)
     (λ part. begins_upto address part ≡ false) parts begun)
@@ -68,7 +68,7 @@ module _ (parts : List Part) (address count begun at : ℕ) (d : Part) (kept : A
     (within : at < length parts) where
   below_fails : (k : ℕ) → k < at → lies_in address count (get_or parts k d) ≡ false
   below_fails k lt =
-      let behind = kept.ascending k at d lt within in
+      let behind = kept k at d lt within in
       let low =
       leb-true (get_or parts at d).address address (point.0 at d (omega arith) (omega arith)) in
       lies-below address count (get_or parts k d) some (omega arith)
@@ -122,7 +122,7 @@ module _ (parts found : List Part) (address count begun : ℕ) (same : found ≡
       sym (found_none found address count (subst P none point))
       ∙ ap (λ ps. part_with ps address count) same
 
-  module _ (part : Part) (kept : AreImageParts found) (some : 1 ≤ count)
+  module _ (part : Part) (kept : AllPairs PartAscends found) (some : 1 ≤ count)
       (point : IsPartitionPoint (λ p. begins_upto address p ≡ true)
       (λ p. begins_upto address p ≡ false) found begun)
       (any : ¬ (begun ≡ 0)) (within : begun ≤ length found)

@@ -3,19 +3,21 @@ use Rattle.std.proofs.Common.{◌≤◌, ◌≡◌, List, [], length, None, sym,
 use Rattle.bl_map.specs.MachineFacts.{MachineFacts, AreMachineFacts}
 use Rattle.bl_plan.specs.Placed.{ArePlaced}
 use Rattle.bl_plan.specs.declared.part.Place.{Place}
+use Rattle.bl_load.specs.ByteLines.{HasByteLines}
 use Rattle.bl_load.specs.Handover.{Part, Handover, end_of}
 use Rattle.bl_load.specs.Parts.{IsHandover, handover_of}
 use Rattle.bl_load.specs.Reading.{Reading, multiboot2, linux, IsRead}
 use Rattle.bl_load.specs.Rows.{rows_of}
 use Rattle.bl_load.specs.Value.{EntryValue, lines_fault, lines_of}
 use Rattle.bl_load.proofs.PartLaws.{all_apart}
+use Rattle.bl_image.specs.declared.version.Version.{Version}
 use Rattle.bl_image.specs.Image.{spelling}
 use Rattle.bl_image.specs.ImageParts.{IsImage, IsKept}
 use Rattle.bl_image.proofs.ReadAgain.{image_is_read_again}
 use Rattle.bl_walk.specs.Faults.{IsSound}
 use Rattle.bl_walk.specs.Seen.{IsSeen}
 use Rattle.bl_walk.specs.SeenFacts.{SeenFacts}
-use Rattle.bl_walk.specs.Shown.{ShowsEntry, HasByteLines}
+use Rattle.bl_walk.specs.Shown.{ShowsEntry}
 use Rattle.bl_walk.specs.State.{IsEntered}
 use Rattle.bl_walk.proofs.InformationLaws as information
 use Rattle.bl_walk.proofs.ParametersLaws as parameters
@@ -92,24 +94,27 @@ handovers_are_sound facts value h machine bytes few is =
 
 -- ---- from the image
 
--- an image is one handover's
-same_handover : (h image : Handover) → IsKept h → IsImage (spelling h) image → h ≡ image
-same_handover h image kept is = image_is_read_again h image kept.spellable is.kept.spellable is.is
+-- an image is one handover's, in one version
+same_handover : (version other : Version) (h image : Handover) → IsKept h
+    → IsImage other (spelling version h) image → h ≡ image
+same_handover version other h image kept is =
+    (image_is_read_again version other h image kept.spellable is.kept.spellable is.is).1
 
-pub images_show : (facts : MachineFacts) (value : EntryValue) (h image : Handover)
-    (seen : SeenFacts) → AreMachineFacts facts → HasByteLines value
+pub images_show : (facts : MachineFacts) (value : EntryValue) (version other : Version)
+    (h image : Handover) (seen : SeenFacts) → AreMachineFacts facts → HasByteLines value
     → length value.module_lines ≤ 64 → IsHandover facts value h → IsKept h
-    → IsImage (spelling h) image → IsSeen image seen → ShowsEntry facts value seen
-images_show facts value h image seen machine bytes few is kept spelled sees =
+    → IsImage other (spelling version h) image → IsSeen image seen → ShowsEntry facts value seen
+images_show facts value version other h image seen machine bytes few is kept spelled sees =
     let all = shows facts value h machine bytes few is in
     let own =
-    subst (λ (x : Handover). IsSeen x seen) (sym (same_handover h image kept spelled)) sees in
+    subst (λ (x : Handover). IsSeen x seen)
+    (sym (same_handover version other h image kept spelled)) sees in
     subst (ShowsEntry facts value) (seen_is_determined h all.seen seen all.is_seen own) all.entry
 
-pub images_are_sound : (facts : MachineFacts) (value : EntryValue) (h image : Handover)
-    → AreMachineFacts facts → HasByteLines value
+pub images_are_sound : (facts : MachineFacts) (value : EntryValue) (version other : Version)
+    (h image : Handover) → AreMachineFacts facts → HasByteLines value
     → length value.module_lines ≤ 64 → IsHandover facts value h → IsKept h
-    → IsImage (spelling h) image → IsSound image
-images_are_sound facts value h image machine bytes few is kept spelled =
-    subst IsSound (same_handover h image kept spelled)
+    → IsImage other (spelling version h) image → IsSound image
+images_are_sound facts value version other h image machine bytes few is kept spelled =
+    subst IsSound (same_handover version other h image kept spelled)
     (handovers_are_sound facts value h machine bytes few is)

@@ -12,6 +12,7 @@ pub mod EntryPartLemmas
 pub mod KernelLemmas
 pub mod SegmentLemmas
 pub mod LineLemmas
+pub mod RegisterLemmas
 pub mod InformationLemmas
 pub mod TextLemmas
 pub mod InformationHeld

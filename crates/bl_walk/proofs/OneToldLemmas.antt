@@ -1,6 +1,6 @@
 -- What an image tells is one: its information, its parameters and their modules.
 use Rattle.std.proofs.Common.{◌≡◌, ◌-◌, ◌<◌, ◌^◌, ℕ, zero, suc, List, [], ◌∷◌, length, get_or}
-use Rattle.std.proofs.Common.{Option, Some, None, Result, Ok, sym, ap, ◌∙◌, arith, subst}
+use Rattle.std.proofs.Common.{Option, Some, None, Result, Ok, true, sym, ap, ◌∙◌, arith, subst}
 use Rattle.bl_mem.specs.Words.{u32_at}
 use Rattle.bl_mbi.specs.declared.fault.InfoFault.{InfoFault}
 use Rattle.bl_mbi.specs.InformationFacts.{ModuleInfo}
@@ -11,6 +11,10 @@ use Rattle.bl_params.specs.ParamsFacts.{ParamsFacts}
 use Rattle.bl_params.specs.Reading.{IsParams}
 use Rattle.bl_params.proofs.ParamsLaws.{one_reading}
 use Rattle.bl_load.specs.Handover.{Part, Handover}
+use Rattle.bl_load.specs.Protocols.{has_params, descriptors_of}
+use Rattle.bl_load.specs.Registers.{information_in}
+use Rattle.bl_plan.specs.declared.protocol.Protocol.{Protocol}
+use Rattle.bl_plan.specs.declared.protocol.Protocol.TheVariants.{Multiboot2}
 use Rattle.bl_walk.specs.Inside.{bytes_in}
 use Rattle.bl_walk.specs.Seen.{HasTotalSize, IsInformation, InformationSays, AreSeenModules}
 use Rattle.bl_walk.specs.Seen.{AreParameters, ParametersSay}
@@ -23,18 +27,26 @@ not_none found x some none = cc
 same_ok : (x y : InfoFacts) → (let r : Result InfoFacts InfoFault = Ok x in r) ≡ Ok y → x ≡ y
 same_ok x y same = cc
 
+-- a Multiboot2 kernel is handed no boot parameters and no descriptors
+pub not_handed : (p : Protocol) → p ≡ Multiboot2 → has_params p ≡ true → ⊥
+not_handed p is handed = let none = ap has_params is in cc
+
+pub no_descriptors : (p : Protocol) (gdt : List ℕ) → p ≡ Multiboot2 → descriptors_of p ≡ Some gdt
+    → ⊥
+no_descriptors p gdt is handed = let none = ap descriptors_of is in cc
+
 -- ---- the information is one
 
 pub same_size : (h : Handover) (a b : ℕ) → HasTotalSize h a → HasTotalSize h b → a ≡ b
 same_size h a b p q =
-    let same = same_some p.fixed_part q.fixed_part (sym p.front ∙ q.front) in
+    let same = same_some p.word q.word (sym p.whole ∙ q.whole) in
     p.told ∙ ap (λ bytes. u32_at bytes 0) same ∙ sym q.told
 
 pub same_information : (h : Handover) (a b : List ℕ) → IsInformation h a → IsInformation h b → a ≡ b
 same_information h a b p q =
     same_some a b
     (sym p.whole
-    ∙ ap (bytes_in h.parts h.registers.ebx)
+    ∙ ap (bytes_in h.parts (information_in h.registers))
     (same_size h p.size q.size p.total_size q.total_size) ∙ q.whole)
 
 spelling_read : (bytes : List ℕ) (info : InfoFacts) → IsSpelling bytes info → length bytes < 2 ^ 32
@@ -48,7 +60,7 @@ pub says_read : (h : Handover) (info : InfoFacts) (says : InformationSays h info
 says_read h info says =
     let is = says.information in
     let small = is.total_size.small in
-    let long = length_in h.parts h.registers.ebx is.size says.bytes is.whole in
+    let long = length_in h.parts (information_in h.registers) is.size says.bytes is.whole in
     spelling_read says.bytes info says.spelling (omega arith)
 
 pub same_info : (h : Handover) (a b : InfoFacts) → InformationSays h a → InformationSays h b → a ≡ b

@@ -1,9 +1,9 @@
 -- What a Linux kernel is told stands in the image of the entry's handover.
 use Rattle.std.proofs.Common.{◌≡◌, ◌+◌, ◌≤◌, ◌∷◌, ℕ, true, List, [], length, take, get_or, Option}
 use Rattle.std.proofs.Common.{Some, None, option_map, refl, sym, ap, ◌∙◌, arith, subst, All}
-use Rattle.std.proofs.Common.{AllPairs, nat_lt}
+use Rattle.std.proofs.Common.{AllPairs}
 use Rattle.std.specs.List.{list_any}
-use Rattle.std.proofs.lemmas.Bool.{ltb-false, eqb-true}
+use Rattle.std.proofs.lemmas.Bool.{eqb-true}
 use Rattle.std.proofs.lemmas.List.Elements.{All-head}
 use Rattle.std.proofs.Math.Seq.{take-length}
 use Rattle.bl_map.specs.MachineFacts.{MachineFacts, AreMachineFacts}
@@ -17,32 +17,36 @@ use Rattle.bl_params.proofs.Lengths.{length-boot_params}
 use Rattle.bl_params.proofs.WrittenIsRead.{written_is_read}
 use Rattle.bl_plan.specs.Placed.{ArePlaced}
 use Rattle.bl_plan.specs.declared.part.Place.{Place}
-use Rattle.bl_plan.specs.declared.protocol.Protocol.TheVariants.{Linux}
 use Rattle.bl_plan.specs.declared.part.Role.{Role}
 use Rattle.bl_plan.specs.declared.part.Role.TheVariants.{Kernel, BootParams, CommandLine, Initrd}
 use Rattle.bl_load.specs.Addresses.{address_of}
+use Rattle.bl_load.specs.ByteLines.{HasByteLines}
 use Rattle.bl_load.specs.Handover.{Handover, end_of, filled}
 use Rattle.bl_load.specs.Linux.{IsLinuxKernel}
 use Rattle.bl_load.specs.LinuxRows.{linux_kernel_row, told_of}
 use Rattle.bl_load.specs.Parts.{content_of, handover_of}
 use Rattle.bl_load.specs.PlacingKept.{HasLength}
+use Rattle.bl_load.specs.Protocols.{has_params}
 use Rattle.bl_load.specs.Reading.{linux}
+use Rattle.bl_load.specs.Registers.{params_in}
 use Rattle.bl_load.specs.Rows.{rows_of}
 use Rattle.bl_load.specs.Value.{EntryValue, kernel_file, initrd_file, line_fault, lines_fault}
 use Rattle.bl_load.specs.Value.{lines_of}
 use Rattle.bl_load.proofs.EntryLemmas.{small_address}
 use Rattle.bl_load.proofs.LineLemmas.{sound_text, sound_short, first_sound}
+use Rattle.bl_load.proofs.LinuxKernelLemmas.{setup_is, few_runs}
 use Rattle.bl_load.proofs.LinuxLemmas.{linux_rows_are_rows, linux_rowed}
 use Rattle.bl_load.proofs.LinuxToldLemmas.{initrd_fits}
 use Rattle.bl_load.proofs.PlaceBoundLemmas.{are_below, are_filled}
 use Rattle.bl_walk.specs.Inside.{bytes_in}
 use Rattle.bl_walk.specs.Seen.{ParametersSay, IsLine, IsInitrd}
 use Rattle.bl_walk.specs.SeenFacts.{SeenFileFacts}
-use Rattle.bl_walk.specs.Shown.{HasByteLines, some_bytes}
+use Rattle.bl_walk.specs.Shown.{some_bytes}
 use Rattle.bl_walk.proofs.InformationLemmas.{is_row, row_held, behind}
 use Rattle.bl_walk.proofs.LineLemmas.{IsLong, held_rest, line_shown}
 use Rattle.bl_walk.proofs.PartLemmas.{is_of, both_true, same_role, held_front}
-use Rattle.bl_walk.proofs.ParametersLemmas.{params_rows, few_told}
+use Rattle.bl_walk.proofs.ParametersLemmas.{params_rows, ramdisk_row}
+use Rattle.bl_walk.proofs.RegisterLemmas.{params_from}
 
 -- ---- what a Linux kernel sees
 
@@ -64,8 +68,8 @@ module _ (facts : MachineFacts) (value : EntryValue) (setup : Setup) (places : L
 
 module _ (facts : MachineFacts) (value : EntryValue) (setup : Setup) (places : List Place)
     (machine : AreMachineFacts facts) (bytes : HasByteLines value)
-    (lines : lines_fault (lines_of value) ≡ None) (is_linux : value.protocol ≡ Linux)
-    (is_kernel : IsLinuxKernel facts.runs value.line (kernel_file value) setup)
+    (lines : lines_fault (lines_of value) ≡ None) (handed : has_params value.protocol ≡ true)
+    (is_kernel : IsLinuxKernel value.protocol facts.runs value.line (kernel_file value) setup)
     (placed : ArePlaced facts [] (rows_of facts value (linux setup)) places)
     (apart : AllPairs (λ p q. end_of p ≤ q.address)
     (handover_of facts value (linux setup) places).parts) where
@@ -78,14 +82,14 @@ module _ (facts : MachineFacts) (value : EntryValue) (setup : Setup) (places : L
   low : All (λ p. p.address + p.length ≤ 0xFFFFF000) places
   low =
       are_below facts [] (rows_of facts value (linux setup)) places placed
-      (linux_rows_are_rows (kernel_file value) setup (initrd facts value setup places)
-      is_kernel.is_setup)
+      (linux_rows_are_rows value.protocol (kernel_file value) setup
+      (initrd facts value setup places) (setup_is is_kernel))
 
   pub filled_places : All (λ p. 1 ≤ p.length) places
   filled_places =
       are_filled facts [] (rows_of facts value (linux setup)) places placed
-      (linux_rows_are_rows (kernel_file value) setup (initrd facts value setup places)
-      is_kernel.is_setup)
+      (linux_rows_are_rows value.protocol (kernel_file value) setup
+      (initrd facts value setup places) (setup_is is_kernel))
 
   small : (role : Role) → address_of role 0 places ≤ 0xFFFFF000
   small role = small_address role 0 places 0xFFFFF000 low
@@ -98,36 +102,34 @@ module _ (facts : MachineFacts) (value : EntryValue) (setup : Setup) (places : L
       record {
         code32_start = omega arith;
         ramdisk_image = omega arith;
-        ramdisk_size = initrd_fits facts setup (initrd facts value setup places) places placed low;
+        ramdisk_size = initrd_fits facts value.protocol setup (initrd facts value setup places) places placed low;
         cmd_line_ptr = omega arith;
       }
 
   are_told : AreTold (told facts value setup places).runs
-  are_told = record {
-    few =
-        ltb-false 128 (length facts.runs)
-        (few_told (nat_lt setup.cmdline_size (length value.line))
-        (nat_lt 128 (length facts.runs)) _ _ is_kernel.told);
-    low = machine.runs.low;
-  }
+  are_told = record { few = few_runs is_kernel; low = machine.runs.low }
 
   -- each row after the kernel's has a place
   pub placed_row : (role : Role)
-      → list_any (is_row role 0) (params_rows setup (initrd facts value setup places)) ≡ true
+      → list_any (is_row role 0)
+      (params_rows value.protocol setup (initrd facts value setup places)) ≡ true
       → list_any (is_of role 0) places ≡ true
   unfolding params_rows
   placed_row role among =
       row_held facts role 0 [] (rows_of facts value (linux setup)) places placed
       (behind role 0 (linux_kernel_row setup ∷ [])
-      (params_rows setup (initrd facts value setup places)) among)
+      (params_rows value.protocol setup (initrd facts value setup places)) among)
 
   params_held : bytes_in (handover facts value setup places).parts
-      (handover facts value setup places).registers.esi 4096
+      (params_in (handover facts value setup places).registers) 4096
       ≡ Some (boot_params setup.header (told facts value setup places))
   unfolding params_rows
   params_held =
       let size = length-boot_params setup.header (told facts value setup places) in
-      held BootParams 0 4096 (placed_row BootParams refl) (omega arith)
+      ap
+      (λ (a : ℕ). bytes_in (handover facts value setup places).parts a 4096)
+      (params_from (linux setup) places value.protocol handed)
+      ∙ held BootParams 0 4096 (placed_row BootParams refl) (omega arith)
       ∙ ap Some
       (ap (λ (n : ℕ). take n (boot_params setup.header (told facts value setup places))) (sym size)
       ∙ take-length (boot_params setup.header (told facts value setup places)))
@@ -135,10 +137,10 @@ module _ (facts : MachineFacts) (value : EntryValue) (setup : Setup) (places : L
   pub say : ParametersSay (handover facts value setup places) (params facts value setup places)
   say = record {
     bytes = boot_params setup.header (told facts value setup places);
-    parameters = record { protocol = is_linux; whole = params_held };
+    parameters = record { handed = handed; whole = params_held };
     told =
-        written_is_read (kernel_file value) setup (told facts value setup places) is_kernel.is_setup
-        are_told fit;
+        written_is_read (kernel_file value) setup (told facts value setup places)
+        (setup_is is_kernel) are_told fit;
   }
 
   -- ---- the line
@@ -181,8 +183,9 @@ module _ (facts : MachineFacts) (value : EntryValue) (setup : Setup) (places : L
   ramdisk (byte ∷ bytes) is =
       let some = ap length is in
       let row =
-      subst (λ (f : List ℕ). list_any (is_row Initrd 0) (params_rows setup f) ≡ true) (sym is)
-      refl in
+      subst
+      (λ (f : List ℕ). list_any (is_row Initrd 0) (params_rows value.protocol setup f) ≡ true)
+      (sym is) (ramdisk_row value.protocol setup byte bytes) in
       let there =
       held Initrd 0 (length (initrd facts value setup places)) (placed_row Initrd row) (omega arith)
       ∙ ap Some (take-length (initrd facts value setup places)) in (

@@ -1,65 +1,65 @@
 -- The image of a Linux entry's handover shows the entry.
 use Rattle.std.proofs.Common.{◌≡◌, ◌≤◌, ◌∷◌, List, [], map, Some, None, refl, sym, ap, ◌∙◌, inr}
-use Rattle.std.proofs.Common.{arith, subst, AllPairs}
+use Rattle.std.proofs.Common.{arith, length, take, true, AllPairs}
+use Rattle.std.proofs.Math.Seq.{take-length}
 use Rattle.bl_map.specs.MachineFacts.{MachineFacts, AreMachineFacts}
 use Rattle.bl_bzimage.specs.declared.setup.Setup.{Setup}
 use Rattle.bl_plan.specs.Placed.{ArePlaced}
 use Rattle.bl_plan.specs.declared.part.Place.{Place}
 use Rattle.bl_plan.specs.declared.protocol.Protocol.{Protocol}
-use Rattle.bl_plan.specs.declared.protocol.Protocol.TheVariants.{Linux}
+use Rattle.bl_plan.specs.declared.protocol.Protocol.TheVariants.{Multiboot2, Linux}
 use Rattle.bl_plan.specs.declared.part.Role.TheVariants.{Kernel, Gdt}
 use Rattle.bl_load.specs.Addresses.{address_of}
+use Rattle.bl_load.specs.ByteLines.{HasByteLines}
 use Rattle.bl_load.specs.Handover.{end_of}
 use Rattle.bl_load.specs.Linux.{IsLinuxKernel}
 use Rattle.bl_load.specs.LinuxRows.{linux_kernel_row}
 use Rattle.bl_load.specs.Parts.{handover_of}
+use Rattle.bl_load.specs.Protocols.{has_params}
 use Rattle.bl_load.specs.Reading.{linux}
 use Rattle.bl_load.specs.Rows.{rows_of}
 use Rattle.bl_load.specs.Value.{EntryValue, kernel_file, lines_fault, lines_of}
+use Rattle.bl_load.proofs.LinuxKernelLemmas.{setup_is}
 use Rattle.bl_walk.specs.declared.seen.SeenPart.{SeenPart}
-use Rattle.bl_walk.specs.Seen.{ParametersShow, IsSeen, kernel_in}
+use Rattle.bl_walk.specs.Kept.{seen_alone}
+use Rattle.bl_walk.specs.Seen.{ParametersShow, IsSeen}
 use Rattle.bl_walk.specs.SeenFacts.{SeenFacts}
-use Rattle.bl_walk.specs.Shown.{ShowsEntry, ShowsKernel, ShowsFiles, ShowsPayload, HasByteLines}
-use Rattle.bl_walk.specs.State.{IsEntered, entry_registers}
+use Rattle.bl_walk.specs.Shown.{ShowsEntry, ShowsKernel, ShowsFiles, ShowsPayload, ShowsRamdisk}
+use Rattle.bl_walk.specs.State.{IsEntered}
 use Rattle.bl_walk.proofs.KernelLemmas.{AreSplit, are_split, first_places, kernel_shown, seen_place}
 use Rattle.bl_walk.proofs.EntryPartLemmas.{entered_in}
+use Rattle.bl_walk.proofs.RegisterLemmas.{as_entered, entered_from, gdt_from}
 use Rattle.bl_walk.proofs.ParametersLemmas.{params_rows, kernel_of_kernel, params_other, payload_at}
-use Rattle.bl_walk.proofs.ParametersLemmas.{kernel_entered, front_is_gdt}
+use Rattle.bl_walk.proofs.ParametersLemmas.{kernel_entered}
 use Rattle.bl_walk.proofs.ParametersHeld.{initrd, content, handover, params, held, filled_places}
 use Rattle.bl_walk.proofs.ParametersHeld.{placed_row, say, line_seen, ramdisk}
 
 module _ (facts : MachineFacts) (value : EntryValue) (setup : Setup) (places : List Place)
     (machine : AreMachineFacts facts) (bytes : HasByteLines value)
-    (lines : lines_fault (lines_of value) ≡ None) (is_linux : value.protocol ≡ Linux)
-    (is_kernel : IsLinuxKernel facts.runs value.line (kernel_file value) setup)
+    (lines : lines_fault (lines_of value) ≡ None) (handed : has_params value.protocol ≡ true)
+    (is_kernel : IsLinuxKernel value.protocol facts.runs value.line (kernel_file value) setup)
     (placed : ArePlaced facts [] (rows_of facts value (linux setup)) places)
     (apart : AllPairs (λ p q. end_of p ≤ q.address)
     (handover_of facts value (linux setup) places).parts) where
   -- ---- all of it
 
   abbrev pub seen : SeenFacts
-  seen = record {
-    protocol = value.protocol;
-    entry = (handover facts value setup places).registers.eip;
-    line = value.line;
-    kernel = kernel_in (handover facts value setup places).parts;
-    modules = [];
+  seen = record (seen_alone (handover facts value setup places) value.line facts.runs) {
     initrd =
-        (ramdisk facts value setup places machine bytes lines is_linux is_kernel placed apart
+        (ramdisk facts value setup places machine bytes lines handed is_kernel placed apart
         (initrd facts value setup places) refl).0;
-    map = facts.runs;
   }
 
   shows : ParametersShow (handover facts value setup places) seen
   shows =
       record {
         params = params facts value setup places;
-        say = say facts value setup places machine bytes lines is_linux is_kernel placed apart;
+        say = say facts value setup places machine bytes lines handed is_kernel placed apart;
         line =
-            line_seen facts value setup places machine bytes lines is_linux is_kernel placed apart;
+            line_seen facts value setup places machine bytes lines handed is_kernel placed apart;
         modules = refl;
         initrd =
-            (ramdisk facts value setup places machine bytes lines is_linux is_kernel placed apart
+            (ramdisk facts value setup places machine bytes lines handed is_kernel placed apart
             (initrd facts value setup places) refl).1;
         runs = refl;
       }
@@ -68,19 +68,23 @@ module _ (facts : MachineFacts) (value : EntryValue) (setup : Setup) (places : L
   linux_seen = record { protocol = refl; entry = refl; kernel = refl; shown = inr shows }
 
   split : AreSplit facts [] (linux_kernel_row setup ∷ [])
-      (params_rows setup (initrd facts value setup places)) places
+      (params_rows value.protocol setup (initrd facts value setup places)) places
   unfolding params_rows
   split =
       are_split facts [] (linux_kernel_row setup ∷ [])
-      (params_rows setup (initrd facts value setup places)) places placed
+      (params_rows value.protocol setup (initrd facts value setup places)) places placed
 
-  payload : ShowsPayload setup seen
-  payload =
-      kernel_shown facts value (linux setup) places lines (is_linux, is_kernel) placed
+  kernel_part : seen.kernel
+      ≡ record {
+        address = address_of Kernel 0 places;
+        length = (linux_kernel_row setup).length;
+      } ∷ []
+  kernel_part =
+      kernel_shown facts value (linux setup) places lines (handed, is_kernel) placed
       ∙ ap (map seen_place)
       (first_places facts (linux_kernel_row setup ∷ [])
-      (params_rows setup (initrd facts value setup places)) places split
-      (kernel_of_kernel setup) (params_other setup (initrd facts value setup places)))
+      (params_rows value.protocol setup (initrd facts value setup places)) places split
+      (kernel_of_kernel setup) (params_other value.protocol setup (initrd facts value setup places)))
       ∙ payload_at facts setup split.places_first split.places_rest split.placed_first
       ∙ ap
       (λ (ps : List Place).
@@ -90,19 +94,36 @@ module _ (facts : MachineFacts) (value : EntryValue) (setup : Setup) (places : L
         length = (linux_kernel_row setup).length;
       } in part ∷ [])) (sym split.both)
 
+  payload : ShowsPayload 0 setup seen
+  payload =
+      let from = entered_from (linux setup) places value.protocol in
+      record {
+        base = address_of Kernel 0 places;
+        entry = omega (arith, from);
+        kernel = kernel_part;
+      }
+
+  -- so a kernel is shown that is handed boot parameters, and its files
+  kernel_by : (p : Protocol) → has_params p ≡ true → ShowsKernel value seen p
+  kernel_by Multiboot2 is = absurd (cc)
+  kernel_by Linux is = (setup, setup_is is_kernel, payload)
+
+  files_by : (p : Protocol) → has_params p ≡ true → ShowsRamdisk value seen
+      → ShowsFiles value seen p
+  files_by Multiboot2 is shown = absurd (cc)
+  files_by Linux is shown = shown
+
   pub linux_shown : ShowsEntry facts value seen
   linux_shown = record {
     protocol = refl;
     line = refl;
-    kernel =
-        subst (λ (p : Protocol). ShowsKernel value seen p) (sym is_linux)
-        (setup, is_kernel.is_setup, payload);
+    kernel = kernel_by value.protocol handed;
     files =
-        subst (λ (p : Protocol). ShowsFiles value seen p) (sym is_linux)
+        files_by value.protocol handed
         (record {
           modules = refl;
           initrd =
-              (ramdisk facts value setup places machine bytes lines is_linux is_kernel placed
+              (ramdisk facts value setup places machine bytes lines handed is_kernel placed
               apart (initrd facts value setup places) refl).2;
         });
     runs = refl;
@@ -111,20 +132,22 @@ module _ (facts : MachineFacts) (value : EntryValue) (setup : Setup) (places : L
   pub linux_entered : IsEntered (handover facts value setup places)
   unfolding params_rows
   linux_entered = record {
-    registers =
-        subst
-        (λ (p : Protocol).
-        (handover facts value setup places).registers
-        ≡ entry_registers p (handover facts value setup places).registers)
-        (sym is_linux) refl;
+    registers = as_entered (linux setup) places value.protocol;
     kernel =
-        entered_in places (content facts value setup places) apart (address_of Kernel 0 places)
-        (kernel_entered facts setup (initrd facts value setup places) places placed
-        (filled_places facts value setup places machine bytes lines is_linux is_kernel placed
-        apart));
+        rw (entered_from (linux setup) places value.protocol)
+        (entered_in places (content facts value setup places) apart (address_of Kernel 0 places)
+        (kernel_entered facts value.protocol setup (initrd facts value setup places) places placed
+        (filled_places facts value setup places machine bytes lines handed is_kernel placed
+        apart)));
     descriptors =
-        λ _.
-        held facts value setup places machine bytes lines is_linux is_kernel placed apart Gdt 0
-        32 (placed_row facts value setup places machine bytes lines is_linux is_kernel
-        placed apart Gdt refl) (omega arith) ∙ ap Some front_is_gdt;
+        λ gdt is.
+        let own : content facts value setup places Gdt 0 ≡ gdt = rw is refl in
+        let long = ap length own in
+        let there =
+        held facts value setup places machine bytes lines handed is_kernel placed apart Gdt 0
+        (length gdt)
+        (placed_row facts value setup places machine bytes lines handed is_kernel placed apart
+        Gdt refl) (omega arith)
+        ∙ ap Some (ap (take (length gdt)) own ∙ take-length gdt) in
+        rw (gdt_from (linux setup) places value.protocol gdt is) there;
   }

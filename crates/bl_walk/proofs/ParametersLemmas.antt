@@ -1,34 +1,36 @@
 -- The rows of a Linux entry, as its kernel sees their parts.
-use Rattle.std.proofs.Common.{◌≡◌, ◌≤◌, ◌∷◌, ◌++◌, ℕ, Bool, true, false, List, [], map, length}
-use Rattle.std.proofs.Common.{take, Some, None, cond, refl, sym, ap, ◌∙◌, arith, All, nat_eq}
+use Rattle.std.proofs.Common.{◌≡◌, ◌≤◌, ◌∷◌, ◌++◌, ℕ, true, List, [], map}
+use Rattle.std.proofs.Common.{refl, sym, ap, ◌∙◌, arith, All, nat_eq}
 use Rattle.std.specs.List.{list_any}
 use Rattle.std.proofs.lemmas.Bool.{cond_both}
-use Rattle.std.proofs.lemmas.List.Elements.{All-head, All-cons, All-nil}
-use Rattle.std.proofs.Math.Seq.{take-length}
+use Rattle.std.specs.Prelude.{option_to_list}
+use Rattle.std.proofs.lemmas.List.Elements.{All-append, All-head, All-cons, All-nil}
 use Rattle.bl_map.specs.MachineFacts.{MachineFacts}
 use Rattle.bl_map.specs.Limits.{most_size}
 use Rattle.bl_bzimage.specs.declared.setup.Setup.{Setup}
-use Rattle.bl_params.specs.Gdt.{gdt}
 use Rattle.bl_plan.specs.Order.{in_order}
 use Rattle.bl_plan.specs.Placed.{ArePlaced, place_at}
 use Rattle.bl_plan.specs.declared.part.Place.{Place}
 use Rattle.bl_plan.specs.declared.part.Role.TheVariants.{Kernel, BootParams, CommandLine, Gdt}
+use Rattle.bl_plan.specs.declared.part.Role.TheVariants.{Initrd}
+use Rattle.bl_plan.specs.declared.protocol.Protocol.{Protocol}
+use Rattle.bl_plan.specs.declared.protocol.Protocol.TheVariants as protocols
 use Rattle.bl_plan.specs.declared.part.Row.{Row}
 use Rattle.bl_load.specs.Addresses.{address_of}
-use Rattle.bl_load.specs.declared.refusal.Refusal.{Refusal}
 use Rattle.bl_load.specs.Handover.{filled}
 use Rattle.bl_load.specs.LinuxRows.{fixed_row, moved_row, linux_kernel_row, frame_row, line_limit}
-use Rattle.bl_load.specs.LinuxRows.{initrd_rows, linux_rows}
+use Rattle.bl_load.specs.LinuxRows.{paging_row, initrd_rows, linux_rows}
 use Rattle.bl_load.proofs.RowPlaceLemmas.{Anywhere}
+use Rattle.bl_walk.proofs.InformationLemmas.{is_row}
 use Rattle.bl_walk.proofs.KernelLemmas.{IsOfKernel, IsOther, seen_place}
 use Rattle.bl_walk.proofs.EntryPartLemmas.{kernel_holds, holds_by}
 
 -- ---- the rows
 
-unfoldable pub params_rows : Setup → List ℕ → List Row
-params_rows setup initrd =
+unfoldable pub params_rows : Protocol → Setup → List ℕ → List Row
+params_rows protocol setup initrd =
     frame_row BootParams most_size ∷ frame_row CommandLine line_limit ∷ frame_row Gdt most_size
-    ∷ initrd_rows setup initrd
+    ∷ (option_to_list (paging_row protocol) ++ initrd_rows setup initrd)
 
 pub kernel_of_kernel : (setup : Setup) → All (Anywhere IsOfKernel) (linux_kernel_row setup ∷ [])
 kernel_of_kernel setup =
@@ -42,24 +44,32 @@ initrd_other setup [] = All-nil (Anywhere IsOther)
 initrd_other setup (byte ∷ bytes) =
     All-cons (Anywhere IsOther) _ [] (λ a. refl) (All-nil (Anywhere IsOther))
 
-pub params_other : (setup : Setup) (initrd : List ℕ)
-    → All (Anywhere IsOther) (params_rows setup initrd)
-unfolding params_rows
-params_other setup initrd =
-    All-cons (Anywhere IsOther) (frame_row BootParams most_size)
-    (frame_row CommandLine line_limit ∷ frame_row Gdt most_size ∷ initrd_rows setup initrd)
-    (λ a. refl)
-    (All-cons (Anywhere IsOther) (frame_row CommandLine line_limit)
-    (frame_row Gdt most_size ∷ initrd_rows setup initrd) (λ a. refl)
-    (All-cons (Anywhere IsOther) (frame_row Gdt most_size) (initrd_rows setup initrd) (λ a. refl)
-    (initrd_other setup initrd)))
+paging_other : (protocol : Protocol)
+    → All (Anywhere IsOther) (option_to_list (paging_row protocol))
+paging_other protocols.Multiboot2 = All-nil (Anywhere IsOther)
+paging_other protocols.Linux = All-nil (Anywhere IsOther)
 
--- the map has no more runs than boot parameters have room for
-pub few_told : (a b : Bool) (x y : Refusal) → cond a (Some x) (cond b (Some y) None) ≡ None
-    → b ≡ false
-few_told true b x y told = absurd cc
-few_told false true x y told = absurd cc
-few_told false false x y told = refl
+pub params_other : (protocol : Protocol) (setup : Setup) (initrd : List ℕ)
+    → All (Anywhere IsOther) (params_rows protocol setup initrd)
+unfolding params_rows
+params_other protocol setup initrd =
+    let paging = option_to_list (paging_row protocol) in
+    All-cons (Anywhere IsOther) (frame_row BootParams most_size)
+    (frame_row CommandLine line_limit ∷ frame_row Gdt most_size
+    ∷ (paging ++ initrd_rows setup initrd)) (λ a. refl)
+    (All-cons (Anywhere IsOther) (frame_row CommandLine line_limit)
+    (frame_row Gdt most_size ∷ (paging ++ initrd_rows setup initrd)) (λ a. refl)
+    (All-cons (Anywhere IsOther) (frame_row Gdt most_size) (paging ++ initrd_rows setup initrd)
+    (λ a. refl)
+    (All-append (Anywhere IsOther) paging (initrd_rows setup initrd) (paging_other protocol)
+    (initrd_other setup initrd))))
+
+-- an initial ramdisk that has a byte has a row
+pub ramdisk_row : (protocol : Protocol) (setup : Setup) (byte : ℕ) (bytes : List ℕ)
+    → list_any (is_row Initrd 0) (params_rows protocol setup (byte ∷ bytes)) ≡ true
+unfolding params_rows
+ramdisk_row protocols.Multiboot2 setup byte bytes = refl
+ramdisk_row protocols.Linux setup byte bytes = refl
 
 -- ---- the kernel's place
 
@@ -94,18 +104,14 @@ payload_at facts setup (p ∷ []) others placed =
     λ i. record { address = sym address i; length = size i } ∷ []
 
 -- it is entered there
-pub kernel_entered : (facts : MachineFacts) (setup : Setup) (initrd : List ℕ) (places : List Place)
-    → ArePlaced facts [] (linux_rows setup initrd) places → All (λ p. 1 ≤ p.length) places
+pub kernel_entered : (facts : MachineFacts) (protocol : Protocol) (setup : Setup)
+    (initrd : List ℕ) (places : List Place)
+    → ArePlaced facts [] (linux_rows protocol setup initrd) places → All (λ p. 1 ≤ p.length) places
     → list_any (kernel_holds (address_of Kernel 0 places)) places ≡ true
-kernel_entered facts setup initrd [] placed filled = absurd placed
-kernel_entered facts setup initrd (p ∷ places) placed filled =
+kernel_entered facts protocol setup initrd [] placed filled = absurd placed
+kernel_entered facts protocol setup initrd (p ∷ places) placed filled =
     let address = first_address setup p places placed.1 in
     let role : p.role ≡ Kernel = ap (λ (q : Place). q.role) placed.1 ∙ (kernel_named setup).0 in
     let some = All-head (λ (q : Place). 1 ≤ q.length) p places filled in
     let here = holds_by (address_of Kernel 0 (p ∷ places)) p role (omega arith) (omega arith) in
     rw here refl
-
-pub front_is_gdt : take 32 gdt ≡ gdt
-front_is_gdt =
-    let size : length gdt ≡ 32 =
-    omega arith in ap (λ (n : ℕ). take n gdt) (sym size) ∙ take-length gdt

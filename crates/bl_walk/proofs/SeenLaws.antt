@@ -9,7 +9,7 @@ use Rattle.bl_walk.specs.Seen.{IsSeenModule, AreSeenModules, InformationShows, I
 use Rattle.bl_walk.specs.Seen.{ParametersShow, IsSeen, text_of}
 use Rattle.bl_walk.specs.SeenFacts.{SeenModuleFacts, SeenFileFacts, SeenFacts}
 use Rattle.bl_walk.proofs.LengthLemmas.{same_some}
-use Rattle.bl_walk.proofs.OneToldLemmas.{same_info, same_params}
+use Rattle.bl_walk.proofs.OneToldLemmas.{not_handed, same_info, same_params}
 
 same_module : (parts : List Part) (m : ModuleInfo) (s t : SeenModuleFacts) → IsSeenModule parts m s
     → IsSeenModule parts m t → s ≡ t
@@ -84,9 +84,7 @@ by_parameters h s t a b =
 -- one protocol
 apart : (h : Handover) (s t : SeenFacts) → InformationShows h s → ParametersShow h t → ⊥
 apart h s t a b =
-    let one = a.says.information.total_size.protocol in
-    let other = b.say.parameters.protocol in
-    cc
+    not_handed h.protocol a.says.information.total_size.protocol b.say.parameters.handed
 
 all_same : (h : Handover) (s t : SeenFacts) → IsSeen h s → IsSeen h t → AreSame s t
 all_same h s t a b =

@@ -1,18 +1,19 @@
 -- Where something is seen in an image that is entered as it must be, no fault stands.
 use Rattle.std.proofs.Common.{◌≡◌, ℕ, List, [], Option, Some, None, Result, Ok, Err, sym, ap, ◌∙◌}
-use Rattle.std.proofs.Common.{arith, subst, ⊎_elim}
+use Rattle.std.proofs.Common.{arith, length, subst, ⊎_elim}
 use Rattle.std.specs.Prelude.{IfOk, OnOk}
 use Rattle.std.specs.List.{Contains}
 use Rattle.bl_mbi.specs.InfoFacts.{InfoFacts}
 use Rattle.bl_mbi.specs.Reading.{info_of}
 use Rattle.bl_params.specs.ParamsFacts.{ParamsFacts}
-use Rattle.bl_params.specs.Gdt.{gdt}
 use Rattle.bl_params.specs.Reading.{IsParams}
 use Rattle.bl_params.proofs.ParamsLaws.{not_both}
-use Rattle.bl_plan.specs.declared.protocol.Protocol.TheVariants.{Multiboot2, Linux}
+use Rattle.bl_plan.specs.declared.protocol.Protocol.TheVariants.{Multiboot2}
 use Rattle.bl_load.specs.Handover.{Handover}
+use Rattle.bl_load.specs.Protocols.{descriptors_of}
+use Rattle.bl_load.specs.Registers.{information_in, gdt_in}
 use Rattle.bl_walk.specs.Faults.{IsFollowed, IsOutside, HasBadInfo, HasBadState, IsSound}
-use Rattle.bl_walk.specs.Faults.{fixed_part, information, loaded_module, descriptors, boot_params}
+use Rattle.bl_walk.specs.Faults.{size_word, information, loaded_module, descriptors, boot_params}
 use Rattle.bl_walk.specs.Faults.{command_line, initrd, outside_kernel, outside_parts}
 use Rattle.bl_walk.specs.Faults.{short_information, other_information, other_parameters}
 use Rattle.bl_walk.specs.Faults.{endless_line, other_registers, other_descriptors}
@@ -23,6 +24,7 @@ use Rattle.bl_walk.specs.SeenFacts.{SeenModuleFacts, SeenFileFacts, SeenFacts}
 use Rattle.bl_walk.specs.State.{IsEntered}
 use Rattle.bl_walk.proofs.RangeLemmas.{nothing_in, rest_is_inside}
 use Rattle.bl_walk.proofs.LengthLemmas.{same_some}
+use Rattle.bl_walk.proofs.OneToldLemmas.{not_handed, no_descriptors}
 use Rattle.bl_walk.proofs.OneToldLemmas.{not_none, same_size, same_information, says_read}
 use Rattle.bl_walk.proofs.OneToldLemmas.{same_info, same_bytes, same_params, seen_at}
 
@@ -36,11 +38,11 @@ module _ (h : Handover) (info : InfoFacts) (ss : List SeenModuleFacts)
 
   followed_inside : (address count : ℕ) → IsFollowed h address count
       → bytes_in h.parts address count ≡ None → ⊥
-  followed_inside address count (fixed_part p) none =
-      not_none _ says.information.total_size.fixed_part says.information.total_size.front none
+  followed_inside address count (size_word p) none =
+      not_none _ says.information.total_size.word says.information.total_size.whole none
   followed_inside address count (information size is least) none =
       let same =
-      ap (bytes_in h.parts h.registers.ebx)
+      ap (bytes_in h.parts (information_in h.registers))
       (same_size h size says.information.size is says.information.total_size) in
       not_none _ says.bytes (same ∙ says.information.whole) none
   followed_inside address count (loaded_module other m is among) none =
@@ -48,12 +50,13 @@ module _ (h : Handover) (info : InfoFacts) (ss : List SeenModuleFacts)
       let here = subst (λ (i : InfoFacts). Contains i.facts.modules m) same among in
       let seen = seen_at h.parts info.facts.modules ss here.0 m modules here.1 here.2 in
       not_none _ seen.0 seen.1 none
-  followed_inside address count (descriptors p) none = let q = protocol_is in cc
-  followed_inside address count (boot_params p) none = let q = protocol_is in cc
+  followed_inside address count (descriptors gdt p) none =
+      no_descriptors h.protocol gdt protocol_is p
+  followed_inside address count (boot_params p) none = not_handed h.protocol protocol_is p
   followed_inside address count (command_line params is) none =
-      let q = protocol_is in let p = is.parameters.protocol in cc
+      not_handed h.protocol protocol_is is.parameters.handed
   followed_inside address count (initrd params is) none =
-      let q = protocol_is in let p = is.parameters.protocol in cc
+      not_handed h.protocol protocol_is is.parameters.handed
 
   good_information : HasBadInfo h → ⊥
   good_information (short_information size is low) =
@@ -65,18 +68,19 @@ module _ (h : Handover) (info : InfoFacts) (ss : List SeenModuleFacts)
       let read = says_read h info says in
       cc
   good_information (other_parameters bytes fault are other first) =
-      let q = protocol_is in let p = are.protocol in cc
+      not_handed h.protocol protocol_is are.handed
   good_information (endless_line params rest is from none) =
-      let q = protocol_is in let p = is.parameters.protocol in cc
+      not_handed h.protocol protocol_is is.parameters.handed
 
 -- ---- Linux
 
 module _ (h : Handover) (params : ParamsFacts) (line : List ℕ) (file : Option SeenFileFacts)
     (say : ParametersSay h params)
     (text : IsLine h.parts params.cmd_line_ptr line) (ramdisk : IsInitrd h.parts params file)
-    (table : bytes_in h.parts h.registers.gdt_base 32 ≡ Some gdt) where
-  protocol_linux : h.protocol ≡ Linux
-  protocol_linux = say.parameters.protocol
+    (tables : (gdt : List ℕ) → descriptors_of h.protocol ≡ Some gdt
+    → bytes_in h.parts (gdt_in h.registers) (length gdt) ≡ Some gdt) where
+  not_told : h.protocol ≡ Multiboot2 → ⊥
+  not_told is = not_handed h.protocol is say.parameters.handed
 
   ramdisk_inside : (seen : Option SeenFileFacts) → IsInitrd h.parts params seen
       → (bytes : List ℕ) × (bytes_in h.parts params.ramdisk_image params.ramdisk_size ≡ Some bytes)
@@ -85,12 +89,11 @@ module _ (h : Handover) (params : ParamsFacts) (line : List ℕ) (file : Option 
 
   linux_inside : (address count : ℕ) → IsFollowed h address count
       → bytes_in h.parts address count ≡ None → ⊥
-  linux_inside address count (fixed_part p) none = let q = protocol_linux in cc
-  linux_inside address count (information size is least) none =
-      let q = protocol_linux in let p = is.protocol in cc
+  linux_inside address count (size_word p) none = not_told p
+  linux_inside address count (information size is least) none = not_told is.protocol
   linux_inside address count (loaded_module other m is among) none =
-      let q = protocol_linux in let p = is.information.total_size.protocol in cc
-  linux_inside address count (descriptors p) none = not_none _ gdt table none
+      not_told is.information.total_size.protocol
+  linux_inside address count (descriptors gdt p) none = not_none _ gdt (tables gdt p) none
   linux_inside address count (boot_params p) none = not_none _ say.bytes say.parameters.whole none
   linux_inside address count (command_line other is) none =
       let same =
@@ -105,10 +108,8 @@ module _ (h : Handover) (params : ParamsFacts) (line : List ℕ) (file : Option 
       not_none _ held.0 held.1 (same ∙ none)
 
   good_parameters : HasBadInfo h → ⊥
-  good_parameters (short_information size is low) =
-      let q = protocol_linux in let p = is.protocol in cc
-  good_parameters (other_information bytes fault is refused) =
-      let q = protocol_linux in let p = is.total_size.protocol in cc
+  good_parameters (short_information size is low) = not_told is.protocol
+  good_parameters (other_information bytes fault is refused) = not_told is.total_size.protocol
   good_parameters (other_parameters bytes fault are other first) =
       let same = same_bytes h say.bytes bytes say.parameters are in
       not_both bytes params fault other (subst (λ bs. IsParams bs params) same say.told) first
@@ -126,8 +127,8 @@ module _ (h : Handover) (params : ParamsFacts) (line : List ℕ) (file : Option 
 module _ (h : Handover) (seen : SeenFacts) (entered : IsEntered h) where
   entered_state : HasBadState h → ⊥
   entered_state (other_registers other) = other entered.registers
-  entered_state (other_descriptors bytes p is other) =
-      other (same_some bytes gdt (sym is ∙ entered.descriptors p))
+  entered_state (other_descriptors gdt bytes p is other) =
+      other (same_some bytes gdt (sym is ∙ entered.descriptors gdt p))
 
   entered_inside : ((address count : ℕ) → IsFollowed h address count
       → bytes_in h.parts address count ≡ None → ⊥) → IsOutside h → ⊥
@@ -142,18 +143,16 @@ module _ (h : Handover) (seen : SeenFacts) (entered : IsEntered h) where
   }
 
   sound_parameters : ParametersShow h seen → IsSound h
-  sound_parameters shown =
-      let table = entered.descriptors shown.say.parameters.protocol in
-      record {
-        inside =
-            entered_inside
-            (linux_inside h shown.params seen.line seen.initrd shown.say shown.line shown.initrd
-            table);
-        info =
-            good_parameters h shown.params seen.line seen.initrd shown.say shown.line
-            shown.initrd table;
-        state = entered_state;
-      }
+  sound_parameters shown = record {
+    inside =
+        entered_inside
+        (linux_inside h shown.params seen.line seen.initrd shown.say shown.line shown.initrd
+        entered.descriptors);
+    info =
+        good_parameters h shown.params seen.line seen.initrd shown.say shown.line shown.initrd
+        entered.descriptors;
+    state = entered_state;
+  }
 
 pub seen_is_sound : (h : Handover) (seen : SeenFacts) → IsEntered h → IsSeen h seen → IsSound h
 seen_is_sound h seen entered is =

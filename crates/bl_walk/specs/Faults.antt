@@ -1,17 +1,18 @@
 -- Why an image shows a kernel nothing. Own.
-use Rattle.std.specs.Prelude.{◌≡◌, ◌-◌, ◌<◌, ◌≤◌, ℕ, List, Some, None, Err, false}
+use Rattle.std.specs.Prelude.{◌≡◌, ◌-◌, ◌<◌, ◌≤◌, ℕ, List, length, Some, None, Err, true, false}
 use Rattle.std.specs.List.{Contains}
 use Rattle.bl_mbi.specs.InformationFacts.{ModuleInfo}
 use Rattle.bl_mbi.specs.InfoFacts.{InfoFacts}
 use Rattle.bl_mbi.specs.Reading.{info_of}
 use Rattle.bl_mbi.specs.declared.fault.InfoFault.{InfoFault}
-use Rattle.bl_params.specs.Gdt.{gdt}
 use Rattle.bl_params.specs.ParamsFacts.{ParamsFacts}
 use Rattle.bl_params.specs.Reading.{HasFirstFault}
 use Rattle.bl_params.specs.declared.fault.ParamFault.{ParamFault}
 use Rattle.bl_params.specs.declared.fault.ParamFault.TheVariants as param_fault
-use Rattle.bl_plan.specs.declared.protocol.Protocol.TheVariants.{Multiboot2, Linux}
+use Rattle.bl_plan.specs.declared.protocol.Protocol.TheVariants.{Multiboot2}
 use Rattle.bl_load.specs.Handover.{Handover}
+use Rattle.bl_load.specs.Protocols.{has_params, descriptors_of}
+use Rattle.bl_load.specs.Registers.{entry_in, information_in, params_in, gdt_in}
 use Rattle.bl_walk.specs.declared.fault.WalkFault.{WalkFault}
 use Rattle.bl_walk.specs.declared.fault.WalkFault.TheVariants.{OutsideImage, BadInfo, BadState}
 use Rattle.bl_walk.specs.declared.fault.WalkFault.TheVariants.{NoMemory}
@@ -28,14 +29,18 @@ walk_fault_number NoMemory = 84
 
 -- the ranges that a kernel follows, each an address and a number of bytes
 pub data IsFollowed (h : Handover) : ℕ → ℕ → Type 0 where
-  -- Multiboot2: total_size and the reserved word, all of the information, each module
-  fixed_part : h.protocol ≡ Multiboot2 → IsFollowed h h.registers.ebx 8
-  information : (size : ℕ) → HasTotalSize h size → 16 ≤ size → IsFollowed h h.registers.ebx size
+  -- Multiboot2: the word total_size; as many bytes, if they are enough for the fixed part and the
+  -- tag that ends the information; each module
+  size_word : h.protocol ≡ Multiboot2 → IsFollowed h (information_in h.registers) 4
+  information : (size : ℕ) → HasTotalSize h size → 16 ≤ size
+      → IsFollowed h (information_in h.registers) size
   loaded_module : (info : InfoFacts) (m : ModuleInfo) → InformationSays h info
       → Contains info.facts.modules m → IsFollowed h m.mod_start (m.mod_end - m.mod_start)
-  -- Linux: the descriptors, the boot parameters, the line's first byte, the initial ramdisk
-  descriptors : h.protocol ≡ Linux → IsFollowed h h.registers.gdt_base 32
-  boot_params : h.protocol ≡ Linux → IsFollowed h h.registers.esi 4096
+  -- the descriptors, where a kernel is handed them
+  descriptors : (gdt : List ℕ) → descriptors_of h.protocol ≡ Some gdt
+      → IsFollowed h (gdt_in h.registers) (length gdt)
+  -- Linux: the boot parameters, the line's first byte, the initial ramdisk
+  boot_params : has_params h.protocol ≡ true → IsFollowed h (params_in h.registers) 4096
   command_line : (params : ParamsFacts) → ParametersSay h params
       → IsFollowed h params.cmd_line_ptr 1
   initrd : (params : ParamsFacts) → ParametersSay h params
@@ -43,7 +48,7 @@ pub data IsFollowed (h : Handover) : ℕ → ℕ → Type 0 where
 
 -- 81: the kernel is entered outside of its parts, or a range that it follows lies in no one part
 pub data IsOutside (h : Handover) : Type 0 where
-  outside_kernel : is_in_kernel h.parts h.registers.eip ≡ false → IsOutside h
+  outside_kernel : is_in_kernel h.parts (entry_in h.registers) ≡ false → IsOutside h
   outside_parts : (address count : ℕ) → IsFollowed h address count
       → bytes_in h.parts address count ≡ None → IsOutside h
 
@@ -57,12 +62,13 @@ pub data HasBadInfo (h : Handover) : Type 0 where
   endless_line : (params : ParamsFacts) (rest : List ℕ) → ParametersSay h params
       → rest_in h.parts params.cmd_line_ptr ≡ Some rest → text_of rest ≡ None → HasBadInfo h
 
--- 83: a register that does not hold an address has another number, or a Linux kernel is handed
--- other descriptors
+-- 83: a register that does not hold an address has another number, or the kernel is handed other
+-- descriptors than its protocol gives it
 pub data HasBadState (h : Handover) : Type 0 where
   other_registers : ¬ (h.registers ≡ entry_registers h.protocol h.registers) → HasBadState h
-  other_descriptors : (bytes : List ℕ) → h.protocol ≡ Linux
-      → bytes_in h.parts h.registers.gdt_base 32 ≡ Some bytes → ¬ (bytes ≡ gdt) → HasBadState h
+  other_descriptors : (gdt bytes : List ℕ) → descriptors_of h.protocol ≡ Some gdt
+      → bytes_in h.parts (gdt_in h.registers) (length gdt) ≡ Some bytes → ¬ (bytes ≡ gdt)
+      → HasBadState h
 
 -- a fault stands; want of memory says nothing of the image
 abbrev pub HasFault : Handover → WalkFault → Type 0

@@ -1,16 +1,33 @@
--- What the code keeps as it looks for a part, and the faults of others as it answers them.
-use Rattle.std.specs.Prelude.{ℕ, nat_le, Bool}
+-- What the code keeps as it looks for a part and tells what is seen, and the faults of others as it
+-- answers them.
+use Rattle.std.specs.Prelude.{ℕ, nat_le, Bool, List, [], None}
+use Rattle.bl_map.specs.declared.region.Region.{Region}
 use Rattle.bl_mbi.specs.declared.fault.InfoFault.{InfoFault}
 use Rattle.bl_mbi.specs.declared.fault.InfoFault.TheVariants as info_fault
 use Rattle.bl_params.specs.declared.fault.ParamFault.{ParamFault}
 use Rattle.bl_params.specs.declared.fault.ParamFault.TheVariants as param_fault
-use Rattle.bl_load.specs.Handover.{Part}
+use Rattle.bl_load.specs.Handover.{Part, Handover}
+use Rattle.bl_load.specs.Registers.{entry_in}
+use Rattle.bl_walk.specs.Seen.{kernel_in}
+use Rattle.bl_walk.specs.SeenFacts.{SeenFacts}
 use Rattle.bl_walk.specs.declared.fault.WalkFault.{WalkFault}
 use Rattle.bl_walk.specs.declared.fault.WalkFault.TheVariants.{BadInfo, NoMemory}
 
 -- whether a part begins at an address or below it
 abbrev pub begins_upto : ℕ → Part → Bool
 begins_upto address part = nat_le part.address address
+
+-- what a kernel sees that is told this line and these runs, and of no file beside it
+abbrev pub seen_alone : Handover → List ℕ → List Region → SeenFacts
+seen_alone h line runs = record {
+  protocol = h.protocol;
+  entry = entry_in h.registers;
+  line = line;
+  kernel = kernel_in h.parts;
+  modules = [];
+  initrd = None;
+  map = runs;
+}
 
 -- how a fault of the information, or of the boot parameters, is answered
 abbrev pub information_refusal : InfoFault → WalkFault

@@ -2,15 +2,17 @@
 -- state", 3.6 "Boot information format"; Linux/x86 boot protocol, "32-bit Boot Protocol", "Details
 -- of Header Fields").
 use Rattle.std.specs.Prelude.{◌≡◌, ◌-◌, ◌<◌, ◌≤◌, ◌^◌, ◌⊎◌, ℕ, List, [], ◌∷◌, length, map, take}
-use Rattle.std.specs.Prelude.{◌==◌, Option, Some, None, option_map}
+use Rattle.std.specs.Prelude.{◌==◌, true, Option, Some, None, option_map}
 use Rattle.std.specs.List.{filter, position}
 use Rattle.bl_mem.specs.Words.{u32_at}
 use Rattle.bl_mbi.specs.InformationFacts.{ModuleInfo}
 use Rattle.bl_mbi.specs.InfoFacts.{InfoFacts, IsSpelling}
 use Rattle.bl_params.specs.ParamsFacts.{ParamsFacts}
 use Rattle.bl_params.specs.Reading.{IsParams}
-use Rattle.bl_plan.specs.declared.protocol.Protocol.TheVariants.{Multiboot2, Linux}
+use Rattle.bl_plan.specs.declared.protocol.Protocol.TheVariants.{Multiboot2}
 use Rattle.bl_load.specs.Handover.{Part, Handover}
+use Rattle.bl_load.specs.Protocols.{has_params}
+use Rattle.bl_load.specs.Registers.{entry_in, information_in, params_in}
 use Rattle.bl_walk.specs.declared.seen.SeenPart.{SeenPart}
 use Rattle.bl_walk.specs.Inside.{bytes_in, rest_in}
 use Rattle.bl_walk.specs.State.{is_kernel}
@@ -24,12 +26,12 @@ kernel_in parts =
 
 -- ---- Multiboot2
 
--- the first word at the address in ebx (3.6 "Boot information format": total_size, reserved)
+-- the word at the information's address (3.3: ebx; 3.6 "Boot information format": total_size)
 pub record HasTotalSize (h : Handover) (size : ℕ) : Type 0 where
   pub protocol : h.protocol ≡ Multiboot2
-  pub fixed_part : List ℕ
-  pub front : bytes_in h.parts h.registers.ebx 8 ≡ Some fixed_part
-  pub told : size ≡ u32_at fixed_part 0
+  pub word : List ℕ
+  pub whole : bytes_in h.parts (information_in h.registers) 4 ≡ Some word
+  pub told : size ≡ u32_at word 0
   pub small : size < 2 ^ 32
 
 -- the information's bytes: as many from that address on, and at least the fixed part and the tag
@@ -38,7 +40,7 @@ pub record IsInformation (h : Handover) (bytes : List ℕ) : Type 0 where
   pub size : ℕ
   pub total_size : HasTotalSize h size
   pub least : 16 ≤ size
-  pub whole : bytes_in h.parts h.registers.ebx size ≡ Some bytes
+  pub whole : bytes_in h.parts (information_in h.registers) size ≡ Some bytes
 
 -- what it says
 pub record InformationSays (h : Handover) (info : InfoFacts) : Type 0 where
@@ -71,10 +73,10 @@ pub record InformationShows (h : Handover) (seen : SeenFacts) : Type 0 where
 
 -- ---- Linux
 
--- the bytes of the boot parameters, at the address in esi
+-- the bytes of the boot parameters, where a kernel is handed them
 pub record AreParameters (h : Handover) (bytes : List ℕ) : Type 0 where
-  pub protocol : h.protocol ≡ Linux
-  pub whole : bytes_in h.parts h.registers.esi 4096 ≡ Some bytes
+  pub handed : has_params h.protocol ≡ true
+  pub whole : bytes_in h.parts (params_in h.registers) 4096 ≡ Some bytes
 
 -- their numbers
 pub record ParametersSay (h : Handover) (params : ParamsFacts) : Type 0 where
@@ -112,6 +114,6 @@ pub record ParametersShow (h : Handover) (seen : SeenFacts) : Type 0 where
 
 pub record IsSeen (h : Handover) (seen : SeenFacts) : Type 0 where
   pub protocol : seen.protocol ≡ h.protocol
-  pub entry : seen.entry ≡ h.registers.eip
+  pub entry : seen.entry ≡ entry_in h.registers
   pub kernel : seen.kernel ≡ kernel_in h.parts
   pub shown : InformationShows h seen ⊎ ParametersShow h seen

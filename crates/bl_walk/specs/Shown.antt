@@ -1,12 +1,11 @@
 -- What an entry's own kernel sees. Own.
-use Rattle.std.specs.Prelude.{◌≡◌, ◌<◌, ◌≤◌, ℕ, List, [], ◌∷◌, length, map, slice_index_or, All}
+use Rattle.std.specs.Prelude.{◌≡◌, ◌<◌, ◌≤◌, ◌+◌, ℕ, List, [], ◌∷◌, length, map, slice_index_or, All}
 use Rattle.std.specs.Prelude.{Option, Some, None, option_map}
 use Rattle.bl_mem.specs.declared.segment.Segment.{Segment}
 use Rattle.bl_map.specs.Kinds.{end_of}
 use Rattle.bl_map.specs.Limits.{region_limit}
 use Rattle.bl_map.specs.MachineFacts.{MachineFacts}
 use Rattle.bl_mb2head.specs.declared.relocation.Relocation.{Relocation}
-use Rattle.bl_mbi.specs.InformationFacts.{AreBytes}
 use Rattle.bl_bzimage.specs.declared.setup.Setup.{Setup}
 use Rattle.bl_bzimage.specs.Setup.{IsSetup}
 use Rattle.bl_plan.specs.Order.{ascending}
@@ -16,7 +15,7 @@ use Rattle.bl_load.specs.Blocks.{span_of}
 use Rattle.bl_load.specs.Kernel.{KernelFacts, IsKernel}
 use Rattle.bl_load.specs.LinuxRows.{linux_kernel_row}
 use Rattle.bl_load.specs.Parts.{entered_at}
-use Rattle.bl_load.specs.Value.{EntryValue, kernel_file, module_file, initrd_file, lines_of}
+use Rattle.bl_load.specs.Value.{EntryValue, kernel_file, module_file, initrd_file}
 use Rattle.bl_walk.specs.SeenFacts.{SeenFacts}
 use Rattle.bl_walk.specs.declared.seen.SeenPart.{SeenPart}
 
@@ -34,17 +33,20 @@ ShowsSegments segments entry (Some r) seen =
     (base : ℕ) × (seen.entry ≡ entered_at entry segments (Some r) base)
     × (seen.kernel ≡ record { address = base; length = span_of segments } ∷ [])
 
--- a Linux kernel lies in one part, as long as its setup asks for, and is entered at its first byte
-abbrev pub ShowsPayload : Setup → SeenFacts → Type 0
-ShowsPayload setup seen =
-    seen.kernel ≡ record { address = seen.entry; length = (linux_kernel_row setup).length } ∷ []
+-- a Linux kernel lies in one part, as long as its setup asks for, and is entered so many bytes
+-- after the first one
+pub record ShowsPayload (offset : ℕ) (setup : Setup) (seen : SeenFacts) : Type 0 where
+  pub base : ℕ
+  pub entry : seen.entry ≡ base + offset
+  pub kernel :
+      seen.kernel ≡ record { address = base; length = (linux_kernel_row setup).length } ∷ []
 
 abbrev pub ShowsKernel : EntryValue → SeenFacts → Protocol → Type 0
 ShowsKernel value seen Multiboot2 =
     (kernel : KernelFacts) × IsKernel (kernel_file value) kernel
     × ShowsSegments kernel.segments kernel.entry kernel.relocation seen
 ShowsKernel value seen Linux =
-    (setup : Setup) × IsSetup (kernel_file value) setup × ShowsPayload setup seen
+    (setup : Setup) × IsSetup (kernel_file value) setup × ShowsPayload 0 setup seen
 
 -- ---- its other files
 
@@ -78,10 +80,6 @@ pub record ShowsEntry (facts : MachineFacts) (value : EntryValue) (seen : SeenFa
   pub kernel : ShowsKernel value seen value.protocol
   pub files : ShowsFiles value seen value.protocol
   pub runs : seen.map ≡ facts.runs
-
--- the lines of an entry are bytes
-abbrev pub HasByteLines : EntryValue → Type 0
-HasByteLines value = All AreBytes (lines_of value)
 
 -- each run of the memory map that is seen ends at most at 2^52
 abbrev pub RunsEndLow : SeenFacts → Type 0

@@ -13,7 +13,7 @@ use std::alloc::Allocator;
 /// The bytes of a range that a kernel follows.
 pub(crate) fn follow<A: Allocator>(
     image: &Image<A>,
-    address: u32,
+    address: u64,
     count: u32,
 ) -> Result<&[u8], WalkFault>
     requires { IsFollowed image.now address count }

@@ -6,7 +6,6 @@ ghost use Rattle.bl_walk.specs.Seen.{HasTotalSize, InformationSays, IsSeen};
 
 use crate::fault::WalkFault;
 use crate::follow::follow;
-use crate::kernel::kernel_of;
 use crate::module::modules_at;
 use crate::seen::Seen;
 use bl_image::Image;
@@ -14,9 +13,8 @@ use bl_mbi::{Info, read_info};
 use bl_mem::{SliceView, u32_at};
 use std::alloc::Allocator;
 
-/// How many bytes total_size and the reserved word after it take (Multiboot2 3.6 "Boot information
-/// format").
-const FIXED_PART: u32 = 8;
+/// How many bytes total_size takes (Multiboot2 3.6 "Boot information format").
+const SIZE_WORD: u32 = 4;
 
 /// The least total_size: the fixed part, and the tag that ends the information.
 const LEAST_SIZE: u32 = 16;
@@ -28,8 +26,8 @@ fn total_size<A: Allocator>(image: &Image<A>) -> Result<u32, WalkFault>
     ensures least { IfOk result (λ size. 16 ≤ size) }
     ensures fault { IfErr result (HasFault image.now) }
 {
-    let fixed_part = follow(image, image.registers().ebx, FIXED_PART)?;
-    let size = u32_at(&SliceView::new(fixed_part), 0);
+    let word = follow(image, image.registers().information(), SIZE_WORD)?;
+    let size = u32_at(&SliceView::new(word), 0);
     if size < LEAST_SIZE {
         return Err(WalkFault::BadInfo);
     }
@@ -43,7 +41,7 @@ fn information<A: Allocator + Copy>(alloc: A, image: &Image<A>) -> Result<Info<A
     ensures fault { IfErr result (HasFault image.now) }
 {
     let size = total_size(image)?;
-    let bytes = follow(image, image.registers().ebx, size)?;
+    let bytes = follow(image, image.registers().information(), size)?;
     Ok(read_info(alloc, bytes)?)
 }
 
@@ -58,13 +56,7 @@ pub(crate) fn shown_by_information<A: Allocator + Copy>(
 {
     let info = information(alloc, image)?;
     let modules = modules_at(alloc, image, info.modules.as_slice())?;
-    Ok(Seen {
-        protocol: image.protocol(),
-        entry: image.registers().eip,
-        line: info.line,
-        kernel: kernel_of(alloc, image)?,
-        modules,
-        initrd: None,
-        map: info.runs,
-    })
+    let mut seen = Seen::new(alloc, image, info.line, info.runs)?;
+    seen.modules = modules;
+    Ok(seen)
 }

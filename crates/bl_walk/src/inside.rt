@@ -1,8 +1,8 @@
 //! Bytes by address, in the parts of an image.
 ghost use Rattle.std.specs.Prelude.{◌≡◌, ◌+◌, ◌<◌, ◌≤◌, ◌^◌, true, false, length, option_copied};
-ghost use Rattle.std.specs.Prelude.{IfSome};
+ghost use Rattle.std.specs.Prelude.{IfSome, AllPairs};
 ghost use Rattle.std.specs.List.Sorted.{IsPartitionPoint};
-ghost use Rattle.bl_image.specs.ImageParts.{AreImageParts};
+ghost use Rattle.bl_image.specs.ImageParts.{PartAscends};
 ghost use Rattle.bl_load.specs.Handover.{end_of};
 ghost use Rattle.bl_walk.specs.Inside as inside;
 ghost use Rattle.bl_walk.specs.Inside.{lies_in};
@@ -13,7 +13,7 @@ use std::alloc::Allocator;
 
 /// How many parts begin at an address or below it.
 fn count_upto<A: Allocator>(parts: &[ImagePart<A>], address: u64) -> usize
-    requires { AreImageParts parts.now }
+    requires { AllPairs PartAscends parts.now }
     ensures split { IsPartitionPoint (λ part. begins_upto address part ≡ true)
         (λ part. begins_upto address part ≡ false) parts.now result }
     ensures within { result ≤ length parts.now }
@@ -23,11 +23,14 @@ fn count_upto<A: Allocator>(parts: &[ImagePart<A>], address: u64) -> usize
 
 /// Whether so many bytes from an address on lie in a part.
 fn is_within<A: Allocator>(part: &ImagePart<A>, address: u64, count: u64) -> bool
-    requires { address + count < 2 ^ 64 }
     ensures { result ≡ lies_in address count part.now }
 {
     let from = part.address();
-    from <= address && address - from + count <= part.bytes().len() as u64
+    let length = part.bytes().len() as u64;
+    if address < from || address - from > length {
+        return false;
+    }
+    count <= length - (address - from)
 }
 
 /// The part in which so many bytes from an address on lie, found in as many steps as the number of
@@ -37,8 +40,7 @@ pub(crate) fn part_with<A: Allocator>(
     address: u64,
     count: u64,
 ) -> Option<&ImagePart<A>>
-    requires some { 1 ≤ count }
-    requires small { address + count < 2 ^ 64 }
+    requires { 1 ≤ count }
     ensures exact { option_copied result ≡ inside.part_with image.now.parts address count }
     ensures from { IfSome result (λ part. part.now.address ≤ address) }
     ensures upto { IfSome result (λ part. address + count ≤ end_of part.now) }
@@ -57,23 +59,23 @@ pub(crate) fn part_with<A: Allocator>(
 }
 
 /// The bytes of a range, if they lie in one part. A range of no byte is followed nowhere.
-pub(crate) fn bytes_at<A: Allocator>(image: &Image<A>, address: u32, count: u32) -> Option<&[u8]>
+pub(crate) fn bytes_at<A: Allocator>(image: &Image<A>, address: u64, count: u32) -> Option<&[u8]>
     ensures exact { option_copied result ≡ inside.bytes_in image.now.parts address count }
     ensures long { IfSome result (λ bytes. length bytes.now ≡ count) }
 {
     if count == 0 {
         return Some(&[]);
     }
-    let part = part_with(image, address as u64, count as u64)?;
-    let from = (address as u64 - part.address()) as usize;
+    let part = part_with(image, address, count as u64)?;
+    let from = (address - part.address()) as usize;
     Some(&part.bytes()[from..from + count as usize])
 }
 
 /// The bytes from an address on, up to the end of its part.
-pub(crate) fn rest_at<A: Allocator>(image: &Image<A>, address: u32) -> Option<&[u8]>
+pub(crate) fn rest_at<A: Allocator>(image: &Image<A>, address: u64) -> Option<&[u8]>
     ensures { option_copied result ≡ inside.rest_in image.now.parts address }
 {
-    let part = part_with(image, address as u64, 1)?;
-    let from = (address as u64 - part.address()) as usize;
+    let part = part_with(image, address, 1)?;
+    let from = (address - part.address()) as usize;
     Some(&part.bytes()[from..])
 }

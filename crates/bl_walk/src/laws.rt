@@ -2,17 +2,19 @@
 ghost use Rattle.std.specs.Prelude.{◌≡◌, ◌+◌, ◌<◌, ◌≤◌, ℕ, List, length, AllPairs, Some};
 ghost use Rattle.std.specs.Prelude.{slice_index_or};
 ghost use Rattle.bl_map.specs.MachineFacts.{MachineFacts, AreMachineFacts};
+ghost use Rattle.bl_load.specs.ByteLines.{HasByteLines};
 ghost use Rattle.bl_load.specs.Handover.{Handover, Part, end_of};
 ghost use Rattle.bl_load.specs.Parts.{IsHandover};
 ghost use Rattle.bl_load.specs.Value.{EntryValue};
 ghost use Rattle.bl_plan.specs.Limits.{most_modules};
 ghost use Rattle.bl_image.specs.Image.{spelling};
 ghost use Rattle.bl_image.specs.ImageParts.{IsImage, IsKept};
+ghost use Rattle.bl_image.specs.declared.version.Version.{Version};
 ghost use Rattle.bl_walk.specs.Faults.{IsSound};
 ghost use Rattle.bl_walk.specs.Inside.{part_with};
 ghost use Rattle.bl_walk.specs.Seen.{IsSeen};
 ghost use Rattle.bl_walk.specs.SeenFacts.{SeenFacts};
-ghost use Rattle.bl_walk.specs.Shown.{ShowsEntry, HasByteLines, RunsEndLow};
+ghost use Rattle.bl_walk.specs.Shown.{ShowsEntry, RunsEndLow};
 ghost use Rattle.bl_walk.specs.State.{IsEntered};
 
 /// What is seen in an image is one thing.
@@ -50,14 +52,15 @@ pub fn handovers_are_seen()
 /// Whatever is read from the image of what an entry hands over shows that entry and nothing else,
 /// and no fault stands in it. That the handover is what images keep is `write_image.kept`.
 pub fn images_show_their_entries()
-    ensures seen { (facts : MachineFacts) (value : EntryValue) (h image : Handover)
-        (seen : SeenFacts) → AreMachineFacts facts → HasByteLines value
+    ensures seen { (facts : MachineFacts) (value : EntryValue) (version other : Version)
+        (h image : Handover) (seen : SeenFacts) → AreMachineFacts facts → HasByteLines value
         → length value.module_lines ≤ most_modules → IsHandover facts value h → IsKept h
-        → IsImage (spelling h) image → IsSeen image seen → ShowsEntry facts value seen }
-    ensures sound { (facts : MachineFacts) (value : EntryValue) (h image : Handover)
-        → AreMachineFacts facts → HasByteLines value
+        → IsImage other (spelling version h) image → IsSeen image seen
+        → ShowsEntry facts value seen }
+    ensures sound { (facts : MachineFacts) (value : EntryValue) (version other : Version)
+        (h image : Handover) → AreMachineFacts facts → HasByteLines value
         → length value.module_lines ≤ most_modules → IsHandover facts value h → IsKept h
-        → IsImage (spelling h) image → IsSound image }
+        → IsImage other (spelling version h) image → IsSound image }
 {}
 
 /// Each run of a memory map that is seen ends at most at 2^52.

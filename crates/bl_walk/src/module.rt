@@ -25,7 +25,7 @@ fn module_at<A: Allocator + Copy>(
     ensures ok { IfOk result (IsSeenModule image.now.parts told.now) }
     ensures fault { IfErr result (HasFault image.now) }
 {
-    let bytes = follow(image, told.mod_start, told.mod_end - told.mod_start)?;
+    let bytes = follow(image, told.mod_start as u64, told.mod_end - told.mod_start)?;
     Ok(SeenModule {
         mod_start: told.mod_start,
         bytes: Bytes::copy(alloc, bytes)?,

@@ -1,13 +1,12 @@
 //! What boot parameters show a Linux kernel.
-ghost use Rattle.std.specs.Prelude.{◌≡◌, ◌-◌, ◌≤◌, IfOk, IfErr};
-ghost use Rattle.bl_plan.specs.declared.protocol.Protocol.TheVariants as protocol;
+ghost use Rattle.std.specs.Prelude.{◌≡◌, ◌-◌, ◌≤◌, true, IfOk, IfErr};
+ghost use Rattle.bl_load.specs.Protocols.{has_params};
 ghost use Rattle.bl_walk.specs.Faults.{HasFault};
 ghost use Rattle.bl_walk.specs.Seen.{ParametersSay, IsLine, IsInitrd, IsSeen};
 
 use crate::fault::WalkFault;
 use crate::follow::{follow, text_of};
 use crate::inside::rest_at;
-use crate::kernel::kernel_of;
 use crate::seen::{Seen, SeenFile};
 use bl_image::Image;
 use bl_mem::Bytes;
@@ -19,11 +18,11 @@ const PARAMS_SIZE: u32 = 4096;
 
 /// What the boot parameters say.
 fn parameters<A: Allocator + Copy>(alloc: A, image: &Image<A>) -> Result<Params<A>, WalkFault>
-    requires { image.now.protocol ≡ protocol.Linux }
+    requires { has_params image.now.protocol ≡ true }
     ensures ok { IfOk result (ParametersSay image.now) }
     ensures fault { IfErr result (HasFault image.now) }
 {
-    let bytes = follow(image, image.registers().esi, PARAMS_SIZE)?;
+    let bytes = follow(image, image.registers().params(), PARAMS_SIZE)?;
     Ok(read_params(alloc, bytes)?)
 }
 
@@ -37,7 +36,7 @@ fn line<A: Allocator + Copy>(
     ensures ok { IfOk result (IsLine image.now.parts params.now.cmd_line_ptr) }
     ensures fault { IfErr result (HasFault image.now) }
 {
-    let Some(rest) = rest_at(image, params.cmd_line_ptr) else {
+    let Some(rest) = rest_at(image, params.cmd_line_ptr as u64) else {
         return Err(WalkFault::OutsideImage);
     };
     match text_of(rest) {
@@ -59,7 +58,7 @@ fn initrd<A: Allocator + Copy>(
     if params.ramdisk_size == 0 {
         return Ok(None);
     }
-    let bytes = follow(image, params.ramdisk_image, params.ramdisk_size)?;
+    let bytes = follow(image, params.ramdisk_image as u64, params.ramdisk_size)?;
     Ok(Some(SeenFile {
         address: params.ramdisk_image,
         bytes: Bytes::copy(alloc, bytes)?,
@@ -71,20 +70,14 @@ pub(crate) fn shown_by_parameters<A: Allocator + Copy>(
     alloc: A,
     image: &Image<A>,
 ) -> Result<Seen<A>, WalkFault>
-    requires { image.now.protocol ≡ protocol.Linux }
+    requires { has_params image.now.protocol ≡ true }
     ensures ok { IfOk result (IsSeen image.now) }
     ensures fault { IfErr result (HasFault image.now) }
 {
     let params = parameters(alloc, image)?;
     let line = line(alloc, image, &params)?;
     let initrd = initrd(alloc, image, &params)?;
-    Ok(Seen {
-        protocol: image.protocol(),
-        entry: image.registers().eip,
-        line,
-        kernel: kernel_of(alloc, image)?,
-        modules: Vec::new(alloc),
-        initrd,
-        map: params.runs,
-    })
+    let mut seen = Seen::new(alloc, image, line, params.runs)?;
+    seen.initrd = initrd;
+    Ok(seen)
 }

@@ -1,8 +1,10 @@
 //! What a kernel sees in an image.
+use crate::kernel::kernel_of;
+use bl_image::Image;
 use bl_load::Protocol;
 use bl_map::Region;
 use bl_mem::Bytes;
-use std::alloc::Allocator;
+use std::alloc::{AllocError, Allocator};
 use std::marker::Model;
 
 /// A part of the kernel in an image: the physical address of its first byte, and its length in
@@ -46,13 +48,13 @@ impl<A: Allocator> Model for SeenFile<A> {
     ghost view = { λ f. record { address = f.address; bytes = f.bytes } };
 }
 
-/// What a kernel sees in an image: how and where it is entered, its line, its parts in address
+/// What a kernel sees in an image: how and where it is entered, a physical address, its line, its parts in address
 /// order, the modules in order (none under Linux), the initial ramdisk (none under Multiboot2, nor
 /// where it has no byte), and the memory map's runs.
 #[derive(Drop)]
 pub struct Seen<A: Allocator> {
     pub protocol: Protocol,
-    pub entry: u32,
+    pub entry: u64,
     pub line: Bytes<A>,
     pub kernel: Vec<SeenPart, A>,
     pub modules: Vec<SeenModule<A>, A>,
@@ -74,4 +76,30 @@ impl<A: Allocator> Model for Seen<A> {
       initrd = s.initrd;
       map = s.map.items;
     } };
+}
+
+impl<A: Allocator + Copy> Seen<A> {
+    ghost use Rattle.std.specs.Prelude.{◌≡◌, IfOk};
+    ghost use Rattle.bl_walk.specs.Kept.{seen_alone};
+
+    /// What a kernel sees in an image that is told this line and these runs, and of no file beside
+    /// it: what else it is told of is put in its place.
+    pub(crate) fn new(
+        alloc: A,
+        image: &Image<A>,
+        line: Bytes<A>,
+        map: Vec<Region, A>,
+    ) -> Result<Seen<A>, AllocError>
+        ensures { IfOk result (λ seen. seen ≡ seen_alone image.now line map.items) }
+    {
+        Ok(Seen {
+            protocol: image.protocol(),
+            entry: image.registers().entry(),
+            line,
+            kernel: kernel_of(alloc, image)?,
+            modules: Vec::new(alloc),
+            initrd: None,
+            map,
+        })
+    }
 }

@@ -1,7 +1,7 @@
 //! The state that a kernel is entered in.
-ghost use Rattle.std.specs.Prelude.{◌≡◌, ◌==◌, ◌↔◌, Some, true, IsTrue, OnOk, IfErr};
-ghost use Rattle.bl_plan.specs.declared.protocol.Protocol.TheVariants as protocol;
-ghost use Rattle.bl_params.specs.Gdt as gdt;
+ghost use Rattle.std.specs.Prelude.{◌≡◌, ◌==◌, ◌↔◌, Some, true, IsTrue, OnOk, IfErr, length};
+ghost use Rattle.bl_load.specs.Protocols as protocols;
+ghost use Rattle.bl_load.specs.Registers.{entry_in, gdt_in};
 ghost use Rattle.bl_walk.specs.Faults.{HasFault};
 ghost use Rattle.bl_walk.specs.Inside.{bytes_in};
 ghost use Rattle.bl_walk.specs.State as state;
@@ -11,13 +11,9 @@ use crate::fault::WalkFault;
 use crate::follow::follow;
 use crate::inside::part_with;
 use bl_image::{Image, ImagePart};
-use bl_load::{Protocol, Registers, linux_registers, multiboot2_registers};
-use bl_params::gdt;
+use bl_load::{Protocol, Registers, descriptors_of, linux_registers, multiboot2_registers};
 use bl_plan::Role;
 use std::alloc::Allocator;
-
-/// How many bytes the descriptors take.
-const GDT_SIZE: u32 = 32;
 
 /// The registers that a kernel is entered with, where the ones that hold addresses hold those of
 /// `r`.
@@ -25,8 +21,8 @@ fn entry_registers(protocol: Protocol, r: Registers) -> Registers
     ensures { result ≡ state.entry_registers protocol r }
 {
     match protocol {
-        Protocol::Multiboot2 => multiboot2_registers(r.eip, r.ebx),
-        Protocol::Linux => linux_registers(r.eip, r.esi, r.gdt_base),
+        Protocol::Multiboot2 => multiboot2_registers(r.entry() as u32, r.information() as u32),
+        Protocol::Linux => { linux_registers(r.entry() as u32, r.params() as u32, r.gdt() as u32) }
     }
 }
 
@@ -51,10 +47,10 @@ pub(crate) fn is_kernel<A: Allocator>(part: &ImagePart<A>) -> bool
 }
 
 /// Whether an address lies in a part of the kernel.
-fn is_in_kernel<A: Allocator>(image: &Image<A>, address: u32) -> bool
+fn is_in_kernel<A: Allocator>(image: &Image<A>, address: u64) -> bool
     ensures { result ≡ state.is_in_kernel image.now.parts address }
 {
-    match part_with(image, address as u64, 1) {
+    match part_with(image, address, 1) {
         Some(part) => is_kernel(part),
         None => false,
     }
@@ -63,32 +59,34 @@ fn is_in_kernel<A: Allocator>(image: &Image<A>, address: u32) -> bool
 /// The kernel is entered in one of its parts.
 fn check_entry<A: Allocator>(image: &Image<A>) -> Result<(), WalkFault>
     ensures ok { OnOk result
-        (state.is_in_kernel image.now.parts image.now.registers.eip ≡ true) }
+        (state.is_in_kernel image.now.parts (entry_in image.now.registers) ≡ true) }
     ensures fault { IfErr result (HasFault image.now) }
 {
-    if !is_in_kernel(image, image.registers().eip) {
+    if !is_in_kernel(image, image.registers().entry()) {
         return Err(WalkFault::OutsideImage);
     }
     Ok(())
 }
 
-/// Whether bytes are the descriptors that a Linux kernel asks for.
-fn are_descriptors(bytes: &[u8]) -> bool
-    ensures { IsTrue result ↔ (bytes.now ≡ gdt.gdt) }
+/// Whether bytes are these descriptors.
+fn are_descriptors(bytes: &[u8], descriptors: &[u8; 32]) -> bool
+    ensures { IsTrue result ↔ (bytes.now ≡ descriptors.now) }
 {
-    let wanted = gdt();
-    bytes == wanted.as_slice()
+    bytes == descriptors.as_slice()
 }
 
-/// A Linux kernel is handed the descriptors that it asks for.
-fn check_descriptors<A: Allocator>(image: &Image<A>) -> Result<(), WalkFault>
-    requires { image.now.protocol ≡ protocol.Linux }
-    ensures ok { OnOk result
-        (bytes_in image.now.parts image.now.registers.gdt_base 32 ≡ Some gdt.gdt) }
+/// A kernel that is handed these descriptors finds them where its registers say.
+fn check_descriptors<A: Allocator>(
+    image: &Image<A>,
+    descriptors: &[u8; 32],
+) -> Result<(), WalkFault>
+    requires { protocols.descriptors_of image.now.protocol ≡ Some descriptors.now }
+    ensures ok { OnOk result (bytes_in image.now.parts (gdt_in image.now.registers)
+        (length descriptors.now) ≡ Some descriptors.now) }
     ensures fault { IfErr result (HasFault image.now) }
 {
-    let descriptors = follow(image, image.registers().gdt_base, GDT_SIZE)?;
-    if !are_descriptors(descriptors) {
+    let found = follow(image, image.registers().gdt(), descriptors.len() as u32)?;
+    if !are_descriptors(found, descriptors) {
         return Err(WalkFault::BadState);
     }
     Ok(())
@@ -101,8 +99,8 @@ pub(crate) fn check_state<A: Allocator>(image: &Image<A>) -> Result<(), WalkFaul
 {
     check_registers(image)?;
     check_entry(image)?;
-    match image.protocol() {
-        Protocol::Multiboot2 => Ok(()),
-        Protocol::Linux => check_descriptors(image),
+    match descriptors_of(image.protocol()) {
+        Some(descriptors) => check_descriptors(image, &descriptors),
+        None => Ok(()),
     }
 }

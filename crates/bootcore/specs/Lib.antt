@@ -1,2 +1,3 @@
 pub mod ImageFileFacts
 pub mod Statuses
+pub mod PathFilesFacts

@@ -8,7 +8,7 @@ mod image_file;
 mod path_files;
 mod program;
 
-pub use bl_boot::{FILE_LIMIT, Fetched, Files, MemFiles, boot, map_to, walk_to};
+pub use bl_boot::{AskedNames, FILE_LIMIT, Fetched, Files, MemFiles, boot, map_to, walk_to};
 pub use bl_line::{Job, LineFault, Order, read_line};
 pub use image_file::ImageFile;
 pub use path_files::{PathFiles, read_file};

@@ -2,7 +2,7 @@
 ghost use Rattle.std.specs.Prelude.{IfOk};
 ghost use Rattle.bl_boot.specs.Files.{IsRead};
 
-use bl_boot::{FILE_LIMIT, Fetched, Files};
+use bl_boot::{AskedNames, FILE_LIMIT, Fetched, Files};
 use bl_mem::Bytes;
 use std::alloc::{AllocError, Allocator};
 use std::io::Read;
@@ -48,33 +48,41 @@ pub fn read_file<R: rt::Files, A: Allocator>(
 pub struct PathFiles<'a, R: rt::Files> {
     rt: &'a R,
     faults: u64,
+    asked: AskedNames,
 }
 
 impl<'a, R: rt::Files> Model for PathFiles<'a, R> {
-    ghost use Rattle.std.specs.Prelude.{ℕ};
+    ghost use Rattle.bootcore.specs.PathFilesFacts.{PathFilesFacts};
 
-    ghost Value = { ℕ };
+    ghost Value = { PathFilesFacts };
 
-    ghost view = { λ f. f.faults };
+    ghost view = { λ f. record { faults = f.faults; asked = f.asked.names } };
 }
 
 impl<'a, R: rt::Files> PathFiles<'a, R> {
-    ghost use Rattle.std.specs.Prelude.{◌≡◌};
+    ghost use Rattle.std.specs.Prelude.{◌≡◌, []};
 
-    /// The files that this runtime reaches, of which none was missing yet.
+    /// The files that this runtime reaches, of which none was missing or asked for yet.
     pub fn new(rt: &'a R) -> PathFiles<'a, R>
-        ensures { result ≡ 0 }
+        ensures { result ≡ record { faults = 0; asked = [] } }
     {
-        PathFiles { rt, faults: 0 }
+        PathFiles {
+            rt,
+            faults: 0,
+            asked: AskedNames::new(),
+        }
     }
 }
 
 impl<R: rt::Files> Files for PathFiles<'_, R> {
     ghost answers = { λ _ _ _. Unit {0} };
 
-    ghost faults = { λ f. f };
+    ghost faults = { λ f. f.faults };
+
+    ghost asked = { λ f. f.asked };
 
     fn fetch<A: Allocator>(&mut self, alloc: A, name: &str) -> Result<Fetched<A>, AllocError> {
+        self.asked = self.asked.and(name.as_bytes());
         match read_file(self.rt, alloc, name, FILE_LIMIT) {
             Ok(file) => Ok(file),
             Err(error) if error.kind() == io::ErrorKind::OutOfMemory => Err(AllocError),

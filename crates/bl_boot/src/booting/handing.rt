@@ -2,6 +2,7 @@
 ghost use Rattle.std.specs.Prelude.{◌≡◌, ◌+◌, ◌<◌, ◌≤◌, ◌^◌, ◌++◌, length, All, OnOk, OnErr, IfErr};
 ghost use Rattle.bl_image.specs.Image.{spelling};
 ghost use Rattle.bl_image.specs.ImageParts.{IsKept};
+ghost use Rattle.bl_image.specs.Versions.{written_version};
 ghost use Rattle.bl_session.specs.Phases.{handover_held};
 ghost use Rattle.bl_boot.specs.Kept.{IsHandFault};
 ghost use Rattle.bl_boot.specs.Says.{booted_line, refused_lines, no_entry_line};
@@ -45,7 +46,7 @@ pub fn write_handover<A: Allocator + Copy, M: PhysMem, S: Sink, B: Allocator>(
         outcome.now.handoff.places }
     requires faults { S.faults out.old < 2 ^ 63 }
     ensures image { OnOk result (S.contents out.new ≡ S.contents out.old
-        ++ spelling (handover_held (M.bytes memory.now) outcome.now.handoff)) }
+        ++ spelling written_version (handover_held (M.bytes memory.now) outcome.now.handoff)) }
     ensures kept { OnOk result
         (IsKept (handover_held (M.bytes memory.now) outcome.now.handoff)) }
     ensures said { OnOk result (say.new.items ≡ say.old.items
@@ -54,7 +55,7 @@ pub fn write_handover<A: Allocator + Copy, M: PhysMem, S: Sink, B: Allocator>(
     ensures unsaid { OnErr result (say.new.items ≡ say.old.items) }
     ensures fault { IfErr result (IsHandFault (S.faults out.old) (S.faults out.new)
         (S.contents out.old) (S.contents out.new)
-        (spelling (handover_held (M.bytes memory.now) outcome.now.handoff))) }
+        (spelling written_version (handover_held (M.bytes memory.now) outcome.now.handoff))) }
 {
     let mut lines = Vec::new(alloc);
     say_refusals(&mut lines, &outcome.refused)?;

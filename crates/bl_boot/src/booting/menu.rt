@@ -1,7 +1,7 @@
 //! The menu of a description.
-ghost use Rattle.std.specs.Prelude.{◌≡◌, ◌<◌, ◌^◌, [], All, IfOk, length, map};
-ghost use Rattle.bl_load.specs.Value.{HasFewModules, value_of};
-ghost use Rattle.bl_walk.specs.Shown.{HasByteLines};
+ghost use Rattle.std.specs.Prelude.{◌≡◌, ◌<◌, ◌^◌, All, IfOk, length, map};
+ghost use Rattle.bl_load.specs.ByteLines.{HasByteLines};
+ghost use Rattle.bl_load.specs.Value.{IsWithinLimits};
 ghost use Rattle.bl_session.specs.Menu.{facts_of};
 ghost use Rattle.bl_session.specs.declared.menu.fault.MenuFault.TheVariants as menu_fault;
 ghost use Rattle.bl_boot.specs.Attempted as attempted;
@@ -14,14 +14,6 @@ use bl_load::{Entry, Module};
 use bl_mem::Bytes;
 use bl_session::{Menu, MenuFault};
 use std::alloc::{AllocError, Allocator};
-
-/// A copy of a line, whose bytes are bytes by their type.
-fn copied<A: Allocator>(alloc: A, line: &[u8]) -> Result<Bytes<A>, AllocError>
-    ensures copy { IfOk result (λ copy. copy ≡ line.now) }
-    ensures bytes { IfOk result (λ copy. All (λ b. b < 256) copy) }
-{
-    Bytes::copy(alloc, line)
-}
 
 /// The modules of an entry, whose files go by their places among the names.
 fn modules_of<A: Allocator + Copy>(
@@ -36,13 +28,12 @@ fn modules_of<A: Allocator + Copy>(
     ensures lines { IfOk result (λ modules. map (λ m. m.line) modules.items
         ≡ map (λ m. m.line) (map module_view rows.now)) }
     ensures count { IfOk result (λ modules. length modules.items ≡ length rows.now) }
-    ensures bytes { IfOk result (λ modules. All (λ m. All (λ b. b < 256) m.line) modules.items) }
 {
     let mut modules = Vec::new(alloc);
     for row in rows {
         modules.push(Module {
             file: index_of(names, row.file.as_str()) as u32,
-            line: copied(alloc, row.line.as_str().as_bytes())?,
+            line: Bytes::copy(alloc, row.line.as_str().as_bytes())?,
         })?;
     }
     Ok(modules)
@@ -57,13 +48,12 @@ fn entry_of<A: Allocator + Copy>(
     requires { length names.now < 2 ^ 32 }
     ensures entry { IfOk result (λ entry.
         facts_of entry ≡ entry_facts (map (λ n. n.now) names.now) (entry_view row.now)) }
-    ensures few { IfOk result HasFewModules }
-    ensures bytes { IfOk result (λ entry. HasByteLines (value_of [] entry)) }
+    ensures few { IfOk result IsWithinLimits }
 {
     let kernel = index_of(names, row.kernel.as_str()) as u32;
-    let line = copied(alloc, row.line.as_str().as_bytes())?;
+    let line = Bytes::copy(alloc, row.line.as_str().as_bytes())?;
     match &row.form {
-        EntryForm::Multiboot2 { modules } => Ok(Entry::Multiboot2 {
+        EntryForm::Multiboot2 { modules, .. } => Ok(Entry::Multiboot2 {
             kernel,
             line,
             modules: modules_of(alloc, names, &modules.rows)?,
@@ -89,9 +79,7 @@ fn entries_of<A: Allocator + Copy>(
     ensures entries { IfOk result (λ entries. map facts_of entries.items
         ≡ map (entry_facts (map (λ n. n.now) names.now)) (map entry_view rows.now)) }
     ensures count { IfOk result (λ entries. length entries.items ≡ length rows.now) }
-    ensures few { IfOk result (λ entries. All HasFewModules entries.items) }
-    ensures bytes { IfOk result (λ entries.
-        All (λ entry. HasByteLines (value_of [] entry)) entries.items) }
+    ensures few { IfOk result (λ entries. All IsWithinLimits entries.items) }
 {
     let mut entries = Vec::new(alloc);
     for row in rows {

@@ -1,8 +1,10 @@
 //! One boot.
-ghost use Rattle.std.specs.Prelude.{◌≡◌, ◌≢◌, ℕ, List, ◌+◌, ◌<◌, ◌≤◌, ◌^◌, length};
-ghost use Rattle.bl_boot.specs.Ends.{HasInlineFiles, names_sought, IsBooted, IsRefused};
+ghost use Rattle.std.specs.Prelude.{◌≡◌, ◌≢◌, ℕ, List, ◌+◌, ◌<◌, ◌≤◌, ◌^◌, ◌++◌, length};
+ghost use Rattle.bl_boot.specs.Ends.{HasInlineFiles, names_sought, names_fetched};
+ghost use Rattle.bl_boot.specs.Ends.{IsBooted, IsRefused};
 ghost use Rattle.bl_boot.specs.Ends.{IsBadDescription, IsBroken};
-ghost use Rattle.bl_boot.specs.Kept.{BootEnds, HasFaults};
+ghost use Rattle.bl_boot.specs.Found.{AsksFirst};
+ghost use Rattle.bl_boot.specs.Kept.{BootEnds, HasFaults, HasAsked};
 ghost use Rattle.bl_boot.specs.Attempted.{most_names};
 ghost use Rattle.bl_session.specs.Outcome.{File};
 ghost use Rattle.bl_desc.specs.Described.{described};
@@ -46,6 +48,8 @@ fn run_boot<A: Allocator + Copy, F: Files, S: Sink, B: Allocator>(
         (record { files = files.old; sink = S.contents out.old; said = say.old.items })
         (record { files = files.new; sink = S.contents out.new; said = say.new.items }) result }
     ensures faults { HasFaults (S.faults out.old) (S.faults out.new) result }
+    ensures asked { HasAsked (names_fetched (described desc.now))
+        (F.asked files.old) (F.asked files.new) result }
     ensures inline { HasInlineFiles desc.now → files.new ≡ files.old }
     ensures same_files { (file : List ℕ) (answer : File) →
         F.answers files.new file answer → F.answers files.old file answer }
@@ -83,6 +87,7 @@ fn run_boot<A: Allocator + Copy, F: Files, S: Sink, B: Allocator>(
 /// description is bad, 3 if the sink had a fault, and 4 if memory ran out; with 2, 3 and 4 nothing
 /// is said. An entry is refused for want of a file only if `files` counted a fault more. `global`
 /// is what the TOML reader takes its memory from.
+#[tactic(auto, using(crate::proofs::EndLemmas::all_asked))]
 pub fn boot<A: Allocator + Copy, F: Files, S: Sink, B: Allocator>(
     alloc: A,
     global: Global,
@@ -113,9 +118,16 @@ pub fn boot<A: Allocator + Copy, F: Files, S: Sink, B: Allocator>(
     ensures fault { result ≡ 3 → S.faults out.new ≡ S.faults out.old + 1 }
     ensures sound { result ≢ 3 → S.faults out.new ≡ S.faults out.old }
 
-    // Files that stand in the description are not asked for. The files answer as before, and each
-    // name that is looked for is missing once at most; these are few.
+    // Of the names that are looked for, those that no file of the description has are asked for,
+    // each once, in order; the first of them where memory ran out. No other name is.
+    ensures asked { result ≢ 2 → result ≢ 4 →
+        F.asked files.new ≡ F.asked files.old ++ names_fetched (described desc.now) }
+    ensures asked_first { AsksFirst (names_fetched (described desc.now))
+        (F.asked files.old) (F.asked files.new) }
     ensures inline { HasInlineFiles desc.now → files.new ≡ files.old }
+
+    // The files answer as before, and each name that is looked for is missing once at most; these
+    // are few.
     ensures same_files { (file : List ℕ) (answer : File) →
         F.answers files.new file answer → F.answers files.old file answer }
     ensures missing { (F.faults files.old ≤ F.faults files.new)

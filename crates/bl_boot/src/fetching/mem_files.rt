@@ -1,5 +1,5 @@
 //! Files in memory.
-use crate::fetching::Files;
+use crate::fetching::{AskedNames, Files};
 use bl_desc::{FileRow, file_named};
 use bl_mem::Bytes;
 use bl_session::{FILE_LIMIT, Fetched};
@@ -11,6 +11,7 @@ use std::marker::Model;
 pub struct MemFiles<A: Allocator> {
     rows: Vec<FileRow<A>, A>,
     faults: u64,
+    asked: AskedNames,
 }
 
 impl<A: Allocator> Model for MemFiles<A> {
@@ -20,18 +21,26 @@ impl<A: Allocator> Model for MemFiles<A> {
 
     ghost Value = { MemFilesFacts };
 
-    ghost view = { λ f. record { files = map file_view f.rows.items; faults = f.faults } };
+    ghost view = { λ f. record {
+      files = map file_view f.rows.items;
+      faults = f.faults;
+      asked = f.asked.names;
+    } };
 }
 
 impl<A: Allocator> MemFiles<A> {
-    ghost use Rattle.std.specs.Prelude.{◌≡◌, map};
+    ghost use Rattle.std.specs.Prelude.{◌≡◌, [], map};
     ghost use Rattle.bl_desc.specs.Views.{file_view};
 
-    /// These files, for which no name was missing yet.
+    /// These files, for which no name was missing or asked for yet.
     pub fn new(rows: Vec<FileRow<A>, A>) -> MemFiles<A>
-        ensures { result ≡ record { files = map file_view rows.items; faults = 0 } }
+        ensures { result ≡ record { files = map file_view rows.items; faults = 0; asked = [] } }
     {
-        MemFiles { rows, faults: 0 }
+        MemFiles {
+            rows,
+            faults: 0,
+            asked: AskedNames::new(),
+        }
     }
 }
 
@@ -43,7 +52,10 @@ impl<A: Allocator> Files for MemFiles<A> {
 
     ghost faults = { λ f. f.faults };
 
+    ghost asked = { λ f. f.asked };
+
     fn fetch<B: Allocator>(&mut self, alloc: B, name: &str) -> Result<Fetched<B>, AllocError> {
+        self.asked = self.asked.and(name.as_bytes());
         let Some(bytes) = file_named(name, &self.rows) else {
             self.faults += 1;
             return Ok(Fetched::Missing);

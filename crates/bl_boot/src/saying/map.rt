@@ -1,26 +1,13 @@
 //! A machine's map, run by run.
 ghost use Rattle.std.specs.Prelude.{◌≡◌, ◌++◌, ◌+◌, ◌<◌, ◌^◌, All, OnOk, OnErr};
 ghost use Rattle.std.specs.List.{flat_map};
-ghost use Rattle.bl_desc.specs.Kinds as kinds;
 ghost use Rattle.bl_boot.specs.Says as says;
 ghost use Rattle.bl_boot.specs.Says.{run_line};
 
-use bl_map::{Kind, Region};
+use bl_desc::kind_name;
+use bl_map::Region;
 use std::alloc::{AllocError, Allocator};
 use std::ops::Range;
-
-/// The name of a kind.
-fn kind_name(kind: Kind) -> &'static str
-    ensures { result.now ≡ kinds.kind_name kind }
-{
-    match kind {
-        Kind::Usable => "usable",
-        Kind::Reserved => "reserved",
-        Kind::Acpi => "acpi",
-        Kind::Nvs => "nvs",
-        Kind::Bad => "bad",
-    }
-}
 
 fn say_run<A: Allocator + Copy>(out: &mut Vec<u8, A>, run: &Region) -> Result<(), AllocError>
     requires { run.now.base + run.now.length < 2 ^ 64 }

@@ -6,6 +6,7 @@ ghost use Rattle.bl_boot.specs.WalkSays as says;
 ghost use Rattle.bl_boot.specs.WalkSays.{kernel_line, module_line};
 
 use crate::saying::walk::runs::say_runs;
+use bl_desc::protocol_word;
 use bl_load::Protocol;
 use bl_walk::{Seen, SeenFile, SeenModule, SeenPart};
 use std::alloc::{AllocError, Allocator};
@@ -28,15 +29,6 @@ fn say_text<A: Allocator + Copy>(out: &mut Vec<u8, A>, text: &[u8]) -> Result<()
     out.extend_from_slice(word.as_bytes())
 }
 
-fn protocol_word(protocol: Protocol) -> &'static str
-    ensures { result.now ≡ says.protocol_word protocol }
-{
-    match protocol {
-        Protocol::Multiboot2 => "multiboot2",
-        Protocol::Linux => "linux",
-    }
-}
-
 fn say_protocol<A: Allocator + Copy>(
     out: &mut Vec<u8, A>,
     protocol: Protocol,
@@ -49,7 +41,7 @@ fn say_protocol<A: Allocator + Copy>(
     out.extend_from_slice(line.as_bytes())
 }
 
-fn say_entry<A: Allocator + Copy>(out: &mut Vec<u8, A>, entry: u32) -> Result<(), AllocError>
+fn say_entry<A: Allocator + Copy>(out: &mut Vec<u8, A>, entry: u64) -> Result<(), AllocError>
     ensures { OnOk result (out.new.items ≡ out.old.items ++ says.entry_line entry) }
 {
     let alloc = *out.allocator();

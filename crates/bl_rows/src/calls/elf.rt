@@ -1,66 +1,58 @@
 //! `elf BYTES`: an executable's segments and entry.
 
-use crate::fault::RowFault;
-use bl_elf::{Elf, ElfFault, read_elf};
+use crate::row::Row;
+use bl_elf::{ElfFault, read_elf};
 use bl_mem::{Segment, SliceView};
-use bl_refusing::Refusing;
-use std::alloc::{AllocError, Global};
 
 /// A segment as `OFFSET,ADDRESS,FILESZ,MEMSZ`.
-pub fn segment_text(alloc: Global, segment: &Segment) -> Result<String, AllocError> {
-    let Segment {
-        offset,
-        address,
-        filesz,
-        memsz,
-    } = *segment;
-    format!(in alloc; "{offset:x},{address:x},{filesz:x},{memsz:x}")
-}
-
-/// A fault as its number and what it tells.
-pub fn fault_text(alloc: Global, fault: ElfFault) -> Result<String, AllocError> {
-    match fault {
-        ElfFault::NotElf => String::from_str(alloc, "fault 11"),
-        ElfFault::BadElf => String::from_str(alloc, "fault 12"),
-        ElfFault::SegmentCut(i) => format!(in alloc; "fault 13 {i:x}"),
-        ElfFault::AddressTooHigh(i) => format!(in alloc; "fault 14 {i:x}"),
-        ElfFault::SegmentsOverlap(i, j) => format!(in alloc; "fault 15 {i:x} {j:x}"),
-        ElfFault::NoEntry => String::from_str(alloc, "fault 16"),
-        ElfFault::NoMemory => String::from_str(alloc, "no memory"),
-    }
+pub fn say_segment(row: &mut Row<'_>, before: &str, segment: &Segment) {
+    row.say_number(before, segment.offset);
+    row.say_number(",", segment.address);
+    row.say_number(",", segment.filesz);
+    row.say_number(",", segment.memsz);
 }
 
 /// Segments, or `none`.
-pub fn segments_text(alloc: Global, segments: &[Segment]) -> Result<String, AllocError> {
+pub fn say_segments(row: &mut Row<'_>, segments: &[Segment]) {
     if segments.is_empty() {
-        return String::from_str(alloc, "none");
+        row.say("none");
     }
-    let mut text = String::new(alloc);
+    let mut before = "";
     for segment in segments {
-        if !text.is_empty() {
-            text.push(';')?;
-        }
-        text.push_str(&segment_text(alloc, segment)?)?;
+        say_segment(row, before, segment);
+        before = ";";
     }
-    Ok(text)
 }
 
-fn elf_text(alloc: Global, elf: &Elf<&Refusing>) -> Result<String, AllocError> {
-    let segments = segments_text(alloc, elf.segments())?;
-    match elf.entry() {
-        Ok(entry) => format!(in alloc; "{segments} entry {entry:x}"),
-        Err(fault) => {
-            let fault = fault_text(alloc, fault)?;
-            format!(in alloc; "{segments} entry {fault}")
+/// A fault as its number and what it tells.
+fn say_fault(row: &mut Row<'_>, fault: ElfFault) {
+    match fault {
+        ElfFault::NotElf => row.say("fault 11"),
+        ElfFault::BadElf => row.say("fault 12"),
+        ElfFault::SegmentCut(i) => row.say_number("fault 13 ", i as u64),
+        ElfFault::AddressTooHigh(i) => row.say_number("fault 14 ", i as u64),
+        ElfFault::SegmentsOverlap(i, j) => {
+            row.say_number("fault 15 ", i as u64);
+            row.say_number(" ", j as u64);
         }
+        ElfFault::NoEntry => row.say("fault 16"),
+        ElfFault::NoMemory => row.say("no memory"),
     }
 }
 
 /// Reads the executable over the heap.
-pub fn answer(alloc: Global, heap: &Refusing, file: &[u8]) -> Result<String, RowFault> {
-    let text = match read_elf(heap, &SliceView::new(file)) {
-        Ok(elf) => elf_text(alloc, &elf)?,
-        Err(fault) => fault_text(alloc, fault)?,
-    };
-    Ok(text)
+pub fn answer(row: &mut Row<'_>) {
+    match read_elf(row.heap, &SliceView::new(row.bytes)) {
+        Ok(elf) => {
+            say_segments(row, elf.segments());
+            match elf.entry() {
+                Ok(entry) => row.say_number(" entry ", entry as u64),
+                Err(fault) => {
+                    row.say(" entry ");
+                    say_fault(row, fault);
+                }
+            }
+        }
+        Err(fault) => say_fault(row, fault),
+    }
 }

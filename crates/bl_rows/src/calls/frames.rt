@@ -3,10 +3,8 @@
 ghost use Rattle.std.specs.Prelude.{IsTrue, All, ◌≤◌};
 ghost use Rattle.bl_map.specs.Room.{AreAscending};
 
-use crate::fault::RowFault;
-use crate::parse::{number, range, split_word};
+use crate::row::Row;
 use bl_map::{frames_in, frames_of, open_frames, whole_frames};
-use std::alloc::Global;
 use std::ops::Range;
 
 /// Whether the range ends where each later one begins, or before.
@@ -28,43 +26,44 @@ fn is_ascending(ranges: &[Range<u64>]) -> bool
     }
 }
 
-fn frames_in_word(word: &str) -> Result<u64, RowFault> {
-    let pool = range(word)?;
-    if pool.end < pool.start {
-        return Err(RowFault::BadRow);
-    }
-    Ok(frames_in(&pool))
-}
-
-fn whole_in_word(word: &str) -> Result<u64, RowFault> {
-    let length = number(word)?;
-    if length > u64::MAX - 4095 {
-        return Err(RowFault::BadRow);
-    }
-    Ok(whole_frames(length))
-}
-
-fn open_in_words(alloc: Global, words: &str) -> Result<u64, RowFault> {
-    let mut words = words.split_whitespace();
-    let pool = range(words.next().ok_or(RowFault::BadRow)?)?;
-    let mut ranges = Vec::new(alloc);
-    for word in words {
-        ranges.push(range(word)?)?;
-    }
+fn open_in_words(row: &mut Row<'_>) -> u64 {
+    let word = row.word();
+    let pool = row.range_of(word);
+    let ranges = row.rest_ranges();
     if pool.end < pool.start || !is_ascending(ranges.as_slice()) {
-        return Err(RowFault::BadRow);
+        row.refuse();
+        return 0;
     }
-    Ok(open_frames(&pool, ranges.as_slice()))
+    open_frames(&pool, ranges.as_slice())
+}
+
+fn frames_in_word(row: &mut Row<'_>) -> u64 {
+    let word = row.word();
+    let pool = row.range_of(word);
+    if pool.end < pool.start {
+        row.refuse();
+        return 0;
+    }
+    frames_in(&pool)
+}
+
+fn whole_in_word(row: &mut Row<'_>) -> u64 {
+    let length = row.number();
+    if length > u64::MAX - 4095 {
+        row.refuse();
+        return 0;
+    }
+    whole_frames(length)
 }
 
 /// The count, hexadecimal.
-pub fn answer(alloc: Global, words: &str) -> Result<String, RowFault> {
-    let count = match split_word(words) {
-        ("for", length) => frames_of(number(length)?),
-        ("whole", length) => whole_in_word(length)?,
-        ("in", pool) => frames_in_word(pool)?,
-        ("open", words) => open_in_words(alloc, words)?,
-        _ => return Err(RowFault::BadRow),
+pub fn answer(row: &mut Row<'_>) {
+    let count = match row.word() {
+        "for" => frames_of(row.number()),
+        "whole" => whole_in_word(row),
+        "in" => frames_in_word(row),
+        "open" => open_in_words(row),
+        _ => return row.refuse(),
     };
-    Ok(format!(in alloc; "{count:x}")?)
+    row.say_number("", count);
 }

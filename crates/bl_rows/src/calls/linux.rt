@@ -4,105 +4,102 @@
 //!   `OFFSET+LENGTH`; or the fault.
 //! - `setup_fault BYTES`: the fault alone, or `none`.
 //! - `write_params load=N initrd=ADDRESS+LENGTH line=N run=BASE+LENGTH:KIND .. of BYTES`: what is
-//!   written for the kernel
-//!   with these bytes: those that are not 0, as pieces.
+//!   written for the kernel with these bytes: those that are not 0, as pieces.
 //! - `read_params BYTES`: what boot parameters tell, or their first fault.
 //! - `gdt`: the descriptors.
 ghost use Rattle.std.specs.Prelude.{◌≤◌, ◌^◌, All, IsTrue};
 ghost use Rattle.bl_map.specs.Kinds.{end_of};
 
-use crate::calls::machine::{kind_name, region};
-use crate::fault::RowFault;
-use crate::parse::{field, number32};
+use crate::row::Row;
 use bl_bzimage::{Setup, SetupFault, read_setup};
 use bl_map::Region;
 use bl_mem::SliceView;
 use bl_params::{ParamFacts, ParamFault, Params, gdt, read_params, write_params};
 use bl_refusing::Refusing;
-use std::alloc::{AllocError, Global};
 
-/// A field with its name.
-type Field = (&'static str, u64);
-
-fn push_fields(text: &mut String, fields: &[Field]) -> Result<(), AllocError> {
-    for (name, value) in fields {
-        if !text.is_empty() {
-            text.push(' ')?;
-        }
-        write!(text, "{name}={value:x}")?;
-    }
-    Ok(())
-}
-
-fn setup_fault_text(fault: SetupFault) -> &'static str {
-    match fault {
+fn say_setup_fault(row: &mut Row<'_>, fault: SetupFault) {
+    row.say(match fault {
         SetupFault::NotBzImage => "fault 22",
         SetupFault::OldProtocol => "fault 23",
         SetupFault::NotHigh => "fault 24",
         SetupFault::SetupCut => "fault 25",
         SetupFault::BadAlign => "fault 18",
         SetupFault::BadPreferred => "fault 26",
+    });
+}
+
+/// The fields that a setup header and boot parameters both have.
+const SHARED: [&str; 9] = [
+    " version=",
+    " loadflags=",
+    " initrd_addr_max=",
+    " kernel_alignment=",
+    " relocatable_kernel=",
+    " xloadflags=",
+    " cmdline_size=",
+    " pref_address=",
+    " init_size=",
+];
+
+fn say_shared(row: &mut Row<'_>, values: [u64; 9]) {
+    for (name, value) in SHARED.iter().zip(values.iter()) {
+        row.say_number(name, *value);
     }
 }
 
-fn setup_text(alloc: Global, setup: &Setup) -> Result<String, AllocError> {
-    let mut text = String::new(alloc);
-    let fields = [
-        ("setup_sects", u64::from(setup.setup_sects)),
-        ("version", u64::from(setup.version)),
-        ("loadflags", u64::from(setup.loadflags)),
-        ("initrd_addr_max", u64::from(setup.initrd_addr_max)),
-        ("kernel_alignment", u64::from(setup.kernel_alignment)),
-        ("relocatable_kernel", u64::from(setup.relocatable_kernel)),
-        ("xloadflags", u64::from(setup.xloadflags)),
-        ("cmdline_size", u64::from(setup.cmdline_size)),
-        ("pref_address", setup.pref_address),
-        ("init_size", u64::from(setup.init_size)),
-        ("header", setup.header.as_slice().len() as u64),
-    ];
-    push_fields(&mut text, fields.as_slice())?;
-    let offset = setup.payload_offset;
-    let size = setup.payload_size;
-    write!(text, " payload={offset:x}+{size:x}")?;
-    Ok(text)
+fn say_setup(row: &mut Row<'_>, setup: &Setup) {
+    row.say_number("setup_sects=", setup.setup_sects as u64);
+    say_shared(
+        row,
+        [
+            setup.version as u64,
+            setup.loadflags as u64,
+            setup.initrd_addr_max as u64,
+            setup.kernel_alignment as u64,
+            setup.relocatable_kernel as u64,
+            setup.xloadflags as u64,
+            setup.cmdline_size as u64,
+            setup.pref_address,
+            setup.init_size as u64,
+        ],
+    );
+    row.say_number(" header=", setup.header.as_slice().len() as u64);
+    row.say_number(" payload=", setup.payload_offset);
+    row.say_number("+", setup.payload_size);
 }
 
 /// Reads a kernel's file.
-pub fn answer_setup(alloc: Global, file: &[u8]) -> Result<String, RowFault> {
-    let text = match read_setup(&SliceView::new(file)) {
-        Ok(setup) => setup_text(alloc, &setup)?,
-        Err(fault) => String::from_str(alloc, setup_fault_text(fault))?,
-    };
-    Ok(text)
+pub fn answer_setup(row: &mut Row<'_>) {
+    match read_setup(&SliceView::new(row.bytes)) {
+        Ok(setup) => say_setup(row, &setup),
+        Err(fault) => say_setup_fault(row, fault),
+    }
 }
 
 /// The fault of a kernel's file.
-pub fn answer_fault(alloc: Global, file: &[u8]) -> Result<String, RowFault> {
-    let text = match read_setup(&SliceView::new(file)) {
-        Ok(_) => "none",
-        Err(fault) => setup_fault_text(fault),
-    };
-    Ok(String::from_str(alloc, text)?)
+pub fn answer_fault(row: &mut Row<'_>) {
+    match read_setup(&SliceView::new(row.bytes)) {
+        Ok(_) => row.say("none"),
+        Err(fault) => say_setup_fault(row, fault),
+    }
 }
 
 /// The bytes that are not 0, as pieces: `@OFFSET=HEX ..`.
-fn pieces_text(alloc: Global, bytes: &[u8]) -> Result<String, AllocError> {
-    let mut text = String::new(alloc);
+fn say_pieces(row: &mut Row<'_>, bytes: &[u8]) {
     let mut was_zero = true;
+    let mut before = "@";
     for (i, byte) in bytes.iter().enumerate() {
         let byte = *byte;
         if byte != 0 {
-            if was_zero && !text.is_empty() {
-                text.push(' ')?;
-            }
             if was_zero {
-                write!(text, "@{i:x}=")?;
+                row.say_number(before, i as u64);
+                row.say("=");
+                before = " @";
             }
-            write!(text, "{byte:02x}")?;
+            row.say_byte(byte);
         }
         was_zero = byte == 0;
     }
-    Ok(text)
 }
 
 /// The greatest end of a run.
@@ -111,77 +108,78 @@ const MOST_END: u64 = 1 << 52;
 fn are_low(runs: &[Region]) -> bool
     ensures { IsTrue result → All (λ run. end_of run ≤ 2 ^ 52) runs.now }
 {
-    runs.iter().all(|run| run.base <= MOST_END && run.length <= MOST_END - run.base)
+    runs.iter()
+        .all(|run| run.base <= MOST_END && run.length <= MOST_END - run.base)
 }
 
-fn read_facts(alloc: Global, words: &str) -> Result<ParamFacts<Global>, RowFault> {
-    let mut words = words.split_whitespace();
-    let load = number32(field(words.next().ok_or(RowFault::BadRow)?, "load")?)?;
-    let initrd = field(words.next().ok_or(RowFault::BadRow)?, "initrd")?;
-    let (image, size) = initrd.split_once('+').ok_or(RowFault::BadRow)?;
-    let image = number32(image)?;
-    let size = number32(size)?;
-    let line = number32(field(words.next().ok_or(RowFault::BadRow)?, "line")?)?;
-    let mut runs: Vec<Region> = Vec::new(alloc);
-    for word in words {
-        runs.push(region(field(word, "run")?)?)?;
+fn read_runs(row: &mut Row<'_>) -> Vec<Region> {
+    let mut runs = Vec::new(row.alloc);
+    for word in row.rest().split_whitespace() {
+        let run = row.field_of(word, "run");
+        let run = row.region_of(run);
+        row.keep(&mut runs, run);
     }
-    if runs.len() > 128 || !are_low(runs.as_slice()) {
-        return Err(RowFault::BadRow);
-    }
-    Ok(ParamFacts::new(load, image, size, line, runs))
+    runs
 }
 
 /// Writes boot parameters over a page of other bytes.
-pub fn answer_write(alloc: Global, words: &str, file: &[u8]) -> Result<String, RowFault> {
-    let Ok(setup) = read_setup(&SliceView::new(file)) else {
-        return Err(RowFault::BadRow);
+pub fn answer_write(row: &mut Row<'_>) {
+    let load = row.number32_field("load");
+    let initrd = row.field("initrd");
+    let (image, size) = row.cut(initrd, "+");
+    let image = row.number32_of(image);
+    let size = row.number32_of(size);
+    let line = row.number32_field("line");
+    let runs = read_runs(row);
+    let Ok(setup) = read_setup(&SliceView::new(row.bytes)) else {
+        return row.refuse();
     };
-    let facts = read_facts(alloc, words)?;
+    if runs.len() > 128 || !are_low(runs.as_slice()) {
+        return row.refuse();
+    }
+    let facts = ParamFacts::new(load, image, size, line, runs);
     let mut out = [0xA5u8; 4096];
     write_params(&setup, &facts, &mut out);
-    Ok(pieces_text(alloc, out.as_slice())?)
+    say_pieces(row, out.as_slice());
 }
 
-fn params_text(alloc: Global, params: &Params<&Refusing>) -> Result<String, AllocError> {
-    let code32_start = params.code32_start;
-    let image = params.ramdisk_image;
-    let size = params.ramdisk_size;
-    let mut text = format!(in alloc; "code32_start={code32_start:x} ramdisk={image:x}+{size:x}")?;
-    let fields = [
-        ("cmd_line_ptr", u64::from(params.cmd_line_ptr)),
-        ("version", u64::from(params.version)),
-        ("loadflags", u64::from(params.loadflags)),
-        ("initrd_addr_max", u64::from(params.initrd_addr_max)),
-        ("kernel_alignment", u64::from(params.kernel_alignment)),
-        ("relocatable_kernel", u64::from(params.relocatable_kernel)),
-        ("xloadflags", u64::from(params.xloadflags)),
-        ("cmdline_size", u64::from(params.cmdline_size)),
-        ("pref_address", params.pref_address),
-        ("init_size", u64::from(params.init_size)),
-    ];
-    push_fields(&mut text, fields.as_slice())?;
+fn say_params(row: &mut Row<'_>, params: &Params<&Refusing>) {
+    row.say_number("code32_start=", params.code32_start as u64);
+    row.say_number(" ramdisk=", params.ramdisk_image as u64);
+    row.say_number("+", params.ramdisk_size as u64);
+    row.say_number(" cmd_line_ptr=", params.cmd_line_ptr as u64);
+    say_shared(
+        row,
+        [
+            params.version as u64,
+            params.loadflags as u64,
+            params.initrd_addr_max as u64,
+            params.kernel_alignment as u64,
+            params.relocatable_kernel as u64,
+            params.xloadflags as u64,
+            params.cmdline_size as u64,
+            params.pref_address,
+            params.init_size as u64,
+        ],
+    );
     for run in &params.runs {
-        let base = run.base;
-        let length = run.length;
-        let kind = kind_name(run.kind);
-        write!(text, " run={base:x}+{length:x}:{kind}")?;
+        row.say_region(" run=", run);
     }
-    Ok(text)
 }
 
 /// Reads boot parameters over the heap.
-pub fn answer_read(alloc: Global, heap: &Refusing, bytes: &[u8]) -> Result<String, RowFault> {
-    let text = match read_params(heap, bytes) {
-        Ok(params) => params_text(alloc, &params)?,
-        Err(ParamFault::WrongLength) => String::from_str(alloc, "fault 66")?,
-        Err(ParamFault::BadParams(offset)) => format!(in alloc; "fault 67 {offset:x}")?,
-        Err(ParamFault::NoMemory) => String::from_str(alloc, "no memory")?,
-    };
-    Ok(text)
+pub fn answer_read(row: &mut Row<'_>) {
+    match read_params(row.heap, row.bytes) {
+        Ok(params) => say_params(row, &params),
+        Err(ParamFault::WrongLength) => row.say("fault 66"),
+        Err(ParamFault::BadParams(offset)) => row.say_number("fault 67 ", offset as u64),
+        Err(ParamFault::NoMemory) => row.say("no memory"),
+    }
 }
 
 /// The descriptors.
-pub fn answer_gdt(alloc: Global) -> Result<String, RowFault> {
-    Ok(hex::encode(alloc, &gdt())?)
+pub fn answer_gdt(row: &mut Row<'_>) {
+    for byte in gdt() {
+        row.say_byte(byte);
+    }
 }

@@ -4,12 +4,9 @@
 //! A region may stand there several times: `BASE+LENGTH:KIND*COUNT`, or each a step after the
 //! last: `..*COUNT/STEP`.
 
-use crate::fault::RowFault;
-use crate::parse::{field, number, number_field, range};
-use crate::session::Session;
+use crate::row::Row;
 use bl_map::{Kind, Machine, MapFault, Region};
 use bl_refusing::Refusing;
-use std::alloc::Global;
 use std::ops::Range;
 
 /// What a machine is made from.
@@ -22,31 +19,9 @@ pub struct MachineRow {
 
 impl MachineRow {
     /// The machine, over a heap.
-    pub fn build<'h>(&self, heap: &'h Refusing) -> Result<Machine<&'h Refusing>, MapFault> {
+    fn build<'h>(&self, heap: &'h Refusing) -> Result<Machine<&'h Refusing>, MapFault> {
         let pool = self.pool.start..self.pool.end;
         Machine::new(heap, self.size, self.regions.as_slice(), pool)
-    }
-}
-
-impl Session {
-    /// The last machine that was accepted, made again over a heap; none if memory ran out.
-    pub fn machine_over<'h>(
-        &self,
-        heap: &'h Refusing,
-    ) -> Result<Option<Machine<&'h Refusing>>, RowFault> {
-        let row = self.machine.as_ref().ok_or(RowFault::BadRow)?;
-        Ok(row.build(heap).ok())
-    }
-}
-
-fn kind(word: &str) -> Result<Kind, RowFault> {
-    match word {
-        "usable" => Ok(Kind::Usable),
-        "reserved" => Ok(Kind::Reserved),
-        "acpi" => Ok(Kind::Acpi),
-        "nvs" => Ok(Kind::Nvs),
-        "bad" => Ok(Kind::Bad),
-        _ => Err(RowFault::BadRow),
     }
 }
 
@@ -61,67 +36,91 @@ pub fn kind_name(kind: Kind) -> &'static str {
     }
 }
 
-/// The region that `BASE+LENGTH:KIND` is.
-pub fn region(word: &str) -> Result<Region, RowFault> {
-    let (base, rest) = word.split_once('+').ok_or(RowFault::BadRow)?;
-    let (length, name) = rest.split_once(':').ok_or(RowFault::BadRow)?;
-    Ok(Region {
-        base: number(base)?,
-        length: number(length)?,
-        kind: kind(name)?,
-    })
-}
+impl<'a> Row<'a> {
+    /// The last machine that was accepted, made again over a heap. Where memory runs out that is
+    /// the answer, whatever words are left.
+    pub fn machine_over<'h>(&mut self, heap: &'h Refusing) -> Option<Machine<&'h Refusing>> {
+        let Some(made) = &self.machine else {
+            self.refuse();
+            return None;
+        };
+        match made.build(heap) {
+            Ok(machine) => Some(machine),
+            Err(_) => {
+                self.lack();
+                None
+            }
+        }
+    }
 
-/// How often a region stands there, and how far each lies after the one before: `COUNT`, or
-/// `COUNT/STEP`.
-fn repeats(text: &str) -> Result<(u64, u64), RowFault> {
-    match text.split_once('/') {
-        Some((count, step)) => Ok((number(count)?, number(step)?)),
-        None => Ok((number(text)?, 0)),
+    fn kind_of(&mut self, word: &str) -> Kind {
+        match word {
+            "usable" => Kind::Usable,
+            "reserved" => Kind::Reserved,
+            "acpi" => Kind::Acpi,
+            "nvs" => Kind::Nvs,
+            "bad" => Kind::Bad,
+            _ => {
+                self.refuse();
+                Kind::Bad
+            }
+        }
+    }
+
+    /// The region that `BASE+LENGTH:KIND` is.
+    pub fn region_of(&mut self, word: &str) -> Region {
+        let (base, rest) = self.cut(word, "+");
+        let (length, kind) = self.cut(rest, ":");
+        Region {
+            base: self.number_of(base),
+            length: self.number_of(length),
+            kind: self.kind_of(kind),
+        }
+    }
+
+    /// Appends a text, and a region as `BASE+LENGTH:KIND`.
+    pub fn say_region(&mut self, before: &str, region: &Region) {
+        self.say_number(before, region.base);
+        self.say_number("+", region.length);
+        self.say(":");
+        self.say(kind_name(region.kind));
+    }
+
+    /// Appends a region, or as many as stand after a `*`: `COUNT`, or `COUNT/STEP`, where each lies
+    /// a step after the one before.
+    fn keep_regions(&mut self, regions: &mut Vec<Region>, word: &str) {
+        let (word, repeats) = word.split_once("*").unwrap_or((word, "1"));
+        let (count, step) = repeats.split_once("/").unwrap_or((repeats, "0"));
+        let step = self.number_of(step);
+        let mut next = self.region_of(word);
+        for _ in 0..self.number_of(count) {
+            self.keep(regions, next);
+            next.base = next.base.wrapping_add(step);
+        }
     }
 }
 
-/// Appends a region, or as many as stand after a `*`.
-fn push_regions(regions: &mut Vec<Region>, word: &str) -> Result<(), RowFault> {
-    let Some((word, text)) = word.split_once('*') else {
-        regions.push(region(word)?)?;
-        return Ok(());
-    };
-    let mut next = region(word)?;
-    let (count, step) = repeats(text)?;
-    for _ in 0..count {
-        regions.push(next)?;
-        next.base = next.base.wrapping_add(step);
+/// Makes the machine over the heap. One that is refused leaves the last one as it was.
+pub fn answer(row: &mut Row<'_>) {
+    let size = row.number_field("size");
+    let pool = row.field("pool");
+    let pool = row.range_of(pool);
+    let mut regions = Vec::new(row.alloc);
+    for word in row.rest().split_whitespace() {
+        let region = row.field_of(word, "region");
+        row.keep_regions(&mut regions, region);
     }
-    Ok(())
-}
-
-fn read_row(alloc: Global, fields: &str) -> Result<MachineRow, RowFault> {
-    let mut words = fields.split_whitespace();
-    let size = number_field(words.next().ok_or(RowFault::BadRow)?, "size")?;
-    let pool = range(field(words.next().ok_or(RowFault::BadRow)?, "pool")?)?;
-    let mut regions = Vec::new(alloc);
-    for word in words {
-        push_regions(&mut regions, field(word, "region")?)?;
+    if row.is_bad() {
+        return;
     }
-    Ok(MachineRow {
+    let made = MachineRow {
         size,
         pool,
         regions,
-    })
-}
-
-/// Makes the machine over the heap. One that is refused leaves the session as it was.
-pub fn answer(
-    alloc: Global,
-    heap: &Refusing,
-    session: &mut Session,
-    fields: &str,
-) -> Result<String, RowFault> {
-    let row = read_row(alloc, fields)?;
-    if let Err(fault) = row.build(heap) {
-        return Ok(format!(in alloc; "{fault}")?);
+    };
+    if let Err(fault) = made.build(row.heap) {
+        return row.say_shown(fault);
     }
-    session.machine = Some(row);
-    Ok(String::from_str(alloc, "ok")?)
+    row.made = Some(made);
+    row.say("ok");
 }

@@ -1,27 +1,11 @@
 //! `memory size=SIZE fill=BYTE STEP; STEP ..` and `sparse ..`: one step after the other on new
 //! memory in one block, or on memory that keeps only the chunks which have room.
-ghost use Rattle.std.specs.Prelude.{All, IfOk, IsTrue, OnOk, length, ◌≤◌};
+ghost use Rattle.std.specs.Prelude.{All, IsTrue, length, ◌≤◌};
 ghost use Rattle.bl_mem.specs.Memory.{HasRoom};
 
-use crate::bytes::{Names, bytes_of};
-use crate::fault::RowFault;
-use crate::parse::{byte, field, number, number_field, range, split_word};
-use crate::session::Session;
-use crate::show::bytes_text;
-use crate::unasked::mark_unasked;
+use crate::row::Row;
 use bl_mem::{Flat, PhysMem, Sparse};
-use bl_refusing::Refusing;
-use std::alloc::Global;
 use std::ops::Range;
-
-/// The ranges that these words are.
-pub fn ranges(alloc: Global, words: &str) -> Result<Vec<Range<u64>>, RowFault> {
-    let mut ranges = Vec::new(alloc);
-    for word in words.split_whitespace() {
-        ranges.push(range(word)?)?;
-    }
-    Ok(ranges)
-}
 
 /// Whether these ranges go forward, and end at most at the size.
 fn are_inside(size: u64, ranges: &[Range<u64>]) -> bool
@@ -33,168 +17,143 @@ fn are_inside(size: u64, ranges: &[Range<u64>]) -> bool
         .all(|range| range.start <= range.end && range.end <= size)
 }
 
-/// Gives room to a range, and says whether memory sufficed.
-pub fn give_room<M: PhysMem>(memory: &mut M, range: &Range<u64>) -> Result<bool, RowFault>
-    ensures forward { OnOk result (range.now.start ≤ range.now.end) }
-    ensures inside { OnOk result (range.now.end ≤ length (M.bytes memory.new)) }
-    ensures room { IfOk result (λ given. IsTrue given
-        → HasRoom (M.room memory.new) range.now.start range.now.end) }
+/// Gives room to a range, and says whether it has it. Where memory did not suffice, that is the
+/// answer.
+pub fn give_room<M: PhysMem>(row: &mut Row<'_>, memory: &mut M, range: &Range<u64>) -> bool
+    ensures forward { IsTrue result → range.now.start ≤ range.now.end }
+    ensures inside { IsTrue result → range.now.end ≤ length (M.bytes memory.new) }
+    ensures room { IsTrue result → HasRoom (M.room memory.new) range.now.start range.now.end }
 {
     if range.end < range.start || memory.size() < range.end {
-        return Err(RowFault::BadRow);
+        row.refuse();
+        return false;
     }
     let ranges = [range.start..range.end];
     match memory.reserve(&ranges) {
-        Ok(()) => Ok(true),
-        Err(_) => Ok(false),
+        Ok(()) => true,
+        Err(_) => {
+            row.lack();
+            false
+        }
     }
 }
 
-fn read<M: PhysMem>(alloc: Global, memory: &M, at: u64, length: u64) -> Result<String, RowFault> {
+/// Reads bytes, if they lie in memory.
+pub fn read<M: PhysMem>(row: &mut Row<'_>, memory: &M, at: u64, count: u64) -> Vec<u8> {
     let size = memory.size();
-    if size < at || size - at < length {
-        return Err(RowFault::BadRow);
+    if size < at || size - at < count {
+        row.refuse();
+        return Vec::new(row.alloc);
     }
-    let mut out = Vec::from_elem(alloc, 0u8, length as usize)?;
-    memory.read(at, out.as_mut_slice());
-    Ok(bytes_text(alloc, out.as_slice())?)
+    let mut bytes = row.zeros(count);
+    memory.read(at, bytes.as_mut_slice());
+    bytes
 }
 
-fn lend<M: PhysMem>(alloc: Global, memory: &M, at: u64, length: u64) -> Result<String, RowFault> {
+fn lend<M: PhysMem>(row: &mut Row<'_>, memory: &M) {
+    let at = row.number();
+    let count = row.number();
     let size = memory.size();
-    if size < at || size - at < length {
-        return Err(RowFault::BadRow);
+    if size < at || size - at < count {
+        return row.refuse();
     }
-    match memory.lend(at, length as usize) {
-        Some(part) => Ok(bytes_text(alloc, part)?),
-        None => Ok(String::from_str(alloc, "nothing")?),
+    match memory.lend(at, count as usize) {
+        Some(part) => row.say_bytes("", part),
+        None => row.say("nothing"),
     }
 }
 
-fn write<M: PhysMem>(memory: &mut M, at: u64, part: &[u8]) -> Result<bool, RowFault> {
-    let end = at.checked_add(part.len() as u64).ok_or(RowFault::BadRow)?;
-    if !give_room(memory, &(at..end))? {
-        return Ok(false);
+fn write<M: PhysMem>(row: &mut Row<'_>, memory: &mut M, at: u64, part: &[u8]) -> bool {
+    let Some(end) = at.checked_add(part.len() as u64) else {
+        row.refuse();
+        return false;
+    };
+    if !give_room(row, memory, &(at..end)) {
+        return false;
     }
     memory.write(at, part);
-    Ok(true)
+    true
 }
 
 /// Writes the bytes at each of the places, until memory runs out.
-fn write_words<M: PhysMem>(
-    alloc: Global,
-    names: &Names,
-    memory: &mut M,
-    words: &str,
-) -> Result<bool, RowFault> {
-    let (places, pieces) = split_word(words);
-    let part = bytes_of(alloc, names, pieces)?;
-    for at in places.split(',') {
-        if !write(memory, number(at)?, part.as_slice())? {
-            return Ok(false);
+fn write_words<M: PhysMem>(row: &mut Row<'_>, memory: &mut M) {
+    let places = row.word();
+    let part = row.rest_bytes();
+    for at in places.split(",") {
+        let at = row.number_of(at);
+        if !write(row, memory, at, part.as_slice()) {
+            return;
         }
     }
-    Ok(true)
+    row.say("ok");
 }
 
-fn zero<M: PhysMem>(memory: &mut M, range: Range<u64>) -> Result<bool, RowFault> {
-    if !give_room(memory, &range)? {
-        return Ok(false);
+fn zero<M: PhysMem>(row: &mut Row<'_>, memory: &mut M) {
+    let word = row.word();
+    let range = row.range_of(word);
+    if give_room(row, memory, &range) {
+        memory.zero(range);
+        row.say("ok");
     }
-    memory.zero(range);
-    Ok(true)
 }
 
-fn reserve<M: PhysMem>(alloc: Global, memory: &mut M, words: &str) -> Result<bool, RowFault> {
-    let ranges = ranges(alloc, words)?;
+fn reserve<M: PhysMem>(row: &mut Row<'_>, memory: &mut M) {
+    let ranges = row.rest_ranges();
     if !are_inside(memory.size(), ranges.as_slice()) {
-        return Err(RowFault::BadRow);
+        return row.refuse();
     }
-    Ok(memory.reserve(ranges.as_slice()).is_ok())
-}
-
-/// Makes a step.
-pub fn step<M: PhysMem>(
-    alloc: Global,
-    names: &Names,
-    memory: &mut M,
-    text: &str,
-) -> Result<String, RowFault> {
-    let sufficed = match split_word(text) {
-        ("size", "") => {
-            let size = memory.size();
-            return Ok(format!(in alloc; "{size:x}")?);
-        }
-        ("read", words) => {
-            let (at, length) = split_word(words);
-            return read(alloc, memory, number(at)?, number(length)?);
-        }
-        ("lend", words) => {
-            let (at, length) = split_word(words);
-            return lend(alloc, memory, number(at)?, number(length)?);
-        }
-        ("write", words) => write_words(alloc, names, memory, words)?,
-        ("zero", word) => zero(memory, range(word)?)?,
-        ("reserve", words) => reserve(alloc, memory, words)?,
-        _ => return Err(RowFault::BadRow),
-    };
-    let said = if sufficed { "ok" } else { "no memory" };
-    Ok(String::from_str(alloc, said)?)
-}
-
-/// Makes the steps on memory over the heap.
-fn answer_on<M: PhysMem>(
-    alloc: Global,
-    heap: &Refusing,
-    session: &Session,
-    memory: &mut M,
-    steps: &str,
-) -> Result<String, RowFault> {
-    let mut text = String::new(alloc);
-    for words in steps.split(';') {
-        if !text.is_empty() {
-            text.push_str("; ")?;
-        }
-        let before = heap.refused();
-        let mut said = step(alloc, &session.names, memory, words.trim())?;
-        mark_unasked(heap, before, &mut said)?;
-        text.push_str(&said)?;
-    }
-    Ok(text)
-}
-
-/// The size, what all of memory reads as, and the steps.
-fn read_words(words: &str) -> Result<(u64, u8, &str), RowFault> {
-    let (size, rest) = split_word(words);
-    let (fill, steps) = split_word(rest);
-    let size = number_field(size, "size")?;
-    Ok((size, byte(field(fill, "fill")?)?, steps))
-}
-
-/// The answer for memory in one block.
-pub fn answer(
-    alloc: Global,
-    heap: &Refusing,
-    session: &Session,
-    words: &str,
-) -> Result<String, RowFault> {
-    let (size, fill, steps) = read_words(words)?;
-    match Flat::new(heap, size, fill) {
-        Ok(mut memory) => answer_on(alloc, heap, session, &mut memory, steps),
-        Err(_) => Ok(String::from_str(alloc, "no memory")?),
+    match memory.reserve(ranges.as_slice()) {
+        Ok(()) => row.say("ok"),
+        Err(_) => row.say("no memory"),
     }
 }
 
-/// The answer for memory that keeps only some chunks.
-pub fn answer_sparse(
-    alloc: Global,
-    heap: &Refusing,
-    session: &Session,
-    words: &str,
-) -> Result<String, RowFault> {
-    let (size, fill, steps) = read_words(words)?;
-    match Sparse::new(heap, size, fill) {
-        Ok(mut memory) => answer_on(alloc, heap, session, &mut memory, steps),
-        Err(_) => Ok(String::from_str(alloc, "no memory")?),
+/// Makes a step of this name, whose words are left in the row.
+pub fn step<M: PhysMem>(row: &mut Row<'_>, memory: &mut M, name: &str) {
+    match name {
+        "size" => row.say_number("", memory.size()),
+        "read" => {
+            let at = row.number();
+            let count = row.number();
+            let bytes = read(row, memory, at, count);
+            row.say_bytes("", bytes.as_slice());
+        }
+        "lend" => lend(row, memory),
+        "write" => write_words(row, memory),
+        "zero" => zero(row, memory),
+        "reserve" => reserve(row, memory),
+        _ => row.refuse(),
+    }
+}
+
+/// Makes the steps on memory.
+fn answer_on<'a, M: PhysMem>(row: &mut Row<'a>, memory: &mut M, steps: &'a str) {
+    for words in steps.split(";") {
+        let refused = row.begin_step(words);
+        let name = row.word();
+        step(row, memory, name);
+        row.mark_unasked(refused);
+    }
+}
+
+/// Memory in one block.
+pub fn answer(row: &mut Row<'_>) {
+    let size = row.number_field("size");
+    let fill = row.byte_field("fill");
+    let steps = row.rest();
+    match Flat::new(row.heap, size, fill) {
+        Ok(mut memory) => answer_on(row, &mut memory, steps),
+        Err(_) => row.say("no memory"),
+    }
+}
+
+/// Memory that keeps only some chunks.
+pub fn answer_sparse(row: &mut Row<'_>) {
+    let size = row.number_field("size");
+    let fill = row.byte_field("fill");
+    let steps = row.rest();
+    match Sparse::new(row.heap, size, fill) {
+        Ok(mut memory) => answer_on(row, &mut memory, steps),
+        Err(_) => row.say("no memory"),
     }
 }

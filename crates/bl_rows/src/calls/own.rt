@@ -1,26 +1,21 @@
 //! `own BYTES`: bytes that a value owns, and the vector that it gives back.
 
-use crate::fault::RowFault;
+use crate::row::Row;
 use bl_mem::Bytes;
-use bl_refusing::Refusing;
-use std::alloc::{AllocError, Global};
 
-/// What is seen of the bytes, and what the vector has that they are taken back to, and wrapped
-/// again.
-fn own_text(alloc: Global, bytes: Bytes<&Refusing>) -> Result<String, AllocError> {
-    let length = bytes.len();
-    let is_empty = bytes.is_empty();
-    let seen = hex::encode(alloc, bytes.as_slice())?;
-    let again = Bytes::from(bytes.into_vec());
-    let given = hex::encode(alloc, again.as_slice())?;
-    format!(in alloc; "length {length:x} empty {is_empty}; [{seen}]; [{given}]")
-}
-
-/// Copies the bytes into the heap, and looks at the copy.
-pub fn answer(alloc: Global, heap: &Refusing, bytes: &[u8]) -> Result<String, RowFault> {
-    let text = match Bytes::copy(heap, bytes) {
-        Ok(copy) => own_text(alloc, copy)?,
-        Err(_) => String::from_str(alloc, "no memory")?,
+/// Copies the bytes into the heap: what is seen of the copy, and what the vector has that it is
+/// taken back to, and wrapped again.
+pub fn answer(row: &mut Row<'_>) {
+    let Ok(bytes) = Bytes::copy(row.heap, row.bytes) else {
+        return row.say("no memory");
     };
-    Ok(text)
+    row.say_number("length ", bytes.len() as u64);
+    row.say(if bytes.is_empty() {
+        " empty true"
+    } else {
+        " empty false"
+    });
+    row.say_digits("; ", bytes.as_slice());
+    let again = Bytes::from(bytes.into_vec());
+    row.say_digits("; ", again.as_slice());
 }

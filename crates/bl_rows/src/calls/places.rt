@@ -5,29 +5,75 @@
 ghost use Rattle.std.specs.Prelude.{All, IsTrue};
 ghost use Rattle.bl_plan.specs.Placed.{IsRow};
 
-use crate::calls::plan::{fault_text, read_bounds};
-use crate::fault::RowFault;
-use crate::parse::{number_field, number32};
-use crate::session::Session;
-use bl_plan::{Choice, Place, Role, Row, place_rows};
+use crate::calls::plan::fault_text;
+use crate::row::Row;
+use bl_map::Machine;
+use bl_plan::{Choice, Place, Role, place_rows};
 use bl_refusing::Refusing;
-use std::alloc::{AllocError, Global};
 
-fn role(word: &str) -> Result<Role, RowFault> {
-    match word {
-        "Kernel" => Ok(Role::Kernel),
-        "Module" => Ok(Role::Module),
-        "Information" => Ok(Role::Information),
-        "BootParams" => Ok(Role::BootParams),
-        "CommandLine" => Ok(Role::CommandLine),
-        "Gdt" => Ok(Role::Gdt),
-        "Initrd" => Ok(Role::Initrd),
-        _ => Err(RowFault::BadRow),
+impl Row<'_> {
+    fn role(&mut self) -> Role {
+        match self.word() {
+            "Kernel" => Role::Kernel,
+            "Module" => Role::Module,
+            "Information" => Role::Information,
+            "BootParams" => Role::BootParams,
+            "CommandLine" => Role::CommandLine,
+            "Gdt" => Role::Gdt,
+            "Initrd" => Role::Initrd,
+            _ => {
+                self.refuse();
+                Role::Kernel
+            }
+        }
+    }
+
+    fn choice(&mut self) -> Choice {
+        let word = self.word();
+        let (name, number) = self.cut(word, "=");
+        let number = self.number_of(number);
+        match name {
+            "at" => Choice::Fixed(number),
+            "align" => {
+                let low = self.number_field("low");
+                let high = self.number_field("high");
+                self.chosen(number, low, high)
+            }
+            _ => {
+                self.refuse();
+                Choice::Fixed(0)
+            }
+        }
+    }
+
+    fn chosen(&mut self, align: u64, low: u64, high: u64) -> Choice {
+        match self.word() {
+            "lowest" => Choice::Lowest { align, low, high },
+            "highest" => Choice::Highest { align, low, high },
+            word => {
+                let at = self.field_of(word, "at");
+                Choice::Preferred {
+                    at: self.number_of(at),
+                    align,
+                    low,
+                    high,
+                }
+            }
+        }
+    }
+
+    fn placed(&mut self) -> bl_plan::Row {
+        bl_plan::Row {
+            role: self.role(),
+            index: self.number32(),
+            length: self.number_field("len"),
+            choice: self.choice(),
+        }
     }
 }
 
 /// Whether the row has a byte at least, and an alignment from 1 on.
-fn is_row(row: &Row) -> bool
+fn is_row(row: &bl_plan::Row) -> bool
     ensures { IsTrue result → IsRow row.now }
 {
     let align = match row.choice {
@@ -40,101 +86,51 @@ fn is_row(row: &Row) -> bool
 }
 
 /// Whether each row has a byte at least, and an alignment from 1 on.
-fn are_rows(rows: &[Row]) -> bool
+fn are_rows(rows: &[bl_plan::Row]) -> bool
     ensures { IsTrue result → All IsRow rows.now }
 {
     rows.iter().all(|row| is_row(row))
 }
 
-fn choice(words: &[&str]) -> Result<Choice, RowFault> {
-    match words {
-        [at] => Ok(Choice::Fixed(number_field(at, "at")?)),
-        [align, low, high, word] => {
-            let bounds = read_bounds(align, low, high)?;
-            let align = bounds.align;
-            let low = bounds.low;
-            let high = bounds.high;
-            match *word {
-                "lowest" => Ok(Choice::Lowest { align, low, high }),
-                "highest" => Ok(Choice::Highest { align, low, high }),
-                _ => {
-                    let at = number_field(word, "at")?;
-                    Ok(Choice::Preferred {
-                        at,
-                        align,
-                        low,
-                        high,
-                    })
-                }
-            }
-        }
-        _ => Err(RowFault::BadRow),
-    }
-}
-
-fn read_row(alloc: Global, text: &str) -> Result<Row, RowFault> {
-    let words = text.split_whitespace().collect::<Vec<&str>>(alloc)?;
-    let [name, index, length, rest @ ..] = words.as_slice() else {
-        return Err(RowFault::BadRow);
-    };
-    Ok(Row {
-        role: role(name)?,
-        index: number32(index)?,
-        length: number_field(length, "len")?,
-        choice: choice(rest)?,
-    })
-}
-
-fn read_rows(alloc: Global, text: &str) -> Result<Vec<Row>, RowFault> {
-    let mut rows = Vec::new(alloc);
-    if text.is_empty() {
-        return Ok(rows);
-    }
-    for row in text.split(';') {
-        rows.push(read_row(alloc, row)?)?;
-    }
-    Ok(rows)
-}
-
 /// Places as `ROLE INDEX ADDRESS+LENGTH`.
-fn places_text(alloc: Global, places: &[Place]) -> Result<String, AllocError> {
+fn say_places(row: &mut Row<'_>, places: &[Place]) {
     if places.is_empty() {
-        return String::from_str(alloc, "none");
+        row.say("none");
     }
-    let mut text = String::new(alloc);
     for place in places {
-        if !text.is_empty() {
-            text.push_str("; ")?;
-        }
-        let Place {
-            role,
-            index,
-            address,
-            length,
-        } = *place;
-        write!(text, "{role:?} {index:x} {address:x}+{length:x}")?;
+        row.say_next();
+        row.say_quoted("", place.role);
+        row.say_number(" ", place.index as u64);
+        row.say_number(" ", place.address);
+        row.say_number("+", place.length);
     }
-    Ok(text)
+}
+
+fn answer_on<'h>(row: &mut Row<'_>, heap: &'h Refusing, machine: Machine<&'h Refusing>) {
+    let mut rows = Vec::new(row.alloc);
+    let words = row.rest();
+    if !words.is_empty() {
+        for words in words.split(";") {
+            let _refused = row.begin_step(words);
+            let placed = row.placed();
+            row.keep(&mut rows, placed);
+        }
+    }
+    if !are_rows(rows.as_slice()) {
+        return row.refuse();
+    }
+    match place_rows(heap, &machine, rows.as_slice()) {
+        Ok(places) => say_places(row, places.as_slice()),
+        Err(fault) => row.say(fault_text(fault)),
+    }
 }
 
 /// Places the rows over the heap. The machine stands over another one, so that its requests are
 /// not refused.
-pub fn answer(
-    alloc: Global,
-    heap: &Refusing,
-    session: &Session,
-    text: &str,
-) -> Result<String, RowFault> {
-    let machine_heap = Refusing::new(alloc, 0);
-    let machine = session
-        .machine_over(&machine_heap)?
-        .ok_or(RowFault::NoMemory)?;
-    let rows = read_rows(alloc, text)?;
-    if !are_rows(rows.as_slice()) {
-        return Err(RowFault::BadRow);
-    }
-    match place_rows(heap, &machine, rows.as_slice()) {
-        Ok(places) => Ok(places_text(alloc, places.as_slice())?),
-        Err(fault) => Ok(String::from_str(alloc, fault_text(fault))?),
+pub fn answer(row: &mut Row<'_>) {
+    let beside = Refusing::new(row.alloc, 0);
+    let heap = row.heap;
+    if let Some(machine) = row.machine_over(&beside) {
+        answer_on(row, heap, machine);
     }
 }

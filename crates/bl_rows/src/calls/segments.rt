@@ -1,56 +1,45 @@
 //! `holds SEGMENT ADDRESS ..` and `order SEGMENT ..`, where a segment is
 //! `OFFSET,ADDRESS,FILESZ,MEMSZ`.
 
-use crate::calls::elf::segments_text;
-use crate::fault::RowFault;
-use crate::parse::{number, split_word};
+use crate::calls::elf::say_segments;
+use crate::row::Row;
 use bl_mem::Segment;
 use bl_plan::in_order;
-use bl_refusing::Refusing;
-use std::alloc::Global;
 
-fn read_segment(word: &str) -> Result<Segment, RowFault> {
-    let mut fields = word.split(',');
-    let offset = number(fields.next().ok_or(RowFault::BadRow)?)?;
-    let address = number(fields.next().ok_or(RowFault::BadRow)?)?;
-    let filesz = number(fields.next().ok_or(RowFault::BadRow)?)?;
-    let memsz = number(fields.next().ok_or(RowFault::BadRow)?)?;
-    Ok(Segment {
-        offset,
-        address,
-        filesz,
-        memsz,
-    })
+impl Row<'_> {
+    fn segment_of(&mut self, word: &str) -> Segment {
+        let (offset, rest) = self.cut(word, ",");
+        let (address, rest) = self.cut(rest, ",");
+        let (filesz, memsz) = self.cut(rest, ",");
+        Segment {
+            offset: self.number_of(offset),
+            address: self.number_of(address),
+            filesz: self.number_of(filesz),
+            memsz: self.number_of(memsz),
+        }
+    }
 }
 
 /// Whether the segment holds each of the addresses.
-pub fn answer_holds(alloc: Global, words: &str) -> Result<String, RowFault> {
-    let (word, addresses) = split_word(words);
-    let segment = read_segment(word)?;
-    let mut text = String::new(alloc);
-    for address in addresses.split_whitespace() {
-        let word = if segment.holds(number(address)?) {
-            "yes"
-        } else {
-            "no"
-        };
-        if !text.is_empty() {
-            text.push_str("; ")?;
-        }
-        text.push_str(word)?;
+pub fn answer_holds(row: &mut Row<'_>) {
+    let word = row.word();
+    let segment = row.segment_of(word);
+    for address in row.rest().split_whitespace() {
+        let address = row.number_of(address);
+        row.say_next();
+        row.say(if segment.holds(address) { "yes" } else { "no" });
     }
-    Ok(text)
 }
 
 /// The segments in address order, in a vector of the heap.
-pub fn answer_order(alloc: Global, heap: &Refusing, words: &str) -> Result<String, RowFault> {
-    let mut segments = Vec::new(alloc);
-    for word in words.split_whitespace() {
-        segments.push(read_segment(word)?)?;
+pub fn answer_order(row: &mut Row<'_>) {
+    let mut segments = Vec::new(row.alloc);
+    for word in row.rest().split_whitespace() {
+        let segment = row.segment_of(word);
+        row.keep(&mut segments, segment);
     }
-    let text = match in_order(heap, segments.as_slice()) {
-        Ok(sorted) => segments_text(alloc, sorted.as_slice())?,
-        Err(_) => String::from_str(alloc, "no memory")?,
-    };
-    Ok(text)
+    match in_order(row.heap, segments.as_slice()) {
+        Ok(sorted) => say_segments(row, sorted.as_slice()),
+        Err(_) => row.say("no memory"),
+    }
 }

@@ -7,31 +7,15 @@ ghost use Rattle.bl_stage.specs.Staged.{AreApart};
 ghost use Rattle.bl_map.specs.Room.{frames_for};
 
 use crate::calls::staging::{Staging, fault_text, step};
-use crate::fault::RowFault;
-use crate::parse::{field, number, split_word};
-use crate::session::Session;
-use crate::unasked::mark_unasked;
+use crate::row::Row;
 use bl_map::{FRAME, Machine, frames_of};
 use bl_mem::{Flat, PhysMem, Sparse};
 use bl_refusing::Refusing;
 use bl_stage::{Stage, StageFault};
-use std::alloc::Global;
 use std::ops::Range;
 
 /// What memory reads as at first.
 const FILL: u8 = 0xa5;
-
-/// The numbers that stand between commas, perhaps none.
-fn numbers(alloc: Global, list: &str) -> Result<Vec<u64>, RowFault> {
-    let mut numbers = Vec::new(alloc);
-    if list.is_empty() {
-        return Ok(numbers);
-    }
-    for digits in list.split(',') {
-        numbers.push(number(digits)?)?;
-    }
-    Ok(numbers)
-}
 
 /// Whether no frame is named twice.
 fn are_apart(frames: &[u64]) -> bool
@@ -71,89 +55,79 @@ fn are_frames(pool: &Range<u64>, frames: &[u64]) -> bool
     frames.iter().all(|frame| frame % FRAME == 0 && pool.start <= *frame && *frame < pool.end)
 }
 
-/// The stage over the heap.
+/// The stage over the heap; none where the row may not ask for it.
 fn begin<'h>(
-    alloc: Global,
+    row: &mut Row<'_>,
     heap: &'h Refusing,
     machine: &Machine<&'h Refusing>,
     sizes: &[u64],
-    word: &str,
-) -> Result<Result<Stage<&'h Refusing>, StageFault>, RowFault> {
-    if word == "any" {
-        return Ok(Stage::begin(heap, machine, sizes));
+    frames: &str,
+) -> Option<Result<Stage<&'h Refusing>, StageFault>> {
+    if frames == "any" {
+        return Some(Stage::begin(heap, machine, sizes));
     }
-    let frames = numbers(alloc, word)?;
-    let pool = machine.pool();
-    if !are_frames(&pool, frames.as_slice()) {
-        return Err(RowFault::BadRow);
+    let frames = row.numbers_of(frames);
+    let frames = frames.as_slice();
+    if !are_frames(&machine.pool(), frames) || !are_enough(sizes, frames) || !are_apart(frames) {
+        row.refuse();
+        return None;
     }
-    if !are_enough(sizes, frames.as_slice()) {
-        return Err(RowFault::BadRow);
-    }
-    if !are_apart(frames.as_slice()) {
-        return Err(RowFault::BadRow);
-    }
-    Ok(Stage::begin_at(heap, machine, sizes, frames.as_slice()))
+    Some(Stage::begin_at(heap, machine, sizes, frames))
 }
 
 /// Makes the steps on a stage over the heap.
 fn answer_on<'h, M: PhysMem + Drop>(
-    alloc: Global,
+    row: &mut Row<'_>,
     heap: &'h Refusing,
-    session: &Session,
     machine: Machine<&'h Refusing>,
     memory: M,
-    words: &str,
-) -> Result<String, RowFault> {
-    let (sizes, rest) = split_word(words);
-    let (frames, steps) = split_word(rest);
-    let sizes = numbers(alloc, field(sizes, "sizes")?)?;
-    let frames = field(frames, "frames")?;
-    let stage = match begin(alloc, heap, &machine, sizes.as_slice(), frames)? {
+) {
+    let sizes = row.field("sizes");
+    let sizes = row.numbers_of(sizes);
+    let frames = row.field("frames");
+    let steps = row.rest();
+    let Some(stage) = begin(row, heap, &machine, sizes.as_slice(), frames) else {
+        return;
+    };
+    let stage = match stage {
         Ok(stage) => stage,
-        Err(fault) => return Ok(String::from_str(alloc, fault_text(fault))?),
+        Err(fault) => return row.say(fault_text(fault)),
     };
     let mut staging = Staging {
         machine,
         memory,
         stage,
     };
-    let mut text = String::new(alloc);
-    for words in steps.split(';') {
-        if !text.is_empty() {
-            text.push_str("; ")?;
-        }
-        let before = heap.refused();
-        let mut said = step(alloc, &session.names, &mut staging, words.trim())?;
-        mark_unasked(heap, before, &mut said)?;
-        text.push_str(&said)?;
+    for words in steps.split(";") {
+        let refused = row.begin_step(words);
+        step(row, &mut staging);
+        row.mark_unasked(refused);
     }
-    Ok(text)
 }
 
 /// The answer over memory in one block. The machine and the memory stand over another heap, so
 /// that their requests are not refused.
-pub fn answer(
-    alloc: Global,
-    heap: &Refusing,
-    session: &Session,
-    words: &str,
-) -> Result<String, RowFault> {
-    let beside = Refusing::new(alloc, 0);
-    let machine = session.machine_over(&beside)?.ok_or(RowFault::NoMemory)?;
-    let memory = Flat::new(&beside, machine.size(), FILL)?;
-    answer_on(alloc, heap, session, machine, memory, words)
+pub fn answer(row: &mut Row<'_>) {
+    let beside = Refusing::new(row.alloc, 0);
+    let heap = row.heap;
+    let Some(machine) = row.machine_over(&beside) else {
+        return;
+    };
+    match Flat::new(&beside, machine.size(), FILL) {
+        Ok(memory) => answer_on(row, heap, machine, memory),
+        Err(_) => row.lack(),
+    }
 }
 
 /// The same over memory that keeps only some frames.
-pub fn answer_sparse(
-    alloc: Global,
-    heap: &Refusing,
-    session: &Session,
-    words: &str,
-) -> Result<String, RowFault> {
-    let beside = Refusing::new(alloc, 0);
-    let machine = session.machine_over(&beside)?.ok_or(RowFault::NoMemory)?;
-    let memory = Sparse::new(&beside, machine.size(), FILL)?;
-    answer_on(alloc, heap, session, machine, memory, words)
+pub fn answer_sparse(row: &mut Row<'_>) {
+    let beside = Refusing::new(row.alloc, 0);
+    let heap = row.heap;
+    let Some(machine) = row.machine_over(&beside) else {
+        return;
+    };
+    match Sparse::new(&beside, machine.size(), FILL) {
+        Ok(memory) => answer_on(row, heap, machine, memory),
+        Err(_) => row.lack(),
+    }
 }

@@ -1,15 +1,12 @@
 //! `numbers`: the numbers of kinds, roles and protocols. `kind N`: the kind of a number.
 
 use crate::calls::machine::kind_name;
-use crate::fault::RowFault;
-use crate::parse::number32;
+use crate::row::Row;
 use bl_map::Kind;
 use bl_plan::{Protocol, Role};
-use std::alloc::Global;
 
-/// Each by its name.
-pub fn answer(alloc: Global) -> Result<String, RowFault> {
-    let mut text = String::from_str(alloc, "kinds")?;
+fn say_kinds(row: &mut Row<'_>) {
+    row.say("kinds");
     for kind in [
         Kind::Usable,
         Kind::Reserved,
@@ -17,10 +14,13 @@ pub fn answer(alloc: Global) -> Result<String, RowFault> {
         Kind::Nvs,
         Kind::Bad,
     ] {
-        let number = kind.number();
-        write!(text, " {kind:?} {number}")?;
+        row.say_quoted(" ", kind);
+        row.say_decimal(" ", kind.number() as u64);
     }
-    text.push_str("; roles")?;
+}
+
+fn say_roles(row: &mut Row<'_>) {
+    row.say("; roles");
     for role in [
         Role::Kernel,
         Role::Module,
@@ -30,22 +30,27 @@ pub fn answer(alloc: Global) -> Result<String, RowFault> {
         Role::Gdt,
         Role::Initrd,
     ] {
-        let number = role.number();
-        write!(text, " {role:?} {number}")?;
+        row.say_quoted(" ", role);
+        row.say_decimal(" ", role.number() as u64);
     }
-    text.push_str("; protocols")?;
+}
+
+/// Each by its name.
+pub fn answer(row: &mut Row<'_>) {
+    say_kinds(row);
+    say_roles(row);
+    row.say("; protocols");
     for protocol in [Protocol::Multiboot2, Protocol::Linux] {
-        let number = protocol.number();
-        write!(text, " {protocol:?} {number}")?;
+        row.say_quoted(" ", protocol);
+        row.say_decimal(" ", protocol.number() as u64);
     }
-    Ok(text)
 }
 
 /// The kind's name, or `none`.
-pub fn answer_kind(alloc: Global, digits: &str) -> Result<String, RowFault> {
-    let name = match Kind::from_number(number32(digits)?) {
+pub fn answer_kind(row: &mut Row<'_>) {
+    let name = match Kind::from_number(row.number32()) {
         Some(kind) => kind_name(kind),
         None => "none",
     };
-    Ok(String::from_str(alloc, name)?)
+    row.say(name);
 }

@@ -1,6 +1,6 @@
 //! Why there is no menu.
 ghost use Rattle.std.specs.Prelude.{◌≡◌, ◌↔◌, length, IsTrue};
-ghost use Rattle.bl_load.specs.Value.{HasFewModules};
+ghost use Rattle.bl_load.specs.Value.{IsWithinLimits};
 ghost use Rattle.bl_session.specs.Attempts.{IsSmall, NameEntries};
 ghost use Rattle.bl_session.specs.declared.menu.fault.MenuFault.TheVariants.{NoMemory};
 
@@ -21,6 +21,21 @@ pub enum MenuFault {
     NoMemory,
 }
 
+impl MenuFault {
+    ghost use Rattle.bl_session.specs.Attempts.{menu_fault_number};
+
+    /// The fault's number, 51 to 53.
+    pub fn number(self) -> u32
+        ensures { result ≡ menu_fault_number self }
+    {
+        match self {
+            MenuFault::BadIndex => 51,
+            MenuFault::TooMany => 52,
+            MenuFault::NoMemory => 53,
+        }
+    }
+}
+
 impl From<AllocError> for MenuFault {
     ghost from_gives = { λ _ fault. fault ≡ NoMemory };
 
@@ -39,7 +54,7 @@ impl<T: Drop> From<AllocFailed<T>> for MenuFault {
 
 /// Whether an entry has at most 64 modules.
 fn has_few_modules<A: Allocator>(entry: &Entry<A>) -> bool
-    ensures { IsTrue result ↔ HasFewModules entry.now }
+    ensures { IsTrue result ↔ IsWithinLimits entry.now }
 {
     match entry {
         Entry::Multiboot2 { modules, .. } => modules.len() <= MOST_MODULES,

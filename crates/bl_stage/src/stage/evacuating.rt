@@ -3,7 +3,7 @@ ghost use Rattle.std.specs.Prelude.{◌≡◌, ℕ, ◌<◌, ◌↔◌, length, 
 ghost use Rattle.std.specs.Prelude.{OnOk, false};
 ghost use Rattle.bl_mem.specs.Memory.{HasRoom, KeepsRoom};
 ghost use Rattle.bl_map.specs.Room as room;
-ghost use Rattle.bl_stage.specs.Staged.{file_of, with_frames, HasPool};
+ghost use Rattle.bl_stage.specs.Staged.{file_of, with_frames, AreStaged, HasPool};
 ghost use Rattle.bl_map.specs.Room.{frames_for};
 ghost use Rattle.bl_stage.specs.Spots.{spots};
 ghost use Rattle.bl_stage.specs.Ranges.{meets, IsSameOutside};
@@ -45,6 +45,7 @@ impl<A: Allocator> Stage<A> {
             ≡ file_of (M.bytes memory.old) self.old file) }
         ensures spots { OnOk result (spots (M.bytes memory.new) self.new
             ≡ spots (M.bytes memory.old) self.old) }
+        ensures staged { AreStaged self.new }
         ensures outside { IsSameOutside self.old.pool (M.bytes memory.old) (M.bytes memory.new) }
         ensures size { length (M.bytes memory.new) ≡ length (M.bytes memory.old) }
         ensures kept { KeepsRoom (M.room memory.old) (M.room memory.new) }

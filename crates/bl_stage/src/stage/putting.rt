@@ -2,7 +2,7 @@
 ghost use Rattle.std.specs.Prelude.{◌≡◌, ◌≢◌, ℕ, ◌+◌, ◌*◌, ◌<◌, ◌≤◌, IfSome, length, slice_index};
 ghost use Rattle.std.specs.Prelude.{if◌then◌else◌, Some, None};
 ghost use Rattle.bl_mem.specs.Memory.{overwrite, HasRoom, KeepsRoom};
-ghost use Rattle.bl_stage.specs.Staged.{file_of, HasPool};
+ghost use Rattle.bl_stage.specs.Staged.{file_of, AreStaged, HasPool};
 ghost use Rattle.bl_stage.specs.Pieces.{is_piece, slot_in, put_answer, with_piece};
 ghost use Rattle.bl_stage.specs.Spots.{spots, put_spot};
 ghost use Rattle.bl_stage.specs.Ranges.{IsSameOutside};
@@ -79,6 +79,7 @@ impl<A: Allocator> Stage<A> {
             ≡ put_spot (M.bytes memory.old) self.old file index bytes.now }
         ensures unchanged { result ≢ Put.Stored
             → (self.new ≡ self.old) × (M.bytes memory.new ≡ M.bytes memory.old) }
+        ensures staged { AreStaged self.new }
         ensures outside { IsSameOutside self.old.pool (M.bytes memory.old) (M.bytes memory.new) }
         ensures size { length (M.bytes memory.new) ≡ length (M.bytes memory.old) }
         ensures kept { KeepsRoom (M.room memory.old) (M.room memory.new) }

@@ -3,7 +3,9 @@ use Rattle.bl_boot.proofs.laws.booted_images_show_their_entries.Goals as goal
 
 pub returns-clause-seen : goal.returns-clause-seen
 returns-clause-seen g c =
-    λ desc before after b image seen is sees. booted_image_shows b image seen is sees
+    λ desc before after b version image seen is sees.
+    booted_image_shows b version image seen is sees
 
 pub returns-clause-sound : goal.returns-clause-sound
-returns-clause-sound g c = λ desc before after b image is. booted_image_is_sound b image is
+returns-clause-sound g c = λ desc before after b version image is.
+    booted_image_is_sound b version image is

@@ -1,4 +1,4 @@
-use Rattle.std.proofs.Common.{◌≡◌, true, false, sym, ap}
+use Rattle.std.proofs.Common.{◌≡◌, false, sym, ap}
 use Rattle.std.specs.Prelude.{nat_le, ◌&&◌}
 use Rattle.bl_plan.specs.Protocols as protocols
 use Rattle.std.proofs.lemmas.Result.{err_from_is_err_and}
@@ -9,14 +9,16 @@ use Rattle.bl_image.specs.Fields.{protocol_field}
 use Rattle.bl_image.proofs.Inputs.{comes_as}
 use Rattle.bl_image.proofs.FieldLemmas.{field_cut, field_shows, word_tells}
 use Rattle.bl_image.proofs.FieldTests.{not_between}
-use Rattle.bl_image.proofs.ReadAgain.{protocol_fits, protocol_between}
+use Rattle.bl_image.proofs.HeadLemmas.{protocol_passes}
 use Rattle.bl_image.proofs.head_reader.read_protocol.Goals as goal
 
 pub returns-in_err-number-clause-field : goal.returns-in_err-number-clause-field
 unfolding protocol_field
 returns-in_err-number-clause-field g c =
     let p = err_from_is_err_and c.from_residual.result c.from_residual.ensures.1 in
-    rw (p.1, p.2) (λ fields. field_cut protocol_field fields _ _ _ c.in_err-number.ensures.cut)
+    rw (p.1, p.2)
+    (λ version fields.
+    field_cut (protocol_field version) fields _ _ _ c.in_err-number.ensures.cut)
 
 pub returns-in_default-clause-field : goal.returns-in_default-clause-field
 unfolding protocol_field
@@ -25,8 +27,8 @@ returns-in_default-clause-field g c =
     let fails =
     word_tells (λ k. nat_le 1 k && nat_le k 2) BadHeader n false c.in_ok-number.ensures.fits
     (not_between 1 n 2 c.in_default.ensures) in
-    λ fields.
-    field_shows protocol_field fields _ _ (u32_bytes n) c.in_ok-number.ensures.ok
+    λ version fields.
+    field_shows (protocol_field version) fields _ _ (u32_bytes n) c.in_ok-number.ensures.ok
     (length-u32_bytes n) fails
 
 pub returns-clause-field : goal.returns-clause-field
@@ -34,10 +36,8 @@ unfolding protocol_field
 returns-clause-field g c =
     let n = c.in_ok-number.number in
     let is : protocols.protocol_number c.in-Some.protocol ≡ n = c.in-Some.ensures in
-    record {
+    λ version. record {
       comes = comes_as (ap u32_bytes (sym is)) c.in_ok-number.ensures.ok;
       size = length-u32_bytes _;
-      passes =
-          word_tells (λ k. nat_le 1 k && nat_le k 2) BadHeader _ true
-          (protocol_fits c.in-Some.protocol) (protocol_between c.in-Some.protocol);
+      passes = protocol_passes version c.in-Some.protocol;
     }

@@ -1,4 +1,4 @@
-use Rattle.std.proofs.Common.{◌≡◌, true, false, arith, refl, ap}
+use Rattle.std.proofs.Common.{◌≡◌, false, sym, ap, arith}
 use Rattle.std.specs.Prelude.{◌==◌}
 use Rattle.std.proofs.lemmas.Result.{err_from_is_err_and}
 use Rattle.std.proofs.lemmas.Bool.Decides.{nat_tests}
@@ -6,32 +6,37 @@ use Rattle.bl_mem.specs.Words.{u32_bytes}
 use Rattle.bl_mem.proofs.WordLaws.{length-u32_bytes}
 use Rattle.bl_image.specs.declared.fault.ImageFault.TheVariants.{BadVersion}
 use Rattle.bl_image.specs.Fields.{version_field}
+use Rattle.bl_image.specs.Versions.{version_number}
 use Rattle.bl_image.proofs.Inputs.{comes_as}
 use Rattle.bl_image.proofs.FieldLemmas.{field_cut, field_shows, word_tells}
+use Rattle.bl_image.proofs.HeadLemmas.{version_passes}
 use Rattle.bl_image.proofs.head_reader.read_version.Goals as goal
 
-pub returns-in_err-read_u32-clause-field : goal.returns-in_err-read_u32-clause-field
+pub returns-in_err-number-clause-field : goal.returns-in_err-number-clause-field
 unfolding version_field
-returns-in_err-read_u32-clause-field g c =
+returns-in_err-number-clause-field g c =
     let p = err_from_is_err_and c.from_residual.result c.from_residual.ensures.1 in
-    rw (p.1, p.2) (λ fields. field_cut version_field fields _ _ _ c.in_err-read_u32.ensures.cut)
+    rw (p.1, p.2) (λ fields. field_cut version_field fields _ _ _ c.in_err-number.ensures.cut)
 
-pub returns-then-branch-ne-VERSION-clause-field : goal.returns-then-branch-ne-VERSION-clause-field
+pub returns-in_default-clause-field : goal.returns-in_default-clause-field
 unfolding version_field
-returns-then-branch-ne-VERSION-clause-field g c =
-    let n = c.in_ok-read_u32.field-0 in
-    let other : n ≡ 1 → ⊥ = c.if-branch-ne-VERSION.true in
+returns-in_default-clause-field g c =
+    let n = c.in_ok-number.number in
+    let other : ¬ (n ≡ 1) = c.in_default.ensures in
     let fails =
-    word_tells (λ k. k == 1) BadVersion n false c.in_ok-read_u32.ensures.fits
+    word_tells (λ k. k == 1) BadVersion n false c.in_ok-number.ensures.fits
     (grind (arith, nat_tests)) in
     λ fields.
-    field_shows version_field fields _ _ (u32_bytes n) c.in_ok-read_u32.ensures.ok
+    field_shows version_field fields _ _ (u32_bytes n) c.in_ok-number.ensures.ok
     (length-u32_bytes n) fails
 
 pub returns-clause-field : goal.returns-clause-field
 unfolding version_field
-returns-clause-field g c = record {
-  comes = comes_as (ap u32_bytes c.if-branch-ne-VERSION.false) c.in_ok-read_u32.ensures.ok;
-  size = length-u32_bytes 1;
-  passes = word_tells (λ k. k == 1) BadVersion 1 true (omega arith) refl;
-}
+returns-clause-field g c =
+    let n = c.in_ok-number.number in
+    let is : version_number c.in-Some.version ≡ n = c.in-Some.ensures in
+    record {
+      comes = comes_as (ap u32_bytes (sym is)) c.in_ok-number.ensures.ok;
+      size = length-u32_bytes _;
+      passes = version_passes c.in-Some.version;
+    }

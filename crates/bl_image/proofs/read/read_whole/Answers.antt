@@ -1,15 +1,15 @@
-use Rattle.std.proofs.Common.{◌≡◌, length, sym, ap, ◌∙◌, subst}
+use Rattle.std.proofs.Common.{◌≡◌, ◌≤◌, ◌^◌, length, sym, ap, ◌∙◌, subst, arith}
 use Rattle.std.proofs.lemmas.Result.{err_from_is_err_and}
-use Rattle.bl_load.specs.HandoffFacts.{AreRecords}
 use Rattle.bl_image.specs.Image.{spelling}
 use Rattle.bl_image.specs.ImageParts.{IsKept}
 use Rattle.bl_image.specs.ImageFaults.{image_fault, parts_fault, none_before, end_fault}
 use Rattle.bl_image.specs.RecordsKept.{bytes_at}
 use Rattle.bl_image.proofs.Inputs.{comes_more, comes_as}
 use Rattle.bl_image.proofs.FieldLemmas.{Passed, passed_more, passed_refuses, cut_refuses}
-use Rattle.bl_image.proofs.HeadLemmas.{head_front, head_refuses}
+use Rattle.bl_image.proofs.FrontLemmas.{head_front, head_refuses}
 use Rattle.bl_image.proofs.PartLemmas.{all_bytes, end_short, end_more, parts_size, spelled_by}
-use Rattle.bl_image.proofs.PartLemmas.{image_parts, image_kept}
+use Rattle.bl_image.proofs.PartLemmas.{parts_kept, image_kept}
+use Rattle.bl_image.proofs.SoundLemmas.{sound_kept}
 use Rattle.bl_image.proofs.read.read_whole.Goals as goal
 
 pub returns-in_err-head-clause-refused : goal.returns-in_err-head-clause-refused
@@ -23,13 +23,13 @@ returns-in_err-places-clause-refused g c =
     err_from_is_err_and c.from_residual-in_err-places.result
     c.from_residual-in_err-places.ensures.1 in
     let head = c.in_ok-head.head in
-    let front : Passed image_fault _ _ (parts_fault head.count none_before) =
+    let front : Passed image_fault _ _ (parts_fault 7 head.count none_before) =
     record {
       done = _;
       comes = c.in_ok-head.ensures.ok;
       on =
           λ bytes.
-          head_front head.protocol head.registers head.count bytes
+          head_front head.version head.protocol head.registers head.count bytes
           c.in_ok-head.ensures.few;
     } in
     rw (p.1, p.2) (passed_refuses front _ _ c.in_err-places.ensures.refused)
@@ -41,13 +41,13 @@ returns-in_err-parts-clause-refused g c =
     c.from_residual-in_err-parts.ensures.1 in
     let head = c.in_ok-head.head in
     let places = c.in_ok-places.places.items in
-    let front : Passed image_fault _ _ (parts_fault head.count none_before) =
+    let front : Passed image_fault _ _ (parts_fault 7 head.count none_before) =
     record {
       done = _;
       comes = c.in_ok-head.ensures.ok;
       on =
           λ bytes.
-          head_front head.protocol head.registers head.count bytes
+          head_front head.version head.protocol head.registers head.count bytes
           c.in_ok-head.ensures.few;
     } in
     let passed : Passed image_fault _ _ (end_fault (bytes_at places)) =
@@ -66,13 +66,13 @@ returns-in_err-read_end-clause-refused g c =
     let head = c.in_ok-head.head in
     let places = c.in_ok-places.places.items in
     let parts = c.in_ok-parts.parts.items in
-    let front : Passed image_fault _ _ (parts_fault head.count none_before) =
+    let front : Passed image_fault _ _ (parts_fault 7 head.count none_before) =
     record {
       done = _;
       comes = c.in_ok-head.ensures.ok;
       on =
           λ bytes.
-          head_front head.protocol head.registers head.count bytes
+          head_front head.version head.protocol head.registers head.count bytes
           c.in_ok-head.ensures.few;
     } in
     let passed : Passed image_fault _ _ (end_fault (bytes_at places)) =
@@ -84,11 +84,21 @@ returns-in_err-read_end-clause-refused g c =
     (λ bytes. end_more (bytes_at places) (all_bytes parts) bytes size) in
     rw (p.1, p.2) (passed_refuses left _ _ c.in_err-read_end.ensures.refused)
 
+pub read_parts-requires-clause-few : goal.read_parts-requires-clause-few
+read_parts-requires-clause-few g c =
+    rw c.deref.ensures.value
+    (λ k d within. let low = c.in_ok-places.ensures.sound.below k d within in omega arith)
+
 pub new-requires : goal.new-requires
 new-requires g c =
-    image_parts c.in_ok-parts.parts.items
-    (subst AreRecords (sym (c.in_ok-parts.ensures.places ∙ c.deref.ensures.value))
-    c.in_ok-places.ensures.records)
+    let head = c.in_ok-head.head in
+    let places = c.in_ok-places.places.items in
+    let few : length places ≤ 256 =
+    omega (arith, c.in_ok-places.ensures.count, c.in_ok-head.ensures.few) in
+    parts_kept head.protocol head.registers places c.in_ok-parts.parts.items
+    (c.in_ok-parts.ensures.places ∙ c.deref.ensures.value)
+    (sound_kept head.protocol head.registers places (2 ^ 32) few
+    c.in_ok-places.ensures.sound)
 
 pub returns-clause-ok : goal.returns-clause-ok
 returns-clause-ok g c =
@@ -96,16 +106,22 @@ returns-clause-ok g c =
     let came =
     comes_more
     (comes_more (comes_more c.in_ok-head.ensures.ok c.in_ok-places.ensures.ok)
-    c.in_ok-parts.ensures.ok) c.in_ok-read_end.ensures.ok in
-    comes_as
-    (spelled_by head.protocol head.registers head.count c.in_ok-places.places.items
-    c.in_ok-parts.parts.items (c.in_ok-parts.ensures.places ∙ c.deref.ensures.value)
-    c.in_ok-places.ensures.count ∙ ap spelling (sym c.new.ensures)) came
+    c.in_ok-parts.ensures.ok) c.in_ok-read_end.ensures.ok in (
+      head.version,
+      comes_as
+          (spelled_by head.version head.protocol head.registers head.count
+          c.in_ok-places.places.items c.in_ok-parts.parts.items
+          (c.in_ok-parts.ensures.places ∙ c.deref.ensures.value) c.in_ok-places.ensures.count
+          ∙ ap (spelling head.version) (sym c.new.ensures)) came,
+    )
 
 pub returns-clause-kept : goal.returns-clause-kept
 returns-clause-kept g c =
     let head = c.in_ok-head.head in
+    let places = c.in_ok-places.places.items in
+    let few : length places ≤ 256 = omega (arith, c.in_ok-places.ensures.count, c.in_ok-head.ensures.few) in
     subst IsKept (sym c.new.ensures)
-    (image_kept head.protocol head.registers c.in_ok-places.places.items
+    (image_kept head.protocol head.registers places
     c.in_ok-parts.parts.items (c.in_ok-parts.ensures.places ∙ c.deref.ensures.value)
-    c.in_ok-places.ensures.records c.in_ok-places.ensures.fit c.in_ok-head.ensures.fit)
+    (sound_kept head.protocol head.registers places (2 ^ 32) few c.in_ok-places.ensures.sound)
+    c.in_ok-places.ensures.sound.fit c.in_ok-head.ensures.fit)

@@ -9,6 +9,7 @@ use Rattle.bl_image.proofs.Inputs.{comes_more, comes_as}
 use Rattle.bl_image.proofs.FieldLemmas.{Passed, passed_refuses}
 use Rattle.bl_image.proofs.RecordLemmas.{record_refuses}
 use Rattle.bl_image.proofs.SoundLemmas.{so_far, judged_more, came_more, sound_more}
+use Rattle.bl_image.proofs.SoundLemmas.{sound_low}
 use Rattle.bl_image.proofs.record_reader.read_records.Goals as goal
 
 pub returns-in_err-place-clause-refused : goal.returns-in_err-place-clause-refused
@@ -24,7 +25,7 @@ returns-in_err-place-clause-refused g c =
     } in
     let inside : part < count = omega arith in
     let left : count - part ≡ suc (count - (part + 1)) = omega arith in
-    let passed : Passed (parts_fault count none_before) _ _ (parts_fault (count - part) before) =
+    let passed : Passed (parts_fault 7 count none_before) _ _ (parts_fault 7 (count - part) before) =
     record {
       done = _;
       comes = c.loop-part.invariant.came;
@@ -46,8 +47,8 @@ loop-part-preserved g c =
     let e : c.push.new.self.items ≡ old ++ place ∷ [] = c.in_ok-push.ensures.items in
     let longer : length (old ++ place ∷ []) ≡ length old + 1 = length-append old (place ∷ []) in
     let judged : (bytes : List ℕ)
-    → parts_fault count none_before (flat_map place_record (old ++ place ∷ []) ++ bytes)
-    ≡ parts_fault (count - (part + 1)) (so_far (part + 1) end (old ++ place ∷ [])) bytes =
+    → parts_fault 7 count none_before (flat_map place_record (old ++ place ∷ []) ++ bytes)
+    ≡ parts_fault 7 (count - (part + 1)) (so_far (part + 1) end (old ++ place ∷ [])) bytes =
     judged_more count part old c.loop-part.before place inside c.in_ok-place.ensures.next
     c.loop-part.invariant.judged in
     record {
@@ -62,8 +63,11 @@ loop-part-preserved g c =
       judged =
           subst
           (λ (ps : List Place). (bytes : List ℕ)
-          → parts_fault count none_before (flat_map place_record ps ++ bytes)
-          ≡ parts_fault (count - (part + 1)) (so_far (part + 1) end ps) bytes)
+          → parts_fault 7 count none_before (flat_map place_record ps ++ bytes)
+          ≡ parts_fault 7 (count - (part + 1)) (so_far (part + 1) end ps) bytes)
           (sym e) judged;
       faults = omega (arith, c.in_ok-place.ensures.faults, c.loop-part.invariant.faults);
     }
+
+pub returns-clause-sound : goal.returns-clause-sound
+returns-clause-sound g c = sound_low c.loop-part.places.items c.loop-part.before c.loop-part.invariant.sound

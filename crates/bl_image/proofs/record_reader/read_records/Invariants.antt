@@ -13,8 +13,8 @@ invariant-loop-part g l = record {
   size : length l.places.items ≡ l.part;
   sound : AreSound l.places.items l.before;
   judged : (bytes : List ℕ)
-      → parts_fault l.count none_before (flat_map place_record l.places.items ++ bytes)
-      ≡ parts_fault (l.count - l.part)
+      → parts_fault 7 l.count none_before (flat_map place_record l.places.items ++ bytes)
+      ≡ parts_fault 7 (l.count - l.part)
       (record { count = l.part; end = l.before; bytes = bytes_at l.places.items }) bytes;
   faults : g.S.Source.faults l.source ≡ g.S.Source.faults l.fn.source;
 }

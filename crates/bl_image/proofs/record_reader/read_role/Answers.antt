@@ -7,7 +7,7 @@ use Rattle.bl_plan.specs.Roles as roles
 use Rattle.bl_image.specs.declared.fault.ImageFault.TheVariants.{BadPart}
 use Rattle.bl_image.specs.Fields.{role_field}
 use Rattle.bl_image.proofs.Inputs.{comes_as}
-use Rattle.bl_image.proofs.ReadAgain.{role_fits, role_between}
+use Rattle.bl_image.proofs.NumbersAgain.{role_fits, role_between}
 use Rattle.bl_image.proofs.FieldLemmas.{field_cut, field_shows, word_tells}
 use Rattle.bl_image.proofs.FieldTests.{not_between}
 use Rattle.bl_image.proofs.record_reader.read_role.Goals as goal
@@ -17,7 +17,7 @@ unfolding role_field
 returns-in_err-number-clause-field g c =
     let p = err_from_is_err_and c.from_residual.result c.from_residual.ensures.1 in
     rw (p.1, p.2)
-    (λ fields. field_cut (role_field c.args.part) fields _ _ _ c.in_err-number.ensures.cut)
+    (λ fields. field_cut (role_field 7 c.args.part) fields _ _ _ c.in_err-number.ensures.cut)
 
 pub returns-in_default-clause-field : goal.returns-in_default-clause-field
 unfolding role_field
@@ -27,7 +27,7 @@ returns-in_default-clause-field g c =
     word_tells (λ k. nat_le 1 k && nat_le k 7) (BadPart c.args.part) n false
     c.in_ok-number.ensures.fits (not_between 1 n 7 c.in_default.ensures) in
     λ fields.
-    field_shows (role_field c.args.part) fields _ _ (u32_bytes n) c.in_ok-number.ensures.ok
+    field_shows (role_field 7 c.args.part) fields _ _ (u32_bytes n) c.in_ok-number.ensures.ok
     (length-u32_bytes n) fails
 
 pub returns-clause-field : goal.returns-clause-field

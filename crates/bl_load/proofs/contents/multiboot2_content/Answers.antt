@@ -6,7 +6,7 @@ use Rattle.bl_load.specs.KernelKept.{kernel_by}
 use Rattle.bl_map.specs.Room.{whole_frames}
 use Rattle.bl_load.specs.Rows.{information_of}
 use Rattle.bl_load.specs.PlacingKept.{HasLength}
-use Rattle.bl_load.specs.SourceKept.{value_as}
+use Rattle.bl_load.specs.SourceKept.{value_in}
 use Rattle.bl_load.proofs.InformationLemmas.{information_short}
 use Rattle.bl_load.proofs.contents.multiboot2_content.Goals as goal
 
@@ -14,7 +14,7 @@ pub returns-in_ok-bytes-in-Information-clause-short : goal.returns-in_ok-bytes-i
 returns-in_ok-bytes-in-Information-clause-short g c =
     let facts = c.args.source.now.machine.now in
     let kernel = c.args.kernel.now in
-    let value = value_as (multiboot2 (kernel_by kernel)) c.args.source.now in
+    let value = value_in c.args.source.now in
     let place = c.args.place.now in
     let places = c.args.places.now in
     let long : place.length

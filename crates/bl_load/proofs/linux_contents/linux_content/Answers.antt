@@ -4,14 +4,14 @@ use Rattle.bl_params.proofs.Lengths.{length-boot_params}
 use Rattle.bl_load.specs.LinuxRows.{told_of}
 use Rattle.bl_load.specs.Reading.{linux}
 use Rattle.bl_load.specs.PlacingKept.{HasLength}
-use Rattle.bl_load.specs.SourceKept.{value_as}
+use Rattle.bl_load.specs.SourceKept.{value_in}
 use Rattle.bl_load.proofs.linux_contents.linux_content.Goals as goal
 
 pub returns-in_ok-boot_params-in-BootParams-clause-short : goal.returns-in_ok-boot_params-in-BootParams-clause-short
 returns-in_ok-boot_params-in-BootParams-clause-short g c =
     let facts = c.args.source.now.machine.now in
     let setup = c.args.setup.now in
-    let value = value_as (linux setup) c.args.source.now in
+    let value = value_in c.args.source.now in
     let place = c.args.place.now in
     let long : place.length ≡ 4096 =
     subst (λ (role : Role). HasLength facts value (linux setup) role place.index place.length)

@@ -8,13 +8,13 @@ use Rattle.bl_plan.specs.Placed.{ArePlaced, IsRow, IsPlacingFault}
 use Rattle.bl_plan.specs.Order.{in_order, place_key}
 use Rattle.bl_plan.proofs.OrderLemmas.{in_order_all}
 use Rattle.bl_load.specs.Place.{place_of}
-use Rattle.bl_load.specs.HandoffFacts.{AreRecords}
+use Rattle.bl_load.specs.HandoffFacts.{AreHandoffFacts}
 use Rattle.bl_load.specs.PlacingKept.{IsRowed, told_rows_by}
 use Rattle.bl_load.specs.Rows.{rows_of}
 use Rattle.bl_load.specs.ReadKept.{FitsTold, CanEnter}
 use Rattle.bl_load.specs.SourceKept.{reading_in, value_in}
 use Rattle.bl_load.proofs.PlacingLemmas.{refused_place}
-use Rattle.bl_load.proofs.ReadingLaws.{reading_rows, reading_rowed, reading_records}
+use Rattle.bl_load.proofs.ReadingLaws.{reading_rows, reading_rowed, reading_kept}
 use Rattle.bl_load.proofs.ReadingLaws.{reading_not_overlap}
 use Rattle.bl_load.proofs.ReadingLemmas.{told_are_rows, told_placed, told_fault, fits_told}
 use Rattle.bl_load.proofs.ReadingLemmas.{can_enter}
@@ -133,8 +133,8 @@ ranges_of-requires g c =
     c.in_ok-parts.ensures.places ∙ sorted in
     let count = length-map c.args.source.now.modules.now (λ m. m.line) in
     let kept =
-    reading_records facts value reading c.in-Ok.places.items c.requires.read
-    (omega (arith, count, c.args.source.now.few)) placed in
+    reading_kept facts value reading value.protocol c.registers_of-registers.result
+    c.in-Ok.places.items c.requires.read (omega (arith, count, c.args.source.now.few)) placed in
     let small : All (λ p. p.address + p.length < 2 ^ 64) (in_order c.in-Ok.places.items) =
     λ k d within. let low = kept.below k d within in omega arith in
     rw (c.as_slice-6.ensures.value, places) small
@@ -157,8 +157,8 @@ returns-clause-loadable g c =
     c.in_ok-parts.ensures.places ∙ sorted in
     let count = length-map c.args.source.now.modules.now (λ m. m.line) in
     let kept =
-    reading_records facts value reading c.in-Ok.places.items c.requires.read
-    (omega (arith, count, c.args.source.now.few)) placed in
+    reading_kept facts value reading c.args.source.now.protocol c.registers_of-registers.result
+    c.in-Ok.places.items c.requires.read (omega (arith, count, c.args.source.now.few)) placed in
     let inside =
     in_order_all place_key (λ (p : Place). p.address + p.length ≤ facts.size)
     c.in-Ok.places.items
@@ -169,7 +169,12 @@ returns-clause-loadable g c =
       inside =
           subst (λ (ps : List Place). All (λ p. p.address + p.length ≤ facts.size) ps)
           (sym places) inside;
-      records = subst AreRecords (sym places) kept;
+      kept =
+          subst (λ (ps : List Place). AreHandoffFacts (record {
+            protocol = c.args.source.now.protocol;
+            registers = c.registers_of-registers.result;
+            places = ps;
+          })) (sym places) kept;
     }
 
 pub returns-clause-handover : goal.returns-clause-handover

@@ -1,4 +1,4 @@
-use Rattle.std.proofs.Common.{ℕ, List, map, arith, refl, subst}
+use Rattle.std.proofs.Common.{ℕ, List, map, arith, subst}
 use Rattle.std.proofs.lemmas.List.{length-map}
 use Rattle.std.proofs.lemmas.Result.{IfOk-weaker, IfErr-weaker}
 use Rattle.bl_load.specs.Linux.{IsLinuxKernel}
@@ -20,23 +20,25 @@ invariant_of-source g c = record {
 pub plan_parts-requires : goal.plan_parts-requires
 plan_parts-requires g c =
     let facts = c.args.machine.now in
+    let protocol = c.args.protocol in
     let line = c.args.line.now in
     let file =
     first_text g.V.ByteView.bytes c.args.files.now c.index-files-0.result c.requires.files
     c.index-files-0.is in
     let setup = c.in_ok-read_linux.field-0 in
     let is =
-    subst (λ (f : List ℕ). IsLinuxKernel facts.runs line f setup) file
-    (subst (λ rs. IsLinuxKernel rs line (g.V.ByteView.bytes c.index-files-0.result) setup)
+    subst (λ (f : List ℕ). IsLinuxKernel protocol facts.runs line f setup) file
+    (subst (λ rs. IsLinuxKernel protocol rs line (g.V.ByteView.bytes c.index-files-0.result) setup)
     c.normal.ensures.runs c.in_ok-read_linux.ensures.kernel) in
     record {
-      read = (refl, is);
+      read = (c.requires.params, is);
       files = omega (arith, c.requires.files, length-map c.args.files.now g.V.ByteView.bytes);
     }
 
 pub returns-clause-handover : goal.returns-clause-handover
 returns-clause-handover g c =
     let facts = c.args.machine.now in
+    let protocol = c.args.protocol in
     let texts = map g.V.ByteView.bytes c.args.files.now in
     let line = c.args.line.now in
     let file =
@@ -45,17 +47,18 @@ returns-clause-handover g c =
     let setup = c.in_ok-read_linux.field-0 in
     let runs = c.normal.ensures.runs in
     let is =
-    subst (λ (f : List ℕ). IsLinuxKernel facts.runs line f setup) file
-    (subst (λ rs. IsLinuxKernel rs line (g.V.ByteView.bytes c.index-files-0.result) setup)
+    subst (λ (f : List ℕ). IsLinuxKernel protocol facts.runs line f setup) file
+    (subst (λ rs. IsLinuxKernel protocol rs line (g.V.ByteView.bytes c.index-files-0.result) setup)
     runs c.in_ok-read_linux.ensures.kernel) in
     IfOk-weaker c.plan_parts.result
     _ _ (λ plan h.
-    prepared facts (linux_value texts line) (one_sound line c.in_ok-check_line.ensures)
-    (linux setup) (handover_by texts plan) (refl, is) h) c.plan_parts.ensures.handover
+    prepared facts (linux_value protocol texts line) (one_sound line c.in_ok-check_line.ensures)
+    (linux setup) (handover_by texts plan) (c.requires.params, is) h) c.plan_parts.ensures.handover
 
 pub returns-clause-fault : goal.returns-clause-fault
 returns-clause-fault g c =
     let facts = c.args.machine.now in
+    let protocol = c.args.protocol in
     let texts = map g.V.ByteView.bytes c.args.files.now in
     let line = c.args.line.now in
     let file =
@@ -64,11 +67,11 @@ returns-clause-fault g c =
     let setup = c.in_ok-read_linux.field-0 in
     let runs = c.normal.ensures.runs in
     let is =
-    subst (λ (f : List ℕ). IsLinuxKernel facts.runs line f setup) file
-    (subst (λ rs. IsLinuxKernel rs line (g.V.ByteView.bytes c.index-files-0.result) setup)
+    subst (λ (f : List ℕ). IsLinuxKernel protocol facts.runs line f setup) file
+    (subst (λ rs. IsLinuxKernel protocol rs line (g.V.ByteView.bytes c.index-files-0.result) setup)
     runs c.in_ok-read_linux.ensures.kernel) in
     IfErr-weaker c.plan_parts.result
     _ _ (λ fault h.
-    refused_places facts (linux_value texts line)
-    (one_sound line c.in_ok-check_line.ensures) (linux setup) fault (refl, is) h)
+    refused_places facts (linux_value protocol texts line)
+    (one_sound line c.in_ok-check_line.ensures) (linux setup) fault (c.requires.params, is) h)
     c.plan_parts.ensures.fault

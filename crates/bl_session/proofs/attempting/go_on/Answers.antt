@@ -14,7 +14,7 @@ use Rattle.bl_session.proofs.attempting.go_on.Goals as goal
 pub returns-then-not-complete-clause-attempt : goal.returns-then-not-complete-clause-attempt
 returns-then-not-complete-clause-attempt g c =
     let bytes = g.M.PhysMem.bytes c.args.memory.now in (
-      not_whole bytes c.args.stage c.complete.result c.complete.ensures.staged
+      not_whole bytes c.args.stage c.complete.result c.are_staged.ensures
           c.complete.ensures.exact c.if-not-complete.true,
       refl,
     )
@@ -26,7 +26,7 @@ returns-in-Ok-clause-attempt g c =
     let stage = c.args.stage in
     let facts = c.args.machine.now in
     let came = c.if-not-complete.ensures.exact.0 refl in
-    let kept = c.complete.ensures.staged in
+    let kept = c.are_staged.ensures in
     let told = c.in-Ok.ensures.ok in
     let ends =
     subst
@@ -43,7 +43,7 @@ returns-in-Err-Refused-clause-attempt g c =
     let bytes = g.M.PhysMem.bytes c.args.memory.now in
     let stage = c.args.stage in
     let came = c.if-not-complete.ensures.exact.0 refl in
-    let kept = c.complete.ensures.staged in
+    let kept = c.are_staged.ensures in
     let new = g.M.PhysMem.bytes c.finish.new.memory in
     let value = value_of (texts_of bytes stage) c.args.entry.now in
     let same : c.in-Err-Refused.field-0 ≡ Refused c.in-Err-Refused.refusal = cc in
@@ -57,5 +57,5 @@ returns-in-Err-Refused-clause-attempt g c =
 
 pub returns-clause-whole : goal.returns-clause-whole
 returns-clause-whole g c =
-    came_whole (g.M.PhysMem.bytes c.args.memory.now) c.args.stage c.complete.ensures.staged
+    came_whole (g.M.PhysMem.bytes c.args.memory.now) c.args.stage c.are_staged.ensures
     (c.if-not-complete.ensures.exact.0 refl)

@@ -60,7 +60,7 @@ returns-in_err-drive-clause-lacking g c =
     (given c.args.store.now) (given c.drive.new.store) lacking.0 out_of_memory sizes
     (ap (λ (s : SessionFacts). s.boot) c.in_ok-session.ensures)
     (ap (λ (s : SessionFacts). s.phase) c.in_ok-session.ensures) c.start.ensures.boot
-    c.start.ensures.step lacking.1 (inr refl))
+    c.start.ensures.step lacking.1 (inr (refl, lacking.2)))
 
 pub returns-in_err-drive-clause-outside : goal.returns-in_err-drive-clause-outside
 returns-in_err-drive-clause-outside g c =

@@ -26,10 +26,10 @@ returns-clause-room g c =
 pub returns-clause-held : goal.returns-clause-held
 returns-clause-held g c =
     files_below c.evacuate.new.self (g.M.PhysMem.bytes c.evacuate.new.memory)
-    c.complete.ensures.staged
+    c.evacuate.ensures.staged
     (rw (ap (λ (s : Staging). s.pool) c.evacuate.ensures.same, c.evacuate.ensures.size)
     c.requires.inside)
 
 pub returns-clause-beside : goal.returns-clause-beside
 returns-clause-beside g c =
-    files_beside c.evacuate.new.self c.args.ranges.now c.complete.ensures.staged (search rules)
+    files_beside c.evacuate.new.self c.args.ranges.now c.evacuate.ensures.staged (search rules)

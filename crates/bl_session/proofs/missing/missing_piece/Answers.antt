@@ -9,5 +9,5 @@ unreachable-requires g c =
     let stage = c.args.stage.now in
     let none = sym (c.first_missing.ensures []) ∙ c.in-None.is in
     c.requires.lacks.lacks
-    (whole_came [] stage c.complete.ensures.staged
+    (whole_came [] stage c.are_staged.ensures
     (none_missing c.args.attempt 0 (spots [] stage) none))

@@ -4,6 +4,7 @@ use Rattle.bl_session.specs.Boot.{BootFacts}
 use Rattle.bl_session.specs.Memory.{IsMemoryIn}
 use Rattle.bl_session.specs.Phases.{state_at}
 use Rattle.bl_session.specs.Run.{world_of}
+use Rattle.bl_session.proofs.AnswerLemmas.{running_waiting}
 use Rattle.bl_session.proofs.RunLemmas.{heard_attempt, lacks_orders, lacks_answers, memory_later}
 use Rattle.bl_session.proofs.RunLemmas.{room_on}
 use Rattle.bl_session.proofs.turn.drive.Goals as goal
@@ -21,7 +22,9 @@ returns-in_err-submit-clause-lacking g c =
     (lacks_orders facts c.attempts.session.boot (g.S.Store.files c.args.store.now)
     (given c.args.store.now) (given c.attempts.store) (given c.submit.new.store)
     (world_of facts first) old
-    so_far.boot so_far.heard (c.in_err-submit.ensures.err (bytes c.attempts.memory)))
+    so_far.boot so_far.heard (c.in_err-submit.ensures.err (bytes c.attempts.memory))
+    (running_waiting (bytes c.attempts.memory) c.attempts.session.phase
+    (sym c.is_waiting.ensures ∙ c.attempts-test.true)))
 
 pub attempts-preserved : goal.attempts-preserved
 attempts-preserved g c =

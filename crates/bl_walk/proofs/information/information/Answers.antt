@@ -6,7 +6,7 @@ use Rattle.bl_walk.proofs.information.information.Goals as goal
 
 pub follow-requires : goal.follow-requires
 follow-requires g c =
-    rw c.registers.ensures
+    rw (c.information.ensures, c.registers.ensures)
     (information c.in_ok-size.size c.in_ok-size.ensures.ok c.in_ok-size.ensures.least)
 
 pub returns-in_err-read_info-clause-fault : goal.returns-in_err-read_info-clause-fault
@@ -14,7 +14,7 @@ returns-in_err-read_info-clause-fault g c =
     let h = c.args.image.now in
     let bytes = c.in_ok-bytes.bytes.now in
     let fault = c.in_err-read_info.field-0.0 in
-    let whole = rw c.registers.ensures at c.in_ok-bytes.ensures.ok in
+    let whole = rw (c.information.ensures, c.registers.ensures) at c.in_ok-bytes.ensures.ok in
     let is : IsInformation h bytes = record {
       size = c.in_ok-size.size;
       total_size = c.in_ok-size.ensures.ok;

@@ -1,10 +1,10 @@
 use Rattle.std.proofs.Common.{rules}
 use Rattle.bl_walk.specs.Seen.{HasTotalSize}
-use Rattle.bl_walk.specs.Faults.{fixed_part, short_information}
+use Rattle.bl_walk.specs.Faults.{size_word, short_information}
 use Rattle.bl_walk.proofs.information.total_size.Goals as goal
 
 pub follow-requires : goal.follow-requires
-follow-requires g c = rw c.registers.ensures (fixed_part c.requires)
+follow-requires g c = rw (c.information.ensures, c.registers.ensures) (size_word c.requires)
 
 pub returns-then-size-lt-LEAST_SIZE-clause-fault :
     goal.returns-then-size-lt-LEAST_SIZE-clause-fault

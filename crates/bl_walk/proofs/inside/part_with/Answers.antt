@@ -11,8 +11,8 @@ pub returns-then-is_within-clause-exact : goal.returns-then-is_within-clause-exa
 returns-then-is_within-clause-exact g c =
     this_part_with c.args.image.now.parts c.parts-parts.result.now c.args.address c.args.count
     c.count_upto-count_begun.result
-    c.parts-parts.ensures.parts c.index-parts-count_begun.result c.parts-parts.ensures.kept
-    c.requires.some
+    c.parts-parts.ensures.parts c.index-parts-count_begun.result c.parts-parts.ensures.ascending
+    c.requires
     c.count_upto-count_begun.ensures.split c.if-count_begun-eq0.false
     c.count_upto-count_begun.ensures.within
     c.index-parts-count_begun.is c.if-is_within.ensures
@@ -21,8 +21,8 @@ pub returns-else-is_within-clause-exact : goal.returns-else-is_within-clause-exa
 returns-else-is_within-clause-exact g c =
     no_other_part_with c.args.image.now.parts c.parts-parts.result.now c.args.address c.args.count
     c.count_upto-count_begun.result
-    c.parts-parts.ensures.parts c.index-parts-count_begun.result c.parts-parts.ensures.kept
-    c.requires.some
+    c.parts-parts.ensures.parts c.index-parts-count_begun.result c.parts-parts.ensures.ascending
+    c.requires
     c.count_upto-count_begun.ensures.split c.if-count_begun-eq0.false
     c.count_upto-count_begun.ensures.within
     c.index-parts-count_begun.is c.if-is_within.ensures

@@ -1,8 +1,6 @@
-use Rattle.std.proofs.Common.{[], map, arith}
+use Rattle.std.proofs.Common.{map, arith}
 use Rattle.std.proofs.lemmas.List.{length-append}
-use Rattle.bl_load.specs.declared.entry.Entry.{Entry}
-use Rattle.bl_load.specs.Value.{HasFewModules, value_of}
-use Rattle.bl_walk.specs.Shown.{HasByteLines}
+use Rattle.bl_load.specs.Value.{IsWithinLimits}
 use Rattle.bl_boot.proofs.MenuLemmas.{entries_more}
 use Rattle.bl_boot.proofs.ValueLemmas.{all_more}
 use Rattle.bl_boot.proofs.booting.menu.entries_of.Goals as goal
@@ -18,8 +16,6 @@ loop-row-preserved g c =
           entries entry c.row-item.is c.loop-row-test.true c.loop-row.invariant.0
           c.in_ok-entry_of.ensures.entry),
       rw (c.in_ok-push.ensures.items, length-append) (omega (arith, count)),
-      all_more HasFewModules entries _ entry c.in_ok-push.ensures.items c.loop-row.invariant.2
+      all_more IsWithinLimits entries _ entry c.in_ok-push.ensures.items c.loop-row.invariant.2
           c.in_ok-entry_of.ensures.few,
-      all_more (λ (e : Entry g.row.A.Denot). HasByteLines (value_of [] e)) entries _ entry
-          c.in_ok-push.ensures.items c.loop-row.invariant.3 c.in_ok-entry_of.ensures.bytes,
     )

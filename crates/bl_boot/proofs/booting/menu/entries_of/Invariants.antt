@@ -1,6 +1,5 @@
-use Rattle.std.proofs.Common.{◌≡◌, [], All, length, map, take}
-use Rattle.bl_load.specs.Value.{HasFewModules, value_of}
-use Rattle.bl_walk.specs.Shown.{HasByteLines}
+use Rattle.std.proofs.Common.{◌≡◌, All, length, map, take}
+use Rattle.bl_load.specs.Value.{IsWithinLimits}
 use Rattle.bl_session.specs.Menu.{facts_of}
 use Rattle.bl_desc.specs.Views.{entry_view}
 use Rattle.bl_boot.specs.Attempted.{entry_facts}
@@ -11,5 +10,4 @@ invariant-loop-row g l =
     (map facts_of l.entries.items
     ≡ map (entry_facts (map (λ n. n.now) l.names)) (map entry_view (take l.row-index l.rows)))
     × (length l.entries.items ≡ l.row-index)
-    × All HasFewModules l.entries.items
-    × All (λ entry. HasByteLines (value_of [] entry)) l.entries.items
+    × All IsWithinLimits l.entries.items

@@ -1,8 +1,4 @@
-use Rattle.std.proofs.Common.{All, subst, sym}
-use Rattle.bl_walk.specs.Shown.{HasByteLines}
-use Rattle.bl_session.specs.Menu.{MenuFacts}
 use Rattle.bl_boot.proofs.MenuLemmas.{only_memory}
-use Rattle.bl_boot.proofs.ValueLemmas.{menu_byte_lines}
 use Rattle.bl_boot.proofs.booting.menu.menu_of.Goals as goal
 
 pub no_memory-requires : goal.no_memory-requires
@@ -16,9 +12,3 @@ no_memory-requires g c =
       rw (count, c.deref.ensures.value, c.deref-2.ensures.value) menu.3,
     )
     c.in-Err.ensures.first_fault
-
-pub returns-in-Ok-clause-bytes : goal.returns-in-Ok-clause-bytes
-returns-in-Ok-clause-bytes g c =
-    subst (λ (menu : MenuFacts). All (λ entry. HasByteLines entry.blank) menu.entries)
-    (sym c.in-Ok.ensures.ok)
-    (menu_byte_lines c.in_ok-entries.entries.items c.in_ok-entries.ensures.bytes)

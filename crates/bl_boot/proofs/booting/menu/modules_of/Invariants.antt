@@ -1,4 +1,4 @@
-use Rattle.std.proofs.Common.{◌≡◌, ◌<◌, All, length, map, take}
+use Rattle.std.proofs.Common.{◌≡◌, length, map, take}
 use Rattle.bl_desc.specs.Views.{module_view}
 use Rattle.bl_boot.specs.Attempted.{index_of}
 use Rattle.bl_boot.proofs.booting.menu.modules_of.Given as goal
@@ -11,4 +11,3 @@ invariant-loop-row g l =
     × (map (λ m. m.line) l.modules.items
     ≡ map (λ m. m.line) (map module_view (take l.row-index l.rows)))
     × (length l.modules.items ≡ l.row-index)
-    × All (λ m. All (λ b. b < 256) m.line) l.modules.items

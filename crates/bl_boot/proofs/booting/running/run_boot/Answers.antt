@@ -1,10 +1,16 @@
-use Rattle.std.proofs.Common.{◌≡◌, ◌∙◌, length, map, ap, arith}
+use Rattle.std.proofs.Common.{◌≡◌, ◌∙◌, All, length, map, ap, arith, subst}
+use Rattle.std.proofs.lemmas.Result.{err_from_is_err_and}
+use Rattle.bl_load.specs.ByteLines.{HasByteLines}
+use Rattle.bl_session.specs.Menu.{MenuFacts}
+use Rattle.bl_desc.specs.Described.{described}
+use Rattle.bl_boot.specs.Ends.{names_fetched}
 use Rattle.bl_session.specs.Stores.{file_of}
 use Rattle.bl_desc.specs.Views.{view}
-use Rattle.bl_boot.specs.Attempted.{names_in}
-use Rattle.bl_boot.proofs.EndLemmas.{inline_in, sought, ends_by}
+use Rattle.bl_session.proofs.MenuLemmas.{byte_values}
+use Rattle.bl_boot.specs.Attempted.{boot_of, names_in}
+use Rattle.bl_boot.proofs.EndLemmas.{inline_in, sought, fetched, ends_by, asked_by, asked_without}
+use Rattle.bl_boot.proofs.EndLemmas.{none_asked}
 use Rattle.bl_boot.proofs.NameLemmas.{as_many}
-use Rattle.bl_boot.proofs.ValueLemmas.{byte_lines}
 use Rattle.bl_boot.proofs.booting.running.run_boot.Goals as goal
 
 pub returns-in_err-found-clause-inline : goal.returns-in_err-found-clause-inline
@@ -31,9 +37,12 @@ returns-clause-ends g c =
     g.F.Files.answers g.F.Files.faults
     c.in_ok-machine.machine c.in_ok-machine.ensures.machine _ _ c.in_ok-found.found.items
     (rw (c.deref-2.ensures.value, c.in_ok-names.ensures.names) at c.in_ok-found.ensures.found)
-    (λ entry. byte_lines (view c.in_ok-description.description) c.in_ok-machine.machine
+    (λ entry. byte_values
+    (boot_of (view c.in_ok-description.description) c.in_ok-machine.machine
+    (map file_of c.in_ok-found.found.items))
     (map file_of c.in_ok-found.found.items) entry
-    c.in_ok-menu.menu c.in_ok-menu.ensures.menu c.in_ok-menu.ensures.bytes)
+    (subst (λ (m : MenuFacts). All (λ e. HasByteLines e.blank) m.entries)
+    c.in_ok-menu.ensures.menu c.in_ok-menu.ensures.bytes))
     _ _ _ _ c.boot_found.result
     (rw (c.new-store.ensures, c.in_ok-menu.ensures.menu) at c.boot_found.ensures.ends)
 
@@ -68,3 +77,42 @@ returns-clause-few g c =
     let count : length c.deref-2.result.now ≡ length c.in_ok-names.names.items =
     ap length c.deref-2.ensures.value in
     omega (arith, missing.1, count, c.in_ok-names.ensures.few)
+
+pub returns-in_err-machine-clause-asked : goal.returns-in_err-machine-clause-asked
+returns-in_err-machine-clause-asked g c =
+    let p =
+    err_from_is_err_and c.from_residual-in_err-machine.result
+    c.from_residual-in_err-machine.ensures.1 in
+    rw (p.1, p.2)
+    (asked_without (view c.in_ok-description.description)
+    (names_fetched (described c.args.desc.now)) (g.F.Files.asked c.args.files.now) _
+    c.in_err-machine.ensures.fault)
+
+pub returns-in_err-menu-clause-asked : goal.returns-in_err-menu-clause-asked
+returns-in_err-menu-clause-asked g c =
+    let p =
+    err_from_is_err_and c.from_residual-in_err-menu.result c.from_residual-in_err-menu.ensures.1 in
+    rw (p.1, p.2)
+    (none_asked (names_fetched (described c.args.desc.now)) (g.F.Files.asked c.args.files.now))
+
+pub returns-in_err-found-clause-asked : goal.returns-in_err-found-clause-asked
+returns-in_err-found-clause-asked g c =
+    let p =
+    err_from_is_err_and c.from_residual-in_err-found.result c.from_residual-in_err-found.ensures.1
+    in
+    rw (
+      p.1,
+      p.2,
+      fetched c.args.desc.now c.in_ok-description.description
+          c.in_ok-description.ensures.given,
+    )
+    (rw (c.deref-2.ensures.value, c.in_ok-names.ensures.names)
+    at c.in_err-found.ensures.asked_first)
+
+pub returns-clause-asked : goal.returns-clause-asked
+returns-clause-asked g c =
+    asked_by c.boot_found.result (names_fetched (described c.args.desc.now))
+    (g.F.Files.asked c.args.files.now) _
+    (rw (fetched c.args.desc.now c.in_ok-description.description
+        c.in_ok-description.ensures.given)
+    (rw (c.deref-2.ensures.value, c.in_ok-names.ensures.names) at c.in_ok-found.ensures.asked))

@@ -1,15 +1,22 @@
-use Rattle.std.proofs.Common.{◌≡◌, ◌≤◌, length, take, map, sym, ap, ◌∙◌, arith, subst}
+use Rattle.std.proofs.Common.{◌≡◌, ◌≤◌, List, length, take, map, sym, ap, ◌∙◌, arith, subst}
 use Rattle.std.proofs.lemmas.List.{take_all}
+use Rattle.bl_load.specs.Handover.{Part}
+use Rattle.bl_load.specs.HandoffFacts.{AreHandoffFacts}
 use Rattle.bl_load.specs.PlanFacts.{part_in}
-use Rattle.bl_image.specs.ImageParts.{AreImageParts}
-use Rattle.bl_image.proofs.PartLemmas.{memory_parts}
+use Rattle.bl_image.specs.ImageParts.{handoff_of}
+use Rattle.bl_image.proofs.PartLemmas.{memory_kept}
 use Rattle.bl_image.proofs.image.Image.of.Goals as goal
 
 pub new-requires : goal.new-requires
 new-requires g c =
     let bytes = g.M.PhysMem.bytes c.args.memory.now in
-    let places = c.args.handoff.now.places in
-    let all : length places ≤ c.loop-i.i = omega (arith, c.len-i-end.ensures.len) in
-    let whole : take c.loop-i.i places ≡ places = take_all c.loop-i.i places all in
-    subst AreImageParts (sym (c.loop-i.invariant ∙ ap (map (part_in bytes)) whole))
-    (memory_parts bytes places c.requires c.len-i-end.ensures.records)
+    let h = c.args.handoff.now in
+    let all : length h.places ≤ c.loop-i.i = omega (arith, c.len-i-end.ensures.len) in
+    let whole : take c.loop-i.i h.places ≡ h.places = take_all c.loop-i.i h.places all in
+    rw (c.protocol.ensures, c.registers.ensures)
+    (subst
+    (λ (parts : List Part).
+    AreHandoffFacts
+    (handoff_of (record { protocol = h.protocol; registers = h.registers; parts = parts })))
+    (sym (c.loop-i.invariant ∙ ap (map (part_in bytes)) whole))
+    (memory_kept bytes h.protocol h.registers h.places c.requires c.len-i-end.ensures.kept))

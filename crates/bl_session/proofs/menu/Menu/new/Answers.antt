@@ -1,6 +1,9 @@
-use Rattle.std.proofs.Common.{◌≡◌, List, ◌≤◌, length, refl, subst, arith, rules}
+use Rattle.std.proofs.Common.{◌≡◌, All, List, [], ◌≤◌, length, refl, subst, arith, rules}
+use Rattle.bl_load.specs.ByteLines.{HasByteLines}
+use Rattle.bl_load.specs.Value.{value_of}
 use Rattle.bl_load.specs.declared.entry.Entry.{Entry}
 use Rattle.bl_session.specs.Attempts.{NameEntries, IsSmall, attempts_of}
+use Rattle.bl_session.proofs.MenuLemmas.{byte_entries, few_entries}
 use Rattle.bl_session.proofs.OnceLemmas.{all_attempts, few_attempts}
 use Rattle.bl_session.proofs.menu.Menu.new.Goals as goal
 
@@ -20,5 +23,19 @@ invariant_of-result g c =
       rw c.in_ok-attempts.ensures
           (all_attempts (length entries) c.args.default fallbacks named.0 named.1),
       small.1,
+      subst (λ (es : List (Entry g.row.A.Denot)). All (λ (e : Entry g.row.A.Denot).
+          HasByteLines (value_of [] e)) es) same c.learn_lines.ensures,
       rw c.in_ok-attempts.ensures most,
     )
+
+pub returns-clause-bytes : goal.returns-clause-bytes
+returns-clause-bytes g c =
+    byte_entries c.args.entries.items
+    (subst (λ (es : List (Entry g.row.A.Denot)). All (λ (e : Entry g.row.A.Denot).
+    HasByteLines (value_of [] e)) es) c.as_slice-offered.ensures.value c.learn_lines.ensures)
+
+pub returns-clause-few : goal.returns-clause-few
+returns-clause-few g c =
+    few_entries c.args.entries.items
+    (subst (λ (es : List (Entry g.row.A.Denot)). IsSmall es) c.as_slice-offered.ensures.value
+    (c.if-not-is_small.ensures.0 refl)).1

@@ -11,7 +11,7 @@ pub lies_in-requires-clause-inside : goal.lies_in-requires-clause-inside
 lies_in-requires-clause-inside g c =
     let bytes = g.M.PhysMem.bytes c.args.memory.now in
     let file = text_of_file c.args.self.now bytes c.args.file c.requires.file in
-    table_below c.args.self.now c.args.file (length bytes) c.complete.ensures.staged file.0
+    table_below c.args.self.now c.args.file (length bytes) c.are_staged.ensures file.0
     c.requires.held
 
 pub read-requires : goal.read-requires

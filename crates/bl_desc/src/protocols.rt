@@ -1,0 +1,89 @@
+//! The protocols of entries: what each is called, and what its entries have beside their kernel.
+ghost use Rattle.std.specs.Prelude.{◌≡◌, ◌++◌, codes, option_map, IfOk};
+ghost use Rattle.toml.specs.View.{table_view};
+ghost use Rattle.bl_desc.specs.Values as values;
+ghost use Rattle.bl_desc.specs.Entries as spec;
+ghost use Rattle.bl_desc.specs.Entries.{entry_keys, protocol_row};
+ghost use Rattle.bl_desc.specs.Views.{Gives, form_view};
+
+use crate::fault::DescFault;
+use crate::form::EntryForm;
+use crate::keys::{has_only, text_at, text_if};
+use crate::modules::modules_at;
+use crate::text::Text;
+use bl_plan::Protocol;
+use std::alloc::{AllocError, Allocator};
+use toml::Table;
+
+/// What a protocol is called.
+pub fn protocol_word(protocol: Protocol) -> &'static str
+    ensures { result.now ≡ (protocol_row protocol).word }
+{
+    match protocol {
+        Protocol::Multiboot2 => "multiboot2",
+        Protocol::Linux => "linux",
+    }
+}
+
+/// The protocol that is called so.
+fn protocol_named(name: &str) -> Option<Protocol>
+    ensures { result ≡ spec.protocol_named name.now }
+{
+    match name {
+        "multiboot2" => Some(Protocol::Multiboot2),
+        "linux" => Some(Protocol::Linux),
+        _ => None,
+    }
+}
+
+/// The protocol of an entry.
+pub fn protocol_in(table: &Table) -> Result<Protocol, DescFault>
+    ensures { Gives (λ p. p) result
+        (values.at_key spec.protocol_of (codes "protocol") (table_view table.now)) }
+{
+    let name = text_at(table, "protocol")?;
+    protocol_named(name).ok_or(DescFault::BadDescription)
+}
+
+/// Whether an entry has no key but those of each entry and of its protocol.
+pub fn has_keys(table: &Table, protocol: Protocol) -> bool
+    ensures { result
+        ≡ values.has_only (entry_keys ++ (protocol_row protocol).keys) (table_view table.now) }
+{
+    match protocol {
+        Protocol::Multiboot2 => has_only(table, &["title", "protocol", "kernel", "line", "module"]),
+        Protocol::Linux => has_only(table, &["title", "protocol", "kernel", "line", "initrd"]),
+    }
+}
+
+/// A text of one's own, of one that may be left out.
+fn own_text<A: Allocator>(alloc: A, text: Option<&str>) -> Result<Option<Text<A>>, AllocError>
+    ensures { IfOk result (λ own. own ≡ option_map (λ s. s.now) text.entry) }
+{
+    match text {
+        Some(text) => Ok(Some(Text::from(String::from_str(alloc, text)?))),
+        None => Ok(None),
+    }
+}
+
+/// What an entry of this protocol has beside its kernel.
+pub fn form_in<A: Allocator + Copy>(
+    alloc: A,
+    table: &Table,
+    protocol: Protocol,
+) -> Result<EntryForm<A>, DescFault>
+    ensures { Gives form_view result ((protocol_row protocol).form (table_view table.now)) }
+{
+    match protocol {
+        Protocol::Multiboot2 => {
+            let modules = modules_at(alloc, table)?;
+            Ok(EntryForm::Multiboot2 { modules })
+        }
+        Protocol::Linux => {
+            let initrd = text_if(table, "initrd")?;
+            Ok(EntryForm::Linux {
+                initrd: own_text(alloc, initrd)?,
+            })
+        }
+    }
+}

@@ -1,0 +1,31 @@
+-- How an image goes on after its protocol. Own.
+use Rattle.std.specs.Prelude.{ℕ, List, [], ◌∷◌, ◌++◌, replicate}
+use Rattle.bl_mem.specs.Words.{u32_at}
+use Rattle.bl_image.specs.Fields.{Field, register_field, count_field, zero_field}
+
+-- a layout: the fields of the registers, which stand from 16 on; where the number of parts stands,
+-- with a zero word behind it; where the records begin; the greatest number of a role
+pub record Layout : Type 0 where
+  pub registers : List Field
+  pub count_at : ℕ
+  pub records_at : ℕ
+  pub most_role : ℕ
+
+-- version 1: 20 registers of 32 bits, each of which may be anything
+unfoldable pub registers_1 : List Field
+registers_1 = replicate 20 register_field
+
+abbrev pub layout_1 : Layout
+layout_1 = record { registers = registers_1; count_at = 96; records_at = 104; most_role = 7 }
+
+-- the layout of an image with this number of its version, and this one of its protocol
+abbrev pub layout : ℕ → ℕ → Layout
+layout version protocol = layout_1
+
+-- the one of these bytes: the version stands at 8, the protocol at 12
+abbrev pub layout_of : List ℕ → Layout
+layout_of bytes = layout (u32_at bytes 8) (u32_at bytes 12)
+
+-- the fields of a head that a layout tells: the registers, the number of parts, the zero word
+abbrev pub layout_fields : Layout → List Field
+layout_fields laid = laid.registers ++ (count_field ∷ zero_field ∷ [])

@@ -1,0 +1,34 @@
+//! Places, which are written as records.
+ghost use Rattle.std.specs.Prelude.{◌≡◌, ◌<◌, List, length, slice_index_or};
+ghost use Rattle.bl_plan.specs.declared.part.Place.{Place};
+
+use bl_load::Handoff;
+use bl_plan::Place;
+use std::alloc::Allocator;
+
+/// The places of parts, one after the other.
+pub(crate) trait Places {
+    /// The places, in their order.
+    ghost places: { Self → List Place };
+
+    /// How many there are.
+    fn count(&self) -> usize
+        ensures { result ≡ length (places self.now) };
+
+    /// The one with this number, from 0.
+    fn place_at(&self, index: usize) -> Place
+        requires { index < length (places self.now) }
+        ensures { result ≡ slice_index_or (places self.now) index result };
+}
+
+impl<A: Allocator> Places for Handoff<A> {
+    ghost places = { λ h. h.places };
+
+    fn count(&self) -> usize {
+        self.len()
+    }
+
+    fn place_at(&self, index: usize) -> Place {
+        self.place(index)
+    }
+}

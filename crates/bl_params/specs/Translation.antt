@@ -1,0 +1,52 @@
+-- How a processor translates an address by page tables (Intel SDM, volume 3, chapter 4.5, "4-Level
+-- Paging and 5-Level Paging"), for tables of six frames that name each other and pages of 2 MiB
+-- that are present and writable, and no more (own: all else translates to nothing).
+use Rattle.std.specs.Prelude.{ℕ, ◌+◌, ◌*◌, ◌/◌, ◌%◌, ◌^◌, ◌==◌, ◌&&◌, nat_lt, if◌then◌else◌}
+use Rattle.std.specs.Prelude.{List, length, Option, None, Some}
+use Rattle.bl_mem.specs.Words.{u64_at}
+use Rattle.bl_params.specs.Paging.{upper_word}
+
+-- nine bits of an address from a bit on: the index into the tables of one level
+abbrev pub index_at : ℕ → ℕ → ℕ
+index_at bit a = a / 2 ^ bit % 512
+
+-- the word that an index names in a frame
+abbrev pub entry_at : List ℕ → ℕ → ℕ → ℕ
+entry_at tables frame index = u64_at tables (0x1000 * frame + 8 * index)
+
+-- the frame that an upper word leads to
+unfoldable pub frame_of : ℕ → ℕ → Option ℕ
+frame_of base word =
+    if word == upper_word base 0 then Some 0 else
+    if word == upper_word base 1 then Some 1 else
+    if word == upper_word base 2 then Some 2 else
+    if word == upper_word base 3 then Some 3 else
+    if word == upper_word base 4 then Some 4 else
+    if word == upper_word base 5 then Some 5 else
+    None
+
+-- the address in the page that a last word names: its low 21 bits tell that it is one
+unfoldable pub in_page : ℕ → ℕ → Option ℕ
+in_page a word =
+    if word % 0x200000 == 0x83 then Some (word / 0x200000 * 0x200000 + a % 0x200000) else None
+
+-- the frame that the word of an address leads to, in a frame of the level that has this bit
+abbrev pub next_frame : List ℕ → ℕ → ℕ → ℕ → ℕ → Option ℕ
+next_frame tables base a bit frame = frame_of base (entry_at tables frame (index_at bit a))
+
+-- the walk goes on in the frame that a word leads to
+abbrev pub goes_on : Option ℕ → (ℕ → Option ℕ) → Option ℕ
+goes_on None walk = None
+goes_on (Some frame) walk = walk frame
+
+-- level 4, level 3, and the page that level 2 names
+unfoldable pub walked : List ℕ → ℕ → ℕ → Option ℕ
+walked tables base a =
+    goes_on (next_frame tables base a 39 0) (λ pointers.
+    goes_on (next_frame tables base a 30 pointers) (λ directory.
+    in_page a (entry_at tables directory (index_at 21 a))))
+
+-- the translation of an address by tables whose bytes stand at base
+unfoldable pub translation : List ℕ → ℕ → ℕ → Option ℕ
+translation tables base a =
+    if length tables == 0x6000 && nat_lt a (2 ^ 48) then walked tables base a else None

@@ -1,0 +1,50 @@
+//! The page tables for the 64-bit entry.
+ghost use Rattle.std.specs.Prelude.{◌≡◌, ◌+◌, ◌*◌, ◌%◌, ◌^◌, ◌<◌, ◌≤◌};
+ghost use Rattle.bl_params.specs.Paging as spec;
+
+use crate::put::put_u64;
+
+fn upper_word(base: u64, frame: u64) -> u64
+    requires low { base + 0x6000 ≤ 2 ^ 32 }
+    requires in_tables { frame < 6 }
+    ensures { result ≡ spec.upper_word base frame }
+{
+    base + 0x1000 * frame + 3
+}
+
+#[tactic(auto, unfolding(crate::specs::Paging::paging_word))]
+fn paging_word(base: u64, frame: u64, index: u64) -> u64
+    requires low { base + 0x6000 ≤ 2 ^ 32 }
+    requires in_tables { frame < 6 }
+    requires in_frame { index < 512 }
+    ensures { result ≡ spec.paging_word base frame index }
+{
+    if frame == 0 {
+        if index == 0 {
+            return upper_word(base, 1);
+        }
+        return 0;
+    }
+    if frame == 1 {
+        if index < 4 {
+            return upper_word(base, 2 + index);
+        }
+        return 0;
+    }
+    (512 * (frame - 2) + index) * 0x20_0000 + 0x83
+}
+
+/// Writes a frame, 0 to 5, of the page tables that stand at `base`, over whatever stands there: the
+/// first 4 GiB, each address translated to itself, in pages of 2 MiB (Linux/x86 Boot Protocol,
+/// "64-bit Boot Protocol"; Intel SDM, volume 3, chapter 4.5). The tables take 6 frames of 4096
+/// bytes, which end at most at 2^32. Takes no memory.
+pub fn page_tables(base: u64, frame: u64, out: &mut [u8; 4096])
+    requires aligned { base % 4096 ≡ 0 }
+    requires low { base + 0x6000 ≤ 2 ^ 32 }
+    requires in_tables { frame < 6 }
+    ensures { out.new ≡ spec.paging_frame base frame }
+{
+    for index in 0..512usize {
+        put_u64(out, 8 * index, paging_word(base, frame, index as u64));
+    }
+}

@@ -1,0 +1,49 @@
+//! `walk_to said=B blamed=B FIELD .. of BYTES` and `walks_to fails=A..B FIELD .. of BYTES` (where
+//! each read from A to B - 1 is a fault): what is said of an image.
+
+use crate::boot::say_said;
+use bl_boot::walk_to;
+use bl_image::Source;
+use bl_row_parts::source::{SourceFields, read_source};
+use bl_rows::row::Row;
+use bl_rows::runs::Runs;
+
+/// What is said of an image after what was said before, and what is blamed.
+fn say_walked(row: &mut Row<'_>, said: &[u8], blamed: &[u8], fields: SourceFields) {
+    let heap = row.heap;
+    let mut source = fields.source(row);
+    let (Ok(mut said), Ok(mut blamed)) = (said.to_vec(heap), blamed.to_vec(heap)) else {
+        return row.say("no memory");
+    };
+    let status = walk_to(heap, &mut source, &mut said, &mut blamed);
+    row.say_decimal("status ", status as u64);
+    say_said(row, ", said ", said.as_slice());
+    say_said(row, ", blamed ", blamed.as_slice());
+    row.say_number(", faults ", source.faults());
+    if status == 4 {
+        row.say(", no memory");
+    }
+}
+
+/// Says the walk of an image over the heap.
+pub fn answer(row: &mut Row<'_>) {
+    let said = row.field("said");
+    let blamed = row.field("blamed");
+    let said = row.bytes_of(said);
+    let blamed = row.bytes_of(blamed);
+    let fields = read_source(row);
+    say_walked(row, said.as_slice(), blamed.as_slice(), fields);
+}
+
+/// Says the walk of an image over the heap, where each read in turn is a fault of the source.
+pub fn answer_each(row: &mut Row<'_>) {
+    let fails = row.field("fails");
+    let fails = row.range_of(fails);
+    let fields = read_source(row);
+    let mut runs = Runs::new(row.alloc, true);
+    for fail in fails {
+        say_walked(row, &[], &[], fields.failing(fail));
+        runs.add(fail, row.take_text());
+    }
+    row.say_runs(runs);
+}

@@ -1,0 +1,12 @@
+//! The calls on menus and their boots: `menu MENU ..`, `run MENU ..`, `session MENU .. do STEP; ..`.
+
+mod boot_fields;
+mod building;
+mod dry_store;
+mod end;
+mod memory;
+pub mod menu;
+mod rig;
+pub mod run;
+pub mod steps;
+mod sum;

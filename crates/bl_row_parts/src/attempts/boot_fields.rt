@@ -1,0 +1,183 @@
+//! What a row says of a boot: a menu, its files, and how they come.
+//!
+//! `file=BYTES`, `file=missing`, `file=long`: the files, by their index. `entry=ENTRY`: the
+//! entries, as `multiboot2:KERNEL:LINE+FILE:LINE ..` or `linux:KERNEL:LINE+INITRD`;
+//! `entry=ENTRY*COUNT`: one so often; `modules=N`: N more modules of the last one. `default=N`,
+//! `fallback=N,N`. `store=forward`, `reverse`, `counting` (forward, and tells how often a size was
+//! asked), `silent`, or `script`, and then `twice=A.F.P,..`, `fail=A.F.P,..`, `picks=N,N,..`.
+//! `answers=N`: the store gives so many answers, and then nothing more.
+
+use crate::entry::{EntryField, ModuleField, protocol_of};
+use bl_rows::row::Row;
+use bl_session::Ticket;
+
+/// A file of a menu.
+#[derive(Drop)]
+pub enum FileField {
+    Missing,
+    /// One byte longer than a file may be.
+    Long,
+    Whole(Vec<u8>),
+}
+
+/// How a store answers.
+#[derive(Clone, Copy)]
+pub enum StoreField {
+    Forward,
+    Reverse,
+    Counting,
+    Script,
+}
+
+/// What a row says of a boot.
+#[derive(Drop)]
+pub struct BootFields {
+    pub files: Vec<FileField>,
+    pub entries: Vec<EntryField>,
+    pub default: u32,
+    pub fallbacks: Vec<u32>,
+    pub store: StoreField,
+    /// How many answers the store gives, and then nothing more.
+    pub answers: u64,
+    pub twice: Vec<Ticket>,
+    pub fail: Vec<Ticket>,
+    pub picks: Vec<usize>,
+}
+
+/// The ticket that `ATTEMPT.FILE.PIECE` is.
+pub fn ticket_of(row: &mut Row<'_>, word: &str) -> Ticket {
+    let (attempt, rest) = row.cut(word, ".");
+    let (file, piece) = row.cut(rest, ".");
+    Ticket {
+        attempt: row.number32_of(attempt),
+        file: row.number32_of(file),
+        piece: row.number32_of(piece),
+    }
+}
+
+fn tickets_of(row: &mut Row<'_>, list: &str) -> Vec<Ticket> {
+    let mut tickets = Vec::new(row.alloc);
+    for word in list.split(",") {
+        let ticket = ticket_of(row, word);
+        row.keep(&mut tickets, ticket);
+    }
+    tickets
+}
+
+fn file_of(row: &mut Row<'_>, text: &str) -> FileField {
+    match text {
+        "missing" => FileField::Missing,
+        "long" => FileField::Long,
+        _ => FileField::Whole(row.bytes_of(text)),
+    }
+}
+
+/// A file by its index, and its line, if it has one.
+fn module_of(row: &mut Row<'_>, text: &str) -> ModuleField {
+    let (file, line) = text.split_once(":").unwrap_or((text, ""));
+    ModuleField {
+        file: row.number32_of(file),
+        line: row.bytes_of(line),
+    }
+}
+
+/// The entry that this text is.
+fn entry_of(row: &mut Row<'_>, text: &str) -> EntryField {
+    let (name, rest) = row.cut(text, ":");
+    let protocol = protocol_of(row, name);
+    let (kernel, words) = match rest.split_once("+") {
+        Some((kernel, words)) => (kernel, Some(words)),
+        None => (rest, None),
+    };
+    let kernel = module_of(row, kernel);
+    let mut modules = Vec::new(row.alloc);
+    if let Some(words) = words {
+        for word in words.split("+") {
+            let module = module_of(row, word);
+            row.keep(&mut modules, module);
+        }
+    }
+    EntryField {
+        protocol,
+        kernel: kernel.file,
+        line: kernel.line,
+        modules,
+    }
+}
+
+impl BootFields {
+    fn new(row: &Row<'_>) -> BootFields {
+        BootFields {
+            files: Vec::new(row.alloc),
+            entries: Vec::new(row.alloc),
+            default: 0,
+            fallbacks: Vec::new(row.alloc),
+            store: StoreField::Forward,
+            answers: u64::MAX,
+            twice: Vec::new(row.alloc),
+            fail: Vec::new(row.alloc),
+            picks: Vec::new(row.alloc),
+        }
+    }
+
+    /// Takes an entry, or one so often as stands after a `*`.
+    fn add_entry(&mut self, row: &mut Row<'_>, text: &str) {
+        let (entry, count) = text.split_once("*").unwrap_or((text, "1"));
+        for _ in 0..row.number_of(count) {
+            let entry = entry_of(row, entry);
+            row.keep(&mut self.entries, entry);
+        }
+    }
+
+    /// Adds so many modules without a line to the last entry, of the file after its kernel's.
+    fn add_modules(&mut self, row: &mut Row<'_>, count: &str) {
+        let Some(entry) = self.entries.last_mut() else {
+            return row.refuse();
+        };
+        let file = entry.kernel.wrapping_add(1);
+        for _ in 0..row.number_of(count) {
+            let line = Vec::new(row.alloc);
+            row.keep(&mut entry.modules, ModuleField { file, line });
+        }
+    }
+
+    fn set_store(&mut self, row: &mut Row<'_>, name: &str) {
+        match name {
+            "forward" => self.store = StoreField::Forward,
+            "reverse" => self.store = StoreField::Reverse,
+            "counting" => self.store = StoreField::Counting,
+            "script" => self.store = StoreField::Script,
+            "silent" => self.answers = 0,
+            _ => row.refuse(),
+        }
+    }
+
+    fn add(&mut self, row: &mut Row<'_>, word: &str) {
+        let (key, value) = row.cut(word, "=");
+        match key {
+            "file" => {
+                let file = file_of(row, value);
+                row.keep(&mut self.files, file);
+            }
+            "entry" => self.add_entry(row, value),
+            "modules" => self.add_modules(row, value),
+            "default" => self.default = row.number32_of(value),
+            "fallback" => self.fallbacks = row.numbers32_of(value),
+            "store" => self.set_store(row, value),
+            "answers" => self.answers = row.number_of(value),
+            "twice" => self.twice = tickets_of(row, value),
+            "fail" => self.fail = tickets_of(row, value),
+            "picks" => self.picks = row.indices_of(value),
+            _ => row.refuse(),
+        }
+    }
+}
+
+/// The fields that these words are.
+pub fn read_fields(row: &mut Row<'_>, words: &str) -> BootFields {
+    let mut fields = BootFields::new(row);
+    for word in words.split_whitespace() {
+        fields.add(row, word);
+    }
+    fields
+}

@@ -1,0 +1,66 @@
+//! What a boot ended in, as text.
+
+use crate::attempts::memory::say_pool;
+use crate::attempts::sum::sum_of;
+use crate::handoff::{say_place, say_registers};
+use crate::refusal::say_refusal;
+use bl_load::Handoff;
+use bl_mem::PhysMem;
+use bl_refusing::Refusing;
+use bl_rows::calls::memory::read;
+use bl_rows::row::Row;
+use bl_session::{BootFault, Outcome, RefusedEntry};
+use std::ops::Range;
+
+/// Each refusal as `refused ENTRY NUMBER DATA, `.
+fn say_refused(row: &mut Row<'_>, refused: &[RefusedEntry]) {
+    for refusal in refused {
+        row.say_number("refused ", refusal.entry as u64);
+        row.say(" ");
+        say_refusal(row, refusal.refusal);
+        row.say(", ");
+    }
+}
+
+/// A handoff with the sums of what its parts hold, each as `, ROLE INDEX ADDRESS+LENGTH=SUM`.
+fn say_handoff<M: PhysMem>(row: &mut Row<'_>, memory: &M, handoff: &Handoff<&Refusing>) {
+    row.say_decimal(", protocol ", handoff.protocol().number() as u64);
+    say_registers(row, &handoff.registers());
+    for i in 0..handoff.len() {
+        let place = handoff.place(i);
+        say_place(row, &place);
+        let bytes = read(row, memory, place.address, place.length);
+        row.say("=");
+        row.say_sum(sum_of(bytes.as_slice()));
+    }
+}
+
+/// An entry that was handed over, and the refusals before it.
+pub fn say_outcome<M: PhysMem>(
+    row: &mut Row<'_>,
+    memory: &M,
+    pool: &Range<u64>,
+    outcome: &Outcome<&Refusing>,
+) {
+    say_refused(row, outcome.refused.as_slice());
+    row.say_number("booted ", outcome.entry as u64);
+    say_handoff(row, memory, &outcome.handoff);
+    say_pool(row, memory, pool, outcome.handoff.ranges());
+}
+
+/// Why nothing is handed over.
+pub fn say_fault<M: PhysMem>(
+    row: &mut Row<'_>,
+    memory: &M,
+    pool: &Range<u64>,
+    fault: &BootFault<&Refusing>,
+) {
+    match fault {
+        BootFault::NoMemory => row.say("no memory"),
+        BootFault::NoEntryLeft(refused) => {
+            say_refused(row, refused.as_slice());
+            row.say("no entry left");
+            say_pool(row, memory, pool, &[]);
+        }
+    }
+}

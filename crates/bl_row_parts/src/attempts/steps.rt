@@ -1,0 +1,71 @@
+//! `session MENU .. do STEP; STEP ..`: a session that is told one letter after the other.
+//!
+//! A step is a letter (`start`, `piece A.F.P BYTES`, `fault A.F.P`), `outcome`, `outside` (whether
+//! memory outside the pool and the parts is as it was), or `read AT LENGTH`.
+
+use crate::attempts::boot_fields::{read_fields, ticket_of};
+use crate::attempts::rig::Rig;
+use bl_map::Machine;
+use bl_refusing::Refusing;
+use bl_rows::calls::memory;
+use bl_rows::row::Row;
+use bl_session::{Event, Menu};
+
+/// Makes the step of the row's words.
+fn step(row: &mut Row<'_>, rig: &mut Rig<'_, '_>) {
+    match row.word() {
+        "start" => rig.start(row),
+        "piece" => {
+            let word = row.word();
+            let ticket = ticket_of(row, word);
+            let bytes = row.rest_bytes();
+            rig.event(row, Event::Piece(ticket, bytes.as_slice()));
+        }
+        "fault" => {
+            let word = row.word();
+            let ticket = ticket_of(row, word);
+            rig.event(row, Event::Fault(ticket));
+        }
+        "outcome" => rig.say_end(row),
+        "outside" => rig.say_outside(row),
+        "read" => memory::step(row, rig.memory(), "read"),
+        _ => row.refuse(),
+    }
+}
+
+/// Tells a session of the menu each letter.
+fn tell<'a, 'h, 'w>(
+    row: &mut Row<'w>,
+    heap: &'h Refusing,
+    machine: &'a Machine<&'h Refusing>,
+    menu: &'a Menu<&'h Refusing>,
+    sizes: &[Option<u64>],
+    steps: &'w str,
+) {
+    let Some(mut rig) = Rig::new(heap, machine, menu, sizes) else {
+        return row.say("no memory");
+    };
+    for words in steps.split(";") {
+        let _refused = row.begin_step(words);
+        step(row, &mut rig);
+        row.mark_unasked(0);
+    }
+}
+
+/// Tells a session each letter. Its machine and its menu stand over another heap, so that their
+/// requests are not refused.
+pub fn answer(row: &mut Row<'_>) {
+    let heap = row.heap;
+    let words = row.rest();
+    let (words, steps) = row.cut(words, " do ");
+    let fields = read_fields(row, words);
+    let beside = Refusing::new(row.alloc, 0);
+    let Some(machine) = row.machine_over(&beside) else {
+        return;
+    };
+    let Some(menu) = fields.menu_beside(row, &beside) else {
+        return;
+    };
+    let sizes = fields.sizes(row);
+    tell(row, heap, &machine, &menu, sizes.as_slice(), steps);
+}

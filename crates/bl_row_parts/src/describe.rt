@@ -1,0 +1,78 @@
+//! `describe BYTES`: what a description says; `named NAME of BYTES`: the bytes that its file of
+//! this name has.
+
+use bl_desc::{DescFault, Description, EntryForm, EntryRow, read_description};
+use bl_refusing::Refusing;
+use bl_rows::row::Row;
+
+/// What an entry has beside its kernel: its modules as ` module "FILE" "LINE"`, or
+/// ` initrd "FILE"`.
+fn say_form(row: &mut Row<'_>, form: &EntryForm<&Refusing>) {
+    match form {
+        EntryForm::Multiboot2 { modules } => {
+            for module in &modules.rows {
+                row.say_quoted(" module ", module.file.as_str());
+                row.say_quoted(" ", module.line.as_str());
+            }
+        }
+        EntryForm::Linux { initrd: Some(file) } => row.say_quoted(" initrd ", file.as_str()),
+        EntryForm::Linux { initrd: None } => {}
+    }
+}
+
+/// An entry as ` entry "TITLE" protocol N "KERNEL" "LINE"`, and what it has beside them.
+fn say_entry(row: &mut Row<'_>, entry: &EntryRow<&Refusing>) {
+    row.say_quoted(" entry ", entry.title.as_str());
+    row.say_decimal(" protocol ", entry.form.protocol().number() as u64);
+    row.say_quoted(" ", entry.kernel.as_str());
+    row.say_quoted(" ", entry.line.as_str());
+    say_form(row, &entry.form);
+}
+
+/// The size, the pool, the fill, and the regions as ` region BASE+LENGTH:KIND`.
+fn say_machine(row: &mut Row<'_>, description: &Description<&Refusing>) {
+    row.say_number("size ", description.size);
+    row.say_number(" pool ", description.pool.start);
+    row.say_number("..", description.pool.end);
+    row.say(" fill ");
+    row.say_byte(description.fill);
+    for region in &description.regions {
+        row.say_region(" region ", region);
+    }
+}
+
+fn say_description(row: &mut Row<'_>, description: &Description<&Refusing>) {
+    say_machine(row, description);
+    for file in &description.files {
+        row.say_quoted(" file ", file.name.as_str());
+        row.say_bytes(" ", file.bytes.as_slice());
+    }
+    for entry in &description.entries {
+        say_entry(row, entry);
+    }
+    row.say_number(" default ", description.default as u64);
+    for fallback in &description.fallbacks {
+        row.say_number(" fallback ", *fallback as u64);
+    }
+}
+
+/// Reads the description over the heap.
+pub fn answer(row: &mut Row<'_>) {
+    match read_description(row.heap, row.alloc, row.bytes) {
+        Ok(description) => say_description(row, &description),
+        Err(DescFault::BadDescription) => row.say("bad description"),
+        Err(DescFault::NoMemory) => row.say("no memory"),
+    }
+}
+
+/// Finds a file by its name.
+pub fn answer_named(row: &mut Row<'_>) {
+    let name = row.rest();
+    let Ok(description) = read_description(row.heap, row.alloc, row.bytes) else {
+        return row.refuse();
+    };
+    match description.file_named(name) {
+        Some(file) => row.say_bytes("", file),
+        None => row.say("none"),
+    }
+}

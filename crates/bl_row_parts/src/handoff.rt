@@ -1,0 +1,108 @@
+//! `prepare ENTRY of KERNEL` and `load fill=VV ENTRY of KERNEL`, on the last machine.
+
+use crate::prepared::{LoadedEntry, load_entry, prepare_entry, read_entry};
+use bl_load::{Plan, Registers};
+use bl_mem::PhysMem;
+use bl_plan::{Place, Role};
+use bl_refusing::Refusing;
+use bl_rows::calls::memory::read;
+use bl_rows::row::Row;
+
+/// The registers in the order of an image.
+pub fn say_registers(row: &mut Row<'_>, r: &Registers) {
+    let numbers = [
+        r.eip,
+        r.eax,
+        r.ebx,
+        r.ecx,
+        r.edx,
+        r.esi,
+        r.edi,
+        r.ebp,
+        r.esp,
+        r.eflags,
+        r.cr0,
+        r.cs,
+        r.ds,
+        r.es,
+        r.fs,
+        r.gs,
+        r.ss,
+        r.gdt_base,
+        r.gdt_limit,
+        r.a20,
+    ];
+    row.say(" registers");
+    for number in numbers {
+        row.say_number(" ", number as u64);
+    }
+}
+
+/// The word for a role.
+pub fn role_name(role: Role) -> &'static str {
+    match role {
+        Role::Kernel => "kernel",
+        Role::Module => "module",
+        Role::Information => "information",
+        Role::BootParams => "boot_params",
+        Role::CommandLine => "command_line",
+        Role::Gdt => "gdt",
+        Role::Initrd => "initrd",
+    }
+}
+
+/// A place as `, ROLE INDEX ADDRESS+LENGTH`.
+pub fn say_place(row: &mut Row<'_>, place: &Place) {
+    row.say(", ");
+    row.say(role_name(place.role));
+    row.say_number(" ", place.index as u64);
+    row.say_number(" ", place.address);
+    row.say_number("+", place.length);
+}
+
+fn say_plan(row: &mut Row<'_>, plan: &Plan<&Refusing>) {
+    row.say_decimal("protocol ", plan.protocol.number() as u64);
+    say_registers(row, &plan.registers);
+    for part in &plan.parts {
+        say_place(row, &part.place);
+    }
+}
+
+/// All of a handoff's calls, how often loading asked for memory, and all of memory.
+fn say_loaded(row: &mut Row<'_>, loaded: &LoadedEntry<'_>) {
+    row.say_decimal("protocol ", loaded.handoff.protocol().number() as u64);
+    say_registers(row, &loaded.handoff.registers());
+    for i in 0..loaded.handoff.len() {
+        say_place(row, &loaded.handoff.place(i));
+    }
+    row.say_number(", asked ", loaded.requests);
+    let size = loaded.memory.size();
+    let memory = read(row, &loaded.memory, 0, size);
+    row.say_bytes(", memory ", memory.as_slice());
+}
+
+/// Prepares the entry over the heap.
+pub fn answer_prepare(row: &mut Row<'_>) {
+    let heap = row.heap;
+    let read = read_entry(row);
+    let files = read.views(row);
+    let Some(machine) = row.machine_over(heap) else {
+        return;
+    };
+    if let Some(plan) = prepare_entry(row, heap, &machine, &read, files.as_slice()) {
+        say_plan(row, &plan);
+    }
+}
+
+/// Prepares the entry and loads it, both over the heap.
+pub fn answer_load(row: &mut Row<'_>) {
+    let heap = row.heap;
+    let fill = row.byte_field("fill");
+    let read = read_entry(row);
+    let Some(machine) = row.machine_over(heap) else {
+        return;
+    };
+    if let Some(loaded) = load_entry(row, heap, &machine, fill, &read) {
+        say_loaded(row, &loaded);
+    }
+}

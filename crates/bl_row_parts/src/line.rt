@@ -1,0 +1,44 @@
+//! `line WORD ..`: the job of a command line.
+
+use bl_line::{Job, LineFault, Order, read_line};
+use bl_rows::row::Row;
+
+fn say_job(row: &mut Row<'_>, job: Job<'_>) {
+    match job {
+        Job::Boot {
+            description,
+            image,
+            order,
+        } => {
+            row.say("boot ");
+            row.say(description);
+            row.say(" to ");
+            row.say(image);
+            row.say(match order {
+                Order::Forward => " forward",
+                Order::Reverse => " reverse",
+            });
+        }
+        Job::Map { description } => {
+            row.say("map ");
+            row.say(description);
+        }
+        Job::Walk { image } => {
+            row.say("walk ");
+            row.say(image);
+        }
+    }
+}
+
+/// Reads the words. The call takes its memory from the program's own heap.
+pub fn answer(row: &mut Row<'_>) {
+    let Ok(words) = row.rest().split_whitespace().collect::<Vec<&str>>(row.alloc) else {
+        return row.run_short();
+    };
+    match read_line(row.alloc, words.as_slice()) {
+        Ok(job) => say_job(row, job),
+        Err(LineFault::Help) => row.say("help"),
+        Err(LineFault::Refused) => row.say("refused"),
+        Err(LineFault::NoMemory) => row.say("no memory"),
+    }
+}

@@ -1,0 +1,156 @@
+//! Entries of rows, prepared and loaded: `multiboot2 line=BYTES module=BYTES:BYTES ..` or `linux
+//! line=BYTES initrd=BYTES`.
+ghost use Rattle.std.specs.Prelude.{◌≡◌, ◌+◌, ◌≤◌, length, map, All, IfSome, IsTrue};
+ghost use Rattle.bl_load.specs.Loadable.{lengths_of, IsLoadable};
+ghost use Rattle.bl_load.specs.Value.{file_count, HasFewModules};
+
+use crate::entry::{EntryField, ModuleField, protocol_of};
+use crate::refusal::say_fault;
+use bl_load::{Entry, Handoff, Plan, load, prepare};
+use bl_map::Machine;
+use bl_mem::{Flat, SliceView, Views};
+use bl_plan::Protocol;
+use bl_refusing::Refusing;
+use bl_rows::row::Row;
+
+/// An entry of a row, and its files, the kernel first.
+#[derive(Drop)]
+pub struct RowEntry {
+    entry: EntryField,
+    files: Vec<Vec<u8>>,
+}
+
+impl RowEntry {
+    /// Takes a module with its line, or an initial ramdisk, which has none.
+    fn add(&mut self, row: &mut Row<'_>, word: &str) {
+        let (name, bytes) = row.cut(word, "=");
+        let (file, line) = match (name, self.entry.protocol) {
+            ("module", Protocol::Multiboot2) => row.cut(bytes, ":"),
+            ("initrd", Protocol::Linux) => (bytes, ""),
+            _ => return row.refuse(),
+        };
+        let index = u32::try_from(self.files.len()).unwrap_or(0);
+        let file = row.bytes_of(file);
+        row.keep(&mut self.files, file);
+        let line = row.bytes_of(line);
+        row.keep(&mut self.entry.modules, ModuleField { file: index, line });
+    }
+}
+
+/// The entry of the words that are left, whose kernel is the row's bytes.
+pub fn read_entry(row: &mut Row<'_>) -> RowEntry {
+    let protocol = row.word();
+    let protocol = protocol_of(row, protocol);
+    let line = row.field("line");
+    let line = row.bytes_of(line);
+    let mut read = RowEntry {
+        entry: EntryField {
+            protocol,
+            kernel: 0,
+            line,
+            modules: Vec::new(row.alloc),
+        },
+        files: Vec::new(row.alloc),
+    };
+    let kernel = row.copy_of(row.bytes);
+    row.keep(&mut read.files, kernel);
+    for word in row.rest().split_whitespace() {
+        read.add(row, word);
+    }
+    read
+}
+
+impl RowEntry {
+    /// Its files, as the calls take them.
+    pub fn views(&self, row: &mut Row<'_>) -> Vec<SliceView<'_>> {
+        let mut views = Vec::new(row.alloc);
+        for file in &self.files {
+            row.keep(&mut views, SliceView::new(file.as_slice()));
+        }
+        views
+    }
+}
+
+/// Whether an entry has so many files, and no more modules than it may have.
+fn has_files(entry: &Entry<&Refusing>, files: usize) -> bool
+    ensures files { IsTrue result → files ≡ file_count entry.now }
+    ensures modules { IsTrue result → HasFewModules entry.now }
+{
+    match entry {
+        Entry::Multiboot2 { modules, .. } => modules.len() <= 64 && files == 1 + modules.len(),
+        Entry::Linux { initrd: None, .. } => files == 1,
+        Entry::Linux {
+            initrd: Some(_), ..
+        } => files == 2,
+    }
+}
+
+/// What is prepared for an entry. Where that is nothing, why is the answer.
+pub fn prepare_entry<'h>(
+    row: &mut Row<'_>,
+    heap: &'h Refusing,
+    machine: &Machine<&'h Refusing>,
+    read: &RowEntry,
+    files: &[SliceView<'_>],
+) -> Option<Plan<&'h Refusing>>
+    ensures { IfSome result (IsLoadable
+        (lengths_of (map (λ file. file.bytes.now) files.now)) machine.now.size) }
+{
+    let Ok(entry) = read.entry.entry_over(heap) else {
+        row.say("no memory");
+        return None;
+    };
+    if !has_files(&entry, files.len()) {
+        row.refuse();
+        return None;
+    }
+    match prepare(heap, machine, &entry, files) {
+        Ok(plan) => Some(plan),
+        Err(fault) => {
+            say_fault(row, fault);
+            None
+        }
+    }
+}
+
+/// Memory that holds an entry's parts, what the kernel is handed, and how many requests for memory
+/// loading made.
+#[derive(Drop)]
+pub struct LoadedEntry<'h> {
+    pub memory: Flat<&'h Refusing>,
+    pub handoff: Handoff<&'h Refusing>,
+    pub requests: u64,
+}
+
+/// An entry's parts in the machine's memory, each byte of which is `fill` before. Where there are
+/// none, why is the answer.
+pub fn load_entry<'h>(
+    row: &mut Row<'_>,
+    heap: &'h Refusing,
+    machine: &Machine<&'h Refusing>,
+    fill: u8,
+    read: &RowEntry,
+) -> Option<LoadedEntry<'h>>
+    ensures { IfSome result (λ made. All
+        (λ place. place.address + place.length ≤ length made.memory) made.handoff.places) }
+{
+    let files = read.views(row);
+    let plan = prepare_entry(row, heap, machine, read, files.as_slice())?;
+    let Ok(mut memory) = Flat::new(heap, machine.size(), fill) else {
+        row.say("no memory");
+        return None;
+    };
+    let before = heap.asked();
+    let handoff = load(
+        &mut memory,
+        plan,
+        &Views {
+            views: files.as_slice(),
+        },
+    );
+    Some(LoadedEntry {
+        memory,
+        handoff,
+        requests: heap.asked().saturating_sub(before),
+    })
+}

@@ -1,0 +1,104 @@
+//! Refusals as their numbers and what they tell.
+
+use bl_load::{PrepFault, Refusal};
+use bl_rows::row::Row;
+
+/// A refusal as its number and what it tells.
+pub fn say_refusal(row: &mut Row<'_>, refusal: Refusal) {
+    row.say_decimal("", refusal.number() as u64);
+    match refusal {
+        Refusal::BadTag(place) => row.say_number(" ", place),
+        Refusal::UnsupportedTag(kind) => row.say_number(" ", kind as u64),
+        Refusal::UnsupportedRequest(kind) => row.say_number(" ", kind as u64),
+        Refusal::NoFile(i) => row.say_number(" ", i as u64),
+        Refusal::FileFault(i) => row.say_number(" ", i as u64),
+        Refusal::FileTooLong(i) => row.say_number(" ", i as u64),
+        Refusal::SegmentCut(i) => row.say_number(" ", i as u64),
+        Refusal::AddressTooHigh(i) => row.say_number(" ", i as u64),
+        Refusal::SegmentsOverlap(i, j) => {
+            row.say_number(" ", i as u64);
+            row.say_number(" ", j as u64);
+        }
+        _ => {}
+    }
+}
+
+/// What is answered for an entry that is not prepared.
+pub fn say_fault(row: &mut Row<'_>, fault: PrepFault) {
+    match fault {
+        PrepFault::NoMemory => row.say("no memory"),
+        PrepFault::Refused(refusal) => {
+            row.say("refused ");
+            say_refusal(row, refusal);
+        }
+    }
+}
+
+/// The refusal of a name that tells no number.
+fn plain_refusal(name: &str) -> Option<Refusal> {
+    match name {
+        "NoHeader" => Some(Refusal::NoHeader),
+        "HeaderCut" => Some(Refusal::HeaderCut),
+        "BadArchitecture" => Some(Refusal::BadArchitecture),
+        "NoConsole" => Some(Refusal::NoConsole),
+        "NotElf" => Some(Refusal::NotElf),
+        "BadElf" => Some(Refusal::BadElf),
+        "NoEntry" => Some(Refusal::NoEntry),
+        "EntryOutside" => Some(Refusal::EntryOutside),
+        "BadAlign" => Some(Refusal::BadAlign),
+        "NotUsable" => Some(Refusal::NotUsable),
+        "NoRoom" => Some(Refusal::NoRoom),
+        "NoPool" => Some(Refusal::NoPool),
+        "NotBzImage" => Some(Refusal::NotBzImage),
+        "OldProtocol" => Some(Refusal::OldProtocol),
+        "NotHigh" => Some(Refusal::NotHigh),
+        "SetupCut" => Some(Refusal::SetupCut),
+        "BadPreferred" => Some(Refusal::BadPreferred),
+        "LineTooLong" => Some(Refusal::LineTooLong),
+        "LineHasNul" => Some(Refusal::LineHasNul),
+        "MapTooLong" => Some(Refusal::MapTooLong),
+        _ => None,
+    }
+}
+
+/// The refusal of a name that tells numbers of 32 bits or fewer.
+fn telling_refusal(row: &mut Row<'_>, name: &str) -> Option<Refusal> {
+    let number = row.number();
+    if number > 0xffff_ffff {
+        return None;
+    }
+    let i = number as u32;
+    match name {
+        "NoFile" => Some(Refusal::NoFile(i)),
+        "FileFault" => Some(Refusal::FileFault(i)),
+        "FileTooLong" => Some(Refusal::FileTooLong(i)),
+        "UnsupportedTag" if number <= 0xffff => Some(Refusal::UnsupportedTag(number as u16)),
+        "UnsupportedRequest" => Some(Refusal::UnsupportedRequest(i)),
+        "SegmentCut" => Some(Refusal::SegmentCut(i)),
+        "AddressTooHigh" => Some(Refusal::AddressTooHigh(i)),
+        "SegmentsOverlap" => Some(Refusal::SegmentsOverlap(i, row.number32())),
+        _ => None,
+    }
+}
+
+fn read_refusal(row: &mut Row<'_>) -> Option<Refusal> {
+    let name = row.word();
+    let plain = plain_refusal(name);
+    if plain.is_some() {
+        return plain;
+    }
+    if name == "BadTag" {
+        return Some(Refusal::BadTag(row.number()));
+    }
+    telling_refusal(row, name)
+}
+
+/// `refusal NAME DATA ..`: the refusal's number and what it prints.
+pub fn answer(row: &mut Row<'_>) {
+    let Some(refusal) = read_refusal(row) else {
+        return row.refuse();
+    };
+    row.say_decimal("", refusal.number() as u64);
+    row.say(" ");
+    row.say_shown(refusal);
+}

@@ -1,0 +1,38 @@
+//! `write_info line=BYTES FIELD .. of BYTES`: boot information after bytes that stand there
+//! already, on a machine of 636 and 3072 KiB with three runs.
+//!
+//! A FIELD is `module=START..END:BYTES` (at most two), `old=BYTES`, `new=BYTES` or `base=ADDRESS`.
+//! Texts and copies have at most 512 bytes.
+
+mod facts;
+mod row;
+
+use bl_mbi::{Facts, info_size, write_info};
+use bl_refusing::Refusing;
+use bl_rows::row::Row;
+use facts::{Untold, facts_of};
+use row::read_row;
+use std::alloc::AllocError;
+
+/// Writes the information over the heap, after the row's bytes.
+fn say_written<'h>(row: &mut Row<'_>, heap: &'h Refusing, facts: &Facts<&'h Refusing>) {
+    let Ok(mut out) = Vec::from_slice(heap, row.bytes) else {
+        return row.say("no memory");
+    };
+    match write_info(facts, &mut out) {
+        Ok(()) => row.say_number("size ", info_size(facts) as u64),
+        Err(AllocError) => row.say("no memory"),
+    }
+    row.say_bytes(", ", out.as_slice());
+}
+
+/// Writes the facts of the words after the bytes.
+pub fn answer(row: &mut Row<'_>) {
+    let heap = row.heap;
+    let read = read_row(row);
+    match facts_of(heap, &read) {
+        Ok(facts) => say_written(row, heap, &facts),
+        Err(Untold::BadRow) => row.refuse(),
+        Err(Untold::NoMemory) => row.say("no memory"),
+    }
+}

@@ -1,0 +1,106 @@
+"""prepare, load, refusal: the calls of bl_load."""
+
+from typing import List
+
+from language import demand, fields, number, only, single, spell
+from rules import entry as entries
+from rules.handover import REGISTERS, Handover, part_bytes
+from rules.memory import Memory
+from rules.refusals import NAMES, Refused
+
+from . import BYTES_OF, Call
+from .answers import Open
+from .kernels import refusal_text
+from .machines import last_machine
+
+MOST_MODULES = 64
+ROLES = {1: "kernel", 2: "module", 3: "information", 4: "boot_params", 5: "command_line", 6: "gdt",
+         7: "initrd"}
+
+
+def read_entry(table, words: List[str], kernel: bytes) -> entries.Entry:
+    """`multiboot2 line=B module=B:B ..` or `linux line=B initrd=B`."""
+    demand(bool(words) and words[0] in ("multiboot2", "linux"))
+    named, bare = fields(words[1:])
+    demand(not bare)
+    text = table.names.one(single(named, "line"))
+    if words[0] == "multiboot2":
+        only(named, "line", "module")
+        modules = [read_module(table, word) for word in named.get("module", [])]
+        demand(len(modules) <= MOST_MODULES)
+        return entries.Multiboot2Entry(kernel, text, modules)
+    only(named, "line", "initrd")
+    initrd = table.names.one(single(named, "initrd")) if "initrd" in named else None
+    return entries.LinuxEntry(kernel, text, initrd)
+
+
+def read_module(table, word: str):
+    file, colon, text = word.partition(":")
+    demand(colon == ":")
+    return table.names.one(file), table.names.one(text)
+
+
+def head_text(protocol: int, registers) -> str:
+    words = ["%x" % registers[name] for name in REGISTERS]
+    return "protocol %d registers %s" % (protocol, " ".join(words))
+
+
+def place_text(part, length: int) -> str:
+    return "%s %x %x+%x" % (ROLES[part.role], part.index, part.address, length)
+
+
+def handover_text(handover: Handover) -> str:
+    places = [place_text(part, part.length) for part in handover.parts]
+    return ", ".join([head_text(handover.protocol, handover.registers)] + places)
+
+
+def prepare(table, line):
+    try:
+        return handover_text(entries.prepare(last_machine(table),
+                                             read_entry(table, line.words, line.data)))
+    except Refused as refused:
+        return "refused " + refusal_text(refused)
+
+
+def memory_after(machine, handover: Handover, fill: int) -> bytes:
+    """All of memory: each part's bytes, and the others as before."""
+    memory = Memory(machine.size, fill)
+    for part in handover.parts:
+        memory.write(part.address, part_bytes(part))
+    return memory.read(0, machine.size)
+
+
+def load(table, line):
+    demand(bool(line.words))
+    filled = number(single(fields(line.words[:1])[0], "fill"), 8)
+    machine = last_machine(table)
+    try:
+        handover = entries.prepare(machine, read_entry(table, line.words[1:], line.data))
+    except Refused as refused:
+        return "refused " + refusal_text(refused)
+    # Loading asks for no memory.
+    return "%s, asked 0, memory %s" % (handover_text(handover),
+                                       spell(memory_after(machine, handover, filled)))
+
+
+def refusal(table, line):
+    """Its number, and a text, which is the program's own but tells what the refusal tells, in
+    decimal."""
+    demand(bool(line.words))
+    found = [number for number, name in NAMES.items() if name == line.words[0] and number < 40]
+    demand(len(found) == 1)
+    told = ["%d" % number(word) for word in line.words[1:]]
+
+    def is_right(text: str) -> bool:
+        first, _, rest = text.partition(" ")
+        return first == "%d" % found[0] and (not told
+                                             or [word for word in rest.split(" ")
+                                                 if word.isdigit()] == told)
+    return Open("%d .. %s" % (found[0], " ".join(told)), is_right)
+
+
+CALLS = {
+    "prepare": Call(prepare, BYTES_OF),
+    "load": Call(load, BYTES_OF),
+    "refusal": Call(refusal),
+}

@@ -1,0 +1,144 @@
+"""elf, header, read_setup, setup_fault, write_params, read_params, gdt: what is read of kernels,
+and told Linux."""
+
+from typing import List
+
+from language import demand, fields, number, only, pair, single
+from rules import boot_params, bzimage, elf as elves, multiboot2
+from rules.machine import REGION_LIMIT, Run
+from rules.numbers import u16, u32, u64
+from rules.refusals import Refused
+
+from . import ALL_BYTES, BYTES_OF, Call
+from .machines import kind_named, run_word
+
+
+def fault_text(refused: Refused) -> str:
+    return "fault " + refusal_text(refused)
+
+
+def refusal_text(refused: Refused) -> str:
+    """The number in decimal, what is told with it in hexadecimal digits."""
+    return " ".join(["%d" % refused.number] + ["%x" % told for told in refused.data])
+
+
+def segment_word(segment) -> str:
+    return "%x,%x,%x,%x" % tuple(segment)
+
+
+def elf(table, line):
+    try:
+        read = elves.read(line.data)
+    except Refused as refused:
+        return fault_text(refused)
+    segments = ";".join(segment_word(segment) for segment in read.segments) or "none"
+    return segments + (" entry fault 16" if read.entry is None else " entry %x" % read.entry)
+
+
+def header(table, line):
+    try:
+        read = multiboot2.read(line.data)
+    except Refused as refused:
+        return fault_text(refused)
+    words = ["at %x" % read.place]
+    if read.segment is not None:
+        words.append("segment " + segment_word(read.segment))
+    if read.entry is not None:
+        words.append("entry %x" % read.entry)
+    if read.relocation is not None:
+        words.append("move %x..%x align %x preference %x" % tuple(read.relocation))
+    return " ".join(words)
+
+
+# The fields of a setup header that rows tell: name, place, width. LBP "The Real-Mode Kernel
+# Header".
+SECTS = [("setup_sects", 0x1F1, 1)]
+FIELDS = [("version", 0x206, 2), ("loadflags", 0x211, 1), ("initrd_addr_max", 0x22C, 4),
+          ("kernel_alignment", 0x230, 4), ("relocatable_kernel", 0x234, 1),
+          ("xloadflags", 0x236, 2),
+          ("cmdline_size", 0x238, 4), ("pref_address", 0x258, 8), ("init_size", 0x260, 4)]
+READERS = {1: lambda data, at: data[at], 2: u16, 4: u32, 8: u64}
+
+
+def field_words(data: bytes, told) -> List[str]:
+    return ["%s=%x" % (name, READERS[width](data, at)) for name, at, width in told]
+
+
+def read_setup(table, line):
+    try:
+        setup = bzimage.read(line.data)
+    except Refused as refused:
+        return fault_text(refused)
+    payload = "payload=%x+%x" % (setup.payload_at, len(line.data) - setup.payload_at)
+    words = field_words(line.data, SECTS + FIELDS)
+    return " ".join(words + ["header=%x" % len(setup.header), payload])
+
+
+def setup_fault(table, line):
+    try:
+        bzimage.read(line.data)
+    except Refused as refused:
+        return fault_text(refused)
+    return "none"
+
+
+def read_run(word: str) -> Run:
+    """`BASE+LENGTH:KIND`, which ends at most at 2^52."""
+    place, colon, kind = word.partition(":")
+    demand(colon == ":")
+    base, length = pair(place, "+")
+    demand(base + length <= REGION_LIMIT)
+    return Run(base, base + length, kind_named(kind))
+
+
+def write_params(table, line):
+    named, bare = fields(line.words)
+    only(named, "load", "initrd", "line", "run")
+    demand(not bare)
+    initrd = pair(single(named, "initrd"), "+")
+    told = boot_params.Params(number(single(named, "load"), 32), *initrd,
+                              number(single(named, "line"), 32),
+                              [read_run(word) for word in named.get("run", [])])
+    try:
+        setup = bzimage.read(line.data)
+    except Refused:
+        demand(False)
+    return filled_words(boot_params.spell(setup.header, told))
+
+
+def filled_words(page: bytes) -> str:
+    """The bytes that are not 0, each stretch of them as a piece at its offset."""
+    words, at = [], 0
+    for stretch in page.split(b"\0"):
+        if stretch:
+            words.append("@%x=%s" % (at, stretch.hex()))
+        at += len(stretch) + 1
+    return " ".join(words)
+
+
+def read_params(table, line):
+    try:
+        read = boot_params.read(line.data)
+    except Refused as refused:
+        return fault_text(refused)
+    words = ["code32_start=%x" % read.code32_start,
+             "ramdisk=%x+%x" % (read.ramdisk_image, read.ramdisk_size),
+             "cmd_line_ptr=%x" % read.cmd_line_ptr]
+    words += field_words(line.data, FIELDS)
+    return " ".join(words + ["run=" + run_word(run) for run in read.runs])
+
+
+def gdt(table, line):
+    demand(not line.words)
+    return boot_params.gdt().hex()
+
+
+CALLS = {
+    "elf": Call(elf, ALL_BYTES),
+    "header": Call(header, ALL_BYTES),
+    "read_setup": Call(read_setup, ALL_BYTES),
+    "setup_fault": Call(setup_fault, ALL_BYTES),
+    "write_params": Call(write_params, BYTES_OF),
+    "read_params": Call(read_params, ALL_BYTES),
+    "gdt": Call(gdt),
+}

@@ -1,0 +1,73 @@
+"""line: the command line of the program. docs/FORMATS.md "What the program says";
+docs/bootcore.1."""
+
+from typing import List
+
+from . import Call
+
+HELP = ("--help", "-h")
+ORDERS = ("forward", "reverse")
+
+
+class Refused(Exception):
+    """Words that are no command of the program."""
+
+
+class Help(Exception):
+    """Words that ask for help."""
+
+
+def value_of(words: List[str], name: str) -> str:
+    """The value of an option, behind a sign of equality or as the next word, which is taken."""
+    word = words.pop(0)
+    if word.startswith(name + "="):
+        return word[len(name) + 1:]
+    if not words or words[0].startswith("-"):
+        raise Refused
+    return words.pop(0)
+
+
+def job(words: List[str]) -> str:
+    """The program's name, a subcommand, its one path, and the options of `boot` in any order."""
+    rest = list(words[1:])
+    if not rest:
+        raise Refused
+    command = rest.pop(0)
+    if command in HELP:
+        raise Help
+    if command not in ("boot", "map", "walk"):
+        raise Refused
+    paths, options = [], {}
+    while rest:
+        name = rest[0].partition("=")[0]
+        if rest[0] == "--":
+            paths += rest[1:]
+            break
+        if rest[0] in HELP:
+            raise Help
+        if command == "boot" and name in ("--out", "--order"):
+            if name in options:
+                raise Refused
+            options[name] = value_of(rest, name)
+        elif rest[0].startswith("-"):
+            raise Refused
+        else:
+            paths.append(rest.pop(0))
+    order = options.get("--order", "forward")
+    if len(paths) != 1 or order not in ORDERS or (command == "boot" and "--out" not in options):
+        raise Refused
+    if command == "boot":
+        return "boot %s to %s %s" % (paths[0], options["--out"], order)
+    return "%s %s" % (command, paths[0])
+
+
+def line(table, row):
+    try:
+        return job(row.words)
+    except Help:
+        return "help"
+    except Refused:
+        return "refused"
+
+
+CALLS = {"line": Call(line)}

@@ -1,0 +1,138 @@
+"""memory, sparse, view, spell, own: the calls of bl_mem."""
+
+from typing import Callable, List
+
+from language import demand, fields, number, numbers, only, pair, single, spell as spelled, steps
+from rules.memory import MOST_BLOCK, Memory, bytes_of, number_of
+
+from . import Call
+from .answers import Steps, is_right, one_of
+
+NO_MEMORY = "no memory"
+
+
+def read_steps(table, words: List[str], is_block: bool) -> List[Callable]:
+    return [step_of(table, step, is_block) for step in steps(words)]
+
+
+def step_of(table, words: List[str], is_block: bool) -> Callable:
+    """A step of memory: what it does with a value that reads and writes as memory does."""
+    demand(bool(words))
+    name, rest = words[0], words[1:]
+    if name == "size":
+        demand(not rest)
+        return lambda memory: "%x" % memory.size
+    if name in ("read", "lend"):
+        demand(len(rest) == 2)
+        at, length = number(rest[0]), number(rest[1])
+        if name == "lend" and not is_block:
+            return lambda memory: one_of([spelled(held(memory, at, length)), "nothing"])
+        return lambda memory: spelled(held(memory, at, length))
+    if name == "write":
+        demand(bool(rest))
+        places, data = numbers(rest[0]), table.names.bytes_of(rest[1:])
+        return lambda memory: write(memory, places, data)
+    if name == "zero":
+        demand(len(rest) == 1)
+        return lambda memory: zero(memory, pair(rest[0], ".."))
+    demand(name == "reserve")
+    ranges = [pair(word, "..") for word in rest]
+    return lambda memory: reserve(memory, ranges)
+
+
+def held(memory, at: int, length: int) -> bytes:
+    demand(memory.holds(at, at + length))
+    return memory.read(at, length)
+
+
+def write(memory, places: List[int], data: bytes) -> str:
+    for at in places:
+        demand(memory.holds(at, at + len(data)))
+    for at in places:
+        memory.write(at, data)
+    return "ok"
+
+
+def zero(memory, cleared) -> str:
+    demand(memory.holds(*cleared))
+    memory.zero(*cleared)
+    return "ok"
+
+
+def reserve(memory, ranges) -> str:
+    for start, end in ranges:
+        demand(memory.holds(start, end))
+    return "ok"
+
+
+def memory_in(line) -> Memory:
+    """`size=N fill=VV`, before the steps."""
+    demand(len(line.words) >= 2)
+    named, bare = fields(line.words[:2])
+    only(named, "size", "fill")
+    demand(not bare)
+    return Memory(number(single(named, "size")), number(single(named, "fill"), 8))
+
+
+def flat(table, line):
+    """Memory in one block, which is one request."""
+    made, memory = read_steps(table, line.words[2:], True), memory_in(line)
+    if memory.size > MOST_BLOCK:
+        return "no memory, unasked"
+    return "; ".join(step(memory) for step in made)
+
+
+def sparse(table, line):
+    made, memory = read_steps(table, line.words[2:], False), memory_in(line)
+    return Steps([step(memory) for step in made])
+
+
+def sparse_is_refused(table, line, text):
+    """A step that was out of memory changes no byte; what the others answer is fixed then."""
+    words, parts, memory = steps(line.words[2:]), text.split("; "), memory_in(line)
+    if len(words) != len(parts) or NO_MEMORY not in parts:
+        return False
+    for step, part in zip(words, parts):
+        if part == NO_MEMORY and step[0] in ("write", "zero", "reserve"):
+            continue
+        if not is_right(step_of(table, step, False)(memory), part):
+            return False
+    return True
+
+
+def view(table, line):
+    demand(len(line.words) >= 2)
+    at, length = number(line.words[0]), number(line.words[1])
+    file = table.names.bytes_of(line.words[2:])
+    demand(at + length <= len(file))
+    words = ["length %x [%s]" % (len(file), spelled(file[at:at + length]))]
+    for width in (1, 2, 4, 8):
+        if width <= length:
+            words.append("u%d:%x" % (8 * width, number_of(file[at:at + width])))
+    return " ".join(words)
+
+
+def spell(table, line):
+    demand(bool(line.words))
+    value, data = number(line.words[0]), table.names.bytes_of(line.words[1:])
+    words = ["[%s]" % spelled(data)]
+    for width in (4, 8):
+        if value < 1 << 8 * width:
+            written = spelled(bytes_of(value, width))
+            words.append("u%d [%s] [%s]" % (8 * width, written, written))
+    return " ".join(words)
+
+
+def own(table, line):
+    word = spelled(line.data)
+    is_empty = "false" if line.data else "true"
+    return "length %x empty %s; [%s]; [%s]" % (len(line.data), is_empty, word, word)
+
+
+CALLS = {
+    "memory": Call(flat),
+    "sparse": Call(sparse, is_refused=sparse_is_refused),
+    "view": Call(view),
+    "spell": Call(spell),
+    "own": Call(own, "all"),
+}

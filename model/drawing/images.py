@@ -1,0 +1,156 @@
+"""Images that no boot wrote: parts as short as what they hold, side by side; then changed."""
+
+from random import Random
+from typing import List, Tuple
+
+from rules import boot_params, information
+from rules.handover import (BOOT_PARAMETERS, COMMAND_LINE, GDT, INFORMATION, INITRD, KERNEL, LINUX,
+                            MODULE, MULTIBOOT2, Handover, Part, registers_of)
+from rules.image import spell
+from rules.information import Information, Module
+from rules.machine import Run
+
+from .chances import chance, changed, number, some_bytes
+
+HEAD, RECORD = 104, 24
+
+
+def draw(rng: Random) -> bytes:
+    """An image that is walked, mostly."""
+    draw_one = draw_multiboot2 if chance(rng, 55) else draw_linux
+    handover = draw_one(rng)
+    if chance(rng, 6):
+        name = rng.choice(list(handover.registers))
+        handover.registers[name] = number(rng, 32)
+    return spell(handover)
+
+
+def mutated(rng: Random, data: bytes) -> bytes:
+    """With one to three changes, most of them where fields stand."""
+    parts = int.from_bytes(data[96:100], "little")
+    if parts > 256:
+        return changed(rng, data, [*range(0, HEAD, 4)])
+    heads = [*range(0, HEAD, 4)]
+    records = [*range(HEAD, HEAD + RECORD * parts, 4)]
+    start = HEAD + RECORD * parts
+    inner = [*range(start, min(start + 400, len(data)), 2)]
+    fields = [start + at for at in (0x1E8, 0x1F1, 0x1FA, 0x1FE, 0x201, 0x202, 0x206, 0x210, 0x214,
+                                    0x218, 0x21A, 0x21C, 0x228, 0x22A, 0x250, 0x2D0, 0x2D8, 0x2E0)]
+    for _ in range(rng.choice([1, 1, 2, 3])):
+        data = changed(rng, data, rng.choice([heads, records, inner, inner, inner, fields]), 8)
+    return data
+
+
+# ---- parts side by side
+
+
+class Ground:
+    """Where parts are put, each after the one before."""
+
+    def __init__(self, rng: Random):
+        self.rng = rng
+        self.at = rng.choice([0, 0x1000, 0x1000, 0xFFF8, 0x100000])
+        self.parts: List[Part] = []
+
+    def put(self, role: int, data: bytes, index: int = 0) -> int:
+        """The bytes as a part, perhaps with more behind them; gives their address."""
+        self.at += self.rng.choice([0, 0, 0, 1, 8, 0x1000, 0x100000])
+        at = self.at
+        more = self.rng.choice([0, 0, 1, 8, 100])
+        more = max(more, 0 if data else 1)
+        self.parts.append(Part(role, index, at, len(data) + more, [(0, data)]))
+        self.at += len(data) + more
+        return at
+
+    def somewhere(self) -> Tuple[int, int]:
+        """A range that lies in one part as a rule: start and length."""
+        rng, part = self.rng, self.rng.choice(self.parts)
+        first = rng.choice([0, 0, rng.randrange(part.length)])
+        length = rng.choice([part.length - first, rng.randrange(part.length - first + 1), 0, 1])
+        if chance(rng, 4):
+            length += rng.choice([1, 8, 0x1000])
+        if chance(rng, 2):
+            return number(rng, 32), rng.choice([0, 0, 1])
+        return part.address + first, length
+
+
+def draw_runs(rng: Random, most: int) -> List[Run]:
+    """Runs that need not be a normal map: a kernel is told of any."""
+    runs = []
+    for _ in range(min(rng.choice([0, 1, 3, 3, 5, 20, 128]), most)):
+        base = rng.choice([0, 0x100000, number(rng, 52), number(rng, 32)])
+        length = rng.choice([0, 0x1000, number(rng, 32), (1 << 52) - base])
+        runs.append(Run(base, base + length, rng.randrange(1, 6)))
+    return runs
+
+
+def draw_text(rng: Random) -> bytes:
+    return some_bytes(rng, rng.choice([0, 1, 2, 5, 7, 8, 40])).replace(b"\0", b"k")
+
+
+def draw_multiboot2(rng: Random) -> Handover:
+    ground = Ground(rng)
+    for i in range(rng.choice([1, 1, 2])):
+        ground.put(KERNEL, some_bytes(rng, rng.randrange(1, 200)), i)
+    for i in range(rng.choice([0, 1, 2])):
+        ground.put(MODULE, some_bytes(rng, rng.randrange(200)), i)
+    modules = []
+    for _ in range(rng.choice([0, 1, 1, 2, 3])):
+        at, length = ground.somewhere()
+        modules.append(Module(at, min(at + length, 0xFFFFFFFF), draw_text(rng)))
+    told = information.spell(Information(
+        draw_text(rng), modules, rng.choice([0, 636, 640]), number(rng, 32), draw_runs(rng, 20),
+        rng.choice([None, number(rng, 32)]),
+        rng.choice([None, None, some_bytes(rng, rng.choice([0, 1, 20]))]),
+        rng.choice([None, None, some_bytes(rng, rng.choice([0, 36, 37]))]),
+        rng.choice([b"bootcore", b"", draw_text(rng)])))
+    if chance(rng, 20):
+        told = damaged(rng, told)
+    info = ground.put(INFORMATION, told)
+    if chance(rng, 3):
+        info += rng.choice([1, 8, 16])
+    entry = rng.choice([p.address for p in ground.parts if p.role == KERNEL])
+    registers = {**registers_of(MULTIBOOT2), "EIP": entry, "EBX": info}
+    return Handover(MULTIBOOT2, registers, ground.parts)
+
+
+def damaged(rng: Random, told: bytes) -> bytes:
+    """Boot information with a change, and a total size that fits it as a rule."""
+    what = rng.randrange(4)
+    if what == 0:
+        told = changed(rng, told, [*range(0, len(told), 4)], 10)
+    elif what == 1:  # cut
+        told = told[:rng.randrange(len(told) + 1)]
+    elif what == 2:  # more behind the end
+        told += bytes(rng.choice([1, 4, 8, 16]))
+    else:  # a tag twice, or out of its place
+        at = 8 * rng.randrange(1, len(told) // 8)
+        told = told[:at] + rng.choice([told[8:24], told[-8:], told[at:at + 24]]) + told[at:]
+    if len(told) >= 4 and chance(rng, 85):
+        told = len(told).to_bytes(4, "little") + told[4:]
+    return told
+
+
+def draw_linux(rng: Random) -> Handover:
+    ground = Ground(rng)
+    kernel = ground.put(KERNEL, some_bytes(rng, rng.randrange(1, 200)))
+    line = ground.put(COMMAND_LINE, draw_text(rng) + (b"\0" if chance(rng, 90) else b"x"))
+    disk = (0, 0)
+    if chance(rng, 60):
+        ground.put(INITRD, some_bytes(rng, rng.randrange(1, 200)))
+        disk = ground.somewhere()
+    table = ground.put(GDT, boot_params.gdt() if chance(rng, 96) else some_bytes(rng, 32))
+    if chance(rng, 10):
+        line = ground.somewhere()[0]
+    header = bytearray(some_bytes(rng, rng.choice([0x73, 0x77, 0x9F])))
+    for at, value in [(0x1FE, b"\x55\xaa"), (0x202, b"HdrS"), (0x206, b"\x0c\x02"),
+                      (0x201, bytes([0x1F1 + len(header) - 0x202]))]:
+        header[at - 0x1F1:at - 0x1F1 + len(value)] = value
+    params = boot_params.spell(bytes(header), boot_params.Params(
+        kernel, disk[0], disk[1], line, draw_runs(rng, 128)))
+    if chance(rng, 20):
+        params = changed(rng, params, [0x1E8, 0x1F1, 0x1FA, 0x1FE, 0x201, 0x202, 0x206, 0x210,
+                                       0x250, 0x228, 0x218, 0x21C, 0x2D0, 0x2E0, 0x2E4], 5)
+    at = ground.put(BOOT_PARAMETERS, params)
+    registers = {**registers_of(LINUX), "EIP": kernel, "ESI": at, "GDT base": table}
+    return Handover(LINUX, registers, ground.parts)

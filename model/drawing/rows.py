@@ -1,0 +1,126 @@
+"""Rows: calls of the libraries, in the language of the tables; what they answer is not drawn."""
+
+from random import Random
+from typing import List
+
+from rules import boot_params, information
+from rules.image import spell
+from rules.machine import KIND_NAMES
+
+from . import descriptions, images, kernels, linux_kernels, machines
+from .chances import chance, changed, length, number, some_bytes
+from .headers import MIB
+
+
+def draw(rng: Random, count: int) -> List[str]:
+    """So many rows; each few are on a machine of their own."""
+    drawers = [elf, header, setup, info, info, params, params, image, walk, prepare, prepare,
+               prepare, plan, facts, describe]
+    rows = []
+    while len(rows) < count:
+        rows.append(machine(rng))
+        for _ in range(min(12, count - len(rows))):
+            rows.append(rng.choice(drawers)(rng))
+    return [f"row {i} | {row} |" for i, row in enumerate(rows)]
+
+
+def machine(rng: Random) -> str:
+    drawn = machines.draw(rng)
+    regions = [f" region={r.base:x}+{r.length:x}:{KIND_NAMES[r.kind]}" for r in drawn.regions]
+    start, end = drawn.pool
+    return f"machine size={drawn.size:x} pool={start:x}..{end:x}" + "".join(regions)
+
+
+def digits(data: bytes) -> str:
+    return data.hex() or ">0"
+
+
+def elf(rng: Random) -> str:
+    return "elf " + digits(kernel(rng))
+
+
+def header(rng: Random) -> str:
+    return "header " + digits(kernel(rng))
+
+
+def kernel(rng: Random) -> bytes:
+    file = kernels.draw_multiboot2(rng)
+    return changed(rng, file, [*range(0, min(len(file), 300), 2)]) if chance(rng, 30) else file
+
+
+def setup(rng: Random) -> str:
+    return rng.choice(["read_setup ", "setup_fault "]) + digits(linux_kernels.draw(rng, 5))
+
+
+def info(rng: Random) -> str:
+    """The information of an image, whole or damaged."""
+    told = next(part for part in images.draw_multiboot2(rng).parts if part.role == 3).pieces[0][1]
+    for _ in range(rng.choice([0, 1, 1, 2])):
+        told = images.damaged(rng, told) if len(told) >= 16 else told
+    return "read_info " + digits(told)
+
+
+def params(rng: Random) -> str:
+    told = next(part for part in images.draw_linux(rng).parts if part.role == 4).pieces[0][1]
+    for _ in range(rng.choice([0, 1, 1, 2])):
+        told = changed(rng, told, [*range(0x1E8, 0x300)], 3)
+    return "read_params " + digits(told)
+
+
+def image(rng: Random) -> str:
+    return "image_fault " + digits(images.mutated(rng, images.draw(rng)))
+
+
+def walk(rng: Random) -> str:
+    data = images.draw(rng)
+    return "walk " + digits(images.mutated(rng, data) if chance(rng, 60) else data)
+
+
+def line(rng: Random) -> str:
+    return rng.choice(["", "6b", "6b" * 255, "6b" * rng.randrange(300), "6b00"] + ["6b"] * 9)
+
+
+def prepare(rng: Random) -> str:
+    told = line(rng)
+    if chance(rng, 50):
+        modules = [f" module={some_bytes(rng, length(rng)).hex()}:{line(rng)}"
+                   for _ in range(rng.choice([0, 0, 1, 2, 3]))]
+        return f"prepare multiboot2 line={told}{''.join(modules)} of {digits(kernel(rng))}"
+    disk = f" initrd={some_bytes(rng, length(rng)).hex()}" if chance(rng, 70) else ""
+    file = linux_kernels.draw(rng, len(told) // 2)
+    return f"prepare linux line={told}{disk} of {digits(file)}"
+
+
+def plan(rng: Random) -> str:
+    return "plan " + "; ".join(step(rng) for _ in range(rng.randrange(1, 8)))
+
+
+def step(rng: Random) -> str:
+    if chance(rng, 10):
+        return "taken"
+    if chance(rng, 25):
+        start = rng.choice([0x1000, MIB, rng.randrange(3 * MIB), number(rng, 34)])
+        return f"take {start:x}..{start + rng.choice([1, 0x50, 0x1000, 0x2345]):x}"
+    size = rng.choice([1, 0x50, 0x1000, 0x3000, MIB, max(number(rng, 33), 1)])
+    align = rng.choice([1, 3, 0x1000, 0x1000, 0x10000, 0x200000, max(number(rng, 33), 1)])
+    low = rng.choice([0, 0x1000, 0x1000, MIB, number(rng, 33)])
+    high = rng.choice([1 << 32, 1 << 32, 0xA0000, 2 * MIB, number(rng, 33)])
+    limits = f"len={size:x} align={align:x} low={low:x} high={high:x}"
+    if chance(rng, 30):
+        asked = rng.choice([MIB, low, low + align, rng.randrange(4 * MIB) // align * align])
+        return f"prefer at={asked:x} {limits}"
+    return f"place {limits} {rng.choice(['lowest', 'highest'])}"
+
+
+def facts(rng: Random) -> str:
+    if chance(rng, 50):
+        return "normal"
+    words = [f"{number(rng, 33):x}" for _ in range(4)]
+    for _ in range(4):
+        start = rng.choice([0x1000, MIB, number(rng, 33)])
+        words.append(f"{start:x}..{start + rng.choice([0, 1, 0x1000, MIB]):x}")
+    return "facts " + " ".join(words)
+
+
+def describe(rng: Random) -> str:
+    return "describe " + digits(descriptions.draw(rng).text)

@@ -1,0 +1,1 @@
+"""The rules of bootcore a second time, from docs/ and the public texts; README.md says what for."""

@@ -1,0 +1,51 @@
+"""What is handed over: registers and parts. BOOT-RULES.md "Entry state"; FORMATS.md, "A record"."""
+
+from typing import Dict, List, NamedTuple, Tuple
+
+MULTIBOOT2, LINUX = 1, 2
+
+# The registers in the order of the image.
+REGISTERS = ["EIP", "EAX", "EBX", "ECX", "EDX", "ESI", "EDI", "EBP", "ESP", "EFLAGS", "CR0", "CS",
+             "DS", "ES", "FS", "GS", "SS", "GDT base", "GDT limit", "A20"]
+
+KERNEL, MODULE, INFORMATION, BOOT_PARAMETERS, COMMAND_LINE, GDT, INITRD = range(1, 8)  # roles
+
+
+class Part(NamedTuple):
+    """Its bytes are the pieces, each at its offset in the part, and zeros elsewhere."""
+    role: int
+    index: int
+    address: int
+    length: int
+    pieces: List[Tuple[int, bytes]]
+
+
+class Handover(NamedTuple):
+    protocol: int
+    registers: Dict[str, int]
+    parts: List[Part]  # in ascending address order
+
+
+def in_order(parts: List[Part]) -> List[Part]:
+    return sorted(parts, key=lambda part: part.address)
+
+
+def part_bytes(part: Part) -> bytes:
+    """All bytes of a part."""
+    data = bytearray(part.length)
+    for offset, piece in part.pieces:
+        data[offset:offset + len(piece)] = piece
+    return bytes(data)
+
+
+
+def registers_of(protocol: int) -> Dict[str, int]:
+    """The registers, with 0 in those that hold an address."""
+    registers = dict.fromkeys(REGISTERS, 0)
+    registers.update({"EFLAGS": 2, "CR0": 0x11, "CS": 0x10, "DS": 0x18, "ES": 0x18, "FS": 0x18,
+                      "GS": 0x18, "SS": 0x18, "A20": 1})
+    if protocol == MULTIBOOT2:
+        registers["EAX"] = 0x36D76289
+    else:
+        registers["GDT limit"] = 31
+    return registers

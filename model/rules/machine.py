@@ -1,0 +1,119 @@
+"""The machine: its size, its regions, its pool. BOOT-RULES.md "The machine"."""
+
+from typing import List, NamedTuple, Tuple
+
+from .numbers import FRAME
+from .refusals import refuse
+
+USABLE, RESERVED, ACPI, NVS, BAD = 1, 2, 3, 4, 5
+KINDS = {"usable": 1, "reserved": 2, "acpi": 3, "nvs": 4, "bad": 5}
+KIND_NAMES = {number: name for name, number in KINDS.items()}
+
+LEAST_SIZE, MOST_SIZE = 1 << 20, 1 << 32
+MOST_REGIONS = 128
+REGION_LIMIT = 1 << 52
+FIRST_USABLE = 4096
+USABLE_LIMIT = 0xFFFFF000
+
+Range = Tuple[int, int]  # start and end; the end is not one of its addresses
+
+
+class Region(NamedTuple):
+    base: int
+    length: int
+    kind: int
+
+
+class Run(NamedTuple):
+    """Addresses of one kind side by side, from start up to end."""
+    start: int
+    end: int
+    kind: int
+
+
+class Machine(NamedTuple):
+    size: int
+    regions: List[Region]
+    pool: Range
+
+
+def check(machine: Machine) -> Machine:
+    """The machine, or the first of its faults: refused with 1, 3, 2 and i, or 4, in this order."""
+    if not (LEAST_SIZE <= machine.size <= MOST_SIZE and machine.size % FRAME == 0):
+        refuse(1)
+    if len(machine.regions) > MOST_REGIONS:
+        refuse(3)
+    for i, region in enumerate(machine.regions):
+        if region.base + region.length > REGION_LIMIT:
+            refuse(2, i)
+    start, end = machine.pool
+    if start > end or start % FRAME != 0 or end % FRAME != 0:
+        refuse(4)
+    if not is_usable(machine, start, end):
+        refuse(4)
+    return machine
+
+
+def kind_at(regions: List[Region], address: int) -> int:
+    """The greatest kind of the regions that hold the address, 0 if none does."""
+    holding = [r.kind for r in regions if r.base <= address < r.base + r.length]
+    return max(holding, default=0)
+
+
+def normal_map(regions: List[Region]) -> List[Run]:
+    """The runs, ascending. Between two neighbouring edges of regions the kind is the same."""
+    edges = sorted({edge for r in regions for edge in (r.base, r.base + r.length)})
+    runs: List[Run] = []
+    for start, end in zip(edges, edges[1:]):
+        kind = kind_at(regions, start)
+        if kind == 0:
+            continue
+        if runs and runs[-1].end == start and runs[-1].kind == kind:
+            runs[-1] = runs[-1]._replace(end=end)
+        else:
+            runs.append(Run(start, end, kind))
+    return runs
+
+
+def usable_ranges(machine: Machine) -> List[Range]:
+    """All usable bytes, as ascending ranges with gaps between them."""
+    limit = min(machine.size, USABLE_LIMIT)
+    ranges = []
+    for run in normal_map(machine.regions):
+        start, end = max(run.start, FIRST_USABLE), min(run.end, limit)
+        if run.kind == USABLE and start < end:
+            ranges.append((start, end))
+    return ranges
+
+
+def covers(ranges: List[Range], start: int, end: int) -> bool:
+    """Whether one of the ranges holds all of start up to end, which may be nothing."""
+    return start == end or any(low <= start and end <= high for low, high in ranges)
+
+
+def is_usable(machine: Machine, start: int, end: int) -> bool:
+    """Whether each byte from start up to end is usable."""
+    return covers(usable_ranges(machine), start, end)
+
+
+def usable_end(regions: List[Region], address: int) -> int:
+    """The end of the usable run that holds the address, 0 if there is none."""
+    for run in normal_map(regions):
+        if run.kind == USABLE and run.start <= address < run.end:
+            return run.end
+    return 0
+
+
+def low_kib(regions: List[Region]) -> int:
+    return min(usable_end(regions, 0) // 1024, 640)
+
+
+def high_kib(regions: List[Region]) -> int:
+    mib = 1 << 20
+    end = usable_end(regions, mib)
+    return 0 if end == 0 else min((end - mib) // 1024, (1 << 32) - 1)
+
+
+def meets(one: Range, other: Range) -> bool:
+    """Whether two ranges share a byte."""
+    return max(one[0], other[0]) < min(one[1], other[1])

@@ -1,0 +1,96 @@
+"""Places: where a part may stand, and which address is chosen. BOOT-RULES.md "Places"."""
+
+from typing import List, Optional
+
+from .machine import Machine, Range, covers, meets, usable_ranges
+from .numbers import FRAME, frames, round_down, round_up
+from .refusals import refuse
+
+MIB, GIB4 = 0x100000, 1 << 32
+
+
+class Planner:
+    """The usable bytes of a machine, and the ranges that parts have taken so far."""
+
+    def __init__(self, machine: Machine):
+        self.usable = usable_ranges(machine)
+        self.taken: List[Range] = []
+
+    def gaps(self) -> List[Range]:
+        """The usable bytes that no part has, as ascending ranges with something between them."""
+        gaps = []
+        for start, end in self.usable:
+            at = start
+            for low, high in sorted(self.taken):
+                if meets((low, high), (at, end)):
+                    if at < low:
+                        gaps.append((at, low))
+                    at = high
+            if at < end:
+                gaps.append((at, end))
+        return gaps
+
+    def is_permitted(self, at: int, length: int, align: int, low: int, high: int) -> bool:
+        """The five rules of a permitted address, one by one."""
+        return (at % align == 0
+                and low <= at
+                and at + length <= high
+                and covers(self.usable, at, at + length)
+                and not any(meets((at, at + length), part) for part in self.taken))
+
+    def least(self, length: int, align: int, low: int, high: int) -> Optional[int]:
+        """The least permitted address: the gaps that hold one, from the lowest on."""
+        for start, end in self.gaps():
+            at = round_up(max(start, low), align)
+            if at + length <= min(end, high):
+                return at
+        return None
+
+    def greatest(self, length: int, align: int, low: int, high: int) -> Optional[int]:
+        """The greatest permitted address: the gaps that hold one, from the highest on."""
+        for start, end in reversed(self.gaps()):
+            at = round_down(min(end, high) - length, align)
+            if at >= max(start, low):
+                return at
+        return None
+
+    # What follows takes the range that it chose.
+
+    def take(self, at: int, length: int) -> int:
+        self.taken.append((at, at + length))
+        return at
+
+    def lowest(self, length: int, align: int, low: int, high: int) -> int:
+        return self._chosen(self.least(length, align, low, high), length)
+
+    def highest(self, length: int, align: int, low: int, high: int) -> int:
+        return self._chosen(self.greatest(length, align, low, high), length)
+
+    def preferred(self, asked: int, length: int, align: int, low: int, high: int) -> int:
+        """The address asked for if it is permitted, else the lowest."""
+        if self.is_permitted(asked, length, align, low, high):
+            return self.take(asked, length)
+        return self.lowest(length, align, low, high)
+
+    def fixed(self, start: int, end: int) -> int:
+        """A part at its own address: each byte is usable (19), none is in an earlier part (15)."""
+        if not covers(self.usable, start, end):
+            refuse(19)
+        if any(meets((start, end), part) for part in self.taken):
+            refuse(15)
+        return self.take(start, end - start)
+
+    def _chosen(self, at: Optional[int], length: int) -> int:
+        if at is None:
+            refuse(20)
+        return self.take(at, length)
+
+
+def undisturbed_frames(machine: Machine, parts: List[Range]) -> int:
+    """How many of the pool's frames meet no part. Two parts may meet one frame."""
+    start, end = machine.pool[0] // FRAME, machine.pool[1] // FRAME
+    count, at = 0, start  # the frames below `at` are counted
+    for low, high in sorted((low // FRAME, frames(high)) for low, high in parts if low < high):
+        count += max(min(low, end) - at, 0)
+        at = max(at, high)
+    return count + max(end - at, 0)
