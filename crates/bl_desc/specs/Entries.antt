@@ -16,8 +16,8 @@ pub record Module : Type 0 where
   pub file : List ℕ
   pub line : List ℕ
 
--- what an entry has beside its kernel: modules, and perhaps an initial ramdisk, which is the name of
--- a file; its protocol says which it may have
+-- what an entry has beside its kernel: modules, and perhaps an initial ramdisk, which is the name
+-- of a file; its protocol says which it may have
 pub record Form : Type 0 where
   pub protocol : Protocol
   pub modules : List Module
@@ -65,8 +65,8 @@ modules_of d = in_tables module_in d >>= passing has_few_modules
 
 -- ---- protocol
 
--- what a protocol is called, under which keys its entries say what they have beside their kernel, and
--- what is read from these
+-- what a protocol is called, under which keys its entries say what they have beside their kernel,
+-- and what is read from these
 pub record ProtocolRow : Type 0 where
   pub word : List ℕ
   pub keys : List (List ℕ)

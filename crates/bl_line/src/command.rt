@@ -1,6 +1,6 @@
 //! The command that clap is given. Each of its parts is a function of its own: clap's types are
 //! large, and a proof goes over all that a function holds.
-ghost use Rattle.std.specs.Prelude.{◌≡◌, true, false, IfOk, codes};
+ghost use Rattle.std.specs.Prelude.{◌≡◌, true, false, IfOk};
 ghost use Rattle.clap.specs.Words.{app_of, new_app, new_rule, rule_of, with_rule, with_subcommand};
 ghost use Rattle.clap.specs.declared.builder.command.Command.TheViews.{out-Command as fields_of};
 ghost use Rattle.bl_line.specs.Lines.{WithOrders, boot_app, map_app, walk_app, top_app, line_app};

@@ -23,8 +23,8 @@ setup_refusal setup_fault.SetupCut = refusal.SetupCut
 setup_refusal setup_fault.BadAlign = refusal.BadAlign
 setup_refusal setup_fault.BadPreferred = refusal.BadPreferred
 
--- why a kernel of this setup can't be entered by a protocol: each has the 32-bit entry ("32-bit Boot
--- Protocol"), and Multiboot2 asks nothing of a setup
+-- why a kernel of this setup can't be entered by a protocol: each has the 32-bit entry ("32-bit
+-- Boot Protocol"), and Multiboot2 asks nothing of a setup
 abbrev pub entering_fault : Protocol → Setup → Option Refusal
 entering_fault Multiboot2 setup = None
 entering_fault Linux setup = None

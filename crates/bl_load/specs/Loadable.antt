@@ -67,8 +67,8 @@ StaysInFiles r (Own bytes) = IsMade r
 StaysInFiles r (File file offset count) = Unit {0}
 StaysInFiles r (Block file segments) = Unit {0}
 
--- a plan holds none of the files' bytes but a Linux kernel's setup header, which has at most 0x9F, so
--- it takes no memory in proportion to what a header claims
+-- a plan holds none of the files' bytes but a Linux kernel's setup header, which has at most 0x9F,
+-- so it takes no memory in proportion to what a header claims
 abbrev pub IsLean : {A : Type 0} → List (PlannedPart A) → Type 0
 IsLean parts = All (λ part. StaysInFiles part.place.role part.content) parts
 

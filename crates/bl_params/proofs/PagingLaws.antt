@@ -1,6 +1,6 @@
 -- Page tables translate each address below 2^32 to itself, and no other.
 use Rattle.std.proofs.Common.{◌≡◌, ◌∙◌, ◌<◌, ◌≤◌, ◌+◌, ◌-◌, ◌*◌, ◌/◌, ◌%◌, ◌^◌, ℕ, zero, suc, List}
-use Rattle.std.proofs.Common.{Option, None, Some, length, slice_index, arith, refl, sym, ap, ⊎_elim}
+use Rattle.std.proofs.Common.{None, Some, length, slice_index, arith, refl, sym, ap, ⊎_elim}
 use Rattle.std.proofs.lemmas.Bool.{cases_lt}
 use Rattle.std.proofs.lemmas.Bool.Decides.{nat_tests}
 use Rattle.bl_params.specs.Fields.{number_bytes}

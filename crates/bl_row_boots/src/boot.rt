@@ -31,12 +31,8 @@ fn say_status(row: &mut Row<'_>, status: u8, said: &[u8]) {
 }
 
 /// Boots over the heap, into this sink.
-fn boot_into<F: Files>(
-    row: &mut Row<'_>,
-    beside: &Beside,
-    files: &mut F,
-    out: &mut MemSink<Global>,
-) requires files { F.faults files.old ≡ 0 }
+fn boot_into<F: Files>(row: &mut Row<'_>, beside: &Beside, files: &mut F, out: &mut MemSink<Global>)
+    requires files { F.faults files.old ≡ 0 }
     requires sink { out.old.faults ≡ 0 }
 {
     let heap = row.heap;
@@ -67,7 +63,7 @@ fn boot_beside(row: &mut Row<'_>, beside: &Beside, limit: u64) -> Option<MemSink
         return None;
     };
     if beside.are_long {
-        boot_into(row, beside, &mut LongFiles, &mut out);
+        boot_into(row, beside, &mut LongFiles::new(), &mut out);
     } else {
         let mut files = beside.files(row);
         boot_into(row, beside, &mut files, &mut out);

@@ -1,12 +1,23 @@
 //! Files that are all too long.
 ghost use Rattle.bl_session.specs.Outcome.{too_long};
 
-use bl_boot::{FILE_LIMIT, Fetched, Files};
+use bl_boot::{AskedNames, FILE_LIMIT, Fetched, Files};
 use std::alloc::{AllocError, Allocator};
 
 /// Files each of which has one byte more than a file may have.
 #[derive(Drop)]
-pub struct LongFiles;
+pub struct LongFiles {
+    asked: AskedNames,
+}
+
+impl LongFiles {
+    /// These files, for which no name was asked for yet.
+    pub fn new() -> LongFiles {
+        LongFiles {
+            asked: AskedNames::new(),
+        }
+    }
+}
 
 impl Files for LongFiles {
     ghost use Rattle.std.specs.Prelude.{◌≡◌};
@@ -15,7 +26,10 @@ impl Files for LongFiles {
 
     ghost faults = { λ _. 0 };
 
-    fn fetch<A: Allocator>(&mut self, _alloc: A, _name: &str) -> Result<Fetched<A>, AllocError> {
+    ghost asked = { λ f. f.asked.names };
+
+    fn fetch<A: Allocator>(&mut self, _alloc: A, name: &str) -> Result<Fetched<A>, AllocError> {
+        self.asked = self.asked.and(name.as_bytes());
         Ok(Fetched::TooLong(FILE_LIMIT + 1))
     }
 

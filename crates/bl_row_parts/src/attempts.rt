@@ -1,4 +1,5 @@
-//! The calls on menus and their boots: `menu MENU ..`, `run MENU ..`, `session MENU .. do STEP; ..`.
+//! The calls on menus and their boots: `menu MENU ..`, `run MENU ..`, `session MENU .. do STEP;
+//! ..`.
 
 mod boot_fields;
 mod building;

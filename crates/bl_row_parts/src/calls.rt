@@ -1,9 +1,9 @@
 //! The calls on an entry, by their names. Every other call is one of bl_rows.
 
+use crate::attempts::{menu, run, steps};
 use crate::{
     describe, handoff, image, line, read_image, read_info, refusal, sink, walk, write_info,
 };
-use crate::attempts::{menu, run, steps};
 use bl_rows::calls;
 use bl_rows::row::Row;
 

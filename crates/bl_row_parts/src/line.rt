@@ -32,7 +32,11 @@ fn say_job(row: &mut Row<'_>, job: Job<'_>) {
 
 /// Reads the words. The call takes its memory from the program's own heap.
 pub fn answer(row: &mut Row<'_>) {
-    let Ok(words) = row.rest().split_whitespace().collect::<Vec<&str>>(row.alloc) else {
+    let Ok(words) = row
+        .rest()
+        .split_whitespace()
+        .collect::<Vec<&str>>(row.alloc)
+    else {
         return row.run_short();
     };
     match read_line(row.alloc, words.as_slice()) {

@@ -80,7 +80,8 @@ fn has_files(entry: &Entry<&Refusing>, files: usize) -> bool
         Entry::Multiboot2 { modules, .. } => modules.len() <= 64 && files == 1 + modules.len(),
         Entry::Linux { initrd: None, .. } => files == 1,
         Entry::Linux {
-            initrd: Some(_), ..
+            initrd: Some(_),
+            ..
         } => files == 2,
     }
 }

@@ -38,7 +38,11 @@ fn say_part<S: Sink>(row: &mut Row<'_>, sink: &mut S, word: &str)
 fn say_parts<S: Sink>(row: &mut Row<'_>, sink: &mut S)
     requires { S.faults sink.old ≡ 0 }
 {
-    let Ok(words) = row.rest().split_whitespace().collect::<Vec<&str>>(row.alloc) else {
+    let Ok(words) = row
+        .rest()
+        .split_whitespace()
+        .collect::<Vec<&str>>(row.alloc)
+    else {
         return row.run_short();
     };
     if words.len() > PARTS {

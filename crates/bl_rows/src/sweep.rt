@@ -3,23 +3,18 @@
 use crate::calls::Calls;
 use crate::calls::machine::MachineRow;
 use crate::pieces::Pieces;
-use crate::row::Row;
 use crate::runs::Runs;
 use crate::session::Session;
 use crate::way::Way;
 use bl_refusing::Refusing;
 use std::alloc::{AllocError, Global};
 
+mod once;
+
+use once::{Over, make_once};
+
 /// More requests than any call of a row makes.
 const REQUESTS: u64 = 100_000;
-
-/// What a call is made over: memory, and the first of some bytes.
-#[derive(Drop)]
-struct Over {
-    heap: Refusing,
-    bytes: Vec<u8>,
-    length: usize,
-}
 
 /// A call that is made over and over, and its last answer.
 #[derive(Drop)]
@@ -38,53 +33,10 @@ pub struct Sweep<'s, 'c> {
     is_short: bool,
 }
 
-/// What a call that was made leaves.
-#[derive(Drop)]
-struct Said {
-    text: String,
-    made: Option<MachineRow>,
-    is_bad: bool,
-    is_short: bool,
-}
-
-/// Makes a call once. Its answer tells if memory ran out though nothing was refused, and if a
-/// block was not given back.
-fn make<'a, C: Calls>(
-    calls: &C,
-    over: &'a Over,
-    session: &'a Session,
-    call: &'a str,
-    is_over_bytes: bool,
-) -> Said {
-    let bytes = over.bytes.as_slice();
-    let bytes = &bytes[..over.length.min(bytes.len())];
-    let mut row = Row::new(&over.heap, session, call, bytes);
-    if is_over_bytes {
-        calls.make_over(&mut row);
-    } else {
-        calls.make_plain(&mut row);
-    }
-    row.end();
-    row.mark_unasked(0);
-    if over.heap.held() != 0 {
-        row.say(", and leaks");
-    }
-    Said {
-        is_bad: row.is_bad(),
-        is_short: row.is_short(),
-        made: row.made.take(),
-        text: row.take_text(),
-    }
-}
-
 impl<'s, 'c> Sweep<'s, 'c> {
     /// The call `NAME WORDS`, which was not made yet, over the bytes of other words if there are
     /// some.
-    pub fn new(
-        session: &'s Session,
-        call: &'c str,
-        over: Option<&str>,
-    ) -> Sweep<'s, 'c> {
+    pub fn new(session: &'s Session, call: &'c str, over: Option<&str>) -> Sweep<'s, 'c> {
         let alloc = session.alloc;
         let mut pieces = Pieces::new(alloc, &session.names);
         pieces.add(over.unwrap_or(""));
@@ -110,7 +62,7 @@ impl<'s, 'c> Sweep<'s, 'c> {
             bytes: std::mem::replace(&mut self.bytes, Vec::new(self.alloc)),
             length,
         };
-        let said = make(calls, &over, self.session, self.call, self.is_over_bytes);
+        let said = make_once(calls, &over, self.session, self.call, self.is_over_bytes);
         self.was_refused = over.heap.has_refused();
         self.bytes = over.bytes;
         self.is_bad = self.is_bad || said.is_bad;
@@ -186,8 +138,8 @@ impl<'s, 'c> Sweep<'s, 'c> {
         }
     }
 
-    /// Makes the call over all bytes, where the two at `at` are swapped with each two after them, up
-    /// to an end. The place must be even.
+    /// Makes the call over all bytes, where the two at `at` are swapped with each two after them,
+    /// up to an end. The place must be even.
     fn each_swap<C: Calls>(&mut self, calls: &C, at: u64, end: u64) {
         if at % 2 != 0 {
             self.is_bad = true;

@@ -134,9 +134,9 @@ fn hand_over<M: PhysMem, A: Allocator>(
 /// 3. memory for the parts, where they have no room yet.
 ///
 /// `Ok`: memory holds the parts, the pool is 0 outside of them, and every other byte is as before.
-/// `Refused`: no byte changed, and the stage is as before. `NoMemory` may be answered at any growth,
-/// and then no byte outside the pool changed, and each file reads as before. No address loses its
-/// room.
+/// `Refused`: no byte changed, and the stage is as before. `NoMemory` may be answered at any
+/// growth, and then no byte outside the pool changed, and each file reads as before. No address
+/// loses its room.
 ///
 /// The stage is that of the machine's pool, and has one file for each file of the entry, in order.
 pub fn finish<M: PhysMem, A: Allocator + Copy>(

@@ -46,11 +46,11 @@ pub fn each_step_leads_on()
         → (new : State) × Steps facts old event new }
 {}
 
-/// Each schedule that is genuine for these files and faults (of each attempt its first wanted fault,
-/// or none) and ends a boot ends it with the first entry that is not refused, and with the refusals
-/// before it, in whatever order its pieces come, with whatever events beside them that are not
-/// wanted: repeated pieces, strange ones, and late ones of refused attempts. Where each entry is
-/// refused, it ends with all refusals.
+/// Each schedule that is genuine for these files and faults (of each attempt its first wanted
+/// fault, or none) and ends a boot ends it with the first entry that is not refused, and with the
+/// refusals before it, in whatever order its pieces come, with whatever events beside them that are
+/// not wanted: repeated pieces, strange ones, and late ones of refused attempts. Where each entry
+/// is refused, it ends with all refusals.
 pub fn first_entry_not_refused()
     ensures exact { (facts : BootFacts) (files : List File) (faults : ℕ → Option ℕ)
         (events : List EventFacts) (begun end : State) → facts.sizes ≡ map size_of files

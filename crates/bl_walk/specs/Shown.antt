@@ -1,6 +1,6 @@
 -- What an entry's own kernel sees. Own.
-use Rattle.std.specs.Prelude.{◌≡◌, ◌<◌, ◌≤◌, ◌+◌, ℕ, List, [], ◌∷◌, length, map, slice_index_or, All}
-use Rattle.std.specs.Prelude.{Option, Some, None, option_map}
+use Rattle.std.specs.Prelude.{◌≡◌, ◌<◌, ◌≤◌, ◌+◌, ℕ, List, [], ◌∷◌, length, map, slice_index_or}
+use Rattle.std.specs.Prelude.{All, Option, Some, None, option_map}
 use Rattle.bl_mem.specs.declared.segment.Segment.{Segment}
 use Rattle.bl_map.specs.Kinds.{end_of}
 use Rattle.bl_map.specs.Limits.{region_limit}

@@ -48,9 +48,9 @@ impl<A: Allocator> Model for SeenFile<A> {
     ghost view = { λ f. record { address = f.address; bytes = f.bytes } };
 }
 
-/// What a kernel sees in an image: how and where it is entered, a physical address, its line, its parts in address
-/// order, the modules in order (none under Linux), the initial ramdisk (none under Multiboot2, nor
-/// where it has no byte), and the memory map's runs.
+/// What a kernel sees in an image: how and where it is entered, a physical address, its line, its
+/// parts in address order, the modules in order (none under Linux), the initial ramdisk (none under
+/// Multiboot2, nor where it has no byte), and the memory map's runs.
 #[derive(Drop)]
 pub struct Seen<A: Allocator> {
     pub protocol: Protocol,

@@ -108,8 +108,7 @@ const MOST_END: u64 = 1 << 52;
 fn are_low(runs: &[Region]) -> bool
     ensures { IsTrue result → All (λ run. end_of run ≤ 2 ^ 52) runs.now }
 {
-    runs.iter()
-        .all(|run| run.base <= MOST_END && run.length <= MOST_END - run.base)
+    runs.iter().all(|run| run.base <= MOST_END && run.length <= MOST_END - run.base)
 }
 
 fn read_runs(row: &mut Row<'_>) -> Vec<Region> {

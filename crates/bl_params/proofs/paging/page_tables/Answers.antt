@@ -1,4 +1,4 @@
-use Rattle.std.proofs.Common.{ℕ, arith}
+use Rattle.std.proofs.Common.{arith}
 use Rattle.bl_params.proofs.PagingLemmas.{put_step, frame_is}
 use Rattle.bl_params.proofs.paging.page_tables.Goals as goal
 

@@ -114,5 +114,5 @@ returns-clause-asked g c =
     asked_by c.boot_found.result (names_fetched (described c.args.desc.now))
     (g.F.Files.asked c.args.files.now) _
     (rw (fetched c.args.desc.now c.in_ok-description.description
-        c.in_ok-description.ensures.given)
+    c.in_ok-description.ensures.given)
     (rw (c.deref-2.ensures.value, c.in_ok-names.ensures.names) at c.in_ok-found.ensures.asked))
