@@ -58,10 +58,10 @@ fn written<'h>(
 
 /// Writes the image to sinks of each limit, and says how it ended, and whether the sink took the
 /// image's first bytes, as many as it has room for.
-fn say_each(
+fn say_each<'h>(
     row: &mut Row<'_>,
-    heap: &Refusing,
-    loaded: &LoadedEntry<'_>,
+    heap: &'h Refusing,
+    loaded: &LoadedEntry<'h>,
     limits: Range<u64>,
     step: u64,
 ) -> Option<Runs>

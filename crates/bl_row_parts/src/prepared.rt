@@ -2,7 +2,7 @@
 //! line=BYTES initrd=BYTES`.
 ghost use Rattle.std.specs.Prelude.{◌≡◌, ◌+◌, ◌≤◌, length, map, All, IfSome, IsTrue};
 ghost use Rattle.bl_load.specs.Loadable.{lengths_of, IsLoadable};
-ghost use Rattle.bl_load.specs.Value.{file_count, HasFewModules};
+ghost use Rattle.bl_load.specs.Value.{file_count, IsWithinLimits};
 
 use crate::entry::{EntryField, ModuleField, protocol_of};
 use crate::refusal::say_fault;
@@ -74,7 +74,7 @@ impl RowEntry {
 /// Whether an entry has so many files, and no more modules than it may have.
 fn has_files(entry: &Entry<&Refusing>, files: usize) -> bool
     ensures files { IsTrue result → files ≡ file_count entry.now }
-    ensures modules { IsTrue result → HasFewModules entry.now }
+    ensures modules { IsTrue result → IsWithinLimits entry.now }
 {
     match entry {
         Entry::Multiboot2 { modules, .. } => modules.len() <= 64 && files == 1 + modules.len(),

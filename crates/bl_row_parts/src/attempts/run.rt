@@ -73,49 +73,54 @@ fn say_run<'h, S: Store + Drop>(
     }
 }
 
-/// Boots over the heap, with the store of the fields. The files stand over another heap, and what a
-/// script says.
-fn answer_on<'h>(
+/// Boots over the heap, and over a store that gives so many answers alone. Tells how often that was
+/// asked for a size.
+fn say_run_upto<'h, S: Store + Drop>(
     row: &mut Row<'_>,
     heap: &'h Refusing,
-    beside: &'h Refusing,
     machine: &Machine<&'h Refusing>,
     menu: &Menu<&'h Refusing>,
-    fields: &BootFields,
-) -> Result<(), AllocError> {
+    store: S,
+    answers: u64,
+) -> u64 {
+    let mut store = DryStore::new(heap, store, answers);
+    say_run(row, heap, machine, menu, &mut store);
+    store.sizes()
+}
+
+/// Boots over the heap, with the store of the fields. The machine, the menu and the files stand over
+/// another, so that their requests are not refused, and what a script says.
+fn answer_over(row: &mut Row<'_>, heap: &Refusing, fields: &BootFields) -> Result<(), AllocError> {
+    let beside = Refusing::new(row.alloc, 0);
+    let Some(machine) = row.machine_over(&beside) else {
+        return Ok(());
+    };
+    let Some(menu) = fields.menu_beside(row, &beside) else {
+        return Ok(());
+    };
     let order = match fields.store {
         StoreField::Script => {
-            let script = fields.script_over(heap, beside)?;
-            let mut store = DryStore::new(heap, script, fields.answers);
-            say_run(row, heap, machine, menu, &mut store);
+            let script = fields.script_over(heap, &beside)?;
+            let _sizes = say_run_upto(row, heap, &machine, &menu, script, fields.answers);
             return Ok(());
         }
         StoreField::Reverse => Order::Reverse,
         _ => Order::Forward,
     };
-    let files = FileStore::new(heap, fields.files_over(beside)?, order);
-    let mut store = DryStore::new(heap, files, fields.answers);
-    say_run(row, heap, machine, menu, &mut store);
+    let files = FileStore::new(heap, fields.files_over(&beside)?, order);
+    let sizes = say_run_upto(row, heap, &machine, &menu, files, fields.answers);
     if let StoreField::Counting = fields.store {
-        row.say_number(", sizes ", store.sizes());
+        row.say_number(", sizes ", sizes);
     }
     Ok(())
 }
 
-/// Boots over the heap. The machine, the menu and the files stand over another, so that their
-/// requests are not refused.
+/// Boots a menu over a store.
 pub fn answer(row: &mut Row<'_>) {
     let heap = row.heap;
     let words = row.rest();
     let fields = read_fields(row, words);
-    let beside = Refusing::new(row.alloc, 0);
-    let Some(machine) = row.machine_over(&beside) else {
-        return;
-    };
-    let Some(menu) = fields.menu_beside(row, &beside) else {
-        return;
-    };
-    if answer_on(row, heap, &beside, &machine, &menu, &fields).is_err() {
+    if answer_over(row, heap, &fields).is_err() {
         row.run_short();
     }
 }

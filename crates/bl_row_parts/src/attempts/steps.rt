@@ -5,11 +5,10 @@
 
 use crate::attempts::boot_fields::{read_fields, ticket_of};
 use crate::attempts::rig::Rig;
-use bl_map::Machine;
 use bl_refusing::Refusing;
 use bl_rows::calls::memory;
 use bl_rows::row::Row;
-use bl_session::{Event, Menu};
+use bl_session::Event;
 
 /// Makes the step of the row's words.
 fn step(row: &mut Row<'_>, rig: &mut Rig<'_, '_>) {
@@ -33,29 +32,18 @@ fn step(row: &mut Row<'_>, rig: &mut Rig<'_, '_>) {
     }
 }
 
-/// Tells a session of the menu each letter.
-fn tell<'a, 'h, 'w>(
-    row: &mut Row<'w>,
-    heap: &'h Refusing,
-    machine: &'a Machine<&'h Refusing>,
-    menu: &'a Menu<&'h Refusing>,
-    sizes: &[Option<u64>],
-    steps: &'w str,
-) {
-    let Some(mut rig) = Rig::new(heap, machine, menu, sizes) else {
-        return row.say("no memory");
-    };
+/// Makes each step.
+fn tell<'w>(row: &mut Row<'w>, rig: &mut Rig<'_, '_>, steps: &'w str) {
     for words in steps.split(";") {
         let _refused = row.begin_step(words);
-        step(row, &mut rig);
+        step(row, rig);
         row.mark_unasked(0);
     }
 }
 
-/// Tells a session each letter. Its machine and its menu stand over another heap, so that their
-/// requests are not refused.
-pub fn answer(row: &mut Row<'_>) {
-    let heap = row.heap;
+/// Tells a session over the heap each letter. Its machine and its menu stand over another heap, so
+/// that their requests are not refused.
+fn answer_over(row: &mut Row<'_>, heap: &Refusing) {
     let words = row.rest();
     let (words, steps) = row.cut(words, " do ");
     let fields = read_fields(row, words);
@@ -67,5 +55,14 @@ pub fn answer(row: &mut Row<'_>) {
         return;
     };
     let sizes = fields.sizes(row);
-    tell(row, heap, &machine, &menu, sizes.as_slice(), steps);
+    match Rig::new(heap, &machine, &menu, sizes.as_slice()) {
+        Some(mut rig) => tell(row, &mut rig, steps),
+        None => row.say("no memory"),
+    }
+}
+
+/// Tells a session each letter.
+pub fn answer(row: &mut Row<'_>) {
+    let heap = row.heap;
+    answer_over(row, heap);
 }
