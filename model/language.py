@@ -122,9 +122,10 @@ def spell(data: bytes) -> str:
 
 
 def quoted(text: bytes) -> str:
-    """What is said, between quotes: a line feed is written as `\\n`, a zero byte as `\\0`."""
+    """What is said, between quotes: a line feed is written as `\\n`, a tab as `\\t`, a zero byte as
+    `\\0`."""
     shown = text.decode("utf-8", "replace").replace("\\", "\\\\").replace('"', '\\"')
-    return '"%s"' % shown.replace("\n", "\\n").replace("\0", "\\0")
+    return '"%s"' % shown.replace("\n", "\\n").replace("\t", "\\t").replace("\0", "\\0")
 
 
 def steps(words: Sequence[str]) -> List[List[str]]:

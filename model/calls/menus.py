@@ -13,7 +13,7 @@ from .kernels import fault_text
 File = Union[bytes, int, None]
 WORDS = ("file", "entry", "modules", "default", "fallback", "store", "twice", "fail", "picks",
          "answers")
-STORES = ("forward", "reverse", "silent", "script")
+STORES = ("forward", "reverse", "counting", "silent", "script")
 
 
 class MenuEntry(NamedTuple):
@@ -65,6 +65,10 @@ class Menu:
         files = [self.file(index) for index in entry.files()]
         return [len(file) if isinstance(file, bytes) else file for file in files]
 
+    def file_count(self) -> int:
+        """How many files are named: up to the greatest index."""
+        return 1 + max(file for entry in self.entries for file in entry.files())
+
     def file(self, index: int) -> File:
         return self.files[index] if index < len(self.files) else None
 
@@ -98,8 +102,8 @@ def menu(table, line):
         attempts = read.check()
     except Refused as refused:
         return fault_text(refused)
-    count = 1 + max(file for entry in read.entries for file in entry.files())
-    return "attempts %s, files %x" % (" ".join("%x" % index for index in attempts), count)
+    told = " ".join("%x" % index for index in attempts)
+    return "attempts %s, files %x" % (told, read.file_count())
 
 
 def usable_menu(table, words: List[str]) -> Tuple[Menu, List[int]]:

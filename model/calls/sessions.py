@@ -74,6 +74,8 @@ def run(table, line):
     session = Session(machine, menu, order)
     stores.run(session, store_of(menu))
     told = ", " + outcome_text(session)
+    if menu.store == "counting":
+        told += ", sizes %x" % menu.file_count()  # each size is asked once
     kept = outside(machine)
     if isinstance(kept, str):
         return kept + told

@@ -88,8 +88,8 @@ fn say_run_upto<'h, S: Store + Drop>(
     store.sizes()
 }
 
-/// Boots over the heap, with the store of the fields. The machine, the menu and the files stand over
-/// another, so that their requests are not refused, and what a script says.
+/// Boots over the heap, with the store of the fields. The machine, the menu and the files stand
+/// over another, so that their requests are not refused, and what a script says.
 fn answer_over(row: &mut Row<'_>, heap: &Refusing, fields: &BootFields) -> Result<(), AllocError> {
     let beside = Refusing::new(row.alloc, 0);
     let Some(machine) = row.machine_over(&beside) else {
