@@ -1,10 +1,10 @@
-"""elf, header, read_setup, setup_fault, write_params, read_params, gdt: what is read of kernels,
-and told Linux."""
+"""elf, header, read_setup, setup_fault, write_params, read_params, gdt, gdt64, page_tables,
+translate: what is read of kernels, and told Linux."""
 
 from typing import List
 
-from language import demand, fields, number, only, pair, single
-from rules import boot_params, bzimage, elf as elves, multiboot2
+from language import demand, fields, number, numbers, only, pair, single, spell
+from rules import boot_params, bzimage, elf as elves, multiboot2, paging
 from rules.machine import REGION_LIMIT, Run
 from rules.numbers import u16, u32, u64
 from rules.refusals import Refused
@@ -133,6 +133,33 @@ def gdt(table, line):
     return boot_params.gdt().hex()
 
 
+def gdt64(table, line):
+    demand(not line.words)
+    return paging.gdt64().hex()
+
+
+def page_tables(table, line):
+    """`base=N frame=N bytes=A..B`."""
+    named, bare = fields(line.words)
+    only(named, "base", "frame", "bytes")
+    demand(not bare)
+    base, frame = (number(single(named, name)) for name in ("base", "frame"))
+    start, end = pair(single(named, "bytes"), "..")
+    demand(base % paging.FRAME == 0 and base + paging.FRAMES * paging.FRAME <= 1 << 32)
+    demand(frame < paging.FRAMES and start <= end <= paging.FRAME)
+    return spell(paging.frame(base, frame)[start:end])
+
+
+def translate(table, line):
+    """`base=N at=ADDRESS,.. of BYTES`."""
+    named, bare = fields(line.words)
+    only(named, "base", "at")
+    demand(not bare)
+    base = number(single(named, "base"))
+    found = [paging.translate(line.data, base, at) for at in numbers(single(named, "at"))]
+    return "; ".join("none" if to is None else "%x" % to for to in found)
+
+
 CALLS = {
     "elf": Call(elf, ALL_BYTES),
     "header": Call(header, ALL_BYTES),
@@ -141,4 +168,7 @@ CALLS = {
     "write_params": Call(write_params, BYTES_OF),
     "read_params": Call(read_params, ALL_BYTES),
     "gdt": Call(gdt),
+    "gdt64": Call(gdt64),
+    "page_tables": Call(page_tables),
+    "translate": Call(translate, BYTES_OF),
 }

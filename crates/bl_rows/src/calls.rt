@@ -9,6 +9,7 @@ pub mod machine;
 pub mod memory;
 mod normal;
 mod own;
+mod paging;
 mod places;
 mod plan;
 mod segments;
@@ -61,6 +62,8 @@ pub fn make_plain(row: &mut Row<'_>, name: &str) {
         "spell" => spell::answer(row),
         "view" => view::answer(row),
         "gdt" => linux::answer_gdt(row),
+        "gdt64" => paging::answer_gdt64(row),
+        "page_tables" => paging::answer_tables(row),
         _ => row.refuse(),
     }
 }
@@ -75,6 +78,7 @@ pub fn make_over(row: &mut Row<'_>, name: &str) {
         "setup_fault" => linux::answer_fault(row),
         "read_params" => linux::answer_read(row),
         "write_params" => linux::answer_write(row),
+        "translate" => paging::answer_translate(row),
         _ => row.refuse(),
     }
 }
