@@ -23,7 +23,6 @@ mod refusal;
 mod registers;
 mod rows;
 mod source;
-mod words;
 
 pub use bl_plan::Protocol;
 pub use entry::{Entry, MOST_LINE, Module};

@@ -8,36 +8,65 @@ use thiserror::Error;
 
 /// Why an entry is refused: the first refusal in the order of the checks. A file is told by its
 /// place in the entry, the kernel being 0.
-#[derive(Clone, Copy, Debug, PartialEq, Eq)]
+#[derive(Clone, Copy, Debug, PartialEq, Eq, Error)]
 pub enum Refusal {
+    #[error("file {0} can't be read")]
     NoFile(u32),
+    #[error("file {0} did not come")]
     FileFault(u32),
+    #[error("file {0} is too long")]
     FileTooLong(u32),
+    #[error("no Multiboot2 header")]
     NoHeader,
+    #[error("the Multiboot2 header is cut")]
     HeaderCut,
+    #[error("a header for another architecture")]
     BadArchitecture,
+    #[error("a bad header tag at {0}")]
     BadTag(u64),
+    #[error("a header tag of type {0} is required")]
     UnsupportedTag(u16),
+    #[error("information of type {0} is required")]
     UnsupportedRequest(u32),
+    #[error("a console is required")]
     NoConsole,
+    #[error("not an ELF file")]
     NotElf,
+    #[error("a bad ELF file")]
     BadElf,
+    #[error("segment {0} is cut")]
     SegmentCut(u32),
+    #[error("segment {0} lies too high")]
     AddressTooHigh(u32),
+    #[error("segments {0} and {1} overlap")]
     SegmentsOverlap(u32, u32),
+    #[error("no entry address")]
     NoEntry,
+    #[error("the entry lies in no segment")]
     EntryOutside,
+    #[error("the alignment is no power of two")]
     BadAlign,
+    #[error("a fixed part is not usable memory")]
     NotUsable,
+    #[error("no address is permitted for a part")]
     NoRoom,
+    #[error("the pool is too small")]
     NoPool,
+    #[error("not a bzImage")]
     NotBzImage,
+    #[error("the boot protocol is older than 2.10")]
     OldProtocol,
+    #[error("the kernel is not loaded high")]
     NotHigh,
+    #[error("the setup is cut")]
     SetupCut,
+    #[error("no preferred address from 1 MiB to 4 GiB")]
     BadPreferred,
+    #[error("a line is too long")]
     LineTooLong,
+    #[error("a line has a zero byte")]
     LineHasNul,
+    #[error("the memory map has too many runs")]
     MapTooLong,
 }
 
