@@ -10,7 +10,7 @@ from rules.refusals import Refused
 from . import ALL_BYTES, BYTES_OF, Call
 from .answers import Sweep, one_of
 from .entries import head_text, place_text, read_entry
-from .kernels import fault_text, refusal_text
+from .kernels import fault_alone, fault_text, refusal_text
 from .machines import last_machine
 
 
@@ -135,11 +135,7 @@ def either(meets_fault: Optional[bool], fault: str, told):
 
 
 def image_fault(table, line):
-    try:
-        rules.read(line.data)
-    except Refused as refused:
-        return fault_text(refused)
-    return "none"
+    return fault_alone(rules.read, line.data)
 
 
 def read_images(table, line):

@@ -74,12 +74,17 @@ def read_setup(table, line):
     return " ".join(words + ["header=%x" % len(setup.header), payload])
 
 
-def setup_fault(table, line):
+def fault_alone(read, data: bytes) -> str:
+    """The fault of what is read, or `none`."""
     try:
-        bzimage.read(line.data)
+        read(data)
     except Refused as refused:
         return fault_text(refused)
     return "none"
+
+
+def setup_fault(table, line):
+    return fault_alone(bzimage.read, line.data)
 
 
 def read_run(word: str) -> Run:
