@@ -5,7 +5,7 @@ ghost use Rattle.bl_elf.specs.Header as spec;
 use crate::fields::{EHDR_SIZE_32, EHDR_SIZE_64, EM_386, EM_X86_64, PHDR_SIZE_32, PHDR_SIZE_64};
 
 /// How wide a file's addresses and offsets are (System V gABI, "ELF Header": `e_ident[EI_CLASS]`).
-#[derive(Clone, Copy, Debug, PartialEq, Eq)]
+#[derive(Clone, Copy)]
 pub enum Class {
     Elf32,
     Elf64,

@@ -15,7 +15,7 @@ use crate::sums::ends_within;
 use bl_mem::{ByteView, u8_at, u16_at, u32_at, u64_at};
 
 /// The fields of a file's ELF header that loading needs (System V gABI, "ELF Header").
-#[derive(Clone, Copy, Debug)]
+#[derive(Clone, Copy)]
 pub struct Header {
     pub class: Class,
     pub e_type: u16,

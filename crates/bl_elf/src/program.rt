@@ -14,7 +14,7 @@ use crate::sums::{ends_within, is_before_end};
 use bl_mem::{ByteView, Segment, u32_at, u64_at};
 
 /// The fields of a program header that loading needs (System V gABI, "Program Header").
-#[derive(Clone, Copy, Debug)]
+#[derive(Clone, Copy)]
 pub struct ProgramHeader {
     pub p_type: u32,
     pub p_offset: u64,

@@ -1,4 +1,7 @@
 //! A machine.
+ghost use Rattle.std.specs.Prelude.{IfErr, OnOk};
+ghost use Rattle.bl_map.specs.Faults.{HasFirstFault, IsAccepted};
+
 use crate::fault::MapFault;
 use crate::kind::Kind;
 use crate::limits::{HIGH_START, KIB, MOST_HIGH_KIB, MOST_LOW_KIB, MOST_REGIONS};
@@ -8,6 +11,26 @@ use crate::sweep::{greatest_kind, normal_map};
 use std::alloc::Allocator;
 use std::marker::Model;
 use std::ops::Range;
+
+/// The first fault that stands of what a machine is made of, before memory is asked for.
+fn check_parts(size: u64, regions: &[Region], pool: &Range<u64>) -> Result<(), MapFault>
+    ensures accepted { OnOk result (IsAccepted size regions.now pool.now) }
+    ensures first_fault { IfErr result (HasFirstFault size regions.now pool.now) }
+{
+    if !is_size(size) {
+        return Err(MapFault::BadSize);
+    }
+    if regions.len() > MOST_REGIONS {
+        return Err(MapFault::TooManyRegions);
+    }
+    if let Some(i) = first_high(regions) {
+        return Err(MapFault::BadRegion(i));
+    }
+    if !is_pool(regions, size, pool) {
+        return Err(MapFault::BadPool);
+    }
+    Ok(())
+}
 
 /// A machine: its size, its normal map, its pool. Contracts see it as these facts.
 #[derive(Drop)]
@@ -57,18 +80,7 @@ impl<A: Allocator> Machine<A> {
         ensures pool { IfOk result (λ m. m.pool ≡ pool) }
         ensures first_fault { IfErr result (HasFirstFault size regions.now pool) }
     {
-        if !is_size(size) {
-            return Err(MapFault::BadSize);
-        }
-        if regions.len() > MOST_REGIONS {
-            return Err(MapFault::TooManyRegions);
-        }
-        if let Some(i) = first_high(regions) {
-            return Err(MapFault::BadRegion(i));
-        }
-        if !is_pool(regions, size, &pool) {
-            return Err(MapFault::BadPool);
-        }
+        check_parts(size, regions, &pool)?;
         let runs = normal_map(alloc, regions)?;
         Ok(Machine { size, runs, pool })
     }

@@ -14,7 +14,7 @@ use crate::tag::Tag;
 use bl_mem::{ByteView, Segment, u32_at};
 
 /// The fields of an address tag (Multiboot2 2.0, "3.1.5 The address tag of Multiboot2 header").
-#[derive(Clone, Copy, Debug, PartialEq, Eq)]
+#[derive(Clone, Copy)]
 pub struct AddressTag {
     pub header_addr: u32,
     pub load_addr: u32,

@@ -13,7 +13,7 @@ use crate::tag::{Tag, checked_tag};
 use bl_mem::ByteView;
 
 /// The last tags of the kinds that count.
-#[derive(Clone, Copy, Debug, PartialEq, Eq)]
+#[derive(Clone, Copy)]
 pub struct LastTags {
     pub address: Option<Tag>,
     pub entry: Option<Tag>,

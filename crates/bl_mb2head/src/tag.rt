@@ -17,7 +17,7 @@ use bl_mem::{ByteView, u16_at, u32_at};
 
 /// Where a tag stands, in bytes from the file's start, and its first 8 bytes (Multiboot2 2.0,
 /// "3.1.3 General tag structure").
-#[derive(Clone, Copy, Debug, PartialEq, Eq)]
+#[derive(Clone, Copy)]
 pub struct Tag {
     pub place: u64,
     pub kind: u16,

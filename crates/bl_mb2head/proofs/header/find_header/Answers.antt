@@ -9,7 +9,8 @@ use Rattle.bl_mb2head.specs.Header.{BeginsAt, HasFirstFault}
 use Rattle.bl_mb2head.specs.Kept.{last_tags}
 use Rattle.bl_mb2head.specs.Tags.{AreAllTags, IsFirstFault}
 use Rattle.bl_mb2head.proofs.FaultLemmas.{tag_fault_first, address_fault_first}
-use Rattle.bl_mb2head.proofs.HeaderLemmas.{ends_in_file, ends_in_front, lies_before}
+use Rattle.bl_mb2head.proofs.HeaderLemmas.{ends_after_tag, ends_in_file, ends_in_front}
+use Rattle.bl_mb2head.proofs.HeaderLemmas.{lies_before}
 use Rattle.bl_mb2head.proofs.header.find_header.Goals as goal
 
 tag_fault : (bytes : List ℕ) (h word : ℕ) (fault : HeadFault) → word ≡ u32_at bytes (h + 8)
@@ -72,3 +73,33 @@ pub relocation_of-requires-clause-in_front : goal.relocation_of-requires-clause-
 relocation_of-requires-clause-in_front g c =
     lies_before _ _ _ _ c.in_ok-last.ensures.fits.relocation
     (omega (arith, ends_in_front _ _ c.in_ok-place.ensures.begins, c.u32_at.ensures))
+
+pub u32_at-requires : goal.u32_at-requires
+u32_at-requires g c = omega (arith, c.in_ok-place.ensures.begins.place.holds.in_file)
+
+pub overflow_add-place : goal.overflow_add-place
+overflow_add-place g c = omega (arith, c.in_ok-place.ensures.begins.place.holds.in_front)
+
+pub overflow_add-place-2 : goal.overflow_add-place-2
+overflow_add-place-2 g c = omega (arith, c.in_ok-place.ensures.begins.place.holds.in_front)
+
+pub overflow_add-end : goal.overflow_add-end
+overflow_add-end g c =
+    omega (arith, ends_in_front _ _ c.in_ok-place.ensures.begins, c.u32_at.ensures)
+
+pub last_tags-requires-clause-in_file : goal.last_tags-requires-clause-in_file
+last_tags-requires-clause-in_file g c =
+    omega (arith, ends_in_file _ _ c.in_ok-place.ensures.begins, c.u32_at.ensures)
+
+pub last_tags-requires-clause-in_front : goal.last_tags-requires-clause-in_front
+last_tags-requires-clause-in_front g c =
+    omega (arith, ends_in_front _ _ c.in_ok-place.ensures.begins, c.u32_at.ensures)
+
+pub last_tags-requires-clause-in_order : goal.last_tags-requires-clause-in_order
+last_tags-requires-clause-in_order g c =
+    omega (arith, ends_after_tag _ _ c.in_ok-place.ensures.begins, c.u32_at.ensures)
+
+pub address_segment-requires-clause-in_file : goal.address_segment-requires-clause-in_file
+address_segment-requires-clause-in_file g c =
+    lies_before _ _ _ _ c.in_ok-last.ensures.fits.address
+    (omega (arith, ends_in_file _ _ c.in_ok-place.ensures.begins, c.u32_at.ensures))

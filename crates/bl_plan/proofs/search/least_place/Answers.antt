@@ -1,3 +1,4 @@
+use Rattle.std.proofs.lemmas.Grind.{common_steps}
 use Rattle.std.proofs.Common.{arith, inl, inr}
 use Rattle.std.proofs.lemmas.Bool.{cases_lt}
 use Rattle.bl_plan.proofs.BlockLemmas.{none_up_to_end}
@@ -46,3 +47,12 @@ loop-at-preserved g c =
         | inr past ↦ r.least a p.aligned past
       ];
     }
+
+pub loop-at-init : goal.loop-at-init
+loop-at-init g c = grind (arith, common_steps)
+
+pub returns-in_default : goal.returns-in_default
+returns-in_default g c = grind (arith, common_steps)
+
+pub returns-in_err-at : goal.returns-in_err-at
+returns-in_err-at g c = grind (arith, common_steps)

@@ -1,0 +1,27 @@
+use Rattle.std.proofs.Common.{◌<◌, ◌+◌, ◌∙◌, ℕ, List, [], length, ap, sym, arith}
+use Rattle.std.proofs.Common.{slice_range}
+use Rattle.std.proofs.lemmas.List.{get_or-map, length-map}
+use Rattle.bl_mem.proofs.file_set.ViewsFileSet.read.Goals as goal
+
+pub bounds-self-file : goal.bounds-self-file
+bounds-self-file g c =
+    let many = length-map c.args.self.now.views.now g.V.ByteView.bytes in
+    omega (arith, c.requires.file, many)
+
+pub read-requires : goal.read-requires
+read-requires g c =
+    let views = c.args.self.now.views.now in
+    let many = length-map views g.V.ByteView.bytes in
+    let within : c.args.file < length views = omega (arith, c.requires.file, many) in
+    let text = get_or-map g.V.ByteView.bytes views c.args.file c.index-self-file.result [] within in
+    omega (arith, c.requires.inside, ap (λ (text : List ℕ). length text) text)
+
+pub returns : goal.returns
+returns g c =
+    let views = c.args.self.now.views.now in
+    let many = length-map views g.V.ByteView.bytes in
+    let within : c.args.file < length views = omega (arith, c.requires.file, many) in
+    let at = c.args.at in
+    c.read.ensures
+    ∙ ap (λ (text : List ℕ). slice_range text at (at + length c.args.out.now))
+    (sym (get_or-map g.V.ByteView.bytes views c.args.file c.index-self-file.result [] within))
