@@ -10,3 +10,5 @@ pub mod MovedCells
 pub mod SpareLemmas
 pub mod MoveLemmas
 pub mod WayLemmas
+pub mod PutLemmas
+pub mod ScrubLemmas

@@ -6,14 +6,12 @@ use Rattle.std.specs.List.{count_by, All}
 use Rattle.std.proofs.lemmas.Bool.{cases_lt}
 use Rattle.std.specs.Bool.{IsTrue}
 use Rattle.std.proofs.lemmas.Bool.Decides.{nat_tests}
-use Rattle.std.proofs.lemmas.List.Sums.{sum_by-set, get_or-le-sum_by, sum_by-cons}
+use Rattle.std.proofs.lemmas.List.Sums.{get_or-le-sum_by, sum_by-cons}
 use Rattle.bl_mem.specs.Memory.{overwrite}
-use Rattle.bl_mem.proofs.Overwrites.{get_or-overwrite_below, get_or-overwrite_above}
 use Rattle.bl_map.specs.Room.{frames_of}
 use Rattle.bl_stage.specs.Cells.{cell_at, ReadsAs}
 use Rattle.bl_stage.specs.Staged.{AreInside, place_of, staged, first_of, Staging, AreStaged}
 use Rattle.bl_stage.specs.Staged.{file_of, HasPool, with_frames}
-use Rattle.bl_stage.specs.Ranges.{IsSameOutside}
 use Rattle.bl_stage.specs.Pieces.{is_piece, slot_in}
 use Rattle.std.specs.declared.ops.Range.{Range}
 use Rattle.bl_stage.specs.declared.cell.Cell.{Cell}
@@ -50,14 +48,6 @@ complete_iff waiting came is = (
   (λ h. let zero : waiting ≡ 0 = grind (arith, nat_tests) in all_came came (sym is ∙ zero)),
   (λ all. let zero : waiting ≡ 0 = is ∙ none_waits came all in grind (arith, nat_tests)),
 )
-
--- one piece less is waited for
-pub waits_less : (came : List Bool) (slot : ℕ) → slot < length came → get_or came slot false ≡ false
-    → count_by not (set came slot true) + 1 ≡ count_by not came
-waits_less came slot h is =
-    let step = sum_by-set (λ c. cond {A = ℕ} (not c) 1 0) came slot true false h in
-    let one : cond {A = ℕ} (not (get_or came slot false)) 1 0 ≡ 1 = rw is refl in
-    omega (arith, step, one)
 
 -- what it means to be a piece
 pub record IsPiece (stage : Staging) (file index len : ℕ) : Type 0 where
@@ -122,15 +112,6 @@ module _ (stage : Staging) (staged_ : AreStaged stage) (bytes piece : List ℕ) 
         | inr not_before ↦
             let b = file_before stage.sizes other file (omega arith) is.named in inr (omega arith)
       ])
-
--- what a write into the pool leaves outside it
-pub write_outside : (bytes piece : List ℕ) (pool : Range ℕ) (at : ℕ) → pool.start ≤ at
-    → at + length piece ≤ pool.end → pool.end ≤ length bytes
-    → IsSameOutside pool bytes (overwrite bytes at piece)
-write_outside bytes piece pool at low high inside a h = elim h [
-  | inl before ↦ get_or-overwrite_below bytes at piece a 0 (omega arith) (omega arith)
-  | inr behind ↦ get_or-overwrite_above bytes at piece a 0 (omega arith) (omega arith)
-]
 
 -- the tables that a stage keeps give each file frames of its own
 pub kept_staged : (base : ℕ) (pool : Range ℕ) (sizes starts frames : List ℕ) (came : List Bool)

@@ -1,11 +1,12 @@
 -- The cells are filled in from a list of frames.
-use Rattle.std.proofs.Common.{◌≡◌, ◌≢◌, ℕ, suc, ◌+◌, ◌-◌, ◌<◌, ◌≤◌, ◌⊎◌, List, [], ◌∷◌, length}
-use Rattle.std.proofs.Common.{get_or, set, take, map, ◌/◌, ◌%◌, Bool, false, cond, Option, Some}
-use Rattle.std.proofs.Common.{None, is_some, arith, refl, sym, ap, ◌∙◌, inl, inr}
+use Rattle.std.proofs.Common.{◌≡◌, ◌≢◌, ℕ, suc, ◌+◌, ◌-◌, ◌<◌, ◌≤◌, ◌⊎◌, List, [], ◌∷◌, ◌++◌}
+use Rattle.std.proofs.Common.{length, get_or, set, take, map, ◌/◌, ◌%◌, Bool, false, cond, Option}
+use Rattle.std.proofs.Common.{Some, None, is_some, arith, refl, sym, ap, ◌∙◌, inl, inr}
 use Rattle.std.specs.List.{count_by, All}
-use Rattle.std.proofs.lemmas.Bool.{cases_eq}
+use Rattle.std.proofs.lemmas.Bool.{cases_eq, cases_lt}
 use Rattle.std.proofs.lemmas.List.{get_or-set_same, get_or-set_other, length-set, length-take-le}
-use Rattle.std.proofs.lemmas.List.{get_or-take, get_or-map, length-map}
+use Rattle.std.proofs.lemmas.List.{get_or-take, get_or-map, get_or_push, length-map}
+use Rattle.std.proofs.Math.ListN.{get_or-append}
 use Rattle.std.proofs.lemmas.List.Sums.{sum_by-set, sum_by-cons, count_by-le-length}
 use Rattle.bl_stage.specs.declared.cell.Cell.{Cell}
 use Rattle.bl_stage.specs.Cells.{is_held_cell, cell_at, AreHeld}
@@ -164,3 +165,17 @@ numbers_apart addresses apart whole j k hj hk same =
     let wj = whole j 0 hj2 in
     let wk = whole k 0 hk2 in
     apart j k hj2 hk2 (omega arith)
+
+-- a list of the values of f, after one more is pushed
+pub each_more : (f : ℕ → ℕ) (xs ys : List ℕ) (x n : ℕ) → ys ≡ xs ++ x ∷ [] → length xs ≡ n
+    → ((k : ℕ) → k < n → get_or xs k 0 ≡ f k) → x ≡ f n
+    → (k : ℕ) → k < n + 1 → get_or ys k 0 ≡ f k
+each_more f xs ys x n is long each new k h =
+    elim (cases_lt k n) [
+      | inl below ↦
+          ap (λ l. get_or l k 0) is ∙ get_or-append xs (x ∷ []) 0 k (omega arith)
+          ∙ each k below
+      | inr not_below ↦
+          let last : k ≡ n = omega arith in
+          ap (λ l. get_or l k 0) is ∙ get_or_push xs x 0 k (omega arith) ∙ new ∙ ap f (sym last)
+    ]

@@ -78,9 +78,8 @@ pub fn first_frames<A: Allocator>(
 pub fn numbers_of<A: Allocator>(alloc: A, addresses: &[u64]) -> Result<Vec<u64, A>, AllocError>
     ensures { IfOk result (λ frames. frames.items ≡ map (λ address. address / 4096) addresses.now) }
 {
-    let mut frames = Vec::with_capacity(alloc, addresses.len())?;
-    for address in addresses {
-        frames.push(address / FRAME)?;
-    }
-    Ok(frames)
+    addresses
+        .iter()
+        .map(|address| *address / FRAME)
+        .collect(alloc)
 }

@@ -1,4 +1,4 @@
-use Rattle.std.proofs.Common.{◌≡◌, length, rules, ap, ◌∙◌}
+use Rattle.std.proofs.Common.{arith, ◌≡◌, length, rules, ap, ◌∙◌}
 use Rattle.std.specs.Vec.{with_items}
 use Rattle.std.proofs.lemmas.List.{with_items_is}
 use Rattle.bl_stage.specs.Staged.{Staging, AreStaged, file_of, with_frames}
@@ -6,6 +6,7 @@ use Rattle.bl_stage.specs.Cells.{ReadsAs, MadeWay}
 use Rattle.bl_stage.specs.Spots.{spots}
 use Rattle.bl_stage.proofs.PieceLemmas.{kept_staged, file_evacuated}
 use Rattle.bl_stage.proofs.SpotLemmas.{spots_same}
+use Rattle.std.proofs.lemmas.Grind.{common_steps}
 use Rattle.bl_stage.proofs.stage.Stage.evacuate.Goals as goal
 use Rattle.bl_stage.proofs.stage.Stage.evacuate.Goals.{then-made, else-made}
 
@@ -80,3 +81,18 @@ returns-clause-spots g c =
           (λ file h. file_evacuated bytes new stage frames file kept same long h))
       | else-made w ↦ rw w.result-is tt
     ]
+
+pub invariant_of-self : goal.invariant_of-self
+invariant_of-self g c = grind (arith, common_steps)
+
+pub returns-clause-unchanged : goal.returns-clause-unchanged
+returns-clause-unchanged g c = grind (arith, common_steps)
+
+pub returns-clause-clear : goal.returns-clause-clear
+returns-clause-clear g c = grind (arith, common_steps)
+
+pub returns-clause-stays : goal.returns-clause-stays
+returns-clause-stays g c = grind (arith, common_steps)
+
+pub returns-clause-staged : goal.returns-clause-staged
+returns-clause-staged g c = grind (arith, common_steps)

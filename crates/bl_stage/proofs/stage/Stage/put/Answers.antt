@@ -1,10 +1,13 @@
-use Rattle.std.proofs.Common.{◌≡◌, ◌*◌, ℕ, length, get_or, set, true, ap, ◌∙◌}
+use Rattle.std.proofs.Common.{◌≡◌, ◌*◌, ◌<◌, ℕ, length, get_or, set, true, sym, ap, ◌∙◌}
 use Rattle.bl_mem.specs.Memory.{overwrite}
 use Rattle.bl_stage.specs.Staged.{Staging, AreStaged, file_of}
 use Rattle.bl_stage.specs.Spots.{spots}
 use Rattle.bl_stage.specs.Pieces.{slot_in, is_piece}
 use Rattle.bl_stage.proofs.PieceLemmas.{IsPiece, kept_staged, found_piece, piece_is, piece_in_file}
 use Rattle.bl_stage.proofs.PieceLemmas.{piece_in_others}
+use Rattle.bl_stage.proofs.PutLemmas.{piece_inside, write_outside, kept_put}
+use Rattle.bl_stage.proofs.PutLemmas.{some_waits, answer_repeated}
+use Rattle.bl_mem.proofs.Overwrites.{length-overwrite}
 use Rattle.bl_stage.proofs.SpotLemmas.{spots_put}
 use Rattle.bl_stage.proofs.stage.Stage.put.Goals as goal
 
@@ -116,3 +119,52 @@ returns-clause-spots g c =
     let same : put view c.in-Some.slot ≡ put stage (slot_in stage file index) =
     ap (λ s. put s c.in-Some.slot) c.self.view_is ∙ ap (λ k. put stage k) found.1 in
     λ _. ap (spots new) same ∙ all
+
+pub returns-clause-size : goal.returns-clause-size
+returns-clause-size g c =
+    let at = c.address_of-at.ensures in
+    let bytes = g.M.PhysMem.bytes c.args.memory.now in
+    let pool = c.args.self.now.pool in
+    ap length c.write.ensures.after
+    ∙ length-overwrite bytes c.address_of-at.result c.args.bytes.now
+    (piece_inside pool.start pool.end c.address_of-at.result (length c.args.bytes.now)
+    (length bytes) at.low at.high c.in-Some.ensures.short c.requires.inside)
+
+pub returns-clause-outside : goal.returns-clause-outside
+returns-clause-outside g c =
+    let at = c.address_of-at.ensures in
+    let bytes = g.M.PhysMem.bytes c.args.memory.now in
+    let pool = c.args.self.now.pool in
+    rw c.write.ensures.after
+    (write_outside bytes c.args.bytes.now pool c.address_of-at.result at.low at.high
+    c.in-Some.ensures.short c.requires.inside)
+
+pub overflow_sub-self : goal.overflow_sub-self
+overflow_sub-self g c =
+    let same = ap (λ (s : Staging). length s.frames) c.self.view_is in
+    some_waits c.in-Some.slot c.self.invariant (rw same c.in-Some.ensures.within)
+    (sym (rw c.if-index.false at c.index.ensures))
+
+pub invariant_of-self : goal.invariant_of-self
+invariant_of-self g c =
+    let same = ap (λ (s : Staging). length s.frames) c.self.view_is in
+    kept_put c.in-Some.slot c.self.invariant (rw same c.in-Some.ensures.within)
+    (sym (rw c.if-index.false at c.index.ensures))
+
+pub returns-then-index-clause-answer : goal.returns-then-index-clause-answer
+returns-then-index-clause-answer g c =
+    let inside = c.self.inside in
+    let stage = c.args.self.now in
+    let found =
+    found_piece (is_piece stage c.args.file c.args.index (length c.args.bytes.now))
+    (slot_in stage c.args.file c.args.index) c.in-Some.slot c.in-Some.ensures.value in
+    let same = ap (λ (s : Staging). length s.frames) c.self.view_is in
+    let flags : length inside.came.items ≡ length inside.frames.items = c.self.invariant.flags in
+    let within : c.in-Some.slot < length inside.came.items =
+    rw (flags, same) c.in-Some.ensures.within in
+    let view = ap (λ (s : Staging). s.came) c.self.view_is in
+    rw (← found.1)
+    (rw (← view)
+    (answer_repeated (is_piece stage c.args.file c.args.index (length c.args.bytes.now))
+    inside.came.items c.in-Some.slot within found.0
+    (rw c.if-index.true at c.index.ensures)))
