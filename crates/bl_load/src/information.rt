@@ -71,26 +71,27 @@ fn modules_at<A: Allocator + Copy, V: ByteView>(
     for (index, module) in modules.iter().enumerate() {
         let line = module.line.as_slice();
         let size = files[index + 1].len();
-        told.push(module_at(alloc, index as u32, line, size, places)?)?;
+        let info = module_at(alloc, index as u32, line, size, places)?;
+        told.push(info)?;
     }
     Ok(told)
 }
 
-/// The information's bytes, with this line and these modules.
-fn spell<A: Allocator + Copy>(
+/// What the information tells, with this line and these modules.
+fn facts_of<A: Allocator + Copy>(
     alloc: A,
     machine: &Machine<A>,
     line: &[u8],
     modules: Vec<ModuleInfo<A>, A>,
     load_base: Option<u32>,
-) -> Result<Bytes<A>, AllocError>
+) -> Result<Facts<A>, AllocError>
     requires sound { line_fault line.now ≡ None }
     requires short { length line.now ≤ 4095 }
     requires modules { All IsModule modules.items }
     requires small { sum_by (λ n. tag_size (n + 9)) (map (λ m. length m.line) modules.items)
         < 2 ^ 20 }
     requires base { IfSome load_base (λ base. base < 2 ^ 32) }
-    ensures { IfOk result (λ bytes. bytes ≡ spelling (codes "bootcore") record {
+    ensures { IfOk result (λ facts. facts ≡ record {
       line = line.now;
       modules = modules.items;
       mem_lower = low_kib machine.now.runs;
@@ -105,9 +106,15 @@ fn spell<A: Allocator + Copy>(
     let mem_upper = machine.high_kib() as u32;
     let line = Bytes::copy(alloc, line)?;
     let runs = Vec::from_slice(alloc, machine.normal())?;
-    let facts = Facts::new(
+    Ok(Facts::new(
         line, modules, mem_lower, mem_upper, runs, None, None, load_base,
-    );
+    ))
+}
+
+/// The information's bytes.
+fn spell<A: Allocator>(alloc: A, facts: Facts<A>) -> Result<Bytes<A>, AllocError>
+    ensures { IfOk result (λ bytes. bytes ≡ spelling (codes "bootcore") facts) }
+{
     let mut out = Vec::new(alloc);
     write_info(&facts, &mut out)?;
     Ok(Bytes::from(out))
@@ -143,5 +150,6 @@ pub fn information<A: Allocator + Copy, V: ByteView>(
     let base = addresses::address_of(Role::Kernel, 0, places);
     let load_base = load_base_of(relocation, base);
     let told = modules_at(alloc, source.modules, source.files, places)?;
-    spell(alloc, source.machine, source.line, told, load_base)
+    let facts = facts_of(alloc, source.machine, source.line, told, load_base)?;
+    spell(alloc, facts)
 }

@@ -51,13 +51,10 @@ fn check_module_lines<A: Allocator>(modules: &[Module<A>]) -> Result<(), Refusal
         (λ _. lines_fault (lines_by modules.now) ≡ None)
         (λ refusal. lines_fault (lines_by modules.now) ≡ Some refusal) }
 {
-    match modules {
-        [] => Ok(()),
-        [module, rest @ ..] => {
-            check_line(module.line.as_slice())?;
-            check_module_lines(rest)
-        }
+    for module in modules {
+        check_line(module.line.as_slice())?;
     }
+    Ok(())
 }
 
 /// Checks the lines of an entry: the kernel's, and then those of its modules.

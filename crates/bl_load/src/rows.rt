@@ -65,10 +65,11 @@ fn tags_size<A: Allocator>(modules: &[Module<A>]) -> u64
     ensures value { result ≡ kept.tags_size (lines_by modules.now) }
     ensures small { result ≤ 4120 * length modules.now }
 {
-    match modules {
-        [] => 0,
-        [module, rest @ ..] => { 8 + (module.line.len() as u64 + 16) / 8 * 8 + tags_size(rest) }
+    let mut size = 0;
+    for module in modules {
+        size += 8 + (module.line.len() as u64 + 16) / 8 * 8;
     }
+    size
 }
 
 /// How many bytes the information takes, by the lengths of the line, of the modules' tags and of

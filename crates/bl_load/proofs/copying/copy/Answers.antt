@@ -4,6 +4,25 @@ use Rattle.bl_mem.specs.Files.{text_at}
 use Rattle.bl_mem.proofs.Overwrites.{copy_more, length-overwrite}
 use Rattle.bl_load.proofs.copying.copy.Goals as goal
 
+pub copy_piece-requires-clause-held : goal.copy_piece-requires-clause-held
+copy_piece-requires-clause-held g c = rw c.loop-done.invariant.size c.requires.held
+
+pub copy_piece-requires-clause-file : goal.copy_piece-requires-clause-file
+copy_piece-requires-clause-file g c = rw c.loop-done.invariant.same c.requires.file
+
+pub copy_piece-requires-clause-room : goal.copy_piece-requires-clause-room
+copy_piece-requires-clause-room g c =
+    let next = c.min-next.result in
+    let size : length (take next c.loop-done.buffer) ≡ next = search (rules, places) in
+    λ a from to.
+    c.loop-done.invariant.kept a (c.requires.room a (omega arith) (omega arith))
+
+pub copy_piece-requires-clause-beside : goal.copy_piece-requires-clause-beside
+copy_piece-requires-clause-beside g c =
+    let next = c.min-next.result in
+    let size : length (take next c.loop-done.buffer) ≡ next = search (rules, places) in
+    λ a from to. c.requires.beside a (omega arith) (omega arith)
+
 pub loop-done-preserved : goal.loop-done-preserved
 loop-done-preserved g c =
     let before = c.loop-done.invariant in

@@ -7,8 +7,8 @@ use Rattle.bl_load.proofs.LineLemmas.{all_short}
 use Rattle.bl_load.proofs.InformationLemmas.{tags_size_is, tags_small}
 use Rattle.bl_load.proofs.information.information.Goals as goal
 
-pub spell-requires-clause-small : goal.spell-requires-clause-small
-spell-requires-clause-small g c =
+pub facts_of-requires-clause-small : goal.facts_of-requires-clause-small
+facts_of-requires-clause-small g c =
     let source = c.args.source.now in
     let modules = source.modules.now in
     let files = texts_in source in

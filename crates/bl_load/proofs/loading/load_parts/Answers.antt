@@ -1,9 +1,31 @@
-use Rattle.std.proofs.Common.{◌∙◌, arith}
+use Rattle.std.proofs.Common.{◌∙◌, arith, refl}
 use Rattle.std.proofs.lemmas.List.{drop_more}
 use Rattle.bl_mem.proofs.Overwrites.{length-overwrite}
 use Rattle.bl_load.specs.PlanFacts.{bytes_by}
 use Rattle.bl_load.proofs.HeldLemmas.{length-bytes_by}
 use Rattle.bl_load.proofs.loading.load_parts.Goals as goal
+
+pub loop-part-init : goal.loop-part-init
+loop-part-init g c = record { size = refl; same = refl; rest = refl; kept = λ a had. had }
+
+pub load_part-requires-clause-held : goal.load_part-requires-clause-held
+load_part-requires-clause-held g c = rw c.loop-part.invariant.size c.requires.held
+
+pub load_part-requires-clause-can : goal.load_part-requires-clause-can
+load_part-requires-clause-can g c =
+    let before = c.loop-part.invariant in
+    let part = c.part-item.result in
+    let can =
+    rw (← c.part-item.is) at
+    (c.requires.can c.loop-part.part-index part c.loop-part-test.true) in
+    rw (before.same, before.size)
+    record {
+      there = can.there;
+      short = can.short;
+      inside = can.inside;
+      writable = λ a from to. before.kept a (can.writable a from to);
+      beside = can.beside;
+    }
 
 pub loop-part-preserved : goal.loop-part-preserved
 loop-part-preserved g c =

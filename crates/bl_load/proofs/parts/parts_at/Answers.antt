@@ -12,6 +12,14 @@ use Rattle.bl_load.specs.Loadable.{lengths_of, IsBacked, StaysInFiles}
 use Rattle.bl_load.specs.SourceKept.{reading_in, texts_in, value_in}
 use Rattle.bl_load.proofs.parts.parts_at.Goals as goal
 
+pub content_at-requires-clause-rowed : goal.content_at-requires-clause-rowed
+content_at-requires-clause-rowed g c =
+    c.requires.rowed c.loop-place.place-index _ c.loop-place-test.true
+
+pub content_at-requires-clause-small : goal.content_at-requires-clause-small
+content_at-requires-clause-small g c =
+    c.requires.small c.loop-place.place-index _ c.loop-place-test.true
+
 pub loop-place-preserved : goal.loop-place-preserved
 loop-place-preserved g c =
     let source = c.args.source.now in

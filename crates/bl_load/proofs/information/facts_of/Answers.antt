@@ -5,10 +5,10 @@ use Rattle.bl_mbi.specs.InformationFacts.{IsText, ModuleInfo}
 use Rattle.bl_mbi.specs.Size.{size_of}
 use Rattle.bl_load.proofs.LineLemmas.{sound_text}
 use Rattle.bl_load.proofs.InformationLemmas.{size_below}
-use Rattle.bl_load.proofs.information.spell.Goals as goal
+use Rattle.bl_load.proofs.information.facts_of.Goals as goal
 
-pub new-facts-requires : goal.new-facts-requires
-new-facts-requires g c =
+pub new-requires : goal.new-requires
+new-requires g c =
     let line = c.in_ok-line.ensures.ok in
     let runs = c.in_ok-runs.ensures.items ∙ c.normal.ensures.runs in
     let facts = c.normal.ensures.facts in
