@@ -96,7 +96,8 @@ fn lengths_of<A: Allocator + Copy>(
 {
     let mut lengths = Vec::new(alloc);
     for (place, file) in files.iter().enumerate() {
-        lengths.push(length_of(place as u32, size_of(sizes, *file))?)?;
+        let length = length_of(place as u32, size_of(sizes, *file))?;
+        lengths.push(length)?;
     }
     Ok(lengths)
 }

@@ -4,7 +4,7 @@ use bl_map::Machine;
 use std::alloc::Allocator;
 
 /// A boot: its machine, its menu, the sizes of the menu's files, and where its lists are allocated.
-#[derive(Clone, Copy)]
+#[derive(Drop)]
 pub struct Boot<'a, A: Allocator + Copy> {
     pub alloc: A,
     pub machine: &'a Machine<A>,

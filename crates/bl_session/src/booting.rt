@@ -35,7 +35,8 @@ fn sizes_of<S: Store, A: Allocator>(
 {
     let mut sizes = Vec::new(alloc);
     for file in 0..count {
-        sizes.push(store.size(file as u32)?)?;
+        let size = store.size(file as u32)?;
+        sizes.push(size)?;
     }
     Ok(sizes)
 }

@@ -1,4 +1,4 @@
-use Rattle.std.proofs.Common.{◌<◌, length, rules}
+use Rattle.std.proofs.Common.{arith, ◌<◌, length, rules}
 use Rattle.bl_session.specs.Menu.{facts_of}
 use Rattle.bl_session.specs.Boot.{unstarted}
 use Rattle.bl_session.specs.Phases.{boot_facts}
@@ -6,6 +6,7 @@ use Rattle.bl_session.specs.PhasesKept.{state_of}
 use Rattle.bl_session.specs.declared.attempting.Attempt.TheVariants.{Waits, HandedOver}
 use Rattle.bl_session.proofs.AdvanceLemmas.{begins_at, begins_later}
 use Rattle.bl_session.proofs.KeptMemoryLemmas.{memory_later}
+use Rattle.std.proofs.lemmas.Grind.{common_steps}
 use Rattle.bl_session.proofs.advancing.+begin.Goals as goal
 
 pub returns-in-Waits-clause-begun : goal.returns-in-Waits-clause-begun
@@ -52,3 +53,6 @@ returns-in_ok-push-in-Refused-clause-memory g t c =
     memory_later c.args.boot.now.machine.now.pool old mid new c.begin.result
     (λ phase. state_of c.args.boot.now.menu.now.attempts new phase)
     (search rules) c.begin.ensures.memory
+
+pub returns-then-next-attempts-clause-begun : goal.returns-then-next-attempts-clause-begun
+returns-then-next-attempts-clause-begun g t c = grind (arith, common_steps)

@@ -1,4 +1,4 @@
-use Rattle.std.proofs.Common.{◌≡◌, refl, sym, subst}
+use Rattle.std.proofs.Common.{arith, ◌≡◌, refl, sym, subst}
 use Rattle.bl_load.specs.Handover.{Handover}
 use Rattle.bl_load.specs.declared.refusal.PrepFault.{PrepFault}
 use Rattle.bl_load.specs.declared.refusal.PrepFault.TheVariants.{Refused}
@@ -9,6 +9,7 @@ use Rattle.bl_session.specs.Finished.{IsNotHandedOver}
 use Rattle.bl_session.specs.Phases.{handover_held}
 use Rattle.bl_session.proofs.AttemptLemmas.{not_whole, ends_by_spots}
 use Rattle.bl_session.proofs.WholeLemmas.{came_whole}
+use Rattle.std.proofs.lemmas.Grind.{common_steps}
 use Rattle.bl_session.proofs.attempting.go_on.Goals as goal
 
 pub returns-then-not-complete-clause-attempt : goal.returns-then-not-complete-clause-attempt
@@ -59,3 +60,6 @@ pub returns-clause-whole : goal.returns-clause-whole
 returns-clause-whole g c =
     came_whole (g.M.PhysMem.bytes c.args.memory.now) c.args.stage c.are_staged.ensures
     (c.if-not-complete.ensures.exact.0 refl)
+
+pub finish-requires-clause-files : goal.finish-requires-clause-files
+finish-requires-clause-files g c = grind (arith, common_steps)

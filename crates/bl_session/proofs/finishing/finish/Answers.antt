@@ -105,3 +105,17 @@ returns-clause-ok g c =
           after_before facts.pool handover.parts old (g.M.PhysMem.bytes c.reserve.new.self)
           (g.M.PhysMem.bytes c.hand_over.new.memory) outside after;
     }
+
+pub returns-clause-kept : goal.returns-clause-kept
+returns-clause-kept g c =
+    λ a h. c.hand_over.ensures.kept a
+    (c.reserve.ensures.kept a (c.evacuate_ranges.ensures.kept a h))
+
+pub returns-in_err-reserve-clause-kept : goal.returns-in_err-reserve-clause-kept
+returns-in_err-reserve-clause-kept g c =
+    λ a h. c.reserve.ensures.kept a (c.evacuate_ranges.ensures.kept a h)
+
+pub hand_over-requires-clause-pool_room : goal.hand_over-requires-clause-pool_room
+hand_over-requires-clause-pool_room g c =
+    λ a low high. c.reserve.ensures.kept a
+    (c.evacuate_ranges.ensures.kept a (c.requires.room a low high))

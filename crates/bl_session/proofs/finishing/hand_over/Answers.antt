@@ -1,10 +1,11 @@
-use Rattle.std.proofs.Common.{◌∙◌, List, length, map, slice_index, ap, sym, refl}
+use Rattle.std.proofs.Common.{arith, ◌∙◌, List, length, map, slice_index, ap, sym, refl}
 use Rattle.bl_load.specs.Handover.{Part, Handover}
 use Rattle.bl_load.specs.PlanFacts.{handover_by}
 use Rattle.bl_load.proofs.HeldLemmas.{all_end_within}
 use Rattle.bl_load.proofs.WrittenLemmas.{written_elsewhere}
 use Rattle.bl_stage.specs.Staged.{texts_of}
 use Rattle.bl_session.proofs.AfterLemmas.{ranges_are, after_scrub, held_on}
+use Rattle.std.proofs.lemmas.Grind.{common_steps}
 use Rattle.bl_session.proofs.finishing.hand_over.Goals as goal
 
 pub returns-clause-held : goal.returns-clause-held
@@ -44,3 +45,6 @@ returns-clause-after g c =
 
 pub returns-clause-kept : goal.returns-clause-kept
 returns-clause-kept g c = λ a had. c.scrub.ensures.kept a (c.load-handoff.ensures.kept a had)
+
+pub scrub-requires-clause-room : goal.scrub-requires-clause-room
+scrub-requires-clause-room g c = grind (arith, common_steps)

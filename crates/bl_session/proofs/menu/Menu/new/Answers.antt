@@ -5,6 +5,7 @@ use Rattle.bl_load.specs.declared.entry.Entry.{Entry}
 use Rattle.bl_session.specs.Attempts.{NameEntries, IsSmall, attempts_of}
 use Rattle.bl_session.proofs.MenuLemmas.{byte_entries, few_entries}
 use Rattle.bl_session.proofs.OnceLemmas.{all_attempts, few_attempts}
+use Rattle.std.proofs.lemmas.Grind.{common_steps}
 use Rattle.bl_session.proofs.menu.Menu.new.Goals as goal
 
 pub invariant_of-result : goal.invariant_of-result
@@ -39,3 +40,21 @@ returns-clause-few g c =
     few_entries c.args.entries.items
     (subst (λ (es : List (Entry g.row.A.Denot)). IsSmall es) c.as_slice-offered.ensures.value
     (c.if-not-is_small.ensures.0 refl)).1
+
+pub returns-then-not-name_entries-clause-first_fault :
+    goal.returns-then-not-name_entries-clause-first_fault
+returns-then-not-name_entries-clause-first_fault g c = grind (arith, common_steps)
+
+pub returns-in_err-attempts-clause-first_fault : goal.returns-in_err-attempts-clause-first_fault
+returns-in_err-attempts-clause-first_fault g c = grind (arith, common_steps)
+
+pub returns-clause-allowed : goal.returns-clause-allowed
+returns-clause-allowed g c =
+    let entries = c.args.entries.items in
+    let same = c.as_slice-offered.ensures.value in (
+      subst (λ (es : List (Entry g.row.A.Denot)). IsSmall es) same
+          (c.if-not-is_small.ensures.0 refl),
+      subst (λ (es : List (Entry g.row.A.Denot)).
+          NameEntries (length es) c.args.default c.args.fallbacks.now) same
+          (c.if-not-name_entries.ensures.0 refl),
+    )
