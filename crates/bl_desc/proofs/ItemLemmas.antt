@@ -33,17 +33,27 @@ front_grows : {Y : Type 0} (front : List Y) (y : Y) (rest : Option (List Y))
 front_grows front y None = refl
 front_grows front y (Some ys) = rw append_assoc
 
--- the same of what the code has kept, where `seen` is what an item is seen as
+-- the same of what the code has kept
+pub one_read : {Y : Type 0} (read : Data → Option Y) (vs : List Value) (i : ℕ) (v : Value)
+    (front after : List Y) (y : Y)
+    → i < length vs → v ≡ get_or vs i v → read (view v) ≡ Some y → after ≡ front ++ y ∷ []
+    → with_front after (each_item read (items_view (drop (i + 1) vs)))
+    ≡ with_front front (each_item read (items_view (drop i vs)))
+one_read read vs i v front after y within at_i here same =
+    let rest = items_view (drop (i + 1) vs) in
+    let there : items_view (drop i vs) ≡ item (view v) rest =
+    items_view-drop vs i v within ∙ ap (λ (w : Value). item (view w) rest) (sym at_i) in
+    rw (same, there, here) (front_grows front y (each_item read rest))
+
+-- the same, where `seen` is what an item is seen as
 pub one_more : {X Y : Type 0} (seen : X → Y) (read : Data → Option Y) (vs : List Value) (i : ℕ)
     (v : Value) (front after : List X) (x : X)
     → i < length vs → v ≡ get_or vs i v → read (view v) ≡ Some (seen x) → after ≡ front ++ x ∷ []
     → with_front (map seen after) (each_item read (items_view (drop (i + 1) vs)))
     ≡ with_front (map seen front) (each_item read (items_view (drop i vs)))
 one_more seen read vs i v front after x within at_i here same =
-    let rest = items_view (drop (i + 1) vs) in
-    let there : items_view (drop i vs) ≡ item (view v) rest =
-    items_view-drop vs i v within ∙ ap (λ (w : Value). item (view w) rest) (sym at_i) in
-    rw (same, map-append, there, here) (front_grows (map seen front) (seen x) (each_item read rest))
+    let longer : map seen after ≡ map seen front ++ seen x ∷ [] = rw (same, map-append) refl in
+    one_read read vs i v (map seen front) (map seen after) (seen x) within at_i here longer
 
 -- after the last item all is read
 pub all_read : {Y : Type 0} (read : Data → Option Y) (vs : List Value) (i : ℕ) (front : List Y)

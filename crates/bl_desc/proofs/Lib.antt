@@ -1,3 +1,4 @@
 pub mod ItemLemmas
+pub mod FileLemmas
 pub mod KeyLemmas
 pub mod DescribedLemmas

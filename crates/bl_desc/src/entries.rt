@@ -4,15 +4,16 @@ ghost use Rattle.toml.specs.View.{view, table_view, items_view};
 ghost use Rattle.bl_desc.specs.Values as values;
 ghost use Rattle.bl_desc.specs.Entries as spec;
 ghost use Rattle.bl_plan.specs.Limits.{most_entries};
-ghost use Rattle.bl_desc.specs.Views.{Gives, entry_view};
+ghost use Rattle.bl_desc.specs.Views.{Gives, entry_view, form_view};
 
 use crate::desc::EntryRow;
 use crate::fault::DescFault;
+use crate::form::EntryForm;
 use crate::keys::{at_key, text_at, text_or_empty};
 use crate::protocols::{form_in, has_keys, protocol_in};
 use crate::text::Text;
 use bl_plan::{MOST_ENTRIES, Protocol};
-use std::alloc::Allocator;
+use std::alloc::{AllocError, Allocator};
 use toml::{Table, Value};
 
 /// Whether each byte of a text is printable ASCII.
@@ -43,6 +44,32 @@ fn title_in(table: &Table) -> Result<&str, DescFault>
     Ok(title)
 }
 
+/// An entry with texts of its own.
+fn entry_with<A: Allocator + Copy>(
+    alloc: A,
+    title: &str,
+    kernel: &str,
+    line: &str,
+    form: EntryForm<A>,
+) -> Result<EntryRow<A>, AllocError>
+    ensures { IfOk result (λ entry. entry_view entry ≡ record {
+      title = title.now;
+      kernel = kernel.now;
+      line = line.now;
+      form = form_view form;
+    }) }
+{
+    let title = Text::from_str(alloc, title)?;
+    let kernel = Text::from_str(alloc, kernel)?;
+    let line = Text::from_str(alloc, line)?;
+    Ok(EntryRow {
+        title,
+        kernel,
+        line,
+        form,
+    })
+}
+
 #[tactic(auto, unfolding(crate::specs::Entries::entry_by))]
 fn entry_by<A: Allocator + Copy>(
     alloc: A,
@@ -58,12 +85,7 @@ fn entry_by<A: Allocator + Copy>(
     let kernel = text_at(table, "kernel")?;
     let line = text_or_empty(table, "line")?;
     let form = form_in(alloc, table, protocol)?;
-    Ok(EntryRow {
-        title: Text::from(String::from_str(alloc, title)?),
-        kernel: Text::from(String::from_str(alloc, kernel)?),
-        line: Text::from(String::from_str(alloc, line)?),
-        form,
-    })
+    Ok(entry_with(alloc, title, kernel, line, form)?)
 }
 
 #[tactic(auto, unfolding(crate::specs::Entries::entry_in))]

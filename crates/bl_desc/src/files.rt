@@ -34,7 +34,7 @@ fn file_in<A: Allocator + Copy>(alloc: A, table: &Table) -> Result<FileRow<A>, D
     let name = text_at(table, "name")?;
     let bytes = hex_in(alloc, table)?;
     Ok(FileRow {
-        name: Text::from(String::from_str(alloc, name)?),
+        name: Text::from_str(alloc, name)?,
         bytes,
     })
 }

@@ -23,8 +23,8 @@ fn module_in<A: Allocator + Copy>(alloc: A, table: &Table) -> Result<ModuleRow<A
     let file = text_at(table, "file")?;
     let line = text_or_empty(table, "line")?;
     Ok(ModuleRow {
-        file: Text::from(String::from_str(alloc, file)?),
-        line: Text::from(String::from_str(alloc, line)?),
+        file: Text::from_str(alloc, file)?,
+        line: Text::from_str(alloc, line)?,
     })
 }
 

@@ -61,7 +61,7 @@ fn own_text<A: Allocator>(alloc: A, text: Option<&str>) -> Result<Option<Text<A>
     ensures { IfOk result (λ own. own ≡ option_map (λ s. s.now) text.entry) }
 {
     match text {
-        Some(text) => Ok(Some(Text::from(String::from_str(alloc, text)?))),
+        Some(text) => Ok(Some(Text::from_str(alloc, text)?)),
         None => Ok(None),
     }
 }

@@ -1,7 +1,7 @@
 //! Text of one's own.
-ghost use Rattle.std.specs.Prelude.{◌≡◌, ℕ, List, string_bytes};
+ghost use Rattle.std.specs.Prelude.{◌≡◌, ℕ, List, string_bytes, IfOk};
 
-use std::alloc::Allocator;
+use std::alloc::{AllocError, Allocator};
 use std::marker::Model;
 
 /// Text of one's own, which contracts see as the list of its bytes. It is made from a `String`, and
@@ -18,6 +18,14 @@ impl<A: Allocator> Model for Text<A> {
 }
 
 impl<A: Allocator> Text<A> {
+    /// A copy of a text.
+    pub fn from_str(alloc: A, text: &str) -> Result<Text<A>, AllocError>
+        ensures { IfOk result (λ own. own ≡ text.now) }
+    {
+        let held = String::from_str(alloc, text)?;
+        Ok(Text { held })
+    }
+
     /// The text.
     pub fn as_str(&self) -> &str
         ensures { result.now ≡ self.now }

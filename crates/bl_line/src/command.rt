@@ -3,7 +3,7 @@
 ghost use Rattle.std.specs.Prelude.{◌≡◌, true, false, IfOk};
 ghost use Rattle.clap.specs.Words.{app_of, new_app, new_rule, rule_of, with_rule, with_subcommand};
 ghost use Rattle.clap.specs.declared.builder.command.Command.TheViews.{out-Command as fields_of};
-ghost use Rattle.bl_line.specs.Lines.{WithOrders, boot_app, map_app, walk_app, top_app, line_app};
+ghost use Rattle.bl_line.specs.Lines.{WithOrders, boot_app, top_app, line_app};
 ghost use Rattle.bl_line.specs.Lines.{out_rule, order_rule};
 
 use clap::{Arg, Command};
@@ -55,20 +55,6 @@ fn boot_command<'a>(global: Global) -> Result<Command<'a>, AllocError>
         .arg(order_arg(global))
 }
 
-fn map_command<'a>(global: Global) -> Result<Command<'a>, AllocError>
-    ensures local { IfOk result (λ c. (fields_of c).has_globals ≡ false) }
-    ensures app { IfOk result (λ c. app_of c ≡ map_app) }
-{
-    command_of(global, "map", "desc")
-}
-
-fn walk_command<'a>(global: Global) -> Result<Command<'a>, AllocError>
-    ensures local { IfOk result (λ c. (fields_of c).has_globals ≡ false) }
-    ensures app { IfOk result (λ c. app_of c ≡ walk_app) }
-{
-    command_of(global, "walk", "image")
-}
-
 /// The program's command, before it has subcommands.
 fn top_command<'a>(global: Global) -> Command<'a>
     ensures { app_of result ≡ top_app }
@@ -78,30 +64,33 @@ fn top_command<'a>(global: Global) -> Command<'a>
         .disable_help_subcommand(true)
 }
 
-fn with_boot<'a>(global: Global, top: Command<'a>) -> Result<Command<'a>, AllocError>
+/// The program's command, with its first subcommand.
+fn with_boot<'a>(global: Global) -> Result<Command<'a>, AllocError>
     ensures { IfOk result (λ c. WithOrders (λ parser.
-        app_of c ≡ with_subcommand (app_of top.entry) (boot_app parser).top)) }
+        app_of c ≡ with_subcommand top_app (boot_app parser).top)) }
 {
-    top.subcommand(boot_command(global)?)
+    let boot = boot_command(global)?;
+    top_command(global).subcommand(boot)
 }
 
-fn with_map<'a>(global: Global, top: Command<'a>) -> Result<Command<'a>, AllocError>
-    ensures { IfOk result (λ c. app_of c ≡ with_subcommand (app_of top.entry) map_app.top) }
+/// A command, with a subcommand of this name that has one argument, which must be given.
+fn with_file<'a>(
+    global: Global,
+    top: Command<'a>,
+    name: &'a str,
+    id: &'a str,
+) -> Result<Command<'a>, AllocError>
+    ensures { IfOk result (λ c. app_of c ≡ with_subcommand (app_of top.entry) (with_rule
+        (new_app name.entry.now) (record (new_rule id.entry.now) { required = true })).top) }
 {
-    top.subcommand(map_command(global)?)
-}
-
-fn with_walk<'a>(global: Global, top: Command<'a>) -> Result<Command<'a>, AllocError>
-    ensures { IfOk result (λ c. app_of c ≡ with_subcommand (app_of top.entry) walk_app.top) }
-{
-    top.subcommand(walk_command(global)?)
+    top.subcommand(command_of(global, name, id)?)
 }
 
 /// The program's command, with its subcommands.
 pub fn line_command<'a>(global: Global) -> Result<Command<'a>, AllocError>
     ensures { IfOk result (λ c. WithOrders (λ parser. app_of c ≡ line_app parser)) }
 {
-    let top = with_boot(global, top_command(global))?;
-    let top = with_map(global, top)?;
-    with_walk(global, top)
+    let top = with_boot(global)?;
+    let top = with_file(global, top, "map", "desc")?;
+    with_file(global, top, "walk", "image")
 }
