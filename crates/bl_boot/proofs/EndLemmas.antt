@@ -1,6 +1,6 @@
 -- How boots end.
-use Rattle.std.proofs.Common.{◌≡◌, ◌∙◌, ◌++◌, ℕ, List, [], Some, Result, Ok, Err, All}
-use Rattle.std.proofs.Common.{IsSome, map, refl, sym, subst}
+use Rattle.std.proofs.Common.{◌≡◌, ◌∙◌, ◌+◌, ◌≤◌, ◌++◌, ℕ, List, [], Some, Result, Ok, Err, All}
+use Rattle.std.proofs.Common.{IsSome, map, refl, sym, subst, arith}
 use Rattle.std.proofs.lemmas.List.{append-nil}
 use Rattle.std.proofs.lemmas.Option.{same_Some}
 use Rattle.bl_map.specs.MachineFacts.{MachineFacts}
@@ -60,6 +60,10 @@ pub all_asked : (names before after : List (List ℕ)) → after ≡ before ++ n
     → AsksFirst names before after
 all_asked names before after is =
     record { first = names; left = []; names_are = sym (append-nil names); after_is = is }
+
+-- no name was missing, of so many
+pub none_missing : (faults names : ℕ) → (faults ≤ faults) × (faults ≤ faults + names)
+none_missing faults names = (omega arith, omega arith)
 
 -- none is, if there is no machine
 pub asked_without : (description : Described) (names before : List (List ℕ)) (fault : EndFault)

@@ -8,4 +8,5 @@ pub mod EndLaws
 pub mod RunLemmas
 pub mod ReadLemmas
 pub mod ModuleLemmas
+pub mod SaidLemmas
 pub mod ShownLaws

@@ -1,18 +1,19 @@
 -- The names that are looked for.
-use Rattle.std.proofs.Common.{◌≡◌, ◌∙◌, ◌*◌, ◌≤◌, ℕ, zero, suc, List, [], ◌∷◌, ◌++◌, Bor, Bool}
-use Rattle.std.proofs.Common.{true, false, Result, Ok, Err, IfOk, None, Some, if◌then◌else◌}
-use Rattle.std.proofs.Common.{length, map, get_or, ap, sym, refl, arith, append_assoc}
+use Rattle.std.proofs.Common.{◌≡◌, ◌∙◌, ◌+◌, ◌*◌, ◌<◌, ◌≤◌, ℕ, zero, suc, List, [], ◌∷◌, ◌++◌, Bor}
+use Rattle.std.proofs.Common.{Bool, true, false, Result, Ok, Err, IfOk, None, Some, if◌then◌else◌}
+use Rattle.std.proofs.Common.{length, map, drop, get_or, ap, sym, refl, arith, append_assoc}
 use Rattle.std.specs.Str.{bytes_eq}
 use Rattle.std.specs.List.{list_any}
 use Rattle.std.specs.List.{flat_map}
-use Rattle.std.proofs.lemmas.List.{map-append, length-append, length-map}
+use Rattle.std.proofs.lemmas.List.{map-append, length-append, length-map, at_drop_more, at_drop_all}
 use Rattle.bl_session.specs.Attempts.{attempts_of}
 use Rattle.bl_session.proofs.OnceLemmas.{few_attempts}
 use Rattle.bl_desc.specs.declared.desc.Description.{Description}
 use Rattle.bl_desc.specs.declared.desc.EntryRow.{EntryRow}
 use Rattle.bl_desc.specs.declared.form.EntryForm.{EntryForm}
 use Rattle.bl_desc.specs.declared.form.EntryForm.TheVariants.{Multiboot2, Linux}
-use Rattle.bl_desc.specs.Views.{HasMenu, entry_view, form_view, view}
+use Rattle.bl_desc.specs.declared.form.ModuleRow.{ModuleRow}
+use Rattle.bl_desc.specs.Views.{HasMenu, entry_view, form_view, module_view, view}
 use Rattle.bl_session.specs.Attempts.{once_by}
 use Rattle.bl_boot.specs.Attempted.{entry_of, file_names, names_beside, names_in}
 use Rattle.bl_boot.specs.Attempted.{no_entry}
@@ -39,6 +40,41 @@ pub name_there : (names : List (Bor (List ℕ))) (name : Bor (List ℕ)) (rest :
     → list_any (λ n. bytes_eq n.now name.now) names ≡ true
     → names_with (texts names) rest ≡ names_with (texts names) (name.now ∷ rest)
 name_there names name rest is = rw (any_text names name.now, is) refl
+
+-- ---- the names of modules' files
+
+abbrev files_of : {A : Type 0} → List (ModuleRow A) → List (List ℕ)
+files_of modules = map (λ m. m.file) (map module_view modules)
+
+-- one more is added, where `name` is that of its file
+pub one_more_module : {A : Type 0} (start before after : List (List ℕ))
+    (modules : List (ModuleRow A)) (i : ℕ) (m : ModuleRow A) (name : List ℕ)
+    → i < length modules → m ≡ get_or modules i m → name ≡ m.file
+    → ((rest : List (List ℕ)) → names_with after rest ≡ names_with before (name ∷ rest))
+    → ((rest : List (List ℕ)) → names_with before (files_of (drop i modules) ++ rest)
+    ≡ names_with start (files_of modules ++ rest))
+    → (rest : List (List ℕ)) → names_with after (files_of (drop (i + 1) modules) ++ rest)
+    ≡ names_with start (files_of modules ++ rest)
+one_more_module start before after modules i m name within at_i named added so_far rest =
+    let left = files_of (drop (i + 1) modules) in
+    let here : files_of (drop i modules) ≡ name ∷ left =
+    at_drop_more files_of modules i m within
+    ∙ ap (λ (x : ModuleRow _). x.file ∷ left) (sym at_i)
+    ∙ ap (λ (n : List ℕ). n ∷ left) (sym named) in
+    added (left ++ rest)
+    ∙ ap (λ (files : List (List ℕ)). names_with before (files ++ rest)) (sym here)
+    ∙ so_far rest
+
+-- after the last one all are
+pub all_modules : {A : Type 0} (start after : List (List ℕ)) (modules : List (ModuleRow A)) (i : ℕ)
+    → length modules ≤ i
+    → ((rest : List (List ℕ)) → names_with after (files_of (drop i modules) ++ rest)
+    ≡ names_with start (files_of modules ++ rest))
+    → (rest : List (List ℕ)) → names_with after rest ≡ names_with start (files_of modules ++ rest)
+all_modules start after modules i past so_far rest =
+    ap (λ (files : List (List ℕ)). names_with after (files ++ rest))
+    (sym (at_drop_all files_of modules i past))
+    ∙ so_far rest
 
 -- ---- how many
 

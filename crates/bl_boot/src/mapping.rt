@@ -20,15 +20,14 @@ fn run_map<A: Allocator + Copy, B: Allocator>(
 {
     let description = read_description(alloc, global, desc)?;
     let machine = machine_of(alloc, &description)?;
-    let mut lines = Vec::new(alloc);
     say_map(
-        &mut lines,
+        alloc,
         machine.normal(),
         machine.low_kib(),
         machine.high_kib(),
         &machine.pool(),
+        say,
     )?;
-    say.extend_from_slice(&lines)?;
     Ok(())
 }
 

@@ -24,9 +24,7 @@ fn run_walk<A: Allocator + Copy, R: Source, B: Allocator>(
 {
     let image = read_image(alloc, image)?;
     let seen = walk(alloc, &image)?;
-    let mut lines = Vec::new(alloc);
-    say_walk(&mut lines, &seen)?;
-    say.extend_from_slice(&lines)?;
+    say_walk(alloc, &seen, say)?;
     Ok(())
 }
 

@@ -58,20 +58,21 @@ fn say_pool<A: Allocator + Copy>(out: &mut Vec<u8, A>, pool: &Range<u64>) -> Res
 }
 
 /// Appends the lines of a map: its runs, how many KiB are usable from 0 and from 1 MiB on, and the
-/// pool. An error leaves the text as it was.
-pub fn say_map<A: Allocator + Copy>(
-    out: &mut Vec<u8, A>,
+/// pool. They are formed in `alloc` first, so that an error leaves the text as it was.
+pub fn say_map<A: Allocator + Copy, B: Allocator>(
+    alloc: A,
     runs: &[Region],
     low: u64,
     high: u64,
     pool: &Range<u64>,
+    out: &mut Vec<u8, B>,
 ) -> Result<(), AllocError>
     requires { All (λ run. run.base + run.length < 2 ^ 64) runs.now }
     ensures ok { OnOk result
         (out.new.items ≡ out.old.items ++ says.map_lines runs.now low high pool.now) }
     ensures err { OnErr result (out.new.items ≡ out.old.items) }
 {
-    let mut lines = Vec::new(*out.allocator());
+    let mut lines = Vec::new(alloc);
     say_runs(&mut lines, runs)?;
     say_low(&mut lines, low)?;
     say_high(&mut lines, high)?;

@@ -142,16 +142,18 @@ fn say_initrd<A: Allocator + Copy, B: Allocator>(
 }
 
 /// Appends the lines of what a kernel sees: its protocol, where it is entered, its line, its parts,
-/// the modules, the initial ramdisk, the memory map. An error leaves the text as it was.
-pub fn say_walk<A: Allocator + Copy, B: Allocator>(
-    out: &mut Vec<u8, A>,
+/// the modules, the initial ramdisk, the memory map. They are formed in `alloc` first, so that an
+/// error leaves the text as it was.
+pub fn say_walk<A: Allocator + Copy, B: Allocator, C: Allocator>(
+    alloc: A,
     seen: &Seen<B>,
+    out: &mut Vec<u8, C>,
 ) -> Result<(), AllocError>
     requires { RunsEndLow seen.now }
     ensures ok { OnOk result (out.new.items ≡ out.old.items ++ says.walk_lines seen.now) }
     ensures err { OnErr result (out.new.items ≡ out.old.items) }
 {
-    let mut lines = Vec::new(*out.allocator());
+    let mut lines = Vec::new(alloc);
     say_protocol(&mut lines, seen.protocol)?;
     say_entry(&mut lines, seen.entry)?;
     say_line(&mut lines, seen.line.as_slice())?;

@@ -1,5 +1,5 @@
 use Rattle.std.proofs.Common.{◌∙◌, ◌+◌, arith, map, get_or, take, IsSome}
-use Rattle.std.proofs.lemmas.List.{map-append}
+use Rattle.std.proofs.lemmas.List.{map-append, take_all}
 use Rattle.bl_desc.specs.Described.{file_named}
 use Rattle.bl_desc.specs.Views.{view}
 use Rattle.bl_session.specs.Stores.{file_of}
@@ -86,3 +86,40 @@ pub returns-in_err-push-clause-same : goal.returns-in_err-push-clause-same
 returns-in_err-push-clause-same g c =
     λ file answer told.
     c.loop-name.invariant.same file answer (c.in_ok-answer.ensures.same file answer told)
+
+pub returns-clause-found : goal.returns-clause-found
+returns-clause-found g c =
+    rw (take_all c.loop-name.name-index c.args.names.now c.loop-name-test.false)
+    at c.loop-name.invariant.found
+
+pub returns-clause-asked : goal.returns-clause-asked
+returns-clause-asked g c =
+    rw (take_all c.loop-name.name-index c.args.names.now c.loop-name-test.false)
+    at c.loop-name.invariant.asked
+
+pub returns-clause-inline : goal.returns-clause-inline
+returns-clause-inline g c = c.loop-name.invariant.inline
+
+pub returns-clause-same : goal.returns-clause-same
+returns-clause-same g c = c.loop-name.invariant.same
+
+pub returns-clause-missing : goal.returns-clause-missing
+returns-clause-missing g c =
+    let so_far = c.loop-name.invariant in
+    (so_far.least, omega (arith, so_far.most, c.loop-name.auto.name-index-end))
+
+pub returns-in_err-answer-clause-missing : goal.returns-in_err-answer-clause-missing
+returns-in_err-answer-clause-missing g c =
+    let so_far = c.loop-name.invariant in
+    let missing = c.in_err-answer.ensures.missing in (
+      omega (arith, so_far.least, missing.0),
+      omega (arith, so_far.most, missing.1, c.loop-name-test.true),
+    )
+
+pub returns-in_err-push-clause-missing : goal.returns-in_err-push-clause-missing
+returns-in_err-push-clause-missing g c =
+    let so_far = c.loop-name.invariant in
+    let missing = c.in_ok-answer.ensures.missing in (
+      omega (arith, so_far.least, missing.0),
+      omega (arith, so_far.most, missing.1, c.loop-name-test.true),
+    )

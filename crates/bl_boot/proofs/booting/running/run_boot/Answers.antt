@@ -1,15 +1,15 @@
-use Rattle.std.proofs.Common.{◌≡◌, ◌∙◌, All, length, map, ap, arith, subst}
+use Rattle.std.proofs.Common.{◌≡◌, ◌∙◌, All, length, map, refl, ap, arith, subst}
 use Rattle.std.proofs.lemmas.Result.{err_from_is_err_and}
 use Rattle.bl_load.specs.ByteLines.{HasByteLines}
 use Rattle.bl_session.specs.Menu.{MenuFacts}
 use Rattle.bl_desc.specs.Described.{described}
-use Rattle.bl_boot.specs.Ends.{names_fetched}
+use Rattle.bl_boot.specs.Ends.{names_fetched, names_sought}
 use Rattle.bl_session.specs.Stores.{file_of}
 use Rattle.bl_desc.specs.Views.{view}
 use Rattle.bl_session.proofs.MenuLemmas.{byte_values}
-use Rattle.bl_boot.specs.Attempted.{boot_of, names_in}
+use Rattle.bl_boot.specs.Attempted.{boot_of, most_names, names_in}
 use Rattle.bl_boot.proofs.EndLemmas.{inline_in, sought, fetched, ends_by, asked_by, asked_without}
-use Rattle.bl_boot.proofs.EndLemmas.{none_asked}
+use Rattle.bl_boot.proofs.EndLemmas.{none_asked, none_missing}
 use Rattle.bl_boot.proofs.NameLemmas.{as_many}
 use Rattle.bl_boot.proofs.booting.running.run_boot.Goals as goal
 
@@ -88,12 +88,59 @@ returns-in_err-machine-clause-asked g c =
     (names_fetched (described c.args.desc.now)) (g.F.Files.asked c.args.files.now) _
     c.in_err-machine.ensures.fault)
 
-pub returns-in_err-menu-clause-asked : goal.returns-in_err-menu-clause-asked
-returns-in_err-menu-clause-asked g c =
+pub returns-in_err-names : goal.returns-in_err-names
+returns-in_err-names g c =
     let p =
-    err_from_is_err_and c.from_residual-in_err-menu.result c.from_residual-in_err-menu.ensures.1 in
+    err_from_is_err_and c.from_residual-in_err-names.result
+    c.from_residual-in_err-names.ensures.1 in
     rw (p.1, p.2)
-    (none_asked (names_fetched (described c.args.desc.now)) (g.F.Files.asked c.args.files.now))
+    (record {
+      ends = (refl, refl);
+      faults = refl;
+      asked = none_asked (names_fetched (described c.args.desc.now))
+          (g.F.Files.asked c.args.files.now);
+      inline = λ _. refl;
+      same_files = λ file answer told. told;
+      missing = none_missing (g.F.Files.faults c.args.files.now)
+          (length (names_sought (described c.args.desc.now)));
+      few = (none_missing (g.F.Files.faults c.args.files.now) most_names).1;
+    })
+
+pub returns-in_err-menu : goal.returns-in_err-menu
+returns-in_err-menu g c =
+    let p =
+    err_from_is_err_and c.from_residual-in_err-menu.result
+    c.from_residual-in_err-menu.ensures.1 in
+    rw (p.1, p.2)
+    (record {
+      ends = (refl, refl);
+      faults = refl;
+      asked = none_asked (names_fetched (described c.args.desc.now))
+          (g.F.Files.asked c.args.files.now);
+      inline = λ _. refl;
+      same_files = λ file answer told. told;
+      missing = none_missing (g.F.Files.faults c.args.files.now)
+          (length (names_sought (described c.args.desc.now)));
+      few = (none_missing (g.F.Files.faults c.args.files.now) most_names).1;
+    })
+
+pub returns-in_err-memory : goal.returns-in_err-memory
+returns-in_err-memory g c =
+    let p =
+    err_from_is_err_and c.from_residual-in_err-memory.result
+    c.from_residual-in_err-memory.ensures.1 in
+    rw (p.1, p.2)
+    (record {
+      ends = (refl, refl);
+      faults = refl;
+      asked = none_asked (names_fetched (described c.args.desc.now))
+          (g.F.Files.asked c.args.files.now);
+      inline = λ _. refl;
+      same_files = λ file answer told. told;
+      missing = none_missing (g.F.Files.faults c.args.files.now)
+          (length (names_sought (described c.args.desc.now)));
+      few = (none_missing (g.F.Files.faults c.args.files.now) most_names).1;
+    })
 
 pub returns-in_err-found-clause-asked : goal.returns-in_err-found-clause-asked
 returns-in_err-found-clause-asked g c =
