@@ -5,8 +5,10 @@
 //! is the input and the wanted output at once. The language of rows stands in README.md.
 #![tactic(auto)]
 
-use bl_row_boots::calls::AllCalls;
+mod calls;
+
 use bl_rows::session::Session;
+use calls::AllCalls;
 use std::io;
 use std::io::{BufRead, BufReader, BufWriter, Write};
 

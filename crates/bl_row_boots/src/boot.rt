@@ -6,9 +6,11 @@ use crate::beside::{Beside, read_beside};
 use crate::long_files::LongFiles;
 use bl_boot::{Fetched, Files, boot, map_to};
 use bl_image::{MemSink, Sink};
+use bl_row_parts::image::say_taken;
 use bl_rows::row::Row;
 use bl_rows::runs::Runs;
 use std::alloc::{AllocError, Global};
+use std::ops::Range;
 
 /// What was said, in quotes.
 pub fn say_said(row: &mut Row<'_>, before: &str, said: &[u8]) {
@@ -79,31 +81,28 @@ pub fn answer_boot(row: &mut Row<'_>) {
     }
 }
 
-/// Boots the description over the heap for sinks of each limit, and says whether each took the
-/// image's first bytes, as many as it has room for.
+/// Boots into sinks of each limit, and says whether each took the image's first bytes, as many as
+/// it has room for.
+fn boot_each(row: &mut Row<'_>, beside: &Beside, limits: Range<u64>) -> Option<Runs> {
+    let ample = boot_beside(row, beside, beside.limit)?;
+    let _text = row.take_text();
+    let mut runs = Runs::new(row.alloc, true);
+    for limit in limits {
+        let out = boot_beside(row, beside, limit)?;
+        say_taken(row, ample.contents(), out.contents(), limit);
+        runs.add(limit, row.take_text());
+    }
+    Some(runs)
+}
+
+/// Boots the description over the heap for sinks of each limit.
 pub fn answer_boots(row: &mut Row<'_>) {
     let limits = row.field("limits");
     let limits = row.range_of(limits);
     let beside = read_beside(row);
-    let Some(ample) = boot_beside(row, &beside, beside.limit) else {
-        return;
-    };
-    let _text = row.take_text();
-    let whole = ample.contents();
-    let mut runs = Runs::new(row.alloc, true);
-    for limit in limits {
-        let Some(out) = boot_beside(row, &beside, limit) else {
-            return;
-        };
-        let count = whole.len().min(limit as usize);
-        row.say(if out.contents() == &whole[..count] {
-            ", its first bytes"
-        } else {
-            ", other bytes"
-        });
-        runs.add(limit, row.take_text());
+    if let Some(runs) = boot_each(row, &beside, limits) {
+        row.say_runs(runs);
     }
-    row.say_runs(runs);
 }
 
 /// Says the description's map over the heap.

@@ -1,4 +1,4 @@
-//! Rows on whole boots and walks; and all calls together. For tests alone.
+//! Rows on whole boots and walks. For tests alone.
 #![tactic(auto)]
 
 mod beside;

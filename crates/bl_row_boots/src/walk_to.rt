@@ -8,21 +8,29 @@ use bl_row_parts::source::{SourceFields, read_source};
 use bl_rows::row::Row;
 use bl_rows::runs::Runs;
 
-/// What is said of an image after what was said before, and what is blamed.
-fn say_walked(row: &mut Row<'_>, said: &[u8], blamed: &[u8], fields: SourceFields) {
-    let heap = row.heap;
-    let mut source = fields.source(row);
-    let (Ok(mut said), Ok(mut blamed)) = (said.to_vec(heap), blamed.to_vec(heap)) else {
-        return row.say("no memory");
-    };
-    let status = walk_to(heap, &mut source, &mut said, &mut blamed);
+fn say_end(row: &mut Row<'_>, status: u8, said: &[u8], blamed: &[u8], faults: u64) {
     row.say_decimal("status ", status as u64);
-    say_said(row, ", said ", said.as_slice());
-    say_said(row, ", blamed ", blamed.as_slice());
-    row.say_number(", faults ", source.faults());
+    say_said(row, ", said ", said);
+    say_said(row, ", blamed ", blamed);
+    row.say_number(", faults ", faults);
     if status == 4 {
         row.say(", no memory");
     }
+}
+
+/// What is said of an image after what was said before, and what is blamed.
+fn say_walked(row: &mut Row<'_>, said: &[u8], blamed: &[u8], fields: SourceFields) {
+    let heap = row.heap;
+    let Ok(mut said) = said.to_vec(heap) else {
+        return row.say("no memory");
+    };
+    let Ok(mut blamed) = blamed.to_vec(heap) else {
+        return row.say("no memory");
+    };
+    let mut source = fields.source(row);
+    let status = walk_to(heap, &mut source, &mut said, &mut blamed);
+    let faults = source.faults();
+    say_end(row, status, said.as_slice(), blamed.as_slice(), faults);
 }
 
 /// Says the walk of an image over the heap.

@@ -10,4 +10,5 @@ pub mod menu;
 mod rig;
 pub mod run;
 pub mod steps;
+mod store_fields;
 mod sum;

@@ -1,22 +1,22 @@
-//! The calls on an entry, by their names. Every other call is one of bl_rows.
+//! The calls on an entry and on menus, by their names.
 
 use crate::attempts::{menu, run, steps};
 use crate::{
     describe, handoff, image, line, read_image, read_info, refusal, sink, walk, write_info,
 };
-use bl_rows::calls;
 use bl_rows::row::Row;
 
 /// Whether the words after this name are bytes, and nothing else.
 pub fn takes_bytes(name: &str) -> bool {
     match name {
         "describe" | "read_info" | "read_image" | "image_fault" | "walk" => true,
-        _ => calls::takes_bytes(name),
+        _ => false,
     }
 }
 
-/// Makes a call of this name, whose words are left in the row.
-pub fn make_plain(row: &mut Row<'_>, name: &str) {
+/// Makes a call of this name, whose words are left in the row, if it is one of these; and answers
+/// whether it is.
+pub fn make_plain(row: &mut Row<'_>, name: &str) -> bool {
     match name {
         "refusal" => refusal::answer(row),
         "sink" => sink::answer(row),
@@ -24,12 +24,14 @@ pub fn make_plain(row: &mut Row<'_>, name: &str) {
         "menu" => menu::answer(row),
         "run" => run::answer(row),
         "session" => steps::answer(row),
-        _ => calls::make_plain(row, name),
+        _ => return false,
     }
+    true
 }
 
-/// Makes a call of this name over the row's bytes.
-pub fn make_over(row: &mut Row<'_>, name: &str) {
+/// Makes a call of this name over the row's bytes, if it is one of these; and answers whether it
+/// is.
+pub fn make_over(row: &mut Row<'_>, name: &str) -> bool {
     match name {
         "read_info" => read_info::answer(row),
         "write_info" => write_info::answer(row),
@@ -44,6 +46,7 @@ pub fn make_over(row: &mut Row<'_>, name: &str) {
         "walk" => walk::answer(row),
         "describe" => describe::answer(row),
         "named" => describe::answer_named(row),
-        _ => calls::make_over(row, name),
+        _ => return false,
     }
+    true
 }

@@ -65,14 +65,17 @@ pub fn answer(row: &mut Row<'_>) {
     }
 }
 
-/// Finds a file by its name.
-pub fn answer_named(row: &mut Row<'_>) {
-    let name = row.rest();
-    let Ok(description) = read_description(row.heap, row.alloc, row.bytes) else {
-        return row.refuse();
-    };
-    match description.file_named(name) {
+fn say_named(row: &mut Row<'_>, description: &Description<&Refusing>) {
+    match description.file_named(row.rest()) {
         Some(file) => row.say_bytes("", file),
         None => row.say("none"),
+    }
+}
+
+/// Finds a file by its name.
+pub fn answer_named(row: &mut Row<'_>) {
+    match read_description(row.heap, row.alloc, row.bytes) {
+        Ok(description) => say_named(row, &description),
+        Err(_) => row.refuse(),
     }
 }

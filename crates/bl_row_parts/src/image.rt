@@ -56,6 +56,16 @@ fn written<'h>(
     Some(sink)
 }
 
+/// Whether a sink took the first bytes of an image, as many as it has room for.
+pub fn say_taken(row: &mut Row<'_>, whole: &[u8], taken: &[u8], limit: u64) {
+    let count = whole.len().min(limit as usize);
+    row.say(if taken == &whole[..count] {
+        ", its first bytes"
+    } else {
+        ", other bytes"
+    });
+}
+
 /// Writes the image to sinks of each limit, and says how it ended, and whether the sink took the
 /// image's first bytes, as many as it has room for.
 fn say_each<'h>(
@@ -74,12 +84,7 @@ fn say_each<'h>(
     let mut runs = Runs::new(row.alloc, true);
     for limit in limits {
         let sink = written(row, heap, loaded, limit, step)?;
-        let count = whole.len().min(limit as usize);
-        row.say(if sink.contents() == &whole[..count] {
-            ", its first bytes"
-        } else {
-            ", other bytes"
-        });
+        say_taken(row, whole, sink.contents(), limit);
         runs.add(limit, row.take_text());
     }
     Some(runs)

@@ -7,7 +7,7 @@ pub mod calls;
 mod describe;
 mod entry;
 mod handoff;
-mod image;
+pub mod image;
 mod line;
 mod pairs;
 mod prepared;

@@ -23,11 +23,12 @@ pub struct RowEntry {
 impl RowEntry {
     /// Takes a module with its line, or an initial ramdisk, which has none.
     fn add(&mut self, row: &mut Row<'_>, word: &str) {
-        let (name, bytes) = row.cut(word, "=");
-        let (file, line) = match (name, self.entry.protocol) {
-            ("module", Protocol::Multiboot2) => row.cut(bytes, ":"),
-            ("initrd", Protocol::Linux) => (bytes, ""),
-            _ => return row.refuse(),
+        let (file, line) = match self.entry.protocol {
+            Protocol::Multiboot2 => {
+                let module = row.field_of(word, "module");
+                row.cut(module, ":")
+            }
+            Protocol::Linux => (row.field_of(word, "initrd"), ""),
         };
         let index = u32::try_from(self.files.len()).unwrap_or(0);
         let file = row.bytes_of(file);

@@ -10,7 +10,7 @@ use bl_rows::row::Row;
 use bl_rows::runs::Runs;
 
 /// A fault as its number and what it tells.
-pub fn say_image_fault(row: &mut Row<'_>, fault: ImageFault) {
+fn say_image_fault(row: &mut Row<'_>, fault: ImageFault) {
     if let ImageFault::NoMemory = fault {
         return row.say("no memory");
     }
@@ -51,12 +51,23 @@ fn say_fault(row: &mut Row<'_>, fields: SourceFields) {
     }
 }
 
-/// Reads an image over the heap.
-pub fn answer(row: &mut Row<'_>) {
+/// The image that the words which are left tell of, read over the heap. Where there is none, why is
+/// the answer.
+pub fn read_row_image<'a>(row: &mut Row<'a>) -> Option<Image<&'a Refusing>> {
     let mut source = read_source(row).source(row);
     match read_image(row.heap, &mut source) {
-        Ok(image) => say_image(row, &image),
-        Err(fault) => say_image_fault(row, fault),
+        Ok(image) => Some(image),
+        Err(fault) => {
+            say_image_fault(row, fault);
+            None
+        }
+    }
+}
+
+/// Reads an image over the heap.
+pub fn answer(row: &mut Row<'_>) {
+    if let Some(image) = read_row_image(row) {
+        say_image(row, &image);
     }
 }
 

@@ -42,14 +42,23 @@ fn say_info(row: &mut Row<'_>, info: &Info<&Refusing>) {
     }
 }
 
+/// A fault as its number and its place, if it has one.
+fn say_fault(row: &mut Row<'_>, fault: InfoFault) {
+    if let InfoFault::NoMemory = fault {
+        return row.say("no memory");
+    }
+    row.say_decimal("fault ", fault.number() as u64);
+    match fault {
+        InfoFault::BadTag(place) => row.say_number(" ", place),
+        InfoFault::BadOrder(place) => row.say_number(" ", place),
+        _ => {}
+    }
+}
+
 /// Reads the information over the heap.
 pub fn answer(row: &mut Row<'_>) {
     match read_info(row.heap, row.bytes) {
         Ok(info) => say_info(row, &info),
-        Err(InfoFault::WrongLength) => row.say("fault 61"),
-        Err(InfoFault::BadReserved) => row.say("fault 62"),
-        Err(InfoFault::BadTag(place)) => row.say_number("fault 63 ", place as u64),
-        Err(InfoFault::BadOrder(place)) => row.say_number("fault 64 ", place as u64),
-        Err(InfoFault::NoMemory) => row.say("no memory"),
+        Err(fault) => say_fault(row, fault),
     }
 }

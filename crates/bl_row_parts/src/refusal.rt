@@ -6,21 +6,22 @@ use bl_rows::row::Row;
 /// A refusal as its number and what it tells.
 pub fn say_refusal(row: &mut Row<'_>, refusal: Refusal) {
     row.say_decimal("", refusal.number() as u64);
-    match refusal {
-        Refusal::BadTag(place) => row.say_number(" ", place),
-        Refusal::UnsupportedTag(kind) => row.say_number(" ", kind as u64),
-        Refusal::UnsupportedRequest(kind) => row.say_number(" ", kind as u64),
-        Refusal::NoFile(i) => row.say_number(" ", i as u64),
-        Refusal::FileFault(i) => row.say_number(" ", i as u64),
-        Refusal::FileTooLong(i) => row.say_number(" ", i as u64),
-        Refusal::SegmentCut(i) => row.say_number(" ", i as u64),
-        Refusal::AddressTooHigh(i) => row.say_number(" ", i as u64),
+    let told = match refusal {
+        Refusal::BadTag(place) => place,
+        Refusal::UnsupportedTag(kind) => kind as u64,
+        Refusal::UnsupportedRequest(kind) => kind as u64,
+        Refusal::NoFile(i) => i as u64,
+        Refusal::FileFault(i) => i as u64,
+        Refusal::FileTooLong(i) => i as u64,
+        Refusal::SegmentCut(i) => i as u64,
+        Refusal::AddressTooHigh(i) => i as u64,
         Refusal::SegmentsOverlap(i, j) => {
             row.say_number(" ", i as u64);
-            row.say_number(" ", j as u64);
+            j as u64
         }
-        _ => {}
-    }
+        _ => return,
+    };
+    row.say_number(" ", told);
 }
 
 /// What is answered for an entry that is not prepared.

@@ -3,28 +3,28 @@
 //!
 //! A PART is `write=BYTES` (one write) or `all=BYTES`. The pairs' writer takes two bytes at each of
 //! N writes; at the next one it takes nothing (END is `nothing`) or has an error.
-ghost use Rattle.std.specs.Prelude.{◌≡◌, ◌+◌, ◌<◌, ◌≤◌, ◌^◌};
+ghost use Rattle.std.specs.Prelude.{◌≡◌, ◌≤◌};
 
 use crate::pairs::{Pairs, error_named};
 use bl_image::{ImageFault, IoSink, MemSink, Sink, write_all};
 use bl_rows::row::Row;
 
-/// More parts than any row has.
-const PARTS: usize = 1000;
+/// More faults than any row has.
+const FAULTS: u64 = 1000;
 
 /// What one part comes to at a sink.
 fn say_part<S: Sink>(row: &mut Row<'_>, sink: &mut S, word: &str)
-    requires { S.faults sink.old < 2 ^ 63 }
-    ensures { S.faults sink.new ≤ S.faults sink.old + 1 }
+    requires { S.faults sink.old ≤ 1000 }
+    ensures { S.faults sink.new ≤ 1000 }
 {
+    if sink.faults() == FAULTS {
+        return row.refuse();
+    }
     let (way, bytes) = row.cut(word, "=");
     let part = row.bytes_of(bytes);
     let taken = match way {
         "write" => sink.write(part.as_slice()),
-        "all" => match write_all(sink, part.as_slice()) {
-            Ok(()) => Ok(part.len()),
-            Err(fault) => Err(fault),
-        },
+        "all" => write_all(sink, part.as_slice()).map(|_| part.len()),
         _ => return row.refuse(),
     };
     match taken {
@@ -38,18 +38,8 @@ fn say_part<S: Sink>(row: &mut Row<'_>, sink: &mut S, word: &str)
 fn say_parts<S: Sink>(row: &mut Row<'_>, sink: &mut S)
     requires { S.faults sink.old ≡ 0 }
 {
-    let Ok(words) = row
-        .rest()
-        .split_whitespace()
-        .collect::<Vec<&str>>(row.alloc)
-    else {
-        return row.run_short();
-    };
-    if words.len() > PARTS {
-        return row.refuse();
-    }
-    for i in 0..words.len() {
-        say_part(row, sink, words[i]);
+    for word in row.rest().split_whitespace() {
+        say_part(row, sink, word);
     }
     row.say_number("faults ", sink.faults());
 }

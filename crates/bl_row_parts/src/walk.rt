@@ -1,19 +1,13 @@
 //! `walk BYTES`: what a kernel sees in an image, or the fault of reading or walking it.
 
-use crate::read_image::say_image_fault;
-use crate::source::read_source;
-use bl_image::read_image;
+use crate::read_image::read_row_image;
 use bl_refusing::Refusing;
 use bl_rows::row::Row;
 use bl_walk::{Seen, WalkFault, walk};
 
-/// The kernel's parts, as ` kernel=ADDRESS+LENGTH`, the modules, as ` module=ADDRESS:BYTES:LINE`,
-/// and the initial ramdisk, as ` initrd=ADDRESS:BYTES`.
-fn say_parts(row: &mut Row<'_>, seen: &Seen<&Refusing>) {
-    for part in &seen.kernel {
-        row.say_number(" kernel=", part.address);
-        row.say_number("+", part.length);
-    }
+/// The modules, as ` module=ADDRESS:BYTES:LINE`, and the initial ramdisk, as
+/// ` initrd=ADDRESS:BYTES`.
+fn say_files(row: &mut Row<'_>, seen: &Seen<&Refusing>) {
     for module in &seen.modules {
         row.say_number(" module=", module.mod_start as u64);
         row.say_bytes(":", module.bytes.as_slice());
@@ -29,7 +23,11 @@ fn say_seen(row: &mut Row<'_>, seen: &Seen<&Refusing>) {
     row.say_decimal("protocol ", seen.protocol.number() as u64);
     row.say_number(" entry=", seen.entry as u64);
     row.say_bytes(" line=", seen.line.as_slice());
-    say_parts(row, seen);
+    for part in &seen.kernel {
+        row.say_number(" kernel=", part.address);
+        row.say_number("+", part.length);
+    }
+    say_files(row, seen);
     for run in &seen.map {
         row.say_region(" run=", run);
     }
@@ -37,10 +35,8 @@ fn say_seen(row: &mut Row<'_>, seen: &Seen<&Refusing>) {
 
 /// Reads an image and walks it, both over the heap.
 pub fn answer(row: &mut Row<'_>) {
-    let mut source = read_source(row).source(row);
-    let image = match read_image(row.heap, &mut source) {
-        Ok(image) => image,
-        Err(fault) => return say_image_fault(row, fault),
+    let Some(image) = read_row_image(row) else {
+        return;
     };
     match walk(row.heap, &image) {
         Ok(seen) => say_seen(row, &seen),

@@ -10,7 +10,7 @@ mod row;
 use bl_mbi::{Facts, info_size, write_info};
 use bl_refusing::Refusing;
 use bl_rows::row::Row;
-use facts::{Untold, facts_of};
+use facts::facts_of;
 use row::read_row;
 use std::alloc::AllocError;
 
@@ -30,9 +30,8 @@ fn say_written<'h>(row: &mut Row<'_>, heap: &'h Refusing, facts: &Facts<&'h Refu
 pub fn answer(row: &mut Row<'_>) {
     let heap = row.heap;
     let read = read_row(row);
-    match facts_of(heap, &read) {
+    match facts_of(row, heap, &read) {
         Ok(facts) => say_written(row, heap, &facts),
-        Err(Untold::BadRow) => row.refuse(),
-        Err(Untold::NoMemory) => row.say("no memory"),
+        Err(AllocError) => row.say("no memory"),
     }
 }

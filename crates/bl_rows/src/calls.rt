@@ -42,6 +42,33 @@ pub fn takes_bytes(name: &str) -> bool {
     }
 }
 
+/// Makes a call of bl_params or on values of bl_mem.
+fn make_other(row: &mut Row<'_>, name: &str) {
+    match name {
+        "holds" => segments::answer_holds(row),
+        "spell" => spell::answer(row),
+        "view" => view::answer(row),
+        "gdt" => linux::answer_gdt(row),
+        "gdt64" => paging::answer_gdt64(row),
+        "page_tables" => paging::answer_tables(row),
+        _ => row.refuse(),
+    }
+}
+
+/// Makes a call on memory or a planner, or one of the others.
+fn make_on_memory(row: &mut Row<'_>, name: &str) {
+    match name {
+        "plan" => plan::answer(row),
+        "places" => places::answer(row),
+        "order" => segments::answer_order(row),
+        "memory" => memory::answer(row, false),
+        "sparse" => memory::answer(row, true),
+        "stage" => stage::answer(row, false),
+        "sparse_stage" => stage::answer(row, true),
+        _ => make_other(row, name),
+    }
+}
+
 /// Makes a call of this name, whose words are left in the row.
 pub fn make_plain(row: &mut Row<'_>, name: &str) {
     match name {
@@ -49,22 +76,9 @@ pub fn make_plain(row: &mut Row<'_>, name: &str) {
         "normal" => normal::answer(row),
         "facts" => facts::answer(row),
         "frames" => frames::answer(row),
-        "plan" => plan::answer(row),
-        "places" => places::answer(row),
         "kind" => table::answer_kind(row),
         "numbers" => table::answer(row),
-        "memory" => memory::answer(row),
-        "sparse" => memory::answer_sparse(row),
-        "holds" => segments::answer_holds(row),
-        "order" => segments::answer_order(row),
-        "stage" => stage::answer(row),
-        "sparse_stage" => stage::answer_sparse(row),
-        "spell" => spell::answer(row),
-        "view" => view::answer(row),
-        "gdt" => linux::answer_gdt(row),
-        "gdt64" => paging::answer_gdt64(row),
-        "page_tables" => paging::answer_tables(row),
-        _ => row.refuse(),
+        _ => make_on_memory(row, name),
     }
 }
 

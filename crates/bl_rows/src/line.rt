@@ -17,9 +17,17 @@ pub enum Line<'a> {
     Bad,
 }
 
+/// What stands before and behind a mark; without one, all and something else.
+pub fn split_or<'a>(text: &'a str, mark: &str, otherwise: &'a str) -> (&'a str, &'a str) {
+    match text.split_once(mark) {
+        Some(parts) => parts,
+        None => (text, otherwise),
+    }
+}
+
 /// The first word, and what follows it, which may be nothing.
 pub fn split_word(text: &str) -> (&str, &str) {
-    let (word, rest) = text.split_once(" ").unwrap_or((text, ""));
+    let (word, rest) = split_or(text, " ", "");
     (word, rest.trim())
 }
 
@@ -37,7 +45,7 @@ fn read_row(line: &str) -> Line<'_> {
     let Some((sentence, rest)) = line.split_once("|") else {
         return Line::Bad;
     };
-    let (call, _answer) = rest.split_once("|").unwrap_or((rest, ""));
+    let (call, _answer) = split_or(rest, "|", "");
     Line::Row {
         sentence: sentence.trim(),
         call: call.trim(),

@@ -1,8 +1,9 @@
 //! Bytes in a row: pieces, one appended after the other, and changes of what stands so far.
 ghost use Rattle.std.specs.Prelude.{◌≤◌};
 
+use crate::line::split_or;
+use crate::session::Session;
 use hex::FromHexError;
-use std::alloc::Global;
 use std::collections::BTreeMap;
 
 /// The bytes that have a name.
@@ -11,38 +12,25 @@ pub type Names = BTreeMap<String, Vec<u8>>;
 /// Bytes that are read. Words that are no pieces, and want of memory, are kept until the end.
 #[derive(Drop)]
 pub struct Pieces<'a> {
-    alloc: Global,
-    names: &'a Names,
-    bytes: Vec<u8>,
-    is_bad: bool,
-    is_short: bool,
+    session: &'a Session,
+    pub bytes: Vec<u8>,
+    /// Whether a word was no piece.
+    pub is_bad: bool,
+    /// Whether memory ran out.
+    pub is_short: bool,
 }
 
 impl<'a> Pieces<'a> {
-    /// No bytes so far.
-    pub fn new(alloc: Global, names: &'a Names) -> Pieces<'a> {
-        Pieces {
-            alloc,
-            names,
-            bytes: Vec::new(alloc),
+    /// The bytes of these words.
+    pub fn of(session: &'a Session, words: &str) -> Pieces<'a> {
+        let mut pieces = Pieces {
+            session,
+            bytes: Vec::new(session.alloc),
             is_bad: false,
             is_short: false,
-        }
-    }
-
-    /// Whether a word was no piece.
-    pub fn is_bad(&self) -> bool {
-        self.is_bad
-    }
-
-    /// Whether memory ran out.
-    pub fn is_short(&self) -> bool {
-        self.is_short
-    }
-
-    /// The bytes.
-    pub fn finish(self) -> Vec<u8> {
-        self.bytes
+        };
+        pieces.add(words);
+        pieces
     }
 
     fn push(&mut self, bytes: &[u8]) {
@@ -75,55 +63,63 @@ impl<'a> Pieces<'a> {
     }
 
     fn push_digits(&mut self, digits: &str) {
-        match hex::decode(self.alloc, digits) {
+        match hex::decode(self.session.alloc, digits) {
             Ok(bytes) => self.push(bytes.as_slice()),
             Err(FromHexError::OutOfMemory) => self.is_short = true,
             Err(_) => self.is_bad = true,
         }
     }
 
-    /// Appends a piece: a name's bytes, those of numbers (`u16:N,N`, `u32:N`, `u64:N`), or those of
-    /// hexadecimal digits.
-    fn push_piece(&mut self, piece: &str) {
-        if let Some(named) = self.names.get(piece) {
-            return self.push(named.as_slice());
+    /// Appends the bytes of numbers (`u16:N,N`, `u32:N`, `u64:N`), or those of hexadecimal digits.
+    fn push_unnamed(&mut self, piece: &str) {
+        let (kind, list) = split_or(piece, ":", "");
+        match kind {
+            "u16" => self.push_numbers(2, 0xffff, list),
+            "u32" => self.push_numbers(4, 0xffff_ffff, list),
+            "u64" => self.push_numbers(8, u64::MAX, list),
+            _ => self.push_digits(piece),
         }
-        match piece.split_once(":") {
-            Some(("u16", list)) => self.push_numbers(2, 0xffff, list),
-            Some(("u32", list)) => self.push_numbers(4, 0xffff_ffff, list),
-            Some(("u64", list)) => self.push_numbers(8, u64::MAX, list),
-            Some(_) => self.is_bad = true,
-            None => self.push_digits(piece),
+    }
+
+    /// Appends a piece: a name's bytes, or others.
+    fn push_piece(&mut self, piece: &str) {
+        match self.session.names.get(piece) {
+            Some(named) => self.push(named.as_slice()),
+            None => self.push_unnamed(piece),
         }
     }
 
     /// Appends a piece, which may be there several times: `COUNT*PIECE`.
     fn push_pieces(&mut self, word: &str) {
-        let (count, piece) = word.split_once("*").unwrap_or(("1", word));
-        for _ in 0..self.number(count) {
+        let (piece, count) = match word.split_once("*") {
+            Some((count, piece)) => (piece, self.number(count)),
+            None => (word, 1),
+        };
+        for _ in 0..count {
             self.push_piece(piece);
         }
     }
 
-    /// Puts a part over the bytes from an offset on. It must end at most where they end.
-    fn put(&mut self, at: u64, part: &[u8]) {
-        let at = at as usize;
-        if self.bytes.len() < at || self.bytes.len() - at < part.len() {
+    /// Takes the bytes from an offset on away, to be put over those before them from another one
+    /// on, which must end at most where these began.
+    fn put_back(&mut self, from: usize, at: usize) {
+        let bytes = self.bytes.as_mut_slice();
+        if from > bytes.len() || at > from || from - at < bytes.len() - from {
             self.is_bad = true;
             return;
         }
-        self.bytes.as_mut_slice()[at..at + part.len()].copy_from_slice(part);
+        let (before, part) = bytes.split_at_mut(from);
+        before[at..at + part.len()].copy_from_slice(part);
+        self.bytes.truncate(from);
     }
 
     /// Makes a change: `OFFSET=PIECE` puts a piece over the bytes.
     fn change(&mut self, change: &str) {
         let (at, piece) = change.split_once("=").unwrap_or(("", ""));
         let at = self.number(at);
-        let mut part = Pieces::new(self.alloc, self.names);
-        part.push_piece(piece);
-        self.is_bad = self.is_bad || part.is_bad;
-        self.is_short = self.is_short || part.is_short;
-        self.put(at, part.bytes.as_slice());
+        let end = self.bytes.len();
+        self.push_piece(piece);
+        self.put_back(end, at as usize);
     }
 
     /// Cuts to a length, or appends zeros up to it. Bytes that end before it are not cut, and those

@@ -106,10 +106,7 @@ impl<'a> Row<'a> {
     /// The numbers that stand between commas, perhaps none.
     pub fn numbers_of(&mut self, list: &str) -> Vec<u64> {
         let mut numbers = Vec::new(self.alloc);
-        if list.is_empty() {
-            return numbers;
-        }
-        for digits in list.split(",") {
+        for digits in list.split_terminator(",") {
             let number = self.number_of(digits);
             self.keep(&mut numbers, number);
         }
@@ -138,15 +135,14 @@ impl<'a> Row<'a> {
 
     /// The bytes of these words.
     pub fn bytes_of(&mut self, words: &str) -> Vec<u8> {
-        let mut pieces = Pieces::new(self.alloc, self.names);
-        pieces.add(words);
-        if pieces.is_bad() {
+        let pieces = Pieces::of(self.session, words);
+        if pieces.is_bad {
             self.refuse();
         }
-        if pieces.is_short() {
+        if pieces.is_short {
             self.run_short();
         }
-        pieces.finish()
+        pieces.bytes
     }
 
     /// The bytes of all words that are left.

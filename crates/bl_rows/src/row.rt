@@ -5,9 +5,10 @@
 //! stops for them, and only what a library's `requires` asks for is looked at before its call.
 ghost use Rattle.std.specs.Prelude.{◌≤◌, vec_len};
 
-use crate::calls::machine::MachineRow;
-use crate::pieces::Names;
+use crate::calls::machine::read_machine;
+use crate::line::split_word;
 use crate::session::Session;
+use bl_map::Machine;
 use bl_refusing::Refusing;
 use std::alloc::Global;
 
@@ -18,21 +19,20 @@ pub struct Row<'a> {
     pub alloc: Global,
     /// The memory whose requests the row may have refused.
     pub heap: &'a Refusing,
-    /// The bytes that have names.
-    pub names: &'a Names,
-    /// The last machine that was accepted.
-    pub machine: &'a Option<MachineRow>,
-    /// The machine that is the last one after this call.
-    pub made: Option<MachineRow>,
+    /// What earlier lines left.
+    pub session: &'a Session,
     /// The bytes that the call is over.
     pub bytes: &'a [u8],
     /// The answer so far.
     pub text: String,
 
+    /// Whether the row can't be read, or asks for what no call may be asked.
+    pub is_bad: bool,
+    /// Whether memory ran out for the row itself, which ends the program.
+    pub is_short: bool,
+
     // What was not read yet.
     words: &'a str,
-    is_bad: bool,
-    is_short: bool,
 }
 
 impl<'a> Row<'a> {
@@ -43,30 +43,16 @@ impl<'a> Row<'a> {
         words: &'a str,
         bytes: &'a [u8],
     ) -> Row<'a> {
-        let alloc = session.alloc;
         Row {
-            alloc,
+            alloc: session.alloc,
             heap,
-            names: &session.names,
-            machine: &session.machine,
-            made: None,
+            session,
             bytes,
-            text: String::new(alloc),
+            text: String::new(session.alloc),
             words,
             is_bad: false,
             is_short: false,
         }
-    }
-
-    /// Whether the row can't be read, or asks for what no call may be asked; or memory ran out for
-    /// it.
-    pub fn is_bad(&self) -> bool {
-        self.is_bad || self.is_short
-    }
-
-    /// Whether memory ran out for the row itself, which ends the program.
-    pub fn is_short(&self) -> bool {
-        self.is_short
     }
 
     /// Keeps that the row can't be read, or asks for what no call may be asked.
@@ -97,8 +83,8 @@ impl<'a> Row<'a> {
 
     /// The next word, which is empty where none is left.
     pub fn word(&mut self) -> &'a str {
-        let (word, rest) = self.words.split_once(" ").unwrap_or((self.words, ""));
-        self.words = rest.trim();
+        let (word, rest) = split_word(self.words);
+        self.words = rest;
         word
     }
 
@@ -107,6 +93,22 @@ impl<'a> Row<'a> {
         let rest = self.words;
         self.words = "";
         rest
+    }
+
+    /// The last machine that was accepted, made again over a heap. Where memory runs out that is
+    /// the answer, whatever words are left.
+    pub fn machine_over<'h>(&mut self, heap: &'h Refusing) -> Option<Machine<&'h Refusing>> {
+        let words = self.rest();
+        self.words = self.session.machine.as_str();
+        let made = read_machine(self, heap);
+        self.words = words;
+        match made {
+            Ok(machine) => Some(machine),
+            Err(_) => {
+                self.lack();
+                None
+            }
+        }
     }
 
     /// At most so many zeros: fewer where memory ran out for them.

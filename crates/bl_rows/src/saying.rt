@@ -55,6 +55,13 @@ impl Row<'_> {
         }
     }
 
+    /// Appends texts and numbers, each text before its number.
+    pub fn say_numbers(&mut self, numbers: &[(&str, u64)]) {
+        for (before, number) in numbers {
+            self.say_number(before, *number);
+        }
+    }
+
     /// Appends a text and a number, decimal.
     pub fn say_decimal(&mut self, before: &str, number: u64) {
         if write!(self.text, "{before}{number}").is_err() {

@@ -1,22 +1,27 @@
 //! What earlier lines leave for later ones.
 
 use crate::calls::Calls;
-use crate::calls::machine::MachineRow;
 use crate::line::{Line, read_line, split_word};
 use crate::pieces::{Names, Pieces};
 use crate::sweep::Sweep;
 use crate::way::read_way;
+use bl_refusing::Refusing;
 use std::alloc::{AllocError, Global};
 use std::collections::BTreeMap;
 
-/// The bytes that have names, the name of the text whose lines may follow, and the last machine
-/// that was accepted.
+/// What earlier lines leave.
 #[derive(Drop)]
 pub struct Session {
     pub alloc: Global,
-    text: Option<String>,
+    /// A heap that refuses nothing.
+    pub beside: Refusing,
+    /// The bytes that have names.
     pub names: Names,
-    pub machine: Option<MachineRow>,
+    /// The words of the last machine that was accepted, or none.
+    pub machine: String,
+
+    // The name of the text whose lines may follow, or none.
+    text: String,
 }
 
 impl Session {
@@ -24,23 +29,23 @@ impl Session {
     pub fn new(alloc: Global) -> Session {
         Session {
             alloc,
-            text: None,
+            beside: Refusing::new(alloc, 0),
             names: BTreeMap::new(alloc),
-            machine: None,
+            machine: String::new(alloc),
+            text: String::new(alloc),
         }
     }
 
     /// Gives bytes a name. Whether these words are bytes.
     fn name_bytes(&mut self, name: &str, words: &str) -> Result<bool, AllocError> {
-        let mut pieces = Pieces::new(self.alloc, &self.names);
-        pieces.add(words);
-        if pieces.is_short() {
+        let pieces = Pieces::of(self, words);
+        if pieces.is_short {
             return Err(AllocError);
         }
-        if pieces.is_bad() {
+        if pieces.is_bad {
             return Ok(false);
         }
-        let bytes = pieces.finish();
+        let bytes = pieces.bytes;
         let name = String::from_str(self.alloc, name)?;
         self.names.insert(name, bytes)?;
         Ok(true)
@@ -48,16 +53,13 @@ impl Session {
 
     /// Begins a text, which is empty so far.
     fn begin_text(&mut self, name: &str) -> Result<bool, AllocError> {
-        self.text = Some(String::from_str(self.alloc, name)?);
+        self.text = String::from_str(self.alloc, name)?;
         self.name_bytes(name, "")
     }
 
     /// Appends a line, and its line feed, to the text that was begun last. Whether one was.
     fn add_line(&mut self, line: &str) -> Result<bool, AllocError> {
-        let Some(name) = &self.text else {
-            return Ok(false);
-        };
-        let Some(bytes) = self.names.get_mut(name.as_str()) else {
+        let Some(bytes) = self.names.get_mut(self.text.as_str()) else {
             return Ok(false);
         };
         bytes.extend_from_slice(line.as_bytes())?;
@@ -76,12 +78,12 @@ impl Session {
         };
         let mut sweep = Sweep::new(self, call, over);
         sweep.make(calls, way);
-        let made = sweep.made.take();
-        let answer = sweep.finish();
-        if made.is_some() {
-            self.machine = made;
+        let answer = sweep.finish()?;
+        // the last answer of a machine that was accepted
+        if name == "machine" && answer.ends_with("ok") {
+            self.machine = String::from_str(self.alloc, words)?;
         }
-        answer
+        Ok(answer)
     }
 
     /// The line as it is written: a row with its answer, every other line as it stands.

@@ -1,7 +1,6 @@
 //! How often a row's call is made, over which memory and which bytes.
 
 use crate::calls::Calls;
-use crate::calls::machine::MachineRow;
 use crate::pieces::Pieces;
 use crate::runs::Runs;
 use crate::session::Session;
@@ -25,8 +24,6 @@ pub struct Sweep<'s, 'c> {
     is_over_bytes: bool,
     bytes: Vec<u8>,
 
-    /// The machine that the last call made.
-    pub made: Option<MachineRow>,
     text: String,
     was_refused: bool,
     is_bad: bool,
@@ -37,19 +34,16 @@ impl<'s, 'c> Sweep<'s, 'c> {
     /// The call `NAME WORDS`, which was not made yet, over the bytes of other words if there are
     /// some.
     pub fn new(session: &'s Session, call: &'c str, over: Option<&str>) -> Sweep<'s, 'c> {
-        let alloc = session.alloc;
-        let mut pieces = Pieces::new(alloc, &session.names);
-        pieces.add(over.unwrap_or(""));
+        let pieces = Pieces::of(session, over.unwrap_or(""));
         Sweep {
-            alloc,
+            alloc: session.alloc,
             session,
             call,
-            is_bad: pieces.is_bad(),
-            is_short: pieces.is_short(),
+            is_bad: pieces.is_bad,
+            is_short: pieces.is_short,
             is_over_bytes: over.is_some(),
-            bytes: pieces.finish(),
-            made: None,
-            text: String::new(alloc),
+            bytes: pieces.bytes,
+            text: String::new(session.alloc),
             was_refused: false,
         }
     }
@@ -67,7 +61,6 @@ impl<'s, 'c> Sweep<'s, 'c> {
         self.bytes = over.bytes;
         self.is_bad = self.is_bad || said.is_bad;
         self.is_short = self.is_short || said.is_short;
-        self.made = said.made;
         self.text = said.text;
     }
 

@@ -3,13 +3,11 @@
 //! `file=BYTES`, `file=missing`, `file=long`: the files, by their index. `entry=ENTRY`: the
 //! entries, as `multiboot2:KERNEL:LINE+FILE:LINE ..` or `linux:KERNEL:LINE+INITRD`;
 //! `entry=ENTRY*COUNT`: one so often; `modules=N`: N more modules of the last one. `default=N`,
-//! `fallback=N,N`. `store=forward`, `reverse`, `counting` (forward, and tells how often a size was
-//! asked), `silent`, or `script`, and then `twice=A.F.P,..`, `fail=A.F.P,..`, `picks=N,N,..`.
-//! `answers=N`: the store gives so many answers, and then nothing more.
+//! `fallback=N,N`. All else is of the store.
 
+use crate::attempts::store_fields::StoreFields;
 use crate::entry::{EntryField, ModuleField, protocol_of};
 use bl_rows::row::Row;
-use bl_session::Ticket;
 
 /// A file of a menu.
 #[derive(Drop)]
@@ -20,15 +18,6 @@ pub enum FileField {
     Whole(Vec<u8>),
 }
 
-/// How a store answers.
-#[derive(Clone, Copy)]
-pub enum StoreField {
-    Forward,
-    Reverse,
-    Counting,
-    Script,
-}
-
 /// What a row says of a boot.
 #[derive(Drop)]
 pub struct BootFields {
@@ -36,32 +25,7 @@ pub struct BootFields {
     pub entries: Vec<EntryField>,
     pub default: u32,
     pub fallbacks: Vec<u32>,
-    pub store: StoreField,
-    /// How many answers the store gives, and then nothing more.
-    pub answers: u64,
-    pub twice: Vec<Ticket>,
-    pub fail: Vec<Ticket>,
-    pub picks: Vec<usize>,
-}
-
-/// The ticket that `ATTEMPT.FILE.PIECE` is.
-pub fn ticket_of(row: &mut Row<'_>, word: &str) -> Ticket {
-    let (attempt, rest) = row.cut(word, ".");
-    let (file, piece) = row.cut(rest, ".");
-    Ticket {
-        attempt: row.number32_of(attempt),
-        file: row.number32_of(file),
-        piece: row.number32_of(piece),
-    }
-}
-
-fn tickets_of(row: &mut Row<'_>, list: &str) -> Vec<Ticket> {
-    let mut tickets = Vec::new(row.alloc);
-    for word in list.split(",") {
-        let ticket = ticket_of(row, word);
-        row.keep(&mut tickets, ticket);
-    }
-    tickets
+    pub store: StoreFields,
 }
 
 fn file_of(row: &mut Row<'_>, text: &str) -> FileField {
@@ -85,17 +49,12 @@ fn module_of(row: &mut Row<'_>, text: &str) -> ModuleField {
 fn entry_of(row: &mut Row<'_>, text: &str) -> EntryField {
     let (name, rest) = row.cut(text, ":");
     let protocol = protocol_of(row, name);
-    let (kernel, words) = match rest.split_once("+") {
-        Some((kernel, words)) => (kernel, Some(words)),
-        None => (rest, None),
-    };
-    let kernel = module_of(row, kernel);
+    let mut words = rest.split("+");
+    let kernel = module_of(row, words.next().unwrap_or(""));
     let mut modules = Vec::new(row.alloc);
-    if let Some(words) = words {
-        for word in words.split("+") {
-            let module = module_of(row, word);
-            row.keep(&mut modules, module);
-        }
+    for word in words {
+        let module = module_of(row, word);
+        row.keep(&mut modules, module);
     }
     EntryField {
         protocol,
@@ -112,11 +71,7 @@ impl BootFields {
             entries: Vec::new(row.alloc),
             default: 0,
             fallbacks: Vec::new(row.alloc),
-            store: StoreField::Forward,
-            answers: u64::MAX,
-            twice: Vec::new(row.alloc),
-            fail: Vec::new(row.alloc),
-            picks: Vec::new(row.alloc),
+            store: StoreFields::new(row),
         }
     }
 
@@ -141,17 +96,6 @@ impl BootFields {
         }
     }
 
-    fn set_store(&mut self, row: &mut Row<'_>, name: &str) {
-        match name {
-            "forward" => self.store = StoreField::Forward,
-            "reverse" => self.store = StoreField::Reverse,
-            "counting" => self.store = StoreField::Counting,
-            "script" => self.store = StoreField::Script,
-            "silent" => self.answers = 0,
-            _ => row.refuse(),
-        }
-    }
-
     fn add(&mut self, row: &mut Row<'_>, word: &str) {
         let (key, value) = row.cut(word, "=");
         match key {
@@ -163,12 +107,7 @@ impl BootFields {
             "modules" => self.add_modules(row, value),
             "default" => self.default = row.number32_of(value),
             "fallback" => self.fallbacks = row.numbers32_of(value),
-            "store" => self.set_store(row, value),
-            "answers" => self.answers = row.number_of(value),
-            "twice" => self.twice = tickets_of(row, value),
-            "fail" => self.fail = tickets_of(row, value),
-            "picks" => self.picks = row.indices_of(value),
-            _ => row.refuse(),
+            _ => self.store.add(row, key, value),
         }
     }
 }

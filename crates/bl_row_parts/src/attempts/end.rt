@@ -12,6 +12,9 @@ use bl_rows::row::Row;
 use bl_session::{BootFault, Outcome, RefusedEntry};
 use std::ops::Range;
 
+/// What a boot ended in.
+pub type End<'e, 'h> = Result<&'e Outcome<&'h Refusing>, &'e BootFault<&'h Refusing>>;
+
 /// Each refusal as `refused ENTRY NUMBER DATA, `.
 fn say_refused(row: &mut Row<'_>, refused: &[RefusedEntry]) {
     for refusal in refused {
@@ -35,32 +38,27 @@ fn say_handoff<M: PhysMem>(row: &mut Row<'_>, memory: &M, handoff: &Handoff<&Ref
     }
 }
 
-/// An entry that was handed over, and the refusals before it.
-pub fn say_outcome<M: PhysMem>(
-    row: &mut Row<'_>,
-    memory: &M,
-    pool: &Range<u64>,
-    outcome: &Outcome<&Refusing>,
-) {
-    say_refused(row, outcome.refused.as_slice());
-    row.say_number("booted ", outcome.entry as u64);
-    say_handoff(row, memory, &outcome.handoff);
-    say_pool(row, memory, pool, outcome.handoff.ranges());
+/// Where the parts lie that a boot handed over.
+pub fn parts_of<'e>(end: End<'e, '_>) -> &'e [Range<u64>] {
+    match end {
+        Ok(outcome) => outcome.handoff.ranges(),
+        Err(_) => &[],
+    }
 }
 
-/// Why nothing is handed over.
-pub fn say_fault<M: PhysMem>(
-    row: &mut Row<'_>,
-    memory: &M,
-    pool: &Range<u64>,
-    fault: &BootFault<&Refusing>,
-) {
-    match fault {
-        BootFault::NoMemory => row.say("no memory"),
-        BootFault::NoEntryLeft(refused) => {
+/// An entry that was handed over, and the refusals before it; or why nothing is.
+pub fn say_end<M: PhysMem>(row: &mut Row<'_>, memory: &M, pool: &Range<u64>, end: End<'_, '_>) {
+    match end {
+        Ok(outcome) => {
+            say_refused(row, outcome.refused.as_slice());
+            row.say_number("booted ", outcome.entry as u64);
+            say_handoff(row, memory, &outcome.handoff);
+        }
+        Err(BootFault::NoMemory) => return row.say("no memory"),
+        Err(BootFault::NoEntryLeft(refused)) => {
             say_refused(row, refused.as_slice());
             row.say("no entry left");
-            say_pool(row, memory, pool, &[]);
         }
     }
+    say_pool(row, memory, pool, parts_of(end));
 }

@@ -2,7 +2,7 @@
 ghost use Rattle.std.specs.Prelude.{IsTrue};
 ghost use Rattle.bl_mem.specs.Memory.{HasRoom};
 
-use crate::attempts::end::{say_fault, say_outcome};
+use crate::attempts::end::{parts_of, say_end};
 use crate::attempts::memory::{FILL, say_outside};
 use bl_map::Machine;
 use bl_mem::{PhysMem, Sparse};
@@ -91,8 +91,7 @@ impl<'a, 'h> Rig<'a, 'h> {
     pub fn say_end(&self, row: &mut Row<'_>) {
         let pool = self.machine.pool();
         match self.session.outcome() {
-            Some(Ok(outcome)) => say_outcome(row, &self.memory, &pool, outcome),
-            Some(Err(fault)) => say_fault(row, &self.memory, &pool, fault),
+            Some(end) => say_end(row, &self.memory, &pool, end),
             None => row.say("none"),
         }
     }
@@ -100,12 +99,11 @@ impl<'a, 'h> Rig<'a, 'h> {
     /// Whether memory outside the pool, and after a handover outside the parts, is as it was.
     pub fn say_outside(&self, row: &mut Row<'_>) {
         let pool = self.machine.pool();
-        match self.session.outcome() {
-            Some(Ok(outcome)) => {
-                say_outside(row, &self.memory, &pool, outcome.handoff.ranges());
-            }
-            _ => say_outside(row, &self.memory, &pool, &[]),
-        }
+        let parts = match self.session.outcome() {
+            Some(end) => parts_of(end),
+            None => &[],
+        };
+        say_outside(row, &self.memory, &pool, parts);
     }
 
     /// Its memory.

@@ -3,8 +3,9 @@
 //! A step is a letter (`start`, `piece A.F.P BYTES`, `fault A.F.P`), `outcome`, `outside` (whether
 //! memory outside the pool and the parts is as it was), or `read AT LENGTH`.
 
-use crate::attempts::boot_fields::{read_fields, ticket_of};
+use crate::attempts::boot_fields::read_fields;
 use crate::attempts::rig::Rig;
+use crate::attempts::store_fields::ticket_of;
 use bl_refusing::Refusing;
 use bl_rows::calls::memory;
 use bl_rows::row::Row;
@@ -48,14 +49,11 @@ fn answer_over(row: &mut Row<'_>, heap: &Refusing) {
     let (words, steps) = row.cut(words, " do ");
     let fields = read_fields(row, words);
     let beside = Refusing::new(row.alloc, 0);
-    let Some(machine) = row.machine_over(&beside) else {
-        return;
-    };
-    let Some(menu) = fields.menu_beside(row, &beside) else {
+    let Some(plan) = fields.plan_over(row, &beside) else {
         return;
     };
     let sizes = fields.sizes(row);
-    match Rig::new(heap, &machine, &menu, sizes.as_slice()) {
+    match Rig::new(heap, &plan.machine, &plan.menu, sizes.as_slice()) {
         Some(mut rig) => tell(row, &mut rig, steps),
         None => row.say("no memory"),
     }

@@ -1,38 +1,23 @@
-//! The facts of a row, on a machine of 636 and 3072 KiB with three runs.
-ghost use Rattle.std.specs.Prelude.{◌≡◌, ◌≢◌, ◌≤◌, ◌<◌, ◌^◌, ◌+◌, length, sum_by, map, option_map};
+//! The facts of a row, on a machine of 636 and 3072 KiB with three runs. Where they may not be told
+//! the row is refused, and others stand for them.
+ghost use Rattle.std.specs.Prelude.{◌≡◌, ◌≢◌, ◌≤◌, ◌<◌, ◌^◌, ◌+◌, length, map, option_map};
 ghost use Rattle.std.specs.Prelude.{All, IfOk, IfSome, IsTrue};
 ghost use Rattle.bl_mbi.specs.InformationFacts.{IsText, IsModule, AreBytes};
-ghost use Rattle.bl_mbi.specs.Size.{tag_size, copy_size};
+ghost use Rattle.bl_mbi.specs.Size.{copy_size};
 
 use crate::write_info::row::{InfoRow, ModuleRow};
 use bl_map::{Kind, Region};
 use bl_mbi::{Facts, Module};
 use bl_mem::Bytes;
 use bl_refusing::Refusing;
-use std::alloc::{AllocError, AllocFailed};
-
-/// Why a row's facts are not told.
-#[derive(Clone, Copy)]
-pub enum Untold {
-    /// They are none that may be told.
-    BadRow,
-    NoMemory,
-}
-
-impl From<AllocError> for Untold {
-    fn from(_: AllocError) -> Untold {
-        Untold::NoMemory
-    }
-}
-
-impl<T: Drop> From<AllocFailed<T>> for Untold {
-    fn from(_: AllocFailed<T>) -> Untold {
-        Untold::NoMemory
-    }
-}
+use bl_rows::row::Row;
+use std::alloc::AllocError;
 
 /// The most bytes that a text or a copy of a row has.
 const SHORT: usize = 512;
+
+/// The most modules of a row.
+const FEW: usize = 2;
 
 /// Whether no byte is zero.
 fn is_text(bytes: &[u8]) -> bool
@@ -46,87 +31,96 @@ fn is_text(bytes: &[u8]) -> bool
     true
 }
 
-/// A copy of bytes.
-fn copied<'h>(heap: &'h Refusing, bytes: &[u8]) -> Result<Bytes<&'h Refusing>, AllocError>
-    ensures copy { IfOk result (λ copy. copy ≡ bytes.now) }
-    ensures fits { IfOk result AreBytes }
+/// A copy of bytes, if they are few.
+fn copied<'h>(
+    row: &mut Row<'_>,
+    heap: &'h Refusing,
+    bytes: &[u8],
+) -> Result<Bytes<&'h Refusing>, AllocError>
+    ensures bytes { IfOk result AreBytes }
+    ensures short { IfOk result (λ copy. length copy ≤ 512) }
 {
-    Ok(Bytes::from(Vec::from_slice(heap, bytes)?))
+    if bytes.len() > SHORT {
+        row.refuse();
+        return Bytes::copy(heap, &[]);
+    }
+    Bytes::copy(heap, bytes)
 }
 
 /// A short text.
-fn text_of<'h>(heap: &'h Refusing, bytes: &[u8]) -> Result<Bytes<&'h Refusing>, Untold>
+fn text_of<'h>(
+    row: &mut Row<'_>,
+    heap: &'h Refusing,
+    bytes: &[u8],
+) -> Result<Bytes<&'h Refusing>, AllocError>
     ensures text { IfOk result IsText }
     ensures short { IfOk result (λ text. length text ≤ 512) }
 {
-    if bytes.len() > SHORT {
-        return Err(Untold::BadRow);
+    if bytes.len() > SHORT || !is_text(bytes) {
+        row.refuse();
+        return Bytes::copy(heap, &[]);
     }
-    if !is_text(bytes) {
-        return Err(Untold::BadRow);
-    }
-    Ok(copied(heap, bytes)?)
+    Bytes::copy(heap, bytes)
 }
 
 /// A short copy, if there is one.
 fn copy_of<'h>(
+    row: &mut Row<'_>,
     heap: &'h Refusing,
     copy: &Option<Vec<u8>>,
-) -> Result<Option<Bytes<&'h Refusing>>, Untold>
+) -> Result<Option<Bytes<&'h Refusing>>, AllocError>
     ensures bytes { IfOk result (λ copy. IfSome copy AreBytes) }
     ensures short { IfOk result (λ copy. copy_size (option_map length copy) ≤ 520) }
 {
-    let Some(bytes) = copy else {
-        return Ok(None);
-    };
-    if bytes.len() > SHORT {
-        return Err(Untold::BadRow);
+    match copy {
+        Some(bytes) => Ok(Some(copied(row, heap, bytes.as_slice())?)),
+        None => Ok(None),
     }
-    Ok(Some(copied(heap, bytes.as_slice())?))
 }
 
 /// A module, which may not end before it starts.
-fn module_of<'h>(heap: &'h Refusing, row: &ModuleRow) -> Result<Module<&'h Refusing>, Untold>
+fn module_of<'h>(
+    row: &mut Row<'_>,
+    heap: &'h Refusing,
+    read: &ModuleRow,
+) -> Result<Module<&'h Refusing>, AllocError>
     ensures module { IfOk result IsModule }
     ensures short { IfOk result (λ m. length m.line ≤ 512) }
 {
-    if row.end < row.start {
-        return Err(Untold::BadRow);
+    let mod_start = read.start;
+    let mut mod_end = read.end;
+    if mod_end < mod_start {
+        row.refuse();
+        mod_end = mod_start;
     }
-    let line = text_of(heap, row.line.as_slice())?;
+    let line = text_of(row, heap, read.line.as_slice())?;
     Ok(Module {
-        mod_start: row.start,
-        mod_end: row.end,
+        mod_start,
+        mod_end,
         line,
     })
 }
 
 /// At most two modules.
 fn modules_of<'h>(
+    row: &mut Row<'_>,
     heap: &'h Refusing,
     rows: &[ModuleRow],
-) -> Result<Vec<Module<&'h Refusing>, &'h Refusing>, Untold>
+) -> Result<Vec<Module<&'h Refusing>, &'h Refusing>, AllocError>
     ensures modules { IfOk result (λ modules. All IsModule modules.items) }
-    ensures short { IfOk result (λ modules.
-        sum_by (λ length. tag_size (length + 9)) (map (λ m. length m.line) modules.items) ≤ 1100) }
+    ensures short { IfOk result (λ modules. All (λ m. length m.line ≤ 512) modules.items) }
+    ensures few { IfOk result (λ modules. length modules.items ≤ 2) }
 {
     let mut modules = Vec::new(heap);
-    match rows {
-        [] => Ok(modules),
-        [only] => {
-            let only = module_of(heap, only)?;
-            modules.push(only)?;
-            Ok(modules)
-        }
-        [first, second] => {
-            let first = module_of(heap, first)?;
-            let second = module_of(heap, second)?;
-            modules.push(first)?;
-            modules.push(second)?;
-            Ok(modules)
-        }
-        _ => Err(Untold::BadRow),
+    if rows.len() > FEW {
+        row.refuse();
+        return Ok(modules);
     }
+    for read in rows {
+        let module = module_of(row, heap, read)?;
+        modules.push(module)?;
+    }
+    Ok(modules)
 }
 
 /// 636 KiB, the firmware's 64 KiB, and 3 MiB from 1 MiB on.
@@ -154,26 +148,25 @@ fn runs<'h>(heap: &'h Refusing) -> Result<Vec<Region, &'h Refusing>, AllocError>
     Vec::from_slice(heap, &runs)
 }
 
-/// The load base of a row, which has 32 bits.
-fn base_of(row: &InfoRow) -> Result<Option<u32>, Untold>
-    ensures { IfOk result (λ base. IfSome base (λ base. base < 2 ^ 32)) }
+/// The load base of a row.
+fn base_of(read: &InfoRow) -> Option<u32>
+    ensures { IfSome result (λ base. base < 2 ^ 32) }
 {
-    let Some(base) = row.base else {
-        return Ok(None);
-    };
-    if base > 0xFFFF_FFFF {
-        return Err(Untold::BadRow);
-    }
-    Ok(Some(base as u32))
+    let base = read.base?;
+    Some(base)
 }
 
 /// The facts of a row, on a machine of 636 and 3072 KiB.
-pub fn facts_of<'h>(heap: &'h Refusing, row: &InfoRow) -> Result<Facts<&'h Refusing>, Untold> {
-    let line = text_of(heap, row.line.as_slice())?;
-    let modules = modules_of(heap, row.modules.as_slice())?;
+pub fn facts_of<'h>(
+    row: &mut Row<'_>,
+    heap: &'h Refusing,
+    read: &InfoRow,
+) -> Result<Facts<&'h Refusing>, AllocError> {
+    let base = base_of(read);
+    let line = text_of(row, heap, read.line.as_slice())?;
+    let modules = modules_of(row, heap, read.modules.as_slice())?;
     let runs = runs(heap)?;
-    let old = copy_of(heap, &row.old)?;
-    let new = copy_of(heap, &row.new)?;
-    let base = base_of(row)?;
+    let old = copy_of(row, heap, &read.old)?;
+    let new = copy_of(row, heap, &read.new)?;
     Ok(Facts::new(line, modules, 636, 3072, runs, old, new, base))
 }

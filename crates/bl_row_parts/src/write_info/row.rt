@@ -17,38 +17,40 @@ pub struct InfoRow {
     pub modules: Vec<ModuleRow>,
     pub old: Option<Vec<u8>>,
     pub new: Option<Vec<u8>>,
-    pub base: Option<u64>,
+    pub base: Option<u32>,
+}
+
+fn module_of(row: &mut Row<'_>, words: &str) -> ModuleRow {
+    let (range, line) = row.cut(words, ":");
+    let (start, end) = row.cut(range, "..");
+    ModuleRow {
+        start: row.number32_of(start),
+        end: row.number32_of(end),
+        line: row.bytes_of(line),
+    }
 }
 
 impl InfoRow {
-    fn add_module(&mut self, row: &mut Row<'_>, words: &str) {
-        let (range, line) = row.cut(words, ":");
-        let (start, end) = row.cut(range, "..");
-        let module = ModuleRow {
-            start: row.number32_of(start),
-            end: row.number32_of(end),
-            line: row.bytes_of(line),
-        };
-        row.keep(&mut self.modules, module);
-    }
-
     fn add(&mut self, row: &mut Row<'_>, word: &str) {
         let (name, value) = row.cut(word, "=");
         match name {
-            "line" => self.line = row.bytes_of(value),
-            "module" => self.add_module(row, value),
+            "module" => {
+                let module = module_of(row, value);
+                row.keep(&mut self.modules, module);
+            }
             "old" => self.old = Some(row.bytes_of(value)),
             "new" => self.new = Some(row.bytes_of(value)),
-            "base" => self.base = Some(row.number_of(value)),
+            "base" => self.base = Some(row.number32_of(value)),
             _ => row.refuse(),
         }
     }
 }
 
-/// What the words that are left tell.
+/// What the words that are left tell, the line first.
 pub fn read_row(row: &mut Row<'_>) -> InfoRow {
+    let line = row.field("line");
     let mut read = InfoRow {
-        line: Vec::new(row.alloc),
+        line: row.bytes_of(line),
         modules: Vec::new(row.alloc),
         old: None,
         new: None,

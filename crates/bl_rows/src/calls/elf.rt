@@ -6,10 +6,12 @@ use bl_mem::{Segment, SliceView};
 
 /// A segment as `OFFSET,ADDRESS,FILESZ,MEMSZ`.
 pub fn say_segment(row: &mut Row<'_>, before: &str, segment: &Segment) {
-    row.say_number(before, segment.offset);
-    row.say_number(",", segment.address);
-    row.say_number(",", segment.filesz);
-    row.say_number(",", segment.memsz);
+    row.say_numbers(&[
+        (before, segment.offset),
+        (",", segment.address),
+        (",", segment.filesz),
+        (",", segment.memsz),
+    ]);
 }
 
 /// Segments, or `none`.
@@ -32,8 +34,7 @@ fn say_fault(row: &mut Row<'_>, fault: ElfFault) {
         ElfFault::SegmentCut(i) => row.say_number("fault 13 ", i as u64),
         ElfFault::AddressTooHigh(i) => row.say_number("fault 14 ", i as u64),
         ElfFault::SegmentsOverlap(i, j) => {
-            row.say_number("fault 15 ", i as u64);
-            row.say_number(" ", j as u64);
+            row.say_numbers(&[("fault 15 ", i as u64), (" ", j as u64)])
         }
         ElfFault::NoEntry => row.say("fault 16"),
         ElfFault::NoMemory => row.say("no memory"),
@@ -42,17 +43,14 @@ fn say_fault(row: &mut Row<'_>, fault: ElfFault) {
 
 /// Reads the executable over the heap.
 pub fn answer(row: &mut Row<'_>) {
-    match read_elf(row.heap, &SliceView::new(row.bytes)) {
-        Ok(elf) => {
-            say_segments(row, elf.segments());
-            match elf.entry() {
-                Ok(entry) => row.say_number(" entry ", entry as u64),
-                Err(fault) => {
-                    row.say(" entry ");
-                    say_fault(row, fault);
-                }
-            }
-        }
+    let elf = match read_elf(row.heap, &SliceView::new(row.bytes)) {
+        Ok(elf) => elf,
+        Err(fault) => return say_fault(row, fault),
+    };
+    say_segments(row, elf.segments());
+    row.say(" entry ");
+    match elf.entry() {
+        Ok(entry) => row.say_number("", entry as u64),
         Err(fault) => say_fault(row, fault),
     }
 }

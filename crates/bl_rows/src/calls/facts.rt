@@ -27,21 +27,26 @@ fn say_kind(row: &mut Row<'_>, machine: &Machine<&Refusing>, word: &str) {
     });
 }
 
+fn say_facts(row: &mut Row<'_>, machine: &Machine<&Refusing>) {
+    let pool = machine.pool();
+    row.say_numbers(&[
+        ("size ", machine.size()),
+        (" pool ", pool.start),
+        ("..", pool.end),
+    ]);
+    for word in row.rest().split_whitespace() {
+        if word.contains("..") {
+            say_usable(row, machine, word);
+        } else {
+            say_kind(row, machine, word);
+        }
+    }
+}
+
 /// Makes the machine again over the heap, and asks it.
 pub fn answer(row: &mut Row<'_>) {
     let heap = row.heap;
-    let Some(machine) = row.machine_over(heap) else {
-        return;
-    };
-    row.say_number("size ", machine.size());
-    let pool = machine.pool();
-    row.say_number(" pool ", pool.start);
-    row.say_number("..", pool.end);
-    for word in row.rest().split_whitespace() {
-        if word.contains("..") {
-            say_usable(row, &machine, word);
-        } else {
-            say_kind(row, &machine, word);
-        }
+    if let Some(machine) = row.machine_over(heap) {
+        say_facts(row, &machine);
     }
 }

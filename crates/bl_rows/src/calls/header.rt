@@ -2,7 +2,7 @@
 
 use crate::calls::elf::say_segment;
 use crate::row::Row;
-use bl_mb2head::{HeadFault, Header, Relocation, find_header};
+use bl_mb2head::{HeadFault, Header, find_header};
 use bl_mem::SliceView;
 
 /// A fault as its number and what it tells.
@@ -18,13 +18,6 @@ fn say_fault(row: &mut Row<'_>, fault: HeadFault) {
     }
 }
 
-fn say_relocation(row: &mut Row<'_>, relocation: &Relocation) {
-    row.say_number(" move ", relocation.min_addr as u64);
-    row.say_number("..", relocation.max_addr as u64);
-    row.say_number(" align ", relocation.align as u64);
-    row.say_number(" preference ", relocation.preference as u64);
-}
-
 /// Where the header stands, and what it has of a segment, an entry and a relocation.
 fn say_header(row: &mut Row<'_>, header: &Header) {
     row.say_number("at ", header.place);
@@ -35,7 +28,12 @@ fn say_header(row: &mut Row<'_>, header: &Header) {
         row.say_number(" entry ", entry);
     }
     if let Some(relocation) = &header.relocation {
-        say_relocation(row, relocation);
+        row.say_numbers(&[
+            (" move ", relocation.min_addr as u64),
+            ("..", relocation.max_addr as u64),
+            (" align ", relocation.align as u64),
+            (" preference ", relocation.preference as u64),
+        ]);
     }
 }
 

@@ -28,44 +28,22 @@ fn say_setup_fault(row: &mut Row<'_>, fault: SetupFault) {
     });
 }
 
-/// The fields that a setup header and boot parameters both have.
-const SHARED: [&str; 9] = [
-    " version=",
-    " loadflags=",
-    " initrd_addr_max=",
-    " kernel_alignment=",
-    " relocatable_kernel=",
-    " xloadflags=",
-    " cmdline_size=",
-    " pref_address=",
-    " init_size=",
-];
-
-fn say_shared(row: &mut Row<'_>, values: [u64; 9]) {
-    for (name, value) in SHARED.iter().zip(values.iter()) {
-        row.say_number(name, *value);
-    }
-}
-
 fn say_setup(row: &mut Row<'_>, setup: &Setup) {
-    row.say_number("setup_sects=", setup.setup_sects as u64);
-    say_shared(
-        row,
-        [
-            setup.version as u64,
-            setup.loadflags as u64,
-            setup.initrd_addr_max as u64,
-            setup.kernel_alignment as u64,
-            setup.relocatable_kernel as u64,
-            setup.xloadflags as u64,
-            setup.cmdline_size as u64,
-            setup.pref_address,
-            setup.init_size as u64,
-        ],
-    );
-    row.say_number(" header=", setup.header.as_slice().len() as u64);
-    row.say_number(" payload=", setup.payload_offset);
-    row.say_number("+", setup.payload_size);
+    row.say_numbers(&[
+        ("setup_sects=", setup.setup_sects as u64),
+        (" version=", setup.version as u64),
+        (" loadflags=", setup.loadflags as u64),
+        (" initrd_addr_max=", setup.initrd_addr_max as u64),
+        (" kernel_alignment=", setup.kernel_alignment as u64),
+        (" relocatable_kernel=", setup.relocatable_kernel as u64),
+        (" xloadflags=", setup.xloadflags as u64),
+        (" cmdline_size=", setup.cmdline_size as u64),
+        (" pref_address=", setup.pref_address),
+        (" init_size=", setup.init_size as u64),
+        (" header=", setup.header.as_slice().len() as u64),
+        (" payload=", setup.payload_offset),
+        ("+", setup.payload_size),
+    ]);
 }
 
 /// Reads a kernel's file.
@@ -143,24 +121,21 @@ pub fn answer_write(row: &mut Row<'_>) {
 }
 
 fn say_params(row: &mut Row<'_>, params: &Params<&Refusing>) {
-    row.say_number("code32_start=", params.code32_start as u64);
-    row.say_number(" ramdisk=", params.ramdisk_image as u64);
-    row.say_number("+", params.ramdisk_size as u64);
-    row.say_number(" cmd_line_ptr=", params.cmd_line_ptr as u64);
-    say_shared(
-        row,
-        [
-            params.version as u64,
-            params.loadflags as u64,
-            params.initrd_addr_max as u64,
-            params.kernel_alignment as u64,
-            params.relocatable_kernel as u64,
-            params.xloadflags as u64,
-            params.cmdline_size as u64,
-            params.pref_address,
-            params.init_size as u64,
-        ],
-    );
+    row.say_numbers(&[
+        ("code32_start=", params.code32_start as u64),
+        (" ramdisk=", params.ramdisk_image as u64),
+        ("+", params.ramdisk_size as u64),
+        (" cmd_line_ptr=", params.cmd_line_ptr as u64),
+        (" version=", params.version as u64),
+        (" loadflags=", params.loadflags as u64),
+        (" initrd_addr_max=", params.initrd_addr_max as u64),
+        (" kernel_alignment=", params.kernel_alignment as u64),
+        (" relocatable_kernel=", params.relocatable_kernel as u64),
+        (" xloadflags=", params.xloadflags as u64),
+        (" cmdline_size=", params.cmdline_size as u64),
+        (" pref_address=", params.pref_address),
+        (" init_size=", params.init_size as u64),
+    ]);
     for run in &params.runs {
         row.say_region(" run=", run);
     }

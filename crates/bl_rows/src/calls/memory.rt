@@ -63,29 +63,25 @@ fn lend<M: PhysMem>(row: &mut Row<'_>, memory: &M) {
     }
 }
 
-fn write<M: PhysMem>(row: &mut Row<'_>, memory: &mut M, at: u64, part: &[u8]) -> bool {
-    let Some(end) = at.checked_add(part.len() as u64) else {
-        row.refuse();
-        return false;
-    };
-    if !give_room(row, memory, &(at..end)) {
-        return false;
-    }
-    memory.write(at, part);
-    true
-}
-
-/// Writes the bytes at each of the places, until memory runs out.
-fn write_words<M: PhysMem>(row: &mut Row<'_>, memory: &mut M) {
-    let places = row.word();
-    let part = row.rest_bytes();
-    for at in places.split(",") {
-        let at = row.number_of(at);
-        if !write(row, memory, at, part.as_slice()) {
+/// Writes bytes at each of the places, until memory runs out.
+fn write_at_each<M: PhysMem>(row: &mut Row<'_>, memory: &mut M, places: &[u64], part: &[u8]) {
+    for at in places {
+        let Some(end) = at.checked_add(part.len() as u64) else {
+            return row.refuse();
+        };
+        if !give_room(row, memory, &(*at..end)) {
             return;
         }
+        memory.write(*at, part);
     }
     row.say("ok");
+}
+
+fn write<M: PhysMem>(row: &mut Row<'_>, memory: &mut M) {
+    let places = row.word();
+    let places = row.numbers_of(places);
+    let part = row.rest_bytes();
+    write_at_each(row, memory, places.as_slice(), part.as_slice());
 }
 
 fn zero<M: PhysMem>(row: &mut Row<'_>, memory: &mut M) {
@@ -119,7 +115,7 @@ pub fn step<M: PhysMem>(row: &mut Row<'_>, memory: &mut M, name: &str) {
             row.say_bytes("", bytes.as_slice());
         }
         "lend" => lend(row, memory),
-        "write" => write_words(row, memory),
+        "write" => write(row, memory),
         "zero" => zero(row, memory),
         "reserve" => reserve(row, memory),
         _ => row.refuse(),
@@ -127,8 +123,8 @@ pub fn step<M: PhysMem>(row: &mut Row<'_>, memory: &mut M, name: &str) {
 }
 
 /// Makes the steps on memory.
-fn answer_on<'a, M: PhysMem>(row: &mut Row<'a>, memory: &mut M, steps: &'a str) {
-    for words in steps.split(";") {
+fn make_steps<M: PhysMem>(row: &mut Row<'_>, memory: &mut M) {
+    for words in row.rest().split(";") {
         let refused = row.begin_step(words);
         let name = row.word();
         step(row, memory, name);
@@ -136,24 +132,19 @@ fn answer_on<'a, M: PhysMem>(row: &mut Row<'a>, memory: &mut M, steps: &'a str) 
     }
 }
 
-/// Memory in one block.
-pub fn answer(row: &mut Row<'_>) {
+/// Makes the steps on memory that keeps only some chunks, or in one block.
+pub fn answer(row: &mut Row<'_>, is_sparse: bool) {
     let size = row.number_field("size");
     let fill = row.byte_field("fill");
-    let steps = row.rest();
-    match Flat::new(row.heap, size, fill) {
-        Ok(mut memory) => answer_on(row, &mut memory, steps),
-        Err(_) => row.say("no memory"),
-    }
-}
-
-/// Memory that keeps only some chunks.
-pub fn answer_sparse(row: &mut Row<'_>) {
-    let size = row.number_field("size");
-    let fill = row.byte_field("fill");
-    let steps = row.rest();
-    match Sparse::new(row.heap, size, fill) {
-        Ok(mut memory) => answer_on(row, &mut memory, steps),
-        Err(_) => row.say("no memory"),
+    if is_sparse {
+        match Sparse::new(row.heap, size, fill) {
+            Ok(mut memory) => make_steps(row, &mut memory),
+            Err(_) => row.lack(),
+        }
+    } else {
+        match Flat::new(row.heap, size, fill) {
+            Ok(mut memory) => make_steps(row, &mut memory),
+            Err(_) => row.lack(),
+        }
     }
 }

@@ -89,7 +89,7 @@ fn is_row(row: &bl_plan::Row) -> bool
 fn are_rows(rows: &[bl_plan::Row]) -> bool
     ensures { IsTrue result → All IsRow rows.now }
 {
-    rows.iter().all(|row| is_row(row))
+    rows.iter().all(is_row)
 }
 
 /// Places as `ROLE INDEX ADDRESS+LENGTH`.
@@ -100,26 +100,29 @@ fn say_places(row: &mut Row<'_>, places: &[Place]) {
     for place in places {
         row.say_next();
         row.say_quoted("", place.role);
-        row.say_number(" ", place.index as u64);
-        row.say_number(" ", place.address);
-        row.say_number("+", place.length);
+        row.say_numbers(&[
+            (" ", place.index as u64),
+            (" ", place.address),
+            ("+", place.length),
+        ]);
     }
 }
 
-fn answer_on<'h>(row: &mut Row<'_>, heap: &'h Refusing, machine: Machine<&'h Refusing>) {
+fn read_rows(row: &mut Row<'_>) -> Vec<bl_plan::Row> {
     let mut rows = Vec::new(row.alloc);
-    let words = row.rest();
-    if !words.is_empty() {
-        for words in words.split(";") {
-            let _refused = row.begin_step(words);
-            let placed = row.placed();
-            row.keep(&mut rows, placed);
-        }
+    for words in row.rest().split_terminator(";") {
+        let _refused = row.begin_step(words);
+        let placed = row.placed();
+        row.keep(&mut rows, placed);
     }
-    if !are_rows(rows.as_slice()) {
+    rows
+}
+
+fn answer_on<'a>(row: &mut Row<'a>, machine: &Machine<&'a Refusing>, rows: &[bl_plan::Row]) {
+    if !are_rows(rows) {
         return row.refuse();
     }
-    match place_rows(heap, &machine, rows.as_slice()) {
+    match place_rows(row.heap, machine, rows) {
         Ok(places) => say_places(row, places.as_slice()),
         Err(fault) => row.say(fault_text(fault)),
     }
@@ -128,9 +131,9 @@ fn answer_on<'h>(row: &mut Row<'_>, heap: &'h Refusing, machine: Machine<&'h Ref
 /// Places the rows over the heap. The machine stands over another one, so that its requests are
 /// not refused.
 pub fn answer(row: &mut Row<'_>) {
-    let beside = Refusing::new(row.alloc, 0);
-    let heap = row.heap;
-    if let Some(machine) = row.machine_over(&beside) {
-        answer_on(row, heap, machine);
+    let rows = read_rows(row);
+    let beside = &row.session.beside;
+    if let Some(machine) = row.machine_over(beside) {
+        answer_on(row, &machine, rows.as_slice());
     }
 }

@@ -18,13 +18,6 @@ pub fn fault_text(fault: PlanFault) -> &'static str {
     }
 }
 
-fn say_address(row: &mut Row<'_>, answer: Result<u64, PlanFault>) {
-    match answer {
-        Ok(address) => row.say_number("", address),
-        Err(fault) => row.say(fault_text(fault)),
-    }
-}
-
 fn take(row: &mut Row<'_>, planner: &mut Planner<'_, &Refusing>) {
     let word = row.word();
     let range = row.range_of(word);
@@ -37,24 +30,19 @@ fn take(row: &mut Row<'_>, planner: &mut Planner<'_, &Refusing>) {
     });
 }
 
-fn place(row: &mut Row<'_>, planner: &mut Planner<'_, &Refusing>) {
-    let length = row.number_field("len");
-    let align = row.number_field("align");
-    let low = row.number_field("low");
-    let high = row.number_field("high");
-    let side = match row.word() {
+fn side_of(row: &mut Row<'_>) -> Side {
+    match row.word() {
         "lowest" => Side::Lowest,
         "highest" => Side::Highest,
-        _ => return row.refuse(),
-    };
-    if length == 0 || align == 0 {
-        return row.refuse();
+        _ => {
+            row.refuse();
+            Side::Lowest
+        }
     }
-    say_address(row, planner.place(length, align, low, high, side));
 }
 
-fn prefer(row: &mut Row<'_>, planner: &mut Planner<'_, &Refusing>) {
-    let at = row.number_field("at");
+/// Places a part, at an address if it may be there.
+fn place(row: &mut Row<'_>, planner: &mut Planner<'_, &Refusing>, at: Option<u64>) {
     let length = row.number_field("len");
     let align = row.number_field("align");
     let low = row.number_field("low");
@@ -62,30 +50,40 @@ fn prefer(row: &mut Row<'_>, planner: &mut Planner<'_, &Refusing>) {
     if length == 0 || align == 0 {
         return row.refuse();
     }
-    say_address(row, planner.prefer(at, length, align, low, high));
+    let placed = match at {
+        Some(at) => planner.prefer(at, length, align, low, high),
+        None => planner.place(length, align, low, high, side_of(row)),
+    };
+    match placed {
+        Ok(address) => row.say_number("", address),
+        Err(fault) => row.say(fault_text(fault)),
+    }
 }
 
 fn say_taken(row: &mut Row<'_>, planner: &Planner<'_, &Refusing>) {
     row.say("taken");
     for range in planner.taken() {
-        row.say_number(" ", range.start);
-        row.say_number("..", range.end);
+        row.say_numbers(&[(" ", range.start), ("..", range.end)]);
     }
 }
 
-fn answer_on<'h>(row: &mut Row<'_>, heap: &'h Refusing, machine: Machine<&'h Refusing>) {
-    let Ok(mut planner) = Planner::new(heap, &machine) else {
-        return row.lack();
-    };
+fn step(row: &mut Row<'_>, planner: &mut Planner<'_, &Refusing>) {
+    match row.word() {
+        "take" => take(row, planner),
+        "place" => place(row, planner, None),
+        "prefer" => {
+            let at = row.number_field("at");
+            place(row, planner, Some(at));
+        }
+        "taken" => say_taken(row, planner),
+        _ => row.refuse(),
+    }
+}
+
+fn make_steps(row: &mut Row<'_>, planner: &mut Planner<'_, &Refusing>) {
     for words in row.rest().split(";") {
         let refused = row.begin_step(words);
-        match row.word() {
-            "take" => take(row, &mut planner),
-            "place" => place(row, &mut planner),
-            "prefer" => prefer(row, &mut planner),
-            "taken" => say_taken(row, &planner),
-            _ => row.refuse(),
-        }
+        step(row, planner);
         row.mark_unasked(refused);
     }
 }
@@ -93,9 +91,13 @@ fn answer_on<'h>(row: &mut Row<'_>, heap: &'h Refusing, machine: Machine<&'h Ref
 /// Makes the steps over the heap. The machine stands over another one, so that its requests are
 /// not refused.
 pub fn answer(row: &mut Row<'_>) {
-    let beside = Refusing::new(row.alloc, 0);
     let heap = row.heap;
-    if let Some(machine) = row.machine_over(&beside) {
-        answer_on(row, heap, machine);
+    let beside = &row.session.beside;
+    let Some(machine) = row.machine_over(beside) else {
+        return;
+    };
+    match Planner::new(heap, &machine) {
+        Ok(mut planner) => make_steps(row, &mut planner),
+        Err(_) => row.lack(),
     }
 }

@@ -6,7 +6,7 @@ ghost use Rattle.std.specs.Prelude.{All, IsTrue, ◌≡◌, ◌≤◌, ◌<◌, 
 ghost use Rattle.bl_stage.specs.Staged.{AreApart};
 ghost use Rattle.bl_map.specs.Room.{frames_for};
 
-use crate::calls::staging::{Staging, fault_text, step};
+use crate::calls::staging::{fault_text, make_steps};
 use crate::row::Row;
 use bl_map::{FRAME, Machine, frames_of};
 use bl_mem::{Flat, PhysMem, Sparse};
@@ -55,79 +55,63 @@ fn are_frames(pool: &Range<u64>, frames: &[u64]) -> bool
     frames.iter().all(|frame| frame % FRAME == 0 && pool.start <= *frame && *frame < pool.end)
 }
 
-/// The stage over the heap; none where the row may not ask for it.
-fn begin<'h>(
-    row: &mut Row<'_>,
-    heap: &'h Refusing,
-    machine: &Machine<&'h Refusing>,
+/// The stage over the heap, in frames that the row names.
+fn begin_at<'a>(
+    row: &mut Row<'a>,
+    machine: &Machine<&Refusing>,
     sizes: &[u64],
-    frames: &str,
-) -> Option<Result<Stage<&'h Refusing>, StageFault>> {
-    if frames == "any" {
-        return Some(Stage::begin(heap, machine, sizes));
-    }
-    let frames = row.numbers_of(frames);
-    let frames = frames.as_slice();
+    frames: &[u64],
+) -> Result<Stage<&'a Refusing>, StageFault> {
     if !are_frames(&machine.pool(), frames) || !are_enough(sizes, frames) || !are_apart(frames) {
         row.refuse();
-        return None;
+        return Err(StageFault::NoPool);
     }
-    Some(Stage::begin_at(heap, machine, sizes, frames))
+    Stage::begin_at(row.heap, machine, sizes, frames)
+}
+
+/// The stage over the heap.
+fn begin<'a>(
+    row: &mut Row<'a>,
+    machine: &Machine<&Refusing>,
+    sizes: &[u64],
+) -> Result<Stage<&'a Refusing>, StageFault> {
+    let frames = row.field("frames");
+    if frames == "any" {
+        return Stage::begin(row.heap, machine, sizes);
+    }
+    let frames = row.numbers_of(frames);
+    begin_at(row, machine, sizes, frames.as_slice())
 }
 
 /// Makes the steps on a stage over the heap.
-fn answer_on<'h, M: PhysMem + Drop>(
-    row: &mut Row<'_>,
-    heap: &'h Refusing,
-    machine: Machine<&'h Refusing>,
-    memory: M,
-) {
+fn answer_on<M: PhysMem>(row: &mut Row<'_>, machine: &Machine<&Refusing>, memory: &mut M) {
     let sizes = row.field("sizes");
     let sizes = row.numbers_of(sizes);
-    let frames = row.field("frames");
-    let steps = row.rest();
-    let Some(stage) = begin(row, heap, &machine, sizes.as_slice(), frames) else {
-        return;
-    };
-    let stage = match stage {
-        Ok(stage) => stage,
-        Err(fault) => return row.say(fault_text(fault)),
-    };
-    let mut staging = Staging {
-        machine,
-        memory,
-        stage,
-    };
-    for words in steps.split(";") {
-        let refused = row.begin_step(words);
-        step(row, &mut staging);
-        row.mark_unasked(refused);
+    match begin(row, machine, sizes.as_slice()) {
+        Ok(mut stage) => make_steps(row, machine, memory, &mut stage),
+        Err(fault) => {
+            row.say(fault_text(fault));
+            let _steps = row.rest();
+        }
     }
 }
 
-/// The answer over memory in one block. The machine and the memory stand over another heap, so
-/// that their requests are not refused.
-pub fn answer(row: &mut Row<'_>) {
-    let beside = Refusing::new(row.alloc, 0);
-    let heap = row.heap;
-    let Some(machine) = row.machine_over(&beside) else {
+/// The answer over memory that keeps only some frames, or in one block. The machine and the memory
+/// stand over another heap, so that their requests are not refused.
+pub fn answer(row: &mut Row<'_>, is_sparse: bool) {
+    let beside = &row.session.beside;
+    let Some(machine) = row.machine_over(beside) else {
         return;
     };
-    match Flat::new(&beside, machine.size(), FILL) {
-        Ok(memory) => answer_on(row, heap, machine, memory),
-        Err(_) => row.lack(),
-    }
-}
-
-/// The same over memory that keeps only some frames.
-pub fn answer_sparse(row: &mut Row<'_>) {
-    let beside = Refusing::new(row.alloc, 0);
-    let heap = row.heap;
-    let Some(machine) = row.machine_over(&beside) else {
-        return;
-    };
-    match Sparse::new(&beside, machine.size(), FILL) {
-        Ok(memory) => answer_on(row, heap, machine, memory),
-        Err(_) => row.lack(),
+    if is_sparse {
+        match Sparse::new(beside, machine.size(), FILL) {
+            Ok(mut memory) => answer_on(row, &machine, &mut memory),
+            Err(_) => row.lack(),
+        }
+    } else {
+        match Flat::new(beside, machine.size(), FILL) {
+            Ok(mut memory) => answer_on(row, &machine, &mut memory),
+            Err(_) => row.lack(),
+        }
     }
 }

@@ -12,14 +12,6 @@ use bl_refusing::Refusing;
 use bl_stage::{Put, Stage, StageFault, scrub};
 use std::ops::Range;
 
-/// What the steps are made on.
-#[derive(Drop)]
-pub struct Staging<'h, M: PhysMem + Drop> {
-    pub machine: Machine<&'h Refusing>,
-    pub memory: M,
-    pub stage: Stage<&'h Refusing>,
-}
-
 /// A fault in few words.
 pub fn fault_text(fault: StageFault) -> &'static str {
     match fault {
@@ -45,31 +37,30 @@ fn give_pool<M: PhysMem>(row: &mut Row<'_>, memory: &mut M, pool: &Range<u64>) -
 }
 
 /// Puts the bytes of these words as a piece.
-fn put<M: PhysMem + Drop>(
+fn put<M: PhysMem>(
     row: &mut Row<'_>,
-    staging: &mut Staging<'_, M>,
+    memory: &mut M,
+    stage: &mut Stage<&Refusing>,
     place: (&str, &str),
     words: &str,
 ) -> Put {
     let file = row.number32_of(place.0);
     let index = row.number32_of(place.1);
     let bytes = row.bytes_of(words);
-    let pool = staging.stage.pool();
-    if !give_pool(row, &mut staging.memory, &pool) {
+    let pool = stage.pool();
+    if !give_pool(row, memory, &pool) {
         return Put::Strange;
     }
-    staging
-        .stage
-        .put(&mut staging.memory, file, index, bytes.as_slice())
+    stage.put(memory, file, index, bytes.as_slice())
 }
 
 /// Puts one piece after the other. What each is answered is one letter: `s` for stored, `r` for
 /// repeated, `x` for strange.
-fn put_all<M: PhysMem + Drop>(row: &mut Row<'_>, staging: &mut Staging<'_, M>) {
+fn put_all<M: PhysMem>(row: &mut Row<'_>, memory: &mut M, stage: &mut Stage<&Refusing>) {
     for word in row.rest().split_whitespace() {
         let (place, piece) = row.cut(word, "=");
         let place = row.cut(place, ".");
-        let letter = match put(row, staging, place, piece) {
+        let letter = match put(row, memory, stage, place, piece) {
             Put::Stored => "s",
             Put::Repeated => "r",
             Put::Strange => "x",
@@ -78,11 +69,11 @@ fn put_all<M: PhysMem + Drop>(row: &mut Row<'_>, staging: &mut Staging<'_, M>) {
     }
 }
 
-fn put_one<M: PhysMem + Drop>(row: &mut Row<'_>, staging: &mut Staging<'_, M>) {
+fn put_one<M: PhysMem>(row: &mut Row<'_>, memory: &mut M, stage: &mut Stage<&Refusing>) {
     let file = row.word();
     let index = row.word();
     let words = row.rest();
-    let word = match put(row, staging, (file, index), words) {
+    let word = match put(row, memory, stage, (file, index), words) {
         Put::Stored => "stored",
         Put::Repeated => "repeated",
         Put::Strange => "strange",
@@ -90,58 +81,63 @@ fn put_one<M: PhysMem + Drop>(row: &mut Row<'_>, staging: &mut Staging<'_, M>) {
     row.say(word);
 }
 
-fn view<M: PhysMem + Drop>(row: &mut Row<'_>, staging: &Staging<'_, M>) {
+fn view<M: PhysMem>(row: &mut Row<'_>, memory: &M, stage: &Stage<&Refusing>) {
     let file = row.number32();
-    let pool = staging.stage.pool();
-    if !has_pool(&staging.memory, &pool) || staging.stage.files() <= file as usize {
+    if !has_pool(memory, &stage.pool()) || stage.files() <= file as usize || !stage.complete() {
         return row.refuse();
     }
-    if !staging.stage.complete() {
-        return row.refuse();
-    }
-    let view = staging.stage.view(&staging.memory, file);
+    let view = stage.view(memory, file);
     let mut bytes = row.zeros(view.len());
     view.read(0, bytes.as_mut_slice());
     row.say_bytes("", bytes.as_slice());
 }
 
-fn evacuate<M: PhysMem + Drop>(row: &mut Row<'_>, staging: &mut Staging<'_, M>) {
+fn evacuate<M: PhysMem>(row: &mut Row<'_>, memory: &mut M, stage: &mut Stage<&Refusing>) {
     let ranges = row.rest_ranges();
-    let pool = staging.stage.pool();
-    if !give_pool(row, &mut staging.memory, &pool) {
-        return;
+    if give_pool(row, memory, &stage.pool()) {
+        row.say(match stage.evacuate(memory, ranges.as_slice()) {
+            Ok(()) => "ok",
+            Err(fault) => fault_text(fault),
+        });
     }
-    let moved = staging
-        .stage
-        .evacuate(&mut staging.memory, ranges.as_slice());
-    row.say(match moved {
-        Ok(()) => "ok",
-        Err(fault) => fault_text(fault),
-    });
 }
 
-fn scrub_all<M: PhysMem + Drop>(row: &mut Row<'_>, staging: &mut Staging<'_, M>) {
+fn scrub_all<M: PhysMem>(row: &mut Row<'_>, machine: &Machine<&Refusing>, memory: &mut M) {
     let keep = row.rest_ranges();
-    let pool = staging.machine.pool();
-    if give_pool(row, &mut staging.memory, &pool) {
-        scrub(&staging.machine, &mut staging.memory, keep.as_slice());
+    if give_pool(row, memory, &machine.pool()) {
+        scrub(machine, memory, keep.as_slice());
         row.say("ok");
     }
 }
 
-/// Makes the step of the row's words.
-pub fn step<M: PhysMem + Drop>(row: &mut Row<'_>, staging: &mut Staging<'_, M>) {
+fn step<M: PhysMem>(
+    row: &mut Row<'_>,
+    machine: &Machine<&Refusing>,
+    memory: &mut M,
+    stage: &mut Stage<&Refusing>,
+) {
     match row.word() {
-        "put" => put_one(row, staging),
-        "puts" => put_all(row, staging),
-        "complete" => row.say(if staging.stage.complete() {
-            "complete"
-        } else {
-            "waiting"
-        }),
-        "view" => view(row, staging),
-        "evacuate" => evacuate(row, staging),
-        "scrub" => scrub_all(row, staging),
-        name => memory::step(row, &mut staging.memory, name),
+        "put" => put_one(row, memory, stage),
+        "puts" => put_all(row, memory, stage),
+        "complete" if stage.complete() => row.say("complete"),
+        "complete" => row.say("waiting"),
+        "view" => view(row, memory, stage),
+        "evacuate" => evacuate(row, memory, stage),
+        "scrub" => scrub_all(row, machine, memory),
+        name => memory::step(row, memory, name),
+    }
+}
+
+/// Makes the steps of the words that are left.
+pub fn make_steps<M: PhysMem>(
+    row: &mut Row<'_>,
+    machine: &Machine<&Refusing>,
+    memory: &mut M,
+    stage: &mut Stage<&Refusing>,
+) {
+    for words in row.rest().split(";") {
+        let refused = row.begin_step(words);
+        step(row, machine, memory, stage);
+        row.mark_unasked(refused);
     }
 }

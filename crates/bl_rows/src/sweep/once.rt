@@ -1,7 +1,6 @@
 //! A row's call, made once.
 
 use crate::calls::Calls;
-use crate::calls::machine::MachineRow;
 use crate::row::Row;
 use crate::session::Session;
 use bl_refusing::Refusing;
@@ -18,7 +17,6 @@ pub struct Over {
 #[derive(Drop)]
 pub struct Said {
     pub text: String,
-    pub made: Option<MachineRow>,
     pub is_bad: bool,
     pub is_short: bool,
 }
@@ -46,9 +44,8 @@ pub fn make_once<'a, C: Calls>(
         row.say(", and leaks");
     }
     Said {
-        is_bad: row.is_bad(),
-        is_short: row.is_short(),
-        made: row.made.take(),
-        text: row.take_text(),
+        is_bad: row.is_bad,
+        is_short: row.is_short,
+        text: row.text,
     }
 }

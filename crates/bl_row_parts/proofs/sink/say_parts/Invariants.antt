@@ -1,6 +1,6 @@
 use Rattle.std.proofs.Common.{◌≤◌}
 use Rattle.bl_row_parts.proofs.sink.say_parts.Given as goal
 
--- each part so far was at most one fault
-abbrev pub invariant-loop-i : goal.invariant-loop-i
-invariant-loop-i g l = g.S.Sink.faults l.sink ≤ l.i
+-- a sink has few faults
+abbrev pub invariant-loop-word : goal.invariant-loop-word
+invariant-loop-word g l = g.S.Sink.faults l.sink ≤ 1000

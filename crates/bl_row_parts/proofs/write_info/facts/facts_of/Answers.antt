@@ -1,11 +1,23 @@
-use Rattle.std.proofs.Common.{◌≤◌, Bool, true, false, arith}
-use Rattle.std.specs.Prelude.{is_some}
-use Rattle.bl_mbi.specs.Size.{load_base_size}
+use Rattle.std.proofs.Common.{◌≤◌, ◌+◌, ◌∷◌, [], List, All, Bool, true, false, length, map, arith}
+use Rattle.std.specs.Prelude.{is_some, sum_by}
+use Rattle.bl_mbi.specs.Size.{load_base_size, tag_size}
+use Rattle.bl_mbi.specs.InformationFacts.{ModuleInfo}
 use Rattle.bl_row_parts.proofs.write_info.facts.facts_of.Goals as goal
 
 most_load_base : (b : Bool) → load_base_size b ≤ 16
 most_load_base true = omega arith
 most_load_base false = omega arith
+
+-- at most two modules, each with a short line
+most_modules : (modules : List ModuleInfo)
+    → All (λ m. length m.line ≤ 512) modules
+    → length modules ≤ 2
+    → sum_by (λ length. tag_size (length + 9)) (map (λ m. length m.line) modules) ≤ 1100
+most_modules [] short few = omega arith
+most_modules (a ∷ []) short few = omega (arith, short 0 a (omega arith))
+most_modules (a ∷ b ∷ []) short few =
+    omega (arith, short 0 a (omega arith), short 1 b (omega arith))
+most_modules (a ∷ b ∷ c ∷ rest) short few = absurd (omega arith)
 
 pub new-requires : goal.new-requires
 new-requires c =
@@ -18,15 +30,15 @@ new-requires c =
         runs = c.in_ok-runs.ensures.low;
         rsdp_old = c.in_ok-old.ensures.bytes;
         rsdp_new = c.in_ok-new.ensures.bytes;
-        load_base = c.in_ok-base.ensures;
+        load_base = c.base_of-base.ensures;
       };
       small = omega (
         arith,
         c.in_ok-line.ensures.short,
-        c.in_ok-modules.ensures.short,
+        most_modules _ c.in_ok-modules.ensures.short c.in_ok-modules.ensures.few,
         c.in_ok-runs.ensures.few,
         c.in_ok-old.ensures.short,
         c.in_ok-new.ensures.short,
-        most_load_base (is_some c.in_ok-base.base),
+        most_load_base (is_some c.base_of-base.result),
       );
     }
