@@ -1,22 +1,22 @@
 -- How long the information is.
 use Rattle.std.proofs.Common.{◌≡◌, ◌≤◌, ◌<◌, ◌+◌, ◌*◌, ◌^◌, ℕ, suc, List, [], ◌∷◌, length, All}
 use Rattle.std.proofs.Common.{Bool, true, false, Option, Some, None, arith, refl, ap, ◌∙◌}
-use Rattle.std.specs.Prelude.{codes, is_some, option_map, map, sum_by}
+use Rattle.std.specs.Prelude.{IfSome, codes, is_some, option_map, map, sum_by}
 use Rattle.std.proofs.lemmas.List.Sums.{sum_by-cons}
 use Rattle.std.proofs.lemmas.List.Elements.{All-head, All-tail}
 use Rattle.bl_map.specs.MachineFacts.{MachineFacts}
 use Rattle.bl_mb2head.specs.declared.relocation.Relocation.{Relocation}
 use Rattle.bl_mbi.specs.InformationFacts.{ModuleInfo, info_size}
-use Rattle.bl_mbi.specs.Size.{size_of, tag_size, load_base_size}
+use Rattle.bl_mbi.specs.Size.{size_of, tag_size, copy_size, load_base_size}
 use Rattle.bl_mbi.specs.Spelling.{spelling}
 use Rattle.bl_mbi.proofs.Sizes.{length-spelling}
 use Rattle.bl_plan.specs.declared.part.Place.{Place}
 use Rattle.bl_plan.specs.declared.part.Role.TheVariants.{Kernel}
 use Rattle.bl_load.specs.Addresses.{address_of}
-use Rattle.bl_load.specs.Value.{EntryValue}
+use Rattle.bl_load.specs.Value.{EntryValue, IsCopy}
 use Rattle.bl_map.specs.Room.{whole_frames}
 use Rattle.bl_load.specs.Rows.{modules_of, information_of}
-use Rattle.bl_load.specs.PlacingKept.{tags_size}
+use Rattle.bl_load.specs.PlacingKept.{tags_size, copies_size}
 
 most_load_base : (b : Bool) → load_base_size b ≤ 16
 most_load_base true = omega arith
@@ -53,12 +53,25 @@ tags_small (line ∷ lines) short =
     let rest = tags_small lines (All-tail (λ (l : List ℕ). length l ≤ 4095) line lines short) in
     omega arith
 
+-- a copy's tag takes at most 264 bytes
+pub most_copy_size : (copy : Option (List ℕ)) → IfSome copy IsCopy
+    → copy_size (option_map length copy) ≤ 264
+most_copy_size None is = omega arith
+most_copy_size (Some copy) is = let short = is.short in omega (arith, short)
+
+-- with few modules and copies it is short too
+pub told_below : (line tags runs old new : ℕ) (given : Bool) → line ≤ 4095 → runs ≤ 256
+    → tags < 2 ^ 20 → old ≤ 264 → new ≤ 264
+    → size_of line [] runs None None given + tags + old + new < 2 ^ 32
+told_below line tags runs old new given l r t o n =
+    let s = size_below line runs given l r in omega (arith, s)
+
 -- its size does not depend on any place
 pub info_size_is : (facts : MachineFacts) (value : EntryValue) (relocation : Option Relocation)
     (places : List Place)
     → info_size (information_of facts value relocation places)
     ≡ size_of (length value.line) [] (length facts.runs) None None (is_some relocation)
-    + tags_size value.module_lines
+    + (tags_size value.module_lines + copies_size value.rsdp_old value.rsdp_new)
 info_size_is facts value relocation places =
     let tags = tags_size_is value.files places 0 value.module_lines in
     let given = same_given relocation (address_of Kernel 0 places) in

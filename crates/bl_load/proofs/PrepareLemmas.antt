@@ -1,5 +1,5 @@
 -- What is prepared of an entry by its lines and its kernel.
-use Rattle.std.proofs.Common.{◌≡◌, ◌≤◌, ℕ, List, [], ◌∷◌, length, get_or, map, None, arith, refl}
+use Rattle.std.proofs.Common.{◌≡◌, ◌≤◌, ℕ, List, [], ◌∷◌, length, get_or, map, Option, None, arith, refl}
 use Rattle.std.proofs.Common.{true, sym, ap, ◌∙◌, inl, inr}
 use Rattle.std.proofs.lemmas.List.{get_or-map}
 use Rattle.bl_map.specs.MachineFacts.{MachineFacts}
@@ -46,12 +46,12 @@ module _ (facts : MachineFacts) (value : EntryValue) (sound : lines_fault (lines
 
 -- a fault of its kernel refuses an entry whose lines have none
 pub refused_multiboot2 : (facts : MachineFacts) (texts : List (List ℕ)) (line : List ℕ)
-    (lines : List (List ℕ)) → lines_fault (line ∷ lines) ≡ None → (fault : PrepFault)
-    → IsKernelFault (text_at texts 0) fault
-    → IsPrepFault facts (multiboot2_value texts line lines) fault
-refused_multiboot2 facts texts line lines sound (prep.Refused refused) has =
+    (lines : List (List ℕ)) (old new : Option (List ℕ)) → lines_fault (line ∷ lines) ≡ None
+    → (fault : PrepFault) → IsKernelFault (text_at texts 0) fault
+    → IsPrepFault facts (multiboot2_value texts line lines old new) fault
+refused_multiboot2 facts texts line lines old new sound (prep.Refused refused) has =
     inr (sound, inl (inl (refl, has)))
-refused_multiboot2 facts texts line lines sound prep.NoMemory has = tt
+refused_multiboot2 facts texts line lines old new sound prep.NoMemory has = tt
 
 pub refused_linux : (facts : MachineFacts) (protocol : Protocol) (texts : List (List ℕ))
     (line : List ℕ) → has_params protocol ≡ true → lines_fault (line ∷ []) ≡ None

@@ -6,6 +6,7 @@ pub mod Loadable
 pub mod Kept
 pub mod HandoffFacts
 pub mod Value
+pub mod Offered
 pub mod Numbers
 pub mod Kernel
 pub mod KernelKept
@@ -22,4 +23,3 @@ pub mod ReadKept
 pub mod SourceKept
 pub mod Legal
 pub mod After
-pub mod ByteLines

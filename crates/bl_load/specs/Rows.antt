@@ -74,8 +74,8 @@ modules_of files places k (line ∷ lines) = record {
   line = line;
 } ∷ modules_of files places (suc k) lines
 
--- what the information tells, where the parts have these places: the load base only with a
--- relocatable tag
+-- what the information tells, where the parts have these places: the copies of the RSDP as they
+-- stand, the load base only with a relocatable tag
 abbrev pub information_of : MachineFacts → EntryValue → Option Relocation → List Place
     → InformationFacts
 information_of facts value relocation places = record {
@@ -84,8 +84,8 @@ information_of facts value relocation places = record {
   mem_lower = low_kib facts.runs;
   mem_upper = high_kib facts.runs;
   runs = facts.runs;
-  rsdp_old = None;
-  rsdp_new = None;
+  rsdp_old = value.rsdp_old;
+  rsdp_new = value.rsdp_new;
   load_base = option_map (λ r. address_of Kernel 0 places) relocation;
 }
 

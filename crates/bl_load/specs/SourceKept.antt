@@ -5,7 +5,7 @@ use Rattle.bl_load.specs.declared.source.Source.{Source}
 use Rattle.bl_load.specs.Kept.{lines_by}
 use Rattle.bl_load.specs.ReadKept.{reading_by, HasFiles}
 use Rattle.bl_load.specs.Reading.{Reading, IsRead}
-use Rattle.bl_load.specs.Value.{EntryValue, value_from}
+use Rattle.bl_load.specs.Value.{EntryValue}
 
 -- the files' bytes
 abbrev pub texts_in : {A : Type 0} → {V : Type 0} → {view : Ghosts V} → Source A V view
@@ -18,8 +18,14 @@ reading_in source = reading_by source.kernel.now
 
 -- the entry's value
 abbrev pub value_in : {A : Type 0} → {V : Type 0} → {view : Ghosts V} → Source A V view → EntryValue
-value_in source =
-    value_from source.protocol (texts_in source) source.line.now (lines_by source.modules.now)
+value_in source = record {
+  protocol = source.protocol;
+  line = source.line.now;
+  files = texts_in source;
+  module_lines = lines_by source.modules.now;
+  rsdp_old = source.rsdp_old.now;
+  rsdp_new = source.rsdp_new.now;
+}
 
 -- the kernel was read so, and there is what it needs
 pub record IsReady {A : Type 0} {V : Type 0} {view : Ghosts V}

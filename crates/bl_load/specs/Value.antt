@@ -1,6 +1,6 @@
 -- An entry's value: what is booted, wherever its files lie and whatever they are called. Own.
 use Rattle.std.specs.Prelude.{ℕ, ◌+◌, ◌≤◌, if◌then◌else◌, ◌==◌, nat_lt, List, [], ◌∷◌, length, map}
-use Rattle.std.specs.Prelude.{slice_index_or, Option, Some, None, option_to_list}
+use Rattle.std.specs.Prelude.{slice_index_or, Option, Some, None, IfSome, option_to_list}
 use Rattle.std.specs.List.{list_any}
 use Rattle.std.specs.Option.{option_or}
 use Rattle.bl_plan.specs.Limits.{most_modules}
@@ -12,31 +12,44 @@ use Rattle.bl_load.specs.declared.refusal.Refusal.{Refusal}
 use Rattle.bl_load.specs.declared.refusal.Refusal.TheVariants.{LineHasNul, LineTooLong}
 
 -- an entry's value: its protocol, its line, its files' bytes in order (the kernel first), its
--- modules' lines
+-- modules' lines, and the copies of the old and of the new RSDP that it hands over
 pub record EntryValue : Type 0 where
   pub protocol : Protocol
   pub line : List ℕ
   pub files : List (List ℕ)
   pub module_lines : List (List ℕ)
+  pub rsdp_old : Option (List ℕ)
+  pub rsdp_new : Option (List ℕ)
 
--- the value of an entry of this protocol with this line and these lines of its modules, whose files
--- hold these texts
-abbrev pub value_from : Protocol → List (List ℕ) → List ℕ → List (List ℕ) → EntryValue
-value_from protocol texts line lines =
-    record { protocol = protocol; line = line; files = texts; module_lines = lines }
+-- the value of a Multiboot2 entry with this line, these lines of its modules and these copies,
+-- whose files hold these texts
+abbrev pub multiboot2_value : List (List ℕ) → List ℕ → List (List ℕ) → Option (List ℕ)
+    → Option (List ℕ) → EntryValue
+multiboot2_value texts line lines old new = record {
+  protocol = protocols.Multiboot2;
+  line = line;
+  files = texts;
+  module_lines = lines;
+  rsdp_old = old;
+  rsdp_new = new;
+}
 
--- that of a Multiboot2 entry
-abbrev pub multiboot2_value : List (List ℕ) → List ℕ → List (List ℕ) → EntryValue
-multiboot2_value texts line lines = value_from protocols.Multiboot2 texts line lines
-
--- that of a Linux entry, by the protocol that its kernel is entered with
+-- that of a Linux entry, by the protocol that its kernel is entered with: it has no modules and
+-- hands over no copy
 abbrev pub linux_value : Protocol → List (List ℕ) → List ℕ → EntryValue
-linux_value protocol texts line = value_from protocol texts line []
+linux_value protocol texts line = record {
+  protocol = protocol;
+  line = line;
+  files = texts;
+  module_lines = [];
+  rsdp_old = None;
+  rsdp_new = None;
+}
 
 -- the value of an entry whose files hold these texts
 abbrev pub value_of : {A : Type 0} → List (List ℕ) → Entry A → EntryValue
-value_of texts (Multiboot2 kernel line modules) =
-    multiboot2_value texts line (map (λ m. m.line) modules.items)
+value_of texts (Multiboot2 kernel line modules rsdp_old rsdp_new) =
+    multiboot2_value texts line (map (λ m. m.line) modules.items) rsdp_old rsdp_new
 value_of texts (Linux kernel line initrd) = linux_value protocols.Linux texts line
 
 -- the bytes of the kernel's file
@@ -54,13 +67,23 @@ initrd_file files = slice_index_or files 1 []
 
 -- how many files an entry has: the kernel, and the modules or the initial ramdisk
 abbrev pub file_count : {A : Type 0} → Entry A → ℕ
-file_count (Multiboot2 kernel line modules) = 1 + length modules.items
+file_count (Multiboot2 kernel line modules rsdp_old rsdp_new) = 1 + length modules.items
 file_count (Linux kernel line initrd) = 1 + length (option_to_list initrd)
 
--- what an entry may hold: not too many modules
-abbrev pub IsWithinLimits : {A : Type 0} → Entry A → Type 0
-IsWithinLimits (Multiboot2 kernel line modules) = length modules.items ≤ most_modules
-IsWithinLimits (Linux kernel line initrd) = Unit {0}
+-- a copy of an RSDP has at most so many bytes
+abbrev pub most_copy : ℕ
+most_copy = 256
+
+-- what may be a copy of an RSDP: 1 to 256 bytes
+pub record IsCopy (copy : List ℕ) : Type 0 where
+  pub filled : 1 ≤ length copy
+  pub short : length copy ≤ most_copy
+
+-- what an entry may hold: not too many modules, and copies that are neither empty nor too long
+pub record IsWithinLimits (value : EntryValue) : Type 0 where
+  pub few : length value.module_lines ≤ most_modules
+  pub rsdp_old : IfSome value.rsdp_old IsCopy
+  pub rsdp_new : IfSome value.rsdp_new IsCopy
 
 -- a line has at most so many bytes
 abbrev pub most_line : ℕ

@@ -5,6 +5,9 @@ use std::alloc::Allocator;
 /// The most bytes that a line has.
 pub const MOST_LINE: usize = 4095;
 
+/// The most bytes that a copy of an RSDP has. It has at least 1.
+pub const MOST_COPY: usize = 256;
+
 /// A module of a Multiboot2 entry: a file of the menu, by its index, and the module's line.
 #[derive(Drop)]
 pub struct Module<A: Allocator> {
@@ -14,13 +17,17 @@ pub struct Module<A: Allocator> {
 
 /// An entry. Files are named by their index; those of an entry are the kernel, and then the modules
 /// or the initial ramdisk, in this order. A line has no zero byte and at most 4095 bytes, or is
-/// refused.
+/// refused. `rsdp_old` and `rsdp_new` are copies of the Root System Description Pointer of ACPI 1.0
+/// and of ACPI 2.0 or later (Multiboot2 3.6.12, 3.6.13), 1 to 256 bytes each; they are handed over as
+/// they stand.
 #[derive(Drop)]
 pub enum Entry<A: Allocator> {
     Multiboot2 {
         kernel: u32,
         line: Bytes<A>,
         modules: Vec<Module<A>, A>,
+        rsdp_old: Option<Bytes<A>>,
+        rsdp_new: Option<Bytes<A>>,
     },
     Linux {
         kernel: u32,

@@ -2,21 +2,20 @@
 ghost use Rattle.std.specs.Prelude.{◌≡◌, ◌≤◌, ◌<◌, ◌+◌, ◌^◌, None, All, length, map, sum_by, codes};
 ghost use Rattle.std.specs.Prelude.{option_map, IfOk, IfSome};
 ghost use Rattle.bl_map.specs.Kinds.{low_kib, high_kib};
-ghost use Rattle.bl_mbi.specs.InformationFacts.{IsModule};
+ghost use Rattle.bl_mbi.specs.InformationFacts.{AreBytes, IsModule};
 ghost use Rattle.bl_mbi.specs.Size.{tag_size};
 ghost use Rattle.bl_mbi.specs.Spelling.{spelling};
 ghost use Rattle.bl_plan.specs.declared.part.Role.TheVariants as role;
 ghost use Rattle.bl_load.specs.Addresses.{address_of};
-ghost use Rattle.bl_load.specs.Value.{multiboot2_value, line_fault};
+ghost use Rattle.bl_load.specs.Value.{line_fault};
 ghost use Rattle.bl_load.specs.Rows.{modules_of, information_of};
 ghost use Rattle.bl_load.specs.Kept.{lines_by};
 ghost use Rattle.bl_load.specs.PlacingKept.{IsLow, ModulesEndLow};
-ghost use Rattle.bl_load.specs.SourceKept.{texts_in};
+ghost use Rattle.bl_load.specs.SourceKept.{texts_in, value_in};
 
 use crate::addresses;
 use crate::entry::Module;
 use crate::source::Source;
-use bl_map::Machine;
 use bl_mb2head::Relocation;
 use bl_mbi::{Facts, Module as ModuleInfo, write_info};
 use bl_mem::{ByteView, Bytes};
@@ -77,37 +76,51 @@ fn modules_at<A: Allocator + Copy, V: ByteView>(
     Ok(told)
 }
 
-/// What the information tells, with this line and these modules.
-fn facts_of<A: Allocator + Copy>(
+/// A copy of the copy, if there is one.
+fn copy_of<A: Allocator + Copy>(
     alloc: A,
-    machine: &Machine<A>,
-    line: &[u8],
+    copy: &Option<Bytes<A>>,
+) -> Result<Option<Bytes<A>>, AllocError>
+    ensures same { IfOk result (λ same. same ≡ copy.now) }
+    ensures bytes { IfOk result (λ same. IfSome same AreBytes) }
+{
+    match copy {
+        Some(bytes) => Ok(Some(Bytes::copy(alloc, bytes.as_slice())?)),
+        None => Ok(None),
+    }
+}
+
+/// What the information tells, with these modules.
+fn facts_of<A: Allocator + Copy, V: ByteView>(
+    alloc: A,
+    source: &Source<'_, A, V>,
     modules: Vec<ModuleInfo<A>, A>,
     load_base: Option<u32>,
 ) -> Result<Facts<A>, AllocError>
-    requires sound { line_fault line.now ≡ None }
-    requires short { length line.now ≤ 4095 }
     requires modules { All IsModule modules.items }
     requires small { sum_by (λ n. tag_size (n + 9)) (map (λ m. length m.line) modules.items)
         < 2 ^ 20 }
     requires base { IfSome load_base (λ base. base < 2 ^ 32) }
     ensures { IfOk result (λ facts. facts ≡ record {
-      line = line.now;
+      line = source.now.line.now;
       modules = modules.items;
-      mem_lower = low_kib machine.now.runs;
-      mem_upper = high_kib machine.now.runs;
-      runs = machine.now.runs;
-      rsdp_old = None;
-      rsdp_new = None;
+      mem_lower = low_kib source.now.machine.now.runs;
+      mem_upper = high_kib source.now.machine.now.runs;
+      runs = source.now.machine.now.runs;
+      rsdp_old = source.now.rsdp_old.now;
+      rsdp_new = source.now.rsdp_new.now;
       load_base = load_base;
     }) }
 {
+    let machine = source.machine;
     let mem_lower = machine.low_kib() as u32;
     let mem_upper = machine.high_kib() as u32;
-    let line = Bytes::copy(alloc, line)?;
+    let line = Bytes::copy(alloc, source.line)?;
     let runs = Vec::from_slice(alloc, machine.normal())?;
+    let rsdp_old = copy_of(alloc, source.rsdp_old)?;
+    let rsdp_new = copy_of(alloc, source.rsdp_new)?;
     Ok(Facts::new(
-        line, modules, mem_lower, mem_upper, runs, None, None, load_base,
+        line, modules, mem_lower, mem_upper, runs, rsdp_old, rsdp_new, load_base,
     ))
 }
 
@@ -144,12 +157,11 @@ pub fn information<A: Allocator + Copy, V: ByteView>(
         (length source.now.modules.now) }
     ensures { IfOk result (λ bytes. bytes
         ≡ spelling (codes "bootcore") (information_of source.now.machine.now
-        (multiboot2_value (texts_in source.now) source.now.line.now
-        (lines_by source.now.modules.now)) relocation.now places.now)) }
+        (value_in source.now) relocation.now places.now)) }
 {
     let base = addresses::address_of(Role::Kernel, 0, places);
     let load_base = load_base_of(relocation, base);
     let told = modules_at(alloc, source.modules, source.files, places)?;
-    let facts = facts_of(alloc, source.machine, source.line, told, load_base)?;
+    let facts = facts_of(alloc, source, told, load_base)?;
     spell(alloc, facts)
 }

@@ -25,7 +25,7 @@ mod rows;
 mod source;
 
 pub use bl_plan::Protocol;
-pub use entry::{Entry, MOST_LINE, Module};
+pub use entry::{Entry, MOST_COPY, MOST_LINE, Module};
 pub use handoff::Handoff;
 pub use laws::{
     each_entry_has_an_answer, handovers_are_determined, handovers_are_legal,

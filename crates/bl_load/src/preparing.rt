@@ -1,9 +1,10 @@
 //! What is loaded for an entry on a machine, or its first refusal.
-ghost use Rattle.std.specs.Prelude.{◌≡◌, ◌==◌, ◌≤◌, ◌<◌, ◌+◌, ◌∷◌, Some, None, IfOk, IfErr, true};
+ghost use Rattle.std.specs.Prelude.{◌≡◌, ◌==◌, ◌≤◌, ◌<◌, ◌+◌, ◌∷◌, [], Some, None, IfOk, IfErr};
+ghost use Rattle.std.specs.Prelude.{IfSome, true};
 ghost use Rattle.std.specs.Prelude.{MatchResult, length, map};
 ghost use Rattle.std.specs.List.{list_any};
 ghost use Rattle.bl_load.specs.Value.{value_of, multiboot2_value, linux_value, line_fault};
-ghost use Rattle.bl_load.specs.Value.{lines_fault, file_count, IsWithinLimits};
+ghost use Rattle.bl_load.specs.Value.{lines_fault, file_count, IsCopy, IsWithinLimits};
 ghost use Rattle.bl_load.specs.Parts.{IsHandover, IsPrepFault};
 ghost use Rattle.bl_load.specs.PlanFacts.{handover_by};
 ghost use Rattle.bl_load.specs.Protocols.{has_params};
@@ -18,7 +19,7 @@ use crate::plan::Plan;
 use crate::refusal::{PrepFault, Refusal};
 use crate::source::Source;
 use bl_map::Machine;
-use bl_mem::ByteView;
+use bl_mem::{ByteView, Bytes};
 use bl_plan::Protocol;
 use std::alloc::Allocator;
 
@@ -67,24 +68,31 @@ fn check_lines<A: Allocator>(line: &[u8], modules: &[Module<A>]) -> Result<(), R
     check_module_lines(modules)
 }
 
-/// What is loaded for a Multiboot2 entry of this line and these modules, or its first refusal.
+/// What is loaded for a Multiboot2 entry of this line, these modules and these copies of the RSDP, or
+/// its first refusal.
 fn prepare_multiboot2<A: Allocator + Copy, V: ByteView>(
     alloc: A,
     machine: &Machine<A>,
     line: &[u8],
     modules: &[Module<A>],
+    rsdp_old: &Option<Bytes<A>>,
+    rsdp_new: &Option<Bytes<A>>,
     files: &[V],
 ) -> Result<Plan<A>, PrepFault>
     requires files { length files.now ≡ 1 + length modules.now }
     requires few { length modules.now ≤ 64 }
+    requires old { IfSome rsdp_old.now IsCopy }
+    requires new { IfSome rsdp_new.now IsCopy }
     ensures handover { IfOk result (λ plan. IsHandover machine.now
-        (multiboot2_value (map V.bytes files.now) line.now (lines_by modules.now))
+        (multiboot2_value (map V.bytes files.now) line.now (lines_by modules.now) rsdp_old.now
+        rsdp_new.now)
         (handover_by (map V.bytes files.now) plan)) }
     ensures loadable { IfOk result (λ plan. IsLoadable
         (lengths_of (map V.bytes files.now)) machine.now.size plan) }
     ensures lean { IfOk result (λ plan. IsLean plan.parts.items) }
     ensures fault { IfErr result (λ fault. IsPrepFault machine.now
-        (multiboot2_value (map V.bytes files.now) line.now (lines_by modules.now)) fault) }
+        (multiboot2_value (map V.bytes files.now) line.now (lines_by modules.now) rsdp_old.now
+        rsdp_new.now) fault) }
 {
     check_lines(line, modules)?;
     let kernel = KernelFile::Multiboot2(read_kernel(alloc, &files[0])?);
@@ -93,6 +101,8 @@ fn prepare_multiboot2<A: Allocator + Copy, V: ByteView>(
         machine,
         line,
         modules,
+        rsdp_old,
+        rsdp_new,
         files,
         kernel: &kernel,
     };
@@ -126,6 +136,8 @@ fn prepare_linux<A: Allocator + Copy, V: ByteView>(
         machine,
         line,
         modules: &[],
+        rsdp_old: &None,
+        rsdp_new: &None,
         files,
         kernel: &kernel,
     };
@@ -147,7 +159,7 @@ pub fn prepare<A: Allocator + Copy, V: ByteView>(
     files: &[V],
 ) -> Result<Plan<A>, PrepFault>
     requires files { length files.now ≡ file_count entry.now }
-    requires limits { IsWithinLimits entry.now }
+    requires limits { IsWithinLimits (value_of [] entry.now) }
     ensures handover { IfOk result (λ plan. IsHandover machine.now
         (value_of (map V.bytes files.now) entry.now) (handover_by (map V.bytes files.now) plan)) }
     ensures loadable { IfOk result (λ plan. IsLoadable
@@ -161,9 +173,21 @@ pub fn prepare<A: Allocator + Copy, V: ByteView>(
         (value_of (map V.bytes files.now) entry.now) fault) }
 {
     match entry {
-        Entry::Multiboot2 { line, modules, .. } => {
-            prepare_multiboot2(alloc, machine, line.as_slice(), modules.as_slice(), files)
-        }
+        Entry::Multiboot2 {
+            line,
+            modules,
+            rsdp_old,
+            rsdp_new,
+            ..
+        } => prepare_multiboot2(
+            alloc,
+            machine,
+            line.as_slice(),
+            modules.as_slice(),
+            rsdp_old,
+            rsdp_new,
+            files,
+        ),
         Entry::Linux { line, .. } => {
             prepare_linux(alloc, Protocol::Linux, machine, line.as_slice(), files)
         }

@@ -1,10 +1,10 @@
 //! The table of places of a Multiboot2 entry's parts.
-ghost use Rattle.std.specs.Prelude.{◌≡◌, ◌≤◌, ◌<◌, ◌+◌, ◌^◌, ◌++◌, ◌*◌, ℕ, List, [], None, All};
-ghost use Rattle.std.specs.Prelude.{length, map, IfOk};
-ghost use Rattle.bl_mbi.specs.Size.{size_of};
+ghost use Rattle.std.specs.Prelude.{◌≡◌, ◌≤◌, ◌<◌, ◌+◌, ◌^◌, ◌++◌, ◌*◌, [], None, All};
+ghost use Rattle.std.specs.Prelude.{length, map, option_map, IfOk, IfSome};
+ghost use Rattle.bl_mbi.specs.Size as size;
 ghost use Rattle.bl_load.specs.Blocks as blocks;
 ghost use Rattle.bl_load.specs.Rows as table;
-ghost use Rattle.bl_load.specs.Value.{multiboot2_value};
+ghost use Rattle.bl_load.specs.Value.{IsCopy};
 ghost use Rattle.bl_load.specs.Kept.{lines_by};
 ghost use Rattle.bl_load.specs.PlacingKept as kept;
 ghost use Rattle.bl_load.specs.KernelKept.{kernel_by};
@@ -14,8 +14,8 @@ use crate::entry::Module;
 use crate::kernel::Kernel;
 use crate::rows::kernel::push_kernel_rows;
 use crate::source::Source;
-use bl_map::{FIRST_USABLE, FRAME, HIGH_START, MOST_SIZE, Machine, whole_frames};
-use bl_mem::ByteView;
+use bl_map::{FIRST_USABLE, FRAME, HIGH_START, MOST_SIZE, whole_frames};
+use bl_mem::{ByteView, Bytes};
 use bl_plan::{Choice, Role, Row};
 use std::alloc::{AllocError, Allocator};
 
@@ -72,13 +72,25 @@ fn tags_size<A: Allocator>(modules: &[Module<A>]) -> u64
     size
 }
 
-/// How many bytes the information takes, by the lengths of the line, of the modules' tags and of
-/// the map.
+/// How many bytes the tag of a copy takes, if there is one.
+fn copy_size<A: Allocator>(copy: &Option<Bytes<A>>) -> u64
+    requires { IfSome copy.now IsCopy }
+    ensures value { result ≡ size.copy_size (option_map length copy.now) }
+    ensures small { result ≤ 264 }
+{
+    match copy {
+        Some(bytes) => 8 + (bytes.len() as u64 + 7) / 8 * 8,
+        None => 0,
+    }
+}
+
+/// How many bytes the information takes, by the lengths of the line, of the tags of modules and
+/// copies, and of the map.
 fn info_length(line: u64, tags: u64, runs: u64, is_relocatable: bool) -> u64
     requires line { line ≤ 4095 }
     requires tags { tags < 2 ^ 20 }
     requires runs { runs ≤ 256 }
-    ensures value { result ≡ size_of line [] runs None None is_relocatable + tags }
+    ensures value { result ≡ size.size_of line [] runs None None is_relocatable + tags }
     ensures small { result < 2 ^ 21 }
 {
     let load_base = if is_relocatable { 16 } else { 0 };
@@ -87,21 +99,18 @@ fn info_length(line: u64, tags: u64, runs: u64, is_relocatable: bool) -> u64
 }
 
 /// The row of the information.
-fn information_row<A: Allocator>(
-    machine: &Machine<A>,
-    line: &[u8],
-    modules: &[Module<A>],
+fn information_row<A: Allocator, V: ByteView>(
+    source: &Source<'_, A, V>,
     kernel: &Kernel<A>,
 ) -> Row
-    requires line { length line.now ≤ 4095 }
-    requires short { All (λ m. length m.line ≤ 4095) modules.now }
-    requires few { length modules.now ≤ 64 }
-    ensures { (texts : List (List ℕ)) → result ≡ table.information_row machine.now
-        (multiboot2_value texts line.now (lines_by modules.now)) kernel.now.relocation }
+    ensures { result ≡ table.information_row source.now.machine.now (value_in source.now)
+        kernel.now.relocation }
 {
-    let runs = machine.normal().len() as u64;
-    let tags = tags_size(modules);
-    let length = info_length(line.len() as u64, tags, runs, kernel.relocation.is_some());
+    let line = source.line.len() as u64;
+    let runs = source.machine.normal().len() as u64;
+    let modules = tags_size(source.modules);
+    let copies = copy_size(source.rsdp_old) + copy_size(source.rsdp_new);
+    let length = info_length(line, modules + copies, runs, kernel.relocation.is_some());
     Row {
         role: Role::Information,
         index: 0,
@@ -129,6 +138,6 @@ pub fn multiboot2_rows<A: Allocator, V: ByteView>(
     let mut rows = Vec::new(alloc);
     push_kernel_rows(&mut rows, kernel)?;
     push_module_rows(&mut rows, source.modules, source.files)?;
-    rows.push(information_row(source.machine, source.line, source.modules, kernel))?;
+    rows.push(information_row(source, kernel))?;
     Ok(rows)
 }

@@ -15,6 +15,8 @@ invariant_of-source g c = record {
   short = sound_short c.args.line.now c.in_ok-check_line.ensures;
   sound_modules = λ k d within. absurd (omega arith);
   few = omega arith;
+  old = tt;
+  new = tt;
 }
 
 pub plan_parts-requires : goal.plan_parts-requires

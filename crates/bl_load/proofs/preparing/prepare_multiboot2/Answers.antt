@@ -21,6 +21,8 @@ invariant_of-source g c =
       short = sound_short c.args.line.now sound.0;
       sound_modules = all_sound c.args.modules.now sound.1;
       few = c.requires.few;
+      old = c.requires.old;
+      new = c.requires.new;
     }
 
 pub plan_parts-requires : goal.plan_parts-requires
@@ -53,14 +55,15 @@ returns-in_err-read_kernel-clause-fault g c =
     c.index-files-0.is in
     rw (p.1, p.2)
     (refused_multiboot2 c.args.machine.now texts c.args.line.now (lines_by c.args.modules.now)
-    c.in_ok-check_lines.ensures fault
+    c.args.rsdp_old.now c.args.rsdp_new.now c.in_ok-check_lines.ensures fault
     (subst (λ (f : List ℕ). IsKernelFault f fault) file c.in_err-read_kernel.ensures.fault))
 
 pub returns-clause-handover : goal.returns-clause-handover
 returns-clause-handover g c =
     let facts = c.args.machine.now in
     let texts = map g.V.ByteView.bytes c.args.files.now in
-    let value = multiboot2_value texts c.args.line.now (lines_by c.args.modules.now) in
+    let value = multiboot2_value texts c.args.line.now (lines_by c.args.modules.now)
+    c.args.rsdp_old.now c.args.rsdp_new.now in
     let kernel = kernel_by c.in_ok-read_kernel.field-0 in
     let some : 1 ≤ length c.args.files.now = omega (arith, c.requires.files) in
     let file =
@@ -76,7 +79,8 @@ pub returns-clause-fault : goal.returns-clause-fault
 returns-clause-fault g c =
     let facts = c.args.machine.now in
     let texts = map g.V.ByteView.bytes c.args.files.now in
-    let value = multiboot2_value texts c.args.line.now (lines_by c.args.modules.now) in
+    let value = multiboot2_value texts c.args.line.now (lines_by c.args.modules.now)
+    c.args.rsdp_old.now c.args.rsdp_new.now in
     let kernel = kernel_by c.in_ok-read_kernel.field-0 in
     let some : 1 ≤ length c.args.files.now = omega (arith, c.requires.files) in
     let file =

@@ -1,14 +1,18 @@
-use Rattle.std.proofs.Common.{◌≡◌, ℕ, [], ap, ◌∙◌}
+use Rattle.std.proofs.Common.{◌≡◌, ℕ, [], length, ap, ◌∙◌}
 use Rattle.bl_map.specs.Room.{whole_frames}
 use Rattle.bl_mbi.specs.InformationFacts.{info_size}
 use Rattle.bl_plan.specs.declared.part.Choice.TheVariants.{Lowest}
 use Rattle.bl_plan.specs.declared.part.Role.TheVariants.{Information}
 use Rattle.bl_plan.specs.declared.part.Row.{Row}
-use Rattle.bl_load.specs.Kept.{lines_by}
 use Rattle.bl_load.specs.Rows.{information_of}
-use Rattle.bl_load.specs.Value.{multiboot2_value}
+use Rattle.bl_load.specs.SourceKept.{value_in}
+use Rattle.bl_load.proofs.LineLemmas.{all_short}
 use Rattle.bl_load.proofs.InformationLemmas.{info_size_is}
 use Rattle.bl_load.proofs.rows.information_row.Goals as goal
+
+pub tags_size-modules-requires-clause-short : goal.tags_size-modules-requires-clause-short
+tags_size-modules-requires-clause-short g c =
+    all_short c.args.source.now.modules.now c.args.source.now.sound_modules
 
 row_of : ℕ → Row
 row_of length =
@@ -16,12 +20,13 @@ row_of length =
 
 pub returns : goal.returns
 unfolding row_of
-returns g c = λ texts.
-    let facts = c.args.machine.now in
-    let value = multiboot2_value texts c.args.line.now (lines_by c.args.modules.now) in
+returns g c =
+    let source = c.args.source.now in
+    let facts = source.machine.now in
+    let value = value_in source in
     let relocation = c.args.kernel.now.relocation in
     let e = info_size_is facts value relocation [] in
     let size : c.info_length-length.result ≡ info_size (information_of facts value relocation []) =
-    rw (e, ← c.normal.ensures.runs, ← c.is_some.ensures, ← c.tags_size-tags.ensures.value)
-    c.info_length-length.ensures.value in
+    rw (e, ← c.normal.ensures.runs, ← c.is_some.ensures, ← c.tags_size-modules.ensures.value,
+    ← c.copy_size.ensures.value, ← c.copy_size-2.ensures.value) c.info_length-length.ensures.value in
     ap row_of (c.whole_frames.ensures ∙ ap whole_frames size)
