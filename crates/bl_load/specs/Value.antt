@@ -80,10 +80,14 @@ pub record IsCopy (copy : List ℕ) : Type 0 where
   pub short : length copy ≤ most_copy
 
 -- what an entry may hold: not too many modules, and copies that are neither empty nor too long
-pub record IsWithinLimits (value : EntryValue) : Type 0 where
+pub record HasLimits (value : EntryValue) : Type 0 where
   pub few : length value.module_lines ≤ most_modules
   pub rsdp_old : IfSome value.rsdp_old IsCopy
   pub rsdp_new : IfSome value.rsdp_new IsCopy
+
+-- an entry does so, whatever its files hold
+unfoldable pub IsWithinLimits : {A : Type 0} → Entry A → Type 0
+IsWithinLimits entry = HasLimits (value_of [] entry)
 
 -- a line has at most so many bytes
 abbrev pub most_line : ℕ

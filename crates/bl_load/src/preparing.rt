@@ -1,5 +1,5 @@
 //! What is loaded for an entry on a machine, or its first refusal.
-ghost use Rattle.std.specs.Prelude.{◌≡◌, ◌==◌, ◌≤◌, ◌<◌, ◌+◌, ◌∷◌, [], Some, None, IfOk, IfErr};
+ghost use Rattle.std.specs.Prelude.{◌≡◌, ◌==◌, ◌≤◌, ◌<◌, ◌+◌, ◌∷◌, Some, None, IfOk, IfErr};
 ghost use Rattle.std.specs.Prelude.{IfSome, true};
 ghost use Rattle.std.specs.Prelude.{MatchResult, length, map};
 ghost use Rattle.std.specs.List.{list_any};
@@ -152,6 +152,7 @@ fn prepare_linux<A: Allocator + Copy, V: ByteView>(
 /// segments, and the entry; of a Linux kernel the setup, and then come a line that is longer than
 /// `cmdline_size` and a memory map of more than 128 runs. Want of memory may be answered at any
 /// growth, in the place of a refusal that would have come later; it is never told as a refusal.
+#[tactic(auto, unfolding(crate::specs::Value::IsWithinLimits))]
 pub fn prepare<A: Allocator + Copy, V: ByteView>(
     alloc: A,
     machine: &Machine<A>,
@@ -159,7 +160,7 @@ pub fn prepare<A: Allocator + Copy, V: ByteView>(
     files: &[V],
 ) -> Result<Plan<A>, PrepFault>
     requires files { length files.now ≡ file_count entry.now }
-    requires limits { IsWithinLimits (value_of [] entry.now) }
+    requires limits { IsWithinLimits entry.now }
     ensures handover { IfOk result (λ plan. IsHandover machine.now
         (value_of (map V.bytes files.now) entry.now) (handover_by (map V.bytes files.now) plan)) }
     ensures loadable { IfOk result (λ plan. IsLoadable

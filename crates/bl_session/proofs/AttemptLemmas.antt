@@ -20,7 +20,7 @@ use Rattle.bl_session.proofs.WholeLemmas.{first_awaited, whole_came, whole_texts
 -- its value once its files hold these texts
 pub value_is : {A : Type 0} (entry : Entry A) (texts : List (List ℕ))
     → value_with (facts_of entry) texts ≡ value_of texts entry
-value_is (Multiboot2 kernel line modules) texts = refl
+value_is (Multiboot2 kernel line modules rsdp_old rsdp_new) texts = refl
 value_is (Linux kernel line initrd) texts = refl
 
 by_whole : (b : Bool) (P : Type 0) → (b ≡ true → P) → ¬ P → b ≡ false

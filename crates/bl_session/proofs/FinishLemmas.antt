@@ -31,7 +31,7 @@ left_same NoMemory stage bytes = refl
 
 files_are : {A : Type 0} (texts : List (List ℕ)) (entry : Entry A)
     → (value_of texts entry).files ≡ texts
-files_are texts (Multiboot2 kernel line modules) = refl
+files_are texts (Multiboot2 kernel line modules rsdp_old rsdp_new) = refl
 files_are texts (Linux kernel line initrd) = refl
 
 module _ {A : Type 0} (facts : MachineFacts) (texts : List (List ℕ)) (entry : Entry A)

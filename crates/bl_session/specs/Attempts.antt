@@ -21,9 +21,10 @@ once_by same earlier (x ∷ xs) =
 abbrev pub attempts_of : ℕ → List ℕ → List ℕ
 attempts_of default fallbacks = once_by (λ i j. i == j) [] (default ∷ fallbacks)
 
--- few entries, with few modules each
+-- few entries, each within its limits
 abbrev pub IsSmall : {A : Type 0} → List (Entry A) → Type 0
-IsSmall entries = (length entries ≤ most_entries) × All IsWithinLimits entries
+IsSmall entries =
+    (length entries ≤ most_entries) × All IsWithinLimits entries
 
 -- each index names one of so many entries
 abbrev pub NameEntries : ℕ → ℕ → List ℕ → Type 0

@@ -1,5 +1,5 @@
 -- A menu as contracts see it. Own.
-use Rattle.std.specs.Prelude.{ℕ, List, [], ◌∷◌, map, slice_index_or, option_to_list}
+use Rattle.std.specs.Prelude.{ℕ, List, [], ◌∷◌, map, slice_index_or, None, option_to_list}
 use Rattle.bl_load.specs.declared.entry.Entry.{Entry}
 use Rattle.bl_load.specs.declared.entry.Entry.TheVariants.{Multiboot2, Linux}
 use Rattle.bl_load.specs.Value.{EntryValue, value_of, multiboot2_value}
@@ -14,7 +14,7 @@ abbrev pub value_with : EntryFacts → List (List ℕ) → EntryValue
 value_with entry texts = record entry.blank { files = texts }
 
 abbrev pub files_of : {A : Type 0} → Entry A → List ℕ
-files_of (Multiboot2 kernel line modules) = kernel ∷ map (λ m. m.file) modules.items
+files_of (Multiboot2 kernel line modules rsdp_old rsdp_new) = kernel ∷ map (λ m. m.file) modules.items
 files_of (Linux kernel line initrd) = kernel ∷ option_to_list initrd
 
 abbrev pub facts_of : {A : Type 0} → Entry A → EntryFacts
@@ -27,7 +27,7 @@ pub record MenuFacts : Type 0 where
 
 -- what is read after the last entry
 abbrev pub no_entry : EntryFacts
-no_entry = record { files = []; blank = multiboot2_value [] [] [] }
+no_entry = record { files = []; blank = multiboot2_value [] [] [] None None }
 
 abbrev pub entry_at : MenuFacts → ℕ → EntryFacts
 entry_at menu entry = slice_index_or menu.entries entry no_entry

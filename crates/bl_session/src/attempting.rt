@@ -33,7 +33,7 @@ pub fn go_on<M: PhysMem, A: Allocator + Copy>(
     stage: Stage<A>,
     memory: &mut M,
 ) -> Result<Attempt<A>, AllocError>
-    requires modules { IsWithinLimits entry.now }
+    requires limits { IsWithinLimits entry.now }
     requires files { length stage.sizes ≡ length (files_of entry.now) }
     requires small { HasSmallFiles stage }
     requires pool { stage.pool ≡ machine.now.pool }
@@ -70,7 +70,7 @@ pub fn begin_attempt<M: PhysMem, A: Allocator + Copy>(
     sizes: &[Option<u64>],
     memory: &mut M,
 ) -> Result<Attempt<A>, AllocError>
-    requires modules { IsWithinLimits entry.now }
+    requires limits { IsWithinLimits entry.now }
     requires size { length (M.bytes memory.old) ≡ machine.now.size }
     requires room { HasRoom (M.room memory.old) machine.now.pool.start machine.now.pool.end }
     ensures begun { IfOk result (IsBegun machine.now (facts_of entry.now)

@@ -32,6 +32,7 @@ fn push_modules<A: Allocator>(
 }
 
 /// The indices of an entry's files, in order, the kernel's first.
+#[tactic(auto, unfolding(bl_load::specs::Value::IsWithinLimits))]
 pub fn files_of<A: Allocator + Copy>(alloc: A, entry: &Entry<A>) -> Result<Vec<u32, A>, AllocError>
     requires { IsWithinLimits entry.now }
     ensures { IfOk result (λ files. files.items ≡ menu.files_of entry.now) }

@@ -52,7 +52,7 @@ fn prepare_staged<M: PhysMem, A: Allocator + Copy>(
     memory: &M,
 ) -> Result<Plan<A>, PrepFault>
     requires files { length stage.now.sizes ≡ file_count entry.now }
-    requires modules { IsWithinLimits entry.now }
+    requires limits { IsWithinLimits entry.now }
     requires complete { AllCame stage.now }
     requires inside { HasPool (M.bytes memory.now) stage.now.pool }
     ensures handover { IfOk result (λ plan. IsHandover machine.now
@@ -148,7 +148,7 @@ pub fn finish<M: PhysMem, A: Allocator + Copy>(
 ) -> Result<Handoff<A>, PrepFault>
     requires complete { AllCame stage.old }
     requires files { length stage.old.sizes ≡ file_count entry.now }
-    requires modules { IsWithinLimits entry.now }
+    requires limits { IsWithinLimits entry.now }
     requires pool { stage.old.pool ≡ machine.now.pool }
     requires size { length (M.bytes memory.old) ≡ machine.now.size }
     requires room { HasRoom (M.room memory.old) machine.now.pool.start machine.now.pool.end }

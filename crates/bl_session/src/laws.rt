@@ -1,8 +1,7 @@
 //! Laws of the definitions.
 ghost use Rattle.std.specs.Prelude.{◌≡◌, ◌≤◌, ℕ, List, [], Option, map, length, All};
 ghost use Rattle.bl_map.specs.MachineFacts.{MachineFacts};
-ghost use Rattle.bl_plan.specs.Limits.{most_modules};
-ghost use Rattle.bl_load.specs.ByteLines.{HasByteLines};
+ghost use Rattle.bl_load.specs.Offered.{IsOffered};
 ghost use Rattle.bl_load.specs.Value.{EntryValue};
 ghost use Rattle.bl_session.specs.Ends.{End, Ends, EndsIn};
 ghost use Rattle.bl_session.specs.Boot.{BootFacts, EventFacts, State, Starts, Steps};
@@ -78,14 +77,11 @@ pub fn two_outcomes()
         → IsOutcome other those fails (handed_over index before k) → h ≡ k }
 {}
 
-/// The value of each entry of a menu, whatever its files hold, has lines of bytes and at most 64
-/// modules, where the menu's entries have, as `Menu::new` says. So what is handed over shows its
-/// kernel the entry.
-pub fn values_have_their_entries_lines()
-    ensures bytes { (facts : BootFacts) (files : List File) (entry : ℕ)
-        → All (λ e. HasByteLines e.blank) facts.menu.entries
-        → HasByteLines (value_in facts files entry) }
-    ensures few { (facts : BootFacts) (files : List File) (entry : ℕ)
-        → All (λ e. length e.blank.module_lines ≤ most_modules) facts.menu.entries
-        → length (value_in facts files entry).module_lines ≤ most_modules }
+/// The value of each entry of a menu, whatever its files hold, is within the limits of an entry and
+/// has lines and copies of bytes, where the menu's entries are and have, as `Menu::new` says. So what
+/// is handed over shows its kernel the entry.
+pub fn values_are_offered()
+    ensures { (facts : BootFacts) (files : List File) (entry : ℕ)
+        → All (λ e. IsOffered e.blank) facts.menu.entries
+        → IsOffered (value_in facts files entry) }
 {}

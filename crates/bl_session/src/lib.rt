@@ -37,7 +37,7 @@ pub use file_store::FileStore;
 pub use finishing::finish;
 pub use laws::{
     each_attempt_ends, each_step_leads_on, ends_are_determined, first_entry_not_refused,
-    steps_are_determined, two_outcomes, values_have_their_entries_lines,
+    steps_are_determined, two_outcomes, values_are_offered,
 };
 pub use menu::{Menu, MenuFault, order_attempts};
 pub use queue::Order;

@@ -2,23 +2,22 @@
 ghost use Rattle.std.specs.Prelude.{◌≡◌, ◌∷◌, ◌++◌, ◌==◌, ◌+◌, ◌<◌, ◌≤◌, ◌^◌, ℕ, [], length, map};
 ghost use Rattle.std.specs.Prelude.{All, IfErr, IfOk, OnOk, slice_index_or, if◌then◌else◌};
 ghost use Rattle.std.specs.List.{list_any};
-ghost use Rattle.bl_load.specs.ByteLines.{HasByteLines};
-ghost use Rattle.bl_load.specs.Value.{IsWithinLimits, value_of};
+ghost use Rattle.bl_load.specs.Offered.{IsOffer, IsOffered};
+ghost use Rattle.bl_load.specs.Value.{IsWithinLimits};
 ghost use Rattle.bl_session.specs.Menu.{facts_of, entry_at};
 ghost use Rattle.bl_session.specs.Attempts.{attempts_of, IsSmall, NameEntries, HasMenuFault};
 ghost use Rattle.bl_session.specs.Attempts as attempts;
-ghost use Rattle.bl_plan.specs.Limits.{most_modules};
 
 use crate::menu::fault::{is_small, name_entries};
-use crate::menu::lines::learn_lines;
 use crate::menu::naming::files_named;
+use crate::menu::texts::learn_entries;
 use bl_load::Entry;
 use std::alloc::{AllocError, Allocator};
 use std::marker::Model;
 
 mod fault;
-mod lines;
 mod naming;
+mod texts;
 
 pub use fault::MenuFault;
 
@@ -31,8 +30,8 @@ pub struct Menu<A: Allocator> {
 
 impl<A: Allocator> Model for Menu<A> {
     ghost use Rattle.std.specs.Prelude.{◌<◌, ◌≤◌, [], length, map, All};
-    ghost use Rattle.bl_load.specs.ByteLines.{HasByteLines};
-    ghost use Rattle.bl_load.specs.Value.{IsWithinLimits, value_of};
+    ghost use Rattle.bl_load.specs.Offered.{IsOffer};
+    ghost use Rattle.bl_load.specs.Value.{IsWithinLimits};
     ghost use Rattle.bl_session.specs.Menu.{MenuFacts, facts_of};
     ghost use Rattle.bl_plan.specs.Limits.{most_entries};
 
@@ -46,7 +45,7 @@ impl<A: Allocator> Model for Menu<A> {
     ghost invariant = { λ menu.
         All (λ entry. entry < length menu.entries.items) menu.attempts.items
         × All IsWithinLimits menu.entries.items
-        × All (λ entry. HasByteLines (value_of [] entry)) menu.entries.items
+        × All IsOffer menu.entries.items
         × (length menu.attempts.items ≤ most_entries) };
 }
 
@@ -90,12 +89,13 @@ impl<A: Allocator + Copy> Menu<A> {
     /// A menu of these entries, by their index from 0: the default is attempted first, and then the
     /// fallbacks in order, one that was named before left out.
     ///
-    /// - `TooMany`: there are more than 32 entries, or more than 64 modules in one.
+    /// - `TooMany`: there are more than 32 entries, or more than 64 modules in one, or a copy of an
+    ///   RSDP has not 1 to 256 bytes.
     /// - `BadIndex`: the default or a fallback names no entry, as each index does if there is none.
     /// - `NoMemory`: there was no memory for the list of attempts.
     ///
-    /// The lines of each entry are bytes, and it has at most 64 modules, so that of what it hands
-    /// over its kernel sees the entry.
+    /// Each entry is within these limits, and its lines and copies are bytes, so that of what it
+    /// hands over its kernel sees the entry.
     pub fn new(
         alloc: A,
         entries: Vec<Entry<A>, A>,
@@ -109,18 +109,16 @@ impl<A: Allocator + Copy> Menu<A> {
         ensures allowed { OnOk result (IsSmall entries.items
             × NameEntries (length entries.items) default fallbacks.now) }
         ensures first_fault { IfErr result (HasMenuFault entries.items default fallbacks.now) }
-        ensures bytes { IfOk result (λ menu. All (λ entry. HasByteLines entry.blank) menu.entries) }
-        ensures few { IfOk result (λ menu.
-            All (λ entry. length entry.blank.module_lines ≤ most_modules) menu.entries) }
+        ensures offered { IfOk result (λ menu. All (λ entry. IsOffered entry.blank) menu.entries) }
     {
         let offered = entries.as_slice();
         if !is_small(offered) {
             return Err(MenuFault::TooMany);
         }
-        if !name_entries(offered, default, fallbacks) {
+        if !name_entries(offered.len(), default, fallbacks) {
             return Err(MenuFault::BadIndex);
         }
-        learn_lines(offered);
+        learn_entries(offered);
         let attempts = order_attempts(alloc, default, fallbacks)?;
         Ok(Menu { entries, attempts })
     }
@@ -157,8 +155,8 @@ impl<A: Allocator> Menu<A> {
     pub fn entry(&self, index: u32) -> &Entry<A>
         requires { index < length self.now.entries }
         ensures entry { facts_of result.now ≡ entry_at self.now index }
-        ensures few { IsWithinLimits result.now }
-        ensures bytes { HasByteLines (value_of [] result.now) }
+        ensures limits { IsWithinLimits result.now }
+        ensures offered { IsOffer result.now }
     {
         &self.entries[index as usize]
     }

@@ -1,10 +1,11 @@
 //! Why there is no menu.
-ghost use Rattle.std.specs.Prelude.{◌≡◌, ◌↔◌, length, IsTrue};
-ghost use Rattle.bl_load.specs.Value.{IsWithinLimits};
+ghost use Rattle.std.specs.Prelude.{◌≡◌, ◌↔◌, All, IfSome, IsTrue};
+ghost use Rattle.bl_load.specs.Value.{IsCopy, IsWithinLimits};
 ghost use Rattle.bl_session.specs.Attempts.{IsSmall, NameEntries};
 ghost use Rattle.bl_session.specs.declared.menu.fault.MenuFault.TheVariants.{NoMemory};
 
-use bl_load::Entry;
+use bl_load::{Entry, MOST_COPY};
+use bl_mem::Bytes;
 use bl_plan::{MOST_ENTRIES, MOST_MODULES};
 use std::alloc::{AllocError, AllocFailed, Allocator};
 use thiserror::Error;
@@ -15,7 +16,7 @@ use thiserror::Error;
 pub enum MenuFault {
     #[error("an index names no entry")]
     BadIndex,
-    #[error("too many entries or modules")]
+    #[error("too many entries or modules, or a copy of an RSDP that has no byte or too many")]
     TooMany,
     #[error("no memory")]
     NoMemory,
@@ -52,29 +53,50 @@ impl<T: Drop> From<AllocFailed<T>> for MenuFault {
     }
 }
 
-/// Whether an entry has at most 64 modules.
-fn has_few_modules<A: Allocator>(entry: &Entry<A>) -> bool
+/// Whether a copy of the RSDP, if there is one, has 1 to 256 bytes.
+fn is_copy<A: Allocator>(copy: &Option<Bytes<A>>) -> bool
+    ensures { IsTrue result ↔ IfSome copy.now IsCopy }
+{
+    match copy {
+        Some(bytes) => !bytes.is_empty() && bytes.len() <= MOST_COPY,
+        None => true,
+    }
+}
+
+/// Whether an entry has at most 64 modules, and copies of 1 to 256 bytes.
+#[tactic(auto, unfolding(bl_load::specs::Value::IsWithinLimits))]
+fn is_within_limits<A: Allocator>(entry: &Entry<A>) -> bool
     ensures { IsTrue result ↔ IsWithinLimits entry.now }
 {
     match entry {
-        Entry::Multiboot2 { modules, .. } => modules.len() <= MOST_MODULES,
+        Entry::Multiboot2 {
+            modules,
+            rsdp_old,
+            rsdp_new,
+            ..
+        } => modules.len() <= MOST_MODULES && is_copy(rsdp_old) && is_copy(rsdp_new),
         Entry::Linux { .. } => true,
+    }
+}
+
+fn are_within_limits<A: Allocator>(entries: &[Entry<A>]) -> bool
+    ensures { IsTrue result ↔ All IsWithinLimits entries.now }
+{
+    match entries {
+        [] => true,
+        [entry, rest @ ..] => is_within_limits(entry) && are_within_limits(rest),
     }
 }
 
 pub(crate) fn is_small<A: Allocator>(entries: &[Entry<A>]) -> bool
     ensures { IsTrue result ↔ IsSmall entries.now }
 {
-    entries.len() <= MOST_ENTRIES && entries.iter().all(|entry| has_few_modules(entry))
+    entries.len() <= MOST_ENTRIES && are_within_limits(entries)
 }
 
-pub(crate) fn name_entries<A: Allocator>(
-    entries: &[Entry<A>],
-    default: u32,
-    fallbacks: &[u32],
-) -> bool
-    ensures { IsTrue result ↔ NameEntries (length entries.now) default fallbacks.now }
+/// Whether each index names one of so many entries.
+pub(crate) fn name_entries(count: usize, default: u32, fallbacks: &[u32]) -> bool
+    ensures { IsTrue result ↔ NameEntries count default fallbacks.now }
 {
-    let count = entries.len();
     (default as usize) < count && fallbacks.iter().all(|index| (*index as usize) < count)
 }

@@ -1,3 +1,6 @@
+use Rattle.std.proofs.Common.{arith}
+use Rattle.std.proofs.lemmas.Grind.{common_steps}
+use Rattle.bl_session.proofs.MenuLemmas.{few_counted}
 use Rattle.std.proofs.Common.{List, ℕ, length, ap, sym, ◌∙◌}
 use Rattle.std.proofs.lemmas.List.{length-map}
 use Rattle.std.proofs.lemmas.List.FromFn.{length-map-range_with_len}
@@ -20,3 +23,8 @@ prepare-requires-clause-files g c =
 pub returns-clause-fault : goal.returns-clause-fault
 returns-clause-fault g c =
     rw (← c.in_ok-views.ensures, ← c.deref.ensures.value) c.prepare.ensures.fault
+
+pub views_of-requires-clause-few : goal.views_of-requires-clause-few
+views_of-requires-clause-few g c =
+    let few = few_counted c.args.entry.now c.requires.limits in
+    omega (arith, few, c.requires.files)

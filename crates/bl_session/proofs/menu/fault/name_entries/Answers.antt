@@ -3,4 +3,4 @@ use Rattle.std.proofs.lemmas.Grind.{common_steps}
 use Rattle.bl_session.proofs.menu.fault.name_entries.Goals as goal
 
 pub returns-then-default-count : goal.returns-then-default-count
-returns-then-default-count g c = grind (arith, common_steps)
+returns-then-default-count c = grind (arith, common_steps)

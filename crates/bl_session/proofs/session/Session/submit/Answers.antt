@@ -1,3 +1,6 @@
+use Rattle.std.proofs.Common.{arith}
+use Rattle.std.proofs.lemmas.Grind.{common_steps}
+use Rattle.bl_session.proofs.MenuLemmas.{few_files}
 use Rattle.std.proofs.Common.{◌≡◌, ◌∙◌, drop, length, rules, ap, sym}
 use Rattle.bl_session.specs.Menu.{EntryFacts, files_of, entry_at}
 use Rattle.bl_session.specs.Phases.{SessionFacts, phase_facts}
@@ -19,3 +22,8 @@ returns-clause-err g c =
     (ap (λ (e : EntryFacts). e.files) c.entry-entry.ensures.entry
     ∙ ap (λ (s : SessionFacts). (entry_at s.boot.menu w.entry).files) c.self.view_is)
     c.submit_files.ensures.err
+
+pub submit_files-requires-clause-few : goal.submit_files-requires-clause-few
+submit_files-requires-clause-few g c =
+    let few = few_files c.entry-entry.result.now c.entry-entry.ensures.limits in
+    grind (arith, common_steps, few)
