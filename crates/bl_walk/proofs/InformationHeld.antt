@@ -106,7 +106,8 @@ module _ (facts : MachineFacts) (value : EntryValue) (kernel : KernelFacts) (pla
       let base = small_address Kernel 0 places 0xFFFFF000 low in
       record {
         line =
-            sound_text value.line split.0 (All-head AreBytes value.line value.module_lines offered.lines);
+            sound_text value.line split.0
+            (All-head AreBytes value.line value.module_lines offered.lines);
         modules =
             modules_fit value.files places 0 value.module_lines
             (λ i from upto. ends i (omega arith)) split.1

@@ -1,5 +1,5 @@
 -- The image of an entry's handover shows the entry, and no fault stands in it.
-use Rattle.std.proofs.Common.{◌≤◌, ◌≡◌, List, [], length, None, sym, subst, AllPairs}
+use Rattle.std.proofs.Common.{◌≤◌, ◌≡◌, List, [], None, sym, subst, AllPairs}
 use Rattle.bl_map.specs.MachineFacts.{MachineFacts, AreMachineFacts}
 use Rattle.bl_plan.specs.Placed.{ArePlaced}
 use Rattle.bl_plan.specs.declared.part.Place.{Place}
@@ -56,7 +56,8 @@ by_reading facts value places (multiboot2 kernel) machine offered lines read pla
 by_reading facts value places (linux setup) machine offered lines read placed apart = record {
   seen = parameters.seen facts value setup places machine offered lines read.0 read.1 placed apart;
   is_seen =
-      parameters.linux_seen facts value setup places machine offered lines read.0 read.1 placed apart;
+      parameters.linux_seen facts value setup places machine offered lines read.0 read.1
+      placed apart;
   entry =
       parameters.linux_shown facts value setup places machine offered lines read.0 read.1
       placed apart;
@@ -98,8 +99,8 @@ same_handover version other h image kept is =
 
 pub images_show : (facts : MachineFacts) (value : EntryValue) (version other : Version)
     (h image : Handover) (seen : SeenFacts) → AreMachineFacts facts → IsOffered value
-    → IsHandover facts value h → IsKept h
-    → IsImage other (spelling version h) image → IsSeen image seen → ShowsEntry facts value seen
+    → IsHandover facts value h → IsKept h → IsImage other (spelling version h) image
+    → IsSeen image seen → ShowsEntry facts value seen
 images_show facts value version other h image seen machine offered is kept spelled sees =
     let all = shows facts value h machine offered is in
     let own =
@@ -108,9 +109,8 @@ images_show facts value version other h image seen machine offered is kept spell
     subst (ShowsEntry facts value) (seen_is_determined h all.seen seen all.is_seen own) all.entry
 
 pub images_are_sound : (facts : MachineFacts) (value : EntryValue) (version other : Version)
-    (h image : Handover) → AreMachineFacts facts → IsOffered value
-    → IsHandover facts value h → IsKept h
-    → IsImage other (spelling version h) image → IsSound image
+    (h image : Handover) → AreMachineFacts facts → IsOffered value → IsHandover facts value h
+    → IsKept h → IsImage other (spelling version h) image → IsSound image
 images_are_sound facts value version other h image machine offered is kept spelled =
     subst IsSound (same_handover version other h image kept spelled)
     (handovers_are_sound facts value h machine offered is)

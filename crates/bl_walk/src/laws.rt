@@ -51,13 +51,11 @@ pub fn handovers_are_seen()
 pub fn images_show_their_entries()
     ensures seen { (facts : MachineFacts) (value : EntryValue) (version other : Version)
         (h image : Handover) (seen : SeenFacts) → AreMachineFacts facts → IsOffered value
-        → IsHandover facts value h → IsKept h
-        → IsImage other (spelling version h) image → IsSeen image seen
-        → ShowsEntry facts value seen }
+        → IsHandover facts value h → IsKept h → IsImage other (spelling version h) image
+        → IsSeen image seen → ShowsEntry facts value seen }
     ensures sound { (facts : MachineFacts) (value : EntryValue) (version other : Version)
-        (h image : Handover) → AreMachineFacts facts → IsOffered value
-        → IsHandover facts value h → IsKept h
-        → IsImage other (spelling version h) image → IsSound image }
+        (h image : Handover) → AreMachineFacts facts → IsOffered value → IsHandover facts value h
+        → IsKept h → IsImage other (spelling version h) image → IsSound image }
 {}
 
 /// Each run of a memory map that is seen ends at most at 2^52.

@@ -50,8 +50,9 @@ impl<A: Allocator> Model for SeenFile<A> {
 
 /// What a kernel sees in an image: how and where it is entered, a physical address, its line, its
 /// parts in address order, the modules in order (none under Linux), the initial ramdisk (none under
-/// Multiboot2, nor where it has no byte), the memory map's runs, and the copies of the ACPI old RSDP
-/// and of the ACPI new RSDP (Multiboot2 3.6.12, 3.6.13; none under Linux).
+/// Multiboot2, nor where it has no byte), the memory map's runs, and the copies of the Root System
+/// Description Pointer (Multiboot2 3.6.12 "ACPI old RSDP", 3.6.13 "ACPI new RSDP"; none under
+/// Linux).
 #[derive(Drop)]
 pub struct Seen<A: Allocator> {
     pub protocol: Protocol,
