@@ -1,11 +1,12 @@
 -- What a Multiboot2 kernel is told fits its fields, and stands in the image of its handover.
 use Rattle.std.proofs.Common.{◌≡◌, ◌+◌, ◌<◌, ◌≤◌, ◌^◌, ◌∷◌, ◌++◌, ℕ, true, List, [], length, take}
 use Rattle.std.proofs.Common.{Some, None, refl, arith, All, AllPairs}
-use Rattle.std.specs.Prelude.{is_some, codes}
+use Rattle.std.specs.Prelude.{is_some, codes, option_map}
 use Rattle.std.specs.List.{list_any}
 use Rattle.std.proofs.lemmas.List.Elements.{All-head, All-tail}
 use Rattle.bl_map.specs.MachineFacts.{MachineFacts, AreMachineFacts}
 use Rattle.bl_mbi.specs.InformationFacts.{InformationFacts, AreBytes, FitsFields}
+use Rattle.bl_mbi.specs.Size.{copy_size}
 use Rattle.bl_mbi.specs.Spelling.{spelling}
 use Rattle.bl_mbi.proofs.Sizes.{length-spelling}
 use Rattle.bl_plan.specs.Placed.{ArePlaced}
@@ -14,16 +15,17 @@ use Rattle.bl_plan.specs.declared.part.Role.{Role}
 use Rattle.bl_plan.specs.declared.part.Role.TheVariants.{Kernel, Module, Information}
 use Rattle.bl_plan.specs.declared.part.Row.{Row}
 use Rattle.bl_load.specs.Addresses.{address_of}
-use Rattle.bl_load.specs.ByteLines.{HasByteLines}
 use Rattle.bl_load.specs.Handover.{Part, Handover, end_of}
 use Rattle.bl_load.specs.Kernel.{KernelFacts, IsKernel}
+use Rattle.bl_load.specs.Offered.{IsOffered}
 use Rattle.bl_load.specs.Parts.{content_of, handover_of}
+use Rattle.bl_load.specs.PlacingKept.{tags_size}
 use Rattle.bl_load.specs.Reading.{multiboot2}
 use Rattle.bl_load.specs.Rows.{rows_of, kernel_rows, module_rows, information_row, information_of}
 use Rattle.bl_load.specs.Value.{EntryValue, kernel_file, module_file, line_fault, lines_fault}
 use Rattle.bl_load.specs.Value.{lines_of}
 use Rattle.bl_load.proofs.EntryLemmas.{small_address}
-use Rattle.bl_load.proofs.InformationLemmas.{info_size_is, tags_small, size_below}
+use Rattle.bl_load.proofs.InformationLemmas.{info_size_is, tags_small, told_below, most_copy_size}
 use Rattle.bl_load.proofs.LineLemmas.{sound_text, sound_short, first_sound}
 use Rattle.bl_load.proofs.ModuleLemmas.{modules_end_low}
 use Rattle.bl_load.proofs.FullLemmas.{kernel_full}
@@ -56,8 +58,8 @@ module _ (facts : MachineFacts) (value : EntryValue) (kernel : KernelFacts)
   text = spelling (codes "bootcore") told
 
 module _ (facts : MachineFacts) (value : EntryValue) (kernel : KernelFacts) (places : List Place)
-    (machine : AreMachineFacts facts) (bytes : HasByteLines value)
-    (few : length value.module_lines ≤ 64) (lines : lines_fault (lines_of value) ≡ None)
+    (machine : AreMachineFacts facts) (offered : IsOffered value)
+    (lines : lines_fault (lines_of value) ≡ None)
     (is_kernel : IsKernel (kernel_file value) kernel)
     (placed : ArePlaced facts [] (rows_of facts value (multiboot2 kernel)) places)
     (apart : AllPairs (λ p q. end_of p ≤ q.address)
@@ -104,16 +106,17 @@ module _ (facts : MachineFacts) (value : EntryValue) (kernel : KernelFacts) (pla
       let base = small_address Kernel 0 places 0xFFFFF000 low in
       record {
         line =
-            sound_text value.line split.0 (All-head AreBytes value.line value.module_lines bytes);
+            sound_text value.line split.0
+            (All-head AreBytes value.line value.module_lines offered.lines);
         modules =
             modules_fit value.files places 0 value.module_lines
             (λ i from upto. ends i (omega arith)) split.1
-            (All-tail AreBytes value.line value.module_lines bytes);
+            (All-tail AreBytes value.line value.module_lines offered.lines);
         mem_lower = omega arith;
         mem_upper = omega arith;
         runs = machine.runs.low;
-        rsdp_old = tt;
-        rsdp_new = tt;
+        rsdp_old = offered.rsdp_old;
+        rsdp_new = offered.rsdp_new;
         load_base = base_fits kernel.relocation (address_of Kernel 0 places) (omega arith);
       }
 
@@ -121,13 +124,18 @@ module _ (facts : MachineFacts) (value : EntryValue) (kernel : KernelFacts) (pla
   size_is =
       let split = first_sound (line_fault value.line) (lines_fault value.module_lines) lines in
       let short = sound_short value.line split.0 in
-      let own =
-      size_below (length value.line) (length facts.runs) (is_some kernel.relocation) short
-      machine.few in
+      let few = offered.limits.few in
       let tags = tags_small value.module_lines (lines_short value.module_lines split.1) in
+      let small : tags_size value.module_lines < 2 ^ 20 = omega (arith, few, tags) in
+      let old = most_copy_size value.rsdp_old offered.limits.rsdp_old in
+      let new = most_copy_size value.rsdp_new offered.limits.rsdp_new in
+      let below =
+      told_below (length value.line) (tags_size value.module_lines) (length facts.runs)
+      (copy_size (option_map length value.rsdp_old)) (copy_size (option_map length value.rsdp_new))
+      (is_some kernel.relocation) short machine.few small old new in
       let whole = length-spelling (told facts value kernel places) in
       let sum = info_size_is facts value kernel.relocation places in
-      omega (arith, own, tags, whole, sum)
+      omega (arith, below, whole, sum)
 
   pub long : 16 ≤ length (text facts value kernel places)
   long = let size = length-spelling (told facts value kernel places) in omega (arith, size)

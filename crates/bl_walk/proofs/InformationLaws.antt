@@ -11,9 +11,9 @@ use Rattle.bl_plan.specs.declared.protocol.Protocol.{Protocol}
 use Rattle.bl_plan.specs.declared.protocol.Protocol.TheVariants.{Multiboot2}
 use Rattle.bl_plan.specs.declared.part.Role.TheVariants.{Kernel, Module, Information}
 use Rattle.bl_load.specs.Addresses.{address_of}
-use Rattle.bl_load.specs.ByteLines.{HasByteLines}
 use Rattle.bl_load.specs.Handover.{end_of}
 use Rattle.bl_load.specs.Kernel.{KernelFacts, IsKernel}
+use Rattle.bl_load.specs.Offered.{IsOffered}
 use Rattle.bl_load.specs.Parts.{handover_of, entered_at, start_of}
 use Rattle.bl_load.specs.Reading.{multiboot2}
 use Rattle.bl_load.specs.Registers.{information_in}
@@ -39,8 +39,8 @@ use Rattle.bl_walk.proofs.InformationHeld.{content, parts, told, last, held, inf
 use Rattle.bl_walk.proofs.InformationHeld.{module_held, fits, size_is, handover, text, long}
 
 module _ (facts : MachineFacts) (value : EntryValue) (kernel : KernelFacts) (places : List Place)
-    (machine : AreMachineFacts facts) (bytes : HasByteLines value)
-    (few : length value.module_lines ≤ 64) (lines : lines_fault (lines_of value) ≡ None)
+    (machine : AreMachineFacts facts) (offered : IsOffered value)
+    (lines : lines_fault (lines_of value) ≡ None)
     (is_kernel : IsKernel (kernel_file value) kernel)
     (placed : ArePlaced facts [] (rows_of facts value (multiboot2 kernel)) places)
     (apart : AllPairs (λ p q. end_of p ≤ q.address)
@@ -57,16 +57,16 @@ module _ (facts : MachineFacts) (value : EntryValue) (kernel : KernelFacts) (pla
       word = take 4 (text facts value kernel places);
       whole =
           let least =
-          long facts value kernel places machine bytes few lines is_kernel placed apart in
+          long facts value kernel places machine offered lines is_kernel placed apart in
           ap (λ (a : ℕ). bytes_in (parts facts value kernel places) a 4) information_there
-          ∙ held facts value kernel places machine bytes few lines is_kernel placed apart
+          ∙ held facts value kernel places machine offered lines is_kernel placed apart
           Information 0 4
-          (information_held facts value kernel places machine bytes few lines is_kernel
+          (information_held facts value kernel places machine offered lines is_kernel
           placed apart) (omega arith);
       told =
           first_word (codes "bootcore") (told facts value kernel places)
-          (size_is facts value kernel places machine bytes few lines is_kernel placed apart);
-      small = size_is facts value kernel places machine bytes few lines is_kernel placed apart;
+          (size_is facts value kernel places machine offered lines is_kernel placed apart);
+      small = size_is facts value kernel places machine offered lines is_kernel placed apart;
     }
 
     is_information : IsInformation (handover facts value kernel places)
@@ -74,15 +74,15 @@ module _ (facts : MachineFacts) (value : EntryValue) (kernel : KernelFacts) (pla
     is_information = record {
       size = length (text facts value kernel places);
       total_size = total;
-      least = long facts value kernel places machine bytes few lines is_kernel placed apart;
+      least = long facts value kernel places machine offered lines is_kernel placed apart;
       whole =
           ap
           (λ (a : ℕ).
           bytes_in (parts facts value kernel places) a (length (text facts value kernel places)))
           information_there
-          ∙ held facts value kernel places machine bytes few lines is_kernel placed apart Information
+          ∙ held facts value kernel places machine offered lines is_kernel placed apart Information
           0 (length (text facts value kernel places))
-          (information_held facts value kernel places machine bytes few lines is_kernel placed
+          (information_held facts value kernel places machine offered lines is_kernel placed
           apart) (omega arith)
           ∙ ap Some (take-length (text facts value kernel places));
     }
@@ -97,13 +97,15 @@ module _ (facts : MachineFacts) (value : EntryValue) (kernel : KernelFacts) (pla
             exact = refl;
             name = name_is;
             facts =
-                fits facts value kernel places machine bytes few lines is_kernel placed apart;
+                fits facts value kernel places machine offered lines is_kernel placed apart;
           };
     }
 
     abbrev pub seen : SeenFacts
     seen = record (seen_alone (handover facts value kernel places) value.line facts.runs) {
       modules = shown_modules value.files places 0 value.module_lines;
+      rsdp_old = value.rsdp_old;
+      rsdp_new = value.rsdp_new;
     }
 
     shows : InformationShows (handover facts value kernel places) seen
@@ -114,13 +116,15 @@ module _ (facts : MachineFacts) (value : EntryValue) (kernel : KernelFacts) (pla
       modules =
           modules_seen (parts facts value kernel places) value.files places 0 value.module_lines
           (λ i from upto.
-          held facts value kernel places machine bytes few lines is_kernel placed apart Module i
+          held facts value kernel places machine offered lines is_kernel placed apart Module i
           (length (module_file value.files i))
-          (module_held facts value kernel places machine bytes few lines is_kernel placed apart
+          (module_held facts value kernel places machine offered lines is_kernel placed apart
           i (omega arith))
           (omega arith) ∙ ap Some (take-length (module_file value.files i)));
       initrd = refl;
       runs = refl;
+      rsdp_old = refl;
+      rsdp_new = refl;
     }
 
     pub information_seen : IsSeen (handover facts value kernel places) seen
@@ -161,6 +165,8 @@ module _ (facts : MachineFacts) (value : EntryValue) (kernel : KernelFacts) (pla
           files_shown value.files places 0 value.module_lines k within
           ∙ ap (module_file value.files) (zero-add k);
       initrd = refl;
+      rsdp_old = refl;
+      rsdp_new = refl;
     }
 
     pub information_shown : ShowsEntry facts value seen

@@ -1,10 +1,10 @@
 -- The image of an entry's handover shows the entry, and no fault stands in it.
-use Rattle.std.proofs.Common.{◌≤◌, ◌≡◌, List, [], length, None, sym, subst, AllPairs}
+use Rattle.std.proofs.Common.{◌≤◌, ◌≡◌, List, [], None, sym, subst, AllPairs}
 use Rattle.bl_map.specs.MachineFacts.{MachineFacts, AreMachineFacts}
 use Rattle.bl_plan.specs.Placed.{ArePlaced}
 use Rattle.bl_plan.specs.declared.part.Place.{Place}
-use Rattle.bl_load.specs.ByteLines.{HasByteLines}
 use Rattle.bl_load.specs.Handover.{Part, Handover, end_of}
+use Rattle.bl_load.specs.Offered.{IsOffered}
 use Rattle.bl_load.specs.Parts.{IsHandover, handover_of}
 use Rattle.bl_load.specs.Reading.{Reading, multiboot2, linux, IsRead}
 use Rattle.bl_load.specs.Rows.{rows_of}
@@ -33,63 +33,60 @@ record Shows (facts : MachineFacts) (value : EntryValue) (h : Handover) : Type 0
 
 -- by what is read of the kernel
 by_reading : (facts : MachineFacts) (value : EntryValue) (places : List Place) (reading : Reading)
-    → AreMachineFacts facts → HasByteLines value
-    → length value.module_lines ≤ 64 → lines_fault (lines_of value) ≡ None
+    → AreMachineFacts facts → IsOffered value → lines_fault (lines_of value) ≡ None
     → IsRead facts value reading
     → ArePlaced facts [] (rows_of facts value reading) places
     → AllPairs (λ p q. end_of p ≤ q.address) (handover_of facts value reading places).parts
     → Shows facts value (handover_of facts value reading places)
-by_reading facts value places (multiboot2 kernel) machine bytes few lines read placed apart =
+by_reading facts value places (multiboot2 kernel) machine offered lines read placed apart =
     record {
       seen =
-          information.seen facts value kernel places machine bytes few lines read.1 placed apart
+          information.seen facts value kernel places machine offered lines read.1 placed apart
           read.0;
       is_seen =
-          information.information_seen facts value kernel places machine bytes few lines read.1
+          information.information_seen facts value kernel places machine offered lines read.1
           placed apart read.0;
       entry =
-          information.information_shown facts value kernel places machine bytes few lines read.1
+          information.information_shown facts value kernel places machine offered lines read.1
           placed apart read.0;
       entered =
-          information.information_entered facts value kernel places machine bytes few lines read.1
+          information.information_entered facts value kernel places machine offered lines read.1
           placed apart read.0;
     }
-by_reading facts value places (linux setup) machine bytes few lines read placed apart = record {
-  seen = parameters.seen facts value setup places machine bytes lines read.0 read.1 placed apart;
+by_reading facts value places (linux setup) machine offered lines read placed apart = record {
+  seen = parameters.seen facts value setup places machine offered lines read.0 read.1 placed apart;
   is_seen =
-      parameters.linux_seen facts value setup places machine bytes lines read.0 read.1 placed apart;
+      parameters.linux_seen facts value setup places machine offered lines read.0 read.1
+      placed apart;
   entry =
-      parameters.linux_shown facts value setup places machine bytes lines read.0 read.1
+      parameters.linux_shown facts value setup places machine offered lines read.0 read.1
       placed apart;
   entered =
-      parameters.linux_entered facts value setup places machine bytes lines read.0 read.1
+      parameters.linux_entered facts value setup places machine offered lines read.0 read.1
       placed apart;
 }
 
 shows : (facts : MachineFacts) (value : EntryValue) (h : Handover) → AreMachineFacts facts
-    → HasByteLines value
-    → length value.module_lines ≤ 64 → IsHandover facts value h → Shows facts value h
-shows facts value h machine bytes few is =
+    → IsOffered value → IsHandover facts value h → Shows facts value h
+shows facts value h machine offered is =
     let apart =
     subst (λ (x : Handover). AllPairs (λ (p q : Part). end_of p ≤ q.address) x.parts) is.is
     (all_apart facts value h is) in
     subst (Shows facts value) (sym is.is)
-    (by_reading facts value is.places is.reading machine bytes few is.lines is.read is.placed
+    (by_reading facts value is.places is.reading machine offered is.lines is.read is.placed
     apart)
 
 pub handovers_are_seen : (facts : MachineFacts) (value : EntryValue) (h : Handover)
-    → AreMachineFacts facts → HasByteLines value
-    → length value.module_lines ≤ 64 → IsHandover facts value h
+    → AreMachineFacts facts → IsOffered value → IsHandover facts value h
     → (seen : SeenFacts) × IsSeen h seen × ShowsEntry facts value seen
-handovers_are_seen facts value h machine bytes few is =
-    let all = shows facts value h machine bytes few is in
+handovers_are_seen facts value h machine offered is =
+    let all = shows facts value h machine offered is in
     (all.seen, all.is_seen, all.entry)
 
 pub handovers_are_sound : (facts : MachineFacts) (value : EntryValue) (h : Handover)
-    → AreMachineFacts facts → HasByteLines value
-    → length value.module_lines ≤ 64 → IsHandover facts value h → IsSound h
-handovers_are_sound facts value h machine bytes few is =
-    let all = shows facts value h machine bytes few is in
+    → AreMachineFacts facts → IsOffered value → IsHandover facts value h → IsSound h
+handovers_are_sound facts value h machine offered is =
+    let all = shows facts value h machine offered is in
     seen_is_sound h all.seen all.entered all.is_seen
 
 -- ---- from the image
@@ -101,20 +98,19 @@ same_handover version other h image kept is =
     (image_is_read_again version other h image kept.spellable is.kept.spellable is.is).1
 
 pub images_show : (facts : MachineFacts) (value : EntryValue) (version other : Version)
-    (h image : Handover) (seen : SeenFacts) → AreMachineFacts facts → HasByteLines value
-    → length value.module_lines ≤ 64 → IsHandover facts value h → IsKept h
-    → IsImage other (spelling version h) image → IsSeen image seen → ShowsEntry facts value seen
-images_show facts value version other h image seen machine bytes few is kept spelled sees =
-    let all = shows facts value h machine bytes few is in
+    (h image : Handover) (seen : SeenFacts) → AreMachineFacts facts → IsOffered value
+    → IsHandover facts value h → IsKept h → IsImage other (spelling version h) image
+    → IsSeen image seen → ShowsEntry facts value seen
+images_show facts value version other h image seen machine offered is kept spelled sees =
+    let all = shows facts value h machine offered is in
     let own =
     subst (λ (x : Handover). IsSeen x seen)
     (sym (same_handover version other h image kept spelled)) sees in
     subst (ShowsEntry facts value) (seen_is_determined h all.seen seen all.is_seen own) all.entry
 
 pub images_are_sound : (facts : MachineFacts) (value : EntryValue) (version other : Version)
-    (h image : Handover) → AreMachineFacts facts → HasByteLines value
-    → length value.module_lines ≤ 64 → IsHandover facts value h → IsKept h
-    → IsImage other (spelling version h) image → IsSound image
-images_are_sound facts value version other h image machine bytes few is kept spelled =
+    (h image : Handover) → AreMachineFacts facts → IsOffered value → IsHandover facts value h
+    → IsKept h → IsImage other (spelling version h) image → IsSound image
+images_are_sound facts value version other h image machine offered is kept spelled =
     subst IsSound (same_handover version other h image kept spelled)
-    (handovers_are_sound facts value h machine bytes few is)
+    (handovers_are_sound facts value h machine offered is)

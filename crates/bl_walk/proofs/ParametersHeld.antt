@@ -20,10 +20,10 @@ use Rattle.bl_plan.specs.declared.part.Place.{Place}
 use Rattle.bl_plan.specs.declared.part.Role.{Role}
 use Rattle.bl_plan.specs.declared.part.Role.TheVariants.{Kernel, BootParams, CommandLine, Initrd}
 use Rattle.bl_load.specs.Addresses.{address_of}
-use Rattle.bl_load.specs.ByteLines.{HasByteLines}
 use Rattle.bl_load.specs.Handover.{Handover, end_of, filled}
 use Rattle.bl_load.specs.Linux.{IsLinuxKernel}
 use Rattle.bl_load.specs.LinuxRows.{linux_kernel_row, told_of}
+use Rattle.bl_load.specs.Offered.{IsOffered}
 use Rattle.bl_load.specs.Parts.{content_of, handover_of}
 use Rattle.bl_load.specs.PlacingKept.{HasLength}
 use Rattle.bl_load.specs.Protocols.{has_params}
@@ -67,7 +67,7 @@ module _ (facts : MachineFacts) (value : EntryValue) (setup : Setup) (places : L
   params = params_of setup told
 
 module _ (facts : MachineFacts) (value : EntryValue) (setup : Setup) (places : List Place)
-    (machine : AreMachineFacts facts) (bytes : HasByteLines value)
+    (machine : AreMachineFacts facts) (offered : IsOffered value)
     (lines : lines_fault (lines_of value) ≡ None) (handed : has_params value.protocol ≡ true)
     (is_kernel : IsLinuxKernel value.protocol facts.runs value.line (kernel_file value) setup)
     (placed : ArePlaced facts [] (rows_of facts value (linux setup)) places)
@@ -159,7 +159,7 @@ module _ (facts : MachineFacts) (value : EntryValue) (setup : Setup) (places : L
   line_seen =
       let sound = (first_sound (line_fault value.line) (lines_fault value.module_lines) lines).0 in
       let text =
-      sound_text value.line sound (All-head AreBytes value.line value.module_lines bytes) in
+      sound_text value.line sound (All-head AreBytes value.line value.module_lines offered.lines) in
       let short = sound_short value.line sound in
       record {
         rest = filled 4096 value.line;

@@ -10,10 +10,10 @@ use Rattle.bl_plan.specs.declared.protocol.Protocol.{Protocol}
 use Rattle.bl_plan.specs.declared.protocol.Protocol.TheVariants.{Multiboot2, Linux}
 use Rattle.bl_plan.specs.declared.part.Role.TheVariants.{Kernel, Gdt}
 use Rattle.bl_load.specs.Addresses.{address_of}
-use Rattle.bl_load.specs.ByteLines.{HasByteLines}
 use Rattle.bl_load.specs.Handover.{end_of}
 use Rattle.bl_load.specs.Linux.{IsLinuxKernel}
 use Rattle.bl_load.specs.LinuxRows.{linux_kernel_row}
+use Rattle.bl_load.specs.Offered.{IsOffered}
 use Rattle.bl_load.specs.Parts.{handover_of}
 use Rattle.bl_load.specs.Protocols.{has_params}
 use Rattle.bl_load.specs.Reading.{linux}
@@ -35,7 +35,7 @@ use Rattle.bl_walk.proofs.ParametersHeld.{initrd, content, handover, params, hel
 use Rattle.bl_walk.proofs.ParametersHeld.{placed_row, say, line_seen, ramdisk}
 
 module _ (facts : MachineFacts) (value : EntryValue) (setup : Setup) (places : List Place)
-    (machine : AreMachineFacts facts) (bytes : HasByteLines value)
+    (machine : AreMachineFacts facts) (offered : IsOffered value)
     (lines : lines_fault (lines_of value) ≡ None) (handed : has_params value.protocol ≡ true)
     (is_kernel : IsLinuxKernel value.protocol facts.runs value.line (kernel_file value) setup)
     (placed : ArePlaced facts [] (rows_of facts value (linux setup)) places)
@@ -46,7 +46,7 @@ module _ (facts : MachineFacts) (value : EntryValue) (setup : Setup) (places : L
   abbrev pub seen : SeenFacts
   seen = record (seen_alone (handover facts value setup places) value.line facts.runs) {
     initrd =
-        (ramdisk facts value setup places machine bytes lines handed is_kernel placed apart
+        (ramdisk facts value setup places machine offered lines handed is_kernel placed apart
         (initrd facts value setup places) refl).0;
   }
 
@@ -54,14 +54,16 @@ module _ (facts : MachineFacts) (value : EntryValue) (setup : Setup) (places : L
   shows =
       record {
         params = params facts value setup places;
-        say = say facts value setup places machine bytes lines handed is_kernel placed apart;
+        say = say facts value setup places machine offered lines handed is_kernel placed apart;
         line =
-            line_seen facts value setup places machine bytes lines handed is_kernel placed apart;
+            line_seen facts value setup places machine offered lines handed is_kernel placed apart;
         modules = refl;
         initrd =
-            (ramdisk facts value setup places machine bytes lines handed is_kernel placed apart
+            (ramdisk facts value setup places machine offered lines handed is_kernel placed apart
             (initrd facts value setup places) refl).1;
         runs = refl;
+        rsdp_old = refl;
+        rsdp_new = refl;
       }
 
   pub linux_seen : IsSeen (handover facts value setup places) seen
@@ -123,8 +125,10 @@ module _ (facts : MachineFacts) (value : EntryValue) (setup : Setup) (places : L
         (record {
           modules = refl;
           initrd =
-              (ramdisk facts value setup places machine bytes lines handed is_kernel placed
+              (ramdisk facts value setup places machine offered lines handed is_kernel placed
               apart (initrd facts value setup places) refl).2;
+          rsdp_old = refl;
+          rsdp_new = refl;
         });
     runs = refl;
   }
@@ -137,16 +141,16 @@ module _ (facts : MachineFacts) (value : EntryValue) (setup : Setup) (places : L
         rw (entered_from (linux setup) places value.protocol)
         (entered_in places (content facts value setup places) apart (address_of Kernel 0 places)
         (kernel_entered facts value.protocol setup (initrd facts value setup places) places placed
-        (filled_places facts value setup places machine bytes lines handed is_kernel placed
+        (filled_places facts value setup places machine offered lines handed is_kernel placed
         apart)));
     descriptors =
         λ gdt is.
         let own : content facts value setup places Gdt 0 ≡ gdt = rw is refl in
         let long = ap length own in
         let there =
-        held facts value setup places machine bytes lines handed is_kernel placed apart Gdt 0
+        held facts value setup places machine offered lines handed is_kernel placed apart Gdt 0
         (length gdt)
-        (placed_row facts value setup places machine bytes lines handed is_kernel placed apart
+        (placed_row facts value setup places machine offered lines handed is_kernel placed apart
         Gdt refl) (omega arith)
         ∙ ap Some (ap (take (length gdt)) own ∙ take-length gdt) in
         rw (gdt_from (linux setup) places value.protocol gdt is) there;

@@ -53,6 +53,8 @@ record AreSame (s t : SeenFacts) : Type 0 where
   modules : s.modules ≡ t.modules
   initrd : s.initrd ≡ t.initrd
   runs : s.map ≡ t.map
+  rsdp_old : s.rsdp_old ≡ t.rsdp_old
+  rsdp_new : s.rsdp_new ≡ t.rsdp_new
 
 by_information : (h : Handover) (s t : SeenFacts) → InformationShows h s → InformationShows h t
     → AreSame s t
@@ -66,6 +68,8 @@ by_information h s t a b =
       modules = same_modules h.parts b.info.facts.modules s.modules t.modules told b.modules;
       initrd = a.initrd ∙ sym b.initrd;
       runs = a.runs ∙ ap (λ (i : InfoFacts). i.facts.runs) same ∙ sym b.runs;
+      rsdp_old = a.rsdp_old ∙ ap (λ (i : InfoFacts). i.facts.rsdp_old) same ∙ sym b.rsdp_old;
+      rsdp_new = a.rsdp_new ∙ ap (λ (i : InfoFacts). i.facts.rsdp_new) same ∙ sym b.rsdp_new;
     }
 
 by_parameters : (h : Handover) (s t : SeenFacts) → ParametersShow h s → ParametersShow h t
@@ -79,6 +83,8 @@ by_parameters h s t a b =
       modules = a.modules ∙ sym b.modules;
       initrd = same_initrd h.parts b.params s.initrd t.initrd ramdisk b.initrd;
       runs = a.runs ∙ ap (λ (p : ParamsFacts). p.runs) same ∙ sym b.runs;
+      rsdp_old = a.rsdp_old ∙ sym b.rsdp_old;
+      rsdp_new = a.rsdp_new ∙ sym b.rsdp_new;
     }
 
 -- one protocol
@@ -103,6 +109,8 @@ seen_is_determined h s t a b =
     let modules = same.modules in
     let initrd = same.initrd in
     let runs = same.runs in
+    let rsdp_old = same.rsdp_old in
+    let rsdp_new = same.rsdp_new in
     λ i. record {
       protocol = protocol i;
       entry = entry i;
@@ -111,4 +119,6 @@ seen_is_determined h s t a b =
       modules = modules i;
       initrd = initrd i;
       map = runs i;
+      rsdp_old = rsdp_old i;
+      rsdp_new = rsdp_new i;
     }

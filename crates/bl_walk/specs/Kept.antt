@@ -17,7 +17,8 @@ use Rattle.bl_walk.specs.declared.fault.WalkFault.TheVariants.{BadInfo, NoMemory
 abbrev pub begins_upto : ℕ → Part → Bool
 begins_upto address part = nat_le part.address address
 
--- what a kernel sees that is told this line and these runs, and of no file beside it
+-- what a kernel sees that is told this line and these runs, and of no file and no copy of an RSDP
+-- beside them
 abbrev pub seen_alone : Handover → List ℕ → List Region → SeenFacts
 seen_alone h line runs = record {
   protocol = h.protocol;
@@ -27,6 +28,8 @@ seen_alone h line runs = record {
   modules = [];
   initrd = None;
   map = runs;
+  rsdp_old = None;
+  rsdp_new = None;
 }
 
 -- how a fault of the information, or of the boot parameters, is answered

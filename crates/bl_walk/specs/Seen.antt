@@ -70,6 +70,8 @@ pub record InformationShows (h : Handover) (seen : SeenFacts) : Type 0 where
   pub modules : AreSeenModules h.parts info.facts.modules seen.modules
   pub initrd : seen.initrd ≡ None
   pub runs : seen.map ≡ info.facts.runs
+  pub rsdp_old : seen.rsdp_old ≡ info.facts.rsdp_old
+  pub rsdp_new : seen.rsdp_new ≡ info.facts.rsdp_new
 
 -- ---- Linux
 
@@ -109,6 +111,8 @@ pub record ParametersShow (h : Handover) (seen : SeenFacts) : Type 0 where
   pub modules : seen.modules ≡ []
   pub initrd : IsInitrd h.parts params seen.initrd
   pub runs : seen.map ≡ params.runs
+  pub rsdp_old : seen.rsdp_old ≡ None
+  pub rsdp_new : seen.rsdp_new ≡ None
 
 -- ---- both
 

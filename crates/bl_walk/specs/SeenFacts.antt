@@ -16,7 +16,8 @@ pub record SeenFileFacts : Type 0 where
   pub bytes : List ℕ
 
 -- the protocol, the address that the kernel is entered at, its line, its parts in address order,
--- the modules in order, the initial ramdisk, the memory map
+-- the modules in order, the initial ramdisk, the memory map, the copies of the old and of the new
+-- RSDP
 pub record SeenFacts : Type 0 where
   pub protocol : Protocol
   pub entry : ℕ
@@ -25,3 +26,5 @@ pub record SeenFacts : Type 0 where
   pub modules : List SeenModuleFacts
   pub initrd : Option SeenFileFacts
   pub map : List Region
+  pub rsdp_old : Option (List ℕ)
+  pub rsdp_new : Option (List ℕ)

@@ -48,24 +48,29 @@ ShowsKernel value seen Multiboot2 =
 ShowsKernel value seen Linux =
     (setup : Setup) × IsSetup (kernel_file value) setup × ShowsPayload 0 setup seen
 
--- ---- its other files
+-- ---- its other files, and the copies of the RSDP
 
--- modules with the entry's lines and the bytes of its files, and no initial ramdisk
+-- modules with the entry's lines and the bytes of its files, the entry's copies, and no initial
+-- ramdisk
 pub record ShowsModules (value : EntryValue) (seen : SeenFacts) : Type 0 where
   pub lines : map (λ m. m.line) seen.modules ≡ value.module_lines
   pub files : (k : ℕ) → k < length value.module_lines
       → slice_index_or (map (λ m. m.bytes) seen.modules) k [] ≡ module_file value.files k
   pub initrd : seen.initrd ≡ None
+  pub rsdp_old : seen.rsdp_old ≡ value.rsdp_old
+  pub rsdp_new : seen.rsdp_new ≡ value.rsdp_new
 
 -- the bytes of a file, if it has any
 abbrev pub some_bytes : List ℕ → Option (List ℕ)
 some_bytes [] = None
 some_bytes (byte ∷ bytes) = Some (byte ∷ bytes)
 
--- no module, and the bytes of the initial ramdisk's file, if it has any
+-- the bytes of the initial ramdisk's file, if it has any, no module and no copy
 pub record ShowsRamdisk (value : EntryValue) (seen : SeenFacts) : Type 0 where
   pub modules : seen.modules ≡ []
   pub initrd : option_map (λ file. file.bytes) seen.initrd ≡ some_bytes (initrd_file value.files)
+  pub rsdp_old : seen.rsdp_old ≡ None
+  pub rsdp_new : seen.rsdp_new ≡ None
 
 abbrev pub ShowsFiles : EntryValue → SeenFacts → Protocol → Type 0
 ShowsFiles value seen Multiboot2 = ShowsModules value seen
@@ -73,7 +78,7 @@ ShowsFiles value seen Linux = ShowsRamdisk value seen
 
 -- ---- all
 
--- the entry's protocol, line, kernel and files, and the machine's runs
+-- the entry's protocol, line, kernel, files and copies of the RSDP, and the machine's runs
 pub record ShowsEntry (facts : MachineFacts) (value : EntryValue) (seen : SeenFacts) : Type 0 where
   pub protocol : seen.protocol ≡ value.protocol
   pub line : seen.line ≡ value.line

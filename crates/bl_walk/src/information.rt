@@ -58,5 +58,7 @@ pub(crate) fn shown_by_information<A: Allocator + Copy>(
     let modules = modules_at(alloc, image, info.modules.as_slice())?;
     let mut seen = Seen::new(alloc, image, info.line, info.runs)?;
     seen.modules = modules;
+    seen.rsdp_old = info.rsdp_old;
+    seen.rsdp_new = info.rsdp_new;
     Ok(seen)
 }

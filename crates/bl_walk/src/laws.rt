@@ -2,11 +2,10 @@
 ghost use Rattle.std.specs.Prelude.{◌≡◌, ◌+◌, ◌<◌, ◌≤◌, ℕ, List, length, AllPairs, Some};
 ghost use Rattle.std.specs.Prelude.{slice_index_or};
 ghost use Rattle.bl_map.specs.MachineFacts.{MachineFacts, AreMachineFacts};
-ghost use Rattle.bl_load.specs.ByteLines.{HasByteLines};
 ghost use Rattle.bl_load.specs.Handover.{Handover, Part, end_of};
+ghost use Rattle.bl_load.specs.Offered.{IsOffered};
 ghost use Rattle.bl_load.specs.Parts.{IsHandover};
 ghost use Rattle.bl_load.specs.Value.{EntryValue};
-ghost use Rattle.bl_plan.specs.Limits.{most_modules};
 ghost use Rattle.bl_image.specs.Image.{spelling};
 ghost use Rattle.bl_image.specs.ImageParts.{IsImage, IsKept};
 ghost use Rattle.bl_image.specs.declared.version.Version.{Version};
@@ -37,30 +36,26 @@ pub fn ranges_lie_in_one_part()
 {}
 
 /// What an entry hands over shows its kernel the entry: its protocol, its line, where its kernel
-/// lies and is entered, the bytes of its other files, and the machine's runs; and no fault stands
-/// in it.
+/// lies and is entered, the bytes of its other files, its copies of the RSDP under Multiboot2, and
+/// the machine's runs; and no fault stands in it.
 pub fn handovers_are_seen()
     ensures seen { (facts : MachineFacts) (value : EntryValue) (h : Handover)
-        → AreMachineFacts facts → HasByteLines value → length value.module_lines ≤ most_modules
-        → IsHandover facts value h
+        → AreMachineFacts facts → IsOffered value → IsHandover facts value h
         → (seen : SeenFacts) × IsSeen h seen × ShowsEntry facts value seen }
     ensures sound { (facts : MachineFacts) (value : EntryValue) (h : Handover)
-        → AreMachineFacts facts → HasByteLines value → length value.module_lines ≤ most_modules
-        → IsHandover facts value h → IsSound h }
+        → AreMachineFacts facts → IsOffered value → IsHandover facts value h → IsSound h }
 {}
 
 /// Whatever is read from the image of what an entry hands over shows that entry and nothing else,
 /// and no fault stands in it. That the handover is what images keep is `write_image.kept`.
 pub fn images_show_their_entries()
     ensures seen { (facts : MachineFacts) (value : EntryValue) (version other : Version)
-        (h image : Handover) (seen : SeenFacts) → AreMachineFacts facts → HasByteLines value
-        → length value.module_lines ≤ most_modules → IsHandover facts value h → IsKept h
-        → IsImage other (spelling version h) image → IsSeen image seen
-        → ShowsEntry facts value seen }
+        (h image : Handover) (seen : SeenFacts) → AreMachineFacts facts → IsOffered value
+        → IsHandover facts value h → IsKept h → IsImage other (spelling version h) image
+        → IsSeen image seen → ShowsEntry facts value seen }
     ensures sound { (facts : MachineFacts) (value : EntryValue) (version other : Version)
-        (h image : Handover) → AreMachineFacts facts → HasByteLines value
-        → length value.module_lines ≤ most_modules → IsHandover facts value h → IsKept h
-        → IsImage other (spelling version h) image → IsSound image }
+        (h image : Handover) → AreMachineFacts facts → IsOffered value → IsHandover facts value h
+        → IsKept h → IsImage other (spelling version h) image → IsSound image }
 {}
 
 /// Each run of a memory map that is seen ends at most at 2^52.

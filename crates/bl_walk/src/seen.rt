@@ -50,7 +50,9 @@ impl<A: Allocator> Model for SeenFile<A> {
 
 /// What a kernel sees in an image: how and where it is entered, a physical address, its line, its
 /// parts in address order, the modules in order (none under Linux), the initial ramdisk (none under
-/// Multiboot2, nor where it has no byte), and the memory map's runs.
+/// Multiboot2, nor where it has no byte), the memory map's runs, and the copies of the Root System
+/// Description Pointer (Multiboot2 3.6.12 "ACPI old RSDP", 3.6.13 "ACPI new RSDP"; none under
+/// Linux).
 #[derive(Drop)]
 pub struct Seen<A: Allocator> {
     pub protocol: Protocol,
@@ -60,6 +62,8 @@ pub struct Seen<A: Allocator> {
     pub modules: Vec<SeenModule<A>, A>,
     pub initrd: Option<SeenFile<A>>,
     pub map: Vec<Region, A>,
+    pub rsdp_old: Option<Bytes<A>>,
+    pub rsdp_new: Option<Bytes<A>>,
 }
 
 impl<A: Allocator> Model for Seen<A> {
@@ -75,6 +79,8 @@ impl<A: Allocator> Model for Seen<A> {
       modules = s.modules.items;
       initrd = s.initrd;
       map = s.map.items;
+      rsdp_old = s.rsdp_old;
+      rsdp_new = s.rsdp_new;
     } };
 }
 
@@ -82,8 +88,8 @@ impl<A: Allocator + Copy> Seen<A> {
     ghost use Rattle.std.specs.Prelude.{◌≡◌, IfOk};
     ghost use Rattle.bl_walk.specs.Kept.{seen_alone};
 
-    /// What a kernel sees in an image that is told this line and these runs, and of no file beside
-    /// it: what else it is told of is put in its place.
+    /// What a kernel sees in an image that is told this line and these runs, and of no file and no
+    /// copy of an RSDP beside them: what else it is told of is put in its place.
     pub(crate) fn new(
         alloc: A,
         image: &Image<A>,
@@ -100,6 +106,8 @@ impl<A: Allocator + Copy> Seen<A> {
             modules: Vec::new(alloc),
             initrd: None,
             map,
+            rsdp_old: None,
+            rsdp_new: None,
         })
     }
 }
