@@ -73,10 +73,7 @@ fn own_text<A: Allocator>(alloc: A, text: Option<&str>) -> Result<Option<Text<A>
     }
 }
 
-fn multiboot2_form<A: Allocator + Copy>(
-    alloc: A,
-    table: &Table,
-) -> Result<EntryForm<A>, DescFault>
+fn multiboot2_form<A: Allocator + Copy>(alloc: A, table: &Table) -> Result<EntryForm<A>, DescFault>
     ensures given { Gives form_view result (spec.multiboot2_form (table_view table.now)) }
     ensures old { IfOk result (λ form. IfSome (form_view form).rsdp_old HasCopyLength) }
     ensures new { IfOk result (λ form. IfSome (form_view form).rsdp_new HasCopyLength) }
