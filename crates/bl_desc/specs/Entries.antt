@@ -5,8 +5,8 @@ use Rattle.std.specs.Prelude.{Option, Some, None, codes}
 use Rattle.std.specs.Str.{bytes_eq}
 use Rattle.std.specs.List.{find, list_all}
 use Rattle.toml.specs.Data.{Data, Members}
-use Rattle.bl_desc.specs.Values.{◌>>=◌, passing, text_of, has_only, at_key, at_key_or, at_key_if}
-use Rattle.bl_desc.specs.Values.{in_tables}
+use Rattle.bl_desc.specs.Values.{◌>>=◌, passing, text_of, bytes_of, has_only, at_key, at_key_or}
+use Rattle.bl_desc.specs.Values.{at_key_if, in_tables}
 use Rattle.bl_plan.specs.Limits.{most_entries, most_modules}
 use Rattle.bl_plan.specs.declared.protocol.Protocol.{Protocol}
 use Rattle.bl_plan.specs.declared.protocol.Protocol.TheVariants.{Multiboot2, Linux}
@@ -16,16 +16,25 @@ pub record Module : Type 0 where
   pub file : List ℕ
   pub line : List ℕ
 
--- what an entry has beside its kernel: modules, and perhaps an initial ramdisk, which is the name
--- of a file; its protocol says which it may have
+-- what an entry has beside its kernel: modules, and perhaps copies of the Root System Description
+-- Pointer (RSDP) of ACPI 1.0 and of ACPI 2.0 or later (Multiboot2 3.6.12, 3.6.13), and an initial
+-- ramdisk, which is the name of a file; its protocol says which it may have
 pub record Form : Type 0 where
   pub protocol : Protocol
   pub modules : List Module
+  pub rsdp_old : Option (List ℕ)
+  pub rsdp_new : Option (List ℕ)
   pub initrd : Option (List ℕ)
 
 -- nothing beside the kernel
 abbrev pub bare_form : Protocol → Form
-bare_form protocol = record { protocol = protocol; modules = []; initrd = None }
+bare_form protocol = record {
+  protocol = protocol;
+  modules = [];
+  rsdp_old = None;
+  rsdp_new = None;
+  initrd = None;
+}
 
 -- an entry of the menu; kernel is the name of a file
 pub record Entry : Type 0 where
@@ -44,7 +53,7 @@ module_in ms =
       Some record { file = file; line = line })
     else None
 
--- ---- title, modules
+-- ---- title, modules, copies of an RSDP
 
 -- each byte is printable ASCII
 abbrev pub is_printable : List ℕ → Bool
@@ -63,6 +72,17 @@ has_few_modules modules = nat_le (length modules) most_modules
 unfoldable pub modules_of : Data → Option (List Module)
 modules_of d = in_tables module_in d >>= passing has_few_modules
 
+-- a copy of an RSDP has at most so many bytes
+abbrev pub most_copy : ℕ
+most_copy = 256
+
+-- 1 to 256 bytes
+abbrev pub is_copy : List ℕ → Bool
+is_copy copy = nat_le 1 (length copy) && nat_le (length copy) most_copy
+
+abbrev pub copy_of : Data → Option (List ℕ)
+copy_of d = bytes_of d >>= passing is_copy
+
 -- ---- protocol
 
 -- what a protocol is called, under which keys its entries say what they have beside their kernel,
@@ -72,11 +92,21 @@ pub record ProtocolRow : Type 0 where
   pub keys : List (List ℕ)
   pub form : Members → Option Form
 
--- with multiboot2 an entry may have modules
+-- the keys of a multiboot2 entry alone
+abbrev pub multiboot2_keys : List (List ℕ)
+multiboot2_keys = codes "module" ∷ codes "rsdp_old" ∷ codes "rsdp_new" ∷ []
+
+-- with multiboot2 an entry may have modules and copies of RSDPs
 abbrev pub multiboot2_form : Members → Option Form
 multiboot2_form ms = do
   modules ← at_key_or [] modules_of (codes "module") ms
-  Some (record (bare_form Multiboot2) { modules = modules })
+  rsdp_old ← at_key_if copy_of (codes "rsdp_old") ms
+  rsdp_new ← at_key_if copy_of (codes "rsdp_new") ms
+  Some (record (bare_form Multiboot2) {
+    modules = modules;
+    rsdp_old = rsdp_old;
+    rsdp_new = rsdp_new;
+  })
 
 -- with linux it may have an initial ramdisk
 abbrev pub linux_form : Members → Option Form
@@ -86,7 +116,7 @@ linux_form ms = do
 
 abbrev pub protocol_row : Protocol → ProtocolRow
 protocol_row Multiboot2 =
-    record { word = codes "multiboot2"; keys = codes "module" ∷ []; form = multiboot2_form }
+    record { word = codes "multiboot2"; keys = multiboot2_keys; form = multiboot2_form }
 protocol_row Linux = record { word = codes "linux"; keys = codes "initrd" ∷ []; form = linux_form }
 
 -- the protocol that is called so

@@ -2,4 +2,5 @@ pub mod Values
 pub mod Kinds
 pub mod Entries
 pub mod Described
+pub mod Forms
 pub mod Views

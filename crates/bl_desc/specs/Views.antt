@@ -1,28 +1,17 @@
 -- How a description is seen as what its bytes say, and how its readers answer. Own.
 use Rattle.std.specs.Prelude.{◌≡◌, ◌<◌, ◌≤◌, length, map, All, Option, Some, None, Result, Ok, Err}
 use Rattle.bl_desc.specs.Described.{InlineFile, Described}
-use Rattle.bl_desc.specs.Entries.{Module, Form, bare_form, Entry}
-use Rattle.bl_plan.specs.declared.protocol.Protocol.TheVariants as protocol
+use Rattle.bl_desc.specs.Entries.{Entry}
+pub use Rattle.bl_desc.specs.Forms.{module_view, form_view}
 use Rattle.bl_plan.specs.Limits.{most_entries}
 use Rattle.bl_desc.specs.declared.desc.FileRow.{FileRow}
-use Rattle.bl_desc.specs.declared.desc.EntryRow.{EntryRow}
-use Rattle.bl_desc.specs.declared.form.EntryForm.{EntryForm}
-use Rattle.bl_desc.specs.declared.form.EntryForm.TheVariants.{Multiboot2, Linux}
-use Rattle.bl_desc.specs.declared.form.ModuleRow.{ModuleRow}
+use Rattle.bl_desc.specs.declared.entry_row.EntryRow.{EntryRow}
 use Rattle.bl_desc.specs.declared.desc.Description.{Description}
 use Rattle.bl_desc.specs.declared.fault.DescFault.{DescFault}
 use Rattle.bl_desc.specs.declared.fault.DescFault.TheVariants.{BadDescription, NoMemory}
 
 abbrev pub file_view : {A : Type 0} → FileRow A → InlineFile
 file_view f = record { name = f.name; bytes = f.bytes }
-
-abbrev pub module_view : {A : Type 0} → ModuleRow A → Module
-module_view m = record { file = m.file; line = m.line }
-
-abbrev pub form_view : {A : Type 0} → EntryForm A → Form
-form_view (Multiboot2 modules) =
-    record (bare_form protocol.Multiboot2) { modules = map module_view modules.rows.items }
-form_view (Linux initrd) = record (bare_form protocol.Linux) { initrd = initrd }
 
 abbrev pub entry_view : {A : Type 0} → EntryRow A → Entry
 entry_view e = record { title = e.title; kernel = e.kernel; line = e.line; form = form_view e.form }

@@ -3,7 +3,7 @@ ghost use Rattle.std.specs.Prelude.{◌≡◌, map, option_copied};
 ghost use Rattle.bl_desc.specs.Described as spec;
 ghost use Rattle.bl_desc.specs.Views.{file_view, view};
 
-use crate::form::EntryForm;
+use crate::entry_row::EntryRow;
 use crate::text::Text;
 use bl_map::Region;
 use bl_mem::Bytes;
@@ -15,16 +15,6 @@ use std::ops::Range;
 pub struct FileRow<A: Allocator> {
     pub name: Text<A>,
     pub bytes: Bytes<A>,
-}
-
-/// An entry of the menu. The title is 1 to 64 bytes from 0x20 to 0x7E, `kernel` names a file, and
-/// `line` is the kernel's command line, perhaps empty.
-#[derive(Drop)]
-pub struct EntryRow<A: Allocator> {
-    pub title: Text<A>,
-    pub kernel: Text<A>,
-    pub line: Text<A>,
-    pub form: EntryForm<A>,
 }
 
 /// What a description says: the machine, files and the menu, which has 1 to 32 entries.

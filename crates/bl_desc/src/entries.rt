@@ -1,12 +1,13 @@
 //! The entries of a description.
-ghost use Rattle.std.specs.Prelude.{◌≡◌, ◌≤◌, length, map, codes, IfOk};
+ghost use Rattle.std.specs.Prelude.{◌≡◌, ◌≤◌, length, map, codes, IfOk, IfSome};
 ghost use Rattle.toml.specs.View.{view, table_view, items_view};
 ghost use Rattle.bl_desc.specs.Values as values;
 ghost use Rattle.bl_desc.specs.Entries as spec;
 ghost use Rattle.bl_plan.specs.Limits.{most_entries};
+ghost use Rattle.bl_desc.specs.Forms.{HasCopyLength};
 ghost use Rattle.bl_desc.specs.Views.{Gives, entry_view, form_view};
 
-use crate::desc::EntryRow;
+use crate::entry_row::EntryRow;
 use crate::fault::DescFault;
 use crate::form::EntryForm;
 use crate::keys::{at_key, text_at, text_or_empty};
@@ -52,6 +53,8 @@ fn entry_with<A: Allocator + Copy>(
     line: &str,
     form: EntryForm<A>,
 ) -> Result<EntryRow<A>, AllocError>
+    requires old { IfSome (form_view form).rsdp_old HasCopyLength }
+    requires new { IfSome (form_view form).rsdp_new HasCopyLength }
     ensures { IfOk result (λ entry. entry_view entry ≡ record {
       title = title.now;
       kernel = kernel.now;

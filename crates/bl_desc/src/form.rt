@@ -2,6 +2,7 @@
 ghost use Rattle.std.specs.Prelude.{◌≤◌, length};
 
 use crate::text::Text;
+use bl_mem::Bytes;
 use bl_plan::Protocol;
 use std::alloc::Allocator;
 
@@ -19,12 +20,19 @@ pub struct Modules<A: Allocator> {
     ghost few: { length rows.items ≤ 64 },
 }
 
-/// What an entry has beside its kernel, by its protocol: modules, or perhaps an initial ramdisk,
-/// which is the name of a file.
+/// What an entry has beside its kernel, by its protocol: modules and perhaps copies of the Root
+/// System Description Pointer of ACPI 1.0 and of ACPI 2.0 or later (Multiboot2 3.6.12, 3.6.13), or
+/// perhaps an initial ramdisk, which is the name of a file.
 #[derive(Drop)]
 pub enum EntryForm<A: Allocator> {
-    Multiboot2 { modules: Modules<A> },
-    Linux { initrd: Option<Text<A>> },
+    Multiboot2 {
+        modules: Modules<A>,
+        rsdp_old: Option<Bytes<A>>,
+        rsdp_new: Option<Bytes<A>>,
+    },
+    Linux {
+        initrd: Option<Text<A>>,
+    },
 }
 
 impl<A: Allocator> EntryForm<A> {

@@ -5,8 +5,8 @@ ghost use Rattle.bl_desc.specs.Values as spec;
 ghost use Rattle.bl_plan.specs.Limits.{most_entries};
 ghost use Rattle.bl_desc.specs.Views.{Gives, entry_view};
 
-use crate::desc::EntryRow;
 use crate::entries::count_of;
+use crate::entry_row::EntryRow;
 use crate::fault::DescFault;
 use crate::keys::at_key;
 use crate::values::index_of;

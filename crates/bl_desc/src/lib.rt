@@ -1,8 +1,10 @@
 //! The description of a boot: TOML to records.
 #![tactic(auto)]
 
+mod copies;
 mod desc;
 mod entries;
+mod entry_row;
 mod fault;
 mod files;
 mod form;
@@ -17,7 +19,8 @@ mod text;
 mod values;
 
 pub use bl_plan::{MOST_ENTRIES, MOST_MODULES};
-pub use desc::{Description, EntryRow, FileRow, file_named};
+pub use desc::{Description, FileRow, file_named};
+pub use entry_row::EntryRow;
 pub use fault::DescFault;
 pub use form::{EntryForm, ModuleRow, Modules};
 pub use kinds::kind_name;

@@ -1,11 +1,13 @@
 //! The protocols of entries: what each is called, and what its entries have beside their kernel.
-ghost use Rattle.std.specs.Prelude.{◌≡◌, ◌++◌, codes, option_map, IfOk};
+ghost use Rattle.std.specs.Prelude.{◌≡◌, ◌++◌, codes, option_map, None, IfOk, IfSome};
 ghost use Rattle.toml.specs.View.{table_view};
 ghost use Rattle.bl_desc.specs.Values as values;
 ghost use Rattle.bl_desc.specs.Entries as spec;
 ghost use Rattle.bl_desc.specs.Entries.{entry_keys, protocol_row};
+ghost use Rattle.bl_desc.specs.Forms.{HasCopyLength};
 ghost use Rattle.bl_desc.specs.Views.{Gives, form_view};
 
+use crate::copies::copy_if;
 use crate::fault::DescFault;
 use crate::form::EntryForm;
 use crate::keys::{has_only, text_at, text_if};
@@ -51,7 +53,12 @@ pub fn has_keys(table: &Table, protocol: Protocol) -> bool
         ≡ values.has_only (entry_keys ++ (protocol_row protocol).keys) (table_view table.now) }
 {
     match protocol {
-        Protocol::Multiboot2 => has_only(table, &["title", "protocol", "kernel", "line", "module"]),
+        Protocol::Multiboot2 => {
+            let known = [
+                "title", "protocol", "kernel", "line", "module", "rsdp_old", "rsdp_new",
+            ];
+            has_only(table, &known)
+        }
         Protocol::Linux => has_only(table, &["title", "protocol", "kernel", "line", "initrd"]),
     }
 }
@@ -66,24 +73,44 @@ fn own_text<A: Allocator>(alloc: A, text: Option<&str>) -> Result<Option<Text<A>
     }
 }
 
+fn multiboot2_form<A: Allocator + Copy>(alloc: A, table: &Table) -> Result<EntryForm<A>, DescFault>
+    ensures given { Gives form_view result (spec.multiboot2_form (table_view table.now)) }
+    ensures old { IfOk result (λ form. IfSome (form_view form).rsdp_old HasCopyLength) }
+    ensures new { IfOk result (λ form. IfSome (form_view form).rsdp_new HasCopyLength) }
+{
+    let modules = modules_at(alloc, table)?;
+    let rsdp_old = copy_if(alloc, table, "rsdp_old")?;
+    let rsdp_new = copy_if(alloc, table, "rsdp_new")?;
+    Ok(EntryForm::Multiboot2 {
+        modules,
+        rsdp_old,
+        rsdp_new,
+    })
+}
+
+fn linux_form<A: Allocator>(alloc: A, table: &Table) -> Result<EntryForm<A>, DescFault>
+    ensures given { Gives form_view result (spec.linux_form (table_view table.now)) }
+    ensures old { IfOk result (λ form. (form_view form).rsdp_old ≡ None) }
+    ensures new { IfOk result (λ form. (form_view form).rsdp_new ≡ None) }
+{
+    let initrd = text_if(table, "initrd")?;
+    Ok(EntryForm::Linux {
+        initrd: own_text(alloc, initrd)?,
+    })
+}
+
 /// What an entry of this protocol has beside its kernel.
 pub fn form_in<A: Allocator + Copy>(
     alloc: A,
     table: &Table,
     protocol: Protocol,
 ) -> Result<EntryForm<A>, DescFault>
-    ensures { Gives form_view result ((protocol_row protocol).form (table_view table.now)) }
+    ensures given { Gives form_view result ((protocol_row protocol).form (table_view table.now)) }
+    ensures old { IfOk result (λ form. IfSome (form_view form).rsdp_old HasCopyLength) }
+    ensures new { IfOk result (λ form. IfSome (form_view form).rsdp_new HasCopyLength) }
 {
     match protocol {
-        Protocol::Multiboot2 => {
-            let modules = modules_at(alloc, table)?;
-            Ok(EntryForm::Multiboot2 { modules })
-        }
-        Protocol::Linux => {
-            let initrd = text_if(table, "initrd")?;
-            Ok(EntryForm::Linux {
-                initrd: own_text(alloc, initrd)?,
-            })
-        }
+        Protocol::Multiboot2 => multiboot2_form(alloc, table),
+        Protocol::Linux => linux_form(alloc, table),
     }
 }

@@ -5,7 +5,7 @@ use Rattle.std.specs.Prelude.{nat_le}
 use Rattle.bl_plan.specs.Limits.{most_entries}
 use Rattle.bl_desc.specs.Entries.{is_menu}
 use Rattle.bl_desc.specs.Views.{entry_view}
-use Rattle.bl_desc.specs.declared.desc.EntryRow.{EntryRow}
+use Rattle.bl_desc.specs.declared.entry_row.EntryRow.{EntryRow}
 use Rattle.bl_desc.proofs.entries.entries_of.Goals as goal
 
 few : (n : ℕ) → true ≡ (nat_le 1 n && nat_le n most_entries) → (1 ≤ n) × (n ≤ most_entries)

@@ -1,0 +1,52 @@
+//! The copies of an RSDP that an entry hands over.
+ghost use Rattle.std.specs.Prelude.{◌≡◌, IfOk, IfSome};
+ghost use Rattle.toml.specs.View.{view, table_view};
+ghost use Rattle.bl_desc.specs.Values as values;
+ghost use Rattle.bl_desc.specs.Entries as spec;
+ghost use Rattle.bl_desc.specs.Forms.{HasCopyLength};
+ghost use Rattle.bl_desc.specs.Views.{Gives};
+
+use crate::fault::DescFault;
+use crate::keys::at_key;
+use crate::values::bytes_of;
+use bl_mem::Bytes;
+use std::alloc::Allocator;
+use toml::{Table, Value};
+
+/// The most bytes that a copy of an RSDP has. It has at least 1.
+const MOST_COPY: usize = 256;
+
+/// Whether bytes can be a copy of an RSDP.
+fn is_copy(bytes: &[u8]) -> bool
+    ensures { result ≡ spec.is_copy bytes.now }
+{
+    bytes.len() >= 1 && bytes.len() <= MOST_COPY
+}
+
+/// A copy, from the value of its key.
+fn copy_of<A: Allocator>(alloc: A, value: &Value) -> Result<Bytes<A>, DescFault>
+    ensures given { Gives (λ copy. copy) result (spec.copy_of (view value.now)) }
+    ensures length { IfOk result HasCopyLength }
+{
+    let copy = bytes_of(alloc, value)?;
+    if !is_copy(copy.as_slice()) {
+        return Err(DescFault::BadDescription);
+    }
+    Ok(copy)
+}
+
+/// The copy at a key that may be left out.
+pub fn copy_if<A: Allocator>(
+    alloc: A,
+    table: &Table,
+    key: &str,
+) -> Result<Option<Bytes<A>>, DescFault>
+    ensures given { Gives (λ copy. copy) result
+        (values.at_key_if spec.copy_of key.now (table_view table.now)) }
+    ensures length { IfOk result (λ copy. IfSome copy HasCopyLength) }
+{
+    match at_key(table, key) {
+        Some(value) => Ok(Some(copy_of(alloc, value)?)),
+        None => Ok(None),
+    }
+}
