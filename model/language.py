@@ -2,7 +2,7 @@
 spells them."""
 
 import re
-from typing import Dict, List, NamedTuple, Sequence, Tuple
+from typing import Dict, List, NamedTuple, Optional, Sequence, Tuple
 
 HEX = re.compile(r"[0-9a-f]+\Z")
 WIDTHS = {"u16": 2, "u32": 4, "u64": 8}
@@ -156,6 +156,11 @@ def fields(words: Sequence[str]) -> Tuple[Dict[str, List[str]], List[str]]:
 
 def only(named: Dict[str, List[str]], *allowed: str) -> None:
     demand(all(name in allowed for name in named))
+
+
+def perhaps(named: Dict[str, List[str]], name: str) -> Optional[str]:
+    """The value of a field that stands once, or None of one that is left out."""
+    return single(named, name) if name in named else None
 
 
 def single(named: Dict[str, List[str]], name: str) -> str:

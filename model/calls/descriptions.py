@@ -22,6 +22,10 @@ def entry_texts(entry: rules.MenuEntry):
     yield "entry %s protocol %d %s %s" % (title, entry.protocol, kernel, quoted(entry.line))
     for file, line in entry.modules:
         yield "module %s %s" % (quoted_text(file), quoted(line))
+    if entry.rsdp_old is not None:
+        yield "rsdp_old " + spell(entry.rsdp_old)
+    if entry.rsdp_new is not None:
+        yield "rsdp_new " + spell(entry.rsdp_new)
     if entry.initrd is not None:
         yield "initrd " + quoted_text(entry.initrd)
 

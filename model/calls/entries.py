@@ -1,8 +1,8 @@
 """prepare, load, refusal: the calls of bl_load."""
 
-from typing import List
+from typing import List, Optional
 
-from language import demand, fields, number, only, single, spell
+from language import demand, fields, number, only, perhaps, single, spell
 from rules import entry as entries
 from rules.handover import REGISTERS, Handover, part_bytes
 from rules.memory import Memory
@@ -19,16 +19,17 @@ ROLES = {1: "kernel", 2: "module", 3: "information", 4: "boot_params", 5: "comma
 
 
 def read_entry(table, words: List[str], kernel: bytes) -> entries.Entry:
-    """`multiboot2 line=B module=B:B ..` or `linux line=B initrd=B`."""
+    """`multiboot2 line=B module=B:B .. rsdp_old=B rsdp_new=B` or `linux line=B initrd=B`."""
     demand(bool(words) and words[0] in ("multiboot2", "linux"))
     named, bare = fields(words[1:])
     demand(not bare)
     text = table.names.one(single(named, "line"))
     if words[0] == "multiboot2":
-        only(named, "line", "module")
+        only(named, "line", "module", "rsdp_old", "rsdp_new")
         modules = [read_module(table, word) for word in named.get("module", [])]
-        demand(len(modules) <= MOST_MODULES)
-        return entries.Multiboot2Entry(kernel, text, modules)
+        copies = [read_copy(table, perhaps(named, name)) for name in ("rsdp_old", "rsdp_new")]
+        demand(len(modules) <= MOST_MODULES and all(entries.is_copy(copy) for copy in copies))
+        return entries.Multiboot2Entry(kernel, text, modules, *copies)
     only(named, "line", "initrd")
     initrd = table.names.one(single(named, "initrd")) if "initrd" in named else None
     return entries.LinuxEntry(kernel, text, initrd)
@@ -38,6 +39,11 @@ def read_module(table, word: str):
     file, colon, text = word.partition(":")
     demand(colon == ":")
     return table.names.one(file), table.names.one(text)
+
+
+def read_copy(table, word: Optional[str]) -> Optional[bytes]:
+    """A copy of an RSDP: without a word none; a word without bytes is one of no bytes."""
+    return None if word is None else table.names.one(word)
 
 
 def head_text(protocol: int, registers) -> str:

@@ -8,11 +8,12 @@ from rules.entry import Entry, LinuxEntry, Multiboot2Entry
 from rules.refusals import Refused
 
 from . import Call
+from .entries import read_copy
 from .kernels import fault_text
 
 File = Union[bytes, int, None]
-WORDS = ("file", "entry", "modules", "default", "fallback", "store", "twice", "fail", "picks",
-         "answers")
+WORDS = ("file", "entry", "modules", "rsdp_old", "rsdp_new", "default", "fallback", "store",
+         "twice", "fail", "picks", "answers")
 STORES = ("forward", "reverse", "counting", "silent", "script")
 
 
@@ -22,6 +23,8 @@ class MenuEntry(NamedTuple):
     kernel: int
     line: bytes
     others: List[Tuple[int, bytes]]  # the modules and their lines, or the initrd
+    rsdp_old: Optional[bytes] = None
+    rsdp_new: Optional[bytes] = None
 
     def files(self) -> List[int]:
         return [self.kernel] + [file for file, _ in self.others]
@@ -30,7 +33,8 @@ class MenuEntry(NamedTuple):
         if self.is_linux:
             return LinuxEntry(files[0], self.line, files[1] if files[1:] else None)
         return Multiboot2Entry(files[0], self.line,
-                               [(file, line) for file, (_, line) in zip(files[1:], self.others)])
+                               [(file, line) for file, (_, line) in zip(files[1:], self.others)],
+                               self.rsdp_old, self.rsdp_new)
 
 
 class Menu:
@@ -42,13 +46,14 @@ class Menu:
         demand(not bare)
         self.named = named
         self.files = [read_file(table, word) for word in named.get("file", [])]
-        self.entries = [entry for word in named.get("entry", [])
-                        for entry in read_entries(table, word)]
-        more = number(single(named, "modules")) if "modules" in named else 0
-        if more > 0:
-            demand(bool(self.entries) and not self.entries[-1].is_linux)
-            last = self.entries[-1]
-            self.entries[-1] = last._replace(others=last.others + [(1, b"")] * more)
+        self.entries: List[MenuEntry] = []
+        for word in words:
+            name, _, value = word.partition("=")
+            if name == "entry":
+                self.entries += read_entries(table, value)
+            elif name in ("modules", "rsdp_old", "rsdp_new"):
+                demand(bool(self.entries) and not self.entries[-1].is_linux)
+                self.entries[-1] = with_more(table, self.entries[-1], name, value)
         self.default = number(single(named, "default"), 32) if "default" in named else 0
         self.fallbacks = numbers(single(named, "fallback"), 32) if "fallback" in named else []
         self.store = single(named, "store") if "store" in named else "forward"
@@ -56,8 +61,9 @@ class Menu:
 
     def check(self) -> List[int]:
         """The attempts, or the fault of the menu."""
-        booting.check_menu([0 if e.is_linux else len(e.others) for e in self.entries], self.default,
-                           self.fallbacks)
+        counts = [0 if e.is_linux else len(e.others) for e in self.entries]
+        copies = [copy for e in self.entries for copy in (e.rsdp_old, e.rsdp_new)]
+        booting.check_menu(counts, copies, self.default, self.fallbacks)
         return booting.attempts(self.default, self.fallbacks)
 
     def sizes(self, entry: MenuEntry) -> List[Optional[int]]:
@@ -94,6 +100,15 @@ def read_entries(table, word: str) -> List[MenuEntry]:
             for other in others]
     entry = MenuEntry(is_linux, number(kernel, 32), table.names.one(text), rest)
     return [entry] * (number(count) if star else 1)
+
+
+def with_more(table, entry: MenuEntry, name: str, value: str) -> MenuEntry:
+    """`modules=N`, N more modules of the file after the kernel's; `rsdp_old=B`, `rsdp_new=B`."""
+    if name == "modules":
+        more = [(entry.kernel + 1, b"")] * number(value)
+        return entry._replace(others=entry.others + more)
+    demand(getattr(entry, name) is None)
+    return entry._replace(**{name: read_copy(table, value)})
 
 
 def menu(table, line):

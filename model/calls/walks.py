@@ -20,7 +20,12 @@ def seen_text(seen: walking.Seen) -> str:
               for module in seen.modules]
     if seen.initrd is not None:
         words.append("initrd=%x:%s" % (seen.initrd[0], spell(seen.initrd[1])))
-    return " ".join(words + ["run=" + run_word(run) for run in seen.runs])
+    words += ["run=" + run_word(run) for run in seen.runs]
+    if seen.rsdp_old is not None:
+        words.append("rsdp_old=" + spell(seen.rsdp_old))
+    if seen.rsdp_new is not None:
+        words.append("rsdp_new=" + spell(seen.rsdp_new))
+    return " ".join(words)
 
 
 def walk(table, line):

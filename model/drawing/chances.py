@@ -23,6 +23,13 @@ def length(rng: Random) -> int:
                        8192, 8193, 12288])
 
 
+def copy(rng: Random, wild: float) -> bytes:
+    """A copy of an RSDP; so many of a hundred have a length that no entry may have."""
+    if chance(rng, wild):
+        return some_bytes(rng, rng.choice([0, 0, 257, 257, 300, rng.randrange(257, 600)]))
+    return some_bytes(rng, rng.choice([1, 20, 20, 36, 36, 255, 256, rng.randrange(1, 257)]))
+
+
 def number(rng: Random, bits: int) -> int:
     """Of so many bits: an edge, a small one, or any."""
     value = rng.choice([rng.choice(EDGES), rng.randrange(64), rng.getrandbits(bits),

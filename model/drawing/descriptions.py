@@ -6,7 +6,7 @@ from typing import Dict, List, NamedTuple, Tuple
 from rules.machine import KIND_NAMES, Machine
 
 from . import kernels, linux_kernels, machines
-from .chances import chance, length, some_bytes
+from .chances import chance, copy, length, some_bytes
 
 NAMES = ["a", "kernel.elf", "b.bin", "folder/none", "with blank", "é", "f\tg"]
 
@@ -81,14 +81,29 @@ def draw_entry(rng: Random, index: int, files: Dict[str, bytes]) -> list:
             modules = [draw_module(rng, files) for _ in range(rng.choice([0, 0, 1, 1, 2, 3, 6]))]
             if modules or chance(rng, 5):
                 pairs.append(("module", modules))
+            pairs += draw_copies(rng, 25)
     else:
         kernel = linux_kernels.draw(rng, len(line.encode("utf-8")))
         pairs += [("protocol", "linux"), ("kernel", named(rng, files, kernel))]
         if chance(rng, 70):
             pairs.append(("initrd", named(rng, files, some_bytes(rng, length(rng)))))
+        pairs += draw_copies(rng, 1)
     if line or chance(rng, 50):
         pairs.append(("line", line))
     return pairs
+
+
+def draw_copies(rng: Random, percent: float) -> List[Tuple[str, object]]:
+    """Copies of the RSDP, so many of a hundred of each; some are none."""
+    return [(key, draw_copy(rng)) for key in ("rsdp_old", "rsdp_new") if chance(rng, percent)]
+
+
+def draw_copy(rng: Random) -> object:
+    digits = hexed(rng, copy(rng, 4))
+    if chance(rng, 3):
+        return rng.choice([0, [digits], digits + "0", digits[1:], digits + " ", "0x" + digits,
+                           digits[:-1] + "g", digits.title()])
+    return digits
 
 
 def draw_module(rng: Random, files: Dict[str, bytes]) -> list:
@@ -173,7 +188,8 @@ def damaged(rng: Random, text: str) -> str:
         lines.insert(at, rng.choice([
             "extra = 1", "line = 1", "initrd = 'f0'", "module = []", "[x]", "fill = 256", "= 1",
             "fill = -1", "fill = 1.0", "fill = true", "# a comment", "fallback = [[0]]", "\t",
-            "default = '0'", "size = 9223372036854775808", "region = []", "file = {}"]))
+            "default = '0'", "size = 9223372036854775808", "region = []", "file = {}",
+            "rsdp_old = '00'", "rsdp_new = ''"]))
     elif what == 3:
         lines[at] = lines[at].replace(" = ", rng.choice([" = 1", " == ", " = [", " = \"", " "]), 1)
     elif what == 4 and lines[at]:

@@ -10,7 +10,7 @@ from rules.image import spell
 from rules.information import Information, Module
 from rules.machine import Run
 
-from .chances import chance, changed, number, some_bytes
+from .chances import chance, changed, copy, number, some_bytes
 
 HEAD, RECORD = 104, 24
 
@@ -101,8 +101,8 @@ def draw_multiboot2(rng: Random) -> Handover:
     told = information.spell(Information(
         draw_text(rng), modules, rng.choice([0, 636, 640]), number(rng, 32), draw_runs(rng, 20),
         rng.choice([None, number(rng, 32)]),
-        rng.choice([None, None, some_bytes(rng, rng.choice([0, 1, 20]))]),
-        rng.choice([None, None, some_bytes(rng, rng.choice([0, 36, 37]))]),
+        rng.choice([None, None, copy(rng, 30)]),
+        rng.choice([None, None, copy(rng, 30)]),
         rng.choice([b"bootcore", b"", draw_text(rng)])))
     if chance(rng, 20):
         told = damaged(rng, told)

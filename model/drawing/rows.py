@@ -8,14 +8,14 @@ from rules.image import spell
 from rules.machine import KIND_NAMES
 
 from . import descriptions, images, kernels, linux_kernels, machines
-from .chances import chance, changed, length, number, some_bytes
+from .chances import chance, changed, copy, length, number, some_bytes
 from .headers import MIB
 
 
 def draw(rng: Random, count: int) -> List[str]:
     """So many rows; each few are on a machine of their own."""
     drawers = [elf, header, setup, info, info, params, params, image, walk, prepare, prepare,
-               prepare, plan, facts, describe]
+               prepare, plan, facts, describe, menu]
     rows = []
     while len(rows) < count:
         rows.append(machine(rng))
@@ -85,10 +85,32 @@ def prepare(rng: Random) -> str:
     if chance(rng, 50):
         modules = [f" module={some_bytes(rng, length(rng)).hex()}:{line(rng)}"
                    for _ in range(rng.choice([0, 0, 1, 2, 3]))]
-        return f"prepare multiboot2 line={told}{''.join(modules)} of {digits(kernel(rng))}"
+        copies = [f" {key}={copy(rng, 3).hex()}" for key in ("rsdp_old", "rsdp_new")
+                  if chance(rng, 30)]
+        words = "".join(modules + copies)
+        return f"prepare multiboot2 line={told}{words} of {digits(kernel(rng))}"
     disk = f" initrd={some_bytes(rng, length(rng)).hex()}" if chance(rng, 70) else ""
     file = linux_kernels.draw(rng, len(told) // 2)
     return f"prepare linux line={told}{disk} of {digits(file)}"
+
+
+def menu(rng: Random) -> str:
+    """Of a few entries, some with copies; each kernel is the file 0."""
+    words = []
+    for _ in range(rng.choice([1, 1, 2, 3])):
+        if chance(rng, 20):
+            words.append("entry=linux:0:")
+            continue
+        words.append("entry=multiboot2:0:" + rng.choice(["", "", "*1f", "*20"]))
+        if chance(rng, 20):
+            words.append(rng.choice(["modules=1", "modules=40", "modules=41"]))
+        words += [f"{key}={copy(rng, 10).hex()}" for key in ("rsdp_old", "rsdp_new")
+                  if chance(rng, 40)]
+    if chance(rng, 30):
+        words.append(f"default={rng.choice([0, 1, 2, 40]):x}")
+    if chance(rng, 30):
+        words.append("fallback=" + rng.choice(["0", "1", "2,0", "0,0"]))
+    return "menu " + " ".join(words)
 
 
 def plan(rng: Random) -> str:

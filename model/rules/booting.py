@@ -5,7 +5,7 @@ from typing import Callable, List, NamedTuple, Optional, Tuple, Union
 
 from . import description, image, walking
 from .description import MOST_ENTRIES, MOST_MODULES, BadDescription, MenuEntry
-from .entry import Entry, LinuxEntry, Multiboot2Entry, hand_over
+from .entry import Entry, LinuxEntry, Multiboot2Entry, hand_over, is_copy
 from .handover import MULTIBOOT2, Handover
 from .machine import KIND_NAMES, Machine, high_kib, low_kib, normal_map
 from .numbers import FRAME, frames
@@ -34,9 +34,13 @@ class Run(NamedTuple):
 # ---- menus
 
 
-def check_menu(module_counts: List[int], default: int, fallbacks: List[int]) -> None:
-    """Refused with 52 or 51; module_counts has the number of modules of each entry."""
+def check_menu(module_counts: List[int], copies: List[Optional[bytes]], default: int,
+               fallbacks: List[int]) -> None:
+    """Refused with 52 or 51; module_counts has the number of modules of each entry, copies has
+    those of the RSDP of all entries."""
     if len(module_counts) > MOST_ENTRIES or any(n > MOST_MODULES for n in module_counts):
+        refuse(52)
+    if not all(is_copy(copy) for copy in copies):
         refuse(52)
     if not all(index < len(module_counts) for index in [default, *fallbacks]):
         refuse(51)
@@ -70,7 +74,8 @@ def entry_with(entry: MenuEntry, files: List[bytes]) -> Entry:
     """The entry and its files, which come in the order of their names."""
     if entry.protocol == MULTIBOOT2:
         lines = [line for _, line in entry.modules]
-        return Multiboot2Entry(files[0], entry.line, list(zip(files[1:], lines)))
+        return Multiboot2Entry(files[0], entry.line, list(zip(files[1:], lines)), entry.rsdp_old,
+                               entry.rsdp_new)
     return LinuxEntry(files[0], entry.line, files[1] if files[1:] else None)
 
 

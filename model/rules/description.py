@@ -3,6 +3,7 @@
 import re
 from typing import Dict, List, NamedTuple, NoReturn, Optional, Tuple
 
+from .entry import is_copy
 from .handover import LINUX, MULTIBOOT2
 from .machine import KINDS, Machine, Range, Region, check
 from .refusals import Refused
@@ -27,6 +28,8 @@ class MenuEntry(NamedTuple):
     line: bytes
     modules: List[Tuple[str, bytes]]  # file, line
     initrd: Optional[str]
+    rsdp_old: Optional[bytes]
+    rsdp_new: Optional[bytes]
 
 
 class Description(NamedTuple):
@@ -98,16 +101,13 @@ def region_in(table: dict) -> Region:
 
 def file_in(table: dict) -> Tuple[str, bytes]:
     only(table, "name", "hex")
-    digits = text(required(table, "hex"))
-    if not re.fullmatch("([0-9a-fA-F]{2})*", digits):
-        bad("hex")
-    return text(required(table, "name")), bytes.fromhex(digits)
+    return text(required(table, "name")), bytes_of(required(table, "hex"))
 
 
 def entry_in(table: dict) -> MenuEntry:
     protocol = text(required(table, "protocol"))
     if protocol == "multiboot2":
-        only(table, "title", "protocol", "kernel", "line", "module")
+        only(table, "title", "protocol", "kernel", "line", "module", "rsdp_old", "rsdp_new")
     elif protocol == "linux":
         only(table, "title", "protocol", "kernel", "line", "initrd")
     else:
@@ -125,7 +125,18 @@ def entry_in(table: dict) -> MenuEntry:
         line=line_in(table),
         modules=modules,
         initrd=text(table["initrd"]) if "initrd" in table else None,
+        rsdp_old=copy_in(table, "rsdp_old"),
+        rsdp_new=copy_in(table, "rsdp_new"),
     )
+
+
+def copy_in(table: dict, key: str) -> Optional[bytes]:
+    if key not in table:
+        return None
+    copy = bytes_of(table[key])
+    if not is_copy(copy):
+        bad("length of a copy")
+    return copy
 
 
 def module_in(table: dict) -> Tuple[str, bytes]:
@@ -162,6 +173,13 @@ def text(value) -> str:
     if not isinstance(value, str):
         bad("no text")
     return value
+
+
+def bytes_of(value) -> bytes:
+    digits = text(value)
+    if not re.fullmatch("([0-9a-fA-F]{2})*", digits):
+        bad("hex")
+    return bytes.fromhex(digits)
 
 
 def array(value) -> list:

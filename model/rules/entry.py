@@ -10,12 +10,15 @@ from .places import undisturbed_frames
 from .refusals import refuse
 
 MOST_LINE = 4095
+MOST_COPY = 256
 
 
 class Multiboot2Entry(NamedTuple):
     kernel: bytes
     line: bytes
     modules: List[Tuple[bytes, bytes]]  # file, line
+    rsdp_old: Optional[bytes] = None
+    rsdp_new: Optional[bytes] = None
 
 
 class LinuxEntry(NamedTuple):
@@ -27,12 +30,18 @@ class LinuxEntry(NamedTuple):
 Entry = Union[Multiboot2Entry, LinuxEntry]
 
 
+def is_copy(copy: Optional[bytes]) -> bool:
+    """Whether an entry may have this copy of an RSDP, or none."""
+    return copy is None or 1 <= len(copy) <= MOST_COPY
+
+
 def prepare(machine: Machine, entry: Entry) -> Handover:
     """Steps 4 to 8 of the checks of an entry, whose files are all there; refused with 4 to 20 and
     22 to 29. The room is not asked for."""
     check_lines(entry)
     if isinstance(entry, Multiboot2Entry):
-        return multiboot2_entry.prepare(machine, entry.kernel, entry.line, entry.modules)
+        return multiboot2_entry.prepare(machine, entry.kernel, entry.line, entry.modules,
+                                        entry.rsdp_old, entry.rsdp_new)
     return linux_entry.prepare(machine, entry.kernel, entry.line, entry.initrd)
 
 

@@ -1,6 +1,6 @@
 """A Multiboot2 entry to its parts. BOOT-RULES.md "Entry and relocation", "Places"."""
 
-from typing import List, Tuple
+from typing import List, Optional, Tuple
 
 from . import elf, information, multiboot2
 from .elf import Segment
@@ -28,8 +28,9 @@ def read_kernel(file: bytes) -> Tuple[multiboot2.Header, List[Segment], int]:
 
 
 def prepare(machine: Machine, kernel: bytes, line: bytes,
-            modules: List[Tuple[bytes, bytes]]) -> Handover:
-    """Steps 5 to 8; a module is its file and its line."""
+            modules: List[Tuple[bytes, bytes]], rsdp_old: Optional[bytes],
+            rsdp_new: Optional[bytes]) -> Handover:
+    """Steps 5 to 8; a module is its file and its line. The copies are told as they stand."""
     header, segments, entered = read_kernel(kernel)
     planner = Planner(machine)
     if header.relocation is None:
@@ -48,7 +49,7 @@ def prepare(machine: Machine, kernel: bytes, line: bytes,
         told_modules.append(information.Module(at, at + len(file), module_line))
     told = information.spell(information.Information(
         line, told_modules, low_kib(machine.regions), high_kib(machine.regions),
-        normal_map(machine.regions), load_base))
+        normal_map(machine.regions), load_base, rsdp_old, rsdp_new))
     length = frames(len(told)) * FRAME
     at = planner.lowest(length, FRAME, 0x1000, GIB4)
     parts.append(Part(INFORMATION, 0, at, length, [(0, told)]))

@@ -32,6 +32,8 @@ class Seen(NamedTuple):
     modules: List[SeenModule]
     initrd: Optional[Tuple[int, bytes]]  # address and bytes
     runs: List[Run]
+    rsdp_old: Optional[bytes] = None
+    rsdp_new: Optional[bytes] = None
 
 
 def faults(image: Image) -> Set[int]:
@@ -56,7 +58,8 @@ def see(image: Image) -> Seen:
     kernel = [(p.address, len(p.data)) for p in image.parts if p.role == KERNEL]
     if image.protocol == MULTIBOOT2:
         told = information_of(image)
-        return Seen(MULTIBOOT2, entry, told.line, kernel, modules_of(image), None, told.runs)
+        return Seen(MULTIBOOT2, entry, told.line, kernel, modules_of(image), None, told.runs,
+                    told.old_rsdp, told.new_rsdp)
     runs = params_of(image).runs
     return Seen(LINUX, entry, line_of(image), kernel, [], initrd_of(image), runs)
 
@@ -154,6 +157,10 @@ def lines(seen: Seen) -> List[str]:
     if seen.initrd is not None:
         said.append(f"initrd {seen.initrd[0]:08x} {len(seen.initrd[1])}")
     said += [f"map {run.start:016x} {run.end:016x} {run.kind}" for run in seen.runs]
+    if seen.rsdp_old is not None:
+        said.append(f"rsdp-old {text_word(seen.rsdp_old)}")
+    if seen.rsdp_new is not None:
+        said.append(f"rsdp-new {text_word(seen.rsdp_new)}")
     return said
 
 

@@ -1,19 +1,26 @@
 //! `describe BYTES`: what a description says; `named NAME of BYTES`: the bytes that its file of
 //! this name has.
 
+use crate::entry::say_copy;
 use bl_desc::{DescFault, Description, EntryForm, EntryRow, read_description};
 use bl_refusing::Refusing;
 use bl_rows::row::Row;
 
-/// What an entry has beside its kernel: its modules as ` module "FILE" "LINE"`, or
-/// ` initrd "FILE"`.
+/// What an entry has beside its kernel: its modules as ` module "FILE" "LINE"` and its copies of
+/// the RSDP as ` rsdp_old BYTES`, ` rsdp_new BYTES`, or ` initrd "FILE"`.
 fn say_form(row: &mut Row<'_>, form: &EntryForm<&Refusing>) {
     match form {
-        EntryForm::Multiboot2 { modules } => {
+        EntryForm::Multiboot2 {
+            modules,
+            rsdp_old,
+            rsdp_new,
+        } => {
             for module in &modules.rows {
                 row.say_quoted(" module ", module.file.as_str());
                 row.say_quoted(" ", module.line.as_str());
             }
+            say_copy(row, " rsdp_old ", rsdp_old);
+            say_copy(row, " rsdp_new ", rsdp_new);
         }
         EntryForm::Linux { initrd: Some(file) } => row.say_quoted(" initrd ", file.as_str()),
         EntryForm::Linux { initrd: None } => {}

@@ -15,13 +15,16 @@ pub struct ModuleField {
     pub line: Vec<u8>,
 }
 
-/// An entry, whose files are named by their index.
+/// An entry, whose files are named by their index. Copies of an RSDP are those of a Multiboot2
+/// entry; one without bytes is a copy too.
 #[derive(Drop)]
 pub struct EntryField {
     pub protocol: Protocol,
     pub kernel: u32,
     pub line: Vec<u8>,
     pub modules: Vec<ModuleField>,
+    pub rsdp_old: Option<Vec<u8>>,
+    pub rsdp_new: Option<Vec<u8>>,
 }
 
 /// The protocol of this name.
@@ -36,7 +39,52 @@ pub fn protocol_of(row: &mut Row<'_>, name: &str) -> Protocol {
     }
 }
 
+/// A copy of an RSDP, over a heap, if there is one.
+fn copy_over<'h>(
+    heap: &'h Refusing,
+    copy: &Option<Vec<u8>>,
+) -> Result<Option<Bytes<&'h Refusing>>, AllocError> {
+    match copy {
+        Some(bytes) => Ok(Some(Bytes::copy(heap, bytes.as_slice())?)),
+        None => Ok(None),
+    }
+}
+
+/// A copy of an RSDP after a text, if there is one.
+pub fn say_copy(row: &mut Row<'_>, before: &str, copy: &Option<Bytes<&Refusing>>) {
+    if let Some(bytes) = copy {
+        row.say_bytes(before, bytes.as_slice());
+    }
+}
+
 impl EntryField {
+    /// An entry that has its kernel alone.
+    pub fn new(row: &Row<'_>, protocol: Protocol, kernel: u32, line: Vec<u8>) -> EntryField {
+        EntryField {
+            protocol,
+            kernel,
+            line,
+            modules: Vec::new(row.alloc),
+            rsdp_old: None,
+            rsdp_new: None,
+        }
+    }
+
+    /// Takes the copy that `rsdp_old` or `rsdp_new` is: a Multiboot2 entry may have each once.
+    pub fn add_copy(&mut self, row: &mut Row<'_>, key: &str, copy: &str) {
+        let bytes = row.bytes_of(copy);
+        let before = match key {
+            "rsdp_old" => self.rsdp_old.replace(bytes),
+            _ => self.rsdp_new.replace(bytes),
+        };
+        if before.is_some() {
+            row.refuse();
+        }
+        if let Protocol::Linux = self.protocol {
+            row.refuse();
+        }
+    }
+
     fn modules_over<'h>(
         &self,
         heap: &'h Refusing,
@@ -60,6 +108,8 @@ impl EntryField {
                 kernel,
                 line,
                 modules: self.modules_over(heap)?,
+                rsdp_old: copy_over(heap, &self.rsdp_old)?,
+                rsdp_new: copy_over(heap, &self.rsdp_new)?,
             }),
             Protocol::Linux => Ok(Entry::Linux {
                 kernel,

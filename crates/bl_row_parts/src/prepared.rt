@@ -1,15 +1,15 @@
-//! Entries of rows, prepared and loaded: `multiboot2 line=BYTES module=BYTES:BYTES ..` or `linux
-//! line=BYTES initrd=BYTES`.
-ghost use Rattle.std.specs.Prelude.{◌≡◌, ◌+◌, ◌≤◌, length, map, All, IfSome, IsTrue};
+//! Entries of rows, prepared and loaded: `multiboot2 line=BYTES module=BYTES:BYTES ..
+//! rsdp_old=BYTES rsdp_new=BYTES` or `linux line=BYTES initrd=BYTES`.
+ghost use Rattle.std.specs.Prelude.{◌≡◌, ◌+◌, ◌≤◌, [], length, map, All, IfSome, IsTrue};
 ghost use Rattle.bl_load.specs.Loadable.{lengths_of, IsLoadable};
-ghost use Rattle.bl_load.specs.Value.{file_count, IsWithinLimits};
+ghost use Rattle.bl_load.specs.Value.{value_of, file_count, IsCopy, IsWithinLimits};
 
 use crate::entry::{EntryField, ModuleField, protocol_of};
 use crate::refusal::say_fault;
-use bl_load::{Entry, Handoff, Plan, load, prepare};
+use bl_load::{Entry, Handoff, MOST_COPY, Plan, load, prepare};
 use bl_map::Machine;
-use bl_mem::{Flat, SliceView, Views};
-use bl_plan::Protocol;
+use bl_mem::{Bytes, Flat, SliceView, Views};
+use bl_plan::{MOST_MODULES, Protocol};
 use bl_refusing::Refusing;
 use bl_rows::row::Row;
 
@@ -22,7 +22,7 @@ pub struct RowEntry {
 
 impl RowEntry {
     /// Takes a module with its line, or an initial ramdisk, which has none.
-    fn add(&mut self, row: &mut Row<'_>, word: &str) {
+    fn add_file(&mut self, row: &mut Row<'_>, word: &str) {
         let (file, line) = match self.entry.protocol {
             Protocol::Multiboot2 => {
                 let module = row.field_of(word, "module");
@@ -36,6 +36,16 @@ impl RowEntry {
         let line = row.bytes_of(line);
         row.keep(&mut self.entry.modules, ModuleField { file: index, line });
     }
+
+    /// Takes a copy of an RSDP, or a file.
+    fn add(&mut self, row: &mut Row<'_>, word: &str) {
+        let (key, value) = word.split_once("=").unwrap_or((word, ""));
+        match key {
+            "rsdp_old" => self.entry.add_copy(row, key, value),
+            "rsdp_new" => self.entry.add_copy(row, key, value),
+            _ => self.add_file(row, word),
+        }
+    }
 }
 
 /// The entry of the words that are left, whose kernel is the row's bytes.
@@ -45,12 +55,7 @@ pub fn read_entry(row: &mut Row<'_>) -> RowEntry {
     let line = row.field("line");
     let line = row.bytes_of(line);
     let mut read = RowEntry {
-        entry: EntryField {
-            protocol,
-            kernel: 0,
-            line,
-            modules: Vec::new(row.alloc),
-        },
+        entry: EntryField::new(row, protocol, 0, line),
         files: Vec::new(row.alloc),
     };
     let kernel = row.copy_of(row.bytes);
@@ -72,13 +77,34 @@ impl RowEntry {
     }
 }
 
-/// Whether an entry has so many files, and no more modules than it may have.
+/// Whether there is no copy of an RSDP, or one of 1 to 256 bytes.
+fn may_stand(copy: &Option<Bytes<&Refusing>>) -> bool
+    ensures { IsTrue result → IfSome copy.now IsCopy }
+{
+    match copy {
+        Some(bytes) => 1 <= bytes.len() && bytes.len() <= MOST_COPY,
+        None => true,
+    }
+}
+
+/// Whether an entry has so many files, no more modules than it may have, and no copy of another
+/// length than it may have.
 fn has_files(entry: &Entry<&Refusing>, files: usize) -> bool
     ensures files { IsTrue result → files ≡ file_count entry.now }
-    ensures modules { IsTrue result → IsWithinLimits entry.now }
+    ensures limits { IsTrue result → IsWithinLimits (value_of [] entry.now) }
 {
     match entry {
-        Entry::Multiboot2 { modules, .. } => modules.len() <= 64 && files == 1 + modules.len(),
+        Entry::Multiboot2 {
+            modules,
+            rsdp_old,
+            rsdp_new,
+            ..
+        } => {
+            modules.len() <= MOST_MODULES
+                && files == 1 + modules.len()
+                && may_stand(rsdp_old)
+                && may_stand(rsdp_new)
+        }
         Entry::Linux { initrd: None, .. } => files == 1,
         Entry::Linux {
             initrd: Some(_),

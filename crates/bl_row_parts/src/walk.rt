@@ -1,5 +1,6 @@
 //! `walk BYTES`: what a kernel sees in an image, or the fault of reading or walking it.
 
+use crate::entry::say_copy;
 use crate::read_image::read_row_image;
 use bl_refusing::Refusing;
 use bl_rows::row::Row;
@@ -31,6 +32,8 @@ fn say_seen(row: &mut Row<'_>, seen: &Seen<&Refusing>) {
     for run in &seen.map {
         row.say_region(" run=", run);
     }
+    say_copy(row, " rsdp_old=", &seen.rsdp_old);
+    say_copy(row, " rsdp_new=", &seen.rsdp_new);
 }
 
 /// Reads an image and walks it, both over the heap.

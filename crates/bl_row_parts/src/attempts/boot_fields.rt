@@ -2,8 +2,9 @@
 //!
 //! `file=BYTES`, `file=missing`, `file=long`: the files, by their index. `entry=ENTRY`: the
 //! entries, as `multiboot2:KERNEL:LINE+FILE:LINE ..` or `linux:KERNEL:LINE+INITRD`;
-//! `entry=ENTRY*COUNT`: one so often; `modules=N`: N more modules of the last one. `default=N`,
-//! `fallback=N,N`. All else is of the store.
+//! `entry=ENTRY*COUNT`: one so often; `modules=N`: N more modules of the last one before;
+//! `rsdp_old=BYTES`, `rsdp_new=BYTES`: its copies of the RSDP. `default=N`, `fallback=N,N`. All
+//! else is of the store.
 
 use crate::attempts::store_fields::StoreFields;
 use crate::entry::{EntryField, ModuleField, protocol_of};
@@ -51,17 +52,12 @@ fn entry_of(row: &mut Row<'_>, text: &str) -> EntryField {
     let protocol = protocol_of(row, name);
     let mut words = rest.split("+");
     let kernel = module_of(row, words.next().unwrap_or(""));
-    let mut modules = Vec::new(row.alloc);
+    let mut entry = EntryField::new(row, protocol, kernel.file, kernel.line);
     for word in words {
         let module = module_of(row, word);
-        row.keep(&mut modules, module);
+        row.keep(&mut entry.modules, module);
     }
-    EntryField {
-        protocol,
-        kernel: kernel.file,
-        line: kernel.line,
-        modules,
-    }
+    entry
 }
 
 impl BootFields {
@@ -96,6 +92,14 @@ impl BootFields {
         }
     }
 
+    /// Gives the last entry a copy of an RSDP.
+    fn add_copy(&mut self, row: &mut Row<'_>, key: &str, copy: &str) {
+        let Some(entry) = self.entries.last_mut() else {
+            return row.refuse();
+        };
+        entry.add_copy(row, key, copy);
+    }
+
     fn add(&mut self, row: &mut Row<'_>, word: &str) {
         let (key, value) = row.cut(word, "=");
         match key {
@@ -105,6 +109,8 @@ impl BootFields {
             }
             "entry" => self.add_entry(row, value),
             "modules" => self.add_modules(row, value),
+            "rsdp_old" => self.add_copy(row, key, value),
+            "rsdp_new" => self.add_copy(row, key, value),
             "default" => self.default = row.number32_of(value),
             "fallback" => self.fallbacks = row.numbers32_of(value),
             _ => self.store.add(row, key, value),
