@@ -4,7 +4,7 @@ use Rattle.std.proofs.Common.{IsSome, map, refl, sym, subst, arith}
 use Rattle.std.proofs.lemmas.List.{append-nil}
 use Rattle.std.proofs.lemmas.Option.{same_Some}
 use Rattle.bl_map.specs.MachineFacts.{MachineFacts}
-use Rattle.bl_load.specs.ByteLines.{HasByteLines}
+use Rattle.bl_load.specs.Offered.{IsOffered}
 use Rattle.bl_load.specs.Handover.{Handover}
 use Rattle.bl_image.specs.Image.{spelling}
 use Rattle.bl_image.specs.Versions.{written_version}
@@ -97,14 +97,14 @@ module _ {A : Type 0} (desc : List ℕ) (d : Description A) (is : described desc
     pub fetched : names_fetched (described desc) ≡ names_asked (view d).files (names_in (view d))
     fetched = rw is refl
 
-    -- its machine has these facts, these files were found, and lines are bytes
+    -- its machine has these facts, these files were found, and its entries are offered
     module _ {F : Type 0} (answers : F → List ℕ → File → Type 0) (faults : F → ℕ)
         (facts : MachineFacts)
         (machine : IsMachineOf (view d) facts) (before after : F) {B : Type 0}
         (files : List (Fetched B))
         (found : AreFound answers faults (view d).files (names_in (view d)) before after
         (map file_of files))
-        (lines : (entry : ℕ) → HasByteLines
+        (offered : (entry : ℕ) → IsOffered
         (value_in (boot_of (view d) facts (map file_of files)) (map file_of files) entry)) where
       abbrev this_case : BootCase answers faults desc before after
       this_case = record {
@@ -132,7 +132,7 @@ module _ {A : Type 0} (desc : List ℕ) (d : Description A) (is : described desc
         earlier = earlier;
         handover = handover;
         outcome = came;
-        lines = lines entry;
+        offered = offered entry;
         kept = kept;
         image = image;
         said = said;

@@ -6,7 +6,5 @@ pub mod ValueLemmas
 pub mod EndLemmas
 pub mod EndLaws
 pub mod RunLemmas
-pub mod ReadLemmas
-pub mod ModuleLemmas
 pub mod SaidLemmas
 pub mod ShownLaws

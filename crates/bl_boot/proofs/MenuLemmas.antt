@@ -1,13 +1,16 @@
 -- The menu of a description.
 use Rattle.std.proofs.Common.{◌≡◌, ◌∙◌, ◌+◌, ◌<◌, ℕ, List, [], ◌∷◌, ◌++◌, get_or, length, map, take}
-use Rattle.std.proofs.Common.{ap, sym, refl}
+use Rattle.std.proofs.Common.{Option, Some, None, ap, sym, refl, subst}
+use Rattle.std.specs.Prelude.{IfSome}
 use Rattle.std.proofs.lemmas.List.{map-append, take_more}
 use Rattle.bl_load.specs.declared.entry.Entry.{Entry}
+use Rattle.bl_load.specs.Value.{IsCopy}
+use Rattle.bl_desc.specs.Forms.{HasCopyLength}
 use Rattle.bl_session.specs.Attempts.{IsSmall, NameEntries, HasMenuFault}
 use Rattle.bl_session.specs.Menu.{EntryFacts, facts_of}
 use Rattle.bl_session.specs.declared.menu.fault.MenuFault.{MenuFault}
 use Rattle.bl_session.specs.declared.menu.fault.MenuFault.TheVariants.{BadIndex, TooMany, NoMemory}
-use Rattle.bl_desc.specs.declared.desc.EntryRow.{EntryRow}
+use Rattle.bl_desc.specs.declared.entry_row.EntryRow.{EntryRow}
 use Rattle.bl_desc.specs.Views.{entry_view}
 use Rattle.bl_boot.specs.Attempted.{entry_facts}
 
@@ -38,3 +41,11 @@ entries_more {A} names rows i row entries entry here within so same =
     ∙ sym (map-append (entry_facts names) (map entry_view (take i rows)) (entry_view row ∷ []))
     ∙ sym (ap (map (entry_facts names)) (map-append entry_view (take i rows) (row ∷ [])))
     ∙ sym (ap (λ (rs : List (EntryRow A)). map (entry_facts names) (map entry_view rs)) more)
+
+-- what copies a copy of a description's entry is one
+pub copied : (copy same : Option (List ℕ)) → same ≡ copy → IfSome copy HasCopyLength
+    → IfSome same IsCopy
+copied None same is has = subst (λ (c : Option (List ℕ)). IfSome c IsCopy) (sym is) tt
+copied (Some bytes) same is has =
+    subst (λ (c : Option (List ℕ)). IfSome c IsCopy) (sym is)
+    record { filled = has.0; short = has.1 }

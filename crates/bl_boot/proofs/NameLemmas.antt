@@ -9,7 +9,7 @@ use Rattle.std.proofs.lemmas.List.{map-append, length-append, length-map, at_dro
 use Rattle.bl_session.specs.Attempts.{attempts_of}
 use Rattle.bl_session.proofs.OnceLemmas.{few_attempts}
 use Rattle.bl_desc.specs.declared.desc.Description.{Description}
-use Rattle.bl_desc.specs.declared.desc.EntryRow.{EntryRow}
+use Rattle.bl_desc.specs.declared.entry_row.EntryRow.{EntryRow}
 use Rattle.bl_desc.specs.declared.form.EntryForm.{EntryForm}
 use Rattle.bl_desc.specs.declared.form.EntryForm.TheVariants.{Multiboot2, Linux}
 use Rattle.bl_desc.specs.declared.form.ModuleRow.{ModuleRow}
@@ -79,7 +79,7 @@ all_modules start after modules i past so_far rest =
 -- ---- how many
 
 few_beside : {A : Type 0} (form : EntryForm A) → length (names_beside (form_view form)) ≤ 64
-few_beside (Multiboot2 modules) =
+few_beside (Multiboot2 modules rsdp_old rsdp_new) =
     let few = modules.few in
     rw (length-map, length-map) few
 few_beside (Linux None) = omega arith

@@ -1,8 +1,6 @@
 -- The image of an entry that was booted shows it.
-use Rattle.std.proofs.Common.{◌≤◌, ℕ, List, length, arith}
-use Rattle.std.proofs.lemmas.List.Elements.{All-map}
+use Rattle.std.proofs.Common.{ℕ, List}
 use Rattle.bl_map.specs.MachineFacts.{AreMachineFacts}
-use Rattle.bl_plan.specs.Limits.{most_modules}
 use Rattle.bl_load.specs.Handover.{Handover}
 use Rattle.bl_load.specs.Parts.{IsHandover}
 use Rattle.bl_image.specs.Image.{spelling}
@@ -14,28 +12,14 @@ use Rattle.bl_walk.specs.Seen.{IsSeen}
 use Rattle.bl_walk.specs.SeenFacts.{SeenFacts}
 use Rattle.bl_walk.specs.Shown.{ShowsEntry}
 use Rattle.bl_walk.proofs.LegalLaws.{images_show, images_are_sound}
-use Rattle.bl_session.specs.Menu.{EntryFacts, no_entry}
 use Rattle.bl_session.specs.Outcome.{File, no_fault}
 use Rattle.bl_session.proofs.OutcomeLaws.{is_handover}
-use Rattle.bl_boot.specs.Attempted.{boot_of, entry_facts, menu_of, names_in}
-use Rattle.bl_boot.specs.Ends.{BootCase, IsBooted, Surroundings, value_at}
-use Rattle.bl_boot.proofs.ModuleLemmas.{few_modules}
+use Rattle.bl_boot.specs.Attempted.{boot_of}
+use Rattle.bl_boot.specs.Ends.{IsBooted, Surroundings, value_at}
 use Rattle.bl_boot.proofs.RunLemmas.{machine_facts}
-use Rattle.bl_boot.proofs.ValueLemmas.{at_each}
 
 module _ {F : Type 0} {answers : F → List ℕ → File → Type 0} {faults : F → ℕ} {desc : List ℕ}
   where
-    -- each entry of its menu has few modules
-    few_lines : {before after : F} (case : BootCase answers faults desc before after) (entry : ℕ)
-        → length (value_at case entry).module_lines ≤ most_modules
-    few_lines case entry =
-        let d = case.description in
-        at_each (λ (e : EntryFacts). length e.blank.module_lines ≤ most_modules)
-        (menu_of d).entries entry no_entry
-        (All-map (λ (e : EntryFacts). length e.blank.module_lines ≤ most_modules)
-        (entry_facts (names_in d)) d.entries (few_modules desc d case.is_described))
-        (omega arith)
-
     module _ {before after : Surroundings F} (b : IsBooted answers faults desc before after) where
       handed : IsHandover b.case.facts (value_at b.case b.entry) b.handover
       handed =
@@ -50,10 +34,10 @@ module _ {F : Type 0} {answers : F → List ℕ → File → Type 0} {faults : F
           → ShowsEntry b.case.facts (value_at b.case b.entry) seen
       booted_image_shows version image seen is sees =
           images_show b.case.facts (value_at b.case b.entry) written_version version b.handover
-          image seen machine b.lines (few_lines b.case b.entry) handed b.kept is sees
+          image seen machine b.offered handed b.kept is sees
 
       pub booted_image_is_sound : (version : Version) (image : Handover)
           → IsImage version (spelling written_version b.handover) image → IsSound image
       booted_image_is_sound version image is =
           images_are_sound b.case.facts (value_at b.case b.entry) written_version version b.handover
-          image machine b.lines (few_lines b.case b.entry) handed b.kept is
+          image machine b.offered handed b.kept is

@@ -5,7 +5,7 @@ use Rattle.std.specs.Str.{bytes_eq}
 use Rattle.std.specs.List.{flat_map}
 use Rattle.bl_map.specs.MachineFacts.{MachineFacts}
 use Rattle.bl_plan.specs.declared.protocol.Protocol.TheVariants.{Multiboot2}
-use Rattle.bl_load.specs.Value.{EntryValue, value_from}
+use Rattle.bl_load.specs.Value.{EntryValue}
 use Rattle.bl_session.specs.Menu.{EntryFacts, MenuFacts}
 use Rattle.bl_session.specs.Attempts.{once_by, attempts_of}
 use Rattle.bl_session.specs.Boot.{BootFacts}
@@ -27,8 +27,14 @@ file_names entry = entry.kernel ∷ names_beside entry.form
 
 -- the value of an entry whose files hold these texts
 abbrev pub entry_value : Entry → List (List ℕ) → EntryValue
-entry_value entry files =
-    value_from entry.form.protocol files entry.line (map (λ m. m.line) entry.form.modules)
+entry_value entry files = record {
+  protocol = entry.form.protocol;
+  line = entry.line;
+  files = files;
+  module_lines = map (λ m. m.line) entry.form.modules;
+  rsdp_old = entry.form.rsdp_old;
+  rsdp_new = entry.form.rsdp_new;
+}
 
 -- ---- the files of a menu
 

@@ -6,7 +6,7 @@ use Rattle.bl_map.specs.Faults.{HasFirstFault, IsAccepted}
 use Rattle.bl_map.specs.Kinds.{IsNormalMap}
 use Rattle.bl_map.specs.declared.fault.MapFault.{MapFault}
 use Rattle.bl_map.specs.declared.fault.MapFault.TheVariants as map_fault
-use Rattle.bl_load.specs.ByteLines.{HasByteLines}
+use Rattle.bl_load.specs.Offered.{IsOffered}
 use Rattle.bl_load.specs.Handover.{Handover}
 use Rattle.bl_image.specs.Begun.{IsBegun}
 use Rattle.bl_image.specs.Image.{spelling}
@@ -70,15 +70,16 @@ module _ {F : Type 0} (answers : F → List ℕ → File → Type 0) (faults : F
       IsOutcome (boot_of case.description case.facts case.files) case.files
       no_fault state
 
-  -- an entry, whose lines are bytes, was handed over: the sink took its image, which keeps all of
-  -- what is handed over, and what is said tells the entry after the refusals before it
+  -- an entry, which is within its limits and has texts of bytes, was handed over: the sink took its
+  -- image, which keeps all of what is handed over, and what is said tells the entry after the
+  -- refusals before it
   pub record IsBooted (desc : List ℕ) (before after : Surroundings F) : Type 0 where
     pub case : BootCase desc before.files after.files
     pub entry : ℕ
     pub earlier : List RefusedEntry
     pub handover : Handover
     pub outcome : ComesTo case (handed_over entry earlier handover)
-    pub lines : HasByteLines (value_in (boot_of case.description case.facts case.files)
+    pub offered : IsOffered (value_in (boot_of case.description case.facts case.files)
         case.files entry)
     pub kept : IsKept handover
     pub image : after.sink ≡ before.sink ++ spelling written_version handover

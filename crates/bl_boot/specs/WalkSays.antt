@@ -66,8 +66,14 @@ abbrev pub seen_run_line : Region → List ℕ
 seen_run_line run =
     run_start run.base ++ hex16 (end_of run) ++ run_kind (kind_number run.kind)
 
+-- a copy of an RSDP, if there is one
+abbrev pub copy_line : List ℕ → Option (List ℕ) → List ℕ
+copy_line word None = []
+copy_line word (Some copy) = word ++ text_word copy ++ codes "\n"
+
 -- the lines of what a kernel sees, in order
 abbrev pub walk_lines : SeenFacts → List ℕ
 walk_lines seen = protocol_line seen.protocol ++ entry_line seen.entry ++ line_line seen.line
     ++ flat_map kernel_line seen.kernel ++ flat_map module_line seen.modules
     ++ initrd_line seen.initrd ++ flat_map seen_run_line seen.map
+    ++ copy_line (codes "rsdp-old ") seen.rsdp_old ++ copy_line (codes "rsdp-new ") seen.rsdp_new

@@ -1,6 +1,6 @@
 //! The menu of a description.
 ghost use Rattle.std.specs.Prelude.{◌≡◌, ◌<◌, ◌^◌, All, IfOk, length, map};
-ghost use Rattle.bl_load.specs.ByteLines.{HasByteLines};
+ghost use Rattle.bl_load.specs.Offered.{IsOffered};
 ghost use Rattle.bl_load.specs.Value.{IsWithinLimits};
 ghost use Rattle.bl_session.specs.Menu.{facts_of};
 ghost use Rattle.bl_session.specs.declared.menu.fault.MenuFault.TheVariants as menu_fault;
@@ -39,7 +39,21 @@ fn modules_of<A: Allocator + Copy>(
     Ok(modules)
 }
 
+/// A copy of the copy, if there is one.
+fn copy_of<A: Allocator + Copy>(
+    alloc: A,
+    copy: &Option<Bytes<A>>,
+) -> Result<Option<Bytes<A>>, AllocError>
+    ensures { IfOk result (λ same. same ≡ copy.now) }
+{
+    match copy {
+        Some(bytes) => Ok(Some(Bytes::copy(alloc, bytes.as_slice())?)),
+        None => Ok(None),
+    }
+}
+
 /// The entry of a row, whose files go by their places among the names.
+#[tactic(auto, unfolding(bl_load::specs::Value::IsWithinLimits))]
 fn entry_of<A: Allocator + Copy>(
     alloc: A,
     names: &[&str],
@@ -53,10 +67,16 @@ fn entry_of<A: Allocator + Copy>(
     let kernel = index_of(names, row.kernel.as_str()) as u32;
     let line = Bytes::copy(alloc, row.line.as_str().as_bytes())?;
     match &row.form {
-        EntryForm::Multiboot2 { modules, .. } => Ok(Entry::Multiboot2 {
+        EntryForm::Multiboot2 {
+            modules,
+            rsdp_old,
+            rsdp_new,
+        } => Ok(Entry::Multiboot2 {
             kernel,
             line,
             modules: modules_of(alloc, names, &modules.rows)?,
+            rsdp_old: copy_of(alloc, rsdp_old)?,
+            rsdp_new: copy_of(alloc, rsdp_new)?,
         }),
         EntryForm::Linux { initrd } => Ok(Entry::Linux {
             kernel,
@@ -109,7 +129,7 @@ pub fn menu_of<A: Allocator + Copy>(
     requires names { map (λ n. n.now) names.now ≡ attempted.names_in (view description.now) }
     requires few { length names.now < 2 ^ 32 }
     ensures menu { IfOk result (λ menu. menu ≡ attempted.menu_of (view description.now)) }
-    ensures bytes { IfOk result (λ menu. All (λ entry. HasByteLines entry.blank) menu.entries) }
+    ensures offered { IfOk result (λ menu. All (λ entry. IsOffered entry.blank) menu.entries) }
 {
     let entries = entries_of(alloc, names, &description.entries)?;
     match Menu::new(alloc, entries, description.default, &description.fallbacks) {

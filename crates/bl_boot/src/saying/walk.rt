@@ -8,6 +8,7 @@ ghost use Rattle.bl_boot.specs.WalkSays.{kernel_line, module_line};
 use crate::saying::walk::runs::say_runs;
 use bl_desc::protocol_word;
 use bl_load::Protocol;
+use bl_mem::Bytes;
 use bl_walk::{Seen, SeenFile, SeenModule, SeenPart};
 use std::alloc::{AllocError, Allocator};
 
@@ -141,9 +142,24 @@ fn say_initrd<A: Allocator + Copy, B: Allocator>(
     }
 }
 
+fn say_copy<A: Allocator + Copy, B: Allocator>(
+    out: &mut Vec<u8, A>,
+    word: &[u8],
+    copy: &Option<Bytes<B>>,
+) -> Result<(), AllocError>
+    ensures { OnOk result (out.new.items ≡ out.old.items ++ says.copy_line word.now copy.now) }
+{
+    if let Some(bytes) = copy {
+        out.extend_from_slice(word)?;
+        say_text(out, bytes.as_slice())?;
+        out.extend_from_slice(b"\n")?;
+    }
+    Ok(())
+}
+
 /// Appends the lines of what a kernel sees: its protocol, where it is entered, its line, its parts,
-/// the modules, the initial ramdisk, the memory map. They are formed in `alloc` first, so that an
-/// error leaves the text as it was.
+/// the modules, the initial ramdisk, the memory map, the copies of the RSDP. They are formed in
+/// `alloc` first, so that an error leaves the text as it was.
 pub fn say_walk<A: Allocator + Copy, B: Allocator, C: Allocator>(
     alloc: A,
     seen: &Seen<B>,
@@ -161,5 +177,7 @@ pub fn say_walk<A: Allocator + Copy, B: Allocator, C: Allocator>(
     say_modules(&mut lines, seen.modules.as_slice())?;
     say_initrd(&mut lines, &seen.initrd)?;
     say_runs(&mut lines, seen.map.as_slice())?;
+    say_copy(&mut lines, b"rsdp-old ", &seen.rsdp_old)?;
+    say_copy(&mut lines, b"rsdp-new ", &seen.rsdp_new)?;
     out.extend_from_slice(&lines)
 }

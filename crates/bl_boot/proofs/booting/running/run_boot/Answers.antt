@@ -1,12 +1,13 @@
 use Rattle.std.proofs.Common.{◌≡◌, ◌∙◌, All, length, map, refl, ap, arith, subst}
+use Rattle.std.proofs.lemmas.List.{length-replicate}
 use Rattle.std.proofs.lemmas.Result.{err_from_is_err_and}
-use Rattle.bl_load.specs.ByteLines.{HasByteLines}
+use Rattle.bl_load.specs.Offered.{IsOffered}
 use Rattle.bl_session.specs.Menu.{MenuFacts}
 use Rattle.bl_desc.specs.Described.{described}
 use Rattle.bl_boot.specs.Ends.{names_fetched, names_sought}
 use Rattle.bl_session.specs.Stores.{file_of}
 use Rattle.bl_desc.specs.Views.{view}
-use Rattle.bl_session.proofs.MenuLemmas.{byte_values}
+use Rattle.bl_session.proofs.MenuLemmas.{offered_values}
 use Rattle.bl_boot.specs.Attempted.{boot_of, most_names, names_in}
 use Rattle.bl_boot.proofs.EndLemmas.{inline_in, sought, fetched, ends_by, asked_by, asked_without}
 use Rattle.bl_boot.proofs.EndLemmas.{none_asked, none_missing}
@@ -37,12 +38,12 @@ returns-clause-ends g c =
     g.F.Files.answers g.F.Files.faults
     c.in_ok-machine.machine c.in_ok-machine.ensures.machine _ _ c.in_ok-found.found.items
     (rw (c.deref-2.ensures.value, c.in_ok-names.ensures.names) at c.in_ok-found.ensures.found)
-    (λ entry. byte_values
+    (λ entry. offered_values
     (boot_of (view c.in_ok-description.description) c.in_ok-machine.machine
     (map file_of c.in_ok-found.found.items))
     (map file_of c.in_ok-found.found.items) entry
-    (subst (λ (m : MenuFacts). All (λ e. HasByteLines e.blank) m.entries)
-    c.in_ok-menu.ensures.menu c.in_ok-menu.ensures.bytes))
+    (subst (λ (m : MenuFacts). All (λ e. IsOffered e.blank) m.entries)
+    c.in_ok-menu.ensures.menu c.in_ok-menu.ensures.offered))
     _ _ _ _ c.boot_found.result
     (rw (c.new-store.ensures, c.in_ok-menu.ensures.menu) at c.boot_found.ensures.ends)
 
@@ -163,3 +164,8 @@ returns-clause-asked g c =
     (rw (fetched c.args.desc.now c.in_ok-description.description
     c.in_ok-description.ensures.given)
     (rw (c.deref-2.ensures.value, c.in_ok-names.ensures.names) at c.in_ok-found.ensures.asked))
+
+pub boot_found-requires-clause-size : goal.boot_found-requires-clause-size
+boot_found-requires-clause-size g c =
+    ap length c.in_ok-memory.ensures.exact
+    ∙ length-replicate c.size.result c.in_ok-description.description.fill ∙ c.size.ensures.size
