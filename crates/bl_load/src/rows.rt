@@ -99,10 +99,7 @@ fn info_length(line: u64, tags: u64, runs: u64, is_relocatable: bool) -> u64
 }
 
 /// The row of the information.
-fn information_row<A: Allocator, V: ByteView>(
-    source: &Source<'_, A, V>,
-    kernel: &Kernel<A>,
-) -> Row
+fn information_row<A: Allocator, V: ByteView>(source: &Source<'_, A, V>, kernel: &Kernel<A>) -> Row
     ensures { result ≡ table.information_row source.now.machine.now (value_in source.now)
         kernel.now.relocation }
 {

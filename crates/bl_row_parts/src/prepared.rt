@@ -1,8 +1,8 @@
 //! Entries of rows, prepared and loaded: `multiboot2 line=BYTES module=BYTES:BYTES ..
 //! rsdp_old=BYTES rsdp_new=BYTES` or `linux line=BYTES initrd=BYTES`.
-ghost use Rattle.std.specs.Prelude.{◌≡◌, ◌+◌, ◌≤◌, [], length, map, All, IfSome, IsTrue};
+ghost use Rattle.std.specs.Prelude.{◌≡◌, ◌+◌, ◌≤◌, length, map, All, IfSome, IsTrue};
 ghost use Rattle.bl_load.specs.Loadable.{lengths_of, IsLoadable};
-ghost use Rattle.bl_load.specs.Value.{value_of, file_count, IsCopy, IsWithinLimits};
+ghost use Rattle.bl_load.specs.Value.{file_count, IsCopy, IsWithinLimits};
 
 use crate::entry::{EntryField, ModuleField, protocol_of};
 use crate::refusal::say_fault;
@@ -89,9 +89,10 @@ fn may_stand(copy: &Option<Bytes<&Refusing>>) -> bool
 
 /// Whether an entry has so many files, no more modules than it may have, and no copy of another
 /// length than it may have.
+#[tactic(auto, unfolding(bl_load::specs::Value::IsWithinLimits))]
 fn has_files(entry: &Entry<&Refusing>, files: usize) -> bool
     ensures files { IsTrue result → files ≡ file_count entry.now }
-    ensures limits { IsTrue result → IsWithinLimits (value_of [] entry.now) }
+    ensures limits { IsTrue result → IsWithinLimits entry.now }
 {
     match entry {
         Entry::Multiboot2 {

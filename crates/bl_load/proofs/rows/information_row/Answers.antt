@@ -27,6 +27,12 @@ returns g c =
     let relocation = c.args.kernel.now.relocation in
     let e = info_size_is facts value relocation [] in
     let size : c.info_length-length.result ≡ info_size (information_of facts value relocation []) =
-    rw (e, ← c.normal.ensures.runs, ← c.is_some.ensures, ← c.tags_size-modules.ensures.value,
-    ← c.copy_size.ensures.value, ← c.copy_size-2.ensures.value) c.info_length-length.ensures.value in
+    rw (
+      e,
+      ← c.normal.ensures.runs,
+      ← c.is_some.ensures,
+      ← c.tags_size-modules.ensures.value,
+      ← c.copy_size.ensures.value,
+      ← c.copy_size-2.ensures.value,
+    ) c.info_length-length.ensures.value in
     ap row_of (c.whole_frames.ensures ∙ ap whole_frames size)
