@@ -68,8 +68,8 @@ fn check_lines<A: Allocator>(line: &[u8], modules: &[Module<A>]) -> Result<(), R
     check_module_lines(modules)
 }
 
-/// What is loaded for a Multiboot2 entry of this line, these modules and these copies of the RSDP, or
-/// its first refusal.
+/// What is loaded for a Multiboot2 entry of this line, these modules and these copies of the RSDP,
+/// or its first refusal.
 fn prepare_multiboot2<A: Allocator + Copy, V: ByteView>(
     alloc: A,
     machine: &Machine<A>,

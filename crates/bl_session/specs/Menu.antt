@@ -14,7 +14,8 @@ abbrev pub value_with : EntryFacts → List (List ℕ) → EntryValue
 value_with entry texts = record entry.blank { files = texts }
 
 abbrev pub files_of : {A : Type 0} → Entry A → List ℕ
-files_of (Multiboot2 kernel line modules rsdp_old rsdp_new) = kernel ∷ map (λ m. m.file) modules.items
+files_of (Multiboot2 kernel line modules rsdp_old rsdp_new) =
+    kernel ∷ map (λ m. m.file) modules.items
 files_of (Linux kernel line initrd) = kernel ∷ option_to_list initrd
 
 abbrev pub facts_of : {A : Type 0} → Entry A → EntryFacts

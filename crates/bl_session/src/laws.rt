@@ -78,8 +78,8 @@ pub fn two_outcomes()
 {}
 
 /// The value of each entry of a menu, whatever its files hold, is within the limits of an entry and
-/// has lines and copies of bytes, where the menu's entries are and have, as `Menu::new` says. So what
-/// is handed over shows its kernel the entry.
+/// has lines and copies of bytes, where the menu's entries are and have, as `Menu::new` says. So
+/// what is handed over shows its kernel the entry.
 pub fn values_are_offered()
     ensures { (facts : BootFacts) (files : List File) (entry : ℕ)
         → All (λ e. IsOffered e.blank) facts.menu.entries
