@@ -8,6 +8,7 @@ mod KnownLemmas
 mod PartLemmas
 mod RecordLemmas
 mod RegisterLemmas
+mod WideLemmas
 mod SoundLemmas
 mod NoFaultLemmas
 mod FoundLemmas
