@@ -11,6 +11,7 @@ mod RegisterLemmas
 mod WideLemmas
 mod SoundLemmas
 mod NoFaultLemmas
+mod RegistersFound
 mod FoundLemmas
 mod TotalLaws
 pub mod Inputs
