@@ -1,6 +1,6 @@
 -- A list by its elements.
 use Rattle.std.proofs.Common.{◌≡◌, ◌+◌, ◌<◌, ℕ, zero, suc, List, [], ◌∷◌, ◌++◌, ◌^◌, length, get_or}
-use Rattle.std.proofs.Common.{slice_set, take, drop, All, sym, ap, ◌∙◌, subst, arith}
+use Rattle.std.proofs.Common.{slice_set, take, drop, All, refl, sym, ap, ◌∙◌, subst, arith}
 use Rattle.std.proofs.Math.Numerals.{add-one}
 use Rattle.std.proofs.lemmas.List.{drop_all, append-nil}
 use Rattle.std.proofs.lemmas.List.Elements.{All-append, All-cons, All-nil}
@@ -21,6 +21,11 @@ elements_are (suc n) k xs e =
     ap (λ (l : List ℕ). get_or xs k 0 ∷ l)
     (elements_are n (k + 1) xs (omega arith) ∙ ap (λ (j : ℕ). drop j xs) (add-one k))
     ∙ sym (drop-cons xs k 0 (omega arith))
+
+pub listed_parts : (f g l : List ℕ) → length f ≡ 9 → length g ≡ 2 → length l ≡ 9
+    → elements 9 0 f ++ (elements 2 0 g ++ elements 9 0 l) ≡ f ++ (g ++ l)
+listed_parts f g l nine two last =
+    rw (elements_are 9 0 f nine, elements_are 2 0 g two, elements_are 9 0 l last) refl
 
 pub listed_20 : (xs : List ℕ) → length xs ≡ 20 → elements 20 0 xs ≡ xs
 listed_20 xs e = elements_are 20 0 xs e

@@ -1,5 +1,6 @@
 //! The registers of an image, read.
-ghost use Rattle.std.specs.Prelude.{◌≡◌, ◌+◌, ◌<◌, ◌^◌, ℕ, All, IfOk, OnOk, length, replicate};
+ghost use Rattle.std.specs.Prelude.{◌≡◌, ◌+◌, ◌<◌, ◌^◌, ◌++◌, ℕ, All, IfOk, OnOk, length};
+ghost use Rattle.std.specs.Prelude.{replicate};
 ghost use Rattle.std.specs.List.{flat_map};
 ghost use Rattle.bl_mem.specs.Words.{u64_bytes};
 ghost use Rattle.bl_image.specs.Image.{register_numbers, spelled_registers};
@@ -19,32 +20,35 @@ use bl_load::Registers;
 /// How many registers an image of version 1 has.
 const REGISTERS: usize = 20;
 
-/// The registers that have these numbers, in their order: of these 9 the first is where the kernel
-/// is entered, then come the flags and the control register, then what starts with the segments.
-fn registers_of(n: &[u32; REGISTERS]) -> Registers
-    ensures { register_numbers result ≡ n.now }
+/// The registers that have these numbers, in their order: 9 from the address where the kernel is
+/// entered on, the flags and the control register, and 9 from the code segment on.
+fn registers_of(first: &[u32], flags: &[u32], last: &[u32]) -> Registers
+    requires first { length first.now ≡ 9 }
+    requires flags { length flags.now ≡ 2 }
+    requires last { length last.now ≡ 9 }
+    ensures { register_numbers result ≡ first.now ++ (flags.now ++ last.now) }
 {
     Registers {
-        eip: n[0],
-        eax: n[1],
-        ebx: n[2],
-        ecx: n[3],
-        edx: n[4],
-        esi: n[5],
-        edi: n[6],
-        ebp: n[7],
-        esp: n[8],
-        eflags: n[9],
-        cr0: n[10],
-        cs: n[11],
-        ds: n[12],
-        es: n[13],
-        fs: n[14],
-        gs: n[15],
-        ss: n[16],
-        gdt_base: n[17],
-        gdt_limit: n[18],
-        a20: n[19],
+        eip: first[0],
+        eax: first[1],
+        ebx: first[2],
+        ecx: first[3],
+        edx: first[4],
+        esi: first[5],
+        edi: first[6],
+        ebp: first[7],
+        esp: first[8],
+        eflags: flags[0],
+        cr0: flags[1],
+        cs: last[0],
+        ds: last[1],
+        es: last[2],
+        fs: last[3],
+        gs: last[4],
+        ss: last[5],
+        gdt_base: last[6],
+        gdt_limit: last[7],
+        a20: last[8],
     }
 }
 
@@ -59,7 +63,7 @@ fn read_any_registers<S: Source>(source: &mut S) -> Result<Registers, ImageFault
 {
     let mut numbers = [0u32; REGISTERS];
     read_u32s(source, &mut numbers)?;
-    Ok(registers_of(&numbers))
+    Ok(registers_of(&numbers[..9], &numbers[9..11], &numbers[11..]))
 }
 
 /// Reads a register of 64 bits, of which the protocol gives 32.
@@ -127,13 +131,15 @@ fn read_narrow_registers<S: Source>(source: &mut S) -> Result<Registers, ImageFa
         (λ registers. All (λ n. n < 2 ^ 32) (register_numbers registers)) }
     ensures faults { S.faults source.new ≡ S.faults source.old + faults_met result }
 {
-    let mut numbers = [0u32; REGISTERS];
-    read_narrows(source, &mut numbers[..9])?;
+    let mut first = [0u32; 9];
+    read_narrows(source, &mut first)?;
     read_absents(source, 8)?;
-    read_narrows(source, &mut numbers[9..11])?;
+    let mut flags = [0u32; 2];
+    read_narrows(source, &mut flags)?;
     read_absents(source, 3)?;
-    read_narrows(source, &mut numbers[11..])?;
-    Ok(registers_of(&numbers))
+    let mut last = [0u32; 9];
+    read_narrows(source, &mut last)?;
+    Ok(registers_of(&first, &flags, &last))
 }
 
 /// Reads the registers as this version has them.
