@@ -74,19 +74,6 @@ fn wide_numbers(r: &Registers) -> [u64; WIDE]
     ]
 }
 
-/// The head of an image with so many parts.
-fn head_bytes(protocol: Protocol, r: &Registers, count: u32) -> [u8; HEAD]
-    ensures bytes { result ≡ head written_version protocol r.now count }
-    ensures fit { All (λ n. n < 2 ^ 32) (register_numbers r.now) }
-{
-    let mut bytes = [0u8; HEAD];
-    bytes[..8].copy_from_slice(&MAGIC);
-    write_u32s(&[Version::Two.number(), protocol.number()], &mut bytes[8..16]);
-    write_u64s(&wide_numbers(r), &mut bytes[16..264]);
-    write_u32s(&[count, 0], &mut bytes[264..]);
-    bytes
-}
-
 /// The record of a part.
 fn record_bytes(place: &Place) -> [u8; RECORD]
     ensures bytes { result ≡ place_record place.now }
@@ -105,6 +92,25 @@ fn put(buffer: &mut [u8], at: usize, bytes: &[u8])
 {
     let end = at + bytes.len();
     buffer[at..end].copy_from_slice(bytes);
+}
+
+/// The head of an image with so many parts.
+fn head_bytes(protocol: Protocol, r: &Registers, count: u32) -> [u8; HEAD]
+    ensures bytes { result ≡ head written_version protocol r.now count }
+    ensures fit { All (λ n. n < 2 ^ 32) (register_numbers r.now) }
+{
+    let mut opening = [0u8; 8];
+    write_u32s(&[Version::Two.number(), protocol.number()], &mut opening);
+    let mut numbers = [0u8; 8 * WIDE];
+    write_u64s(&wide_numbers(r), &mut numbers);
+    let mut closing = [0u8; 8];
+    write_u32s(&[count, 0], &mut closing);
+    let mut bytes = [0u8; HEAD];
+    put(&mut bytes, 0, &MAGIC);
+    put(&mut bytes, 8, &opening);
+    put(&mut bytes, 16, &numbers);
+    put(&mut bytes, 264, &closing);
+    bytes
 }
 
 /// Puts all that stands before the parts' bytes into the buffer, and says how many bytes it has.
