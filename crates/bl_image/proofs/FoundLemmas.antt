@@ -1,6 +1,6 @@
 -- In bytes that have no fault a head is found, and each record.
 use Rattle.std.proofs.Common.{◌≡◌, ◌+◌, ◌≤◌, ◌<◌, ◌^◌, ℕ, List, [], ◌∷◌, ◌++◌, take, drop, All}
-use Rattle.std.proofs.Common.{None, sym, ap, ◌∙◌, subst}
+use Rattle.std.proofs.Common.{None, append_assoc, sym, ap, ◌∙◌}
 use Rattle.std.specs.List.{flat_map}
 use Rattle.std.proofs.lemmas.Bool.Decides.{Decides-eqb}
 use Rattle.std.proofs.lemmas.Slice.Eq.{bytes_eq-Decides}
@@ -11,22 +11,21 @@ use Rattle.bl_plan.specs.declared.part.Place.{Place}
 use Rattle.bl_plan.specs.declared.protocol.Protocol.{Protocol}
 use Rattle.bl_plan.specs.Protocols as protocols
 use Rattle.bl_load.specs.declared.registers.Registers.{Registers}
-use Rattle.bl_image.specs.Image.{magic, head, register_numbers}
+use Rattle.bl_image.specs.Image.{magic, head, register_numbers, spelled_registers}
 use Rattle.bl_image.specs.RecordsKept.{place_record, IsNext}
 use Rattle.bl_image.specs.declared.version.Version.{Version}
-use Rattle.bl_image.specs.declared.version.Version.TheVariants.{One}
+use Rattle.bl_image.specs.Versions.{version_number}
 use Rattle.bl_image.specs.Fields.{Field, fields_fault, magic_field, version_field, protocol_field}
 use Rattle.bl_image.specs.Fields.{count_field, zero_field}
 use Rattle.bl_image.specs.Fields.{role_field, index_field, address_field, length_field}
 use Rattle.bl_image.specs.ImageFaults.{head_fault, record_fault}
-use Rattle.bl_image.specs.Layouts.{registers_1}
 use Rattle.bl_image.proofs.FrontLemmas.{head_is}
 use Rattle.bl_image.proofs.RecordLemmas.{four_pieces, regroup, record_front}
 use Rattle.bl_image.proofs.NoFaultLemmas.{IsSmall, small_drop, small_take, u32_split, u64_split}
 use Rattle.bl_image.proofs.NoFaultLemmas.{u32_small, u64_small, first_none, field_none, le_from}
-use Rattle.bl_image.proofs.NoFaultLemmas.{both_from, words_split, registers_by, registers_are}
-use Rattle.bl_image.proofs.NoFaultLemmas.{protocol_by, role_by, chained}
-use Rattle.bl_image.proofs.RegisterLemmas.{any_fields, any_none}
+use Rattle.bl_image.proofs.NoFaultLemmas.{both_from, protocol_by, role_by, chained}
+use Rattle.bl_image.proofs.HeadLemmas.{after_version, opened, told}
+use Rattle.bl_image.proofs.RegistersFound.{registers_found, version_by}
 
 pub record HeadFound (bytes : List ℕ) : Type 0 where
   pub version : Version
@@ -40,60 +39,65 @@ pub record HeadFound (bytes : List ℕ) : Type 0 where
   pub small : IsSmall rest
 
 pub head_found : (bytes : List ℕ) → IsSmall bytes → head_fault bytes ≡ None → HeadFound bytes
-unfolding head_fault registers_1 magic_field version_field protocol_field count_field zero_field
+unfolding head_fault magic_field version_field protocol_field count_field zero_field
 head_found bytes small none =
     let opening = first_none _ _ none in
-    let laid = first_none _ _ opening.1 in
     let f1 = field_none magic_field (version_field ∷ []) bytes opening.0 in
     let b1 : List ℕ = drop 8 bytes in
     let s1 : IsSmall b1 = small_drop 8 bytes small in
     let f2 = field_none version_field [] b1 f1.rest in
     let b2 : List ℕ = drop 4 b1 in
     let s2 : IsSmall b2 = small_drop 4 b1 s1 in
-    let at_12 : b2 ≡ drop 12 bytes = drop-drop 4 8 bytes in
-    let fp : Field = protocol_field (u32_at bytes 8) in
-    let f3 = field_none fp [] b2 (ap (fields_fault (fp ∷ [])) at_12 ∙ laid.0) in
+    let m : magic ≡ take 8 bytes = (bytes_eq-Decides magic (take 8 bytes)).0 f1.passes in
+    let told_version = u32_at (take 4 b1) 0 in
+    let one_or_two = both_from 1 told_version told_version 2 f2.passes in
+    let v = version_by told_version one_or_two.0 one_or_two.1 in
+    let n = version_number v.0 in
+    let e1 : u32_bytes n ++ b2 ≡ b1 =
+    ap (λ (k : ℕ). u32_bytes k ++ b2) v.1 ∙ u32_split b1 s1 f2.long in
+    let e0 : magic ++ b1 ≡ bytes =
+    ap (λ (l : List ℕ). l ++ b1) m ∙ take-append-drop 8 bytes in
+    let opened_at : (magic ++ u32_bytes n) ++ b2 ≡ bytes =
+    append_assoc magic (u32_bytes n) b2 ∙ ap (λ (l : List ℕ). magic ++ l) e1 ∙ e0 in
+    let after : after_version n b2 ≡ None =
+    sym (opened v.0 b2) ∙ ap head_fault opened_at ∙ none in
+    let f3 = field_none (protocol_field n) [] b2 (first_none _ _ after).0 in
     let b3 : List ℕ = drop 4 b2 in
     let s3 : IsSmall b3 = small_drop 4 b2 s2 in
-    let at_16 : b3 ≡ drop 16 bytes = ap (drop 4) at_12 ∙ drop-drop 4 12 bytes in
+    let told_protocol = u32_at (take 4 b2) 0 in
+    let limits = both_from 1 told_protocol told_protocol 2 f3.passes in
+    let p = protocol_by told_protocol limits.0 limits.1 in
+    let e2 : u32_bytes (protocols.protocol_number p.0) ++ b3 ≡ b2 =
+    ap (λ (k : ℕ). u32_bytes k ++ b3) p.1 ∙ u32_split b2 s2 f3.long in
+    let laid =
+    sym (told n p.0 b3) ∙ ap (after_version n) e2 ∙ after in
     let ends : List Field = count_field ∷ zero_field ∷ [] in
-    let f4 = any_none 20 ends b3 (ap (fields_fault (any_fields 20 ends)) at_16 ∙ laid.1) in
-    let b4 : List ℕ = drop 80 b3 in
-    let s4 : IsSmall b4 = small_drop 80 b3 s3 in
-    let f5 = field_none count_field (zero_field ∷ []) b4 f4.1 in
+    let r = registers_found v.0 (protocols.protocol_number p.0) ends b3 s3 laid in
+    let b4 : List ℕ = r.rest in
+    let s4 : IsSmall b4 = r.small in
+    let f5 = field_none count_field (zero_field ∷ []) b4 r.left in
     let b5 : List ℕ = drop 4 b4 in
     let s5 : IsSmall b5 = small_drop 4 b4 s4 in
     let f6 = field_none zero_field [] b5 f5.rest in
-    let m : magic ≡ take 8 bytes = (bytes_eq-Decides magic (take 8 bytes)).0 f1.passes in
-    let v : u32_at (take 4 b1) 0 ≡ 1 = (Decides-eqb (u32_at (take 4 b1) 0) 1).0 f2.passes in
-    let n = u32_at (take 4 b2) 0 in
-    let limits = both_from 1 n n 2 f3.passes in
-    let p = protocol_by n limits.0 limits.1 in
-    let ws = words_split 20 (take 80 b3) (small_take 80 b3 s3) (length-take-le 80 b3 f4.0) in
-    let r = registers_by ws.words in
-    let numbers : register_numbers r ≡ ws.words = registers_are ws.words ws.size in
     let count = u32_at (take 4 b4) 0 in
     let z : u32_at (take 4 b5) 0 ≡ 0 = (Decides-eqb (u32_at (take 4 b5) 0) 0).0 f6.passes in
     let whole =
-    chained magic (u32_bytes 1) (u32_bytes (protocols.protocol_number p.0))
-    (flat_map u32_bytes (register_numbers r)) (u32_bytes count) (u32_bytes 0) (drop 4 b5) b5
+    chained magic (u32_bytes n) (u32_bytes (protocols.protocol_number p.0))
+    (spelled_registers v.0 r.registers) (u32_bytes count) (u32_bytes 0) (drop 4 b5) b5
     b4 b3 b2 b1 bytes
     (ap (λ (k : ℕ). u32_bytes k ++ drop 4 b5) (sym z) ∙ u32_split b5 s5 f6.long)
-    (u32_split b4 s4 f5.long)
-    (ap (λ (l : List ℕ). l ++ b4) (ap (flat_map u32_bytes) numbers ∙ ws.is)
-    ∙ take-append-drop 80 b3)
-    (ap (λ (k : ℕ). u32_bytes k ++ b3) p.1 ∙ u32_split b2 s2 f3.long)
-    (ap (λ (k : ℕ). u32_bytes k ++ b2) (sym v) ∙ u32_split b1 s1 f2.long)
-    (ap (λ (l : List ℕ). l ++ b1) m ∙ take-append-drop 8 bytes) in
+    (u32_split b4 s4 f5.long) r.is e2 e1 e0 in
     record {
-      version = One;
+      version = v.0;
       protocol = p.0;
-      registers = r;
+      registers = r.registers;
       count = count;
       rest = drop 4 b5;
-      is = ap (λ (l : List ℕ). l ++ drop 4 b5) (sym (head_is One p.0 r count)) ∙ whole;
+      is =
+          ap (λ (l : List ℕ). l ++ drop 4 b5) (sym (head_is v.0 p.0 r.registers count))
+          ∙ whole;
       few = le_from count 256 f5.passes;
-      fit = let fits : ℕ → Type 0 = λ k. k < 2 ^ 32 in subst (All fits) (sym numbers) ws.fit;
+      fit = r.fit;
       small = small_drop 4 b5 s5;
     }
 

@@ -6,7 +6,7 @@ use Rattle.std.proofs.lemmas.List.{append-nil}
 use Rattle.std.proofs.lemmas.Grind.{flat_map-append}
 use Rattle.std.specs.List.{flat_map}
 use Rattle.std.proofs.lemmas.Bool.Decides.{nat_tests}
-use Rattle.bl_mem.specs.Words.{number_at, u32_at, u32_bytes}
+use Rattle.bl_mem.specs.Words.{number_at, u32_at, u32_bytes, u64_bytes}
 use Rattle.bl_mem.proofs.WordLaws.{length-u32_bytes, u32_again}
 use Rattle.bl_plan.specs.declared.protocol.Protocol.{Protocol}
 use Rattle.bl_plan.specs.Protocols.{protocol_number}
@@ -14,7 +14,7 @@ use Rattle.bl_load.specs.declared.registers.Registers.{Registers}
 use Rattle.bl_image.specs.declared.fault.ImageFault.{ImageFault}
 use Rattle.bl_image.specs.declared.fault.ImageFault.TheVariants.{BadHeader}
 use Rattle.bl_image.specs.declared.version.Version.{Version}
-use Rattle.bl_image.specs.declared.version.Version.TheVariants.{One}
+use Rattle.bl_image.specs.declared.version.Version.TheVariants.{One, Two}
 use Rattle.bl_image.specs.Image.{magic, head, register_numbers, spelled_registers}
 use Rattle.bl_image.specs.Fields.{fields_fault}
 use Rattle.bl_image.specs.Fields.{count_field, zero_field}
@@ -40,17 +40,6 @@ head_is v p r count =
     six_pieces magic (u32_bytes (version_number v)) (u32_bytes (protocol_number p))
     (spelled_registers v r) (u32_bytes count) (u32_bytes 0)
 
--- the head as one list of numbers, in version 1
-pub head_words : (p : Protocol) (r : Registers) (count : ℕ)
-    → magic
-    ++ flat_map u32_bytes (1 ∷ protocol_number p ∷ (register_numbers r ++ count ∷ 0 ∷ []))
-    ≡ head One p r count
-head_words p r count =
-    ap (λ (l : List ℕ). magic ++ (u32_bytes 1 ++ (u32_bytes (protocol_number p) ++ l)))
-    (flat_map-append u32_bytes (register_numbers r) (count ∷ 0 ∷ [])
-    ∙ ap (λ (l : List ℕ). flat_map u32_bytes (register_numbers r) ++ (u32_bytes count ++ l))
-    (append-nil (u32_bytes 0)))
-
 split_head : (a b c d e f x : List ℕ)
     → (a ++ (b ++ (c ++ (d ++ (e ++ f))))) ++ x ≡ (a ++ b) ++ (c ++ (d ++ (e ++ (f ++ x))))
 split_head a b c d e f x = simp append_assoc
@@ -66,9 +55,10 @@ counted count x few =
     (word_tells (λ k. k == 0) BadHeader 0 true (lit< tt) refl)
 
 -- a head has no fault
-head_passes : (v : Version) (p : Protocol) (r : Registers) (count : ℕ) (x : List ℕ) → count ≤ 256
+head_passes : (v : Version) (p : Protocol) (r : Registers) (count : ℕ) (x : List ℕ)
+    → All (λ n. n < 2 ^ 32) (register_numbers r) → count ≤ 256
     → head_fault (head v p r count ++ x) ≡ None
-head_passes v p r count x few =
+head_passes v p r count x fit few =
     let n = version_number v in
     let m = protocol_number p in
     let rest : List ℕ = u32_bytes count ++ (u32_bytes 0 ++ x) in
@@ -77,20 +67,22 @@ head_passes v p r count x few =
     (u32_bytes 0) x)
     ∙ opened v (u32_bytes m ++ (spelled_registers v r ++ rest))
     ∙ told n p (spelled_registers v r ++ rest)
-    ∙ registers_pass v m r (count_field ∷ zero_field ∷ []) rest
+    ∙ registers_pass v m r fit (count_field ∷ zero_field ∷ []) rest
     ∙ counted count x few
 
 -- the number of parts stands where the layout says, and so do the records
 count_stands : (v : Version) (p : Protocol) (r : Registers) (count : ℕ) (x : List ℕ)
     → count < 2 ^ 32
     → u32_at (head v p r count ++ x) (layout (version_number v) (protocol_number p)).count_at ≡ count
-unfolding number_at u32_bytes
+unfolding number_at u32_bytes u64_bytes
 count_stands One p r count x fits = u32_again count (u32_bytes 0 ++ x) fits
+count_stands Two p r count x fits = u32_again count (u32_bytes 0 ++ x) fits
 
 behind_head : (v : Version) (p : Protocol) (r : Registers) (count : ℕ) (x : List ℕ)
     → drop (layout (version_number v) (protocol_number p)).records_at (head v p r count ++ x) ≡ x
-unfolding u32_bytes
+unfolding u32_bytes u64_bytes
 behind_head One p r count x = refl
+behind_head Two p r count x = refl
 
 front_by : (bytes x : List ℕ) (count : ℕ) → head_fault bytes ≡ None
     → u32_at bytes (layout_of bytes).count_at ≡ count
@@ -101,10 +93,10 @@ front_by bytes x count sound stands behind = rw (sound, stands, behind) refl
 
 -- so it leaves the parts to be judged
 pub head_front : (v : Version) (p : Protocol) (r : Registers) (count : ℕ) (x : List ℕ)
-    → count ≤ 256
+    → All (λ n. n < 2 ^ 32) (register_numbers r) → count ≤ 256
     → image_fault (head v p r count ++ x) ≡ parts_fault layout_1.most_role count none_before x
-head_front v p r count x few =
-    front_by (head v p r count ++ x) x count (head_passes v p r count x few)
+head_front v p r count x fit few =
+    front_by (head v p r count ++ x) x count (head_passes v p r count x fit few)
     (count_stands v p r count x (omega arith)) (behind_head v p r count x)
 
 -- a fault of the head is the image's

@@ -10,7 +10,6 @@ use Rattle.bl_plan.specs.Protocols.{protocol_number}
 use Rattle.bl_image.specs.declared.fault.ImageFault.{ImageFault}
 use Rattle.bl_image.specs.declared.fault.ImageFault.TheVariants.{BadVersion, BadHeader}
 use Rattle.bl_image.specs.declared.version.Version.{Version}
-use Rattle.bl_image.specs.declared.version.Version.TheVariants.{One}
 use Rattle.bl_image.specs.Image.{magic}
 use Rattle.bl_image.specs.Fields.{fields_fault, opening_fields, magic_field, version_field}
 use Rattle.bl_image.specs.Fields.{protocol_field}
@@ -21,12 +20,15 @@ use Rattle.bl_image.specs.Versions.{version_number}
 use Rattle.bl_image.proofs.FieldLemmas.{field_passes, word_tells, Passed, passed_more}
 use Rattle.bl_image.proofs.FieldLemmas.{passed_refuses}
 use Rattle.bl_image.proofs.Inputs.{comes_more}
-use Rattle.bl_image.proofs.NumbersAgain.{version_fits, protocol_fits, protocol_between}
+use Rattle.bl_image.proofs.NumbersAgain.{version_fits, version_between, protocol_fits}
+use Rattle.bl_image.proofs.NumbersAgain.{protocol_between}
 use Rattle.bl_image.proofs.RecordLemmas.{first_refuses}
 
 pub version_passes : (v : Version) → version_field.passes (u32_bytes (version_number v)) ≡ true
 unfolding version_field
-version_passes One = word_tells (λ k. k == 1) BadVersion 1 true (lit< tt) refl
+version_passes v =
+    word_tells (λ k. nat_le 1 k && nat_le k 2) BadVersion (version_number v) true (version_fits v)
+    (version_between v)
 
 pub protocol_passes : (version : ℕ) (p : Protocol)
     → (protocol_field version).passes (u32_bytes (protocol_number p)) ≡ true

@@ -80,7 +80,8 @@ image_sound version h kept =
     let bytes : List ℕ = all_bytes h.parts in
     let few : length (map place_of h.parts) ≤ 256 = kept.handoff.few in
     let same = length-map h.parts place_of in
-    head_front version h.protocol h.registers (length h.parts) (records ++ bytes) (omega arith)
+    head_front version h.protocol h.registers (length h.parts) (records ++ bytes)
+    kept.spellable.registers (omega arith)
     ∙ parts_sound h.parts none_before bytes (λ k d within. omega arith)
     (related_under h.parts (pairs_related Ascends (map place_of h.parts) kept.handoff.ascending))
     (sound_parts h kept)

@@ -8,8 +8,10 @@ mod KnownLemmas
 mod PartLemmas
 mod RecordLemmas
 mod RegisterLemmas
+mod WideLemmas
 mod SoundLemmas
 mod NoFaultLemmas
+mod RegistersFound
 mod FoundLemmas
 mod TotalLaws
 pub mod Inputs

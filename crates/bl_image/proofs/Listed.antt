@@ -1,13 +1,12 @@
 -- A list by its elements.
 use Rattle.std.proofs.Common.{◌≡◌, ◌+◌, ◌<◌, ℕ, zero, suc, List, [], ◌∷◌, ◌++◌, ◌^◌, length, get_or}
-use Rattle.std.proofs.Common.{slice_set, take, drop, All, sym, ap, ◌∙◌, subst, arith}
+use Rattle.std.proofs.Common.{slice_set, take, drop, All, refl, sym, ap, ◌∙◌, subst, arith}
 use Rattle.std.proofs.Math.Numerals.{add-one}
 use Rattle.std.proofs.lemmas.List.{drop_all, append-nil}
 use Rattle.std.proofs.lemmas.List.Elements.{All-append, All-cons, All-nil}
 use Rattle.std.proofs.lemmas.List.Concat.{flat_map-cons}
 use Rattle.std.proofs.lemmas.Grind.{flat_map-append}
 use Rattle.std.specs.List.{flat_map}
-use Rattle.bl_mem.specs.Words.{u32_bytes}
 use Rattle.std.proofs.Math.Seq.{drop-cons, take-suc-set}
 
 -- n elements from the k-th on
@@ -22,19 +21,24 @@ elements_are (suc n) k xs e =
     (elements_are n (k + 1) xs (omega arith) ∙ ap (λ (j : ℕ). drop j xs) (add-one k))
     ∙ sym (drop-cons xs k 0 (omega arith))
 
+pub listed_parts : (f g l : List ℕ) → length f ≡ 9 → length g ≡ 2 → length l ≡ 9
+    → elements 9 0 f ++ (elements 2 0 g ++ elements 9 0 l) ≡ f ++ (g ++ l)
+listed_parts f g l nine two last =
+    rw (elements_are 9 0 f nine, elements_are 2 0 g two, elements_are 9 0 l last) refl
+
 pub listed_20 : (xs : List ℕ) → length xs ≡ 20 → elements 20 0 xs ≡ xs
 listed_20 xs e = elements_are 20 0 xs e
 
 -- one more number was put down
-pub u32s_more : (xs : List ℕ) (i v : ℕ) → i < length xs
-    → flat_map u32_bytes (take (i + 1) (slice_set xs i v))
-    ≡ flat_map u32_bytes (take i xs) ++ u32_bytes v
-u32s_more xs i v h =
-    ap (λ (j : ℕ). flat_map u32_bytes (take j (slice_set xs i v))) (add-one i)
-    ∙ ap (flat_map u32_bytes) (take-suc-set xs i v h)
-    ∙ flat_map-append u32_bytes (take i xs) (v ∷ [])
-    ∙ ap (λ (l : List ℕ). flat_map u32_bytes (take i xs) ++ l)
-    (flat_map-cons u32_bytes v [] ∙ append-nil (u32_bytes v))
+pub spelled_more : (spelled : ℕ → List ℕ) (xs : List ℕ) (i v : ℕ) → i < length xs
+    → flat_map spelled (take (i + 1) (slice_set xs i v))
+    ≡ flat_map spelled (take i xs) ++ spelled v
+spelled_more spelled xs i v h =
+    ap (λ (j : ℕ). flat_map spelled (take j (slice_set xs i v))) (add-one i)
+    ∙ ap (flat_map spelled) (take-suc-set xs i v h)
+    ∙ flat_map-append spelled (take i xs) (v ∷ [])
+    ∙ ap (λ (l : List ℕ). flat_map spelled (take i xs) ++ l)
+    (flat_map-cons spelled v [] ∙ append-nil (spelled v))
 
 pub fit_more : (xs : List ℕ) (i v : ℕ) → i < length xs → All (λ n. n < 2 ^ 32) (take i xs)
     → v < 2 ^ 32 → All (λ n. n < 2 ^ 32) (take (i + 1) (slice_set xs i v))

@@ -11,7 +11,7 @@ use Rattle.bl_load.specs.declared.registers.Registers.{Registers}
 use Rattle.bl_plan.specs.Protocols as protocols
 use Rattle.bl_image.specs.Image.{register_numbers}
 use Rattle.bl_image.specs.declared.version.Version.{Version}
-use Rattle.bl_image.specs.declared.version.Version.TheVariants.{One}
+use Rattle.bl_image.specs.declared.version.Version.TheVariants.{One, Two}
 use Rattle.bl_image.specs.Versions.{version_number}
 
 -- the role, the protocol and the registers of their numbers
@@ -71,9 +71,23 @@ protocol_between Linux = refl
 
 pub version_fits : (v : Version) → version_number v < 2 ^ 32
 version_fits One = lit< tt
+version_fits Two = lit< tt
+
+pub version_between : (v : Version)
+    → nat_le 1 (version_number v) && nat_le (version_number v) 2 ≡ true
+version_between One = refl
+version_between Two = refl
+
+version_of : ℕ → Version
+version_of n = get_or (One ∷ One ∷ Two ∷ []) n One
+
+version_again : (v : Version) → v ≡ version_of (version_number v)
+unfolding version_of
+version_again One = refl
+version_again Two = refl
 
 pub version_same : (v w : Version) → version_number v ≡ version_number w → v ≡ w
-version_same One One e = refl
+version_same v w e = version_again v ∙ ap version_of e ∙ sym (version_again w)
 
 pub protocol_same : (p q : Protocol) → protocols.protocol_number p ≡ protocols.protocol_number q
     → p ≡ q

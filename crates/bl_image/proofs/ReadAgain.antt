@@ -117,6 +117,17 @@ registers_alike One r s hr hs x y e =
       back_same _ _ _ _ wide e,
     )
 
+registers_alike Two r s hr hs x y e =
+    let wide : length (flat_map u64_bytes (wide_numbers r))
+    ≡ length (flat_map u64_bytes (wide_numbers s)) =
+    length-u64s (wide_numbers r) ∙ sym (length-u64s (wide_numbers s)) in (
+      registers_same r s
+          (narrow_same r s
+          (u64s_same (wide_numbers r) (wide_numbers s) (wide_fit r hr) (wide_fit s hs) refl
+          (front_same _ _ _ _ wide e))),
+      back_same _ _ _ _ wide e,
+    )
+
 record IsSameHead (v w : Version) (h k : Handover) (x y : List ℕ) : Type 0 where
   version : v ≡ w
   protocol : h.protocol ≡ k.protocol

@@ -1,5 +1,5 @@
 -- The registers of an image, field by field.
-use Rattle.std.proofs.Common.{◌≡◌, ◌*◌, ◌≤◌, ◌<◌, ℕ, zero, suc, List, [], ◌∷◌, ◌++◌, length, take}
+use Rattle.std.proofs.Common.{◌≡◌, ◌*◌, ◌≤◌, ◌<◌, ◌^◌, ℕ, All, zero, suc, List, [], ◌∷◌, ◌++◌, length, take}
 use Rattle.std.proofs.Common.{drop, Option, Some, None, inl, inr, refl, sym, ap, ◌∙◌, arith, append_assoc}
 use Rattle.std.specs.Prelude.{replicate}
 use Rattle.std.proofs.lemmas.Bool.{cases_lt}
@@ -10,7 +10,7 @@ use Rattle.bl_load.specs.declared.registers.Registers.{Registers}
 use Rattle.bl_image.specs.declared.fault.ImageFault.{ImageFault}
 use Rattle.bl_image.specs.declared.fault.ImageFault.TheVariants.{WrongLength}
 use Rattle.bl_image.specs.declared.version.Version.{Version}
-use Rattle.bl_image.specs.declared.version.Version.TheVariants.{One}
+use Rattle.bl_image.specs.declared.version.Version.TheVariants.{One, Two}
 use Rattle.bl_image.specs.Fields.{Field, fields_fault, register_field}
 use Rattle.bl_image.specs.Image.{register_numbers, spelled_registers}
 use Rattle.bl_image.specs.Layouts.{layout, registers_1}
@@ -20,6 +20,7 @@ use Rattle.bl_image.specs.Versions.{version_number}
 use Rattle.bl_image.proofs.FieldLemmas.{field_passes, field_short, Passed, passed_more}
 use Rattle.bl_image.proofs.NoFaultLemmas.{field_none}
 use Rattle.bl_image.proofs.NumberLemmas.{length-u32s}
+use Rattle.bl_image.proofs.WideLemmas.{wide_pass}
 
 -- so many registers that may be anything, and others behind them
 abbrev pub any_fields : ℕ → List Field → List Field
@@ -73,12 +74,13 @@ any_none (suc n) others bytes none =
     )
 
 -- the registers of an image pass their fields
-pub registers_pass : (version : Version) (protocol : ℕ) (r : Registers) (others : List Field)
-    (x : List ℕ)
+pub registers_pass : (version : Version) (protocol : ℕ) (r : Registers)
+    → All (λ n. n < 2 ^ 32) (register_numbers r) → (others : List Field) (x : List ℕ)
     → fields_fault ((layout (version_number version) protocol).registers ++ others)
     (spelled_registers version r ++ x) ≡ fields_fault others x
 unfolding registers_1
-registers_pass One protocol r others x =
+registers_pass Two protocol r fit others x = wide_pass r fit others x
+registers_pass One protocol r fit others x =
     any_pass 20 others (flat_map u32_bytes (register_numbers r)) x
     (length-u32s (register_numbers r))
 

@@ -123,7 +123,7 @@ image_found bytes small none =
     let h = head_found bytes small (head_none bytes none) in
     let top : List ℕ = head h.version h.protocol h.registers h.count in
     let left : parts_fault 7 h.count none_before h.rest ≡ None =
-    sym (head_front h.version h.protocol h.registers h.count h.rest h.few)
+    sym (head_front h.version h.protocol h.registers h.count h.rest h.fit h.few)
     ∙ ap image_fault h.is ∙ none in
     let f = places_found h.count none_before h.rest h.small left in
     let parts = split_tail f.places f.tail (let long = f.long in omega arith) in

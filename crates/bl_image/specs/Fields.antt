@@ -36,7 +36,7 @@ unfoldable pub magic_field : Field
 magic_field = record { size = 8; passes = bytes_eq magic; fault = BadMagic }
 
 unfoldable pub version_field : Field
-version_field = word (λ version. version == 1) BadVersion
+version_field = word (λ version. nat_le 1 version && nat_le version 2) BadVersion
 
 abbrev pub opening_fields : List Field
 opening_fields = magic_field ∷ version_field ∷ []
@@ -48,6 +48,14 @@ protocol_field version = word (λ protocol. nat_le 1 protocol && nat_le protocol
 -- a register that may be anything
 unfoldable pub register_field : Field
 register_field = word (λ register. true) BadHeader
+
+-- a register of 64 bits, of which the protocol gives 32
+unfoldable pub narrow_field : Field
+narrow_field = long (λ register. nat_lt register (2 ^ 32)) BadHeader
+
+-- a register that the protocol does not give
+unfoldable pub absent_field : Field
+absent_field = long (λ register. register == 0) BadHeader
 
 -- the fields behind the registers
 unfoldable pub count_field : Field

@@ -9,7 +9,7 @@ use Rattle.bl_load.specs.declared.registers.Registers.{Registers}
 use Rattle.bl_plan.specs.Protocols as protocols
 use Rattle.bl_load.specs.Handover.{Part, Handover}
 use Rattle.bl_image.specs.declared.version.Version.{Version}
-use Rattle.bl_image.specs.declared.version.Version.TheVariants.{One}
+use Rattle.bl_image.specs.declared.version.Version.TheVariants.{One, Two}
 use Rattle.bl_image.specs.Versions.{version_number}
 
 -- `BLIMAGE` and a zero byte
@@ -22,9 +22,19 @@ register_numbers r =
     r.eip ∷ r.eax ∷ r.ebx ∷ r.ecx ∷ r.edx ∷ r.esi ∷ r.edi ∷ r.ebp ∷ r.esp ∷ r.eflags
     ∷ r.cr0 ∷ r.cs ∷ r.ds ∷ r.es ∷ r.fs ∷ r.gs ∷ r.ss ∷ r.gdt_base ∷ r.gdt_limit ∷ r.a20 ∷ []
 
--- the registers: in version 1 each number in 32 bits
+-- the registers of a processor of 64 bits in their order: RIP, RAX, RBX, RCX, RDX, RSI, RDI, RBP,
+-- RSP, R8 to R15, RFLAGS, CR0, CR3, CR4, EFER, CS, DS, ES, FS, GS, SS, GDT base, GDT limit, A20;
+-- those that an entry of 32 bits does not give are 0
+abbrev pub wide_numbers : Registers → List ℕ
+wide_numbers r =
+    r.eip ∷ r.eax ∷ r.ebx ∷ r.ecx ∷ r.edx ∷ r.esi ∷ r.edi ∷ r.ebp ∷ r.esp
+    ∷ 0 ∷ 0 ∷ 0 ∷ 0 ∷ 0 ∷ 0 ∷ 0 ∷ 0 ∷ r.eflags ∷ r.cr0 ∷ 0 ∷ 0 ∷ 0
+    ∷ r.cs ∷ r.ds ∷ r.es ∷ r.fs ∷ r.gs ∷ r.ss ∷ r.gdt_base ∷ r.gdt_limit ∷ r.a20 ∷ []
+
+-- the registers: in version 1 each number in 32 bits, in version 2 in 64
 abbrev pub spelled_registers : Version → Registers → List ℕ
 spelled_registers One registers = flat_map u32_bytes (register_numbers registers)
+spelled_registers Two registers = flat_map u64_bytes (wide_numbers registers)
 
 -- the magic; version and protocol; the registers; the number of parts, a zero word: what is no
 -- register in 32 bits

@@ -1,7 +1,8 @@
 -- How an image goes on after its protocol. Own.
-use Rattle.std.specs.Prelude.{ℕ, List, [], ◌∷◌, ◌++◌, replicate}
+use Rattle.std.specs.Prelude.{ℕ, List, [], ◌∷◌, ◌++◌, ◌==◌, if◌then◌else◌, replicate}
 use Rattle.bl_mem.specs.Words.{u32_at}
-use Rattle.bl_image.specs.Fields.{Field, register_field, count_field, zero_field}
+use Rattle.bl_image.specs.Fields.{Field, register_field, narrow_field, absent_field}
+use Rattle.bl_image.specs.Fields.{count_field, zero_field}
 
 -- a layout: the fields of the registers, which stand from 16 on; where the number of parts stands,
 -- with a zero word behind it; where the records begin; the greatest number of a role
@@ -18,9 +19,19 @@ registers_1 = replicate 20 register_field
 abbrev pub layout_1 : Layout
 layout_1 = record { registers = registers_1; count_at = 96; records_at = 104; most_role = 7 }
 
+-- version 2: 31 registers of 64 bits; under Multiboot2 and Linux's 32-bit entry R8 to R15, and CR3,
+-- CR4 and EFER, are not given
+unfoldable pub registers_2 : List Field
+registers_2 =
+    replicate 9 narrow_field ++ (replicate 8 absent_field
+    ++ (replicate 2 narrow_field ++ (replicate 3 absent_field ++ replicate 9 narrow_field)))
+
+abbrev pub layout_2 : Layout
+layout_2 = record { registers = registers_2; count_at = 264; records_at = 272; most_role = 7 }
+
 -- the layout of an image with this number of its version, and this one of its protocol
 abbrev pub layout : ℕ → ℕ → Layout
-layout version protocol = layout_1
+layout version protocol = if version == 1 then layout_1 else layout_2
 
 -- the one of these bytes: the version stands at 8, the protocol at 12
 abbrev pub layout_of : List ℕ → Layout

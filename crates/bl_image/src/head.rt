@@ -5,6 +5,7 @@ ghost use Rattle.std.specs.List.{flat_map};
 ghost use Rattle.bl_load.specs.HandoffFacts.{AreHandoffFacts};
 ghost use Rattle.bl_image.specs.Begun.{IsBegun};
 ghost use Rattle.bl_image.specs.Image.{head, register_numbers};
+ghost use Rattle.bl_image.specs.Image as image;
 ghost use Rattle.bl_image.specs.RecordsKept.{place_record, AreSpellable};
 ghost use Rattle.bl_image.specs.Versions.{written_version};
 
@@ -22,7 +23,10 @@ pub(crate) const MAGIC: [u8; 8] = *b"BLIMAGE\0";
 pub(crate) const MOST_PARTS: u32 = 256;
 
 /// How many bytes the head that is written has.
-const HEAD: usize = 104;
+const HEAD: usize = 272;
+
+/// How many registers the head has.
+const WIDE: usize = 31;
 
 /// How many bytes a record has.
 const RECORD: usize = 24;
@@ -30,41 +34,44 @@ const RECORD: usize = 24;
 /// How many bytes stand at most before those of the parts.
 pub(crate) const MOST_FRONT: usize = HEAD + RECORD * MOST_PARTS as usize;
 
-/// The head of an image with so many parts.
-fn head_bytes(protocol: Protocol, r: &Registers, count: u32) -> [u8; HEAD]
-    ensures bytes { result ≡ head written_version protocol r.now count }
+/// The numbers of the registers of a processor of 64 bits, in their order.
+fn wide_numbers(r: &Registers) -> [u64; WIDE]
+    ensures wide { result ≡ image.wide_numbers r.now }
     ensures fit { All (λ n. n < 2 ^ 32) (register_numbers r.now) }
 {
-    let words: [u32; 24] = [
-        Version::One.number(),
-        protocol.number(),
-        r.eip,
-        r.eax,
-        r.ebx,
-        r.ecx,
-        r.edx,
-        r.esi,
-        r.edi,
-        r.ebp,
-        r.esp,
-        r.eflags,
-        r.cr0,
-        r.cs,
-        r.ds,
-        r.es,
-        r.fs,
-        r.gs,
-        r.ss,
-        r.gdt_base,
-        r.gdt_limit,
-        r.a20,
-        count,
+    [
+        r.eip as u64,
+        r.eax as u64,
+        r.ebx as u64,
+        r.ecx as u64,
+        r.edx as u64,
+        r.esi as u64,
+        r.edi as u64,
+        r.ebp as u64,
+        r.esp as u64,
         0,
-    ];
-    let mut bytes = [0u8; HEAD];
-    bytes[..8].copy_from_slice(&MAGIC);
-    write_u32s(&words, &mut bytes[8..]);
-    bytes
+        0,
+        0,
+        0,
+        0,
+        0,
+        0,
+        0,
+        r.eflags as u64,
+        r.cr0 as u64,
+        0,
+        0,
+        0,
+        r.cs as u64,
+        r.ds as u64,
+        r.es as u64,
+        r.fs as u64,
+        r.gs as u64,
+        r.ss as u64,
+        r.gdt_base as u64,
+        r.gdt_limit as u64,
+        r.a20 as u64,
+    ]
 }
 
 /// The record of a part.
@@ -85,6 +92,25 @@ fn put(buffer: &mut [u8], at: usize, bytes: &[u8])
 {
     let end = at + bytes.len();
     buffer[at..end].copy_from_slice(bytes);
+}
+
+/// The head of an image with so many parts.
+fn head_bytes(protocol: Protocol, r: &Registers, count: u32) -> [u8; HEAD]
+    ensures bytes { result ≡ head written_version protocol r.now count }
+    ensures fit { All (λ n. n < 2 ^ 32) (register_numbers r.now) }
+{
+    let mut opening = [0u8; 8];
+    write_u32s(&[Version::Two.number(), protocol.number()], &mut opening);
+    let mut numbers = [0u8; 8 * WIDE];
+    write_u64s(&wide_numbers(r), &mut numbers);
+    let mut closing = [0u8; 8];
+    write_u32s(&[count, 0], &mut closing);
+    let mut bytes = [0u8; HEAD];
+    put(&mut bytes, 0, &MAGIC);
+    put(&mut bytes, 8, &opening);
+    put(&mut bytes, 16, &numbers);
+    put(&mut bytes, 264, &closing);
+    bytes
 }
 
 /// Puts all that stands before the parts' bytes into the buffer, and says how many bytes it has.

@@ -42,11 +42,13 @@ fn read_magic<S: Source>(source: &mut S) -> Result<(), ImageFault>
 }
 
 fn version_of(number: u32) -> Option<Version>
-    ensures { MatchOption result (¬ (number ≡ 1))
+    ensures { MatchOption result
+        ((1 ≤ number) × (number ≤ 2) → ⊥)
         (λ version. version_number version ≡ number) }
 {
     match number {
         1 => Some(Version::One),
+        2 => Some(Version::Two),
         _ => None,
     }
 }

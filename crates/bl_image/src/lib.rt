@@ -23,6 +23,7 @@ mod sink;
 mod source;
 mod version;
 mod write;
+mod write_value;
 
 pub use fault::ImageFault;
 pub use image::{Image, ImagePart};
@@ -36,3 +37,4 @@ pub use sink::{DeviceFault, Sink, write_all};
 pub use source::Source;
 pub use version::Version;
 pub use write::write_image;
+pub use write_value::write_value;

@@ -2,6 +2,7 @@
 ghost use Rattle.std.specs.Prelude.{◌≡◌, ◌<◌, List, length, slice_index_or};
 ghost use Rattle.bl_plan.specs.declared.part.Place.{Place};
 
+use crate::image::Image;
 use bl_load::Handoff;
 use bl_plan::Place;
 use std::alloc::Allocator;
@@ -30,5 +31,26 @@ impl<A: Allocator> Places for Handoff<A> {
 
     fn place_at(&self, index: usize) -> Place {
         self.place(index)
+    }
+}
+
+impl<A: Allocator> Places for Image<A> {
+    ghost use Rattle.std.specs.Prelude.{map};
+    ghost use Rattle.bl_image.specs.ImageParts.{place_of};
+
+    ghost places = { λ i. map place_of i.parts };
+
+    fn count(&self) -> usize {
+        self.len()
+    }
+
+    fn place_at(&self, index: usize) -> Place {
+        let part = self.part(index);
+        Place {
+            role: part.role(),
+            index: part.index(),
+            address: part.address(),
+            length: part.bytes().len() as u64,
+        }
     }
 }

@@ -1,14 +1,18 @@
 //! The registers of an image, read.
-ghost use Rattle.std.specs.Prelude.{◌≡◌, ◌+◌, ◌<◌, ◌^◌, ℕ, All, IfOk};
+ghost use Rattle.std.specs.Prelude.{◌≡◌, ◌+◌, ◌<◌, ◌^◌, ◌++◌, ℕ, All, IfOk, OnOk, length};
+ghost use Rattle.std.specs.Prelude.{replicate};
+ghost use Rattle.std.specs.List.{flat_map};
+ghost use Rattle.bl_mem.specs.Words.{u64_bytes};
 ghost use Rattle.bl_image.specs.Image.{register_numbers, spelled_registers};
-ghost use Rattle.bl_image.specs.Layouts.{layout, layout_1};
+ghost use Rattle.bl_image.specs.Fields as fields;
+ghost use Rattle.bl_image.specs.Layouts.{layout, layout_1, layout_2};
 ghost use Rattle.bl_image.specs.Source.{faults_met};
-ghost use Rattle.bl_image.specs.SourceKept.{ReadAll};
+ghost use Rattle.bl_image.specs.SourceKept.{Reads, ReadAll};
 ghost use Rattle.bl_image.specs.Versions.{version_number};
 ghost use Rattle.bl_image.specs.declared.version.Version.TheVariants as version;
 
 use crate::fault::ImageFault;
-use crate::fields::read_u32s;
+use crate::fields::{read_u32s, read_u64};
 use crate::source::Source;
 use crate::version::Version;
 use bl_load::Registers;
@@ -16,31 +20,35 @@ use bl_load::Registers;
 /// How many registers an image of version 1 has.
 const REGISTERS: usize = 20;
 
-/// The registers that have these numbers, in their order.
-fn registers_of(n: &[u32; REGISTERS]) -> Registers
-    ensures { register_numbers result ≡ n.now }
+/// The registers that have these numbers, in their order: 9 from the address where the kernel is
+/// entered on, the flags and the control register, and 9 from the code segment on.
+fn registers_of(first: &[u32], flags: &[u32], last: &[u32]) -> Registers
+    requires first { length first.now ≡ 9 }
+    requires flags { length flags.now ≡ 2 }
+    requires last { length last.now ≡ 9 }
+    ensures { register_numbers result ≡ first.now ++ (flags.now ++ last.now) }
 {
     Registers {
-        eip: n[0],
-        eax: n[1],
-        ebx: n[2],
-        ecx: n[3],
-        edx: n[4],
-        esi: n[5],
-        edi: n[6],
-        ebp: n[7],
-        esp: n[8],
-        eflags: n[9],
-        cr0: n[10],
-        cs: n[11],
-        ds: n[12],
-        es: n[13],
-        fs: n[14],
-        gs: n[15],
-        ss: n[16],
-        gdt_base: n[17],
-        gdt_limit: n[18],
-        a20: n[19],
+        eip: first[0],
+        eax: first[1],
+        ebx: first[2],
+        ecx: first[3],
+        edx: first[4],
+        esi: first[5],
+        edi: first[6],
+        ebp: first[7],
+        esp: first[8],
+        eflags: flags[0],
+        cr0: flags[1],
+        cs: last[0],
+        ds: last[1],
+        es: last[2],
+        fs: last[3],
+        gs: last[4],
+        ss: last[5],
+        gdt_base: last[6],
+        gdt_limit: last[7],
+        a20: last[8],
     }
 }
 
@@ -55,7 +63,83 @@ fn read_any_registers<S: Source>(source: &mut S) -> Result<Registers, ImageFault
 {
     let mut numbers = [0u32; REGISTERS];
     read_u32s(source, &mut numbers)?;
-    Ok(registers_of(&numbers))
+    Ok(registers_of(&numbers[..9], &numbers[9..11], &numbers[11..]))
+}
+
+/// Reads a register of 64 bits, of which the protocol gives 32.
+fn read_narrow<S: Source>(source: &mut S) -> Result<u32, ImageFault>
+    requires { S.faults source.old < 2 ^ 63 }
+    ensures field { Reads fields.narrow_field (S.input source.old) (S.input source.new)
+        u64_bytes result }
+    ensures fits { IfOk result (λ n. n < 2 ^ 32) }
+    ensures faults { S.faults source.new ≡ S.faults source.old + faults_met result }
+{
+    let number = read_u64(source)?;
+    if number > u32::MAX as u64 {
+        return Err(ImageFault::BadHeader);
+    }
+    Ok(number as u32)
+}
+
+/// Reads a register that the protocol does not give.
+fn read_absent<S: Source>(source: &mut S) -> Result<(), ImageFault>
+    requires { S.faults source.old < 2 ^ 63 }
+    ensures field { Reads fields.absent_field (S.input source.old) (S.input source.new)
+        (λ _. u64_bytes 0) result }
+    ensures faults { S.faults source.new ≡ S.faults source.old + faults_met result }
+{
+    if read_u64(source)? != 0 {
+        return Err(ImageFault::BadHeader);
+    }
+    Ok(())
+}
+
+/// Reads as many registers of 64 bits as `out` holds, of which the protocol gives 32.
+fn read_narrows<S: Source>(source: &mut S, out: &mut [u32]) -> Result<(), ImageFault>
+    requires { S.faults source.old < 2 ^ 63 }
+    ensures fields { ReadAll (replicate (length out.new) fields.narrow_field)
+        (S.input source.old) (S.input source.new) (λ _. flat_map u64_bytes out.new) result }
+    ensures fit { OnOk result (All (λ n. n < 2 ^ 32) out.new) }
+    ensures faults { S.faults source.new ≡ S.faults source.old + faults_met result }
+{
+    for i in 0..out.len() {
+        out[i] = read_narrow(source)?;
+    }
+    Ok(())
+}
+
+/// Reads so many registers that the protocol does not give.
+fn read_absents<S: Source>(source: &mut S, count: usize) -> Result<(), ImageFault>
+    requires { S.faults source.old < 2 ^ 63 }
+    ensures fields { ReadAll (replicate count fields.absent_field)
+        (S.input source.old) (S.input source.new)
+        (λ _. flat_map u64_bytes (replicate count 0)) result }
+    ensures faults { S.faults source.new ≡ S.faults source.old + faults_met result }
+{
+    for _ in 0..count {
+        read_absent(source)?;
+    }
+    Ok(())
+}
+
+/// Reads the registers of version 2 under a protocol of 32 bits.
+fn read_narrow_registers<S: Source>(source: &mut S) -> Result<Registers, ImageFault>
+    requires { S.faults source.old < 2 ^ 63 }
+    ensures fields { ReadAll layout_2.registers (S.input source.old) (S.input source.new)
+        (spelled_registers version.Two) result }
+    ensures fit { IfOk result
+        (λ registers. All (λ n. n < 2 ^ 32) (register_numbers registers)) }
+    ensures faults { S.faults source.new ≡ S.faults source.old + faults_met result }
+{
+    let mut first = [0u32; 9];
+    read_narrows(source, &mut first)?;
+    read_absents(source, 8)?;
+    let mut flags = [0u32; 2];
+    read_narrows(source, &mut flags)?;
+    read_absents(source, 3)?;
+    let mut last = [0u32; 9];
+    read_narrows(source, &mut last)?;
+    Ok(registers_of(&first, &flags, &last))
 }
 
 /// Reads the registers as this version has them.
@@ -73,5 +157,6 @@ pub(crate) fn read_registers<S: Source>(
 {
     match version {
         Version::One => read_any_registers(source),
+        Version::Two => read_narrow_registers(source),
     }
 }

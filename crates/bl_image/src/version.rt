@@ -2,12 +2,15 @@
 ghost use Rattle.std.specs.Prelude.{◌≡◌};
 ghost use Rattle.bl_image.specs.Versions.{version_number};
 
-/// A version of the format of images. An image tells its own by its number; version 1 is the one
-/// that is written.
+/// A version of the format of images. An image tells its own by its number; version 2 is the one
+/// that is written, and both are read.
 #[derive(Clone, Copy)]
 pub enum Version {
-    /// Version 1, with registers of 32 bits.
+    /// Version 1, with 20 registers of 32 bits.
     One,
+
+    /// Version 2, with 31 registers of 64 bits.
+    Two,
 }
 
 impl Version {
@@ -17,6 +20,7 @@ impl Version {
     {
         match self {
             Version::One => 1,
+            Version::Two => 2,
         }
     }
 }

@@ -96,33 +96,35 @@ entered_name : (a : App) (stop : Option (Text × List Text)) (chosen : Text × L
 entered_name a None chosen is = absurd cc
 entered_name a (Some p) chosen is = found_name _ p.1 a.subs chosen is
 
-one_of_three : (a : App) (stop : Option (Text × List Text)) (chosen : Text × List Row)
-    → map (λ s. s.name) a.subs ≡ codes "boot" ∷ codes "map" ∷ codes "walk" ∷ []
+one_of_four : (a : App) (stop : Option (Text × List Text)) (chosen : Text × List Row)
+    → map (λ s. s.name) a.subs ≡ codes "boot" ∷ codes "map" ∷ codes "walk" ∷ codes "convert" ∷ []
     → entered a stop ≡ Some chosen
     → (bytes_eq chosen.0 (codes "boot") ≡ false) × (bytes_eq chosen.0 (codes "map") ≡ false)
-    × (bytes_eq chosen.0 (codes "walk") ≡ false) → ⊥
-one_of_three a stop chosen names is others =
+    × (bytes_eq chosen.0 (codes "walk") ≡ false)
+    × (bytes_eq chosen.0 (codes "convert") ≡ false) → ⊥
+one_of_four a stop chosen names is others =
     let found = entered_name a stop chosen is in
-    let among : list_any (bytes_eq chosen.0) (codes "boot" ∷ codes "map" ∷ codes "walk" ∷ [])
+    let among : list_any (bytes_eq chosen.0) (codes "boot" ∷ codes "map" ∷ codes "walk" ∷ codes "convert" ∷ [])
     ≡ true = rw names at found in
-    let no : list_any (bytes_eq chosen.0) (codes "boot" ∷ codes "map" ∷ codes "walk" ∷ []) ≡ false =
-    rw (others.0, others.1, others.2) refl in
+    let no : list_any (bytes_eq chosen.0) (codes "boot" ∷ codes "map" ∷ codes "walk" ∷ codes "convert" ∷ []) ≡ false =
+    rw (others.0, others.1.0, others.1.1.0, others.1.1.1) refl in
     true≢false (sym among ∙ no)
 
 names_are : (parser : ValueParser)
     → map (λ s. s.name) (built (line_app parser)).subs
-    ≡ codes "boot" ∷ codes "map" ∷ codes "walk" ∷ []
+    ≡ codes "boot" ∷ codes "map" ∷ codes "walk" ∷ codes "convert" ∷ []
 unfolding clap_on_literals
 names_are parser = refl
 
--- a subcommand that the words name is one of the program's three
+-- a subcommand that the words name is one of the program's four
 pub no_other_name : (words : List Text) (parser : ValueParser) (chosen : Text × List Row)
     → subcommand_of (line_app parser) words ≡ Some chosen
     → (bytes_eq chosen.0 (codes "boot") ≡ false) × (bytes_eq chosen.0 (codes "map") ≡ false)
-    × (bytes_eq chosen.0 (codes "walk") ≡ false) → ⊥
+    × (bytes_eq chosen.0 (codes "walk") ≡ false)
+    × (bytes_eq chosen.0 (codes "convert") ≡ false) → ⊥
 no_other_name words parser chosen is others =
     let a = built (line_app parser) in
-    one_of_three a (stop_after a.top.rules (names_of a) (argument_words (line_app parser) words))
+    one_of_four a (stop_after a.top.rules (names_of a) (argument_words (line_app parser) words))
     chosen (names_are parser) is others
 
 -- the fault of an error is one that clap's definition has for the words, unless memory ran out

@@ -15,9 +15,10 @@ use Rattle.bl_line.specs.declared.fault.LineFault.TheVariants.{Help, Refused, No
 use Rattle.bl_line.specs.declared.job.Order.{Order}
 use Rattle.bl_line.specs.declared.job.Order.TheVariants.{Forward, Reverse}
 use Rattle.bl_line.specs.declared.job.Job.{Job}
-use Rattle.bl_line.specs.declared.job.Job.TheVariants.{Boot, Map, Walk}
+use Rattle.bl_line.specs.declared.job.Job.TheVariants.{Boot, Map, Walk, Convert}
 
--- ---- the command: boot DESC --out IMAGE [--order forward|reverse], map DESC, or walk IMAGE
+-- ---- the command: boot DESC --out IMAGE [--order forward|reverse], map DESC, walk IMAGE, or
+-- convert IMAGE --out NEW
 
 -- the parser takes the two orders by name
 abbrev pub IsOrderParser : ValueParser → Type 0
@@ -54,6 +55,9 @@ image_rule = record (new_rule (codes "image")) { required = true }
 abbrev pub walk_app : App
 walk_app = with_rule (new_app (codes "walk")) image_rule
 
+abbrev pub convert_app : App
+convert_app = with_rule (with_rule (new_app (codes "convert")) image_rule) out_rule
+
 -- a subcommand must be given, and `help` is none
 abbrev pub top_app : App
 top_app = record {
@@ -66,8 +70,10 @@ top_app = record {
 
 abbrev pub line_app : ValueParser → App
 line_app parser =
-    with_subcommand (with_subcommand (with_subcommand top_app (boot_app parser).top) map_app.top)
-    walk_app.top
+    with_subcommand
+    (with_subcommand (with_subcommand (with_subcommand top_app (boot_app parser).top) map_app.top)
+    walk_app.top)
+    convert_app.top
 
 -- ---- the job
 
@@ -88,6 +94,9 @@ IsJobOf chosen (Map description) = (bytes_eq chosen.0 (codes "map") ≡ true)
     × (description.now ≡ text_of (codes "desc") chosen.1)
 IsJobOf chosen (Walk image) = (bytes_eq chosen.0 (codes "walk") ≡ true)
     × (image.now ≡ text_of (codes "image") chosen.1)
+IsJobOf chosen (Convert image new) = (bytes_eq chosen.0 (codes "convert") ≡ true)
+    × (image.now ≡ text_of (codes "image") chosen.1)
+    × (new.now ≡ text_of (codes "out") chosen.1)
 
 -- clap's own definition has no fault for the words, and its matches tell the job
 abbrev pub Tells : List Text → Job → Type 0

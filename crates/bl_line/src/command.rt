@@ -3,7 +3,7 @@
 ghost use Rattle.std.specs.Prelude.{◌≡◌, true, false, IfOk};
 ghost use Rattle.clap.specs.Words.{app_of, new_app, new_rule, rule_of, with_rule, with_subcommand};
 ghost use Rattle.clap.specs.declared.builder.command.Command.TheViews.{out-Command as fields_of};
-ghost use Rattle.bl_line.specs.Lines.{WithOrders, boot_app, top_app, line_app};
+ghost use Rattle.bl_line.specs.Lines.{WithOrders, boot_app, convert_app, top_app, line_app};
 ghost use Rattle.bl_line.specs.Lines.{out_rule, order_rule};
 
 use clap::{Arg, Command};
@@ -55,6 +55,13 @@ fn boot_command<'a>(global: Global) -> Result<Command<'a>, AllocError>
         .arg(order_arg(global))
 }
 
+fn convert_command<'a>(global: Global) -> Result<Command<'a>, AllocError>
+    ensures local { IfOk result (λ c. (fields_of c).has_globals ≡ false) }
+    ensures app { IfOk result (λ c. app_of c ≡ convert_app) }
+{
+    command_of(global, "convert", "image")?.arg(out_arg(global))
+}
+
 /// The program's command, before it has subcommands.
 fn top_command<'a>(global: Global) -> Command<'a>
     ensures { app_of result ≡ top_app }
@@ -92,5 +99,7 @@ pub fn line_command<'a>(global: Global) -> Result<Command<'a>, AllocError>
 {
     let top = with_boot(global)?;
     let top = with_file(global, top, "map", "desc")?;
-    with_file(global, top, "walk", "image")
+    let top = with_file(global, top, "walk", "image")?;
+    let convert = convert_command(global)?;
+    top.subcommand(convert)
 }

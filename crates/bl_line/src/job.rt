@@ -24,4 +24,9 @@ pub enum Job<'a> {
     Walk {
         image: &'a str,
     },
+    /// Write an image anew, in the version of the format that is written.
+    Convert {
+        image: &'a str,
+        new: &'a str,
+    },
 }

@@ -37,7 +37,8 @@ fn order_named(text: &str) -> Order
 fn job_of<'a>(name: &str, matches: &ArgMatches<'a>) -> Option<Job<'a>>
     ensures { MatchOption result
         ((bytes_eq name.now (codes "boot") ≡ false) × (bytes_eq name.now (codes "map") ≡ false)
-        × (bytes_eq name.now (codes "walk") ≡ false))
+        × (bytes_eq name.now (codes "walk") ≡ false)
+        × (bytes_eq name.now (codes "convert") ≡ false))
         (IsJobOf (name.now, rows_of (found_of matches.now))) }
 {
     match name {
@@ -51,6 +52,10 @@ fn job_of<'a>(name: &str, matches: &ArgMatches<'a>) -> Option<Job<'a>>
         }),
         "walk" => Some(Job::Walk {
             image: text_of(matches, "image"),
+        }),
+        "convert" => Some(Job::Convert {
+            image: text_of(matches, "image"),
+            new: text_of(matches, "out"),
         }),
         _ => None,
     }

@@ -5,7 +5,7 @@ use Rattle.std.specs.List.{flat_map}
 use Rattle.bl_mem.specs.Words.{u32_bytes}
 use Rattle.bl_image.proofs.Inputs.{comes_more, comes_as}
 use Rattle.bl_image.proofs.NumberLemmas.{length-u32s}
-use Rattle.bl_image.proofs.Listed.{u32s_more, fit_more}
+use Rattle.bl_image.proofs.Listed.{spelled_more, fit_more}
 use Rattle.bl_image.proofs.FieldLemmas.{cut_behind}
 use Rattle.bl_image.proofs.fields.read_u32s.Goals as goal
 
@@ -30,7 +30,7 @@ loop-i-preserved g c =
     let inside : i < length out = omega arith in
     record {
       came =
-          comes_as (sym (u32s_more out i v inside))
+          comes_as (sym (spelled_more u32_bytes out i v inside))
           (comes_more c.loop-i.invariant.came c.in_ok-out.ensures.ok);
       fit = fit_more out i v inside c.loop-i.invariant.fit c.in_ok-out.ensures.fits;
       sound = omega (arith, c.in_ok-out.ensures.faults, c.loop-i.invariant.sound);

@@ -1,20 +1,11 @@
-use Rattle.std.proofs.Common.{◌<◌, ◌^◌, ◌++◌, ℕ, List, [], ◌∷◌, All, drop, rules}
-use Rattle.std.proofs.lemmas.Grind.{common_steps}
-use Rattle.std.proofs.lemmas.List.Elements.{All-drop, All-take}
-use Rattle.bl_image.specs.Image.{register_numbers}
-use Rattle.bl_image.proofs.FrontLemmas.{head_words}
+use Rattle.std.proofs.Common.{◌≡◌, ◌++◌, ℕ, List, [], ◌∷◌, length, take, sym, ap, ◌∙◌, arith}
+use Rattle.std.proofs.Common.{append_assoc}
+use Rattle.std.specs.List.{flat_map}
+use Rattle.std.proofs.lemmas.List.{append-nil, take_all}
+use Rattle.bl_mem.specs.Words.{u32_bytes, u64_bytes}
+use Rattle.bl_image.specs.Image.{magic, head}
 use Rattle.bl_image.proofs.head.head_bytes.Goals as goal
 
+-- each piece was put down behind the earlier ones
 pub returns-clause-bytes : goal.returns-clause-bytes
-returns-clause-bytes c =
-    rw (← head_words c.args.protocol c.args.r.now c.args.count) (search (rules, common_steps))
-
--- the registers are the words after the version and the protocol
-pub returns-clause-fit : goal.returns-clause-fit
-returns-clause-fit c =
-    let fits : ℕ → Type 0 = λ n. n < 2 ^ 32 in
-    let words : List ℕ =
-    c.number.result ∷ c.number-2.result
-    ∷ (register_numbers c.args.r.now ++ c.args.count ∷ 0 ∷ []) in
-    let all : All fits words = c.write_u32s.ensures.fit in
-    All-take fits 20 (drop 2 words) (All-drop fits 2 words all)
+returns-clause-bytes c = ?

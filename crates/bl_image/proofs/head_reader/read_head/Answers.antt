@@ -3,7 +3,7 @@ use Rattle.std.proofs.lemmas.Result.{err_from_is_err_and}
 use Rattle.bl_plan.specs.Protocols.{protocol_number}
 use Rattle.bl_image.specs.Fields.{fields_fault, opening_fields, magic_field, version_field}
 use Rattle.bl_image.specs.Fields.{count_field, zero_field}
-use Rattle.bl_image.specs.Layouts.{registers_1}
+use Rattle.bl_image.specs.Layouts.{layout}
 use Rattle.bl_image.specs.Versions.{version_number}
 use Rattle.bl_image.proofs.Inputs.{comes_more, comes_as}
 use Rattle.bl_image.proofs.HeadLemmas.{opened_passed, told_passed, opening_refuses}
@@ -69,7 +69,7 @@ returns-in_err-count-clause-refused g c =
     let p3 =
     told_passed n c.in_ok-protocol.protocol p2 (c.in_ok-protocol.ensures.field n).comes in
     let p4 =
-    passed_all registers_1 (count_field ∷ zero_field ∷ []) _ p3
+    passed_all (layout n (protocol_number c.in_ok-protocol.protocol)).registers (count_field ∷ zero_field ∷ []) _ p3
     (c.in_ok-registers.ensures.fields (protocol_number c.in_ok-protocol.protocol)) in
     rw (p.1, p.2) (passed_refuses p4 _ _ (c.in_err-count.ensures.field (zero_field ∷ [])))
 
@@ -85,7 +85,7 @@ returns-in_err-read_zero-clause-refused g c =
     let p3 =
     told_passed n c.in_ok-protocol.protocol p2 (c.in_ok-protocol.ensures.field n).comes in
     let p4 =
-    passed_all registers_1 (count_field ∷ zero_field ∷ []) _ p3
+    passed_all (layout n (protocol_number c.in_ok-protocol.protocol)).registers (count_field ∷ zero_field ∷ []) _ p3
     (c.in_ok-registers.ensures.fields (protocol_number c.in_ok-protocol.protocol)) in
     let p5 = passed_field count_field (zero_field ∷ []) _ p4 c.in_ok-count.ensures.field in
     rw (p.1, p.2) (passed_refuses p5 _ _ (c.in_err-read_zero.ensures.field []))

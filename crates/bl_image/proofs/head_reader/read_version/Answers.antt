@@ -1,7 +1,6 @@
-use Rattle.std.proofs.Common.{◌≡◌, false, sym, ap, arith}
-use Rattle.std.specs.Prelude.{◌==◌}
+use Rattle.std.proofs.Common.{◌≡◌, false, sym, ap}
+use Rattle.std.specs.Prelude.{nat_le, ◌&&◌}
 use Rattle.std.proofs.lemmas.Result.{err_from_is_err_and}
-use Rattle.std.proofs.lemmas.Bool.Decides.{nat_tests}
 use Rattle.bl_mem.specs.Words.{u32_bytes}
 use Rattle.bl_mem.proofs.WordLaws.{length-u32_bytes}
 use Rattle.bl_image.specs.declared.fault.ImageFault.TheVariants.{BadVersion}
@@ -9,6 +8,7 @@ use Rattle.bl_image.specs.Fields.{version_field}
 use Rattle.bl_image.specs.Versions.{version_number}
 use Rattle.bl_image.proofs.Inputs.{comes_as}
 use Rattle.bl_image.proofs.FieldLemmas.{field_cut, field_shows, word_tells}
+use Rattle.bl_image.proofs.FieldTests.{not_between}
 use Rattle.bl_image.proofs.HeadLemmas.{version_passes}
 use Rattle.bl_image.proofs.head_reader.read_version.Goals as goal
 
@@ -22,10 +22,9 @@ pub returns-in_default-clause-field : goal.returns-in_default-clause-field
 unfolding version_field
 returns-in_default-clause-field g c =
     let n = c.in_ok-number.number in
-    let other : ¬ (n ≡ 1) = c.in_default.ensures in
     let fails =
-    word_tells (λ k. k == 1) BadVersion n false c.in_ok-number.ensures.fits
-    (grind (arith, nat_tests)) in
+    word_tells (λ k. nat_le 1 k && nat_le k 2) BadVersion n false c.in_ok-number.ensures.fits
+    (not_between 1 n 2 c.in_default.ensures) in
     λ fields.
     field_shows version_field fields _ _ (u32_bytes n) c.in_ok-number.ensures.ok
     (length-u32_bytes n) fails

@@ -30,7 +30,7 @@ returns-in_err-places-clause-refused g c =
       on =
           λ bytes.
           head_front head.version head.protocol head.registers head.count bytes
-          c.in_ok-head.ensures.few;
+          c.in_ok-head.ensures.fit c.in_ok-head.ensures.few;
     } in
     rw (p.1, p.2) (passed_refuses front _ _ c.in_err-places.ensures.refused)
 
@@ -48,7 +48,7 @@ returns-in_err-parts-clause-refused g c =
       on =
           λ bytes.
           head_front head.version head.protocol head.registers head.count bytes
-          c.in_ok-head.ensures.few;
+          c.in_ok-head.ensures.fit c.in_ok-head.ensures.few;
     } in
     let passed : Passed image_fault _ _ (end_fault (bytes_at places)) =
     passed_more _ front c.in_ok-places.ensures.ok c.in_ok-places.ensures.judged in
@@ -73,7 +73,7 @@ returns-in_err-read_end-clause-refused g c =
       on =
           λ bytes.
           head_front head.version head.protocol head.registers head.count bytes
-          c.in_ok-head.ensures.few;
+          c.in_ok-head.ensures.fit c.in_ok-head.ensures.few;
     } in
     let passed : Passed image_fault _ _ (end_fault (bytes_at places)) =
     passed_more _ front c.in_ok-places.ensures.ok c.in_ok-places.ensures.judged in

@@ -1,0 +1,232 @@
+-- The registers of version 2, field by field: those of which the protocol gives 32 bits, and those
+-- that it does not give.
+use Rattle.std.proofs.Common.{◌≡◌, ◌+◌, ◌-◌, ◌*◌, ◌≤◌, ◌<◌, ◌^◌, ℕ, zero, suc, List, [], ◌∷◌, ◌++◌}
+use Rattle.std.proofs.Common.{length, take, drop, true, None, All, refl, sym, ap, ◌∙◌, arith, subst}
+use Rattle.std.proofs.Common.{append_assoc}
+use Rattle.std.specs.Prelude.{replicate, nat_lt, ◌==◌}
+use Rattle.std.specs.List.{flat_map}
+use Rattle.std.proofs.lemmas.List.{length-replicate, take_at, drop_at}
+use Rattle.std.proofs.lemmas.List.Elements.{All-head, All-tail, All-take, All-drop}
+use Rattle.std.proofs.lemmas.List.Elements.{All-append, All-replicate}
+use Rattle.std.proofs.lemmas.Bool.Decides.{nat_tests}
+use Rattle.std.proofs.lemmas.Grind.{flat_map-append}
+use Rattle.bl_mem.specs.Words.{u64_bytes}
+use Rattle.bl_mem.proofs.WordLaws.{length-u64_bytes}
+use Rattle.bl_load.specs.declared.registers.Registers.{Registers}
+use Rattle.bl_image.specs.declared.fault.ImageFault.{ImageFault}
+use Rattle.bl_image.specs.declared.fault.ImageFault.TheVariants.{BadHeader}
+use Rattle.bl_image.specs.Fields.{Field, fields_fault, narrow_field, absent_field}
+use Rattle.bl_image.specs.Image.{register_numbers, wide_numbers}
+use Rattle.bl_image.specs.Layouts.{registers_2}
+use Rattle.bl_image.specs.Source.{Input, Refuses}
+use Rattle.bl_image.specs.SourceKept.{Passes, PassAll}
+use Rattle.bl_image.proofs.FieldLemmas.{field_passes, long_tells, passed_refuses}
+use Rattle.bl_image.proofs.Inputs.{comes_nothing, comes_more}
+
+-- ---- fields one after the other
+
+-- these bytes pass these fields, and leave to be judged what follows
+abbrev pub Leaves : List Field → List ℕ → Type 0
+Leaves fields bytes =
+    (others : List Field) (more : List ℕ)
+    → fields_fault (fields ++ others) (bytes ++ more) ≡ fields_fault others more
+
+pub leaves_both : (f g : List Field) (a b : List ℕ) → Leaves f a → Leaves g b
+    → Leaves (f ++ g) (a ++ b)
+leaves_both f g a b first then others more =
+    ap (λ (fs : List Field). fields_fault fs ((a ++ b) ++ more)) (append_assoc f g others)
+    ∙ ap (fields_fault (f ++ (g ++ others))) (append_assoc a b more)
+    ∙ first (g ++ others) (b ++ more) ∙ then others more
+
+pub pass_none : (input : Input) → PassAll [] input input []
+pass_none input = record { comes = comes_nothing input; on = λ others more. refl }
+
+pub pass_both : {old mid new : Input} (f g : List Field) (a b : List ℕ) → PassAll f old mid a
+    → PassAll g mid new b → PassAll (f ++ g) old new (a ++ b)
+pass_both f g a b first then =
+    record { comes = comes_more first.comes then.comes; on = leaves_both f g a b first.on then.on }
+
+pub pass_one : {old new : Input} (field : Field) (a : List ℕ) → Passes field old new a
+    → PassAll (field ∷ []) old new a
+pass_one field a passes = record {
+  comes = passes.comes;
+  on = λ others more. field_passes field others a more passes.size passes.passes;
+}
+
+-- what is refused behind fields that passed is refused
+pub refused_behind : {old mid : Input} (f g : List Field) (a : List ℕ) → PassAll f old mid a
+    → (new : Input) (fault : ImageFault)
+    → ((others : List Field) → Refuses (fields_fault (g ++ others)) mid new fault)
+    → (others : List Field) → Refuses (fields_fault ((f ++ g) ++ others)) old new fault
+refused_behind {old} {mid} f g a passed new fault refused others =
+    subst (λ (fs : List Field). Refuses (fields_fault fs) old new fault)
+    (sym (append_assoc f g others))
+    (passed_refuses
+    record { done = a; comes = passed.comes; on = passed.on (g ++ others) } new fault
+    (refused others))
+
+-- and what is refused whatever follows is refused before others
+pub refused_before : {old : Input} (f g : List Field) (new : Input) (fault : ImageFault)
+    → ((others : List Field) → Refuses (fields_fault (f ++ others)) old new fault)
+    → (others : List Field) → Refuses (fields_fault ((f ++ g) ++ others)) old new fault
+refused_before {old} f g new fault refused others =
+    subst (λ (fs : List Field). Refuses (fields_fault fs) old new fault)
+    (sym (append_assoc f g others)) (refused (g ++ others))
+
+-- ---- the same field several times
+
+pub replicate_both : {X : Type 0} (m n : ℕ) (x : X)
+    → replicate (m + n) x ≡ replicate m x ++ replicate n x
+replicate_both zero n x = refl
+replicate_both (suc m) n x = ap (λ xs. x ∷ xs) (replicate_both m n x)
+
+pub replicate_more : {X : Type 0} (n : ℕ) (x : X) → replicate (n + 1) x ≡ replicate n x ++ x ∷ []
+replicate_more n x = replicate_both n 1 x
+
+-- one that is refused after so many of it
+pub refused_among : {old mid : Input} (field : Field) (i n : ℕ) (a : List ℕ) → i < n
+    → PassAll (replicate i field) old mid a → (new : Input) (fault : ImageFault)
+    → ((others : List Field) → Refuses (fields_fault (field ∷ others)) mid new fault)
+    → (others : List Field) → Refuses (fields_fault (replicate n field ++ others)) old new fault
+refused_among {old} field i n a below passed new fault refused others =
+    let rest = n - (i + 1) in
+    let is : replicate n field ≡ replicate i field ++ (field ∷ replicate rest field) =
+    ap (λ (k : ℕ). replicate k field) (omega (arith, below))
+    ∙ replicate_both i (suc rest) field in
+    subst (λ (fs : List Field). Refuses (fields_fault (fs ++ others)) old new fault) (sym is)
+    (refused_behind (replicate i field) (field ∷ replicate rest field) a passed new fault
+    (λ more. refused (replicate rest field ++ more)) others)
+
+-- ---- numbers pass
+
+narrow_tells : (n : ℕ) → n < 2 ^ 32 → narrow_field.passes (u64_bytes n) ≡ true
+unfolding narrow_field
+narrow_tells n fits =
+    long_tells (λ k. nat_lt k (2 ^ 32)) BadHeader n true (omega (arith, fits))
+    (grind (arith, nat_tests))
+
+pub narrow_leaves : (ns : List ℕ) → All (λ n. n < 2 ^ 32) ns
+    → Leaves (replicate (length ns) narrow_field) (flat_map u64_bytes ns)
+unfolding narrow_field
+narrow_leaves [] fit others more = refl
+narrow_leaves (n ∷ ns) fit others more =
+    let fits : ℕ → Type 0 = λ k. k < 2 ^ 32 in
+    ap (fields_fault (replicate (length (n ∷ ns)) narrow_field ++ others))
+    (append_assoc (u64_bytes n) (flat_map u64_bytes ns) more)
+    ∙ field_passes narrow_field (replicate (length ns) narrow_field ++ others) (u64_bytes n)
+    (flat_map u64_bytes ns ++ more) (length-u64_bytes n) (narrow_tells n (All-head fits n ns fit))
+    ∙ narrow_leaves ns (All-tail fits n ns fit) others more
+
+absent_tells : absent_field.passes (u64_bytes 0) ≡ true
+unfolding absent_field
+absent_tells = long_tells (λ k. k == 0) BadHeader 0 true (omega arith) refl
+
+pub absent_leaves : (n : ℕ)
+    → Leaves (replicate n absent_field) (flat_map u64_bytes (replicate n 0))
+unfolding absent_field
+absent_leaves zero others more = refl
+absent_leaves (suc n) others more =
+    ap (fields_fault (replicate (suc n) absent_field ++ others))
+    (append_assoc (u64_bytes 0) (flat_map u64_bytes (replicate n 0)) more)
+    ∙ field_passes absent_field (replicate n absent_field ++ others) (u64_bytes 0)
+    (flat_map u64_bytes (replicate n 0) ++ more) (length-u64_bytes 0) absent_tells
+    ∙ absent_leaves n others more
+
+-- ---- the registers
+
+-- 9 numbers, 2 and 9, and between them those that are not given
+abbrev pub widened : List ℕ → List ℕ → List ℕ → List ℕ
+widened first flags last =
+    first ++ (replicate 8 0 ++ (flags ++ (replicate 3 0 ++ last)))
+
+abbrev pub wide_spelling : List ℕ → List ℕ → List ℕ → List ℕ
+wide_spelling first flags last =
+    flat_map u64_bytes first ++ (flat_map u64_bytes (replicate 8 0)
+    ++ (flat_map u64_bytes flags ++ (flat_map u64_bytes (replicate 3 0)
+    ++ flat_map u64_bytes last)))
+
+pub spelled_wide : (first flags last : List ℕ)
+    → flat_map u64_bytes (widened first flags last) ≡ wide_spelling first flags last
+spelled_wide first flags last =
+    let zeros : ℕ → List ℕ = λ n. replicate n 0 in
+    flat_map-append u64_bytes first (zeros 8 ++ (flags ++ (zeros 3 ++ last)))
+    ∙ ap (λ (l : List ℕ). flat_map u64_bytes first ++ l)
+    (flat_map-append u64_bytes (zeros 8) (flags ++ (zeros 3 ++ last))
+    ∙ ap (λ (l : List ℕ). flat_map u64_bytes (zeros 8) ++ l)
+    (flat_map-append u64_bytes flags (zeros 3 ++ last)
+    ∙ ap (λ (l : List ℕ). flat_map u64_bytes flags ++ l)
+    (flat_map-append u64_bytes (zeros 3) last)))
+
+split_numbers : List ℕ → List ℕ
+split_numbers ns = widened (take 9 ns) (take 2 (drop 9 ns)) (drop 11 ns)
+
+wide_split : (r : Registers) → wide_numbers r ≡ split_numbers (register_numbers r)
+unfolding split_numbers
+wide_split r = refl
+
+pub wide_by : (r : Registers) (first flags last : List ℕ) → length first ≡ 9 → length flags ≡ 2
+    → register_numbers r ≡ first ++ (flags ++ last) → wide_numbers r ≡ widened first flags last
+unfolding split_numbers
+wide_by r first flags last nine two is =
+    let front = take_at first (flags ++ last) 9 nine in
+    let behind = drop_at first (flags ++ last) 9 nine in
+    let middle = take_at flags last 2 two in
+    let eleven : length (first ++ flags) ≡ 11 = grind (arith, nine, two) in
+    let end : drop 11 (first ++ (flags ++ last)) ≡ last =
+    ap (drop 11) (sym (append_assoc first flags last)) ∙ drop_at (first ++ flags) last 11 eleven in
+    wide_split r ∙ ap split_numbers is ∙ rw (front, behind, middle, end) refl
+
+-- registers whose numbers fit pass
+pub wide_pass : (r : Registers) → All (λ n. n < 2 ^ 32) (register_numbers r)
+    → Leaves registers_2 (flat_map u64_bytes (wide_numbers r))
+unfolding registers_2
+wide_pass r fit others more =
+    let fits : ℕ → Type 0 = λ k. k < 2 ^ 32 in
+    let ns = register_numbers r in
+    let first = take 9 ns in
+    let flags = take 2 (drop 9 ns) in
+    let last = drop 11 ns in
+    let narrow : ℕ → List Field = λ n. replicate n narrow_field in
+    let absent : ℕ → List Field = λ n. replicate n absent_field in
+    let of_first = narrow_leaves first (All-take fits 9 ns fit) in
+    let of_flags = narrow_leaves flags (All-take fits 2 (drop 9 ns) (All-drop fits 9 ns fit)) in
+    let of_last = narrow_leaves last (All-drop fits 11 ns fit) in
+    let all : Leaves registers_2 (wide_spelling first flags last) =
+    leaves_both (narrow 9) (absent 8 ++ (narrow 2 ++ (absent 3 ++ narrow 9))) _ _ of_first
+    (leaves_both (absent 8) (narrow 2 ++ (absent 3 ++ narrow 9)) _ _ (absent_leaves 8)
+    (leaves_both (narrow 2) (absent 3 ++ narrow 9) _ _ of_flags
+    (leaves_both (absent 3) (narrow 9) _ _ (absent_leaves 3) of_last))) in
+    ap (λ (l : List ℕ). fields_fault (registers_2 ++ others) (l ++ more))
+    (ap (flat_map u64_bytes) (wide_split r) ∙ spelled_wide first flags last)
+    ∙ all others more
+
+-- they are told by the numbers of version 1, and tell them
+narrowed : List ℕ → List ℕ
+narrowed ns = take 9 ns ++ (take 2 (drop 17 ns) ++ drop 22 ns)
+
+narrow_again : (r : Registers) → register_numbers r ≡ narrowed (wide_numbers r)
+unfolding narrowed
+narrow_again r = refl
+
+pub narrow_same : (r s : Registers) → wide_numbers r ≡ wide_numbers s
+    → register_numbers r ≡ register_numbers s
+narrow_same r s e = narrow_again r ∙ ap narrowed e ∙ sym (narrow_again s)
+
+-- and they fit
+pub wide_fit : (r : Registers) → All (λ n. n < 2 ^ 32) (register_numbers r)
+    → All (λ n. n < 2 ^ 64) (wide_numbers r)
+unfolding split_numbers
+wide_fit r fit =
+    let fits : ℕ → Type 0 = λ k. k < 2 ^ 32 in
+    let wide : ℕ → Type 0 = λ k. k < 2 ^ 64 in
+    let ns = register_numbers r in
+    let weaker : (l : List ℕ) → All fits l → All wide l =
+    λ l h k d within. let below = h k d within in omega (arith, below) in
+    let zeros : (n : ℕ) → All wide (replicate n 0) = λ n. All-replicate wide n 0 (omega arith) in
+    subst (All wide) (sym (wide_split r))
+    (All-append wide (take 9 ns) _ (weaker _ (All-take fits 9 ns fit))
+    (All-append wide (replicate 8 0) _ (zeros 8)
+    (All-append wide (take 2 (drop 9 ns)) _
+    (weaker _ (All-take fits 2 (drop 9 ns) (All-drop fits 9 ns fit)))
+    (All-append wide (replicate 3 0) _ (zeros 3)
+    (weaker _ (All-drop fits 11 ns fit))))))

@@ -1,0 +1,37 @@
+use Rattle.std.proofs.Common.{◌≡◌, true, false, arith, refl, ap}
+use Rattle.std.specs.Prelude.{◌==◌}
+use Rattle.std.proofs.lemmas.Result.{err_from_is_err_and}
+use Rattle.std.proofs.lemmas.Bool.Decides.{nat_tests}
+use Rattle.bl_mem.specs.Words.{u64_bytes}
+use Rattle.bl_mem.proofs.WordLaws.{length-u64_bytes}
+use Rattle.bl_image.specs.declared.fault.ImageFault.TheVariants.{BadHeader}
+use Rattle.bl_image.specs.Fields.{absent_field}
+use Rattle.bl_image.proofs.Inputs.{comes_as}
+use Rattle.bl_image.proofs.FieldLemmas.{field_cut, field_shows, long_tells}
+use Rattle.bl_image.proofs.register_reader.read_absent.Goals as goal
+
+pub returns-in_err-read_u64-clause-field : goal.returns-in_err-read_u64-clause-field
+unfolding absent_field
+returns-in_err-read_u64-clause-field g c =
+    let p = err_from_is_err_and c.from_residual.result c.from_residual.ensures.1 in
+    rw (p.1, p.2) (λ fields. field_cut absent_field fields _ _ _ c.in_err-read_u64.ensures.cut)
+
+pub returns-then-branch-ne0-clause-field : goal.returns-then-branch-ne0-clause-field
+unfolding absent_field
+returns-then-branch-ne0-clause-field g c =
+    let n = c.in_ok-read_u64.field-0 in
+    let other : n ≡ 0 → ⊥ = c.if-branch-ne0.true in
+    let fails =
+    long_tells (λ k. k == 0) BadHeader n false c.in_ok-read_u64.ensures.fits
+    (grind (arith, nat_tests)) in
+    λ fields.
+    field_shows absent_field fields _ _ (u64_bytes n) c.in_ok-read_u64.ensures.ok
+    (length-u64_bytes n) fails
+
+pub returns-clause-field : goal.returns-clause-field
+unfolding absent_field
+returns-clause-field g c = record {
+  comes = comes_as (ap u64_bytes c.if-branch-ne0.false) c.in_ok-read_u64.ensures.ok;
+  size = length-u64_bytes 0;
+  passes = long_tells (λ k. k == 0) BadHeader 0 true (omega arith) refl;
+}
