@@ -8,3 +8,4 @@ pub mod Kept
 pub mod WalkSays
 pub mod Walked
 pub mod WalkKept
+pub mod Converted

@@ -2,6 +2,7 @@
 #![tactic(auto)]
 
 mod booting;
+mod converting;
 mod fetching;
 mod laws;
 mod mapping;
@@ -10,6 +11,7 @@ mod walking;
 
 pub use bl_session::{FILE_LIMIT, Fetched};
 pub use booting::boot;
+pub use converting::convert;
 pub use fetching::{AskedNames, Files, MemFiles};
 pub use laws::{booted_images_show_their_entries, two_boots};
 pub use mapping::map_to;

@@ -30,7 +30,7 @@ fn run_walk<A: Allocator + Copy, R: Source, B: Allocator>(
 
 /// Appends the line of an image that is refused with this number. An error leaves the text as it
 /// was.
-fn say_bad_image<A: Allocator + Copy, B: Allocator>(
+pub(crate) fn say_bad_image<A: Allocator + Copy, B: Allocator>(
     alloc: A,
     blame: &mut Vec<u8, B>,
     number: u32,

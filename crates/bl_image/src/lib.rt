@@ -21,9 +21,9 @@ mod record_reader;
 mod register_reader;
 mod sink;
 mod source;
+mod value;
 mod version;
 mod write;
-mod write_value;
 
 pub use fault::ImageFault;
 pub use image::{Image, ImagePart};
@@ -35,6 +35,6 @@ pub use mem_source::MemSource;
 pub use read::read_image;
 pub use sink::{DeviceFault, Sink, write_all};
 pub use source::Source;
+pub use value::write_value;
 pub use version::Version;
 pub use write::write_image;
-pub use write_value::write_value;

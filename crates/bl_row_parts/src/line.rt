@@ -27,6 +27,12 @@ fn say_job(row: &mut Row<'_>, job: Job<'_>) {
             row.say("walk ");
             row.say(image);
         }
+        Job::Convert { image, new } => {
+            row.say("convert ");
+            row.say(image);
+            row.say(" to ");
+            row.say(new);
+        }
     }
 }
 

@@ -4,7 +4,7 @@ ghost use Rattle.bootcore.specs.Statuses as statuses;
 
 use crate::image_file::ImageFile;
 use crate::path_files::{PathFiles, read_file};
-use bl_boot::{Fetched, boot, map_to, walk_to};
+use bl_boot::{Fetched, boot, convert, map_to, walk_to};
 use bl_image::IoSource;
 use bl_line::{Job, LineFault, Order, read_line};
 use bl_mem::Bytes;
@@ -16,6 +16,7 @@ const USAGE: &str = "\
 usage: bootcore boot DESC --out IMAGE [--order forward|reverse]
        bootcore map DESC
        bootcore walk IMAGE
+       bootcore convert IMAGE --out NEW
 ";
 
 /// Writes to standard output, whose faults are not told.
@@ -113,6 +114,19 @@ fn open_image<R: rt::Files>(rt: &R, path: &str) -> Result<R::File, u8>
     }
 }
 
+/// Says on standard error what is wrong with an image, where the status is 2, or what the status
+/// means, and answers it.
+fn tell_blame(rt: &HostRuntime, status: u8, blame: &[u8]) -> u8
+    ensures { result ≡ status }
+{
+    if status != 2 {
+        return tell_status(rt, status);
+    }
+    let mut err = rt.stderr();
+    let _ = err.write_all(blame);
+    status
+}
+
 /// Says what a kernel sees in the image at a path, or what is wrong with it.
 fn walk_path(rt: &HostRuntime, path: &str) -> u8
     ensures { result ≤ 4 }
@@ -126,12 +140,23 @@ fn walk_path(rt: &HostRuntime, path: &str) -> u8
     let mut blame = Vec::new(rt.alloc());
     let status = walk_to(rt.alloc(), &mut source, &mut say, &mut blame);
     tell(rt, &say);
-    if status != 2 {
-        return tell_status(rt, status);
-    }
-    let mut err = rt.stderr();
-    let _ = err.write_all(&blame);
-    status
+    tell_blame(rt, status, &blame)
+}
+
+/// Writes the image at a path to another, in the version that is written, or says what is wrong with
+/// it.
+fn convert_path(rt: &HostRuntime, path: &str, new: &str) -> u8
+    ensures { result ≤ 4 }
+{
+    let file = match open_image(rt, path) {
+        Ok(file) => file,
+        Err(status) => return tell_status(rt, status),
+    };
+    let mut source = IoSource::new(file);
+    let mut out = ImageFile::new(rt, new);
+    let mut blame = Vec::new(rt.alloc());
+    let status = convert(rt.alloc(), &mut source, &mut out, &mut blame);
+    tell_blame(rt, status, &blame)
 }
 
 /// Does what a command line asks for, and answers the program's status.
@@ -148,6 +173,7 @@ pub fn run_line(rt: &HostRuntime, words: &[&str]) -> u8
         ) => tell_status(rt, boot_path(rt, description, image, order)),
         Ok(Job::Map { description }) => tell_status(rt, map_path(rt, description)),
         Ok(Job::Walk { image }) => walk_path(rt, image),
+        Ok(Job::Convert { image, new }) => convert_path(rt, image, new),
         Err(LineFault::Help) => {
             tell(rt, USAGE.as_bytes());
             0
