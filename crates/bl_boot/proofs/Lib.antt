@@ -8,3 +8,4 @@ pub mod EndLaws
 pub mod RunLemmas
 pub mod SaidLemmas
 pub mod ShownLaws
+pub mod ConvertLaws

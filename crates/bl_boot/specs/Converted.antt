@@ -1,11 +1,11 @@
 -- How a conversion of an image ends. Own.
-use Rattle.std.specs.Prelude.{◌≡◌, ◌+◌, ◌⊎◌, ℕ, List, ◌++◌}
+use Rattle.std.specs.Prelude.{◌≡◌, ◌+◌, ◌⊎◌, ℕ, List, ◌++◌, Some}
 use Rattle.bl_load.specs.Handover.{Handover}
 use Rattle.bl_image.specs.Begun.{IsBegun}
 use Rattle.bl_image.specs.Image.{spelling}
 use Rattle.bl_image.specs.Source.{Input}
 use Rattle.bl_image.specs.Versions.{written_version}
-use Rattle.bl_boot.specs.Walked.{IsRead, IsNoImage, bad_image_line}
+use Rattle.bl_boot.specs.Walked.{IsRead, IsWalked, IsNoImage, IsBadImage, bad_image_line}
 
 -- the image of a handover came, and the sink took it in the version that is written
 pub record IsConverted (before after : Input) (old new : List ℕ) : Type 0 where
@@ -31,3 +31,28 @@ abbrev pub ConvertStops : ℕ → ℕ → ℕ → ℕ → List ℕ → List ℕ 
 ConvertStops read_before read_after written_before written_after old new Torn =
     ((read_after ≡ read_before + 1) × (written_after ≡ written_before) × (new ≡ old))
     ⊎ ((read_after ≡ read_before) × (written_after ≡ written_before + 1) × Torn old new)
+
+-- ---- of images whose bytes are known
+
+-- to convert these bytes gave those
+pub record Converts (image converted : List ℕ) : Type 0 where
+  pub before : Input
+  pub after : Input
+  pub old : List ℕ
+  pub known : before.rest ≡ Some image
+  pub done : IsConverted before after old (old ++ converted)
+
+-- a walk of these bytes said this
+pub record Walks (image said : List ℕ) : Type 0 where
+  pub before : Input
+  pub after : Input
+  pub old : List ℕ
+  pub known : before.rest ≡ Some image
+  pub done : IsWalked before after old (old ++ said)
+
+-- a walk of these bytes refused them with this number
+pub record WalkRefuses (image : List ℕ) (number : ℕ) : Type 0 where
+  pub before : Input
+  pub after : Input
+  pub known : before.rest ≡ Some image
+  pub bad : IsBadImage before after number

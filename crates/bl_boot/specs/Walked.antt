@@ -4,6 +4,7 @@ use Rattle.bl_load.specs.Handover.{Handover}
 use Rattle.bl_image.specs.declared.version.Version.{Version}
 use Rattle.bl_image.specs.Image.{spelling}
 use Rattle.bl_image.specs.ImageFaults.{image_fault}
+use Rattle.bl_image.specs.ImageParts.{IsKept}
 use Rattle.bl_image.specs.Faults.{image_fault_number}
 use Rattle.bl_image.specs.Source.{Input, Comes, IsEnded, Refuses}
 use Rattle.bl_image.specs.declared.fault.ImageFault.{ImageFault}
@@ -20,6 +21,7 @@ pub record IsRead (before after : Input) (handover : Handover) : Type 0 where
   pub version : Version
   pub came : Comes before after (spelling version handover)
   pub ended : IsEnded after
+  pub kept : IsKept handover
 
 -- what is seen in the image that came was said
 pub record IsWalked (before after : Input) (said_before said_after : List ℕ) : Type 0 where

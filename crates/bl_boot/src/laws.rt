@@ -12,6 +12,7 @@ ghost use Rattle.bl_walk.specs.Seen.{IsSeen};
 ghost use Rattle.bl_walk.specs.SeenFacts.{SeenFacts};
 ghost use Rattle.bl_walk.specs.Shown.{ShowsEntry};
 ghost use Rattle.bl_session.specs.Ends.{End};
+ghost use Rattle.bl_boot.specs.Converted.{Converts, Walks, WalkRefuses};
 ghost use Rattle.bl_desc.specs.Described.{Described};
 ghost use Rattle.bl_boot.specs.Ends.{BootCase, IsBooted, IsMachineOf, Surroundings};
 ghost use Rattle.bl_boot.specs.Ends.{value_at, sizes_at, EndsAt};
@@ -58,4 +59,14 @@ pub fn booted_images_show_their_entries<F: Files>()
         (b : IsBooted F.answers F.faults desc before after) (version : Version)
         (image : Handover) → IsImage version (spelling written_version b.handover) image
         → IsSound image }
+{}
+
+/// A walk of a converted image says what a walk of its source says, and it is refused where that is.
+pub fn converted_images_are_walked_alike()
+    ensures said { (image converted a b : List ℕ) → Converts image converted
+        → Walks image a → Walks converted b → a ≡ b }
+    ensures sound { (image converted a : List ℕ) (number : ℕ) → Converts image converted
+        → Walks image a → WalkRefuses converted number → ⊥ }
+    ensures refused { (image converted b : List ℕ) (number : ℕ) → Converts image converted
+        → WalkRefuses image number → Walks converted b → ⊥ }
 {}

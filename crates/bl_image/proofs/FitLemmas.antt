@@ -1,5 +1,5 @@
 -- What memory hands over fits its image.
-use Rattle.std.proofs.Common.{◌+◌, ◌<◌, ◌≤◌, ◌^◌, ℕ, List, length, get_or, All, arith, sym, subst}
+use Rattle.std.proofs.Common.{◌+◌, ◌<◌, ◌≤◌, ◌^◌, ℕ, List, length, get_or, All, arith, map, sym, subst}
 use Rattle.std.proofs.lemmas.List.{length-map}
 use Rattle.std.proofs.lemmas.List.Elements.{All-map}
 use Rattle.bl_plan.specs.declared.part.Place.{Place}
@@ -8,10 +8,11 @@ use Rattle.bl_load.specs.declared.registers.Registers.{Registers}
 use Rattle.bl_load.specs.HandoffFacts.{AreHandoffFacts}
 use Rattle.bl_load.specs.PlanFacts.{part_in, handover_in}
 use Rattle.bl_image.specs.Image.{register_numbers}
-use Rattle.bl_image.specs.ImageParts.{IsKept}
+use Rattle.bl_load.specs.Handover.{Handover}
+use Rattle.bl_image.specs.ImageParts.{IsKept, handoff_of, place_of}
 use Rattle.bl_image.specs.Spellable.{FitsRecord, IsSpellable}
 use Rattle.bl_image.specs.RecordsKept.{PlaceFits, AreSpellable}
-use Rattle.bl_image.proofs.PartLemmas.{memory_kept}
+use Rattle.bl_image.proofs.PartLemmas.{memory_kept, all_under}
 use Rattle.bl_image.proofs.Spelled.{EndsIn, length-place_bytes}
 
 -- places that a handoff keeps fit
@@ -60,4 +61,18 @@ pub handover_kept : (bytes : List ℕ) (protocol : Protocol) (r : Registers) (ps
 handover_kept bytes protocol r ps inside fit kept = record {
   handoff = memory_kept bytes protocol r ps inside kept;
   spellable = handover_fits bytes protocol r ps inside fit;
+}
+
+-- what an image says fits its image where its places do
+pub value_kept : (h : Handover) → AreSpellable h.registers (map place_of h.parts)
+    → AreHandoffFacts (handoff_of h) → IsKept h
+value_kept h fit kept = record {
+  handoff = kept;
+  spellable = record {
+    registers = fit.registers;
+    count = subst (λ (n : ℕ). n < 2 ^ 32) (length-map h.parts place_of) fit.count;
+    parts = λ k d within.
+        let fits = all_under PlaceFits h.parts fit.places k d within in
+        record { index = fits.index; address = fits.address; count = fits.count };
+  };
 }

@@ -21,8 +21,9 @@ use Rattle.bl_image.specs.ImageFaults.{Before, and_record, parts_fault, end_faul
 use Rattle.bl_image.specs.ImageFaults.{image_fault}
 use Rattle.bl_image.specs.ImageParts.{place_of, PartAscends, IsKept, IsImage}
 use Rattle.bl_image.specs.RecordsKept.{IsNext}
-use Rattle.bl_image.specs.Source.{Fails, IsOfTheMoment}
+use Rattle.bl_image.specs.Source.{Fails, Input, IsOfTheMoment, Refuses}
 use Rattle.bl_image.proofs.FrontLemmas.{head_front}
+use Rattle.bl_image.proofs.KnownLemmas.{fails_known}
 use Rattle.bl_image.proofs.PartLemmas.{all_bytes, all_under, related_under}
 use Rattle.bl_image.proofs.ReadAgain.{image_is_read_again}
 use Rattle.bl_image.proofs.RecordLemmas.{parts_step}
@@ -112,3 +113,11 @@ accepted_by (Ok image) bytes read version handover is =
     (sym read.1.is ∙ is.is)).1
 accepted_by (Err fault) bytes fails version handover is =
     refused_for_now bytes fault (ap image_fault is.is ∙ image_sound version handover is.kept) fails
+
+-- and is refused for nothing that its bytes say
+pub image_not_refused : (old new : Input) (fault : ImageFault) (bytes : List ℕ) (version : Version)
+    (handover : Handover) → IsImage version bytes handover → old.rest ≡ Some bytes
+    → Refuses image_fault old new fault → IsOfTheMoment fault
+image_not_refused old new fault bytes version handover is e refuses =
+    refused_for_now bytes fault (ap image_fault is.is ∙ image_sound version handover is.kept)
+    (fails_known old new fault bytes e refuses)

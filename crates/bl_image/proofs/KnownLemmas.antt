@@ -36,7 +36,7 @@ shows_known fault_in old new fault bytes e s =
     let f = what_follows new.rest s.came bytes (subst P e s.comes.rest_is) in
     ap fault_in f.2 ∙ s.shown f.0 f.1
 
-fails_known : (old new : Input) (fault : ImageFault) (bytes : List ℕ) → old.rest ≡ Some bytes
+pub fails_known : (old new : Input) (fault : ImageFault) (bytes : List ℕ) → old.rest ≡ Some bytes
     → Refuses image_fault old new fault → Fails image_fault bytes fault
 fails_known old new BadMagic bytes e s = shows_known image_fault old new BadMagic bytes e s
 fails_known old new BadVersion bytes e s = shows_known image_fault old new BadVersion bytes e s

@@ -189,3 +189,15 @@ end_more count a x size =
     let e : (length (a ++ x) == count) ≡ (length x == 0) =
     same_test (length (a ++ x)) count (length x) 0 (λ h. omega arith) (λ h. omega arith) in
     rw e refl
+
+-- the image of what an image says, with what stands before the bytes as one piece
+pub value_in : (version : Version) (h : Handover)
+    → spelling version h
+    ≡ (head version h.protocol h.registers (length (map place_of h.parts))
+    ++ flat_map place_record (map place_of h.parts)) ++ all_bytes h.parts
+value_in version h =
+    let ps = map place_of h.parts in
+    sym (spelled_by version h.protocol h.registers (length ps) ps h.parts refl refl)
+    ∙ append-nil
+    ((head version h.protocol h.registers (length ps) ++ flat_map place_record ps)
+    ++ all_bytes h.parts)

@@ -101,9 +101,9 @@ flat_map-take {X = X} f xs k x e h =
 -- them
 pub records_more : (front old new : List ℕ) (ps : List Place) (i : ℕ) (p : Place)
     → p ≡ get_or ps i p → i < length ps
-    → take (104 + 24 * i) old ≡ front ++ flat_map place_record (take i ps)
-    → take (104 + 24 * i + 24) new ≡ take (104 + 24 * i) old ++ place_record p
-    → take (104 + 24 * (i + 1)) new ≡ front ++ flat_map place_record (take (i + 1) ps)
+    → take (272 + 24 * i) old ≡ front ++ flat_map place_record (take i ps)
+    → take (272 + 24 * i + 24) new ≡ take (272 + 24 * i) old ++ place_record p
+    → take (272 + 24 * (i + 1)) new ≡ front ++ flat_map place_record (take (i + 1) ps)
 records_more front old new ps i p e h before step =
     ap (λ (n : ℕ). take n new) (omega arith)
     ∙ step
@@ -113,10 +113,10 @@ records_more front old new ps i p e h before step =
 
 -- and with all records
 pub records_all : (front buffer : List ℕ) (ps : List Place) (i n : ℕ) → i ≡ n → n ≡ length ps
-    → take (104 + 24 * i) buffer ≡ front ++ flat_map place_record (take i ps)
-    → take (104 + 24 * n) buffer ≡ front ++ flat_map place_record ps
+    → take (272 + 24 * i) buffer ≡ front ++ flat_map place_record (take i ps)
+    → take (272 + 24 * n) buffer ≡ front ++ flat_map place_record ps
 records_all front buffer ps i n at all before =
-    ap (λ (k : ℕ). take (104 + 24 * k) buffer) (sym at)
+    ap (λ (k : ℕ). take (272 + 24 * k) buffer) (sym at)
     ∙ before
     ∙ ap (λ (k : ℕ). front ++ flat_map place_record (take k ps)) (at ∙ all)
     ∙ ap (λ (l : List Place). front ++ flat_map place_record l) (take-length ps)

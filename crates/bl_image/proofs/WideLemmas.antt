@@ -5,7 +5,8 @@ use Rattle.std.proofs.Common.{length, take, drop, true, None, All, refl, sym, ap
 use Rattle.std.proofs.Common.{append_assoc}
 use Rattle.std.specs.Prelude.{replicate, nat_lt, ◌==◌}
 use Rattle.std.specs.List.{flat_map}
-use Rattle.std.proofs.lemmas.List.{length-replicate, take_at, drop_at}
+use Rattle.std.proofs.lemmas.List.{append-nil, take_at, drop_at}
+use Rattle.std.proofs.lemmas.List.Concat.{flat_map-cons}
 use Rattle.std.proofs.lemmas.List.Elements.{All-head, All-tail, All-take, All-drop}
 use Rattle.std.proofs.lemmas.List.Elements.{All-append, All-replicate}
 use Rattle.std.proofs.lemmas.Bool.Decides.{nat_tests}
@@ -131,6 +132,15 @@ absent_leaves (suc n) others more =
     ∙ field_passes absent_field (replicate n absent_field ++ others) (u64_bytes 0)
     (flat_map u64_bytes (replicate n 0) ++ more) (length-u64_bytes 0) absent_tells
     ∙ absent_leaves n others more
+
+pub zeros_more : (n : ℕ)
+    → flat_map u64_bytes (replicate (n + 1) 0)
+    ≡ flat_map u64_bytes (replicate n 0) ++ u64_bytes 0
+zeros_more n =
+    ap (flat_map u64_bytes) (replicate_more n 0)
+    ∙ flat_map-append u64_bytes (replicate n 0) (0 ∷ [])
+    ∙ ap (λ (l : List ℕ). flat_map u64_bytes (replicate n 0) ++ l)
+    (flat_map-cons u64_bytes 0 [] ∙ append-nil (u64_bytes 0))
 
 -- ---- the registers
 

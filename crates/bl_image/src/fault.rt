@@ -15,11 +15,12 @@ pub enum ImageFault {
     #[error("bad magic")]
     BadMagic,
 
-    /// The version is not 1.
+    /// The version is neither 1 nor 2.
     #[error("bad version")]
     BadVersion,
 
-    /// The protocol is neither 1 nor 2, there are more than 256 parts, or the word after their
+    /// The protocol is neither 1 nor 2; in version 2, a register that the protocol does not give is
+    /// not 0, or another one is 2^32 or more; there are more than 256 parts; or the word after their
     /// number is not 0.
     #[error("bad header")]
     BadHeader,

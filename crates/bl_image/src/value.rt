@@ -50,6 +50,7 @@ pub fn write_value<S: Sink, A: Allocator>(
     // What an image says is what images keep, so that it is read again, by `read_image.accepts`.
     ensures kept { IsKept image.now }
 {
+    let parts = image.parts();
     let mut buffer = [0u8; MOST_FRONT];
     write_front(
         sink,
@@ -58,6 +59,6 @@ pub fn write_value<S: Sink, A: Allocator>(
         image,
         &mut buffer,
     )?;
-    write_bytes(image.parts(), sink)?;
+    write_bytes(parts, sink)?;
     Ok(())
 }

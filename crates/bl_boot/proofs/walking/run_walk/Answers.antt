@@ -61,5 +61,6 @@ returns-in_err-seen-clause-ends g c =
       version = c.in_ok-image.ensures.ok.0;
       came = c.in_ok-image.ensures.ok.1;
       ended = c.in_ok-image.ensures.ended;
+      kept = c.in_ok-image.ensures.kept;
     })
     c.in_err-seen.ensures.fault)

@@ -16,7 +16,7 @@ loop-i-init g c =
     let places = g.P.Places.places c.args.places.now in
     let top : List ℕ =
     head written_version c.args.protocol c.args.registers.now (length places) in
-    let wide : 104 ≡ 0 + length c.head_bytes-bytes.result = omega arith in
+    let wide : 272 ≡ 0 + length c.head_bytes-bytes.result = omega arith in
     let bytes : c.head_bytes-bytes.result ≡ top =
     rw (c.count-count.ensures) at c.head_bytes-bytes.ensures.bytes in
     record {
@@ -32,12 +32,12 @@ loop-i-preserved g c =
     let i = c.loop-i.i in
     let place = c.place_at-place.result in
     let inside : i < length places = omega (arith, c.loop-i-test.true, c.count-count.ensures) in
-    let wide : 104 + 24 * i + 24 ≡ 104 + 24 * i + length c.record_bytes.result = omega arith in
-    let step : take (104 + 24 * i + 24) c.put-in-loop-i.new.buffer
-    ≡ take (104 + 24 * i) c.loop-i.buffer ++ place_record place =
+    let wide : 272 + 24 * i + 24 ≡ 272 + 24 * i + length c.record_bytes.result = omega arith in
+    let step : take (272 + 24 * i + 24) c.put-in-loop-i.new.buffer
+    ≡ take (272 + 24 * i) c.loop-i.buffer ++ place_record place =
     ap (λ (n : ℕ). take n c.put-in-loop-i.new.buffer) wide
     ∙ c.put-in-loop-i.ensures
-    ∙ ap (λ (l : List ℕ). take (104 + 24 * i) c.loop-i.buffer ++ l) c.record_bytes.ensures.bytes in
+    ∙ ap (λ (l : List ℕ). take (272 + 24 * i) c.loop-i.buffer ++ l) c.record_bytes.ensures.bytes in
     record {
       front =
           records_more

@@ -9,7 +9,7 @@ use Rattle.bl_image.proofs.head.put_front.Given as goal
 -- the head and the records of the first places stand in the buffer
 abbrev pub invariant-loop-i : goal.invariant-loop-i
 invariant-loop-i g l = record {
-  front : take (104 + 24 * l.i) l.buffer
+  front : take (272 + 24 * l.i) l.buffer
       ≡ head written_version l.fn.protocol l.registers (length (g.P.Places.places l.places))
       ++ flat_map place_record (take l.i (g.P.Places.places l.places));
   indices : All (λ (place : Place). place.index < 2 ^ 32) (take l.i (g.P.Places.places l.places));

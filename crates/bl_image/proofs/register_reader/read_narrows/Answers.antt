@@ -1,10 +1,8 @@
-use Rattle.std.proofs.Common.{◌≡◌, ◌+◌, ◌<◌, ℕ, List, ◌++◌, ◌∷◌, [], length, take, sym, subst, arith}
+use Rattle.std.proofs.Common.{◌≡◌, ◌+◌, ◌<◌, ℕ, List, ◌++◌, ◌∷◌, [], length, refl, arith}
 use Rattle.std.specs.Prelude.{replicate}
-use Rattle.std.specs.List.{flat_map}
 use Rattle.std.proofs.lemmas.Result.{err_from_is_err_and}
 use Rattle.bl_mem.specs.Words.{u64_bytes}
-use Rattle.bl_image.specs.Fields.{Field, narrow_field}
-use Rattle.bl_image.specs.SourceKept.{PassAll}
+use Rattle.bl_image.specs.Fields.{narrow_field}
 use Rattle.bl_image.proofs.Listed.{spelled_more, fit_more}
 use Rattle.bl_image.proofs.WideLemmas.{pass_none, pass_both, pass_one, refused_among, replicate_more}
 use Rattle.bl_image.proofs.register_reader.read_narrows.Goals as goal
