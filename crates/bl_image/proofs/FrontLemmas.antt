@@ -1,6 +1,6 @@
 -- A whole head, and what stands behind it.
 use Rattle.std.proofs.Common.{◌≡◌, ◌≤◌, ◌<◌, ◌^◌, ℕ, true, List, [], ◌∷◌, ◌++◌, drop, None}
-use Rattle.std.proofs.Common.{refl, ap, ◌∙◌, arith, append_assoc, lit<}
+use Rattle.std.proofs.Common.{All, refl, ap, ◌∙◌, arith, append_assoc, lit<}
 use Rattle.std.specs.Prelude.{nat_le, ◌==◌}
 use Rattle.std.proofs.lemmas.List.{append-nil}
 use Rattle.std.proofs.lemmas.Grind.{flat_map-append}
@@ -19,7 +19,7 @@ use Rattle.bl_image.specs.Image.{magic, head, register_numbers, spelled_register
 use Rattle.bl_image.specs.Fields.{fields_fault}
 use Rattle.bl_image.specs.Fields.{count_field, zero_field}
 use Rattle.bl_image.specs.ImageFaults.{head_fault, image_fault, parts_fault, none_before}
-use Rattle.bl_image.specs.Layouts.{layout, layout_1, layout_of}
+use Rattle.bl_image.specs.Layouts.{Layout, layout, layout_1, layout_of}
 use Rattle.bl_image.specs.Source.{Input, Refuses}
 use Rattle.bl_image.specs.Versions.{version_number}
 use Rattle.bl_image.proofs.FieldLemmas.{field_passes, word_tells}
@@ -70,6 +70,22 @@ head_passes v p r count x fit few =
     ∙ registers_pass v m r fit (count_field ∷ zero_field ∷ []) rest
     ∙ counted count x few
 
+-- the layout is that of the version
+version_stands : (v : Version) (p : Protocol) (r : Registers) (count : ℕ) (x : List ℕ)
+    → u32_at (head v p r count ++ x) 8 ≡ version_number v
+unfolding number_at u32_bytes
+version_stands One p r count x = refl
+version_stands Two p r count x = refl
+
+layout_told : (v : Version) (p : Protocol) (r : Registers) (count : ℕ) (x : List ℕ)
+    → layout_of (head v p r count ++ x) ≡ layout (version_number v) (protocol_number p)
+layout_told v p r count x =
+    ap (λ (n : ℕ). layout n (protocol_number p)) (version_stands v p r count x)
+
+most_told : (v : Version) (m : ℕ) → (layout (version_number v) m).most_role ≡ 7
+most_told One m = refl
+most_told Two m = refl
+
 -- the number of parts stands where the layout says, and so do the records
 count_stands : (v : Version) (p : Protocol) (r : Registers) (count : ℕ) (x : List ℕ)
     → count < 2 ^ 32
@@ -96,8 +112,14 @@ pub head_front : (v : Version) (p : Protocol) (r : Registers) (count : ℕ) (x :
     → All (λ n. n < 2 ^ 32) (register_numbers r) → count ≤ 256
     → image_fault (head v p r count ++ x) ≡ parts_fault layout_1.most_role count none_before x
 head_front v p r count x fit few =
-    front_by (head v p r count ++ x) x count (head_passes v p r count x fit few)
-    (count_stands v p r count x (omega arith)) (behind_head v p r count x)
+    let bytes = head v p r count ++ x in
+    let is = layout_told v p r count x in
+    front_by bytes x count (head_passes v p r count x fit few)
+    (ap (λ (l : Layout). u32_at bytes l.count_at) is
+    ∙ count_stands v p r count x (omega arith))
+    (ap (λ (l : Layout). drop l.records_at bytes) is ∙ behind_head v p r count x)
+    ∙ ap (λ (n : ℕ). parts_fault n count none_before x)
+    (ap (λ (l : Layout). l.most_role) is ∙ most_told v (protocol_number p))
 
 -- a fault of the head is the image's
 pub head_refuses : (old new : Input) (fault : ImageFault) → Refuses head_fault old new fault

@@ -1,10 +1,11 @@
 mod FieldLemmas
 mod FieldTests
+mod HeadPut
 mod HeadLemmas
 mod FrontLemmas
 mod Listed
-mod ImageLaws
-mod KnownLemmas
+pub mod ImageLaws
+pub mod KnownLemmas
 mod PartLemmas
 mod RecordLemmas
 mod RegisterLemmas

@@ -1,13 +1,15 @@
 -- A list by its elements.
-use Rattle.std.proofs.Common.{◌≡◌, ◌+◌, ◌<◌, ℕ, zero, suc, List, [], ◌∷◌, ◌++◌, ◌^◌, length, get_or}
-use Rattle.std.proofs.Common.{slice_set, take, drop, All, refl, sym, ap, ◌∙◌, subst, arith}
+use Rattle.std.proofs.Common.{◌≡◌, ◌+◌, ◌≤◌, ◌<◌, ℕ, zero, suc, List, [], ◌∷◌, ◌++◌, ◌^◌, length, get_or}
+use Rattle.std.proofs.Common.{slice_range, slice_set, take, drop, All, sym, ap, ◌∙◌, subst, arith}
+use Rattle.std.proofs.Common.{rules}
 use Rattle.std.proofs.Math.Numerals.{add-one}
-use Rattle.std.proofs.lemmas.List.{drop_all, append-nil}
+use Rattle.std.proofs.lemmas.List.{drop_all, append-nil, same_lists, places}
 use Rattle.std.proofs.lemmas.List.Elements.{All-append, All-cons, All-nil}
 use Rattle.std.proofs.lemmas.List.Concat.{flat_map-cons}
 use Rattle.std.proofs.lemmas.Grind.{flat_map-append}
 use Rattle.std.specs.List.{flat_map}
-use Rattle.std.proofs.Math.Seq.{drop-cons, take-suc-set}
+use Rattle.bl_mem.proofs.Overwrites.{range_more}
+use Rattle.std.proofs.Math.Seq.{drop-cons, take-length, take-suc-set}
 
 -- n elements from the k-th on
 abbrev pub elements : ℕ → ℕ → List ℕ → List ℕ
@@ -24,10 +26,27 @@ elements_are (suc n) k xs e =
 pub listed_parts : (f g l : List ℕ) → length f ≡ 9 → length g ≡ 2 → length l ≡ 9
     → elements 9 0 f ++ (elements 2 0 g ++ elements 9 0 l) ≡ f ++ (g ++ l)
 listed_parts f g l nine two last =
-    rw (elements_are 9 0 f nine, elements_are 2 0 g two, elements_are 9 0 l last) refl
+    ap (λ (x : List ℕ). x ++ (elements 2 0 g ++ elements 9 0 l)) (elements_are 9 0 f nine)
+    ∙ ap (λ (x : List ℕ). f ++ (x ++ elements 9 0 l)) (elements_are 2 0 g two)
+    ∙ ap (λ (x : List ℕ). f ++ (g ++ x)) (elements_are 9 0 l last)
 
 pub listed_20 : (xs : List ℕ) → length xs ≡ 20 → elements 20 0 xs ≡ xs
 listed_20 xs e = elements_are 20 0 xs e
+
+part_of : (n : ℕ) (xs : List ℕ) → n ≤ length xs → take n xs ≡ slice_range xs 0 n
+part_of n xs h = same_lists _ _ (search (rules, places)) (λ k d within. grind (arith, places))
+
+-- 20 elements are their first 9, the next 2 and the last 9
+pub three_parts : (xs : List ℕ) → length xs ≡ 20
+    → take 9 xs ++ (slice_range xs 9 11 ++ slice_range xs 11 20) ≡ xs
+three_parts xs e =
+    let front = part_of 9 xs (omega arith) in
+    let whole = part_of 20 xs (omega arith) in
+    ap (λ (l : List ℕ). take 9 xs ++ l)
+    (range_more xs 9 11 20 (omega arith) (omega arith) (omega arith))
+    ∙ ap (λ (l : List ℕ). l ++ slice_range xs 9 20) front
+    ∙ range_more xs 0 9 20 (omega arith) (omega arith) (omega arith)
+    ∙ sym whole ∙ ap (λ (n : ℕ). take n xs) (sym e) ∙ take-length xs
 
 -- one more number was put down
 pub spelled_more : (spelled : ℕ → List ℕ) (xs : List ℕ) (i v : ℕ) → i < length xs

@@ -12,14 +12,14 @@ use Rattle.bl_plan.specs.declared.part.Place.{Place}
 use Rattle.bl_plan.specs.declared.protocol.Protocol.{Protocol}
 use Rattle.bl_plan.proofs.OrderLemmas.{AreRelated}
 use Rattle.bl_load.specs.declared.registers.Registers.{Registers}
-use Rattle.bl_load.specs.Handover.{Part}
+use Rattle.bl_load.specs.Handover.{Part, Handover}
 use Rattle.bl_load.specs.HandoffFacts.{Ascends, AreHandoffFacts}
 use Rattle.bl_load.specs.PlanFacts.{part_in, handover_in}
 use Rattle.bl_image.specs.declared.fault.ImageFault.{ImageFault}
 use Rattle.bl_image.specs.declared.fault.ImageFault.TheVariants.{WrongLength}
 use Rattle.bl_image.specs.declared.version.Version.{Version}
 use Rattle.bl_image.specs.Image.{head, part_record, spelling, register_numbers}
-use Rattle.bl_image.specs.RecordsKept.{place_record, bytes_at, PlaceFits}
+use Rattle.bl_image.specs.RecordsKept.{place_record, bytes_at, PlaceFits, AreSpellable}
 use Rattle.bl_image.specs.ImageFaults.{end_fault}
 use Rattle.bl_image.specs.ImageParts.{place_of, handoff_of, PartAscends, IsKept}
 use Rattle.bl_image.specs.Source.{Input, Comes}
@@ -201,3 +201,10 @@ value_in version h =
     ∙ append-nil
     ((head version h.protocol h.registers (length ps) ++ flat_map place_record ps)
     ++ all_bytes h.parts)
+
+-- what an image says is what images keep, where its places fit
+pub value_kept : (h : Handover) → AreSpellable h.registers (map place_of h.parts)
+    → AreHandoffFacts (handoff_of h) → IsKept h
+value_kept h fit kept =
+    image_kept h.protocol h.registers (map place_of h.parts) h.parts refl kept fit.places
+    fit.registers

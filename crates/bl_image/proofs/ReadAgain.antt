@@ -12,12 +12,13 @@ use Rattle.bl_load.specs.Handover.{Part, Handover}
 use Rattle.bl_mem.specs.Words.{u32_bytes, u64_bytes}
 use Rattle.bl_mem.proofs.WordLaws.{length-u32_bytes, length-u64_bytes}
 use Rattle.bl_image.specs.declared.version.Version.{Version}
-use Rattle.bl_image.specs.declared.version.Version.TheVariants.{One}
-use Rattle.bl_image.specs.Image.{magic, register_numbers, spelled_registers, head, part_record}
+use Rattle.bl_image.specs.declared.version.Version.TheVariants.{One, Two}
+use Rattle.bl_image.specs.Image.{wide_numbers, magic, register_numbers, spelled_registers, head, part_record}
 use Rattle.bl_image.specs.Image.{spelling}
 use Rattle.bl_image.specs.Versions.{version_number}
 use Rattle.bl_image.specs.Spellable.{FitsRecord, IsSpellable}
-use Rattle.bl_image.proofs.NumberLemmas.{front_same, back_same, length-u32s, u32_same, u64_same}
+use Rattle.bl_image.proofs.WideLemmas.{narrow_same, wide_fit}
+use Rattle.bl_image.proofs.NumberLemmas.{length-u64s, front_same, back_same, length-u32s, u32_same, u64_same, u64s_same}
 use Rattle.bl_image.proofs.NumberLemmas.{u32s_same}
 use Rattle.bl_image.proofs.NumbersAgain.{role_same, protocol_same, registers_same, version_same}
 use Rattle.bl_image.proofs.NumbersAgain.{role_fits, version_fits, protocol_fits}

@@ -150,10 +150,14 @@ found_2 others bytes small none =
     let apart =
     ap (λ (fs : List Field). fields_fault fs bytes)
     (sym (regroup_fields (narrow 9) (absent 8) (narrow 2) (absent 3) (narrow 9) others)) ∙ none in
-    let first = narrows_found 9 _ bytes small apart in
-    let second = absents_found 8 _ first.rest first.small first.left in
-    let third = narrows_found 2 _ second.rest second.small second.left in
-    let fourth = absents_found 3 _ third.rest third.small third.left in
+    let after_fourth = narrow 9 ++ others in
+    let after_third = absent 3 ++ after_fourth in
+    let after_second = narrow 2 ++ after_third in
+    let after_first = absent 8 ++ after_second in
+    let first = narrows_found 9 after_first bytes small apart in
+    let second = absents_found 8 after_second first.rest first.small first.left in
+    let third = narrows_found 2 after_third second.rest second.small second.left in
+    let fourth = absents_found 3 after_fourth third.rest third.small third.left in
     let fifth = narrows_found 9 others fourth.rest fourth.small fourth.left in
     let all : List ℕ = first.numbers ++ (third.numbers ++ fifth.numbers) in
     let size : length all ≡ 20 =

@@ -54,6 +54,11 @@ pass_one field a passes = record {
   on = λ others more. field_passes field others a more passes.size passes.passes;
 }
 
+pub pass_as : {old new : Input} (f : List Field) (a b : List ℕ) → a ≡ b → PassAll f old new a
+    → PassAll f old new b
+pass_as {old} {new} f a b same passed =
+    subst (λ (l : List ℕ). PassAll f old new l) same passed
+
 -- what is refused behind fields that passed is refused
 pub refused_behind : {old mid : Input} (f g : List Field) (a : List ℕ) → PassAll f old mid a
     → (new : Input) (fault : ImageFault)
@@ -67,10 +72,10 @@ refused_behind {old} {mid} f g a passed new fault refused others =
     (refused others))
 
 -- and what is refused whatever follows is refused before others
-pub refused_before : {old : Input} (f g : List Field) (new : Input) (fault : ImageFault)
+pub refused_before : (old : Input) (f g : List Field) (new : Input) (fault : ImageFault)
     → ((others : List Field) → Refuses (fields_fault (f ++ others)) old new fault)
     → (others : List Field) → Refuses (fields_fault ((f ++ g) ++ others)) old new fault
-refused_before {old} f g new fault refused others =
+refused_before old f g new fault refused others =
     subst (λ (fs : List Field). Refuses (fields_fault fs) old new fault)
     (sym (append_assoc f g others)) (refused (g ++ others))
 
@@ -78,8 +83,11 @@ refused_before {old} f g new fault refused others =
 
 pub replicate_both : {X : Type 0} (m n : ℕ) (x : X)
     → replicate (m + n) x ≡ replicate m x ++ replicate n x
-replicate_both zero n x = refl
-replicate_both (suc m) n x = ap (λ xs. x ∷ xs) (replicate_both m n x)
+replicate_both zero n x = ap (λ (k : ℕ). replicate k x) (omega arith)
+replicate_both {X} (suc m) n x =
+    let next : suc m + n ≡ suc (m + n) = omega arith in
+    ap (λ (k : ℕ). replicate k x) next
+    ∙ ap (λ (xs : List X). x ∷ xs) (replicate_both m n x)
 
 pub replicate_more : {X : Type 0} (n : ℕ) (x : X) → replicate (n + 1) x ≡ replicate n x ++ x ∷ []
 replicate_more n x = replicate_both n 1 x
@@ -189,7 +197,7 @@ wide_by r first flags last nine two is =
 -- registers whose numbers fit pass
 pub wide_pass : (r : Registers) → All (λ n. n < 2 ^ 32) (register_numbers r)
     → Leaves registers_2 (flat_map u64_bytes (wide_numbers r))
-unfolding registers_2
+unfolding registers_2 split_numbers
 wide_pass r fit others more =
     let fits : ℕ → Type 0 = λ k. k < 2 ^ 32 in
     let ns = register_numbers r in
@@ -233,10 +241,15 @@ wide_fit r fit =
     let weaker : (l : List ℕ) → All fits l → All wide l =
     λ l h k d within. let below = h k d within in omega (arith, below) in
     let zeros : (n : ℕ) → All wide (replicate n 0) = λ n. All-replicate wide n 0 (omega arith) in
+    let first = take 9 ns in
+    let flags = take 2 (drop 9 ns) in
+    let last = drop 11 ns in
+    let from_last = replicate 3 0 ++ last in
+    let from_flags = flags ++ from_last in
+    let of_flags = weaker flags (All-take fits 2 (drop 9 ns) (All-drop fits 9 ns fit)) in
+    let of_last = weaker last (All-drop fits 11 ns fit) in
     subst (All wide) (sym (wide_split r))
-    (All-append wide (take 9 ns) _ (weaker _ (All-take fits 9 ns fit))
-    (All-append wide (replicate 8 0) _ (zeros 8)
-    (All-append wide (take 2 (drop 9 ns)) _
-    (weaker _ (All-take fits 2 (drop 9 ns) (All-drop fits 9 ns fit)))
-    (All-append wide (replicate 3 0) _ (zeros 3)
-    (weaker _ (All-drop fits 11 ns fit))))))
+    (All-append wide first (replicate 8 0 ++ from_flags) (weaker first (All-take fits 9 ns fit))
+    (All-append wide (replicate 8 0) from_flags (zeros 8)
+    (All-append wide flags from_last of_flags
+    (All-append wide (replicate 3 0) last (zeros 3) of_last))))

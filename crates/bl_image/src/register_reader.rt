@@ -116,7 +116,7 @@ fn read_absents<S: Source>(source: &mut S, count: usize) -> Result<(), ImageFaul
         (λ _. flat_map u64_bytes (replicate count 0)) result }
     ensures faults { S.faults source.new ≡ S.faults source.old + faults_met result }
 {
-    for _ in 0..count {
+    for _i in 0..count {
         read_absent(source)?;
     }
     Ok(())

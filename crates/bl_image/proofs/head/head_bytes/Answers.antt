@@ -1,11 +1,29 @@
-use Rattle.std.proofs.Common.{◌≡◌, ◌++◌, ℕ, List, [], ◌∷◌, length, take, sym, ap, ◌∙◌, arith}
-use Rattle.std.proofs.Common.{append_assoc}
+use Rattle.std.proofs.Common.{◌≡◌, ◌+◌, ◌++◌, ℕ, List, [], length, take, sym, ap, ◌∙◌, arith}
 use Rattle.std.specs.List.{flat_map}
-use Rattle.std.proofs.lemmas.List.{append-nil, take_all}
+use Rattle.std.proofs.Math.Seq.{take-length}
 use Rattle.bl_mem.specs.Words.{u32_bytes, u64_bytes}
-use Rattle.bl_image.specs.Image.{magic, head}
+use Rattle.bl_plan.specs.Protocols.{protocol_number}
+use Rattle.bl_image.specs.Image.{magic}
+use Rattle.bl_image.specs.declared.version.Version.TheVariants.{Two}
+use Rattle.bl_image.proofs.HeadPut.{head_put}
 use Rattle.bl_image.proofs.head.head_bytes.Goals as goal
 
 -- each piece was put down behind the earlier ones
 pub returns-clause-bytes : goal.returns-clause-bytes
-returns-clause-bytes c = ?
+returns-clause-bytes c =
+    let b1 = c.put.new.buffer in
+    let b2 = c.put-2.new.buffer in
+    let b3 = c.put-3.new.buffer in
+    let b4 = c.put-4.new.buffer in
+    let opening : c.write_u32s.new.out
+    ≡ u32_bytes 2 ++ (u32_bytes (protocol_number c.args.protocol) ++ []) =
+    rw (c.number.ensures, c.number-2.ensures) at c.write_u32s.ensures.bytes in
+    let numbers = c.write_u64s.ensures.bytes ∙ ap (flat_map u64_bytes) c.wide_numbers.ensures.wide in
+    let to_8 : 16 ≡ 8 + length c.write_u32s.new.out = omega arith in
+    let to_16 : 264 ≡ 16 + length c.write_u64s.new.out = omega arith in
+    let to_264 : length b4 ≡ 264 + length c.write_u32s-2.new.out = omega arith in
+    head_put Two c.args.protocol c.args.r.now c.args.count b1 b2 b3 b4 opening numbers
+    c.write_u32s-2.ensures.bytes c.put.ensures
+    (ap (λ (n : ℕ). take n b2) to_8 ∙ c.put-2.ensures)
+    (ap (λ (n : ℕ). take n b3) to_16 ∙ c.put-3.ensures)
+    (sym (take-length b4) ∙ ap (λ (n : ℕ). take n b4) to_264 ∙ c.put-4.ensures)

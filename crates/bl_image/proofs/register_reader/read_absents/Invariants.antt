@@ -7,9 +7,9 @@ use Rattle.bl_image.specs.SourceKept.{PassAll}
 use Rattle.bl_image.proofs.register_reader.read_absents.Given as goal
 
 -- the first zeros came
-abbrev pub invariant-loop-range : goal.invariant-loop-range
-invariant-loop-range g l = record {
-  passed : PassAll (replicate l.range absent_field) (g.S.Source.input l.fn.source)
-      (g.S.Source.input l.source) (flat_map u64_bytes (replicate l.range 0));
+abbrev pub invariant-loop-i : goal.invariant-loop-i
+invariant-loop-i g l = record {
+  passed : PassAll (replicate l._i absent_field) (g.S.Source.input l.fn.source)
+      (g.S.Source.input l.source) (flat_map u64_bytes (replicate l._i 0));
   sound : g.S.Source.faults l.source ≡ g.S.Source.faults l.fn.source;
 }

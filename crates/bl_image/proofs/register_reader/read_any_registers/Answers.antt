@@ -1,4 +1,4 @@
-use Rattle.std.proofs.Common.{◌≡◌, ◌<◌, ◌^◌, ◌++◌, ℕ, length, All, sym, ap, subst, rules}
+use Rattle.std.proofs.Common.{◌≡◌, ◌<◌, ◌^◌, ◌++◌, ℕ, List, length, All, sym, ap, ◌∙◌, subst, rules}
 use Rattle.std.proofs.lemmas.List.{places}
 use Rattle.std.proofs.lemmas.Result.{err_from_is_err_and}
 use Rattle.std.specs.List.{flat_map}
@@ -8,8 +8,12 @@ use Rattle.bl_image.specs.Fields.{fields_fault}
 use Rattle.bl_image.specs.Layouts.{registers_1}
 use Rattle.bl_image.proofs.Inputs.{comes_as}
 use Rattle.bl_image.proofs.FieldLemmas.{cut_refuses}
+use Rattle.bl_image.proofs.Listed.{three_parts}
 use Rattle.bl_image.proofs.RegisterLemmas.{any_short, registers_pass}
 use Rattle.bl_image.proofs.register_reader.read_any_registers.Goals as goal
+
+all_fit : {xs ys : List ℕ} → All (λ n. n < 2 ^ 32) xs → xs ≡ ys → All (λ n. n < 2 ^ 32) ys
+all_fit fit e = subst (All (λ n. n < 2 ^ 32)) e fit
 
 pub returns-in_err-read_u32s-clause-fields : goal.returns-in_err-read_u32s-clause-fields
 unfolding registers_1
@@ -22,14 +26,16 @@ returns-in_err-read_u32s-clause-fields g c =
     cut_refuses (fields_fault (registers_1 ++ others)) _ _ 80 _ (any_short 20 others) cut)
 
 pub returns-clause-fields : goal.returns-clause-fields
-returns-clause-fields g c = record {
-  comes =
-      comes_as (ap (flat_map u32_bytes) (sym c.registers_of.ensures)) c.in_ok-read_u32s.ensures.ok;
-  on = registers_pass One 1 c.registers_of.result;
-}
+returns-clause-fields g c =
+    let size : length c.read_u32s.new.out ≡ 20 = search (rules, places) in
+    let numbers = c.registers_of.ensures ∙ three_parts c.read_u32s.new.out size in
+    record {
+      comes = comes_as (ap (flat_map u32_bytes) (sym numbers)) c.in_ok-read_u32s.ensures.ok;
+      on = registers_pass One 1 c.registers_of.result (all_fit c.in_ok-read_u32s.ensures.fit (sym numbers));
+    }
 
 pub returns-clause-fit : goal.returns-clause-fit
 returns-clause-fit g c =
-    let fits : ℕ → Type 0 =
-    λ n. n < 2 ^ 32 in
-    subst (All fits) (sym c.registers_of.ensures) c.in_ok-read_u32s.ensures.fit
+    let size : length c.read_u32s.new.out ≡ 20 = search (rules, places) in
+    let numbers = c.registers_of.ensures ∙ three_parts c.read_u32s.new.out size in
+    all_fit c.in_ok-read_u32s.ensures.fit (sym numbers)

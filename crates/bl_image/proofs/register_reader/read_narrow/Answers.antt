@@ -15,9 +15,9 @@ returns-in_err-number-clause-field g c =
     let p = err_from_is_err_and c.from_residual.result c.from_residual.ensures.1 in
     rw (p.1, p.2) (λ fields. field_cut narrow_field fields _ _ _ c.in_err-number.ensures.cut)
 
-pub returns-then-number-MAX-clause-field : goal.returns-then-number-MAX-clause-field
+pub returns-then-number-clause-field : goal.returns-then-number-clause-field
 unfolding narrow_field
-returns-then-number-MAX-clause-field g c =
+returns-then-number-clause-field g c =
     let n = c.in_ok-number.number in
     let fails =
     long_tells (λ k. nat_lt k (2 ^ 32)) BadHeader n false c.in_ok-number.ensures.fits

@@ -1,24 +1,59 @@
-use Rattle.std.proofs.Common.{◌≡◌, ◌<◌, ◌^◌, ◌++◌, ℕ, List, All, length, sym, ap, ◌∙◌, subst}
+use Rattle.std.proofs.Common.{◌≡◌, ◌<◌, ◌^◌, ◌++◌, ℕ, List, All, length, sym, ap, ◌∙◌, subst, rules}
 use Rattle.std.specs.Prelude.{replicate}
 use Rattle.std.specs.List.{flat_map}
-use Rattle.std.proofs.lemmas.Result.{err_from_is_err_and}
+use Rattle.std.proofs.lemmas.List.{places}
 use Rattle.std.proofs.lemmas.List.Elements.{All-append}
+use Rattle.std.proofs.lemmas.Result.{err_from_is_err_and}
 use Rattle.bl_mem.specs.Words.{u64_bytes}
+use Rattle.bl_load.specs.declared.registers.Registers.{Registers}
 use Rattle.bl_image.specs.Fields.{Field, narrow_field, absent_field}
+use Rattle.bl_image.specs.Image.{register_numbers, wide_numbers}
 use Rattle.bl_image.specs.Layouts.{registers_2}
-use Rattle.bl_image.proofs.Inputs.{comes_as}
-use Rattle.bl_image.proofs.WideLemmas.{pass_both, refused_before, refused_behind, wide_by, spelled_wide}
+use Rattle.bl_image.specs.Source.{Input}
+use Rattle.bl_image.specs.SourceKept.{PassAll}
+use Rattle.bl_image.proofs.WideLemmas.{pass_as, pass_both, refused_before, refused_behind}
+use Rattle.bl_image.proofs.WideLemmas.{wide_by, wide_spelling, spelled_wide}
 use Rattle.bl_image.proofs.register_reader.read_narrow_registers.Goals as goal
 
-narrow : ℕ → List Field
+abbrev narrow : ℕ → List Field
 narrow n = replicate n narrow_field
 
-absent : ℕ → List Field
+abbrev absent : ℕ → List Field
 absent n = replicate n absent_field
 
 -- the fields behind the first, and so on
+abbrev after_third : List Field
+after_third = absent 3 ++ narrow 9
+
+abbrev after_second : List Field
+after_second = narrow 2 ++ after_third
+
 abbrev after_first : List Field
-after_first = absent 8 ++ (narrow 2 ++ (absent 3 ++ narrow 9))
+after_first = absent 8 ++ after_second
+
+-- so many numbers came
+sized : {old new : Input} (ns : List ℕ) (n : ℕ) → length ns ≡ n
+    → PassAll (narrow (length ns)) old new (flat_map u64_bytes ns)
+    → PassAll (narrow n) old new (flat_map u64_bytes ns)
+sized {old} {new} ns n size passed =
+    subst (λ (k : ℕ). PassAll (narrow k) old new (flat_map u64_bytes ns)) size passed
+
+same_bytes : (r : Registers) (first flags last : List ℕ) → length first ≡ 9 → length flags ≡ 2
+    → register_numbers r ≡ first ++ (flags ++ last)
+    → wide_spelling first flags last ≡ flat_map u64_bytes (wide_numbers r)
+same_bytes r first flags last nine two numbers =
+    sym
+    (ap (flat_map u64_bytes) (wide_by r first flags last nine two numbers)
+    ∙ spelled_wide first flags last)
+
+pub returns-in_err-read_narrows-clause-fields : goal.returns-in_err-read_narrows-clause-fields
+unfolding registers_2
+returns-in_err-read_narrows-clause-fields g c =
+    let p = err_from_is_err_and c.from_residual.result c.from_residual.ensures.1 in
+    let nine : length c.read_narrows.new.out ≡ 9 = search (rules, places) in
+    rw (p.1, p.2)
+    (refused_before _ (narrow 9) after_first _ _
+    (rw nine at c.in_err-read_narrows.ensures.fields))
 
 pub returns-clause-fit : goal.returns-clause-fit
 returns-clause-fit g c =
@@ -26,3 +61,88 @@ returns-clause-fit g c =
     subst (All fits) (sym c.registers_of.ensures)
     (All-append fits _ _ c.in_ok-read_narrows.ensures.fit
     (All-append fits _ _ c.in_ok-read_narrows-2.ensures.fit c.in_ok-read_narrows-3.ensures.fit))
+
+pub returns-clause-fields : goal.returns-clause-fields
+unfolding registers_2
+returns-clause-fields g c =
+    let first = c.read_narrows.new.out in
+    let flags = c.read_narrows-2.new.out in
+    let last = c.read_narrows-3.new.out in
+    let nine : length first ≡ 9 = search (rules, places) in
+    let two : length flags ≡ 2 = search (rules, places) in
+    let others : length last ≡ 9 = search (rules, places) in
+    let all =
+    pass_both (narrow 9) after_first _ _ (sized first 9 nine c.in_ok-read_narrows.ensures.fields)
+    (pass_both (absent 8) after_second _ _ c.in_ok-read_absents.ensures.fields
+    (pass_both (narrow 2) after_third _ _ (sized flags 2 two c.in_ok-read_narrows-2.ensures.fields)
+    (pass_both (absent 3) (narrow 9) _ _ c.in_ok-read_absents-2.ensures.fields
+    (sized last 9 others c.in_ok-read_narrows-3.ensures.fields)))) in
+    pass_as registers_2 _ _
+    (same_bytes c.registers_of.result first flags last nine two c.registers_of.ensures) all
+
+pub returns-in_err-read_absents-clause-fields : goal.returns-in_err-read_absents-clause-fields
+unfolding registers_2
+returns-in_err-read_absents-clause-fields g c =
+    let p =
+    err_from_is_err_and c.from_residual-in_err-read_absents.result
+    c.from_residual-in_err-read_absents.ensures.1 in
+    let first = c.read_narrows.new.out in
+    let nine : length first ≡ 9 = search (rules, places) in
+    rw (p.1, p.2)
+    (refused_behind (narrow 9) after_first _
+    (sized first 9 nine c.in_ok-read_narrows.ensures.fields) _ _
+    (refused_before _ (absent 8) after_second _ _ c.in_err-read_absents.ensures.fields))
+
+pub returns-in_err-read_narrows-2-clause-fields : goal.returns-in_err-read_narrows-2-clause-fields
+unfolding registers_2
+returns-in_err-read_narrows-2-clause-fields g c =
+    let p =
+    err_from_is_err_and c.from_residual-in_err-read_narrows-2.result
+    c.from_residual-in_err-read_narrows-2.ensures.1 in
+    let first = c.read_narrows.new.out in
+    let nine : length first ≡ 9 = search (rules, places) in
+    let two : length c.read_narrows-2.new.out ≡ 2 = search (rules, places) in
+    rw (p.1, p.2)
+    (refused_behind (narrow 9) after_first _
+    (sized first 9 nine c.in_ok-read_narrows.ensures.fields) _ _
+    (refused_behind (absent 8) after_second _ c.in_ok-read_absents.ensures.fields _ _
+    (refused_before _ (narrow 2) after_third _ _
+    (rw two at c.in_err-read_narrows-2.ensures.fields))))
+
+pub returns-in_err-read_absents-2-clause-fields : goal.returns-in_err-read_absents-2-clause-fields
+unfolding registers_2
+returns-in_err-read_absents-2-clause-fields g c =
+    let p =
+    err_from_is_err_and c.from_residual-in_err-read_absents-2.result
+    c.from_residual-in_err-read_absents-2.ensures.1 in
+    let first = c.read_narrows.new.out in
+    let flags = c.read_narrows-2.new.out in
+    let nine : length first ≡ 9 = search (rules, places) in
+    let two : length flags ≡ 2 = search (rules, places) in
+    rw (p.1, p.2)
+    (refused_behind (narrow 9) after_first _
+    (sized first 9 nine c.in_ok-read_narrows.ensures.fields) _ _
+    (refused_behind (absent 8) after_second _ c.in_ok-read_absents.ensures.fields _ _
+    (refused_behind (narrow 2) after_third _
+    (sized flags 2 two c.in_ok-read_narrows-2.ensures.fields) _ _
+    (refused_before _ (absent 3) (narrow 9) _ _ c.in_err-read_absents-2.ensures.fields))))
+
+pub returns-in_err-read_narrows-3-clause-fields : goal.returns-in_err-read_narrows-3-clause-fields
+unfolding registers_2
+returns-in_err-read_narrows-3-clause-fields g c =
+    let p =
+    err_from_is_err_and c.from_residual-in_err-read_narrows-3.result
+    c.from_residual-in_err-read_narrows-3.ensures.1 in
+    let first = c.read_narrows.new.out in
+    let flags = c.read_narrows-2.new.out in
+    let nine : length first ≡ 9 = search (rules, places) in
+    let two : length flags ≡ 2 = search (rules, places) in
+    let others : length c.read_narrows-3.new.out ≡ 9 = search (rules, places) in
+    rw (p.1, p.2)
+    (refused_behind (narrow 9) after_first _
+    (sized first 9 nine c.in_ok-read_narrows.ensures.fields) _ _
+    (refused_behind (absent 8) after_second _ c.in_ok-read_absents.ensures.fields _ _
+    (refused_behind (narrow 2) after_third _
+    (sized flags 2 two c.in_ok-read_narrows-2.ensures.fields) _ _
+    (refused_behind (absent 3) (narrow 9) _ c.in_ok-read_absents-2.ensures.fields _ _
+    (rw others at c.in_err-read_narrows-3.ensures.fields)))))

@@ -3,8 +3,7 @@ use Rattle.std.proofs.lemmas.List.{append-nil}
 use Rattle.bl_load.specs.Handover.{Handover}
 use Rattle.bl_image.specs.ImageParts.{place_of}
 use Rattle.bl_image.specs.Versions.{written_version}
-use Rattle.bl_image.proofs.FitLemmas.{value_kept}
-use Rattle.bl_image.proofs.PartLemmas.{all_bytes, value_in}
+use Rattle.bl_image.proofs.PartLemmas.{all_bytes, value_in, value_kept}
 use Rattle.bl_image.proofs.Ways.{way_begins, way_goes_on, way_stops, way_ends, way_as, on_err}
 use Rattle.bl_image.proofs.value.write_value.Goals as goal
 
@@ -27,7 +26,7 @@ returns-in_err-write_bytes-clause-begun g c =
     (rw (c.protocol.ensures, c.registers.ensures) at c.in_ok-write_front.ensures.ok) in
     on_err
     _ (way_stops _ (way_as (sym (append-nil (all_bytes c.args.image.now.parts))) way)
-    c.in_err-write_bytes.ensures.begun)
+    (rw c.parts-parts.ensures.parts at c.in_err-write_bytes.ensures.begun))
 
 pub returns-in_err-write_bytes-clause-kept : goal.returns-in_err-write_bytes-clause-kept
 returns-in_err-write_bytes-clause-kept g c =
@@ -41,7 +40,7 @@ returns-clause-ok g c =
     (rw (c.protocol.ensures, c.registers.ensures) at c.in_ok-write_front.ensures.ok) in
     way_ends
     (way_goes_on _ (way_as (sym (append-nil (all_bytes c.args.image.now.parts))) way)
-    c.in_ok-write_bytes.ensures.ok)
+    (rw c.parts-parts.ensures.parts at c.in_ok-write_bytes.ensures.ok))
 
 pub returns-clause-kept : goal.returns-clause-kept
 returns-clause-kept g c =
