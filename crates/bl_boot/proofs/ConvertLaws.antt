@@ -96,7 +96,7 @@ module _ (source converted : List ℕ) (c : Converts source converted) where
   said_alike a b one two =
       let p = sees source a from.0 from.1 one in
       let q = sees converted b written_version to two in
-      p.2.1 ∙ ap walk_lines (seen_is_determined h one.done.seen two.done.seen p.0 q.0) ∙ sym q.2.1
+      p.2 ∙ ap walk_lines (seen_is_determined h one.done.seen two.done.seen p.0 q.0) ∙ sym q.2
 
   pub not_refused : (a : List ℕ) (number : ℕ) → Walks source a → WalkRefuses converted number → ⊥
   not_refused a number one bad =

@@ -104,10 +104,10 @@ one_of_four : (a : App) (stop : Option (Text × List Text)) (chosen : Text × Li
     × (bytes_eq chosen.0 (codes "convert") ≡ false) → ⊥
 one_of_four a stop chosen names is others =
     let found = entered_name a stop chosen is in
-    let among : list_any (bytes_eq chosen.0) (codes "boot" ∷ codes "map" ∷ codes "walk" ∷ codes "convert" ∷ [])
-    ≡ true = rw names at found in
-    let no : list_any (bytes_eq chosen.0) (codes "boot" ∷ codes "map" ∷ codes "walk" ∷ codes "convert" ∷ []) ≡ false =
-    rw (others.0, others.1.0, others.1.1.0, others.1.1.1) refl in
+    let four = codes "boot" ∷ codes "map" ∷ codes "walk" ∷ codes "convert" ∷ [] in
+    let among : list_any (bytes_eq chosen.0) four ≡ true = rw names at found in
+    let no : list_any (bytes_eq chosen.0) four ≡ false =
+    rw (others.0, others.1, others.2, others.3) refl in
     true≢false (sym among ∙ no)
 
 names_are : (parser : ValueParser)
