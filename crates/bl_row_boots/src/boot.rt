@@ -6,11 +6,9 @@ use crate::beside::{Beside, read_beside};
 use crate::long_files::LongFiles;
 use bl_boot::{Fetched, Files, boot, map_to};
 use bl_image::{MemSink, Sink};
-use bl_row_parts::image::say_taken;
+use bl_row_parts::sinks::say_each;
 use bl_rows::row::Row;
-use bl_rows::runs::Runs;
 use std::alloc::{AllocError, Global};
-use std::ops::Range;
 
 /// What was said, in quotes.
 pub fn say_said(row: &mut Row<'_>, before: &str, said: &[u8]) {
@@ -23,13 +21,12 @@ pub fn say_said(row: &mut Row<'_>, before: &str, said: &[u8]) {
     }
 }
 
-/// A status, and what was said.
-fn say_status(row: &mut Row<'_>, status: u8, said: &[u8]) {
+/// A status, and whether memory ran out.
+pub fn say_status(row: &mut Row<'_>, status: u8) {
     row.say_decimal("status ", status as u64);
     if status == 4 {
         row.say(", no memory");
     }
-    say_said(row, ", said ", said);
 }
 
 /// Boots over the heap, into this sink.
@@ -50,7 +47,8 @@ fn boot_into<F: Files>(row: &mut Row<'_>, beside: &Beside, files: &mut F, out: &
         out,
         &mut said,
     );
-    say_status(row, status, said.as_slice());
+    say_status(row, status);
+    say_said(row, ", said ", said.as_slice());
     row.say_number(", faults ", out.faults());
     row.say_number(", missing ", files.faults());
 }
@@ -81,28 +79,14 @@ pub fn answer_boot(row: &mut Row<'_>) {
     }
 }
 
-/// Boots into sinks of each limit, and says whether each took the image's first bytes, as many as
-/// it has room for.
-fn boot_each(row: &mut Row<'_>, beside: &Beside, limits: Range<u64>) -> Option<Runs> {
-    let ample = boot_beside(row, beside, beside.limit)?;
-    let _text = row.take_text();
-    let mut runs = Runs::new(row.alloc, true);
-    for limit in limits {
-        let out = boot_beside(row, beside, limit)?;
-        say_taken(row, ample.contents(), out.contents(), limit);
-        runs.add(limit, row.take_text());
-    }
-    Some(runs)
-}
-
 /// Boots the description over the heap for sinks of each limit.
 pub fn answer_boots(row: &mut Row<'_>) {
     let limits = row.field("limits");
     let limits = row.range_of(limits);
     let beside = read_beside(row);
-    if let Some(runs) = boot_each(row, &beside, limits) {
-        row.say_runs(runs);
-    }
+    say_each(row, beside.limit, limits, |row, limit| {
+        boot_beside(row, &beside, limit)
+    });
 }
 
 /// Says the description's map over the heap.
@@ -113,7 +97,8 @@ pub fn answer_map(row: &mut Row<'_>) {
         return row.say("no memory");
     };
     let status = map_to(heap, row.alloc, row.bytes, &mut said);
-    say_status(row, status, said.as_slice());
+    say_status(row, status);
+    say_said(row, ", said ", said.as_slice());
 }
 
 /// Fetches a file over the heap.
