@@ -65,8 +65,8 @@ fn converted_at_each(row: &mut Row<'_>, fields: &Conversion, fails: Range<u64>) 
 /// into sinks of each limit. Where memory runs out for a sink that is the answer.
 pub fn answer_each(row: &mut Row<'_>) {
     let heap = row.heap;
-    let fields = read_conversion(row);
-    match (fields.fails.clone(), fields.limits.clone()) {
+    let mut fields = read_conversion(row);
+    match (fields.fails.take(), fields.limits.take()) {
         (Some(fails), None) => {
             if let Some(runs) = converted_at_each(row, &fields, fails) {
                 row.say_runs(runs);
