@@ -4,6 +4,7 @@ ghost use Rattle.std.specs.Prelude.{◌≡◌};
 
 use crate::beside::{Beside, read_beside};
 use crate::long_files::LongFiles;
+use crate::sink::open_sink;
 use bl_boot::{Fetched, Files, boot, map_to};
 use bl_image::{MemSink, Sink};
 use bl_row_parts::sinks::say_each;
@@ -21,12 +22,13 @@ pub fn say_said(row: &mut Row<'_>, before: &str, said: &[u8]) {
     }
 }
 
-/// A status, and whether memory ran out.
-pub fn say_status(row: &mut Row<'_>, status: u8) {
+/// A status, and what was said.
+fn say_status(row: &mut Row<'_>, status: u8, said: &[u8]) {
     row.say_decimal("status ", status as u64);
     if status == 4 {
         row.say(", no memory");
     }
+    say_said(row, ", said ", said);
 }
 
 /// Boots over the heap, into this sink.
@@ -47,21 +49,14 @@ fn boot_into<F: Files>(row: &mut Row<'_>, beside: &Beside, files: &mut F, out: &
         out,
         &mut said,
     );
-    say_status(row, status);
-    say_said(row, ", said ", said.as_slice());
+    say_status(row, status, said.as_slice());
     row.say_number(", faults ", out.faults());
     row.say_number(", missing ", files.faults());
 }
 
 /// A boot with its files, into a sink of this limit.
 fn boot_beside(row: &mut Row<'_>, beside: &Beside, limit: u64) -> Option<MemSink<Global>> {
-    if beside.step == 0 {
-        return None;
-    }
-    let Ok(mut out) = MemSink::new(row.alloc, limit as usize, beside.step as usize) else {
-        row.run_short();
-        return None;
-    };
+    let mut out = open_sink(row, limit, beside.step)?;
     if beside.are_long {
         boot_into(row, beside, &mut LongFiles::new(), &mut out);
     } else {
@@ -97,8 +92,7 @@ pub fn answer_map(row: &mut Row<'_>) {
         return row.say("no memory");
     };
     let status = map_to(heap, row.alloc, row.bytes, &mut said);
-    say_status(row, status);
-    say_said(row, ", said ", said.as_slice());
+    say_status(row, status, said.as_slice());
 }
 
 /// Fetches a file over the heap.

@@ -7,4 +7,5 @@ pub mod calls;
 mod conversion;
 mod convert;
 mod long_files;
+mod sink;
 mod walk_to;
