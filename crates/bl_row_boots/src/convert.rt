@@ -22,7 +22,7 @@ struct Converted {
 
 /// Converts the row's bytes over the heap, read from such a source, into a sink of this limit, and
 /// says how it ended. None where memory ran out for the sink or for what was blamed before.
-fn converted(
+fn convert_into(
     row: &mut Row<'_>,
     fields: &Conversion,
     source: SourceFields,
@@ -49,7 +49,7 @@ pub fn answer(row: &mut Row<'_>) {
     if fields.fails.is_some() || fields.limits.is_some() {
         return row.refuse();
     }
-    let Some(done) = converted(row, &fields, fields.source, fields.limit) else {
+    let Some(done) = convert_into(row, &fields, fields.source, fields.limit) else {
         return;
     };
     row.say_bytes(", ", done.out.contents());
@@ -63,7 +63,7 @@ pub fn answer(row: &mut Row<'_>) {
 fn converted_at_each(row: &mut Row<'_>, fields: &Conversion, fails: Range<u64>) -> Option<Runs> {
     let mut runs = Runs::new(row.alloc, true);
     for fail in fails {
-        let done = converted(row, fields, fields.source.failing(fail), fields.limit)?;
+        let done = convert_into(row, fields, fields.source.failing(fail), fields.limit)?;
         row.say_number(", ", done.out.contents().len() as u64);
         row.say(" bytes");
         runs.add(fail, row.take_text());
@@ -82,7 +82,7 @@ pub fn answer_each(row: &mut Row<'_>) {
             }
         }
         (None, Some(limits)) => say_each(row, AMPLE, limits, |row, limit| {
-            let done = converted(row, &fields, fields.source, limit)?;
+            let done = convert_into(row, &fields, fields.source, limit)?;
             Some(done.out)
         }),
         _ => row.refuse(),
