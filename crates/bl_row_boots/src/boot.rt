@@ -4,13 +4,12 @@ ghost use Rattle.std.specs.Prelude.{◌≡◌};
 
 use crate::beside::{Beside, read_beside};
 use crate::long_files::LongFiles;
+use crate::sink::open_sink;
 use bl_boot::{Fetched, Files, boot, map_to};
 use bl_image::{MemSink, Sink};
-use bl_row_parts::image::say_taken;
+use bl_row_parts::sinks::say_each;
 use bl_rows::row::Row;
-use bl_rows::runs::Runs;
 use std::alloc::{AllocError, Global};
-use std::ops::Range;
 
 /// What was said, in quotes.
 pub fn say_said(row: &mut Row<'_>, before: &str, said: &[u8]) {
@@ -57,13 +56,7 @@ fn boot_into<F: Files>(row: &mut Row<'_>, beside: &Beside, files: &mut F, out: &
 
 /// A boot with its files, into a sink of this limit.
 fn boot_beside(row: &mut Row<'_>, beside: &Beside, limit: u64) -> Option<MemSink<Global>> {
-    if beside.step == 0 {
-        return None;
-    }
-    let Ok(mut out) = MemSink::new(row.alloc, limit as usize, beside.step as usize) else {
-        row.run_short();
-        return None;
-    };
+    let mut out = open_sink(row, limit, beside.step)?;
     if beside.are_long {
         boot_into(row, beside, &mut LongFiles::new(), &mut out);
     } else {
@@ -81,28 +74,14 @@ pub fn answer_boot(row: &mut Row<'_>) {
     }
 }
 
-/// Boots into sinks of each limit, and says whether each took the image's first bytes, as many as
-/// it has room for.
-fn boot_each(row: &mut Row<'_>, beside: &Beside, limits: Range<u64>) -> Option<Runs> {
-    let ample = boot_beside(row, beside, beside.limit)?;
-    let _text = row.take_text();
-    let mut runs = Runs::new(row.alloc, true);
-    for limit in limits {
-        let out = boot_beside(row, beside, limit)?;
-        say_taken(row, ample.contents(), out.contents(), limit);
-        runs.add(limit, row.take_text());
-    }
-    Some(runs)
-}
-
 /// Boots the description over the heap for sinks of each limit.
 pub fn answer_boots(row: &mut Row<'_>) {
     let limits = row.field("limits");
     let limits = row.range_of(limits);
     let beside = read_beside(row);
-    if let Some(runs) = boot_each(row, &beside, limits) {
-        row.say_runs(runs);
-    }
+    say_each(row, beside.limit, limits, |row, limit| {
+        boot_beside(row, &beside, limit)
+    });
 }
 
 /// Says the description's map over the heap.

@@ -1,6 +1,6 @@
-//! The calls on whole boots and walks, by their names.
+//! The calls on whole boots, walks and conversions, by their names.
 
-use crate::{boot, walk_to};
+use crate::{boot, convert, walk_to};
 use bl_rows::row::Row;
 
 /// Makes a call of this name, whose words are left in the row, if it is one of these; and answers
@@ -19,6 +19,8 @@ pub fn make_over(row: &mut Row<'_>, name: &str) -> bool {
     match name {
         "walk_to" => walk_to::answer(row),
         "walks_to" => walk_to::answer_each(row),
+        "convert" => convert::answer(row),
+        "converts" => convert::answer_each(row),
         "boot" => boot::answer_boot(row),
         "boots" => boot::answer_boots(row),
         "map" => boot::answer_map(row),

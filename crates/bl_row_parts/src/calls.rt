@@ -2,7 +2,7 @@
 
 use crate::attempts::{menu, run, steps};
 use crate::{
-    describe, handoff, image, line, read_image, read_info, refusal, sink, walk, write_info,
+    describe, handoff, image, line, read_image, read_info, refusal, rewrite, sink, walk, write_info,
 };
 use bl_rows::row::Row;
 
@@ -43,6 +43,8 @@ pub fn make_over(row: &mut Row<'_>, name: &str) -> bool {
         "read_image" => read_image::answer(row),
         "image_fault" => read_image::answer_fault(row),
         "read_images" => read_image::answer_each(row),
+        "rewrite" => rewrite::answer(row),
+        "rewrites" => rewrite::answer_each(row),
         "walk" => walk::answer(row),
         "describe" => describe::answer(row),
         "named" => describe::answer_named(row),

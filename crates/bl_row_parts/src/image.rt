@@ -5,14 +5,10 @@ ghost use Rattle.std.specs.Prelude.{◌+◌, ◌≤◌, length, All, IfSome};
 
 use crate::prepared::{LoadedEntry, load_entry, read_entry};
 use crate::read_image::say_image;
+use crate::sinks::{AMPLE, say_each, say_written, sink_over};
 use bl_image::{Image, MemSink, Sink, write_image};
 use bl_refusing::Refusing;
 use bl_rows::row::Row;
-use bl_rows::runs::Runs;
-use std::ops::Range;
-
-/// A limit above the length of each image of a row.
-const AMPLE: u64 = 0x10_0000;
 
 /// The entry of the words that are left, loaded over the heap.
 fn loaded_entry<'a>(row: &mut Row<'a>) -> Option<LoadedEntry<'a>>
@@ -38,56 +34,12 @@ fn written<'h>(
     requires { All (λ place. place.address + place.length ≤ length loaded.now.memory)
         loaded.now.handoff.places }
 {
-    if step == 0 {
-        row.refuse();
-        return None;
-    }
-    let Ok(mut sink) = MemSink::new(heap, limit as usize, step as usize) else {
-        row.say("no memory");
-        return None;
-    };
+    let mut sink = sink_over(row, heap, limit, step)?;
     let before = heap.asked();
-    match write_image(&loaded.handoff, &loaded.memory, &mut sink) {
-        Ok(()) => row.say("ok"),
-        Err(fault) => row.say_decimal("fault ", fault.number() as u64),
-    }
-    row.say_number(", faults ", sink.faults());
-    row.say_number(", asked ", heap.asked().saturating_sub(before));
+    let ended = write_image(&loaded.handoff, &loaded.memory, &mut sink);
+    let asked = heap.asked().saturating_sub(before);
+    say_written(row, ended, sink.faults(), asked);
     Some(sink)
-}
-
-/// Whether a sink took the first bytes of an image, as many as it has room for.
-pub fn say_taken(row: &mut Row<'_>, whole: &[u8], taken: &[u8], limit: u64) {
-    let count = whole.len().min(limit as usize);
-    row.say(if taken == &whole[..count] {
-        ", its first bytes"
-    } else {
-        ", other bytes"
-    });
-}
-
-/// Writes the image to sinks of each limit, and says how it ended, and whether the sink took the
-/// image's first bytes, as many as it has room for.
-fn say_each<'h>(
-    row: &mut Row<'_>,
-    heap: &'h Refusing,
-    loaded: &LoadedEntry<'h>,
-    limits: Range<u64>,
-    step: u64,
-) -> Option<Runs>
-    requires { All (λ place. place.address + place.length ≤ length loaded.now.memory)
-        loaded.now.handoff.places }
-{
-    let ample = written(row, heap, loaded, AMPLE, AMPLE)?;
-    let _text = row.take_text();
-    let whole = ample.contents();
-    let mut runs = Runs::new(row.alloc, true);
-    for limit in limits {
-        let sink = written(row, heap, loaded, limit, step)?;
-        say_taken(row, whole, sink.contents(), limit);
-        runs.add(limit, row.take_text());
-    }
-    Some(runs)
 }
 
 /// Prepares the entry, loads it and writes its image, all over the heap.
@@ -112,9 +64,9 @@ pub fn answer_each(row: &mut Row<'_>) {
     let Some(loaded) = loaded_entry(row) else {
         return;
     };
-    if let Some(runs) = say_each(row, heap, &loaded, limits, step) {
-        row.say_runs(runs);
-    }
+    say_each(row, AMPLE, limits, |row, limit| {
+        written(row, heap, &loaded, limit, step)
+    });
 }
 
 /// Prepares the entry, loads it and makes its image, all over the heap.

@@ -17,6 +17,26 @@ pub struct SourceFields {
 }
 
 impl SourceFields {
+    /// All comes at once, and no read is a fault.
+    pub fn new() -> SourceFields {
+        SourceFields {
+            step: AMPLE,
+            fail: 0,
+        }
+    }
+
+    /// Takes the field of this name.
+    pub fn add(&mut self, row: &mut Row<'_>, name: &str, value: &str) {
+        match name {
+            "step" => self.step = row.number_of(value),
+            "fail" => self.fail = row.number_of(value),
+            _ => row.refuse(),
+        }
+        if self.step == 0 {
+            row.refuse();
+        }
+    }
+
     /// The same, where another read is a fault.
     pub fn failing(self, fail: u64) -> SourceFields {
         SourceFields { fail, ..self }
@@ -35,21 +55,10 @@ impl SourceFields {
 /// What the words that are left make a source with. Where they say nothing, all comes at once and
 /// no read is a fault.
 pub fn read_source(row: &mut Row<'_>) -> SourceFields {
-    let mut fields = SourceFields {
-        step: AMPLE,
-        fail: 0,
-    };
+    let mut fields = SourceFields::new();
     for word in row.rest().split_whitespace() {
-        let (key, number) = row.cut(word, "=");
-        let number = row.number_of(number);
-        match key {
-            "step" => fields.step = number,
-            "fail" => fields.fail = number,
-            _ => row.refuse(),
-        }
-    }
-    if fields.step == 0 {
-        row.refuse();
+        let (name, value) = row.cut(word, "=");
+        fields.add(row, name, value);
     }
     fields
 }
