@@ -5,10 +5,13 @@ use std::fs::File;
 use std::io::{self, Write};
 
 const MAGIC: &[u8] = b"BLIMAGE\0";
-const VERSION: u32 = 1;
+const VERSION: u32 = 2;
 
-/// EFLAGS, CR0, CS and five data selectors.
-const STATE: [u32; 8] = [2, 0x11, 0x10, 0x18, 0x18, 0x18, 0x18, 0x18];
+/// The flags, CR0 and the registers of 64 bits that an entry of 32 bits does not give: CR3, CR4, EFER.
+const CONTROL: [u32; 5] = [2, 0x11, 0, 0, 0];
+
+/// CS and five data selectors.
+const SELECTORS: [u32; 6] = [0x10, 0x18, 0x18, 0x18, 0x18, 0x18];
 
 /// The registers that an entry sets, and the protocol; all others have one value for all entries.
 #[derive(Default)]
@@ -27,14 +30,24 @@ fn put_words(out: &mut Vec<u8>, words: &[u32]) {
     }
 }
 
+fn put_longs(out: &mut Vec<u8>, numbers: &[u32]) {
+    for number in numbers {
+        out.extend_from_slice(&u64::from(*number).to_le_bytes());
+    }
+}
+
 fn head(parts: &[Part], state: &State) -> Vec<u8> {
     let mut out = MAGIC.to_vec();
     put_words(&mut out, &[VERSION, state.protocol]);
-    put_words(&mut out, &[state.eip, state.eax, state.ebx, 0, 0]);
-    put_words(&mut out, &[state.esi, 0, 0, 0]);
-    put_words(&mut out, &STATE);
-    put_words(&mut out, &state.gdt);
-    put_words(&mut out, &[1, parts.len() as u32, 0]);
+    put_longs(&mut out, &[state.eip, state.eax, state.ebx, 0, 0]);
+    put_longs(&mut out, &[state.esi, 0, 0, 0]);
+    // R8 to R15
+    put_longs(&mut out, &[0; 8]);
+    put_longs(&mut out, &CONTROL);
+    put_longs(&mut out, &SELECTORS);
+    put_longs(&mut out, &state.gdt);
+    put_longs(&mut out, &[1]);
+    put_words(&mut out, &[parts.len() as u32, 0]);
     for part in parts {
         put_words(&mut out, &[part.role, part.index]);
         out.extend_from_slice(&part.address.to_le_bytes());

@@ -5,87 +5,13 @@
 
 use std::env;
 use std::fs::File;
-use std::io::{self, ErrorKind, Read};
+use std::io;
 use std::process::ExitCode;
 
-const STEP: usize = 1 << 16;
+#[path = "image_reader.rs"]
+mod image_reader;
 
-struct Part {
-    role: u32,
-    address: u64,
-    bytes: Vec<u8>,
-}
-
-struct Image {
-    registers: [u32; 20],
-    parts: Vec<Part>,
-}
-
-fn bad(what: &str) -> io::Error {
-    io::Error::new(ErrorKind::InvalidData, what.to_string())
-}
-
-fn u32_of(source: &mut impl Read) -> io::Result<u32> {
-    let mut bytes = [0; 4];
-    source.read_exact(&mut bytes)?;
-    Ok(u32::from_le_bytes(bytes))
-}
-
-fn u64_of(source: &mut impl Read) -> io::Result<u64> {
-    let mut bytes = [0; 8];
-    source.read_exact(&mut bytes)?;
-    Ok(u64::from_le_bytes(bytes))
-}
-
-/// So many bytes; memory follows what came.
-fn part_of(source: &mut impl Read, length: u64) -> io::Result<Vec<u8>> {
-    let mut bytes = Vec::new();
-    let mut buffer = vec![0; STEP];
-    let mut left = length;
-    while left > 0 {
-        let next = left.min(STEP as u64) as usize;
-        source.read_exact(&mut buffer[..next])?;
-        bytes.extend_from_slice(&buffer[..next]);
-        left -= next as u64;
-    }
-    Ok(bytes)
-}
-
-fn read_image(source: &mut impl Read) -> io::Result<Image> {
-    let mut magic = [0; 8];
-    source.read_exact(&mut magic)?;
-    if &magic != b"BLIMAGE\0" || u32_of(source)? != 1 || u32_of(source)? != 2 {
-        return Err(bad("magic, version or protocol"));
-    }
-    let mut registers = [0; 20];
-    for register in &mut registers {
-        *register = u32_of(source)?;
-    }
-    let count = u32_of(source)?;
-    if count > 256 || u32_of(source)? != 0 {
-        return Err(bad("header"));
-    }
-    let mut records = Vec::new();
-    let mut end = 0;
-    for _ in 0..count {
-        let role = u32_of(source)?;
-        u32_of(source)?;
-        let (address, length) = (u64_of(source)?, u64_of(source)?);
-        if !(1..=7).contains(&role) || length == 0 || address < end || address + length > 1 << 32 {
-            return Err(bad("record"));
-        }
-        end = address + length;
-        records.push((role, address, length));
-    }
-    let mut parts = Vec::new();
-    for (role, address, length) in records {
-        parts.push(Part { role, address, bytes: part_of(source, length)? });
-    }
-    match source.read(&mut [0])? {
-        0 => Ok(Image { registers, parts }),
-        _ => Err(bad("length")),
-    }
-}
+use image_reader::{Image, bad, read_image};
 
 impl Image {
     /// The bytes from an address to the end of its part.
@@ -110,7 +36,7 @@ fn long(bytes: &[u8], at: usize) -> u64 {
 
 fn walk(image: &Image) -> io::Result<String> {
     let registers = &image.registers;
-    let params = image.range(registers[5] as u64, 4096)?;
+    let params = image.range(registers[5], 4096)?;
     let line = image.rest(word(params, 0x228))?;
     let end = line.iter().position(|byte| *byte == 0).ok_or_else(|| bad("line"))?;
     let line: Vec<u8> = line[..end].to_vec();
