@@ -6,7 +6,7 @@ _bootcore() {
     local word=${COMP_WORDS[COMP_CWORD]} before=${COMP_WORDS[COMP_CWORD - 1]} choices='' option
     COMPREPLY=()
     if [ "$COMP_CWORD" = 1 ]; then
-        choices='boot map walk --help'
+        choices='boot map walk convert --help'
     elif [ "$COMP_CWORD" -gt 2 ]; then
         case "${COMP_WORDS[1]} $before" in
             'boot --out') ;;
@@ -20,6 +20,13 @@ _bootcore() {
                     esac
                 done
                 [ -n "$choices" ] || return 0
+                ;;
+            'convert --out') ;;
+            convert\ *)
+                case " ${COMP_WORDS[*]:2:COMP_CWORD-2} " in
+                    *' --out '*) return 0 ;;
+                    *) choices='--out' ;;
+                esac
                 ;;
             # map and walk take one file
             *) return 0 ;;

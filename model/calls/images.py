@@ -1,4 +1,5 @@
-"""image, images, image_of, read_image, image_fault, read_images: the calls of bl_image."""
+"""image, images, image_of, read_image, image_fault, read_images, rewrite, rewrites: the calls of
+bl_image."""
 
 from typing import Optional
 
@@ -92,10 +93,14 @@ def needed_of(data: bytes) -> int:
 
 def image_end(data: bytes) -> int:
     """Where an image ends whose head and records are sound, if they are all there."""
-    if len(data) < 100 or len(data) < 104 + 24 * u32(data, 96):
+    version = u32(data, 8)
+    if version not in rules.HEADS or len(data) < rules.HEADS[version]:
         return len(data)
-    count = u32(data, 96)
-    return 104 + 24 * count + sum(u64(data, 104 + 24 * i + 16) for i in range(count))
+    head, count = rules.HEADS[version], u32(data, rules.COUNT_AT[version])
+    start = head + rules.RECORD_SIZE * count
+    if len(data) < start:
+        return len(data)
+    return start + sum(u64(data, at + 16) for at in range(head, start, rules.RECORD_SIZE))
 
 
 def least_refused(data: bytes, refused: Refused) -> int:
@@ -148,6 +153,35 @@ def read_images(table, line):
                  for n in range(first, end))
 
 
+def rewrite(table, line):
+    """What was read is written to a sink in memory."""
+    named, bare = fields(line.words)
+    only(named, "limit", "step")
+    demand(not bare)
+    limit, step = number(single(named, "limit")), number(single(named, "step"))
+    demand(step > 0)
+    try:
+        whole = rules.convert(line.data)
+    except Refused as refused:
+        return fault_text(refused)
+    return "%s, %s" % (sink_text(limit, len(whole)), spell(whole[:limit]))
+
+
+def rewrites(table, line):
+    named, bare = fields(line.words)
+    only(named, "limits", "step")
+    demand(not bare)
+    first, end = pair(single(named, "limits"), "..")
+    demand(number(single(named, "step")) > 0)
+    try:
+        size = len(rules.convert(line.data))
+    except Refused as refused:
+        told = fault_text(refused)
+        return Sweep((limit, told) for limit in range(first, end))
+    return Sweep((limit, sink_text(limit, size) + ", its first bytes")
+                 for limit in range(first, end))
+
+
 CALLS = {
     "image": Call(image, BYTES_OF),
     "images": Call(images, BYTES_OF),
@@ -155,4 +189,6 @@ CALLS = {
     "read_image": Call(read_image, ALL_BYTES),
     "image_fault": Call(image_fault, ALL_BYTES),
     "read_images": Call(read_images, BYTES_OF),
+    "rewrite": Call(rewrite, BYTES_OF),
+    "rewrites": Call(rewrites, BYTES_OF),
 }

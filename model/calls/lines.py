@@ -7,6 +7,8 @@ from . import Call
 
 HELP = ("--help", "-h")
 ORDERS = ("forward", "reverse")
+# The options of each subcommand; --out must be given where it may be.
+OPTIONS = {"boot": ("--out", "--order"), "map": (), "walk": (), "convert": ("--out",)}
 
 
 class Refused(Exception):
@@ -28,14 +30,14 @@ def value_of(words: List[str], name: str) -> str:
 
 
 def job(words: List[str]) -> str:
-    """The program's name, a subcommand, its one path, and the options of `boot` in any order."""
+    """The program's name, a subcommand, its one path, and its options in any order."""
     rest = list(words[1:])
     if not rest:
         raise Refused
     command = rest.pop(0)
     if command in HELP:
         raise Help
-    if command not in ("boot", "map", "walk"):
+    if command not in OPTIONS:
         raise Refused
     paths, options = [], {}
     while rest:
@@ -45,7 +47,7 @@ def job(words: List[str]) -> str:
             break
         if rest[0] in HELP:
             raise Help
-        if command == "boot" and name in ("--out", "--order"):
+        if name in OPTIONS[command]:
             if name in options:
                 raise Refused
             options[name] = value_of(rest, name)
@@ -54,8 +56,12 @@ def job(words: List[str]) -> str:
         else:
             paths.append(rest.pop(0))
     order = options.get("--order", "forward")
-    if len(paths) != 1 or order not in ORDERS or (command == "boot" and "--out" not in options):
+    if len(paths) != 1 or order not in ORDERS:
         raise Refused
+    if "--out" in OPTIONS[command] and "--out" not in options:
+        raise Refused
+    if command == "convert":
+        return "convert %s to %s" % (paths[0], options["--out"])
     if command == "boot":
         return "boot %s to %s %s" % (paths[0], options["--out"], order)
     return "%s %s" % (command, paths[0])

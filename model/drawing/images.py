@@ -6,38 +6,57 @@ from typing import List, Tuple
 from rules import boot_params, information
 from rules.handover import (BOOT_PARAMETERS, COMMAND_LINE, GDT, INFORMATION, INITRD, KERNEL, LINUX,
                             MODULE, MULTIBOOT2, Handover, Part, registers_of)
-from rules.image import spell
+from rules.image import COUNT_AT, FIELDS, HEADS, OLD, RECORD_SIZE, WRITTEN, spell
 from rules.information import Information, Module
 from rules.machine import Run
 
 from .chances import chance, changed, copy, number, some_bytes
 
-HEAD, RECORD = 104, 24
-
-
 def draw(rng: Random) -> bytes:
-    """An image that is walked, mostly."""
+    """An image of either version that is walked, mostly."""
     draw_one = draw_multiboot2 if chance(rng, 55) else draw_linux
     handover = draw_one(rng)
     if chance(rng, 6):
         name = rng.choice(list(handover.registers))
         handover.registers[name] = number(rng, 32)
-    return spell(handover)
+    data = spell(handover, OLD if chance(rng, 40) else WRITTEN)
+    return with_register(rng, data) if chance(rng, 6) else data
+
+
+def version_of(data: bytes) -> int:
+    """The one that the image tells, or the one that is written."""
+    told = int.from_bytes(data[8:12], "little")
+    return told if told in FIELDS else WRITTEN
+
+
+def with_register(rng: Random, data: bytes) -> bytes:
+    """With another number in a register, of any width that the version has for it."""
+    version = version_of(data)
+    width = (COUNT_AT[version] - 16) // len(FIELDS[version])
+    at = 16 + width * rng.randrange(len(FIELDS[version]))
+    value = rng.choice([number(rng, 8 * width), number(rng, 32), 1 << rng.randrange(8 * width)])
+    return data[:at] + value.to_bytes(width, "little") + data[at + width:]
 
 
 def mutated(rng: Random, data: bytes) -> bytes:
     """With one to three changes, most of them where fields stand."""
-    parts = int.from_bytes(data[96:100], "little")
+    version = version_of(data)
+    head = HEADS[version]
+    parts = int.from_bytes(data[COUNT_AT[version]:COUNT_AT[version] + 4], "little")
+    heads = [*range(0, head, 4)]
     if parts > 256:
-        return changed(rng, data, [*range(0, HEAD, 4)])
-    heads = [*range(0, HEAD, 4)]
-    records = [*range(HEAD, HEAD + RECORD * parts, 4)]
-    start = HEAD + RECORD * parts
+        return changed(rng, data, heads)
+    start = head + RECORD_SIZE * parts
+    records = [*range(head, start, 4)]
     inner = [*range(start, min(start + 400, len(data)), 2)]
     fields = [start + at for at in (0x1E8, 0x1F1, 0x1FA, 0x1FE, 0x201, 0x202, 0x206, 0x210, 0x214,
                                     0x218, 0x21A, 0x21C, 0x228, 0x22A, 0x250, 0x2D0, 0x2D8, 0x2E0)]
     for _ in range(rng.choice([1, 1, 2, 3])):
-        data = changed(rng, data, rng.choice([heads, records, inner, inner, inner, fields]), 8)
+        if chance(rng, 5) and len(data) >= head:
+            data = with_register(rng, data)
+        else:
+            places = rng.choice([heads, records, inner, inner, inner, fields])
+            data = changed(rng, data, places, 8)
     return data
 
 

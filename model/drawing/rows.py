@@ -14,8 +14,8 @@ from .headers import MIB
 
 def draw(rng: Random, count: int) -> List[str]:
     """So many rows; each few are on a machine of their own."""
-    drawers = [elf, header, setup, info, info, params, params, image, walk, prepare, prepare,
-               prepare, plan, facts, describe, menu]
+    drawers = [elf, header, setup, info, info, params, params, image, image, walk, rewrite,
+               convert, prepare, prepare, prepare, plan, facts, describe, menu]
     rows = []
     while len(rows) < count:
         rows.append(machine(rng))
@@ -74,6 +74,26 @@ def image(rng: Random) -> str:
 def walk(rng: Random) -> str:
     data = images.draw(rng)
     return "walk " + digits(images.mutated(rng, data) if chance(rng, 60) else data)
+
+
+def rewrite(rng: Random) -> str:
+    data = images.draw(rng)
+    data = images.mutated(rng, data) if chance(rng, 50) else data
+    limit = rng.choice([0x10000, len(data), length(rng)])
+    return f"rewrite limit={limit:x} step={rng.choice([1, 7, 0x10000]):x} of {digits(data)}"
+
+
+def convert(rng: Random) -> str:
+    data = images.draw(rng)
+    data = images.mutated(rng, data) if chance(rng, 50) else data
+    words = ""
+    if chance(rng, 30):
+        words += f" limit={rng.choice([len(data), length(rng)]):x}"
+    if chance(rng, 30):
+        words += f" takes={rng.choice([1, 7, 0x100]):x}"
+    if chance(rng, 30):
+        words += f" step=1 fail={rng.randrange(1, len(data) + 10):x}"
+    return f"convert{words} of {digits(data)}"
 
 
 def line(rng: Random) -> str:

@@ -29,6 +29,7 @@ class Run(NamedTuple):
     said: List[str]  # lines of standard output
     blamed: List[str]  # lines of standard error
     handover: Optional[Handover] = None  # whose image is written
+    converted: Optional[bytes] = None  # the image that is written by a conversion
 
 
 # ---- menus
@@ -146,6 +147,14 @@ def walk(data: bytes) -> Run:
     if numbers:
         return Run(2, [], [f"bad image {numbers[0]}"])
     return Run(0, walking.lines(walking.see(image.read(data))), [])
+
+
+def convert(data: bytes) -> Run:
+    """`bootcore convert`; what is led to is not looked at."""
+    try:
+        return Run(0, [], [], None, image.convert(data))
+    except Refused as refusal:
+        return Run(2, [], [f"bad image {refusal.number}"])
 
 
 def paths_from(folder: str) -> Callable[[str], File]:

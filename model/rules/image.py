@@ -1,17 +1,31 @@
-"""The handoff image, version 1. FORMATS.md "The handoff image, version 1"."""
+"""The handoff image, versions 1 and 2. FORMATS.md "The handoff image"."""
 
-from typing import Dict, Iterator, List, NamedTuple
+from typing import Dict, Iterator, List, NamedTuple, Optional, Tuple
 
 from .handover import LINUX, MULTIBOOT2, REGISTERS, Handover, Part
 from .numbers import long, u32, u64, word
 from .refusals import refuse
 
 MAGIC = b"BLIMAGE\0"
-VERSION = 1
+OLD, WRITTEN = 1, 2  # the versions that are read; the second one is written
 RECORD_SIZE = 24
 MOST_PARTS = 256
+MOST_ROLE = 7
 MOST_ADDRESS = 1 << 32
+MOST_NARROW = 1 << 32
 CHUNK = 1 << 20
+
+# The registers of each version in its order, and the bytes of each. Of version 2 those without a
+# name, R8 to R15, CR3, CR4 and EFER, are not given by the two protocols.
+ABSENT = None
+FIELDS: Dict[int, List[Optional[str]]] = {
+    OLD: [*REGISTERS],
+    WRITTEN: [*REGISTERS[:9], *[ABSENT] * 8, *REGISTERS[9:11], *[ABSENT] * 3, *REGISTERS[11:]],
+}
+WIDTHS = {OLD: 4, WRITTEN: 8}
+# How many bytes stand before the number of parts, and before the records.
+COUNT_AT = {version: 16 + WIDTHS[version] * len(FIELDS[version]) for version in FIELDS}
+HEADS = {version: COUNT_AT[version] + 8 for version in FIELDS}
 
 
 class ImagePart(NamedTuple):
@@ -30,10 +44,12 @@ class Image(NamedTuple):
 # ---- written
 
 
-def chunks(handover: Handover) -> Iterator[bytes]:
+def chunks(handover: Handover, version: int = WRITTEN) -> Iterator[bytes]:
     """The image's bytes, in some pieces that follow each other."""
-    yield MAGIC + word(VERSION) + word(handover.protocol)
-    yield b"".join(word(handover.registers[name]) for name in REGISTERS)
+    yield MAGIC + word(version) + word(handover.protocol)
+    for name in FIELDS[version]:
+        value = 0 if name is ABSENT else handover.registers[name]
+        yield value.to_bytes(WIDTHS[version], "little")
     yield word(len(handover.parts)) + word(0)
     for part in handover.parts:
         yield word(part.role) + word(part.index) + long(part.address) + long(part.length)
@@ -56,9 +72,16 @@ def zeros(count: int) -> Iterator[bytes]:
         yield bytes(min(CHUNK, count - at))
 
 
-def spell(handover: Handover) -> bytes:
+def spell(handover: Handover, version: int = WRITTEN) -> bytes:
     """The whole image."""
-    return b"".join(chunks(handover))
+    return b"".join(chunks(handover, version))
+
+
+def spell_read(image: Image, version: int = WRITTEN) -> bytes:
+    """The whole image of what was read."""
+    parts = [Part(part.role, part.index, part.address, len(part.data), [(0, part.data)])
+             for part in image.parts]
+    return spell(Handover(image.protocol, image.registers, parts), version)
 
 
 # ---- read
@@ -89,22 +112,47 @@ def read(data: bytes) -> Image:
     reader = Reader(data)
     if reader.bytes(8) != MAGIC:
         refuse(71)
-    if reader.u32() != VERSION:
+    version = reader.u32()
+    if version not in FIELDS:
         refuse(72)
     protocol = reader.u32()
     if protocol not in (MULTIBOOT2, LINUX):
         refuse(73)
-    registers = {name: reader.u32() for name in REGISTERS}
+    registers = read_registers(reader, version)
     count = reader.u32()
     if count > MOST_PARTS:
         refuse(73)
     if reader.u32() != 0:
         refuse(73)
+    records = read_records(reader, count)
+    parts = [ImagePart(role, index, address, reader.bytes(length))
+             for role, index, address, length in records]
+    if reader.at < len(data):
+        refuse(75)
+    return Image(protocol, registers, parts)
+
+
+def read_registers(reader: Reader, version: int) -> Dict[str, int]:
+    """The registers that the protocols give: of 32 bits, whatever their width in the image."""
+    if version == OLD:
+        return {name: reader.u32() for name in REGISTERS}
+    registers = {}
+    for name in FIELDS[version]:
+        value = reader.u64()
+        if value >= (1 if name is ABSENT else MOST_NARROW):
+            refuse(73)
+        if name is not ABSENT:
+            registers[name] = value
+    return registers
+
+
+def read_records(reader: Reader, count: int) -> List[Tuple[int, int, int, int]]:
+    """Role, index, address and length of each part."""
     records = []
     end = 0
     for i in range(count):
         role = reader.u32()
-        if not 1 <= role <= 7:
+        if not 1 <= role <= MOST_ROLE:
             refuse(74, i)
         index = reader.u32()
         address = reader.u64()
@@ -115,8 +163,9 @@ def read(data: bytes) -> Image:
         if length == 0 or end > MOST_ADDRESS:
             refuse(74, i)
         records.append((role, index, address, length))
-    parts = [ImagePart(role, index, address, reader.bytes(length))
-             for role, index, address, length in records]
-    if reader.at < len(data):
-        refuse(75)
-    return Image(protocol, registers, parts)
+    return records
+
+
+def convert(data: bytes) -> bytes:
+    """An image in the version that is written; refused as `read` refuses it."""
+    return spell_read(read(data))
