@@ -67,7 +67,7 @@ not_bad before after h bytes version number e is sound (inr nothing) =
     (subst (λ (k : Handover). HasFault k nothing.fault) same nothing.stands) nothing.no_memory
 
 module _ (source converted : List ℕ) (c : Converts source converted) where
-  h : Handover
+  abbrev h : Handover
   h = c.done.handover
 
   from : (version : Version) × IsImage version source h
