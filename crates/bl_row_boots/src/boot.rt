@@ -7,9 +7,10 @@ use crate::long_files::LongFiles;
 use crate::sink::open_sink;
 use bl_boot::{Fetched, Files, boot, map_to};
 use bl_image::{MemSink, Sink};
-use bl_row_parts::sinks::say_each;
+use bl_row_parts::sinks::Series;
 use bl_rows::row::Row;
 use std::alloc::{AllocError, Global};
+use std::ops::Range;
 
 /// What was said, in quotes.
 pub fn say_said(row: &mut Row<'_>, before: &str, said: &[u8]) {
@@ -74,14 +75,25 @@ pub fn answer_boot(row: &mut Row<'_>) {
     }
 }
 
+/// Boots into sinks of each limit. None where the row can't be answered.
+fn boot_each(row: &mut Row<'_>, beside: &Beside, limits: Range<u64>) -> Option<Series<Global>> {
+    let ample = boot_beside(row, beside, beside.limit)?;
+    let mut series = Series::new(row, ample);
+    for limit in limits {
+        let out = boot_beside(row, beside, limit)?;
+        series.add(row, limit, &out);
+    }
+    Some(series)
+}
+
 /// Boots the description over the heap for sinks of each limit.
 pub fn answer_boots(row: &mut Row<'_>) {
     let limits = row.field("limits");
     let limits = row.range_of(limits);
     let beside = read_beside(row);
-    say_each(row, beside.limit, limits, |row, limit| {
-        boot_beside(row, &beside, limit)
-    });
+    if let Some(series) = boot_each(row, &beside, limits) {
+        series.say(row);
+    }
 }
 
 /// Says the description's map over the heap.

@@ -6,7 +6,7 @@ use crate::conversion::{Conversion, read_conversion};
 use crate::sink::open_sink;
 use bl_boot::convert;
 use bl_image::{MemSink, Sink, Source};
-use bl_row_parts::sinks::{AMPLE, say_each};
+use bl_row_parts::sinks::{AMPLE, Series};
 use bl_row_parts::source::SourceFields;
 use bl_rows::row::Row;
 use bl_rows::runs::Runs;
@@ -71,6 +71,22 @@ fn converted_at_each(row: &mut Row<'_>, fields: &Conversion, fails: Range<u64>) 
     Some(runs)
 }
 
+/// Converts the row's bytes into sinks of each limit. None where the row can't be answered, or
+/// memory ran out for what was blamed before.
+fn converted_to_each(
+    row: &mut Row<'_>,
+    fields: &Conversion,
+    limits: Range<u64>,
+) -> Option<Series<Global>> {
+    let ample = convert_into(row, fields, fields.source, AMPLE)?;
+    let mut series = Series::new(row, ample.out);
+    for limit in limits {
+        let done = convert_into(row, fields, fields.source, limit)?;
+        series.add(row, limit, &done.out);
+    }
+    Some(series)
+}
+
 /// Converts the row's bytes where each read in turn is a fault of the source, or into a sink of
 /// each limit.
 pub fn answer_each(row: &mut Row<'_>) {
@@ -81,10 +97,11 @@ pub fn answer_each(row: &mut Row<'_>) {
                 row.say_runs(runs);
             }
         }
-        (None, Some(limits)) => say_each(row, AMPLE, limits, |row, limit| {
-            let done = convert_into(row, &fields, fields.source, limit)?;
-            Some(done.out)
-        }),
+        (None, Some(limits)) => {
+            if let Some(series) = converted_to_each(row, &fields, limits) {
+                series.say(row);
+            }
+        }
         _ => row.refuse(),
     }
 }

@@ -5,10 +5,11 @@ ghost use Rattle.std.specs.Prelude.{◌+◌, ◌≤◌, length, All, IfSome};
 
 use crate::prepared::{LoadedEntry, load_entry, read_entry};
 use crate::read_image::say_image;
-use crate::sinks::{AMPLE, say_each, say_written, sink_over};
+use crate::sinks::{AMPLE, Series, say_written, sink_over};
 use bl_image::{Image, MemSink, Sink, write_image};
 use bl_refusing::Refusing;
 use bl_rows::row::Row;
+use std::ops::Range;
 
 /// The entry of the words that are left, loaded over the heap.
 fn loaded_entry<'a>(row: &mut Row<'a>) -> Option<LoadedEntry<'a>>
@@ -42,6 +43,26 @@ fn written<'h>(
     Some(sink)
 }
 
+/// Writes the image to sinks of each limit. None where memory ran out for one.
+fn written_to_each<'h>(
+    row: &mut Row<'_>,
+    heap: &'h Refusing,
+    loaded: &LoadedEntry<'h>,
+    limits: Range<u64>,
+    step: u64,
+) -> Option<Series<&'h Refusing>>
+    requires { All (λ place. place.address + place.length ≤ length loaded.now.memory)
+        loaded.now.handoff.places }
+{
+    let ample = written(row, heap, loaded, AMPLE, AMPLE)?;
+    let mut series = Series::new(row, ample);
+    for limit in limits {
+        let sink = written(row, heap, loaded, limit, step)?;
+        series.add(row, limit, &sink);
+    }
+    Some(series)
+}
+
 /// Prepares the entry, loads it and writes its image, all over the heap.
 pub fn answer(row: &mut Row<'_>) {
     let heap = row.heap;
@@ -64,9 +85,9 @@ pub fn answer_each(row: &mut Row<'_>) {
     let Some(loaded) = loaded_entry(row) else {
         return;
     };
-    say_each(row, AMPLE, limits, |row, limit| {
-        written(row, heap, &loaded, limit, step)
-    });
+    if let Some(series) = written_to_each(row, heap, &loaded, limits, step) {
+        series.say(row);
+    }
 }
 
 /// Prepares the entry, loads it and makes its image, all over the heap.

@@ -2,10 +2,11 @@
 //! and what it says is written anew, into a sink in memory, or into one of each limit.
 
 use crate::read_image::read_row_image;
-use crate::sinks::{AMPLE, say_each, say_written, sink_over};
+use crate::sinks::{AMPLE, Series, say_written, sink_over};
 use bl_image::{Image, MemSink, Sink, write_value};
 use bl_refusing::Refusing;
 use bl_rows::row::Row;
+use std::ops::Range;
 
 /// Writes what the image says to a sink in memory of this limit and step, and says how it ended.
 /// None where memory ran out for the sink.
@@ -22,6 +23,23 @@ fn written<'h>(
     let asked = heap.asked().saturating_sub(before);
     say_written(row, ended, sink.faults(), asked);
     Some(sink)
+}
+
+/// Writes what the image says to sinks of each limit. None where memory ran out for one.
+fn written_to_each<'h>(
+    row: &mut Row<'_>,
+    heap: &'h Refusing,
+    image: &Image<&Refusing>,
+    limits: Range<u64>,
+    step: u64,
+) -> Option<Series<&'h Refusing>> {
+    let ample = written(row, heap, image, AMPLE, AMPLE)?;
+    let mut series = Series::new(row, ample);
+    for limit in limits {
+        let sink = written(row, heap, image, limit, step)?;
+        series.add(row, limit, &sink);
+    }
+    Some(series)
 }
 
 /// Reads an image and writes it anew, both over the heap.
@@ -47,7 +65,7 @@ pub fn answer_each(row: &mut Row<'_>) {
     let Some(image) = read_row_image(row) else {
         return;
     };
-    say_each(row, AMPLE, limits, |row, limit| {
-        written(row, heap, &image, limit, step)
-    });
+    if let Some(series) = written_to_each(row, heap, &image, limits, step) {
+        series.say(row);
+    }
 }

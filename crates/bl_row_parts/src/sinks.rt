@@ -6,7 +6,6 @@ use bl_refusing::Refusing;
 use bl_rows::row::Row;
 use bl_rows::runs::Runs;
 use std::alloc::Allocator;
-use std::ops::Range;
 
 /// A limit above the length of each image of a row.
 pub const AMPLE: u64 = 0x10_0000;
@@ -52,39 +51,32 @@ fn say_taken(row: &mut Row<'_>, whole: &[u8], taken: &[u8], limit: u64) {
     });
 }
 
-/// What `write` says of sinks of each limit, and whether each of them took the first bytes, as many
-/// as it has room for, of what a sink of the limit `ample` takes. None where `write` has no sink.
-fn written_to_each<A: Allocator, F: FnMut(&mut Row<'_>, u64) -> Option<MemSink<A>>>(
-    row: &mut Row<'_>,
-    ample: u64,
-    limits: Range<u64>,
-    mut write: F,
-) -> Option<Runs>
-    requires { F.IsAlwaysCallable write }
-{
-    let whole = write(row, ample)?;
-    let _text = row.take_text();
-    let mut runs = Runs::new(row.alloc, true);
-    for limit in limits {
-        let sink = write(row, limit)?;
-        say_taken(row, whole.contents(), sink.contents(), limit);
-        runs.add(limit, row.take_text());
-    }
-    Some(runs)
+/// What was said of sinks of each limit, and what one took that has room for all.
+#[derive(Drop)]
+pub struct Series<A: Allocator> {
+    whole: MemSink<A>,
+    runs: Runs,
 }
 
-/// Says what `write` says of sinks of each limit, and whether each of them took the first bytes, as
-/// many as it has room for, of what a sink of the limit `ample` takes. Where `write` has no sink,
-/// what it said is the answer.
-pub fn say_each<A: Allocator, F: FnMut(&mut Row<'_>, u64) -> Option<MemSink<A>>>(
-    row: &mut Row<'_>,
-    ample: u64,
-    limits: Range<u64>,
-    write: F,
-)
-    requires { F.IsAlwaysCallable write }
-{
-    if let Some(runs) = written_to_each(row, ample, limits, write) {
-        row.say_runs(runs);
+impl<A: Allocator> Series<A> {
+    /// No sink yet, but for the one that has room for all. What was said of it is taken away.
+    pub fn new(row: &mut Row<'_>, whole: MemSink<A>) -> Series<A> {
+        let _text = row.take_text();
+        Series {
+            whole,
+            runs: Runs::new(row.alloc, true),
+        }
+    }
+
+    /// Adds what was said of a sink of this limit, and whether it took the first bytes, as many as
+    /// it has room for.
+    pub fn add(&mut self, row: &mut Row<'_>, limit: u64, sink: &MemSink<A>) {
+        say_taken(row, self.whole.contents(), sink.contents(), limit);
+        self.runs.add(limit, row.take_text());
+    }
+
+    /// Says all of it.
+    pub fn say(self, row: &mut Row<'_>) {
+        row.say_runs(self.runs);
     }
 }
