@@ -70,7 +70,7 @@ def converts(table, line):
 
 
 def convert_is_refused(table, line, text):
-    """Nothing is blamed or taken then; what there was before may lack the memory too. That memory was
+    """Nothing is blamed or taken then; what there was before may lack the memory too. That it was
     wanting stands behind what was taken."""
     before = Before(table, line, "blamed", "step", "fail", "limit", "takes")
     blamed = quoted(before.blamed)
