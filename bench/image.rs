@@ -5,10 +5,10 @@ use std::fs::File;
 use std::io::{self, Write};
 
 const MAGIC: &[u8] = b"BLIMAGE\0";
-const VERSION: u32 = 2;
+const VERSION: u32 = 1;
 
-/// RFLAGS and CR0; CR3, CR4 and EFER, which are not given; CS and five data selectors.
-const STATE: [u32; 11] = [2, 0x11, 0, 0, 0, 0x10, 0x18, 0x18, 0x18, 0x18, 0x18];
+/// EFLAGS, CR0, CS and five data selectors.
+const STATE: [u32; 8] = [2, 0x11, 0x10, 0x18, 0x18, 0x18, 0x18, 0x18];
 
 /// The registers that an entry sets, and the protocol; all others have one value for all entries.
 #[derive(Default)]
@@ -27,23 +27,14 @@ fn put_words(out: &mut Vec<u8>, words: &[u32]) {
     }
 }
 
-/// Registers of 64 bits.
-fn put_registers(out: &mut Vec<u8>, registers: &[u32]) {
-    for register in registers {
-        out.extend_from_slice(&u64::from(*register).to_le_bytes());
-    }
-}
-
 fn head(parts: &[Part], state: &State) -> Vec<u8> {
     let mut out = MAGIC.to_vec();
     put_words(&mut out, &[VERSION, state.protocol]);
-    put_registers(&mut out, &[state.eip, state.eax, state.ebx, 0, 0]);
-    put_registers(&mut out, &[state.esi, 0, 0, 0]);
-    put_registers(&mut out, &[0; 8]); // R8 to R15
-    put_registers(&mut out, &STATE);
-    put_registers(&mut out, &state.gdt);
-    put_registers(&mut out, &[1]);
-    put_words(&mut out, &[parts.len() as u32, 0]);
+    put_words(&mut out, &[state.eip, state.eax, state.ebx, 0, 0]);
+    put_words(&mut out, &[state.esi, 0, 0, 0]);
+    put_words(&mut out, &STATE);
+    put_words(&mut out, &state.gdt);
+    put_words(&mut out, &[1, parts.len() as u32, 0]);
     for part in parts {
         put_words(&mut out, &[part.role, part.index]);
         out.extend_from_slice(&part.address.to_le_bytes());

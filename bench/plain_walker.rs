@@ -17,7 +17,7 @@ struct Part {
 }
 
 struct Image {
-    registers: [u64; 31],
+    registers: [u32; 20],
     parts: Vec<Part>,
 }
 
@@ -37,11 +37,6 @@ fn u64_of(source: &mut impl Read) -> io::Result<u64> {
     Ok(u64::from_le_bytes(bytes))
 }
 
-/// R8 to R15, CR3, CR4 and EFER, which are not given.
-fn is_absent(register: usize) -> bool {
-    matches!(register, 9..=16 | 19..=21)
-}
-
 /// So many bytes; memory follows what came.
 fn part_of(source: &mut impl Read, length: u64) -> io::Result<Vec<u8>> {
     let mut bytes = Vec::new();
@@ -59,15 +54,12 @@ fn part_of(source: &mut impl Read, length: u64) -> io::Result<Vec<u8>> {
 fn read_image(source: &mut impl Read) -> io::Result<Image> {
     let mut magic = [0; 8];
     source.read_exact(&mut magic)?;
-    if &magic != b"BLIMAGE\0" || u32_of(source)? != 2 || u32_of(source)? != 2 {
+    if &magic != b"BLIMAGE\0" || u32_of(source)? != 1 || u32_of(source)? != 2 {
         return Err(bad("magic, version or protocol"));
     }
-    let mut registers = [0; 31];
-    for (i, register) in registers.iter_mut().enumerate() {
-        *register = u64_of(source)?;
-        if *register >> 32 != 0 || (is_absent(i) && *register != 0) {
-            return Err(bad("register"));
-        }
+    let mut registers = [0; 20];
+    for register in &mut registers {
+        *register = u32_of(source)?;
     }
     let count = u32_of(source)?;
     if count > 256 || u32_of(source)? != 0 {
@@ -118,7 +110,7 @@ fn long(bytes: &[u8], at: usize) -> u64 {
 
 fn walk(image: &Image) -> io::Result<String> {
     let registers = &image.registers;
-    let params = image.range(registers[5], 4096)?;
+    let params = image.range(registers[5] as u64, 4096)?;
     let line = image.rest(word(params, 0x228))?;
     let end = line.iter().position(|byte| *byte == 0).ok_or_else(|| bad("line"))?;
     let line: Vec<u8> = line[..end].to_vec();
