@@ -70,10 +70,11 @@ def converts(table, line):
 
 
 def convert_is_refused(table, line, text):
-    """Nothing is blamed or taken then; what there was before may lack the memory too."""
+    """Nothing is blamed or taken then; what there was before may lack the memory too. That it was
+    wanting stands behind what was taken."""
     before = Before(table, line, "blamed", "step", "fail", "limit", "takes")
     blamed = quoted(before.blamed)
-    return text in ("no memory", "status 4, no memory, blamed %s, faults 0 0, " % blamed)
+    return text in ("no memory", "status 4, blamed %s, faults 0 0, , no memory" % blamed)
 
 
 CALLS = {

@@ -176,8 +176,7 @@ def rewrites(table, line):
     try:
         size = len(rules.convert(line.data))
     except Refused as refused:
-        told = fault_text(refused)
-        return Sweep((limit, told) for limit in range(first, end))
+        return fault_text(refused)
     return Sweep((limit, sink_text(limit, size) + ", its first bytes")
                  for limit in range(first, end))
 
