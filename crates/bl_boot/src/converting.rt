@@ -9,8 +9,8 @@ use std::alloc::Allocator;
 /// Reads an image to the end of a source, in either version, and writes what it says to `out`, in
 /// the version that is written. What is read is whole before the first byte is written.
 ///
-/// The status is 0, 2 where the image is refused by its reader, with 71 to 75, 3 where the source or
-/// the sink had a fault, or 4 where memory ran out. With 2 the line `bad image N` is appended to
+/// The status is 0, 2 where the image is refused by its reader, with 71 to 75, 3 where the source
+/// or the sink had a fault, or 4 where memory ran out. With 2 the line `bad image N` is appended to
 /// `blame`, and only then. Nothing is written but with 0, and with 3 a beginning.
 pub fn convert<A: Allocator + Copy, R: Source, S: Sink, B: Allocator>(
     alloc: A,

@@ -61,7 +61,8 @@ pub fn booted_images_show_their_entries<F: Files>()
         → IsSound image }
 {}
 
-/// A walk of a converted image says what a walk of its source says, and it is refused where that is.
+/// A walk of a converted image says what a walk of its source says, and it is refused where that
+/// one is.
 pub fn converted_images_are_walked_alike()
     ensures said { (image converted a b : List ℕ) → Converts image converted
         → Walks image a → Walks converted b → a ≡ b }

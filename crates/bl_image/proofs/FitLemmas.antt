@@ -1,5 +1,6 @@
 -- What memory hands over fits its image.
-use Rattle.std.proofs.Common.{◌+◌, ◌<◌, ◌≤◌, ◌^◌, ℕ, List, [], ◌∷◌, length, get_or, All, arith, sym, subst}
+use Rattle.std.proofs.Common.{◌+◌, ◌<◌, ◌≤◌, ◌^◌, ℕ, List, [], ◌∷◌, length, get_or, All}
+use Rattle.std.proofs.Common.{arith, sym, subst}
 use Rattle.std.proofs.lemmas.List.{length-map}
 use Rattle.std.proofs.lemmas.List.Elements.{All-map, All-cons, All-nil}
 use Rattle.bl_plan.specs.declared.part.Place.{Place}
@@ -79,6 +80,55 @@ pub registers_fit : (r : Registers)
     → r.ss < 2 ^ 32 → r.gdt_base < 2 ^ 32 → r.gdt_limit < 2 ^ 32 → r.a20 < 2 ^ 32
     → All (λ n. n < 2 ^ 32) (register_numbers r)
 registers_fit r h0 h1 h2 h3 h4 h5 h6 h7 h8 h9 h10 h11 h12 h13 h14 h15 h16 h17 h18 h19 =
-    all_fit (register_numbers r)
-    (h0, (h1, (h2, (h3, (h4, (h5, (h6, (h7, (h8, (h9, (h10, (h11, (h12, (h13, (h14, (h15, (h16,
-    (h17, (h18, (h19, tt))))))))))))))))))))
+    all_fit (register_numbers r) (
+      h0,
+      (
+        h1,
+        (
+          h2,
+          (
+            h3,
+            (
+              h4,
+              (
+                h5,
+                (
+                  h6,
+                  (
+                    h7,
+                    (
+                      h8,
+                      (
+                        h9,
+                        (
+                          h10,
+                          (
+                            h11,
+                            (
+                              h12,
+                              (
+                                h13,
+                                (
+                                  h14,
+                                  (
+                                    h15,
+                                    (
+                                      h16,
+                                      (h17, (h18, (h19, tt))),
+                                    ),
+                                  ),
+                                ),
+                              ),
+                            ),
+                          ),
+                        ),
+                      ),
+                    ),
+                  ),
+                ),
+              ),
+            ),
+          ),
+        ),
+      ),
+    )

@@ -1,10 +1,9 @@
 -- In bytes that have no fault a head is found, and each record.
 use Rattle.std.proofs.Common.{◌≡◌, ◌+◌, ◌≤◌, ◌<◌, ◌^◌, ℕ, List, [], ◌∷◌, ◌++◌, take, drop, All}
 use Rattle.std.proofs.Common.{None, append_assoc, sym, ap, ◌∙◌}
-use Rattle.std.specs.List.{flat_map}
 use Rattle.std.proofs.lemmas.Bool.Decides.{Decides-eqb}
 use Rattle.std.proofs.lemmas.Slice.Eq.{bytes_eq-Decides}
-use Rattle.std.proofs.lemmas.List.{take-append-drop, length-take-le, drop-drop}
+use Rattle.std.proofs.lemmas.List.{take-append-drop}
 use Rattle.bl_mem.specs.Words.{u32_at, u64_at, u32_bytes, u64_bytes}
 use Rattle.bl_plan.specs.Roles as roles
 use Rattle.bl_plan.specs.declared.part.Place.{Place}
@@ -21,7 +20,7 @@ use Rattle.bl_image.specs.Fields.{role_field, index_field, address_field, length
 use Rattle.bl_image.specs.ImageFaults.{head_fault, record_fault}
 use Rattle.bl_image.proofs.FrontLemmas.{head_is}
 use Rattle.bl_image.proofs.RecordLemmas.{four_pieces, regroup, record_front}
-use Rattle.bl_image.proofs.NoFaultLemmas.{IsSmall, small_drop, small_take, u32_split, u64_split}
+use Rattle.bl_image.proofs.NoFaultLemmas.{IsSmall, small_drop, u32_split, u64_split}
 use Rattle.bl_image.proofs.NoFaultLemmas.{u32_small, u64_small, first_none, field_none, le_from}
 use Rattle.bl_image.proofs.NoFaultLemmas.{both_from, protocol_by, role_by, chained}
 use Rattle.bl_image.proofs.HeadLemmas.{after_version, opened, told}

@@ -1,7 +1,7 @@
 -- The head of an image, judged field by field.
 use Rattle.std.proofs.Common.{◌≡◌, ℕ, true, List, [], ◌∷◌, ◌++◌, drop, None, Option}
-use Rattle.std.proofs.Common.{refl, ap, ◌∙◌, append_assoc, lit<}
-use Rattle.std.specs.Prelude.{nat_le, ◌==◌, ◌&&◌}
+use Rattle.std.proofs.Common.{refl, ap, ◌∙◌, append_assoc}
+use Rattle.std.specs.Prelude.{nat_le, ◌&&◌}
 use Rattle.std.proofs.lemmas.List.{drop_at}
 use Rattle.bl_mem.specs.Words.{number_at, u32_at, u32_bytes}
 use Rattle.bl_mem.proofs.WordLaws.{length-u32_bytes, u32_again}

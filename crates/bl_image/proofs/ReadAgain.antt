@@ -117,7 +117,6 @@ registers_alike One r s hr hs x y e =
           (front_same _ _ _ _ wide e)),
       back_same _ _ _ _ wide e,
     )
-
 registers_alike Two r s hr hs x y e =
     let wide : length (flat_map u64_bytes (wide_numbers r))
     ≡ length (flat_map u64_bytes (wide_numbers s)) =

@@ -1,8 +1,8 @@
 -- In bytes that have no fault the registers are found.
-use Rattle.std.proofs.Common.{◌≡◌, ◌+◌, ◌*◌, ◌≤◌, ◌<◌, ◌^◌, ℕ, zero, suc, List, [], ◌∷◌, ◌++◌}
+use Rattle.std.proofs.Common.{◌≡◌, ◌≤◌, ◌<◌, ◌^◌, ℕ, zero, suc, List, [], ◌∷◌, ◌++◌}
 use Rattle.std.proofs.Common.{length, take, drop, All, None, refl, sym, ap, ◌∙◌, subst, arith}
 use Rattle.std.proofs.Common.{append_assoc, length-append}
-use Rattle.std.specs.Prelude.{replicate, nat_lt, ◌==◌}
+use Rattle.std.specs.Prelude.{replicate}
 use Rattle.std.specs.List.{flat_map}
 use Rattle.std.proofs.lemmas.Bool.Decides.{Decides-eqb, nat_tests}
 use Rattle.std.proofs.lemmas.List.{take-append-drop, length-take-le}
@@ -17,8 +17,8 @@ use Rattle.bl_image.specs.declared.version.Version.{Version}
 use Rattle.bl_image.specs.declared.version.Version.TheVariants.{One, Two}
 use Rattle.bl_image.proofs.NoFaultLemmas.{IsSmall, small_drop, small_take, u64_split, field_none}
 use Rattle.bl_image.proofs.NoFaultLemmas.{words_split, registers_by, registers_are}
-use Rattle.bl_image.proofs.RegisterLemmas.{any_fields, any_none}
-use Rattle.bl_image.proofs.WideLemmas.{widened, wide_spelling, spelled_wide, wide_by}
+use Rattle.bl_image.proofs.RegisterLemmas.{any_none}
+use Rattle.bl_image.proofs.WideLemmas.{spelled_wide, wide_by}
 
 -- the version of a number
 pub version_by : (n : ℕ) → 1 ≤ n → n ≤ 2 → (v : Version) × (version_number v ≡ n)
@@ -102,13 +102,13 @@ absents_found (suc n) others bytes small none =
 -- ---- the registers
 
 pub record RegistersFound (version : Version) (others : List Field) (bytes : List ℕ) : Type 0
-    where
-  pub registers : Registers
-  pub rest : List ℕ
-  pub is : spelled_registers version registers ++ rest ≡ bytes
-  pub fit : All (λ n. n < 2 ^ 32) (register_numbers registers)
-  pub left : fields_fault others rest ≡ None
-  pub small : IsSmall rest
+  where
+    pub registers : Registers
+    pub rest : List ℕ
+    pub is : spelled_registers version registers ++ rest ≡ bytes
+    pub fit : All (λ n. n < 2 ^ 32) (register_numbers registers)
+    pub left : fields_fault others rest ≡ None
+    pub small : IsSmall rest
 
 found_1 : (others : List Field) (bytes : List ℕ) → IsSmall bytes
     → fields_fault (registers_1 ++ others) bytes ≡ None → RegistersFound One others bytes

@@ -20,8 +20,8 @@ pub enum ImageFault {
     BadVersion,
 
     /// The protocol is neither 1 nor 2; in version 2, a register that the protocol does not give is
-    /// not 0, or another one is 2^32 or more; there are more than 256 parts; or the word after their
-    /// number is not 0.
+    /// not 0, or another one is 2^32 or more; there are more than 256 parts; or the word after
+    /// their number is not 0.
     #[error("bad header")]
     BadHeader,
 

@@ -34,10 +34,7 @@ fn write_bytes<S: Sink, A: Allocator>(
 /// Writes the image of what an image says, in the version that is written, whichever version it was
 /// read from. It takes no memory. Its one error is a fault of the sink, which then took a beginning
 /// of the image.
-pub fn write_value<S: Sink, A: Allocator>(
-    image: &Image<A>,
-    sink: &mut S,
-) -> Result<(), ImageFault>
+pub fn write_value<S: Sink, A: Allocator>(image: &Image<A>, sink: &mut S) -> Result<(), ImageFault>
     requires { S.faults sink.old < 2 ^ 63 }
     ensures ok { OnOk result (S.contents sink.new ≡ S.contents sink.old
         ++ spelling written_version image.now) }

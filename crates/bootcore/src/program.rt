@@ -143,8 +143,8 @@ fn walk_path(rt: &HostRuntime, path: &str) -> u8
     tell_blame(rt, status, &blame)
 }
 
-/// Writes the image at a path to another, in the version that is written, or says what is wrong with
-/// it.
+/// Writes the image at a path to another, in the version that is written, or says what is wrong
+/// with it.
 fn convert_path(rt: &HostRuntime, path: &str, new: &str) -> u8
     ensures { result ≤ 4 }
 {

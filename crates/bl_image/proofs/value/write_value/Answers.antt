@@ -1,7 +1,5 @@
-use Rattle.std.proofs.Common.{◌≡◌, ◌++◌, length, map, refl, sym, ◌∙◌}
+use Rattle.std.proofs.Common.{sym}
 use Rattle.std.proofs.lemmas.List.{append-nil}
-use Rattle.bl_load.specs.Handover.{Handover}
-use Rattle.bl_image.specs.ImageParts.{place_of}
 use Rattle.bl_image.specs.Versions.{written_version}
 use Rattle.bl_image.proofs.PartLemmas.{all_bytes, value_in, value_kept}
 use Rattle.bl_image.proofs.Ways.{way_begins, way_goes_on, way_stops, way_ends, way_as, on_err}
