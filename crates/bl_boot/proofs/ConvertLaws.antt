@@ -1,5 +1,5 @@
 -- A converted image is walked as its source is.
-use Rattle.std.proofs.Common.{◌≡◌, ℕ, List, ◌++◌, Some, Ok, inl, inr, refl, sym, ap, ◌∙◌}
+use Rattle.std.proofs.Common.{◌≡◌, ℕ, List, Some, Ok, inl, inr, refl, sym, ap, ◌∙◌}
 use Rattle.std.proofs.Common.{subst}
 use Rattle.std.proofs.lemmas.List.{append_cancel_left}
 use Rattle.bl_load.specs.Handover.{Handover}
@@ -14,7 +14,6 @@ use Rattle.bl_image.proofs.KnownLemmas.{known_by}
 use Rattle.bl_image.proofs.ReadAgain.{image_is_read_again}
 use Rattle.bl_walk.specs.Faults.{HasFault, IsSound}
 use Rattle.bl_walk.specs.Seen.{IsSeen}
-use Rattle.bl_walk.specs.SeenFacts.{SeenFacts}
 use Rattle.bl_walk.specs.declared.fault.WalkFault.{WalkFault}
 use Rattle.bl_walk.specs.declared.fault.WalkFault.TheVariants as walking
 use Rattle.bl_walk.proofs.SeenLaws.{seen_is_determined}
@@ -85,8 +84,7 @@ module _ (source converted : List ℕ) (c : Converts source converted) where
       → IsSeen h w.done.seen × IsSound h × (said ≡ walk_lines w.done.seen)
   sees bytes said version is w =
       let same =
-      read_same w.before w.after h w.done.handover bytes version w.known w.done.read is in
-      (
+      read_same w.before w.after h w.done.handover bytes version w.known w.done.read is in (
         subst (λ (k : Handover). IsSeen k w.done.seen) same w.done.is_seen,
         subst IsSound same w.done.sound,
         append_cancel_left w.old said _ w.done.said,

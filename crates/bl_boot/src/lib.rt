@@ -13,8 +13,6 @@ pub use bl_session::{FILE_LIMIT, Fetched};
 pub use booting::boot;
 pub use converting::convert;
 pub use fetching::{AskedNames, Files, MemFiles};
-pub use laws::{
-    booted_images_show_their_entries, converted_images_are_walked_alike, two_boots,
-};
+pub use laws::{booted_images_show_their_entries, converted_images_are_walked_alike, two_boots};
 pub use mapping::map_to;
 pub use walking::walk_to;
