@@ -1,5 +1,5 @@
 -- An entry's value: what is booted, wherever its files lie and whatever they are called. Own.
-use Rattle.std.specs.Prelude.{ℕ, ◌+◌, ◌≤◌, if◌then◌else◌, ◌==◌, nat_lt, List, [], ◌∷◌, length, map}
+use Rattle.std.specs.Prelude.{ℕ, Bool, true, false, ◌+◌, ◌≤◌, if◌then◌else◌, ◌==◌, nat_lt, List, [], ◌∷◌, length, map}
 use Rattle.std.specs.Prelude.{slice_index_or, Option, Some, None, IfSome, option_to_list}
 use Rattle.std.specs.List.{list_any}
 use Rattle.std.specs.Option.{option_or}
@@ -46,11 +46,16 @@ linux_value protocol texts line = record {
   rsdp_new = None;
 }
 
+-- how a Linux kernel is entered: with 64 bits where the entry is wide
+abbrev pub entered_by : Bool → Protocol
+entered_by false = protocols.Linux
+entered_by true = protocols.Linux64
+
 -- the value of an entry whose files hold these texts
 abbrev pub value_of : {A : Type 0} → List (List ℕ) → Entry A → EntryValue
 value_of texts (Multiboot2 kernel line modules rsdp_old rsdp_new) =
     multiboot2_value texts line (map (λ m. m.line) modules.items) rsdp_old rsdp_new
-value_of texts (Linux kernel line initrd) = linux_value protocols.Linux texts line
+value_of texts (Linux kernel line initrd wide) = linux_value (entered_by wide) texts line
 
 -- the bytes of the kernel's file
 abbrev pub kernel_file : EntryValue → List ℕ
@@ -68,7 +73,7 @@ initrd_file files = slice_index_or files 1 []
 -- how many files an entry has: the kernel, and the modules or the initial ramdisk
 abbrev pub file_count : {A : Type 0} → Entry A → ℕ
 file_count (Multiboot2 kernel line modules rsdp_old rsdp_new) = 1 + length modules.items
-file_count (Linux kernel line initrd) = 1 + length (option_to_list initrd)
+file_count (Linux kernel line initrd wide) = 1 + length (option_to_list initrd)
 
 -- a copy of an RSDP has at most so many bytes
 abbrev pub most_copy : ℕ

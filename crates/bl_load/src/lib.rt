@@ -36,4 +36,6 @@ pub use plan::{Content, Plan, PlannedPart};
 pub use preparing::prepare;
 pub use protocols::descriptors_of;
 pub use refusal::{PrepFault, Refusal};
-pub use registers::{Registers, linux_registers, multiboot2_registers};
+pub use registers::{
+    Registers, Registers32, Registers64, linux_registers, linux64_registers, multiboot2_registers,
+};

@@ -1,6 +1,7 @@
 //! The contents of a Linux entry's parts, at their places.
 ghost use Rattle.std.specs.Prelude.{◌≡◌, ◌≤◌, ◌<◌, ◌^◌, [], All, IfOk, length, map, unwrap_or};
 ghost use Rattle.bl_params.specs.BootParams as params;
+ghost use Rattle.bl_params.specs.Paging.{paging};
 ghost use Rattle.bl_plan.specs.declared.part.Role.TheVariants as role;
 ghost use Rattle.bl_load.specs.Value.{initrd_file};
 ghost use Rattle.bl_load.specs.Linux.{IsLinuxKernel};
@@ -22,9 +23,9 @@ use crate::plan::Content;
 use crate::protocols::descriptors_of;
 use crate::source::Source;
 use bl_bzimage::Setup;
-use bl_map::Machine;
+use bl_map::{FRAME, Machine};
 use bl_mem::{ByteView, Bytes};
-use bl_params::{ParamFacts, write_params};
+use bl_params::{ParamFacts, page_tables, write_params};
 use bl_plan::{Place, Protocol, Role};
 use std::alloc::{AllocError, Allocator};
 
@@ -83,6 +84,23 @@ fn descriptors<A: Allocator>(alloc: A, protocol: Protocol) -> Result<Bytes<A>, A
         Some(bytes) => Bytes::copy(alloc, &bytes),
         None => Bytes::copy(alloc, &[]),
     }
+}
+
+/// The page tables, where the parts have these places.
+fn page_tables_at<A: Allocator>(alloc: A, places: &[Place]) -> Result<Bytes<A>, AllocError>
+    requires low { All IsLow places.now }
+    requires fits { FitsTables places.now }
+    ensures { IfOk result (λ bytes. bytes
+        ≡ paging (addresses.address_of role.PageTables 0 places.now)) }
+{
+    let base = address_of(Role::PageTables, 0, places) as u64;
+    let mut bytes = Vec::with_capacity(alloc, 6 * FRAME as usize)?;
+    let mut frame = [0u8; 4096];
+    for index in 0..6 {
+        page_tables(base, index, &mut frame);
+        bytes.extend_from_slice(&frame)?;
+    }
+    Ok(Bytes::from(bytes))
 }
 
 /// The content of the initrd's part: its whole file.
@@ -146,6 +164,7 @@ pub fn linux_content<A: Allocator + Copy, V: ByteView>(
         Role::CommandLine => Ok(Content::Own(Bytes::copy(alloc, source.line)?)),
         Role::Gdt => Ok(Content::Own(descriptors(alloc, source.protocol)?)),
         Role::Initrd => Ok(initrd_content(source.files)),
+        Role::PageTables => Ok(Content::Own(page_tables_at(alloc, places)?)),
         Role::Module | Role::Information => unreachable!(),
     }
 }

@@ -2,11 +2,13 @@
 ghost use Rattle.std.specs.Prelude.{◌≡◌};
 ghost use Rattle.bl_load.specs.Registers as state;
 
-/// The registers as a kernel begins (Multiboot2 3.3 "I386 machine state"; Linux/x86 boot protocol,
-/// "32-bit boot protocol"). A segment register's number is its selector; A20 is 1 where the gate is
-/// open.
+use crate::linux::ENTRY_64;
+
+/// The registers as a kernel begins that is entered with 32 bits (Multiboot2 3.3 "I386 machine
+/// state"; Linux/x86 boot protocol, "32-bit boot protocol"). A segment register's number is its
+/// selector; A20 is 1 where the gate is open.
 #[derive(Clone, Copy, Debug, PartialEq, Eq)]
-pub struct Registers {
+pub struct Registers32 {
     pub eip: u32,
     pub eax: u32,
     pub ebx: u32,
@@ -29,37 +31,115 @@ pub struct Registers {
     pub a20: u32,
 }
 
+/// The registers as a kernel begins that is entered with 64 bits and with paging (Linux/x86 boot
+/// protocol, "64-bit boot protocol"). A segment register's number is its selector; A20 is 1 where
+/// the gate is open.
+#[derive(Clone, Copy, Debug, PartialEq, Eq)]
+pub struct Registers64 {
+    pub rip: u64,
+    pub rax: u64,
+    pub rbx: u64,
+    pub rcx: u64,
+    pub rdx: u64,
+    pub rsi: u64,
+    pub rdi: u64,
+    pub rbp: u64,
+    pub rsp: u64,
+    pub r8: u64,
+    pub r9: u64,
+    pub r10: u64,
+    pub r11: u64,
+    pub r12: u64,
+    pub r13: u64,
+    pub r14: u64,
+    pub r15: u64,
+    pub rflags: u64,
+    pub cr0: u64,
+    pub cr3: u64,
+    pub cr4: u64,
+    pub efer: u64,
+    pub cs: u64,
+    pub ds: u64,
+    pub es: u64,
+    pub fs: u64,
+    pub gs: u64,
+    pub ss: u64,
+    pub gdt_base: u64,
+    pub gdt_limit: u64,
+    pub a20: u64,
+}
+
+/// The registers as a kernel begins: of a processor in protected mode, or in 64-bit mode.
+#[derive(Clone, Copy, Debug, PartialEq, Eq)]
+pub enum Registers {
+    Bits32(Registers32),
+    Bits64(Registers64),
+}
+
 impl Registers {
     ghost use Rattle.std.specs.Prelude.{◌≡◌};
     ghost use Rattle.bl_load.specs.Registers.{entry_in, information_in, params_in, gdt_in};
+    ghost use Rattle.bl_load.specs.Registers.{tables_in, are_wide};
+
+    /// Whether they are those of 64 bits.
+    pub fn are_wide(self) -> bool
+        ensures { result ≡ are_wide self }
+    {
+        match self {
+            Registers::Bits32(_) => false,
+            Registers::Bits64(_) => true,
+        }
+    }
 
     /// Where the kernel is entered.
     pub fn entry(self) -> u64
         ensures { result ≡ entry_in self }
     {
-        self.eip as u64
+        match self {
+            Registers::Bits32(r) => r.eip as u64,
+            Registers::Bits64(r) => r.rip,
+        }
     }
 
     /// Where a Multiboot2 kernel finds its information (Multiboot2 3.3 "I386 machine state").
     pub fn information(self) -> u64
         ensures { result ≡ information_in self }
     {
-        self.ebx as u64
+        match self {
+            Registers::Bits32(r) => r.ebx as u64,
+            Registers::Bits64(r) => r.rbx,
+        }
     }
 
     /// Where a Linux kernel finds its boot parameters (Linux/x86 boot protocol, "32-bit boot
-    /// protocol").
+    /// protocol" and "64-bit boot protocol").
     pub fn params(self) -> u64
         ensures { result ≡ params_in self }
     {
-        self.esi as u64
+        match self {
+            Registers::Bits32(r) => r.esi as u64,
+            Registers::Bits64(r) => r.rsi,
+        }
     }
 
     /// Where the descriptors of segments stand.
     pub fn gdt(self) -> u64
         ensures { result ≡ gdt_in self }
     {
-        self.gdt_base as u64
+        match self {
+            Registers::Bits32(r) => r.gdt_base as u64,
+            Registers::Bits64(r) => r.gdt_base,
+        }
+    }
+
+    /// Where the page tables stand, 0 with 32 bits, which have none.
+    pub fn tables(self) -> u64
+        ensures { result ≡ tables_in self }
+    {
+        match self {
+            Registers::Bits32(_) => 0,
+            Registers::Bits64(r) => r.cr3,
+        }
     }
 }
 
@@ -68,10 +148,10 @@ impl Registers {
 const BOOTLOADER_MAGIC: u32 = 0x36D7_6289;
 
 /// The registers that a Multiboot2 kernel begins with.
-pub fn multiboot2_registers(entry: u32, information: u32) -> Registers
+pub fn multiboot2_registers(entry: u32, information: u32) -> Registers32
     ensures { result ≡ state.multiboot2_registers entry information }
 {
-    Registers {
+    Registers32 {
         eip: entry,
         eax: BOOTLOADER_MAGIC,
         ebx: information,
@@ -99,10 +179,10 @@ pub fn multiboot2_registers(entry: u32, information: u32) -> Registers
 const GDT_LIMIT: u32 = 31;
 
 /// The registers that a Linux kernel begins with.
-pub fn linux_registers(kernel: u32, boot_params: u32, gdt: u32) -> Registers
+pub fn linux_registers(kernel: u32, boot_params: u32, gdt: u32) -> Registers32
     ensures { result ≡ state.linux_registers kernel boot_params gdt }
 {
-    Registers {
+    Registers32 {
         eip: kernel,
         eax: 0,
         ebx: 0,
@@ -122,6 +202,46 @@ pub fn linux_registers(kernel: u32, boot_params: u32, gdt: u32) -> Registers
         ss: 0x18,
         gdt_base: gdt,
         gdt_limit: GDT_LIMIT,
+        a20: 1,
+    }
+}
+
+/// The registers that a Linux kernel begins with by its 64-bit entry: paging is on (CR0 bit 31, CR4
+/// bit 5, EFER bits 8 and 10), over the page tables at `tables`.
+pub fn linux64_registers(kernel: u32, boot_params: u32, gdt: u32, tables: u32) -> Registers64
+    ensures { result ≡ state.linux64_registers kernel boot_params gdt tables }
+{
+    Registers64 {
+        rip: kernel as u64 + ENTRY_64,
+        rax: 0,
+        rbx: 0,
+        rcx: 0,
+        rdx: 0,
+        rsi: boot_params as u64,
+        rdi: 0,
+        rbp: 0,
+        rsp: 0,
+        r8: 0,
+        r9: 0,
+        r10: 0,
+        r11: 0,
+        r12: 0,
+        r13: 0,
+        r14: 0,
+        r15: 0,
+        rflags: 2,
+        cr0: 0x8000_0011,
+        cr3: tables as u64,
+        cr4: 0x20,
+        efer: 0x500,
+        cs: 0x10,
+        ds: 0x18,
+        es: 0x18,
+        fs: 0x18,
+        gs: 0x18,
+        ss: 0x18,
+        gdt_base: gdt as u64,
+        gdt_limit: GDT_LIMIT as u64,
         a20: 1,
     }
 }
