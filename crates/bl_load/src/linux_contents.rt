@@ -15,6 +15,7 @@ ghost use Rattle.bl_load.specs.PlanFacts.{content_by};
 ghost use Rattle.bl_mem.specs.Files.{text_at};
 ghost use Rattle.bl_load.specs.Loadable.{lengths_of, content_length, IsThere, StaysInFiles};
 ghost use Rattle.bl_load.specs.PlacingKept.{IsRowed, IsLow};
+ghost use Rattle.bl_load.specs.ReadKept.{TablesFit};
 ghost use Rattle.bl_load.specs.SourceKept.{texts_in, value_in};
 
 use crate::addresses::address_of;
@@ -89,7 +90,7 @@ fn descriptors<A: Allocator>(alloc: A, protocol: Protocol) -> Result<Bytes<A>, A
 /// The page tables, where the parts have these places.
 fn page_tables_at<A: Allocator>(alloc: A, places: &[Place]) -> Result<Bytes<A>, AllocError>
     requires low { All IsLow places.now }
-    requires fits { FitsTables places.now }
+    requires fits { TablesFit places.now }
     ensures { IfOk result (λ bytes. bytes
         ≡ paging (addresses.address_of role.PageTables 0 places.now)) }
 {
@@ -149,6 +150,7 @@ pub fn linux_content<A: Allocator + Copy, V: ByteView>(
     requires few { length source.now.machine.now.runs ≤ 128 }
     requires size { length (initrd_file (texts_in source.now)) < 2 ^ 32 }
     requires low { All IsLow places.now }
+    requires tables { TablesFit places.now }
     requires rowed { IsRowed source.now.machine.now (value_in source.now)
         (linux setup.now) place.now }
     ensures content { IfOk result (λ content. content_by (texts_in source.now) content

@@ -16,6 +16,7 @@ use crate::kernel::{KernelFile, read_kernel};
 use crate::linux::read_linux;
 use crate::placing::plan_parts;
 use crate::plan::Plan;
+use crate::protocols::entered_by;
 use crate::refusal::{PrepFault, Refusal};
 use crate::source::Source;
 use bl_map::Machine;
@@ -189,8 +190,8 @@ pub fn prepare<A: Allocator + Copy, V: ByteView>(
             rsdp_new,
             files,
         ),
-        Entry::Linux { line, .. } => {
-            prepare_linux(alloc, Protocol::Linux, machine, line.as_slice(), files)
+        Entry::Linux { line, wide, .. } => {
+            prepare_linux(alloc, entered_by(*wide), machine, line.as_slice(), files)
         }
     }
 }
