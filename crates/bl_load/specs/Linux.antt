@@ -12,7 +12,6 @@ use Rattle.bl_bzimage.specs.Setup.{setup_of}
 use Rattle.bl_bzimage.specs.Setup as bzimage
 use Rattle.bl_plan.specs.declared.protocol.Protocol.{Protocol}
 use Rattle.bl_plan.specs.declared.protocol.Protocol.TheVariants.{Multiboot2, Linux, Linux64}
-use Rattle.bl_load.specs.Registers.{entry_64}
 use Rattle.bl_load.specs.declared.refusal.Refusal.{Refusal}
 use Rattle.bl_load.specs.declared.refusal.Refusal.TheVariants as refusal
 
@@ -28,6 +27,10 @@ setup_refusal setup_fault.BadPreferred = refusal.BadPreferred
 -- "xloadflags" tells of the 64-bit entry from version 2.12 on, by bit 0 (XLF_KERNEL_64)
 abbrev pub has_64_bit_entry : Setup → Bool
 has_64_bit_entry setup = nat_le 0x020C setup.version && (setup.xloadflags % 2 == 1)
+
+-- the 64-bit entry lies so many bytes behind the first one that is loaded ("64-bit Boot Protocol")
+abbrev pub entry_64 : ℕ
+entry_64 = 0x200
 
 -- why a kernel of this setup can't be entered by a protocol: each has the 32-bit entry ("32-bit
 -- Boot Protocol"), and Multiboot2 asks nothing of a setup; the 64-bit entry must be there, and be

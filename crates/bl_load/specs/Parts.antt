@@ -31,6 +31,7 @@ use Rattle.bl_load.specs.Blocks.{low_of, block_of}
 use Rattle.bl_load.specs.Rows.{rows_of, information_of}
 use Rattle.bl_load.specs.LinuxRows.{told_of}
 use Rattle.bl_load.specs.Registers.{multiboot2_registers, linux_registers, linux64_registers}
+use Rattle.bl_load.specs.Linux.{entry_64}
 use Rattle.bl_load.specs.Protocols.{descriptors_of}
 use Rattle.bl_plan.specs.Order.{in_order}
 use Rattle.bl_load.specs.Handover.{Part, Handover, part_at, filled}
@@ -106,7 +107,7 @@ registers_of protocols.Linux reading places =
 registers_of protocols.Linux64 reading places =
     Bits64
     (linux64_registers
-    (start_of reading places) (address_of BootParams 0 places) (address_of Gdt 0 places)
+    (start_of reading places + entry_64) (address_of BootParams 0 places) (address_of Gdt 0 places)
     (address_of PageTables 0 places))
 
 -- what an entry hands over, where its rows have these places

@@ -1,6 +1,6 @@
 -- The registers as a kernel begins (Multiboot2 3.3 "I386 machine state"; Linux/x86 Boot Protocol,
 -- "32-bit Boot Protocol" and "64-bit Boot Protocol"). What the texts leave open is own.
-use Rattle.std.specs.Prelude.{ℕ, ◌+◌, Bool, true, false}
+use Rattle.std.specs.Prelude.{ℕ, Bool, true, false}
 use Rattle.bl_load.specs.declared.registers.Registers32.{Registers32}
 use Rattle.bl_load.specs.declared.registers.Registers64.{Registers64}
 use Rattle.bl_load.specs.declared.registers.Registers.{Registers}
@@ -61,17 +61,13 @@ linux_registers kernel boot_params gdt = record {
   a20 = 1;
 }
 
--- the 64-bit entry lies so many bytes behind the first one that is loaded ("64-bit Boot Protocol")
-abbrev pub entry_64 : ℕ
-entry_64 = 0x200
-
--- by the address where a Linux kernel lies, and by those of its boot parameters, its descriptors and
--- its page tables: it is entered in 64-bit mode with paging (Intel SDM, volume 3, 2.5 "Control
+-- by the address where a Linux kernel is entered, and by those of its boot parameters, its
+-- descriptors and its page tables: it is entered in 64-bit mode with paging (Intel SDM, volume 3, 2.5 "Control
 -- Registers", 2.2.1 "Extended Feature Enable Register": CR0.PE, ET and PG, CR4.PAE, EFER.LME and
 -- LMA)
 abbrev pub linux64_registers : ℕ → ℕ → ℕ → ℕ → Registers64
-linux64_registers kernel boot_params gdt tables = record {
-  rip = kernel + entry_64;
+linux64_registers entry boot_params gdt tables = record {
+  rip = entry;
   rax = 0;
   rbx = 0;
   rcx = 0;

@@ -1,9 +1,10 @@
 -- An entry's value: what is booted, wherever its files lie and whatever they are called. Own.
-use Rattle.std.specs.Prelude.{ℕ, Bool, true, false, ◌+◌, ◌≤◌, if◌then◌else◌, ◌==◌, nat_lt, List, [], ◌∷◌, length, map}
+use Rattle.std.specs.Prelude.{ℕ, ◌+◌, ◌≤◌, if◌then◌else◌, ◌==◌, nat_lt, List, [], ◌∷◌, length, map}
 use Rattle.std.specs.Prelude.{slice_index_or, Option, Some, None, IfSome, option_to_list}
 use Rattle.std.specs.List.{list_any}
 use Rattle.std.specs.Option.{option_or}
 use Rattle.bl_plan.specs.Limits.{most_modules}
+use Rattle.bl_plan.specs.Protocols.{of_linux}
 use Rattle.bl_plan.specs.declared.protocol.Protocol.{Protocol}
 use Rattle.bl_plan.specs.declared.protocol.Protocol.TheVariants as protocols
 use Rattle.bl_load.specs.declared.entry.Entry.{Entry}
@@ -46,16 +47,11 @@ linux_value protocol texts line = record {
   rsdp_new = None;
 }
 
--- how a Linux kernel is entered: with 64 bits where the entry is wide
-abbrev pub entered_by : Bool → Protocol
-entered_by false = protocols.Linux
-entered_by true = protocols.Linux64
-
 -- the value of an entry whose files hold these texts
 abbrev pub value_of : {A : Type 0} → List (List ℕ) → Entry A → EntryValue
 value_of texts (Multiboot2 kernel line modules rsdp_old rsdp_new) =
     multiboot2_value texts line (map (λ m. m.line) modules.items) rsdp_old rsdp_new
-value_of texts (Linux kernel line initrd wide) = linux_value (entered_by wide) texts line
+value_of texts (Linux kernel line initrd wide) = linux_value (of_linux wide) texts line
 
 -- the bytes of the kernel's file
 abbrev pub kernel_file : EntryValue → List ℕ

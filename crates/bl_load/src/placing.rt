@@ -17,6 +17,7 @@ ghost use Rattle.bl_load.specs.SourceKept.{texts_in, reading_in, value_in, IsRea
 
 use crate::addresses::address_of;
 use crate::kernel::{Kernel, KernelFile};
+use crate::linux::ENTRY_64;
 use crate::linux_rows::linux_rows;
 use crate::parts::parts_at;
 use crate::plan::{Plan, PlannedPart};
@@ -92,10 +93,10 @@ fn registers_of<A: Allocator>(
             Registers::Bits32(linux_registers(start, boot_params, gdt))
         }
         Protocol::Linux64 => {
-            let boot_params = address_of(Role::BootParams, 0, places);
-            let gdt = address_of(Role::Gdt, 0, places);
-            let tables = address_of(Role::PageTables, 0, places);
-            Registers::Bits64(linux64_registers(start, boot_params, gdt, tables))
+            let boot_params = address_of(Role::BootParams, 0, places) as u64;
+            let gdt = address_of(Role::Gdt, 0, places) as u64;
+            let tables = address_of(Role::PageTables, 0, places) as u64;
+            Registers::Bits64(linux64_registers(start as u64 + ENTRY_64, boot_params, gdt, tables))
         }
     }
 }

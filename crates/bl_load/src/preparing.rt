@@ -16,7 +16,6 @@ use crate::kernel::{KernelFile, read_kernel};
 use crate::linux::read_linux;
 use crate::placing::plan_parts;
 use crate::plan::Plan;
-use crate::protocols::entered_by;
 use crate::refusal::{PrepFault, Refusal};
 use crate::source::Source;
 use bl_map::Machine;
@@ -191,7 +190,7 @@ pub fn prepare<A: Allocator + Copy, V: ByteView>(
             files,
         ),
         Entry::Linux { line, wide, .. } => {
-            prepare_linux(alloc, entered_by(*wide), machine, line.as_slice(), files)
+            prepare_linux(alloc, Protocol::of_linux(*wide), machine, line.as_slice(), files)
         }
     }
 }

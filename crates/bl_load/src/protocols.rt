@@ -1,21 +1,9 @@
 //! What a kernel is handed by its protocol, beside its registers.
 ghost use Rattle.std.specs.Prelude.{◌≡◌};
 ghost use Rattle.bl_load.specs.Protocols as protocols;
-ghost use Rattle.bl_load.specs.Value as value;
 
 use bl_params::{gdt, gdt64};
 use bl_plan::Protocol;
-
-/// How a Linux kernel is entered: with 64 bits where the entry is wide.
-pub fn entered_by(wide: bool) -> Protocol
-    ensures { result ≡ value.entered_by wide }
-{
-    if wide {
-        Protocol::Linux64
-    } else {
-        Protocol::Linux
-    }
-}
 
 /// The descriptors of segments that a kernel of this protocol is handed, if any (Linux/x86 boot
 /// protocol, "32-bit boot protocol" and "64-bit boot protocol").

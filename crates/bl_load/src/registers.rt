@@ -2,8 +2,6 @@
 ghost use Rattle.std.specs.Prelude.{◌≡◌};
 ghost use Rattle.bl_load.specs.Registers as state;
 
-use crate::linux::ENTRY_64;
-
 /// The registers as a kernel begins that is entered with 32 bits (Multiboot2 3.3 "I386 machine
 /// state"; Linux/x86 boot protocol, "32-bit boot protocol"). A segment register's number is its
 /// selector; A20 is 1 where the gate is open.
@@ -208,16 +206,16 @@ pub fn linux_registers(kernel: u32, boot_params: u32, gdt: u32) -> Registers32
 
 /// The registers that a Linux kernel begins with by its 64-bit entry: paging is on (CR0 bit 31, CR4
 /// bit 5, EFER bits 8 and 10), over the page tables at `tables`.
-pub fn linux64_registers(kernel: u32, boot_params: u32, gdt: u32, tables: u32) -> Registers64
-    ensures { result ≡ state.linux64_registers kernel boot_params gdt tables }
+pub fn linux64_registers(entry: u64, boot_params: u64, gdt: u64, tables: u64) -> Registers64
+    ensures { result ≡ state.linux64_registers entry boot_params gdt tables }
 {
     Registers64 {
-        rip: kernel as u64 + ENTRY_64,
+        rip: entry,
         rax: 0,
         rbx: 0,
         rcx: 0,
         rdx: 0,
-        rsi: boot_params as u64,
+        rsi: boot_params,
         rdi: 0,
         rbp: 0,
         rsp: 0,
@@ -231,7 +229,7 @@ pub fn linux64_registers(kernel: u32, boot_params: u32, gdt: u32, tables: u32) -
         r15: 0,
         rflags: 2,
         cr0: 0x8000_0011,
-        cr3: tables as u64,
+        cr3: tables,
         cr4: 0x20,
         efer: 0x500,
         cs: 0x10,
@@ -240,7 +238,7 @@ pub fn linux64_registers(kernel: u32, boot_params: u32, gdt: u32, tables: u32) -
         fs: 0x18,
         gs: 0x18,
         ss: 0x18,
-        gdt_base: gdt as u64,
+        gdt_base: gdt,
         gdt_limit: GDT_LIMIT as u64,
         a20: 1,
     }

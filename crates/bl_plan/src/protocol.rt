@@ -12,6 +12,17 @@ pub enum Protocol {
 }
 
 impl Protocol {
+    /// The protocol of a Linux entry: the 64-bit entry where it is wide, else the 32-bit one.
+    pub fn of_linux(wide: bool) -> Protocol
+        ensures { result ≡ protocols.of_linux wide }
+    {
+        if wide {
+            Protocol::Linux64
+        } else {
+            Protocol::Linux
+        }
+    }
+
     /// The protocol's number in an image, 1 to 3.
     pub fn number(self) -> u32
         ensures { result ≡ protocols.protocol_number self }
