@@ -21,9 +21,10 @@ use std::alloc::Allocator;
 /// Where a part ends at most: 4 GiB.
 const MOST_END: u64 = 0x1_0000_0000;
 
-fn role_of(number: u32) -> Option<Role>
+fn role_of(number: u32, most: u32) -> Option<Role>
+    requires { (most ≡ 7) ⊎ (most ≡ 8) }
     ensures { MatchOption result
-        ((1 ≤ number) × (number ≤ 7) → ⊥)
+        ((1 ≤ number) × (number ≤ most) → ⊥)
         (λ role. roles.role_number role ≡ number) }
 {
     match number {
@@ -34,6 +35,7 @@ fn role_of(number: u32) -> Option<Role>
         5 => Some(Role::CommandLine),
         6 => Some(Role::Gdt),
         7 => Some(Role::Initrd),
+        8 if most == 8 => Some(Role::PageTables),
         _ => None,
     }
 }
