@@ -1,8 +1,13 @@
 -- How an image goes on after its protocol. Own.
-use Rattle.std.specs.Prelude.{ℕ, List, [], ◌∷◌, ◌++◌, ◌==◌, if◌then◌else◌, replicate}
+use Rattle.std.specs.Prelude.{ℕ, Bool, true, false, List, [], ◌∷◌, ◌++◌, ◌==◌, if◌then◌else◌, replicate}
 use Rattle.bl_mem.specs.Words.{u32_at}
 use Rattle.bl_image.specs.Fields.{Field, register_field, narrow_field, absent_field, wide_field}
 use Rattle.bl_image.specs.Fields.{count_field, zero_field}
+
+-- the greatest number of a role, where the registers are those of 64 bits, and where not
+abbrev pub most_role : Bool → ℕ
+most_role true = 8
+most_role false = 7
 
 -- a layout: the fields of the registers, which stand from 16 on; where the number of parts stands,
 -- with a zero word behind it; where the records begin; the greatest number of a role

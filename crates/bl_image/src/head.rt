@@ -7,12 +7,14 @@ ghost use Rattle.bl_image.specs.Begun.{IsBegun};
 ghost use Rattle.bl_image.specs.Image.{head, register_numbers};
 ghost use Rattle.bl_image.specs.Image as image;
 ghost use Rattle.bl_image.specs.RecordsKept.{place_record, AreSpellable};
+ghost use Rattle.bl_image.specs.Spellable.{AreFit};
+ghost use Rattle.bl_load.specs.declared.registers.Registers.TheVariants.{Bits32, Bits64};
 ghost use Rattle.bl_image.specs.Versions.{written_version};
 
 use crate::places::Places;
 use crate::sink::{DeviceFault, Sink, write_all};
 use crate::version::Version;
-use bl_load::{Protocol, Registers};
+use bl_load::{Protocol, Registers, Registers32, Registers64};
 use bl_mem::{write_u32s, write_u64s};
 use bl_plan::Place;
 
@@ -34,9 +36,9 @@ const RECORD: usize = 24;
 /// How many bytes stand at most before those of the parts.
 pub(crate) const MOST_FRONT: usize = HEAD + RECORD * MOST_PARTS as usize;
 
-/// The numbers of the registers of a processor of 64 bits, in their order.
-fn wide_numbers(r: &Registers) -> [u64; WIDE]
-    ensures wide { result ≡ image.wide_numbers r.now }
+/// The numbers of the registers of 32 bits, in the order of those of 64; what they do not give is 0.
+fn narrow_numbers(r: &Registers32) -> [u64; WIDE]
+    ensures wide { result ≡ image.wide_numbers (Bits32 r.now) }
     ensures fit { All (λ n. n < 2 ^ 32) (register_numbers r.now) }
 {
     [
@@ -74,6 +76,57 @@ fn wide_numbers(r: &Registers) -> [u64; WIDE]
     ]
 }
 
+/// The numbers of the registers of 64 bits, in their order.
+fn wide_numbers(r: &Registers64) -> [u64; WIDE]
+    ensures wide { result ≡ image.wide_numbers (Bits64 r.now) }
+    ensures fit { All (λ n. n < 2 ^ 64) (image.wide_numbers (Bits64 r.now)) }
+{
+    [
+        r.rip,
+        r.rax,
+        r.rbx,
+        r.rcx,
+        r.rdx,
+        r.rsi,
+        r.rdi,
+        r.rbp,
+        r.rsp,
+        r.r8,
+        r.r9,
+        r.r10,
+        r.r11,
+        r.r12,
+        r.r13,
+        r.r14,
+        r.r15,
+        r.rflags,
+        r.cr0,
+        r.cr3,
+        r.cr4,
+        r.efer,
+        r.cs,
+        r.ds,
+        r.es,
+        r.fs,
+        r.gs,
+        r.ss,
+        r.gdt_base,
+        r.gdt_limit,
+        r.a20,
+    ]
+}
+
+/// The numbers of registers, in their order.
+fn numbers_of(r: &Registers) -> [u64; WIDE]
+    ensures wide { result ≡ image.wide_numbers r.now }
+    ensures fit { AreFit r.now }
+{
+    match r {
+        Registers::Bits32(r) => narrow_numbers(r),
+        Registers::Bits64(r) => wide_numbers(r),
+    }
+}
+
 /// The record of a part.
 fn record_bytes(place: &Place) -> [u8; RECORD]
     ensures bytes { result ≡ place_record place.now }
@@ -97,12 +150,12 @@ fn put(buffer: &mut [u8], at: usize, bytes: &[u8])
 /// The head of an image with so many parts.
 fn head_bytes(protocol: Protocol, r: &Registers, count: u32) -> [u8; HEAD]
     ensures bytes { result ≡ head written_version protocol r.now count }
-    ensures fit { All (λ n. n < 2 ^ 32) (register_numbers r.now) }
+    ensures fit { AreFit r.now }
 {
     let mut opening = [0u8; 8];
     write_u32s(&[Version::Two.number(), protocol.number()], &mut opening);
     let mut numbers = [0u8; 8 * WIDE];
-    write_u64s(&wide_numbers(r), &mut numbers);
+    write_u64s(&numbers_of(r), &mut numbers);
     let mut closing = [0u8; 8];
     write_u32s(&[count, 0], &mut closing);
     let mut bytes = [0u8; HEAD];
