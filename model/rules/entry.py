@@ -3,7 +3,7 @@
 from typing import List, NamedTuple, Optional, Tuple, Union
 
 from . import linux_entry, multiboot2_entry
-from .handover import Handover
+from .handover import LINUX, Handover
 from .machine import Machine, Range
 from .numbers import frames
 from .places import undisturbed_frames
@@ -25,6 +25,7 @@ class LinuxEntry(NamedTuple):
     kernel: bytes
     line: bytes
     initrd: Optional[bytes]
+    protocol: int = LINUX  # or LINUX64
 
 
 Entry = Union[Multiboot2Entry, LinuxEntry]
@@ -37,12 +38,13 @@ def is_copy(copy: Optional[bytes]) -> bool:
 
 def prepare(machine: Machine, entry: Entry) -> Handover:
     """Steps 4 to 8 of the checks of an entry, whose files are all there; refused with 4 to 20 and
-    22 to 29. The room is not asked for."""
+    22 to 30. The room is not asked for."""
     check_lines(entry)
     if isinstance(entry, Multiboot2Entry):
         return multiboot2_entry.prepare(machine, entry.kernel, entry.line, entry.modules,
                                         entry.rsdp_old, entry.rsdp_new)
-    return linux_entry.prepare(machine, entry.kernel, entry.line, entry.initrd)
+    return linux_entry.prepare(machine, entry.kernel, entry.line, entry.initrd,
+                               entry.protocol)
 
 
 def check_room(machine: Machine, parts: List[Range], file_lengths: List[int]) -> None:

@@ -1,9 +1,10 @@
 """The descriptors and the page tables of the 64-bit entry, and where an address leads by them.
 docs/BOOT-RULES.md, "Page tables"; Intel SDM volume 3, 4.5."""
 
+from functools import lru_cache
 from typing import Dict, List, Optional
 
-from .numbers import u64
+from .numbers import long, u64
 
 FRAME = 0x1000
 FRAMES = 6
@@ -11,10 +12,8 @@ PAGE = 1 << 21
 PRESENT_WRITABLE = 3
 PAGE_BITS = 0x83  # present, writable, and a page of 2 MiB
 WORDS = FRAME // 8
-
-
-def long(number: int) -> bytes:
-    return number.to_bytes(8, "little")
+LENGTH = FRAMES * FRAME
+REACH = 1 << 32  # each address below it leads to itself
 
 
 def gdt64() -> bytes:
@@ -35,9 +34,20 @@ def frame(base: int, number: int) -> bytes:
     return b"".join(long(word) for word in words)
 
 
+def tables(base: int) -> bytes:
+    """All six frames."""
+    return b"".join(frame(base, number) for number in range(FRAMES))
+
+
+@lru_cache(maxsize=64)
+def is_identity(tables: bytes, base: int) -> bool:
+    """Whether each page below 4 GiB leads to itself."""
+    return all(translate(tables, base, at) == at for at in range(0, REACH, PAGE))
+
+
 def translate(tables: bytes, base: int, address: int) -> Optional[int]:
     """By three levels: bits 39 to 47, 30 to 38 and 21 to 29 of the address."""
-    if len(tables) != FRAMES * FRAME or address >> 48:
+    if len(tables) != LENGTH or address >> 48:
         return None
     frames: Dict[int, int] = {base + n * FRAME + PRESENT_WRITABLE: n for n in range(FRAMES)}
     at: Optional[int] = 0
