@@ -1,7 +1,6 @@
 """The descriptors and the page tables of the 64-bit entry, and where an address leads by them.
 docs/BOOT-RULES.md, "Page tables"; Intel SDM volume 3, 4.5."""
 
-from functools import lru_cache
 from typing import Dict, List, Optional
 
 from .numbers import long, u64
@@ -39,14 +38,25 @@ def tables(base: int) -> bytes:
     return b"".join(frame(base, number) for number in range(FRAMES))
 
 
-@lru_cache(maxsize=64)
 def is_identity(tables: bytes, base: int) -> bool:
-    """Whether each page below 4 GiB leads to itself."""
-    return all(translate(tables, base, at) == at for at in range(0, REACH, PAGE))
+    """Whether each page below 4 GiB leads to itself: its last word is its address and 0x83. The
+    pages of one GiB have one last frame."""
+    gibs = [last_frame(tables, base, at) for at in range(0, REACH, WORDS * PAGE)]
+    return all(at is not None and tables[at * FRAME:(at + 1) * FRAME] == frame(base, 2 + k)
+               for k, at in enumerate(gibs))
 
 
 def translate(tables: bytes, base: int, address: int) -> Optional[int]:
     """By three levels: bits 39 to 47, 30 to 38 and 21 to 29 of the address."""
+    at = last_frame(tables, base, address)
+    if at is None:
+        return None
+    page = word(tables, at, address >> 21)
+    return page - PAGE_BITS + address % PAGE if page % PAGE == PAGE_BITS else None
+
+
+def last_frame(tables: bytes, base: int, address: int) -> Optional[int]:
+    """The frame whose word names the address's page."""
     if len(tables) != LENGTH or address >> 48:
         return None
     frames: Dict[int, int] = {base + n * FRAME + PRESENT_WRITABLE: n for n in range(FRAMES)}
@@ -55,8 +65,7 @@ def translate(tables: bytes, base: int, address: int) -> Optional[int]:
         at = frames.get(word(tables, at, address >> bit))
         if at is None:
             return None
-    page = word(tables, at, address >> 21)
-    return page - PAGE_BITS + address % PAGE if page % PAGE == PAGE_BITS else None
+    return at
 
 
 def word(tables: bytes, at: int, index: int) -> int:
