@@ -1,5 +1,5 @@
-"""What the 64-bit entry of a Linux kernel has beside the 32-bit one. BOOT-RULES.md "A Linux kernel's
-file", "Places", "Entry state", "Page tables"; LBP "64-bit Boot Protocol"."""
+"""What the 64-bit entry of a Linux kernel has beside the 32-bit one. BOOT-RULES.md "A Linux
+kernel's file", "Places", "Entry state"; LBP "64-bit Boot Protocol"."""
 
 from typing import Dict
 
