@@ -15,7 +15,7 @@ LINE_LIMIT = 0xA0000
 
 def prepare(machine: Machine, kernel_file: bytes, line: bytes, initrd: Optional[bytes],
             protocol: int = LINUX) -> Handover:
-    """Steps 5 to 8, of the 32-bit entry or of the 64-bit one; an initrd of no byte is as none."""
+    """Steps 5 to 9, of the 32-bit entry or of the 64-bit one; an initrd of no byte is as none."""
     is_wide = protocol == LINUX64
     setup = bzimage.read(kernel_file)
     if is_wide:
