@@ -17,20 +17,31 @@ use std::test::Fail;
 const LONG: u64 = 65541;
 
 // How long the image is: head, two records, five bytes, and the second part.
-const TOTAL: usize = 65698;
+const TOTAL: usize = 65866;
 
 // What stands before the parts' bytes.
-const FRONT: [u8; 152] = [
+const FRONT: [u8; 320] = [
     // The magic.
     b'B', b'L', b'I', b'M', b'A', b'G', b'E', 0,
     // The version, the protocol.
-    1, 0, 0, 0, 2, 0, 0, 0,
-    // The registers.
-    0x10, 0x11, 0x12, 0x13, 0x14, 0x15, 0x16, 0x17, 0x18, 0x19, 0x1A, 0x1B, 0x1C, 0x1D, 0x1E, 0x1F,
-    0x20, 0x21, 0x22, 0x23, 0x24, 0x25, 0x26, 0x27, 0x28, 0x29, 0x2A, 0x2B, 0x2C, 0x2D, 0x2E, 0x2F,
-    0x30, 0x31, 0x32, 0x33, 0x34, 0x35, 0x36, 0x37, 0x38, 0x39, 0x3A, 0x3B, 0x3C, 0x3D, 0x3E, 0x3F,
-    0x40, 0x41, 0x42, 0x43, 0x44, 0x45, 0x46, 0x47, 0x48, 0x49, 0x4A, 0x4B, 0x4C, 0x4D, 0x4E, 0x4F,
-    0x50, 0x51, 0x52, 0x53, 0x54, 0x55, 0x56, 0x57, 0x58, 0x59, 0x5A, 0x5B, 0x5C, 0x5D, 0x5E, 0x5F,
+    2, 0, 0, 0, 2, 0, 0, 0,
+    // The registers up to the stack's pointer.
+    0x10, 0x11, 0x12, 0x13, 0, 0, 0, 0, 0x14, 0x15, 0x16, 0x17, 0, 0, 0, 0, 0x18, 0x19, 0x1A, 0x1B,
+    0, 0, 0, 0, 0x1C, 0x1D, 0x1E, 0x1F, 0, 0, 0, 0, 0x20, 0x21, 0x22, 0x23, 0, 0, 0, 0, 0x24, 0x25,
+    0x26, 0x27, 0, 0, 0, 0, 0x28, 0x29, 0x2A, 0x2B, 0, 0, 0, 0, 0x2C, 0x2D, 0x2E, 0x2F, 0, 0, 0, 0,
+    0x30, 0x31, 0x32, 0x33, 0, 0, 0, 0,
+    // R8 to R15.
+    0, 0, 0, 0, 0, 0, 0, 0, 0, 0, 0, 0, 0, 0, 0, 0, 0, 0, 0, 0, 0, 0, 0, 0, 0, 0, 0, 0, 0, 0, 0, 0,
+    0, 0, 0, 0, 0, 0, 0, 0, 0, 0, 0, 0, 0, 0, 0, 0, 0, 0, 0, 0, 0, 0, 0, 0, 0, 0, 0, 0, 0, 0, 0, 0,
+    // The flags and CR0.
+    0x34, 0x35, 0x36, 0x37, 0, 0, 0, 0, 0x38, 0x39, 0x3A, 0x3B, 0, 0, 0, 0,
+    // CR3, CR4, EFER.
+    0, 0, 0, 0, 0, 0, 0, 0, 0, 0, 0, 0, 0, 0, 0, 0, 0, 0, 0, 0, 0, 0, 0, 0,
+    // The others.
+    0x3C, 0x3D, 0x3E, 0x3F, 0, 0, 0, 0, 0x40, 0x41, 0x42, 0x43, 0, 0, 0, 0, 0x44, 0x45, 0x46, 0x47,
+    0, 0, 0, 0, 0x48, 0x49, 0x4A, 0x4B, 0, 0, 0, 0, 0x4C, 0x4D, 0x4E, 0x4F, 0, 0, 0, 0, 0x50, 0x51,
+    0x52, 0x53, 0, 0, 0, 0, 0x54, 0x55, 0x56, 0x57, 0, 0, 0, 0, 0x58, 0x59, 0x5A, 0x5B, 0, 0, 0, 0,
+    0x5C, 0x5D, 0x5E, 0x5F, 0, 0, 0, 0,
     // Two parts, a zero word.
     2, 0, 0, 0, 0, 0, 0, 0,
     // Module 3: five bytes at 7.
@@ -43,9 +54,9 @@ const FRONT: [u8; 152] = [
 // over.
 fn wanted(i: usize) -> u8 {
     match i {
-        0..152 => FRONT[i],
-        152..157 => (i - 152 + 90) as u8,
-        _ => ((i - 157) % 251) as u8,
+        0..320 => FRONT[i],
+        320..325 => (i - 320 + 90) as u8,
+        _ => ((i - 325) % 251) as u8,
     }
 }
 
@@ -91,27 +102,27 @@ const WHOLE: [Row; 4] = [
     (TOTAL + 1, TOTAL),
 ];
 
-// The head ends at 104, the records end at 128 and 152, the first part at 157. The first piece of
-// the second part ends at 157 + 65536.
+// The head ends at 272, the records end at 296 and 320, the first part at 325. The first piece of
+// the second part ends at 325 + 65536.
 const CUT: [Row; 18] = [
     (0, TOTAL),
     (1, TOTAL),
     (20, 1),
-    (103, TOTAL),
-    (104, TOTAL),
-    (105, 7),
-    (127, TOTAL),
-    (128, TOTAL),
-    (151, TOTAL),
-    (152, TOTAL),
-    (153, TOTAL),
-    (156, 1),
-    (157, TOTAL),
-    (158, TOTAL),
-    (65692, TOTAL),
-    (65693, TOTAL),
-    (65694, 1000),
-    (65697, TOTAL),
+    (271, TOTAL),
+    (272, TOTAL),
+    (273, 7),
+    (295, TOTAL),
+    (296, TOTAL),
+    (319, TOTAL),
+    (320, TOTAL),
+    (321, TOTAL),
+    (324, 1),
+    (325, TOTAL),
+    (326, TOTAL),
+    (65860, TOTAL),
+    (65861, TOTAL),
+    (65862, 1000),
+    (65865, TOTAL),
 ];
 
 #[test]
