@@ -25,7 +25,7 @@ use Rattle.bl_boot.specs.WalkSays.{walk_lines}
 is_image : (before after : Input) (h : Handover) (bytes : List ℕ) → before.rest ≡ Some bytes
     → IsRead before after h → (version : Version) × IsImage version bytes h
 is_image before after h bytes e read =
-    known_by (Ok h) before after (read.version, read.came) read.ended read.kept tt bytes e
+    known_by (Ok h) before after (read.version, read.has, read.came) read.ended read.kept tt bytes e
 
 -- and the one that they are an image of
 read_same : (before after : Input) (h k : Handover) (bytes : List ℕ) (version : Version)
@@ -75,6 +75,7 @@ module _ (source converted : List ℕ) (c : Converts source converted) where
   to : IsImage written_version converted h
   to = record {
     is = append_cancel_left c.old converted _ c.done.written;
+    has = tt;
     kept = c.done.read.kept;
   }
 

@@ -82,8 +82,8 @@ few_beside : {A : Type 0} (form : EntryForm A) → length (names_beside (form_vi
 few_beside (Multiboot2 modules rsdp_old rsdp_new) =
     let few = modules.few in
     rw (length-map, length-map) few
-few_beside (Linux None) = omega arith
-few_beside (Linux (Some file)) = omega arith
+few_beside (Linux None wide) = omega arith
+few_beside (Linux (Some file) wide) = omega arith
 
 few_files : {A : Type 0} (row : EntryRow A) → length (file_names (entry_view row)) ≤ 65
 few_files row = let few = few_beside row.form in omega (arith, few)

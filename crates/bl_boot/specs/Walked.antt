@@ -6,6 +6,7 @@ use Rattle.bl_image.specs.Image.{spelling}
 use Rattle.bl_image.specs.ImageFaults.{image_fault}
 use Rattle.bl_image.specs.ImageParts.{IsKept}
 use Rattle.bl_image.specs.Faults.{image_fault_number}
+use Rattle.bl_image.specs.Versions.{HasProtocol}
 use Rattle.bl_image.specs.Source.{Input, Comes, IsEnded, Refuses}
 use Rattle.bl_image.specs.declared.fault.ImageFault.{ImageFault}
 use Rattle.bl_image.specs.declared.fault.ImageFault.TheVariants as image
@@ -19,6 +20,7 @@ use Rattle.bl_boot.specs.WalkSays.{walk_lines}
 -- the image of a handover, in a version, came from the source, and then its end
 pub record IsRead (before after : Input) (handover : Handover) : Type 0 where
   pub version : Version
+  pub has : HasProtocol version handover.protocol
   pub came : Comes before after (spelling version handover)
   pub ended : IsEnded after
   pub kept : IsKept handover

@@ -9,7 +9,7 @@ use Rattle.bl_desc.specs.Values.{◌>>=◌, passing, text_of, bytes_of, has_only
 use Rattle.bl_desc.specs.Values.{at_key_if, in_tables}
 use Rattle.bl_plan.specs.Limits.{most_entries, most_modules}
 use Rattle.bl_plan.specs.declared.protocol.Protocol.{Protocol}
-use Rattle.bl_plan.specs.declared.protocol.Protocol.TheVariants.{Multiboot2, Linux}
+use Rattle.bl_plan.specs.declared.protocol.Protocol.TheVariants.{Multiboot2, Linux, Linux64}
 
 -- a module of an entry: the name of a file, and the module's line
 pub record Module : Type 0 where
@@ -108,21 +108,25 @@ multiboot2_form ms = do
     rsdp_new = rsdp_new;
   })
 
--- with linux it may have an initial ramdisk
-abbrev pub linux_form : Members → Option Form
-linux_form ms = do
+-- with linux, and with linux64, it may have an initial ramdisk
+abbrev pub linux_form : Protocol → Members → Option Form
+linux_form protocol ms = do
   initrd ← at_key_if text_of (codes "initrd") ms
-  Some (record (bare_form Linux) { initrd = initrd })
+  Some (record (bare_form protocol) { initrd = initrd })
 
 abbrev pub protocol_row : Protocol → ProtocolRow
 protocol_row Multiboot2 =
     record { word = codes "multiboot2"; keys = multiboot2_keys; form = multiboot2_form }
-protocol_row Linux = record { word = codes "linux"; keys = codes "initrd" ∷ []; form = linux_form }
+protocol_row Linux =
+    record { word = codes "linux"; keys = codes "initrd" ∷ []; form = linux_form Linux }
+protocol_row Linux64 =
+    record { word = codes "linux64"; keys = codes "initrd" ∷ []; form = linux_form Linux64 }
 
 -- the protocol that is called so
 abbrev pub protocol_named : List ℕ → Option Protocol
 protocol_named name =
-    find (λ protocol. bytes_eq name (protocol_row protocol).word) (Multiboot2 ∷ Linux ∷ [])
+    find (λ protocol. bytes_eq name (protocol_row protocol).word)
+    (Multiboot2 ∷ Linux ∷ Linux64 ∷ [])
 
 abbrev pub protocol_of : Data → Option Protocol
 protocol_of d = text_of d >>= protocol_named

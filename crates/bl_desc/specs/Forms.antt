@@ -1,6 +1,7 @@
 -- How what an entry has beside its kernel is seen, and how long its copies of an RSDP are. Own.
 use Rattle.std.specs.Prelude.{ℕ, List, length, map, ◌≤◌}
 use Rattle.bl_desc.specs.Entries.{Module, Form, bare_form, most_copy}
+use Rattle.bl_plan.specs.Protocols.{of_linux}
 use Rattle.bl_plan.specs.declared.protocol.Protocol.TheVariants as protocol
 use Rattle.bl_desc.specs.declared.form.EntryForm.{EntryForm}
 use Rattle.bl_desc.specs.declared.form.EntryForm.TheVariants.{Multiboot2, Linux}
@@ -16,7 +17,7 @@ form_view (Multiboot2 modules rsdp_old rsdp_new) =
       rsdp_old = rsdp_old;
       rsdp_new = rsdp_new;
     }
-form_view (Linux initrd) = record (bare_form protocol.Linux) { initrd = initrd }
+form_view (Linux initrd wide) = record (bare_form (of_linux wide)) { initrd = initrd }
 
 -- a copy has 1 to 256 bytes
 abbrev pub HasCopyLength : List ℕ → Type 0

@@ -22,7 +22,8 @@ pub struct Modules<A: Allocator> {
 
 /// What an entry has beside its kernel, by its protocol: modules and perhaps copies of the Root
 /// System Description Pointer of ACPI 1.0 and of ACPI 2.0 or later (Multiboot2 3.6.12, 3.6.13), or
-/// perhaps an initial ramdisk, which is the name of a file.
+/// perhaps an initial ramdisk, which is the name of a file. A `wide` form is that of the 64-bit
+/// entry.
 #[derive(Drop)]
 pub enum EntryForm<A: Allocator> {
     Multiboot2 {
@@ -32,6 +33,7 @@ pub enum EntryForm<A: Allocator> {
     },
     Linux {
         initrd: Option<Text<A>>,
+        wide: bool,
     },
 }
 
@@ -45,7 +47,7 @@ impl<A: Allocator> EntryForm<A> {
     {
         match self {
             EntryForm::Multiboot2 { .. } => Protocol::Multiboot2,
-            EntryForm::Linux { .. } => Protocol::Linux,
+            EntryForm::Linux { wide, .. } => Protocol::of_linux(*wide),
         }
     }
 }

@@ -1,6 +1,7 @@
 //! The protocols of entries: what each is called, and what its entries have beside their kernel.
 ghost use Rattle.std.specs.Prelude.{◌≡◌, ◌++◌, codes, option_map, None, IfOk, IfSome};
 ghost use Rattle.toml.specs.View.{table_view};
+ghost use Rattle.bl_plan.specs.Protocols.{of_linux};
 ghost use Rattle.bl_desc.specs.Values as values;
 ghost use Rattle.bl_desc.specs.Entries as spec;
 ghost use Rattle.bl_desc.specs.Entries.{entry_keys, protocol_row};
@@ -24,6 +25,7 @@ pub fn protocol_word(protocol: Protocol) -> &'static str
     match protocol {
         Protocol::Multiboot2 => "multiboot2",
         Protocol::Linux => "linux",
+        Protocol::Linux64 => "linux64",
     }
 }
 
@@ -34,6 +36,7 @@ fn protocol_named(name: &str) -> Option<Protocol>
     match name {
         "multiboot2" => Some(Protocol::Multiboot2),
         "linux" => Some(Protocol::Linux),
+        "linux64" => Some(Protocol::Linux64),
         _ => None,
     }
 }
@@ -59,7 +62,9 @@ pub fn has_keys(table: &Table, protocol: Protocol) -> bool
             ];
             has_only(table, &known)
         }
-        Protocol::Linux => has_only(table, &["title", "protocol", "kernel", "line", "initrd"]),
+        Protocol::Linux | Protocol::Linux64 => {
+            has_only(table, &["title", "protocol", "kernel", "line", "initrd"])
+        }
     }
 }
 
@@ -88,14 +93,16 @@ fn multiboot2_form<A: Allocator + Copy>(alloc: A, table: &Table) -> Result<Entry
     })
 }
 
-fn linux_form<A: Allocator>(alloc: A, table: &Table) -> Result<EntryForm<A>, DescFault>
-    ensures given { Gives form_view result (spec.linux_form (table_view table.now)) }
+fn linux_form<A: Allocator>(alloc: A, table: &Table, wide: bool) -> Result<EntryForm<A>, DescFault>
+    ensures given { Gives form_view result
+        (spec.linux_form (of_linux wide) (table_view table.now)) }
     ensures old { IfOk result (λ form. (form_view form).rsdp_old ≡ None) }
     ensures new { IfOk result (λ form. (form_view form).rsdp_new ≡ None) }
 {
     let initrd = text_if(table, "initrd")?;
     Ok(EntryForm::Linux {
         initrd: own_text(alloc, initrd)?,
+        wide,
     })
 }
 
@@ -111,6 +118,7 @@ pub fn form_in<A: Allocator + Copy>(
 {
     match protocol {
         Protocol::Multiboot2 => multiboot2_form(alloc, table),
-        Protocol::Linux => linux_form(alloc, table),
+        Protocol::Linux => linux_form(alloc, table, false),
+        Protocol::Linux64 => linux_form(alloc, table, true),
     }
 }

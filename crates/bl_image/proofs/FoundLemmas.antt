@@ -1,5 +1,5 @@
 -- In bytes that have no fault a head is found, and each record.
-use Rattle.std.proofs.Common.{◌≡◌, ◌+◌, ◌≤◌, ◌<◌, ◌^◌, ℕ, List, [], ◌∷◌, ◌++◌, take, drop, All}
+use Rattle.std.proofs.Common.{◌≡◌, ◌+◌, ◌≤◌, ◌^◌, ℕ, List, [], ◌∷◌, ◌++◌, take, drop, Bool}
 use Rattle.std.proofs.Common.{None, append_assoc, sym, ap, ◌∙◌}
 use Rattle.std.proofs.lemmas.Bool.Decides.{Decides-eqb}
 use Rattle.std.proofs.lemmas.Slice.Eq.{bytes_eq-Decides}
@@ -10,10 +10,13 @@ use Rattle.bl_plan.specs.declared.part.Place.{Place}
 use Rattle.bl_plan.specs.declared.protocol.Protocol.{Protocol}
 use Rattle.bl_plan.specs.Protocols as protocols
 use Rattle.bl_load.specs.declared.registers.Registers.{Registers}
-use Rattle.bl_image.specs.Image.{magic, head, register_numbers, spelled_registers}
+use Rattle.bl_load.specs.HandoffFacts.{MayStand}
+use Rattle.bl_image.specs.Image.{magic, head, spelled_registers}
+use Rattle.bl_image.specs.Layouts.{most_role}
+use Rattle.bl_image.specs.Spellable.{FitsRegisters}
 use Rattle.bl_image.specs.RecordsKept.{place_record, IsNext}
 use Rattle.bl_image.specs.declared.version.Version.{Version}
-use Rattle.bl_image.specs.Versions.{version_number}
+use Rattle.bl_image.specs.Versions.{version_number, most_protocol, HasProtocol}
 use Rattle.bl_image.specs.Fields.{Field, fields_fault, magic_field, version_field, protocol_field}
 use Rattle.bl_image.specs.Fields.{count_field, zero_field}
 use Rattle.bl_image.specs.Fields.{role_field, index_field, address_field, length_field}
@@ -22,9 +25,9 @@ use Rattle.bl_image.proofs.FrontLemmas.{head_is}
 use Rattle.bl_image.proofs.RecordLemmas.{four_pieces, regroup, record_front}
 use Rattle.bl_image.proofs.NoFaultLemmas.{IsSmall, small_drop, u32_split, u64_split}
 use Rattle.bl_image.proofs.NoFaultLemmas.{u32_small, u64_small, first_none, field_none, le_from}
-use Rattle.bl_image.proofs.NoFaultLemmas.{both_from, protocol_by, role_by, chained}
+use Rattle.bl_image.proofs.NoFaultLemmas.{both_from, version_by, protocol_by, role_by, chained}
 use Rattle.bl_image.proofs.HeadLemmas.{after_version, opened, told}
-use Rattle.bl_image.proofs.RegistersFound.{registers_found, version_by}
+use Rattle.bl_image.proofs.RegistersFound.{registers_found}
 
 pub record HeadFound (bytes : List ℕ) : Type 0 where
   pub version : Version
@@ -34,7 +37,8 @@ pub record HeadFound (bytes : List ℕ) : Type 0 where
   pub rest : List ℕ
   pub is : head version protocol registers count ++ rest ≡ bytes
   pub few : count ≤ 256
-  pub fit : All (λ n. n < 2 ^ 32) (register_numbers registers)
+  pub has : HasProtocol version protocol
+  pub fit : FitsRegisters protocol registers
   pub small : IsSmall rest
 
 pub head_found : (bytes : List ℕ) → IsSmall bytes → head_fault bytes ≡ None → HeadFound bytes
@@ -64,14 +68,14 @@ head_found bytes small none =
     let b3 : List ℕ = drop 4 b2 in
     let s3 : IsSmall b3 = small_drop 4 b2 s2 in
     let told_protocol = u32_at (take 4 b2) 0 in
-    let limits = both_from 1 told_protocol told_protocol 2 f3.passes in
-    let p = protocol_by told_protocol limits.0 limits.1 in
+    let limits = both_from 1 told_protocol told_protocol (most_protocol n) f3.passes in
+    let p = protocol_by v.0 told_protocol limits.0 limits.1 in
     let e2 : u32_bytes (protocols.protocol_number p.0) ++ b3 ≡ b2 =
-    ap (λ (k : ℕ). u32_bytes k ++ b3) p.1 ∙ u32_split b2 s2 f3.long in
+    ap (λ (k : ℕ). u32_bytes k ++ b3) p.2 ∙ u32_split b2 s2 f3.long in
     let laid =
-    sym (told n p.0 b3) ∙ ap (after_version n) e2 ∙ after in
+    sym (told v.0 p.0 p.1 b3) ∙ ap (after_version n) e2 ∙ after in
     let ends : List Field = count_field ∷ zero_field ∷ [] in
-    let r = registers_found v.0 (protocols.protocol_number p.0) ends b3 s3 laid in
+    let r = registers_found v.0 p.0 p.1 ends b3 s3 laid in
     let b4 : List ℕ = r.rest in
     let s4 : IsSmall b4 = r.small in
     let f5 = field_none count_field (zero_field ∷ []) b4 r.left in
@@ -96,26 +100,28 @@ head_found bytes small none =
           ap (λ (l : List ℕ). l ++ drop 4 b5) (sym (head_is v.0 p.0 r.registers count))
           ∙ whole;
       few = le_from count 256 f5.passes;
+      has = p.1;
       fit = r.fit;
       small = small_drop 4 b5 s5;
     }
 
-pub record RecordFound (end : ℕ) (bytes : List ℕ) : Type 0 where
+pub record RecordFound (wide : Bool) (end : ℕ) (bytes : List ℕ) : Type 0 where
   pub place : Place
   pub rest : List ℕ
   pub is : place_record place ++ rest ≡ bytes
+  pub may : MayStand wide place.role
   pub next : IsNext end place
   pub small : IsSmall rest
 
-pub record_found : (part end : ℕ) (bytes : List ℕ) → IsSmall bytes
-    → record_fault 7 part end bytes ≡ None
-    → RecordFound end bytes
+pub record_found : (wide : Bool) (part end : ℕ) (bytes : List ℕ) → IsSmall bytes
+    → record_fault (most_role wide) part end bytes ≡ None
+    → RecordFound wide end bytes
 unfolding role_field index_field address_field length_field
-record_found part end bytes small none =
+record_found wide part end bytes small none =
     let front = first_none _ _ none in
     let f1 =
-    field_none (role_field 7 part) (index_field part ∷ address_field part end ∷ []) bytes
-    front.0 in
+    field_none (role_field (most_role wide) part)
+    (index_field part ∷ address_field part end ∷ []) bytes front.0 in
     let b1 : List ℕ = drop 4 bytes in
     let s1 : IsSmall b1 = small_drop 4 bytes small in
     let f2 = field_none (index_field part) (address_field part end ∷ []) b1 f1.rest in
@@ -125,13 +131,13 @@ record_found part end bytes small none =
     let b3 : List ℕ = drop 8 b2 in
     let s3 : IsSmall b3 = small_drop 8 b2 s2 in
     let n = u32_at (take 4 bytes) 0 in
-    let limits = both_from 1 n n 7 f1.passes in
-    let r = role_by n limits.0 limits.1 in
+    let limits = both_from 1 n n (most_role wide) f1.passes in
+    let r = role_by wide n limits.0 limits.1 in
     let index = u32_at (take 4 b1) 0 in
     let address = u64_at (take 8 b2) 0 in
     let above : end ≤ address = le_from end address f3.passes in
     let e1 : u32_bytes (roles.role_number r.0) ++ b1 ≡ bytes =
-    ap (λ (k : ℕ). u32_bytes k ++ b1) r.1 ∙ u32_split bytes small f1.long in
+    ap (λ (k : ℕ). u32_bytes k ++ b1) r.2 ∙ u32_split bytes small f1.long in
     let e2 : u32_bytes index ++ b2 ≡ b1 = u32_split b1 s1 f2.long in
     let e3 : u64_bytes address ++ b3 ≡ b2 = u64_split b2 s2 f3.long in
     let begun : ((u32_bytes (roles.role_number r.0) ++ u32_bytes index) ++ u64_bytes address) ++ b3
@@ -141,8 +147,9 @@ record_found part end bytes small none =
     ∙ ap (λ (l : List ℕ). u32_bytes (roles.role_number r.0) ++ l) e2
     ∙ e1 in
     let last : fields_fault (length_field part address ∷ []) b3 ≡ None =
-    sym (record_front part end r.0 index address b3 (u32_small b1 s1) (u64_small b2 s2) above)
-    ∙ ap (record_fault 7 part end) begun ∙ none in
+    sym
+    (record_front wide part end r.0 index address b3 r.1 (u32_small b1 s1) (u64_small b2 s2) above)
+    ∙ ap (record_fault (most_role wide) part end) begun ∙ none in
     let f4 = field_none (length_field part address) [] b3 last in
     let count = u64_at (take 8 b3) 0 in
     let sizes = both_from 1 count (address + count) (2 ^ 32) f4.passes in
@@ -158,6 +165,7 @@ record_found part end bytes small none =
           ((u32_bytes (roles.role_number r.0) ++ u32_bytes index) ++ u64_bytes address)
           ++ l) e4
           ∙ begun;
+      may = r.1;
       next = record { index = u32_small b1 s1; above = above; filled = sizes.0; below = sizes.1 };
       small = small_drop 8 b3 s3;
     }

@@ -1,24 +1,29 @@
 -- A whole head, and what stands behind it.
-use Rattle.std.proofs.Common.{◌≡◌, ◌≤◌, ◌<◌, ◌^◌, ℕ, true, List, [], ◌∷◌, ◌++◌, drop, None}
-use Rattle.std.proofs.Common.{All, refl, ap, ◌∙◌, arith, append_assoc, lit<}
+use Rattle.std.proofs.Common.{◌≡◌, ◌≤◌, ◌<◌, ◌^◌, ℕ, true, false, List, [], ◌∷◌, ◌++◌, drop, None}
+use Rattle.std.proofs.Common.{refl, sym, ap, ◌∙◌, arith, append_assoc, lit<}
 use Rattle.std.specs.Prelude.{nat_le, ◌==◌}
 use Rattle.std.proofs.lemmas.Bool.Decides.{nat_tests}
 use Rattle.bl_mem.specs.Words.{number_at, u32_at, u32_bytes, u64_bytes}
 use Rattle.bl_mem.proofs.WordLaws.{length-u32_bytes, u32_again}
 use Rattle.bl_plan.specs.declared.protocol.Protocol.{Protocol}
+use Rattle.bl_plan.specs.declared.protocol.Protocol.TheVariants.{Multiboot2, Linux, Linux64}
 use Rattle.bl_plan.specs.Protocols.{protocol_number}
+use Rattle.bl_load.specs.Protocols.{is_wide}
+use Rattle.bl_load.specs.Registers.{are_wide}
 use Rattle.bl_load.specs.declared.registers.Registers.{Registers}
+use Rattle.bl_load.specs.declared.registers.Registers.TheVariants.{Bits32, Bits64}
 use Rattle.bl_image.specs.declared.fault.ImageFault.{ImageFault}
 use Rattle.bl_image.specs.declared.fault.ImageFault.TheVariants.{BadHeader}
 use Rattle.bl_image.specs.declared.version.Version.{Version}
 use Rattle.bl_image.specs.declared.version.Version.TheVariants.{One, Two}
-use Rattle.bl_image.specs.Image.{magic, head, register_numbers, spelled_registers}
+use Rattle.bl_image.specs.Image.{magic, head, spelled_registers}
 use Rattle.bl_image.specs.Fields.{fields_fault}
 use Rattle.bl_image.specs.Fields.{count_field, zero_field}
 use Rattle.bl_image.specs.ImageFaults.{head_fault, image_fault, parts_fault, none_before}
-use Rattle.bl_image.specs.Layouts.{Layout, layout, layout_1, layout_of}
+use Rattle.bl_image.specs.Layouts.{Layout, layout, layout_of, most_role}
 use Rattle.bl_image.specs.Source.{Input, Refuses}
-use Rattle.bl_image.specs.Versions.{version_number}
+use Rattle.bl_image.specs.Spellable.{FitsRegisters}
+use Rattle.bl_image.specs.Versions.{version_number, HasProtocol}
 use Rattle.bl_image.proofs.FieldLemmas.{field_passes, word_tells}
 use Rattle.bl_image.proofs.RecordLemmas.{first_refuses}
 use Rattle.bl_image.proofs.RegisterLemmas.{registers_pass}
@@ -53,9 +58,8 @@ counted count x few =
 
 -- a head has no fault
 head_passes : (v : Version) (p : Protocol) (r : Registers) (count : ℕ) (x : List ℕ)
-    → All (λ n. n < 2 ^ 32) (register_numbers r) → count ≤ 256
-    → head_fault (head v p r count ++ x) ≡ None
-head_passes v p r count x fit few =
+    → HasProtocol v p → FitsRegisters p r → count ≤ 256 → head_fault (head v p r count ++ x) ≡ None
+head_passes v p r count x has fit few =
     let n = version_number v in
     let m = protocol_number p in
     let rest : List ℕ = u32_bytes count ++ (u32_bytes 0 ++ x) in
@@ -63,39 +67,74 @@ head_passes v p r count x fit few =
     (split_head magic (u32_bytes n) (u32_bytes m) (spelled_registers v r) (u32_bytes count)
     (u32_bytes 0) x)
     ∙ opened v (u32_bytes m ++ (spelled_registers v r ++ rest))
-    ∙ told n p (spelled_registers v r ++ rest)
-    ∙ registers_pass v m r fit (count_field ∷ zero_field ∷ []) rest
+    ∙ told v p has (spelled_registers v r ++ rest)
+    ∙ registers_pass v p r has fit (count_field ∷ zero_field ∷ []) rest
     ∙ counted count x few
 
--- the layout is that of the version
+-- the layout is that of the version and the protocol
 version_stands : (v : Version) (p : Protocol) (r : Registers) (count : ℕ) (x : List ℕ)
     → u32_at (head v p r count ++ x) 8 ≡ version_number v
 unfolding number_at u32_bytes
 version_stands One p r count x = refl
 version_stands Two p r count x = refl
 
+protocol_stands : (v : Version) (p : Protocol) (r : Registers) (count : ℕ) (x : List ℕ)
+    → u32_at (head v p r count ++ x) 12 ≡ protocol_number p
+unfolding number_at u32_bytes
+protocol_stands v Multiboot2 r count x = refl
+protocol_stands v Linux r count x = refl
+protocol_stands v Linux64 r count x = refl
+
 layout_told : (v : Version) (p : Protocol) (r : Registers) (count : ℕ) (x : List ℕ)
     → layout_of (head v p r count ++ x) ≡ layout (version_number v) (protocol_number p)
 layout_told v p r count x =
-    ap (λ (n : ℕ). layout n (protocol_number p)) (version_stands v p r count x)
+    ap (λ (n : ℕ). layout n (u32_at (head v p r count ++ x) 12)) (version_stands v p r count x)
+    ∙ ap (layout (version_number v)) (protocol_stands v p r count x)
 
-most_told : (v : Version) (m : ℕ) → (layout (version_number v) m).most_role ≡ 7
-most_told One m = refl
-most_told Two m = refl
+-- its greatest number of a role
+most_told : (v : Version) (p : Protocol) → HasProtocol v p
+    → (layout (version_number v) (protocol_number p)).most_role ≡ most_role (is_wide p)
+most_told One p has = sym (ap most_role has)
+most_told Two Multiboot2 has = refl
+most_told Two Linux has = refl
+most_told Two Linux64 has = refl
+
+-- in version 2 the number of parts and the records stand at the same places under each protocol
+counted_at : (p : Protocol) → (layout 2 (protocol_number p)).count_at ≡ 264
+counted_at Multiboot2 = refl
+counted_at Linux = refl
+counted_at Linux64 = refl
+
+recorded_at : (p : Protocol) → (layout 2 (protocol_number p)).records_at ≡ 272
+recorded_at Multiboot2 = refl
+recorded_at Linux = refl
+recorded_at Linux64 = refl
 
 -- the number of parts stands where the layout says, and so do the records
 count_stands : (v : Version) (p : Protocol) (r : Registers) (count : ℕ) (x : List ℕ)
-    → count < 2 ^ 32
-    → u32_at (head v p r count ++ x) (layout (version_number v) (protocol_number p)).count_at ≡ count
+    → HasProtocol v p → are_wide r ≡ is_wide p → count < 2 ^ 32
+    → u32_at (head v p r count ++ x) (layout (version_number v) (protocol_number p)).count_at
+    ≡ count
 unfolding number_at u32_bytes u64_bytes
-count_stands One p r count x fits = u32_again count (u32_bytes 0 ++ x) fits
-count_stands Two p r count x fits = u32_again count (u32_bytes 0 ++ x) fits
+count_stands One p (Bits32 r) count x has width fits = u32_again count (u32_bytes 0 ++ x) fits
+count_stands One p (Bits64 r) count x has width fits = let both : true ≡ false = width ∙ has in cc
+count_stands Two p (Bits32 r) count x has width fits =
+    ap (u32_at (head Two p (Bits32 r) count ++ x)) (counted_at p)
+    ∙ u32_again count (u32_bytes 0 ++ x) fits
+count_stands Two p (Bits64 r) count x has width fits =
+    ap (u32_at (head Two p (Bits64 r) count ++ x)) (counted_at p)
+    ∙ u32_again count (u32_bytes 0 ++ x) fits
 
 behind_head : (v : Version) (p : Protocol) (r : Registers) (count : ℕ) (x : List ℕ)
+    → HasProtocol v p → are_wide r ≡ is_wide p
     → drop (layout (version_number v) (protocol_number p)).records_at (head v p r count ++ x) ≡ x
 unfolding u32_bytes u64_bytes
-behind_head One p r count x = refl
-behind_head Two p r count x = refl
+behind_head One p (Bits32 r) count x has width = refl
+behind_head One p (Bits64 r) count x has width = let both : true ≡ false = width ∙ has in cc
+behind_head Two p (Bits32 r) count x has width =
+    ap (λ (at : ℕ). drop at (head Two p (Bits32 r) count ++ x)) (recorded_at p)
+behind_head Two p (Bits64 r) count x has width =
+    ap (λ (at : ℕ). drop at (head Two p (Bits64 r) count ++ x)) (recorded_at p)
 
 front_by : (bytes x : List ℕ) (count : ℕ) → head_fault bytes ≡ None
     → u32_at bytes (layout_of bytes).count_at ≡ count
@@ -106,17 +145,17 @@ front_by bytes x count sound stands behind = rw (sound, stands, behind) refl
 
 -- so it leaves the parts to be judged
 pub head_front : (v : Version) (p : Protocol) (r : Registers) (count : ℕ) (x : List ℕ)
-    → All (λ n. n < 2 ^ 32) (register_numbers r) → count ≤ 256
-    → image_fault (head v p r count ++ x) ≡ parts_fault layout_1.most_role count none_before x
-head_front v p r count x fit few =
+    → HasProtocol v p → FitsRegisters p r → count ≤ 256
+    → image_fault (head v p r count ++ x) ≡ parts_fault (most_role (is_wide p)) count none_before x
+head_front v p r count x has fit few =
     let bytes = head v p r count ++ x in
     let is = layout_told v p r count x in
-    front_by bytes x count (head_passes v p r count x fit few)
+    front_by bytes x count (head_passes v p r count x has fit few)
     (ap (λ (l : Layout). u32_at bytes l.count_at) is
-    ∙ count_stands v p r count x (omega arith))
-    (ap (λ (l : Layout). drop l.records_at bytes) is ∙ behind_head v p r count x)
+    ∙ count_stands v p r count x has fit.0 (omega arith))
+    (ap (λ (l : Layout). drop l.records_at bytes) is ∙ behind_head v p r count x has fit.0)
     ∙ ap (λ (n : ℕ). parts_fault n count none_before x)
-    (ap (λ (l : Layout). l.most_role) is ∙ most_told v (protocol_number p))
+    (ap (λ (l : Layout). l.most_role) is ∙ most_told v p has)
 
 -- a fault of the head is the image's
 pub head_refuses : (old new : Input) (fault : ImageFault) → Refuses head_fault old new fault

@@ -16,7 +16,7 @@ use Rattle.bl_image.specs.Fields.{protocol_field}
 use Rattle.bl_image.specs.ImageFaults.{first, head_fault}
 use Rattle.bl_image.specs.Layouts.{layout, layout_of, layout_fields}
 use Rattle.bl_image.specs.Source.{Input, Comes, Refuses}
-use Rattle.bl_image.specs.Versions.{version_number}
+use Rattle.bl_image.specs.Versions.{version_number, most_protocol, HasProtocol}
 use Rattle.bl_image.proofs.FieldLemmas.{field_passes, word_tells, Passed, passed_more}
 use Rattle.bl_image.proofs.FieldLemmas.{passed_refuses}
 use Rattle.bl_image.proofs.Inputs.{comes_more}
@@ -30,12 +30,13 @@ version_passes v =
     word_tells (λ k. nat_le 1 k && nat_le k 2) BadVersion (version_number v) true (version_fits v)
     (version_between v)
 
-pub protocol_passes : (version : ℕ) (p : Protocol)
-    → (protocol_field version).passes (u32_bytes (protocol_number p)) ≡ true
+-- a protocol that the version has passes
+pub protocol_passes : (v : Version) (p : Protocol) → HasProtocol v p
+    → (protocol_field (version_number v)).passes (u32_bytes (protocol_number p)) ≡ true
 unfolding protocol_field
-protocol_passes version p =
-    word_tells (λ k. nat_le 1 k && nat_le k 2) BadHeader (protocol_number p) true
-    (protocol_fits p) (protocol_between p)
+protocol_passes v p has =
+    word_tells (λ k. nat_le 1 k && nat_le k (most_protocol (version_number v))) BadHeader
+    (protocol_number p) true (protocol_fits p) (protocol_between v p has)
 
 -- ---- magic and version came: the protocol is to be judged, and what it tells
 
@@ -45,10 +46,11 @@ after_version version bytes =
     (fields_fault (layout_fields (layout version (u32_at bytes 0))) (drop 4 bytes))
 
 opened_by : (version : ℕ) (bytes x : List ℕ) → fields_fault opening_fields bytes ≡ None
-    → u32_at bytes 8 ≡ version
+    → u32_at bytes 8 ≡ version → u32_at bytes 12 ≡ u32_at x 0
     → drop 12 bytes ≡ x → drop 16 bytes ≡ drop 4 x → head_fault bytes ≡ after_version version x
 unfolding head_fault
-opened_by version bytes x sound is behind further = rw (sound, is, behind, further) refl
+opened_by version bytes x sound is told behind further =
+    rw (sound, is, told, behind, further) refl
 
 opening_passes : (v : Version) (x : List ℕ)
     → fields_fault opening_fields ((magic ++ u32_bytes (version_number v)) ++ x) ≡ None
@@ -64,6 +66,10 @@ version_stands : (v : Version) (x : List ℕ)
 unfolding number_at
 version_stands v x = u32_again (version_number v) x (version_fits v)
 
+protocol_behind : (n : ℕ) (x : List ℕ) → u32_at ((magic ++ u32_bytes n) ++ x) 12 ≡ u32_at x 0
+unfolding number_at u32_bytes
+protocol_behind n x = refl
+
 behind_version : (n : ℕ) (x : List ℕ) → drop 12 ((magic ++ u32_bytes n) ++ x) ≡ x
 unfolding u32_bytes
 behind_version n x = refl
@@ -77,7 +83,7 @@ pub opened : (v : Version) (x : List ℕ)
 opened v x =
     let n = version_number v in
     opened_by n ((magic ++ u32_bytes n) ++ x) x (opening_passes v x) (version_stands v x)
-    (behind_version n x) (further n x)
+    (protocol_behind n x) (behind_version n x) (further n x)
 
 pub opened_passed : {old mid new : Input} (v : Version) → Comes old mid magic
     → Comes mid new (u32_bytes (version_number v))
@@ -88,28 +94,30 @@ opened_passed v first_came then_came =
 -- ---- the protocol came: what it tells is to be judged
 
 told_by : (version protocol : ℕ) (bytes x : List ℕ)
-    → fields_fault (protocol_field version ∷ []) bytes ≡ None → drop 4 bytes ≡ x
+    → fields_fault (protocol_field version ∷ []) bytes ≡ None → u32_at bytes 0 ≡ protocol
+    → drop 4 bytes ≡ x
     → after_version version bytes ≡ fields_fault (layout_fields (layout version protocol)) x
-told_by version protocol bytes x sound behind = rw (sound, behind) refl
+told_by version protocol bytes x sound is behind = rw (sound, is, behind) refl
 
-pub told : (version : ℕ) (p : Protocol) (x : List ℕ)
-    → after_version version (u32_bytes (protocol_number p) ++ x)
-    ≡ fields_fault (layout_fields (layout version (protocol_number p))) x
+pub told : (v : Version) (p : Protocol) → HasProtocol v p → (x : List ℕ)
+    → after_version (version_number v) (u32_bytes (protocol_number p) ++ x)
+    ≡ fields_fault (layout_fields (layout (version_number v) (protocol_number p))) x
 unfolding protocol_field
-told version p x =
+told v p has x =
+    let version : ℕ = version_number v in
     let b : List ℕ = u32_bytes (protocol_number p) in
     let size = length-u32_bytes (protocol_number p) in
     told_by version (protocol_number p) (b ++ x) x
-    (field_passes (protocol_field version) [] b x size (protocol_passes version p))
-    (drop_at b x 4 size)
+    (field_passes (protocol_field version) [] b x size (protocol_passes v p has))
+    (u32_again (protocol_number p) x (protocol_fits p)) (drop_at b x 4 size)
 
-pub told_passed : {old mid new : Input} (version : ℕ) (p : Protocol)
-    → Passed head_fault old mid (after_version version)
+pub told_passed : {old mid new : Input} (v : Version) (p : Protocol) → HasProtocol v p
+    → Passed head_fault old mid (after_version (version_number v))
     → Comes mid new (u32_bytes (protocol_number p))
     → Passed head_fault old new
-    (fields_fault (layout_fields (layout version (protocol_number p))))
-told_passed version p passed comes =
-    passed_more (u32_bytes (protocol_number p)) passed comes (told version p)
+    (fields_fault (layout_fields (layout (version_number v) (protocol_number p))))
+told_passed v p has passed comes =
+    passed_more (u32_bytes (protocol_number p)) passed comes (told v p has)
 
 -- ---- faults of the head's beginning are faults of the head
 

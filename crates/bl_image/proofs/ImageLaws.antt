@@ -3,13 +3,16 @@ use Rattle.std.proofs.Common.{◌≡◌, ◌+◌, ◌≤◌, ◌<◌, ◌^◌, �
 use Rattle.std.proofs.Common.{Some, None, Result, Ok, Err, refl, sym, ap, ◌∙◌, arith, append_assoc}
 use Rattle.std.proofs.Common.{length-append, map}
 use Rattle.std.proofs.lemmas.List.{length-map}
-use Rattle.std.specs.Prelude.{MatchResult, ◌==◌, true}
+use Rattle.std.specs.Prelude.{MatchResult, ◌==◌, Bool, true}
 use Rattle.std.proofs.lemmas.Bool.Decides.{nat_tests}
 use Rattle.std.proofs.lemmas.List.Elements.{All-tail}
 use Rattle.std.proofs.lemmas.List.Concat.{flat_map-cons}
 use Rattle.std.specs.List.{flat_map}
 use Rattle.bl_plan.proofs.OrderLemmas.{AreRelated, pairs_related}
-use Rattle.bl_load.specs.HandoffFacts.{Ascends}
+use Rattle.bl_load.specs.HandoffFacts.{Ascends, MayStand}
+use Rattle.bl_load.specs.Protocols.{is_wide}
+use Rattle.bl_image.specs.Layouts.{most_role}
+use Rattle.bl_image.specs.Versions.{HasProtocol}
 use Rattle.bl_load.specs.Handover.{Part, Handover, end_of}
 use Rattle.bl_image.specs.declared.fault.ImageFault.{ImageFault}
 use Rattle.bl_image.specs.declared.fault.ImageFault.TheVariants.{BadMagic, BadVersion, BadHeader}
@@ -29,18 +32,19 @@ use Rattle.bl_image.proofs.ReadAgain.{image_is_read_again}
 use Rattle.bl_image.proofs.RecordLemmas.{parts_step}
 
 -- what each part of an image is by itself
-record IsSoundPart (part : Part) : Type 0 where
+record IsSoundPart (wide : Bool) (part : Part) : Type 0 where
+  may : MayStand wide part.role
   index : part.index < 2 ^ 32
   filled : 1 ≤ length part.bytes
   below : end_of part ≤ 2 ^ 32
 
-parts_sound : (parts : List Part) (before : Before) (x : List ℕ)
+parts_sound : (wide : Bool) (parts : List Part) (before : Before) (x : List ℕ)
     → All (λ (part : Part). before.end ≤ part.address) parts → AreRelated PartAscends parts
-    → All IsSoundPart parts
-    → parts_fault 7 (length parts) before (flat_map part_record parts ++ x)
+    → All (IsSoundPart wide) parts
+    → parts_fault (most_role wide) (length parts) before (flat_map part_record parts ++ x)
     ≡ end_fault (before.bytes + length (all_bytes parts)) x
-parts_sound [] before x above related sound = ap (λ (n : ℕ). end_fault n x) (omega arith)
-parts_sound (part ∷ parts) before x above related sound =
+parts_sound wide [] before x above related sound = ap (λ (n : ℕ). end_fault n x) (omega arith)
+parts_sound wide (part ∷ parts) before x above related sound =
     let here = sound 0 part (omega arith) in
     let next : IsNext before.end (place_of part) =
     record {
@@ -51,39 +55,45 @@ parts_sound (part ∷ parts) before x above related sound =
     } in
     let after : Before = and_record before part.address (length part.bytes) in
     let size = length-append part.bytes (all_bytes parts) in
-    ap (λ (l : List ℕ). parts_fault 7 (suc (length parts)) before (l ++ x))
+    let most = most_role wide in
+    ap (λ (l : List ℕ). parts_fault most (suc (length parts)) before (l ++ x))
     (flat_map-cons part_record part parts)
-    ∙ ap (parts_fault 7 (suc (length parts)) before)
+    ∙ ap (parts_fault most (suc (length parts)) before)
     (append_assoc (part_record part) (flat_map part_record parts) x)
-    ∙ parts_step (length parts) before (place_of part) (flat_map part_record parts ++ x) next
-    ∙ parts_sound parts after x related.0 related.1 (All-tail IsSoundPart part parts sound)
+    ∙ parts_step wide (length parts) before (place_of part) (flat_map part_record parts ++ x)
+    here.may next
+    ∙ parts_sound wide parts after x related.0 related.1
+    (All-tail (IsSoundPart wide) part parts sound)
     ∙ ap (λ (n : ℕ). end_fault n x) (omega arith)
 
 whole_ends : (bytes : List ℕ) → end_fault (0 + length bytes) bytes ≡ None
 whole_ends bytes =
     let e : (length bytes == 0 + length bytes) ≡ true = grind (arith, nat_tests) in rw e refl
 
-sound_parts : (h : Handover) → IsKept h → All IsSoundPart h.parts
+sound_parts : (h : Handover) → IsKept h → All (IsSoundPart (is_wide h.protocol)) h.parts
 sound_parts h kept k d within =
     let fits = kept.spellable.parts k d within in
     record {
+      may =
+          all_under (λ p. MayStand (is_wide h.protocol) p.role) h.parts kept.handoff.roles
+          k d within;
       index = fits.index;
       filled = all_under (λ p. 1 ≤ p.length) h.parts kept.handoff.filled k d within;
       below =
           all_under (λ p. p.address + p.length ≤ 2 ^ 32) h.parts kept.handoff.below k d within;
     }
 
--- the image of what an image keeps has no fault
-pub image_sound : (version : Version) (h : Handover) → IsKept h
+-- the image of what an image keeps, in a version that has its protocol, has no fault
+pub image_sound : (version : Version) (h : Handover) → HasProtocol version h.protocol → IsKept h
     → image_fault (spelling version h) ≡ None
-image_sound version h kept =
+image_sound version h has kept =
     let records : List ℕ = flat_map part_record h.parts in
     let bytes : List ℕ = all_bytes h.parts in
     let few : length (map place_of h.parts) ≤ 256 = kept.handoff.few in
     let same = length-map h.parts place_of in
-    head_front version h.protocol h.registers (length h.parts) (records ++ bytes)
+    head_front version h.protocol h.registers (length h.parts) (records ++ bytes) has
     kept.spellable.registers (omega arith)
-    ∙ parts_sound h.parts none_before bytes (λ k d within. omega arith)
+    ∙ parts_sound (is_wide h.protocol) h.parts none_before bytes (λ k d within. omega arith)
     (related_under h.parts (pairs_related Ascends (map place_of h.parts) kept.handoff.ascending))
     (sound_parts h kept)
     ∙ whole_ends bytes
@@ -112,12 +122,14 @@ accepted_by (Ok image) bytes read version handover is =
     (image_is_read_again read.0 version image handover read.1.kept.spellable is.kept.spellable
     (sym read.1.is ∙ is.is)).1
 accepted_by (Err fault) bytes fails version handover is =
-    refused_for_now bytes fault (ap image_fault is.is ∙ image_sound version handover is.kept) fails
+    refused_for_now bytes fault
+    (ap image_fault is.is ∙ image_sound version handover is.has is.kept) fails
 
 -- and is refused for nothing that its bytes say
 pub image_not_refused : (old new : Input) (fault : ImageFault) (bytes : List ℕ) (version : Version)
     (handover : Handover) → IsImage version bytes handover → old.rest ≡ Some bytes
     → Refuses image_fault old new fault → IsOfTheMoment fault
 image_not_refused old new fault bytes version handover is e refuses =
-    refused_for_now bytes fault (ap image_fault is.is ∙ image_sound version handover is.kept)
+    refused_for_now bytes fault
+    (ap image_fault is.is ∙ image_sound version handover is.has is.kept)
     (fails_known old new fault bytes e refuses)

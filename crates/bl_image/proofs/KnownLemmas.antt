@@ -13,6 +13,7 @@ use Rattle.bl_image.specs.declared.version.Version.{Version}
 use Rattle.bl_image.specs.Image.{spelling}
 use Rattle.bl_image.specs.ImageFaults.{image_fault}
 use Rattle.bl_image.specs.ImageParts.{IsKept, IsImage}
+use Rattle.bl_image.specs.Versions.{HasProtocol}
 use Rattle.bl_image.specs.Source.{Input, Comes, IsEnded, MayFollow, Shows, Refuses, Fails}
 
 all_came : (old new : Option (List ℕ)) (came bytes : List ℕ) → old ≡ Some bytes → new ≡ Some []
@@ -48,7 +49,8 @@ fails_known old new DeviceFault bytes e s = tt
 fails_known old new NoMemory bytes e s = tt
 
 pub known_by : (r : Result Handover ImageFault) (old new : Input)
-    → IfOk r (λ image. (version : Version) × Comes old new (spelling version image))
+    → IfOk r (λ image. (version : Version) × HasProtocol version image.protocol
+    × Comes old new (spelling version image))
     → OnOk r (IsEnded new) → IfOk r IsKept
     → IfErr r (Refuses image_fault old new)
     → (bytes : List ℕ) → old.rest ≡ Some bytes
@@ -58,7 +60,8 @@ known_by (Ok image) old new comes ended kept refused bytes e = (
   comes.0,
   record {
     is =
-        all_came old.rest new.rest (spelling comes.0 image) bytes e ended comes.1.rest_is;
+        all_came old.rest new.rest (spelling comes.0 image) bytes e ended comes.2.rest_is;
+    has = comes.1;
     kept = kept;
   },
 )

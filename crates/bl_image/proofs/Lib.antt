@@ -9,7 +9,11 @@ pub mod KnownLemmas
 mod PartLemmas
 mod RecordLemmas
 mod RegisterLemmas
+mod FieldRows
 mod WideLemmas
+mod RegistersBy
+mod RegistersAgain
+mod NumbersFound
 mod SoundLemmas
 mod NoFaultLemmas
 mod RegistersFound

@@ -1,5 +1,5 @@
 -- A list by its elements.
-use Rattle.std.proofs.Common.{◌≡◌, ◌+◌, ◌≤◌, ◌<◌, ℕ, zero, suc, List, [], ◌∷◌, ◌++◌, ◌^◌, length, get_or}
+use Rattle.std.proofs.Common.{◌≡◌, ◌+◌, ◌≤◌, ◌<◌, ℕ, zero, suc, List, [], ◌∷◌, ◌++◌, length, get_or}
 use Rattle.std.proofs.Common.{slice_range, slice_set, take, drop, All, sym, ap, ◌∙◌, subst, arith}
 use Rattle.std.proofs.Common.{rules}
 use Rattle.std.proofs.Math.Numerals.{add-one}
@@ -16,7 +16,7 @@ abbrev pub elements : ℕ → ℕ → List ℕ → List ℕ
 elements zero k xs = []
 elements (suc n) k xs = get_or xs k 0 ∷ elements n (k + 1) xs
 
-elements_are : (n k : ℕ) (xs : List ℕ) → length xs ≡ k + n → elements n k xs ≡ drop k xs
+pub elements_are : (n k : ℕ) (xs : List ℕ) → length xs ≡ k + n → elements n k xs ≡ drop k xs
 elements_are zero k xs e = sym (drop_all k xs (omega arith))
 elements_are (suc n) k xs e =
     ap (λ (l : List ℕ). get_or xs k 0 ∷ l)
@@ -29,9 +29,6 @@ listed_parts f g l nine two last =
     ap (λ (x : List ℕ). x ++ (elements 2 0 g ++ elements 9 0 l)) (elements_are 9 0 f nine)
     ∙ ap (λ (x : List ℕ). f ++ (x ++ elements 9 0 l)) (elements_are 2 0 g two)
     ∙ ap (λ (x : List ℕ). f ++ (g ++ x)) (elements_are 9 0 l last)
-
-pub listed_20 : (xs : List ℕ) → length xs ≡ 20 → elements 20 0 xs ≡ xs
-listed_20 xs e = elements_are 20 0 xs e
 
 part_of : (n : ℕ) (xs : List ℕ) → n ≤ length xs → take n xs ≡ slice_range xs 0 n
 part_of n xs h = same_lists _ _ (search (rules, places)) (λ k d within. grind (arith, places))
@@ -59,10 +56,12 @@ spelled_more spelled xs i v h =
     ∙ ap (λ (l : List ℕ). flat_map spelled (take i xs) ++ l)
     (flat_map-cons spelled v [] ∙ append-nil (spelled v))
 
-pub fit_more : (xs : List ℕ) (i v : ℕ) → i < length xs → All (λ n. n < 2 ^ 32) (take i xs)
-    → v < 2 ^ 32 → All (λ n. n < 2 ^ 32) (take (i + 1) (slice_set xs i v))
-fit_more xs i v h fit small =
-    let fits : ℕ → Type 0 = λ n. n < 2 ^ 32 in
+-- and it fits, as those before it
+pub fit_more : (limit : ℕ) (xs : List ℕ) (i v : ℕ) → i < length xs
+    → All (λ n. n < limit) (take i xs) → v < limit
+    → All (λ n. n < limit) (take (i + 1) (slice_set xs i v))
+fit_more limit xs i v h fit small =
+    let fits : ℕ → Type 0 = λ n. n < limit in
     let is : take (i + 1) (slice_set xs i v) ≡ take i xs ++ (v ∷ []) =
     ap (λ (j : ℕ). take j (slice_set xs i v)) (add-one i) ∙ take-suc-set xs i v h in
     subst (All fits) (sym is)

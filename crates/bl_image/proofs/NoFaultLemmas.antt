@@ -1,6 +1,6 @@
 -- Fields that have no fault, and the numbers that their bytes spell.
 use Rattle.std.proofs.Common.{◌≡◌, ◌+◌, ◌*◌, ◌≤◌, ◌<◌, ◌^◌, ℕ, zero, suc, Bool, true, false, List}
-use Rattle.std.proofs.Common.{[], ◌∷◌, ◌++◌, length, get_or, slice_index, take, drop, All, Option}
+use Rattle.std.proofs.Common.{[], ◌∷◌, ◌++◌, length, slice_index, take, drop, All, Option}
 use Rattle.std.proofs.Common.{Some, None, refl, sym, ap, ◌∙◌, arith, append_assoc, ⊎_elim}
 use Rattle.std.specs.Prelude.{nat_lt, nat_le, not, ◌&&◌, if◌then◌else◌}
 use Rattle.std.specs.List.{flat_map}
@@ -15,17 +15,19 @@ use Rattle.bl_mem.proofs.WordLaws.{u32_at-lt}
 use Rattle.bl_mem.specs.Words.{number_at, u32_at, u64_at, u32_bytes, u64_bytes}
 use Rattle.bl_plan.specs.declared.part.Role.{Role}
 use Rattle.bl_plan.specs.declared.part.Role.TheVariants.{Kernel, Module, Information, BootParams}
-use Rattle.bl_plan.specs.declared.part.Role.TheVariants.{CommandLine, Gdt, Initrd}
+use Rattle.bl_plan.specs.declared.part.Role.TheVariants.{CommandLine, Gdt, Initrd, PageTables}
 use Rattle.bl_plan.specs.Roles as roles
 use Rattle.bl_plan.specs.declared.protocol.Protocol.{Protocol}
-use Rattle.bl_plan.specs.declared.protocol.Protocol.TheVariants.{Multiboot2, Linux}
+use Rattle.bl_plan.specs.declared.protocol.Protocol.TheVariants.{Multiboot2, Linux, Linux64}
 use Rattle.bl_plan.specs.Protocols as protocols
-use Rattle.bl_load.specs.declared.registers.Registers.{Registers}
+use Rattle.bl_load.specs.HandoffFacts.{MayStand}
 use Rattle.bl_image.specs.declared.fault.ImageFault.{ImageFault}
-use Rattle.bl_image.specs.Image.{register_numbers}
+use Rattle.bl_image.specs.declared.version.Version.{Version}
+use Rattle.bl_image.specs.declared.version.Version.TheVariants.{One, Two}
+use Rattle.bl_image.specs.Layouts.{most_role}
+use Rattle.bl_image.specs.Versions.{version_number, most_protocol, HasProtocol}
 use Rattle.bl_image.specs.Fields.{Field, fields_fault}
 use Rattle.bl_image.specs.ImageFaults.{first}
-use Rattle.bl_image.proofs.Listed.{listed_20}
 
 -- each element is a byte
 abbrev pub IsSmall : List ℕ → Type 0
@@ -129,50 +131,40 @@ words_split (suc count) bytes small size =
       fit = All-cons (λ n. n < 2 ^ 32) word rest.words (u32_small bytes small) rest.fit;
     }
 
-pub registers_by : List ℕ → Registers
-registers_by l = record {
-  eip = get_or l 0 0;
-  eax = get_or l 1 0;
-  ebx = get_or l 2 0;
-  ecx = get_or l 3 0;
-  edx = get_or l 4 0;
-  esi = get_or l 5 0;
-  edi = get_or l 6 0;
-  ebp = get_or l 7 0;
-  esp = get_or l 8 0;
-  eflags = get_or l 9 0;
-  cr0 = get_or l 10 0;
-  cs = get_or l 11 0;
-  ds = get_or l 12 0;
-  es = get_or l 13 0;
-  fs = get_or l 14 0;
-  gs = get_or l 15 0;
-  ss = get_or l 16 0;
-  gdt_base = get_or l 17 0;
-  gdt_limit = get_or l 18 0;
-  a20 = get_or l 19 0;
-}
+-- the version of a number
+pub version_by : (n : ℕ) → 1 ≤ n → n ≤ 2 → (v : Version) × (version_number v ≡ n)
+version_by zero least most = absurd (omega arith)
+version_by (suc zero) least most = (One, refl)
+version_by (suc (suc zero)) least most = (Two, refl)
+version_by (suc (suc (suc n))) least most = absurd (omega arith)
 
-pub registers_are : (l : List ℕ) → length l ≡ 20 → register_numbers (registers_by l) ≡ l
-unfolding registers_by
-registers_are l size = listed_20 l size
+-- the protocol of a number that a version has
+pub protocol_by : (v : Version) (n : ℕ) → 1 ≤ n → n ≤ most_protocol (version_number v)
+    → (p : Protocol) × HasProtocol v p × (protocols.protocol_number p ≡ n)
+protocol_by One zero h k = absurd (omega arith)
+protocol_by One (suc zero) h k = (Multiboot2, refl, refl)
+protocol_by One (suc (suc zero)) h k = (Linux, refl, refl)
+protocol_by One (suc (suc (suc n))) h k = absurd (omega arith)
+protocol_by Two zero h k = absurd (omega arith)
+protocol_by Two (suc zero) h k = (Multiboot2, tt, refl)
+protocol_by Two (suc (suc zero)) h k = (Linux, tt, refl)
+protocol_by Two (suc (suc (suc zero))) h k = (Linux64, tt, refl)
+protocol_by Two (suc (suc (suc (suc n)))) h k = absurd (omega arith)
 
-pub protocol_by : (n : ℕ) → 1 ≤ n → n ≤ 2 → (p : Protocol) × (protocols.protocol_number p ≡ n)
-protocol_by zero h k = absurd (omega arith)
-protocol_by (suc zero) h k = (Multiboot2, refl)
-protocol_by (suc (suc zero)) h k = (Linux, refl)
-protocol_by (suc (suc (suc n))) h k = absurd (omega arith)
-
-pub role_by : (n : ℕ) → 1 ≤ n → n ≤ 7 → (r : Role) × (roles.role_number r ≡ n)
-role_by zero h k = absurd (omega arith)
-role_by (suc zero) h k = (Kernel, refl)
-role_by (suc (suc zero)) h k = (Module, refl)
-role_by (suc (suc (suc zero))) h k = (Information, refl)
-role_by (suc (suc (suc (suc zero)))) h k = (BootParams, refl)
-role_by (suc (suc (suc (suc (suc zero))))) h k = (CommandLine, refl)
-role_by (suc (suc (suc (suc (suc (suc zero)))))) h k = (Gdt, refl)
-role_by (suc (suc (suc (suc (suc (suc (suc zero))))))) h k = (Initrd, refl)
-role_by (suc (suc (suc (suc (suc (suc (suc (suc n)))))))) h k = absurd (omega arith)
+-- the role of a number that an image has
+pub role_by : (wide : Bool) (n : ℕ) → 1 ≤ n → n ≤ most_role wide
+    → (r : Role) × MayStand wide r × (roles.role_number r ≡ n)
+role_by wide zero h k = absurd (omega arith)
+role_by wide (suc zero) h k = (Kernel, tt, refl)
+role_by wide (suc (suc zero)) h k = (Module, tt, refl)
+role_by wide (suc (suc (suc zero))) h k = (Information, tt, refl)
+role_by wide (suc (suc (suc (suc zero)))) h k = (BootParams, tt, refl)
+role_by wide (suc (suc (suc (suc (suc zero))))) h k = (CommandLine, tt, refl)
+role_by wide (suc (suc (suc (suc (suc (suc zero)))))) h k = (Gdt, tt, refl)
+role_by wide (suc (suc (suc (suc (suc (suc (suc zero))))))) h k = (Initrd, tt, refl)
+role_by true (suc (suc (suc (suc (suc (suc (suc (suc zero)))))))) h k = (PageTables, refl, refl)
+role_by true (suc (suc (suc (suc (suc (suc (suc (suc (suc n))))))))) h k = absurd (omega arith)
+role_by false (suc (suc (suc (suc (suc (suc (suc (suc n)))))))) h k = absurd (omega arith)
 
 seven_pieces : (a b c d e f x : List ℕ)
     → (((((a ++ b) ++ c) ++ d) ++ e) ++ f) ++ x ≡ a ++ (b ++ (c ++ (d ++ (e ++ (f ++ x)))))

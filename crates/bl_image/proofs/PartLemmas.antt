@@ -1,5 +1,5 @@
 -- The parts of an image and their places.
-use Rattle.std.proofs.Common.{◌≡◌, ◌+◌, ◌≤◌, ◌<◌, ◌^◌, ℕ, zero, suc, List, [], ◌∷◌, ◌++◌, length}
+use Rattle.std.proofs.Common.{◌≡◌, ◌+◌, ◌≤◌, ◌<◌, ℕ, zero, suc, List, [], ◌∷◌, ◌++◌, length}
 use Rattle.std.proofs.Common.{get_or, take, map, All, Some, refl, sym, ap, ◌∙◌, subst, arith}
 use Rattle.std.proofs.Common.{append_assoc, length-append}
 use Rattle.std.specs.Prelude.{◌==◌, false}
@@ -18,13 +18,13 @@ use Rattle.bl_load.specs.PlanFacts.{part_in, handover_in}
 use Rattle.bl_image.specs.declared.fault.ImageFault.{ImageFault}
 use Rattle.bl_image.specs.declared.fault.ImageFault.TheVariants.{WrongLength}
 use Rattle.bl_image.specs.declared.version.Version.{Version}
-use Rattle.bl_image.specs.Image.{head, part_record, spelling, register_numbers}
+use Rattle.bl_image.specs.Image.{head, part_record, spelling}
 use Rattle.bl_image.specs.RecordsKept.{place_record, bytes_at, PlaceFits, AreSpellable}
 use Rattle.bl_image.specs.ImageFaults.{end_fault}
 use Rattle.bl_image.specs.ImageParts.{place_of, handoff_of, PartAscends, IsKept}
 use Rattle.bl_image.specs.Source.{Input, Comes}
 use Rattle.bl_image.specs.SourceKept.{IsCut}
-use Rattle.bl_image.specs.Spellable.{FitsRecord}
+use Rattle.bl_image.specs.Spellable.{FitsRecord, AreFit}
 use Rattle.bl_image.proofs.FieldLemmas.{cut_behind}
 use Rattle.bl_image.proofs.Spelled.{EndsIn, length-place_bytes}
 
@@ -129,7 +129,7 @@ pub image_kept : (protocol : Protocol) (registers : Registers) (ps : List Place)
     (parts : List Part) → map place_of parts ≡ ps
     → AreHandoffFacts (record { protocol = protocol; registers = registers; places = ps })
     → All PlaceFits ps
-    → All (λ n. n < 2 ^ 32) (register_numbers registers)
+    → AreFit registers
     → IsKept (record { protocol = protocol; registers = registers; parts = parts })
 image_kept protocol registers ps parts are kept fit registers_fit =
     let few : length ps ≤ 256 = kept.few in
@@ -139,7 +139,7 @@ image_kept protocol registers ps parts are kept fit registers_fit =
       handoff = parts_kept protocol registers ps parts are kept;
       spellable =
           record {
-            registers = registers_fit;
+            registers = (kept.width, registers_fit);
             count = omega arith;
             parts = parts_fit parts (subst (All PlaceFits) (sym are) fit);
           };

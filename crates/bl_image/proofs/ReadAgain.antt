@@ -1,5 +1,5 @@
 -- An image is read again: the handover that it spells is one.
-use Rattle.std.proofs.Common.{◌≡◌, ◌^◌, ◌<◌, ℕ, List, [], ◌∷◌, ◌++◌, length}
+use Rattle.std.proofs.Common.{◌≡◌, ℕ, List, [], ◌∷◌, ◌++◌, length}
 use Rattle.std.proofs.Common.{All, refl, sym, ap, ◌∙◌, arith, length-append}
 use Rattle.std.proofs.Common.{append_assoc}
 use Rattle.std.proofs.lemmas.List.Elements.{All-tail}
@@ -7,20 +7,19 @@ use Rattle.std.specs.List.{flat_map}
 use Rattle.bl_plan.specs.declared.part.Role.{Role}
 use Rattle.bl_plan.specs.declared.protocol.Protocol.{Protocol}
 use Rattle.bl_load.specs.declared.registers.Registers.{Registers}
+use Rattle.bl_load.specs.Protocols.{is_wide}
+use Rattle.bl_load.specs.Registers.{are_wide}
 use Rattle.bl_plan.specs.Protocols as protocols
 use Rattle.bl_load.specs.Handover.{Part, Handover}
 use Rattle.bl_mem.specs.Words.{u32_bytes, u64_bytes}
 use Rattle.bl_mem.proofs.WordLaws.{length-u32_bytes, length-u64_bytes}
 use Rattle.bl_image.specs.declared.version.Version.{Version}
-use Rattle.bl_image.specs.declared.version.Version.TheVariants.{One, Two}
-use Rattle.bl_image.specs.Image.{wide_numbers, magic, register_numbers, spelled_registers, head, part_record}
-use Rattle.bl_image.specs.Image.{spelling}
+use Rattle.bl_image.specs.Image.{magic, spelled_registers, head, part_record, spelling}
 use Rattle.bl_image.specs.Versions.{version_number}
 use Rattle.bl_image.specs.Spellable.{FitsRecord, IsSpellable}
-use Rattle.bl_image.proofs.WideLemmas.{narrow_same, wide_fit}
-use Rattle.bl_image.proofs.NumberLemmas.{length-u64s, front_same, back_same, length-u32s, u32_same, u64_same, u64s_same}
-use Rattle.bl_image.proofs.NumberLemmas.{u32s_same}
-use Rattle.bl_image.proofs.NumbersAgain.{role_same, protocol_same, registers_same, version_same}
+use Rattle.bl_image.proofs.NumberLemmas.{front_same, back_same, u32_same, u64_same}
+use Rattle.bl_image.proofs.RegistersAgain.{registers_alike}
+use Rattle.bl_image.proofs.NumbersAgain.{role_same, protocol_same, version_same}
 use Rattle.bl_image.proofs.NumbersAgain.{role_fits, version_fits, protocol_fits}
 
 -- two parts with one record
@@ -104,30 +103,6 @@ parts_same (p ∷ ps) (q ∷ qs) alike e =
 
 -- ---- heads
 
--- the same registers, and what follows
-registers_alike : (v : Version) (r s : Registers) → All (λ n. n < 2 ^ 32) (register_numbers r)
-    → All (λ n. n < 2 ^ 32) (register_numbers s) → (x y : List ℕ)
-    → spelled_registers v r ++ x ≡ spelled_registers v s ++ y → (r ≡ s) × (x ≡ y)
-registers_alike One r s hr hs x y e =
-    let wide : length (flat_map u32_bytes (register_numbers r))
-    ≡ length (flat_map u32_bytes (register_numbers s)) =
-    length-u32s (register_numbers r) ∙ sym (length-u32s (register_numbers s)) in (
-      registers_same r s
-          (u32s_same (register_numbers r) (register_numbers s) hr hs refl
-          (front_same _ _ _ _ wide e)),
-      back_same _ _ _ _ wide e,
-    )
-registers_alike Two r s hr hs x y e =
-    let wide : length (flat_map u64_bytes (wide_numbers r))
-    ≡ length (flat_map u64_bytes (wide_numbers s)) =
-    length-u64s (wide_numbers r) ∙ sym (length-u64s (wide_numbers s)) in (
-      registers_same r s
-          (narrow_same r s
-          (u64s_same (wide_numbers r) (wide_numbers s) (wide_fit r hr) (wide_fit s hs) refl
-          (front_same _ _ _ _ wide e))),
-      back_same _ _ _ _ wide e,
-    )
-
 record IsSameHead (v w : Version) (h k : Handover) (x y : List ℕ) : Type 0 where
   version : v ≡ w
   protocol : h.protocol ≡ k.protocol
@@ -163,17 +138,20 @@ heads_same v w h k sh sk x y e =
     (u32_same _ _ (version_fits v) (version_fits w) (front_same _ _ _ _ (u32s _ _) after_magic)) in
     let after_version = back_same _ _ _ _ (u32s _ _) after_magic in
     let after_protocol = back_same _ _ _ _ (u32s _ _) after_version in
+    let protocol : h.protocol ≡ k.protocol =
+    protocol_same h.protocol k.protocol
+    (u32_same _ _ (protocol_fits h.protocol) (protocol_fits k.protocol)
+    (front_same _ _ _ _ (u32s _ _) after_version)) in
+    let width : are_wide h.registers ≡ are_wide k.registers =
+    sh.registers.0 ∙ ap is_wide protocol ∙ sym sk.registers.0 in
     let end : List ℕ = u32_bytes (length k.parts) ++ (u32_bytes 0 ++ y) in
     let registers =
-    registers_alike v h.registers k.registers sh.registers sk.registers _ _
+    registers_alike v h.registers k.registers width sh.registers.1 sk.registers.1 _ _
     (after_protocol
     ∙ ap (λ (u : Version). spelled_registers u k.registers ++ end) (sym version)) in
     record {
       version = version;
-      protocol =
-          protocol_same h.protocol k.protocol
-          (u32_same _ _ (protocol_fits h.protocol) (protocol_fits k.protocol)
-          (front_same _ _ _ _ (u32s _ _) after_version));
+      protocol = protocol;
       registers = registers.0;
       count = u32_same _ _ sh.count sk.count (front_same _ _ _ _ (u32s _ _) registers.1);
       rest = back_same (u32_bytes 0) (u32_bytes 0) x y refl

@@ -1,7 +1,7 @@
 -- Records, one after the other.
 use Rattle.std.proofs.Common.{◌≡◌, ◌+◌, ◌≤◌, ◌<◌, ◌^◌, ℕ, suc, true, List, [], ◌∷◌, ◌++◌, length}
 use Rattle.std.proofs.Common.{drop, Option, Some, None, refl, ap, ◌∙◌, arith, append_assoc}
-use Rattle.std.specs.Prelude.{nat_le, ◌&&◌}
+use Rattle.std.specs.Prelude.{nat_le, ◌&&◌, Bool}
 use Rattle.std.proofs.lemmas.Bool.Decides.{nat_tests}
 use Rattle.bl_mem.specs.Words.{number_at, u64_at, u32_bytes, u64_bytes}
 use Rattle.bl_mem.proofs.WordLaws.{length-u32_bytes, length-u64_bytes, u64_again}
@@ -12,6 +12,8 @@ use Rattle.bl_image.specs.declared.fault.ImageFault.{ImageFault}
 use Rattle.bl_image.specs.declared.fault.ImageFault.TheVariants.{BadMagic, BadVersion, BadHeader}
 use Rattle.bl_image.specs.declared.fault.ImageFault.TheVariants.{BadPart, WrongLength, DeviceFault}
 use Rattle.bl_image.specs.declared.fault.ImageFault.TheVariants.{NoMemory}
+use Rattle.bl_load.specs.HandoffFacts.{MayStand}
+use Rattle.bl_image.specs.Layouts.{most_role}
 use Rattle.bl_image.specs.RecordsKept.{place_record, IsNext}
 use Rattle.bl_image.specs.Fields.{Field, fields_fault, record_fields, role_field, index_field}
 use Rattle.bl_image.specs.Fields.{address_field, length_field}
@@ -52,13 +54,13 @@ first_refuses fault_in later old new fault s =
     (λ bytes e. ap (λ (o : Option ImageFault). first o (later bytes)) e) s
 
 -- a record's fault among the records that are left
-pub record_refuses : (n : ℕ) (before : Before) (old new : Input) (fault : ImageFault)
-    → Refuses (record_fault 7 before.count before.end) old new fault
-    → Refuses (parts_fault 7 (suc n) before) old new fault
-record_refuses n before old new fault s =
-    first_refuses (record_fault 7 before.count before.end)
+pub record_refuses : (most n : ℕ) (before : Before) (old new : Input) (fault : ImageFault)
+    → Refuses (record_fault most before.count before.end) old new fault
+    → Refuses (parts_fault most (suc n) before) old new fault
+record_refuses most n before old new fault s =
+    first_refuses (record_fault most before.count before.end)
     (λ bytes.
-    parts_fault 7 n (and_record before (u64_at bytes 8) (u64_at bytes 16)) (drop 24 bytes))
+    parts_fault most n (and_record before (u64_at bytes 8) (u64_at bytes 16)) (drop 24 bytes))
     old new fault s
 
 pub four_pieces : (a b c x : List ℕ) → ((a ++ b) ++ c) ++ x ≡ a ++ (b ++ (c ++ x))
@@ -78,16 +80,16 @@ abbrev front : Role → ℕ → ℕ → List ℕ → List ℕ
 front role index address x =
     ((u32_bytes (roles.role_number role) ++ u32_bytes index) ++ u64_bytes address) ++ x
 
-front_passes : (part before : ℕ) (role : Role) (index address : ℕ) (x : List ℕ) → index < 2 ^ 32
-    → address < 2 ^ 64 → before ≤ address
-    → fields_fault (record_fields 7 part before) (front role index address x) ≡ None
+front_passes : (wide : Bool) (part before : ℕ) (role : Role) (index address : ℕ) (x : List ℕ)
+    → MayStand wide role → index < 2 ^ 32 → address < 2 ^ 64 → before ≤ address
+    → fields_fault (record_fields (most_role wide) part before) (front role index address x) ≡ None
 unfolding role_field index_field address_field
-front_passes part before role index address x hi ha above =
-    three_pass (role_field 7 part) (index_field part) (address_field part before)
+front_passes wide part before role index address x may hi ha above =
+    three_pass (role_field (most_role wide) part) (index_field part) (address_field part before)
     (u32_bytes (roles.role_number role)) (u32_bytes index) (u64_bytes address) x
     (length-u32_bytes (roles.role_number role))
-    (word_tells (λ k. nat_le 1 k && nat_le k 7) (BadPart part) (roles.role_number role) true
-    (role_fits role) (role_between role))
+    (word_tells (λ k. nat_le 1 k && nat_le k (most_role wide)) (BadPart part)
+    (roles.role_number role) true (role_fits role) (role_between wide role may))
     (length-u32_bytes index) refl
     (length-u64_bytes address)
     (long_tells (nat_le before) (BadPart part) address true ha (grind (arith, nat_tests)))
@@ -103,13 +105,13 @@ unfolding u32_bytes u64_bytes
 behind_front role index address x = refl
 
 -- they leave the length to be judged
-pub record_front : (part before : ℕ) (role : Role) (index address : ℕ) (x : List ℕ) → index < 2 ^ 32
-    → address < 2 ^ 64 → before ≤ address
-    → record_fault 7 part before (front role index address x)
+pub record_front : (wide : Bool) (part before : ℕ) (role : Role) (index address : ℕ) (x : List ℕ)
+    → MayStand wide role → index < 2 ^ 32 → address < 2 ^ 64 → before ≤ address
+    → record_fault (most_role wide) part before (front role index address x)
     ≡ fields_fault (length_field part address ∷ []) x
-record_front part before role index address x hi ha above =
+record_front wide part before role index address x may hi ha above =
     rw (
-      front_passes part before role index address x hi ha above,
+      front_passes wide part before role index address x may hi ha above,
       address_stands role index address x ha,
       behind_front role index address x,
     ) refl
@@ -117,19 +119,19 @@ record_front part before role index address x hi ha above =
 pub regroup : (r i a n x : List ℕ) → (r ++ (i ++ (a ++ n))) ++ x ≡ ((r ++ i) ++ a) ++ (n ++ x)
 regroup r i a n x = simp append_assoc
 
-record_passes : (part before : ℕ) (p : Place) (x : List ℕ) → IsNext before p
-    → record_fault 7 part before (place_record p ++ x) ≡ None
+record_passes : (wide : Bool) (part before : ℕ) (p : Place) (x : List ℕ) → MayStand wide p.role
+    → IsNext before p → record_fault (most_role wide) part before (place_record p ++ x) ≡ None
 unfolding length_field
-record_passes part before p x next =
+record_passes wide part before p x may next =
     let fits : p.address < 2 ^ 64 = omega (arith, next.below) in
     let small : p.length < 2 ^ 64 = omega (arith, next.below) in
     let filled : 1 ≤ p.length = next.filled in
     let below : p.address + p.length ≤ 2 ^ 32 = next.below in
-    ap (record_fault 7 part before)
+    ap (record_fault (most_role wide) part before)
     (regroup (u32_bytes (roles.role_number p.role)) (u32_bytes p.index) (u64_bytes p.address)
     (u64_bytes p.length) x)
-    ∙ record_front part before p.role p.index p.address (u64_bytes p.length ++ x) next.index fits
-    next.above
+    ∙ record_front wide part before p.role p.index p.address (u64_bytes p.length ++ x) may
+    next.index fits next.above
     ∙ field_passes (length_field part p.address) [] (u64_bytes p.length) x
     (length-u64_bytes p.length)
     (long_tells (λ count. nat_le 1 count && nat_le (p.address + count) (2 ^ 32)) (BadPart part)
@@ -153,14 +155,15 @@ unfolding u32_bytes u64_bytes
 behind_record p x = refl
 
 -- one record leaves the others to be judged
-pub parts_step : (n : ℕ) (before : Before) (p : Place) (x : List ℕ) → IsNext before.end p
-    → parts_fault 7 (suc n) before (place_record p ++ x)
-    ≡ parts_fault 7 n (and_record before p.address p.length) x
-parts_step n before p x next =
+pub parts_step : (wide : Bool) (n : ℕ) (before : Before) (p : Place) (x : List ℕ)
+    → MayStand wide p.role → IsNext before.end p
+    → parts_fault (most_role wide) (suc n) before (place_record p ++ x)
+    ≡ parts_fault (most_role wide) n (and_record before p.address p.length) x
+parts_step wide n before p x may next =
     let fits : p.address < 2 ^ 64 = omega (arith, next.below) in
     let small : p.length < 2 ^ 64 = omega (arith, next.below) in
     rw (
-      record_passes before.count before.end p x next,
+      record_passes wide before.count before.end p x may next,
       address_at p x fits,
       length_at p x small,
       behind_record p x,

@@ -1,120 +1,49 @@
 -- In bytes that have no fault the registers are found.
-use Rattle.std.proofs.Common.{◌≡◌, ◌≤◌, ◌<◌, ◌^◌, ℕ, zero, suc, List, [], ◌∷◌, ◌++◌}
+use Rattle.std.proofs.Common.{◌≡◌, ◌<◌, ◌^◌, ℕ, true, false, List, ◌++◌}
 use Rattle.std.proofs.Common.{length, take, drop, All, None, refl, sym, ap, ◌∙◌, subst, arith}
 use Rattle.std.proofs.Common.{append_assoc, length-append}
 use Rattle.std.specs.Prelude.{replicate}
 use Rattle.std.specs.List.{flat_map}
-use Rattle.std.proofs.lemmas.Bool.Decides.{Decides-eqb, nat_tests}
 use Rattle.std.proofs.lemmas.List.{take-append-drop, length-take-le}
-use Rattle.std.proofs.lemmas.List.Elements.{All-nil, All-cons, All-append}
-use Rattle.bl_mem.specs.Words.{u64_at, u32_bytes, u64_bytes}
+use Rattle.std.proofs.lemmas.List.Elements.{All-append}
+use Rattle.bl_mem.specs.Words.{u32_bytes, u64_bytes}
+use Rattle.bl_plan.specs.declared.protocol.Protocol.{Protocol}
+use Rattle.bl_plan.specs.declared.protocol.Protocol.TheVariants.{Multiboot2, Linux, Linux64}
+use Rattle.bl_plan.specs.Protocols.{protocol_number}
 use Rattle.bl_load.specs.declared.registers.Registers.{Registers}
-use Rattle.bl_image.specs.Fields.{Field, fields_fault, narrow_field, absent_field}
-use Rattle.bl_image.specs.Image.{register_numbers, spelled_registers}
-use Rattle.bl_image.specs.Layouts.{layout, registers_1, registers_2}
-use Rattle.bl_image.specs.Versions.{version_number}
+use Rattle.bl_load.specs.declared.registers.Registers.TheVariants.{Bits32, Bits64}
+use Rattle.bl_load.specs.Protocols.{is_wide}
+use Rattle.bl_image.specs.Fields.{Field, fields_fault, register_field, narrow_field, absent_field}
+use Rattle.bl_image.specs.Image.{register_numbers, wide_numbers, spelled_registers}
+use Rattle.bl_image.specs.Layouts.{layout, registers_1, registers_2, registers_3}
+use Rattle.bl_image.specs.Spellable.{FitsRegisters}
+use Rattle.bl_image.specs.Versions.{version_number, HasProtocol}
 use Rattle.bl_image.specs.declared.version.Version.{Version}
 use Rattle.bl_image.specs.declared.version.Version.TheVariants.{One, Two}
-use Rattle.bl_image.proofs.NoFaultLemmas.{IsSmall, small_drop, small_take, u64_split, field_none}
-use Rattle.bl_image.proofs.NoFaultLemmas.{words_split, registers_by, registers_are}
+use Rattle.bl_image.proofs.NoFaultLemmas.{IsSmall, small_drop, small_take, words_split}
+use Rattle.bl_image.proofs.NumbersFound.{narrows_found, absents_found, wides_found}
+use Rattle.bl_image.proofs.RegistersBy.{registers_by, registers_are, wide_registers_by}
+use Rattle.bl_image.proofs.RegistersBy.{wide_registers_are}
 use Rattle.bl_image.proofs.RegisterLemmas.{any_none}
 use Rattle.bl_image.proofs.WideLemmas.{spelled_wide, wide_by}
 
--- the version of a number
-pub version_by : (n : ℕ) → 1 ≤ n → n ≤ 2 → (v : Version) × (version_number v ≡ n)
-version_by zero least most = absurd (omega arith)
-version_by (suc zero) least most = (One, refl)
-version_by (suc (suc zero)) least most = (Two, refl)
-version_by (suc (suc (suc n))) least most = absurd (omega arith)
-
--- ---- registers of 64 bits
-
--- so many numbers, and what stands behind them
-record NumbersFound (n : ℕ) (others : List Field) (bytes : List ℕ) : Type 0 where
-  numbers : List ℕ
-  rest : List ℕ
-  size : length numbers ≡ n
-  is : flat_map u64_bytes numbers ++ rest ≡ bytes
-  fit : All (λ k. k < 2 ^ 32) numbers
-  left : fields_fault others rest ≡ None
-  small : IsSmall rest
-
-narrows_found : (n : ℕ) (others : List Field) (bytes : List ℕ) → IsSmall bytes
-    → fields_fault (replicate n narrow_field ++ others) bytes ≡ None
-    → NumbersFound n others bytes
-unfolding narrow_field
-narrows_found zero others bytes small none = record {
-  numbers = [];
-  rest = bytes;
-  size = refl;
-  is = refl;
-  fit = All-nil (λ k. k < 2 ^ 32);
-  left = none;
-  small = small;
-}
-narrows_found (suc n) others bytes small none =
-    let here = field_none narrow_field (replicate n narrow_field ++ others) bytes none in
-    let number = u64_at (take 8 bytes) 0 in
-    let below : number < 2 ^ 32 = let passes = here.passes in grind (arith, nat_tests) in
-    let behind = narrows_found n others (drop 8 bytes) (small_drop 8 bytes small) here.rest in
-    record {
-      numbers = number ∷ behind.numbers;
-      rest = behind.rest;
-      size = ap suc behind.size;
-      is =
-          append_assoc (u64_bytes number) (flat_map u64_bytes behind.numbers) behind.rest
-          ∙ ap (λ (l : List ℕ). u64_bytes number ++ l) behind.is
-          ∙ u64_split bytes small here.long;
-      fit = All-cons (λ k. k < 2 ^ 32) number behind.numbers below behind.fit;
-      left = behind.left;
-      small = behind.small;
-    }
-
--- so many zeros, and what stands behind them
-record ZerosFound (n : ℕ) (others : List Field) (bytes : List ℕ) : Type 0 where
-  rest : List ℕ
-  is : flat_map u64_bytes (replicate n 0) ++ rest ≡ bytes
-  left : fields_fault others rest ≡ None
-  small : IsSmall rest
-
-absents_found : (n : ℕ) (others : List Field) (bytes : List ℕ) → IsSmall bytes
-    → fields_fault (replicate n absent_field ++ others) bytes ≡ None
-    → ZerosFound n others bytes
-unfolding absent_field
-absents_found zero others bytes small none =
-    record { rest = bytes; is = refl; left = none; small = small }
-absents_found (suc n) others bytes small none =
-    let here = field_none absent_field (replicate n absent_field ++ others) bytes none in
-    let number = u64_at (take 8 bytes) 0 in
-    let nothing : number ≡ 0 = (Decides-eqb number 0).0 here.passes in
-    let behind = absents_found n others (drop 8 bytes) (small_drop 8 bytes small) here.rest in
-    record {
-      rest = behind.rest;
-      is =
-          append_assoc (u64_bytes 0) (flat_map u64_bytes (replicate n 0)) behind.rest
-          ∙ ap (λ (l : List ℕ). u64_bytes 0 ++ l) behind.is
-          ∙ ap (λ (k : ℕ). u64_bytes k ++ drop 8 bytes) (sym nothing)
-          ∙ u64_split bytes small here.long;
-      left = behind.left;
-      small = behind.small;
-    }
-
--- ---- the registers
-
-pub record RegistersFound (version : Version) (others : List Field) (bytes : List ℕ) : Type 0
+-- registers of a protocol in this version, and what stands behind them
+pub record RegistersFound (version : Version) (protocol : Protocol) (others : List Field)
+    (bytes : List ℕ) : Type 0
   where
     pub registers : Registers
     pub rest : List ℕ
     pub is : spelled_registers version registers ++ rest ≡ bytes
-    pub fit : All (λ n. n < 2 ^ 32) (register_numbers registers)
+    pub fit : FitsRegisters protocol registers
     pub left : fields_fault others rest ≡ None
     pub small : IsSmall rest
 
-found_1 : (others : List Field) (bytes : List ℕ) → IsSmall bytes
-    → fields_fault (registers_1 ++ others) bytes ≡ None → RegistersFound One others bytes
-unfolding registers_1
-found_1 others bytes small none =
-    let found = any_none 20 others bytes none in
+found_1 : (protocol : Protocol) (others : List Field) (bytes : List ℕ)
+    → is_wide protocol ≡ false → IsSmall bytes
+    → fields_fault (registers_1 ++ others) bytes ≡ None → RegistersFound One protocol others bytes
+unfolding registers_1 register_field
+found_1 protocol others bytes narrow small none =
+    let found = any_none register_field 20 others bytes none in
     let ws =
     words_split 20 (take 80 bytes) (small_take 80 bytes small)
     (length-take-le 80 bytes found.0) in
@@ -122,12 +51,12 @@ found_1 others bytes small none =
     registers_are ws.words ws.size in
     let fits : ℕ → Type 0 = λ k. k < 2 ^ 32 in
     record {
-      registers = registers_by ws.words;
+      registers = Bits32 (registers_by ws.words);
       rest = drop 80 bytes;
       is =
           ap (λ (l : List ℕ). l ++ drop 80 bytes) (ap (flat_map u32_bytes) numbers ∙ ws.is)
           ∙ take-append-drop 80 bytes;
-      fit = subst (All fits) (sym numbers) ws.fit;
+      fit = (sym narrow, subst (All fits) (sym numbers) ws.fit);
       left = found.1;
       small = small_drop 80 bytes small;
     }
@@ -140,10 +69,11 @@ regroup_fields : (a b c d e others : List Field)
     → (a ++ (b ++ (c ++ (d ++ e)))) ++ others ≡ a ++ (b ++ (c ++ (d ++ (e ++ others))))
 regroup_fields a b c d e others = simp append_assoc
 
-found_2 : (others : List Field) (bytes : List ℕ) → IsSmall bytes
-    → fields_fault (registers_2 ++ others) bytes ≡ None → RegistersFound Two others bytes
+found_2 : (protocol : Protocol) (others : List Field) (bytes : List ℕ)
+    → is_wide protocol ≡ false → IsSmall bytes
+    → fields_fault (registers_2 ++ others) bytes ≡ None → RegistersFound Two protocol others bytes
 unfolding registers_2
-found_2 others bytes small none =
+found_2 protocol others bytes is_narrow small none =
     let fits : ℕ → Type 0 = λ k. k < 2 ^ 32 in
     let narrow : ℕ → List Field = λ n. replicate n narrow_field in
     let absent : ℕ → List Field = λ n. replicate n absent_field in
@@ -175,7 +105,7 @@ found_2 others bytes small none =
     let e = flat_map u64_bytes fifth.numbers in
     let x = fifth.rest in
     record {
-      registers = r;
+      registers = Bits32 r;
       rest = x;
       is =
           ap (λ (l : List ℕ). l ++ x)
@@ -187,18 +117,45 @@ found_2 others bytes small none =
           ∙ ap (λ (l : List ℕ). a ++ (b ++ l)) third.is
           ∙ ap (λ (l : List ℕ). a ++ l) second.is
           ∙ first.is;
-      fit =
-          subst (All fits) (sym numbers)
-          (All-append fits first.numbers (third.numbers ++ fifth.numbers) first.fit
-          (All-append fits third.numbers fifth.numbers third.fit fifth.fit));
+      fit = (
+        sym is_narrow,
+        subst (All fits) (sym numbers)
+            (All-append fits first.numbers (third.numbers ++ fifth.numbers) first.fit
+            (All-append fits third.numbers fifth.numbers third.fit fifth.fit)),
+      );
       left = fifth.left;
       small = fifth.small;
     }
 
--- of an image of either version
-pub registers_found : (version : Version) (protocol : ℕ) (others : List Field) (bytes : List ℕ)
-    → IsSmall bytes
-    → fields_fault ((layout (version_number version) protocol).registers ++ others) bytes ≡ None
-    → RegistersFound version others bytes
-registers_found One protocol others bytes small none = found_1 others bytes small none
-registers_found Two protocol others bytes small none = found_2 others bytes small none
+found_3 : (protocol : Protocol) (others : List Field) (bytes : List ℕ)
+    → is_wide protocol ≡ true → IsSmall bytes
+    → fields_fault (registers_3 ++ others) bytes ≡ None → RegistersFound Two protocol others bytes
+unfolding registers_3
+found_3 protocol others bytes wide small none =
+    let found = wides_found 31 others bytes small none in
+    let r = wide_registers_by found.numbers in
+    let numbers : wide_numbers (Bits64 r) ≡ found.numbers =
+    wide_registers_are found.numbers found.size in
+    let fits : ℕ → Type 0 = λ k. k < 2 ^ 64 in
+    record {
+      registers = Bits64 r;
+      rest = found.rest;
+      is = ap (λ (l : List ℕ). flat_map u64_bytes l ++ found.rest) numbers ∙ found.is;
+      fit = (sym wide, subst (All fits) (sym numbers) found.fit);
+      left = found.left;
+      small = found.small;
+    }
+
+-- of an image of each version and protocol
+pub registers_found : (version : Version) (protocol : Protocol) → HasProtocol version protocol
+    → (others : List Field) (bytes : List ℕ) → IsSmall bytes
+    → fields_fault
+    ((layout (version_number version) (protocol_number protocol)).registers ++ others) bytes
+    ≡ None
+    → RegistersFound version protocol others bytes
+registers_found One p has others bytes small none = found_1 p others bytes has small none
+registers_found Two Multiboot2 has others bytes small none =
+    found_2 Multiboot2 others bytes refl small none
+registers_found Two Linux has others bytes small none = found_2 Linux others bytes refl small none
+registers_found Two Linux64 has others bytes small none =
+    found_3 Linux64 others bytes refl small none

@@ -1,6 +1,7 @@
 -- What is judged of a record, after those that came before it.
 use Rattle.std.proofs.Common.{◌≡◌, ◌+◌, ◌-◌, ◌≤◌, ◌<◌, ◌^◌, ℕ, suc, List, [], ◌∷◌, ◌++◌, length}
 use Rattle.std.proofs.Common.{All, sym, ap, ◌∙◌, arith, append_assoc}
+use Rattle.std.specs.Prelude.{Bool}
 use Rattle.std.proofs.lemmas.List.{append-nil}
 use Rattle.std.proofs.lemmas.List.Elements.{All-append, All-cons, All-nil}
 use Rattle.std.proofs.lemmas.List.Concat.{flat_map-cons}
@@ -10,7 +11,10 @@ use Rattle.bl_plan.specs.declared.part.Place.{Place}
 use Rattle.bl_plan.proofs.OrderLemmas.{AreRelated, pairs_related, related_pairs}
 use Rattle.bl_plan.specs.declared.protocol.Protocol.{Protocol}
 use Rattle.bl_load.specs.declared.registers.Registers.{Registers}
-use Rattle.bl_load.specs.HandoffFacts.{Ascends, AreHandoffFacts}
+use Rattle.bl_load.specs.HandoffFacts.{Ascends, AreHandoffFacts, MayStand}
+use Rattle.bl_load.specs.Protocols.{is_wide}
+use Rattle.bl_load.specs.Registers.{are_wide}
+use Rattle.bl_image.specs.Layouts.{most_role}
 use Rattle.bl_image.specs.RecordsKept.{place_record, IsNext, AreSound, bytes_at, PlaceFits}
 use Rattle.bl_image.specs.ImageFaults.{Before, parts_fault, none_before}
 use Rattle.bl_image.proofs.RecordLemmas.{parts_step}
@@ -30,26 +34,29 @@ came_more ps p =
 abbrev pub so_far : ℕ → ℕ → List Place → Before
 so_far count end ps = record { count = count; end = end; bytes = bytes_at ps }
 
-pub judged_more : (count part : ℕ) (ps : List Place) (end : ℕ) (p : Place) → part < count
-    → IsNext end p
+-- one more record came, and leaves the others to be judged
+pub judged_more : (wide : Bool) (count part : ℕ) (ps : List Place) (end : ℕ) (p : Place)
+    → part < count → MayStand wide p.role → IsNext end p
     → ((bytes : List ℕ)
-    → parts_fault 7 count none_before (flat_map place_record ps ++ bytes)
-    ≡ parts_fault 7 (count - part) (so_far part end ps) bytes)
+    → parts_fault (most_role wide) count none_before (flat_map place_record ps ++ bytes)
+    ≡ parts_fault (most_role wide) (count - part) (so_far part end ps) bytes)
     → (bytes : List ℕ)
-    → parts_fault 7 count none_before (flat_map place_record (ps ++ p ∷ []) ++ bytes)
-    ≡ parts_fault 7 (count - (part + 1)) (so_far (part + 1) (p.address + p.length) (ps ++ p ∷ []))
-    bytes
-judged_more count part ps end p inside next judged bytes =
+    → parts_fault (most_role wide) count none_before
+    (flat_map place_record (ps ++ p ∷ []) ++ bytes)
+    ≡ parts_fault (most_role wide) (count - (part + 1))
+    (so_far (part + 1) (p.address + p.length) (ps ++ p ∷ [])) bytes
+judged_more wide count part ps end p inside may next judged bytes =
+    let most = most_role wide in
     let left : count - part ≡ suc (count - (part + 1)) = omega arith in
-    ap (λ (l : List ℕ). parts_fault 7 count none_before (l ++ bytes)) (came_more ps p)
-    ∙ ap (parts_fault 7 count none_before)
+    ap (λ (l : List ℕ). parts_fault most count none_before (l ++ bytes)) (came_more ps p)
+    ∙ ap (parts_fault most count none_before)
     (append_assoc (flat_map place_record ps) (place_record p) bytes)
     ∙ judged (place_record p ++ bytes)
-    ∙ ap (λ (n : ℕ). parts_fault 7 n (so_far part end ps) (place_record p ++ bytes)) left
-    ∙ parts_step (count - (part + 1)) (so_far part end ps) p bytes next
+    ∙ ap (λ (n : ℕ). parts_fault most n (so_far part end ps) (place_record p ++ bytes)) left
+    ∙ parts_step wide (count - (part + 1)) (so_far part end ps) p bytes may next
     ∙ ap
     (λ (n : ℕ).
-    parts_fault 7 (count - (part + 1))
+    parts_fault most (count - (part + 1))
     (record { count = part + 1; end = p.address + p.length; bytes = n }) bytes)
     (sym (bytes_at-more ps p))
 
@@ -61,7 +68,8 @@ related_more R (x ∷ xs) y h a = (
   related_more R xs y h.1 (λ k d within. a (suc k) d (omega arith)),
 )
 
-one_more : (P : Place → Type 0) (ps : List Place) (p : Place) → All P ps → P p
+-- what holds of each place, and of one more
+pub one_more : (P : Place → Type 0) (ps : List Place) (p : Place) → All P ps → P p
     → All P (ps ++ p ∷ [])
 one_more P ps p all h = All-append P ps (p ∷ []) all (All-cons P p [] h (All-nil P))
 
@@ -107,11 +115,15 @@ sound_low ps end sound = record {
   fit = sound.fit;
 }
 
--- at most 256 of them are what a handoff keeps
+-- at most 256 of them, of roles that may stand there, are what a handoff keeps
 pub sound_kept : (protocol : Protocol) (registers : Registers) (ps : List Place) (end : ℕ)
+    → are_wide registers ≡ is_wide protocol
+    → All (λ (p : Place). MayStand (is_wide protocol) p.role) ps
     → length ps ≤ 256 → AreSound ps end
     → AreHandoffFacts (record { protocol = protocol; registers = registers; places = ps })
-sound_kept protocol registers ps end few sound = record {
+sound_kept protocol registers ps end width roles few sound = record {
+  width = width;
+  roles = roles;
   few = few;
   filled = sound.filled;
   below = sound.below;

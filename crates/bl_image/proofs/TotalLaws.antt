@@ -12,7 +12,9 @@ use Rattle.std.proofs.lemmas.List.Concat.{flat_map-cons}
 use Rattle.bl_plan.specs.declared.part.Place.{Place}
 use Rattle.bl_plan.proofs.OrderLemmas.{AreRelated, related_pairs}
 use Rattle.bl_load.specs.Handover.{Part, Handover}
-use Rattle.bl_load.specs.HandoffFacts.{Ascends, AreHandoffFacts}
+use Rattle.bl_load.specs.HandoffFacts.{Ascends, AreHandoffFacts, MayStand}
+use Rattle.bl_load.specs.Protocols.{is_wide}
+use Rattle.bl_image.specs.Layouts.{most_role}
 use Rattle.bl_image.specs.declared.fault.ImageFault.TheVariants.{WrongLength}
 use Rattle.bl_image.specs.declared.version.Version.{Version}
 use Rattle.bl_image.specs.Image.{head}
@@ -26,12 +28,13 @@ use Rattle.bl_image.proofs.RecordLemmas.{parts_step}
 use Rattle.bl_image.proofs.NoFaultLemmas.{IsSmall, first_none}
 use Rattle.bl_image.proofs.FoundLemmas.{head_found, record_found}
 
-record IsSoundPlace (p : Place) : Type 0 where
+record IsSoundPlace (wide : Bool) (p : Place) : Type 0 where
+  may : MayStand wide p.role
   index : p.index < 2 ^ 32
   filled : 1 ≤ p.length
   below : p.address + p.length ≤ 2 ^ 32
 
-record PlacesFound (count : ℕ) (before : Before) (bytes : List ℕ) : Type 0 where
+record PlacesFound (wide : Bool) (count : ℕ) (before : Before) (bytes : List ℕ) : Type 0 where
   places : List Place
   tail : List ℕ
   is : flat_map place_record places ++ tail ≡ bytes
@@ -39,7 +42,7 @@ record PlacesFound (count : ℕ) (before : Before) (bytes : List ℕ) : Type 0 w
   long : length tail ≡ before.bytes + bytes_at places
   above : All (λ (p : Place). before.end ≤ p.address) places
   related : AreRelated Ascends places
-  each : All IsSoundPlace places
+  each : All (IsSoundPlace wide) places
 
 kept_none : (same : Bool) → (if same then None else Some WrongLength) ≡ None → same ≡ true
 kept_none true e = refl
@@ -48,9 +51,9 @@ kept_none false e = cc
 end_none : (count : ℕ) (bytes : List ℕ) → end_fault count bytes ≡ None → length bytes ≡ count
 end_none count bytes e = (Decides-eqb (length bytes) count).0 (kept_none (length bytes == count) e)
 
-places_found : (count : ℕ) (before : Before) (bytes : List ℕ) → IsSmall bytes
-    → parts_fault 7 count before bytes ≡ None → PlacesFound count before bytes
-places_found zero before bytes small none = record {
+places_found : (wide : Bool) (count : ℕ) (before : Before) (bytes : List ℕ) → IsSmall bytes
+    → parts_fault (most_role wide) count before bytes ≡ None → PlacesFound wide count before bytes
+places_found wide zero before bytes small none = record {
   places = [];
   tail = bytes;
   is = refl;
@@ -58,16 +61,16 @@ places_found zero before bytes small none = record {
   long = let same = end_none before.bytes bytes none in omega arith;
   above = All-nil (λ (p : Place). before.end ≤ p.address);
   related = tt;
-  each = All-nil IsSoundPlace;
+  each = All-nil (IsSoundPlace wide);
 }
-places_found (suc count) before bytes small none =
-    let here = record_found before.count before.end bytes small (first_none _ _ none).0 in
+places_found wide (suc count) before bytes small none =
+    let here = record_found wide before.count before.end bytes small (first_none _ _ none).0 in
     let p = here.place in
     let after : Before = and_record before p.address p.length in
-    let left : parts_fault 7 count after here.rest ≡ None =
-    sym (parts_step count before p here.rest here.next)
-    ∙ ap (parts_fault 7 (suc count) before) here.is ∙ none in
-    let others = places_found count after here.rest here.small left in
+    let left : parts_fault (most_role wide) count after here.rest ≡ None =
+    sym (parts_step wide count before p here.rest here.may here.next)
+    ∙ ap (parts_fault (most_role wide) (suc count) before) here.is ∙ none in
+    let others = places_found wide count after here.rest here.small left in
     let next = here.next in
     let above : before.end ≤ p.address = next.above in
     record {
@@ -85,8 +88,13 @@ places_found (suc count) before bytes small none =
           (λ k d within. let behind = others.above k d within in omega arith);
       related = (others.above, others.related);
       each =
-          All-cons IsSoundPlace p others.places
-          (record { index = next.index; filled = next.filled; below = next.below }) others.each;
+          All-cons (IsSoundPlace wide) p others.places
+          (record {
+            may = here.may;
+            index = next.index;
+            filled = next.filled;
+            below = next.below;
+          }) others.each;
     }
 
 split_tail : (ps : List Place) (tail : List ℕ) → length tail ≡ bytes_at ps
@@ -122,14 +130,17 @@ pub image_found : (bytes : List ℕ) → IsSmall bytes → image_fault bytes ≡
 image_found bytes small none =
     let h = head_found bytes small (head_none bytes none) in
     let top : List ℕ = head h.version h.protocol h.registers h.count in
-    let left : parts_fault 7 h.count none_before h.rest ≡ None =
-    sym (head_front h.version h.protocol h.registers h.count h.rest h.fit h.few)
+    let wide = is_wide h.protocol in
+    let left : parts_fault (most_role wide) h.count none_before h.rest ≡ None =
+    sym (head_front h.version h.protocol h.registers h.count h.rest h.has h.fit h.few)
     ∙ ap image_fault h.is ∙ none in
-    let f = places_found h.count none_before h.rest h.small left in
+    let f = places_found wide h.count none_before h.rest h.small left in
     let parts = split_tail f.places f.tail (let long = f.long in omega arith) in
     let kept : AreHandoffFacts
     (record { protocol = h.protocol; registers = h.registers; places = f.places }) =
     record {
+      width = h.fit.0;
+      roles = λ k d within. (f.each k d within).may;
       few = let size = f.size in let few = h.few in omega arith;
       filled = λ k d within. (f.each k d within).filled;
       below = λ k d within. (f.each k d within).below;
@@ -153,6 +164,7 @@ image_found bytes small none =
             sym pieces
             ∙ sym (append-nil ((top ++ flat_map place_record f.places) ++ all_bytes parts.0))
             ∙ spelled;
-        kept = image_kept h.protocol h.registers f.places parts.0 parts.1 kept fit h.fit;
+        has = h.has;
+        kept = image_kept h.protocol h.registers f.places parts.0 parts.1 kept fit h.fit.1;
       },
     )

@@ -1,6 +1,6 @@
--- The registers of version 2, field by field: those of which the protocol gives 32 bits, and those
--- that it does not give.
-use Rattle.std.proofs.Common.{◌≡◌, ◌+◌, ◌-◌, ◌<◌, ◌^◌, ℕ, zero, suc, List, [], ◌∷◌, ◌++◌}
+-- The registers of version 2 where the protocol gives 32 bits of each: those that it gives, and
+-- those that it does not give.
+use Rattle.std.proofs.Common.{◌≡◌, ◌+◌, ◌<◌, ◌^◌, ℕ, zero, suc, List, [], ◌∷◌, ◌++◌}
 use Rattle.std.proofs.Common.{length, take, drop, true, All, refl, sym, ap, ◌∙◌, arith, subst}
 use Rattle.std.proofs.Common.{append_assoc}
 use Rattle.std.specs.Prelude.{replicate, nat_lt, ◌==◌}
@@ -13,98 +13,14 @@ use Rattle.std.proofs.lemmas.Bool.Decides.{nat_tests}
 use Rattle.std.proofs.lemmas.Grind.{flat_map-append}
 use Rattle.bl_mem.specs.Words.{u64_bytes}
 use Rattle.bl_mem.proofs.WordLaws.{length-u64_bytes}
-use Rattle.bl_load.specs.declared.registers.Registers.{Registers}
-use Rattle.bl_image.specs.declared.fault.ImageFault.{ImageFault}
+use Rattle.bl_load.specs.declared.registers.Registers32.{Registers32}
+use Rattle.bl_load.specs.declared.registers.Registers.TheVariants.{Bits32}
 use Rattle.bl_image.specs.declared.fault.ImageFault.TheVariants.{BadHeader}
 use Rattle.bl_image.specs.Fields.{Field, fields_fault, narrow_field, absent_field}
 use Rattle.bl_image.specs.Image.{register_numbers, wide_numbers}
 use Rattle.bl_image.specs.Layouts.{registers_2}
-use Rattle.bl_image.specs.Source.{Input, Refuses}
-use Rattle.bl_image.specs.SourceKept.{Passes, PassAll}
-use Rattle.bl_image.proofs.FieldLemmas.{field_passes, long_tells, passed_refuses}
-use Rattle.bl_image.proofs.Inputs.{comes_nothing, comes_more}
-
--- ---- fields one after the other
-
--- these bytes pass these fields, and leave to be judged what follows
-abbrev pub Leaves : List Field → List ℕ → Type 0
-Leaves fields bytes =
-    (others : List Field) (more : List ℕ)
-    → fields_fault (fields ++ others) (bytes ++ more) ≡ fields_fault others more
-
-pub leaves_both : (f g : List Field) (a b : List ℕ) → Leaves f a → Leaves g b
-    → Leaves (f ++ g) (a ++ b)
-leaves_both f g a b first then others more =
-    ap (λ (fs : List Field). fields_fault fs ((a ++ b) ++ more)) (append_assoc f g others)
-    ∙ ap (fields_fault (f ++ (g ++ others))) (append_assoc a b more)
-    ∙ first (g ++ others) (b ++ more) ∙ then others more
-
-pub pass_none : (input : Input) → PassAll [] input input []
-pass_none input = record { comes = comes_nothing input; on = λ others more. refl }
-
-pub pass_both : {old mid new : Input} (f g : List Field) (a b : List ℕ) → PassAll f old mid a
-    → PassAll g mid new b → PassAll (f ++ g) old new (a ++ b)
-pass_both f g a b first then =
-    record { comes = comes_more first.comes then.comes; on = leaves_both f g a b first.on then.on }
-
-pub pass_one : {old new : Input} (field : Field) (a : List ℕ) → Passes field old new a
-    → PassAll (field ∷ []) old new a
-pass_one field a passes = record {
-  comes = passes.comes;
-  on = λ others more. field_passes field others a more passes.size passes.passes;
-}
-
-pub pass_as : {old new : Input} (f : List Field) (a b : List ℕ) → a ≡ b → PassAll f old new a
-    → PassAll f old new b
-pass_as {old} {new} f a b same passed =
-    subst (λ (l : List ℕ). PassAll f old new l) same passed
-
--- what is refused behind fields that passed is refused
-pub refused_behind : {old mid : Input} (f g : List Field) (a : List ℕ) → PassAll f old mid a
-    → (new : Input) (fault : ImageFault)
-    → ((others : List Field) → Refuses (fields_fault (g ++ others)) mid new fault)
-    → (others : List Field) → Refuses (fields_fault ((f ++ g) ++ others)) old new fault
-refused_behind {old} {mid} f g a passed new fault refused others =
-    subst (λ (fs : List Field). Refuses (fields_fault fs) old new fault)
-    (sym (append_assoc f g others))
-    (passed_refuses
-    record { done = a; comes = passed.comes; on = passed.on (g ++ others) } new fault
-    (refused others))
-
--- and what is refused whatever follows is refused before others
-pub refused_before : (old : Input) (f g : List Field) (new : Input) (fault : ImageFault)
-    → ((others : List Field) → Refuses (fields_fault (f ++ others)) old new fault)
-    → (others : List Field) → Refuses (fields_fault ((f ++ g) ++ others)) old new fault
-refused_before old f g new fault refused others =
-    subst (λ (fs : List Field). Refuses (fields_fault fs) old new fault)
-    (sym (append_assoc f g others)) (refused (g ++ others))
-
--- ---- the same field several times
-
-pub replicate_both : {X : Type 0} (m n : ℕ) (x : X)
-    → replicate (m + n) x ≡ replicate m x ++ replicate n x
-replicate_both zero n x = ap (λ (k : ℕ). replicate k x) (omega arith)
-replicate_both {X} (suc m) n x =
-    let next : suc m + n ≡ suc (m + n) = omega arith in
-    ap (λ (k : ℕ). replicate k x) next
-    ∙ ap (λ (xs : List X). x ∷ xs) (replicate_both m n x)
-
-pub replicate_more : {X : Type 0} (n : ℕ) (x : X) → replicate (n + 1) x ≡ replicate n x ++ x ∷ []
-replicate_more n x = replicate_both n 1 x
-
--- one that is refused after so many of it
-pub refused_among : {old mid : Input} (field : Field) (i n : ℕ) (a : List ℕ) → i < n
-    → PassAll (replicate i field) old mid a → (new : Input) (fault : ImageFault)
-    → ((others : List Field) → Refuses (fields_fault (field ∷ others)) mid new fault)
-    → (others : List Field) → Refuses (fields_fault (replicate n field ++ others)) old new fault
-refused_among {old} field i n a below passed new fault refused others =
-    let rest = n - (i + 1) in
-    let is : replicate n field ≡ replicate i field ++ (field ∷ replicate rest field) =
-    ap (λ (k : ℕ). replicate k field) (omega (arith, below))
-    ∙ replicate_both i (suc rest) field in
-    subst (λ (fs : List Field). Refuses (fields_fault (fs ++ others)) old new fault) (sym is)
-    (refused_behind (replicate i field) (field ∷ replicate rest field) a passed new fault
-    (λ more. refused (replicate rest field ++ more)) others)
+use Rattle.bl_image.proofs.FieldLemmas.{field_passes, long_tells}
+use Rattle.bl_image.proofs.FieldRows.{Leaves, leaves_both, replicate_more}
 
 -- ---- numbers pass
 
@@ -178,12 +94,13 @@ spelled_wide first flags last =
 split_numbers : List ℕ → List ℕ
 split_numbers ns = widened (take 9 ns) (take 2 (drop 9 ns)) (drop 11 ns)
 
-wide_split : (r : Registers) → wide_numbers r ≡ split_numbers (register_numbers r)
+wide_split : (r : Registers32) → wide_numbers (Bits32 r) ≡ split_numbers (register_numbers r)
 unfolding split_numbers
 wide_split r = refl
 
-pub wide_by : (r : Registers) (first flags last : List ℕ) → length first ≡ 9 → length flags ≡ 2
-    → register_numbers r ≡ first ++ (flags ++ last) → wide_numbers r ≡ widened first flags last
+pub wide_by : (r : Registers32) (first flags last : List ℕ) → length first ≡ 9 → length flags ≡ 2
+    → register_numbers r ≡ first ++ (flags ++ last)
+    → wide_numbers (Bits32 r) ≡ widened first flags last
 unfolding split_numbers
 wide_by r first flags last nine two is =
     let front = take_at first (flags ++ last) 9 nine in
@@ -195,8 +112,8 @@ wide_by r first flags last nine two is =
     wide_split r ∙ ap split_numbers is ∙ rw (front, behind, middle, end) refl
 
 -- registers whose numbers fit pass
-pub wide_pass : (r : Registers) → All (λ n. n < 2 ^ 32) (register_numbers r)
-    → Leaves registers_2 (flat_map u64_bytes (wide_numbers r))
+pub wide_pass : (r : Registers32) → All (λ n. n < 2 ^ 32) (register_numbers r)
+    → Leaves registers_2 (flat_map u64_bytes (wide_numbers (Bits32 r)))
 unfolding registers_2 split_numbers
 wide_pass r fit others more =
     let fits : ℕ → Type 0 = λ k. k < 2 ^ 32 in
@@ -222,17 +139,17 @@ wide_pass r fit others more =
 narrowed : List ℕ → List ℕ
 narrowed ns = take 9 ns ++ (take 2 (drop 17 ns) ++ drop 22 ns)
 
-narrow_again : (r : Registers) → register_numbers r ≡ narrowed (wide_numbers r)
+narrow_again : (r : Registers32) → register_numbers r ≡ narrowed (wide_numbers (Bits32 r))
 unfolding narrowed
 narrow_again r = refl
 
-pub narrow_same : (r s : Registers) → wide_numbers r ≡ wide_numbers s
+pub narrow_same : (r s : Registers32) → wide_numbers (Bits32 r) ≡ wide_numbers (Bits32 s)
     → register_numbers r ≡ register_numbers s
 narrow_same r s e = narrow_again r ∙ ap narrowed e ∙ sym (narrow_again s)
 
 -- and they fit
-pub wide_fit : (r : Registers) → All (λ n. n < 2 ^ 32) (register_numbers r)
-    → All (λ n. n < 2 ^ 64) (wide_numbers r)
+pub wide_fit : (r : Registers32) → All (λ n. n < 2 ^ 32) (register_numbers r)
+    → All (λ n. n < 2 ^ 64) (wide_numbers (Bits32 r))
 unfolding split_numbers
 wide_fit r fit =
     let fits : ℕ → Type 0 = λ k. k < 2 ^ 32 in

@@ -8,6 +8,7 @@ use Rattle.bl_image.specs.declared.fault.ImageFault.{ImageFault}
 use Rattle.bl_image.specs.declared.fault.ImageFault.TheVariants.{BadMagic, BadVersion, BadHeader}
 use Rattle.bl_image.specs.declared.fault.ImageFault.TheVariants.{BadPart, WrongLength}
 use Rattle.bl_image.specs.Image.{magic}
+use Rattle.bl_image.specs.Versions.{most_protocol}
 
 -- a field: how many bytes it has, what they must pass, and the fault if they don't
 pub record Field : Type 0 where
@@ -41,13 +42,19 @@ version_field = word (λ version. nat_le 1 version && nat_le version 2) BadVersi
 abbrev pub opening_fields : List Field
 opening_fields = magic_field ∷ version_field ∷ []
 
--- the protocol of an image of this version: 1 is Multiboot2, 2 is Linux
+-- the protocol of an image of this version: 1 is Multiboot2, 2 is Linux, and from version 2 on 3 is
+-- the 64-bit entry of Linux
 unfoldable pub protocol_field : ℕ → Field
-protocol_field version = word (λ protocol. nat_le 1 protocol && nat_le protocol 2) BadHeader
+protocol_field version =
+    word (λ protocol. nat_le 1 protocol && nat_le protocol (most_protocol version)) BadHeader
 
 -- a register that may be anything
 unfoldable pub register_field : Field
 register_field = word (λ register. true) BadHeader
+
+-- a register of 64 bits that may be anything
+unfoldable pub wide_field : Field
+wide_field = long (λ register. true) BadHeader
 
 -- a register of 64 bits, of which the protocol gives 32
 unfoldable pub narrow_field : Field

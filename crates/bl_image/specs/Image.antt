@@ -5,7 +5,9 @@ use Rattle.bl_mem.specs.Words.{u32_bytes, u64_bytes}
 use Rattle.bl_plan.specs.declared.part.Role.{Role}
 use Rattle.bl_plan.specs.Roles as roles
 use Rattle.bl_plan.specs.declared.protocol.Protocol.{Protocol}
+use Rattle.bl_load.specs.declared.registers.Registers32.{Registers32}
 use Rattle.bl_load.specs.declared.registers.Registers.{Registers}
+use Rattle.bl_load.specs.declared.registers.Registers.TheVariants.{Bits32, Bits64}
 use Rattle.bl_plan.specs.Protocols as protocols
 use Rattle.bl_load.specs.Handover.{Part, Handover}
 use Rattle.bl_image.specs.declared.version.Version.{Version}
@@ -16,8 +18,8 @@ use Rattle.bl_image.specs.Versions.{version_number}
 abbrev pub magic : List ℕ
 magic = codes "BLIMAGE" ++ 0 ∷ []
 
--- the registers in their order
-abbrev pub register_numbers : Registers → List ℕ
+-- the registers of 32 bits in their order
+abbrev pub register_numbers : Registers32 → List ℕ
 register_numbers r =
     r.eip ∷ r.eax ∷ r.ebx ∷ r.ecx ∷ r.edx ∷ r.esi ∷ r.edi ∷ r.ebp ∷ r.esp ∷ r.eflags
     ∷ r.cr0 ∷ r.cs ∷ r.ds ∷ r.es ∷ r.fs ∷ r.gs ∷ r.ss ∷ r.gdt_base ∷ r.gdt_limit ∷ r.a20 ∷ []
@@ -26,14 +28,21 @@ register_numbers r =
 -- RSP, R8 to R15, RFLAGS, CR0, CR3, CR4, EFER, CS, DS, ES, FS, GS, SS, GDT base, GDT limit, A20;
 -- those that an entry of 32 bits does not give are 0
 abbrev pub wide_numbers : Registers → List ℕ
-wide_numbers r =
+wide_numbers (Bits32 r) =
     r.eip ∷ r.eax ∷ r.ebx ∷ r.ecx ∷ r.edx ∷ r.esi ∷ r.edi ∷ r.ebp ∷ r.esp
     ∷ 0 ∷ 0 ∷ 0 ∷ 0 ∷ 0 ∷ 0 ∷ 0 ∷ 0 ∷ r.eflags ∷ r.cr0 ∷ 0 ∷ 0 ∷ 0
     ∷ r.cs ∷ r.ds ∷ r.es ∷ r.fs ∷ r.gs ∷ r.ss ∷ r.gdt_base ∷ r.gdt_limit ∷ r.a20 ∷ []
+wide_numbers (Bits64 r) =
+    r.rip ∷ r.rax ∷ r.rbx ∷ r.rcx ∷ r.rdx ∷ r.rsi ∷ r.rdi ∷ r.rbp ∷ r.rsp
+    ∷ r.r8 ∷ r.r9 ∷ r.r10 ∷ r.r11 ∷ r.r12 ∷ r.r13 ∷ r.r14 ∷ r.r15
+    ∷ r.rflags ∷ r.cr0 ∷ r.cr3 ∷ r.cr4 ∷ r.efer
+    ∷ r.cs ∷ r.ds ∷ r.es ∷ r.fs ∷ r.gs ∷ r.ss ∷ r.gdt_base ∷ r.gdt_limit ∷ r.a20 ∷ []
 
--- the registers: in version 1 each number in 32 bits, in version 2 in 64
+-- the registers: in version 1 each number of those of 32 bits in 32, in version 2 each in 64; no
+-- image of version 1 has those of 64 bits
 abbrev pub spelled_registers : Version → Registers → List ℕ
-spelled_registers One registers = flat_map u32_bytes (register_numbers registers)
+spelled_registers One (Bits32 r) = flat_map u32_bytes (register_numbers r)
+spelled_registers One (Bits64 r) = flat_map u64_bytes (wide_numbers (Bits64 r))
 spelled_registers Two registers = flat_map u64_bytes (wide_numbers registers)
 
 -- the magic; version and protocol; the registers; the number of parts, a zero word: what is no

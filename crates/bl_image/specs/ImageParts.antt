@@ -6,6 +6,7 @@ use Rattle.bl_load.specs.Handover.{Part, Handover, end_of}
 use Rattle.bl_image.specs.declared.version.Version.{Version}
 use Rattle.bl_image.specs.Image.{spelling}
 use Rattle.bl_image.specs.Spellable.{IsSpellable}
+use Rattle.bl_image.specs.Versions.{HasProtocol}
 
 -- the place of a part
 abbrev pub place_of : Part → Place
@@ -30,7 +31,8 @@ pub record IsKept (handover : Handover) : Type 0 where
   pub handoff : AreHandoffFacts (handoff_of handover)
   pub spellable : IsSpellable handover
 
--- these bytes are the image of this handover in this version
+-- these bytes are the image of this handover in this version, which has its protocol
 pub record IsImage (version : Version) (bytes : List ℕ) (handover : Handover) : Type 0 where
   pub is : bytes ≡ spelling version handover
+  pub has : HasProtocol version handover.protocol
   pub kept : IsKept handover

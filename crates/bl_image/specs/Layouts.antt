@@ -1,8 +1,14 @@
 -- How an image goes on after its protocol. Own.
-use Rattle.std.specs.Prelude.{ℕ, List, [], ◌∷◌, ◌++◌, ◌==◌, if◌then◌else◌, replicate}
+use Rattle.std.specs.Prelude.{ℕ, Bool, true, false, List, [], ◌∷◌, ◌++◌, ◌==◌, if◌then◌else◌}
+use Rattle.std.specs.Prelude.{replicate}
 use Rattle.bl_mem.specs.Words.{u32_at}
-use Rattle.bl_image.specs.Fields.{Field, register_field, narrow_field, absent_field}
+use Rattle.bl_image.specs.Fields.{Field, register_field, narrow_field, absent_field, wide_field}
 use Rattle.bl_image.specs.Fields.{count_field, zero_field}
+
+-- the greatest number of a role, where the registers are those of 64 bits, and where not
+abbrev pub most_role : Bool → ℕ
+most_role true = 8
+most_role false = 7
 
 -- a layout: the fields of the registers, which stand from 16 on; where the number of parts stands,
 -- with a zero word behind it; where the records begin; the greatest number of a role
@@ -29,9 +35,19 @@ registers_2 =
 abbrev pub layout_2 : Layout
 layout_2 = record { registers = registers_2; count_at = 264; records_at = 272; most_role = 7 }
 
+-- under the 64-bit entry of Linux each may be anything, and page tables are a part
+unfoldable pub registers_3 : List Field
+registers_3 = replicate 31 wide_field
+
+abbrev pub layout_3 : Layout
+layout_3 = record { registers = registers_3; count_at = 264; records_at = 272; most_role = 8 }
+
 -- the layout of an image with this number of its version, and this one of its protocol
 abbrev pub layout : ℕ → ℕ → Layout
-layout version protocol = if version == 1 then layout_1 else layout_2
+layout version protocol =
+    if version == 1 then layout_1 else
+    if protocol == 3 then layout_3 else
+    layout_2
 
 -- the one of these bytes: the version stands at 8, the protocol at 12
 abbrev pub layout_of : List ℕ → Layout

@@ -3,7 +3,8 @@ use Rattle.std.specs.Prelude.{ℕ, ◌+◌, ◌<◌, ◌≤◌, ◌^◌, List, [
 use Rattle.std.specs.Prelude.{slice_range}
 use Rattle.bl_plan.specs.declared.part.Place.{Place}
 use Rattle.bl_load.specs.HandoffFacts.{Ascends}
-use Rattle.bl_image.specs.Image.{record_of, register_numbers}
+use Rattle.bl_image.specs.Image.{record_of}
+use Rattle.bl_image.specs.Spellable.{AreFit}
 use Rattle.bl_load.specs.declared.registers.Registers.{Registers}
 
 -- the record of a place
@@ -22,7 +23,7 @@ pub record PlaceFits (place : Place) : Type 0 where
 
 -- the numbers of registers and places fit an image
 pub record AreSpellable (r : Registers) (ps : List Place) : Type 0 where
-  pub registers : All (λ n. n < 2 ^ 32) (register_numbers r)
+  pub registers : AreFit r
   pub count : length ps < 2 ^ 32
   pub places : All PlaceFits ps
 

@@ -1,7 +1,12 @@
 -- What an image has room for. Own.
-use Rattle.std.specs.Prelude.{◌<◌, ◌^◌, length, All}
+use Rattle.std.specs.Prelude.{◌≡◌, ◌<◌, ◌^◌, length, All}
 use Rattle.bl_load.specs.Handover.{Part, Handover}
-use Rattle.bl_image.specs.Image.{register_numbers}
+use Rattle.bl_plan.specs.declared.protocol.Protocol.{Protocol}
+use Rattle.bl_load.specs.declared.registers.Registers.{Registers}
+use Rattle.bl_load.specs.declared.registers.Registers.TheVariants.{Bits32, Bits64}
+use Rattle.bl_load.specs.Protocols.{is_wide}
+use Rattle.bl_load.specs.Registers.{are_wide}
+use Rattle.bl_image.specs.Image.{register_numbers, wide_numbers}
 
 -- the numbers of a part fit its record
 pub record FitsRecord (part : Part) : Type 0 where
@@ -9,8 +14,17 @@ pub record FitsRecord (part : Part) : Type 0 where
   pub address : part.address < 2 ^ 64
   pub count : length part.bytes < 2 ^ 64
 
+-- the numbers of registers fit 32 bits or 64
+abbrev pub AreFit : Registers → Type 0
+AreFit (Bits32 r) = All (λ n. n < 2 ^ 32) (register_numbers r)
+AreFit (Bits64 r) = All (λ n. n < 2 ^ 64) (wide_numbers (Bits64 r))
+
+-- the registers are those of the protocol, and their numbers fit
+abbrev pub FitsRegisters : Protocol → Registers → Type 0
+FitsRegisters protocol r = (are_wide r ≡ is_wide protocol) × AreFit r
+
 -- the numbers of a handover fit its image
 pub record IsSpellable (h : Handover) : Type 0 where
-  pub registers : All (λ n. n < 2 ^ 32) (register_numbers h.registers)
+  pub registers : FitsRegisters h.protocol h.registers
   pub count : length h.parts < 2 ^ 32
   pub parts : All FitsRecord h.parts

@@ -81,3 +81,19 @@ pub(crate) fn read_u32s<S: Source>(source: &mut S, out: &mut [u32]) -> Result<()
     }
     Ok(())
 }
+
+/// Reads as many numbers of 64 bits as `out` holds.
+pub(crate) fn read_u64s<S: Source>(source: &mut S, out: &mut [u64]) -> Result<(), ImageFault>
+    requires { S.faults source.old < 2 ^ 63 }
+    ensures ok { OnOk result
+        (Comes (S.input source.old) (S.input source.new) (flat_map u64_bytes out.new)) }
+    ensures fit { OnOk result (All (λ n. n < 2 ^ 64) out.new) }
+    ensures cut { IfErr result
+        (IsCut (S.input source.old) (S.input source.new) (8 * length out.new)) }
+    ensures faults { S.faults source.new ≡ S.faults source.old + faults_met result }
+{
+    for i in 0..out.len() {
+        out[i] = read_u64(source)?;
+    }
+    Ok(())
+}

@@ -1,14 +1,15 @@
 //! The head of an image, and its records.
-ghost use Rattle.std.specs.Prelude.{◌≡◌, ◌+◌, ◌*◌, ◌<◌, ◌≤◌, ◌^◌, ◌++◌, length, take, All, OnOk};
+ghost use Rattle.std.specs.Prelude.{◌≡◌, ◌+◌, ◌*◌, ◌<◌, ◌≤◌, ◌^◌, ◌++◌, length, take, OnOk};
 ghost use Rattle.std.specs.Prelude.{OnErr};
 ghost use Rattle.std.specs.List.{flat_map};
 ghost use Rattle.bl_load.specs.HandoffFacts.{AreHandoffFacts};
 ghost use Rattle.bl_image.specs.Begun.{IsBegun};
-ghost use Rattle.bl_image.specs.Image.{head, register_numbers};
-ghost use Rattle.bl_image.specs.Image as image;
+ghost use Rattle.bl_image.specs.Image.{head};
 ghost use Rattle.bl_image.specs.RecordsKept.{place_record, AreSpellable};
+ghost use Rattle.bl_image.specs.Spellable.{AreFit};
 ghost use Rattle.bl_image.specs.Versions.{written_version};
 
+use crate::numbers::{WIDE, numbers_of};
 use crate::places::Places;
 use crate::sink::{DeviceFault, Sink, write_all};
 use crate::version::Version;
@@ -25,54 +26,11 @@ pub(crate) const MOST_PARTS: u32 = 256;
 /// How many bytes the head that is written has.
 const HEAD: usize = 272;
 
-/// How many registers the head has.
-const WIDE: usize = 31;
-
 /// How many bytes a record has.
 const RECORD: usize = 24;
 
 /// How many bytes stand at most before those of the parts.
 pub(crate) const MOST_FRONT: usize = HEAD + RECORD * MOST_PARTS as usize;
-
-/// The numbers of the registers of a processor of 64 bits, in their order.
-fn wide_numbers(r: &Registers) -> [u64; WIDE]
-    ensures wide { result ≡ image.wide_numbers r.now }
-    ensures fit { All (λ n. n < 2 ^ 32) (register_numbers r.now) }
-{
-    [
-        r.eip as u64,
-        r.eax as u64,
-        r.ebx as u64,
-        r.ecx as u64,
-        r.edx as u64,
-        r.esi as u64,
-        r.edi as u64,
-        r.ebp as u64,
-        r.esp as u64,
-        0,
-        0,
-        0,
-        0,
-        0,
-        0,
-        0,
-        0,
-        r.eflags as u64,
-        r.cr0 as u64,
-        0,
-        0,
-        0,
-        r.cs as u64,
-        r.ds as u64,
-        r.es as u64,
-        r.fs as u64,
-        r.gs as u64,
-        r.ss as u64,
-        r.gdt_base as u64,
-        r.gdt_limit as u64,
-        r.a20 as u64,
-    ]
-}
 
 /// The record of a part.
 fn record_bytes(place: &Place) -> [u8; RECORD]
@@ -97,12 +55,12 @@ fn put(buffer: &mut [u8], at: usize, bytes: &[u8])
 /// The head of an image with so many parts.
 fn head_bytes(protocol: Protocol, r: &Registers, count: u32) -> [u8; HEAD]
     ensures bytes { result ≡ head written_version protocol r.now count }
-    ensures fit { All (λ n. n < 2 ^ 32) (register_numbers r.now) }
+    ensures fit { AreFit r.now }
 {
     let mut opening = [0u8; 8];
     write_u32s(&[Version::Two.number(), protocol.number()], &mut opening);
     let mut numbers = [0u8; 8 * WIDE];
-    write_u64s(&wide_numbers(r), &mut numbers);
+    write_u64s(&numbers_of(r), &mut numbers);
     let mut closing = [0u8; 8];
     write_u32s(&[count, 0], &mut closing);
     let mut bytes = [0u8; HEAD];

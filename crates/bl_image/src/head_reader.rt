@@ -1,14 +1,15 @@
 //! The head of an image, read.
-ghost use Rattle.std.specs.Prelude.{◌≡◌, ◌+◌, ◌≤◌, ◌<◌, ◌^◌, ℕ, All, MatchOption, IfOk, IfErr};
+ghost use Rattle.std.specs.Prelude.{◌≡◌, ◌+◌, ◌≤◌, ◌<◌, ◌^◌, MatchOption, IfOk, IfErr, IfSome};
 ghost use Rattle.bl_mem.specs.Words.{u32_bytes};
 ghost use Rattle.bl_plan.specs.Protocols as protocols;
 ghost use Rattle.bl_load.specs.HandoffFacts.{most_parts};
 ghost use Rattle.bl_image.specs.Fields as fields;
-ghost use Rattle.bl_image.specs.Image.{magic, head, register_numbers};
+ghost use Rattle.bl_image.specs.Image.{magic, head};
 ghost use Rattle.bl_image.specs.ImageFaults.{head_fault};
 ghost use Rattle.bl_image.specs.Source.{Comes, Refuses, faults_met};
 ghost use Rattle.bl_image.specs.SourceKept.{Reads};
-ghost use Rattle.bl_image.specs.Versions.{version_number};
+ghost use Rattle.bl_image.specs.Spellable.{FitsRegisters};
+ghost use Rattle.bl_image.specs.Versions.{version_number, most_protocol, HasProtocol};
 
 use crate::fault::ImageFault;
 use crate::fields::{read_exact, read_u32};
@@ -66,28 +67,31 @@ fn read_version<S: Source>(source: &mut S) -> Result<Version, ImageFault>
     Ok(version)
 }
 
-fn protocol_of(number: u32) -> Option<Protocol>
-    ensures { MatchOption result
-        ((1 ≤ number) × (number ≤ 2) → ⊥)
+fn protocol_of(version: Version, number: u32) -> Option<Protocol>
+    ensures number { MatchOption result
+        ((1 ≤ number) × (number ≤ most_protocol (version_number version)) → ⊥)
         (λ protocol. protocols.protocol_number protocol ≡ number) }
+    ensures has { IfSome result (HasProtocol version) }
 {
-    match number {
-        1 => Some(Protocol::Multiboot2),
-        2 => Some(Protocol::Linux),
+    match (version, number) {
+        (_, 1) => Some(Protocol::Multiboot2),
+        (_, 2) => Some(Protocol::Linux),
+        (Version::Two, 3) => Some(Protocol::Linux64),
         _ => None,
     }
 }
 
-/// Reads the protocol, which each version has.
-fn read_protocol<S: Source>(source: &mut S) -> Result<Protocol, ImageFault>
+/// Reads the protocol, which is one of the version.
+fn read_protocol<S: Source>(source: &mut S, version: Version) -> Result<Protocol, ImageFault>
     requires { S.faults source.old < 2 ^ 63 }
-    ensures field { (version : ℕ) → Reads (fields.protocol_field version)
+    ensures field { Reads (fields.protocol_field (version_number version))
         (S.input source.old) (S.input source.new)
         (λ protocol. u32_bytes (protocols.protocol_number protocol)) result }
+    ensures has { IfOk result (HasProtocol version) }
     ensures faults { S.faults source.new ≡ S.faults source.old + faults_met result }
 {
     let number = read_u32(source)?;
-    let Some(protocol) = protocol_of(number) else {
+    let Some(protocol) = protocol_of(version, number) else {
         return Err(ImageFault::BadHeader);
     };
     Ok(protocol)
@@ -124,7 +128,8 @@ pub(crate) fn read_head<S: Source>(source: &mut S) -> Result<Head, ImageFault>
     requires { S.faults source.old < 2 ^ 63 }
     ensures ok { IfOk result (λ h. Comes (S.input source.old) (S.input source.new)
         (head h.version h.protocol h.registers h.count)) }
-    ensures fit { IfOk result (λ h. All (λ n. n < 2 ^ 32) (register_numbers h.registers)) }
+    ensures fit { IfOk result (λ h. FitsRegisters h.protocol h.registers) }
+    ensures has { IfOk result (λ h. HasProtocol h.version h.protocol) }
     ensures few { IfOk result (λ h. h.count ≤ most_parts) }
     ensures refused { IfErr result
         (Refuses head_fault (S.input source.old) (S.input source.new)) }
@@ -132,8 +137,8 @@ pub(crate) fn read_head<S: Source>(source: &mut S) -> Result<Head, ImageFault>
 {
     read_magic(source)?;
     let version = read_version(source)?;
-    let protocol = read_protocol(source)?;
-    let registers = read_registers(source, version)?;
+    let protocol = read_protocol(source, version)?;
+    let registers = read_registers(source, version, protocol)?;
     let count = read_count(source)?;
     read_zero(source)?;
     Ok(Head {

@@ -5,6 +5,7 @@ ghost use Rattle.bl_image.specs.Image.{spelling};
 ghost use Rattle.bl_image.specs.ImageFaults.{image_fault};
 ghost use Rattle.bl_image.specs.ImageParts.{IsKept, IsImage};
 ghost use Rattle.bl_image.specs.Spellable.{IsSpellable};
+ghost use Rattle.bl_image.specs.Versions.{HasProtocol};
 ghost use Rattle.bl_image.specs.declared.version.Version.{Version};
 
 /// Two handovers whose numbers fit have one image only where they are one, in one version.
@@ -13,9 +14,9 @@ pub fn image_tells_all()
         → spelling version h ≡ spelling other k → (version ≡ other) × (h ≡ k) }
 {}
 
-/// The image of what an image keeps has no fault.
+/// The image of what an image keeps, in a version that has its protocol, has no fault.
 pub fn images_have_no_fault()
-    ensures { (version : Version) (h : Handover) → IsKept h
+    ensures { (version : Version) (h : Handover) → HasProtocol version h.protocol → IsKept h
         → image_fault (spelling version h) ≡ None }
 {}
 

@@ -13,6 +13,7 @@ mod laws;
 mod mem_sink;
 mod mem_source;
 mod memory_image;
+mod numbers;
 mod part_reader;
 mod parts;
 mod places;

@@ -6,6 +6,7 @@ ghost use Rattle.bl_image.specs.Image.{spelling};
 ghost use Rattle.bl_image.specs.ImageFaults.{image_fault, end_fault};
 ghost use Rattle.bl_image.specs.ImageParts.{IsKept, IsImage};
 ghost use Rattle.bl_image.specs.Source.{Comes, IsEnded, Refuses, Fails, IsOfTheMoment, faults_met};
+ghost use Rattle.bl_image.specs.Versions.{HasProtocol};
 ghost use Rattle.bl_image.specs.declared.version.Version.{Version};
 
 use crate::fault::ImageFault;
@@ -42,6 +43,7 @@ fn read_whole<S: Source, A: Allocator + Copy>(
 ) -> Result<Image<A>, ImageFault>
     requires { S.faults source.old < 2 ^ 63 }
     ensures ok { IfOk result (λ image. (version : Version)
+        × HasProtocol version image.protocol
         × Comes (S.input source.old) (S.input source.new) (spelling version image)) }
     ensures ended { OnOk result (IsEnded (S.input source.new)) }
     ensures kept { IfOk result IsKept }
@@ -50,7 +52,7 @@ fn read_whole<S: Source, A: Allocator + Copy>(
     ensures faults { S.faults source.new ≡ S.faults source.old + faults_met result }
 {
     let head = read_head(source)?;
-    let places = read_records(alloc, source, head.count)?;
+    let places = read_records(alloc, source, head.registers.are_wide(), head.count)?;
     let mut buffer = [0u8; BUFFER];
     let parts = read_parts(alloc, source, &places, &mut buffer)?;
     read_end(source)?;
@@ -69,6 +71,7 @@ pub fn read_image<S: Source, A: Allocator + Copy>(
 
     // The image's one spelling in a version came, and then the end.
     ensures ok { IfOk result (λ image. (version : Version)
+        × HasProtocol version image.protocol
         × Comes (S.input source.old) (S.input source.new) (spelling version image)) }
     ensures ended { OnOk result (IsEnded (S.input source.new)) }
     ensures kept { IfOk result IsKept }

@@ -1,12 +1,12 @@
 //! The records of an image, read.
 ghost use Rattle.std.specs.Prelude.{◌≡◌, ◌+◌, ◌≤◌, ◌<◌, ◌^◌, List, ℕ, ◌++◌, length, nat_le};
-ghost use Rattle.std.specs.Prelude.{◌&&◌, IfOk, IfErr, MatchOption};
+ghost use Rattle.std.specs.Prelude.{◌&&◌, All, IfOk, IfErr, IfSome, MatchOption};
 ghost use Rattle.std.specs.List.{flat_map};
 ghost use Rattle.bl_mem.specs.Words.{u32_bytes, u64_bytes};
 ghost use Rattle.bl_plan.specs.Roles as roles;
-ghost use Rattle.bl_load.specs.HandoffFacts.{most_parts};
+ghost use Rattle.bl_load.specs.HandoffFacts.{most_parts, MayStand};
 ghost use Rattle.bl_image.specs.Fields as fields;
-ghost use Rattle.bl_image.specs.Layouts.{layout_1};
+ghost use Rattle.bl_image.specs.Layouts.{most_role};
 ghost use Rattle.bl_image.specs.RecordsKept.{place_record, IsNext, AreSound, bytes_at};
 ghost use Rattle.bl_image.specs.ImageFaults.{record_fault, parts_fault, end_fault, none_before};
 ghost use Rattle.bl_image.specs.Source.{Comes, Refuses, faults_met};
@@ -21,9 +21,10 @@ use std::alloc::Allocator;
 /// Where a part ends at most: 4 GiB.
 const MOST_END: u64 = 0x1_0000_0000;
 
-fn role_of(number: u32) -> Option<Role>
-    ensures { MatchOption result
-        ((1 ≤ number) × (number ≤ 7) → ⊥)
+fn role_of(number: u32, wide: bool) -> Option<Role>
+    ensures may { IfSome result (MayStand wide) }
+    ensures number { MatchOption result
+        ((1 ≤ number) × (number ≤ most_role wide) → ⊥)
         (λ role. roles.role_number role ≡ number) }
 {
     match number {
@@ -34,19 +35,22 @@ fn role_of(number: u32) -> Option<Role>
         5 => Some(Role::CommandLine),
         6 => Some(Role::Gdt),
         7 => Some(Role::Initrd),
+        8 if wide => Some(Role::PageTables),
         _ => None,
     }
 }
 
-fn read_role<S: Source>(source: &mut S, part: u32) -> Result<Role, ImageFault>
+/// Reads a role; page tables are a part where the registers are wide.
+fn read_role<S: Source>(source: &mut S, wide: bool, part: u32) -> Result<Role, ImageFault>
     requires { S.faults source.old < 2 ^ 63 }
-    ensures field { Reads (fields.role_field layout_1.most_role part)
+    ensures may { IfOk result (MayStand wide) }
+    ensures field { Reads (fields.role_field (most_role wide) part)
         (S.input source.old) (S.input source.new)
         (λ role. u32_bytes (roles.role_number role)) result }
     ensures faults { S.faults source.new ≡ S.faults source.old + faults_met result }
 {
     let number = read_u32(source)?;
-    let Some(role) = role_of(number) else {
+    let Some(role) = role_of(number, wide) else {
         return Err(ImageFault::BadPart(part));
     };
     Ok(role)
@@ -109,17 +113,23 @@ fn may_have(address: u64, count: u64) -> bool
 }
 
 /// Reads a record; the part before ends at `before`.
-fn read_record<S: Source>(source: &mut S, part: u32, before: u64) -> Result<Place, ImageFault>
+fn read_record<S: Source>(
+    source: &mut S,
+    wide: bool,
+    part: u32,
+    before: u64,
+) -> Result<Place, ImageFault>
     requires { S.faults source.old < 2 ^ 63 }
     ensures ok { IfOk result
         (λ place. Comes (S.input source.old) (S.input source.new) (place_record place)) }
     ensures next { IfOk result (IsNext before) }
+    ensures may { IfOk result (λ place. MayStand wide place.role) }
     ensures refused { IfErr result
-        (Refuses (record_fault layout_1.most_role part before)
+        (Refuses (record_fault (most_role wide) part before)
         (S.input source.old) (S.input source.new)) }
     ensures faults { S.faults source.new ≡ S.faults source.old + faults_met result }
 {
-    let role = read_role(source, part)?;
+    let role = read_role(source, wide, part)?;
     let index = read_index(source)?;
     let address = read_address(source, part, before)?;
     let length = read_length(source, part, address)?;
@@ -131,10 +141,11 @@ fn read_record<S: Source>(source: &mut S, part: u32, before: u64) -> Result<Plac
     })
 }
 
-/// Reads so many records.
+/// Reads so many records; page tables are a part where the registers are wide.
 pub(crate) fn read_records<S: Source, A: Allocator>(
     alloc: A,
     source: &mut S,
+    wide: bool,
     count: u32,
 ) -> Result<Vec<Place, A>, ImageFault>
     requires faults { S.faults source.old < 2 ^ 63 }
@@ -143,18 +154,19 @@ pub(crate) fn read_records<S: Source, A: Allocator>(
         (flat_map place_record places.items)) }
     ensures count { IfOk result (λ places. length places.items ≡ count) }
     ensures sound { IfOk result (λ places. AreSound places.items (2 ^ 32)) }
+    ensures may { IfOk result (λ places. All (λ place. MayStand wide place.role) places.items) }
     ensures judged { IfOk result (λ places. (bytes : List ℕ)
-        → parts_fault layout_1.most_role count none_before
+        → parts_fault (most_role wide) count none_before
         (flat_map place_record places.items ++ bytes)
         ≡ end_fault (bytes_at places.items) bytes) }
-    ensures refused { IfErr result (Refuses (parts_fault layout_1.most_role count none_before)
+    ensures refused { IfErr result (Refuses (parts_fault (most_role wide) count none_before)
         (S.input source.old) (S.input source.new)) }
     ensures faults { S.faults source.new ≡ S.faults source.old + faults_met result }
 {
     let mut places = Vec::new(alloc);
     let mut before = 0u64;
     for part in 0..count {
-        let place = read_record(source, part, before)?;
+        let place = read_record(source, wide, part, before)?;
         before = place.address + place.length;
         places.push(place)?;
     }

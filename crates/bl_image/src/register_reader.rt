@@ -3,60 +3,32 @@ ghost use Rattle.std.specs.Prelude.{◌≡◌, ◌+◌, ◌<◌, ◌^◌, ◌++�
 ghost use Rattle.std.specs.Prelude.{replicate};
 ghost use Rattle.std.specs.List.{flat_map};
 ghost use Rattle.bl_mem.specs.Words.{u64_bytes};
-ghost use Rattle.bl_image.specs.Image.{register_numbers, spelled_registers};
+ghost use Rattle.bl_plan.specs.Protocols as protocols;
+ghost use Rattle.bl_load.specs.declared.registers.Registers.TheVariants.{Bits32, Bits64};
+ghost use Rattle.bl_image.specs.Image.{register_numbers, spelled_registers, wide_numbers};
 ghost use Rattle.bl_image.specs.Fields as fields;
-ghost use Rattle.bl_image.specs.Layouts.{layout, layout_1, layout_2};
+ghost use Rattle.bl_image.specs.Layouts.{layout, layout_1, layout_2, layout_3};
 ghost use Rattle.bl_image.specs.Source.{faults_met};
 ghost use Rattle.bl_image.specs.SourceKept.{Reads, ReadAll};
-ghost use Rattle.bl_image.specs.Versions.{version_number};
+ghost use Rattle.bl_image.specs.Spellable.{FitsRegisters};
+ghost use Rattle.bl_image.specs.Versions.{version_number, HasProtocol};
 ghost use Rattle.bl_image.specs.declared.version.Version.TheVariants as version;
 
 use crate::fault::ImageFault;
-use crate::fields::{read_u32s, read_u64};
+use crate::fields::{read_u32s, read_u64, read_u64s};
+use crate::numbers::{WIDE, registers_of, wide_registers_of};
 use crate::source::Source;
 use crate::version::Version;
-use bl_load::Registers;
+use bl_load::{Protocol, Registers, Registers32, Registers64};
 
 /// How many registers an image of version 1 has.
 const REGISTERS: usize = 20;
 
-/// The registers that have these numbers, in their order: 9 from the address where the kernel is
-/// entered on, the flags and the control register, and 9 from the code segment on.
-fn registers_of(first: &[u32], flags: &[u32], last: &[u32]) -> Registers
-    requires first { length first.now ≡ 9 }
-    requires flags { length flags.now ≡ 2 }
-    requires last { length last.now ≡ 9 }
-    ensures { register_numbers result ≡ first.now ++ (flags.now ++ last.now) }
-{
-    Registers {
-        eip: first[0],
-        eax: first[1],
-        ebx: first[2],
-        ecx: first[3],
-        edx: first[4],
-        esi: first[5],
-        edi: first[6],
-        ebp: first[7],
-        esp: first[8],
-        eflags: flags[0],
-        cr0: flags[1],
-        cs: last[0],
-        ds: last[1],
-        es: last[2],
-        fs: last[3],
-        gs: last[4],
-        ss: last[5],
-        gdt_base: last[6],
-        gdt_limit: last[7],
-        a20: last[8],
-    }
-}
-
 /// Reads the registers of version 1, of which each may be anything.
-fn read_any_registers<S: Source>(source: &mut S) -> Result<Registers, ImageFault>
+fn read_any_registers<S: Source>(source: &mut S) -> Result<Registers32, ImageFault>
     requires { S.faults source.old < 2 ^ 63 }
     ensures fields { ReadAll layout_1.registers (S.input source.old) (S.input source.new)
-        (spelled_registers version.One) result }
+        (λ r. spelled_registers version.One (Bits32 r)) result }
     ensures fit { IfOk result
         (λ registers. All (λ n. n < 2 ^ 32) (register_numbers registers)) }
     ensures faults { S.faults source.new ≡ S.faults source.old + faults_met result }
@@ -123,10 +95,10 @@ fn read_absents<S: Source>(source: &mut S, count: usize) -> Result<(), ImageFaul
 }
 
 /// Reads the registers of version 2 under a protocol of 32 bits.
-fn read_narrow_registers<S: Source>(source: &mut S) -> Result<Registers, ImageFault>
+fn read_narrow_registers<S: Source>(source: &mut S) -> Result<Registers32, ImageFault>
     requires { S.faults source.old < 2 ^ 63 }
     ensures fields { ReadAll layout_2.registers (S.input source.old) (S.input source.new)
-        (spelled_registers version.Two) result }
+        (λ r. spelled_registers version.Two (Bits32 r)) result }
     ensures fit { IfOk result
         (λ registers. All (λ n. n < 2 ^ 32) (register_numbers registers)) }
     ensures faults { S.faults source.new ≡ S.faults source.old + faults_met result }
@@ -142,21 +114,38 @@ fn read_narrow_registers<S: Source>(source: &mut S) -> Result<Registers, ImageFa
     Ok(registers_of(&first, &flags, &last))
 }
 
-/// Reads the registers as this version has them.
+/// Reads the registers of version 2 under a protocol of 64 bits, of which each may be anything.
+fn read_wide_registers<S: Source>(source: &mut S) -> Result<Registers64, ImageFault>
+    requires { S.faults source.old < 2 ^ 63 }
+    ensures fields { ReadAll layout_3.registers (S.input source.old) (S.input source.new)
+        (λ r. spelled_registers version.Two (Bits64 r)) result }
+    ensures fit { IfOk result (λ r. All (λ n. n < 2 ^ 64) (wide_numbers (Bits64 r))) }
+    ensures faults { S.faults source.new ≡ S.faults source.old + faults_met result }
+{
+    let mut numbers = [0u64; WIDE];
+    read_u64s(source, &mut numbers)?;
+    Ok(wide_registers_of(&numbers))
+}
+
+/// Reads the registers of a protocol as this version has them.
 pub(crate) fn read_registers<S: Source>(
     source: &mut S,
     version: Version,
+    protocol: Protocol,
 ) -> Result<Registers, ImageFault>
-    requires { S.faults source.old < 2 ^ 63 }
-    ensures fields { (protocol : ℕ)
-        → ReadAll (layout (version_number version) protocol).registers
+    requires faults { S.faults source.old < 2 ^ 63 }
+    requires has { HasProtocol version protocol }
+    ensures fields { ReadAll
+        (layout (version_number version) (protocols.protocol_number protocol)).registers
         (S.input source.old) (S.input source.new) (spelled_registers version) result }
-    ensures fit { IfOk result
-        (λ registers. All (λ n. n < 2 ^ 32) (register_numbers registers)) }
+    ensures fit { IfOk result (FitsRegisters protocol) }
     ensures faults { S.faults source.new ≡ S.faults source.old + faults_met result }
 {
-    match version {
-        Version::One => read_any_registers(source),
-        Version::Two => read_narrow_registers(source),
+    match (version, protocol) {
+        (Version::One, _) => Ok(Registers::Bits32(read_any_registers(source)?)),
+        (Version::Two, Protocol::Multiboot2 | Protocol::Linux) => {
+            Ok(Registers::Bits32(read_narrow_registers(source)?))
+        }
+        (Version::Two, Protocol::Linux64) => Ok(Registers::Bits64(read_wide_registers(source)?)),
     }
 }

@@ -21,6 +21,8 @@ pub mod ReadingLaws
 pub mod EntryLemmas
 pub mod LinuxToldLemmas
 pub mod LinuxToldRows
+pub mod PageTablesLemmas
+pub mod FrameLemmas
 pub mod ReadingLemmas
 pub mod PlacingLemmas
 pub mod PrepareLemmas

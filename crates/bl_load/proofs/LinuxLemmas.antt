@@ -1,6 +1,6 @@
 -- What the rows of a Linux entry have, and their places.
 use Rattle.std.proofs.Common.{◌≡◌, ◌≤◌, ◌+◌, ℕ, Bool, true, false, List, [], ◌∷◌, length}
-use Rattle.std.proofs.Common.{cond, arith, refl, sym, subst, All, inl, inr}
+use Rattle.std.proofs.Common.{ap, cond, arith, refl, sym, subst, All, inl, inr}
 use Rattle.std.proofs.Common.{nat_eq, ◌++◌, length-append, Option, Some, None}
 use Rattle.std.specs.Prelude.{option_to_list}
 use Rattle.std.proofs.lemmas.Bool.{cond_both}
@@ -27,6 +27,7 @@ use Rattle.bl_plan.proofs.PlaceLaws.{as_many}
 use Rattle.bl_load.specs.LinuxRows.{high_start, moved_row, fixed_row, linux_kernel_row, frame_row}
 use Rattle.bl_load.specs.LinuxRows.{line_limit, paging_row, front_rows, initrd_rows, linux_rows}
 use Rattle.bl_load.specs.PlacingKept.{HasLength, IsRowed}
+use Rattle.bl_load.specs.Protocols.{is_wide}
 use Rattle.bl_load.specs.Reading.{linux}
 use Rattle.bl_load.specs.Rows.{rows_of}
 use Rattle.bl_load.specs.Value.{EntryValue, initrd_file}
@@ -35,7 +36,7 @@ use Rattle.bl_load.proofs.RowPlaceLemmas.{Anywhere, each_place}
 
 -- ---- they are rows
 
-kernel_row_is : (file : List ℕ) (setup : Setup) → IsSetup file setup
+pub kernel_row_is : (file : List ℕ) (setup : Setup) → IsSetup file setup
     → IsRow (linux_kernel_row setup)
 kernel_row_is file setup is =
     let payload = (payload_is_tail file setup is).1 in
@@ -56,9 +57,11 @@ initrd_rows_are setup (byte ∷ bytes) =
 paging_row_is : (protocol : Protocol) → All IsRow (option_to_list (paging_row protocol))
 paging_row_is protocols.Multiboot2 = All-nil IsRow
 paging_row_is protocols.Linux = All-nil IsRow
+paging_row_is protocols.Linux64 =
+    All-cons IsRow _ [] (record { filled = omega arith; choice = omega arith }) (All-nil IsRow)
 
 -- what holds of each row before the initrd's holds of all
-each_front : (P : Row → Type 0) (protocol : Protocol) (setup : Setup) → P (linux_kernel_row setup)
+pub each_front : (P : Row → Type 0) (protocol : Protocol) (setup : Setup) → P (linux_kernel_row setup)
     → P (frame_row BootParams most_size) → P (frame_row CommandLine line_limit)
     → P (frame_row Gdt most_size)
     → All P (option_to_list (paging_row protocol)) → All P (front_rows protocol setup)
@@ -110,7 +113,7 @@ linux_few facts protocol setup initrd taken places placed =
 
 -- ---- each place has the length that its role and its index ask for
 
-kernel_role : (fixed : Bool) (setup : Setup)
+pub kernel_role : (fixed : Bool) (setup : Setup)
     → (cond fixed (fixed_row setup) (moved_row setup)).role ≡ Kernel
 kernel_role true setup = refl
 kernel_role false setup = refl
@@ -135,10 +138,14 @@ module _ (facts : MachineFacts) (value : EntryValue) (setup : Setup) where
       (omega arith, refl))
       (All-nil (Anywhere (IsRowed facts value (linux setup))))
 
-  paging_rowed : (protocol : Protocol)
+  paging_rowed : (protocol : Protocol) → protocol ≡ value.protocol
       → All (Anywhere (IsRowed facts value (linux setup))) (option_to_list (paging_row protocol))
-  paging_rowed protocols.Multiboot2 = All-nil (Anywhere (IsRowed facts value (linux setup)))
-  paging_rowed protocols.Linux = All-nil (Anywhere (IsRowed facts value (linux setup)))
+  paging_rowed protocols.Multiboot2 is = All-nil (Anywhere (IsRowed facts value (linux setup)))
+  paging_rowed protocols.Linux is = All-nil (Anywhere (IsRowed facts value (linux setup)))
+  paging_rowed protocols.Linux64 is =
+      All-cons (Anywhere (IsRowed facts value (linux setup))) _ []
+      (λ a. (sym (ap is_wide is), refl))
+      (All-nil (Anywhere (IsRowed facts value (linux setup))))
 
   pub linux_rowed : (taken : List (Range ℕ)) (places : List Place)
       → ArePlaced facts taken (rows_of facts value (linux setup)) places
@@ -149,7 +156,7 @@ module _ (facts : MachineFacts) (value : EntryValue) (setup : Setup) where
       (All-append (Anywhere (IsRowed facts value (linux setup))) (front_rows value.protocol setup)
       (initrd_rows setup (initrd_file value.files))
       (each_front (Anywhere (IsRowed facts value (linux setup))) value.protocol setup
-      kernel_row_rowed (λ a. refl) (λ a. refl) (λ a. refl) (paging_rowed value.protocol))
+      kernel_row_rowed (λ a. refl) (λ a. refl) (λ a. refl) (paging_rowed value.protocol refl))
       (initrd_rows_rowed (initrd_file value.files) refl))
       placed
 
@@ -181,6 +188,9 @@ paging_no_overlap facts taken protocols.Multiboot2 setup initrd has =
     initrd_no_overlap facts taken setup initrd has
 paging_no_overlap facts taken protocols.Linux setup initrd has =
     initrd_no_overlap facts taken setup initrd has
+paging_no_overlap facts taken protocols.Linux64 setup initrd (inl here) = here
+paging_no_overlap facts taken protocols.Linux64 setup initrd (inr (a, _, later)) =
+    initrd_no_overlap facts _ setup initrd later
 
 rows_no_overlap : (facts : MachineFacts) (protocol : Protocol) (setup : Setup) (initrd : List ℕ)
     → IsFirstFault facts [] (linux_rows protocol setup initrd) Overlap → ⊥

@@ -17,7 +17,7 @@ use Rattle.bl_plan.specs.Roles.{role_number}
 use Rattle.bl_plan.specs.declared.part.Place.{Place}
 use Rattle.bl_plan.specs.declared.part.Role.{Role}
 use Rattle.bl_plan.specs.declared.part.Role.TheVariants.{Kernel, Module, Information, BootParams}
-use Rattle.bl_plan.specs.declared.part.Role.TheVariants.{CommandLine, Gdt, Initrd}
+use Rattle.bl_plan.specs.declared.part.Role.TheVariants.{CommandLine, Gdt, Initrd, PageTables}
 use Rattle.bl_plan.specs.declared.part.Row.{Row}
 use Rattle.bl_load.specs.Addresses.{address_of}
 use Rattle.bl_load.specs.Value.{EntryValue, module_file}
@@ -94,6 +94,7 @@ is_module BootParams h = absurd cc
 is_module CommandLine h = absurd cc
 is_module Gdt h = absurd cc
 is_module Initrd h = absurd cc
+is_module PageTables h = absurd cc
 
 module_ends : (facts : MachineFacts) (value : EntryValue) (kernel : KernelFacts) (i : ℕ) (p : Place)
     → IsRowed facts value (multiboot2 kernel) p → IsLow p

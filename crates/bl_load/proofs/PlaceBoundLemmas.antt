@@ -1,5 +1,5 @@
 -- Where the places of an entry's rows lie, and that they ascend if they stand in address order.
-use Rattle.std.proofs.Common.{◌≤◌, ◌+◌, ◌-◌, ◌^◌, ℕ, List, [], length, get_or, arith, All, AllPairs}
+use Rattle.std.proofs.Common.{◌≡◌, ◌≤◌, ◌+◌, ◌-◌, ◌^◌, ℕ, List, [], length, get_or, arith, All, AllPairs}
 use Rattle.std.proofs.Common.{inl, inr}
 use Rattle.std.proofs.lemmas.Bool.{cases_lt}
 use Rattle.std.specs.declared.ops.Range.{Range}
@@ -11,7 +11,9 @@ use Rattle.bl_plan.specs.declared.protocol.Protocol.{Protocol}
 use Rattle.bl_plan.proofs.PlaceLaws.{all_usable, all_apart}
 use Rattle.bl_plan.specs.Order.{place_key, in_order}
 use Rattle.bl_load.specs.declared.registers.Registers.{Registers}
-use Rattle.bl_load.specs.HandoffFacts.{Ascends, AreHandoffFacts, most_parts}
+use Rattle.bl_load.specs.HandoffFacts.{Ascends, AreHandoffFacts, MayStand, most_parts}
+use Rattle.bl_load.specs.Protocols.{is_wide}
+use Rattle.bl_load.specs.Registers.{are_wide}
 use Rattle.bl_plan.proofs.OrderLemmas.{in_order_all, in_order_pairs, in_order_sorted}
 use Rattle.bl_plan.proofs.OrderCountLemmas.{length-in_order}
 use Rattle.bl_load.proofs.RowPlaceLemmas.{Anywhere, each_place}
@@ -78,13 +80,17 @@ in_order_ascends places filled apart i j d ij within =
 -- at most 256 places of rows, in order, are what a handoff keeps
 pub handoff_kept : (facts : MachineFacts) (protocol : Protocol) (registers : Registers)
     (rows : List Row) (places : List Place) → All IsRow rows → length places ≤ most_parts
-    → ArePlaced facts [] rows places
+    → ArePlaced facts [] rows places → are_wide registers ≡ is_wide protocol
+    → All (λ (p : Place). MayStand (is_wide protocol) p.role) places
     → AreHandoffFacts
     (record { protocol = protocol; registers = registers; places = in_order places })
-handoff_kept facts protocol registers rows places are few placed =
+handoff_kept facts protocol registers rows places are few placed width roles =
     let filled = are_filled facts [] rows places placed are in
     let same = length-in_order place_key places in
     record {
+      width = width;
+      roles =
+          in_order_all place_key (λ (p : Place). MayStand (is_wide protocol) p.role) places roles;
       few = omega (arith, few, same);
       filled = in_order_all place_key IsFilled places filled;
       below =

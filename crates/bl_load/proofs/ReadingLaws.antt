@@ -2,12 +2,13 @@
 -- each place has the length of what stands there.
 use Rattle.std.specs.Prelude.{max, unwrap_or}
 use Rattle.std.proofs.Common.{◌≡◌, ◌≢◌, ◌≤◌, ◌+◌, ℕ, List, [], length, None, arith, rules, subst}
-use Rattle.std.proofs.Common.{All, slice_range, nat_eq}
+use Rattle.std.proofs.Common.{All, get_or, refl, slice_range, nat_eq}
 use Rattle.std.proofs.lemmas.Bool.{cond_both}
 use Rattle.std.proofs.lemmas.List.{places}
 use Rattle.bl_map.specs.MachineFacts.{MachineFacts}
 use Rattle.bl_bzimage.specs.declared.setup.Setup.{Setup}
 use Rattle.bl_params.proofs.Lengths.{length-boot_params}
+use Rattle.bl_params.proofs.PagingLemmas.{length-paging}
 use Rattle.bl_plan.specs.Order.{in_order}
 use Rattle.bl_plan.specs.Placed.{ArePlaced, IsRow, IsFirstFault, IsPlacingFault}
 use Rattle.bl_plan.specs.declared.fault.PlanFault.{PlanFault}
@@ -16,17 +17,18 @@ use Rattle.bl_plan.specs.declared.part.Place.{Place}
 use Rattle.bl_plan.specs.declared.protocol.Protocol.{Protocol}
 use Rattle.bl_plan.specs.declared.part.Role.{Role}
 use Rattle.bl_plan.specs.declared.part.Role.TheVariants.{Kernel, Module, Information, BootParams}
-use Rattle.bl_plan.specs.declared.part.Role.TheVariants.{CommandLine, Gdt, Initrd}
+use Rattle.bl_plan.specs.declared.part.Role.TheVariants.{CommandLine, Gdt, Initrd, PageTables}
 use Rattle.bl_plan.specs.declared.protocol.Protocol.{Protocol}
 use Rattle.bl_plan.specs.declared.protocol.Protocol.TheVariants as protocols
-use Rattle.bl_load.specs.declared.registers.Registers.{Registers}
-use Rattle.bl_load.specs.HandoffFacts.{AreHandoffFacts, most_parts}
+use Rattle.bl_load.specs.Addresses.{address_of}
+use Rattle.bl_load.specs.HandoffFacts.{AreHandoffFacts, MayStand, most_parts}
 use Rattle.bl_load.specs.Kernel.{KernelFacts}
 use Rattle.bl_load.specs.LinuxRows.{fixed_row, moved_row, linux_kernel_row, told_of}
-use Rattle.bl_load.specs.Parts.{content_of, payload_of}
+use Rattle.bl_load.specs.Parts.{content_of, payload_of, registers_of}
 use Rattle.bl_load.specs.PlacingKept.{HasLength, IsRowed}
-use Rattle.bl_load.specs.Protocols.{descriptors_of}
+use Rattle.bl_load.specs.Protocols.{descriptors_of, is_wide}
 use Rattle.bl_load.specs.Reading.{Reading, multiboot2, linux, IsRead}
+use Rattle.bl_load.specs.Registers.{are_wide}
 use Rattle.bl_load.specs.Rows.{rows_of}
 use Rattle.bl_load.specs.Value.{EntryValue, kernel_file, module_file, initrd_file, line_fault}
 use Rattle.bl_load.specs.Value.{lines_fault, lines_of}
@@ -85,18 +87,6 @@ reading_few facts value (linux setup) places is few placed =
     let most = linux_few facts value.protocol setup (initrd_file value.files) [] places placed in
     omega (arith, most)
 
--- so they are what a handoff keeps
-pub reading_kept : (facts : MachineFacts) (value : EntryValue) (reading : Reading)
-    (protocol : Protocol) (registers : Registers) (places : List Place)
-    → IsRead facts value reading → length value.module_lines ≤ 64
-    → ArePlaced facts [] (rows_of facts value reading) places
-    → AreHandoffFacts
-    (record { protocol = protocol; registers = registers; places = in_order places })
-reading_kept facts value reading protocol registers places is few placed =
-    handoff_kept facts protocol registers (rows_of facts value reading) places
-    (reading_rows facts value reading is) (reading_few facts value reading places is few placed)
-    placed
-
 -- each has the length that its role and its index ask for
 pub reading_rowed : (facts : MachineFacts) (value : EntryValue) (reading : Reading)
     (places : List Place) → ArePlaced facts [] (rows_of facts value reading) places
@@ -105,6 +95,46 @@ reading_rowed facts value (multiboot2 kernel) places placed =
     each_rowed facts value kernel [] places placed
 reading_rowed facts value (linux setup) places placed =
     linux_rowed facts value setup [] places placed
+
+-- page tables are a part of an entry that enters with 64 bits
+may_stand : (facts : MachineFacts) (value : EntryValue) (reading : Reading) (role : Role)
+    (i count : ℕ) → HasLength facts value reading role i count
+    → MayStand (is_wide value.protocol) role
+may_stand facts value (multiboot2 kernel) PageTables i count has = absurd has
+may_stand facts value (linux setup) PageTables i count has = has.0
+may_stand facts value reading Kernel i count has = tt
+may_stand facts value reading Module i count has = tt
+may_stand facts value reading Information i count has = tt
+may_stand facts value reading BootParams i count has = tt
+may_stand facts value reading CommandLine i count has = tt
+may_stand facts value reading Gdt i count has = tt
+may_stand facts value reading Initrd i count has = tt
+
+-- whose registers are those of 64 bits
+width_of : (protocol : Protocol) (reading : Reading) (places : List Place)
+    → are_wide (registers_of protocol reading places) ≡ is_wide protocol
+width_of protocols.Multiboot2 reading places = refl
+width_of protocols.Linux reading places = refl
+width_of protocols.Linux64 reading places = refl
+
+-- so they are what a handoff keeps
+pub reading_kept : (facts : MachineFacts) (value : EntryValue) (reading : Reading)
+    (places : List Place) → IsRead facts value reading → length value.module_lines ≤ 64
+    → ArePlaced facts [] (rows_of facts value reading) places
+    → AreHandoffFacts (record {
+      protocol = value.protocol;
+      registers = registers_of value.protocol reading places;
+      places = in_order places;
+    })
+reading_kept facts value reading places is few placed =
+    let rowed = reading_rowed facts value reading places placed in
+    handoff_kept facts value.protocol (registers_of value.protocol reading places)
+    (rows_of facts value reading) places (reading_rows facts value reading is)
+    (reading_few facts value reading places is few placed) placed
+    (width_of value.protocol reading places)
+    (λ k d within.
+    let p = get_or places k d in
+    may_stand facts value reading p.role p.index p.length (rowed k d within))
 
 -- ---- what stands there is no longer
 
@@ -131,7 +161,7 @@ payload_short file setup =
     omega arith
 
 -- a kernel's part takes its payload
-payload_fits : (setup : Setup) → setup.payload_size ≤ (linux_kernel_row setup).length
+pub payload_fits : (setup : Setup) → setup.payload_size ≤ (linux_kernel_row setup).length
 payload_fits setup =
     cond_both (nat_eq setup.relocatable_kernel 0) (fixed_row setup) (moved_row setup)
     (λ row. setup.payload_size ≤ row.length) (λ _. omega arith) (λ _. omega arith)
@@ -140,6 +170,7 @@ payload_fits setup =
 descriptors_short : (protocol : Protocol) → length (unwrap_or (descriptors_of protocol) []) ≤ 4096
 descriptors_short protocols.Multiboot2 = omega arith
 descriptors_short protocols.Linux = omega arith
+descriptors_short protocols.Linux64 = omega arith
 
 linux_short : (facts : MachineFacts) (value : EntryValue) (setup : Setup) (places : List Place)
     (role : Role) (i count : ℕ) → line_fault value.line ≡ None
@@ -157,6 +188,9 @@ linux_short facts value setup places Gdt i count sound has =
 linux_short facts value setup places Initrd i count sound has =
     let size = has.1 in
     let frames = some_frames (length (initrd_file value.files)) has.0 in omega arith
+linux_short facts value setup places PageTables i count sound has =
+    let size = length-paging (address_of PageTables 0 places) in
+    let room : count ≡ 0x6000 = has.1 in omega (arith, size, room)
 linux_short facts value setup places _ i count sound has = absurd has
 
 pub reading_short : (facts : MachineFacts) (value : EntryValue) (reading : Reading)

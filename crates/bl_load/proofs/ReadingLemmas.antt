@@ -17,6 +17,7 @@ use Rattle.bl_load.proofs.EntryLemmas.{entry_small}
 use Rattle.bl_load.proofs.LinuxKernelLemmas.{setup_is}
 use Rattle.bl_load.proofs.LinuxToldLemmas.{linux_as_placed, linux_as_fault, initrd_fits}
 use Rattle.bl_load.proofs.LinuxToldRows.{told_linux_rows_are}
+use Rattle.bl_load.proofs.PageTablesLemmas.{tables_fit}
 use Rattle.bl_load.proofs.NoRoomLemmas.{as_placed, placing_fault}
 use Rattle.bl_load.proofs.ModuleLemmas.{modules_end_low}
 use Rattle.bl_load.proofs.RowLemmas.{told_rows_are_rows}
@@ -58,8 +59,10 @@ module _ (facts : MachineFacts) (value : EntryValue) where
       → All (IsRowed facts value reading) places → All IsLow places → FitsTold value reading places
   fits_told (multiboot2 kernel) places placed rowed low =
       modules_end_low facts value kernel places placed rowed low
-  fits_told (linux setup) places placed rowed low =
-      initrd_fits facts value.protocol setup (initrd_file value.files) places placed low
+  fits_told (linux setup) places placed rowed low = (
+    initrd_fits facts value.protocol setup (initrd_file value.files) places placed low,
+    tables_fit facts value.protocol setup (initrd_file value.files) places placed,
+  )
 
   -- and so does the entry
   pub can_enter : (reading : Reading) (modules : ℕ) (places : List Place)

@@ -116,6 +116,7 @@ linux_or_fault protocol runs line file =
 is_either : (p : Protocol) → (p ≡ protocol.Multiboot2) ⊎ (has_params p ≡ true)
 is_either protocol.Multiboot2 = inl refl
 is_either protocol.Linux = inr refl
+is_either protocol.Linux64 = inr refl
 
 read_or_fault : (facts : MachineFacts) (value : EntryValue)
     → ((reading : Reading) × IsRead facts value reading)

@@ -1,8 +1,12 @@
 -- What a handoff says.
-use Rattle.std.specs.Prelude.{ℕ, ◌+◌, ◌≤◌, ◌^◌, List, length, All, AllPairs}
+use Rattle.std.specs.Prelude.{◌≡◌, ℕ, Bool, true, ◌+◌, ◌≤◌, ◌^◌, List, length, All, AllPairs}
 use Rattle.bl_plan.specs.declared.part.Place.{Place}
 use Rattle.bl_plan.specs.declared.protocol.Protocol.{Protocol}
+use Rattle.bl_plan.specs.declared.part.Role.{Role}
+use Rattle.bl_plan.specs.declared.part.Role.TheVariants.{PageTables}
 use Rattle.bl_load.specs.declared.registers.Registers.{Registers}
+use Rattle.bl_load.specs.Protocols.{is_wide}
+use Rattle.bl_load.specs.Registers.{are_wide}
 
 -- the protocol, the registers, and the places of the parts in address order
 pub record HandoffFacts : Type 0 where
@@ -18,9 +22,17 @@ Ascends p q = p.address + p.length ≤ q.address
 abbrev pub most_parts : ℕ
 most_parts = 256
 
--- what a handoff keeps, and the handover of an image too: its places are few, none is empty, each
--- ends at most at 4 GiB, and they ascend
+-- page tables are a part where a kernel is entered with 64 bits alone
+abbrev pub MayStand : Bool → Role → Type 0
+MayStand wide PageTables = wide ≡ true
+MayStand wide role = Unit {0}
+
+-- what a handoff keeps, and the handover of an image too: its registers are those of 64 bits under
+-- such a protocol and no other; its places are few, none is empty, each ends at most at 4 GiB, and
+-- they ascend
 pub record AreHandoffFacts (handoff : HandoffFacts) : Type 0 where
+  pub width : are_wide handoff.registers ≡ is_wide handoff.protocol
+  pub roles : All (λ place. MayStand (is_wide handoff.protocol) place.role) handoff.places
   pub few : length handoff.places ≤ most_parts
   pub filled : All (λ place. 1 ≤ place.length) handoff.places
   pub below : All (λ place. place.address + place.length ≤ 2 ^ 32) handoff.places

@@ -1,6 +1,7 @@
 -- A Linux kernel's file: its setup, or its first fault (Linux/x86 Boot Protocol, "Details of Header
 -- Fields").
-use Rattle.std.specs.Prelude.{◌≡◌, ℕ, if◌then◌else◌, nat_lt, List, length, Option, Some, None}
+use Rattle.std.specs.Prelude.{◌≡◌, ℕ, Bool, not, ◌&&◌, if◌then◌else◌, nat_lt, nat_le, ◌==◌, ◌%◌}
+use Rattle.std.specs.Prelude.{List, length, Option, Some, None}
 use Rattle.std.specs.Prelude.{option_map}
 use Rattle.std.specs.Option.{option_or}
 use Rattle.bl_map.specs.declared.region.Region.{Region}
@@ -10,7 +11,7 @@ use Rattle.bl_bzimage.specs.declared.fault.SetupFault.TheVariants as setup_fault
 use Rattle.bl_bzimage.specs.Setup.{setup_of}
 use Rattle.bl_bzimage.specs.Setup as bzimage
 use Rattle.bl_plan.specs.declared.protocol.Protocol.{Protocol}
-use Rattle.bl_plan.specs.declared.protocol.Protocol.TheVariants.{Multiboot2, Linux}
+use Rattle.bl_plan.specs.declared.protocol.Protocol.TheVariants.{Multiboot2, Linux, Linux64}
 use Rattle.bl_load.specs.declared.refusal.Refusal.{Refusal}
 use Rattle.bl_load.specs.declared.refusal.Refusal.TheVariants as refusal
 
@@ -23,11 +24,24 @@ setup_refusal setup_fault.SetupCut = refusal.SetupCut
 setup_refusal setup_fault.BadAlign = refusal.BadAlign
 setup_refusal setup_fault.BadPreferred = refusal.BadPreferred
 
+-- "xloadflags" tells of the 64-bit entry from version 2.12 on, by bit 0 (XLF_KERNEL_64)
+abbrev pub has_64_bit_entry : Setup → Bool
+has_64_bit_entry setup = nat_le 0x020C setup.version && (setup.xloadflags % 2 == 1)
+
+-- the 64-bit entry lies so many bytes behind the first one that is loaded ("64-bit Boot Protocol")
+abbrev pub entry_64 : ℕ
+entry_64 = 0x200
+
 -- why a kernel of this setup can't be entered by a protocol: each has the 32-bit entry ("32-bit
--- Boot Protocol"), and Multiboot2 asks nothing of a setup
+-- Boot Protocol"), and Multiboot2 asks nothing of a setup; the 64-bit entry must be there, and be
+-- loaded
 abbrev pub entering_fault : Protocol → Setup → Option Refusal
 entering_fault Multiboot2 setup = None
 entering_fault Linux setup = None
+entering_fault Linux64 setup =
+    if not (has_64_bit_entry setup) then Some refusal.No64Entry else
+    if nat_le setup.payload_size entry_64 then Some refusal.EntryOutside else
+    None
 
 -- "e820_table" has room for so many runs ("Zero Page")
 abbrev pub most_e820_entries : ℕ

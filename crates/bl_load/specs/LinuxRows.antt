@@ -2,7 +2,7 @@
 -- "pref_address", "init_size", "initrd_addr_max"; what the text leaves open is own), and what the
 -- kernel is told of them.
 use Rattle.std.specs.Prelude.{ℕ, ◌+◌, ◌-◌, max, if◌then◌else◌, ◌==◌, List, [], ◌∷◌, ◌++◌, length}
-use Rattle.std.specs.Prelude.{Option, None, option_to_list}
+use Rattle.std.specs.Prelude.{Option, Some, None, option_to_list}
 use Rattle.bl_map.specs.MachineFacts.{MachineFacts}
 use Rattle.bl_map.specs.Limits.{frame_size, first_usable, most_size}
 use Rattle.bl_map.specs.Room.{whole_frames}
@@ -14,7 +14,7 @@ use Rattle.bl_plan.specs.declared.part.Row.{Row}
 use Rattle.bl_plan.specs.declared.part.Place.{Place}
 use Rattle.bl_plan.specs.declared.part.Role.{Role}
 use Rattle.bl_plan.specs.declared.part.Role.TheVariants.{Kernel, BootParams, CommandLine, Gdt}
-use Rattle.bl_plan.specs.declared.part.Role.TheVariants.{Initrd}
+use Rattle.bl_plan.specs.declared.part.Role.TheVariants.{Initrd, PageTables}
 use Rattle.bl_plan.specs.declared.part.Choice.TheVariants.{Fixed, Lowest, Highest}
 use Rattle.bl_load.specs.Addresses.{address_of}
 use Rattle.bl_load.specs.Value.{EntryValue, initrd_file}
@@ -59,11 +59,17 @@ frame_row role high = record {
 abbrev pub line_limit : ℕ
 line_limit = 0xA0000
 
--- page tables are a part where a kernel is entered with paging; each one is entered without
--- ("32-bit Boot Protocol")
+-- page tables of six frames are a part where a kernel is entered with paging ("64-bit Boot
+-- Protocol"); else it is entered without ("32-bit Boot Protocol")
 abbrev pub paging_row : Protocol → Option Row
 paging_row protocols.Multiboot2 = None
 paging_row protocols.Linux = None
+paging_row protocols.Linux64 = Some (record {
+  role = PageTables;
+  index = 0;
+  length = 0x6000;
+  choice = Lowest frame_size first_usable most_size;
+})
 
 -- the rows before the initrd's
 abbrev pub front_rows : Protocol → Setup → List Row

@@ -59,6 +59,7 @@ IsMade role.BootParams = Unit {0}
 IsMade role.CommandLine = Unit {0}
 IsMade role.Gdt = Unit {0}
 IsMade role.Initrd = ⊥
+IsMade role.PageTables = Unit {0}
 
 -- a content's bytes stay in the files until it is loaded; only what the loader makes has bytes of
 -- its own

@@ -11,7 +11,7 @@ use Rattle.bl_load.specs.declared.refusal.Refusal.TheVariants.{NoEntry, EntryOut
 use Rattle.bl_load.specs.declared.refusal.Refusal.TheVariants.{NotUsable, NoRoom, NoPool}
 use Rattle.bl_load.specs.declared.refusal.Refusal.TheVariants.{NotBzImage, OldProtocol, NotHigh}
 use Rattle.bl_load.specs.declared.refusal.Refusal.TheVariants.{SetupCut, BadPreferred, LineTooLong}
-use Rattle.bl_load.specs.declared.refusal.Refusal.TheVariants.{LineHasNul, MapTooLong}
+use Rattle.bl_load.specs.declared.refusal.Refusal.TheVariants.{LineHasNul, MapTooLong, No64Entry}
 
 abbrev pub refusal_number : Refusal → ℕ
 refusal_number (NoFile file) = 1
@@ -43,3 +43,4 @@ refusal_number BadPreferred = 26
 refusal_number LineTooLong = 27
 refusal_number LineHasNul = 28
 refusal_number MapTooLong = 29
+refusal_number No64Entry = 30

@@ -9,7 +9,7 @@ use Rattle.bl_mbi.specs.Spelling.{spelling}
 use Rattle.bl_plan.specs.Placed.{ArePlaced, IsFirstFault}
 use Rattle.bl_plan.specs.declared.part.Role.{Role}
 use Rattle.bl_plan.specs.declared.part.Role.TheVariants.{Kernel, Module, Information, BootParams}
-use Rattle.bl_plan.specs.declared.part.Role.TheVariants.{CommandLine, Gdt, Initrd}
+use Rattle.bl_plan.specs.declared.part.Role.TheVariants.{CommandLine, Gdt, Initrd, PageTables}
 use Rattle.bl_plan.specs.declared.part.Place.{Place}
 use Rattle.bl_plan.specs.declared.protocol.Protocol.{Protocol}
 use Rattle.bl_plan.specs.declared.protocol.Protocol.TheVariants as protocols
@@ -19,16 +19,19 @@ use Rattle.bl_plan.specs.declared.part.Row.{Row}
 use Rattle.bl_load.specs.declared.refusal.Refusal.{Refusal}
 use Rattle.bl_load.specs.declared.refusal.Refusal.TheVariants as refusal
 use Rattle.bl_load.specs.declared.registers.Registers.{Registers}
+use Rattle.bl_load.specs.declared.registers.Registers.TheVariants.{Bits32, Bits64}
 use Rattle.bl_load.specs.Addresses.{address_of}
 use Rattle.bl_bzimage.specs.declared.setup.Setup.{Setup}
 use Rattle.bl_params.specs.BootParams.{boot_params}
+use Rattle.bl_params.specs.Paging.{paging}
 use Rattle.bl_load.specs.Value.{EntryValue, kernel_file, module_file, initrd_file, lines_fault}
 use Rattle.bl_load.specs.Value.{lines_of}
 use Rattle.bl_load.specs.Reading.{Reading, multiboot2, linux, IsRead, HasReadFault}
 use Rattle.bl_load.specs.Blocks.{low_of, block_of}
 use Rattle.bl_load.specs.Rows.{rows_of, information_of}
 use Rattle.bl_load.specs.LinuxRows.{told_of}
-use Rattle.bl_load.specs.Registers.{multiboot2_registers, linux_registers}
+use Rattle.bl_load.specs.Registers.{multiboot2_registers, linux_registers, linux64_registers}
+use Rattle.bl_load.specs.Linux.{entry_64}
 use Rattle.bl_load.specs.Protocols.{descriptors_of}
 use Rattle.bl_plan.specs.Order.{in_order}
 use Rattle.bl_load.specs.Handover.{Part, Handover, part_at, filled}
@@ -63,6 +66,7 @@ content_of facts value (multiboot2 kernel) places BootParams i = []
 content_of facts value (multiboot2 kernel) places CommandLine i = []
 content_of facts value (multiboot2 kernel) places Gdt i = []
 content_of facts value (multiboot2 kernel) places Initrd i = []
+content_of facts value (multiboot2 kernel) places PageTables i = []
 content_of facts value (linux setup) places Kernel i = payload_of (kernel_file value) setup
 content_of facts value (linux setup) places Module i = []
 content_of facts value (linux setup) places Information i = []
@@ -71,6 +75,8 @@ content_of facts value (linux setup) places BootParams i =
 content_of facts value (linux setup) places CommandLine i = value.line
 content_of facts value (linux setup) places Gdt i = unwrap_or (descriptors_of value.protocol) []
 content_of facts value (linux setup) places Initrd i = initrd_file value.files
+content_of facts value (linux setup) places PageTables i =
+    paging (address_of PageTables 0 places)
 
 -- the part of an entry at one of its places
 abbrev pub part_from : MachineFacts → EntryValue → Reading → List Place → Place → Part
@@ -83,7 +89,8 @@ abbrev pub entered_at : ℕ → List Segment → Option Relocation → ℕ → �
 entered_at entry segments None base = entry
 entered_at entry segments (Some r) base = entry - low_of segments + base
 
--- where the kernel begins, where the parts have these places: a Linux kernel with its first byte
+-- where the kernel begins, where the parts have these places: a Linux kernel with its first byte,
+-- behind which its 64-bit entry lies
 abbrev pub start_of : Reading → List Place → ℕ
 start_of (multiboot2 kernel) places =
     entered_at kernel.entry kernel.segments kernel.relocation (address_of Kernel 0 places)
@@ -92,10 +99,16 @@ start_of (linux setup) places = address_of Kernel 0 places
 -- the registers as the kernel begins, where the parts have these places
 abbrev pub registers_of : Protocol → Reading → List Place → Registers
 registers_of protocols.Multiboot2 reading places =
-    multiboot2_registers (start_of reading places) (address_of Information 0 places)
+    Bits32 (multiboot2_registers (start_of reading places) (address_of Information 0 places))
 registers_of protocols.Linux reading places =
-    linux_registers
-    (start_of reading places) (address_of BootParams 0 places) (address_of Gdt 0 places)
+    Bits32
+    (linux_registers
+    (start_of reading places) (address_of BootParams 0 places) (address_of Gdt 0 places))
+registers_of protocols.Linux64 reading places =
+    Bits64
+    (linux64_registers
+    (start_of reading places + entry_64) (address_of BootParams 0 places) (address_of Gdt 0 places)
+    (address_of PageTables 0 places))
 
 -- what an entry hands over, where its rows have these places
 abbrev pub handover_of : MachineFacts → EntryValue → Reading → List Place → Handover

@@ -1,5 +1,5 @@
 -- What the code keeps of an entry's rows and their places.
-use Rattle.std.specs.Prelude.{◌≡◌, ◌+◌, ◌<◌, ◌≤◌, ℕ, List, [], ◌∷◌, ◌++◌, ◌^◌, suc, min, max}
+use Rattle.std.specs.Prelude.{◌≡◌, ◌+◌, ◌<◌, ◌≤◌, ℕ, true, List, [], ◌∷◌, ◌++◌, ◌^◌, suc, min, max}
 use Rattle.std.specs.Prelude.{length, slice_index_or, Option, Some, None, option_map}
 use Rattle.bl_mem.specs.declared.segment.Segment.{Segment}
 use Rattle.bl_map.specs.MachineFacts.{MachineFacts}
@@ -8,7 +8,7 @@ use Rattle.bl_mb2head.specs.declared.relocation.Relocation.{Relocation}
 use Rattle.bl_mbi.specs.InformationFacts.{info_size}
 use Rattle.bl_plan.specs.declared.part.Role.{Role}
 use Rattle.bl_plan.specs.declared.part.Role.TheVariants.{Kernel, Module, Information, BootParams}
-use Rattle.bl_plan.specs.declared.part.Role.TheVariants.{CommandLine, Gdt, Initrd}
+use Rattle.bl_plan.specs.declared.part.Role.TheVariants.{CommandLine, Gdt, Initrd, PageTables}
 use Rattle.bl_plan.specs.declared.part.Choice.TheVariants.{Lowest, Highest}
 use Rattle.bl_map.specs.Limits.{frame_size, first_usable, most_size}
 use Rattle.bl_mbi.specs.Size.{tag_size, copy_size}
@@ -27,6 +27,7 @@ use Rattle.bl_load.specs.Reading.{Reading, multiboot2, linux}
 use Rattle.bl_bzimage.specs.declared.setup.Setup.{Setup}
 use Rattle.bl_load.specs.LinuxRows.{linux_kernel_row, front_rows}
 use Rattle.bl_load.specs.Blocks.{span_of}
+use Rattle.bl_load.specs.Protocols.{is_wide}
 use Rattle.bl_load.specs.Rows.{kernel_rows, module_length, information_row, rows_of, information_of}
 use Rattle.bl_load.specs.Handover.{Handover}
 use Rattle.bl_load.specs.Parts.{no_segment, handover_of, HasRowFault, placing_refusal}
@@ -53,6 +54,7 @@ HasLength facts value (multiboot2 kernel) BootParams i count = ⊥
 HasLength facts value (multiboot2 kernel) CommandLine i count = ⊥
 HasLength facts value (multiboot2 kernel) Gdt i count = ⊥
 HasLength facts value (multiboot2 kernel) Initrd i count = ⊥
+HasLength facts value (multiboot2 kernel) PageTables i count = ⊥
 HasLength facts value (linux setup) Kernel i count = count ≡ (linux_kernel_row setup).length
 HasLength facts value (linux setup) Module i count = ⊥
 HasLength facts value (linux setup) Information i count = ⊥
@@ -62,6 +64,8 @@ HasLength facts value (linux setup) Gdt i count = count ≡ frame_size
 HasLength facts value (linux setup) Initrd i count =
     (1 ≤ length (initrd_file value.files))
     × (count ≡ whole_frames (length (initrd_file value.files)))
+HasLength facts value (linux setup) PageTables i count =
+    (is_wide value.protocol ≡ true) × (count ≡ 0x6000)
 
 abbrev pub IsRowed : MachineFacts → EntryValue → Reading → Place → Type 0
 IsRowed facts value reading place =

@@ -1,5 +1,6 @@
 -- What the code keeps of what was read of an entry's kernel.
-use Rattle.std.specs.Prelude.{◌≡◌, ◌+◌, ◌<◌, ◌≤◌, ◌^◌, ℕ, List, length}
+use Rattle.std.specs.Prelude.{◌≡◌, ◌+◌, ◌<◌, ◌≤◌, ◌^◌, ◌%◌, ℕ, List, length}
+use Rattle.bl_map.specs.Limits.{frame_size}
 use Rattle.bl_map.specs.declared.region.Region.{Region}
 use Rattle.bl_plan.specs.declared.part.Place.{Place}
 use Rattle.bl_plan.specs.declared.protocol.Protocol.{Protocol}
@@ -30,11 +31,18 @@ HasFiles texts modules (multiboot2 kernel) =
     (length texts ≡ 1 + modules) × AreLoadable (text_at texts 0) kernel.segments
 HasFiles texts modules (linux setup) = 1 ≤ length texts
 
+-- page tables stand in whole frames below 4 GiB, as far as there are any
+abbrev pub TablesFit : List Place → Type 0
+TablesFit places =
+    (address_of role.PageTables 0 places % frame_size ≡ 0)
+    × (address_of role.PageTables 0 places + 0x6000 ≤ 2 ^ 32)
+
 -- what is told of the parts fits 32 bits
 abbrev pub FitsTold : EntryValue → Reading → List Place → Type 0
 FitsTold value (multiboot2 kernel) places =
     ModulesEndLow value.files places (length value.module_lines)
-FitsTold value (linux setup) places = length (initrd_file value.files) < 2 ^ 32
+FitsTold value (linux setup) places =
+    (length (initrd_file value.files) < 2 ^ 32) × TablesFit places
 
 -- where the kernel is entered fits 32 bits, and is reckoned without wrapping
 abbrev pub CanEnter : Reading → List Place → Type 0

@@ -4,6 +4,7 @@ use Rattle.std.specs.Prelude.{slice_index_or, Option, Some, None, IfSome, option
 use Rattle.std.specs.List.{list_any}
 use Rattle.std.specs.Option.{option_or}
 use Rattle.bl_plan.specs.Limits.{most_modules}
+use Rattle.bl_plan.specs.Protocols.{of_linux}
 use Rattle.bl_plan.specs.declared.protocol.Protocol.{Protocol}
 use Rattle.bl_plan.specs.declared.protocol.Protocol.TheVariants as protocols
 use Rattle.bl_load.specs.declared.entry.Entry.{Entry}
@@ -50,7 +51,7 @@ linux_value protocol texts line = record {
 abbrev pub value_of : {A : Type 0} → List (List ℕ) → Entry A → EntryValue
 value_of texts (Multiboot2 kernel line modules rsdp_old rsdp_new) =
     multiboot2_value texts line (map (λ m. m.line) modules.items) rsdp_old rsdp_new
-value_of texts (Linux kernel line initrd) = linux_value protocols.Linux texts line
+value_of texts (Linux kernel line initrd wide) = linux_value (of_linux wide) texts line
 
 -- the bytes of the kernel's file
 abbrev pub kernel_file : EntryValue → List ℕ
@@ -68,7 +69,7 @@ initrd_file files = slice_index_or files 1 []
 -- how many files an entry has: the kernel, and the modules or the initial ramdisk
 abbrev pub file_count : {A : Type 0} → Entry A → ℕ
 file_count (Multiboot2 kernel line modules rsdp_old rsdp_new) = 1 + length modules.items
-file_count (Linux kernel line initrd) = 1 + length (option_to_list initrd)
+file_count (Linux kernel line initrd wide) = 1 + length (option_to_list initrd)
 
 -- a copy of an RSDP has at most so many bytes
 abbrev pub most_copy : ℕ

@@ -108,6 +108,7 @@ pub fn multiboot2_content<A: Allocator + Copy, V: ByteView>(
             let bytes = information(alloc, source, &kernel.relocation, places)?;
             Ok(Content::Own(bytes))
         }
-        Role::BootParams | Role::CommandLine | Role::Gdt | Role::Initrd => unreachable!(),
+        Role::BootParams | Role::CommandLine | Role::Gdt | Role::Initrd | Role::PageTables =>
+            unreachable!(),
     }
 }

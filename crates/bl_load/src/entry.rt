@@ -19,7 +19,8 @@ pub struct Module<A: Allocator> {
 /// or the initial ramdisk, in this order. A line has no zero byte and at most 4095 bytes, or is
 /// refused. `rsdp_old` and `rsdp_new` are copies of the Root System Description Pointer of ACPI 1.0
 /// and of ACPI 2.0 or later (Multiboot2 3.6.12, 3.6.13), 1 to 256 bytes each; they are handed over
-/// as they stand.
+/// as they stand. A `wide` entry enters its kernel with 64 bits (Linux/x86 Boot Protocol, "64-bit
+/// Boot Protocol").
 #[derive(Drop)]
 pub enum Entry<A: Allocator> {
     Multiboot2 {
@@ -33,5 +34,6 @@ pub enum Entry<A: Allocator> {
         kernel: u32,
         line: Bytes<A>,
         initrd: Option<u32>,
+        wide: bool,
     },
 }

@@ -21,6 +21,7 @@ mod preparing;
 mod protocols;
 mod refusal;
 mod registers;
+mod registers64;
 mod rows;
 mod source;
 
@@ -36,4 +37,5 @@ pub use plan::{Content, Plan, PlannedPart};
 pub use preparing::prepare;
 pub use protocols::descriptors_of;
 pub use refusal::{PrepFault, Refusal};
-pub use registers::{Registers, linux_registers, multiboot2_registers};
+pub use registers::{Registers, Registers32, linux_registers, multiboot2_registers};
+pub use registers64::{Registers64, linux64_registers};

@@ -14,6 +14,12 @@ use bl_plan::Protocol;
 /// How many runs of the memory map boot parameters have room for ("Zero Page", `e820_table`).
 const MOST_RUNS: usize = 128;
 
+/// The first version of the boot protocol whose `xloadflags` tells of the 64-bit entry.
+const FIRST_64_VERSION: u16 = 0x020C;
+
+/// Where the 64-bit entry lies, behind the first byte that is loaded ("64-bit Boot Protocol").
+pub(crate) const ENTRY_64: u64 = 0x200;
+
 /// A setup's fault as a refusal.
 fn setup_refusal(fault: SetupFault) -> Refusal
     ensures { result ≡ linux.setup_refusal fault }
@@ -36,7 +42,15 @@ impl From<SetupFault> for PrepFault {
     }
 }
 
-/// Checks that a kernel can be entered by the protocol. Each kernel has the 32-bit entry.
+/// Whether a kernel has the 64-bit entry ("xloadflags", XLF_KERNEL_64).
+fn has_64_bit_entry(setup: &Setup) -> bool
+    ensures { result ≡ linux.has_64_bit_entry setup.now }
+{
+    setup.version >= FIRST_64_VERSION && setup.xloadflags % 2 == 1
+}
+
+/// Checks that a kernel can be entered by the protocol. Each kernel has the 32-bit entry; the
+/// 64-bit one must be there, and then lie within what is loaded.
 fn check_entering(protocol: Protocol, setup: &Setup) -> Result<(), Refusal>
     ensures { MatchResult result
         (λ _. entering_fault protocol setup.now ≡ None)
@@ -45,6 +59,15 @@ fn check_entering(protocol: Protocol, setup: &Setup) -> Result<(), Refusal>
     match protocol {
         Protocol::Multiboot2 => Ok(()),
         Protocol::Linux => Ok(()),
+        Protocol::Linux64 => {
+            if !has_64_bit_entry(setup) {
+                return Err(Refusal::No64Entry);
+            }
+            if setup.payload_size <= ENTRY_64 {
+                return Err(Refusal::EntryOutside);
+            }
+            Ok(())
+        }
     }
 }
 

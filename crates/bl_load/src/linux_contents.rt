@@ -1,6 +1,7 @@
 //! The contents of a Linux entry's parts, at their places.
 ghost use Rattle.std.specs.Prelude.{◌≡◌, ◌≤◌, ◌<◌, ◌^◌, [], All, IfOk, length, map, unwrap_or};
 ghost use Rattle.bl_params.specs.BootParams as params;
+ghost use Rattle.bl_params.specs.Paging.{paging};
 ghost use Rattle.bl_plan.specs.declared.part.Role.TheVariants as role;
 ghost use Rattle.bl_load.specs.Value.{initrd_file};
 ghost use Rattle.bl_load.specs.Linux.{IsLinuxKernel};
@@ -14,6 +15,7 @@ ghost use Rattle.bl_load.specs.PlanFacts.{content_by};
 ghost use Rattle.bl_mem.specs.Files.{text_at};
 ghost use Rattle.bl_load.specs.Loadable.{lengths_of, content_length, IsThere, StaysInFiles};
 ghost use Rattle.bl_load.specs.PlacingKept.{IsRowed, IsLow};
+ghost use Rattle.bl_load.specs.ReadKept.{TablesFit};
 ghost use Rattle.bl_load.specs.SourceKept.{texts_in, value_in};
 
 use crate::addresses::address_of;
@@ -22,9 +24,9 @@ use crate::plan::Content;
 use crate::protocols::descriptors_of;
 use crate::source::Source;
 use bl_bzimage::Setup;
-use bl_map::Machine;
+use bl_map::{FRAME, Machine};
 use bl_mem::{ByteView, Bytes};
-use bl_params::{ParamFacts, write_params};
+use bl_params::{ParamFacts, page_tables, write_params};
 use bl_plan::{Place, Protocol, Role};
 use std::alloc::{AllocError, Allocator};
 
@@ -85,6 +87,23 @@ fn descriptors<A: Allocator>(alloc: A, protocol: Protocol) -> Result<Bytes<A>, A
     }
 }
 
+/// The page tables, where the parts have these places.
+fn page_tables_at<A: Allocator>(alloc: A, places: &[Place]) -> Result<Bytes<A>, AllocError>
+    requires low { All IsLow places.now }
+    requires fits { TablesFit places.now }
+    ensures { IfOk result (λ bytes. bytes
+        ≡ paging (addresses.address_of role.PageTables 0 places.now)) }
+{
+    let base = address_of(Role::PageTables, 0, places) as u64;
+    let mut bytes = Vec::with_capacity(alloc, 6 * FRAME as usize)?;
+    let mut frame = [0u8; 4096];
+    for index in 0..6 {
+        page_tables(base, index, &mut frame);
+        bytes.extend_from_slice(&frame)?;
+    }
+    Ok(Bytes::from(bytes))
+}
+
 /// The content of the initrd's part: its whole file.
 fn initrd_content<A: Allocator, V: ByteView>(files: &[V]) -> Content<A>
     requires some { 1 ≤ length (initrd_file (map V.bytes files.now)) }
@@ -131,6 +150,7 @@ pub fn linux_content<A: Allocator + Copy, V: ByteView>(
     requires few { length source.now.machine.now.runs ≤ 128 }
     requires size { length (initrd_file (texts_in source.now)) < 2 ^ 32 }
     requires low { All IsLow places.now }
+    requires tables { TablesFit places.now }
     requires rowed { IsRowed source.now.machine.now (value_in source.now)
         (linux setup.now) place.now }
     ensures content { IfOk result (λ content. content_by (texts_in source.now) content
@@ -146,6 +166,7 @@ pub fn linux_content<A: Allocator + Copy, V: ByteView>(
         Role::CommandLine => Ok(Content::Own(Bytes::copy(alloc, source.line)?)),
         Role::Gdt => Ok(Content::Own(descriptors(alloc, source.protocol)?)),
         Role::Initrd => Ok(initrd_content(source.files)),
+        Role::PageTables => Ok(Content::Own(page_tables_at(alloc, places)?)),
         Role::Module | Role::Information => unreachable!(),
     }
 }

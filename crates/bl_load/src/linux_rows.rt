@@ -15,6 +15,13 @@ use std::alloc::{AllocError, Allocator};
 /// Where the line ends at most ("cmd_line_ptr").
 const LINE_LIMIT: u64 = 0xA_0000;
 
+/// How many bytes page tables take: six frames.
+const PAGING: u64 = 0x6000;
+
+/// What a processor takes the address of a table to be a multiple of (Intel SDM, volume 3, chapter
+/// 4.5: bits 12 and up of CR3 and of a word that names a table).
+const TABLE_ALIGN: u64 = 0x1000;
+
 /// The row of a kernel that may be moved.
 fn moved_row(setup: &Setup) -> Row
     ensures { result ≡ table.moved_row setup.now }
@@ -83,6 +90,16 @@ fn paging_row(protocol: Protocol) -> Option<Row>
     match protocol {
         Protocol::Multiboot2 => None,
         Protocol::Linux => None,
+        Protocol::Linux64 => Some(Row {
+            role: Role::PageTables,
+            index: 0,
+            length: PAGING,
+            choice: Choice::Lowest {
+                align: TABLE_ALIGN,
+                low: FIRST_USABLE,
+                high: MOST_SIZE,
+            },
+        }),
     }
 }
 

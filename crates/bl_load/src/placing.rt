@@ -17,11 +17,13 @@ ghost use Rattle.bl_load.specs.SourceKept.{texts_in, reading_in, value_in, IsRea
 
 use crate::addresses::address_of;
 use crate::kernel::{Kernel, KernelFile};
+use crate::linux::ENTRY_64;
 use crate::linux_rows::linux_rows;
 use crate::parts::parts_at;
 use crate::plan::{Plan, PlannedPart};
 use crate::refusal::{PrepFault, Refusal};
 use crate::registers::{Registers, linux_registers, multiboot2_registers};
+use crate::registers64::linux64_registers;
 use crate::rows::{low_of, multiboot2_rows};
 use crate::source::Source;
 use bl_mem::ByteView;
@@ -81,11 +83,19 @@ fn registers_of<A: Allocator>(
     let start = start_of(kernel, places);
     match protocol {
         Protocol::Multiboot2 => {
-            multiboot2_registers(start, address_of(Role::Information, 0, places))
+            let information = address_of(Role::Information, 0, places);
+            Registers::Bits32(multiboot2_registers(start, information))
         }
         Protocol::Linux => {
             let boot_params = address_of(Role::BootParams, 0, places);
-            linux_registers(start, boot_params, address_of(Role::Gdt, 0, places))
+            let gdt = address_of(Role::Gdt, 0, places);
+            Registers::Bits32(linux_registers(start, boot_params, gdt))
+        }
+        Protocol::Linux64 => {
+            let boot_params = address_of(Role::BootParams, 0, places) as u64;
+            let gdt = address_of(Role::Gdt, 0, places) as u64;
+            let tables = address_of(Role::PageTables, 0, places) as u64;
+            Registers::Bits64(linux64_registers(start as u64 + ENTRY_64, boot_params, gdt, tables))
         }
     }
 }

@@ -1,7 +1,6 @@
 //! What is loaded for an entry on a machine, or its first refusal.
 ghost use Rattle.std.specs.Prelude.{◌≡◌, ◌==◌, ◌≤◌, ◌<◌, ◌+◌, ◌∷◌, Some, None, IfOk, IfErr};
-ghost use Rattle.std.specs.Prelude.{IfSome, true};
-ghost use Rattle.std.specs.Prelude.{MatchResult, length, map};
+ghost use Rattle.std.specs.Prelude.{IfSome, true, MatchResult, length, map};
 ghost use Rattle.std.specs.List.{list_any};
 ghost use Rattle.bl_load.specs.Value.{value_of, multiboot2_value, linux_value, line_fault};
 ghost use Rattle.bl_load.specs.Value.{lines_fault, file_count, IsCopy, IsWithinLimits};
@@ -149,9 +148,10 @@ fn prepare_linux<A: Allocator + Copy, V: ByteView>(
 ///
 /// The refusals come in the order: the entry's lines, what is read of its kernel, and then the
 /// parts' places, part by part. Of a Multiboot2 kernel are read the header, the ELF header and
-/// segments, and the entry; of a Linux kernel the setup, and then come a line that is longer than
-/// `cmdline_size` and a memory map of more than 128 runs. Want of memory may be answered at any
-/// growth, in the place of a refusal that would have come later; it is never told as a refusal.
+/// segments, and the entry; of a Linux kernel the setup, then the 64-bit entry if it is entered by
+/// it, a line longer than `cmdline_size`, a memory map of more than 128 runs. Want of memory may be
+/// answered at any growth, in the place of a refusal that would have come later; it is never told
+/// as a refusal.
 #[tactic(auto, unfolding(crate::specs::Value::IsWithinLimits))]
 pub fn prepare<A: Allocator + Copy, V: ByteView>(
     alloc: A,
@@ -189,8 +189,9 @@ pub fn prepare<A: Allocator + Copy, V: ByteView>(
             rsdp_new,
             files,
         ),
-        Entry::Linux { line, .. } => {
-            prepare_linux(alloc, Protocol::Linux, machine, line.as_slice(), files)
+        Entry::Linux { line, wide, .. } => {
+            let protocol = Protocol::of_linux(*wide);
+            prepare_linux(alloc, protocol, machine, line.as_slice(), files)
         }
     }
 }

@@ -68,6 +68,8 @@ pub enum Refusal {
     LineHasNul,
     #[error("the memory map has too many runs")]
     MapTooLong,
+    #[error("no 64-bit entry")]
+    No64Entry,
 }
 
 impl Refusal {
@@ -105,6 +107,7 @@ impl Refusal {
             Refusal::LineTooLong => 27,
             Refusal::LineHasNul => 28,
             Refusal::MapTooLong => 29,
+            Refusal::No64Entry => 30,
         }
     }
 }

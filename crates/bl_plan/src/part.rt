@@ -12,10 +12,11 @@ pub enum Role {
     CommandLine,
     Gdt,
     Initrd,
+    PageTables,
 }
 
 impl Role {
-    /// The role's number in an image, 1 to 7.
+    /// The role's number in an image, 1 to 8.
     pub fn number(self) -> u32
         ensures { result ≡ roles.role_number self }
     {
@@ -27,6 +28,7 @@ impl Role {
             Role::CommandLine => 5,
             Role::Gdt => 6,
             Role::Initrd => 7,
+            Role::PageTables => 8,
         }
     }
 }

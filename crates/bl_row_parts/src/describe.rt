@@ -22,8 +22,11 @@ fn say_form(row: &mut Row<'_>, form: &EntryForm<&Refusing>) {
             say_copy(row, " rsdp_old ", rsdp_old);
             say_copy(row, " rsdp_new ", rsdp_new);
         }
-        EntryForm::Linux { initrd: Some(file) } => row.say_quoted(" initrd ", file.as_str()),
-        EntryForm::Linux { initrd: None } => {}
+        EntryForm::Linux {
+            initrd: Some(file),
+            ..
+        } => row.say_quoted(" initrd ", file.as_str()),
+        EntryForm::Linux { initrd: None, .. } => {}
     }
 }
 

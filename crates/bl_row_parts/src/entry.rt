@@ -32,6 +32,7 @@ pub fn protocol_of(row: &mut Row<'_>, name: &str) -> Protocol {
     match name {
         "multiboot2" => Protocol::Multiboot2,
         "linux" => Protocol::Linux,
+        "linux64" => Protocol::Linux64,
         _ => {
             row.refuse();
             Protocol::Linux
@@ -80,7 +81,7 @@ impl EntryField {
         if before.is_some() {
             row.refuse();
         }
-        if let Protocol::Linux = self.protocol {
+        if let Protocol::Linux | Protocol::Linux64 = self.protocol {
             row.refuse();
         }
     }
@@ -111,13 +112,14 @@ impl EntryField {
                 rsdp_old: copy_over(heap, &self.rsdp_old)?,
                 rsdp_new: copy_over(heap, &self.rsdp_new)?,
             }),
-            Protocol::Linux => Ok(Entry::Linux {
+            Protocol::Linux | Protocol::Linux64 => Ok(Entry::Linux {
                 kernel,
                 line,
                 initrd: match self.modules.first() {
                     Some(module) => Some(module.file),
                     None => None,
                 },
+                wide: self.protocol == Protocol::Linux64,
             }),
         }
     }

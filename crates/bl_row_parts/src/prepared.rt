@@ -28,7 +28,7 @@ impl RowEntry {
                 let module = row.field_of(word, "module");
                 row.cut(module, ":")
             }
-            Protocol::Linux => (row.field_of(word, "initrd"), ""),
+            Protocol::Linux | Protocol::Linux64 => (row.field_of(word, "initrd"), ""),
         };
         let index = u32::try_from(self.files.len()).unwrap_or(0);
         let file = row.bytes_of(file);

@@ -58,6 +58,7 @@ fn plain_refusal(name: &str) -> Option<Refusal> {
         "LineTooLong" => Some(Refusal::LineTooLong),
         "LineHasNul" => Some(Refusal::LineHasNul),
         "MapTooLong" => Some(Refusal::MapTooLong),
+        "No64Entry" => Some(Refusal::No64Entry),
         _ => None,
     }
 }

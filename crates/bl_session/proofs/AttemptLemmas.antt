@@ -21,7 +21,7 @@ use Rattle.bl_session.proofs.WholeLemmas.{first_awaited, whole_came, whole_texts
 pub value_is : {A : Type 0} (entry : Entry A) (texts : List (List ℕ))
     → value_with (facts_of entry) texts ≡ value_of texts entry
 value_is (Multiboot2 kernel line modules rsdp_old rsdp_new) texts = refl
-value_is (Linux kernel line initrd) texts = refl
+value_is (Linux kernel line initrd wide) texts = refl
 
 by_whole : (b : Bool) (P : Type 0) → (b ≡ true → P) → ¬ P → b ≡ false
 by_whole true P holds none = absurd (none (holds refl))

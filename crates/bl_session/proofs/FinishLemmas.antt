@@ -32,7 +32,7 @@ left_same NoMemory stage bytes = refl
 files_are : {A : Type 0} (texts : List (List ℕ)) (entry : Entry A)
     → (value_of texts entry).files ≡ texts
 files_are texts (Multiboot2 kernel line modules rsdp_old rsdp_new) = refl
-files_are texts (Linux kernel line initrd) = refl
+files_are texts (Linux kernel line initrd wide) = refl
 
 module _ {A : Type 0} (facts : MachineFacts) (texts : List (List ℕ)) (entry : Entry A)
     (plan : Plan A) (is : IsHandover facts (value_of texts entry) (handover_by texts plan))

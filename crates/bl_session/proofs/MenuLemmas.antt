@@ -28,16 +28,16 @@ few_files {A} (Multiboot2 kernel line modules rsdp_old rsdp_new) limits =
     let lines = length-map modules.items (λ (m : Module A). m.line) in
     let files = length-map modules.items (λ (m : Module A). m.file) in
     let few = limits.few in omega (arith, lines, files, few)
-few_files (Linux kernel line None) limits = omega arith
-few_files (Linux kernel line (Some file)) limits = omega arith
+few_files (Linux kernel line None wide) limits = omega arith
+few_files (Linux kernel line (Some file) wide) limits = omega arith
 
 pub few_counted : {A : Type 0} (entry : Entry A) → IsWithinLimits entry → file_count entry ≤ 65
 unfolding IsWithinLimits
 few_counted {A} (Multiboot2 kernel line modules rsdp_old rsdp_new) limits =
     let lines = length-map modules.items (λ (m : Module A). m.line) in
     let few = limits.few in omega (arith, lines, few)
-few_counted (Linux kernel line None) limits = omega arith
-few_counted (Linux kernel line (Some file)) limits = omega arith
+few_counted (Linux kernel line None wide) limits = omega arith
+few_counted (Linux kernel line (Some file) wide) limits = omega arith
 
 -- ---- the values of a menu's entries
 

@@ -16,7 +16,7 @@ value_with entry texts = record entry.blank { files = texts }
 abbrev pub files_of : {A : Type 0} → Entry A → List ℕ
 files_of (Multiboot2 kernel line modules rsdp_old rsdp_new) =
     kernel ∷ map (λ m. m.file) modules.items
-files_of (Linux kernel line initrd) = kernel ∷ option_to_list initrd
+files_of (Linux kernel line initrd wide) = kernel ∷ option_to_list initrd
 
 abbrev pub facts_of : {A : Type 0} → Entry A → EntryFacts
 facts_of entry = record { files = files_of entry; blank = value_of [] entry }

@@ -16,7 +16,7 @@ use Rattle.bl_load.specs.Kernel.{KernelFacts, IsKernel}
 use Rattle.bl_load.specs.Offered.{IsOffered}
 use Rattle.bl_load.specs.Parts.{handover_of, entered_at, start_of}
 use Rattle.bl_load.specs.Reading.{multiboot2}
-use Rattle.bl_load.specs.Registers.{information_in}
+use Rattle.bl_load.specs.Registers.{entry_in, information_in}
 use Rattle.bl_load.specs.Rows.{rows_of, kernel_rows, module_rows}
 use Rattle.bl_load.specs.Value.{EntryValue, kernel_file, module_file, lines_fault, lines_of}
 use Rattle.bl_walk.specs.Seen.{HasTotalSize, IsInformation, InformationSays, InformationShows}
@@ -27,8 +27,9 @@ use Rattle.bl_walk.specs.Shown.{ShowsSegments, ShowsKernel, ShowsModules, ShowsF
 use Rattle.bl_walk.specs.State.{IsEntered}
 use Rattle.bl_walk.specs.Inside.{bytes_in}
 use Rattle.bl_walk.proofs.EnteredLemmas.{entered_place}
-use Rattle.bl_walk.proofs.OneToldLemmas.{no_descriptors}
-use Rattle.bl_walk.proofs.RegisterLemmas.{as_entered, entered_from, information_from}
+use Rattle.bl_walk.proofs.OneToldLemmas.{no_descriptors, not_wide}
+use Rattle.bl_walk.proofs.RegisterLemmas.{as_entered, entered_from, entry_offset}
+use Rattle.bl_walk.proofs.RegisterLemmas.{information_from}
 use Rattle.bl_walk.proofs.KernelLemmas.{AreSplit, are_split, first_places, kernel_shown, seen_place}
 use Rattle.bl_walk.proofs.SegmentLemmas.{kernel_rows_of_kernel, segments_shown}
 use Rattle.bl_walk.proofs.EntryPartLemmas.{entered_in}
@@ -147,11 +148,18 @@ module _ (facts : MachineFacts) (value : EntryValue) (kernel : KernelFacts) (pla
         (kernel_rows_of_kernel kernel.segments kernel.relocation)
         (modules_other facts value kernel.relocation))
 
+    entered : entry_in (handover facts value kernel places).registers
+        ≡ start_of (multiboot2 kernel) places
+    entered =
+        let from = entered_from (multiboot2 kernel) places value.protocol in
+        let none = ap entry_offset protocol in
+        omega (arith, from, none)
+
     segments : ShowsSegments kernel.segments kernel.entry kernel.relocation seen
     segments =
         segments_shown facts kernel.segments kernel.entry kernel.relocation split.places_first
         split.places_rest seen split.placed_first
-        (entered_from (multiboot2 kernel) places value.protocol
+        (entered
         ∙ ap
         (λ (ps : List Place).
         entered_at kernel.entry kernel.segments kernel.relocation (address_of Kernel 0 ps))
@@ -187,8 +195,9 @@ module _ (facts : MachineFacts) (value : EntryValue) (kernel : KernelFacts) (pla
         record {
           registers = as_entered (multiboot2 kernel) places value.protocol;
           kernel =
-              rw (entered_from (multiboot2 kernel) places value.protocol)
+              rw entered
               (entered_in places (content facts value kernel places) apart start
               (entered_place facts (kernel_file value) kernel rest is_kernel places placed));
           descriptors = λ gdt handed. absurd (no_descriptors value.protocol gdt protocol handed);
+          paging = λ wide. absurd (not_wide value.protocol protocol wide);
         }

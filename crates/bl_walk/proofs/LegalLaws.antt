@@ -83,6 +83,11 @@ handovers_are_seen facts value h machine offered is =
     let all = shows facts value h machine offered is in
     (all.seen, all.is_seen, all.entry)
 
+pub handovers_are_entered : (facts : MachineFacts) (value : EntryValue) (h : Handover)
+    → AreMachineFacts facts → IsOffered value → IsHandover facts value h → IsEntered h
+handovers_are_entered facts value h machine offered is =
+    (shows facts value h machine offered is).entered
+
 pub handovers_are_sound : (facts : MachineFacts) (value : EntryValue) (h : Handover)
     → AreMachineFacts facts → IsOffered value → IsHandover facts value h → IsSound h
 handovers_are_sound facts value h machine offered is =
@@ -114,3 +119,10 @@ pub images_are_sound : (facts : MachineFacts) (value : EntryValue) (version othe
 images_are_sound facts value version other h image machine offered is kept spelled =
     subst IsSound (same_handover version other h image kept spelled)
     (handovers_are_sound facts value h machine offered is)
+
+pub images_are_entered : (facts : MachineFacts) (value : EntryValue) (version other : Version)
+    (h image : Handover) → AreMachineFacts facts → IsOffered value → IsHandover facts value h
+    → IsKept h → IsImage other (spelling version h) image → IsEntered image
+images_are_entered facts value version other h image machine offered is kept spelled =
+    subst IsEntered (same_handover version other h image kept spelled)
+    (handovers_are_entered facts value h machine offered is)

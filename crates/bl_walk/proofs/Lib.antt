@@ -1,6 +1,7 @@
 pub mod InsideLemmas
 pub mod RangeLemmas
 pub mod StateLemmas
+pub mod PageLemmas
 pub mod ModuleLemmas
 pub mod RefusalLemmas
 pub mod LengthLemmas

@@ -11,7 +11,7 @@ use Rattle.bl_params.specs.ParamsFacts.{ParamsFacts}
 use Rattle.bl_params.specs.Reading.{IsParams}
 use Rattle.bl_params.proofs.ParamsLaws.{one_reading}
 use Rattle.bl_load.specs.Handover.{Part, Handover}
-use Rattle.bl_load.specs.Protocols.{has_params, descriptors_of}
+use Rattle.bl_load.specs.Protocols.{has_params, descriptors_of, is_wide}
 use Rattle.bl_load.specs.Registers.{information_in}
 use Rattle.bl_plan.specs.declared.protocol.Protocol.{Protocol}
 use Rattle.bl_plan.specs.declared.protocol.Protocol.TheVariants.{Multiboot2}
@@ -34,6 +34,10 @@ not_handed p is handed = let none = ap has_params is in cc
 pub no_descriptors : (p : Protocol) (gdt : List ℕ) → p ≡ Multiboot2 → descriptors_of p ≡ Some gdt
     → ⊥
 no_descriptors p gdt is handed = let none = ap descriptors_of is in cc
+
+-- and is not entered with 64 bits
+pub not_wide : (p : Protocol) → p ≡ Multiboot2 → is_wide p ≡ true → ⊥
+not_wide p is wide = let none = ap is_wide is in cc
 
 -- ---- the information is one
 

@@ -37,7 +37,7 @@ use Rattle.bl_load.proofs.LineLemmas.{sound_text, sound_short, first_sound}
 use Rattle.bl_load.proofs.LinuxKernelLemmas.{setup_is, few_runs}
 use Rattle.bl_load.proofs.LinuxLemmas.{linux_rows_are_rows, linux_rowed}
 use Rattle.bl_load.proofs.LinuxToldLemmas.{initrd_fits}
-use Rattle.bl_load.proofs.PlaceBoundLemmas.{are_below, are_filled}
+use Rattle.bl_load.proofs.PlaceBoundLemmas.{are_below}
 use Rattle.bl_walk.specs.Inside.{bytes_in}
 use Rattle.bl_walk.specs.Seen.{ParametersSay, IsLine, IsInitrd}
 use Rattle.bl_walk.specs.SeenFacts.{SeenFileFacts}
@@ -82,12 +82,6 @@ module _ (facts : MachineFacts) (value : EntryValue) (setup : Setup) (places : L
   low : All (λ p. p.address + p.length ≤ 0xFFFFF000) places
   low =
       are_below facts [] (rows_of facts value (linux setup)) places placed
-      (linux_rows_are_rows value.protocol (kernel_file value) setup
-      (initrd facts value setup places) (setup_is is_kernel))
-
-  pub filled_places : All (λ p. 1 ≤ p.length) places
-  filled_places =
-      are_filled facts [] (rows_of facts value (linux setup)) places placed
       (linux_rows_are_rows value.protocol (kernel_file value) setup
       (initrd facts value setup places) (setup_is is_kernel))
 

@@ -1,14 +1,17 @@
 -- The image of a Linux entry's handover shows the entry.
-use Rattle.std.proofs.Common.{◌≡◌, ◌≤◌, ◌∷◌, List, [], map, Some, None, refl, sym, ap, ◌∙◌, inr}
+use Rattle.std.proofs.Common.{◌≡◌, ◌≤◌, ◌+◌, ◌∷◌, ℕ, List, [], map, Some, None, refl, sym, ap, ◌∙◌, inr}
 use Rattle.std.proofs.Common.{arith, length, take, true, AllPairs}
 use Rattle.std.proofs.Math.Seq.{take-length}
 use Rattle.bl_map.specs.MachineFacts.{MachineFacts, AreMachineFacts}
 use Rattle.bl_bzimage.specs.declared.setup.Setup.{Setup}
+use Rattle.bl_params.specs.Paging.{paging}
+use Rattle.bl_params.proofs.PagingLaws.{below}
+use Rattle.bl_params.proofs.PagingLemmas.{length-paging}
 use Rattle.bl_plan.specs.Placed.{ArePlaced}
 use Rattle.bl_plan.specs.declared.part.Place.{Place}
 use Rattle.bl_plan.specs.declared.protocol.Protocol.{Protocol}
-use Rattle.bl_plan.specs.declared.protocol.Protocol.TheVariants.{Multiboot2, Linux}
-use Rattle.bl_plan.specs.declared.part.Role.TheVariants.{Kernel, Gdt}
+use Rattle.bl_plan.specs.declared.protocol.Protocol.TheVariants.{Multiboot2, Linux, Linux64}
+use Rattle.bl_plan.specs.declared.part.Role.TheVariants.{Kernel, Gdt, PageTables}
 use Rattle.bl_load.specs.Addresses.{address_of}
 use Rattle.bl_load.specs.Handover.{end_of}
 use Rattle.bl_load.specs.Linux.{IsLinuxKernel}
@@ -20,6 +23,7 @@ use Rattle.bl_load.specs.Reading.{linux}
 use Rattle.bl_load.specs.Rows.{rows_of}
 use Rattle.bl_load.specs.Value.{EntryValue, kernel_file, lines_fault, lines_of}
 use Rattle.bl_load.proofs.LinuxKernelLemmas.{setup_is}
+use Rattle.bl_load.proofs.PageTablesLemmas.{tables_fit}
 use Rattle.bl_walk.specs.declared.seen.SeenPart.{SeenPart}
 use Rattle.bl_walk.specs.Kept.{seen_alone}
 use Rattle.bl_walk.specs.Seen.{ParametersShow, IsSeen}
@@ -29,9 +33,10 @@ use Rattle.bl_walk.specs.State.{IsEntered}
 use Rattle.bl_walk.proofs.KernelLemmas.{AreSplit, are_split, first_places, kernel_shown, seen_place}
 use Rattle.bl_walk.proofs.EntryPartLemmas.{entered_in}
 use Rattle.bl_walk.proofs.RegisterLemmas.{as_entered, entered_from, gdt_from}
+use Rattle.bl_walk.proofs.RegisterLemmas.{entry_offset, tables_from}
 use Rattle.bl_walk.proofs.ParametersLemmas.{params_rows, kernel_of_kernel, params_other, payload_at}
-use Rattle.bl_walk.proofs.ParametersLemmas.{kernel_entered}
-use Rattle.bl_walk.proofs.ParametersHeld.{initrd, content, handover, params, held, filled_places}
+use Rattle.bl_walk.proofs.ParametersLemmas.{kernel_entered, tables_row}
+use Rattle.bl_walk.proofs.ParametersHeld.{initrd, content, handover, params, held}
 use Rattle.bl_walk.proofs.ParametersHeld.{placed_row, say, line_seen, ramdisk}
 
 module _ (facts : MachineFacts) (value : EntryValue) (setup : Setup) (places : List Place)
@@ -96,30 +101,31 @@ module _ (facts : MachineFacts) (value : EntryValue) (setup : Setup) (places : L
         length = (linux_kernel_row setup).length;
       } in part ∷ [])) (sym split.both)
 
-  payload : ShowsPayload 0 setup seen
-  payload =
-      let from = entered_from (linux setup) places value.protocol in
-      record {
-        base = address_of Kernel 0 places;
-        entry = omega (arith, from);
-        kernel = kernel_part;
-      }
+  payload : ShowsPayload (entry_offset value.protocol) setup seen
+  payload = record {
+    base = address_of Kernel 0 places;
+    entry = entered_from (linux setup) places value.protocol;
+    kernel = kernel_part;
+  }
 
   -- so a kernel is shown that is handed boot parameters, and its files
-  kernel_by : (p : Protocol) → has_params p ≡ true → ShowsKernel value seen p
-  kernel_by Multiboot2 is = absurd (cc)
-  kernel_by Linux is = (setup, setup_is is_kernel, payload)
+  kernel_by : (p : Protocol) → has_params p ≡ true → ShowsPayload (entry_offset p) setup seen
+      → ShowsKernel value seen p
+  kernel_by Multiboot2 is shown = absurd (cc)
+  kernel_by Linux is shown = (setup, setup_is is_kernel, shown)
+  kernel_by Linux64 is shown = (setup, setup_is is_kernel, shown)
 
   files_by : (p : Protocol) → has_params p ≡ true → ShowsRamdisk value seen
       → ShowsFiles value seen p
   files_by Multiboot2 is shown = absurd (cc)
   files_by Linux is shown = shown
+  files_by Linux64 is shown = shown
 
   pub linux_shown : ShowsEntry facts value seen
   linux_shown = record {
     protocol = refl;
     line = refl;
-    kernel = kernel_by value.protocol handed;
+    kernel = kernel_by value.protocol handed payload;
     files =
         files_by value.protocol handed
         (record {
@@ -139,10 +145,10 @@ module _ (facts : MachineFacts) (value : EntryValue) (setup : Setup) (places : L
     registers = as_entered (linux setup) places value.protocol;
     kernel =
         rw (entered_from (linux setup) places value.protocol)
-        (entered_in places (content facts value setup places) apart (address_of Kernel 0 places)
-        (kernel_entered facts value.protocol setup (initrd facts value setup places) places placed
-        (filled_places facts value setup places machine offered lines handed is_kernel placed
-        apart)));
+        (entered_in places (content facts value setup places) apart
+        (address_of Kernel 0 places + entry_offset value.protocol)
+        (kernel_entered facts value.protocol facts.runs value.line (kernel_file value) setup
+        (initrd facts value setup places) places is_kernel placed));
     descriptors =
         λ gdt is.
         let own : content facts value setup places Gdt 0 ≡ gdt = rw is refl in
@@ -154,4 +160,19 @@ module _ (facts : MachineFacts) (value : EntryValue) (setup : Setup) (places : L
         Gdt refl) (omega arith)
         ∙ ap Some (ap (take (length gdt)) own ∙ take-length gdt) in
         rw (gdt_from (linux setup) places value.protocol gdt is) there;
+    paging =
+        λ wide.
+        let base = address_of PageTables 0 places in
+        let long = length-paging base in
+        let there =
+        held facts value setup places machine offered lines handed is_kernel placed apart
+        PageTables 0 0x6000
+        (placed_row facts value setup places machine offered lines handed is_kernel placed apart
+        PageTables (tables_row value.protocol setup (initrd facts value setup places) wide))
+        (omega arith)
+        ∙ ap Some (ap (λ (n : ℕ). take n (paging base)) (sym long) ∙ take-length (paging base)) in
+        let low =
+        (tables_fit facts value.protocol setup (initrd facts value setup places) places placed).1 in
+        rw (tables_from (linux setup) places value.protocol wide)
+        (paging base, there, λ a small. below base a low small);
   }

@@ -14,7 +14,7 @@ use Rattle.bl_plan.specs.Roles.{role_number}
 use Rattle.bl_plan.specs.declared.part.Place.{Place}
 use Rattle.bl_plan.specs.declared.part.Role.{Role}
 use Rattle.bl_plan.specs.declared.part.Role.TheVariants.{Kernel, Module, Information, BootParams}
-use Rattle.bl_plan.specs.declared.part.Role.TheVariants.{CommandLine, Gdt, Initrd}
+use Rattle.bl_plan.specs.declared.part.Role.TheVariants.{CommandLine, Gdt, Initrd, PageTables}
 use Rattle.bl_plan.proofs.OrderCountLemmas.{list_any-in_order}
 use Rattle.bl_load.specs.Addresses.{address_of}
 use Rattle.bl_load.specs.Handover.{Part, end_of, part_at, filled}
@@ -76,8 +76,9 @@ both_true false b h = absurd (cc)
 -- roles are told by their numbers
 role_by : ℕ → Role
 role_by n =
-    get_or (Kernel ∷ Kernel ∷ Module ∷ Information ∷ BootParams ∷ CommandLine ∷ Gdt ∷ Initrd ∷ []) n
-    Kernel
+    get_or
+    (Kernel ∷ Kernel ∷ Module ∷ Information ∷ BootParams ∷ CommandLine ∷ Gdt ∷ Initrd ∷ PageTables ∷ [])
+    n Kernel
 
 role_again : (r : Role) → r ≡ role_by (role_number r)
 unfolding role_by
@@ -88,6 +89,7 @@ role_again BootParams = refl
 role_again CommandLine = refl
 role_again Gdt = refl
 role_again Initrd = refl
+role_again PageTables = refl
 
 pub same_role : (r s : Role) → role_number r ≡ role_number s → r ≡ s
 same_role r s e = role_again r ∙ ap role_by e ∙ sym (role_again s)

@@ -1,6 +1,6 @@
 -- Where something is seen in an image that is entered as it must be, no fault stands.
-use Rattle.std.proofs.Common.{◌≡◌, ℕ, List, [], Option, Some, None, Result, Ok, Err, sym, ap, ◌∙◌}
-use Rattle.std.proofs.Common.{arith, length, subst, ⊎_elim}
+use Rattle.std.proofs.Common.{◌≡◌, ◌*◌, ℕ, List, [], Option, Some, None, Result, Ok, Err, sym, ap, ◌∙◌}
+use Rattle.std.proofs.Common.{arith, subst, ⊎_elim}
 use Rattle.std.specs.Prelude.{IfOk, OnOk}
 use Rattle.std.specs.List.{Contains}
 use Rattle.bl_mbi.specs.InfoFacts.{InfoFacts}
@@ -10,13 +10,14 @@ use Rattle.bl_params.specs.Reading.{IsParams}
 use Rattle.bl_params.proofs.ParamsLaws.{not_both}
 use Rattle.bl_plan.specs.declared.protocol.Protocol.TheVariants.{Multiboot2}
 use Rattle.bl_load.specs.Handover.{Handover}
-use Rattle.bl_load.specs.Protocols.{descriptors_of}
-use Rattle.bl_load.specs.Registers.{information_in, gdt_in}
+use Rattle.bl_load.specs.Registers.{information_in, tables_in}
+use Rattle.bl_params.specs.Translation.{translation}
 use Rattle.bl_walk.specs.Faults.{IsFollowed, IsOutside, HasBadInfo, HasBadState, IsSound}
 use Rattle.bl_walk.specs.Faults.{size_word, information, loaded_module, descriptors, boot_params}
-use Rattle.bl_walk.specs.Faults.{command_line, initrd, outside_kernel, outside_parts}
+use Rattle.bl_walk.specs.Faults.{command_line, initrd, page_tables, outside_kernel, outside_parts}
 use Rattle.bl_walk.specs.Faults.{short_information, other_information, other_parameters}
 use Rattle.bl_walk.specs.Faults.{endless_line, other_registers, other_descriptors}
+use Rattle.bl_walk.specs.Faults.{other_translation}
 use Rattle.bl_walk.specs.Inside.{bytes_in, rest_in}
 use Rattle.bl_walk.specs.Seen.{InformationSays, AreSeenModules, InformationShows, ParametersSay}
 use Rattle.bl_walk.specs.Seen.{IsLine, IsInitrd, ParametersShow, IsSeen, text_of}
@@ -24,7 +25,7 @@ use Rattle.bl_walk.specs.SeenFacts.{SeenModuleFacts, SeenFileFacts, SeenFacts}
 use Rattle.bl_walk.specs.State.{IsEntered}
 use Rattle.bl_walk.proofs.RangeLemmas.{nothing_in, rest_is_inside}
 use Rattle.bl_walk.proofs.LengthLemmas.{same_some}
-use Rattle.bl_walk.proofs.OneToldLemmas.{not_handed, no_descriptors}
+use Rattle.bl_walk.proofs.OneToldLemmas.{not_handed, no_descriptors, not_wide}
 use Rattle.bl_walk.proofs.OneToldLemmas.{not_none, same_size, same_information, says_read}
 use Rattle.bl_walk.proofs.OneToldLemmas.{same_info, same_bytes, same_params, seen_at}
 
@@ -57,6 +58,7 @@ module _ (h : Handover) (info : InfoFacts) (ss : List SeenModuleFacts)
       not_handed h.protocol protocol_is is.parameters.handed
   followed_inside address count (initrd params is) none =
       not_handed h.protocol protocol_is is.parameters.handed
+  followed_inside address count (page_tables wide) none = not_wide h.protocol protocol_is wide
 
   good_information : HasBadInfo h → ⊥
   good_information (short_information size is low) =
@@ -77,8 +79,7 @@ module _ (h : Handover) (info : InfoFacts) (ss : List SeenModuleFacts)
 module _ (h : Handover) (params : ParamsFacts) (line : List ℕ) (file : Option SeenFileFacts)
     (say : ParametersSay h params)
     (text : IsLine h.parts params.cmd_line_ptr line) (ramdisk : IsInitrd h.parts params file)
-    (tables : (gdt : List ℕ) → descriptors_of h.protocol ≡ Some gdt
-    → bytes_in h.parts (gdt_in h.registers) (length gdt) ≡ Some gdt) where
+    (entered : IsEntered h) where
   not_told : h.protocol ≡ Multiboot2 → ⊥
   not_told is = not_handed h.protocol is say.parameters.handed
 
@@ -93,7 +94,8 @@ module _ (h : Handover) (params : ParamsFacts) (line : List ℕ) (file : Option 
   linux_inside address count (information size is least) none = not_told is.protocol
   linux_inside address count (loaded_module other m is among) none =
       not_told is.information.total_size.protocol
-  linux_inside address count (descriptors gdt p) none = not_none _ gdt (tables gdt p) none
+  linux_inside address count (descriptors gdt p) none =
+      not_none _ gdt (entered.descriptors gdt p) none
   linux_inside address count (boot_params p) none = not_none _ say.bytes say.parameters.whole none
   linux_inside address count (command_line other is) none =
       let same =
@@ -106,6 +108,8 @@ module _ (h : Handover) (params : ParamsFacts) (line : List ℕ) (file : Option 
       (same_params h params other say is) in
       let held = ramdisk_inside file ramdisk in
       not_none _ held.0 held.1 (same ∙ none)
+  linux_inside address count (page_tables wide) none =
+      let tables = entered.paging wide in not_none _ tables.0 tables.1 none
 
   good_parameters : HasBadInfo h → ⊥
   good_parameters (short_information size is low) = not_told is.protocol
@@ -129,6 +133,14 @@ module _ (h : Handover) (seen : SeenFacts) (entered : IsEntered h) where
   entered_state (other_registers other) = other entered.registers
   entered_state (other_descriptors gdt bytes p is other) =
       other (same_some bytes gdt (sym is ∙ entered.descriptors gdt p))
+  entered_state (other_translation bytes page wide is within other) =
+      let tables = entered.paging wide in
+      let same = same_some tables.0 bytes (sym tables.1 ∙ is) in
+      other
+      (subst
+      (λ (l : List ℕ).
+      translation l (tables_in h.registers) (page * 0x200000) ≡ Some (page * 0x200000)) same
+      (tables.2 (page * 0x200000) (omega arith)))
 
   entered_inside : ((address count : ℕ) → IsFollowed h address count
       → bytes_in h.parts address count ≡ None → ⊥) → IsOutside h → ⊥
@@ -147,10 +159,10 @@ module _ (h : Handover) (seen : SeenFacts) (entered : IsEntered h) where
     inside =
         entered_inside
         (linux_inside h shown.params seen.line seen.initrd shown.say shown.line shown.initrd
-        entered.descriptors);
+        entered);
     info =
         good_parameters h shown.params seen.line seen.initrd shown.say shown.line shown.initrd
-        entered.descriptors;
+        entered;
     state = entered_state;
   }
 

@@ -1,5 +1,6 @@
 -- Why an image shows a kernel nothing. Own.
-use Rattle.std.specs.Prelude.{◌≡◌, ◌-◌, ◌<◌, ◌≤◌, ℕ, List, length, Some, None, Err, true, false}
+use Rattle.std.specs.Prelude.{◌≡◌, ◌-◌, ◌*◌, ◌<◌, ◌≤◌, ℕ, List, length, Some, None, Err, true}
+use Rattle.std.specs.Prelude.{false}
 use Rattle.std.specs.List.{Contains}
 use Rattle.bl_mbi.specs.InformationFacts.{ModuleInfo}
 use Rattle.bl_mbi.specs.InfoFacts.{InfoFacts}
@@ -7,12 +8,13 @@ use Rattle.bl_mbi.specs.Reading.{info_of}
 use Rattle.bl_mbi.specs.declared.fault.InfoFault.{InfoFault}
 use Rattle.bl_params.specs.ParamsFacts.{ParamsFacts}
 use Rattle.bl_params.specs.Reading.{HasFirstFault}
+use Rattle.bl_params.specs.Translation.{translation}
 use Rattle.bl_params.specs.declared.fault.ParamFault.{ParamFault}
 use Rattle.bl_params.specs.declared.fault.ParamFault.TheVariants as param_fault
 use Rattle.bl_plan.specs.declared.protocol.Protocol.TheVariants.{Multiboot2}
 use Rattle.bl_load.specs.Handover.{Handover}
-use Rattle.bl_load.specs.Protocols.{has_params, descriptors_of}
-use Rattle.bl_load.specs.Registers.{entry_in, information_in, params_in, gdt_in}
+use Rattle.bl_load.specs.Protocols.{has_params, descriptors_of, is_wide}
+use Rattle.bl_load.specs.Registers.{entry_in, information_in, params_in, gdt_in, tables_in}
 use Rattle.bl_walk.specs.declared.fault.WalkFault.{WalkFault}
 use Rattle.bl_walk.specs.declared.fault.WalkFault.TheVariants.{OutsideImage, BadInfo, BadState}
 use Rattle.bl_walk.specs.declared.fault.WalkFault.TheVariants.{NoMemory}
@@ -45,6 +47,8 @@ pub data IsFollowed (h : Handover) : ℕ → ℕ → Type 0 where
       → IsFollowed h params.cmd_line_ptr 1
   initrd : (params : ParamsFacts) → ParametersSay h params
       → IsFollowed h params.ramdisk_image params.ramdisk_size
+  -- the page tables, where a kernel is entered with paging
+  page_tables : is_wide h.protocol ≡ true → IsFollowed h (tables_in h.registers) 0x6000
 
 -- 81: the kernel is entered outside of its parts, or a range that it follows lies in no one part
 pub data IsOutside (h : Handover) : Type 0 where
@@ -63,11 +67,16 @@ pub data HasBadInfo (h : Handover) : Type 0 where
       → rest_in h.parts params.cmd_line_ptr ≡ Some rest → text_of rest ≡ None → HasBadInfo h
 
 -- 83: a register that does not hold an address has another number, or the kernel is handed other
--- descriptors than its protocol gives it
+-- descriptors than its protocol gives it, or page tables that do not translate an address to itself
 pub data HasBadState (h : Handover) : Type 0 where
   other_registers : ¬ (h.registers ≡ entry_registers h.protocol h.registers) → HasBadState h
   other_descriptors : (gdt bytes : List ℕ) → descriptors_of h.protocol ≡ Some gdt
       → bytes_in h.parts (gdt_in h.registers) (length gdt) ≡ Some bytes → ¬ (bytes ≡ gdt)
+      → HasBadState h
+  other_translation : (tables : List ℕ) (page : ℕ) → is_wide h.protocol ≡ true
+      → bytes_in h.parts (tables_in h.registers) 0x6000 ≡ Some tables → page < 2048
+      → ¬ (translation tables (tables_in h.registers) (page * 0x200000)
+      ≡ Some (page * 0x200000))
       → HasBadState h
 
 -- a fault stands; want of memory says nothing of the image

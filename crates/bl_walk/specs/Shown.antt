@@ -10,9 +10,10 @@ use Rattle.bl_bzimage.specs.declared.setup.Setup.{Setup}
 use Rattle.bl_bzimage.specs.Setup.{IsSetup}
 use Rattle.bl_plan.specs.Order.{ascending}
 use Rattle.bl_plan.specs.declared.protocol.Protocol.{Protocol}
-use Rattle.bl_plan.specs.declared.protocol.Protocol.TheVariants.{Multiboot2, Linux}
+use Rattle.bl_plan.specs.declared.protocol.Protocol.TheVariants.{Multiboot2, Linux, Linux64}
 use Rattle.bl_load.specs.Blocks.{span_of}
 use Rattle.bl_load.specs.Kernel.{KernelFacts, IsKernel}
+use Rattle.bl_load.specs.Linux.{entry_64}
 use Rattle.bl_load.specs.LinuxRows.{linux_kernel_row}
 use Rattle.bl_load.specs.Parts.{entered_at}
 use Rattle.bl_load.specs.Value.{EntryValue, kernel_file, module_file, initrd_file}
@@ -47,6 +48,8 @@ ShowsKernel value seen Multiboot2 =
     × ShowsSegments kernel.segments kernel.entry kernel.relocation seen
 ShowsKernel value seen Linux =
     (setup : Setup) × IsSetup (kernel_file value) setup × ShowsPayload 0 setup seen
+ShowsKernel value seen Linux64 =
+    (setup : Setup) × IsSetup (kernel_file value) setup × ShowsPayload entry_64 setup seen
 
 -- ---- its other files, and the copies of the RSDP
 
@@ -75,6 +78,7 @@ pub record ShowsRamdisk (value : EntryValue) (seen : SeenFacts) : Type 0 where
 abbrev pub ShowsFiles : EntryValue → SeenFacts → Protocol → Type 0
 ShowsFiles value seen Multiboot2 = ShowsModules value seen
 ShowsFiles value seen Linux = ShowsRamdisk value seen
+ShowsFiles value seen Linux64 = ShowsRamdisk value seen
 
 -- ---- all
 

@@ -37,22 +37,29 @@ pub fn ranges_lie_in_one_part()
 
 /// What an entry hands over shows its kernel the entry: its protocol, its line, where its kernel
 /// lies and is entered, the bytes of its other files, its copies of the RSDP under Multiboot2, and
-/// the machine's runs; and no fault stands in it.
+/// the machine's runs; the kernel is entered as its protocol says; and no fault stands in it.
 pub fn handovers_are_seen()
     ensures seen { (facts : MachineFacts) (value : EntryValue) (h : Handover)
         → AreMachineFacts facts → IsOffered value → IsHandover facts value h
         → (seen : SeenFacts) × IsSeen h seen × ShowsEntry facts value seen }
+    ensures entered { (facts : MachineFacts) (value : EntryValue) (h : Handover)
+        → AreMachineFacts facts → IsOffered value → IsHandover facts value h → IsEntered h }
     ensures sound { (facts : MachineFacts) (value : EntryValue) (h : Handover)
         → AreMachineFacts facts → IsOffered value → IsHandover facts value h → IsSound h }
 {}
 
-/// Whatever is read from the image of what an entry hands over shows that entry and nothing else,
-/// and no fault stands in it. That the handover is what images keep is `write_image.kept`.
+/// Whatever is read from the image of what an entry hands over shows that entry and nothing else;
+/// its kernel is entered as its protocol says, with page tables that keep each address below 4 GiB
+/// if it is entered with paging; and no fault stands in it. That the handover is what images keep
+/// is `write_image.kept`.
 pub fn images_show_their_entries()
     ensures seen { (facts : MachineFacts) (value : EntryValue) (version other : Version)
         (h image : Handover) (seen : SeenFacts) → AreMachineFacts facts → IsOffered value
         → IsHandover facts value h → IsKept h → IsImage other (spelling version h) image
         → IsSeen image seen → ShowsEntry facts value seen }
+    ensures entered { (facts : MachineFacts) (value : EntryValue) (version other : Version)
+        (h image : Handover) → AreMachineFacts facts → IsOffered value → IsHandover facts value h
+        → IsKept h → IsImage other (spelling version h) image → IsEntered image }
     ensures sound { (facts : MachineFacts) (value : EntryValue) (version other : Version)
         (h image : Handover) → AreMachineFacts facts → IsOffered value → IsHandover facts value h
         → IsKept h → IsImage other (spelling version h) image → IsSound image }

@@ -1,7 +1,9 @@
 //! The state that a kernel is entered in.
-ghost use Rattle.std.specs.Prelude.{◌≡◌, ◌==◌, ◌↔◌, Some, true, IsTrue, OnOk, IfErr, length};
+ghost use Rattle.std.specs.Prelude.{◌≡◌, ◌==◌, ◌<◌, ◌*◌, ◌↔◌, ℕ, List, Some, true, IsTrue, OnOk};
+ghost use Rattle.std.specs.Prelude.{IfErr, MatchOption, length};
+ghost use Rattle.bl_params.specs.Translation.{translation};
 ghost use Rattle.bl_load.specs.Protocols as protocols;
-ghost use Rattle.bl_load.specs.Registers.{entry_in, gdt_in};
+ghost use Rattle.bl_load.specs.Registers.{entry_in, gdt_in, tables_in};
 ghost use Rattle.bl_walk.specs.Faults.{HasFault};
 ghost use Rattle.bl_walk.specs.Inside.{bytes_in};
 ghost use Rattle.bl_walk.specs.State as state;
@@ -11,18 +13,33 @@ use crate::fault::WalkFault;
 use crate::follow::follow;
 use crate::inside::part_with;
 use bl_image::{Image, ImagePart};
-use bl_load::{Protocol, Registers, descriptors_of, linux_registers, multiboot2_registers};
+use bl_load::{
+    Protocol, Registers, descriptors_of, linux_registers, linux64_registers, multiboot2_registers,
+};
+use bl_params::translate;
 use bl_plan::Role;
 use std::alloc::Allocator;
 
-/// The registers that a kernel is entered with, where the ones that hold addresses hold those of
-/// `r`.
-fn entry_registers(protocol: Protocol, r: Registers) -> Registers
-    ensures { result ≡ state.entry_registers protocol r }
+/// How many bytes page tables have: six frames.
+const TABLES: u32 = 0x6000;
+
+/// How many bytes a page has, and how many pages are below 4 GiB.
+const PAGE: u64 = 0x20_0000;
+
+const PAGES: u64 = 2048;
+
+/// Whether the registers are those that a kernel is entered with, whatever the ones hold that hold
+/// addresses.
+fn are_entered(protocol: Protocol, registers: Registers) -> bool
+    ensures { IsTrue result ↔ (registers ≡ state.entry_registers protocol registers) }
 {
-    match protocol {
-        Protocol::Multiboot2 => multiboot2_registers(r.entry() as u32, r.information() as u32),
-        Protocol::Linux => { linux_registers(r.entry() as u32, r.params() as u32, r.gdt() as u32) }
+    match (protocol, registers) {
+        (Protocol::Multiboot2, Registers::Bits32(r)) => r == multiboot2_registers(r.eip, r.ebx),
+        (Protocol::Linux, Registers::Bits32(r)) => r == linux_registers(r.eip, r.esi, r.gdt_base),
+        (Protocol::Linux64, Registers::Bits64(r)) => {
+            r == linux64_registers(r.rip, r.rsi, r.gdt_base, r.cr3)
+        }
+        _ => false,
     }
 }
 
@@ -32,8 +49,7 @@ fn check_registers<A: Allocator>(image: &Image<A>) -> Result<(), WalkFault>
         (image.now.registers ≡ state.entry_registers image.now.protocol image.now.registers) }
     ensures fault { IfErr result (HasFault image.now) }
 {
-    let registers = image.registers();
-    if registers != entry_registers(image.protocol(), registers) {
+    if !are_entered(image.protocol(), image.registers()) {
         return Err(WalkFault::BadState);
     }
     Ok(())
@@ -92,6 +108,36 @@ fn check_descriptors<A: Allocator>(
     Ok(())
 }
 
+/// The first page of 2 MiB below 4 GiB that page tables at an address do not translate to itself.
+fn moved_page(base: u64, tables: &[u8]) -> Option<u64>
+    ensures { MatchOption result (state.KeepsAddresses base tables.now)
+        (λ page. (page < 2048)
+        × ¬ (translation tables.now base (page * 0x200000) ≡ Some (page * 0x200000))) }
+{
+    for page in 0..PAGES {
+        if translate(tables, base, page * PAGE) != Some(page * PAGE) {
+            return Some(page);
+        }
+    }
+    None
+}
+
+/// A kernel that is entered with paging finds page tables where its registers say.
+fn check_tables<A: Allocator>(image: &Image<A>) -> Result<(), WalkFault>
+    requires { protocols.is_wide image.now.protocol ≡ true }
+    ensures ok { OnOk result ((tables : List ℕ)
+        × (bytes_in image.now.parts (tables_in image.now.registers) 0x6000 ≡ Some tables)
+        × state.KeepsAddresses (tables_in image.now.registers) tables) }
+    ensures fault { IfErr result (HasFault image.now) }
+{
+    let base = image.registers().tables();
+    let tables = follow(image, base, TABLES)?;
+    match moved_page(base, tables) {
+        None => Ok(()),
+        Some(_) => Err(WalkFault::BadState),
+    }
+}
+
 /// The kernel is entered as its protocol says.
 pub(crate) fn check_state<A: Allocator>(image: &Image<A>) -> Result<(), WalkFault>
     ensures ok { OnOk result (IsEntered image.now) }
@@ -99,8 +145,11 @@ pub(crate) fn check_state<A: Allocator>(image: &Image<A>) -> Result<(), WalkFaul
 {
     check_registers(image)?;
     check_entry(image)?;
-    match descriptors_of(image.protocol()) {
-        Some(descriptors) => check_descriptors(image, &descriptors),
-        None => Ok(()),
+    if let Some(descriptors) = descriptors_of(image.protocol()) {
+        check_descriptors(image, &descriptors)?;
+    }
+    match image.protocol() {
+        Protocol::Multiboot2 | Protocol::Linux => Ok(()),
+        Protocol::Linux64 => check_tables(image),
     }
 }

@@ -28,6 +28,6 @@ pub fn walk<A: Allocator + Copy>(alloc: A, image: &Image<A>) -> Result<Seen<A>, 
     check_state(image)?;
     match image.protocol() {
         Protocol::Multiboot2 => shown_by_information(alloc, image),
-        Protocol::Linux => shown_by_parameters(alloc, image),
+        Protocol::Linux | Protocol::Linux64 => shown_by_parameters(alloc, image),
     }
 }

@@ -78,13 +78,14 @@ fn entry_of<A: Allocator + Copy>(
             rsdp_old: copy_of(alloc, rsdp_old)?,
             rsdp_new: copy_of(alloc, rsdp_new)?,
         }),
-        EntryForm::Linux { initrd } => Ok(Entry::Linux {
+        EntryForm::Linux { initrd, wide } => Ok(Entry::Linux {
             kernel,
             line,
             initrd: match initrd {
                 Some(file) => Some(index_of(names, file.as_str()) as u32),
                 None => None,
             },
+            wide: *wide,
         }),
     }
 }

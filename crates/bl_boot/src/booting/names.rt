@@ -60,8 +60,11 @@ fn add_entry<'a, A: Allocator>(
     add_name(names, entry.kernel.as_str())?;
     match &entry.form {
         EntryForm::Multiboot2 { modules, .. } => add_modules(names, &modules.rows)?,
-        EntryForm::Linux { initrd: Some(file) } => add_name(names, file.as_str())?,
-        EntryForm::Linux { initrd: None } => {}
+        EntryForm::Linux {
+            initrd: Some(file),
+            ..
+        } => add_name(names, file.as_str())?,
+        EntryForm::Linux { initrd: None, .. } => {}
     }
     Ok(())
 }

@@ -21,6 +21,7 @@ impl Row<'_> {
             "CommandLine" => Role::CommandLine,
             "Gdt" => Role::Gdt,
             "Initrd" => Role::Initrd,
+            "PageTables" => Role::PageTables,
             _ => {
                 self.refuse();
                 Role::Kernel

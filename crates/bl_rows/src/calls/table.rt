@@ -29,6 +29,7 @@ fn say_roles(row: &mut Row<'_>) {
         Role::CommandLine,
         Role::Gdt,
         Role::Initrd,
+        Role::PageTables,
     ] {
         row.say_quoted(" ", role);
         row.say_decimal(" ", role.number() as u64);
@@ -40,7 +41,7 @@ pub fn answer(row: &mut Row<'_>) {
     say_kinds(row);
     say_roles(row);
     row.say("; protocols");
-    for protocol in [Protocol::Multiboot2, Protocol::Linux] {
+    for protocol in [Protocol::Multiboot2, Protocol::Linux, Protocol::Linux64] {
         row.say_quoted(" ", protocol);
         row.say_decimal(" ", protocol.number() as u64);
     }

@@ -3,13 +3,13 @@ ghost use Rattle.std.specs.Prelude.{◌≡◌, ℕ, ◌+◌, ◌≤◌, ◌^◌,
 ghost use Rattle.bl_load.specs.declared.plan.Content.TheVariants.{File};
 ghost use Rattle.bl_load.specs.Loadable.{IsLoadable};
 
-use bl_load::{Content, Handoff, Plan, PlannedPart, Protocol, Registers, load};
+use bl_load::{Content, Handoff, Plan, PlannedPart, Protocol, Registers, Registers32, load};
 use bl_mem::{Flat, SliceView, Views};
 use bl_plan::{Place, Role};
 use std::alloc::{AllocError, Allocator};
 
 // The bytes of the registers count up from 0x10, so that each of them is another one.
-const REGISTERS: Registers = Registers {
+const REGISTERS: Registers = Registers::Bits32(Registers32 {
     eip: 0x13121110,
     eax: 0x17161514,
     ebx: 0x1B1A1918,
@@ -30,7 +30,7 @@ const REGISTERS: Registers = Registers {
     gdt_base: 0x57565554,
     gdt_limit: 0x5B5A5958,
     a20: 0x5F5E5D5C,
-};
+});
 
 // A file whose byte i is i mod 251.
 fn file_of<A: Allocator>(alloc: A, count: u64) -> Result<Vec<u8, A>, AllocError>

@@ -59,7 +59,8 @@ returns-in_err-seen-clause-ends g c =
     c.args.say.now.items c.in_ok-image.image c.in_err-seen.field-0.0
     (record {
       version = c.in_ok-image.ensures.ok.0;
-      came = c.in_ok-image.ensures.ok.1;
+      has = c.in_ok-image.ensures.ok.1;
+      came = c.in_ok-image.ensures.ok.2;
       ended = c.in_ok-image.ensures.ended;
       kept = c.in_ok-image.ensures.kept;
     })

@@ -1,4 +1,4 @@
-use Rattle.std.proofs.Common.{◌≡◌, ◌+◌, ◌*◌, ◌≤◌, ◌<◌, length, take, sym, arith}
+use Rattle.std.proofs.Common.{◌≡◌, ◌+◌, ◌*◌, ◌≤◌, ◌<◌, ◌^◌, length, take, sym, arith}
 use Rattle.std.proofs.lemmas.List.{length-take-le}
 use Rattle.std.proofs.lemmas.Result.{err_from_is_err_and}
 use Rattle.std.specs.List.{flat_map}
@@ -32,6 +32,6 @@ loop-i-preserved g c =
       came =
           comes_as (sym (spelled_more u32_bytes out i v inside))
           (comes_more c.loop-i.invariant.came c.in_ok-out.ensures.ok);
-      fit = fit_more out i v inside c.loop-i.invariant.fit c.in_ok-out.ensures.fits;
+      fit = fit_more (2 ^ 32) out i v inside c.loop-i.invariant.fit c.in_ok-out.ensures.fits;
       sound = omega (arith, c.in_ok-out.ensures.faults, c.loop-i.invariant.sound);
     }

@@ -17,7 +17,7 @@ returns-clause-bytes c =
     let opening : c.write_u32s.new.out
     ≡ u32_bytes 2 ++ (u32_bytes (protocol_number c.args.protocol) ++ []) =
     rw (c.number.ensures, c.number-2.ensures) at c.write_u32s.ensures.bytes in
-    let numbers = c.write_u64s.ensures.bytes ∙ ap (flat_map u64_bytes) c.wide_numbers.ensures.wide in
+    let numbers = c.write_u64s.ensures.bytes ∙ ap (flat_map u64_bytes) c.numbers_of.ensures.wide in
     let to_8 : 16 ≡ 8 + length c.write_u32s.new.out = omega arith in
     let to_16 : 264 ≡ 16 + length c.write_u64s.new.out = omega arith in
     let to_264 : length b4 ≡ 264 + length c.write_u32s-2.new.out = omega arith in

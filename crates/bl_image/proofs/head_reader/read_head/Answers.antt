@@ -35,42 +35,46 @@ returns-in_err-protocol-clause-refused g c =
     let p =
     err_from_is_err_and c.from_residual-in_err-protocol.result
     c.from_residual-in_err-protocol.ensures.1 in
-    let n = version_number c.in_ok-version.version in
+    let v = c.in_ok-version.version in
+    let n = version_number v in
     let p2 =
     opened_passed c.in_ok-version.version c.in_ok-read_magic.ensures.field.comes
     c.in_ok-version.ensures.field.comes in
-    rw (p.1, p.2) (protocol_refuses n p2 _ _ (c.in_err-protocol.ensures.field n []))
+    rw (p.1, p.2) (protocol_refuses n p2 _ _ (c.in_err-protocol.ensures.field []))
 
 pub returns-in_err-registers-clause-refused : goal.returns-in_err-registers-clause-refused
 returns-in_err-registers-clause-refused g c =
     let p =
     err_from_is_err_and c.from_residual-in_err-registers.result
     c.from_residual-in_err-registers.ensures.1 in
-    let n = version_number c.in_ok-version.version in
+    let v = c.in_ok-version.version in
     let p2 =
     opened_passed c.in_ok-version.version c.in_ok-read_magic.ensures.field.comes
     c.in_ok-version.ensures.field.comes in
     let p3 =
-    told_passed n c.in_ok-protocol.protocol p2 (c.in_ok-protocol.ensures.field n).comes in
+    told_passed v c.in_ok-protocol.protocol c.in_ok-protocol.ensures.has p2
+    c.in_ok-protocol.ensures.field.comes in
     rw (p.1, p.2)
     (passed_refuses p3 _ _
-    (c.in_err-registers.ensures.fields (protocol_number c.in_ok-protocol.protocol)
-    (count_field ∷ zero_field ∷ [])))
+    (c.in_err-registers.ensures.fields (count_field ∷ zero_field ∷ [])))
 
 pub returns-in_err-count-clause-refused : goal.returns-in_err-count-clause-refused
 returns-in_err-count-clause-refused g c =
     let p =
     err_from_is_err_and c.from_residual-in_err-count.result
     c.from_residual-in_err-count.ensures.1 in
-    let n = version_number c.in_ok-version.version in
+    let v = c.in_ok-version.version in
+    let n = version_number v in
     let p2 =
     opened_passed c.in_ok-version.version c.in_ok-read_magic.ensures.field.comes
     c.in_ok-version.ensures.field.comes in
     let p3 =
-    told_passed n c.in_ok-protocol.protocol p2 (c.in_ok-protocol.ensures.field n).comes in
+    told_passed v c.in_ok-protocol.protocol c.in_ok-protocol.ensures.has p2
+    c.in_ok-protocol.ensures.field.comes in
     let p4 =
-    passed_all (layout n (protocol_number c.in_ok-protocol.protocol)).registers (count_field ∷ zero_field ∷ []) _ p3
-    (c.in_ok-registers.ensures.fields (protocol_number c.in_ok-protocol.protocol)) in
+    passed_all (layout n (protocol_number c.in_ok-protocol.protocol)).registers
+    (count_field ∷ zero_field ∷ []) _ p3
+    c.in_ok-registers.ensures.fields in
     rw (p.1, p.2) (passed_refuses p4 _ _ (c.in_err-count.ensures.field (zero_field ∷ [])))
 
 pub returns-in_err-read_zero-clause-refused : goal.returns-in_err-read_zero-clause-refused
@@ -78,29 +82,30 @@ returns-in_err-read_zero-clause-refused g c =
     let p =
     err_from_is_err_and c.from_residual-in_err-read_zero.result
     c.from_residual-in_err-read_zero.ensures.1 in
-    let n = version_number c.in_ok-version.version in
+    let v = c.in_ok-version.version in
+    let n = version_number v in
     let p2 =
     opened_passed c.in_ok-version.version c.in_ok-read_magic.ensures.field.comes
     c.in_ok-version.ensures.field.comes in
     let p3 =
-    told_passed n c.in_ok-protocol.protocol p2 (c.in_ok-protocol.ensures.field n).comes in
+    told_passed v c.in_ok-protocol.protocol c.in_ok-protocol.ensures.has p2
+    c.in_ok-protocol.ensures.field.comes in
     let p4 =
-    passed_all (layout n (protocol_number c.in_ok-protocol.protocol)).registers (count_field ∷ zero_field ∷ []) _ p3
-    (c.in_ok-registers.ensures.fields (protocol_number c.in_ok-protocol.protocol)) in
+    passed_all (layout n (protocol_number c.in_ok-protocol.protocol)).registers
+    (count_field ∷ zero_field ∷ []) _ p3
+    c.in_ok-registers.ensures.fields in
     let p5 = passed_field count_field (zero_field ∷ []) _ p4 c.in_ok-count.ensures.field in
     rw (p.1, p.2) (passed_refuses p5 _ _ (c.in_err-read_zero.ensures.field []))
 
 pub returns-clause-ok : goal.returns-clause-ok
 returns-clause-ok g c =
-    let n = version_number c.in_ok-version.version in
-    let m = protocol_number c.in_ok-protocol.protocol in
     let came =
     comes_more
     (comes_more c.in_ok-read_magic.ensures.field.comes
-    c.in_ok-version.ensures.field.comes) (c.in_ok-protocol.ensures.field n).comes in
+    c.in_ok-version.ensures.field.comes) c.in_ok-protocol.ensures.field.comes in
     let all =
     comes_more
-    (comes_more (comes_more came (c.in_ok-registers.ensures.fields m).comes)
+    (comes_more (comes_more came c.in_ok-registers.ensures.fields.comes)
     c.in_ok-count.ensures.field.comes) c.in_ok-read_zero.ensures.field.comes in
     comes_as
     (head_is c.in_ok-version.version c.in_ok-protocol.protocol c.in_ok-registers.registers

@@ -6,6 +6,7 @@ use Rattle.bl_mem.specs.Words.{u32_bytes}
 use Rattle.bl_mem.proofs.WordLaws.{length-u32_bytes}
 use Rattle.bl_image.specs.declared.fault.ImageFault.TheVariants.{BadHeader}
 use Rattle.bl_image.specs.Fields.{protocol_field}
+use Rattle.bl_image.specs.Versions.{version_number, most_protocol}
 use Rattle.bl_image.proofs.Inputs.{comes_as}
 use Rattle.bl_image.proofs.FieldLemmas.{field_cut, field_shows, word_tells}
 use Rattle.bl_image.proofs.FieldTests.{not_between}
@@ -16,18 +17,20 @@ pub returns-in_err-number-clause-field : goal.returns-in_err-number-clause-field
 unfolding protocol_field
 returns-in_err-number-clause-field g c =
     let p = err_from_is_err_and c.from_residual.result c.from_residual.ensures.1 in
+    let version = version_number c.args.version in
     rw (p.1, p.2)
-    (λ version fields.
-    field_cut (protocol_field version) fields _ _ _ c.in_err-number.ensures.cut)
+    (λ fields. field_cut (protocol_field version) fields _ _ _ c.in_err-number.ensures.cut)
 
 pub returns-in_default-clause-field : goal.returns-in_default-clause-field
 unfolding protocol_field
 returns-in_default-clause-field g c =
     let n = c.in_ok-number.number in
+    let version = version_number c.args.version in
     let fails =
-    word_tells (λ k. nat_le 1 k && nat_le k 2) BadHeader n false c.in_ok-number.ensures.fits
-    (not_between 1 n 2 c.in_default.ensures) in
-    λ version fields.
+    word_tells (λ k. nat_le 1 k && nat_le k (most_protocol version)) BadHeader n false
+    c.in_ok-number.ensures.fits
+    (not_between 1 n (most_protocol version) c.in_default.ensures.number) in
+    λ fields.
     field_shows (protocol_field version) fields _ _ (u32_bytes n) c.in_ok-number.ensures.ok
     (length-u32_bytes n) fails
 
@@ -35,9 +38,9 @@ pub returns-clause-field : goal.returns-clause-field
 unfolding protocol_field
 returns-clause-field g c =
     let n = c.in_ok-number.number in
-    let is : protocols.protocol_number c.in-Some.protocol ≡ n = c.in-Some.ensures in
-    λ version. record {
+    let is : protocols.protocol_number c.in-Some.protocol ≡ n = c.in-Some.ensures.number in
+    record {
       comes = comes_as (ap u32_bytes (sym is)) c.in_ok-number.ensures.ok;
       size = length-u32_bytes _;
-      passes = protocol_passes version c.in-Some.protocol;
+      passes = protocol_passes c.args.version c.in-Some.protocol c.in-Some.ensures.has;
     }

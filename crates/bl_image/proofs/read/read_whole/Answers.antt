@@ -1,9 +1,20 @@
-use Rattle.std.proofs.Common.{◌≡◌, ◌≤◌, ◌^◌, length, sym, ap, ◌∙◌, subst, arith}
+use Rattle.std.proofs.Common.{◌≡◌, ◌≤◌, ◌^◌, ℕ, Bool, All, length, sym, ap, ◌∙◌, subst, arith}
 use Rattle.std.proofs.lemmas.Result.{err_from_is_err_and}
-use Rattle.bl_image.specs.Image.{spelling}
+use Rattle.bl_image.specs.Image.{head, spelling}
 use Rattle.bl_image.specs.ImageParts.{IsKept}
 use Rattle.bl_image.specs.ImageFaults.{image_fault, parts_fault, none_before, end_fault}
 use Rattle.bl_image.specs.RecordsKept.{bytes_at}
+use Rattle.bl_plan.specs.declared.part.Place.{Place}
+use Rattle.bl_plan.specs.declared.protocol.Protocol.{Protocol}
+use Rattle.bl_load.specs.declared.registers.Registers.{Registers}
+use Rattle.bl_load.specs.Handover.{Handover}
+use Rattle.bl_load.specs.HandoffFacts.{MayStand}
+use Rattle.bl_load.specs.Protocols.{is_wide}
+use Rattle.bl_image.specs.declared.version.Version.{Version}
+use Rattle.bl_image.specs.Layouts.{most_role}
+use Rattle.bl_image.specs.Source.{Input, Comes}
+use Rattle.bl_image.specs.Spellable.{FitsRegisters}
+use Rattle.bl_image.specs.Versions.{HasProtocol}
 use Rattle.bl_image.proofs.Inputs.{comes_more, comes_as}
 use Rattle.bl_image.proofs.FieldLemmas.{Passed, passed_more, passed_refuses, cut_refuses}
 use Rattle.bl_image.proofs.FrontLemmas.{head_front, head_refuses}
@@ -11,6 +22,20 @@ use Rattle.bl_image.proofs.PartLemmas.{all_bytes, end_short, end_more, parts_siz
 use Rattle.bl_image.proofs.PartLemmas.{parts_kept, image_kept}
 use Rattle.bl_image.proofs.SoundLemmas.{sound_kept}
 use Rattle.bl_image.proofs.read.read_whole.Goals as goal
+
+-- a head came, and leaves the parts to be judged
+fronted : {old new : Input} (v : Version) (p : Protocol) (r : Registers) (count : ℕ) (wide : Bool)
+    → Comes old new (head v p r count) → HasProtocol v p → FitsRegisters p r → count ≤ 256
+    → wide ≡ is_wide p
+    → Passed image_fault old new (parts_fault (most_role wide) count none_before)
+fronted v p r count wide comes has fit few same = record {
+  done = _;
+  comes = comes;
+  on =
+      λ bytes.
+      head_front v p r count bytes has fit few
+      ∙ ap (λ (b : Bool). parts_fault (most_role b) count none_before bytes) (sym same);
+}
 
 pub returns-in_err-head-clause-refused : goal.returns-in_err-head-clause-refused
 returns-in_err-head-clause-refused g c =
@@ -23,15 +48,12 @@ returns-in_err-places-clause-refused g c =
     err_from_is_err_and c.from_residual-in_err-places.result
     c.from_residual-in_err-places.ensures.1 in
     let head = c.in_ok-head.head in
-    let front : Passed image_fault _ _ (parts_fault 7 head.count none_before) =
-    record {
-      done = _;
-      comes = c.in_ok-head.ensures.ok;
-      on =
-          λ bytes.
-          head_front head.version head.protocol head.registers head.count bytes
-          c.in_ok-head.ensures.fit c.in_ok-head.ensures.few;
-    } in
+    let wide = c.are_wide.ensures ∙ c.in_ok-head.ensures.fit.0 in
+    let front : Passed image_fault _ _
+    (parts_fault (most_role c.are_wide.result) head.count none_before) =
+    fronted head.version head.protocol head.registers head.count c.are_wide.result
+    c.in_ok-head.ensures.ok c.in_ok-head.ensures.has c.in_ok-head.ensures.fit
+    c.in_ok-head.ensures.few wide in
     rw (p.1, p.2) (passed_refuses front _ _ c.in_err-places.ensures.refused)
 
 pub returns-in_err-parts-clause-refused : goal.returns-in_err-parts-clause-refused
@@ -41,15 +63,12 @@ returns-in_err-parts-clause-refused g c =
     c.from_residual-in_err-parts.ensures.1 in
     let head = c.in_ok-head.head in
     let places = c.in_ok-places.places.items in
-    let front : Passed image_fault _ _ (parts_fault 7 head.count none_before) =
-    record {
-      done = _;
-      comes = c.in_ok-head.ensures.ok;
-      on =
-          λ bytes.
-          head_front head.version head.protocol head.registers head.count bytes
-          c.in_ok-head.ensures.fit c.in_ok-head.ensures.few;
-    } in
+    let wide = c.are_wide.ensures ∙ c.in_ok-head.ensures.fit.0 in
+    let front : Passed image_fault _ _
+    (parts_fault (most_role c.are_wide.result) head.count none_before) =
+    fronted head.version head.protocol head.registers head.count c.are_wide.result
+    c.in_ok-head.ensures.ok c.in_ok-head.ensures.has c.in_ok-head.ensures.fit
+    c.in_ok-head.ensures.few wide in
     let passed : Passed image_fault _ _ (end_fault (bytes_at places)) =
     passed_more _ front c.in_ok-places.ensures.ok c.in_ok-places.ensures.judged in
     let cut = rw c.deref.ensures.value at c.in_err-parts.ensures.cut in
@@ -66,15 +85,12 @@ returns-in_err-read_end-clause-refused g c =
     let head = c.in_ok-head.head in
     let places = c.in_ok-places.places.items in
     let parts = c.in_ok-parts.parts.items in
-    let front : Passed image_fault _ _ (parts_fault 7 head.count none_before) =
-    record {
-      done = _;
-      comes = c.in_ok-head.ensures.ok;
-      on =
-          λ bytes.
-          head_front head.version head.protocol head.registers head.count bytes
-          c.in_ok-head.ensures.fit c.in_ok-head.ensures.few;
-    } in
+    let wide = c.are_wide.ensures ∙ c.in_ok-head.ensures.fit.0 in
+    let front : Passed image_fault _ _
+    (parts_fault (most_role c.are_wide.result) head.count none_before) =
+    fronted head.version head.protocol head.registers head.count c.are_wide.result
+    c.in_ok-head.ensures.ok c.in_ok-head.ensures.has c.in_ok-head.ensures.fit
+    c.in_ok-head.ensures.few wide in
     let passed : Passed image_fault _ _ (end_fault (bytes_at places)) =
     passed_more _ front c.in_ok-places.ensures.ok c.in_ok-places.ensures.judged in
     let size : length (all_bytes parts) ≡ bytes_at places =
@@ -95,9 +111,12 @@ new-requires g c =
     let places = c.in_ok-places.places.items in
     let few : length places ≤ 256 =
     omega (arith, c.in_ok-places.ensures.count, c.in_ok-head.ensures.few) in
+    let roles : All (λ (p : Place). MayStand (is_wide head.protocol) p.role) places =
+    subst (λ (b : Bool). All (λ (p : Place). MayStand b p.role) places)
+    (c.are_wide.ensures ∙ c.in_ok-head.ensures.fit.0) c.in_ok-places.ensures.may in
     parts_kept head.protocol head.registers places c.in_ok-parts.parts.items
     (c.in_ok-parts.ensures.places ∙ c.deref.ensures.value)
-    (sound_kept head.protocol head.registers places (2 ^ 32) few
+    (sound_kept head.protocol head.registers places (2 ^ 32) c.in_ok-head.ensures.fit.0 roles few
     c.in_ok-places.ensures.sound)
 
 pub returns-clause-ok : goal.returns-clause-ok
@@ -108,6 +127,8 @@ returns-clause-ok g c =
     (comes_more (comes_more c.in_ok-head.ensures.ok c.in_ok-places.ensures.ok)
     c.in_ok-parts.ensures.ok) c.in_ok-read_end.ensures.ok in (
       head.version,
+      subst (λ (p : Protocol). HasProtocol head.version p)
+          (ap (λ (h : Handover). h.protocol) (sym c.new.ensures)) c.in_ok-head.ensures.has,
       comes_as
           (spelled_by head.version head.protocol head.registers head.count
           c.in_ok-places.places.items c.in_ok-parts.parts.items
@@ -119,9 +140,14 @@ pub returns-clause-kept : goal.returns-clause-kept
 returns-clause-kept g c =
     let head = c.in_ok-head.head in
     let places = c.in_ok-places.places.items in
-    let few : length places ≤ 256 = omega (arith, c.in_ok-places.ensures.count, c.in_ok-head.ensures.few) in
+    let few : length places ≤ 256 =
+    omega (arith, c.in_ok-places.ensures.count, c.in_ok-head.ensures.few) in
+    let roles : All (λ (p : Place). MayStand (is_wide head.protocol) p.role) places =
+    subst (λ (b : Bool). All (λ (p : Place). MayStand b p.role) places)
+    (c.are_wide.ensures ∙ c.in_ok-head.ensures.fit.0) c.in_ok-places.ensures.may in
     subst IsKept (sym c.new.ensures)
     (image_kept head.protocol head.registers places
     c.in_ok-parts.parts.items (c.in_ok-parts.ensures.places ∙ c.deref.ensures.value)
-    (sound_kept head.protocol head.registers places (2 ^ 32) few c.in_ok-places.ensures.sound)
-    c.in_ok-places.ensures.sound.fit c.in_ok-head.ensures.fit)
+    (sound_kept head.protocol head.registers places (2 ^ 32) c.in_ok-head.ensures.fit.0 roles few
+    c.in_ok-places.ensures.sound)
+    c.in_ok-places.ensures.sound.fit c.in_ok-head.ensures.fit.1)

@@ -1,15 +1,17 @@
 use Rattle.std.proofs.Common.{◌≡◌, ◌+◌, ◌-◌, ◌<◌, ℕ, suc, List, [], ◌∷◌, ◌++◌, length, sym, ap, ◌∙◌}
-use Rattle.std.proofs.Common.{subst, arith, length-append}
+use Rattle.std.proofs.Common.{All, subst, arith, length-append}
 use Rattle.std.specs.List.{flat_map}
 use Rattle.bl_plan.specs.declared.part.Place.{Place}
 use Rattle.bl_image.specs.RecordsKept.{place_record, AreSound, bytes_at}
 use Rattle.std.proofs.lemmas.Result.{err_from_is_err_and}
+use Rattle.bl_load.specs.HandoffFacts.{MayStand}
+use Rattle.bl_image.specs.Layouts.{most_role}
 use Rattle.bl_image.specs.ImageFaults.{parts_fault, none_before, Before}
 use Rattle.bl_image.proofs.Inputs.{comes_more, comes_as}
 use Rattle.bl_image.proofs.FieldLemmas.{Passed, passed_refuses}
 use Rattle.bl_image.proofs.RecordLemmas.{record_refuses}
 use Rattle.bl_image.proofs.SoundLemmas.{so_far, judged_more, came_more, sound_more}
-use Rattle.bl_image.proofs.SoundLemmas.{sound_low}
+use Rattle.bl_image.proofs.SoundLemmas.{sound_low, one_more}
 use Rattle.bl_image.proofs.record_reader.read_records.Goals as goal
 
 pub returns-in_err-place-clause-refused : goal.returns-in_err-place-clause-refused
@@ -25,7 +27,8 @@ returns-in_err-place-clause-refused g c =
     } in
     let inside : part < count = omega arith in
     let left : count - part ≡ suc (count - (part + 1)) = omega arith in
-    let passed : Passed (parts_fault 7 count none_before) _ _ (parts_fault 7 (count - part) before) =
+    let passed : Passed (parts_fault (most_role c.args.wide) count none_before) _ _
+    (parts_fault (most_role c.args.wide) (count - part) before) =
     record {
       done = _;
       comes = c.loop-part.invariant.came;
@@ -34,7 +37,8 @@ returns-in_err-place-clause-refused g c =
     rw (p.1, p.2)
     (passed_refuses passed
     _ _ (rw left
-    (record_refuses (count - (part + 1)) before _ _ _ c.in_err-place.ensures.refused)))
+    (record_refuses (most_role c.args.wide) (count - (part + 1))
+    before _ _ _ c.in_err-place.ensures.refused)))
 
 pub loop-part-preserved : goal.loop-part-preserved
 loop-part-preserved g c =
@@ -47,9 +51,12 @@ loop-part-preserved g c =
     let e : c.push.new.self.items ≡ old ++ place ∷ [] = c.in_ok-push.ensures.items in
     let longer : length (old ++ place ∷ []) ≡ length old + 1 = length-append old (place ∷ []) in
     let judged : (bytes : List ℕ)
-    → parts_fault 7 count none_before (flat_map place_record (old ++ place ∷ []) ++ bytes)
-    ≡ parts_fault 7 (count - (part + 1)) (so_far (part + 1) end (old ++ place ∷ [])) bytes =
-    judged_more count part old c.loop-part.before place inside c.in_ok-place.ensures.next
+    → parts_fault (most_role c.args.wide) count none_before
+    (flat_map place_record (old ++ place ∷ []) ++ bytes)
+    ≡ parts_fault (most_role c.args.wide) (count - (part + 1))
+    (so_far (part + 1) end (old ++ place ∷ [])) bytes =
+    judged_more c.args.wide count part old c.loop-part.before place inside
+    c.in_ok-place.ensures.may c.in_ok-place.ensures.next
     c.loop-part.invariant.judged in
     record {
       came =
@@ -63,11 +70,18 @@ loop-part-preserved g c =
       judged =
           subst
           (λ (ps : List Place). (bytes : List ℕ)
-          → parts_fault 7 count none_before (flat_map place_record ps ++ bytes)
-          ≡ parts_fault 7 (count - (part + 1)) (so_far (part + 1) end ps) bytes)
+          → parts_fault (most_role c.args.wide) count none_before
+          (flat_map place_record ps ++ bytes)
+          ≡ parts_fault (most_role c.args.wide) (count - (part + 1))
+          (so_far (part + 1) end ps) bytes)
           (sym e) judged;
+      may =
+          subst (All (λ (p : Place). MayStand c.args.wide p.role)) (sym e)
+          (one_more (λ (p : Place). MayStand c.args.wide p.role) old place
+          c.loop-part.invariant.may c.in_ok-place.ensures.may);
       faults = omega (arith, c.in_ok-place.ensures.faults, c.loop-part.invariant.faults);
     }
 
 pub returns-clause-sound : goal.returns-clause-sound
-returns-clause-sound g c = sound_low c.loop-part.places.items c.loop-part.before c.loop-part.invariant.sound
+returns-clause-sound g c =
+    sound_low c.loop-part.places.items c.loop-part.before c.loop-part.invariant.sound

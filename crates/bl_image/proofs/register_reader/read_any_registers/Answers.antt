@@ -3,27 +3,27 @@ use Rattle.std.proofs.lemmas.List.{places}
 use Rattle.std.proofs.lemmas.Result.{err_from_is_err_and}
 use Rattle.std.specs.List.{flat_map}
 use Rattle.bl_mem.specs.Words.{u32_bytes}
-use Rattle.bl_image.specs.declared.version.Version.TheVariants.{One}
-use Rattle.bl_image.specs.Fields.{fields_fault}
+use Rattle.bl_image.specs.Fields.{fields_fault, register_field}
 use Rattle.bl_image.specs.Layouts.{registers_1}
 use Rattle.bl_image.proofs.Inputs.{comes_as}
 use Rattle.bl_image.proofs.FieldLemmas.{cut_refuses}
 use Rattle.bl_image.proofs.Listed.{three_parts}
-use Rattle.bl_image.proofs.RegisterLemmas.{any_short, registers_pass}
+use Rattle.bl_image.proofs.RegisterLemmas.{any_short, register_any, narrow_pass}
 use Rattle.bl_image.proofs.register_reader.read_any_registers.Goals as goal
 
 all_fit : {xs ys : List ℕ} → All (λ n. n < 2 ^ 32) xs → xs ≡ ys → All (λ n. n < 2 ^ 32) ys
 all_fit fit e = subst (All (λ n. n < 2 ^ 32)) e fit
 
 pub returns-in_err-read_u32s-clause-fields : goal.returns-in_err-read_u32s-clause-fields
-unfolding registers_1
+unfolding registers_1 register_field
 returns-in_err-read_u32s-clause-fields g c =
     let p = err_from_is_err_and c.from_residual.result c.from_residual.ensures.1 in
     let size : length c.read_u32s.new.out ≡ 20 = search (rules, places) in
     let cut = rw size at c.in_err-read_u32s.ensures.cut in
     rw (p.1, p.2)
     (λ others.
-    cut_refuses (fields_fault (registers_1 ++ others)) _ _ 80 _ (any_short 20 others) cut)
+    cut_refuses (fields_fault (registers_1 ++ others)) _ _ 80 _
+    (any_short register_field register_any 20 others) cut)
 
 pub returns-clause-fields : goal.returns-clause-fields
 returns-clause-fields g c =
@@ -31,7 +31,7 @@ returns-clause-fields g c =
     let numbers = c.registers_of.ensures ∙ three_parts c.read_u32s.new.out size in
     record {
       comes = comes_as (ap (flat_map u32_bytes) (sym numbers)) c.in_ok-read_u32s.ensures.ok;
-      on = registers_pass One 1 c.registers_of.result (all_fit c.in_ok-read_u32s.ensures.fit (sym numbers));
+      on = narrow_pass c.registers_of.result;
     }
 
 pub returns-clause-fit : goal.returns-clause-fit

@@ -5,13 +5,14 @@ use Rattle.std.proofs.lemmas.List.{places}
 use Rattle.std.proofs.lemmas.List.Elements.{All-append}
 use Rattle.std.proofs.lemmas.Result.{err_from_is_err_and}
 use Rattle.bl_mem.specs.Words.{u64_bytes}
-use Rattle.bl_load.specs.declared.registers.Registers.{Registers}
+use Rattle.bl_load.specs.declared.registers.Registers32.{Registers32}
+use Rattle.bl_load.specs.declared.registers.Registers.TheVariants.{Bits32}
 use Rattle.bl_image.specs.Fields.{Field, narrow_field, absent_field}
 use Rattle.bl_image.specs.Image.{register_numbers, wide_numbers}
 use Rattle.bl_image.specs.Layouts.{registers_2}
 use Rattle.bl_image.specs.Source.{Input}
 use Rattle.bl_image.specs.SourceKept.{PassAll}
-use Rattle.bl_image.proofs.WideLemmas.{pass_as, pass_both, refused_before, refused_behind}
+use Rattle.bl_image.proofs.FieldRows.{pass_as, pass_both, refused_before, refused_behind}
 use Rattle.bl_image.proofs.WideLemmas.{wide_by, wide_spelling, spelled_wide}
 use Rattle.bl_image.proofs.register_reader.read_narrow_registers.Goals as goal
 
@@ -38,9 +39,9 @@ sized : {old new : Input} (ns : List ℕ) (n : ℕ) → length ns ≡ n
 sized {old} {new} ns n size passed =
     subst (λ (k : ℕ). PassAll (narrow k) old new (flat_map u64_bytes ns)) size passed
 
-same_bytes : (r : Registers) (first flags last : List ℕ) → length first ≡ 9 → length flags ≡ 2
+same_bytes : (r : Registers32) (first flags last : List ℕ) → length first ≡ 9 → length flags ≡ 2
     → register_numbers r ≡ first ++ (flags ++ last)
-    → wide_spelling first flags last ≡ flat_map u64_bytes (wide_numbers r)
+    → wide_spelling first flags last ≡ flat_map u64_bytes (wide_numbers (Bits32 r))
 same_bytes r first flags last nine two numbers =
     sym
     (ap (flat_map u64_bytes) (wide_by r first flags last nine two numbers)

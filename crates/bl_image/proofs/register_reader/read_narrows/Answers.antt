@@ -1,14 +1,15 @@
-use Rattle.std.proofs.Common.{◌<◌, ◌∷◌, [], length, refl, arith}
+use Rattle.std.proofs.Common.{◌<◌, ◌^◌, ◌∷◌, [], length, refl, arith}
 use Rattle.std.specs.Prelude.{replicate}
 use Rattle.std.proofs.lemmas.Result.{err_from_is_err_and}
 use Rattle.bl_mem.specs.Words.{u64_bytes}
 use Rattle.bl_image.specs.Fields.{narrow_field}
 use Rattle.bl_image.proofs.Listed.{spelled_more, fit_more}
-use Rattle.bl_image.proofs.WideLemmas.{pass_none, pass_both, pass_one, refused_among, replicate_more}
+use Rattle.bl_image.proofs.FieldRows.{pass_none, pass_both, pass_one, refused_among, replicate_more}
 use Rattle.bl_image.proofs.register_reader.read_narrows.Goals as goal
 
 pub loop-i-init : goal.loop-i-init
-loop-i-init g c = record { passed = pass_none _; fit = λ k d within. absurd (omega arith); sound = refl }
+loop-i-init g c =
+    record { passed = pass_none _; fit = λ k d within. absurd (omega arith); sound = refl }
 
 pub returns-in_err-out-clause-fields : goal.returns-in_err-out-clause-fields
 returns-in_err-out-clause-fields g c =
@@ -30,6 +31,6 @@ loop-i-preserved g c =
     record {
       passed =
           rw (replicate_more i narrow_field, spelled_more u64_bytes out i v inside) both;
-      fit = fit_more out i v inside c.loop-i.invariant.fit c.in_ok-out.ensures.fits;
+      fit = fit_more (2 ^ 32) out i v inside c.loop-i.invariant.fit c.in_ok-out.ensures.fits;
       sound = omega (arith, c.in_ok-out.ensures.faults, c.loop-i.invariant.sound);
     }

@@ -1,6 +1,10 @@
-use Rattle.std.proofs.Common.{◌≡◌, ℕ, List, length, arith, ap, subst}
+use Rattle.std.proofs.Common.{◌≡◌, ℕ, true, List, length, arith, ap, subst}
 use Rattle.bl_plan.specs.declared.part.Role.{Role}
 use Rattle.bl_params.proofs.Lengths.{length-boot_params}
+use Rattle.bl_params.proofs.PagingLemmas.{length-paging}
+use Rattle.bl_plan.specs.declared.part.Role.TheVariants.{PageTables}
+use Rattle.bl_load.specs.Addresses.{address_of}
+use Rattle.bl_load.specs.Protocols.{is_wide}
 use Rattle.bl_load.specs.LinuxRows.{told_of}
 use Rattle.bl_load.specs.Reading.{linux}
 use Rattle.bl_load.specs.PlacingKept.{HasLength}
@@ -21,4 +25,21 @@ returns-in_ok-boot_params-in-BootParams-clause-short g c =
       long,
       length-boot_params setup.header (told_of facts value c.args.places.now),
       ap (λ (bytes : List ℕ). length bytes) c.in_ok-boot_params-in-BootParams.ensures,
+    )
+
+pub returns-in_ok-page_tables_at-in-PageTables-clause-short : goal.returns-in_ok-page_tables_at-in-PageTables-clause-short
+returns-in_ok-page_tables_at-in-PageTables-clause-short g c =
+    let facts = c.args.source.now.machine.now in
+    let setup = c.args.setup.now in
+    let value = value_in c.args.source.now in
+    let place = c.args.place.now in
+    let has : (is_wide value.protocol ≡ true) × (place.length ≡ 0x6000) =
+    subst (λ (role : Role). HasLength facts value (linux setup) role place.index place.length)
+    c.in-PageTables.is c.requires.rowed in
+    let long = has.1 in
+    omega (
+      arith,
+      long,
+      length-paging (address_of PageTables 0 c.args.places.now),
+      ap (λ (bytes : List ℕ). length bytes) c.in_ok-page_tables_at-in-PageTables.ensures,
     )

@@ -9,6 +9,8 @@ use Rattle.bl_plan.specs.Order.{in_order, place_key}
 use Rattle.bl_plan.proofs.OrderLemmas.{in_order_all}
 use Rattle.bl_load.specs.Place.{place_of}
 use Rattle.bl_load.specs.HandoffFacts.{AreHandoffFacts}
+use Rattle.bl_load.specs.Parts.{registers_of}
+use Rattle.bl_load.specs.declared.registers.Registers.{Registers}
 use Rattle.bl_load.specs.PlacingKept.{IsRowed, told_rows_by}
 use Rattle.bl_load.specs.Rows.{rows_of}
 use Rattle.bl_load.specs.ReadKept.{FitsTold, CanEnter}
@@ -133,8 +135,8 @@ ranges_of-requires g c =
     c.in_ok-parts.ensures.places ∙ sorted in
     let count = length-map c.args.source.now.modules.now (λ m. m.line) in
     let kept =
-    reading_kept facts value reading value.protocol c.registers_of-registers.result
-    c.in-Ok.places.items c.requires.read (omega (arith, count, c.args.source.now.few)) placed in
+    reading_kept facts value reading c.in-Ok.places.items c.requires.read
+    (omega (arith, count, c.args.source.now.few)) placed in
     let small : All (λ p. p.address + p.length < 2 ^ 64) (in_order c.in-Ok.places.items) =
     λ k d within. let low = kept.below k d within in omega arith in
     rw (c.as_slice-6.ensures.value, places) small
@@ -156,9 +158,18 @@ returns-clause-loadable g c =
     let places : map place_of c.in_ok-parts.parts.items ≡ in_order c.in-Ok.places.items =
     c.in_ok-parts.ensures.places ∙ sorted in
     let count = length-map c.args.source.now.modules.now (λ m. m.line) in
+    let registers : c.registers_of-registers.result
+    ≡ registers_of value.protocol reading c.in-Ok.places.items =
+    c.registers_of-registers.ensures
+    ∙ ap (registers_of value.protocol reading) c.as_slice-2.ensures.value in
     let kept =
-    reading_kept facts value reading c.args.source.now.protocol c.registers_of-registers.result
-    c.in-Ok.places.items c.requires.read (omega (arith, count, c.args.source.now.few)) placed in
+    subst (λ (r : Registers). AreHandoffFacts (record {
+      protocol = value.protocol;
+      registers = r;
+      places = in_order c.in-Ok.places.items;
+    })) (sym registers)
+    (reading_kept facts value reading c.in-Ok.places.items c.requires.read
+    (omega (arith, count, c.args.source.now.few)) placed) in
     let inside =
     in_order_all place_key (λ (p : Place). p.address + p.length ≤ facts.size)
     c.in-Ok.places.items
