@@ -4,7 +4,7 @@ from typing import List, Optional
 
 from language import demand, fields, number, only, perhaps, single, spell
 from rules import entry as entries
-from rules.handover import REGISTERS, Handover, part_bytes
+from rules.handover import MULTIBOOT2, PROTOCOL_NAMES, Handover, names_of, part_bytes
 from rules.memory import Memory
 from rules.refusals import NAMES, Refused
 
@@ -15,16 +15,18 @@ from .machines import last_machine
 
 MOST_MODULES = 64
 ROLES = {1: "kernel", 2: "module", 3: "information", 4: "boot_params", 5: "command_line", 6: "gdt",
-         7: "initrd"}
+         7: "initrd", 8: "page_tables"}
+PROTOCOLS = {name: protocol for protocol, name in PROTOCOL_NAMES.items()}
 
 
 def read_entry(table, words: List[str], kernel: bytes) -> entries.Entry:
-    """`multiboot2 line=B module=B:B .. rsdp_old=B rsdp_new=B` or `linux line=B initrd=B`."""
-    demand(bool(words) and words[0] in ("multiboot2", "linux"))
+    """`multiboot2 line=B module=B:B .. rsdp_old=B rsdp_new=B`, or `linux line=B initrd=B` and
+    `linux64 line=B initrd=B`."""
+    demand(bool(words) and words[0] in PROTOCOLS)
     named, bare = fields(words[1:])
     demand(not bare)
     text = table.names.one(single(named, "line"))
-    if words[0] == "multiboot2":
+    if PROTOCOLS[words[0]] == MULTIBOOT2:
         only(named, "line", "module", "rsdp_old", "rsdp_new")
         modules = [read_module(table, word) for word in named.get("module", [])]
         copies = [read_copy(table, perhaps(named, name)) for name in ("rsdp_old", "rsdp_new")]
@@ -32,7 +34,7 @@ def read_entry(table, words: List[str], kernel: bytes) -> entries.Entry:
         return entries.Multiboot2Entry(kernel, text, modules, *copies)
     only(named, "line", "initrd")
     initrd = table.names.one(single(named, "initrd")) if "initrd" in named else None
-    return entries.LinuxEntry(kernel, text, initrd)
+    return entries.LinuxEntry(kernel, text, initrd, PROTOCOLS[words[0]])
 
 
 def read_module(table, word: str):
@@ -47,7 +49,7 @@ def read_copy(table, word: Optional[str]) -> Optional[bytes]:
 
 
 def head_text(protocol: int, registers) -> str:
-    words = ["%x" % registers[name] for name in REGISTERS]
+    words = ["%x" % registers[name] for name in names_of(protocol)]
     return "protocol %d registers %s" % (protocol, " ".join(words))
 
 

@@ -5,10 +5,11 @@ from typing import List, NamedTuple, Optional, Tuple, Union
 from language import BadRow, demand, fields, number, numbers, only, single
 from rules import booting
 from rules.entry import Entry, LinuxEntry, Multiboot2Entry
+from rules.handover import MULTIBOOT2
 from rules.refusals import Refused
 
 from . import Call
-from .entries import read_copy
+from .entries import PROTOCOLS, read_copy
 from .kernels import fault_text
 
 File = Union[bytes, int, None]
@@ -19,19 +20,24 @@ STORES = ("forward", "reverse", "counting", "silent", "script")
 
 class MenuEntry(NamedTuple):
     """An entry whose files are told by their index."""
-    is_linux: bool
+    protocol: int
     kernel: int
     line: bytes
     others: List[Tuple[int, bytes]]  # the modules and their lines, or the initrd
     rsdp_old: Optional[bytes] = None
     rsdp_new: Optional[bytes] = None
 
+    @property
+    def is_linux(self) -> bool:
+        """By either entry of Linux."""
+        return self.protocol != MULTIBOOT2
+
     def files(self) -> List[int]:
         return [self.kernel] + [file for file, _ in self.others]
 
     def with_files(self, files: List[bytes]) -> Entry:
         if self.is_linux:
-            return LinuxEntry(files[0], self.line, files[1] if files[1:] else None)
+            return LinuxEntry(files[0], self.line, files[1] if files[1:] else None, self.protocol)
         return Multiboot2Entry(files[0], self.line,
                                [(file, line) for file, (_, line) in zip(files[1:], self.others)],
                                self.rsdp_old, self.rsdp_new)
@@ -86,19 +92,18 @@ def read_file(table, word: str) -> File:
 
 
 def read_entries(table, word: str) -> List[MenuEntry]:
-    """`multiboot2:KERNEL:LINE+FILE:LINE ..` or `linux:KERNEL:LINE+INITRD`, with `*COUNT` so
-    often."""
+    """`multiboot2:KERNEL:LINE+FILE:LINE ..`, `linux:KERNEL:LINE+INITRD` or
+    `linux64:KERNEL:LINE+INITRD`, with `*COUNT` so often."""
     word, star, count = word.partition("*")
     first, *others = word.split("+")
     demand(first.count(":") == 2)
     protocol, kernel, text = first.split(":")
-    demand(protocol in ("multiboot2", "linux"))
-    is_linux = protocol == "linux"
-    if is_linux:
+    demand(protocol in PROTOCOLS)
+    if PROTOCOLS[protocol] != MULTIBOOT2:
         demand(len(others) <= 1 and not any(":" in other for other in others))
     rest = [(number(other.partition(":")[0], 32), table.names.one(other.partition(":")[2]))
             for other in others]
-    entry = MenuEntry(is_linux, number(kernel, 32), table.names.one(text), rest)
+    entry = MenuEntry(PROTOCOLS[protocol], number(kernel, 32), table.names.one(text), rest)
     return [entry] * (number(count) if star else 1)
 
 

@@ -11,7 +11,8 @@ from . import Call
 from .machines import last_machine
 
 FAULTS = {15: "overlap", 19: "not usable", 20: "no room"}
-ROLES = ("Kernel", "Module", "Information", "BootParams", "CommandLine", "Gdt", "Initrd")
+ROLES = ("Kernel", "Module", "Information", "BootParams", "CommandLine", "Gdt", "Initrd",
+         "PageTables")
 
 
 class Asked(NamedTuple):

@@ -76,7 +76,7 @@ def draw_entry(rng: Random, index: int, files: Dict[str, bytes]) -> list:
         kernel = kernels.draw_multiboot2(rng)
         pairs += [("protocol", "multiboot2"), ("kernel", named(rng, files, kernel))]
         if chance(rng, 3):
-            pairs[1] = ("protocol", "linux")
+            pairs[1] = ("protocol", rng.choice(["linux", "linux64"]))
         else:
             modules = [draw_module(rng, files) for _ in range(rng.choice([0, 0, 1, 1, 2, 3, 6]))]
             if modules or chance(rng, 5):
@@ -84,7 +84,8 @@ def draw_entry(rng: Random, index: int, files: Dict[str, bytes]) -> list:
             pairs += draw_copies(rng, 25)
     else:
         kernel = linux_kernels.draw(rng, len(line.encode("utf-8")))
-        pairs += [("protocol", "linux"), ("kernel", named(rng, files, kernel))]
+        protocol = rng.choice(["linux", "linux64"])
+        pairs += [("protocol", protocol), ("kernel", named(rng, files, kernel))]
         if chance(rng, 70):
             pairs.append(("initrd", named(rng, files, some_bytes(rng, length(rng)))))
         pairs += draw_copies(rng, 1)

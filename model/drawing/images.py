@@ -3,9 +3,9 @@
 from random import Random
 from typing import List, Tuple
 
-from rules import boot_params, information
+from rules import boot_params, information, paging
 from rules.handover import (BOOT_PARAMETERS, COMMAND_LINE, GDT, INFORMATION, INITRD, KERNEL, LINUX,
-                            MODULE, MULTIBOOT2, Handover, Part, registers_of)
+                            LINUX64, MODULE, MULTIBOOT2, PAGE_TABLES, Handover, Part, registers_of)
 from rules.image import COUNT_AT, FIELDS, HEADS, OLD, RECORD_SIZE, WRITTEN, spell
 from rules.information import Information, Module
 from rules.machine import Run
@@ -14,12 +14,14 @@ from .chances import chance, changed, copy, number, some_bytes
 
 def draw(rng: Random) -> bytes:
     """An image of either version that is walked, mostly."""
-    draw_one = draw_multiboot2 if chance(rng, 55) else draw_linux
-    handover = draw_one(rng)
+    handover = rng.choice([draw_multiboot2, draw_multiboot2, draw_linux, draw_linux64])(rng)
+    is_wide = handover.protocol == LINUX64
     if chance(rng, 6):
         name = rng.choice(list(handover.registers))
-        handover.registers[name] = number(rng, 32)
-    data = spell(handover, OLD if chance(rng, 40) else WRITTEN)
+        handover.registers[name] = number(rng, 64 if is_wide else 32)
+    data = spell(handover, OLD if chance(rng, 40) and not is_wide else WRITTEN)
+    if chance(rng, 1):  # another number for the protocol
+        data = data[:12] + bytes([rng.randrange(5)]) + data[13:]
     return with_register(rng, data) if chance(rng, 6) else data
 
 
@@ -74,6 +76,10 @@ class Ground:
     def put(self, role: int, data: bytes, index: int = 0) -> int:
         """The bytes as a part, perhaps with more behind them; gives their address."""
         self.at += self.rng.choice([0, 0, 0, 1, 8, 0x1000, 0x100000])
+        return self.put_at(role, data, index)
+
+    def put_at(self, role: int, data: bytes, index: int = 0) -> int:
+        """The same right behind what stands there."""
         at = self.at
         more = self.rng.choice([0, 0, 1, 8, 100])
         more = max(more, 0 if data else 1)
@@ -150,7 +156,34 @@ def damaged(rng: Random, told: bytes) -> bytes:
     return told
 
 
-def draw_linux(rng: Random) -> Handover:
+def draw_linux64(rng: Random) -> Handover:
+    return draw_linux(rng, LINUX64)
+
+
+def draw_tables(rng: Random, ground: Ground) -> int:
+    """Page tables, of ten two with changes; they stand at a multiple of a frame as a rule."""
+    if chance(rng, 96):
+        ground.at = -(-ground.at // paging.FRAME) * paging.FRAME
+    at = ground.at
+    tables = bytearray(paging.tables(at))
+    if chance(rng, 5):  # the last frames in another order, and named so
+        order = rng.sample(range(2, 6), 4)
+        for k, to in enumerate(order):
+            word = at + to * paging.FRAME + paging.PRESENT_WRITABLE
+            tables[0x1000 + 8 * k:0x1008 + 8 * k] = word.to_bytes(8, "little")
+            tables[to * paging.FRAME:(to + 1) * paging.FRAME] = paging.frame(at, 2 + k)
+    if chance(rng, 15):
+        word = 8 * rng.choice([0, 0, 1, 512, 513, 515, 516, rng.randrange(3072)])
+        value = int.from_bytes(tables[word:word + 8], "little")
+        value = rng.choice([0, value ^ 1 << rng.randrange(64), value ^ 1 << rng.randrange(22),
+                            value + 0x1000, number(rng, 64)]) % (1 << 64)
+        tables[word:word + 8] = value.to_bytes(8, "little")
+    return ground.put_at(PAGE_TABLES, bytes(tables))
+
+
+def draw_linux(rng: Random, protocol: int = LINUX) -> Handover:
+    """By the 32-bit entry, or by the 64-bit one."""
+    is_wide = protocol == LINUX64
     ground = Ground(rng)
     kernel = ground.put(KERNEL, some_bytes(rng, rng.randrange(1, 200)))
     line = ground.put(COMMAND_LINE, draw_text(rng) + (b"\0" if chance(rng, 90) else b"x"))
@@ -158,7 +191,9 @@ def draw_linux(rng: Random) -> Handover:
     if chance(rng, 60):
         ground.put(INITRD, some_bytes(rng, rng.randrange(1, 200)))
         disk = ground.somewhere()
-    table = ground.put(GDT, boot_params.gdt() if chance(rng, 96) else some_bytes(rng, 32))
+    descriptors = paging.gdt64() if is_wide != chance(rng, 2) else boot_params.gdt()
+    table = ground.put(GDT, descriptors if chance(rng, 96) else some_bytes(rng, 32))
+    tables = draw_tables(rng, ground) if is_wide else 0
     if chance(rng, 10):
         line = ground.somewhere()[0]
     header = bytearray(some_bytes(rng, rng.choice([0x73, 0x77, 0x9F])))
@@ -171,5 +206,9 @@ def draw_linux(rng: Random) -> Handover:
         params = changed(rng, params, [0x1E8, 0x1F1, 0x1FA, 0x1FE, 0x201, 0x202, 0x206, 0x210,
                                        0x250, 0x228, 0x218, 0x21C, 0x2D0, 0x2E0, 0x2E4], 5)
     at = ground.put(BOOT_PARAMETERS, params)
-    registers = {**registers_of(LINUX), "EIP": kernel, "ESI": at, "GDT base": table}
-    return Handover(LINUX, registers, ground.parts)
+    if is_wide:
+        registers = {**registers_of(LINUX64), "RIP": kernel, "RSI": at, "GDT base": table,
+                     "CR3": tables + (rng.choice([1, 8, 0x1000, 1 << 32]) if chance(rng, 2) else 0)}
+    else:
+        registers = {**registers_of(LINUX), "EIP": kernel, "ESI": at, "GDT base": table}
+    return Handover(protocol, registers, ground.parts)

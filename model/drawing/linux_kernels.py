@@ -39,11 +39,12 @@ def draw(rng: Random, line_length: int) -> bytes:
         (0x211, bytes([rng.choice([1, 1, 0x81, 0xFF])])),
         (0x22C, word(most)), (0x230, word(alignment)),
         (0x234, bytes([rng.choice([1, 1, 2, 0xFF]) if is_relocatable else 0])),
+        (0x236, short(rng.choice([1, 1, 1, 3, 0x7F, 0, 2, number(rng, 16)]))),
         (0x238, word(size)), (0x258, long(pref)), (0x260, word(init_size)),
     ]
     for at, value in fields:
         file[at:at + len(value)] = value
-    payload = rng.choice([1, 4, 100, 0x1000, 0x1001, rng.randrange(1, 0x3000)])
+    payload = rng.choice([1, 0x1FF, 0x200, 0x201, 0x400, 0x1000, 0x1001, rng.randrange(1, 0x3000)])
     kernel = bytes(file) + some_bytes(rng, payload)
     if chance(rng, 33):
         for _ in range(rng.choice([1, 1, 2])):

@@ -111,7 +111,8 @@ def prepare(rng: Random) -> str:
         return f"prepare multiboot2 line={told}{words} of {digits(kernel(rng))}"
     disk = f" initrd={some_bytes(rng, length(rng)).hex()}" if chance(rng, 70) else ""
     file = linux_kernels.draw(rng, len(told) // 2)
-    return f"prepare linux line={told}{disk} of {digits(file)}"
+    protocol = rng.choice(["linux", "linux64"])
+    return f"prepare {protocol} line={told}{disk} of {digits(file)}"
 
 
 def menu(rng: Random) -> str:
@@ -119,7 +120,7 @@ def menu(rng: Random) -> str:
     words = []
     for _ in range(rng.choice([1, 1, 2, 3])):
         if chance(rng, 20):
-            words.append("entry=linux:0:")
+            words.append(rng.choice(["entry=linux:0:", "entry=linux64:0:"]))
             continue
         words.append("entry=multiboot2:0:" + rng.choice(["", "", "*1f", "*20"]))
         if chance(rng, 20):

@@ -77,7 +77,7 @@ def entry_with(entry: MenuEntry, files: List[bytes]) -> Entry:
         lines = [line for _, line in entry.modules]
         return Multiboot2Entry(files[0], entry.line, list(zip(files[1:], lines)), entry.rsdp_old,
                                entry.rsdp_new)
-    return LinuxEntry(files[0], entry.line, files[1] if files[1:] else None)
+    return LinuxEntry(files[0], entry.line, files[1] if files[1:] else None, entry.protocol)
 
 
 def attempt(machine: Machine, entry: MenuEntry,

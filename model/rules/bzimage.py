@@ -19,6 +19,9 @@ class Setup(NamedTuple):
     cmdline_size: int
     pref_address: int
     init_size: int
+    version: int
+    xloadflags: int
+    payload_length: int
 
     @property
     def header_end(self) -> int:
@@ -49,6 +52,9 @@ def read(file: bytes) -> Setup:
         cmdline_size=u32(file, 0x238),
         pref_address=u64(file, 0x258),
         init_size=u32(file, 0x260),
+        version=u16(file, 0x206),
+        xloadflags=u16(file, 0x236),
+        payload_length=len(file) - (setup_sects + 1) * 512,
     )
     if setup.header_end < LEAST_HEADER_END or len(file) <= setup.payload_at:
         refuse(25)

@@ -4,7 +4,7 @@ import re
 from typing import Dict, List, NamedTuple, NoReturn, Optional, Tuple
 
 from .entry import is_copy
-from .handover import LINUX, MULTIBOOT2
+from .handover import MULTIBOOT2, PROTOCOL_NAMES
 from .machine import KINDS, Machine, Range, Region, check
 from .refusals import Refused
 
@@ -23,7 +23,7 @@ class BadDescription(Exception):
 
 class MenuEntry(NamedTuple):
     title: str
-    protocol: int  # 1 Multiboot2, 2 Linux
+    protocol: int  # 1 Multiboot2, 2 Linux, 3 the 64-bit entry of Linux
     kernel: str  # the name of a file, or a path
     line: bytes
     modules: List[Tuple[str, bytes]]  # file, line
@@ -105,13 +105,11 @@ def file_in(table: dict) -> Tuple[str, bytes]:
 
 
 def entry_in(table: dict) -> MenuEntry:
-    protocol = text(required(table, "protocol"))
-    if protocol == "multiboot2":
+    protocol = protocol_named(text(required(table, "protocol")))
+    if protocol == MULTIBOOT2:
         only(table, "title", "protocol", "kernel", "line", "module", "rsdp_old", "rsdp_new")
-    elif protocol == "linux":
-        only(table, "title", "protocol", "kernel", "line", "initrd")
     else:
-        bad("protocol")
+        only(table, "title", "protocol", "kernel", "line", "initrd")
     title = text(required(table, "title"))
     if not re.fullmatch("[ -~]{1,64}", title):
         bad("title")
@@ -120,7 +118,7 @@ def entry_in(table: dict) -> MenuEntry:
         bad("number of modules")
     return MenuEntry(
         title=title,
-        protocol=MULTIBOOT2 if protocol == "multiboot2" else LINUX,
+        protocol=protocol,
         kernel=text(required(table, "kernel")),
         line=line_in(table),
         modules=modules,
@@ -128,6 +126,13 @@ def entry_in(table: dict) -> MenuEntry:
         rsdp_old=copy_in(table, "rsdp_old"),
         rsdp_new=copy_in(table, "rsdp_new"),
     )
+
+
+def protocol_named(name: str) -> int:
+    for protocol, word in PROTOCOL_NAMES.items():
+        if word == name:
+            return protocol
+    bad("protocol")
 
 
 def copy_in(table: dict, key: str) -> Optional[bytes]:

@@ -3,7 +3,7 @@
 from typing import List, NamedTuple, Optional, Tuple, Union
 
 from . import linux_entry, multiboot2_entry
-from .handover import Handover
+from .handover import LINUX, Handover
 from .machine import Machine, Range
 from .numbers import frames
 from .places import undisturbed_frames
@@ -25,6 +25,7 @@ class LinuxEntry(NamedTuple):
     kernel: bytes
     line: bytes
     initrd: Optional[bytes]
+    protocol: int = LINUX  # or LINUX64
 
 
 Entry = Union[Multiboot2Entry, LinuxEntry]
@@ -36,23 +37,24 @@ def is_copy(copy: Optional[bytes]) -> bool:
 
 
 def prepare(machine: Machine, entry: Entry) -> Handover:
-    """Steps 4 to 8 of the checks of an entry, whose files are all there; refused with 4 to 20 and
-    22 to 29. The room is not asked for."""
+    """Steps 4 to 9 of the checks of an entry, whose files are all there; refused with 4 to 20 and
+    22 to 30. The room is not asked for."""
     check_lines(entry)
     if isinstance(entry, Multiboot2Entry):
         return multiboot2_entry.prepare(machine, entry.kernel, entry.line, entry.modules,
                                         entry.rsdp_old, entry.rsdp_new)
-    return linux_entry.prepare(machine, entry.kernel, entry.line, entry.initrd)
+    return linux_entry.prepare(machine, entry.kernel, entry.line, entry.initrd,
+                               entry.protocol)
 
 
 def check_room(machine: Machine, parts: List[Range], file_lengths: List[int]) -> None:
-    """Step 9: refused with 21 if the parts leave the pool fewer frames than the files have."""
+    """Step 10: refused with 21 if the parts leave the pool fewer frames than the files have."""
     if undisturbed_frames(machine, parts) < sum(frames(length) for length in file_lengths):
         refuse(21)
 
 
 def hand_over(machine: Machine, entry: Entry) -> Handover:
-    """Steps 4 to 9."""
+    """Steps 4 to 10."""
     handover = prepare(machine, entry)
     ranges = [(part.address, part.address + part.length) for part in handover.parts]
     check_room(machine, ranges, [len(file) for file in files_of(entry)])

@@ -2,13 +2,18 @@
 
 from typing import Dict, List, NamedTuple, Tuple
 
-MULTIBOOT2, LINUX = 1, 2
+MULTIBOOT2, LINUX, LINUX64 = 1, 2, 3
+PROTOCOL_NAMES = {MULTIBOOT2: "multiboot2", LINUX: "linux", LINUX64: "linux64"}
 
-# The registers in the order of the image.
+# The registers in the order of the image: those of 32 bits, and those of the 64-bit entry.
 REGISTERS = ["EIP", "EAX", "EBX", "ECX", "EDX", "ESI", "EDI", "EBP", "ESP", "EFLAGS", "CR0", "CS",
              "DS", "ES", "FS", "GS", "SS", "GDT base", "GDT limit", "A20"]
+WIDE_REGISTERS = ["RIP", "RAX", "RBX", "RCX", "RDX", "RSI", "RDI", "RBP", "RSP",
+                  *[f"R{n}" for n in range(8, 16)], "RFLAGS", "CR0", "CR3", "CR4", "EFER",
+                  *REGISTERS[11:]]
 
-KERNEL, MODULE, INFORMATION, BOOT_PARAMETERS, COMMAND_LINE, GDT, INITRD = range(1, 8)  # roles
+# roles
+KERNEL, MODULE, INFORMATION, BOOT_PARAMETERS, COMMAND_LINE, GDT, INITRD, PAGE_TABLES = range(1, 9)
 
 
 class Part(NamedTuple):
@@ -38,12 +43,20 @@ def part_bytes(part: Part) -> bytes:
     return bytes(data)
 
 
+def names_of(protocol: int) -> List[str]:
+    """The registers that a protocol gives, in the order of the image."""
+    return WIDE_REGISTERS if protocol == LINUX64 else REGISTERS
+
 
 def registers_of(protocol: int) -> Dict[str, int]:
     """The registers, with 0 in those that hold an address."""
-    registers = dict.fromkeys(REGISTERS, 0)
-    registers.update({"EFLAGS": 2, "CR0": 0x11, "CS": 0x10, "DS": 0x18, "ES": 0x18, "FS": 0x18,
-                      "GS": 0x18, "SS": 0x18, "A20": 1})
+    registers = dict.fromkeys(names_of(protocol), 0)
+    registers.update({"CS": 0x10, "DS": 0x18, "ES": 0x18, "FS": 0x18, "GS": 0x18, "SS": 0x18,
+                      "A20": 1})
+    if protocol == LINUX64:
+        registers.update({"RFLAGS": 2, "CR0": 0x80000011, "CR4": 0x20, "EFER": 0x500})
+    else:
+        registers.update({"EFLAGS": 2, "CR0": 0x11})
     if protocol == MULTIBOOT2:
         registers["EAX"] = 0x36D76289
     else:

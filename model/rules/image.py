@@ -2,7 +2,8 @@
 
 from typing import Dict, Iterator, List, NamedTuple, Optional, Tuple
 
-from .handover import LINUX, MULTIBOOT2, REGISTERS, Handover, Part
+from .handover import (INITRD, LINUX64, PAGE_TABLES, PROTOCOL_NAMES, REGISTERS, WIDE_REGISTERS,
+                       Handover, Part)
 from .numbers import long, u32, u64, word
 from .refusals import refuse
 
@@ -10,13 +11,13 @@ MAGIC = b"BLIMAGE\0"
 OLD, WRITTEN = 1, 2  # the versions that are read; the second one is written
 RECORD_SIZE = 24
 MOST_PARTS = 256
-MOST_ROLE = 7
 MOST_ADDRESS = 1 << 32
 MOST_NARROW = 1 << 32
 CHUNK = 1 << 20
 
 # The registers of each version in its order, and the bytes of each. Of version 2 those without a
-# name, R8 to R15, CR3, CR4 and EFER, are not given by the two protocols.
+# name, R8 to R15, CR3, CR4 and EFER, are not given by the two protocols of 32 bits; the 64-bit
+# entry gives all.
 ABSENT = None
 FIELDS: Dict[int, List[Optional[str]]] = {
     OLD: [*REGISTERS],
@@ -26,6 +27,15 @@ WIDTHS = {OLD: 4, WRITTEN: 8}
 # How many bytes stand before the number of parts, and before the records.
 COUNT_AT = {version: 16 + WIDTHS[version] * len(FIELDS[version]) for version in FIELDS}
 HEADS = {version: COUNT_AT[version] + 8 for version in FIELDS}
+
+
+def fields_of(version: int, protocol: int) -> List[Optional[str]]:
+    """The 64-bit entry stands in version 2 alone."""
+    return [*WIDE_REGISTERS] if protocol == LINUX64 else FIELDS[version]
+
+
+def protocols_of(version: int) -> List[int]:
+    return [protocol for protocol in PROTOCOL_NAMES if version == WRITTEN or protocol != LINUX64]
 
 
 class ImagePart(NamedTuple):
@@ -47,7 +57,7 @@ class Image(NamedTuple):
 def chunks(handover: Handover, version: int = WRITTEN) -> Iterator[bytes]:
     """The image's bytes, in some pieces that follow each other."""
     yield MAGIC + word(version) + word(handover.protocol)
-    for name in FIELDS[version]:
+    for name in fields_of(version, handover.protocol):
         value = 0 if name is ABSENT else handover.registers[name]
         yield value.to_bytes(WIDTHS[version], "little")
     yield word(len(handover.parts)) + word(0)
@@ -116,15 +126,15 @@ def read(data: bytes) -> Image:
     if version not in FIELDS:
         refuse(72)
     protocol = reader.u32()
-    if protocol not in (MULTIBOOT2, LINUX):
+    if protocol not in protocols_of(version):
         refuse(73)
-    registers = read_registers(reader, version)
+    registers = read_registers(reader, version, protocol)
     count = reader.u32()
     if count > MOST_PARTS:
         refuse(73)
     if reader.u32() != 0:
         refuse(73)
-    records = read_records(reader, count)
+    records = read_records(reader, count, PAGE_TABLES if protocol == LINUX64 else INITRD)
     parts = [ImagePart(role, index, address, reader.bytes(length))
              for role, index, address, length in records]
     if reader.at < len(data):
@@ -132,8 +142,11 @@ def read(data: bytes) -> Image:
     return Image(protocol, registers, parts)
 
 
-def read_registers(reader: Reader, version: int) -> Dict[str, int]:
-    """The registers that the protocols give: of 32 bits, whatever their width in the image."""
+def read_registers(reader: Reader, version: int, protocol: int) -> Dict[str, int]:
+    """The registers that the protocol gives: of 32 bits, whatever their width in the image, or any
+    numbers of 64 bits."""
+    if protocol == LINUX64:
+        return {name: reader.u64() for name in WIDE_REGISTERS}
     if version == OLD:
         return {name: reader.u32() for name in REGISTERS}
     registers = {}
@@ -146,13 +159,13 @@ def read_registers(reader: Reader, version: int) -> Dict[str, int]:
     return registers
 
 
-def read_records(reader: Reader, count: int) -> List[Tuple[int, int, int, int]]:
+def read_records(reader: Reader, count: int, most_role: int) -> List[Tuple[int, int, int, int]]:
     """Role, index, address and length of each part."""
     records = []
     end = 0
     for i in range(count):
         role = reader.u32()
-        if not 1 <= role <= MOST_ROLE:
+        if not 1 <= role <= most_role:
             refuse(74, i)
         index = reader.u32()
         address = reader.u64()

@@ -2,9 +2,9 @@
 
 from typing import Optional
 
-from . import boot_params, bzimage
-from .handover import (BOOT_PARAMETERS, COMMAND_LINE, GDT, INITRD, KERNEL, LINUX, Handover, Part,
-                       in_order, registers_of)
+from . import boot_params, bzimage, linux64, paging
+from .handover import (BOOT_PARAMETERS, COMMAND_LINE, GDT, INITRD, KERNEL, LINUX, LINUX64, Handover,
+                       Part, in_order, registers_of)
 from .machine import Machine, normal_map
 from .numbers import FRAME, frames
 from .places import GIB4, MIB, Planner
@@ -13,10 +13,13 @@ from .refusals import refuse
 LINE_LIMIT = 0xA0000
 
 
-def prepare(machine: Machine, kernel_file: bytes, line: bytes,
-            initrd: Optional[bytes]) -> Handover:
-    """Steps 5 to 8; an initrd of no byte is as none."""
+def prepare(machine: Machine, kernel_file: bytes, line: bytes, initrd: Optional[bytes],
+            protocol: int = LINUX) -> Handover:
+    """Steps 5 to 9, of the 32-bit entry or of the 64-bit one; an initrd of no byte is as none."""
+    is_wide = protocol == LINUX64
     setup = bzimage.read(kernel_file)
+    if is_wide:
+        linux64.check_entry(setup)
     runs = normal_map(machine.regions)
     if setup.cmdline_size < len(line):
         refuse(27)
@@ -28,6 +31,7 @@ def prepare(machine: Machine, kernel_file: bytes, line: bytes,
     params_at = planner.lowest(FRAME, FRAME, 0x1000, GIB4)
     line_at = planner.lowest(FRAME, FRAME, 0x1000, LINE_LIMIT)
     gdt_at = planner.lowest(FRAME, FRAME, 0x1000, GIB4)
+    tables = linux64.page_tables(planner) if is_wide else None
     disk = initrd or b""
     disk_at, disk_length = 0, frames(len(disk)) * FRAME
     if disk:
@@ -38,13 +42,17 @@ def prepare(machine: Machine, kernel_file: bytes, line: bytes,
         kernel,
         Part(BOOT_PARAMETERS, 0, params_at, FRAME, [(0, params)]),
         Part(COMMAND_LINE, 0, line_at, FRAME, [(0, line)]),
-        Part(GDT, 0, gdt_at, FRAME, [(0, boot_params.gdt())]),
+        Part(GDT, 0, gdt_at, FRAME, [(0, paging.gdt64() if is_wide else boot_params.gdt())]),
     ]
     if disk:
         parts.append(Part(INITRD, 0, disk_at, disk_length, [(0, disk)]))
-    registers = {**registers_of(LINUX), "EIP": kernel.address, "ESI": params_at,
-                 "GDT base": gdt_at}
-    return Handover(LINUX, registers, in_order(parts))
+    if tables is not None:
+        parts.append(tables)
+        registers = linux64.registers(kernel.address, params_at, gdt_at, tables.address)
+    else:
+        registers = {**registers_of(LINUX), "EIP": kernel.address, "ESI": params_at,
+                     "GDT base": gdt_at}
+    return Handover(protocol, registers, in_order(parts))
 
 
 def linux_kernel(planner: Planner, setup: bzimage.Setup, payload: bytes) -> Part:

@@ -30,7 +30,7 @@ def read_kernel(file: bytes) -> Tuple[multiboot2.Header, List[Segment], int]:
 def prepare(machine: Machine, kernel: bytes, line: bytes,
             modules: List[Tuple[bytes, bytes]], rsdp_old: Optional[bytes],
             rsdp_new: Optional[bytes]) -> Handover:
-    """Steps 5 to 8; a module is its file and its line. The copies are told as they stand."""
+    """Steps 5 to 9; a module is its file and its line. The copies are told as they stand."""
     header, segments, entered = read_kernel(kernel)
     planner = Planner(machine)
     if header.relocation is None:

@@ -10,7 +10,7 @@ NAMES = {
     11: "NotElf", 12: "BadElf", 13: "SegmentCut", 14: "AddressTooHigh", 15: "SegmentsOverlap",
     16: "NoEntry", 17: "EntryOutside", 18: "BadAlign", 19: "NotUsable", 20: "NoRoom", 21: "NoPool",
     22: "NotBzImage", 23: "OldProtocol", 24: "NotHigh", 25: "SetupCut", 26: "BadPreferred",
-    27: "LineTooLong", 28: "LineHasNul", 29: "MapTooLong",
+    27: "LineTooLong", 28: "LineHasNul", 29: "MapTooLong", 30: "No64Entry",
     40: "NoEntryLeft", 41: "NoMemory", 51: "BadIndex", 52: "TooMany",
     61: "WrongLength", 62: "BadReserved", 63: "BadTag", 64: "BadOrder", 66: "WrongLength",
     67: "BadParams",

@@ -5,9 +5,9 @@ Of several faults any may be told, so `faults` gives all that stand.
 
 from typing import List, NamedTuple, Optional, Set, Tuple
 
-from . import boot_params, information
+from . import boot_params, information, paging
 from .boot_params import Params
-from .handover import KERNEL, LINUX, MULTIBOOT2, registers_of
+from .handover import KERNEL, LINUX, LINUX64, MULTIBOOT2, PROTOCOL_NAMES, registers_of
 from .image import Image
 from .information import Information
 from .machine import Run
@@ -15,7 +15,8 @@ from .numbers import u32
 from .refusals import Refused, refuse
 
 OUTSIDE, BAD_INFO, BAD_STATE = 81, 82, 83
-ADDRESSES = {MULTIBOOT2: ["EIP", "EBX"], LINUX: ["EIP", "ESI", "GDT base"]}
+ADDRESSES = {MULTIBOOT2: ["EIP", "EBX"], LINUX: ["EIP", "ESI", "GDT base"],
+             LINUX64: ["RIP", "RSI", "GDT base", "CR3"]}
 
 
 class SeenModule(NamedTuple):
@@ -43,6 +44,8 @@ def faults(image: Image) -> Set[int]:
         checks += [modules_of]
     else:
         checks += [check_descriptors, line_of, initrd_of]
+    if image.protocol == LINUX64:
+        checks += [check_page_tables]
     found = set()
     for check in checks:
         try:
@@ -54,14 +57,14 @@ def faults(image: Image) -> Set[int]:
 
 def see(image: Image) -> Seen:
     """What a kernel sees in an image without faults."""
-    entry = image.registers["EIP"]
+    entry = entry_of(image)
     kernel = [(p.address, len(p.data)) for p in image.parts if p.role == KERNEL]
     if image.protocol == MULTIBOOT2:
         told = information_of(image)
         return Seen(MULTIBOOT2, entry, told.line, kernel, modules_of(image), None, told.runs,
                     told.old_rsdp, told.new_rsdp)
     runs = params_of(image).runs
-    return Seen(LINUX, entry, line_of(image), kernel, [], initrd_of(image), runs)
+    return Seen(image.protocol, entry, line_of(image), kernel, [], initrd_of(image), runs)
 
 
 # ---- the registers and what they lead to
@@ -74,8 +77,12 @@ def check_registers(image: Image) -> None:
             refuse(BAD_STATE)
 
 
+def entry_of(image: Image) -> int:
+    return image.registers[ADDRESSES[image.protocol][0]]
+
+
 def check_entry(image: Image) -> None:
-    entry = image.registers["EIP"]
+    entry = entry_of(image)
     if not any(p.role == KERNEL and p.address <= entry < p.address + len(p.data)
                for p in image.parts):
         refuse(OUTSIDE)
@@ -83,7 +90,15 @@ def check_entry(image: Image) -> None:
 
 def check_descriptors(image: Image) -> None:
     """A Linux kernel's GDT."""
-    if follow(image, image.registers["GDT base"], 32) != boot_params.gdt():
+    wanted = paging.gdt64() if image.protocol == LINUX64 else boot_params.gdt()
+    if follow(image, image.registers["GDT base"], 32) != wanted:
+        refuse(BAD_STATE)
+
+
+def check_page_tables(image: Image) -> None:
+    """By those of the 64-bit entry each page below 4 GiB leads to itself."""
+    base = image.registers["CR3"]
+    if not paging.is_identity(follow(image, base, paging.LENGTH), base):
         refuse(BAD_STATE)
 
 
@@ -117,8 +132,9 @@ def modules_of(image: Image) -> List[SeenModule]:
 
 
 def params_of(image: Image) -> Params:
-    """The boot parameters at ESI."""
-    data = follow(image, image.registers["ESI"], boot_params.LENGTH)
+    """The boot parameters at ESI or RSI."""
+    at = image.registers[ADDRESSES[image.protocol][1]]
+    data = follow(image, at, boot_params.LENGTH)
     try:
         return boot_params.read(data)
     except Refused:
@@ -149,7 +165,7 @@ def line_of(image: Image) -> bytes:
 
 
 def lines(seen: Seen) -> List[str]:
-    said = ["protocol " + ("multiboot2" if seen.protocol == MULTIBOOT2 else "linux"),
+    said = ["protocol " + PROTOCOL_NAMES[seen.protocol],
             f"entry {seen.entry:08x}",
             f"line {text_word(seen.line)}"]
     said += [f"kernel {address:08x} {length}" for address, length in seen.kernel]
