@@ -6,6 +6,9 @@
 #   cp /boot/vmlinuz-* vmlinuz; cp /boot/initrd.img-* initrd.img       # if there is one of each
 #   PATH-OF-THIS-REPOSITORY/examples/linux.sh
 #
+# By the kernel's 64-bit entry, and if it has none by the 32-bit one, it is booted by
+#   PATH-OF-THIS-REPOSITORY/examples/linux.sh linux64
+#
 # Here is where a user has them. Some can be read by root alone:
 #   Debian, Ubuntu   /boot/vmlinuz-VERSION    /boot/initrd.img-VERSION
 #   Fedora, RHEL     /boot/vmlinuz-VERSION    /boot/initramfs-VERSION.img
@@ -21,7 +24,8 @@
 # makes one of a folder's files:
 #   (cd FOLDER && find . | cpio -o -H newc) | gzip > initrd.img
 #
-# It prints `booted 0 Linux`. What the kernel sees then, this prints:
+# It prints `booted 0 Linux`, by the 64-bit entry `booted 0 Linux, 64-bit entry`. What the kernel
+# sees then, this prints:
 #   PATH-OF-THIS-REPOSITORY/bootcore walk linux.image
 #
 # docs/FORMATS.md says what linux.image holds. This shows the fields of the kernel's setup header:
@@ -37,4 +41,4 @@ for file in vmlinuz initrd.img; do
         exit 1
     fi
 done
-exec "${BOOTCORE:-$top/bootcore}" boot "$top/examples/linux.toml" --out linux.image
+exec "${BOOTCORE:-$top/bootcore}" boot "$top/examples/${1:-linux}.toml" --out linux.image
