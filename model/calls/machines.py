@@ -110,8 +110,8 @@ def numbers(table, line):
     if line.words:
         raise BadRow
     return ("kinds Usable 1 Reserved 2 Acpi 3 Nvs 4 Bad 5; "
-            "roles Kernel 1 Module 2 Information 3 BootParams 4 CommandLine 5 Gdt 6 Initrd 7; "
-            "protocols Multiboot2 1 Linux 2")
+            "roles Kernel 1 Module 2 Information 3 BootParams 4 CommandLine 5 Gdt 6 Initrd 7 "
+            "PageTables 8; protocols Multiboot2 1 Linux 2 Linux64 3")
 
 
 CALLS = {
