@@ -68,7 +68,7 @@ beside() {
 
 plain=(./plain_walker image)
 proved=("$bootcore" walk image)
-beside walk 2.5
+beside walk 1.1
 
 plain=(./plain_converter image plain.image)
 proved=("$bootcore" convert image --out new.image)

@@ -74,6 +74,7 @@ class Names(Dict[str, bytes]):
                 data = data.ljust(number(word[1:]), b"\0")
             elif word[:1] == "@":
                 offset, _, rest = word[1:].partition("=")
+                demand("*" not in rest)
                 at, over = number(offset), self.piece(rest)
                 demand(at + len(over) <= len(data))
                 data = data[:at] + over + data[at + len(over):]

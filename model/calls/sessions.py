@@ -1,7 +1,7 @@
 """run, session: the calls of bl_session on whole boots."""
 
 from functools import lru_cache
-from typing import List
+from typing import List, Optional
 
 from language import ByHand, demand, number, numbers, single, spell, steps
 from rules import stores
@@ -109,6 +109,18 @@ def memory_in(session: Session, at: int, length: int) -> str:
     return spell(memory.read(at, length))
 
 
+def request_text(session: Session, after: Optional[Ticket]) -> str:
+    """The first piece that is awaited, or the first one after that of a ticket of any attempt."""
+    if session.state != "waiting":
+        return "none"
+    for file, index in session.missing():
+        if after is None or (file, index) > after[1:]:
+            return "file %x ticket %x.%x.%x length %x" % (
+                session.entry().files()[file], session.attempt, file, index,
+                session.piece_size(file, index))
+    return "none"
+
+
 def is_event(words: List[str]) -> bool:
     return words[0] in ("start", "piece", "fault")
 
@@ -128,6 +140,11 @@ def told(table, session: Session, words: List[str]) -> Answer:
     if name == "read":
         demand(len(rest) == 2)
         return memory_in(session, number(rest[0]), number(rest[1]))
+    if name == "missing":
+        demand(len(rest) < 2)
+        return request_text(session, read_ticket(rest[0]) if rest else None)
+    if words == ["waiting"]:
+        return "yes" if session.state == "waiting" else "no"
     demand(words in (["outcome"], ["outside"]))
     return outcome_text(session) if name == "outcome" else outside(session.machine)
 
@@ -178,7 +195,8 @@ def is_told_out(words: List[str], part: str, boot: Session) -> bool:
         at, length = number(words[1]), number(words[2])
         start, end = boot.machine.pool
         return max(at, start) < min(at + length, end) or part == spell(bytes([FILL]) * length)
-    return part == {"start": "failed", "outcome": NO_MEMORY, "outside": KEPT}[words[0]]
+    return part == {"start": "failed", "waiting": "no", "missing": "none", "outcome": NO_MEMORY,
+                    "outside": KEPT}[words[0]]
 
 
 CALLS = {

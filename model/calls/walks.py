@@ -71,6 +71,7 @@ def walked_texts(before: Before, data: bytes) -> List[str]:
 
 
 def walk_to(table, line):
+    demand([word.partition("=")[0] for word in line.words[:2]] == ["said", "blamed"])
     before = Before(table, line, "said", "blamed", "step", "fail")
     source, told = Source(before.named), one_of(walked_texts(before, line.data))
     if not source.fail:
@@ -80,7 +81,8 @@ def walk_to(table, line):
 
 
 def walks_to(table, line):
-    before = Before(table, line, "said", "blamed", "step", "fails")
+    demand(line.words[:1] != [] and line.words[0].startswith("fails="))
+    before = Before(table, line, "step", "fails")
     source, needed = Source(before.named), needed_of(line.data)
     first, end = pair(single(before.named, "fails"), "..")
     told, broken = one_of(walked_texts(before, line.data)), before.text(3, "", "", 1)

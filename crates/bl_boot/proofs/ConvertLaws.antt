@@ -1,5 +1,5 @@
 -- A converted image is walked as its source is.
-use Rattle.std.proofs.Common.{◌≡◌, ℕ, List, Some, Ok, inl, inr, refl, sym, ap, ◌∙◌}
+use Rattle.std.proofs.Common.{◌≡◌, ℕ, List, Some, inl, inr, refl, sym, ap, ◌∙◌}
 use Rattle.std.proofs.Common.{subst}
 use Rattle.std.proofs.lemmas.List.{append_cancel_left}
 use Rattle.bl_load.specs.Handover.{Handover}
@@ -10,26 +10,26 @@ use Rattle.bl_image.specs.ImageParts.{IsImage}
 use Rattle.bl_image.specs.Source.{Input, IsOfTheMoment}
 use Rattle.bl_image.specs.Versions.{written_version}
 use Rattle.bl_image.proofs.ImageLaws.{image_not_refused}
-use Rattle.bl_image.proofs.KnownLemmas.{known_by}
+use Rattle.bl_image.proofs.KnownLemmas.{known_ok}
 use Rattle.bl_image.proofs.ReadAgain.{image_is_read_again}
-use Rattle.bl_walk.specs.Faults.{HasFault, IsSound}
+use Rattle.bl_walk.specs.Faults.{HasWalkFault, IsSound}
 use Rattle.bl_walk.specs.Seen.{IsSeen}
 use Rattle.bl_walk.specs.declared.fault.WalkFault.{WalkFault}
 use Rattle.bl_walk.specs.declared.fault.WalkFault.TheVariants as walking
 use Rattle.bl_walk.proofs.SeenLaws.{seen_is_determined}
 use Rattle.bl_boot.specs.Converted.{Converts, Walks, WalkRefuses}
-use Rattle.bl_boot.specs.Walked.{IsRead, IsBadImage}
+use Rattle.bl_boot.specs.Walked.{ReadsImage, IsBadImage}
 use Rattle.bl_boot.specs.WalkSays.{walk_lines}
 
 -- what was read of bytes that are known is an image of them
 is_image : (before after : Input) (h : Handover) (bytes : List ℕ) → before.rest ≡ Some bytes
-    → IsRead before after h → (version : Version) × IsImage version bytes h
+    → ReadsImage before after h → (version : Version) × IsImage version bytes h
 is_image before after h bytes e read =
-    known_by (Ok h) before after (read.version, read.has, read.came) read.ended read.kept tt bytes e
+    known_ok h before after (read.version, read.has, read.came) read.ended read.kept bytes e
 
 -- and the one that they are an image of
 read_same : (before after : Input) (h k : Handover) (bytes : List ℕ) (version : Version)
-    → before.rest ≡ Some bytes → IsRead before after k → IsImage version bytes h → k ≡ h
+    → before.rest ≡ Some bytes → ReadsImage before after k → IsImage version bytes h → k ≡ h
 read_same before after h k bytes version e read is =
     let other = is_image before after k bytes e read in
     (image_is_read_again other.0 version k h other.1.kept.spellable is.kept.spellable
@@ -45,7 +45,7 @@ of_the_bytes image.WrongLength moment device memory = absurd moment
 of_the_bytes image.DeviceFault moment device memory = absurd (device refl)
 of_the_bytes image.NoMemory moment device memory = absurd (memory refl)
 
-sound_has_none : (h : Handover) (fault : WalkFault) → IsSound h → HasFault h fault
+sound_has_none : (h : Handover) (fault : WalkFault) → IsSound h → HasWalkFault h fault
     → (fault ≡ walking.NoMemory → ⊥) → ⊥
 sound_has_none h walking.OutsideImage sound stands memory = sound.inside stands
 sound_has_none h walking.BadInfo sound stands memory = sound.info stands
@@ -63,7 +63,7 @@ not_bad before after h bytes version number e is sound (inl none) =
 not_bad before after h bytes version number e is sound (inr nothing) =
     let same = read_same before after h nothing.handover bytes version e nothing.read is in
     sound_has_none h nothing.fault sound
-    (subst (λ (k : Handover). HasFault k nothing.fault) same nothing.stands) nothing.no_memory
+    (subst (λ (k : Handover). HasWalkFault k nothing.fault) same nothing.stands) nothing.no_memory
 
 module _ (source converted : List ℕ) (c : Converts source converted) where
   abbrev h : Handover

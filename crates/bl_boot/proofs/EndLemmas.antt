@@ -16,11 +16,12 @@ use Rattle.bl_session.specs.Phases.{boot_facts}
 use Rattle.bl_desc.specs.declared.desc.Description.{Description}
 use Rattle.bl_desc.specs.Described.{Described, described, file_named}
 use Rattle.bl_desc.specs.Views.{view}
-use Rattle.bl_boot.specs.declared.booting.fault.End.{End}
-use Rattle.bl_boot.specs.declared.booting.fault.End.TheVariants.{Booted, NoEntryLeft}
-use Rattle.bl_boot.specs.declared.booting.fault.EndFault.{EndFault}
-use Rattle.bl_boot.specs.declared.booting.fault.EndFault.TheVariants.{BadDescription, Device}
-use Rattle.bl_boot.specs.declared.booting.fault.EndFault.TheVariants.{NoMemory}
+use Rattle.bl_boot.specs.declared.description_boot.boot_end.End.{End}
+use Rattle.bl_boot.specs.declared.description_boot.boot_end.End.TheVariants.{Booted, NoEntryLeft}
+use Rattle.bl_boot.specs.declared.description_boot.boot_end.EndFault.{EndFault}
+use Rattle.bl_boot.specs.declared.description_boot.boot_end.EndFault.TheVariants.{BadDescription}
+use Rattle.bl_boot.specs.declared.description_boot.boot_end.EndFault.TheVariants.{Device}
+use Rattle.bl_boot.specs.declared.description_boot.boot_end.EndFault.TheVariants.{NoMemory}
 use Rattle.bl_session.specs.Stores.{file_of, stored_files}
 use Rattle.bl_boot.specs.Found.{AreFound, AsksFirst, names_asked}
 use Rattle.bl_boot.specs.Attempted.{names_in, menu_of, boot_of}

@@ -16,7 +16,7 @@ use Rattle.bl_desc.specs.declared.form.ModuleRow.{ModuleRow}
 use Rattle.bl_desc.specs.Views.{HasMenu, entry_view, form_view, module_view, view}
 use Rattle.bl_session.specs.Attempts.{once_by}
 use Rattle.bl_boot.specs.Attempted.{entry_of, file_names, names_beside, names_in}
-use Rattle.bl_boot.specs.Attempted.{no_entry}
+use Rattle.bl_boot.specs.Attempted.{absent_entry}
 use Rattle.bl_boot.specs.Kept.{names_with}
 
 -- names as they are kept
@@ -89,7 +89,7 @@ few_files : {A : Type 0} (row : EntryRow A) → length (file_names (entry_view r
 few_files row = let few = few_beside row.form in omega (arith, few)
 
 few_at : {A : Type 0} (rows : List (EntryRow A)) (index : ℕ)
-    → length (file_names (get_or (map entry_view rows) index no_entry)) ≤ 65
+    → length (file_names (get_or (map entry_view rows) index absent_entry)) ≤ 65
 few_at [] index = omega arith
 few_at (row ∷ rows) zero = few_files row
 few_at (row ∷ rows) (suc index) = few_at rows index

@@ -4,7 +4,7 @@ use Rattle.std.proofs.Common.{subst, arith, inl, inr}
 use Rattle.std.proofs.lemmas.Bool.{cases_lt}
 use Rattle.std.proofs.lemmas.List.Elements.{All-cons, All-head, All-weaker}
 use Rattle.bl_map.specs.declared.region.Region.{Region}
-use Rattle.bl_map.specs.Kinds.{AreRuns, ComesBefore, end_of, kind_at, kind_number}
+use Rattle.bl_map.specs.Kinds.{AreRuns, ComesBefore, region_end, kind_at, kind_number}
 use Rattle.bl_map.specs.MachineFacts.{AreMachineFacts, IsPool, IsSize, MachineFacts}
 use Rattle.bl_map.proofs.EdgeLemmas.{edges_above, edges_fall, edges_fall_once, edges_most}
 use Rattle.bl_map.proofs.KindLemmas.{kind_not_held, none_before, not_held_behind, number_positive}
@@ -12,33 +12,34 @@ use Rattle.bl_map.proofs.MapLaws.{fewer_runs, kind_in, later_runs, same_kind}
 use Rattle.bl_desc.specs.Described.{Described}
 use Rattle.bl_boot.specs.Ends.{IsMachineOf}
 
-later_bases : (x : Region) (xs : List Region) → AreRuns (x ∷ xs) → All (λ r. end_of x ≤ r.base) xs
+later_bases : (x : Region) (xs : List Region) → AreRuns (x ∷ xs)
+    → All (λ r. region_end x ≤ r.base) xs
 later_bases x xs runs =
-    All-weaker (ComesBefore x) (λ r. end_of x ≤ r.base) (λ r h. h.0) xs (later_runs x xs runs)
+    All-weaker (ComesBefore x) (λ r. region_end x ≤ r.base) (λ r h. h.0) xs (later_runs x xs runs)
 
 -- at its end a run's kind is over
 other_behind : (x : Region) (xs : List Region) → AreRuns (x ∷ xs)
-    → kind_at xs (end_of x) ≢ kind_number x.kind
+    → kind_at xs (region_end x) ≢ kind_number x.kind
 other_behind x [] runs same = let p = number_positive x.kind in absurd (omega (arith, same))
 other_behind x (y ∷ ys) runs same =
     let next = All-head (ComesBefore x) y ys (later_runs x (y ∷ ys) runs) in
     let rest = fewer_runs x (y ∷ ys) runs in
     let filled = All-head (λ run. 1 ≤ run.length) y ys rest.filled in
-    elim (cases_lt (end_of x) y.base) [
+    elim (cases_lt (region_end x) y.base) [
       | inl gap ↦
           let p = number_positive x.kind in
           let bases =
           All-cons (λ r. y.base ≤ r.base) y ys (omega arith)
-          (All-weaker (λ r. end_of y ≤ r.base) (λ r. y.base ≤ r.base) (λ r h. omega arith) ys
+          (All-weaker (λ r. region_end y ≤ r.base) (λ r. y.base ≤ r.base) (λ r h. omega arith) ys
           (later_bases y ys rest)) in
           absurd
-          (omega (arith, sym (none_before (y ∷ ys) y.base (end_of x) bases gap) ∙ same))
+          (omega (arith, sym (none_before (y ∷ ys) y.base (region_end x) bases gap) ∙ same))
       | inr none ↦
-          let adjoins : end_of x ≡ y.base = omega (arith, next.0) in
+          let adjoins : region_end x ≡ y.base = omega (arith, next.0) in
           next.1 adjoins
           (sym
           (same_kind y.kind x.kind
-          (sym (kind_in y ys (end_of x) rest none (omega arith)) ∙ same)))
+          (sym (kind_in y ys (region_end x) rest none (omega arith)) ∙ same)))
     ]
 
 -- from an address on, runs are at most as many as the ends of regions above it, since the kind
@@ -48,7 +49,7 @@ few_runs : (regions runs : List Region) (at : ℕ) → AreRuns runs
     → All (λ run. at ≤ run.base) runs → length runs ≤ edges_above regions at
 few_runs regions [] at runs same from = omega arith
 few_runs regions (x ∷ xs) at runs same from =
-    let end = end_of x in
+    let end = region_end x in
     let filled = All-head (λ run. 1 ≤ run.length) x xs runs.filled in
     let here : at ≤ x.base = All-head (λ run. at ≤ run.base) x xs from in
     let behind : (a : ℕ) → end ≤ a → kind_at (x ∷ xs) a ≡ kind_at xs a =

@@ -43,11 +43,11 @@ abbrev pub attempted : Described → List ℕ
 attempted description = attempts_of description.default description.fallbacks
 
 -- what is read after the last entry
-abbrev pub no_entry : Entry
-no_entry = record { title = []; kernel = []; line = []; form = bare_form Multiboot2 }
+abbrev pub absent_entry : Entry
+absent_entry = record { title = []; kernel = []; line = []; form = bare_form Multiboot2 }
 
 abbrev pub entry_of : Described → ℕ → Entry
-entry_of description index = slice_index_or description.entries index no_entry
+entry_of description index = slice_index_or description.entries index absent_entry
 
 -- the names of the files of these entries, by their index, in order, one that was named before left
 -- out

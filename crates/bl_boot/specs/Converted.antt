@@ -1,23 +1,23 @@
 -- How a conversion of an image ends. Own.
 use Rattle.std.specs.Prelude.{◌≡◌, ◌+◌, ◌⊎◌, ℕ, List, ◌++◌, Some}
 use Rattle.bl_load.specs.Handover.{Handover}
-use Rattle.bl_image.specs.Begun.{IsBegun}
+use Rattle.bl_image.specs.Begun.{TookBeginning}
 use Rattle.bl_image.specs.Image.{spelling}
 use Rattle.bl_image.specs.Source.{Input}
 use Rattle.bl_image.specs.Versions.{written_version}
-use Rattle.bl_boot.specs.Walked.{IsRead, IsWalked, IsNoImage, IsBadImage, bad_image_line}
+use Rattle.bl_boot.specs.Walked.{ReadsImage, IsWalked, IsNoImage, IsBadImage, bad_image_line}
 
 -- the image of a handover came, and the sink took it in the version that is written
 pub record IsConverted (before after : Input) (old new : List ℕ) : Type 0 where
   pub handover : Handover
-  pub read : IsRead before after handover
+  pub read : ReadsImage before after handover
   pub written : new ≡ old ++ spelling written_version handover
 
 -- the same, but the sink took a beginning
 pub record IsTorn (before after : Input) (old new : List ℕ) : Type 0 where
   pub handover : Handover
-  pub read : IsRead before after handover
-  pub begun : IsBegun old new (spelling written_version handover)
+  pub read : ReadsImage before after handover
+  pub begun : TookBeginning old new (spelling written_version handover)
 
 -- what came is no image, and that was said
 pub record IsUnreadable (before after : Input) (blamed_before blamed_after : List ℕ) : Type 0 where

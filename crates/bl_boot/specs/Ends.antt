@@ -2,15 +2,15 @@
 use Rattle.std.specs.Prelude.{◌≡◌, ◌≢◌, ◌⊎◌, ℕ, List, [], ◌++◌, Option, Some, None, IsSome}
 use Rattle.std.specs.Prelude.{All}
 use Rattle.bl_map.specs.MachineFacts.{MachineFacts}
-use Rattle.bl_map.specs.Faults.{HasFirstFault, IsAccepted}
+use Rattle.bl_map.specs.Faults.{HasFirstMapFault, IsAccepted}
 use Rattle.bl_map.specs.Kinds.{IsNormalMap}
 use Rattle.bl_map.specs.declared.fault.MapFault.{MapFault}
 use Rattle.bl_map.specs.declared.fault.MapFault.TheVariants as map_fault
 use Rattle.bl_load.specs.Offered.{IsOffered}
 use Rattle.bl_load.specs.Handover.{Handover}
-use Rattle.bl_image.specs.Begun.{IsBegun}
+use Rattle.bl_image.specs.Begun.{TookBeginning}
 use Rattle.bl_image.specs.Image.{spelling}
-use Rattle.bl_image.specs.ImageParts.{IsKept}
+use Rattle.bl_image.specs.ImageParts.{IsKeptByImages}
 use Rattle.bl_image.specs.Versions.{written_version}
 use Rattle.bl_desc.specs.Described.{Described, described, file_named}
 use Rattle.bl_boot.specs.Found.{AreFound, names_asked}
@@ -35,7 +35,7 @@ pub record IsMachineOf (description : Described) (facts : MachineFacts) : Type 0
 pub record IsBadMachine (description : Described) : Type 0 where
   pub fault : MapFault
   pub named : fault ≢ map_fault.NoMemory
-  pub first : HasFirstFault description.size description.regions description.pool fault
+  pub first : HasFirstMapFault description.size description.regions description.pool fault
 
 -- the bytes describe nothing, or no machine
 abbrev pub IsBadDescription : List ℕ → Type 0
@@ -81,7 +81,7 @@ module _ {F : Type 0} (answers : F → List ℕ → File → Type 0) (faults : F
     pub outcome : ComesTo case (handed_over entry earlier handover)
     pub offered : IsOffered (value_in (boot_of case.description case.facts case.files)
         case.files entry)
-    pub kept : IsKept handover
+    pub kept : IsKeptByImages handover
     pub image : after.sink ≡ before.sink ++ spelling written_version handover
     pub said : after.said ≡ before.said
         ++ (refused_lines earlier ++ booted_line entry (entry_of case.description entry).title)
@@ -101,7 +101,7 @@ module _ {F : Type 0} (answers : F → List ℕ → File → Type 0) (faults : F
     pub earlier : List RefusedEntry
     pub handover : Handover
     pub outcome : ComesTo case (handed_over entry earlier handover)
-    pub begun : IsBegun before.sink after.sink (spelling written_version handover)
+    pub begun : TookBeginning before.sink after.sink (spelling written_version handover)
     pub unsaid : after.said ≡ before.said
 
 -- the bytes describe a menu; each file of the entries that are attempted stands in the description

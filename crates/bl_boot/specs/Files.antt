@@ -51,7 +51,7 @@ pub record MemFilesFacts : Type 0 where
 -- ---- what the code keeps
 
 -- a file that stands there was read whole, or not at all where it is longer than a limit
-abbrev pub IsRead : {A : Type 0} → ℕ → Fetched A → Type 0
-IsRead limit fetched.Missing = ⊥
-IsRead limit (fetched.TooLong n) = limit < n
-IsRead limit (fetched.Bytes file) = length file ≤ limit
+abbrev pub IsReadWhole : {A : Type 0} → ℕ → Fetched A → Type 0
+IsReadWhole limit fetched.Missing = ⊥
+IsReadWhole limit (fetched.TooLong n) = limit < n
+IsReadWhole limit (fetched.Bytes file) = length file ≤ limit

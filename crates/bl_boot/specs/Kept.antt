@@ -1,12 +1,12 @@
 -- What the code keeps of how a call ends, by its result. Own.
 use Rattle.std.specs.Prelude.{◌≡◌, ℕ, ◌+◌, ◌++◌, List, Result, Ok, Err}
 use Rattle.std.specs.Str.{bytes_eq}
-use Rattle.bl_image.specs.Begun.{IsBegun}
+use Rattle.bl_image.specs.Begun.{TookBeginning}
 use Rattle.bl_desc.specs.Described.{Described}
 use Rattle.bl_desc.specs.declared.fault.DescFault.{DescFault}
 use Rattle.bl_desc.specs.declared.fault.DescFault.TheVariants as desc_fault
 use Rattle.bl_image.specs.Image.{spelling}
-use Rattle.bl_image.specs.ImageParts.{IsKept}
+use Rattle.bl_image.specs.ImageParts.{IsKeptByImages}
 use Rattle.bl_image.specs.Versions.{written_version}
 use Rattle.bl_load.specs.Handover.{Handover}
 use Rattle.bl_session.specs.declared.words.RefusedEntry.{RefusedEntry}
@@ -19,16 +19,17 @@ use Rattle.bl_boot.specs.Says.{booted_line, refused_lines, no_entry_line}
 use Rattle.bl_boot.specs.Ends.{IsBadMachine, IsBadDescription, IsBooted, IsRefused, IsBroken}
 use Rattle.bl_boot.specs.Ends.{Surroundings}
 use Rattle.bl_boot.specs.Mapped.{IsMapped}
-use Rattle.bl_boot.specs.declared.booting.fault.EndFault.{EndFault}
-use Rattle.bl_boot.specs.declared.booting.fault.EndFault.TheVariants.{BadDescription, Device}
-use Rattle.bl_boot.specs.declared.booting.fault.EndFault.TheVariants.{NoMemory}
-use Rattle.bl_boot.specs.declared.booting.fault.End.{End}
-use Rattle.bl_boot.specs.declared.booting.fault.End.TheVariants.{Booted, NoEntryLeft}
+use Rattle.bl_boot.specs.declared.description_boot.boot_end.EndFault.{EndFault}
+use Rattle.bl_boot.specs.declared.description_boot.boot_end.EndFault.TheVariants.{BadDescription}
+use Rattle.bl_boot.specs.declared.description_boot.boot_end.EndFault.TheVariants.{Device}
+use Rattle.bl_boot.specs.declared.description_boot.boot_end.EndFault.TheVariants.{NoMemory}
+use Rattle.bl_boot.specs.declared.description_boot.boot_end.End.{End}
+use Rattle.bl_boot.specs.declared.description_boot.boot_end.End.TheVariants.{Booted, NoEntryLeft}
 
 -- a fault of the description as one of a boot
-abbrev pub fault_of : DescFault → EndFault
-fault_of desc_fault.BadDescription = BadDescription
-fault_of desc_fault.NoMemory = NoMemory
+abbrev pub end_of_desc_fault : DescFault → EndFault
+end_of_desc_fault desc_fault.BadDescription = BadDescription
+end_of_desc_fault desc_fault.NoMemory = NoMemory
 
 -- the names so far, and after them what these add: each one that is not there yet
 abbrev pub names_with : List (List ℕ) → List (List ℕ) → List (List ℕ)
@@ -45,7 +46,7 @@ IsMachineFault description NoMemory = Unit {0}
 abbrev pub IsHandFault : ℕ → ℕ → List ℕ → List ℕ → List ℕ → EndFault → Type 0
 IsHandFault faults_before faults_after before after image BadDescription = ⊥
 IsHandFault faults_before faults_after before after image Device =
-    (faults_after ≡ faults_before + 1) × IsBegun before after image
+    (faults_after ≡ faults_before + 1) × TookBeginning before after image
 IsHandFault faults_before faults_after before after image NoMemory =
     (faults_after ≡ faults_before) × (after ≡ before)
 
@@ -68,7 +69,7 @@ abbrev pub FoundEnds : Described → BootFacts → List File → (s t u v : List
 FoundEnds description facts files s t u v (Ok Booted) =
     (entry : ℕ) × (earlier : List RefusedEntry) × (handover : Handover)
     × IsOutcome facts files no_fault (handed_over entry earlier handover)
-    × IsKept handover × (t ≡ s ++ spelling written_version handover)
+    × IsKeptByImages handover × (t ≡ s ++ spelling written_version handover)
     × (v ≡ u ++ (refused_lines earlier ++ booted_line entry (entry_of description entry).title))
 FoundEnds description facts files s t u v (Ok NoEntryLeft) =
     (refused : List RefusedEntry) × IsOutcome facts files no_fault (none_left refused)
@@ -77,7 +78,7 @@ FoundEnds description facts files s t u v (Err BadDescription) = ⊥
 FoundEnds description facts files s t u v (Err Device) =
     (entry : ℕ) × (earlier : List RefusedEntry) × (handover : Handover)
     × IsOutcome facts files no_fault (handed_over entry earlier handover)
-    × IsBegun s t (spelling written_version handover) × (v ≡ u)
+    × TookBeginning s t (spelling written_version handover) × (v ≡ u)
 FoundEnds description facts files s t u v (Err NoMemory) = (t ≡ s) × (v ≡ u)
 
 -- the sink has one fault more exactly where the boot ends in a fault of the sink

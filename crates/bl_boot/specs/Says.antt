@@ -6,7 +6,7 @@ use Rattle.std.specs.declared.ops.Range.{Range}
 use Rattle.bl_map.specs.declared.region.Region.{Region}
 use Rattle.bl_load.specs.Numbers.{refusal_number}
 use Rattle.bl_session.specs.declared.words.RefusedEntry.{RefusedEntry}
-use Rattle.bl_desc.specs.Kinds.{kind_name}
+use Rattle.bl_map.specs.Kinds.{kind_name}
 
 -- ---- boot: one line for each refused entry, and one for the end
 

@@ -8,8 +8,8 @@ use Rattle.bl_walk.specs.Faults.{walk_fault_number}
 use Rattle.bl_walk.specs.declared.fault.WalkFault.{WalkFault}
 use Rattle.bl_walk.specs.declared.fault.WalkFault.TheVariants as walking
 use Rattle.bl_boot.specs.Walked.{IsWalked, IsBadImage}
-use Rattle.bl_boot.specs.declared.walking.fault.WalkEnd.{WalkEnd}
-use Rattle.bl_boot.specs.declared.walking.fault.WalkEnd.TheVariants.{BadImage, Device, NoMemory}
+use Rattle.bl_boot.specs.declared.image_walk.fault.WalkEnd.{WalkEnd}
+use Rattle.bl_boot.specs.declared.image_walk.fault.WalkEnd.TheVariants.{BadImage, Device, NoMemory}
 
 -- a fault of reading
 abbrev pub end_of_image_fault : ImageFault → WalkEnd
@@ -36,8 +36,8 @@ WalkEnds before after old new (Err Device) = new ≡ old
 WalkEnds before after old new (Err NoMemory) = new ≡ old
 
 -- how many faults of the source such a walk met
-abbrev pub faults_of : Result (Unit {0}) WalkEnd → ℕ
-faults_of (Ok done) = 0
-faults_of (Err (BadImage number)) = 0
-faults_of (Err Device) = 1
-faults_of (Err NoMemory) = 0
+abbrev pub source_faults : Result (Unit {0}) WalkEnd → ℕ
+source_faults (Ok done) = 0
+source_faults (Err (BadImage number)) = 0
+source_faults (Err Device) = 1
+source_faults (Err NoMemory) = 0

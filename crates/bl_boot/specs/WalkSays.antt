@@ -5,9 +5,9 @@ use Rattle.std.specs.Fmt.{digits}
 use Rattle.std.specs.List.{flat_map}
 use Rattle.hex.specs.Hex.{encode_lower}
 use Rattle.bl_map.specs.declared.region.Region.{Region}
-use Rattle.bl_map.specs.Kinds.{kind_number, end_of}
+use Rattle.bl_map.specs.Kinds.{kind_number, region_end}
 use Rattle.bl_plan.specs.declared.protocol.Protocol.{Protocol}
-use Rattle.bl_desc.specs.Entries.{protocol_row}
+use Rattle.bl_plan.specs.Protocols.{protocol_name}
 use Rattle.bl_walk.specs.SeenFacts.{SeenModuleFacts, SeenFileFacts, SeenFacts}
 use Rattle.bl_walk.specs.declared.seen.SeenPart.{SeenPart}
 use Rattle.bl_boot.specs.Says.{hex16}
@@ -25,7 +25,7 @@ text_word bytes =
 
 -- a protocol is called as in a description
 abbrev pub protocol_line : Protocol → List ℕ
-protocol_line protocol = codes "protocol " ++ (protocol_row protocol).word ++ codes "\n"
+protocol_line protocol = codes "protocol " ++ protocol_name protocol ++ codes "\n"
 
 abbrev pub entry_line : ℕ → List ℕ
 entry_line entry = codes "entry " ++ hex8 entry ++ codes "\n"
@@ -64,7 +64,7 @@ run_kind kind = codes " " ++ decimal kind ++ codes "\n"
 
 abbrev pub seen_run_line : Region → List ℕ
 seen_run_line run =
-    run_start run.base ++ hex16 (end_of run) ++ run_kind (kind_number run.kind)
+    run_start run.base ++ hex16 (region_end run) ++ run_kind (kind_number run.kind)
 
 -- a copy of an RSDP, if there is one
 abbrev pub copy_line : List ℕ → Option (List ℕ) → List ℕ

@@ -4,31 +4,31 @@ use Rattle.bl_load.specs.Handover.{Handover}
 use Rattle.bl_image.specs.declared.version.Version.{Version}
 use Rattle.bl_image.specs.Image.{spelling}
 use Rattle.bl_image.specs.ImageFaults.{image_fault}
-use Rattle.bl_image.specs.ImageParts.{IsKept}
+use Rattle.bl_image.specs.ImageParts.{IsKeptByImages}
 use Rattle.bl_image.specs.Faults.{image_fault_number}
 use Rattle.bl_image.specs.Versions.{HasProtocol}
-use Rattle.bl_image.specs.Source.{Input, Comes, IsEnded, Refuses}
+use Rattle.bl_image.specs.Source.{Input, Comes, IsEnded, RefusesInput}
 use Rattle.bl_image.specs.declared.fault.ImageFault.{ImageFault}
 use Rattle.bl_image.specs.declared.fault.ImageFault.TheVariants as image
 use Rattle.bl_walk.specs.Seen.{IsSeen}
 use Rattle.bl_walk.specs.SeenFacts.{SeenFacts}
-use Rattle.bl_walk.specs.Faults.{HasFault, IsSound, walk_fault_number}
+use Rattle.bl_walk.specs.Faults.{HasWalkFault, IsSound, walk_fault_number}
 use Rattle.bl_walk.specs.declared.fault.WalkFault.{WalkFault}
 use Rattle.bl_walk.specs.declared.fault.WalkFault.TheVariants as walking
 use Rattle.bl_boot.specs.WalkSays.{walk_lines}
 
 -- the image of a handover, in a version, came from the source, and then its end
-pub record IsRead (before after : Input) (handover : Handover) : Type 0 where
+pub record ReadsImage (before after : Input) (handover : Handover) : Type 0 where
   pub version : Version
   pub has : HasProtocol version handover.protocol
   pub came : Comes before after (spelling version handover)
   pub ended : IsEnded after
-  pub kept : IsKept handover
+  pub kept : IsKeptByImages handover
 
 -- what is seen in the image that came was said
 pub record IsWalked (before after : Input) (said_before said_after : List ℕ) : Type 0 where
   pub handover : Handover
-  pub read : IsRead before after handover
+  pub read : ReadsImage before after handover
   pub seen : SeenFacts
   pub is_seen : IsSeen handover seen
   pub sound : IsSound handover
@@ -39,16 +39,16 @@ pub record IsNoImage (before after : Input) (number : ℕ) : Type 0 where
   pub fault : ImageFault
   pub no_device : fault ≢ image.DeviceFault
   pub no_memory : fault ≢ image.NoMemory
-  pub shown : Refuses image_fault before after fault
+  pub shown : RefusesInput image_fault before after fault
   pub numbered : number ≡ image_fault_number fault
 
 -- an image came in which a kernel sees nothing, for a fault of this number
 pub record ShowsNothing (before after : Input) (number : ℕ) : Type 0 where
   pub handover : Handover
-  pub read : IsRead before after handover
+  pub read : ReadsImage before after handover
   pub fault : WalkFault
   pub no_memory : fault ≢ walking.NoMemory
-  pub stands : HasFault handover fault
+  pub stands : HasWalkFault handover fault
   pub numbered : number ≡ walk_fault_number fault
 
 -- the image is refused with this number

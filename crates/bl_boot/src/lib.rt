@@ -1,18 +1,18 @@
 //! A boot from a description to the image of the handover, and the map of a description's machine.
 #![tactic(auto)]
 
-mod booting;
-mod converting;
-mod fetching;
+mod description_boot;
+mod file_source;
+mod image_conversion;
+mod image_walk;
 mod laws;
-mod mapping;
-mod saying;
-mod walking;
+mod lines;
+mod machine_map;
 
 pub use bl_session::{FILE_LIMIT, Fetched};
-pub use booting::boot;
-pub use converting::convert;
-pub use fetching::{AskedNames, Files, MemFiles};
+pub use description_boot::boot;
+pub use file_source::{AskedNames, Files, MemFiles};
+pub use image_conversion::convert;
+pub use image_walk::walk_to;
 pub use laws::{booted_images_show_their_entries, converted_images_are_walked_alike, two_boots};
-pub use mapping::map_to;
-pub use walking::walk_to;
+pub use machine_map::map_to;

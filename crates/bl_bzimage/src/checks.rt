@@ -4,22 +4,22 @@ ghost use Rattle.bl_bzimage.specs.Setup as spec;
 
 use crate::fields::{
     BOOT_FLAG, BOOT_FLAG_MAGIC, DEFAULT_SETUP_SECTS, HEADER, HEADER_MAGIC, JUMP_DISPLACEMENT,
-    KERNEL_ALIGNMENT, LEAST_END, LEAST_FILE, LEAST_PREF_ADDRESS, LOADED_HIGH, LOADFLAGS, MOST_END,
-    MOST_PREF_ADDRESS, PREF_ADDRESS, RELOCATABLE_KERNEL, SECTOR, SETUP_SECTS,
+    KERNEL_ALIGNMENT, LOADED_HIGH, LOADFLAGS, MAX_END, MAX_PREF_ADDRESS, MIN_END, MIN_FILE,
+    MIN_PREF_ADDRESS, PREF_ADDRESS, RELOCATABLE_KERNEL, SECTOR, SETUP_SECTS,
 };
 use bl_mem::{ByteView, u8_at, u16_at, u32_at, u64_at};
 
 /// Where the header ends.
 pub fn end_of_header<V: ByteView>(view: &V) -> u64
-    requires { LEAST_FILE ≤ length (V.bytes view.now) }
+    requires { MIN_FILE ≤ length (V.bytes view.now) }
     ensures { result ≡ spec.header_end (V.bytes view.now) }
 {
-    (HEADER + u8_at(view, JUMP_DISPLACEMENT) as u64).min(MOST_END)
+    (HEADER + u8_at(view, JUMP_DISPLACEMENT) as u64).min(MAX_END)
 }
 
 /// Where the payload begins.
 pub fn start_of_payload<V: ByteView>(view: &V) -> u64
-    requires { LEAST_FILE ≤ length (V.bytes view.now) }
+    requires { MIN_FILE ≤ length (V.bytes view.now) }
     ensures { result ≡ spec.payload_at (V.bytes view.now) }
 {
     let setup_sects = u8_at(view, SETUP_SECTS);
@@ -35,7 +35,7 @@ pub fn start_of_payload<V: ByteView>(view: &V) -> u64
 pub fn is_bz_image<V: ByteView>(view: &V) -> bool
     ensures { result ≡ spec.is_bz_image (V.bytes view.now) }
 {
-    if view.len() < LEAST_FILE {
+    if view.len() < MIN_FILE {
         return false;
     }
     if u16_at(view, BOOT_FLAG) != BOOT_FLAG_MAGIC {
@@ -46,7 +46,7 @@ pub fn is_bz_image<V: ByteView>(view: &V) -> bool
 
 /// Whether the payload is loaded at 1 MiB or above.
 pub fn is_loaded_high<V: ByteView>(view: &V) -> bool
-    requires { LEAST_FILE ≤ length (V.bytes view.now) }
+    requires { MIN_FILE ≤ length (V.bytes view.now) }
     ensures { result ≡ spec.is_loaded_high (V.bytes view.now) }
 {
     u8_at(view, LOADFLAGS) & LOADED_HIGH != 0
@@ -54,17 +54,17 @@ pub fn is_loaded_high<V: ByteView>(view: &V) -> bool
 
 /// Whether the header has each field, and the payload a byte.
 pub fn is_whole<V: ByteView>(view: &V) -> bool
-    requires { LEAST_FILE ≤ length (V.bytes view.now) }
+    requires { MIN_FILE ≤ length (V.bytes view.now) }
     ensures { result ≡ spec.is_whole (V.bytes view.now) }
 {
-    if end_of_header(view) < LEAST_END {
+    if end_of_header(view) < MIN_END {
         return false;
     }
     start_of_payload(view) < view.len()
 }
 
 fn is_relocatable<V: ByteView>(view: &V) -> bool
-    requires { LEAST_FILE ≤ length (V.bytes view.now) }
+    requires { MIN_FILE ≤ length (V.bytes view.now) }
     ensures { result ≡ spec.is_relocatable (V.bytes view.now) }
 {
     u8_at(view, RELOCATABLE_KERNEL) != 0
@@ -73,7 +73,7 @@ fn is_relocatable<V: ByteView>(view: &V) -> bool
 /// Whether the alignment of a relocatable kernel is a power of two. The boot protocol does not say
 /// that it is; no other one is taken.
 pub fn has_alignment<V: ByteView>(view: &V) -> bool
-    requires { LEAST_FILE ≤ length (V.bytes view.now) }
+    requires { MIN_FILE ≤ length (V.bytes view.now) }
     ensures { result ≡ spec.has_alignment (V.bytes view.now) }
 {
     if !is_relocatable(view) {
@@ -84,12 +84,12 @@ pub fn has_alignment<V: ByteView>(view: &V) -> bool
 
 /// Whether a kernel that is not relocatable has an address that it can run at.
 pub fn has_preferred<V: ByteView>(view: &V) -> bool
-    requires { LEAST_FILE ≤ length (V.bytes view.now) }
+    requires { MIN_FILE ≤ length (V.bytes view.now) }
     ensures { result ≡ spec.has_preferred (V.bytes view.now) }
 {
     if is_relocatable(view) {
         return true;
     }
     let pref_address = u64_at(view, PREF_ADDRESS);
-    LEAST_PREF_ADDRESS <= pref_address && pref_address <= MOST_PREF_ADDRESS
+    MIN_PREF_ADDRESS <= pref_address && pref_address <= MAX_PREF_ADDRESS
 }

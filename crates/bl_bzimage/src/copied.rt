@@ -1,7 +1,7 @@
 //! The setup header's bytes.
 ghost use Rattle.std.specs.Prelude.{◌≡◌, ◌≤◌, ◌+◌, ◌-◌, ℕ, List, length, take, slice_range};
 
-use crate::fields::{MOST_HEADER, SETUP_SECTS};
+use crate::fields::{MAX_HEADER, SETUP_SECTS};
 use bl_mem::ByteView;
 use std::marker::Model;
 
@@ -39,7 +39,7 @@ pub(crate) fn header_upto<V: ByteView>(view: &V, end: u64) -> SetupHeader
     ensures { result ≡ slice_range (V.bytes view.now) 0x1F1 end }
 {
     let count = (end - SETUP_SECTS) as usize;
-    let mut bytes = [0u8; MOST_HEADER];
+    let mut bytes = [0u8; MAX_HEADER];
     view.read(SETUP_SECTS, &mut bytes[..count]);
     SetupHeader { bytes, count }
 }

@@ -1,8 +1,9 @@
 //! The numbers of the setup header (Linux/x86 Boot Protocol, "The Real-Mode Kernel Header"). A
-//! field is named by its offset from the file's first byte. Offsets and sizes count bytes.
+//! field is named by its offset from the file's first byte, which is its offset in boot parameters
+//! too, since these begin with the header at the same place. Offsets and sizes count bytes.
 
 /// The least length of a file: a boot sector, and a sector of setup.
-pub const LEAST_FILE: u64 = 1024;
+pub const MIN_FILE: u64 = 1024;
 
 /// How many bytes a sector has.
 pub const SECTOR: u64 = 512;
@@ -32,7 +33,7 @@ pub const HEADER_MAGIC: u32 = 0x5372_6448;
 pub const VERSION: u64 = 0x206;
 
 /// The least version that is read: 2.10.
-pub const LEAST_VERSION: u16 = 0x020A;
+pub const MIN_VERSION: u16 = 0x020A;
 
 /// `loadflags`.
 pub const LOADFLAGS: u64 = 0x211;
@@ -59,20 +60,20 @@ pub const CMDLINE_SIZE: u64 = 0x238;
 pub const PREF_ADDRESS: u64 = 0x258;
 
 /// The least `pref_address` of a kernel that is not relocatable: 1 MiB.
-pub const LEAST_PREF_ADDRESS: u64 = 0x10_0000;
+pub const MIN_PREF_ADDRESS: u64 = 0x10_0000;
 
 /// The greatest `pref_address` of a kernel that is not relocatable, since its entry is a 32-bit
 /// number.
-pub const MOST_PREF_ADDRESS: u64 = 0xFFFF_FFFF;
+pub const MAX_PREF_ADDRESS: u64 = 0xFFFF_FFFF;
 
 /// `init_size`, the last field that is read.
 pub const INIT_SIZE: u64 = 0x260;
 
 /// Where the fields end that are read: the least end of a header.
-pub const LEAST_END: u64 = 0x264;
+pub const MIN_END: u64 = 0x264;
 
 /// Where the header's place in `boot_params` ends: the greatest end of a header.
-pub const MOST_END: u64 = 0x290;
+pub const MAX_END: u64 = 0x290;
 
 /// How many bytes a header has at most.
-pub const MOST_HEADER: usize = 0x9F;
+pub const MAX_HEADER: usize = 0x9F;

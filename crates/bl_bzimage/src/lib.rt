@@ -4,7 +4,7 @@
 mod checks;
 mod copied;
 mod fault;
-mod fields;
+pub mod fields;
 mod laws;
 mod setup;
 

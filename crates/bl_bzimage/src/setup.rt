@@ -9,7 +9,7 @@ use crate::checks::{
 use crate::copied::{SetupHeader, header_upto};
 use crate::fault::SetupFault;
 use crate::fields::{
-    CMDLINE_SIZE, INIT_SIZE, INITRD_ADDR_MAX, KERNEL_ALIGNMENT, LEAST_VERSION, LOADFLAGS,
+    CMDLINE_SIZE, INIT_SIZE, INITRD_ADDR_MAX, KERNEL_ALIGNMENT, LOADFLAGS, MIN_VERSION,
     PREF_ADDRESS, RELOCATABLE_KERNEL, SETUP_SECTS, VERSION, XLOADFLAGS,
 };
 use bl_mem::{ByteView, u8_at, u16_at, u32_at, u64_at};
@@ -81,7 +81,7 @@ pub fn read_setup<V: ByteView>(view: &V) -> Result<Setup, SetupFault>
     if !is_bz_image(view) {
         return Err(SetupFault::NotBzImage);
     }
-    if u16_at(view, VERSION) < LEAST_VERSION {
+    if u16_at(view, VERSION) < MIN_VERSION {
         return Err(SetupFault::OldProtocol);
     }
     if !is_loaded_high(view) {

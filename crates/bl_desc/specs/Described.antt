@@ -7,13 +7,12 @@ use Rattle.std.specs.List.{list_any}
 use Rattle.std.specs.declared.ops.Range.{Range}
 use Rattle.toml.specs.Data.{Data, Members}
 use Rattle.toml.specs.Parse.{parse_document}
-use Rattle.bl_map.specs.declared.kind.Kind.{Kind}
-use Rattle.bl_map.specs.declared.kind.Kind.TheVariants.{Usable, Reserved, Acpi, Nvs, Bad}
+use Rattle.bl_map.specs.Kinds.{kind_named}
 use Rattle.bl_map.specs.declared.region.Region.{Region}
-use Rattle.bl_desc.specs.Kinds.{kind_name}
-use Rattle.bl_desc.specs.Values.{◌>>=◌, passing, number_of, byte_of, text_of, bytes_of, range_of}
-use Rattle.bl_desc.specs.Values.{index_of, indices_of, has_only, at_key, at_key_or, in_tables}
-use Rattle.bl_desc.specs.Entries.{Entry, entries_of}
+use Rattle.bl_desc.specs.Values.{◌>>=◌, passing, toml_number, toml_byte, toml_text, toml_bytes}
+use Rattle.bl_desc.specs.Values.{toml_range, toml_index, toml_indices, has_only, at_key}
+use Rattle.bl_desc.specs.Values.{at_key_or, in_tables}
+use Rattle.bl_desc.specs.Entries.{Entry, toml_entries}
 
 -- a file that stands in the description
 pub record InlineFile : Type 0 where
@@ -38,35 +37,26 @@ pub record Described : Type 0 where
 
 -- ---- region
 
-abbrev pub kind_named : List ℕ → Option Kind
-kind_named name =
-    if bytes_eq name (kind_name Usable) then Some Usable else
-    if bytes_eq name (kind_name Reserved) then Some Reserved else
-    if bytes_eq name (kind_name Acpi) then Some Acpi else
-    if bytes_eq name (kind_name Nvs) then Some Nvs else
-    if bytes_eq name (kind_name Bad) then Some Bad else
-    None
-
 unfoldable pub region_in : Members → Option Region
 region_in ms =
     if has_only (codes "base" ∷ codes "length" ∷ codes "kind" ∷ []) ms then (do
-      base ← at_key number_of (codes "base") ms
-      length ← at_key number_of (codes "length") ms
-      name ← at_key text_of (codes "kind") ms
+      base ← at_key toml_number (codes "base") ms
+      length ← at_key toml_number (codes "length") ms
+      name ← at_key toml_text (codes "kind") ms
       kind ← kind_named name
       Some record { base = base; length = length; kind = kind })
     else None
 
-unfoldable pub regions_of : Data → Option (List Region)
-regions_of d = in_tables region_in d
+unfoldable pub toml_regions : Data → Option (List Region)
+toml_regions d = in_tables region_in d
 
 -- ---- file
 
 unfoldable pub file_in : Members → Option InlineFile
 file_in ms =
     if has_only (codes "name" ∷ codes "hex" ∷ []) ms then (do
-      name ← at_key text_of (codes "name") ms
-      bytes ← at_key bytes_of (codes "hex") ms
+      name ← at_key toml_text (codes "name") ms
+      bytes ← at_key toml_bytes (codes "hex") ms
       Some record { name = name; bytes = bytes })
     else None
 
@@ -79,8 +69,8 @@ abbrev pub names_differ : List InlineFile → Bool
 names_differ [] = true
 names_differ (f ∷ fs) = not (has_file f.name fs) && names_differ fs
 
-unfoldable pub files_of : Data → Option (List InlineFile)
-files_of d = in_tables file_in d >>= passing names_differ
+unfoldable pub toml_files : Data → Option (List InlineFile)
+toml_files d = in_tables file_in d >>= passing names_differ
 
 -- ---- the whole
 
@@ -89,14 +79,14 @@ described_in ms =
     if has_only (codes "size" ∷ codes "pool" ∷ codes "fill" ∷ codes "default" ∷ codes "fallback"
     ∷ codes "region" ∷ codes "file" ∷ codes "entry" ∷ []) ms
     then (do
-      size ← at_key number_of (codes "size") ms
-      pool ← at_key range_of (codes "pool") ms
-      fill ← at_key_or 0 byte_of (codes "fill") ms
-      regions ← at_key_or [] regions_of (codes "region") ms
-      files ← at_key_or [] files_of (codes "file") ms
-      entries ← at_key entries_of (codes "entry") ms
-      default ← at_key_or 0 (index_of (length entries)) (codes "default") ms
-      fallbacks ← at_key_or [] (indices_of (length entries)) (codes "fallback") ms
+      size ← at_key toml_number (codes "size") ms
+      pool ← at_key toml_range (codes "pool") ms
+      fill ← at_key_or 0 toml_byte (codes "fill") ms
+      regions ← at_key_or [] toml_regions (codes "region") ms
+      files ← at_key_or [] toml_files (codes "file") ms
+      entries ← at_key toml_entries (codes "entry") ms
+      default ← at_key_or 0 (toml_index (length entries)) (codes "default") ms
+      fallbacks ← at_key_or [] (toml_indices (length entries)) (codes "fallback") ms
       Some record {
         size = size;
         pool = pool;

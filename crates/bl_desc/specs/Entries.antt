@@ -2,12 +2,12 @@
 -- the table's keys to a record, or to none if the table is a bad one. Own.
 use Rattle.std.specs.Prelude.{ℕ, Bool, ◌&&◌, if◌then◌else◌, nat_le, List, [], ◌∷◌, ◌++◌, length}
 use Rattle.std.specs.Prelude.{Option, Some, None, codes}
-use Rattle.std.specs.Str.{bytes_eq}
-use Rattle.std.specs.List.{find, list_all}
+use Rattle.std.specs.List.{list_all}
 use Rattle.toml.specs.Data.{Data, Members}
-use Rattle.bl_desc.specs.Values.{◌>>=◌, passing, text_of, bytes_of, has_only, at_key, at_key_or}
+use Rattle.bl_desc.specs.Values.{◌>>=◌, passing, toml_text, toml_bytes, has_only, at_key, at_key_or}
 use Rattle.bl_desc.specs.Values.{at_key_if, in_tables}
-use Rattle.bl_plan.specs.Limits.{most_entries, most_modules}
+use Rattle.bl_plan.specs.Limits.{max_copy, max_entries, max_modules}
+use Rattle.bl_plan.specs.Protocols.{protocol_named}
 use Rattle.bl_plan.specs.declared.protocol.Protocol.{Protocol}
 use Rattle.bl_plan.specs.declared.protocol.Protocol.TheVariants.{Multiboot2, Linux, Linux64}
 
@@ -48,8 +48,8 @@ pub record Entry : Type 0 where
 unfoldable pub module_in : Members → Option Module
 module_in ms =
     if has_only (codes "file" ∷ codes "line" ∷ []) ms then (do
-      file ← at_key text_of (codes "file") ms
-      line ← at_key_or [] text_of (codes "line") ms
+      file ← at_key toml_text (codes "file") ms
+      line ← at_key_or [] toml_text (codes "line") ms
       Some record { file = file; line = line })
     else None
 
@@ -63,32 +63,27 @@ is_printable text = list_all (λ c. nat_le 0x20 c && nat_le c 0x7E) text
 abbrev pub is_title : List ℕ → Bool
 is_title text = (nat_le 1 (length text) && nat_le (length text) 64) && is_printable text
 
-abbrev pub title_of : Data → Option (List ℕ)
-title_of d = text_of d >>= passing is_title
+abbrev pub toml_title : Data → Option (List ℕ)
+toml_title d = toml_text d >>= passing is_title
 
 abbrev pub has_few_modules : List Module → Bool
-has_few_modules modules = nat_le (length modules) most_modules
+has_few_modules modules = nat_le (length modules) max_modules
 
-unfoldable pub modules_of : Data → Option (List Module)
-modules_of d = in_tables module_in d >>= passing has_few_modules
-
--- a copy of an RSDP has at most so many bytes
-abbrev pub most_copy : ℕ
-most_copy = 256
+unfoldable pub toml_modules : Data → Option (List Module)
+toml_modules d = in_tables module_in d >>= passing has_few_modules
 
 -- 1 to 256 bytes
 abbrev pub is_copy : List ℕ → Bool
-is_copy copy = nat_le 1 (length copy) && nat_le (length copy) most_copy
+is_copy copy = nat_le 1 (length copy) && nat_le (length copy) max_copy
 
-abbrev pub copy_of : Data → Option (List ℕ)
-copy_of d = bytes_of d >>= passing is_copy
+abbrev pub toml_copy : Data → Option (List ℕ)
+toml_copy d = toml_bytes d >>= passing is_copy
 
 -- ---- protocol
 
--- what a protocol is called, under which keys its entries say what they have beside their kernel,
--- and what is read from these
+-- under which keys a protocol's entries say what they have beside their kernel, and what is read
+-- from these
 pub record ProtocolRow : Type 0 where
-  pub word : List ℕ
   pub keys : List (List ℕ)
   pub form : Members → Option Form
 
@@ -99,9 +94,9 @@ multiboot2_keys = codes "module" ∷ codes "rsdp_old" ∷ codes "rsdp_new" ∷ [
 -- with multiboot2 an entry may have modules and copies of RSDPs
 abbrev pub multiboot2_form : Members → Option Form
 multiboot2_form ms = do
-  modules ← at_key_or [] modules_of (codes "module") ms
-  rsdp_old ← at_key_if copy_of (codes "rsdp_old") ms
-  rsdp_new ← at_key_if copy_of (codes "rsdp_new") ms
+  modules ← at_key_or [] toml_modules (codes "module") ms
+  rsdp_old ← at_key_if toml_copy (codes "rsdp_old") ms
+  rsdp_new ← at_key_if toml_copy (codes "rsdp_new") ms
   Some (record (bare_form Multiboot2) {
     modules = modules;
     rsdp_old = rsdp_old;
@@ -111,25 +106,19 @@ multiboot2_form ms = do
 -- with linux, and with linux64, it may have an initial ramdisk
 abbrev pub linux_form : Protocol → Members → Option Form
 linux_form protocol ms = do
-  initrd ← at_key_if text_of (codes "initrd") ms
+  initrd ← at_key_if toml_text (codes "initrd") ms
   Some (record (bare_form protocol) { initrd = initrd })
 
 abbrev pub protocol_row : Protocol → ProtocolRow
 protocol_row Multiboot2 =
-    record { word = codes "multiboot2"; keys = multiboot2_keys; form = multiboot2_form }
+    record { keys = multiboot2_keys; form = multiboot2_form }
 protocol_row Linux =
-    record { word = codes "linux"; keys = codes "initrd" ∷ []; form = linux_form Linux }
+    record { keys = codes "initrd" ∷ []; form = linux_form Linux }
 protocol_row Linux64 =
-    record { word = codes "linux64"; keys = codes "initrd" ∷ []; form = linux_form Linux64 }
+    record { keys = codes "initrd" ∷ []; form = linux_form Linux64 }
 
--- the protocol that is called so
-abbrev pub protocol_named : List ℕ → Option Protocol
-protocol_named name =
-    find (λ protocol. bytes_eq name (protocol_row protocol).word)
-    (Multiboot2 ∷ Linux ∷ Linux64 ∷ [])
-
-abbrev pub protocol_of : Data → Option Protocol
-protocol_of d = text_of d >>= protocol_named
+abbrev pub toml_protocol : Data → Option Protocol
+toml_protocol d = toml_text d >>= protocol_named
 
 -- ---- entry
 
@@ -140,21 +129,21 @@ entry_keys = codes "title" ∷ codes "protocol" ∷ codes "kernel" ∷ codes "li
 unfoldable pub entry_by : Members → Protocol → Option Entry
 entry_by ms protocol =
     if has_only (entry_keys ++ (protocol_row protocol).keys) ms then (do
-      title ← at_key title_of (codes "title") ms
-      kernel ← at_key text_of (codes "kernel") ms
-      line ← at_key_or [] text_of (codes "line") ms
+      title ← at_key toml_title (codes "title") ms
+      kernel ← at_key toml_text (codes "kernel") ms
+      line ← at_key_or [] toml_text (codes "line") ms
       form ← (protocol_row protocol).form ms
       Some record { title = title; kernel = kernel; line = line; form = form })
     else None
 
-unfoldable pub entry_in : Members → Option Entry
-entry_in ms = at_key protocol_of (codes "protocol") ms >>= entry_by ms
+unfoldable pub menu_entry_in : Members → Option Entry
+menu_entry_in ms = at_key toml_protocol (codes "protocol") ms >>= entry_by ms
 
 -- ---- menu
 
 -- it has an entry, and not too many
 abbrev pub is_menu : List Entry → Bool
-is_menu entries = nat_le 1 (length entries) && nat_le (length entries) most_entries
+is_menu entries = nat_le 1 (length entries) && nat_le (length entries) max_entries
 
-unfoldable pub entries_of : Data → Option (List Entry)
-entries_of d = in_tables entry_in d >>= passing is_menu
+unfoldable pub toml_entries : Data → Option (List Entry)
+toml_entries d = in_tables menu_entry_in d >>= passing is_menu

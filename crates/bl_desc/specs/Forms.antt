@@ -1,6 +1,7 @@
 -- How what an entry has beside its kernel is seen, and how long its copies of an RSDP are. Own.
 use Rattle.std.specs.Prelude.{ℕ, List, length, map, ◌≤◌}
-use Rattle.bl_desc.specs.Entries.{Module, Form, bare_form, most_copy}
+use Rattle.bl_desc.specs.Entries.{Module, Form, bare_form}
+use Rattle.bl_plan.specs.Limits.{max_copy}
 use Rattle.bl_plan.specs.Protocols.{of_linux}
 use Rattle.bl_plan.specs.declared.protocol.Protocol.TheVariants as protocol
 use Rattle.bl_desc.specs.declared.form.EntryForm.{EntryForm}
@@ -21,4 +22,4 @@ form_view (Linux initrd wide) = record (bare_form (of_linux wide)) { initrd = in
 
 -- a copy has 1 to 256 bytes
 abbrev pub HasCopyLength : List ℕ → Type 0
-HasCopyLength copy = (1 ≤ length copy) × (length copy ≤ most_copy)
+HasCopyLength copy = (1 ≤ length copy) × (length copy ≤ max_copy)

@@ -1,5 +1,4 @@
 pub mod Values
-pub mod Kinds
 pub mod Entries
 pub mod Described
 pub mod Forms

@@ -20,36 +20,36 @@ passing test x = if test x then Some x else None
 -- ---- values
 
 -- a number is a TOML integer that is not negative
-abbrev pub number_of : Data → Option ℕ
-number_of (integer (pos n)) = Some n
-number_of _ = None
+abbrev pub toml_number : Data → Option ℕ
+toml_number (integer (pos n)) = Some n
+toml_number _ = None
 
-abbrev pub byte_of : Data → Option ℕ
-byte_of d = number_of d >>= passing (λ n. nat_lt n 256)
+abbrev pub toml_byte : Data → Option ℕ
+toml_byte d = toml_number d >>= passing (λ n. nat_lt n 256)
 
-abbrev pub text_of : Data → Option (List ℕ)
-text_of (string s) = Some s
-text_of _ = None
+abbrev pub toml_text : Data → Option (List ℕ)
+toml_text (string s) = Some s
+toml_text _ = None
 
 abbrev pub bytes_from : {E : Type 0} → Result (List ℕ) E → Option (List ℕ)
 bytes_from (Ok bytes) = Some bytes
 bytes_from (Err e) = None
 
 -- the bytes that a text of hexadecimal digits stands for, two digits a byte
-abbrev pub bytes_of : Data → Option (List ℕ)
-bytes_of d = text_of d >>= λ text. bytes_from (decode_of text)
+abbrev pub toml_bytes : Data → Option (List ℕ)
+toml_bytes d = toml_text d >>= λ text. bytes_from (decode_of text)
 
 -- two numbers: where a range starts, and its end
 abbrev pub range_in : Items → Option (Range ℕ)
 range_in (item a (item b no_items)) = do
-  start ← number_of a
-  end ← number_of b
+  start ← toml_number a
+  end ← toml_number b
   Some record { start = start; end = end }
 range_in _ = None
 
-unfoldable pub range_of : Data → Option (Range ℕ)
-range_of (array ds) = range_in ds
-range_of _ = None
+unfoldable pub toml_range : Data → Option (Range ℕ)
+toml_range (array ds) = range_in ds
+toml_range _ = None
 
 -- ---- keys
 
@@ -107,9 +107,9 @@ in_tables read d = in_array (in_table read) d
 -- ---- indices
 
 -- the index of one of so many
-abbrev pub index_of : ℕ → Data → Option ℕ
-index_of count d = number_of d >>= passing (λ n. nat_lt n count)
+abbrev pub toml_index : ℕ → Data → Option ℕ
+toml_index count d = toml_number d >>= passing (λ n. nat_lt n count)
 
 -- an array of such indices, in which one may repeat
-abbrev pub indices_of : ℕ → Data → Option (List ℕ)
-indices_of count d = in_array (index_of count) d
+abbrev pub toml_indices : ℕ → Data → Option (List ℕ)
+toml_indices count d = in_array (toml_index count) d

@@ -3,7 +3,7 @@ use Rattle.std.specs.Prelude.{◌≡◌, ◌<◌, ◌≤◌, length, map, All, O
 use Rattle.bl_desc.specs.Described.{InlineFile, Described}
 use Rattle.bl_desc.specs.Entries.{Entry}
 pub use Rattle.bl_desc.specs.Forms.{module_view, form_view}
-use Rattle.bl_plan.specs.Limits.{most_entries}
+use Rattle.bl_plan.specs.Limits.{max_entries}
 use Rattle.bl_desc.specs.declared.desc.FileRow.{FileRow}
 use Rattle.bl_desc.specs.declared.entry_row.EntryRow.{EntryRow}
 use Rattle.bl_desc.specs.declared.desc.Description.{Description}
@@ -31,15 +31,15 @@ view d = record {
 -- the default and each fallback names one of the entries, of which there are 1 to 32
 abbrev pub HasMenu : {A : Type 0} → Description A → Type 0
 HasMenu d =
-    (1 ≤ length d.entries.items) × (length d.entries.items ≤ most_entries)
+    (1 ≤ length d.entries.items) × (length d.entries.items ≤ max_entries)
     × (d.default < length d.entries.items)
     × All (λ index. index < length d.entries.items) d.fallbacks.items
 
 -- what a reader returned, seen by view, is what the definition gives, unless memory ran out
-abbrev pub Fails : {Y : Type 0} → DescFault → Option Y → Type 0
-Fails NoMemory read = Unit {0}
-Fails BadDescription read = read ≡ None
+abbrev pub AnswersNothing : {Y : Type 0} → DescFault → Option Y → Type 0
+AnswersNothing NoMemory read = Unit {0}
+AnswersNothing BadDescription read = read ≡ None
 
-abbrev pub Gives : {X Y : Type 0} → (X → Y) → Result X DescFault → Option Y → Type 0
-Gives view (Ok x) read = read ≡ Some (view x)
-Gives view (Err e) read = Fails e read
+abbrev pub AnswersAs : {X Y : Type 0} → (X → Y) → Result X DescFault → Option Y → Type 0
+AnswersAs view (Ok x) read = read ≡ Some (view x)
+AnswersAs view (Err e) read = AnswersNothing e read

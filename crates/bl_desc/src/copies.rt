@@ -4,31 +4,29 @@ ghost use Rattle.toml.specs.View.{view, table_view};
 ghost use Rattle.bl_desc.specs.Values as values;
 ghost use Rattle.bl_desc.specs.Entries as spec;
 ghost use Rattle.bl_desc.specs.Forms.{HasCopyLength};
-ghost use Rattle.bl_desc.specs.Views.{Gives};
+ghost use Rattle.bl_desc.specs.Views.{AnswersAs};
 
 use crate::fault::DescFault;
 use crate::keys::at_key;
-use crate::values::bytes_of;
+use crate::values::toml_bytes;
 use bl_mem::Bytes;
+use bl_plan::MAX_COPY;
 use std::alloc::Allocator;
 use toml::{Table, Value};
-
-/// The most bytes that a copy of an RSDP has. It has at least 1.
-const MOST_COPY: usize = 256;
 
 /// Whether bytes can be a copy of an RSDP.
 fn is_copy(bytes: &[u8]) -> bool
     ensures { result ≡ spec.is_copy bytes.now }
 {
-    bytes.len() >= 1 && bytes.len() <= MOST_COPY
+    bytes.len() >= 1 && bytes.len() <= MAX_COPY
 }
 
 /// A copy, from the value of its key.
-fn copy_of<A: Allocator>(alloc: A, value: &Value) -> Result<Bytes<A>, DescFault>
-    ensures given { Gives (λ copy. copy) result (spec.copy_of (view value.now)) }
+fn toml_copy<A: Allocator>(alloc: A, value: &Value) -> Result<Bytes<A>, DescFault>
+    ensures given { AnswersAs (λ copy. copy) result (spec.toml_copy (view value.now)) }
     ensures length { IfOk result HasCopyLength }
 {
-    let copy = bytes_of(alloc, value)?;
+    let copy = toml_bytes(alloc, value)?;
     if !is_copy(copy.as_slice()) {
         return Err(DescFault::BadDescription);
     }
@@ -41,12 +39,12 @@ pub fn copy_if<A: Allocator>(
     table: &Table,
     key: &str,
 ) -> Result<Option<Bytes<A>>, DescFault>
-    ensures given { Gives (λ copy. copy) result
-        (values.at_key_if spec.copy_of key.now (table_view table.now)) }
+    ensures given { AnswersAs (λ copy. copy) result
+        (values.at_key_if spec.toml_copy key.now (table_view table.now)) }
     ensures length { IfOk result (λ copy. IfSome copy HasCopyLength) }
 {
     match at_key(table, key) {
-        Some(value) => Ok(Some(copy_of(alloc, value)?)),
+        Some(value) => Ok(Some(toml_copy(alloc, value)?)),
         None => Ok(None),
     }
 }

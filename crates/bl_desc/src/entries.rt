@@ -3,9 +3,9 @@ ghost use Rattle.std.specs.Prelude.{◌≡◌, ◌≤◌, length, map, codes, If
 ghost use Rattle.toml.specs.View.{view, table_view, items_view};
 ghost use Rattle.bl_desc.specs.Values as values;
 ghost use Rattle.bl_desc.specs.Entries as spec;
-ghost use Rattle.bl_plan.specs.Limits.{most_entries};
+ghost use Rattle.bl_plan.specs.Limits.{max_entries};
 ghost use Rattle.bl_desc.specs.Forms.{HasCopyLength};
-ghost use Rattle.bl_desc.specs.Views.{Gives, entry_view, form_view};
+ghost use Rattle.bl_desc.specs.Views.{AnswersAs, entry_view, form_view};
 
 use crate::entry_row::EntryRow;
 use crate::fault::DescFault;
@@ -13,7 +13,7 @@ use crate::form::EntryForm;
 use crate::keys::{at_key, text_at, text_or_empty};
 use crate::protocols::{form_in, has_keys, protocol_in};
 use crate::text::Text;
-use bl_plan::{MOST_ENTRIES, Protocol};
+use bl_plan::{MAX_ENTRIES, Protocol};
 use std::alloc::{AllocError, Allocator};
 use toml::{Table, Value};
 
@@ -35,8 +35,8 @@ fn is_title(text: &str) -> bool
 }
 
 fn title_in(table: &Table) -> Result<&str, DescFault>
-    ensures { Gives (λ s. s.now) result
-        (values.at_key spec.title_of (codes "title") (table_view table.now)) }
+    ensures { AnswersAs (λ s. s.now) result
+        (values.at_key spec.toml_title (codes "title") (table_view table.now)) }
 {
     let title = text_at(table, "title")?;
     if !is_title(title) {
@@ -79,7 +79,7 @@ fn entry_by<A: Allocator + Copy>(
     table: &Table,
     protocol: Protocol,
 ) -> Result<EntryRow<A>, DescFault>
-    ensures { Gives entry_view result (spec.entry_by (table_view table.now) protocol) }
+    ensures { AnswersAs entry_view result (spec.entry_by (table_view table.now) protocol) }
 {
     if !has_keys(table, protocol) {
         return Err(DescFault::BadDescription);
@@ -91,9 +91,9 @@ fn entry_by<A: Allocator + Copy>(
     Ok(entry_with(alloc, title, kernel, line, form)?)
 }
 
-#[tactic(auto, unfolding(crate::specs::Entries::entry_in))]
-fn entry_in<A: Allocator + Copy>(alloc: A, table: &Table) -> Result<EntryRow<A>, DescFault>
-    ensures { Gives entry_view result (spec.entry_in (table_view table.now)) }
+#[tactic(auto, unfolding(crate::specs::Entries::menu_entry_in))]
+fn menu_entry_in<A: Allocator + Copy>(alloc: A, table: &Table) -> Result<EntryRow<A>, DescFault>
+    ensures { AnswersAs entry_view result (spec.menu_entry_in (table_view table.now)) }
 {
     let protocol = protocol_in(table)?;
     entry_by(alloc, table, protocol)
@@ -101,10 +101,10 @@ fn entry_in<A: Allocator + Copy>(alloc: A, table: &Table) -> Result<EntryRow<A>,
 
 /// An entry, from an item of an array of tables.
 fn entry_of<A: Allocator + Copy>(alloc: A, value: &Value) -> Result<EntryRow<A>, DescFault>
-    ensures { Gives entry_view result (values.in_table spec.entry_in (view value.now)) }
+    ensures { AnswersAs entry_view result (values.in_table spec.menu_entry_in (view value.now)) }
 {
     match value.as_table() {
-        Some(table) => entry_in(alloc, table),
+        Some(table) => menu_entry_in(alloc, table),
         None => Err(DescFault::BadDescription),
     }
 }
@@ -113,8 +113,8 @@ fn entries_in<A: Allocator + Copy>(
     alloc: A,
     items: &[Value],
 ) -> Result<Vec<EntryRow<A>, A>, DescFault>
-    ensures { Gives (λ v. map entry_view v.items) result
-        (values.each_item (values.in_table spec.entry_in) (items_view items.now)) }
+    ensures { AnswersAs (λ v. map entry_view v.items) result
+        (values.each_item (values.in_table spec.menu_entry_in) (items_view items.now)) }
 {
     let mut entries = Vec::new(alloc);
     for item in items {
@@ -128,16 +128,17 @@ fn entries_in<A: Allocator + Copy>(
 fn is_menu<A: Allocator>(entries: &[EntryRow<A>]) -> bool
     ensures { result ≡ spec.is_menu (map entry_view entries.now) }
 {
-    entries.len() >= 1 && entries.len() <= MOST_ENTRIES
+    entries.len() >= 1 && entries.len() <= MAX_ENTRIES
 }
 
-#[tactic(auto, unfolding(crate::specs::Entries::entries_of))]
-fn entries_of<A: Allocator + Copy>(
+#[tactic(auto, unfolding(crate::specs::Entries::toml_entries))]
+fn toml_entries<A: Allocator + Copy>(
     alloc: A,
     value: &Value,
 ) -> Result<Vec<EntryRow<A>, A>, DescFault>
-    ensures given { Gives (λ v. map entry_view v.items) result (spec.entries_of (view value.now)) }
-    ensures count { IfOk result (λ v. (1 ≤ length v.items) × (length v.items ≤ most_entries)) }
+    ensures given { AnswersAs (λ v. map entry_view v.items) result
+        (spec.toml_entries (view value.now)) }
+    ensures count { IfOk result (λ v. (1 ≤ length v.items) × (length v.items ≤ max_entries)) }
 {
     let Some(items) = value.as_array() else {
         return Err(DescFault::BadDescription);
@@ -154,19 +155,19 @@ pub fn entries_at<A: Allocator + Copy>(
     alloc: A,
     table: &Table,
 ) -> Result<Vec<EntryRow<A>, A>, DescFault>
-    ensures given { Gives (λ v. map entry_view v.items) result
-        (values.at_key spec.entries_of (codes "entry") (table_view table.now)) }
-    ensures count { IfOk result (λ v. (1 ≤ length v.items) × (length v.items ≤ most_entries)) }
+    ensures given { AnswersAs (λ v. map entry_view v.items) result
+        (values.at_key spec.toml_entries (codes "entry") (table_view table.now)) }
+    ensures count { IfOk result (λ v. (1 ≤ length v.items) × (length v.items ≤ max_entries)) }
 {
     match at_key(table, "entry") {
-        Some(value) => entries_of(alloc, value),
+        Some(value) => toml_entries(alloc, value),
         None => Err(DescFault::BadDescription),
     }
 }
 
 /// How many entries a menu has.
 pub fn count_of<A: Allocator>(entries: &[EntryRow<A>]) -> u32
-    requires { length entries.now ≤ most_entries }
+    requires { length entries.now ≤ max_entries }
     ensures { result ≡ length (map entry_view entries.now) }
 {
     entries.len() as u32

@@ -3,30 +3,30 @@ ghost use Rattle.std.specs.Prelude.{◌≡◌, [], map, codes};
 ghost use Rattle.toml.specs.View.{view, table_view, items_view};
 ghost use Rattle.bl_desc.specs.Values as values;
 ghost use Rattle.bl_desc.specs.Described as spec;
-ghost use Rattle.bl_desc.specs.Views.{Gives, file_view};
+ghost use Rattle.bl_desc.specs.Views.{AnswersAs, file_view};
 
 use crate::desc::FileRow;
 use crate::fault::DescFault;
 use crate::keys::{at_key, has_only, text_at};
 use crate::text::Text;
-use crate::values::bytes_of;
+use crate::values::toml_bytes;
 use bl_mem::Bytes;
 use std::alloc::Allocator;
 use toml::{Table, Value};
 
 fn hex_in<A: Allocator>(alloc: A, table: &Table) -> Result<Bytes<A>, DescFault>
-    ensures { Gives (λ bytes. bytes) result
-        (values.at_key values.bytes_of (codes "hex") (table_view table.now)) }
+    ensures { AnswersAs (λ bytes. bytes) result
+        (values.at_key values.toml_bytes (codes "hex") (table_view table.now)) }
 {
     match at_key(table, "hex") {
-        Some(value) => bytes_of(alloc, value),
+        Some(value) => toml_bytes(alloc, value),
         None => Err(DescFault::BadDescription),
     }
 }
 
 #[tactic(auto, unfolding(crate::specs::Described::file_in))]
 fn file_in<A: Allocator + Copy>(alloc: A, table: &Table) -> Result<FileRow<A>, DescFault>
-    ensures { Gives file_view result (spec.file_in (table_view table.now)) }
+    ensures { AnswersAs file_view result (spec.file_in (table_view table.now)) }
 {
     if !has_only(table, &["name", "hex"]) {
         return Err(DescFault::BadDescription);
@@ -41,7 +41,7 @@ fn file_in<A: Allocator + Copy>(alloc: A, table: &Table) -> Result<FileRow<A>, D
 
 /// A file, from an item of an array of tables.
 fn file_of<A: Allocator + Copy>(alloc: A, value: &Value) -> Result<FileRow<A>, DescFault>
-    ensures { Gives file_view result (values.in_table spec.file_in (view value.now)) }
+    ensures { AnswersAs file_view result (values.in_table spec.file_in (view value.now)) }
 {
     match value.as_table() {
         Some(table) => file_in(alloc, table),
@@ -50,7 +50,7 @@ fn file_of<A: Allocator + Copy>(alloc: A, value: &Value) -> Result<FileRow<A>, D
 }
 
 fn files_in<A: Allocator + Copy>(alloc: A, items: &[Value]) -> Result<Vec<FileRow<A>, A>, DescFault>
-    ensures { Gives (λ v. map file_view v.items) result
+    ensures { AnswersAs (λ v. map file_view v.items) result
         (values.each_item (values.in_table spec.file_in) (items_view items.now)) }
 {
     let mut files = Vec::new(alloc);
@@ -85,9 +85,9 @@ fn names_differ<A: Allocator>(files: &[FileRow<A>]) -> bool
     true
 }
 
-#[tactic(auto, unfolding(crate::specs::Described::files_of))]
-fn files_of<A: Allocator + Copy>(alloc: A, value: &Value) -> Result<Vec<FileRow<A>, A>, DescFault>
-    ensures { Gives (λ v. map file_view v.items) result (spec.files_of (view value.now)) }
+#[tactic(auto, unfolding(crate::specs::Described::toml_files))]
+fn toml_files<A: Allocator + Copy>(alloc: A, value: &Value) -> Result<Vec<FileRow<A>, A>, DescFault>
+    ensures { AnswersAs (λ v. map file_view v.items) result (spec.toml_files (view value.now)) }
 {
     let Some(items) = value.as_array() else {
         return Err(DescFault::BadDescription);
@@ -104,11 +104,11 @@ pub fn files_at<A: Allocator + Copy>(
     alloc: A,
     table: &Table,
 ) -> Result<Vec<FileRow<A>, A>, DescFault>
-    ensures { Gives (λ v. map file_view v.items) result
-        (values.at_key_or [] spec.files_of (codes "file") (table_view table.now)) }
+    ensures { AnswersAs (λ v. map file_view v.items) result
+        (values.at_key_or [] spec.toml_files (codes "file") (table_view table.now)) }
 {
     match at_key(table, "file") {
-        Some(value) => files_of(alloc, value),
+        Some(value) => toml_files(alloc, value),
         None => Ok(Vec::new(alloc)),
     }
 }

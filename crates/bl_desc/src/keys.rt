@@ -6,10 +6,10 @@ ghost use Rattle.std.specs.BTreeMap.{keys};
 ghost use Rattle.toml.specs.View.{view, table_view};
 ghost use Rattle.toml.specs.Data.{get_member};
 ghost use Rattle.bl_desc.specs.Values as spec;
-ghost use Rattle.bl_desc.specs.Views.{Gives};
+ghost use Rattle.bl_desc.specs.Views.{AnswersAs};
 
 use crate::fault::DescFault;
-use crate::values::number_of;
+use crate::values::toml_number;
 use toml::{Table, Value};
 
 /// The value at a key.
@@ -21,17 +21,19 @@ pub fn at_key<'a>(table: &'a Table, key: &str) -> Option<&'a Value>
 
 /// The number at a key that must stand.
 pub fn number_at(table: &Table, key: &str) -> Result<u64, DescFault>
-    ensures { Gives (λ n. n) result (spec.at_key spec.number_of key.now (table_view table.now)) }
+    ensures { AnswersAs (λ n. n) result
+        (spec.at_key spec.toml_number key.now (table_view table.now)) }
 {
     match at_key(table, key) {
-        Some(value) => number_of(value).ok_or(DescFault::BadDescription),
+        Some(value) => toml_number(value).ok_or(DescFault::BadDescription),
         None => Err(DescFault::BadDescription),
     }
 }
 
 /// The text at a key that must stand.
 pub fn text_at<'a>(table: &'a Table, key: &str) -> Result<&'a str, DescFault>
-    ensures { Gives (λ s. s.now) result (spec.at_key spec.text_of key.now (table_view table.now)) }
+    ensures { AnswersAs (λ s. s.now) result
+        (spec.at_key spec.toml_text key.now (table_view table.now)) }
 {
     match at_key(table, key) {
         Some(value) => value.as_str().ok_or(DescFault::BadDescription),
@@ -41,8 +43,8 @@ pub fn text_at<'a>(table: &'a Table, key: &str) -> Result<&'a str, DescFault>
 
 /// The text at a key that may be left out, which is then empty.
 pub fn text_or_empty<'a>(table: &'a Table, key: &str) -> Result<&'a str, DescFault>
-    ensures { Gives (λ s. s.now) result
-        (spec.at_key_or [] spec.text_of key.now (table_view table.now)) }
+    ensures { AnswersAs (λ s. s.now) result
+        (spec.at_key_or [] spec.toml_text key.now (table_view table.now)) }
 {
     match at_key(table, key) {
         Some(value) => value.as_str().ok_or(DescFault::BadDescription),
@@ -52,8 +54,8 @@ pub fn text_or_empty<'a>(table: &'a Table, key: &str) -> Result<&'a str, DescFau
 
 /// The text at a key that may be left out.
 pub fn text_if<'a>(table: &'a Table, key: &str) -> Result<Option<&'a str>, DescFault>
-    ensures { Gives (option_map (λ s. s.now)) result
-        (spec.at_key_if spec.text_of key.now (table_view table.now)) }
+    ensures { AnswersAs (option_map (λ s. s.now)) result
+        (spec.at_key_if spec.toml_text key.now (table_view table.now)) }
 {
     match at_key(table, key) {
         Some(value) => match value.as_str() {
@@ -71,8 +73,8 @@ fn is_among(key: &str, known: &[&str]) -> bool
     known.iter().any(|k| *k == key)
 }
 
-/// The same as `has_only`, in the words of a map.
-fn has_only_keys(table: &Table, known: &[&str]) -> bool
+/// Whether each key of a table is one of these, in the words of a map: what `has_only` rests on.
+fn are_keys_among(table: &Table, known: &[&str]) -> bool
     ensures { result ≡ list_all
         (λ key. list_any (λ k. bytes_eq k.now (string_bytes key)) known.now) (keys table.now) }
 {
@@ -83,5 +85,5 @@ fn has_only_keys(table: &Table, known: &[&str]) -> bool
 pub fn has_only(table: &Table, known: &[&str]) -> bool
     ensures { result ≡ spec.has_only (map (λ k. k.now) known.now) (table_view table.now) }
 {
-    has_only_keys(table, known)
+    are_keys_among(table, known)
 }

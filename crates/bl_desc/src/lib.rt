@@ -3,6 +3,7 @@
 
 mod copies;
 mod desc;
+mod document;
 mod entries;
 mod entry_row;
 mod fault;
@@ -10,20 +11,16 @@ mod files;
 mod form;
 mod indices;
 mod keys;
-mod kinds;
 mod modules;
 mod protocols;
-mod read;
 mod regions;
 mod text;
 mod values;
 
-pub use bl_plan::{MOST_ENTRIES, MOST_MODULES};
+pub use bl_plan::{MAX_ENTRIES, MAX_MODULES};
 pub use desc::{Description, FileRow, file_named};
+pub use document::read_description;
 pub use entry_row::EntryRow;
 pub use fault::DescFault;
 pub use form::{EntryForm, ModuleRow, Modules};
-pub use kinds::kind_name;
-pub use protocols::protocol_word;
-pub use read::read_description;
 pub use text::Text;

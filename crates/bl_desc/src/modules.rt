@@ -3,19 +3,19 @@ ghost use Rattle.std.specs.Prelude.{◌≡◌, [], map, codes};
 ghost use Rattle.toml.specs.View.{view, table_view, items_view};
 ghost use Rattle.bl_desc.specs.Values as values;
 ghost use Rattle.bl_desc.specs.Entries as spec;
-ghost use Rattle.bl_desc.specs.Views.{Gives, module_view};
+ghost use Rattle.bl_desc.specs.Views.{AnswersAs, module_view};
 
 use crate::fault::DescFault;
 use crate::form::{ModuleRow, Modules};
 use crate::keys::{at_key, has_only, text_at, text_or_empty};
 use crate::text::Text;
-use bl_plan::MOST_MODULES;
+use bl_plan::MAX_MODULES;
 use std::alloc::Allocator;
 use toml::{Table, Value};
 
 #[tactic(auto, unfolding(crate::specs::Entries::module_in))]
 fn module_in<A: Allocator + Copy>(alloc: A, table: &Table) -> Result<ModuleRow<A>, DescFault>
-    ensures { Gives module_view result (spec.module_in (table_view table.now)) }
+    ensures { AnswersAs module_view result (spec.module_in (table_view table.now)) }
 {
     if !has_only(table, &["file", "line"]) {
         return Err(DescFault::BadDescription);
@@ -30,7 +30,7 @@ fn module_in<A: Allocator + Copy>(alloc: A, table: &Table) -> Result<ModuleRow<A
 
 /// A module, from an item of an array of tables.
 fn module_of<A: Allocator + Copy>(alloc: A, value: &Value) -> Result<ModuleRow<A>, DescFault>
-    ensures { Gives module_view result (values.in_table spec.module_in (view value.now)) }
+    ensures { AnswersAs module_view result (values.in_table spec.module_in (view value.now)) }
 {
     match value.as_table() {
         Some(table) => module_in(alloc, table),
@@ -42,7 +42,7 @@ fn modules_in<A: Allocator + Copy>(
     alloc: A,
     items: &[Value],
 ) -> Result<Vec<ModuleRow<A>, A>, DescFault>
-    ensures { Gives (λ v. map module_view v.items) result
+    ensures { AnswersAs (λ v. map module_view v.items) result
         (values.each_item (values.in_table spec.module_in) (items_view items.now)) }
 {
     let mut modules = Vec::new(alloc);
@@ -53,15 +53,16 @@ fn modules_in<A: Allocator + Copy>(
     Ok(modules)
 }
 
-#[tactic(auto, unfolding(crate::specs::Entries::modules_of))]
-fn modules_of<A: Allocator + Copy>(alloc: A, value: &Value) -> Result<Modules<A>, DescFault>
-    ensures { Gives (λ m. map module_view m.rows.items) result (spec.modules_of (view value.now)) }
+#[tactic(auto, unfolding(crate::specs::Entries::toml_modules))]
+fn toml_modules<A: Allocator + Copy>(alloc: A, value: &Value) -> Result<Modules<A>, DescFault>
+    ensures { AnswersAs (λ m. map module_view m.rows.items) result
+        (spec.toml_modules (view value.now)) }
 {
     let Some(items) = value.as_array() else {
         return Err(DescFault::BadDescription);
     };
     let rows = modules_in(alloc, items)?;
-    if rows.len() > MOST_MODULES {
+    if rows.len() > MAX_MODULES {
         return Err(DescFault::BadDescription);
     }
     Ok(Modules { rows })
@@ -69,11 +70,11 @@ fn modules_of<A: Allocator + Copy>(alloc: A, value: &Value) -> Result<Modules<A>
 
 /// The modules of an entry, none where it has no such key.
 pub fn modules_at<A: Allocator + Copy>(alloc: A, table: &Table) -> Result<Modules<A>, DescFault>
-    ensures { Gives (λ m. map module_view m.rows.items) result
-        (values.at_key_or [] spec.modules_of (codes "module") (table_view table.now)) }
+    ensures { AnswersAs (λ m. map module_view m.rows.items) result
+        (values.at_key_or [] spec.toml_modules (codes "module") (table_view table.now)) }
 {
     match at_key(table, "module") {
-        Some(value) => modules_of(alloc, value),
+        Some(value) => toml_modules(alloc, value),
         None => Ok(Modules {
             rows: Vec::new(alloc),
         }),

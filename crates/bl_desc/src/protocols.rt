@@ -6,7 +6,7 @@ ghost use Rattle.bl_desc.specs.Values as values;
 ghost use Rattle.bl_desc.specs.Entries as spec;
 ghost use Rattle.bl_desc.specs.Entries.{entry_keys, protocol_row};
 ghost use Rattle.bl_desc.specs.Forms.{HasCopyLength};
-ghost use Rattle.bl_desc.specs.Views.{Gives, form_view};
+ghost use Rattle.bl_desc.specs.Views.{AnswersAs, form_view};
 
 use crate::copies::copy_if;
 use crate::fault::DescFault;
@@ -18,36 +18,13 @@ use bl_plan::Protocol;
 use std::alloc::{AllocError, Allocator};
 use toml::Table;
 
-/// What a protocol is called.
-pub fn protocol_word(protocol: Protocol) -> &'static str
-    ensures { result.now ≡ (protocol_row protocol).word }
-{
-    match protocol {
-        Protocol::Multiboot2 => "multiboot2",
-        Protocol::Linux => "linux",
-        Protocol::Linux64 => "linux64",
-    }
-}
-
-/// The protocol that is called so.
-fn protocol_named(name: &str) -> Option<Protocol>
-    ensures { result ≡ spec.protocol_named name.now }
-{
-    match name {
-        "multiboot2" => Some(Protocol::Multiboot2),
-        "linux" => Some(Protocol::Linux),
-        "linux64" => Some(Protocol::Linux64),
-        _ => None,
-    }
-}
-
 /// The protocol of an entry.
 pub fn protocol_in(table: &Table) -> Result<Protocol, DescFault>
-    ensures { Gives (λ p. p) result
-        (values.at_key spec.protocol_of (codes "protocol") (table_view table.now)) }
+    ensures { AnswersAs (λ p. p) result
+        (values.at_key spec.toml_protocol (codes "protocol") (table_view table.now)) }
 {
     let name = text_at(table, "protocol")?;
-    protocol_named(name).ok_or(DescFault::BadDescription)
+    Protocol::from_name(name).ok_or(DescFault::BadDescription)
 }
 
 /// Whether an entry has no key but those of each entry and of its protocol.
@@ -79,7 +56,7 @@ fn own_text<A: Allocator>(alloc: A, text: Option<&str>) -> Result<Option<Text<A>
 }
 
 fn multiboot2_form<A: Allocator + Copy>(alloc: A, table: &Table) -> Result<EntryForm<A>, DescFault>
-    ensures given { Gives form_view result (spec.multiboot2_form (table_view table.now)) }
+    ensures given { AnswersAs form_view result (spec.multiboot2_form (table_view table.now)) }
     ensures old { IfOk result (λ form. IfSome (form_view form).rsdp_old HasCopyLength) }
     ensures new { IfOk result (λ form. IfSome (form_view form).rsdp_new HasCopyLength) }
 {
@@ -94,7 +71,7 @@ fn multiboot2_form<A: Allocator + Copy>(alloc: A, table: &Table) -> Result<Entry
 }
 
 fn linux_form<A: Allocator>(alloc: A, table: &Table, wide: bool) -> Result<EntryForm<A>, DescFault>
-    ensures given { Gives form_view result
+    ensures given { AnswersAs form_view result
         (spec.linux_form (of_linux wide) (table_view table.now)) }
     ensures old { IfOk result (λ form. (form_view form).rsdp_old ≡ None) }
     ensures new { IfOk result (λ form. (form_view form).rsdp_new ≡ None) }
@@ -112,7 +89,8 @@ pub fn form_in<A: Allocator + Copy>(
     table: &Table,
     protocol: Protocol,
 ) -> Result<EntryForm<A>, DescFault>
-    ensures given { Gives form_view result ((protocol_row protocol).form (table_view table.now)) }
+    ensures given { AnswersAs form_view result
+        ((protocol_row protocol).form (table_view table.now)) }
     ensures old { IfOk result (λ form. IfSome (form_view form).rsdp_old HasCopyLength) }
     ensures new { IfOk result (λ form. IfSome (form_view form).rsdp_new HasCopyLength) }
 {

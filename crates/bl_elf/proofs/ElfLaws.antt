@@ -10,9 +10,10 @@ use Rattle.bl_elf.specs.declared.fault.ElfFault.TheVariants.{NotElf, BadElf, Seg
 use Rattle.bl_elf.specs.declared.fault.ElfFault.TheVariants.{AddressTooHigh, SegmentsOverlap}
 use Rattle.bl_elf.specs.declared.fault.ElfFault.TheVariants.{NoEntry, NoMemory}
 use Rattle.bl_elf.specs.Header.{header_of, header_fault}
-use Rattle.bl_elf.specs.Program.{fault_at, program_header, segment_of}
-use Rattle.bl_elf.specs.Elf.{ElfFacts, IsElf, IsIndex, IsFirstFaulty, IsFirstOverlap, HasFirstFault}
-use Rattle.bl_elf.specs.Elf.{IsLoadable, AreApart, Covers}
+use Rattle.bl_elf.specs.Program.{program_fault_at, program_header, segment_by_header}
+use Rattle.bl_elf.specs.Elf.{ElfFacts, IsElf, IsIndex, IsFirstFaulty, IsFirstOverlap}
+use Rattle.bl_elf.specs.Elf.{HasFirstElfFault}
+use Rattle.bl_elf.specs.Elf.{IsLoadableSegment, AreApartSegments, IsAddressOf}
 use Rattle.bl_elf.proofs.HeaderLemmas.{few_program_headers}
 use Rattle.bl_elf.proofs.SegmentLemmas.{few_segments, all_segments, apart_segments}
 use Rattle.bl_elf.proofs.SegmentLemmas.{loadable_segment, common_address}
@@ -26,18 +27,18 @@ elf_few bytes facts elf =
 
 -- each of them can be loaded
 pub elf_loadable : (bytes : List ℕ) (facts : ElfFacts) → IsElf bytes facts
-    → All (IsLoadable bytes) facts.segments
+    → All (IsLoadableSegment bytes) facts.segments
 elf_loadable bytes facts elf =
-    subst (λ (xs : List Segment). All (IsLoadable bytes) xs) (sym elf.segments)
-    (all_segments (IsLoadable bytes) bytes 0 (header_of bytes).e_phnum
+    subst (λ (xs : List Segment). All (IsLoadableSegment bytes) xs) (sym elf.segments)
+    (all_segments (IsLoadableSegment bytes) bytes 0 (header_of bytes).e_phnum
     (λ k low high loadable.
     loadable_segment bytes k (program_header bytes k) (elf.sound k (omega arith)) loadable))
 
 -- and no two share a byte
 pub elf_apart : (bytes : List ℕ) (facts : ElfFacts) → IsElf bytes facts
-    → AllPairs AreApart facts.segments
+    → AllPairs AreApartSegments facts.segments
 elf_apart bytes facts elf =
-    subst (λ (xs : List Segment). AllPairs AreApart xs) (sym elf.segments)
+    subst (λ (xs : List Segment). AllPairs AreApartSegments xs) (sym elf.segments)
     (apart_segments bytes 0 (header_of bytes).e_phnum
     (λ j k low above high. elf.apart j (omega arith) k above (omega arith)))
 
@@ -48,7 +49,7 @@ data Origin (bytes : List ℕ) (fault : ElfFault) : Type 0 where
   of_overlap : (i j : ℕ) → IsFirstOverlap bytes i j → fault ≡ SegmentsOverlap i j
       → Origin bytes fault
 
-origin : (bytes : List ℕ) (fault : ElfFault) → ¬ (fault ≡ NoMemory) → HasFirstFault bytes fault
+origin : (bytes : List ℕ) (fault : ElfFault) → ¬ (fault ≡ NoMemory) → HasFirstElfFault bytes fault
     → Origin bytes fault
 origin bytes NotElf other has = of_header has
 origin bytes BadElf other has =
@@ -73,7 +74,7 @@ one_program_fault bytes i k f g a b =
     let same = same_index bytes i k f g a b in
     let first = a.faulty in
     let second = b.faulty in
-    let one : fault_at bytes i ≡ Some g = rw same second in
+    let one : program_fault_at bytes i ≡ Some g = rw same second in
     same_Some f g (sym first ∙ one)
 
 same_first : (bytes : List ℕ) (i j k l : ℕ) → IsFirstOverlap bytes i j → IsFirstOverlap bytes k l
@@ -126,7 +127,7 @@ elf_is_determined bytes f g a b =
 
 -- or one first fault
 pub fault_is_determined : (bytes : List ℕ) (f g : ElfFault) → ¬ (f ≡ NoMemory) → ¬ (g ≡ NoMemory)
-    → HasFirstFault bytes f → HasFirstFault bytes g → f ≡ g
+    → HasFirstElfFault bytes f → HasFirstElfFault bytes g → f ≡ g
 fault_is_determined bytes f g p q a b =
     one_origin bytes f g (origin bytes f p a) (origin bytes g q b)
 
@@ -143,13 +144,13 @@ not_both bytes facts fault elf (of_overlap i j a e) =
 
 -- and never both
 pub elf_not_fault : (bytes : List ℕ) (facts : ElfFacts) (fault : ElfFault) → ¬ (fault ≡ NoMemory)
-    → IsElf bytes facts → HasFirstFault bytes fault → ⊥
+    → IsElf bytes facts → HasFirstElfFault bytes fault → ⊥
 elf_not_fault bytes facts fault other elf has =
     not_both bytes facts fault elf (origin bytes fault other has)
 
 -- an overlap is a byte that both segments hold
-pub overlap_is_shared : (bytes : List ℕ) (i j : ℕ) → HasFirstFault bytes (SegmentsOverlap i j)
-    → (a : ℕ) × Covers (segment_of (program_header bytes i)) a
-    × Covers (segment_of (program_header bytes j)) a
+pub overlap_is_shared : (bytes : List ℕ) (i j : ℕ) → HasFirstElfFault bytes (SegmentsOverlap i j)
+    → (a : ℕ) × IsAddressOf (segment_by_header (program_header bytes i)) a
+    × IsAddressOf (segment_by_header (program_header bytes j)) a
 overlap_is_shared bytes i j has =
     common_address (program_header bytes i) (program_header bytes j) has.share

@@ -7,7 +7,7 @@ use Rattle.bl_elf.specs.declared.header.Header.{Header}
 use Rattle.bl_elf.specs.declared.program.ProgramHeader.{ProgramHeader}
 use Rattle.bl_elf.specs.Header.{header_fault, field_fault, header_of}
 use Rattle.bl_elf.specs.Program.{program_fault, program_header}
-use Rattle.bl_elf.specs.Elf.{IsFirstFaulty, HasFirstFault}
+use Rattle.bl_elf.specs.Elf.{IsFirstFaulty, HasFirstElfFault}
 
 field_kinds : (size : ℕ) (header : Header) (fault : ElfFault) → field_fault size header ≡ Some fault
     → fault ≡ BadElf
@@ -21,7 +21,7 @@ header_kinds bytes fault e = grind (arith, field_kinds (length bytes) (header_of
 
 -- a fault of the header comes first
 pub header_first : (bytes : List ℕ) (fault : ElfFault) → header_fault bytes ≡ Some fault
-    → HasFirstFault bytes fault
+    → HasFirstElfFault bytes fault
 header_first bytes fault e =
     elim (header_kinds bytes fault e) [
       | inl not_elf ↦ rw not_elf (rw not_elf at e)
@@ -36,7 +36,7 @@ program_kinds size i header fault e = grind arith
 
 -- so does the first fault of the program headers, where the header has none
 pub program_first : (bytes : List ℕ) (i : ℕ) (fault : ElfFault) → IsFirstFaulty bytes i fault
-    → HasFirstFault bytes fault
+    → HasFirstElfFault bytes fault
 program_first bytes i fault first =
     elim (program_kinds (length bytes) i (program_header bytes i) fault first.faulty) [
       | inl bad_elf ↦ rw bad_elf (inr (i, rw bad_elf at first))

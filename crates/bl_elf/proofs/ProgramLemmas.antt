@@ -5,7 +5,8 @@ use Rattle.std.specs.Prelude.{find}
 use Rattle.std.proofs.lemmas.Bool.Decides.{nat_tests}
 use Rattle.bl_mem.specs.declared.segment.Segment.{Segment}
 use Rattle.bl_elf.specs.declared.program.ProgramHeader.{ProgramHeader}
-use Rattle.bl_elf.specs.Program.{program_header, headers_from, is_loadable, segment_of, segments_of}
+use Rattle.bl_elf.specs.Program.{program_header, headers_from, is_loadable, segment_by_header}
+use Rattle.bl_elf.specs.Program.{segments_of}
 use Rattle.bl_elf.specs.Program.{is_entered, program_fault}
 
 -- the program headers from the i-th on are the i-th and those after it
@@ -44,10 +45,10 @@ skips bytes front all i count within loadable so_far =
 pub takes : (bytes : List ℕ) (front all : List Segment) (i count : ℕ) → i < count
     → is_loadable (program_header bytes i) ≡ true
     → front ++ segments_of (headers_from bytes i (count - i)) ≡ all
-    → (front ++ segment_of (program_header bytes i) ∷ [])
+    → (front ++ segment_by_header (program_header bytes i) ∷ [])
     ++ segments_of (headers_from bytes (i + 1) (count - (i + 1))) ≡ all
 takes bytes front all i count within loadable so_far =
-    let segment = segment_of (program_header bytes i) in
+    let segment = segment_by_header (program_header bytes i) in
     let rest = segments_of (headers_from bytes (i + 1) (count - (i + 1))) in
     let one : front ++ segments_of (headers_from bytes i (count - i)) ≡ front ++ (segment ∷ rest) =
     rw (headers_more bytes i count within, loadable) refl in

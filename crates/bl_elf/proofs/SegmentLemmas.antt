@@ -7,13 +7,14 @@ use Rattle.std.proofs.lemmas.List.Elements.{All-cons, All-nil}
 use Rattle.std.proofs.lemmas.List.Kept.{AllPairs-cons}
 use Rattle.bl_mem.specs.declared.segment.Segment.{Segment}
 use Rattle.bl_elf.specs.declared.program.ProgramHeader.{ProgramHeader}
-use Rattle.bl_elf.specs.Program.{program_header, headers_from, is_loadable, segment_of, segments_of}
+use Rattle.bl_elf.specs.Program.{program_header, headers_from, is_loadable, segment_by_header}
+use Rattle.bl_elf.specs.Program.{segments_of}
 use Rattle.bl_elf.specs.Program.{program_fault, share_byte, share_at}
-use Rattle.bl_elf.specs.Elf.{IsLoadable, AreApart, Covers}
+use Rattle.bl_elf.specs.Elf.{IsLoadableSegment, AreApartSegments, IsAddressOf}
 
 -- a loadable program header gives its segment
 loaded : (header : ProgramHeader) (rest : List ProgramHeader) → is_loadable header ≡ true
-    → segments_of (header ∷ rest) ≡ segment_of header ∷ segments_of rest
+    → segments_of (header ∷ rest) ≡ segment_by_header header ∷ segments_of rest
 loaded header rest e = rw e refl
 
 -- any other gives none
@@ -35,7 +36,7 @@ few_segments bytes i (suc n) =
     (is_loadable (program_header bytes i)) refl (few_segments bytes (i + 1) n)
 
 all_more : (P : Segment → Type 0) (header : ProgramHeader) (rest : List ProgramHeader) (b : Bool)
-    → is_loadable header ≡ b → (is_loadable header ≡ true → P (segment_of header))
+    → is_loadable header ≡ b → (is_loadable header ≡ true → P (segment_by_header header))
     → All P (segments_of rest) → All P (segments_of (header ∷ rest))
 all_more P header rest true e one all =
     subst (λ (xs : List Segment). All P xs) (sym (loaded header rest e))
@@ -46,7 +47,7 @@ all_more P header rest false e one all =
 -- what holds of the segment of each loadable one of n program headers from the i-th on
 pub all_segments : (P : Segment → Type 0) (bytes : List ℕ) (i n : ℕ)
     → ((k : ℕ) → i ≤ k → k < i + n → is_loadable (program_header bytes k) ≡ true
-    → P (segment_of (program_header bytes k))) → All P (segments_of (headers_from bytes i n))
+    → P (segment_by_header (program_header bytes k))) → All P (segments_of (headers_from bytes i n))
 all_segments P bytes i zero each = All-nil P
 all_segments P bytes i (suc n) each =
     all_more P (program_header bytes i) (headers_from bytes (i + 1) n)
@@ -55,13 +56,13 @@ all_segments P bytes i (suc n) each =
 
 -- two that share no byte have segments apart
 apart_from : (p q : ProgramHeader) → is_loadable p ≡ true → is_loadable q ≡ true
-    → share_byte p q ≡ false → AreApart (segment_of p) (segment_of q)
+    → share_byte p q ≡ false → AreApartSegments (segment_by_header p) (segment_by_header q)
 unfolding share_byte
 apart_from p q first second apart = λ a in_p in_q. grind (arith, nat_tests)
 
 -- two that share a byte have an address in common
 pub common_address : (p q : ProgramHeader) → share_byte p q ≡ true
-    → (a : ℕ) × Covers (segment_of p) a × Covers (segment_of q) a
+    → (a : ℕ) × IsAddressOf (segment_by_header p) a × IsAddressOf (segment_by_header q) a
 unfolding share_byte
 common_address p q share = (
   max p.p_paddr q.p_paddr,
@@ -71,7 +72,7 @@ common_address p q share = (
 
 pairs_more : (R : Segment → Segment → Type 0) (header : ProgramHeader) (rest : List ProgramHeader)
     (b : Bool) → is_loadable header ≡ b
-    → (is_loadable header ≡ true → All (R (segment_of header)) (segments_of rest))
+    → (is_loadable header ≡ true → All (R (segment_by_header header)) (segments_of rest))
     → AllPairs R (segments_of rest) → AllPairs R (segments_of (header ∷ rest))
 pairs_more R header rest true e one all =
     subst (λ (xs : List Segment). AllPairs R xs) (sym (loaded header rest e))
@@ -82,12 +83,13 @@ pairs_more R header rest false e one all =
 -- no two segments share a byte, where no two program headers do
 pub apart_segments : (bytes : List ℕ) (i n : ℕ)
     → ((j k : ℕ) → i ≤ j → j < k → k < i + n → share_at bytes j k ≡ false)
-    → AllPairs AreApart (segments_of (headers_from bytes i n))
+    → AllPairs AreApartSegments (segments_of (headers_from bytes i n))
 apart_segments bytes i zero apart = λ j k d above within. absurd (omega arith)
 apart_segments bytes i (suc n) apart =
-    pairs_more AreApart (program_header bytes i) (headers_from bytes (i + 1) n)
+    pairs_more AreApartSegments (program_header bytes i) (headers_from bytes (i + 1) n)
     (is_loadable (program_header bytes i)) refl
-    (λ first. all_segments (AreApart (segment_of (program_header bytes i))) bytes (i + 1) n
+    (λ first. all_segments (AreApartSegments (segment_by_header (program_header bytes i))) bytes
+    (i + 1) n
     (λ k low high second.
     apart_from (program_header bytes i) (program_header bytes k) first second
     (apart i k (omega arith) (omega arith) (omega arith))))
@@ -97,7 +99,7 @@ apart_segments bytes i (suc n) apart =
 -- the segment of a loadable one without a fault
 pub loadable_segment : (bytes : List ℕ) (i : ℕ) (header : ProgramHeader)
     → program_fault (length bytes) i header ≡ None → is_loadable header ≡ true
-    → IsLoadable bytes (segment_of header)
+    → IsLoadableSegment bytes (segment_by_header header)
 unfolding program_fault
 loadable_segment bytes i header sound loadable = record {
   filled = grind (arith, nat_tests);

@@ -6,18 +6,19 @@ use Rattle.bl_mem.proofs.LeastLaws.{SomeBelow, least_below}
 use Rattle.bl_elf.specs.declared.fault.ElfFault.{ElfFault}
 use Rattle.bl_elf.specs.declared.fault.ElfFault.TheVariants.{SegmentsOverlap, NoMemory}
 use Rattle.bl_elf.specs.Header.{header_of, header_fault}
-use Rattle.bl_elf.specs.Program.{fault_at, program_header, program_headers, segments_of, share_at}
+use Rattle.bl_elf.specs.Program.{program_fault_at, program_header, program_headers, segments_of}
+use Rattle.bl_elf.specs.Program.{share_at}
 use Rattle.bl_elf.specs.Elf.{ElfFacts, IsElf, IsIndex, SharesNone, IsFirstFaulty, IsFirstOverlap}
-use Rattle.bl_elf.specs.Elf.{HasFirstFault, physical_entry}
+use Rattle.bl_elf.specs.Elf.{HasFirstElfFault, physical_entry}
 use Rattle.bl_elf.proofs.FaultLemmas.{header_kinds, program_kinds, header_first, program_first}
 
 -- the file has a first fault
 abbrev IsRefused : List ℕ → Type 0
-IsRefused bytes = (fault : ElfFault) × ¬ (fault ≡ NoMemory) × HasFirstFault bytes fault
+IsRefused bytes = (fault : ElfFault) × ¬ (fault ≡ NoMemory) × HasFirstElfFault bytes fault
 
 -- program header i has a fault
 abbrev IsFaulty : List ℕ → ℕ → Type 0
-IsFaulty bytes i = (fault : ElfFault) × (fault_at bytes i ≡ Some fault)
+IsFaulty bytes i = (fault : ElfFault) × (program_fault_at bytes i ≡ Some fault)
 
 -- program headers i and j, a later one, share a physical byte
 abbrev Share : List ℕ → ℕ → ℕ → Type 0
@@ -85,7 +86,7 @@ overlap_refused bytes i j first = (SegmentsOverlap i j, (λ memory. cc), first)
 
 -- where the header and each program header are sound
 after_programs : (bytes : List ℕ) → header_fault bytes ≡ None
-    → ((i : ℕ) → IsIndex bytes i → fault_at bytes i ≡ None)
+    → ((i : ℕ) → IsIndex bytes i → program_fault_at bytes i ≡ None)
     → ((facts : ElfFacts) × IsElf bytes facts) ⊎ IsRefused bytes
 after_programs bytes header sound =
     elim (least_below (SharesOne bytes) (one_or_not bytes) (header_of bytes).e_phnum) [
@@ -119,22 +120,24 @@ after_programs bytes header sound =
 after_header : (bytes : List ℕ) → header_fault bytes ≡ None
     → ((facts : ElfFacts) × IsElf bytes facts) ⊎ IsRefused bytes
 after_header bytes header =
-    elim (least_below (IsFaulty bytes) (λ i. some_or_none (fault_at bytes i))
+    elim (least_below (IsFaulty bytes) (λ i. some_or_none (program_fault_at bytes i))
     (header_of bytes).e_phnum) [
       | inl none ↦
-          after_programs bytes header (λ i within. none_left (fault_at bytes i) (none i within))
+          after_programs bytes header (λ i within. none_left (program_fault_at bytes i)
+          (none i within))
       | inr (i, within, least) ↦ inr (program_refused bytes i least.holds.0 record {
         header = header;
         within = within;
         faulty = least.holds.1;
         sound_before =
-            λ k below. none_left (fault_at bytes k) (λ other. omega (arith, least.least k other));
+            λ k below. none_left (program_fault_at bytes k) (λ other. omega
+            (arith, least.least k other));
       })
     ]
 
 pub elf_or_fault : (bytes : List ℕ)
     → ((facts : ElfFacts) × IsElf bytes facts)
-    ⊎ ((fault : ElfFault) × ¬ (fault ≡ NoMemory) × HasFirstFault bytes fault)
+    ⊎ ((fault : ElfFault) × ¬ (fault ≡ NoMemory) × HasFirstElfFault bytes fault)
 elf_or_fault bytes =
     elim (some_or_none (header_fault bytes)) [
       | inl (fault, e) ↦ inr (header_refused bytes fault e)

@@ -11,7 +11,8 @@ use Rattle.bl_elf.specs.declared.fault.ElfFault.TheVariants.{NotElf, BadElf, Seg
 use Rattle.bl_elf.specs.declared.fault.ElfFault.TheVariants.{AddressTooHigh, SegmentsOverlap}
 use Rattle.bl_elf.specs.declared.fault.ElfFault.TheVariants.{NoEntry, NoMemory}
 use Rattle.bl_elf.specs.Header.{header_of, header_fault}
-use Rattle.bl_elf.specs.Program.{program_headers, segments_of, fault_at, share_at, is_entered}
+use Rattle.bl_elf.specs.Program.{program_headers, segments_of, program_fault_at, share_at}
+use Rattle.bl_elf.specs.Program.{is_entered}
 
 -- what loading needs of a file: its loadable segments in the order of its program headers, and the
 -- physical address at which it is entered
@@ -45,7 +46,7 @@ SharesNone bytes i = (j : ℕ) → i < j → IsIndex bytes j → share_at bytes 
 -- the facts
 pub record IsElf (bytes : List ℕ) (facts : ElfFacts) : Type 0 where
   pub header : header_fault bytes ≡ None
-  pub sound : (i : ℕ) → IsIndex bytes i → fault_at bytes i ≡ None
+  pub sound : (i : ℕ) → IsIndex bytes i → program_fault_at bytes i ≡ None
   pub apart : (i : ℕ) → IsIndex bytes i → SharesNone bytes i
   pub segments : facts.segments ≡ segments_of (program_headers bytes)
   pub entry : facts.entry ≡ physical_entry bytes
@@ -54,14 +55,14 @@ pub record IsElf (bytes : List ℕ) (facts : ElfFacts) : Type 0 where
 pub record IsFirstFaulty (bytes : List ℕ) (i : ℕ) (fault : ElfFault) : Type 0 where
   pub header : header_fault bytes ≡ None
   pub within : IsIndex bytes i
-  pub faulty : fault_at bytes i ≡ Some fault
-  pub sound_before : (k : ℕ) → k < i → fault_at bytes k ≡ None
+  pub faulty : program_fault_at bytes i ≡ Some fault
+  pub sound_before : (k : ℕ) → k < i → program_fault_at bytes k ≡ None
 
 -- all is sound, and i is the least that shares a physical byte with a later program header, and j
 -- the least of those
 pub record IsFirstOverlap (bytes : List ℕ) (i j : ℕ) : Type 0 where
   pub header : header_fault bytes ≡ None
-  pub sound : (k : ℕ) → IsIndex bytes k → fault_at bytes k ≡ None
+  pub sound : (k : ℕ) → IsIndex bytes k → program_fault_at bytes k ≡ None
   pub above : i < j
   pub within : IsIndex bytes j
   pub share : share_at bytes i j ≡ true
@@ -69,28 +70,28 @@ pub record IsFirstOverlap (bytes : List ℕ) (i j : ℕ) : Type 0 where
   pub least_second : (k : ℕ) → i < k → k < j → share_at bytes i k ≡ false
 
 -- this is the first fault of a file that is refused, or memory ran out
-abbrev pub HasFirstFault : List ℕ → ElfFault → Type 0
-HasFirstFault bytes NotElf = header_fault bytes ≡ Some NotElf
-HasFirstFault bytes BadElf =
+abbrev pub HasFirstElfFault : List ℕ → ElfFault → Type 0
+HasFirstElfFault bytes NotElf = header_fault bytes ≡ Some NotElf
+HasFirstElfFault bytes BadElf =
     (header_fault bytes ≡ Some BadElf) ⊎ ((i : ℕ) × IsFirstFaulty bytes i BadElf)
-HasFirstFault bytes (SegmentCut i) = IsFirstFaulty bytes i (SegmentCut i)
-HasFirstFault bytes (AddressTooHigh i) = IsFirstFaulty bytes i (AddressTooHigh i)
-HasFirstFault bytes (SegmentsOverlap i j) = IsFirstOverlap bytes i j
-HasFirstFault bytes NoEntry = ⊥
-HasFirstFault bytes NoMemory = Unit {0}
+HasFirstElfFault bytes (SegmentCut i) = IsFirstFaulty bytes i (SegmentCut i)
+HasFirstElfFault bytes (AddressTooHigh i) = IsFirstFaulty bytes i (AddressTooHigh i)
+HasFirstElfFault bytes (SegmentsOverlap i j) = IsFirstOverlap bytes i j
+HasFirstElfFault bytes NoEntry = ⊥
+HasFirstElfFault bytes NoMemory = Unit {0}
 
 -- a segment as a loader needs it: it takes memory below 2^32, and what it takes of the file is
 -- within the file
-pub record IsLoadable (bytes : List ℕ) (segment : Segment) : Type 0 where
+pub record IsLoadableSegment (bytes : List ℕ) (segment : Segment) : Type 0 where
   pub filled : 1 ≤ segment.memsz
   pub fits : segment.filesz ≤ segment.memsz
   pub in_file : 0 < segment.filesz → segment.offset + segment.filesz ≤ length bytes
   pub low : segment.address + segment.memsz ≤ 2 ^ 32
 
 -- a is an address of the segment
-abbrev pub Covers : Segment → ℕ → Type 0
-Covers segment a = (segment.address ≤ a) × (a < segment.address + segment.memsz)
+abbrev pub IsAddressOf : Segment → ℕ → Type 0
+IsAddressOf segment a = (segment.address ≤ a) × (a < segment.address + segment.memsz)
 
 -- no address is in both
-abbrev pub AreApart : Segment → Segment → Type 0
-AreApart s t = (a : ℕ) → Covers s a → Covers t a → ⊥
+abbrev pub AreApartSegments : Segment → Segment → Type 0
+AreApartSegments s t = (a : ℕ) → IsAddressOf s a → IsAddressOf t a → ⊥

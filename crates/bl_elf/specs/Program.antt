@@ -33,12 +33,12 @@ program_header_at Elf64 bytes at = record {
 }
 
 -- where program header i stands
-abbrev pub place_of : Header → ℕ → ℕ
-place_of header i = header.e_phoff + i * header.e_phentsize
+abbrev pub header_place : Header → ℕ → ℕ
+header_place header i = header.e_phoff + i * header.e_phentsize
 
 unfoldable pub program_header : List ℕ → ℕ → ProgramHeader
 program_header bytes i =
-    let header = header_of bytes in program_header_at header.class bytes (place_of header i)
+    let header = header_of bytes in program_header_at header.class bytes (header_place header i)
 
 -- the n program headers from the i-th on
 abbrev pub headers_from : List ℕ → ℕ → ℕ → List ProgramHeader
@@ -53,8 +53,8 @@ abbrev pub is_loadable : ProgramHeader → Bool
 is_loadable header = header.p_type == 1 && not (header.p_memsz == 0)
 
 -- own: the segment is loaded at its physical address
-abbrev pub segment_of : ProgramHeader → Segment
-segment_of header = record {
+abbrev pub segment_by_header : ProgramHeader → Segment
+segment_by_header header = record {
   offset = header.p_offset;
   address = header.p_paddr;
   filesz = header.p_filesz;
@@ -63,7 +63,7 @@ segment_of header = record {
 
 -- the segments of the loadable ones, in order
 abbrev pub segments_of : List ProgramHeader → List Segment
-segments_of headers = map segment_of (filter is_loadable headers)
+segments_of headers = map segment_by_header (filter is_loadable headers)
 
 -- the first fault of a loadable program header, the i-th of a file of this size; any other has
 -- none. Own: its memory may not end above 2^32
@@ -77,8 +77,8 @@ program_fault size i header =
     None
 
 -- the first fault of program header i
-abbrev pub fault_at : List ℕ → ℕ → Option ElfFault
-fault_at bytes i = program_fault (length bytes) i (program_header bytes i)
+abbrev pub program_fault_at : List ℕ → ℕ → Option ElfFault
+program_fault_at bytes i = program_fault (length bytes) i (program_header bytes i)
 
 -- two loadable ones share a physical byte, which is a fault (own)
 unfoldable pub share_byte : ProgramHeader → ProgramHeader → Bool

@@ -1,7 +1,7 @@
 //! What is read from a file.
 ghost use Rattle.std.specs.Prelude.{◌≡◌, ◌≤◌, Some, None, length, All, AllPairs, MatchResult, IfOk};
 ghost use Rattle.std.specs.Prelude.{IfErr};
-ghost use Rattle.bl_elf.specs.Elf.{IsElf, HasFirstFault, IsLoadable, AreApart};
+ghost use Rattle.bl_elf.specs.Elf.{IsElf, HasFirstElfFault, IsLoadableSegment, AreApartSegments};
 ghost use Rattle.bl_elf.specs.declared.fault.ElfFault.TheVariants.{NoEntry};
 
 use crate::entry::find_entry;
@@ -52,12 +52,13 @@ impl<A: Allocator> Elf<A> {
 /// file is the list of its loadable segments.
 pub fn read_elf<A: Allocator + Copy, V: ByteView>(alloc: A, view: &V) -> Result<Elf<A>, ElfFault>
     ensures read { IfOk result (λ elf. IsElf (V.bytes view.now) elf) }
-    ensures first_fault { IfErr result (λ fault. HasFirstFault (V.bytes view.now) fault) }
+    ensures first_fault { IfErr result (λ fault. HasFirstElfFault (V.bytes view.now) fault) }
 
     // What follows from the first clause alone, for callers that place and copy the segments.
-    ensures segments { IfOk result (λ elf. All (IsLoadable (V.bytes view.now)) elf.segments) }
+    ensures segments { IfOk result (λ elf. All (IsLoadableSegment
+        (V.bytes view.now)) elf.segments) }
     ensures few { IfOk result (λ elf. length elf.segments ≤ 128) }
-    ensures apart { IfOk result (λ elf. AllPairs AreApart elf.segments) }
+    ensures apart { IfOk result (λ elf. AllPairs AreApartSegments elf.segments) }
 {
     let header = read_header(view)?;
     let segments = loadable_segments(alloc, view, header)?;

@@ -2,7 +2,7 @@
 ghost use Rattle.std.specs.Prelude.{◌≡◌, ◌≤◌, ◌<◌, ◌+◌, ◌-◌, ◌^◌, ℕ, None, IfSome, find};
 ghost use Rattle.std.specs.List.{list_any};
 ghost use Rattle.bl_elf.specs.Kept.{IsHeaderOf};
-ghost use Rattle.bl_elf.specs.Program.{program_headers, segments_of, fault_at, is_entered};
+ghost use Rattle.bl_elf.specs.Program.{program_headers, segments_of, program_fault_at, is_entered};
 ghost use Rattle.bl_mem.specs.Contents.{holds_at};
 ghost use Rattle.bl_elf.specs.Elf.{IsIndex, physical_entry};
 
@@ -14,7 +14,8 @@ use bl_mem::{ByteView, Segment};
 #[tactic(auto, unfolding(crate::specs::Elf::physical_entry))]
 pub fn find_entry<V: ByteView>(view: &V, header: Header, segments: &[Segment]) -> Option<u64>
     requires header { IsHeaderOf (V.bytes view.now) header }
-    requires sound { (i : ℕ) → IsIndex (V.bytes view.now) i → fault_at (V.bytes view.now) i ≡ None }
+    requires sound { (i : ℕ) → IsIndex (V.bytes view.now) i → program_fault_at (V.bytes view.now) i
+        ≡ None }
     requires segments { segments.now ≡ segments_of (program_headers (V.bytes view.now)) }
     ensures { result ≡ physical_entry (V.bytes view.now) }
 {
@@ -30,7 +31,8 @@ pub fn find_entry<V: ByteView>(view: &V, header: Header, segments: &[Segment]) -
 /// The first loadable program header whose virtual addresses hold the entry.
 fn first_entered<V: ByteView>(view: &V, header: Header) -> Option<ProgramHeader>
     requires header { IsHeaderOf (V.bytes view.now) header }
-    requires sound { (i : ℕ) → IsIndex (V.bytes view.now) i → fault_at (V.bytes view.now) i ≡ None }
+    requires sound { (i : ℕ) → IsIndex (V.bytes view.now) i → program_fault_at (V.bytes view.now) i
+        ≡ None }
     ensures first { result ≡ find (is_entered header.e_entry) (program_headers (V.bytes view.now)) }
     ensures inside { IfSome result (λ program. (program.p_vaddr ≤ header.e_entry)
         × (header.e_entry - program.p_vaddr + program.p_paddr < 2 ^ 32)) }

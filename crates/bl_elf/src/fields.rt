@@ -81,7 +81,7 @@ pub const E_PHNUM_32: u64 = 44;
 pub const E_PHNUM_64: u64 = 56;
 
 /// The greatest `e_phnum` that is accepted (own).
-pub const MOST_PROGRAM_HEADERS: u16 = 128;
+pub const MAX_PROGRAM_HEADERS: u16 = 128;
 
 /// The size of a program header, an `Elf32_Phdr`. Its `p_type` stands first.
 pub const PHDR_SIZE_32: u16 = 32;

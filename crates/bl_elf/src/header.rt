@@ -9,7 +9,7 @@ use crate::fields::{
     E_ENTRY, E_MACHINE, E_PHENTSIZE_32, E_PHENTSIZE_64, E_PHNUM_32, E_PHNUM_64, E_PHOFF_32,
     E_PHOFF_64, E_TYPE, E_VERSION, EHDR_SIZE_32, EHDR_SIZE_64, EI_CLASS, EI_DATA, EI_NIDENT,
     EI_VERSION, EI_VERSION_CURRENT, ELFCLASS32, ELFCLASS64, ELFDATA2LSB, ET_DYN, ET_EXEC,
-    EV_CURRENT, MAGIC, MOST_PROGRAM_HEADERS,
+    EV_CURRENT, MAGIC, MAX_PROGRAM_HEADERS,
 };
 use crate::sums::ends_within;
 use bl_mem::{ByteView, u8_at, u16_at, u32_at, u64_at};
@@ -135,7 +135,7 @@ fn check_fields(size: u64, header: Header) -> Result<(), ElfFault>
     if header.e_version != EV_CURRENT {
         return Err(ElfFault::BadElf);
     }
-    if header.e_phnum > MOST_PROGRAM_HEADERS {
+    if header.e_phnum > MAX_PROGRAM_HEADERS {
         return Err(ElfFault::BadElf);
     }
     if !has_table(size, header) {

@@ -2,25 +2,25 @@
 ghost use Rattle.std.specs.Prelude.{◌≡◌, ◌⊎◌, ℕ, List};
 ghost use Rattle.bl_elf.specs.declared.fault.ElfFault.{ElfFault};
 ghost use Rattle.bl_elf.specs.declared.fault.ElfFault.TheVariants.{SegmentsOverlap, NoMemory};
-ghost use Rattle.bl_elf.specs.Program.{program_header, segment_of};
-ghost use Rattle.bl_elf.specs.Elf.{ElfFacts, IsElf, HasFirstFault, Covers};
+ghost use Rattle.bl_elf.specs.Program.{program_header, segment_by_header};
+ghost use Rattle.bl_elf.specs.Elf.{ElfFacts, IsElf, HasFirstElfFault, IsAddressOf};
 
 /// A file has exactly one of these: one reading as an executable, or one first fault. Want of
 /// memory is no fault of the file. This holds for every list of numbers, be they bytes or not.
 pub fn elf_is_determined()
     ensures total { (bytes : List ℕ) → ((facts : ElfFacts) × IsElf bytes facts)
-        ⊎ ((fault : ElfFault) × ¬ (fault ≡ NoMemory) × HasFirstFault bytes fault) }
+        ⊎ ((fault : ElfFault) × ¬ (fault ≡ NoMemory) × HasFirstElfFault bytes fault) }
     ensures one_reading { (bytes : List ℕ) (f g : ElfFacts)
         → IsElf bytes f → IsElf bytes g → f ≡ g }
     ensures one_fault { (bytes : List ℕ) (f g : ElfFault) → ¬ (f ≡ NoMemory) → ¬ (g ≡ NoMemory)
-        → HasFirstFault bytes f → HasFirstFault bytes g → f ≡ g }
+        → HasFirstElfFault bytes f → HasFirstElfFault bytes g → f ≡ g }
     ensures not_both { (bytes : List ℕ) (facts : ElfFacts) (fault : ElfFault) → ¬ (fault ≡ NoMemory)
-        → IsElf bytes facts → HasFirstFault bytes fault → ⊥ }
+        → IsElf bytes facts → HasFirstElfFault bytes fault → ⊥ }
 {}
 
 /// Where two segments overlap, some address lies in both.
 pub fn overlap_is_shared()
-    ensures { (bytes : List ℕ) (i j : ℕ) → HasFirstFault bytes (SegmentsOverlap i j)
-        → (a : ℕ) × Covers (segment_of (program_header bytes i)) a
-        × Covers (segment_of (program_header bytes j)) a }
+    ensures { (bytes : List ℕ) (i j : ℕ) → HasFirstElfFault bytes (SegmentsOverlap i j)
+        → (a : ℕ) × IsAddressOf (segment_by_header (program_header bytes i)) a
+        × IsAddressOf (segment_by_header (program_header bytes j)) a }
 {}

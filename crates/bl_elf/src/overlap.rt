@@ -1,8 +1,8 @@
 //! Segments that share a physical byte.
 ghost use Rattle.std.specs.Prelude.{◌≡◌, ◌<◌, ℕ, true, false, None, MatchOption, MatchResult};
 ghost use Rattle.bl_elf.specs.Kept.{IsHeaderOf};
-ghost use Rattle.bl_elf.specs.Program.{fault_at, share_at};
-ghost use Rattle.bl_elf.specs.Elf.{IsIndex, SharesNone, HasFirstFault};
+ghost use Rattle.bl_elf.specs.Program.{program_fault_at, share_at};
+ghost use Rattle.bl_elf.specs.Elf.{IsIndex, SharesNone, HasFirstElfFault};
 
 use crate::fault::ElfFault;
 use crate::header::Header;
@@ -30,10 +30,11 @@ fn overlap_after<V: ByteView>(view: &V, header: Header, i: u16) -> Option<u16>
 /// Refuses a file in which two loadable segments share a physical byte, with the first two.
 pub fn check_overlaps<V: ByteView>(view: &V, header: Header) -> Result<(), ElfFault>
     requires header { IsHeaderOf (V.bytes view.now) header }
-    requires sound { (i : ℕ) → IsIndex (V.bytes view.now) i → fault_at (V.bytes view.now) i ≡ None }
+    requires sound { (i : ℕ) → IsIndex (V.bytes view.now) i → program_fault_at (V.bytes view.now) i
+        ≡ None }
     ensures { MatchResult result
         (λ _. (i : ℕ) → IsIndex (V.bytes view.now) i → SharesNone (V.bytes view.now) i)
-        (HasFirstFault (V.bytes view.now)) }
+        (HasFirstElfFault (V.bytes view.now)) }
 {
     for i in 0..header.e_phnum {
         if let Some(j) = overlap_after(view, header, i) {

@@ -80,7 +80,7 @@ impl ProgramHeader {
 
     /// Its segment, loaded at its physical address.
     pub fn segment(self) -> Segment
-        ensures { result ≡ spec.segment_of self }
+        ensures { result ≡ spec.segment_by_header self }
     {
         Segment {
             offset: self.p_offset,

@@ -1,8 +1,8 @@
 //! The loadable segments.
 ghost use Rattle.std.specs.Prelude.{◌≡◌, ℕ, None, IfOk, OnOk, IfErr};
 ghost use Rattle.bl_elf.specs.Kept.{IsHeaderOf};
-ghost use Rattle.bl_elf.specs.Program.{program_headers, segments_of, fault_at};
-ghost use Rattle.bl_elf.specs.Elf.{IsIndex, HasFirstFault};
+ghost use Rattle.bl_elf.specs.Program.{program_headers, segments_of, program_fault_at};
+ghost use Rattle.bl_elf.specs.Elf.{IsIndex, HasFirstElfFault};
 
 use crate::fault::ElfFault;
 use crate::header::Header;
@@ -20,8 +20,8 @@ pub fn loadable_segments<A: Allocator + Copy, V: ByteView>(
     ensures segments { IfOk result
         (λ segments. segments.items ≡ segments_of (program_headers (V.bytes view.now))) }
     ensures sound { OnOk result
-        ((i : ℕ) → IsIndex (V.bytes view.now) i → fault_at (V.bytes view.now) i ≡ None) }
-    ensures first_fault { IfErr result (HasFirstFault (V.bytes view.now)) }
+        ((i : ℕ) → IsIndex (V.bytes view.now) i → program_fault_at (V.bytes view.now) i ≡ None) }
+    ensures first_fault { IfErr result (HasFirstElfFault (V.bytes view.now)) }
 {
     let size = view.len();
     let mut segments = Vec::new(alloc);

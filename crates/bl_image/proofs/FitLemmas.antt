@@ -10,7 +10,7 @@ use Rattle.bl_load.specs.HandoffFacts.{AreHandoffFacts}
 use Rattle.bl_load.specs.Protocols.{is_wide}
 use Rattle.bl_load.specs.Registers.{are_wide}
 use Rattle.bl_load.specs.PlanFacts.{part_in, handover_in}
-use Rattle.bl_image.specs.ImageParts.{IsKept}
+use Rattle.bl_image.specs.ImageParts.{IsKeptByImages}
 use Rattle.bl_image.specs.Spellable.{FitsRecord, IsSpellable, AreFit}
 use Rattle.bl_image.specs.RecordsKept.{PlaceFits, AreSpellable}
 use Rattle.bl_image.proofs.PartLemmas.{memory_kept}
@@ -59,7 +59,7 @@ handover_fits bytes protocol r ps inside width fit =
 pub handover_kept : (bytes : List ℕ) (protocol : Protocol) (r : Registers) (ps : List Place)
     → All (EndsIn bytes) ps → AreSpellable r ps
     → AreHandoffFacts (record { protocol = protocol; registers = r; places = ps })
-    → IsKept (handover_in bytes protocol r ps)
+    → IsKeptByImages (handover_in bytes protocol r ps)
 handover_kept bytes protocol r ps inside fit kept = record {
   handoff = memory_kept bytes protocol r ps inside kept;
   spellable = handover_fits bytes protocol r ps inside kept.width fit;

@@ -22,9 +22,9 @@ use Rattle.bl_image.specs.declared.version.Version.{Version}
 use Rattle.bl_image.specs.Image.{part_record, spelling}
 use Rattle.bl_image.specs.ImageFaults.{Before, and_record, parts_fault, end_fault, none_before}
 use Rattle.bl_image.specs.ImageFaults.{image_fault}
-use Rattle.bl_image.specs.ImageParts.{place_of, PartAscends, IsKept, IsImage}
+use Rattle.bl_image.specs.ImageParts.{part_place, PartAscends, IsKeptByImages, IsImage}
 use Rattle.bl_image.specs.RecordsKept.{IsNext}
-use Rattle.bl_image.specs.Source.{Fails, Input, IsOfTheMoment, Refuses}
+use Rattle.bl_image.specs.Source.{RefusesBytes, Input, IsOfTheMoment, RefusesInput}
 use Rattle.bl_image.proofs.FrontLemmas.{head_front}
 use Rattle.bl_image.proofs.KnownLemmas.{fails_known}
 use Rattle.bl_image.proofs.PartLemmas.{all_bytes, all_under, related_under}
@@ -46,7 +46,7 @@ parts_sound : (wide : Bool) (parts : List Part) (before : Before) (x : List ℕ)
 parts_sound wide [] before x above related sound = ap (λ (n : ℕ). end_fault n x) (omega arith)
 parts_sound wide (part ∷ parts) before x above related sound =
     let here = sound 0 part (omega arith) in
-    let next : IsNext before.end (place_of part) =
+    let next : IsNext before.end (part_place part) =
     record {
       index = here.index;
       above = above 0 part (omega arith);
@@ -60,7 +60,7 @@ parts_sound wide (part ∷ parts) before x above related sound =
     (flat_map-cons part_record part parts)
     ∙ ap (parts_fault most (suc (length parts)) before)
     (append_assoc (part_record part) (flat_map part_record parts) x)
-    ∙ parts_step wide (length parts) before (place_of part) (flat_map part_record parts ++ x)
+    ∙ parts_step wide (length parts) before (part_place part) (flat_map part_record parts ++ x)
     here.may next
     ∙ parts_sound wide parts after x related.0 related.1
     (All-tail (IsSoundPart wide) part parts sound)
@@ -70,7 +70,7 @@ whole_ends : (bytes : List ℕ) → end_fault (0 + length bytes) bytes ≡ None
 whole_ends bytes =
     let e : (length bytes == 0 + length bytes) ≡ true = grind (arith, nat_tests) in rw e refl
 
-sound_parts : (h : Handover) → IsKept h → All (IsSoundPart (is_wide h.protocol)) h.parts
+sound_parts : (h : Handover) → IsKeptByImages h → All (IsSoundPart (is_wide h.protocol)) h.parts
 sound_parts h kept k d within =
     let fits = kept.spellable.parts k d within in
     record {
@@ -84,17 +84,17 @@ sound_parts h kept k d within =
     }
 
 -- the image of what an image keeps, in a version that has its protocol, has no fault
-pub image_sound : (version : Version) (h : Handover) → HasProtocol version h.protocol → IsKept h
+pub image_sound : (version : Version) (h : Handover) → HasProtocol version h.protocol → IsKeptByImages h
     → image_fault (spelling version h) ≡ None
 image_sound version h has kept =
     let records : List ℕ = flat_map part_record h.parts in
     let bytes : List ℕ = all_bytes h.parts in
-    let few : length (map place_of h.parts) ≤ 256 = kept.handoff.few in
-    let same = length-map h.parts place_of in
+    let few : length (map part_place h.parts) ≤ 256 = kept.handoff.few in
+    let same = length-map h.parts part_place in
     head_front version h.protocol h.registers (length h.parts) (records ++ bytes) has
     kept.spellable.registers (omega arith)
     ∙ parts_sound (is_wide h.protocol) h.parts none_before bytes (λ k d within. omega arith)
-    (related_under h.parts (pairs_related Ascends (map place_of h.parts) kept.handoff.ascending))
+    (related_under h.parts (pairs_related Ascends (map part_place h.parts) kept.handoff.ascending))
     (sound_parts h kept)
     ∙ whole_ends bytes
 
@@ -103,7 +103,7 @@ no_fault : (bytes : List ℕ) (fault : ImageFault) → image_fault bytes ≡ Non
 no_fault bytes fault e f = let both : None ≡ Some fault = sym e ∙ f in cc
 
 refused_for_now : (bytes : List ℕ) (fault : ImageFault) → image_fault bytes ≡ None
-    → Fails image_fault bytes fault → IsOfTheMoment fault
+    → RefusesBytes image_fault bytes fault → IsOfTheMoment fault
 refused_for_now bytes BadMagic e f = no_fault bytes BadMagic e f
 refused_for_now bytes BadVersion e f = no_fault bytes BadVersion e f
 refused_for_now bytes BadHeader e f = no_fault bytes BadHeader e f
@@ -115,7 +115,7 @@ refused_for_now bytes NoMemory e f = tt
 -- an image is read as what it spells
 pub accepted_by : (r : Result Handover ImageFault) (bytes : List ℕ)
     → MatchResult r (λ image. (version : Version) × IsImage version bytes image)
-    (Fails image_fault bytes)
+    (RefusesBytes image_fault bytes)
     → (version : Version) (handover : Handover) → IsImage version bytes handover
     → MatchResult r (λ image. image ≡ handover) IsOfTheMoment
 accepted_by (Ok image) bytes read version handover is =
@@ -128,7 +128,7 @@ accepted_by (Err fault) bytes fails version handover is =
 -- and is refused for nothing that its bytes say
 pub image_not_refused : (old new : Input) (fault : ImageFault) (bytes : List ℕ) (version : Version)
     (handover : Handover) → IsImage version bytes handover → old.rest ≡ Some bytes
-    → Refuses image_fault old new fault → IsOfTheMoment fault
+    → RefusesInput image_fault old new fault → IsOfTheMoment fault
 image_not_refused old new fault bytes version handover is e refuses =
     refused_for_now bytes fault
     (ap image_fault is.is ∙ image_sound version handover is.has is.kept)

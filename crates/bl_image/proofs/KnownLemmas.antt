@@ -1,7 +1,7 @@
 -- What is known of an input decides what is read.
 use Rattle.std.proofs.Common.{◌≡◌, ℕ, List, [], ◌++◌, Option, Some, None, Result, Ok, Err, IfOk}
 use Rattle.std.proofs.Common.{OnOk, IfErr, refl, ap, ◌∙◌, subst}
-use Rattle.std.specs.Prelude.{MatchResult}
+use Rattle.std.specs.Prelude.{MatchResult, IsErrAnd}
 use Rattle.std.proofs.lemmas.List.{append-nil}
 use Rattle.std.specs.Io.KnownBytes.{Consumes}
 use Rattle.bl_load.specs.Handover.{Handover}
@@ -12,9 +12,9 @@ use Rattle.bl_image.specs.declared.fault.ImageFault.TheVariants.{NoMemory}
 use Rattle.bl_image.specs.declared.version.Version.{Version}
 use Rattle.bl_image.specs.Image.{spelling}
 use Rattle.bl_image.specs.ImageFaults.{image_fault}
-use Rattle.bl_image.specs.ImageParts.{IsKept, IsImage}
+use Rattle.bl_image.specs.ImageParts.{IsKeptByImages, IsImage}
 use Rattle.bl_image.specs.Versions.{HasProtocol}
-use Rattle.bl_image.specs.Source.{Input, Comes, IsEnded, MayFollow, Shows, Refuses, Fails}
+use Rattle.bl_image.specs.Source.{Input, Comes, IsEnded, MayFollow, Shows, RefusesInput, RefusesBytes}
 
 all_came : (old new : Option (List ℕ)) (came bytes : List ℕ) → old ≡ Some bytes → new ≡ Some []
     → Consumes old new came → bytes ≡ came
@@ -38,7 +38,7 @@ shows_known fault_in old new fault bytes e s =
     ap fault_in f.2 ∙ s.shown f.0 f.1
 
 pub fails_known : (old new : Input) (fault : ImageFault) (bytes : List ℕ) → old.rest ≡ Some bytes
-    → Refuses image_fault old new fault → Fails image_fault bytes fault
+    → RefusesInput image_fault old new fault → RefusesBytes image_fault bytes fault
 fails_known old new BadMagic bytes e s = shows_known image_fault old new BadMagic bytes e s
 fails_known old new BadVersion bytes e s = shows_known image_fault old new BadVersion bytes e s
 fails_known old new BadHeader bytes e s = shows_known image_fault old new BadHeader bytes e s
@@ -48,15 +48,13 @@ fails_known old new WrongLength bytes e s = shows_known image_fault old new Wron
 fails_known old new DeviceFault bytes e s = tt
 fails_known old new NoMemory bytes e s = tt
 
-pub known_by : (r : Result Handover ImageFault) (old new : Input)
-    → IfOk r (λ image. (version : Version) × HasProtocol version image.protocol
+-- what was read is an image of the bytes that were known
+pub known_ok : (image : Handover) (old new : Input)
+    → ((version : Version) × HasProtocol version image.protocol
     × Comes old new (spelling version image))
-    → OnOk r (IsEnded new) → IfOk r IsKept
-    → IfErr r (Refuses image_fault old new)
-    → (bytes : List ℕ) → old.rest ≡ Some bytes
-    → MatchResult r (λ image. (version : Version) × IsImage version bytes image)
-    (Fails image_fault bytes)
-known_by (Ok image) old new comes ended kept refused bytes e = (
+    → IsEnded new → IsKeptByImages image → (bytes : List ℕ) → old.rest ≡ Some bytes
+    → (version : Version) × IsImage version bytes image
+known_ok image old new comes ended kept bytes e = (
   comes.0,
   record {
     is =
@@ -65,5 +63,12 @@ known_by (Ok image) old new comes ended kept refused bytes e = (
     kept = kept;
   },
 )
-known_by (Err fault) old new comes ended kept refused bytes e =
-    fails_known old new fault bytes e refused
+
+-- an error is their first fault
+pub known_err : (r : Result Handover ImageFault) (old new : Input) (P : ImageFault → Type 0)
+    → IsErrAnd r P → IfErr r (RefusesInput image_fault old new)
+    → (bytes : List ℕ) → old.rest ≡ Some bytes
+    → MatchResult r (λ image. (version : Version) × IsImage version bytes image)
+    (RefusesBytes image_fault bytes)
+known_err (Ok image) old new P is refused bytes e = absurd is
+known_err (Err fault) old new P is refused bytes e = fails_known old new fault bytes e refused

@@ -21,7 +21,7 @@ use Rattle.bl_image.specs.declared.version.Version.{Version}
 use Rattle.bl_image.specs.Image.{head, part_record, spelling}
 use Rattle.bl_image.specs.RecordsKept.{place_record, bytes_at, PlaceFits, AreSpellable}
 use Rattle.bl_image.specs.ImageFaults.{end_fault}
-use Rattle.bl_image.specs.ImageParts.{place_of, handoff_of, PartAscends, IsKept}
+use Rattle.bl_image.specs.ImageParts.{part_place, handoff_of, PartAscends, IsKeptByImages}
 use Rattle.bl_image.specs.Source.{Input, Comes}
 use Rattle.bl_image.specs.SourceKept.{IsCut}
 use Rattle.bl_image.specs.Spellable.{FitsRecord, AreFit}
@@ -37,14 +37,14 @@ bytes_at-take [] i d h = absurd (omega arith)
 bytes_at-take (p ∷ ps) zero d h = omega arith
 bytes_at-take (p ∷ ps) (suc i) d h = omega (arith, bytes_at-take ps i d (omega arith))
 
-pub parts_size : (parts : List Part) → length (all_bytes parts) ≡ bytes_at (map place_of parts)
+pub parts_size : (parts : List Part) → length (all_bytes parts) ≡ bytes_at (map part_place parts)
 parts_size [] = refl
 parts_size (part ∷ parts) =
     omega (arith, length-append part.bytes (all_bytes parts), parts_size parts)
 
 -- the input ended inside a part
 pub part_cut : (ps : List Place) (parts : List Part) (i : ℕ) (d : Place) {old mid : Input}
-    → map place_of parts ≡ take i ps → i < length ps → Comes old mid (all_bytes parts)
+    → map part_place parts ≡ take i ps → i < length ps → Comes old mid (all_bytes parts)
     → (new : Input) (fault : ImageFault) → IsCut mid new (get_or ps i d).length fault
     → IsCut old new (bytes_at ps) fault
 part_cut ps parts i d are inside comes new fault cut =
@@ -54,11 +54,11 @@ part_cut ps parts i d are inside comes new fault cut =
     cut_behind (get_or ps i d).length (bytes_at ps) comes (omega arith) new fault cut
 
 pub places_more : (ps : List Place) (parts : List Part) (i : ℕ) (d : Place) (part : Part)
-    → map place_of parts ≡ take i ps → i < length ps → place_of part ≡ get_or ps i d
-    → map place_of (parts ++ part ∷ []) ≡ take (i + 1) ps
+    → map part_place parts ≡ take i ps → i < length ps → part_place part ≡ get_or ps i d
+    → map part_place (parts ++ part ∷ []) ≡ take (i + 1) ps
 places_more ps parts i d part are inside is =
-    map-append place_of parts (part ∷ [])
-    ∙ ap (λ (l : List Place). l ++ place_of part ∷ []) are
+    map-append part_place parts (part ∷ [])
+    ∙ ap (λ (l : List Place). l ++ part_place part ∷ []) are
     ∙ ap (λ (p : Place). take i ps ++ p ∷ []) is
     ∙ sym (take_more ps i d inside)
 
@@ -70,16 +70,16 @@ bytes_more parts part =
     (flat_map-cons (λ (p : Part). p.bytes) part [] ∙ append-nil part.bytes)
 
 records_at : (parts : List Part)
-    → flat_map place_record (map place_of parts) ≡ flat_map part_record parts
+    → flat_map place_record (map part_place parts) ≡ flat_map part_record parts
 records_at [] = refl
 records_at (part ∷ parts) =
-    flat_map-cons place_record (place_of part) (map place_of parts)
+    flat_map-cons place_record (part_place part) (map part_place parts)
     ∙ ap (λ (l : List ℕ). part_record part ++ l) (records_at parts)
     ∙ sym (flat_map-cons part_record part parts)
 
 -- head, records, parts, and nothing: an image
 pub spelled_by : (version : Version) (protocol : Protocol) (registers : Registers) (count : ℕ)
-    (ps : List Place) (parts : List Part) → map place_of parts ≡ ps → length ps ≡ count
+    (ps : List Place) (parts : List Part) → map part_place parts ≡ ps → length ps ≡ count
     → ((head version protocol registers count ++ flat_map place_record ps) ++ all_bytes parts) ++ []
     ≡ spelling version (record { protocol = protocol; registers = registers; parts = parts })
 spelled_by version protocol registers count ps parts are size =
@@ -92,22 +92,22 @@ spelled_by version protocol registers count ps parts are size =
     ∙ ap
     (λ (n : ℕ).
     head version protocol registers n ++ (flat_map part_record parts ++ all_bytes parts))
-    (sym size ∙ ap length (sym are) ∙ length-map parts place_of)
+    (sym size ∙ ap length (sym are) ∙ length-map parts part_place)
 
-pub all_under : (P : Place → Type 0) (parts : List Part) → All P (map place_of parts)
-    → All (λ (part : Part). P (place_of part)) parts
+pub all_under : (P : Place → Type 0) (parts : List Part) → All P (map part_place parts)
+    → All (λ (part : Part). P (part_place part)) parts
 all_under P [] h k d within = absurd (omega arith)
-all_under P (part ∷ parts) h zero d within = h 0 (place_of part) (omega arith)
+all_under P (part ∷ parts) h zero d within = h 0 (part_place part) (omega arith)
 all_under P (part ∷ parts) h (suc k) d within =
     all_under P parts (λ j e inside. h (suc j) e (omega arith)) k d (omega arith)
 
-pub related_under : (parts : List Part) → AreRelated Ascends (map place_of parts)
+pub related_under : (parts : List Part) → AreRelated Ascends (map part_place parts)
     → AreRelated PartAscends parts
 related_under [] h = tt
 related_under (part ∷ parts) h =
-    (all_under (Ascends (place_of part)) parts h.0, related_under parts h.1)
+    (all_under (Ascends (part_place part)) parts h.0, related_under parts h.1)
 
-parts_fit : (parts : List Part) → All PlaceFits (map place_of parts) → All FitsRecord parts
+parts_fit : (parts : List Part) → All PlaceFits (map part_place parts) → All FitsRecord parts
 parts_fit parts h k d within =
     let fits =
     all_under PlaceFits parts h k d within in
@@ -115,7 +115,7 @@ parts_fit parts h k d within =
 
 -- parts at the places of a handoff are what a handoff keeps
 pub parts_kept : (protocol : Protocol) (registers : Registers) (ps : List Place)
-    (parts : List Part) → map place_of parts ≡ ps
+    (parts : List Part) → map part_place parts ≡ ps
     → AreHandoffFacts (record { protocol = protocol; registers = registers; places = ps })
     → AreHandoffFacts
     (handoff_of (record { protocol = protocol; registers = registers; parts = parts }))
@@ -126,14 +126,14 @@ parts_kept protocol registers ps parts are kept =
     kept
 
 pub image_kept : (protocol : Protocol) (registers : Registers) (ps : List Place)
-    (parts : List Part) → map place_of parts ≡ ps
+    (parts : List Part) → map part_place parts ≡ ps
     → AreHandoffFacts (record { protocol = protocol; registers = registers; places = ps })
     → All PlaceFits ps
     → AreFit registers
-    → IsKept (record { protocol = protocol; registers = registers; parts = parts })
+    → IsKeptByImages (record { protocol = protocol; registers = registers; parts = parts })
 image_kept protocol registers ps parts are kept fit registers_fit =
     let few : length ps ≤ 256 = kept.few in
-    let same = length-map parts place_of in
+    let same = length-map parts part_place in
     let size = ap length are in
     record {
       handoff = parts_kept protocol registers ps parts are kept;
@@ -147,13 +147,13 @@ image_kept protocol registers ps parts are kept fit registers_fit =
 
 -- the parts that memory has at places are there
 places_in : (bytes : List ℕ) (ps : List Place) → All (EndsIn bytes) ps
-    → map place_of (map (part_in bytes) ps) ≡ ps
+    → map part_place (map (part_in bytes) ps) ≡ ps
 places_in bytes [] h = refl
 places_in bytes (p ∷ ps) h =
     let size = length-place_bytes bytes p (h 0 p (omega arith)) in
     let made : ℕ → Place =
     λ n. record { role = p.role; index = p.index; address = p.address; length = n } in
-    ap (λ (q : Place). q ∷ map place_of (map (part_in bytes) ps)) (ap made size)
+    ap (λ (q : Place). q ∷ map part_place (map (part_in bytes) ps)) (ap made size)
     ∙ ap (λ (l : List Place). p ∷ l) (places_in bytes ps (λ k d within. h (suc k) d (omega arith)))
 
 pub memory_kept : (bytes : List ℕ) (protocol : Protocol) (r : Registers) (ps : List Place)
@@ -193,18 +193,18 @@ end_more count a x size =
 -- the image of what an image says, with what stands before the bytes as one piece
 pub value_in : (version : Version) (h : Handover)
     → spelling version h
-    ≡ (head version h.protocol h.registers (length (map place_of h.parts))
-    ++ flat_map place_record (map place_of h.parts)) ++ all_bytes h.parts
+    ≡ (head version h.protocol h.registers (length (map part_place h.parts))
+    ++ flat_map place_record (map part_place h.parts)) ++ all_bytes h.parts
 value_in version h =
-    let ps = map place_of h.parts in
+    let ps = map part_place h.parts in
     sym (spelled_by version h.protocol h.registers (length ps) ps h.parts refl refl)
     ∙ append-nil
     ((head version h.protocol h.registers (length ps) ++ flat_map place_record ps)
     ++ all_bytes h.parts)
 
 -- what an image says is what images keep, where its places fit
-pub value_kept : (h : Handover) → AreSpellable h.registers (map place_of h.parts)
-    → AreHandoffFacts (handoff_of h) → IsKept h
+pub value_kept : (h : Handover) → AreSpellable h.registers (map part_place h.parts)
+    → AreHandoffFacts (handoff_of h) → IsKeptByImages h
 value_kept h fit kept =
-    image_kept h.protocol h.registers (map place_of h.parts) h.parts refl kept fit.places
+    image_kept h.protocol h.registers (map part_place h.parts) h.parts refl kept fit.places
     fit.registers

@@ -21,7 +21,7 @@ use Rattle.bl_image.specs.Image.{head}
 use Rattle.bl_image.specs.RecordsKept.{place_record, bytes_at, PlaceFits}
 use Rattle.bl_image.specs.ImageFaults.{head_fault, image_fault, parts_fault, Before, and_record}
 use Rattle.bl_image.specs.ImageFaults.{none_before, end_fault}
-use Rattle.bl_image.specs.ImageParts.{place_of, IsImage}
+use Rattle.bl_image.specs.ImageParts.{part_place, IsImage}
 use Rattle.bl_image.proofs.FrontLemmas.{head_front}
 use Rattle.bl_image.proofs.PartLemmas.{all_bytes, spelled_by, image_kept}
 use Rattle.bl_image.proofs.RecordLemmas.{parts_step}
@@ -98,7 +98,7 @@ places_found wide (suc count) before bytes small none =
     }
 
 split_tail : (ps : List Place) (tail : List ℕ) → length tail ≡ bytes_at ps
-    → (parts : List Part) × (map place_of parts ≡ ps) × (all_bytes parts ≡ tail)
+    → (parts : List Part) × (map part_place parts ≡ ps) × (all_bytes parts ≡ tail)
 split_tail [] tail size = ([], refl, sym (drop_all 0 tail (omega arith)))
 split_tail (p ∷ ps) tail size =
     let long : p.length ≤ length tail = omega arith in
@@ -114,7 +114,7 @@ split_tail (p ∷ ps) tail size =
     let made : ℕ → Place =
     λ n. record { role = p.role; index = p.index; address = p.address; length = n } in (
       part ∷ rest.0,
-      ap (λ (q : Place). q ∷ map place_of rest.0) (ap made (length-take-le p.length tail long))
+      ap (λ (q : Place). q ∷ map part_place rest.0) (ap made (length-take-le p.length tail long))
           ∙ ap (λ (l : List Place). p ∷ l) rest.1,
       flat_map-cons (λ (q : Part). q.bytes) part rest.0
           ∙ ap (λ (l : List ℕ). take p.length tail ++ l) rest.2 ∙ take-append-drop p.length tail,

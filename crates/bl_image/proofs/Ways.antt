@@ -2,7 +2,7 @@
 use Rattle.std.proofs.Common.{◌≡◌, ℕ, List, [], ◌++◌, Result, Ok, Err, OnErr, refl, sym, ap, ◌∙◌}
 use Rattle.std.proofs.Common.{subst, append_assoc}
 use Rattle.std.proofs.lemmas.List.{append-nil}
-use Rattle.bl_image.specs.Begun.{IsBegun}
+use Rattle.bl_image.specs.Begun.{TookBeginning}
 
 -- of these bytes all but the rest was taken
 pub record IsOnWay (old now rest whole : List ℕ) : Type 0 where
@@ -25,7 +25,7 @@ way_goes_on {old = old} {rest = rest} piece w e = record {
 
 -- a beginning of the next piece was taken
 pub way_stops : {old mid new piece whole : List ℕ} (rest : List ℕ)
-    → IsOnWay old mid (piece ++ rest) whole → IsBegun mid new piece → IsBegun old new whole
+    → IsOnWay old mid (piece ++ rest) whole → TookBeginning mid new piece → TookBeginning old new whole
 way_stops {old = old} rest w b = record {
   begun = w.done ++ b.begun;
   rest = b.rest ++ rest;

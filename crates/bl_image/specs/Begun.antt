@@ -20,7 +20,7 @@ abbrev pub AlwaysTells : {W : Type 0} → (W → Option (List ℕ)) → Type 0
 AlwaysTells {W = W} contents = (writer : W) → IsSome (contents writer)
 
 -- of these bytes a beginning was taken, perhaps none of them, perhaps all
-pub record IsBegun (old new whole : List ℕ) : Type 0 where
+pub record TookBeginning (old new whole : List ℕ) : Type 0 where
   pub begun : List ℕ
   pub rest : List ℕ
   pub whole_is : whole ≡ begun ++ rest

@@ -17,11 +17,11 @@ pub record Field : Type 0 where
   pub fault : ImageFault
 
 -- a number of 32 bits, and one of 64, of which a test holds
-abbrev pub word : (ℕ → Bool) → ImageFault → Field
-word test fault = record { size = 4; passes = λ bytes. test (u32_at bytes 0); fault = fault }
+abbrev pub u32_field : (ℕ → Bool) → ImageFault → Field
+u32_field test fault = record { size = 4; passes = λ bytes. test (u32_at bytes 0); fault = fault }
 
-abbrev pub long : (ℕ → Bool) → ImageFault → Field
-long test fault = record { size = 8; passes = λ bytes. test (u64_at bytes 0); fault = fault }
+abbrev pub u64_field : (ℕ → Bool) → ImageFault → Field
+u64_field test fault = record { size = 8; passes = λ bytes. test (u64_at bytes 0); fault = fault }
 
 -- the first fault where these fields must begin; bytes that end inside a field have the wrong
 -- length
@@ -37,7 +37,7 @@ unfoldable pub magic_field : Field
 magic_field = record { size = 8; passes = bytes_eq magic; fault = BadMagic }
 
 unfoldable pub version_field : Field
-version_field = word (λ version. nat_le 1 version && nat_le version 2) BadVersion
+version_field = u32_field (λ version. nat_le 1 version && nat_le version 2) BadVersion
 
 abbrev pub opening_fields : List Field
 opening_fields = magic_field ∷ version_field ∷ []
@@ -46,46 +46,46 @@ opening_fields = magic_field ∷ version_field ∷ []
 -- the 64-bit entry of Linux
 unfoldable pub protocol_field : ℕ → Field
 protocol_field version =
-    word (λ protocol. nat_le 1 protocol && nat_le protocol (most_protocol version)) BadHeader
+    u32_field (λ protocol. nat_le 1 protocol && nat_le protocol (most_protocol version)) BadHeader
 
 -- a register that may be anything
 unfoldable pub register_field : Field
-register_field = word (λ register. true) BadHeader
+register_field = u32_field (λ register. true) BadHeader
 
 -- a register of 64 bits that may be anything
 unfoldable pub wide_field : Field
-wide_field = long (λ register. true) BadHeader
+wide_field = u64_field (λ register. true) BadHeader
 
 -- a register of 64 bits, of which the protocol gives 32
 unfoldable pub narrow_field : Field
-narrow_field = long (λ register. nat_lt register (2 ^ 32)) BadHeader
+narrow_field = u64_field (λ register. nat_lt register (2 ^ 32)) BadHeader
 
 -- a register that the protocol does not give
 unfoldable pub absent_field : Field
-absent_field = long (λ register. register == 0) BadHeader
+absent_field = u64_field (λ register. register == 0) BadHeader
 
 -- the fields behind the registers
 unfoldable pub count_field : Field
-count_field = word (λ count. nat_le count most_parts) BadHeader
+count_field = u32_field (λ count. nat_le count most_parts) BadHeader
 
 unfoldable pub zero_field : Field
-zero_field = word (λ zero. zero == 0) BadHeader
+zero_field = u32_field (λ zero. zero == 0) BadHeader
 
 -- the fields of a record, the greatest number of a role first
 unfoldable pub role_field : ℕ → ℕ → Field
-role_field most part = word (λ role. nat_le 1 role && nat_le role most) (BadPart part)
+role_field most part = u32_field (λ role. nat_le 1 role && nat_le role most) (BadPart part)
 
 unfoldable pub index_field : ℕ → Field
-index_field part = word (λ index. true) (BadPart part)
+index_field part = u32_field (λ index. true) (BadPart part)
 
 -- not below the end of the record before
 unfoldable pub address_field : ℕ → ℕ → Field
-address_field part before = long (nat_le before) (BadPart part)
+address_field part before = u64_field (nat_le before) (BadPart part)
 
 -- of a part at this address, which ends at most at 4 GiB
 unfoldable pub length_field : ℕ → ℕ → Field
 length_field part address =
-    long (λ count. nat_le 1 count && nat_le (address + count) (2 ^ 32)) (BadPart part)
+    u64_field (λ count. nat_le 1 count && nat_le (address + count) (2 ^ 32)) (BadPart part)
 
 -- the fields of a record but its length, which must fit the address
 abbrev pub record_fields : ℕ → ℕ → ℕ → List Field

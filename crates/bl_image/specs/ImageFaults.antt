@@ -6,7 +6,7 @@ use Rattle.bl_image.specs.declared.fault.ImageFault.{ImageFault}
 use Rattle.bl_image.specs.declared.fault.ImageFault.TheVariants.{WrongLength}
 use Rattle.bl_image.specs.Fields.{fields_fault, opening_fields, protocol_field, record_fields}
 use Rattle.bl_image.specs.Fields.{length_field}
-use Rattle.bl_image.specs.Layouts.{layout_of, layout_fields}
+use Rattle.bl_image.specs.Layouts.{layout_of, layout_fields, version_at, protocol_at, registers_at}
 
 -- what comes first, else what comes later
 abbrev pub first : Option ImageFault → Option ImageFault → Option ImageFault
@@ -18,15 +18,24 @@ first (Some fault) later = Some fault
 unfoldable pub head_fault : List ℕ → Option ImageFault
 head_fault bytes =
     first (fields_fault opening_fields bytes)
-    (first (fields_fault (protocol_field (u32_at bytes 8) ∷ []) (drop 12 bytes))
-    (fields_fault (layout_fields (layout_of bytes)) (drop 16 bytes)))
+    (first (fields_fault (protocol_field (u32_at bytes version_at) ∷ []) (drop protocol_at bytes))
+    (fields_fault (layout_fields (layout_of bytes)) (drop registers_at bytes)))
 
--- the first fault of a record, of 24 bytes, whose role's number is at most this one: its address
--- stands at 8, its length at 16; the part before ends there
+-- where address and length stand in a record, and how many bytes it has
+abbrev pub address_at : ℕ
+address_at = 8
+
+abbrev pub length_at : ℕ
+length_at = 16
+
+abbrev pub record_size : ℕ
+record_size = 24
+
+-- the first fault of a record whose role's number is at most this one; the part before ends there
 abbrev pub record_fault : ℕ → ℕ → ℕ → List ℕ → Option ImageFault
 record_fault most part before bytes =
     first (fields_fault (record_fields most part before) bytes)
-    (fields_fault (length_field part (u64_at bytes 8) ∷ []) (drop 16 bytes))
+    (fields_fault (length_field part (u64_at bytes address_at) ∷ []) (drop length_at bytes))
 
 -- what the records so far say: how many they are, where the last one's part ends, how many bytes
 -- their parts have
@@ -56,7 +65,9 @@ abbrev pub parts_fault : ℕ → ℕ → Before → List ℕ → Option ImageFau
 parts_fault most zero before bytes = end_fault before.bytes bytes
 parts_fault most (suc n) before bytes =
     first (record_fault most before.count before.end bytes)
-    (parts_fault most n (and_record before (u64_at bytes 8) (u64_at bytes 16)) (drop 24 bytes))
+    (parts_fault most n
+    (and_record before (u64_at bytes address_at) (u64_at bytes length_at))
+    (drop record_size bytes))
 
 -- the first fault of an image: of its head; of what follows, where the layout says
 unfoldable pub image_fault : List ℕ → Option ImageFault

@@ -9,8 +9,8 @@ use Rattle.bl_image.specs.Spellable.{IsSpellable}
 use Rattle.bl_image.specs.Versions.{HasProtocol}
 
 -- the place of a part
-abbrev pub place_of : Part → Place
-place_of part = record {
+abbrev pub part_place : Part → Place
+part_place part = record {
   role = part.role;
   index = part.index;
   address = part.address;
@@ -20,14 +20,14 @@ place_of part = record {
 -- what a handoff of a handover says
 abbrev pub handoff_of : Handover → HandoffFacts
 handoff_of h =
-    record { protocol = h.protocol; registers = h.registers; places = map place_of h.parts }
+    record { protocol = h.protocol; registers = h.registers; places = map part_place h.parts }
 
 -- the second part begins at the end of the first, or after it
 abbrev pub PartAscends : Part → Part → Type 0
 PartAscends p q = end_of p ≤ q.address
 
 -- what an image keeps: what a handoff does, and that its numbers fit
-pub record IsKept (handover : Handover) : Type 0 where
+pub record IsKeptByImages (handover : Handover) : Type 0 where
   pub handoff : AreHandoffFacts (handoff_of handover)
   pub spellable : IsSpellable handover
 
@@ -35,4 +35,4 @@ pub record IsKept (handover : Handover) : Type 0 where
 pub record IsImage (version : Version) (bytes : List ℕ) (handover : Handover) : Type 0 where
   pub is : bytes ≡ spelling version handover
   pub has : HasProtocol version handover.protocol
-  pub kept : IsKept handover
+  pub kept : IsKeptByImages handover

@@ -5,12 +5,22 @@ use Rattle.bl_mem.specs.Words.{u32_at}
 use Rattle.bl_image.specs.Fields.{Field, register_field, narrow_field, absent_field, wide_field}
 use Rattle.bl_image.specs.Fields.{count_field, zero_field}
 
+-- where version, protocol and registers stand in each image
+abbrev pub version_at : ℕ
+version_at = 8
+
+abbrev pub protocol_at : ℕ
+protocol_at = 12
+
+abbrev pub registers_at : ℕ
+registers_at = 16
+
 -- the greatest number of a role, where the registers are those of 64 bits, and where not
 abbrev pub most_role : Bool → ℕ
 most_role true = 8
 most_role false = 7
 
--- a layout: the fields of the registers, which stand from 16 on; where the number of parts stands,
+-- a layout: the fields of the registers; where the number of parts stands,
 -- with a zero word behind it; where the records begin; the greatest number of a role
 pub record Layout : Type 0 where
   pub registers : List Field
@@ -49,9 +59,9 @@ layout version protocol =
     if protocol == 3 then layout_3 else
     layout_2
 
--- the one of these bytes: the version stands at 8, the protocol at 12
+-- the one of these bytes
 abbrev pub layout_of : List ℕ → Layout
-layout_of bytes = layout (u32_at bytes 8) (u32_at bytes 12)
+layout_of bytes = layout (u32_at bytes version_at) (u32_at bytes protocol_at)
 
 -- the fields of a head that a layout tells: the registers, the number of parts, the zero word
 abbrev pub layout_fields : Layout → List Field

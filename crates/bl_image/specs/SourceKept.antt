@@ -3,7 +3,7 @@ use Rattle.std.specs.Prelude.{◌≡◌, ◌<◌, ℕ, true, List, ◌∷◌, �
 use Rattle.bl_image.specs.declared.fault.ImageFault.{ImageFault}
 use Rattle.bl_image.specs.declared.fault.ImageFault.TheVariants.{WrongLength, DeviceFault, NoMemory}
 use Rattle.bl_image.specs.Fields.{Field, fields_fault}
-use Rattle.bl_image.specs.Source.{Input, Comes, IsEnded, Refuses}
+use Rattle.bl_image.specs.Source.{Input, Comes, IsEnded, RefusesInput}
 
 -- fewer bytes came than so many, and then the input ended
 pub record EndsEarly (old new : Input) (count : ℕ) : Type 0 where
@@ -19,6 +19,13 @@ IsCut old new count DeviceFault = Unit {0}
 IsCut old new count NoMemory = Unit {0}
 IsCut old new count fault = ⊥
 
+-- so many bytes came, and stand behind those that were kept before
+pub record IsReadBehind (old new : Input) (before after : List ℕ) (count : ℕ) : Type 0 where
+  pub came : List ℕ
+  pub comes : Comes old new came
+  pub size : length came ≡ count
+  pub behind : after ≡ before ++ came
+
 -- the field came, and is as it must be
 pub record Passes (field : Field) (old new : Input) (bytes : List ℕ) : Type 0 where
   pub comes : Comes old new bytes
@@ -32,16 +39,16 @@ pub record PassAll (fields : List Field) (old new : Input) (bytes : List ℕ) : 
       → fields_fault (fields ++ others) (bytes ++ more) ≡ fields_fault others more
 
 -- what was read is the field; or it has a fault, whatever fields follow
-abbrev pub Reads : {X : Type 0} → Field → Input → Input → (X → List ℕ) → Result X ImageFault
+abbrev pub ReadsField : {X : Type 0} → Field → Input → Input → (X → List ℕ) → Result X ImageFault
     → Type 0
-Reads field old new spelled result =
+ReadsField field old new spelled result =
     MatchResult result (λ value. Passes field old new (spelled value))
-    (λ fault. (fields : List Field) → Refuses (fields_fault (field ∷ fields)) old new fault)
+    (λ fault. (fields : List Field) → RefusesInput (fields_fault (field ∷ fields)) old new fault)
 
 -- the same of several fields
-abbrev pub ReadAll : {X : Type 0} → List Field → Input → Input → (X → List ℕ)
+abbrev pub ReadsFields : {X : Type 0} → List Field → Input → Input → (X → List ℕ)
     → Result X ImageFault
     → Type 0
-ReadAll fields old new spelled result =
+ReadsFields fields old new spelled result =
     MatchResult result (λ value. PassAll fields old new (spelled value))
-    (λ fault. (others : List Field) → Refuses (fields_fault (fields ++ others)) old new fault)
+    (λ fault. (others : List Field) → RefusesInput (fields_fault (fields ++ others)) old new fault)

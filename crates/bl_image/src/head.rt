@@ -3,7 +3,7 @@ ghost use Rattle.std.specs.Prelude.{◌≡◌, ◌+◌, ◌*◌, ◌<◌, ◌≤
 ghost use Rattle.std.specs.Prelude.{OnErr};
 ghost use Rattle.std.specs.List.{flat_map};
 ghost use Rattle.bl_load.specs.HandoffFacts.{AreHandoffFacts};
-ghost use Rattle.bl_image.specs.Begun.{IsBegun};
+ghost use Rattle.bl_image.specs.Begun.{TookBeginning};
 ghost use Rattle.bl_image.specs.Image.{head};
 ghost use Rattle.bl_image.specs.RecordsKept.{place_record, AreSpellable};
 ghost use Rattle.bl_image.specs.Spellable.{AreFit};
@@ -23,11 +23,22 @@ pub(crate) const MAGIC: [u8; 8] = *b"BLIMAGE\0";
 /// How many parts an image has at most.
 pub(crate) const MOST_PARTS: u32 = 256;
 
-/// How many bytes the head that is written has.
-const HEAD: usize = 272;
+/// Where the version stands in the head that is written, with the protocol behind it.
+const VERSION_AT: usize = 8;
 
-/// How many bytes a record has.
+/// Where the registers stand.
+const REGISTERS_AT: usize = 16;
+
+/// Where the number of parts stands, with a zero word behind it.
+const COUNT_AT: usize = REGISTERS_AT + 8 * WIDE;
+
+/// How many bytes the head that is written has.
+const HEAD: usize = COUNT_AT + 8;
+
+/// How many bytes a record has, and where in it the address stands, with the length behind it.
 const RECORD: usize = 24;
+
+const ADDRESS_AT: usize = 8;
 
 /// How many bytes stand at most before those of the parts.
 pub(crate) const MOST_FRONT: usize = HEAD + RECORD * MOST_PARTS as usize;
@@ -38,8 +49,11 @@ fn record_bytes(place: &Place) -> [u8; RECORD]
     ensures index { place.now.index < 2 ^ 32 }
 {
     let mut bytes = [0u8; RECORD];
-    write_u32s(&[place.role.number(), place.index], &mut bytes[..8]);
-    write_u64s(&[place.address, place.length], &mut bytes[8..]);
+    write_u32s(
+        &[place.role.number(), place.index],
+        &mut bytes[..ADDRESS_AT],
+    );
+    write_u64s(&[place.address, place.length], &mut bytes[ADDRESS_AT..]);
     bytes
 }
 
@@ -65,9 +79,9 @@ fn head_bytes(protocol: Protocol, r: &Registers, count: u32) -> [u8; HEAD]
     write_u32s(&[count, 0], &mut closing);
     let mut bytes = [0u8; HEAD];
     put(&mut bytes, 0, &MAGIC);
-    put(&mut bytes, 8, &opening);
-    put(&mut bytes, 16, &numbers);
-    put(&mut bytes, 264, &closing);
+    put(&mut bytes, VERSION_AT, &opening);
+    put(&mut bytes, REGISTERS_AT, &numbers);
+    put(&mut bytes, COUNT_AT, &closing);
     bytes
 }
 
@@ -120,7 +134,7 @@ pub(crate) fn write_front<S: Sink, P: Places>(
         ++ (head written_version protocol registers.now (length (P.places places.now))
         ++ flat_map place_record (P.places places.now))) }
     ensures sound { OnOk result (S.faults sink.new ≡ S.faults sink.old) }
-    ensures begun { OnErr result (IsBegun (S.contents sink.old) (S.contents sink.new)
+    ensures begun { OnErr result (TookBeginning (S.contents sink.old) (S.contents sink.new)
         (head written_version protocol registers.now (length (P.places places.now))
         ++ flat_map place_record (P.places places.now))) }
     ensures fault { OnErr result (S.faults sink.new ≡ S.faults sink.old + 1) }

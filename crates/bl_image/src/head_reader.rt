@@ -6,8 +6,8 @@ ghost use Rattle.bl_load.specs.HandoffFacts.{most_parts};
 ghost use Rattle.bl_image.specs.Fields as fields;
 ghost use Rattle.bl_image.specs.Image.{magic, head};
 ghost use Rattle.bl_image.specs.ImageFaults.{head_fault};
-ghost use Rattle.bl_image.specs.Source.{Comes, Refuses, faults_met};
-ghost use Rattle.bl_image.specs.SourceKept.{Reads};
+ghost use Rattle.bl_image.specs.Source.{Comes, RefusesInput, faults_met};
+ghost use Rattle.bl_image.specs.SourceKept.{ReadsField};
 ghost use Rattle.bl_image.specs.Spellable.{FitsRegisters};
 ghost use Rattle.bl_image.specs.Versions.{version_number, most_protocol, HasProtocol};
 
@@ -30,7 +30,7 @@ pub(crate) struct Head {
 
 fn read_magic<S: Source>(source: &mut S) -> Result<(), ImageFault>
     requires { S.faults source.old < 2 ^ 63 }
-    ensures field { Reads fields.magic_field (S.input source.old) (S.input source.new)
+    ensures field { ReadsField fields.magic_field (S.input source.old) (S.input source.new)
         (λ _. magic) result }
     ensures faults { S.faults source.new ≡ S.faults source.old + faults_met result }
 {
@@ -56,7 +56,7 @@ fn version_of(number: u32) -> Option<Version>
 
 fn read_version<S: Source>(source: &mut S) -> Result<Version, ImageFault>
     requires { S.faults source.old < 2 ^ 63 }
-    ensures field { Reads fields.version_field (S.input source.old) (S.input source.new)
+    ensures field { ReadsField fields.version_field (S.input source.old) (S.input source.new)
         (λ version. u32_bytes (version_number version)) result }
     ensures faults { S.faults source.new ≡ S.faults source.old + faults_met result }
 {
@@ -84,7 +84,7 @@ fn protocol_of(version: Version, number: u32) -> Option<Protocol>
 /// Reads the protocol, which is one of the version.
 fn read_protocol<S: Source>(source: &mut S, version: Version) -> Result<Protocol, ImageFault>
     requires { S.faults source.old < 2 ^ 63 }
-    ensures field { Reads (fields.protocol_field (version_number version))
+    ensures field { ReadsField (fields.protocol_field (version_number version))
         (S.input source.old) (S.input source.new)
         (λ protocol. u32_bytes (protocols.protocol_number protocol)) result }
     ensures has { IfOk result (HasProtocol version) }
@@ -99,7 +99,7 @@ fn read_protocol<S: Source>(source: &mut S, version: Version) -> Result<Protocol
 
 fn read_count<S: Source>(source: &mut S) -> Result<u32, ImageFault>
     requires { S.faults source.old < 2 ^ 63 }
-    ensures field { Reads fields.count_field (S.input source.old) (S.input source.new)
+    ensures field { ReadsField fields.count_field (S.input source.old) (S.input source.new)
         u32_bytes result }
     ensures few { IfOk result (λ count. count ≤ most_parts) }
     ensures faults { S.faults source.new ≡ S.faults source.old + faults_met result }
@@ -113,7 +113,7 @@ fn read_count<S: Source>(source: &mut S) -> Result<u32, ImageFault>
 
 fn read_zero<S: Source>(source: &mut S) -> Result<(), ImageFault>
     requires { S.faults source.old < 2 ^ 63 }
-    ensures field { Reads fields.zero_field (S.input source.old) (S.input source.new)
+    ensures field { ReadsField fields.zero_field (S.input source.old) (S.input source.new)
         (λ _. u32_bytes 0) result }
     ensures faults { S.faults source.new ≡ S.faults source.old + faults_met result }
 {
@@ -132,7 +132,7 @@ pub(crate) fn read_head<S: Source>(source: &mut S) -> Result<Head, ImageFault>
     ensures has { IfOk result (λ h. HasProtocol h.version h.protocol) }
     ensures few { IfOk result (λ h. h.count ≤ most_parts) }
     ensures refused { IfErr result
-        (Refuses head_fault (S.input source.old) (S.input source.new)) }
+        (RefusesInput head_fault (S.input source.old) (S.input source.new)) }
     ensures faults { S.faults source.new ≡ S.faults source.old + faults_met result }
 {
     read_magic(source)?;

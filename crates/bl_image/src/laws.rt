@@ -3,7 +3,7 @@ ghost use Rattle.std.specs.Prelude.{◌≡◌, ◌<◌, ℕ, List, slice_index, 
 ghost use Rattle.bl_load.specs.Handover.{Handover};
 ghost use Rattle.bl_image.specs.Image.{spelling};
 ghost use Rattle.bl_image.specs.ImageFaults.{image_fault};
-ghost use Rattle.bl_image.specs.ImageParts.{IsKept, IsImage};
+ghost use Rattle.bl_image.specs.ImageParts.{IsKeptByImages, IsImage};
 ghost use Rattle.bl_image.specs.Spellable.{IsSpellable};
 ghost use Rattle.bl_image.specs.Versions.{HasProtocol};
 ghost use Rattle.bl_image.specs.declared.version.Version.{Version};
@@ -16,7 +16,7 @@ pub fn image_tells_all()
 
 /// The image of what an image keeps, in a version that has its protocol, has no fault.
 pub fn images_have_no_fault()
-    ensures { (version : Version) (h : Handover) → HasProtocol version h.protocol → IsKept h
+    ensures { (version : Version) (h : Handover) → HasProtocol version h.protocol → IsKeptByImages h
         → image_fault (spelling version h) ≡ None }
 {}
 

@@ -1,11 +1,11 @@
 //! The bytes of an image's parts, read.
 ghost use Rattle.std.specs.Prelude.{◌≡◌, ◌+◌, ◌≤◌, ◌<◌, ◌^◌, length, map, All, IfOk};
-ghost use Rattle.std.specs.Prelude.{IfErr};
+ghost use Rattle.std.specs.Prelude.{OnOk, IfErr};
 ghost use Rattle.std.specs.List.{flat_map};
-ghost use Rattle.bl_image.specs.ImageParts.{place_of};
+ghost use Rattle.bl_image.specs.ImageParts.{part_place};
 ghost use Rattle.bl_image.specs.RecordsKept.{bytes_at};
 ghost use Rattle.bl_image.specs.Source.{Comes, faults_met};
-ghost use Rattle.bl_image.specs.SourceKept.{IsCut};
+ghost use Rattle.bl_image.specs.SourceKept.{IsCut, IsReadBehind};
 
 use crate::fault::ImageFault;
 use crate::fields::read_exact;
@@ -15,16 +15,94 @@ use bl_mem::Bytes;
 use bl_plan::Place;
 use std::alloc::Allocator;
 
-/// Reads so many bytes, in pieces of the buffer's length: memory is taken for what came, not for
-/// what was claimed.
+/// How many bytes are read at once by way of the stack, which is small where firmware runs.
+const SMALL_READ: usize = 4096;
+
+/// How many bytes are read at once at most.
+const MOST_READ: u64 = 65536;
+
+/// Reads so many bytes to the end of the vector, by way of a buffer: memory is taken once they
+/// came.
+fn read_small<S: Source, A: Allocator>(
+    source: &mut S,
+    bytes: &mut Vec<u8, A>,
+    count: usize,
+) -> Result<(), ImageFault>
+    requires faults { S.faults source.old < 2 ^ 63 }
+    requires small { count ≤ 4096 }
+    ensures ok { OnOk result
+        (IsReadBehind (S.input source.old) (S.input source.new) bytes.old.items bytes.new.items
+        count) }
+    ensures cut { IfErr result (IsCut (S.input source.old) (S.input source.new) count) }
+    ensures faults { S.faults source.new ≡ S.faults source.old + faults_met result }
+{
+    let mut buffer = [0u8; SMALL_READ];
+    let piece = &mut buffer[..count];
+    read_exact(source, piece)?;
+    bytes.extend_from_slice(piece)?;
+    Ok(())
+}
+
+/// Reads so many bytes to the end of the vector, where they stay: memory is taken before they come.
+fn read_large<S: Source, A: Allocator>(
+    source: &mut S,
+    bytes: &mut Vec<u8, A>,
+    count: usize,
+) -> Result<(), ImageFault>
+    requires faults { S.faults source.old < 2 ^ 63 }
+    requires few { count ≤ 65536 }
+    ensures ok { OnOk result
+        (IsReadBehind (S.input source.old) (S.input source.new) bytes.old.items bytes.new.items
+        count) }
+    ensures cut { IfErr result (IsCut (S.input source.old) (S.input source.new) count) }
+    ensures faults { S.faults source.new ≡ S.faults source.old + faults_met result }
+{
+    let from = bytes.len();
+    bytes.resize(from + count, 0)?;
+    let piece = &mut bytes[from..];
+    read_exact(source, piece)?;
+    Ok(())
+}
+
+/// Reads so many bytes to the end of the vector.
+fn read_piece<S: Source, A: Allocator>(
+    source: &mut S,
+    bytes: &mut Vec<u8, A>,
+    count: usize,
+) -> Result<(), ImageFault>
+    requires faults { S.faults source.old < 2 ^ 63 }
+    requires few { count ≤ 65536 }
+    ensures ok { OnOk result
+        (IsReadBehind (S.input source.old) (S.input source.new) bytes.old.items bytes.new.items
+        count) }
+    ensures cut { IfErr result (IsCut (S.input source.old) (S.input source.new) count) }
+    ensures faults { S.faults source.new ≡ S.faults source.old + faults_met result }
+{
+    if count <= SMALL_READ {
+        read_small(source, bytes, count)
+    } else {
+        read_large(source, bytes, count)
+    }
+}
+
+/// How many bytes of a part are read next, if so many of them came and so many are left: no more
+/// than came, but for the first ones.
+fn next_read(came: u64, left: u64) -> u64
+    ensures within { result ≤ left }
+    ensures some { 1 ≤ left → 1 ≤ result }
+    ensures few { result ≤ 65536 }
+{
+    left.min(came.max(SMALL_READ as u64).min(MOST_READ))
+}
+
+/// Reads so many bytes, in pieces: memory is taken for what came and for as much again at most, not
+/// for what was claimed.
 fn read_bytes<S: Source, A: Allocator>(
     alloc: A,
     source: &mut S,
     count: u64,
-    buffer: &mut [u8],
 ) -> Result<Vec<u8, A>, ImageFault>
     requires faults { S.faults source.old < 2 ^ 63 }
-    requires room { 1 ≤ length buffer.old }
     requires few { count ≤ 2 ^ 32 }
     ensures ok { IfOk result
         (λ bytes. Comes (S.input source.old) (S.input source.new) bytes.items) }
@@ -32,14 +110,11 @@ fn read_bytes<S: Source, A: Allocator>(
     ensures cut { IfErr result (IsCut (S.input source.old) (S.input source.new) count) }
     ensures faults { S.faults source.new ≡ S.faults source.old + faults_met result }
 {
-    let most = buffer.len() as u64;
     let mut bytes = Vec::new(alloc);
     let mut done = 0u64;
     while done < count {
-        let next = (count - done).min(most);
-        let piece = &mut buffer[..next as usize];
-        read_exact(source, piece)?;
-        bytes.extend_from_slice(piece)?;
+        let next = next_read(done, count - done);
+        read_piece(source, &mut bytes, next as usize)?;
         done += next;
     }
     Ok(bytes)
@@ -50,19 +125,17 @@ fn read_part<S: Source, A: Allocator>(
     alloc: A,
     source: &mut S,
     place: &Place,
-    buffer: &mut [u8],
 ) -> Result<ImagePart<A>, ImageFault>
     requires faults { S.faults source.old < 2 ^ 63 }
-    requires room { 1 ≤ length buffer.old }
     requires few { place.now.length ≤ 2 ^ 32 }
     ensures ok { IfOk result
         (λ part. Comes (S.input source.old) (S.input source.new) part.bytes) }
-    ensures place { IfOk result (λ part. place_of part ≡ place.now) }
+    ensures place { IfOk result (λ part. part_place part ≡ place.now) }
     ensures cut { IfErr result
         (IsCut (S.input source.old) (S.input source.new) place.now.length) }
     ensures faults { S.faults source.new ≡ S.faults source.old + faults_met result }
 {
-    let held = read_bytes(alloc, source, place.length, buffer)?;
+    let held = read_bytes(alloc, source, place.length)?;
     let bytes = Bytes::from(held);
     Ok(ImagePart::new(place.role, place.index, place.address, bytes))
 }
@@ -72,21 +145,19 @@ pub(crate) fn read_parts<S: Source, A: Allocator + Copy>(
     alloc: A,
     source: &mut S,
     places: &[Place],
-    buffer: &mut [u8],
 ) -> Result<Vec<ImagePart<A>, A>, ImageFault>
     requires faults { S.faults source.old < 2 ^ 63 }
-    requires room { 1 ≤ length buffer.old }
     requires few { All (λ place. place.length ≤ 2 ^ 32) places.now }
     ensures ok { IfOk result (λ parts. Comes (S.input source.old) (S.input source.new)
         (flat_map (λ part. part.bytes) parts.items)) }
-    ensures places { IfOk result (λ parts. map place_of parts.items ≡ places.now) }
+    ensures places { IfOk result (λ parts. map part_place parts.items ≡ places.now) }
     ensures cut { IfErr result
         (IsCut (S.input source.old) (S.input source.new) (bytes_at places.now)) }
     ensures faults { S.faults source.new ≡ S.faults source.old + faults_met result }
 {
     let mut parts = Vec::new(alloc);
     for i in 0..places.len() {
-        let part = read_part(alloc, source, &places[i], buffer)?;
+        let part = read_part(alloc, source, &places[i])?;
         parts.push(part)?;
     }
     Ok(parts)

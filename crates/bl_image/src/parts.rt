@@ -1,8 +1,8 @@
 //! The bytes of the parts, from memory to a sink.
 ghost use Rattle.std.specs.Prelude.{◌≡◌, ◌+◌, ◌≤◌, ◌<◌, ◌^◌, ◌++◌, length, slice_range, All, OnOk};
-ghost use Rattle.std.specs.Prelude.{OnErr};
+ghost use Rattle.std.specs.Prelude.{OnErr, IfOk};
 ghost use Rattle.std.specs.List.{flat_map};
-ghost use Rattle.bl_image.specs.Begun.{IsBegun};
+ghost use Rattle.bl_image.specs.Begun.{TookBeginning};
 ghost use Rattle.bl_image.specs.RecordsKept.{place_bytes};
 
 use crate::sink::{DeviceFault, Sink, write_all};
@@ -11,9 +11,12 @@ use bl_mem::PhysMem;
 use bl_plan::Place;
 use std::alloc::Allocator;
 
-/// Writes what stands in memory from `at` on, as much as the buffer holds: as memory lends it, else
-/// by way of the buffer.
-fn write_piece<M: PhysMem, S: Sink>(
+/// How many bytes memory is asked to lend at once at most: as many as its blocks have if it keeps
+/// blocks, so that it lends each.
+const MOST_LENT: u64 = 65536;
+
+/// Writes what stands in memory from `at` on, as much as the buffer holds, by way of the buffer.
+fn write_copy<M: PhysMem, S: Sink>(
     memory: &M,
     sink: &mut S,
     at: u64,
@@ -24,21 +27,50 @@ fn write_piece<M: PhysMem, S: Sink>(
     ensures ok { OnOk result (S.contents sink.new ≡ S.contents sink.old
         ++ slice_range (M.bytes memory.now) at (at + length buffer.old)) }
     ensures sound { OnOk result (S.faults sink.new ≡ S.faults sink.old) }
-    ensures begun { OnErr result (IsBegun (S.contents sink.old) (S.contents sink.new)
+    ensures begun { OnErr result (TookBeginning (S.contents sink.old) (S.contents sink.new)
         (slice_range (M.bytes memory.now) at (at + length buffer.old))) }
     ensures fault { OnErr result (S.faults sink.new ≡ S.faults sink.old + 1) }
 {
-    match memory.lend(at, buffer.len()) {
-        Some(part) => write_all(sink, part),
+    memory.read(at, buffer);
+    write_all(sink, buffer)
+}
+
+/// Writes a beginning of so many bytes that stand in memory from `at` on, and answers how many: all
+/// of them if memory lends them, else as many as the buffer holds.
+fn write_piece<M: PhysMem, S: Sink>(
+    memory: &M,
+    sink: &mut S,
+    at: u64,
+    most: usize,
+    buffer: &mut [u8],
+) -> Result<usize, DeviceFault>
+    requires inside { at + most ≤ length (M.bytes memory.now) }
+    requires room { 1 ≤ length buffer.old }
+    requires faults { S.faults sink.old < 2 ^ 63 }
+    ensures ok { IfOk result (λ count. S.contents sink.new ≡ S.contents sink.old
+        ++ slice_range (M.bytes memory.now) at (at + count)) }
+    ensures within { IfOk result (λ count. count ≤ most) }
+    ensures some { IfOk result (λ count. 1 ≤ most → 1 ≤ count) }
+    ensures sound { OnOk result (S.faults sink.new ≡ S.faults sink.old) }
+    ensures begun { OnErr result (TookBeginning (S.contents sink.old) (S.contents sink.new)
+        (slice_range (M.bytes memory.now) at (at + most))) }
+    ensures fault { OnErr result (S.faults sink.new ≡ S.faults sink.old + 1) }
+{
+    match memory.lend(at, most) {
+        Some(part) => {
+            write_all(sink, part)?;
+            Ok(most)
+        }
         None => {
-            memory.read(at, buffer);
-            write_all(sink, buffer)
+            let count = most.min(buffer.len());
+            write_copy(memory, sink, at, &mut buffer[..count])?;
+            Ok(count)
         }
     }
 }
 
 /// Writes what stands in memory at a place, in pieces that end where an address is a multiple of
-/// the buffer's length: so memory that keeps blocks of that length lends each.
+/// what is lent at most.
 fn write_part<M: PhysMem, S: Sink>(
     memory: &M,
     sink: &mut S,
@@ -51,19 +83,18 @@ fn write_part<M: PhysMem, S: Sink>(
     ensures ok { OnOk result (S.contents sink.new ≡ S.contents sink.old
         ++ place_bytes (M.bytes memory.now) place.now) }
     ensures sound { OnOk result (S.faults sink.new ≡ S.faults sink.old) }
-    ensures begun { OnErr result (IsBegun (S.contents sink.old) (S.contents sink.new)
+    ensures begun { OnErr result (TookBeginning (S.contents sink.old) (S.contents sink.new)
         (place_bytes (M.bytes memory.now) place.now)) }
     ensures fault { OnErr result (S.faults sink.new ≡ S.faults sink.old + 1) }
 {
     // The size bounds each address below.
     let _size = memory.size();
-    let most = buffer.len() as u64;
     let mut done = 0u64;
     while done < place.length {
         let at = place.address + done;
-        let next = (place.length - done).min(most - at % most);
-        write_piece(memory, sink, at, &mut buffer[..next as usize])?;
-        done += next;
+        let next = (place.length - done).min(MOST_LENT - at % MOST_LENT);
+        let count = write_piece(memory, sink, at, next as usize, buffer)?;
+        done += count as u64;
     }
     Ok(())
 }
@@ -82,7 +113,7 @@ pub(crate) fn write_parts<M: PhysMem, S: Sink, A: Allocator>(
     ensures ok { OnOk result (S.contents sink.new ≡ S.contents sink.old
         ++ flat_map (place_bytes (M.bytes memory.now)) handoff.now.places) }
     ensures sound { OnOk result (S.faults sink.new ≡ S.faults sink.old) }
-    ensures begun { OnErr result (IsBegun (S.contents sink.old) (S.contents sink.new)
+    ensures begun { OnErr result (TookBeginning (S.contents sink.old) (S.contents sink.new)
         (flat_map (place_bytes (M.bytes memory.now)) handoff.now.places)) }
     ensures fault { OnErr result (S.faults sink.new ≡ S.faults sink.old + 1) }
 {

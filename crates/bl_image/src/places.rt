@@ -36,9 +36,9 @@ impl<A: Allocator> Places for Handoff<A> {
 
 impl<A: Allocator> Places for Image<A> {
     ghost use Rattle.std.specs.Prelude.{map};
-    ghost use Rattle.bl_image.specs.ImageParts.{place_of};
+    ghost use Rattle.bl_image.specs.ImageParts.{part_place};
 
-    ghost places = { λ i. map place_of i.parts };
+    ghost places = { λ i. map part_place i.parts };
 
     fn count(&self) -> usize {
         self.len()

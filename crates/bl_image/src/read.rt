@@ -4,8 +4,9 @@ ghost use Rattle.std.specs.Prelude.{MatchResult};
 ghost use Rattle.bl_load.specs.Handover.{Handover};
 ghost use Rattle.bl_image.specs.Image.{spelling};
 ghost use Rattle.bl_image.specs.ImageFaults.{image_fault, end_fault};
-ghost use Rattle.bl_image.specs.ImageParts.{IsKept, IsImage};
-ghost use Rattle.bl_image.specs.Source.{Comes, IsEnded, Refuses, Fails, IsOfTheMoment, faults_met};
+ghost use Rattle.bl_image.specs.ImageParts.{IsKeptByImages, IsImage};
+ghost use Rattle.bl_image.specs.Source.{Comes, IsEnded, RefusesInput, RefusesBytes, faults_met};
+ghost use Rattle.bl_image.specs.Source.{IsOfTheMoment};
 ghost use Rattle.bl_image.specs.Versions.{HasProtocol};
 ghost use Rattle.bl_image.specs.declared.version.Version.{Version};
 
@@ -17,16 +18,13 @@ use crate::record_reader::read_records;
 use crate::source::{Source, fill};
 use std::alloc::Allocator;
 
-/// How many bytes go from a source to memory at once.
-const BUFFER: usize = 65536;
-
 /// Sees that nothing follows.
 fn read_end<S: Source>(source: &mut S) -> Result<(), ImageFault>
     requires { S.faults source.old < 2 ^ 63 }
     ensures ok { OnOk result (Comes (S.input source.old) (S.input source.new) []) }
     ensures ended { OnOk result (IsEnded (S.input source.new)) }
     ensures refused { IfErr result
-        (Refuses (end_fault 0) (S.input source.old) (S.input source.new)) }
+        (RefusesInput (end_fault 0) (S.input source.old) (S.input source.new)) }
     ensures faults { S.faults source.new ≡ S.faults source.old + faults_met result }
 {
     let mut next = [0u8; 1];
@@ -34,29 +32,6 @@ fn read_end<S: Source>(source: &mut S) -> Result<(), ImageFault>
         return Err(ImageFault::WrongLength);
     }
     Ok(())
-}
-
-/// Reads an image, part by part.
-fn read_whole<S: Source, A: Allocator + Copy>(
-    alloc: A,
-    source: &mut S,
-) -> Result<Image<A>, ImageFault>
-    requires { S.faults source.old < 2 ^ 63 }
-    ensures ok { IfOk result (λ image. (version : Version)
-        × HasProtocol version image.protocol
-        × Comes (S.input source.old) (S.input source.new) (spelling version image)) }
-    ensures ended { OnOk result (IsEnded (S.input source.new)) }
-    ensures kept { IfOk result IsKept }
-    ensures refused { IfErr result
-        (Refuses image_fault (S.input source.old) (S.input source.new)) }
-    ensures faults { S.faults source.new ≡ S.faults source.old + faults_met result }
-{
-    let head = read_head(source)?;
-    let places = read_records(alloc, source, head.registers.are_wide(), head.count)?;
-    let mut buffer = [0u8; BUFFER];
-    let parts = read_parts(alloc, source, &places, &mut buffer)?;
-    read_end(source)?;
-    Ok(Image::new(head.protocol, head.registers, parts))
 }
 
 /// Reads an image to the end of the source, or answers why that is none: the first fault in the
@@ -74,11 +49,11 @@ pub fn read_image<S: Source, A: Allocator + Copy>(
         × HasProtocol version image.protocol
         × Comes (S.input source.old) (S.input source.new) (spelling version image)) }
     ensures ended { OnOk result (IsEnded (S.input source.new)) }
-    ensures kept { IfOk result IsKept }
+    ensures kept { IfOk result IsKeptByImages }
 
     // What came has that first fault, whatever may follow.
     ensures refused { IfErr result
-        (Refuses image_fault (S.input source.old) (S.input source.new)) }
+        (RefusesInput image_fault (S.input source.old) (S.input source.new)) }
 
     // The source's faults rose exactly where that is the answer.
     ensures faults { S.faults source.new ≡ S.faults source.old + faults_met result }
@@ -86,10 +61,14 @@ pub fn read_image<S: Source, A: Allocator + Copy>(
     // Where it is known what is to come, that decides.
     ensures known { (bytes : List ℕ) → (S.input source.old).rest ≡ Some bytes
         → MatchResult result (λ image. (version : Version) × IsImage version bytes image)
-        (Fails image_fault bytes) }
+        (RefusesBytes image_fault bytes) }
     ensures accepts { (bytes : List ℕ) → (S.input source.old).rest ≡ Some bytes
         → (version : Version) (handover : Handover) → IsImage version bytes handover
         → MatchResult result (λ image. image ≡ handover) IsOfTheMoment }
 {
-    read_whole(alloc, source)
+    let head = read_head(source)?;
+    let places = read_records(alloc, source, head.registers.are_wide(), head.count)?;
+    let parts = read_parts(alloc, source, &places)?;
+    read_end(source)?;
+    Ok(Image::new(head.protocol, head.registers, parts))
 }

@@ -9,8 +9,8 @@ ghost use Rattle.bl_image.specs.Fields as fields;
 ghost use Rattle.bl_image.specs.Layouts.{most_role};
 ghost use Rattle.bl_image.specs.RecordsKept.{place_record, IsNext, AreSound, bytes_at};
 ghost use Rattle.bl_image.specs.ImageFaults.{record_fault, parts_fault, end_fault, none_before};
-ghost use Rattle.bl_image.specs.Source.{Comes, Refuses, faults_met};
-ghost use Rattle.bl_image.specs.SourceKept.{Reads};
+ghost use Rattle.bl_image.specs.Source.{Comes, RefusesInput, faults_met};
+ghost use Rattle.bl_image.specs.SourceKept.{ReadsField};
 
 use crate::fault::ImageFault;
 use crate::fields::{read_u32, read_u64};
@@ -44,7 +44,7 @@ fn role_of(number: u32, wide: bool) -> Option<Role>
 fn read_role<S: Source>(source: &mut S, wide: bool, part: u32) -> Result<Role, ImageFault>
     requires { S.faults source.old < 2 ^ 63 }
     ensures may { IfOk result (MayStand wide) }
-    ensures field { Reads (fields.role_field (most_role wide) part)
+    ensures field { ReadsField (fields.role_field (most_role wide) part)
         (S.input source.old) (S.input source.new)
         (λ role. u32_bytes (roles.role_number role)) result }
     ensures faults { S.faults source.new ≡ S.faults source.old + faults_met result }
@@ -58,7 +58,7 @@ fn read_role<S: Source>(source: &mut S, wide: bool, part: u32) -> Result<Role, I
 
 fn read_index<S: Source>(source: &mut S) -> Result<u32, ImageFault>
     requires { S.faults source.old < 2 ^ 63 }
-    ensures field { (part : ℕ) → Reads (fields.index_field part)
+    ensures field { (part : ℕ) → ReadsField (fields.index_field part)
         (S.input source.old) (S.input source.new) u32_bytes result }
     ensures fits { IfOk result (λ index. index < 2 ^ 32) }
     ensures faults { S.faults source.new ≡ S.faults source.old + faults_met result }
@@ -70,7 +70,7 @@ fn read_index<S: Source>(source: &mut S) -> Result<u32, ImageFault>
 /// Reads an address, which is not below the end of the part before.
 fn read_address<S: Source>(source: &mut S, part: u32, before: u64) -> Result<u64, ImageFault>
     requires { S.faults source.old < 2 ^ 63 }
-    ensures field { Reads (fields.address_field part before)
+    ensures field { ReadsField (fields.address_field part before)
         (S.input source.old) (S.input source.new) u64_bytes result }
     ensures fits { IfOk result (λ address. address < 2 ^ 64) }
     ensures above { IfOk result (λ address. before ≤ address) }
@@ -86,7 +86,7 @@ fn read_address<S: Source>(source: &mut S, part: u32, before: u64) -> Result<u64
 /// Reads the length of a part at this address.
 fn read_length<S: Source>(source: &mut S, part: u32, address: u64) -> Result<u64, ImageFault>
     requires { S.faults source.old < 2 ^ 63 }
-    ensures field { Reads (fields.length_field part address)
+    ensures field { ReadsField (fields.length_field part address)
         (S.input source.old) (S.input source.new) u64_bytes result }
     ensures filled { IfOk result (λ count. 1 ≤ count) }
     ensures below { IfOk result (λ count. address + count ≤ 2 ^ 32) }
@@ -125,7 +125,7 @@ fn read_record<S: Source>(
     ensures next { IfOk result (IsNext before) }
     ensures may { IfOk result (λ place. MayStand wide place.role) }
     ensures refused { IfErr result
-        (Refuses (record_fault (most_role wide) part before)
+        (RefusesInput (record_fault (most_role wide) part before)
         (S.input source.old) (S.input source.new)) }
     ensures faults { S.faults source.new ≡ S.faults source.old + faults_met result }
 {
@@ -159,7 +159,7 @@ pub(crate) fn read_records<S: Source, A: Allocator>(
         → parts_fault (most_role wide) count none_before
         (flat_map place_record places.items ++ bytes)
         ≡ end_fault (bytes_at places.items) bytes) }
-    ensures refused { IfErr result (Refuses (parts_fault (most_role wide) count none_before)
+    ensures refused { IfErr result (RefusesInput (parts_fault (most_role wide) count none_before)
         (S.input source.old) (S.input source.new)) }
     ensures faults { S.faults source.new ≡ S.faults source.old + faults_met result }
 {

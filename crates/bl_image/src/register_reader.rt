@@ -9,7 +9,7 @@ ghost use Rattle.bl_image.specs.Image.{register_numbers, spelled_registers, wide
 ghost use Rattle.bl_image.specs.Fields as fields;
 ghost use Rattle.bl_image.specs.Layouts.{layout, layout_1, layout_2, layout_3};
 ghost use Rattle.bl_image.specs.Source.{faults_met};
-ghost use Rattle.bl_image.specs.SourceKept.{Reads, ReadAll};
+ghost use Rattle.bl_image.specs.SourceKept.{ReadsField, ReadsFields};
 ghost use Rattle.bl_image.specs.Spellable.{FitsRegisters};
 ghost use Rattle.bl_image.specs.Versions.{version_number, HasProtocol};
 ghost use Rattle.bl_image.specs.declared.version.Version.TheVariants as version;
@@ -22,12 +22,26 @@ use crate::version::Version;
 use bl_load::{Protocol, Registers, Registers32, Registers64};
 
 /// How many registers an image of version 1 has.
-const REGISTERS: usize = 20;
+const REGISTERS: usize = LOW + FLAGS + HIGH;
+
+/// How many registers of an entry of 32 bits stand from the address where the kernel is entered on,
+/// how many are the flags and the control register, and how many stand from the code segment on.
+const LOW: usize = 9;
+
+const FLAGS: usize = 2;
+
+const HIGH: usize = 9;
+
+/// How many registers that an entry of 32 bits does not give stand in version 2 in front of the
+/// flags, R8 to R15, and behind the control register: CR3, CR4 and EFER.
+const EXTRA: usize = 8;
+
+const PAGING: usize = 3;
 
 /// Reads the registers of version 1, of which each may be anything.
 fn read_any_registers<S: Source>(source: &mut S) -> Result<Registers32, ImageFault>
     requires { S.faults source.old < 2 ^ 63 }
-    ensures fields { ReadAll layout_1.registers (S.input source.old) (S.input source.new)
+    ensures fields { ReadsFields layout_1.registers (S.input source.old) (S.input source.new)
         (λ r. spelled_registers version.One (Bits32 r)) result }
     ensures fit { IfOk result
         (λ registers. All (λ n. n < 2 ^ 32) (register_numbers registers)) }
@@ -35,13 +49,17 @@ fn read_any_registers<S: Source>(source: &mut S) -> Result<Registers32, ImageFau
 {
     let mut numbers = [0u32; REGISTERS];
     read_u32s(source, &mut numbers)?;
-    Ok(registers_of(&numbers[..9], &numbers[9..11], &numbers[11..]))
+    Ok(registers_of(
+        &numbers[..LOW],
+        &numbers[LOW..LOW + FLAGS],
+        &numbers[LOW + FLAGS..],
+    ))
 }
 
 /// Reads a register of 64 bits, of which the protocol gives 32.
 fn read_narrow<S: Source>(source: &mut S) -> Result<u32, ImageFault>
     requires { S.faults source.old < 2 ^ 63 }
-    ensures field { Reads fields.narrow_field (S.input source.old) (S.input source.new)
+    ensures field { ReadsField fields.narrow_field (S.input source.old) (S.input source.new)
         u64_bytes result }
     ensures fits { IfOk result (λ n. n < 2 ^ 32) }
     ensures faults { S.faults source.new ≡ S.faults source.old + faults_met result }
@@ -56,7 +74,7 @@ fn read_narrow<S: Source>(source: &mut S) -> Result<u32, ImageFault>
 /// Reads a register that the protocol does not give.
 fn read_absent<S: Source>(source: &mut S) -> Result<(), ImageFault>
     requires { S.faults source.old < 2 ^ 63 }
-    ensures field { Reads fields.absent_field (S.input source.old) (S.input source.new)
+    ensures field { ReadsField fields.absent_field (S.input source.old) (S.input source.new)
         (λ _. u64_bytes 0) result }
     ensures faults { S.faults source.new ≡ S.faults source.old + faults_met result }
 {
@@ -69,7 +87,7 @@ fn read_absent<S: Source>(source: &mut S) -> Result<(), ImageFault>
 /// Reads as many registers of 64 bits as `out` holds, of which the protocol gives 32.
 fn read_narrows<S: Source>(source: &mut S, out: &mut [u32]) -> Result<(), ImageFault>
     requires { S.faults source.old < 2 ^ 63 }
-    ensures fields { ReadAll (replicate (length out.new) fields.narrow_field)
+    ensures fields { ReadsFields (replicate (length out.new) fields.narrow_field)
         (S.input source.old) (S.input source.new) (λ _. flat_map u64_bytes out.new) result }
     ensures fit { OnOk result (All (λ n. n < 2 ^ 32) out.new) }
     ensures faults { S.faults source.new ≡ S.faults source.old + faults_met result }
@@ -83,7 +101,7 @@ fn read_narrows<S: Source>(source: &mut S, out: &mut [u32]) -> Result<(), ImageF
 /// Reads so many registers that the protocol does not give.
 fn read_absents<S: Source>(source: &mut S, count: usize) -> Result<(), ImageFault>
     requires { S.faults source.old < 2 ^ 63 }
-    ensures fields { ReadAll (replicate count fields.absent_field)
+    ensures fields { ReadsFields (replicate count fields.absent_field)
         (S.input source.old) (S.input source.new)
         (λ _. flat_map u64_bytes (replicate count 0)) result }
     ensures faults { S.faults source.new ≡ S.faults source.old + faults_met result }
@@ -97,19 +115,19 @@ fn read_absents<S: Source>(source: &mut S, count: usize) -> Result<(), ImageFaul
 /// Reads the registers of version 2 under a protocol of 32 bits.
 fn read_narrow_registers<S: Source>(source: &mut S) -> Result<Registers32, ImageFault>
     requires { S.faults source.old < 2 ^ 63 }
-    ensures fields { ReadAll layout_2.registers (S.input source.old) (S.input source.new)
+    ensures fields { ReadsFields layout_2.registers (S.input source.old) (S.input source.new)
         (λ r. spelled_registers version.Two (Bits32 r)) result }
     ensures fit { IfOk result
         (λ registers. All (λ n. n < 2 ^ 32) (register_numbers registers)) }
     ensures faults { S.faults source.new ≡ S.faults source.old + faults_met result }
 {
-    let mut first = [0u32; 9];
+    let mut first = [0u32; LOW];
     read_narrows(source, &mut first)?;
-    read_absents(source, 8)?;
-    let mut flags = [0u32; 2];
+    read_absents(source, EXTRA)?;
+    let mut flags = [0u32; FLAGS];
     read_narrows(source, &mut flags)?;
-    read_absents(source, 3)?;
-    let mut last = [0u32; 9];
+    read_absents(source, PAGING)?;
+    let mut last = [0u32; HIGH];
     read_narrows(source, &mut last)?;
     Ok(registers_of(&first, &flags, &last))
 }
@@ -117,7 +135,7 @@ fn read_narrow_registers<S: Source>(source: &mut S) -> Result<Registers32, Image
 /// Reads the registers of version 2 under a protocol of 64 bits, of which each may be anything.
 fn read_wide_registers<S: Source>(source: &mut S) -> Result<Registers64, ImageFault>
     requires { S.faults source.old < 2 ^ 63 }
-    ensures fields { ReadAll layout_3.registers (S.input source.old) (S.input source.new)
+    ensures fields { ReadsFields layout_3.registers (S.input source.old) (S.input source.new)
         (λ r. spelled_registers version.Two (Bits64 r)) result }
     ensures fit { IfOk result (λ r. All (λ n. n < 2 ^ 64) (wide_numbers (Bits64 r))) }
     ensures faults { S.faults source.new ≡ S.faults source.old + faults_met result }
@@ -135,7 +153,7 @@ pub(crate) fn read_registers<S: Source>(
 ) -> Result<Registers, ImageFault>
     requires faults { S.faults source.old < 2 ^ 63 }
     requires has { HasProtocol version protocol }
-    ensures fields { ReadAll
+    ensures fields { ReadsFields
         (layout (version_number version) (protocols.protocol_number protocol)).registers
         (S.input source.old) (S.input source.new) (spelled_registers version) result }
     ensures fit { IfOk result (FitsRegisters protocol) }

@@ -1,7 +1,7 @@
 //! Where bytes are written to.
 ghost use Rattle.std.specs.Prelude.{◌≡◌, ℕ, List, ◌+◌, ◌-◌, ◌≤◌, ◌<◌, ◌^◌, ◌++◌, length, take};
 ghost use Rattle.std.specs.Prelude.{IfOk, OnOk, OnErr};
-ghost use Rattle.bl_image.specs.Begun.{IsBegun};
+ghost use Rattle.bl_image.specs.Begun.{TookBeginning};
 
 use thiserror::Error;
 
@@ -42,7 +42,8 @@ pub fn write_all<S: Sink>(sink: &mut S, bytes: &[u8]) -> Result<(), DeviceFault>
     requires { S.faults sink.old < 2 ^ 63 }
     ensures ok { OnOk result (S.contents sink.new ≡ S.contents sink.old ++ bytes.now) }
     ensures sound { OnOk result (S.faults sink.new ≡ S.faults sink.old) }
-    ensures begun { OnErr result (IsBegun (S.contents sink.old) (S.contents sink.new) bytes.now) }
+    ensures begun { OnErr result
+        (TookBeginning (S.contents sink.old) (S.contents sink.new) bytes.now) }
     ensures fault { OnErr result (S.faults sink.new ≡ S.faults sink.old + 1) }
 {
     let mut done = 0;

@@ -1,9 +1,9 @@
 //! Writes the image of what an image says.
 ghost use Rattle.std.specs.Prelude.{◌≡◌, ◌+◌, ◌<◌, ◌^◌, ◌++◌, OnOk, OnErr, IfErr};
 ghost use Rattle.std.specs.List.{flat_map};
-ghost use Rattle.bl_image.specs.Begun.{IsBegun};
+ghost use Rattle.bl_image.specs.Begun.{TookBeginning};
 ghost use Rattle.bl_image.specs.Image.{spelling};
-ghost use Rattle.bl_image.specs.ImageParts.{IsKept};
+ghost use Rattle.bl_image.specs.ImageParts.{IsKeptByImages};
 ghost use Rattle.bl_image.specs.Versions.{written_version};
 
 use crate::fault::ImageFault;
@@ -21,7 +21,7 @@ fn write_bytes<S: Sink, A: Allocator>(
     ensures ok { OnOk result (S.contents sink.new ≡ S.contents sink.old
         ++ flat_map (λ part. part.bytes) parts.now) }
     ensures sound { OnOk result (S.faults sink.new ≡ S.faults sink.old) }
-    ensures begun { OnErr result (IsBegun (S.contents sink.old) (S.contents sink.new)
+    ensures begun { OnErr result (TookBeginning (S.contents sink.old) (S.contents sink.new)
         (flat_map (λ part. part.bytes) parts.now)) }
     ensures fault { OnErr result (S.faults sink.new ≡ S.faults sink.old + 1) }
 {
@@ -39,13 +39,13 @@ pub fn write_value<S: Sink, A: Allocator>(image: &Image<A>, sink: &mut S) -> Res
     ensures ok { OnOk result (S.contents sink.new ≡ S.contents sink.old
         ++ spelling written_version image.now) }
     ensures sound { OnOk result (S.faults sink.new ≡ S.faults sink.old) }
-    ensures begun { OnErr result (IsBegun (S.contents sink.old) (S.contents sink.new)
+    ensures begun { OnErr result (TookBeginning (S.contents sink.old) (S.contents sink.new)
         (spelling written_version image.now)) }
     ensures fault { OnErr result (S.faults sink.new ≡ S.faults sink.old + 1) }
     ensures device { IfErr result (λ fault. fault ≡ ImageFault.DeviceFault) }
 
     // What an image says is what images keep, so that it is read again, by `read_image.accepts`.
-    ensures kept { IsKept image.now }
+    ensures kept { IsKeptByImages image.now }
 {
     let parts = image.parts();
     let mut buffer = [0u8; MOST_FRONT];

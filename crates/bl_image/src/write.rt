@@ -1,21 +1,18 @@
 //! Writes the image of a handoff.
 ghost use Rattle.std.specs.Prelude.{◌≡◌, ◌+◌, ◌≤◌, ◌<◌, ◌^◌, ◌++◌, length, All, OnOk, OnErr, IfErr};
 ghost use Rattle.bl_load.specs.PlanFacts.{handover_in};
-ghost use Rattle.bl_image.specs.Begun.{IsBegun};
+ghost use Rattle.bl_image.specs.Begun.{TookBeginning};
 ghost use Rattle.bl_image.specs.Image.{spelling};
-ghost use Rattle.bl_image.specs.ImageParts.{IsKept};
+ghost use Rattle.bl_image.specs.ImageParts.{IsKeptByImages};
 ghost use Rattle.bl_image.specs.Versions.{written_version};
 
 use crate::fault::ImageFault;
-use crate::head::write_front;
+use crate::head::{MOST_FRONT, write_front};
 use crate::parts::write_parts;
 use crate::sink::Sink;
 use bl_load::Handoff;
 use bl_mem::PhysMem;
 use std::alloc::Allocator;
-
-/// How many bytes go from memory to a sink at once.
-const BUFFER: usize = 65536;
 
 /// Writes the image of what memory hands over: the head, a record for each part, the parts' bytes,
 /// and nothing else. It takes no memory. Its one error is a fault of the sink, which then took a
@@ -32,7 +29,7 @@ pub fn write_image<M: PhysMem, S: Sink, A: Allocator>(
         ++ spelling written_version (handover_in (M.bytes memory.now)
         handoff.now.protocol handoff.now.registers handoff.now.places)) }
     ensures sound { OnOk result (S.faults sink.new ≡ S.faults sink.old) }
-    ensures begun { OnErr result (IsBegun (S.contents sink.old) (S.contents sink.new)
+    ensures begun { OnErr result (TookBeginning (S.contents sink.old) (S.contents sink.new)
         (spelling written_version (handover_in (M.bytes memory.now)
         handoff.now.protocol handoff.now.registers handoff.now.places))) }
     ensures fault { OnErr result (S.faults sink.new ≡ S.faults sink.old + 1) }
@@ -40,12 +37,12 @@ pub fn write_image<M: PhysMem, S: Sink, A: Allocator>(
 
     // Whatever is handed over is what images keep, so that its image tells all of it, by
     // `image_tells_all`, and is read again, by `read_image.accepts`.
-    ensures kept { IsKept (handover_in (M.bytes memory.now)
+    ensures kept { IsKeptByImages (handover_in (M.bytes memory.now)
         handoff.now.protocol handoff.now.registers handoff.now.places) }
 {
     // What a handoff keeps is told with its length.
     let _len = handoff.len();
-    let mut buffer = [0u8; BUFFER];
+    let mut buffer = [0u8; MOST_FRONT];
     write_front(
         sink,
         handoff.protocol(),

@@ -24,7 +24,7 @@ use Rattle.clap.proofs.WalkLemmas.{first_value-rows}
 use Rattle.clap.specs.declared.error.Error.{Error}
 use Rattle.clap.specs.declared.error.kind.ErrorKind.{ErrorKind}
 use Rattle.bl_line.specs.declared.fault.LineFault.{LineFault}
-use Rattle.bl_line.specs.Lines.{IsOrderParser, Refuses, fault_of_kind, line_app, text_of}
+use Rattle.bl_line.specs.Lines.{IsOrderParser, RefusesLine, fault_of_kind, line_app, argument_text}
 
 -- clap's definition gives the matches of this command
 pub line_is_simple : (parser : ValueParser) → is_simple (line_app parser) ≡ true
@@ -44,13 +44,14 @@ found f id got what is given = sym (ap (option_map (λ s. s.now)) given) ∙ is 
 
 pub text_given : (f : Found) (id : Text) (got : Option (Bor Text)) (text : Bor Text)
     → option_map (λ s. s.now) got ≡ first_value f id → got ≡ Some text
-    → text.now ≡ text_of id (rows_of f)
+    → text.now ≡ argument_text id (rows_of f)
 text_given f id got text is given =
     let first : Some text.now ≡ first_of id (rows_of f) = found f id got (Some text) is given in
     rw (← first) refl
 
 pub no_text : (f : Found) (id : Text) (got : Option (Bor Text))
-    → option_map (λ s. s.now) got ≡ first_value f id → got ≡ None → text_of id (rows_of f) ≡ []
+    → option_map (λ s. s.now) got ≡ first_value f id → got ≡ None
+    → argument_text id (rows_of f) ≡ []
 no_text f id got is given =
     let first : None ≡ first_of id (rows_of f) = found f id got None is given in
     rw (← first) refl
@@ -131,7 +132,7 @@ no_other_name words parser chosen is others =
 pub refused_for : (words : List Text) (parser : ValueParser) (kinds : Kinds) (error : Error)
     (kind : ErrorKind) (fault : LineFault)
     → IsOrderParser parser → kinds ≡ fault_of (line_app parser) words → HasKind kinds error
-    → kind ≡ kind_of error → fault ≡ fault_of_kind kind → Refuses words fault
+    → kind ≡ kind_of error → fault ≡ fault_of_kind kind → RefusesLine words fault
 refused_for words parser kinds error kind fault orders same (inl memory) is gives =
     inl (gives ∙ ap fault_of_kind (is ∙ memory))
 refused_for words parser kinds error kind fault orders same (inr among) is gives =

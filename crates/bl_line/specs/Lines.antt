@@ -78,8 +78,8 @@ line_app parser =
 -- ---- the job
 
 -- the text of an argument, empty where it has none
-abbrev pub text_of : Text → List Row → Text
-text_of id rows = unwrap_or (first_of id rows) []
+abbrev pub argument_text : Text → List Row → Text
+argument_text id rows = unwrap_or (first_of id rows) []
 
 abbrev pub order_named : Text → Order
 order_named text = if bytes_eq text (codes "reverse") then Reverse else Forward
@@ -87,16 +87,16 @@ order_named text = if bytes_eq text (codes "reverse") then Reverse else Forward
 -- the job is that of the subcommand with this name and these matches
 abbrev pub IsJobOf : Text × List Row → Job → Type 0
 IsJobOf chosen (Boot description image order) = (bytes_eq chosen.0 (codes "boot") ≡ true)
-    × (description.now ≡ text_of (codes "desc") chosen.1)
-    × (image.now ≡ text_of (codes "out") chosen.1)
-    × (order ≡ order_named (text_of (codes "order") chosen.1))
+    × (description.now ≡ argument_text (codes "desc") chosen.1)
+    × (image.now ≡ argument_text (codes "out") chosen.1)
+    × (order ≡ order_named (argument_text (codes "order") chosen.1))
 IsJobOf chosen (Map description) = (bytes_eq chosen.0 (codes "map") ≡ true)
-    × (description.now ≡ text_of (codes "desc") chosen.1)
+    × (description.now ≡ argument_text (codes "desc") chosen.1)
 IsJobOf chosen (Walk image) = (bytes_eq chosen.0 (codes "walk") ≡ true)
-    × (image.now ≡ text_of (codes "image") chosen.1)
+    × (image.now ≡ argument_text (codes "image") chosen.1)
 IsJobOf chosen (Convert image new) = (bytes_eq chosen.0 (codes "convert") ≡ true)
-    × (image.now ≡ text_of (codes "image") chosen.1)
-    × (new.now ≡ text_of (codes "out") chosen.1)
+    × (image.now ≡ argument_text (codes "image") chosen.1)
+    × (new.now ≡ argument_text (codes "out") chosen.1)
 
 -- clap's own definition has no fault for the words, and its matches tell the job
 abbrev pub Tells : List Text → Job → Type 0
@@ -117,8 +117,8 @@ abbrev pub IsFaultAmong : Kinds → LineFault → Type 0
 IsFaultAmong kinds fault = (kind : ErrorKind) × IsAmong kind kinds × (fault ≡ fault_of_kind kind)
 
 -- memory ran out, or the fault is one that clap's own definition has for the words
-abbrev pub Refuses : List Text → LineFault → Type 0
-Refuses words fault =
+abbrev pub RefusesLine : List Text → LineFault → Type 0
+RefusesLine words fault =
     (fault ≡ NoMemory)
     ⊎ WithOrders (λ parser. IsFaultAmong (fault_of (line_app parser) words) fault)
 

@@ -4,8 +4,8 @@
 mod command;
 mod fault;
 mod job;
-mod read;
+mod matches;
 
 pub use fault::LineFault;
 pub use job::{Job, Order};
-pub use read::read_line;
+pub use matches::read_line;

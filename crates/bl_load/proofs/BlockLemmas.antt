@@ -9,7 +9,7 @@ use Rattle.std.proofs.lemmas.Bool.{cases_lt}
 use Rattle.std.proofs.lemmas.Bool.Decides.{nat_tests}
 use Rattle.bl_mem.specs.declared.segment.Segment.{Segment}
 use Rattle.bl_mem.specs.Contents.{contents_of, holds}
-use Rattle.bl_load.specs.Blocks.{low_of, high_of, span_of, byte_at, first_values, block_of}
+use Rattle.bl_load.specs.Blocks.{low_of, high_of, span_of, block_byte, first_values, block_of}
 use Rattle.bl_load.specs.Loadable.{IsCopied, SegmentsAscend}
 
 -- segments from a linked address on, each after the zeros of the gap before it
@@ -45,7 +45,7 @@ misses_above s a above = grind (arith, nat_tests)
 
 -- no segment holds an address below all of them
 byte_below : (text : List ℕ) (segments : List Segment) (a : ℕ) → All (λ s. a < s.address) segments
-    → byte_at text segments a ≡ 0
+    → block_byte text segments a ≡ 0
 byte_below text [] a above = refl
 byte_below text (s ∷ segments) a above =
     rw (misses_below s a (above 0 s (omega arith)))
@@ -75,7 +75,7 @@ pub length-block_of : (text : List ℕ) (segments : List Segment)
     → length (block_of text segments) ≡ span_of segments
 unfolding block_of
 length-block_of text segments =
-    length-first_values (span_of segments) (λ i. byte_at text segments (low_of segments + i))
+    length-first_values (span_of segments) (λ i. block_byte text segments (low_of segments + i))
 
 -- segments end after where they begin
 high_above : (text : List ℕ) (start : ℕ) (s : Segment) (segments : List Segment)
@@ -106,7 +106,7 @@ pub get_or-block_from : (text : List ℕ) (start : ℕ) (segments : List Segment
     → All (IsCopied (length text)) segments → AllPairs SegmentsAscend segments
     → All (λ s. start ≤ s.address) segments
     → k < length (block_from text start segments)
-    → get_or (block_from text start segments) k d ≡ byte_at text segments (start + k)
+    → get_or (block_from text start segments) k d ≡ block_byte text segments (start + k)
 get_or-block_from text start [] k d copied ascend above within = absurd (omega arith)
 get_or-block_from text start (s ∷ segments) k d copied ascend above within =
     let gap : ℕ = s.address - start in
@@ -142,6 +142,6 @@ get_or-block_from text start (s ∷ segments) k d copied ascend above within =
             (λ i j e ij h. ascend (suc i) (suc j) e (omega arith) (omega arith)) behind
             (omega arith)
             ∙ rw (misses_above s (start + k) (omega arith))
-            (ap (byte_at text segments) (omega arith))
+            (ap (block_byte text segments) (omega arith))
       ]
     ]

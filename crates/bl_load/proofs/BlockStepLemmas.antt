@@ -6,10 +6,10 @@ use Rattle.std.proofs.lemmas.List.{same_lists, length-replicate}
 use Rattle.std.proofs.lemmas.List.Elements.{All-cons}
 use Rattle.bl_mem.specs.Memory.{overwrite}
 use Rattle.bl_mem.specs.Files.{IsBeside, Agree}
-use Rattle.bl_mem.proofs.Overwrites.{length-overwrite, overwrite_more, beside_zeros}
+use Rattle.bl_mem.proofs.Overwrites.{overwrite_more, beside_zeros}
 use Rattle.bl_mem.specs.declared.segment.Segment.{Segment}
 use Rattle.bl_mem.specs.Contents.{contents_of, holds}
-use Rattle.bl_load.specs.Blocks.{low_of, span_of, byte_at, first_values, block_of}
+use Rattle.bl_load.specs.Blocks.{low_of, span_of, block_byte, first_values, block_of}
 use Rattle.bl_load.specs.Loadable.{IsCopied, SegmentsAscend}
 use Rattle.bl_load.proofs.BlockLemmas.{block_from, length-contents_of, length-first_values}
 use Rattle.bl_load.proofs.BlockLemmas.{get_or-first_values, length-block_from, get_or-block_from}
@@ -45,13 +45,13 @@ block_from_first text (s ∷ segments) d some copied ascend =
     let above : All (λ t. s.address ≤ t.address) all = first_below all d ascend in
     let width = length-block_from text s.address all copied ascend above in
     let span : span_of all ≡ length (block_from text s.address all) = omega arith in
-    let byte : ℕ → ℕ = λ i. byte_at text all (low_of all + i) in
+    let byte : ℕ → ℕ = λ i. block_byte text all (low_of all + i) in
     let count = length-first_values (span_of all) byte in (
       span,
       same_lists (first_values (span_of all) byte) (block_from text s.address all) (omega arith)
           (λ (k d : ℕ) (h : k < length (first_values (span_of all) byte)).
           get_or-first_values (span_of all) byte k d (omega arith)
-          ∙ ap (λ (n : ℕ). byte_at text all (n + k)) low
+          ∙ ap (λ (n : ℕ). block_byte text all (n + k)) low
           ∙ sym (get_or-block_from text s.address all k d copied ascend above (omega arith))),
     )
 
@@ -88,23 +88,6 @@ module _ (text m : List ℕ) (at low done : ℕ) (s : Segment) (rest : List Segm
       + length (block_from text (low + (s.address - low + s.memsz)) rest)
       ≡ done + length (block_from text (low + done) (s ∷ rest)) = left_behind in
       beside a (omega arith) (omega arith)
-
-  -- memory keeps its size
-  pub step_size : length
-      (overwrite (overwrite m (at + done) (replicate (at + (s.address - low) - (at + done)) 0))
-      (at + (s.address - low)) (contents_of text s)) ≡ length m
-  step_size =
-      let left : s.address - low + s.memsz
-      + length (block_from text (low + (s.address - low + s.memsz)) rest)
-      ≡ done + length (block_from text (low + done) (s ∷ rest)) = left_behind in
-      let gap : ℕ = at + (s.address - low) - (at + done) in
-      let zeros : List ℕ = replicate gap 0 in
-      let wide : length zeros ≡ gap = length-replicate gap 0 in
-      let width : length (contents_of text s) ≡ s.memsz = length-contents_of text s copied in
-      let first : length (overwrite m (at + done) zeros) ≡ length m =
-      length-overwrite m (at + done) zeros (omega arith) in
-      length-overwrite (overwrite m (at + done) zeros) (at + (s.address - low)) (contents_of text s)
-      (omega arith) ∙ first
 
   -- what is left leads to what they and it lead to
   pub block_step : overwrite

@@ -11,7 +11,7 @@ use Rattle.bl_map.specs.MachineFacts.{MachineFacts}
 use Rattle.bl_mb2head.specs.declared.relocation.Relocation.{Relocation}
 use Rattle.bl_plan.specs.Planned.{put_in}
 use Rattle.std.proofs.lemmas.Bool.{cond_both}
-use Rattle.bl_plan.specs.Placed.{ArePlaced, place_at, range_of}
+use Rattle.bl_plan.specs.Placed.{ArePlaced, place_at, place_range}
 use Rattle.bl_plan.specs.declared.part.Row.{Row}
 use Rattle.bl_plan.specs.declared.part.Place.{Place}
 use Rattle.bl_plan.specs.declared.part.Role.TheVariants.{Kernel}
@@ -75,7 +75,7 @@ segments_below facts taken k n (s ∷ segments) rest (p ∷ places) placed below
     let at : p.address ≡ s.address = placed.0.0 in
     let size : p.length ≡ s.memsz = ap (λ (q : Place). q.length) placed.1 in
     All-cons (λ (t : Segment). t.address + t.memsz ≤ n) s segments (omega arith)
-    (segments_below facts (put_in (range_of p) taken) (suc k) n segments rest places placed.2
+    (segments_below facts (put_in (place_range p) taken) (suc k) n segments rest places placed.2
     (All-tail (λ (q : Place). q.address + q.length ≤ n) p places below))
 
 abbrev EndsUpTo : ℕ → Place → Type 0

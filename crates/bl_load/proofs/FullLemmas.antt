@@ -7,9 +7,9 @@ use Rattle.std.proofs.lemmas.Bool.Decides.{nat_tests}
 use Rattle.std.proofs.lemmas.List.{places}
 use Rattle.std.proofs.lemmas.List.Elements.{All-nil, All-cons}
 use Rattle.bl_mem.specs.declared.segment.Segment.{Segment}
-use Rattle.bl_elf.specs.Elf.{ElfFacts, AreApart}
+use Rattle.bl_elf.specs.Elf.{ElfFacts, AreApartSegments}
 use Rattle.bl_elf.proofs.ElfLaws.{elf_few, elf_loadable, elf_apart}
-use Rattle.bl_mb2head.specs.Address.{is_bad_address, segment_of, address_tag_at, address_fault}
+use Rattle.bl_mb2head.specs.Address.{is_bad_address, segment_by_tag, address_tag_at, address_fault}
 use Rattle.bl_mb2head.specs.Address.{address_segment}
 use Rattle.bl_mb2head.specs.Header.{IsHeader}
 use Rattle.bl_mb2head.specs.Tags.{last_of}
@@ -31,7 +31,7 @@ pub record IsFull (s : Segment) : Type 0 where
   pub fits : s.filesz ≤ s.memsz
 
 tag_fits : (size h : ℕ) (tag : AddressTag) → is_bad_address size h tag ≡ false
-    → (segment_of size h tag).filesz ≤ (segment_of size h tag).memsz
+    → (segment_by_tag size h tag).filesz ≤ (segment_by_tag size h tag).memsz
 unfolding is_bad_address
 tag_fits size h tag sound = grind (arith, nat_tests)
 
@@ -94,16 +94,16 @@ kernel_few file kernel is =
 
 -- they share no byte
 loaded_apart : (file : List ℕ) (segment : Option Segment) (facts : ElfFacts)
-    → IsLoadedBy file segment facts → AllPairs AreApart facts.segments
+    → IsLoadedBy file segment facts → AllPairs AreApartSegments facts.segments
 loaded_apart file (Some segment) facts loaded =
-    subst (λ (f : ElfFacts). AllPairs AreApart f.segments) (sym loaded)
+    subst (λ (f : ElfFacts). AllPairs AreApartSegments f.segments) (sym loaded)
     (λ i j d ij within. absurd (omega arith))
 loaded_apart file None facts loaded = elf_apart file facts loaded
 
 pub kernel_apart : (file : List ℕ) (kernel : KernelFacts) → IsKernel file kernel
-    → AllPairs AreApart kernel.segments
+    → AllPairs AreApartSegments kernel.segments
 kernel_apart file kernel is =
-    subst (λ (ss : List Segment). AllPairs AreApart ss) (sym is.segments)
+    subst (λ (ss : List Segment). AllPairs AreApartSegments ss) (sym is.segments)
     (loaded_apart file is.header.segment is.facts is.loaded)
 
 -- each part takes what it holds of the file

@@ -12,13 +12,13 @@ use Rattle.std.specs.declared.ops.Range.{Range}
 use Rattle.bl_mem.specs.Files.{AllBeside, IsBeside, text_at}
 use Rattle.bl_mem.specs.Memory.{AllHaveRoom, HasRoom}
 use Rattle.bl_plan.specs.declared.part.Place.{Place}
-use Rattle.bl_plan.specs.Placed.{Covers, range_of}
+use Rattle.bl_plan.specs.Placed.{Covers, place_range}
 use Rattle.bl_load.specs.declared.plan.Content.{Content}
 use Rattle.bl_load.specs.declared.plan.Content.TheVariants.{Own, File, Block}
 use Rattle.bl_load.specs.declared.plan.PlannedPart.{PlannedPart}
 use Rattle.bl_load.specs.declared.plan.Plan.{Plan}
 use Rattle.bl_load.specs.Handover.{part_at, written}
-use Rattle.bl_load.specs.Place.{place_of}
+use Rattle.bl_load.specs.Place.{planned_place}
 use Rattle.bl_load.specs.PlanFacts.{content_by, bytes_by, part_by, part_in, places_of}
 use Rattle.bl_load.specs.HandoffFacts.{Ascends}
 use Rattle.bl_load.specs.Kept.{CanLoad}
@@ -94,8 +94,8 @@ length-bytes_by texts part backed =
 module _ {A : Type 0} (texts : List (List ℕ)) (size : ℕ) (plan : Plan A)
     (loadable : IsLoadable (lengths_of texts) size plan) where
   -- a loadable plan can be loaded once its places have room
-  pub can_load : (room holds : ℕ → Type 0) → AllHaveRoom room (map range_of (places_of plan))
-      → AllBeside holds (map range_of (places_of plan))
+  pub can_load : (room holds : ℕ → Type 0) → AllHaveRoom room (map place_range (places_of plan))
+      → AllBeside holds (map place_range (places_of plan))
       → All (CanLoad (lengths_of texts) size room holds) plan.parts.items
   can_load room holds has beside k d within =
       let backed = loadable.backed k d within in
@@ -103,25 +103,27 @@ module _ {A : Type 0} (texts : List (List ℕ)) (size : ℕ) (plan : Plan A)
         there = backed.there;
         short = backed.short;
         inside =
-            all_under (λ (place : Place). place.address + place.length ≤ size) place_of
+            all_under (λ (place : Place). place.address + place.length ≤ size) planned_place
             plan.parts.items loadable.inside k d within;
         writable =
-            all_under (λ (place : Place). HasRoom room (range_of place).start (range_of place).end)
-            place_of plan.parts.items
-            (all_under (λ (r : Range ℕ). HasRoom room r.start r.end) range_of (places_of plan) has)
+            all_under
+            (λ (place : Place). HasRoom room (place_range place).start (place_range place).end)
+            planned_place plan.parts.items
+            (all_under (λ (r : Range ℕ). HasRoom room r.start r.end) place_range
+            (places_of plan) has)
             k d within;
         beside =
             all_under
-            (λ (place : Place). IsBeside holds (range_of place).start (range_of place).end)
-            place_of plan.parts.items
-            (all_under (λ (r : Range ℕ). IsBeside holds r.start r.end) range_of (places_of plan)
+            (λ (place : Place). IsBeside holds (place_range place).start (place_range place).end)
+            planned_place plan.parts.items
+            (all_under (λ (r : Range ℕ). IsBeside holds r.start r.end) place_range (places_of plan)
             beside) k d within;
       }
 
   pub all_end_within : All (EndsWithin size) (map (part_by texts) plan.parts.items)
   all_end_within = All-map (EndsWithin size) (part_by texts) plan.parts.items (λ k d within.
       let inside =
-      all_under (λ (place : Place). place.address + place.length ≤ size) place_of
+      all_under (λ (place : Place). place.address + place.length ≤ size) planned_place
       plan.parts.items loadable.inside k d within in
       let count =
       length-bytes_by texts (get_or plan.parts.items k d) (loadable.backed k d within) in
@@ -130,7 +132,7 @@ module _ {A : Type 0} (texts : List (List ℕ)) (size : ℕ) (plan : Plan A)
   pub all_are_before : AllPairs IsBefore (map (part_by texts) plan.parts.items)
   all_are_before = AllPairs-map IsBefore (part_by texts) plan.parts.items (λ i j d ij within.
       let up =
-      pairs_under Ascends place_of plan.parts.items loadable.kept.ascending i j d ij
+      pairs_under Ascends planned_place plan.parts.items loadable.kept.ascending i j d ij
       within in
       let count =
       length-bytes_by texts (get_or plan.parts.items i d) (loadable.backed i d (omega arith)) in
@@ -144,7 +146,7 @@ module _ {A : Type 0} (texts : List (List ℕ)) (size : ℕ) (plan : Plan A)
       let parts = map (part_by texts) plan.parts.items in
       let part = get_or plan.parts.items k d in
       let inside =
-      all_under (λ (place : Place). place.address + place.length ≤ size) place_of
+      all_under (λ (place : Place). place.address + place.length ≤ size) planned_place
       plan.parts.items loadable.inside k d within in
       let count = length-bytes_by texts part (loadable.backed k d within) in
       let total = length-written size parts m is all_end_within in
@@ -168,7 +170,7 @@ module _ {A : Type 0} (texts : List (List ℕ)) (size : ℕ) (plan : Plan A)
       → map (part_in (written (map (part_by texts) plan.parts.items) m)) (places_of plan)
       ≡ map (part_by texts) plan.parts.items
   held m is =
-      map-map (part_in (written (map (part_by texts) plan.parts.items) m)) place_of plan.parts.items
+      map-map (part_in (written (map (part_by texts) plan.parts.items) m)) planned_place plan.parts.items
       ∙ map_same (λ part. part_in (written (map (part_by texts) plan.parts.items) m) part.place)
       (part_by texts) plan.parts.items (λ k d within. held_at m k d is within)
 
@@ -181,5 +183,5 @@ module _ {A : Type 0} (texts : List (List ℕ)) (size : ℕ) (plan : Plan A)
       (All-map (λ p. Has p a → ⊥) (part_by texts) plan.parts.items (λ k d within. λ has.
       let count =
       length-bytes_by texts (get_or plan.parts.items k d) (loadable.backed k d within) in
-      all_under (λ (place : Place). ¬ Covers place a) place_of plan.parts.items out k d within
+      all_under (λ (place : Place). ¬ Covers place a) planned_place plan.parts.items out k d within
       (has.0, omega arith)))

@@ -7,15 +7,15 @@ use Rattle.std.proofs.lemmas.List.Elements.{All-head, All-tail}
 use Rattle.bl_map.specs.MachineFacts.{MachineFacts}
 use Rattle.bl_mb2head.specs.declared.relocation.Relocation.{Relocation}
 use Rattle.bl_mbi.specs.InformationFacts.{ModuleInfo, info_size}
-use Rattle.bl_mbi.specs.Size.{size_of, tag_size, copy_size, load_base_size}
-use Rattle.bl_mbi.specs.Spelling.{spelling}
+use Rattle.bl_mbi.specs.Size.{size_by_lengths, tag_size, copy_size, load_base_size}
+use Rattle.bl_mbi.specs.Spelling.{info_spelling}
 use Rattle.bl_mbi.proofs.Sizes.{length-spelling}
 use Rattle.bl_plan.specs.declared.part.Place.{Place}
 use Rattle.bl_plan.specs.declared.part.Role.TheVariants.{Kernel}
 use Rattle.bl_load.specs.Addresses.{address_of}
 use Rattle.bl_load.specs.Value.{EntryValue, IsCopy}
 use Rattle.bl_map.specs.Room.{whole_frames}
-use Rattle.bl_load.specs.Rows.{modules_of, information_of}
+use Rattle.bl_load.specs.Rows.{told_modules, information_of}
 use Rattle.bl_load.specs.PlacingKept.{tags_size, copies_size}
 
 most_load_base : (b : Bool) → load_base_size b ≤ 16
@@ -24,7 +24,7 @@ most_load_base false = omega arith
 
 -- with no module it is short
 pub size_below : (line runs : ℕ) (given : Bool) → line ≤ 4095 → runs ≤ 256
-    → size_of line [] runs None None given < 2 ^ 16
+    → size_by_lengths line [] runs None None given < 2 ^ 16
 size_below line runs given l r = let b = most_load_base given in omega arith
 
 same_given : (relocation : Option Relocation) (base : ℕ)
@@ -34,11 +34,11 @@ same_given None base = refl
 
 -- the tags of modules take what their lines ask for, wherever the modules stand
 pub tags_size_is : (files : List (List ℕ)) (places : List Place) (k : ℕ) (lines : List (List ℕ))
-    → sum_by (λ n. tag_size (n + 9)) (map (λ m. length m.line) (modules_of files places k lines))
+    → sum_by (λ n. tag_size (n + 9)) (map (λ m. length m.line) (told_modules files places k lines))
     ≡ tags_size lines
 tags_size_is files places k [] = refl
 tags_size_is files places k (line ∷ lines) =
-    let more = modules_of files places (suc k) lines in
+    let more = told_modules files places (suc k) lines in
     sum_by-cons (λ (n : ℕ). tag_size (n + 9)) (length line)
     (map (λ (m : ModuleInfo). length m.line) more)
     ∙ ap (λ (n : ℕ). tag_size (length line + 9) + n)
@@ -54,15 +54,15 @@ tags_small (line ∷ lines) short =
     omega arith
 
 -- a copy's tag takes at most 264 bytes
-pub most_copy_size : (copy : Option (List ℕ)) → IfSome copy IsCopy
+pub copy_size_small : (copy : Option (List ℕ)) → IfSome copy IsCopy
     → copy_size (option_map length copy) ≤ 264
-most_copy_size None is = omega arith
-most_copy_size (Some copy) is = let short = is.short in omega (arith, short)
+copy_size_small None is = omega arith
+copy_size_small (Some copy) is = let short = is.short in omega (arith, short)
 
 -- with few modules and copies it is short too
 pub told_below : (line tags runs old new : ℕ) (given : Bool) → line ≤ 4095 → runs ≤ 256
     → tags < 2 ^ 20 → old ≤ 264 → new ≤ 264
-    → size_of line [] runs None None given + tags + old + new < 2 ^ 32
+    → size_by_lengths line [] runs None None given + tags + old + new < 2 ^ 32
 told_below line tags runs old new given l r t o n =
     let s = size_below line runs given l r in omega (arith, s)
 
@@ -70,7 +70,7 @@ told_below line tags runs old new given l r t o n =
 pub info_size_is : (facts : MachineFacts) (value : EntryValue) (relocation : Option Relocation)
     (places : List Place)
     → info_size (information_of facts value relocation places)
-    ≡ size_of (length value.line) [] (length facts.runs) None None (is_some relocation)
+    ≡ size_by_lengths (length value.line) [] (length facts.runs) None None (is_some relocation)
     + (tags_size value.module_lines + copies_size value.rsdp_old value.rsdp_new)
 info_size_is facts value relocation places =
     let tags = tags_size_is value.files places 0 value.module_lines in
@@ -81,7 +81,8 @@ info_size_is facts value relocation places =
 pub information_short : (facts : MachineFacts) (value : EntryValue) (relocation : Option Relocation)
     (places : List Place) (count : ℕ)
     → count ≡ whole_frames (info_size (information_of facts value relocation []))
-    → length (spelling (codes "bootcore") (information_of facts value relocation places)) ≤ count
+    → length (info_spelling (codes "bootcore") (information_of facts value relocation places))
+    ≤ count
 information_short facts value relocation places count is =
     let e = length-spelling (information_of facts value relocation places) in
     let f = info_size_is facts value relocation places in

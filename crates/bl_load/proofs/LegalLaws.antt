@@ -11,7 +11,7 @@ use Rattle.std.specs.declared.ops.Range.{Range}
 use Rattle.bl_mem.specs.Memory.{IsIn}
 use Rattle.bl_map.specs.MachineFacts.{MachineFacts}
 use Rattle.bl_plan.specs.Permitted.{AllOpen, IsPermitted, IsPreferred}
-use Rattle.bl_plan.specs.Placed.{ArePlaced, IsChosen, IsApart, range_of}
+use Rattle.bl_plan.specs.Placed.{ArePlaced, IsChosen, IsApart, place_range}
 use Rattle.bl_plan.specs.Planned.{put_in}
 use Rattle.bl_plan.specs.declared.part.Choice.{Choice}
 use Rattle.bl_plan.specs.declared.part.Choice.TheVariants.{Fixed, Lowest, Highest, Preferred}
@@ -44,16 +44,16 @@ others_open : (places : List Place) (i : ℕ) (d : Place) → i < length places
     → AllOpen (others places i) (get_or places i d).address
     ((get_or places i d).address + (get_or places i d).length)
 others_open places i d within apart a low high =
-    All-map (λ (r : Range ℕ). ¬ IsIn r a) range_of (remove places i)
-    (All-remove (λ (p : Place). ¬ IsIn (range_of p) a) places i within
+    All-map (λ (r : Range ℕ). ¬ IsIn r a) place_range (remove places i)
+    (All-remove (λ (p : Place). ¬ IsIn (place_range p) a) places i within
     (λ k e k_in other here. elim (cases_lt k i) [
       | inl below ↦
           apart k i d below within a
-          (subst (λ (p : Place). IsIn (range_of p) a) (get_or_default places k e d k_in) here)
+          (subst (λ (p : Place). IsIn (place_range p) a) (get_or_default places k e d k_in) here)
           (low, high)
       | inr above ↦
           apart i k d (omega arith) k_in a (low, high)
-          (subst (λ (p : Place). IsIn (range_of p) a) (get_or_default places k e d k_in) here)
+          (subst (λ (p : Place). IsIn (place_range p) a) (get_or_default places k e d k_in) here)
     ]))
 
 preferred_holds : (at : ℕ) (P : ℕ → Type 0) (a : ℕ) → IsPreferred at P a → P a
@@ -106,7 +106,7 @@ chosen_at facts taken (r ∷ rows) [] placed i row place within = absurd placed
 chosen_at facts taken (r ∷ rows) (p ∷ places) placed zero row place within =
     (taken, placed.0, ap (λ (x : Place). x.length) placed.1)
 chosen_at facts taken (r ∷ rows) (p ∷ places) placed (suc i) row place within =
-    chosen_at facts (put_in (range_of p) taken) rows places placed.2 i row place (omega arith)
+    chosen_at facts (put_in (place_range p) taken) rows places placed.2 i row place (omega arith)
 
 -- an element that a list has at an index
 got : {X : Type 0} (xs : List X) (i : ℕ) (x : X) → slice_get xs i ≡ Some x

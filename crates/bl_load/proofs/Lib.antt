@@ -1,4 +1,5 @@
 pub mod KernelLaws
+pub mod MemoryLemmas
 pub mod BlockLemmas
 pub mod BlockStepLemmas
 pub mod SpanLemmas

@@ -6,7 +6,7 @@ use Rattle.std.specs.Prelude.{option_to_list}
 use Rattle.std.proofs.lemmas.Bool.{cond_both}
 use Rattle.std.proofs.lemmas.List.Elements.{All-nil, All-cons, All-append}
 use Rattle.std.specs.declared.ops.Range.{Range}
-use Rattle.bl_map.specs.Limits.{most_size}
+use Rattle.bl_map.specs.Limits.{max_size}
 use Rattle.bl_map.specs.MachineFacts.{MachineFacts}
 use Rattle.bl_map.specs.Room.{whole_frames}
 use Rattle.bl_bzimage.specs.declared.setup.Setup.{Setup}
@@ -15,7 +15,7 @@ use Rattle.bl_bzimage.proofs.CheckLaws.{some_alignment}
 use Rattle.bl_bzimage.proofs.SetupLaws.{payload_is_tail}
 use Rattle.bl_mem.specs.Memory.{IsIn}
 use Rattle.bl_plan.specs.Permitted.{AllOpen}
-use Rattle.bl_plan.specs.Placed.{ArePlaced, IsRow, IsFirstFault, HasFault}
+use Rattle.bl_plan.specs.Placed.{ArePlaced, IsRow, IsFirstPlaceFault, HasChoiceFault}
 use Rattle.bl_plan.specs.declared.fault.PlanFault.TheVariants.{Overlap}
 use Rattle.bl_plan.specs.declared.part.Place.{Place}
 use Rattle.bl_plan.specs.declared.part.Role.{Role}
@@ -62,26 +62,26 @@ paging_row_is protocols.Linux64 =
 
 -- what holds of each row before the initrd's holds of all
 pub each_front : (P : Row → Type 0) (protocol : Protocol) (setup : Setup) → P (linux_kernel_row setup)
-    → P (frame_row BootParams most_size) → P (frame_row CommandLine line_limit)
-    → P (frame_row Gdt most_size)
+    → P (frame_row BootParams max_size) → P (frame_row CommandLine line_limit)
+    → P (frame_row Gdt max_size)
     → All P (option_to_list (paging_row protocol)) → All P (front_rows protocol setup)
 each_front P protocol setup kernel params line gdt paging =
     let tables = option_to_list (paging_row protocol) in
     All-cons P (linux_kernel_row setup)
-    (frame_row BootParams most_size ∷ frame_row CommandLine line_limit ∷ frame_row Gdt most_size
+    (frame_row BootParams max_size ∷ frame_row CommandLine line_limit ∷ frame_row Gdt max_size
     ∷ tables) kernel
-    (All-cons P (frame_row BootParams most_size)
-    (frame_row CommandLine line_limit ∷ frame_row Gdt most_size ∷ tables) params
-    (All-cons P (frame_row CommandLine line_limit) (frame_row Gdt most_size ∷ tables) line
-    (All-cons P (frame_row Gdt most_size) tables gdt paging)))
+    (All-cons P (frame_row BootParams max_size)
+    (frame_row CommandLine line_limit ∷ frame_row Gdt max_size ∷ tables) params
+    (All-cons P (frame_row CommandLine line_limit) (frame_row Gdt max_size ∷ tables) line
+    (All-cons P (frame_row Gdt max_size) tables gdt paging)))
 
 -- the rows of a setup have some bytes and a choice
 pub front_rows_are_rows : (protocol : Protocol) (file : List ℕ) (setup : Setup) → IsSetup file setup
     → All IsRow (front_rows protocol setup)
 front_rows_are_rows protocol file setup is =
     each_front IsRow protocol setup (kernel_row_is file setup is)
-    (frame_row_is BootParams most_size)
-    (frame_row_is CommandLine line_limit) (frame_row_is Gdt most_size) (paging_row_is protocol)
+    (frame_row_is BootParams max_size)
+    (frame_row_is CommandLine line_limit) (frame_row_is Gdt max_size) (paging_row_is protocol)
 
 pub linux_rows_are_rows : (protocol : Protocol) (file : List ℕ) (setup : Setup) (initrd : List ℕ)
     → IsSetup file setup → All IsRow (linux_rows protocol setup initrd)
@@ -166,15 +166,16 @@ nothing_taken : (start end : ℕ) → AllOpen [] start end
 nothing_taken start end a low high = All-nil (λ (range : Range ℕ). ¬ IsIn range a)
 
 kernel_no_overlap : (facts : MachineFacts) (setup : Setup)
-    → HasFault facts [] (linux_kernel_row setup).length (linux_kernel_row setup).choice Overlap → ⊥
+    → HasChoiceFault facts [] (linux_kernel_row setup).length
+    (linux_kernel_row setup).choice Overlap → ⊥
 kernel_no_overlap facts setup =
     cond_both (nat_eq setup.relocatable_kernel 0) (fixed_row setup) (moved_row setup)
-    (λ row. HasFault facts [] row.length row.choice Overlap → ⊥)
+    (λ row. HasChoiceFault facts [] row.length row.choice Overlap → ⊥)
     (λ _ here. here.1 (nothing_taken high_start (high_start + (fixed_row setup).length)))
     (λ _ here. here)
 
 initrd_no_overlap : (facts : MachineFacts) (taken : List (Range ℕ)) (setup : Setup)
-    (initrd : List ℕ) → IsFirstFault facts taken (initrd_rows setup initrd) Overlap → ⊥
+    (initrd : List ℕ) → IsFirstPlaceFault facts taken (initrd_rows setup initrd) Overlap → ⊥
 initrd_no_overlap facts taken setup [] has = has
 initrd_no_overlap facts taken setup (byte ∷ bytes) (inl here) = here
 initrd_no_overlap facts taken setup (byte ∷ bytes) (inr later) = later.2
@@ -182,7 +183,8 @@ initrd_no_overlap facts taken setup (byte ∷ bytes) (inr later) = later.2
 -- nor do page tables
 paging_no_overlap : (facts : MachineFacts) (taken : List (Range ℕ)) (protocol : Protocol)
     (setup : Setup) (initrd : List ℕ)
-    → IsFirstFault facts taken (option_to_list (paging_row protocol) ++ initrd_rows setup initrd)
+    → IsFirstPlaceFault facts taken
+    (option_to_list (paging_row protocol) ++ initrd_rows setup initrd)
     Overlap → ⊥
 paging_no_overlap facts taken protocols.Multiboot2 setup initrd has =
     initrd_no_overlap facts taken setup initrd has
@@ -193,7 +195,7 @@ paging_no_overlap facts taken protocols.Linux64 setup initrd (inr (a, _, later))
     initrd_no_overlap facts _ setup initrd later
 
 rows_no_overlap : (facts : MachineFacts) (protocol : Protocol) (setup : Setup) (initrd : List ℕ)
-    → IsFirstFault facts [] (linux_rows protocol setup initrd) Overlap → ⊥
+    → IsFirstPlaceFault facts [] (linux_rows protocol setup initrd) Overlap → ⊥
 rows_no_overlap facts p setup initrd (inl here) = kernel_no_overlap facts setup here
 rows_no_overlap facts p setup initrd (inr (a, _, inl here)) = here
 rows_no_overlap facts p setup initrd (inr (a, _, inr (b, _, inl here))) = here
@@ -202,6 +204,6 @@ rows_no_overlap facts p setup initrd (inr (a, _, inr (b, _, inr (c, _, inr (d, _
     paging_no_overlap facts _ p setup initrd later
 
 pub linux_no_overlap : (facts : MachineFacts) (value : EntryValue) (setup : Setup)
-    → IsFirstFault facts [] (rows_of facts value (linux setup)) Overlap → ⊥
+    → IsFirstPlaceFault facts [] (rows_of facts value (linux setup)) Overlap → ⊥
 linux_no_overlap facts value setup has =
     rows_no_overlap facts value.protocol setup (initrd_file value.files) has

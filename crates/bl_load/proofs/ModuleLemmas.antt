@@ -11,7 +11,7 @@ use Rattle.std.proofs.lemmas.Grind.{common_steps}
 use Rattle.std.specs.declared.ops.Range.{Range}
 use Rattle.bl_map.specs.MachineFacts.{MachineFacts}
 use Rattle.bl_map.specs.Room.{whole_frames}
-use Rattle.bl_plan.specs.Placed.{ArePlaced, range_of}
+use Rattle.bl_plan.specs.Placed.{ArePlaced, place_range}
 use Rattle.bl_plan.specs.Planned.{put_in}
 use Rattle.bl_plan.specs.Roles.{role_number}
 use Rattle.bl_plan.specs.declared.part.Place.{Place}
@@ -23,8 +23,8 @@ use Rattle.bl_load.specs.Addresses.{address_of}
 use Rattle.bl_load.specs.Value.{EntryValue, module_file}
 use Rattle.bl_load.specs.Kernel.{KernelFacts}
 use Rattle.bl_load.specs.Reading.{multiboot2}
-use Rattle.bl_load.specs.Rows.{module_rows, kernel_rows, information_row, rows_of, modules_of}
-use Rattle.bl_load.specs.PlacingKept.{IsLow, IsRowed, ModulesEndLow, HasLength}
+use Rattle.bl_load.specs.Rows.{module_rows, kernel_rows, information_row, rows_of, told_modules}
+use Rattle.bl_load.specs.PlacingKept.{EndsLow, IsRowed, ModulesEndLow, HasLength}
 
 -- ---- each module has a place, which is as long as its file
 
@@ -48,7 +48,7 @@ has_place facts role i taken (row ∷ rows) (p ∷ places) placed (inl here) =
       ap (λ (q : Place). q.index) placed.1 ∙ here.1,
     )
 has_place facts role i taken (row ∷ rows) (p ∷ places) placed (inr later) =
-    inr (has_place facts role i (put_in (range_of p) taken) rows places placed.2 later)
+    inr (has_place facts role i (put_in (place_range p) taken) rows places placed.2 later)
 
 has_row_behind : (role : Role) (i : ℕ) (first rows : List Row) → HasRow role i rows
     → HasRow role i (first ++ rows)
@@ -97,7 +97,7 @@ is_module Initrd h = absurd cc
 is_module PageTables h = absurd cc
 
 module_ends : (facts : MachineFacts) (value : EntryValue) (kernel : KernelFacts) (i : ℕ) (p : Place)
-    → IsRowed facts value (multiboot2 kernel) p → IsLow p
+    → IsRowed facts value (multiboot2 kernel) p → EndsLow p
     → EndsBy Module i (length (module_file value.files i)) 0xFFFFF000 p
 module_ends facts value kernel i p rowed low role index =
     let has =
@@ -111,7 +111,7 @@ module_ends facts value kernel i p rowed low role index =
 
 pub modules_end_low : (facts : MachineFacts) (value : EntryValue) (kernel : KernelFacts)
     (places : List Place) → ArePlaced facts [] (rows_of facts value (multiboot2 kernel)) places
-    → All (IsRowed facts value (multiboot2 kernel)) places → All IsLow places
+    → All (IsRowed facts value (multiboot2 kernel)) places → All EndsLow places
     → ModulesEndLow value.files places (length value.module_lines)
 modules_end_low facts value kernel places placed rowed low i within =
     let rest = information_row facts value kernel.relocation ∷ [] in
@@ -133,13 +133,13 @@ told_module files places k line =
 
 pub told_more : (files : List (List ℕ)) (places : List Place) (k : ℕ) (told : List ModuleInfo)
     (new : ModuleInfo) (line : List ℕ) (rest : List (List ℕ)) (all : List ModuleInfo)
-    → new ≡ told_module files places k line → told ++ modules_of files places k (line ∷ rest) ≡ all
-    → (told ++ new ∷ []) ++ modules_of files places (k + 1) rest ≡ all
+    → new ≡ told_module files places k line → told ++ told_modules files places k (line ∷ rest) ≡ all
+    → (told ++ new ∷ []) ++ told_modules files places (k + 1) rest ≡ all
 told_more files places k told new line rest all is so_far =
     let next : k + 1 ≡ suc k = omega arith in
-    append_assoc told (new ∷ []) (modules_of files places (k + 1) rest)
-    ∙ ap (λ (n : ℕ). told ++ (new ∷ modules_of files places n rest)) next
-    ∙ ap (λ (m : ModuleInfo). told ++ (m ∷ modules_of files places (suc k) rest)) is
+    append_assoc told (new ∷ []) (told_modules files places (k + 1) rest)
+    ∙ ap (λ (n : ℕ). told ++ (new ∷ told_modules files places n rest)) next
+    ∙ ap (λ (m : ModuleInfo). told ++ (m ∷ told_modules files places (suc k) rest)) is
     ∙ so_far
 
 pub view_length_at : {V : Type 0} (bytes : V → List ℕ) (files : List V) (k : ℕ) (view : V)

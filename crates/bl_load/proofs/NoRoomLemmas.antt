@@ -5,10 +5,11 @@ use Rattle.std.specs.Prelude.{min, max}
 use Rattle.std.proofs.lemmas.Bool.{cases_lt}
 use Rattle.std.specs.declared.ops.Range.{Range}
 use Rattle.bl_map.specs.MachineFacts.{MachineFacts}
-use Rattle.bl_map.specs.Limits.{most_size}
+use Rattle.bl_map.specs.Limits.{max_size}
 use Rattle.bl_map.specs.Room.{whole_frames}
-use Rattle.bl_plan.specs.Placed.{ArePlaced, IsFirstFault, IsChosen, HasFault, IsPlacingFault}
-use Rattle.bl_plan.specs.Placed.{place_at, range_of}
+use Rattle.bl_plan.specs.Placed.{ArePlaced, IsFirstPlaceFault, IsChosen, HasChoiceFault}
+use Rattle.bl_plan.specs.Placed.{IsPlacingFault}
+use Rattle.bl_plan.specs.Placed.{place_at, place_range}
 use Rattle.bl_plan.specs.Planned.{put_in}
 use Rattle.bl_plan.specs.declared.part.Choice.TheVariants.{Lowest}
 use Rattle.bl_plan.specs.declared.fault.PlanFault.{PlanFault}
@@ -25,7 +26,7 @@ use Rattle.bl_load.specs.PlacingKept.{most_told, told_length, told_rows, told_ro
 -- ---- rows that no machine has room for
 
 abbrev pub Alike : ℕ → ℕ → Type 0
-Alike told length = (told ≡ length) ⊎ ((most_size < told) × (most_size < length))
+Alike told length = (told ≡ length) ⊎ ((max_size < told) × (max_size < length))
 
 pub alike_lengths : (size : ℕ) → Alike (told_length size) (whole_frames (max size 1))
 alike_lengths size =
@@ -37,14 +38,14 @@ alike_lengths size =
     ]
 
 module _ (facts : MachineFacts) where
-  no_chosen : (taken : List (Range ℕ)) (align low count a : ℕ) → most_size < count
-      → IsChosen facts taken count (Lowest align low most_size) a → ⊥
+  no_chosen : (taken : List (Range ℕ)) (align low count a : ℕ) → max_size < count
+      → IsChosen facts taken count (Lowest align low max_size) a → ⊥
   no_chosen taken align low count a long chosen = let below = chosen.holds.below in omega arith
 
   no_room : (taken : List (Range ℕ)) (align low count other : ℕ) (fault : PlanFault)
-      → most_size < count
-      → HasFault facts taken other (Lowest align low most_size) fault
-      → HasFault facts taken count (Lowest align low most_size) fault
+      → max_size < count
+      → HasChoiceFault facts taken other (Lowest align low max_size) fault
+      → HasChoiceFault facts taken count (Lowest align low max_size) fault
   no_room taken align low count other NotUsable long has = has
   no_room taken align low count other Overlap long has = has
   no_room taken align low count other NoRoom long has =
@@ -59,10 +60,11 @@ module _ (facts : MachineFacts) where
   told_placed files rest k (line ∷ lines) taken [] placed = absurd placed
   told_placed files rest k (line ∷ lines) taken (p ∷ places) placed =
       let size = length (module_file files k) in
-      let more = told_placed files rest (suc k) lines (put_in (range_of p) taken) places placed.2 in
+      let more = told_placed files rest (suc k) lines
+      (put_in (place_range p) taken) places placed.2 in
       elim (alike_lengths size) [
         | inl same ↦ (
-          subst (λ (n : ℕ). IsChosen facts taken n (Lowest 4096 0x100000 most_size) p.address)
+          subst (λ (n : ℕ). IsChosen facts taken n (Lowest 4096 0x100000 max_size) p.address)
               same placed.0,
           subst
               (λ (n : ℕ).
@@ -71,7 +73,7 @@ module _ (facts : MachineFacts) where
                 role = Module;
                 index = k;
                 length = n;
-                choice = Lowest 4096 0x100000 most_size;
+                choice = Lowest 4096 0x100000 max_size;
               }) p.address) same placed.1,
           more,
         )
@@ -81,15 +83,15 @@ module _ (facts : MachineFacts) where
 
   told_fault : (files : List (List ℕ)) (rest : List Row) (fault : PlanFault) (k : ℕ)
       (lines : List (List ℕ)) (taken : List (Range ℕ))
-      → IsFirstFault facts taken (told_rows files k lines ++ rest) fault
-      → IsFirstFault facts taken (module_rows files k lines ++ rest) fault
+      → IsFirstPlaceFault facts taken (told_rows files k lines ++ rest) fault
+      → IsFirstPlaceFault facts taken (module_rows files k lines ++ rest) fault
   told_fault files rest fault k [] taken has = has
   told_fault files rest fault k (line ∷ lines) taken (inl here) =
       let size = length (module_file files k) in
       elim (alike_lengths size) [
         | inl same ↦
             inl
-            (subst (λ (n : ℕ). HasFault facts taken n (Lowest 4096 0x100000 most_size) fault)
+            (subst (λ (n : ℕ). HasChoiceFault facts taken n (Lowest 4096 0x100000 max_size) fault)
             same here)
         | inr long ↦
             inl
@@ -101,19 +103,19 @@ module _ (facts : MachineFacts) where
       elim (alike_lengths size) [
         | inl same ↦ inr (
           a,
-          subst (λ (n : ℕ). IsChosen facts taken n (Lowest 4096 0x100000 most_size) a) same chosen,
+          subst (λ (n : ℕ). IsChosen facts taken n (Lowest 4096 0x100000 max_size) a) same chosen,
           told_fault files rest fault (suc k) lines
               _ (subst
               (λ (n : ℕ).
-              IsFirstFault facts
+              IsFirstPlaceFault facts
               (put_in
-              (range_of
+              (place_range
               (place_at
               (record {
                 role = Module;
                 index = k;
                 length = n;
-                choice = Lowest 4096 0x100000 most_size;
+                choice = Lowest 4096 0x100000 max_size;
               }) a)) taken)
               (told_rows files (suc k) lines ++ rest) fault) same
               later),
@@ -132,14 +134,14 @@ module _ (facts : MachineFacts) where
   behind_placed (row ∷ first) told rest each taken (p ∷ places) placed = (
     placed.0,
     placed.1,
-    behind_placed first told rest each (put_in (range_of p) taken) places placed.2,
+    behind_placed first told rest each (put_in (place_range p) taken) places placed.2,
   )
 
   pub behind_fault : (fault : PlanFault) (first told rest : List Row)
-      → ((taken : List (Range ℕ)) → IsFirstFault facts taken told fault
-      → IsFirstFault facts taken rest fault)
-      → (taken : List (Range ℕ)) → IsFirstFault facts taken (first ++ told) fault
-      → IsFirstFault facts taken (first ++ rest) fault
+      → ((taken : List (Range ℕ)) → IsFirstPlaceFault facts taken told fault
+      → IsFirstPlaceFault facts taken rest fault)
+      → (taken : List (Range ℕ)) → IsFirstPlaceFault facts taken (first ++ told) fault
+      → IsFirstPlaceFault facts taken (first ++ rest) fault
   behind_fault fault [] told rest each taken has = each taken has
   behind_fault fault (row ∷ first) told rest each taken (inl here) = inl here
   behind_fault fault (row ∷ first) told rest each taken (inr (a, chosen, later)) =
@@ -156,8 +158,9 @@ module _ (facts : MachineFacts) where
         (module_rows value.files 0 value.module_lines ++ rest)
         (λ taken ps. told_placed value.files rest 0 value.module_lines taken ps) [] places placed
 
-    as_fault : (fault : PlanFault) → IsFirstFault facts [] (told_rows_of facts value kernel) fault
-        → IsFirstFault facts [] (rows_of facts value (multiboot2 kernel)) fault
+    as_fault : (fault : PlanFault)
+        → IsFirstPlaceFault facts [] (told_rows_of facts value kernel) fault
+        → IsFirstPlaceFault facts [] (rows_of facts value (multiboot2 kernel)) fault
     as_fault fault has =
         let rest = information_row facts value kernel.relocation ∷ [] in
         behind_fault fault (kernel_rows kernel.segments kernel.relocation)

@@ -9,7 +9,7 @@ use Rattle.bl_map.specs.MachineFacts.{MachineFacts}
 use Rattle.bl_map.specs.Limits.{frame_size}
 use Rattle.bl_bzimage.specs.declared.setup.Setup.{Setup}
 use Rattle.bl_plan.specs.Planned.{put_in}
-use Rattle.bl_plan.specs.Placed.{ArePlaced, IsChosen, range_of}
+use Rattle.bl_plan.specs.Placed.{ArePlaced, IsChosen, place_range}
 use Rattle.bl_plan.specs.Roles.{role_number}
 use Rattle.bl_plan.specs.declared.part.Row.{Row}
 use Rattle.bl_plan.specs.declared.part.Place.{Place}
@@ -83,7 +83,7 @@ placed_tables facts taken (row ∷ rows) (p ∷ places) each placed =
     (subst (λ (r : Role). role_number r ≡ role_number PageTables) role (grind (arith, same)))
     facts taken p.address placed.0)
     (λ no.
-    placed_tables facts (put_in (range_of p) taken) rows places
+    placed_tables facts (put_in (place_range p) taken) rows places
     (All-tail TablesRow row rows each) placed.2)
 
 -- the page tables of a Linux entry stand in whole frames below 4 GiB, as far as there are any

@@ -7,10 +7,10 @@ use Rattle.bl_plan.specs.declared.fault.PlanFault.TheVariants as plan_fault
 use Rattle.bl_plan.specs.Placed.{IsPlacingFault}
 use Rattle.bl_load.specs.declared.refusal.PrepFault.{PrepFault}
 use Rattle.bl_plan.specs.declared.part.Row.{Row}
-use Rattle.bl_load.specs.PlacingKept.{fault_of, IsPlaceFault}
+use Rattle.bl_load.specs.PlacingKept.{as_prep_fault, IsPlaceFault}
 
 pub refused_place : (facts : MachineFacts) (rows : List Row) (fault : PlanFault)
-    (result : PrepFault) → IsPlacingFault facts rows fault → fault_of fault ≡ Some result
+    (result : PrepFault) → IsPlacingFault facts rows fault → as_prep_fault fault ≡ Some result
     → IsPlaceFault facts rows result
 refused_place facts rows plan_fault.NotUsable result h e =
     subst (IsPlaceFault facts rows) (same_Some _ _ e) (plan_fault.NotUsable, h, refl)

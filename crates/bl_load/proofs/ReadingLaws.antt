@@ -10,7 +10,7 @@ use Rattle.bl_bzimage.specs.declared.setup.Setup.{Setup}
 use Rattle.bl_params.proofs.Lengths.{length-boot_params}
 use Rattle.bl_params.proofs.PagingLemmas.{length-paging}
 use Rattle.bl_plan.specs.Order.{in_order}
-use Rattle.bl_plan.specs.Placed.{ArePlaced, IsRow, IsFirstFault, IsPlacingFault}
+use Rattle.bl_plan.specs.Placed.{ArePlaced, IsRow, IsFirstPlaceFault, IsPlacingFault}
 use Rattle.bl_plan.specs.declared.fault.PlanFault.{PlanFault}
 use Rattle.bl_plan.specs.declared.fault.PlanFault.TheVariants.{Overlap}
 use Rattle.bl_plan.specs.declared.part.Place.{Place}
@@ -57,7 +57,8 @@ reading_rows facts value (linux setup) is =
 
 -- none overlaps another
 pub reading_no_overlap : (facts : MachineFacts) (value : EntryValue) (reading : Reading)
-    → IsRead facts value reading → IsFirstFault facts [] (rows_of facts value reading) Overlap → ⊥
+    → IsRead facts value reading → IsFirstPlaceFault facts [] (rows_of facts value reading) Overlap
+    → ⊥
 reading_no_overlap facts value (multiboot2 kernel) is has =
     no_overlap facts value kernel (kernel_apart (kernel_file value) kernel is.1) has
 reading_no_overlap facts value (linux setup) is has = linux_no_overlap facts value setup has

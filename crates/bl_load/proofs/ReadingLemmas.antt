@@ -8,10 +8,10 @@ use Rattle.bl_plan.specs.declared.fault.PlanFault.TheVariants.{NotUsable, Overla
 use Rattle.bl_plan.specs.declared.part.Place.{Place}
 use Rattle.bl_load.specs.declared.entry.Module.{Module}
 use Rattle.bl_load.specs.Kept.{lines_by}
-use Rattle.bl_load.specs.PlacingKept.{IsLow, IsRowed, ModulesEndLow, told_rows_by}
+use Rattle.bl_load.specs.PlacingKept.{EndsLow, IsRowed, ModulesEndLow, told_rows_by}
 use Rattle.bl_load.specs.Reading.{Reading, multiboot2, linux, IsRead}
 use Rattle.bl_load.specs.Rows.{rows_of}
-use Rattle.bl_load.specs.ReadKept.{HasFiles, FitsTold, CanEnter}
+use Rattle.bl_load.specs.ReadKept.{EntersBy, HasFiles, FitsTold, CanEnter}
 use Rattle.bl_load.specs.Value.{EntryValue, kernel_file, initrd_file}
 use Rattle.bl_load.proofs.EntryLemmas.{entry_small}
 use Rattle.bl_load.proofs.LinuxKernelLemmas.{setup_is}
@@ -23,6 +23,12 @@ use Rattle.bl_load.proofs.ModuleLemmas.{modules_end_low}
 use Rattle.bl_load.proofs.RowLemmas.{told_rows_are_rows}
 
 module _ (facts : MachineFacts) (value : EntryValue) where
+  -- it is entered by the entry's protocol
+  pub enters_by : (reading : Reading) → IsRead facts value reading
+      → EntersBy value.protocol reading
+  enters_by (multiboot2 kernel) is = is.0
+  enters_by (linux setup) is = is.0
+
   -- the rows as the code tells them are rows
   pub told_are_rows : (reading : Reading) (modules : ℕ) → IsRead facts value reading
       → HasFiles value.files modules reading → All IsRow (told_rows_by facts value reading)
@@ -56,7 +62,7 @@ module _ (facts : MachineFacts) (value : EntryValue) where
   -- what is told of the parts fits 32 bits
   pub fits_told : (reading : Reading) (places : List Place)
       → ArePlaced facts [] (rows_of facts value reading) places
-      → All (IsRowed facts value reading) places → All IsLow places → FitsTold value reading places
+      → All (IsRowed facts value reading) places → All EndsLow places → FitsTold value reading places
   fits_told (multiboot2 kernel) places placed rowed low =
       modules_end_low facts value kernel places placed rowed low
   fits_told (linux setup) places placed rowed low = (
@@ -67,7 +73,7 @@ module _ (facts : MachineFacts) (value : EntryValue) where
   -- and so does the entry
   pub can_enter : (reading : Reading) (modules : ℕ) (places : List Place)
       → IsRead facts value reading → HasFiles value.files modules reading
-      → ArePlaced facts [] (rows_of facts value reading) places → All IsLow places
+      → ArePlaced facts [] (rows_of facts value reading) places → All EndsLow places
       → CanEnter reading places
   can_enter (multiboot2 kernel) modules places is has placed low =
       entry_small (kernel_file value) facts value kernel places is.1 has.1 placed low

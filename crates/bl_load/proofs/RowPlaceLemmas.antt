@@ -8,7 +8,7 @@ use Rattle.bl_mem.specs.declared.segment.Segment.{Segment}
 use Rattle.bl_map.specs.MachineFacts.{MachineFacts}
 use Rattle.bl_mb2head.specs.declared.relocation.Relocation.{Relocation}
 use Rattle.bl_plan.specs.Planned.{put_in}
-use Rattle.bl_plan.specs.Placed.{ArePlaced, place_at, range_of}
+use Rattle.bl_plan.specs.Placed.{ArePlaced, place_at, place_range}
 use Rattle.bl_plan.specs.declared.part.Choice.TheVariants.{Fixed}
 use Rattle.bl_plan.specs.declared.part.Row.{Row}
 use Rattle.bl_plan.specs.declared.part.Place.{Place}
@@ -36,7 +36,7 @@ each_place facts P taken [] (p ∷ places) each placed = absurd placed
 each_place facts P taken (row ∷ rows) [] each placed = absurd placed
 each_place facts P taken (row ∷ rows) (p ∷ places) each placed =
     All-cons P p places (subst P (sym placed.1) (All-head (Anywhere P) row rows each p.address))
-    (each_place facts P (put_in (range_of p) taken) rows places
+    (each_place facts P (put_in (place_range p) taken) rows places
     (All-tail (Anywhere P) row rows each) placed.2)
 
 -- these segments are those from the k-th on

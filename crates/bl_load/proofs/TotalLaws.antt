@@ -13,7 +13,7 @@ use Rattle.bl_elf.proofs.TotalLaws.{elf_or_fault}
 use Rattle.bl_mb2head.specs.Header.{IsHeader}
 use Rattle.bl_mb2head.specs.declared.header.Header.{Header}
 use Rattle.bl_mb2head.proofs.TotalLaws.{header_or_fault}
-use Rattle.bl_plan.specs.Placed.{IsFirstFault}
+use Rattle.bl_plan.specs.Placed.{IsFirstPlaceFault}
 use Rattle.bl_plan.proofs.TotalLaws.{placed_or_fault}
 use Rattle.bl_plan.specs.declared.fault.PlanFault.{PlanFault}
 use Rattle.bl_plan.specs.declared.fault.PlanFault.TheVariants as plan_fault
@@ -137,7 +137,7 @@ read_or_fault facts value =
 
 row_refused : (facts : MachineFacts) (value : EntryValue) (reading : Reading) (fault : PlanFault)
     → IsRead facts value reading → fault ≢ plan_fault.NoMemory
-    → IsFirstFault facts [] (rows_of facts value reading) fault
+    → IsFirstPlaceFault facts [] (rows_of facts value reading) fault
     → (r : Refusal) × HasRowFault facts (rows_of facts value reading) r
 row_refused facts value reading plan_fault.NotUsable is some has =
     (refusal.NotUsable, (plan_fault.NotUsable, has, refl))

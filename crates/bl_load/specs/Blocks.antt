@@ -21,10 +21,12 @@ abbrev pub span_of : List Segment → ℕ
 span_of segments = high_of segments - low_of segments
 
 -- the byte at a linked address: that of the segment which holds it, 0 where none does
-abbrev pub byte_at : List ℕ → List Segment → ℕ → ℕ
-byte_at file [] a = 0
-byte_at file (s ∷ segments) a =
-    if holds s a then slice_index (contents_of file s) (a - s.address) else byte_at file segments a
+abbrev pub block_byte : List ℕ → List Segment → ℕ → ℕ
+block_byte file [] a = 0
+block_byte file (s ∷ segments) a =
+    if holds s a
+    then slice_index (contents_of file s) (a - s.address)
+    else block_byte file segments a
 
 -- the first n values of a function
 unfoldable pub first_values : ℕ → (ℕ → ℕ) → List ℕ
@@ -34,4 +36,4 @@ first_values (suc n) f = first_values n f ++ f n ∷ []
 -- the block: its byte i is that at the least address + i
 unfoldable pub block_of : List ℕ → List Segment → List ℕ
 block_of file segments =
-    first_values (span_of segments) (λ i. byte_at file segments (low_of segments + i))
+    first_values (span_of segments) (λ i. block_byte file segments (low_of segments + i))

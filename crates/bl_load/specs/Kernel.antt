@@ -75,12 +75,12 @@ elf_refusal elf_fault.NoMemory = None
 abbrev pub HasLoadFault : List ℕ → Option Segment → Refusal → Type 0
 HasLoadFault file (Some segment) refused = ⊥
 HasLoadFault file None refused =
-    (fault : ElfFault) × (elf_refusal fault ≡ Some refused) × elf.HasFirstFault file fault
+    (fault : ElfFault) × (elf_refusal fault ≡ Some refused) × elf.HasFirstElfFault file fault
 
 -- the file's first fault: the header's, the ELF file's, the entry's
 abbrev pub HasKernelFault : List ℕ → Refusal → Type 0
 HasKernelFault file refused =
-    ((fault : HeadFault) × header.HasFirstFault file fault × (refused ≡ head_refusal fault))
+    ((fault : HeadFault) × header.HasFirstHeadFault file fault × (refused ≡ head_refusal fault))
     ⊎ ((head : Header) × IsHeader file head × HasLoadFault file head.segment refused)
     ⊎ ((head : Header) × (facts : ElfFacts) × IsHeader file head
     × IsLoadedBy file head.segment facts

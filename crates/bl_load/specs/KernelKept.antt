@@ -2,12 +2,12 @@
 use Rattle.std.specs.Prelude.{◌≡◌, ◌+◌, ◌<◌, ◌≤◌, ◌^◌, ℕ, length, All, AllPairs, List, Option, Some}
 use Rattle.std.specs.Prelude.{None}
 use Rattle.bl_mem.specs.declared.segment.Segment.{Segment}
-use Rattle.bl_elf.specs.Elf.{ElfFacts, AreApart}
+use Rattle.bl_elf.specs.Elf.{ElfFacts, AreApartSegments}
 use Rattle.bl_elf.specs.declared.fault.ElfFault.{ElfFault}
 use Rattle.bl_elf.specs.declared.fault.ElfFault.TheVariants as elf_fault
-use Rattle.bl_load.specs.declared.kernel.Executable.{Executable}
-use Rattle.bl_load.specs.declared.kernel.Executable.TheVariants.{AddressTag, Elf}
-use Rattle.bl_load.specs.declared.kernel.Kernel.{Kernel}
+use Rattle.bl_load.specs.declared.multiboot2.kernel.Executable.{Executable}
+use Rattle.bl_load.specs.declared.multiboot2.kernel.Executable.TheVariants.{AddressTag, Elf}
+use Rattle.bl_load.specs.declared.multiboot2.kernel.Kernel.{Kernel}
 use Rattle.bl_load.specs.declared.refusal.PrepFault.{PrepFault}
 use Rattle.bl_load.specs.declared.refusal.PrepFault.TheVariants as prep_fault
 use Rattle.bl_load.specs.Blocks.{span_of}
@@ -51,5 +51,5 @@ pub record AreLoadable (file : List ℕ) (segments : List Segment) : Type 0 wher
   pub in_file : All (λ s. 0 < s.filesz → s.offset + s.filesz ≤ length file) segments
   pub small : All (λ s. s.memsz < 2 ^ 64) segments
   pub low : All (λ s. s.address < 2 ^ 32) segments
-  pub apart : AllPairs AreApart segments
+  pub apart : AllPairs AreApartSegments segments
   pub span : span_of segments < 2 ^ 64

@@ -4,7 +4,7 @@ use Rattle.std.specs.List.{AllZip, remove, slice_get}
 use Rattle.std.specs.declared.ops.Range.{Range}
 use Rattle.bl_map.specs.MachineFacts.{MachineFacts, AllUsable}
 use Rattle.bl_plan.specs.Permitted.{AllOpen, IsPermitted}
-use Rattle.bl_plan.specs.Placed.{IsPlaceOf, range_of}
+use Rattle.bl_plan.specs.Placed.{IsPlaceOf, place_range}
 use Rattle.bl_plan.specs.declared.part.Choice.{Choice}
 use Rattle.bl_plan.specs.declared.part.Choice.TheVariants.{Fixed, Lowest, Highest, Preferred}
 use Rattle.bl_plan.specs.declared.part.Row.{Row}
@@ -29,7 +29,7 @@ IsAllowed facts ranges length (Preferred at align low high) a =
 
 -- the ranges of all places but the i-th
 abbrev pub others : List Place → ℕ → List (Range ℕ)
-others places i = map range_of (remove places i)
+others places i = map place_range (remove places i)
 
 -- each place is allowed for its row, which has the same index, beside all others
 abbrev pub AreAllowed : MachineFacts → List Row → List Place → Type 0

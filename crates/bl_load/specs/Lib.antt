@@ -20,6 +20,6 @@ pub mod Protocols
 pub mod Parts
 pub mod PlacingKept
 pub mod ReadKept
-pub mod SourceKept
+pub mod EntryFilesKept
 pub mod Legal
 pub mod After

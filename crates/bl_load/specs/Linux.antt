@@ -10,6 +10,7 @@ use Rattle.bl_bzimage.specs.declared.fault.SetupFault.{SetupFault}
 use Rattle.bl_bzimage.specs.declared.fault.SetupFault.TheVariants as setup_fault
 use Rattle.bl_bzimage.specs.Setup.{setup_of}
 use Rattle.bl_bzimage.specs.Setup as bzimage
+use Rattle.bl_params.specs.BootParamsFacts.{max_e820_entries}
 use Rattle.bl_plan.specs.declared.protocol.Protocol.{Protocol}
 use Rattle.bl_plan.specs.declared.protocol.Protocol.TheVariants.{Multiboot2, Linux, Linux64}
 use Rattle.bl_load.specs.declared.refusal.Refusal.{Refusal}
@@ -43,16 +44,12 @@ entering_fault Linux64 setup =
     if nat_le setup.payload_size entry_64 then Some refusal.EntryOutside else
     None
 
--- "e820_table" has room for so many runs ("Zero Page")
-abbrev pub most_e820_entries : ℕ
-most_e820_entries = 128
-
 -- what a kernel of this setup can't be told: a line that is longer than "cmdline_size" says; a
 -- memory map of more runs than boot parameters have room for
 abbrev pub telling_fault : List Region → List ℕ → Setup → Option Refusal
 telling_fault runs line setup =
     if nat_lt setup.cmdline_size (length line) then Some refusal.LineTooLong else
-    if nat_lt most_e820_entries (length runs) then Some refusal.MapTooLong else
+    if nat_lt max_e820_entries (length runs) then Some refusal.MapTooLong else
     None
 
 -- the first fault of a file whose kernel is entered by this protocol, and is told this line and

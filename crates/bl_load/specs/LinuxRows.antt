@@ -4,7 +4,7 @@
 use Rattle.std.specs.Prelude.{ℕ, ◌+◌, ◌-◌, max, if◌then◌else◌, ◌==◌, List, [], ◌∷◌, ◌++◌, length}
 use Rattle.std.specs.Prelude.{Option, Some, None, option_to_list}
 use Rattle.bl_map.specs.MachineFacts.{MachineFacts}
-use Rattle.bl_map.specs.Limits.{frame_size, first_usable, most_size}
+use Rattle.bl_map.specs.Limits.{frame_size, first_usable, max_size}
 use Rattle.bl_map.specs.Room.{whole_frames}
 use Rattle.bl_bzimage.specs.declared.setup.Setup.{Setup}
 use Rattle.bl_params.specs.BootParamsFacts.{BootParamsFacts}
@@ -30,7 +30,7 @@ moved_row setup = record {
   role = Kernel;
   index = 0;
   length = max setup.payload_size setup.init_size;
-  choice = Lowest setup.kernel_alignment (max high_start setup.pref_address) most_size;
+  choice = Lowest setup.kernel_alignment (max high_start setup.pref_address) max_size;
 }
 
 -- another one lies at 1 MiB, and needs "init_size" bytes from "pref_address" on
@@ -68,16 +68,16 @@ paging_row protocols.Linux64 = Some (record {
   role = PageTables;
   index = 0;
   length = 0x6000;
-  choice = Lowest frame_size first_usable most_size;
+  choice = Lowest frame_size first_usable max_size;
 })
 
 -- the rows before the initrd's
 abbrev pub front_rows : Protocol → Setup → List Row
 front_rows protocol setup =
     linux_kernel_row setup
-    ∷ frame_row BootParams most_size
+    ∷ frame_row BootParams max_size
     ∷ frame_row CommandLine line_limit
-    ∷ frame_row Gdt most_size
+    ∷ frame_row Gdt max_size
     ∷ option_to_list (paging_row protocol)
 
 -- the initrd, in whole frames, at the highest place of which no byte lies above "initrd_addr_max";

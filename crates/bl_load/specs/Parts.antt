@@ -5,8 +5,8 @@ use Rattle.bl_mem.specs.Contents.{file_part}
 use Rattle.bl_mem.specs.declared.segment.Segment.{Segment}
 use Rattle.bl_map.specs.MachineFacts.{MachineFacts}
 use Rattle.bl_mb2head.specs.declared.relocation.Relocation.{Relocation}
-use Rattle.bl_mbi.specs.Spelling.{spelling}
-use Rattle.bl_plan.specs.Placed.{ArePlaced, IsFirstFault}
+use Rattle.bl_mbi.specs.Spelling.{info_spelling}
+use Rattle.bl_plan.specs.Placed.{ArePlaced, IsFirstPlaceFault}
 use Rattle.bl_plan.specs.declared.part.Role.{Role}
 use Rattle.bl_plan.specs.declared.part.Role.TheVariants.{Kernel, Module, Information, BootParams}
 use Rattle.bl_plan.specs.declared.part.Role.TheVariants.{CommandLine, Gdt, Initrd, PageTables}
@@ -61,7 +61,7 @@ content_of facts value (multiboot2 kernel) places Kernel i =
     kernel_content (kernel_file value) kernel.segments kernel.relocation i
 content_of facts value (multiboot2 kernel) places Module i = module_file value.files i
 content_of facts value (multiboot2 kernel) places Information i =
-    spelling (codes "bootcore") (information_of facts value kernel.relocation places)
+    info_spelling (codes "bootcore") (information_of facts value kernel.relocation places)
 content_of facts value (multiboot2 kernel) places BootParams i = []
 content_of facts value (multiboot2 kernel) places CommandLine i = []
 content_of facts value (multiboot2 kernel) places Gdt i = []
@@ -138,7 +138,8 @@ placing_refusal plan_fault.NoMemory = None
 -- the first of these rows that has no place is refused so
 abbrev pub HasRowFault : MachineFacts → List Row → Refusal → Type 0
 HasRowFault facts rows refused =
-    (fault : PlanFault) × IsFirstFault facts [] rows fault × (placing_refusal fault ≡ Some refused)
+    (fault : PlanFault) × IsFirstPlaceFault facts [] rows fault
+    × (placing_refusal fault ≡ Some refused)
 
 -- the kernel is read, and one of the entry's rows is refused so
 abbrev pub HasPlaceFault : MachineFacts → EntryValue → Refusal → Type 0

@@ -2,5 +2,5 @@
 use Rattle.bl_plan.specs.declared.part.Place.{Place}
 use Rattle.bl_load.specs.declared.plan.PlannedPart.{PlannedPart}
 
-abbrev pub place_of : {A : Type 0} → PlannedPart A → Place
-place_of part = part.place
+abbrev pub planned_place : {A : Type 0} → PlannedPart A → Place
+planned_place part = part.place

@@ -10,7 +10,7 @@ use Rattle.bl_plan.specs.declared.part.Role.{Role}
 use Rattle.bl_plan.specs.declared.part.Role.TheVariants.{Kernel, Module, Information, BootParams}
 use Rattle.bl_plan.specs.declared.part.Role.TheVariants.{CommandLine, Gdt, Initrd, PageTables}
 use Rattle.bl_plan.specs.declared.part.Choice.TheVariants.{Lowest, Highest}
-use Rattle.bl_map.specs.Limits.{frame_size, first_usable, most_size}
+use Rattle.bl_map.specs.Limits.{frame_size, first_usable, max_size}
 use Rattle.bl_mbi.specs.Size.{tag_size, copy_size}
 use Rattle.bl_load.specs.Kernel.{KernelFacts}
 use Rattle.bl_plan.specs.declared.protocol.Protocol.{Protocol}
@@ -33,8 +33,8 @@ use Rattle.bl_load.specs.Handover.{Handover}
 use Rattle.bl_load.specs.Parts.{no_segment, handover_of, HasRowFault, placing_refusal}
 
 -- a place ends at or below the last frame of 4 GiB
-abbrev pub IsLow : Place → Type 0
-IsLow place = place.address + place.length ≤ 0xFFFFF000
+abbrev pub EndsLow : Place → Type 0
+EndsLow place = place.address + place.length ≤ 0xFFFFF000
 
 -- the length of the kernel's part i
 abbrev pub HasKernelLength : List Segment → Option Relocation → ℕ → ℕ → Type 0
@@ -77,9 +77,9 @@ IsPlaceFault facts rows (prep_fault.Refused refused) = HasRowFault facts rows re
 IsPlaceFault facts rows prep_fault.NoMemory = Unit {0}
 
 -- a fault of placing as one of preparing: its refusal, or want of memory
-abbrev pub fault_of : PlanFault → Option PrepFault
-fault_of plan_fault.NoMemory = Some prep_fault.NoMemory
-fault_of fault = option_map (λ refused. prep_fault.Refused refused) (placing_refusal fault)
+abbrev pub as_prep_fault : PlanFault → Option PrepFault
+as_prep_fault plan_fault.NoMemory = Some prep_fault.NoMemory
+as_prep_fault fault = option_map (λ refused. prep_fault.Refused refused) (placing_refusal fault)
 
 -- the rows have these places, and this is handed over
 pub record IsPlacedHandover (facts : MachineFacts) (value : EntryValue) (reading : Reading)
@@ -104,7 +104,7 @@ told_rows files k (line ∷ lines) = record {
   role = Module;
   index = k;
   length = told_length (length (module_file files k));
-  choice = Lowest frame_size 0x100000 most_size;
+  choice = Lowest frame_size 0x100000 max_size;
 } ∷ told_rows files (suc k) lines
 
 -- the rows of an entry as the code tells them

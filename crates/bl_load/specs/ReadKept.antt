@@ -1,28 +1,28 @@
 -- What the code keeps of what was read of an entry's kernel.
-use Rattle.std.specs.Prelude.{◌≡◌, ◌+◌, ◌<◌, ◌≤◌, ◌^◌, ◌%◌, ℕ, List, length}
+use Rattle.std.specs.Prelude.{◌≡◌, ◌+◌, ◌<◌, ◌≤◌, ◌^◌, ◌%◌, ℕ, true, List, length}
 use Rattle.bl_map.specs.Limits.{frame_size}
 use Rattle.bl_map.specs.declared.region.Region.{Region}
 use Rattle.bl_plan.specs.declared.part.Place.{Place}
 use Rattle.bl_plan.specs.declared.protocol.Protocol.{Protocol}
+use Rattle.bl_plan.specs.declared.protocol.Protocol.TheVariants.{Multiboot2}
 use Rattle.bl_plan.specs.declared.part.Role.TheVariants as role
-use Rattle.bl_load.specs.declared.kernel.KernelFile.{KernelFile}
-use Rattle.bl_load.specs.declared.kernel.KernelFile.TheVariants.{Multiboot2, Linux}
 use Rattle.bl_load.specs.declared.refusal.PrepFault.{PrepFault}
 use Rattle.bl_load.specs.declared.refusal.PrepFault.TheVariants as prep_fault
 use Rattle.bl_load.specs.Addresses.{address_of}
 use Rattle.bl_load.specs.Blocks.{low_of}
-use Rattle.bl_load.specs.KernelKept.{AreLoadable, kernel_by}
+use Rattle.bl_load.specs.KernelKept.{AreLoadable}
 use Rattle.bl_load.specs.Linux.{HasLinuxFault}
 use Rattle.bl_load.specs.Parts.{entered_at}
+use Rattle.bl_load.specs.Protocols.{has_params}
 use Rattle.bl_load.specs.PlacingKept.{ModulesEndLow}
 use Rattle.bl_mem.specs.Files.{text_at}
 use Rattle.bl_load.specs.Reading.{Reading, multiboot2, linux}
 use Rattle.bl_load.specs.Value.{EntryValue, initrd_file}
 
--- what was read of a kernel's file
-abbrev pub reading_by : {A : Type 0} → KernelFile A → Reading
-reading_by (Multiboot2 kernel) = multiboot2 (kernel_by kernel)
-reading_by (Linux setup) = linux setup
+-- a kernel that was read so is entered by this protocol
+abbrev pub EntersBy : Protocol → Reading → Type 0
+EntersBy protocol (multiboot2 kernel) = protocol ≡ Multiboot2
+EntersBy protocol (linux setup) = has_params protocol ≡ true
 
 -- there are files for what was read, and so many modules; a Multiboot2 kernel's segments can be
 -- loaded

@@ -5,7 +5,7 @@ use Rattle.std.specs.Prelude.{Option, Some, None, option_map}
 use Rattle.bl_mem.specs.declared.segment.Segment.{Segment}
 use Rattle.bl_map.specs.MachineFacts.{MachineFacts}
 use Rattle.bl_map.specs.Kinds.{low_kib, high_kib}
-use Rattle.bl_map.specs.Limits.{frame_size, first_usable, most_size}
+use Rattle.bl_map.specs.Limits.{frame_size, first_usable, max_size}
 use Rattle.bl_map.specs.Room.{whole_frames}
 use Rattle.bl_mb2head.specs.declared.relocation.Relocation.{Relocation}
 use Rattle.bl_mbi.specs.InformationFacts.{ModuleInfo, InformationFacts, info_size}
@@ -61,18 +61,18 @@ module_rows files k (line ∷ lines) = record {
   role = Module;
   index = k;
   length = module_length (module_file files k);
-  choice = Lowest frame_size 0x100000 most_size;
+  choice = Lowest frame_size 0x100000 max_size;
 } ∷ module_rows files (suc k) lines
 
 -- what the information tells of each module in order, numbered from k on, where the parts have
 -- these places: it ends where its file ends, and not with its frame
-abbrev pub modules_of : List (List ℕ) → List Place → ℕ → List (List ℕ) → List ModuleInfo
-modules_of files places k [] = []
-modules_of files places k (line ∷ lines) = record {
+abbrev pub told_modules : List (List ℕ) → List Place → ℕ → List (List ℕ) → List ModuleInfo
+told_modules files places k [] = []
+told_modules files places k (line ∷ lines) = record {
   mod_start = address_of Module k places;
   mod_end = address_of Module k places + length (module_file files k);
   line = line;
-} ∷ modules_of files places (suc k) lines
+} ∷ told_modules files places (suc k) lines
 
 -- what the information tells, where the parts have these places: the copies of the RSDP as they
 -- stand, the load base only with a relocatable tag
@@ -80,7 +80,7 @@ abbrev pub information_of : MachineFacts → EntryValue → Option Relocation �
     → InformationFacts
 information_of facts value relocation places = record {
   line = value.line;
-  modules = modules_of value.files places 0 value.module_lines;
+  modules = told_modules value.files places 0 value.module_lines;
   mem_lower = low_kib facts.runs;
   mem_upper = high_kib facts.runs;
   runs = facts.runs;
@@ -96,7 +96,7 @@ information_row facts value relocation = record {
   role = Information;
   index = 0;
   length = whole_frames (info_size (information_of facts value relocation []));
-  choice = Lowest frame_size first_usable most_size;
+  choice = Lowest frame_size first_usable max_size;
 }
 
 -- the rows of an entry, by what was read of its kernel

@@ -3,7 +3,7 @@ use Rattle.std.specs.Prelude.{ℕ, ◌+◌, ◌≤◌, if◌then◌else◌, ◌=
 use Rattle.std.specs.Prelude.{slice_index_or, Option, Some, None, IfSome, option_to_list}
 use Rattle.std.specs.List.{list_any}
 use Rattle.std.specs.Option.{option_or}
-use Rattle.bl_plan.specs.Limits.{most_modules}
+use Rattle.bl_plan.specs.Limits.{max_copy, max_line, max_modules}
 use Rattle.bl_plan.specs.Protocols.{of_linux}
 use Rattle.bl_plan.specs.declared.protocol.Protocol.{Protocol}
 use Rattle.bl_plan.specs.declared.protocol.Protocol.TheVariants as protocols
@@ -71,18 +71,14 @@ abbrev pub file_count : {A : Type 0} → Entry A → ℕ
 file_count (Multiboot2 kernel line modules rsdp_old rsdp_new) = 1 + length modules.items
 file_count (Linux kernel line initrd wide) = 1 + length (option_to_list initrd)
 
--- a copy of an RSDP has at most so many bytes
-abbrev pub most_copy : ℕ
-most_copy = 256
-
 -- what may be a copy of an RSDP: 1 to 256 bytes
 pub record IsCopy (copy : List ℕ) : Type 0 where
   pub filled : 1 ≤ length copy
-  pub short : length copy ≤ most_copy
+  pub short : length copy ≤ max_copy
 
 -- what an entry may hold: not too many modules, and copies that are neither empty nor too long
 pub record HasLimits (value : EntryValue) : Type 0 where
-  pub few : length value.module_lines ≤ most_modules
+  pub few : length value.module_lines ≤ max_modules
   pub rsdp_old : IfSome value.rsdp_old IsCopy
   pub rsdp_new : IfSome value.rsdp_new IsCopy
 
@@ -90,15 +86,11 @@ pub record HasLimits (value : EntryValue) : Type 0 where
 unfoldable pub IsWithinLimits : {A : Type 0} → Entry A → Type 0
 IsWithinLimits entry = HasLimits (value_of [] entry)
 
--- a line has at most so many bytes
-abbrev pub most_line : ℕ
-most_line = 4095
-
 -- the first fault of a line: a zero byte, then too many bytes
 unfoldable pub line_fault : List ℕ → Option Refusal
 line_fault line =
     if list_any (λ b. b == 0) line then Some LineHasNul else
-    if nat_lt most_line (length line) then Some LineTooLong else
+    if nat_lt max_line (length line) then Some LineTooLong else
     None
 
 -- the first fault of lines, one after the other

@@ -1,7 +1,7 @@
 //! Where the parts of an entry stand.
 ghost use Rattle.std.specs.Prelude.{◌≡◌, All};
 ghost use Rattle.bl_load.specs.Addresses as addresses;
-ghost use Rattle.bl_load.specs.PlacingKept.{IsLow};
+ghost use Rattle.bl_load.specs.PlacingKept.{EndsLow};
 
 use bl_plan::{Place, Role};
 
@@ -24,7 +24,7 @@ fn find_address(role: Role, index: u32, places: &[Place]) -> u64
 /// The address of the part of a role and an index among places that end below 4 GiB, 0 where there
 /// is none.
 pub fn address_of(role: Role, index: u32, places: &[Place]) -> u32
-    requires { All IsLow places.now }
+    requires { All EndsLow places.now }
     ensures { result ≡ addresses.address_of role index places.now }
 {
     find_address(role, index, places) as u32

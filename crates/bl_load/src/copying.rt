@@ -1,7 +1,7 @@
 //! A file's bytes come into memory, which may hold the file.
 ghost use Rattle.std.specs.Prelude.{◌≡◌, ◌+◌, ◌<◌, ◌≤◌, length, slice_range};
 ghost use Rattle.bl_mem.specs.Files.{text_at, AreBelow, IsBeside};
-ghost use Rattle.bl_mem.specs.Memory.{overwrite, HasRoom, KeepsRoom};
+ghost use Rattle.bl_mem.specs.Memory.{overwrite, HasRoom, KeepsMemory};
 
 use bl_mem::{FileSet, PhysMem};
 
@@ -26,7 +26,7 @@ fn copy_piece<M: PhysMem, F: FileSet>(
         offset (offset + length buffer.old)) }
     ensures texts { F.texts files.now (M.bytes memory.new)
         ≡ F.texts files.now (M.bytes memory.old) }
-    ensures kept { KeepsRoom (M.room memory.old) (M.room memory.new) }
+    ensures kept { KeepsMemory M.lender M.bytes M.room memory.old memory.new }
 {
     files.read(memory, file, offset, buffer);
     memory.write(at, buffer);
@@ -54,7 +54,7 @@ pub(crate) fn copy<M: PhysMem, F: FileSet>(
         (text_at (F.texts files.now (M.bytes memory.old)) file) offset (offset + count)) }
     ensures texts { F.texts files.now (M.bytes memory.new)
         ≡ F.texts files.now (M.bytes memory.old) }
-    ensures kept { KeepsRoom (M.room memory.old) (M.room memory.new) }
+    ensures kept { KeepsMemory M.lender M.bytes M.room memory.old memory.new }
 {
     // Both lengths are known to be below 2^64, so that no sum here wraps, only once they were asked
     // for.

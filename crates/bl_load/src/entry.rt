@@ -2,12 +2,6 @@
 use bl_mem::Bytes;
 use std::alloc::Allocator;
 
-/// The most bytes that a line has.
-pub const MOST_LINE: usize = 4095;
-
-/// The most bytes that a copy of an RSDP has. It has at least 1.
-pub const MOST_COPY: usize = 256;
-
 /// A module of a Multiboot2 entry: a file of the menu, by its index, and the module's line.
 #[derive(Drop)]
 pub struct Module<A: Allocator> {

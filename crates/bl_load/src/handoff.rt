@@ -18,8 +18,8 @@ pub struct Handoff<A: Allocator> {
 
 impl<A: Allocator> Model for Handoff<A> {
     ghost use Rattle.std.specs.Prelude.{◌≡◌, map};
-    ghost use Rattle.bl_plan.specs.Placed.{range_of};
-    ghost use Rattle.bl_load.specs.Place.{place_of};
+    ghost use Rattle.bl_plan.specs.Placed.{place_range};
+    ghost use Rattle.bl_load.specs.Place.{planned_place};
     ghost use Rattle.bl_load.specs.HandoffFacts.{HandoffFacts, AreHandoffFacts};
 
     ghost Value = { HandoffFacts };
@@ -27,19 +27,19 @@ impl<A: Allocator> Model for Handoff<A> {
     ghost view = { λ h. record {
       protocol = h.protocol;
       registers = h.registers;
-      places = map place_of h.parts.items;
+      places = map planned_place h.parts.items;
     } };
 
     ghost invariant = { λ h. AreHandoffFacts (record {
       protocol = h.protocol;
       registers = h.registers;
-      places = map place_of h.parts.items;
-    }) × (h.ranges.items ≡ map range_of (map place_of h.parts.items)) };
+      places = map planned_place h.parts.items;
+    }) × (h.ranges.items ≡ map place_range (map planned_place h.parts.items)) };
 }
 
 impl<A: Allocator> Handoff<A> {
     ghost use Rattle.std.specs.Prelude.{◌≡◌, ◌<◌, length, map, slice_index_or};
-    ghost use Rattle.bl_plan.specs.Placed.{range_of};
+    ghost use Rattle.bl_plan.specs.Placed.{place_range};
     ghost use Rattle.bl_load.specs.HandoffFacts.{AreHandoffFacts};
 
     /// How the kernel is entered.
@@ -74,7 +74,7 @@ impl<A: Allocator> Handoff<A> {
 
     /// The ranges of the parts, in address order. They are the plan's.
     pub fn ranges(&self) -> &[Range<u64>]
-        ensures { result.now ≡ map range_of self.now.places }
+        ensures { result.now ≡ map place_range self.now.places }
     {
         self.ranges.as_slice()
     }

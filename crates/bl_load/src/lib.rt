@@ -3,30 +3,28 @@
 
 mod addresses;
 mod blocks;
-mod contents;
 mod copying;
 mod entry;
+mod entry_files;
 mod handoff;
-mod information;
-mod kernel;
 mod laws;
+mod lengths;
+mod lines;
 mod linux;
-mod linux_contents;
-mod linux_rows;
 mod loading;
+mod multiboot2;
 mod parts;
 mod placing;
 mod plan;
 mod preparing;
 mod protocols;
+mod reading;
 mod refusal;
 mod registers;
 mod registers64;
-mod rows;
-mod source;
 
-pub use bl_plan::Protocol;
-pub use entry::{Entry, MOST_COPY, MOST_LINE, Module};
+pub use bl_plan::{MAX_COPY, MAX_LINE, Protocol};
+pub use entry::{Entry, Module};
 pub use handoff::Handoff;
 pub use laws::{
     each_entry_has_an_answer, handovers_are_determined, handovers_are_legal,

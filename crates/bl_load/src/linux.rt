@@ -1,105 +1,106 @@
-//! A Linux kernel's file.
-ghost use Rattle.std.specs.Prelude.{◌≡◌, Some, None, IfOk, IfErr, MatchResult};
-ghost use Rattle.bl_load.specs.Linux as linux;
-ghost use Rattle.bl_load.specs.Linux.{IsLinuxKernel, entering_fault, telling_fault};
-ghost use Rattle.bl_load.specs.ReadKept.{IsLinuxFault};
-ghost use Rattle.bl_load.specs.declared.refusal.PrepFault.TheVariants.{Refused};
+//! A Linux entry.
+ghost use Rattle.std.specs.Prelude.{◌≡◌, ◌≤◌, true, IfOk, IfErr, length, map};
+ghost use Rattle.bl_load.specs.Reading.{linux};
+ghost use Rattle.bl_load.specs.Value.{linux_value};
+ghost use Rattle.bl_load.specs.Protocols.{has_params};
+ghost use Rattle.bl_load.specs.Parts.{IsHandover, IsPrepFault};
+ghost use Rattle.bl_load.specs.PlanFacts.{handover_by};
+ghost use Rattle.bl_load.specs.Loadable.{lengths_of, IsLoadable, IsLean};
 
-use crate::refusal::{PrepFault, Refusal};
-use bl_bzimage::{Setup, SetupFault, read_setup};
-use bl_map::Region;
+use crate::addresses::address_of;
+use crate::entry_files::EntryFiles;
+use crate::lines::check_line;
+use crate::linux::contents::linux_content;
+use crate::linux::kernel::{ENTRY_64, read_linux};
+use crate::linux::rows::linux_rows;
+use crate::placing::plan_parts;
+use crate::plan::{Content, Plan};
+use crate::reading::ReadKernel;
+use crate::refusal::PrepFault;
+use crate::registers::{Registers, linux_registers};
+use crate::registers64::linux64_registers;
+use bl_bzimage::Setup;
+use bl_map::Machine;
 use bl_mem::ByteView;
-use bl_plan::Protocol;
+use bl_plan::{Place, Protocol, Role, Row};
+use std::alloc::{AllocError, Allocator};
 
-/// How many runs of the memory map boot parameters have room for ("Zero Page", `e820_table`).
-const MOST_RUNS: usize = 128;
+mod contents;
+mod kernel;
+mod rows;
 
-/// The first version of the boot protocol whose `xloadflags` tells of the 64-bit entry.
-const FIRST_64_VERSION: u16 = 0x020C;
+impl ReadKernel for Setup {
+    ghost reading = { λ setup. linux setup };
 
-/// Where the 64-bit entry lies, behind the first byte that is loaded ("64-bit Boot Protocol").
-pub(crate) const ENTRY_64: u64 = 0x200;
-
-/// A setup's fault as a refusal.
-fn setup_refusal(fault: SetupFault) -> Refusal
-    ensures { result ≡ linux.setup_refusal fault }
-{
-    match fault {
-        SetupFault::NotBzImage => Refusal::NotBzImage,
-        SetupFault::OldProtocol => Refusal::OldProtocol,
-        SetupFault::NotHigh => Refusal::NotHigh,
-        SetupFault::SetupCut => Refusal::SetupCut,
-        SetupFault::BadAlign => Refusal::BadAlign,
-        SetupFault::BadPreferred => Refusal::BadPreferred,
+    fn rows<A: Allocator + Copy, V: ByteView>(
+        &self,
+        alloc: A,
+        entry: &EntryFiles<'_, A, V>,
+    ) -> Result<Vec<Row, A>, AllocError> {
+        linux_rows(alloc, entry.protocol, self, entry.files)
     }
-}
 
-impl From<SetupFault> for PrepFault {
-    ghost from_gives = { λ fault prep. prep ≡ Refused (linux.setup_refusal fault) };
-
-    fn from(fault: SetupFault) -> PrepFault {
-        PrepFault::Refused(setup_refusal(fault))
+    fn content<A: Allocator + Copy, V: ByteView>(
+        &self,
+        alloc: A,
+        entry: &EntryFiles<'_, A, V>,
+        places: &[Place],
+        place: &Place,
+    ) -> Result<Content<A>, AllocError> {
+        linux_content(alloc, entry, self, places, place)
     }
-}
 
-/// Whether a kernel has the 64-bit entry ("xloadflags", XLF_KERNEL_64).
-fn has_64_bit_entry(setup: &Setup) -> bool
-    ensures { result ≡ linux.has_64_bit_entry setup.now }
-{
-    setup.version >= FIRST_64_VERSION && setup.xloadflags % 2 == 1
-}
-
-/// Checks that a kernel can be entered by the protocol. Each kernel has the 32-bit entry; the
-/// 64-bit one must be there, and then lie within what is loaded.
-fn check_entering(protocol: Protocol, setup: &Setup) -> Result<(), Refusal>
-    ensures { MatchResult result
-        (λ _. entering_fault protocol setup.now ≡ None)
-        (λ refusal. entering_fault protocol setup.now ≡ Some refusal) }
-{
-    match protocol {
-        Protocol::Multiboot2 => Ok(()),
-        Protocol::Linux => Ok(()),
-        Protocol::Linux64 => {
-            if !has_64_bit_entry(setup) {
-                return Err(Refusal::No64Entry);
+    fn registers(&self, protocol: Protocol, places: &[Place]) -> Registers {
+        let start = address_of(Role::Kernel, 0, places);
+        let boot_params = address_of(Role::BootParams, 0, places);
+        let gdt = address_of(Role::Gdt, 0, places);
+        match protocol {
+            // No Multiboot2 kernel's file is read as a Linux kernel's.
+            Protocol::Multiboot2 => unreachable!(),
+            Protocol::Linux => Registers::Bits32(linux_registers(start, boot_params, gdt)),
+            Protocol::Linux64 => {
+                let tables = address_of(Role::PageTables, 0, places) as u64;
+                Registers::Bits64(linux64_registers(
+                    start as u64 + ENTRY_64,
+                    boot_params as u64,
+                    gdt as u64,
+                    tables,
+                ))
             }
-            if setup.payload_size <= ENTRY_64 {
-                return Err(Refusal::EntryOutside);
-            }
-            Ok(())
         }
     }
 }
 
-/// Checks what a kernel is told: first that `cmdline_size` allows the line, then that boot
-/// parameters have room for the memory map.
-fn check_told(setup: &Setup, line: &[u8], runs: &[Region]) -> Result<(), Refusal>
-    ensures { MatchResult result
-        (λ _. telling_fault runs.now line.now setup.now ≡ None)
-        (λ refusal. telling_fault runs.now line.now setup.now ≡ Some refusal) }
-{
-    if line.len() > setup.cmdline_size as usize {
-        return Err(Refusal::LineTooLong);
-    }
-    if runs.len() > MOST_RUNS {
-        return Err(Refusal::MapTooLong);
-    }
-    Ok(())
-}
-
-/// What is read of a Linux kernel's file, whose kernel is entered by this protocol and told this
-/// line and this memory map, or the first fault.
-pub fn read_linux<V: ByteView>(
+/// What is loaded for a Linux entry of this line, whose kernel is entered by this protocol, or its
+/// first refusal.
+pub fn prepare<A: Allocator + Copy, V: ByteView>(
+    alloc: A,
+    machine: &Machine<A>,
     protocol: Protocol,
-    file: &V,
     line: &[u8],
-    runs: &[Region],
-) -> Result<Setup, PrepFault>
-    ensures kernel { IfOk result (IsLinuxKernel protocol runs.now line.now (V.bytes file.now)) }
-    ensures fault { IfErr result (IsLinuxFault protocol runs.now line.now (V.bytes file.now)) }
+    files: &[V],
+) -> Result<Plan<A>, PrepFault>
+    requires params { has_params protocol ≡ true }
+    requires files { 1 ≤ length files.now }
+    ensures handover { IfOk result (λ plan. IsHandover machine.now
+        (linux_value protocol (map V.bytes files.now) line.now)
+        (handover_by (map V.bytes files.now) plan)) }
+    ensures loadable { IfOk result (λ plan. IsLoadable
+        (lengths_of (map V.bytes files.now)) machine.now.size plan) }
+    ensures lean { IfOk result (λ plan. IsLean plan.parts.items) }
+    ensures fault { IfErr result (λ fault. IsPrepFault machine.now
+        (linux_value protocol (map V.bytes files.now) line.now) fault) }
 {
-    let setup = read_setup(file)?;
-    check_entering(protocol, &setup)?;
-    check_told(&setup, line, runs)?;
-    Ok(setup)
+    check_line(line)?;
+    let setup = read_linux(protocol, &files[0], line, machine.normal())?;
+    let entry = EntryFiles {
+        protocol,
+        machine,
+        line,
+        modules: &[],
+        rsdp_old: &None,
+        rsdp_new: &None,
+        files,
+    };
+    plan_parts(alloc, &entry, &setup)
 }

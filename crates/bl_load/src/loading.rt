@@ -1,8 +1,8 @@
 //! The parts of a plan come into memory.
 ghost use Rattle.std.specs.Prelude.{◌≡◌, ℕ, ◌+◌, ◌-◌, ◌<◌, ◌≤◌, length, map, slice_index, All};
 ghost use Rattle.bl_mem.specs.Files.{AreBelow, IsBeside, AllBeside};
-ghost use Rattle.bl_mem.specs.Memory.{overwrite, HasRoom, AllHaveRoom, KeepsRoom};
-ghost use Rattle.bl_plan.specs.Placed.{Covers, range_of};
+ghost use Rattle.bl_mem.specs.Memory.{overwrite, HasRoom, AllHaveRoom, KeepsMemory};
+ghost use Rattle.bl_plan.specs.Placed.{Covers, place_range};
 ghost use Rattle.bl_load.specs.Handover.{written};
 ghost use Rattle.bl_load.specs.PlanFacts.{content_by, bytes_by, part_by, handover_by};
 ghost use Rattle.bl_load.specs.PlanFacts.{handover_in, places_of};
@@ -33,7 +33,7 @@ fn load_content<M: PhysMem, F: FileSet, A: Allocator>(
         (content_by (F.texts files.now (M.bytes memory.old)) content.now) }
     ensures texts { F.texts files.now (M.bytes memory.new)
         ≡ F.texts files.now (M.bytes memory.old) }
-    ensures kept { KeepsRoom (M.room memory.old) (M.room memory.new) }
+    ensures kept { KeepsMemory M.lender M.bytes M.room memory.old memory.new }
 {
     match content {
         Content::Own(bytes) => {
@@ -63,7 +63,7 @@ fn load_part<M: PhysMem, F: FileSet, A: Allocator>(memory: &mut M, part: &Planne
         (bytes_by (F.texts files.now (M.bytes memory.old)) part.now) }
     ensures texts { F.texts files.now (M.bytes memory.new)
         ≡ F.texts files.now (M.bytes memory.old) }
-    ensures kept { KeepsRoom (M.room memory.old) (M.room memory.new) }
+    ensures kept { KeepsMemory M.lender M.bytes M.room memory.old memory.new }
 {
     // Memory's size is known to be below 2^64, so that no sum here wraps, only once it was asked
     // for.
@@ -87,8 +87,7 @@ fn load_parts<M: PhysMem, F: FileSet, A: Allocator>(
         (M.bytes memory.old) }
     ensures texts { F.texts files.now (M.bytes memory.new)
         ≡ F.texts files.now (M.bytes memory.old) }
-    ensures size { length (M.bytes memory.new) ≡ length (M.bytes memory.old) }
-    ensures kept { KeepsRoom (M.room memory.old) (M.room memory.new) }
+    ensures kept { KeepsMemory M.lender M.bytes M.room memory.old memory.new }
 {
     for part in parts {
         load_part(memory, part, files);
@@ -111,8 +110,8 @@ pub fn load<M: PhysMem, F: FileSet, A: Allocator>(
     requires held { AreBelow (F.holds files.now) (length (M.bytes memory.old)) }
     requires loadable { IsLoadable (lengths_of (F.texts files.now (M.bytes memory.old)))
         (length (M.bytes memory.old)) plan }
-    requires room { AllHaveRoom (M.room memory.old) (map range_of (places_of plan)) }
-    requires beside { AllBeside (F.holds files.now) (map range_of (places_of plan)) }
+    requires room { AllHaveRoom (M.room memory.old) (map place_range (places_of plan)) }
+    requires beside { AllBeside (F.holds files.now) (map place_range (places_of plan)) }
     ensures after { M.bytes memory.new ≡ written
         (handover_by (F.texts files.now (M.bytes memory.old)) plan).parts (M.bytes memory.old) }
     ensures protocol { result.protocol ≡ plan.protocol }
@@ -132,8 +131,7 @@ pub fn load<M: PhysMem, F: FileSet, A: Allocator>(
     // Each file reads as before, so none was overwritten before it was read.
     ensures texts { F.texts files.now (M.bytes memory.new)
         ≡ F.texts files.now (M.bytes memory.old) }
-    ensures size { length (M.bytes memory.new) ≡ length (M.bytes memory.old) }
-    ensures kept { KeepsRoom (M.room memory.old) (M.room memory.new) }
+    ensures kept { KeepsMemory M.lender M.bytes M.room memory.old memory.new }
 {
     let Plan {
         protocol,

@@ -1,7 +1,7 @@
 //! What is going to be loaded.
 ghost use Rattle.std.specs.Prelude.{◌≡◌, map};
-ghost use Rattle.bl_plan.specs.Placed.{range_of};
-ghost use Rattle.bl_load.specs.Place.{place_of};
+ghost use Rattle.bl_plan.specs.Placed.{place_range};
+ghost use Rattle.bl_load.specs.Place.{planned_place};
 
 use crate::registers::Registers;
 use bl_mem::{Bytes, Segment};
@@ -44,17 +44,17 @@ pub struct Plan<A: Allocator> {
     pub registers: Registers,
     pub parts: Vec<PlannedPart<A>, A>,
     pub ranges: Vec<Range<u64>, A>,
-    ghost ranges_are: { ranges.items ≡ map range_of (map place_of parts.items) },
+    ghost ranges_are: { ranges.items ≡ map place_range (map planned_place parts.items) },
 }
 
 impl<A: Allocator> Plan<A> {
     ghost use Rattle.std.specs.Prelude.{◌≡◌, map};
-    ghost use Rattle.bl_plan.specs.Placed.{range_of};
+    ghost use Rattle.bl_plan.specs.Placed.{place_range};
     ghost use Rattle.bl_load.specs.PlanFacts.{places_of};
 
     /// The ranges of the parts, in address order.
     pub fn ranges(&self) -> &[Range<u64>]
-        ensures { result.now ≡ map range_of (places_of self.now) }
+        ensures { result.now ≡ map place_range (places_of self.now) }
     {
         self.ranges.as_slice()
     }

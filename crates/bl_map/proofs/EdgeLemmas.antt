@@ -4,7 +4,7 @@ use Rattle.std.proofs.Common.{if◌then◌else◌, nat_lt, max, arith, refl, ap�
 use Rattle.std.proofs.lemmas.Bool.{cases_lt}
 use Rattle.std.proofs.lemmas.Bool.Decides.{nat_tests}
 use Rattle.bl_map.specs.declared.region.Region.{Region}
-use Rattle.bl_map.specs.Kinds.{kind_number, end_of, holds, kind_at}
+use Rattle.bl_map.specs.Kinds.{kind_number, region_end, region_holds, kind_at}
 
 -- how many ends of a region lie above an address
 above : ℕ → ℕ → ℕ
@@ -31,7 +31,7 @@ above_stays at later edge h e = elim (cases_lt later edge) [
 
 pub edges_above : List Region → ℕ → ℕ
 edges_above [] at = 0
-edges_above (r ∷ regions) at = above at r.base + above at (end_of r) + edges_above regions at
+edges_above (r ∷ regions) at = above at r.base + above at (region_end r) + edges_above regions at
 
 above_most : (at edge : ℕ) → above at edge ≤ 1
 unfolding above
@@ -42,7 +42,7 @@ unfolding edges_above
 edges_most [] at = omega arith
 edges_most (r ∷ regions) at =
     let a = above_most at r.base in
-    let b = above_most at (end_of r) in let c = edges_most regions at in omega arith
+    let b = above_most at (region_end r) in let c = edges_most regions at in omega arith
 
 pub edges_fall : (regions : List Region) (at later : ℕ) → at ≤ later
     → edges_above regions later ≤ edges_above regions at
@@ -50,11 +50,12 @@ unfolding edges_above
 edges_fall [] at later h = omega arith
 edges_fall (r ∷ regions) at later h =
     let a = above_falls at later r.base h in
-    let b = above_falls at later (end_of r) h in
+    let b = above_falls at later (region_end r) h in
     let c = edges_fall regions at later h in omega arith
 
 same_holds : (r : Region) (at later : ℕ) → nat_lt at r.base ≡ nat_lt later r.base
-    → nat_lt at (end_of r) ≡ nat_lt later (end_of r) → holds r at ≡ holds r later
+    → nat_lt at (region_end r) ≡ nat_lt later (region_end r) → region_holds r at
+    ≡ region_holds r later
 same_holds r at later a b = grind (arith, nat_tests)
 
 -- where no region begins or ends after an address and up to a later one, both have one kind
@@ -65,9 +66,9 @@ unfolding edges_above
 same_kind [] at later h e = refl
 same_kind (r ∷ regions) at later h e =
     let a = above_falls at later r.base h in
-    let b = above_falls at later (end_of r) h in let c = edges_fall regions at later h in
+    let b = above_falls at later (region_end r) h in let c = edges_fall regions at later h in
     let base = above_stays at later r.base h (omega arith) in
-    let end = above_stays at later (end_of r) h (omega arith) in
+    let end = above_stays at later (region_end r) h (omega arith) in
     ap₂ (λ (t : Bool) (k : ℕ). max (if t then kind_number r.kind else 0) k)
     (same_holds r at later base end) (same_kind regions at later h (omega arith))
 

@@ -8,7 +8,7 @@ use Rattle.bl_map.specs.declared.kind.Kind.{Kind}
 use Rattle.bl_map.specs.declared.kind.Kind.TheVariants.{Usable, Reserved, Acpi, Nvs, Bad}
 use Rattle.bl_map.specs.declared.region.Region.{Region}
 use Rattle.std.specs.Prelude.{Some}
-use Rattle.bl_map.specs.Kinds.{kind_number, kind_of, end_of, kind_at, ComesBefore, AreRuns}
+use Rattle.bl_map.specs.Kinds.{kind_number, kind_of, region_end, kind_at, ComesBefore, AreRuns}
 use Rattle.bl_map.specs.Kinds.{IsNormalMap}
 use Rattle.bl_map.proofs.KindLemmas.{held, not_held_behind, kind_held, kind_not_held, none_before}
 use Rattle.bl_map.proofs.KindLemmas.{number_positive}
@@ -34,50 +34,52 @@ pub fewer_runs : (x : Region) (xs : List Region) → AreRuns (x ∷ xs) → AreR
 fewer_runs x xs runs =
     record {
       filled = All-tail (λ run. 1 ≤ run.length) x xs runs.filled;
-      low = All-tail (λ run. end_of run ≤ 2 ^ 52) x xs runs.low;
+      low = All-tail (λ run. region_end run ≤ 2 ^ 52) x xs runs.low;
       in_order = λ i j d less inside. runs.in_order (suc i) (suc j) d (omega arith) (omega arith);
     }
 
-later_bases : (x : Region) (xs : List Region) → AreRuns (x ∷ xs) → All (λ r. end_of x ≤ r.base) xs
+later_bases : (x : Region) (xs : List Region) → AreRuns (x ∷ xs)
+    → All (λ r. region_end x ≤ r.base) xs
 later_bases x xs runs =
-    All-weaker (ComesBefore x) (λ r. end_of x ≤ r.base) (λ r h. h.0) xs (later_runs x xs runs)
+    All-weaker (ComesBefore x) (λ r. region_end x ≤ r.base) (λ r h. h.0) xs (later_runs x xs runs)
 
 kind_before : (x : Region) (xs : List Region) (a : ℕ) → AreRuns (x ∷ xs) → a < x.base
     → kind_at (x ∷ xs) a ≡ 0
 kind_before x xs a runs below =
     none_before (x ∷ xs) x.base a
     (All-cons (λ r. x.base ≤ r.base) x xs (omega arith)
-    (All-weaker (λ r. end_of x ≤ r.base) (λ r. x.base ≤ r.base) (λ r h. omega arith) xs
+    (All-weaker (λ r. region_end x ≤ r.base) (λ r. x.base ≤ r.base) (λ r h. omega arith) xs
     (later_bases x xs runs)))
     below
 
-pub kind_in : (x : Region) (xs : List Region) (a : ℕ) → AreRuns (x ∷ xs) → x.base ≤ a → a < end_of x
+pub kind_in : (x : Region) (xs : List Region) (a : ℕ) → AreRuns (x ∷ xs) → x.base ≤ a → a
+    < region_end x
     → kind_at (x ∷ xs) a ≡ kind_number x.kind
 kind_in x xs a runs from below =
     kind_held x xs a (held x a from below)
     ∙ ap (λ n. max (kind_number x.kind) n)
-    (none_before xs (end_of x) a (later_bases x xs runs) below)
+    (none_before xs (region_end x) a (later_bases x xs runs) below)
     ∙ max-zero (kind_number x.kind)
 
 -- at its end a run's kind is over
 other_behind : (x : Region) (xs : List Region) → AreRuns (x ∷ xs)
-    → kind_at xs (end_of x) ≢ kind_number x.kind
+    → kind_at xs (region_end x) ≢ kind_number x.kind
 other_behind x [] runs same = let p = number_positive x.kind in absurd (omega (arith, same))
 other_behind x (y ∷ ys) runs same =
     let next = All-head (ComesBefore x) y ys (later_runs x (y ∷ ys) runs) in
     let rest = fewer_runs x (y ∷ ys) runs in
     let filled = All-head (λ run. 1 ≤ run.length) y ys rest.filled in
-    elim (cases_lt (end_of x) y.base) [
+    elim (cases_lt (region_end x) y.base) [
       | inl gap ↦
           let p =
           number_positive x.kind in
-          absurd (omega (arith, sym (kind_before y ys (end_of x) rest gap) ∙ same))
+          absurd (omega (arith, sym (kind_before y ys (region_end x) rest gap) ∙ same))
       | inr none ↦
-          let adjoins : end_of x ≡ y.base = omega (arith, next.0) in
+          let adjoins : region_end x ≡ y.base = omega (arith, next.0) in
           next.1 adjoins
           (sym
           (same_kind y.kind x.kind
-          (sym (kind_in y ys (end_of x) rest none (omega arith)) ∙ same)))
+          (sym (kind_in y ys (region_end x) rest none (omega arith)) ∙ same)))
     ]
 
 -- two lists of runs, none of them empty, that give the same kinds
@@ -123,21 +125,21 @@ same_first_kind x xs y ys h =
     ∙ kind_in y ys x.base h.right (omega arith) (omega arith))
 
 ends_by : (x : Region) (xs : List Region) (y : Region) (ys : List Region) → Agree x xs y ys
-    → end_of y ≤ end_of x
+    → region_end y ≤ region_end x
 ends_by x xs y ys h =
     let b = same_base x xs y ys h in
-    elim (cases_lt (end_of x) (end_of y)) [
+    elim (cases_lt (region_end x) (region_end y)) [
       | inl before ↦
           absurd (other_behind x xs h.left
-          (sym (kind_not_held x xs (end_of x) (not_held_behind x (end_of x) (omega arith)))
-          ∙ h.same (end_of x)
-          ∙ kind_in y ys (end_of x) h.right (omega arith) before
+          (sym (kind_not_held x xs (region_end x) (not_held_behind x (region_end x) (omega arith)))
+          ∙ h.same (region_end x)
+          ∙ kind_in y ys (region_end x) h.right (omega arith) before
           ∙ ap kind_number (sym (same_first_kind x xs y ys h))))
       | inr from ↦ from
     ]
 
 same_end : (x : Region) (xs : List Region) (y : Region) (ys : List Region) → Agree x xs y ys
-    → end_of x ≡ end_of y
+    → region_end x ≡ region_end y
 same_end x xs y ys h =
     let p = ends_by x xs y ys h in let q = ends_by y ys x xs (swapped x xs y ys h) in omega arith
 
@@ -160,10 +162,10 @@ same_rest : (x : Region) (xs : List Region) (y : Region) (ys : List Region) → 
     → (a : ℕ) → kind_at xs a ≡ kind_at ys a
 same_rest x xs y ys h a =
     let e = same_end x xs y ys h in
-    elim (cases_lt a (end_of x)) [
+    elim (cases_lt a (region_end x)) [
       | inl before ↦
-          none_before xs (end_of x) a (later_bases x xs h.left) before
-          ∙ sym (none_before ys (end_of y) a (later_bases y ys h.right) (omega arith))
+          none_before xs (region_end x) a (later_bases x xs h.left) before
+          ∙ sym (none_before ys (region_end y) a (later_bases y ys h.right) (omega arith))
       | inr behind ↦
           sym (kind_not_held x xs a (not_held_behind x a behind)) ∙ h.same a
           ∙ kind_not_held y ys a (not_held_behind y a (omega arith))

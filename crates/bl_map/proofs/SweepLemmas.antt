@@ -7,15 +7,15 @@ use Rattle.std.proofs.lemmas.List.Elements.{All-nil, All-push, All-weaker}
 use Rattle.std.proofs.lemmas.List.Quantifiers.{all_pairs_push}
 use Rattle.bl_map.specs.declared.kind.Kind.{Kind}
 use Rattle.bl_map.specs.declared.region.Region.{Region}
-use Rattle.bl_map.specs.Kinds.{kind_number, end_of, kind_at, ComesBefore, AreRuns, IsNormalMap}
-use Rattle.bl_map.specs.Faults.{IsLow}
+use Rattle.bl_map.specs.Kinds.{kind_number, region_end, kind_at, ComesBefore, AreRuns, IsNormalMap}
+use Rattle.bl_map.specs.Faults.{IsLowRegion}
 use Rattle.bl_map.proofs.KindLemmas.{held, not_held_before, number_in, number_in-held}
 use Rattle.bl_map.proofs.KindLemmas.{number_in-not_held, kind_at-push, none_behind, number_positive}
 
 -- the run ends at an address or before it, and can't go on there
 abbrev pub EndsBefore : List Region → ℕ → Region → Type 0
 EndsBefore regions at run =
-    (end_of run ≤ at) × (end_of run ≡ at → kind_number run.kind ≢ kind_at regions at)
+    (region_end run ≤ at) × (region_end run ≡ at → kind_number run.kind ≢ kind_at regions at)
 
 -- runs that are the normal map of the addresses below one
 pub record IsMapUpto (regions runs : List Region) (at : ℕ) : Type 0 where
@@ -39,7 +39,7 @@ upto_none regions =
           record {
             filled = All-nil (λ run. 1 ≤ run.length);
             low =
-                All-nil (λ run. end_of run ≤ 2 ^ 52);
+                All-nil (λ run. region_end run ≤ 2 ^ 52);
             in_order =
                 λ i j d less within. absurd (omega arith);
           };
@@ -52,7 +52,7 @@ none_yet : (regions runs : List Region) (at a : ℕ) → All (EndsBefore regions
     → kind_at runs a ≡ 0
 none_yet regions runs at a ended from =
     none_behind runs at a
-    (All-weaker (EndsBefore regions at) (λ r. end_of r ≤ at) (λ r h. h.0) runs ended) from
+    (All-weaker (EndsBefore regions at) (λ r. region_end r ≤ at) (λ r h. h.0) runs ended) from
 
 ends_later : (regions runs : List Region) (at end : ℕ) → at < end → All (EndsBefore regions at) runs
     → All (EndsBefore regions end) runs
@@ -77,9 +77,10 @@ abbrev pub run_of : ℕ → ℕ → Kind → Region
 run_of at end kind = record { base = at; length = end - at; kind = kind }
 
 module _ (regions runs : List Region) (at end : ℕ) (kind : Kind)
-    (low : All IsLow regions) (upto : IsMapUpto regions runs at) (run : IsRunEnd regions at end)
+    (low : All IsLowRegion regions) (upto : IsMapUpto regions runs at)
+    (run : IsRunEnd regions at end)
     (is : kind_number kind ≡ kind_at regions at) where
-  end_is : end_of (run_of at end kind) ≡ end
+  end_is : region_end (run_of at end kind) ≡ end
   end_is = let a = run.ahead in omega arith
 
   runs_are_after : AreRuns (runs ++ run_of at end kind ∷ [])
@@ -90,7 +91,7 @@ module _ (regions runs : List Region) (at end : ℕ) (kind : Kind)
             All-push (λ run. 1 ≤ run.length) runs (run_of at end kind) upto.runs_are.filled
             (omega arith);
         low =
-            All-push (λ run. end_of run ≤ 2 ^ 52) runs (run_of at end kind) upto.runs_are.low
+            All-push (λ run. region_end run ≤ 2 ^ 52) runs (run_of at end kind) upto.runs_are.low
             (omega arith);
         in_order = all_pairs_push ComesBefore runs (run_of at end kind) upto.runs_are.in_order
             (λ k d inside. let h = upto.ended k d inside in
@@ -138,7 +139,8 @@ module _ (regions runs : List Region) (at end : ℕ) (kind : Kind)
         same_kinds = kinds_after;
       }
 
-pub upto_all : (regions runs : List Region) (at : ℕ) → All IsLow regions → IsMapUpto regions runs at
+pub upto_all : (regions runs : List Region) (at : ℕ) → All IsLowRegion regions
+    → IsMapUpto regions runs at
     → 2 ^ 52 ≤ at → IsNormalMap regions runs
 upto_all regions runs at low upto over =
     record {

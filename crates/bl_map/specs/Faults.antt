@@ -5,8 +5,8 @@ use Rattle.bl_map.specs.declared.region.Region.{Region}
 use Rattle.bl_map.specs.declared.fault.MapFault.{MapFault}
 use Rattle.bl_map.specs.declared.fault.MapFault.TheVariants.{BadSize, TooManyRegions, BadRegion}
 use Rattle.bl_map.specs.declared.fault.MapFault.TheVariants.{BadPool, NoMemory}
-use Rattle.bl_map.specs.Limits.{most_regions, region_limit}
-use Rattle.bl_map.specs.Kinds.{end_of}
+use Rattle.bl_map.specs.Limits.{max_regions, region_limit}
+use Rattle.bl_map.specs.Kinds.{region_end}
 use Rattle.bl_map.specs.MachineFacts.{IsSize, IsPool}
 
 abbrev pub map_fault_number : MapFault → ℕ
@@ -17,24 +17,25 @@ map_fault_number BadPool = 4
 map_fault_number NoMemory = 5
 
 -- a region ends at most at 2^52
-abbrev pub IsLow : Region → Type 0
-IsLow region = end_of region ≤ region_limit
+abbrev pub IsLowRegion : Region → Type 0
+IsLowRegion region = region_end region ≤ region_limit
 
 -- the first fault of a machine, in the order of these lines; memory may run out at any growth
-abbrev pub HasFirstFault : ℕ → List Region → Range ℕ → MapFault → Type 0
-HasFirstFault size regions pool BadSize = ¬ IsSize size
-HasFirstFault size regions pool TooManyRegions = IsSize size × (most_regions < length regions)
-HasFirstFault size regions pool (BadRegion i) =
-    IsSize size × (length regions ≤ most_regions) × (i < length regions)
-    × All IsLow (take i regions)
-    × IfSome (slice_get regions i) (λ region. ¬ IsLow region)
-HasFirstFault size regions pool BadPool =
-    IsSize size × (length regions ≤ most_regions) × All IsLow regions × (¬ IsPool regions size pool)
-HasFirstFault size regions pool NoMemory = Unit {0}
+abbrev pub HasFirstMapFault : ℕ → List Region → Range ℕ → MapFault → Type 0
+HasFirstMapFault size regions pool BadSize = ¬ IsSize size
+HasFirstMapFault size regions pool TooManyRegions = IsSize size × (max_regions < length regions)
+HasFirstMapFault size regions pool (BadRegion i) =
+    IsSize size × (length regions ≤ max_regions) × (i < length regions)
+    × All IsLowRegion (take i regions)
+    × IfSome (slice_get regions i) (λ region. ¬ IsLowRegion region)
+HasFirstMapFault size regions pool BadPool =
+    IsSize size × (length regions ≤ max_regions) × All IsLowRegion regions
+    × (¬ IsPool regions size pool)
+HasFirstMapFault size regions pool NoMemory = Unit {0}
 
 -- no fault stands
 pub record IsAccepted (size : ℕ) (regions : List Region) (pool : Range ℕ) : Type 0 where
   pub size_is : IsSize size
-  pub few : length regions ≤ most_regions
-  pub low : All IsLow regions
+  pub few : length regions ≤ max_regions
+  pub low : All IsLowRegion regions
   pub pool_is : IsPool regions size pool

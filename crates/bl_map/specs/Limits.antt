@@ -6,23 +6,23 @@ abbrev pub frame_size : ℕ
 frame_size = 4096
 
 -- a machine's size: 1 MiB to 4 GiB, both included
-abbrev pub least_size : ℕ
-least_size = 0x100000
+abbrev pub min_size : ℕ
+min_size = 0x100000
 
-abbrev pub most_size : ℕ
-most_size = 2 ^ 32
+abbrev pub max_size : ℕ
+max_size = 2 ^ 32
 
 -- a machine is made of at most so many regions
-abbrev pub most_regions : ℕ
-most_regions = 128
+abbrev pub max_regions : ℕ
+max_regions = 128
 
 -- where a region ends at most
 abbrev pub region_limit : ℕ
 region_limit = 2 ^ 52
 
 -- a normal map has at most so many runs
-abbrev pub most_runs : ℕ
-most_runs = 256
+abbrev pub max_runs : ℕ
+max_runs = 256
 
 -- where usable memory may lie: neither in the first frame nor from the last frame below 4 GiB on
 abbrev pub first_usable : ℕ

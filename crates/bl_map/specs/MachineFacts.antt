@@ -2,8 +2,8 @@
 use Rattle.std.specs.Prelude.{◌≡◌, ◌%◌, ◌<◌, ◌≤◌, ℕ, List, length}
 use Rattle.std.specs.declared.ops.Range.{Range}
 use Rattle.bl_map.specs.declared.region.Region.{Region}
-use Rattle.bl_map.specs.Limits.{frame_size, least_size, most_size, first_usable, usable_limit}
-use Rattle.bl_map.specs.Limits.{most_runs}
+use Rattle.bl_map.specs.Limits.{frame_size, min_size, max_size, first_usable, usable_limit}
+use Rattle.bl_map.specs.Limits.{max_runs}
 use Rattle.bl_map.specs.Kinds.{kind_at, AreRuns}
 
 -- a machine's facts: its size, its normal map, its pool
@@ -29,8 +29,8 @@ AllUsable facts start end = (a : ℕ) → start ≤ a → a < end → IsUsable f
 
 -- 1 MiB to 4 GiB, in whole frames
 pub record IsSize (size : ℕ) : Type 0 where
-  pub least : least_size ≤ size
-  pub most : size ≤ most_size
+  pub least : min_size ≤ size
+  pub most : size ≤ max_size
   pub frames : size % frame_size ≡ 0
 
 -- whole frames, perhaps none, of which each byte is usable
@@ -44,5 +44,5 @@ pub record IsPool (regions : List Region) (size : ℕ) (pool : Range ℕ) : Type
 pub record AreMachineFacts (facts : MachineFacts) : Type 0 where
   pub size : IsSize facts.size
   pub runs : AreRuns facts.runs
-  pub few : length facts.runs ≤ most_runs
+  pub few : length facts.runs ≤ max_runs
   pub pool : IsPool facts.runs facts.size facts.pool

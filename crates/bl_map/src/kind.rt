@@ -27,6 +27,33 @@ impl Kind {
         }
     }
 
+    /// The kind's name, as a description and the lines of a map have it.
+    pub fn name(self) -> &'static str
+        ensures { result.now ≡ kinds.kind_name self }
+    {
+        match self {
+            Kind::Usable => "usable",
+            Kind::Reserved => "reserved",
+            Kind::Acpi => "acpi",
+            Kind::Nvs => "nvs",
+            Kind::Bad => "bad",
+        }
+    }
+
+    /// The kind of this name, or none of any other.
+    pub fn from_name(name: &str) -> Option<Kind>
+        ensures { result ≡ kinds.kind_named name.now }
+    {
+        match name {
+            "usable" => Some(Kind::Usable),
+            "reserved" => Some(Kind::Reserved),
+            "acpi" => Some(Kind::Acpi),
+            "nvs" => Some(Kind::Nvs),
+            "bad" => Some(Kind::Bad),
+            _ => None,
+        }
+    }
+
     /// The kind of a number, or none of another number than 1 to 5.
     #[tactic(auto, unfolding(crate::specs::Kinds::kind_of))]
     pub fn from_number(number: u32) -> Option<Kind>

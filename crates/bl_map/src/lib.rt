@@ -15,8 +15,8 @@ pub use fault::MapFault;
 pub use kind::Kind;
 pub use laws::normal_maps_are_determined;
 pub use limits::{
-    FIRST_USABLE, FRAME, HIGH_START, KIB, LEAST_SIZE, MOST_HIGH_KIB, MOST_LOW_KIB, MOST_REGIONS,
-    MOST_SIZE, REGION_LIMIT, USABLE_LIMIT,
+    FIRST_USABLE, FRAME, HIGH_START, KIB, MAX_HIGH_KIB, MAX_LOW_KIB, MAX_REGIONS, MAX_SIZE,
+    MIN_SIZE, REGION_LIMIT, USABLE_LIMIT,
 };
 pub use machine::Machine;
 pub use region::Region;

@@ -1,10 +1,10 @@
 //! A machine.
 ghost use Rattle.std.specs.Prelude.{IfErr, OnOk};
-ghost use Rattle.bl_map.specs.Faults.{HasFirstFault, IsAccepted};
+ghost use Rattle.bl_map.specs.Faults.{HasFirstMapFault, IsAccepted};
 
 use crate::fault::MapFault;
 use crate::kind::Kind;
-use crate::limits::{HIGH_START, KIB, MOST_HIGH_KIB, MOST_LOW_KIB, MOST_REGIONS};
+use crate::limits::{HIGH_START, KIB, MAX_HIGH_KIB, MAX_LOW_KIB, MAX_REGIONS};
 use crate::region::Region;
 use crate::rules::{first_high, is_pool, is_size, is_usable_among, usable_end};
 use crate::sweep::{greatest_kind, normal_map};
@@ -15,12 +15,12 @@ use std::ops::Range;
 /// The first fault that stands of what a machine is made of, before memory is asked for.
 fn check_parts(size: u64, regions: &[Region], pool: &Range<u64>) -> Result<(), MapFault>
     ensures accepted { OnOk result (IsAccepted size regions.now pool.now) }
-    ensures first_fault { IfErr result (HasFirstFault size regions.now pool.now) }
+    ensures first_fault { IfErr result (HasFirstMapFault size regions.now pool.now) }
 {
     if !is_size(size) {
         return Err(MapFault::BadSize);
     }
-    if regions.len() > MOST_REGIONS {
+    if regions.len() > MAX_REGIONS {
         return Err(MapFault::TooManyRegions);
     }
     if let Some(i) = first_high(regions) {
@@ -56,7 +56,7 @@ impl<A: Allocator> Machine<A> {
     ghost use Rattle.bl_map.specs.Kinds.{IsNormalMap, number_or_none};
     ghost use Rattle.bl_map.specs.Kinds as kinds;
     ghost use Rattle.bl_map.specs.MachineFacts.{AllUsable, AreMachineFacts};
-    ghost use Rattle.bl_map.specs.Faults.{HasFirstFault, IsAccepted};
+    ghost use Rattle.bl_map.specs.Faults.{HasFirstMapFault, IsAccepted};
 
     /// The machine of these regions, in any order, overlapping, adjoining or empty. `size` is in
     /// bytes; `pool` has the addresses of the frames that files are staged in.
@@ -78,7 +78,7 @@ impl<A: Allocator> Machine<A> {
         ensures size { IfOk result (λ m. m.size ≡ size) }
         ensures runs { IfOk result (λ m. IsNormalMap regions.now m.runs) }
         ensures pool { IfOk result (λ m. m.pool ≡ pool) }
-        ensures first_fault { IfErr result (HasFirstFault size regions.now pool) }
+        ensures first_fault { IfErr result (HasFirstMapFault size regions.now pool) }
     {
         check_parts(size, regions, &pool)?;
         let runs = normal_map(alloc, regions)?;
@@ -133,10 +133,10 @@ impl<A: Allocator> Machine<A> {
     /// information").
     pub fn low_kib(&self) -> u64
         ensures low_kib { result ≡ kinds.low_kib self.now.runs }
-        ensures most { result ≤ MOST_LOW_KIB }
+        ensures most { result ≤ MAX_LOW_KIB }
         ensures facts { AreMachineFacts self.now }
     {
-        (usable_end(self.runs.as_slice(), 0) / KIB).min(MOST_LOW_KIB)
+        (usable_end(self.runs.as_slice(), 0) / KIB).min(MAX_LOW_KIB)
     }
 
     /// KiB of usable memory from 1 MiB on, at most what 32 bits hold (Multiboot2 3.6.3 "Basic
@@ -147,6 +147,6 @@ impl<A: Allocator> Machine<A> {
         ensures facts { AreMachineFacts self.now }
     {
         let end = usable_end(self.runs.as_slice(), HIGH_START);
-        (end.saturating_sub(HIGH_START) / KIB).min(MOST_HIGH_KIB)
+        (end.saturating_sub(HIGH_START) / KIB).min(MAX_HIGH_KIB)
     }
 }

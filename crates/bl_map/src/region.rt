@@ -14,18 +14,18 @@ pub struct Region {
 impl Region {
     ghost use Rattle.std.specs.Prelude.{◌≡◌, MatchBool};
     ghost use Rattle.bl_map.specs.Kinds as kinds;
-    ghost use Rattle.bl_map.specs.Faults.{IsLow};
+    ghost use Rattle.bl_map.specs.Faults.{IsLowRegion};
 
     /// Whether the region holds this address.
     pub(crate) fn holds(&self, a: u64) -> bool
-        ensures { result ≡ kinds.holds self.now a }
+        ensures { result ≡ kinds.region_holds self.now a }
     {
         self.base <= a && a - self.base < self.length
     }
 
     /// Whether the region ends at most at 2^52.
     pub(crate) fn is_low(&self) -> bool
-        ensures { MatchBool result (IsLow self.now) (¬ IsLow self.now) }
+        ensures { MatchBool result (IsLowRegion self.now) (¬ IsLowRegion self.now) }
     {
         self.base <= REGION_LIMIT && self.length <= REGION_LIMIT - self.base
     }

@@ -2,11 +2,11 @@
 ghost use Rattle.std.specs.Prelude.{◌≡◌, ℕ, ◌<◌, ◌≤◌, All, IfSome, MatchBool, MatchOption, length};
 ghost use Rattle.std.specs.Prelude.{slice_get, take};
 ghost use Rattle.bl_map.specs.MachineFacts.{IsPool, IsSize, IsUsableAmong};
-ghost use Rattle.bl_map.specs.Faults.{IsLow};
+ghost use Rattle.bl_map.specs.Faults.{IsLowRegion};
 ghost use Rattle.bl_map.specs.Kinds as kinds;
 
 use crate::kind::Kind;
-use crate::limits::{FIRST_USABLE, FRAME, LEAST_SIZE, MOST_SIZE, USABLE_LIMIT};
+use crate::limits::{FIRST_USABLE, FRAME, MAX_SIZE, MIN_SIZE, USABLE_LIMIT};
 use crate::region::Region;
 use crate::sweep::{greatest_kind, run_end};
 use std::ops::Range;
@@ -15,16 +15,16 @@ use std::ops::Range;
 pub fn is_size(size: u64) -> bool
     ensures { MatchBool result (IsSize size) (¬ IsSize size) }
 {
-    LEAST_SIZE <= size && size <= MOST_SIZE && size % FRAME == 0
+    MIN_SIZE <= size && size <= MAX_SIZE && size % FRAME == 0
 }
 
 /// The first region that ends above 2^52.
 pub fn first_high(regions: &[Region]) -> Option<usize>
     ensures { MatchOption result
-        (All IsLow regions.now)
+        (All IsLowRegion regions.now)
         (λ i. (i < length regions.now)
-        × All IsLow (take i regions.now)
-        × IfSome (slice_get regions.now i) (λ region. ¬ IsLow region)) }
+        × All IsLowRegion (take i regions.now)
+        × IfSome (slice_get regions.now i) (λ region. ¬ IsLowRegion region)) }
 {
     for (i, region) in regions.iter().enumerate() {
         if !region.is_low() {
@@ -37,8 +37,8 @@ pub fn first_high(regions: &[Region]) -> Option<usize>
 /// Whether each byte from `start` up to `end` is usable in a machine of this size and these
 /// regions.
 pub fn is_usable_among(regions: &[Region], size: u64, start: u64, end: u64) -> bool
-    requires low { All IsLow regions.now }
-    requires size { size ≤ MOST_SIZE }
+    requires low { All IsLowRegion regions.now }
+    requires size { size ≤ MAX_SIZE }
     requires forward { start ≤ end }
     ensures { MatchBool result
         ((a : ℕ) → start ≤ a → a < end → IsUsableAmong regions.now size a)
@@ -58,8 +58,8 @@ pub fn is_usable_among(regions: &[Region], size: u64, start: u64, end: u64) -> b
 
 /// Whether the pool is whole usable frames, perhaps none.
 pub fn is_pool(regions: &[Region], size: u64, pool: &Range<u64>) -> bool
-    requires low { All IsLow regions.now }
-    requires size { size ≤ MOST_SIZE }
+    requires low { All IsLowRegion regions.now }
+    requires size { size ≤ MAX_SIZE }
     ensures { MatchBool result
         (IsPool regions.now size pool.now)
         (¬ IsPool regions.now size pool.now) }
@@ -72,7 +72,7 @@ pub fn is_pool(regions: &[Region], size: u64, pool: &Range<u64>) -> bool
 
 /// Where the run of usable memory ends that holds an address, 0 where there is none.
 pub fn usable_end(runs: &[Region], a: u64) -> u64
-    requires low { All IsLow runs.now }
+    requires low { All IsLowRegion runs.now }
     ensures { result ≡ kinds.usable_end runs.now a }
 {
     for run in runs {

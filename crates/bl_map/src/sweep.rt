@@ -1,7 +1,8 @@
 //! The normal map of regions, by a sweep over the addresses where kinds change.
 ghost use Rattle.std.specs.Prelude.{◌≡◌, ◌≢◌, ℕ, ◌*◌, ◌<◌, ◌≤◌, All, length, max, IfOk};
-ghost use Rattle.bl_map.specs.Kinds.{IsNormalMap, holds, kind_at, kind_number, number_or_none};
-ghost use Rattle.bl_map.specs.Faults.{IsLow};
+ghost use Rattle.bl_map.specs.Kinds.{IsNormalMap, region_holds, kind_at, kind_number};
+ghost use Rattle.bl_map.specs.Kinds.{number_or_none};
+ghost use Rattle.bl_map.specs.Faults.{IsLowRegion};
 
 use crate::kind::Kind;
 use crate::limits::REGION_LIMIT;
@@ -43,11 +44,12 @@ pub fn greatest_kind(regions: &[Region], a: u64) -> Option<Kind>
 
 /// An address up to `limit` before which the region holds all addresses from `at` on, or none.
 fn change_in(region: &Region, at: u64, limit: u64) -> u64
-    requires low { IsLow region.now }
+    requires low { IsLowRegion region.now }
     requires ahead { at < limit }
     ensures ahead { at < result }
     ensures within { result ≤ limit }
-    ensures same { (a : ℕ) → at ≤ a → a < result → holds region.now a ≡ holds region.now at }
+    ensures same { (a : ℕ) → at ≤ a → a < result → region_holds region.now a
+        ≡ region_holds region.now at }
 {
     if at < region.base {
         return limit.min(region.base);
@@ -60,7 +62,7 @@ fn change_in(region: &Region, at: u64, limit: u64) -> u64
 
 /// An address before which all addresses from `at` on have one kind.
 fn change_after(regions: &[Region], at: u64) -> u64
-    requires low { All IsLow regions.now }
+    requires low { All IsLowRegion regions.now }
     requires ahead { at < REGION_LIMIT }
     ensures ahead { at < result }
     ensures within { result ≤ REGION_LIMIT }
@@ -75,7 +77,7 @@ fn change_after(regions: &[Region], at: u64) -> u64
 
 /// Where the addresses from `at` on that have one kind end.
 pub fn run_end(regions: &[Region], at: u64) -> u64
-    requires low { All IsLow regions.now }
+    requires low { All IsLowRegion regions.now }
     requires ahead { at < REGION_LIMIT }
     ensures ahead { at < result }
     ensures within { result ≤ REGION_LIMIT }
@@ -95,7 +97,7 @@ pub fn run_end(regions: &[Region], at: u64) -> u64
 
 /// The normal map of regions.
 pub fn normal_map<A: Allocator>(alloc: A, regions: &[Region]) -> Result<Vec<Region, A>, AllocError>
-    requires low { All IsLow regions.now }
+    requires low { All IsLowRegion regions.now }
     ensures normal { IfOk result (λ runs. IsNormalMap regions.now runs.items) }
     ensures few { IfOk result (λ runs. length runs.items ≤ 2 * length regions.now) }
 {

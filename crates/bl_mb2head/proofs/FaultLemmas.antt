@@ -7,9 +7,9 @@ use Rattle.bl_mb2head.specs.declared.fault.HeadFault.TheVariants.{BadArchitectur
 use Rattle.bl_mb2head.specs.declared.fault.HeadFault.TheVariants.{UnsupportedTag}
 use Rattle.bl_mb2head.specs.declared.fault.HeadFault.TheVariants.{UnsupportedRequest, NoConsole}
 use Rattle.bl_mb2head.specs.declared.tag.Tag.{Tag}
-use Rattle.bl_mb2head.specs.Tags.{request_fault, fault_at, IsFirstFault, last_of}
+use Rattle.bl_mb2head.specs.Tags.{request_fault, tag_fault_at, IsFirstTagFault, last_of}
 use Rattle.bl_mb2head.specs.Address.{address_fault, address_tag_at, is_bad_address}
-use Rattle.bl_mb2head.specs.Header.{end_of, BeginsAt, IsAddressFault, HasFirstFault}
+use Rattle.bl_mb2head.specs.Header.{tags_end, BeginsAt, IsAddressFault, HasFirstHeadFault}
 
 -- no fault, or one that a tag can have
 abbrev is_of_tag : Option HeadFault → Bool
@@ -42,8 +42,8 @@ request_is_of_tag : (kind : Option ℕ) → is_of_tag (request_fault kind) ≡ t
 request_is_of_tag None = refl
 request_is_of_tag (Some kind) = refl
 
-fault_is_of_tag : (bytes : List ℕ) (end at : ℕ) → is_of_tag (fault_at bytes end at) ≡ true
-unfolding fault_at
+fault_is_of_tag : (bytes : List ℕ) (end at : ℕ) → is_of_tag (tag_fault_at bytes end at) ≡ true
+unfolding tag_fault_at
 fault_is_of_tag bytes end at = search (is_of_tag-if, request_is_of_tag)
 
 address_is_of_address : (bytes : List ℕ) (h : ℕ) (tag : Option Tag)
@@ -56,18 +56,18 @@ address_is_of_address bytes h (Some t) =
 
 -- the first fault among the tags is the file's
 pub tag_fault_first : (bytes : List ℕ) (h : ℕ) (fault : HeadFault) → BeginsAt bytes h
-    → IsFirstFault bytes (end_of bytes h) (h + 16) fault → HasFirstFault bytes fault
+    → IsFirstTagFault bytes (tags_end bytes h) (h + 16) fault → HasFirstHeadFault bytes fault
 tag_fault_first bytes h NoHeader begins first =
     let bad : is_of_tag (Some NoHeader) ≡ true =
-    ap is_of_tag (sym first.faulty) ∙ fault_is_of_tag bytes (end_of bytes h) first.next in
+    ap is_of_tag (sym first.faulty) ∙ fault_is_of_tag bytes (tags_end bytes h) first.next in
     absurd cc
 tag_fault_first bytes h HeaderCut begins first =
     let bad : is_of_tag (Some HeaderCut) ≡ true =
-    ap is_of_tag (sym first.faulty) ∙ fault_is_of_tag bytes (end_of bytes h) first.next in
+    ap is_of_tag (sym first.faulty) ∙ fault_is_of_tag bytes (tags_end bytes h) first.next in
     absurd cc
 tag_fault_first bytes h BadArchitecture begins first =
     let bad : is_of_tag (Some BadArchitecture) ≡ true =
-    ap is_of_tag (sym first.faulty) ∙ fault_is_of_tag bytes (end_of bytes h) first.next in
+    ap is_of_tag (sym first.faulty) ∙ fault_is_of_tag bytes (tags_end bytes h) first.next in
     absurd cc
 tag_fault_first bytes h (BadTag at) begins first = (h, begins, inl first)
 tag_fault_first bytes h (UnsupportedTag kind) begins first = (h, begins, first)
@@ -76,7 +76,7 @@ tag_fault_first bytes h NoConsole begins first = (h, begins, first)
 
 -- and so is that of the address tag that counts, where no tag has one of its own
 pub address_fault_first : (bytes : List ℕ) (h : ℕ) (fault : HeadFault) → BeginsAt bytes h
-    → IsAddressFault bytes h fault → HasFirstFault bytes fault
+    → IsAddressFault bytes h fault → HasFirstHeadFault bytes fault
 address_fault_first bytes h (BadTag at) begins address = (h, begins, inr address)
 address_fault_first bytes h NoHeader begins address =
     let bad : false ≡ true =

@@ -16,9 +16,9 @@ use Rattle.bl_mb2head.specs.declared.relocation.Relocation.{Relocation}
 use Rattle.bl_mb2head.specs.declared.tag.Tag.{Tag}
 use Rattle.bl_mb2head.specs.Address.{address_fault, address_segment}
 use Rattle.bl_mb2head.specs.Place.{IsHeaderAt}
-use Rattle.bl_mb2head.specs.Tags.{AreAllTags, IsFirstFault, last_of}
-use Rattle.bl_mb2head.specs.Header.{end_of, is_cut, architecture_at, tag_entry, relocation_of}
-use Rattle.bl_mb2head.specs.Header.{BeginsAt, IsAddressFault, IsHeader, HasFirstFault}
+use Rattle.bl_mb2head.specs.Tags.{AreAllTags, IsFirstTagFault, last_of}
+use Rattle.bl_mb2head.specs.Header.{tags_end, is_cut, architecture_at, tag_entry, relocation_of}
+use Rattle.bl_mb2head.specs.Header.{BeginsAt, IsAddressFault, IsHeader, HasFirstHeadFault}
 use Rattle.bl_mb2head.proofs.TagLaws as tags
 
 -- what is wrong with the header at h before its tags
@@ -33,7 +33,7 @@ abbrev HasFaultAt : List ℕ → ℕ → HeadFault → Type 0
 HasFaultAt bytes h fault =
     (early_fault bytes h ≡ Some fault)
     ⊎ ((early_fault bytes h ≡ None)
-    × (IsFirstFault bytes (end_of bytes h) (h + 16) fault ⊎ IsAddressFault bytes h fault))
+    × (IsFirstTagFault bytes (tags_end bytes h) (h + 16) fault ⊎ IsAddressFault bytes h fault))
 
 no_early_fault : (bytes : List ℕ) (h : ℕ) → BeginsAt bytes h → early_fault bytes h ≡ None
 no_early_fault bytes h begins = grind (arith, nat_tests, begins.whole, begins.architecture)
@@ -46,7 +46,7 @@ architecture_early : (bytes : List ℕ) (h : ℕ) → is_cut bytes h ≡ false �
 architecture_early bytes h whole other = rw whole (grind (arith, nat_tests))
 
 -- a first fault, by where it stands
-by_place : (bytes : List ℕ) (fault : HeadFault) → HasFirstFault bytes fault
+by_place : (bytes : List ℕ) (fault : HeadFault) → HasFirstHeadFault bytes fault
     → (((h : ℕ) → IsHeaderAt bytes h → ⊥) × (fault ≡ NoHeader))
     ⊎ ((h : ℕ) × IsLeast (IsHeaderAt bytes) h × HasFaultAt bytes h fault)
 by_place bytes NoHeader none = inl (none, refl)
@@ -64,11 +64,11 @@ by_place bytes NoConsole (h, begins, first) =
 
 -- the fault of the address tag that counts, after all tags
 address_after_all : (bytes : List ℕ) (h : ℕ) (ts : List Tag) (fault : HeadFault)
-    → AreAllTags bytes (end_of bytes h) (h + 16) ts → IsAddressFault bytes h fault
+    → AreAllTags bytes (tags_end bytes h) (h + 16) ts → IsAddressFault bytes h fault
     → address_fault bytes h (last_of 2 ts) ≡ Some fault
 address_after_all bytes h ts fault all address =
     ap (λ (us : List Tag). address_fault bytes h (last_of 2 us))
-    (tags.one_list bytes (end_of bytes h) (h + 16) ts address.tags all address.all)
+    (tags.one_list bytes (tags_end bytes h) (h + 16) ts address.tags all address.all)
     ∙ address.faulty
 
 one_fault_at : (bytes : List ℕ) (h : ℕ) (f g : HeadFault) → HasFaultAt bytes h f
@@ -77,16 +77,17 @@ one_fault_at bytes h f g (inl a) (inl b) = same_Some f g (sym a ∙ b)
 one_fault_at bytes h f g (inl a) (inr b) = let bad : Some f ≡ None = sym a ∙ b.0 in cc
 one_fault_at bytes h f g (inr a) (inl b) = let bad : None ≡ Some g = sym a.0 ∙ b in cc
 one_fault_at bytes h f g (inr (_, inl a)) (inr (_, inl b)) =
-    tags.one_fault bytes (end_of bytes h) (h + 16) f g a b
+    tags.one_fault bytes (tags_end bytes h) (h + 16) f g a b
 one_fault_at bytes h f g (inr (_, inl a)) (inr (_, inr b)) =
-    absurd (tags.not_both bytes (end_of bytes h) (h + 16) b.tags f b.all a)
+    absurd (tags.not_both bytes (tags_end bytes h) (h + 16) b.tags f b.all a)
 one_fault_at bytes h f g (inr (_, inr a)) (inr (_, inl b)) =
-    absurd (tags.not_both bytes (end_of bytes h) (h + 16) a.tags g a.all b)
+    absurd (tags.not_both bytes (tags_end bytes h) (h + 16) a.tags g a.all b)
 one_fault_at bytes h f g (inr (_, inr a)) (inr (_, inr b)) =
     same_Some f g (sym a.faulty ∙ address_after_all bytes h a.tags g a.all b)
 
 -- a file has one first fault
-pub one_fault : (bytes : List ℕ) (f g : HeadFault) → HasFirstFault bytes f → HasFirstFault bytes g
+pub one_fault : (bytes : List ℕ) (f g : HeadFault) → HasFirstHeadFault bytes f
+    → HasFirstHeadFault bytes g
     → f ≡ g
 one_fault bytes f g a b =
     elim (by_place bytes f a) [
@@ -104,18 +105,18 @@ one_fault bytes f g a b =
     ]
 
 none_at : (bytes : List ℕ) (h : ℕ) (ts : List Tag) (fault : HeadFault) → BeginsAt bytes h
-    → AreAllTags bytes (end_of bytes h) (h + 16) ts → address_fault bytes h (last_of 2 ts) ≡ None
+    → AreAllTags bytes (tags_end bytes h) (h + 16) ts → address_fault bytes h (last_of 2 ts) ≡ None
     → HasFaultAt bytes h fault → ⊥
 none_at bytes h ts fault begins all sound (inl early) =
     let bad : None ≡ Some fault = sym (no_early_fault bytes h begins) ∙ early in cc
 none_at bytes h ts fault begins all sound (inr (_, inl first)) =
-    tags.not_both bytes (end_of bytes h) (h + 16) ts fault all first
+    tags.not_both bytes (tags_end bytes h) (h + 16) ts fault all first
 none_at bytes h ts fault begins all sound (inr (_, inr address)) =
     let bad : None ≡ Some fault = sym sound ∙ address_after_all bytes h ts fault all address in cc
 
 -- a file with a header has no fault
 pub not_both : (bytes : List ℕ) (header : Header) (fault : HeadFault) → IsHeader bytes header
-    → HasFirstFault bytes fault → ⊥
+    → HasFirstHeadFault bytes fault → ⊥
 not_both bytes header fault is has =
     elim (by_place bytes fault has) [
       | inl none ↦ none.0 header.place is.begins.place.holds
@@ -143,10 +144,10 @@ pub one_header : (bytes : List ℕ) (a b : Header) → IsHeader bytes a → IsHe
 one_header bytes a b is_a is_b =
     let place : a.place ≡ b.place =
     one_least (IsHeaderAt bytes) a.place b.place is_a.begins.place is_b.begins.place in
-    let moved : AreAllTags bytes (end_of bytes b.place) (b.place + 16) is_a.tags =
-    subst (λ (h : ℕ). AreAllTags bytes (end_of bytes h) (h + 16) is_a.tags) place is_a.all in
+    let moved : AreAllTags bytes (tags_end bytes b.place) (b.place + 16) is_a.tags =
+    subst (λ (h : ℕ). AreAllTags bytes (tags_end bytes h) (h + 16) is_a.tags) place is_a.all in
     let same : is_a.tags ≡ is_b.tags =
-    tags.one_list bytes (end_of bytes b.place) (b.place + 16) is_a.tags is_b.tags moved
+    tags.one_list bytes (tags_end bytes b.place) (b.place + 16) is_a.tags is_b.tags moved
     is_b.all in
     same_header a b place
     (is_a.segment ∙ ap (λ (h : ℕ). address_segment bytes h (last_of 2 is_a.tags)) place

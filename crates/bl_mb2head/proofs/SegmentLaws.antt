@@ -11,7 +11,7 @@ use Rattle.bl_mb2head.specs.declared.fault.HeadFault.{HeadFault}
 use Rattle.bl_mb2head.specs.declared.fault.HeadFault.TheVariants.{BadTag}
 use Rattle.bl_mb2head.specs.declared.header.Header.{Header}
 use Rattle.bl_mb2head.specs.declared.tag.Tag.{Tag}
-use Rattle.bl_mb2head.specs.Address.{address_tag_at, segment_of, is_bad_address, address_fault}
+use Rattle.bl_mb2head.specs.Address.{address_tag_at, segment_by_tag, is_bad_address, address_fault}
 use Rattle.bl_mb2head.specs.Address.{address_segment}
 use Rattle.bl_mb2head.specs.Header.{FitsFile, IsHeader, tag_entry}
 use Rattle.bl_mb2head.specs.Tags.{last_of}
@@ -19,7 +19,8 @@ use Rattle.bl_mb2head.specs.Tags.{last_of}
 -- what an address tag with no fault gives
 segment_fits : (bytes : List ℕ) (h : ℕ) (tag : AddressTag) → h ≤ length bytes
     → tag.header_addr < 2 ^ 32 → tag.load_addr < 2 ^ 32 → tag.bss_end_addr < 2 ^ 32
-    → is_bad_address (length bytes) h tag ≡ false → FitsFile bytes (segment_of (length bytes) h tag)
+    → is_bad_address (length bytes) h tag ≡ false
+    → FitsFile bytes (segment_by_tag (length bytes) h tag)
 unfolding is_bad_address
 segment_fits bytes h tag inside header load bss sound = record {
   filled = grind (arith, nat_tests);

@@ -5,11 +5,11 @@ use Rattle.std.proofs.lemmas.Option.{same_Some}
 use Rattle.bl_mem.specs.Words.{u16_at}
 use Rattle.bl_mb2head.specs.declared.tag.Tag.{Tag}
 use Rattle.bl_mb2head.specs.declared.fault.HeadFault.{HeadFault}
-use Rattle.bl_mb2head.specs.Tags.{after, fault_at, AreTags, AreAllTags, IsFirstFault}
+use Rattle.bl_mb2head.specs.Tags.{after, tag_fault_at, AreTags, AreAllTags, IsFirstTagFault}
 
 -- a place at which no further tag is passed: that of the last tag, or of one with a fault
 abbrev pub Stops : List ℕ → ℕ → ℕ → Type 0
-Stops bytes end at = (fault_at bytes end at ≡ None) → u16_at bytes at ≡ 0
+Stops bytes end at = (tag_fault_at bytes end at ≡ None) → u16_at bytes at ≡ 0
 
 -- two runs of tags that begin at one place and stop are one
 same_run : (bytes : List ℕ) (end at p q : ℕ) (ts us : List Tag) → AreTags bytes end at p ts
@@ -18,12 +18,12 @@ same_run bytes end at p q [] [] a b p_stops q_stops = (sym a ∙ b, refl)
 same_run bytes end at p q [] (u ∷ us) a b p_stops q_stops =
     let ends : u.kind ≡ 0 =
     ap (λ (t : Tag). t.kind) b.0 ∙ ap (u16_at bytes) a
-    ∙ p_stops (subst (λ (k : ℕ). fault_at bytes end k ≡ None) a b.1) in
+    ∙ p_stops (subst (λ (k : ℕ). tag_fault_at bytes end k ≡ None) a b.1) in
     let bad : nat_eq 0 0 ≡ false = subst (λ (k : ℕ). nat_eq k 0 ≡ false) ends b.2 in absurd cc
 same_run bytes end at p q (t ∷ ts) [] a b p_stops q_stops =
     let ends : t.kind ≡ 0 =
     ap (λ (s : Tag). s.kind) a.0 ∙ ap (u16_at bytes) b
-    ∙ q_stops (subst (λ (k : ℕ). fault_at bytes end k ≡ None) b a.1) in
+    ∙ q_stops (subst (λ (k : ℕ). tag_fault_at bytes end k ≡ None) b a.1) in
     let bad : nat_eq 0 0 ≡ false = subst (λ (k : ℕ). nat_eq k 0 ≡ false) ends a.2 in absurd cc
 same_run bytes end at p q (t ∷ ts) (u ∷ us) a b p_stops q_stops =
     let same : u ≡ t = b.0 ∙ sym a.0 in
@@ -32,7 +32,7 @@ same_run bytes end at p q (t ∷ ts) (u ∷ us) a b p_stops q_stops =
     let behind = same_run bytes end (after t) p q ts us a.3 rest p_stops q_stops in
     (behind.0, ap₂ (λ (x : Tag) (xs : List Tag). x ∷ xs) (sym same) behind.1)
 
-stops_at_fault : (bytes : List ℕ) (end p : ℕ) (f : HeadFault) → fault_at bytes end p ≡ Some f
+stops_at_fault : (bytes : List ℕ) (end p : ℕ) (f : HeadFault) → tag_fault_at bytes end p ≡ Some f
     → Stops bytes end p
 stops_at_fault bytes end p f faulty = λ sound. absurd cc
 
@@ -43,21 +43,21 @@ one_list bytes end at ts us a b =
     (same_run bytes end at a.next b.next ts us a.tags b.tags (λ _. a.ends) (λ _. b.ends)).1
 
 -- the first fault among them is one
-pub one_fault : (bytes : List ℕ) (end at : ℕ) (f g : HeadFault) → IsFirstFault bytes end at f
-    → IsFirstFault bytes end at g → f ≡ g
+pub one_fault : (bytes : List ℕ) (end at : ℕ) (f g : HeadFault) → IsFirstTagFault bytes end at f
+    → IsFirstTagFault bytes end at g → f ≡ g
 one_fault bytes end at f g a b =
     let same =
     same_run bytes end at a.next b.next a.before b.before a.tags b.tags
     (stops_at_fault bytes end a.next f a.faulty)
     (stops_at_fault bytes end b.next g b.faulty) in
-    same_Some f g (sym a.faulty ∙ ap (fault_at bytes end) same.0 ∙ b.faulty)
+    same_Some f g (sym a.faulty ∙ ap (tag_fault_at bytes end) same.0 ∙ b.faulty)
 
 -- and where all tags are sound there is none
 pub not_both : (bytes : List ℕ) (end at : ℕ) (ts : List Tag) (f : HeadFault)
-    → AreAllTags bytes end at ts → IsFirstFault bytes end at f → ⊥
+    → AreAllTags bytes end at ts → IsFirstTagFault bytes end at f → ⊥
 not_both bytes end at ts f a b =
     let same =
     same_run bytes end at a.next b.next ts b.before a.tags b.tags (λ _. a.ends)
     (stops_at_fault bytes end b.next f b.faulty) in
-    let bad : None ≡ Some f = sym a.sound ∙ ap (fault_at bytes end) same.0 ∙ b.faulty in
+    let bad : None ≡ Some f = sym a.sound ∙ ap (tag_fault_at bytes end) same.0 ∙ b.faulty in
     cc

@@ -5,7 +5,7 @@ use Rattle.std.specs.List.{find}
 use Rattle.std.proofs.lemmas.Bool.Decides.{nat_tests}
 use Rattle.bl_mem.specs.Words.{u32_at}
 use Rattle.bl_mb2head.specs.declared.tag.Tag.{Tag}
-use Rattle.bl_mb2head.specs.Tags.{tag_at, after, words_at, can_be_given, fault_at, AreTags}
+use Rattle.bl_mb2head.specs.Tags.{tag_at, after, words_at, can_be_given, tag_fault_at, AreTags}
 
 -- the words from the i-th on are the i-th and those from the next on
 words_from : (bytes : List ℕ) (at count i : ℕ) → i < count
@@ -32,11 +32,11 @@ pub unknown_from : (bytes : List ℕ) (at count i : ℕ) → i < count
 unknown_from bytes at count i lt known = rw (words_from bytes at count i lt, known) refl
 
 push : (bytes : List ℕ) (end at next : ℕ) (ts : List Tag) (t : Tag) → AreTags bytes end at next ts
-    → t ≡ tag_at bytes next → fault_at bytes end next ≡ None → nat_eq t.kind 0 ≡ false
+    → t ≡ tag_at bytes next → tag_fault_at bytes end next ≡ None → nat_eq t.kind 0 ≡ false
     → AreTags bytes end at (after t) (ts ++ t ∷ [])
 push bytes end at next [] t tags is sound more = (
   subst (λ (p : ℕ). t ≡ tag_at bytes p) (sym tags) is,
-  subst (λ (p : ℕ). fault_at bytes end p ≡ None) (sym tags) sound,
+  subst (λ (p : ℕ). tag_fault_at bytes end p ≡ None) (sym tags) sound,
   more,
   refl,
 )
@@ -45,7 +45,7 @@ push bytes end at next (s ∷ ts) t tags is sound more =
 
 -- one more tag after the tags up to a place
 pub AreTags-push : (bytes : List ℕ) (end at next : ℕ) (ts : List Tag) (t : Tag)
-    → AreTags bytes end at next ts → t ≡ tag_at bytes next → fault_at bytes end next ≡ None
+    → AreTags bytes end at next ts → t ≡ tag_at bytes next → tag_fault_at bytes end next ≡ None
     → (t.kind ≡ 0 → ⊥) → AreTags bytes end at ((next + t.size + 7) / 8 * 8) (ts ++ t ∷ [])
 AreTags-push bytes end at next ts t tags is sound more =
     let place : t.place ≡ next = ap (λ (s : Tag). s.place) is in

@@ -6,7 +6,8 @@ use Rattle.std.proofs.lemmas.Bool.Decides.{nat_tests}
 use Rattle.bl_mem.specs.Words.{u16_at, u32_at}
 use Rattle.bl_mb2head.specs.declared.fault.HeadFault.{HeadFault}
 use Rattle.bl_mb2head.specs.declared.tag.Tag.{Tag}
-use Rattle.bl_mb2head.specs.Tags.{tag_at, after, is_well_formed, fault_at, AreAllTags, IsFirstFault}
+use Rattle.bl_mb2head.specs.Tags.{tag_at, after, is_well_formed, tag_fault_at, AreAllTags}
+use Rattle.bl_mb2head.specs.Tags.{IsFirstTagFault}
 
 pub some_or_none : (fault : Option HeadFault)
     → ((f : HeadFault) × (fault ≡ Some f)) ⊎ (fault ≡ None)
@@ -24,17 +25,17 @@ unfolding is_well_formed
 well_formed_room bytes end at well =
     record { before = grind (arith, nat_tests); size = grind (arith, nat_tests) }
 
-sound_room : (bytes : List ℕ) (end at : ℕ) → fault_at bytes end at ≡ None → HasRoom bytes end at
-unfolding fault_at
+sound_room : (bytes : List ℕ) (end at : ℕ) → tag_fault_at bytes end at ≡ None → HasRoom bytes end at
+unfolding tag_fault_at
 sound_room bytes end at sound = well_formed_room bytes end at (grind (arith, nat_tests))
 
 -- the tags from a place on, or the first fault among them
 abbrev pub Tagged : List ℕ → ℕ → ℕ → Type 0
 Tagged bytes end at =
     ((ts : List Tag) × AreAllTags bytes end at ts)
-    ⊎ ((fault : HeadFault) × IsFirstFault bytes end at fault)
+    ⊎ ((fault : HeadFault) × IsFirstTagFault bytes end at fault)
 
-one_more : (bytes : List ℕ) (end at : ℕ) → fault_at bytes end at ≡ None
+one_more : (bytes : List ℕ) (end at : ℕ) → tag_fault_at bytes end at ≡ None
     → nat_eq (u16_at bytes at) 0 ≡ false → Tagged bytes end (after (tag_at bytes at))
     → Tagged bytes end at
 one_more bytes end at sound more (inl (ts, all)) =
@@ -61,7 +62,7 @@ one_more bytes end at sound more (inr (fault, first)) =
 tagged_at : (bytes : List ℕ) (end at : ℕ)
     → (HasRoom bytes end at → Tagged bytes end (after (tag_at bytes at))) → Tagged bytes end at
 tagged_at bytes end at rest =
-    elim (some_or_none (fault_at bytes end at)) [
+    elim (some_or_none (tag_fault_at bytes end at)) [
       | inl (fault, faulty) ↦
           inr (fault, record { before = []; next = at; tags = refl; faulty = faulty })
       | inr sound ↦ elim (cases_Bool (nat_eq (u16_at bytes at) 0)) [
@@ -90,5 +91,5 @@ tagged_by (suc n) bytes end at near =
 
 pub tags_or_fault : (bytes : List ℕ) (end at : ℕ)
     → ((ts : List Tag) × AreAllTags bytes end at ts)
-    ⊎ ((fault : HeadFault) × IsFirstFault bytes end at fault)
+    ⊎ ((fault : HeadFault) × IsFirstTagFault bytes end at fault)
 tags_or_fault bytes end at = tagged_by end bytes end at (omega arith)

@@ -12,8 +12,8 @@ use Rattle.bl_mb2head.specs.declared.tag.Tag.{Tag}
 use Rattle.bl_mb2head.specs.Address.{address_fault, address_segment}
 use Rattle.bl_mb2head.specs.Place.{IsHeaderAt, sum_at}
 use Rattle.bl_mb2head.specs.Tags.{AreAllTags, last_of}
-use Rattle.bl_mb2head.specs.Header.{end_of, is_cut, architecture_at, tag_entry, relocation_of}
-use Rattle.bl_mb2head.specs.Header.{BeginsAt, IsHeader, HasFirstFault}
+use Rattle.bl_mb2head.specs.Header.{tags_end, is_cut, architecture_at, tag_entry, relocation_of}
+use Rattle.bl_mb2head.specs.Header.{BeginsAt, IsHeader, HasFirstHeadFault}
 use Rattle.bl_mb2head.proofs.FaultLemmas.{tag_fault_first, address_fault_first}
 use Rattle.bl_mb2head.proofs.TagTotalLaws.{some_or_none, tags_or_fault}
 
@@ -57,10 +57,11 @@ stands_or_not bytes h =
 -- the file has a header or a first fault
 abbrev IsJudged : List ℕ → Type 0
 IsJudged bytes =
-    ((header : Header) × IsHeader bytes header) ⊎ ((fault : HeadFault) × HasFirstFault bytes fault)
+    ((header : Header) × IsHeader bytes header)
+    ⊎ ((fault : HeadFault) × HasFirstHeadFault bytes fault)
 
 judged_tags : (bytes : List ℕ) (h : ℕ) → BeginsAt bytes h → (ts : List Tag)
-    → AreAllTags bytes (end_of bytes h) (h + 16) ts → IsJudged bytes
+    → AreAllTags bytes (tags_end bytes h) (h + 16) ts → IsJudged bytes
 judged_tags bytes h begins ts all =
     elim (some_or_none (address_fault bytes h (last_of 2 ts))) [
       | inl (fault, faulty) ↦
@@ -90,7 +91,7 @@ judged_tags bytes h begins ts all =
 
 judged_begun : (bytes : List ℕ) (h : ℕ) → BeginsAt bytes h → IsJudged bytes
 judged_begun bytes h begins =
-    elim (tags_or_fault bytes (end_of bytes h) (h + 16)) [
+    elim (tags_or_fault bytes (tags_end bytes h) (h + 16)) [
       | inl (ts, all) ↦ judged_tags bytes h begins ts all
       | inr (fault, first) ↦ inr (fault, tag_fault_first bytes h fault begins first)
     ]
@@ -109,7 +110,7 @@ judged_at bytes h place =
 
 pub header_or_fault : (bytes : List ℕ)
     → ((header : Header) × IsHeader bytes header)
-    ⊎ ((fault : HeadFault) × HasFirstFault bytes fault)
+    ⊎ ((fault : HeadFault) × HasFirstHeadFault bytes fault)
 header_or_fault bytes =
     elim (least_below (IsHeaderAt bytes) (stands_or_not bytes) (length bytes)) [
       | inl none ↦ inr (NoHeader, (λ h here. none h (omega (arith, here.in_file)) here))

@@ -23,8 +23,8 @@ abbrev pub is_whole_file : AddressTag → Bool
 is_whole_file tag = tag.load_addr == 0xFFFFFFFF
 
 -- where the first byte that is loaded comes to stand
-abbrev pub address_of : ℕ → AddressTag → ℕ
-address_of h tag = if is_whole_file tag then tag.header_addr - h else tag.load_addr
+abbrev pub load_address_of : ℕ → AddressTag → ℕ
+load_address_of h tag = if is_whole_file tag then tag.header_addr - h else tag.load_addr
 
 -- where it stands in the file: as far before the header as load_addr is before header_addr
 abbrev pub offset_of : ℕ → AddressTag → ℕ
@@ -33,17 +33,18 @@ offset_of h tag = if is_whole_file tag then 0 else h - (tag.header_addr - tag.lo
 -- how many bytes of the file: up to load_end_addr, or up to the file's end where that is 0
 abbrev pub filesz_of : ℕ → ℕ → AddressTag → ℕ
 filesz_of size h tag =
-    if tag.load_end_addr == 0 then size - offset_of h tag else tag.load_end_addr - address_of h tag
+    if tag.load_end_addr == 0 then size - offset_of h tag else
+    tag.load_end_addr - load_address_of h tag
 
 -- how many bytes of memory: zeros run up to bss_end_addr, and there are none where that is 0
 abbrev pub memsz_of : ℕ → ℕ → AddressTag → ℕ
 memsz_of size h tag =
-    if tag.bss_end_addr == 0 then filesz_of size h tag else tag.bss_end_addr - address_of h tag
+    if tag.bss_end_addr == 0 then filesz_of size h tag else tag.bss_end_addr - load_address_of h tag
 
-abbrev pub segment_of : ℕ → ℕ → AddressTag → Segment
-segment_of size h tag = record {
+abbrev pub segment_by_tag : ℕ → ℕ → AddressTag → Segment
+segment_by_tag size h tag = record {
   offset = offset_of h tag;
-  address = address_of h tag;
+  address = load_address_of h tag;
   filesz = filesz_of size h tag;
   memsz = memsz_of size h tag;
 }
@@ -56,13 +57,14 @@ has_bad_start h tag =
 
 -- the file's part ends before it begins
 abbrev pub has_bad_load_end : ℕ → AddressTag → Bool
-has_bad_load_end h tag = not (tag.load_end_addr == 0) && nat_lt tag.load_end_addr (address_of h tag)
+has_bad_load_end h tag = not (tag.load_end_addr == 0) && nat_lt tag.load_end_addr
+    (load_address_of h tag)
 
 -- the zeros end before the file's part does
 abbrev pub has_bad_bss_end : ℕ → ℕ → AddressTag → Bool
 has_bad_bss_end size h tag =
     not (tag.bss_end_addr == 0)
-    && nat_lt tag.bss_end_addr (address_of h tag + filesz_of size h tag)
+    && nat_lt tag.bss_end_addr (load_address_of h tag + filesz_of size h tag)
 
 -- own: what the file can't meet is a fault. The third is that its part would pass its end
 unfoldable pub is_bad_address : ℕ → ℕ → AddressTag → Bool
@@ -81,4 +83,5 @@ address_fault bytes h (Some t) =
 -- the segment that it gives
 abbrev pub address_segment : List ℕ → ℕ → Option Tag → Option Segment
 address_segment bytes h None = None
-address_segment bytes h (Some t) = Some (segment_of (length bytes) h (address_tag_at bytes t.place))
+address_segment bytes h (Some t) = Some (segment_by_tag (length bytes) h
+    (address_tag_at bytes t.place))

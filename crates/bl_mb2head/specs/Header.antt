@@ -6,7 +6,7 @@ use Rattle.bl_mem.specs.Least.{IsLeast}
 use Rattle.bl_mem.specs.Words.{u32_at}
 use Rattle.bl_mem.specs.declared.segment.Segment.{Segment}
 use Rattle.bl_mb2head.specs.Place.{IsHeaderAt, search_end}
-use Rattle.bl_mb2head.specs.Tags.{AreAllTags, IsFirstFault, last_of, address_type, entry_type}
+use Rattle.bl_mb2head.specs.Tags.{AreAllTags, IsFirstTagFault, last_of, address_type, entry_type}
 use Rattle.bl_mb2head.specs.Tags.{relocatable_type}
 use Rattle.bl_mb2head.specs.Address.{address_fault, address_segment}
 use Rattle.bl_mb2head.specs.declared.tag.Tag.{Tag}
@@ -19,20 +19,20 @@ use Rattle.bl_mb2head.specs.declared.fault.HeadFault.TheVariants.{UnsupportedTag
 use Rattle.bl_mb2head.specs.declared.fault.HeadFault.TheVariants.{UnsupportedRequest, NoConsole}
 
 -- where the header at h ends: header_length counts from its first byte (3.1.2)
-abbrev pub end_of : List ℕ → ℕ → ℕ
-end_of bytes h = h + u32_at bytes (h + 8)
+abbrev pub tags_end : List ℕ → ℕ → ℕ
+tags_end bytes h = h + u32_at bytes (h + 8)
 
 -- a header whose only tag is the last has 24 bytes
-abbrev pub least_length : ℕ
-least_length = 24
+abbrev pub min_length : ℕ
+min_length = 24
 
 -- the header at h has no room for the tag that ends its tags, or does not lie in the file and its
 -- first 32768 bytes (3.1)
 abbrev pub is_cut : List ℕ → ℕ → Bool
 is_cut bytes h =
-    nat_lt (u32_at bytes (h + 8)) least_length
-    || nat_lt (length bytes) (end_of bytes h)
-    || nat_lt search_end (end_of bytes h)
+    nat_lt (u32_at bytes (h + 8)) min_length
+    || nat_lt (length bytes) (tags_end bytes h)
+    || nat_lt search_end (tags_end bytes h)
 
 -- the header's second word: architecture 0 is the protected mode of i386 (3.1.2)
 abbrev pub architecture_at : List ℕ → ℕ → ℕ
@@ -62,14 +62,14 @@ pub record BeginsAt (bytes : List ℕ) (h : ℕ) : Type 0 where
 -- no tag of the header at h has a fault of its own, and the address tag that counts has this one
 pub record IsAddressFault (bytes : List ℕ) (h : ℕ) (fault : HeadFault) : Type 0 where
   pub tags : List Tag
-  pub all : AreAllTags bytes (end_of bytes h) (h + 16) tags
+  pub all : AreAllTags bytes (tags_end bytes h) (h + 16) tags
   pub faulty : address_fault bytes h (last_of address_type tags) ≡ Some fault
 
 -- the file has a header with no fault, and this is what it says
 pub record IsHeader (bytes : List ℕ) (header : Header) : Type 0 where
   pub begins : BeginsAt bytes header.place
   pub tags : List Tag
-  pub all : AreAllTags bytes (end_of bytes header.place) (header.place + 16) tags
+  pub all : AreAllTags bytes (tags_end bytes header.place) (header.place + 16) tags
   pub sound : address_fault bytes header.place (last_of address_type tags) ≡ None
   pub segment : header.segment ≡ address_segment bytes header.place (last_of address_type tags)
   pub entry : header.entry ≡ tag_entry bytes (last_of entry_type tags)
@@ -77,23 +77,24 @@ pub record IsHeader (bytes : List ℕ) (header : Header) : Type 0 where
 
 -- the file's first fault, in the order of these lines. The tags are judged one after the other, and
 -- the address tag that counts after all of them
-abbrev pub HasFirstFault : List ℕ → HeadFault → Type 0
-HasFirstFault bytes NoHeader = (h : ℕ) → IsHeaderAt bytes h → ⊥
-HasFirstFault bytes HeaderCut = (h : ℕ) × IsLeast (IsHeaderAt bytes) h × (is_cut bytes h ≡ true)
-HasFirstFault bytes BadArchitecture =
+abbrev pub HasFirstHeadFault : List ℕ → HeadFault → Type 0
+HasFirstHeadFault bytes NoHeader = (h : ℕ) → IsHeaderAt bytes h → ⊥
+HasFirstHeadFault bytes HeaderCut = (h : ℕ) × IsLeast (IsHeaderAt bytes) h × (is_cut bytes h ≡ true)
+HasFirstHeadFault bytes BadArchitecture =
     (h : ℕ) × IsLeast (IsHeaderAt bytes) h × (is_cut bytes h ≡ false)
     × (architecture_at bytes h ≢ 0)
-HasFirstFault bytes (BadTag at) =
+HasFirstHeadFault bytes (BadTag at) =
     (h : ℕ) × BeginsAt bytes h
-    × (IsFirstFault bytes (end_of bytes h) (h + 16) (BadTag at)
+    × (IsFirstTagFault bytes (tags_end bytes h) (h + 16) (BadTag at)
     ⊎ IsAddressFault bytes h (BadTag at))
-HasFirstFault bytes (UnsupportedTag kind) =
-    (h : ℕ) × BeginsAt bytes h × IsFirstFault bytes (end_of bytes h) (h + 16) (UnsupportedTag kind)
-HasFirstFault bytes (UnsupportedRequest kind) =
+HasFirstHeadFault bytes (UnsupportedTag kind) =
     (h : ℕ) × BeginsAt bytes h
-    × IsFirstFault bytes (end_of bytes h) (h + 16) (UnsupportedRequest kind)
-HasFirstFault bytes NoConsole =
-    (h : ℕ) × BeginsAt bytes h × IsFirstFault bytes (end_of bytes h) (h + 16) NoConsole
+    × IsFirstTagFault bytes (tags_end bytes h) (h + 16) (UnsupportedTag kind)
+HasFirstHeadFault bytes (UnsupportedRequest kind) =
+    (h : ℕ) × BeginsAt bytes h
+    × IsFirstTagFault bytes (tags_end bytes h) (h + 16) (UnsupportedRequest kind)
+HasFirstHeadFault bytes NoConsole =
+    (h : ℕ) × BeginsAt bytes h × IsFirstTagFault bytes (tags_end bytes h) (h + 16) NoConsole
 
 -- a segment that the file can fill, with sums that stay small
 pub record FitsFile (bytes : List ℕ) (segment : Segment) : Type 0 where

@@ -48,8 +48,8 @@ abbrev pub after : Tag → ℕ
 after t = (t.place + t.size + 7) / 8 * 8
 
 -- the least size of a kind of tag: that of the fields which are read (3.1.5, 3.1.6, 3.1.9, 3.1.13)
-abbrev pub least_size : ℕ → ℕ
-least_size kind =
+abbrev pub min_tag_size : ℕ → ℕ
+min_tag_size kind =
     if kind == address_type || kind == relocatable_type then 24 else
     if kind == entry_type || kind == console_type then 12 else 8
 
@@ -58,7 +58,7 @@ least_size kind =
 unfoldable pub is_well_formed : List ℕ → ℕ → ℕ → Bool
 is_well_formed bytes end at =
     nat_le (at + 8) end && nat_le (at + u32_at bytes (at + 4)) end
-    && nat_le (least_size (u16_at bytes at)) (u32_at bytes (at + 4))
+    && nat_le (min_tag_size (u16_at bytes at)) (u32_at bytes (at + 4))
     && (not (u16_at bytes at == end_type) || u32_at bytes (at + 4) == 8)
 
 -- bit 0 of the flags: the tag may be ignored (3.1.3)
@@ -90,8 +90,8 @@ asks_for_console bytes t =
     t.kind == console_type && not (bit_and (u32_at bytes (t.place + 8)) 1 == 0)
 
 -- what is wrong with the tag at a place: the first fault in this order. Own: there is no console
-unfoldable pub fault_at : List ℕ → ℕ → ℕ → Option HeadFault
-fault_at bytes end at =
+unfoldable pub tag_fault_at : List ℕ → ℕ → ℕ → Option HeadFault
+tag_fault_at bytes end at =
     let t = tag_at bytes at in
     if not (is_well_formed bytes end at) then Some (BadTag at) else
     if is_optional t then None else
@@ -104,22 +104,22 @@ fault_at bytes end at =
 abbrev pub AreTags : List ℕ → ℕ → ℕ → ℕ → List Tag → Type 0
 AreTags bytes end at next [] = at ≡ next
 AreTags bytes end at next (t ∷ ts) =
-    (t ≡ tag_at bytes at) × (fault_at bytes end at ≡ None) × (nat_eq t.kind end_type ≡ false)
+    (t ≡ tag_at bytes at) × (tag_fault_at bytes end at ≡ None) × (nat_eq t.kind end_type ≡ false)
     × AreTags bytes end (after t) next ts
 
 -- these are all tags from at on, up to the tag of type 0 at some place
 pub record AreAllTags (bytes : List ℕ) (end at : ℕ) (ts : List Tag) : Type 0 where
   pub next : ℕ
   pub tags : AreTags bytes end at next ts
-  pub sound : fault_at bytes end next ≡ None
+  pub sound : tag_fault_at bytes end next ≡ None
   pub ends : u16_at bytes next ≡ end_type
 
 -- the first tag with a fault has this one
-pub record IsFirstFault (bytes : List ℕ) (end at : ℕ) (fault : HeadFault) : Type 0 where
+pub record IsFirstTagFault (bytes : List ℕ) (end at : ℕ) (fault : HeadFault) : Type 0 where
   pub before : List Tag
   pub next : ℕ
   pub tags : AreTags bytes end at next before
-  pub faulty : fault_at bytes end next ≡ Some fault
+  pub faulty : tag_fault_at bytes end next ≡ Some fault
 
 -- own: of several tags of one kind the last one counts, be it optional or not
 abbrev pub last_of : ℕ → List Tag → Option Tag

@@ -57,7 +57,7 @@ impl AddressTag {
     /// Where the first byte that is loaded comes to stand.
     fn address(self, place: u64) -> u64
         requires { tags.has_bad_start place self ≡ false }
-        ensures { result ≡ tags.address_of place self }
+        ensures { result ≡ tags.load_address_of place self }
     {
         if self.is_whole_file() {
             return self.header_addr as u64 - place;
@@ -105,7 +105,7 @@ impl AddressTag {
         ensures exact { MatchOption result
             (tags.is_bad_address size place self ≡ true)
             (λ segment. (tags.is_bad_address size place self ≡ false)
-            × (segment ≡ tags.segment_of size place self)) }
+            × (segment ≡ tags.segment_by_tag size place self)) }
         ensures fits { IfSome result (λ segment.
             (segment.filesz ≤ segment.memsz) × (segment.offset + segment.filesz ≤ size)
             × (segment.address < 2 ^ 32) × (segment.memsz ≤ max (2 ^ 32) size)) }

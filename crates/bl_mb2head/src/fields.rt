@@ -20,7 +20,7 @@ pub const I386: u32 = 0;
 pub const HEADER_LENGTH: u64 = 8;
 
 /// The least `header_length`: that of a header whose only tag is the last.
-pub const LEAST_LENGTH: u64 = 24;
+pub const MIN_LENGTH: u64 = 24;
 
 /// How many values a word has. The four words of the header sum to a multiple of it (3.1.2).
 pub const WORD_VALUES: u64 = 1 << 32;

@@ -2,13 +2,13 @@
 
 ghost use Rattle.std.specs.Prelude.{◌≡◌, ◌+◌, ◌≤◌, ◌<◌, ◌^◌, length, IfOk, IfErr, IfSome};
 ghost use Rattle.bl_mb2head.specs.Header as header;
-ghost use Rattle.bl_mb2head.specs.Header.{IsHeader, BeginsAt, HasFirstFault, FitsFile, is_cut};
+ghost use Rattle.bl_mb2head.specs.Header.{IsHeader, BeginsAt, HasFirstHeadFault, FitsFile, is_cut};
 
 use crate::address::address_segment;
 use crate::fault::HeadFault;
 use crate::fields::{
-    ALIGN, ARCHITECTURE, ENTRY_ADDR, ENTRY_SIZE, HEADER_LENGTH, I386, LEAST_LENGTH, MAX_ADDR,
-    MIN_ADDR, PREFERENCE, RELOCATABLE_SIZE, SEARCH_END, TAGS,
+    ALIGN, ARCHITECTURE, ENTRY_ADDR, ENTRY_SIZE, HEADER_LENGTH, I386, MAX_ADDR, MIN_ADDR,
+    MIN_LENGTH, PREFERENCE, RELOCATABLE_SIZE, SEARCH_END, TAGS,
 };
 use crate::last::last_tags;
 use crate::place::find_place;
@@ -37,13 +37,13 @@ fn is_cut<V: ByteView>(view: &V, place: u64) -> bool
 {
     let header_length = u32_at(view, place + HEADER_LENGTH) as u64;
     let end = place + header_length;
-    header_length < LEAST_LENGTH || view.len() < end || SEARCH_END < end
+    header_length < MIN_LENGTH || view.len() < end || SEARCH_END < end
 }
 
 /// The place of the file's header, or what is wrong with it before its tags.
 fn checked_place<V: ByteView>(view: &V) -> Result<u64, HeadFault>
     ensures begins { IfOk result (BeginsAt (V.bytes view.now)) }
-    ensures first_fault { IfErr result (HasFirstFault (V.bytes view.now)) }
+    ensures first_fault { IfErr result (HasFirstHeadFault (V.bytes view.now)) }
 {
     let Some(place) = find_place(view) else {
         return Err(HeadFault::NoHeader);
@@ -89,7 +89,7 @@ fn relocation_of<V: ByteView>(view: &V, tag: Option<Tag>) -> Option<Relocation>
 /// the fault is `BadTag` of that tag's offset, and comes only if no tag has a fault of its own.
 pub fn find_header<V: ByteView>(view: &V) -> Result<Header, HeadFault>
     ensures found { IfOk result (λ header. IsHeader (V.bytes view.now) header) }
-    ensures first_fault { IfErr result (λ fault. HasFirstFault (V.bytes view.now) fault) }
+    ensures first_fault { IfErr result (λ fault. HasFirstHeadFault (V.bytes view.now) fault) }
     ensures segment { IfOk result (λ header. IfSome header.segment (FitsFile (V.bytes view.now))) }
     ensures entry { IfOk result (λ header. IfSome header.entry (λ entry. entry < 2 ^ 32)) }
 {

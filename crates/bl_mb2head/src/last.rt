@@ -2,7 +2,7 @@
 
 ghost use Rattle.std.specs.Prelude.{◌≡◌, ◌≤◌, ◌+◌, ◌++◌, ◌∷◌, [], ℕ, List, length, IfOk, IfErr};
 ghost use Rattle.bl_mb2head.specs.Tags as tags;
-ghost use Rattle.bl_mb2head.specs.Tags.{AreAllTags, IsFirstFault};
+ghost use Rattle.bl_mb2head.specs.Tags.{AreAllTags, IsFirstTagFault};
 ghost use Rattle.bl_mb2head.specs.Kept as kept;
 ghost use Rattle.bl_mb2head.specs.Kept.{LieBefore};
 ghost use Rattle.bl_mb2head.specs.declared.tag.Tag.{Tag};
@@ -25,7 +25,7 @@ impl LastTags {
     fn with(self, tag: Tag) -> LastTags
         ensures last { (ts : List Tag) → self ≡ kept.last_tags ts
             → result ≡ kept.last_tags (ts ++ tag ∷ []) }
-        ensures fits { (end : ℕ) → LieBefore end self → tags.least_size tag.kind ≤ tag.size
+        ensures fits { (end : ℕ) → LieBefore end self → tags.min_tag_size tag.kind ≤ tag.size
             → tag.place + tag.size ≤ end → LieBefore end result }
     {
         match tag.kind {
@@ -55,7 +55,8 @@ pub fn last_tags<V: ByteView>(view: &V, start: u64, end: u64) -> Result<LastTags
     ensures fits { IfOk result (LieBefore end) }
     ensures last { IfOk result (λ last.
         (ts : List Tag) × AreAllTags (V.bytes view.now) end start ts × (last ≡ kept.last_tags ts)) }
-    ensures first_fault { IfErr result (λ fault. IsFirstFault (V.bytes view.now) end start fault) }
+    ensures first_fault { IfErr result (λ fault. IsFirstTagFault
+        (V.bytes view.now) end start fault) }
 {
     let mut at = start;
     let mut last = LastTags {

@@ -4,7 +4,8 @@ ghost use Rattle.std.specs.Prelude.{◌≡◌, ◌≤◌, ◌+◌, ◌*◌, ◌=
 ghost use Rattle.std.specs.Prelude.{None, length, IfOk, IfSome, not, MatchResult, MatchOption};
 ghost use Rattle.std.specs.List.{find};
 ghost use Rattle.bl_mb2head.specs.Tags as tags;
-ghost use Rattle.bl_mb2head.specs.Tags.{tag_at, words_at, can_be_given, is_well_formed, fault_at};
+ghost use Rattle.bl_mb2head.specs.Tags.{tag_at, words_at, can_be_given, is_well_formed};
+ghost use Rattle.bl_mb2head.specs.Tags.{tag_fault_at};
 
 use crate::fault::HeadFault;
 use crate::fields::{
@@ -27,7 +28,7 @@ pub struct Tag {
 
 /// The least size of a kind of tag.
 fn least_size(kind: u16) -> u32
-    ensures { result ≡ tags.least_size kind }
+    ensures { result ≡ tags.min_tag_size kind }
 {
     match kind {
         TAG_ADDRESS => ADDRESS_SIZE,
@@ -68,7 +69,7 @@ fn well_formed_tag<V: ByteView>(view: &V, at: u64, end: u64) -> Option<Tag>
     requires in_front { end ≤ SEARCH_END }
     requires in_reach { at ≤ end + ALIGNMENT }
     ensures fits { IfSome result (λ tag. (tag.place ≡ at) × (END_SIZE ≤ tag.size)
-        × (tags.least_size tag.kind ≤ tag.size) × (at + tag.size ≤ end)) }
+        × (tags.min_tag_size tag.kind ≤ tag.size) × (at + tag.size ≤ end)) }
     ensures exact { MatchOption result
         (is_well_formed (V.bytes view.now) end at ≡ false)
         (λ tag. (tag ≡ tag_at (V.bytes view.now) at)
@@ -116,7 +117,7 @@ fn unknown_request<V: ByteView>(view: &V, tag: Tag) -> Option<u32>
 
 /// Whether a tag asks for a console.
 fn wants_console<V: ByteView>(view: &V, tag: Tag) -> bool
-    requires whole { tags.least_size tag.kind ≤ tag.size }
+    requires whole { tags.min_tag_size tag.kind ≤ tag.size }
     requires in_file { tag.place + tag.size ≤ length (V.bytes view.now) }
     requires in_front { tag.place + tag.size ≤ SEARCH_END }
     ensures { result ≡ tags.asks_for_console (V.bytes view.now) tag }
@@ -125,16 +126,17 @@ fn wants_console<V: ByteView>(view: &V, tag: Tag) -> bool
 }
 
 /// The tag at a place, or its first fault.
-#[tactic(auto, unfolding(crate::specs::Tags::fault_at))]
+#[tactic(auto, unfolding(crate::specs::Tags::tag_fault_at))]
 pub fn checked_tag<V: ByteView>(view: &V, at: u64, end: u64) -> Result<Tag, HeadFault>
     requires in_file { end ≤ length (V.bytes view.now) }
     requires in_front { end ≤ SEARCH_END }
     requires in_reach { at ≤ end + ALIGNMENT }
     ensures fits { IfOk result (λ tag. (tag.place ≡ at) × (END_SIZE ≤ tag.size)
-        × (tags.least_size tag.kind ≤ tag.size) × (at + tag.size ≤ end)) }
+        × (tags.min_tag_size tag.kind ≤ tag.size) × (at + tag.size ≤ end)) }
     ensures exact { MatchResult result
-        (λ tag. (tag ≡ tag_at (V.bytes view.now) at) × (fault_at (V.bytes view.now) end at ≡ None))
-        (λ fault. fault_at (V.bytes view.now) end at ≡ Some fault) }
+        (λ tag. (tag ≡ tag_at (V.bytes view.now) at)
+        × (tag_fault_at (V.bytes view.now) end at ≡ None))
+        (λ fault. tag_fault_at (V.bytes view.now) end at ≡ Some fault) }
 {
     let Some(tag) = well_formed_tag(view, at, end) else {
         return Err(HeadFault::BadTag(at));

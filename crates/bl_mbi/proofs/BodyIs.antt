@@ -12,8 +12,8 @@ use Rattle.std.proofs.Math.Seq.{drop-cons}
 use Rattle.bl_mbi.specs.InformationFacts.{ModuleInfo, IsModule, IsText, AreBytes}
 use Rattle.bl_mem.specs.Words.{u32_bytes}
 use Rattle.bl_mbi.specs.Tags.{text_body, module_body, memory_body}
-use Rattle.bl_mbi.specs.Fields.{word}
-use Rattle.bl_mbi.specs.Bodies.{text_of, module_of, memory_of, load_base_of}
+use Rattle.bl_mbi.specs.Fields.{first_u32}
+use Rattle.bl_mbi.specs.Bodies.{text_of_body, module_of, memory_of, load_base_of}
 use Rattle.bl_mbi.proofs.Inverse.{passed_some, mapped, same_some}
 use Rattle.bl_mbi.proofs.WordLaws.{word_then, word_small}
 use Rattle.bl_mbi.proofs.TagIs.{drop_small, take_small}
@@ -26,9 +26,9 @@ is_text (x ∷ xs) small none =
     All-cons (λ c. (c ≢ 0) × (c < 256)) x xs (here, All-head (λ b. b < 256) x xs small)
     (is_text xs (All-tail (λ b. b < 256) x xs small) both.1)
 
-pub text_is : (body text : List ℕ) → AreBytes body → text_of body ≡ Some text
+pub text_is : (body text : List ℕ) → AreBytes body → text_of_body body ≡ Some text
     → (body ≡ text_body text) × IsText text
-unfolding text_of
+unfolding text_of_body
 text_is body text small h =
     let len = length body - 1 in
     let s1 = passed_some (nat_eq (length body) 0) _ text h in
@@ -51,19 +51,21 @@ pub module_is : (body : List ℕ) (m : ModuleInfo) → AreBytes body → module_
 unfolding module_of
 module_is body m small h =
     let s1 = passed_some (nat_lt (length body) 8) _ m h in
-    let s2 = passed_some (nat_lt (word (drop 4 body)) (word body)) _ m s1.1 in
-    let s3 = mapped _ (text_of (drop 8 body)) m s2.1 in
+    let s2 = passed_some (nat_lt (first_u32 (drop 4 body)) (first_u32 body)) _ m s1.1 in
+    let s3 = mapped _ (text_of_body (drop 8 body)) m s2.1 in
     let long_enough : 8 ≤ length body = grind (arith, nat_tests, s1.0) in
-    let forward : word body ≤ word (drop 4 body) = grind (arith, nat_tests, s2.0) in
+    let forward : first_u32 body ≤ first_u32 (drop 4 body) = grind (arith, nat_tests, s2.0) in
     let line = text_is (drop 8 body) s3.0 (drop_small 8 body small) s3.1 in
-    let front : u32_bytes (word body) ++ drop 4 body ≡ body = word_then body small (omega arith) in
-    let second : u32_bytes (word (drop 4 body)) ++ drop 4 (drop 4 body) ≡ drop 4 body =
+    let front : u32_bytes (first_u32 body) ++ drop 4 body
+    ≡ body = word_then body small (omega arith) in
+    let second : u32_bytes (first_u32 (drop 4 body)) ++ drop 4 (drop 4 body) ≡ drop 4 body =
     word_then (drop 4 body) (drop_small 4 body small) (omega (arith, length-drop 4 body)) in
     let read : ModuleInfo =
-    record { mod_start = word body; mod_end = word (drop 4 body); line = s3.0 } in
+    record { mod_start = first_u32 body; mod_end = first_u32 (drop 4 body); line = s3.0 } in
     let spelled : body ≡ module_body read =
-    sym front ∙ ap (λ (xs : List ℕ). u32_bytes (word body) ++ xs) (sym second)
-    ∙ ap (λ (xs : List ℕ). u32_bytes (word body) ++ (u32_bytes (word (drop 4 body)) ++ xs))
+    sym front ∙ ap (λ (xs : List ℕ). u32_bytes (first_u32 body) ++ xs) (sym second)
+    ∙ ap (λ (xs : List ℕ). u32_bytes (first_u32 body)
+    ++ (u32_bytes (first_u32 (drop 4 body)) ++ xs))
     (drop-drop 4 4 body ∙ line.0) in
     let ranges : IsModule read =
     record {
@@ -79,21 +81,23 @@ pub memory_is : (body : List ℕ) (sizes : ℕ × ℕ) → AreBytes body → mem
 unfolding memory_of
 memory_is body sizes small h =
     let s1 = passed_some (not (nat_eq (length body) 8)) _ sizes h in
-    let s2 = passed_some (nat_lt 640 (word body)) _ sizes s1.1 in
+    let s2 = passed_some (nat_lt 640 (first_u32 body)) _ sizes s1.1 in
     let read = same_some _ sizes s2.1 in
     let len : length body ≡ 8 = grind (arith, nat_tests, not-false _ s1.0) in
-    let low : word body ≤ 640 = grind (arith, nat_tests, s2.0) in
-    let front : u32_bytes (word body) ++ drop 4 body ≡ body = word_then body small (omega arith) in
-    let second : u32_bytes (word (drop 4 body)) ++ drop 4 (drop 4 body) ≡ drop 4 body =
+    let low : first_u32 body ≤ 640 = grind (arith, nat_tests, s2.0) in
+    let front : u32_bytes (first_u32 body) ++ drop 4 body
+    ≡ body = word_then body small (omega arith) in
+    let second : u32_bytes (first_u32 (drop 4 body)) ++ drop 4 (drop 4 body) ≡ drop 4 body =
     word_then (drop 4 body) (drop_small 4 body small) (omega (arith, length-drop 4 body)) in
     let nothing : drop 4 (drop 4 body) ≡ [] = drop-drop 4 4 body ∙ drop_all 8 body (omega arith) in
-    let spelled : body ≡ memory_body (word body) (word (drop 4 body)) =
+    let spelled : body ≡ memory_body (first_u32 body) (first_u32 (drop 4 body)) =
     sym front
-    ∙ ap (λ (xs : List ℕ). u32_bytes (word body) ++ xs)
-    (sym second ∙ ap (λ (xs : List ℕ). u32_bytes (word (drop 4 body)) ++ xs) nothing
-    ∙ append-nil (u32_bytes (word (drop 4 body)))) in
-    let is : (body ≡ memory_body (word body) (word (drop 4 body))) × (word body ≤ 640)
-    × (word (drop 4 body) < 2 ^ 32) =
+    ∙ ap (λ (xs : List ℕ). u32_bytes (first_u32 body) ++ xs)
+    (sym second ∙ ap (λ (xs : List ℕ). u32_bytes (first_u32 (drop 4 body)) ++ xs) nothing
+    ∙ append-nil (u32_bytes (first_u32 (drop 4 body)))) in
+    let is : (body ≡ memory_body (first_u32 body) (first_u32 (drop 4 body)))
+    × (first_u32 body ≤ 640)
+    × (first_u32 (drop 4 body) < 2 ^ 32) =
     (spelled, low, word_small (drop 4 body) (drop_small 4 body small)) in
     rw (← read) is
 
@@ -105,10 +109,11 @@ load_base_is body base small h =
     let read = same_some _ base s1.1 in
     let len : length body ≡ 4 = grind (arith, nat_tests, not-false _ s1.0) in
     let nothing : drop 4 body ≡ [] = drop_all 4 body (omega arith) in
-    let front : u32_bytes (word body) ++ drop 4 body ≡ body = word_then body small (omega arith) in
-    let spelled : body ≡ u32_bytes (word body) =
-    sym front ∙ ap (λ (xs : List ℕ). u32_bytes (word body) ++ xs) nothing
-    ∙ append-nil (u32_bytes (word body)) in
-    let is : (body ≡ u32_bytes (word body)) × (word body < 2 ^ 32) =
+    let front : u32_bytes (first_u32 body) ++ drop 4 body
+    ≡ body = word_then body small (omega arith) in
+    let spelled : body ≡ u32_bytes (first_u32 body) =
+    sym front ∙ ap (λ (xs : List ℕ). u32_bytes (first_u32 body) ++ xs) nothing
+    ∙ append-nil (u32_bytes (first_u32 body)) in
+    let is : (body ≡ u32_bytes (first_u32 body)) × (first_u32 body < 2 ^ 32) =
     (spelled, word_small body small) in
     rw (← read) is

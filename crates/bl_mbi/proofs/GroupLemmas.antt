@@ -10,7 +10,7 @@ use Rattle.bl_mbi.specs.Groups.{texts_size, map_size, last_size}
 use Rattle.bl_mem.specs.Words.{u32_bytes}
 use Rattle.bl_mbi.specs.Tags.{tag, text_body, module_tag, memory_body, map_body, copy_tag}
 use Rattle.bl_mbi.specs.Tags.{load_base_tag}
-use Rattle.bl_mbi.specs.Spelling.{tags, spelling}
+use Rattle.bl_mbi.specs.Spelling.{tags, info_spelling}
 use Rattle.bl_mbi.proofs.Sizes.{length-tags}
 
 sum_lines : (modules : List ModuleInfo)
@@ -55,8 +55,8 @@ pub spelled : (o p q r s t : List ℕ) (facts : InformationFacts) (size : ℕ) �
     ≡ s
     ++ (copy_tag 14 facts.rsdp_old
     ++ (copy_tag 15 facts.rsdp_new ++ (load_base_tag facts.load_base ++ tag 0 [])))
-    → t ≡ o ++ spelling (codes "bootcore") facts
-unfolding spelling
+    → t ≡ o ++ info_spelling (codes "bootcore") facts
+unfolding info_spelling
 spelled o p q r s t facts size size-is p-is q-is r-is s-is t-is =
     let whole : size ≡ 8 + length (tags (codes "bootcore") facts) =
     omega (arith, length-tags (codes "bootcore") facts) in

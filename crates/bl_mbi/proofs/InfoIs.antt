@@ -9,8 +9,8 @@ use Rattle.bl_mbi.specs.InformationFacts.{InformationFacts, IsText, AreBytes, Fi
 use Rattle.bl_mbi.specs.InfoFacts.{InfoFacts, IsSpelling}
 use Rattle.bl_mem.specs.Words.{u32_bytes}
 use Rattle.bl_mbi.specs.Tags.{tag}
-use Rattle.bl_mbi.specs.Spelling.{tags, spelling}
-use Rattle.bl_mbi.specs.Fields.{Left, word}
+use Rattle.bl_mbi.specs.Spelling.{tags, info_spelling}
+use Rattle.bl_mbi.specs.Fields.{Left, first_u32}
 use Rattle.bl_mbi.specs.Reading.{text_tag_at, modules_at, memory_at, map_at, copy_at, load_base_at}
 use Rattle.bl_mbi.specs.Reading.{end_at, tags_of, info_of}
 use Rattle.bl_mbi.proofs.Inverse.{passed, made, same_ok}
@@ -100,22 +100,22 @@ tags_are left info small h =
 -- what was read is spelled so
 pub read_is_spelled : (bytes : List ℕ) (info : InfoFacts) → AreBytes bytes → info_of bytes ≡ Ok info
     → IsSpelling bytes info
-unfolding info_of spelling
+unfolding info_of info_spelling
 read_is_spelled bytes info small h =
     let s1 = passed (nat_lt (length bytes) 16) _ _ info h in
-    let s2 = passed (not (nat_eq (word bytes) (length bytes))) _ _ info s1.1 in
-    let s3 = passed (not (nat_eq (word (drop 4 bytes)) 0)) _ _ info s2.1 in
+    let s2 = passed (not (nat_eq (first_u32 bytes) (length bytes))) _ _ info s1.1 in
+    let s3 = passed (not (nat_eq (first_u32 (drop 4 bytes)) 0)) _ _ info s2.1 in
     let long : 16 ≤ length bytes = grind (arith, nat_tests, s1.0) in
-    let whole : word bytes ≡ length bytes = grind (arith, nat_tests, not-false _ s2.0) in
-    let reserved : word (drop 4 bytes) ≡ 0 = grind (arith, nat_tests, not-false _ s3.0) in
+    let whole : first_u32 bytes ≡ length bytes = grind (arith, nat_tests, not-false _ s2.0) in
+    let reserved : first_u32 (drop 4 bytes) ≡ 0 = grind (arith, nat_tests, not-false _ s3.0) in
     let is =
     tags_are record { at = 8; bytes = drop 8 bytes } info (drop_small 8 bytes small) s3.1 in
     let all : drop 8 bytes ≡ tags info.name info.facts = is.bytes in
     let total : length bytes ≡ 8 + length (tags info.name info.facts) =
     omega (arith, length-drop 8 bytes, ap length all) in
-    let front : u32_bytes (word bytes) ++ drop 4 bytes ≡ bytes =
+    let front : u32_bytes (first_u32 bytes) ++ drop 4 bytes ≡ bytes =
     word_then bytes small (omega arith) in
-    let second : u32_bytes (word (drop 4 bytes)) ++ drop 4 (drop 4 bytes) ≡ drop 4 bytes =
+    let second : u32_bytes (first_u32 (drop 4 bytes)) ++ drop 4 (drop 4 bytes) ≡ drop 4 bytes =
     word_then (drop 4 bytes) (drop_small 4 bytes small) (omega (arith, length-drop 4 bytes)) in
     record {
       exact =

@@ -11,11 +11,11 @@ use Rattle.std.proofs.lemmas.List.Elements.{All-nil, All-cons}
 use Rattle.bl_map.specs.declared.kind.Kind.{Kind}
 use Rattle.bl_map.specs.declared.kind.Kind.TheVariants.{Usable, Reserved, Acpi, Nvs, Bad}
 use Rattle.bl_map.specs.declared.region.Region.{Region}
-use Rattle.bl_map.specs.Kinds.{kind_number, kind_of, end_of}
+use Rattle.bl_map.specs.Kinds.{kind_number, kind_of, region_end}
 use Rattle.bl_mbi.specs.InformationFacts.{AreBytes}
 use Rattle.bl_mem.specs.Words.{u32_bytes, u64_bytes}
 use Rattle.bl_mbi.specs.Tags.{run_bytes, map_body}
-use Rattle.bl_mbi.specs.Fields.{word, long}
+use Rattle.bl_mbi.specs.Fields.{first_u32, first_u64}
 use Rattle.bl_mbi.specs.Bodies.{run_of, runs_of, map_of}
 use Rattle.bl_mbi.proofs.Inverse.{passed_some, mapped, then, same_some}
 use Rattle.bl_mbi.proofs.WordLaws.{word_then, long_then}
@@ -51,25 +51,25 @@ kind_is n kind h =
 
 -- a run in the first 24 bytes
 run_is : (bytes : List ℕ) (run : Region) → AreBytes bytes → 24 ≤ length bytes
-    → run_of bytes ≡ Some run → (bytes ≡ run_bytes run ++ drop 24 bytes) × (end_of run ≤ 2 ^ 52)
+    → run_of bytes ≡ Some run → (bytes ≡ run_bytes run ++ drop 24 bytes) × (region_end run ≤ 2 ^ 52)
 unfolding run_of
 run_is bytes run small enough h =
-    let base = long bytes in
-    let len = long (drop 8 bytes) in
+    let base = first_u64 bytes in
+    let len = first_u64 (drop 8 bytes) in
     let s1 = passed_some (nat_lt (2 ^ 52) (base + len)) _ run h in
-    let s2 = passed_some (not (nat_eq (word (drop 20 bytes)) 0)) _ run s1.1 in
-    let s3 = mapped _ (kind_of (word (drop 16 bytes))) run s2.1 in
+    let s2 = passed_some (not (nat_eq (first_u32 (drop 20 bytes)) 0)) _ run s1.1 in
+    let s3 = mapped _ (kind_of (first_u32 (drop 16 bytes))) run s2.1 in
     let low : base + len ≤ 2 ^ 52 = grind (arith, nat_tests, s1.0) in
-    let reserved : word (drop 20 bytes) ≡ 0 = grind (arith, nat_tests, not-false _ s2.0) in
-    let kind = kind_is (word (drop 16 bytes)) s3.0 s3.1 in
+    let reserved : first_u32 (drop 20 bytes) ≡ 0 = grind (arith, nat_tests, not-false _ s2.0) in
+    let kind = kind_is (first_u32 (drop 16 bytes)) s3.0 s3.1 in
     let read : Region = record { base = base; length = len; kind = s3.0 } in
     let first : u64_bytes base ++ drop 8 bytes ≡ bytes = long_then bytes small (omega arith) in
     let second : u64_bytes len ++ drop 8 (drop 8 bytes) ≡ drop 8 bytes =
     long_then (drop 8 bytes) (drop_small 8 bytes small) (omega (arith, length-drop 8 bytes)) in
-    let third : u32_bytes (word (drop 16 bytes)) ++ drop 4 (drop 16 bytes) ≡ drop 16 bytes =
+    let third : u32_bytes (first_u32 (drop 16 bytes)) ++ drop 4 (drop 16 bytes) ≡ drop 16 bytes =
     word_then (drop 16 bytes) (drop_small 16 bytes small)
     (omega (arith, length-drop 16 bytes)) in
-    let fourth : u32_bytes (word (drop 20 bytes)) ++ drop 4 (drop 20 bytes) ≡ drop 20 bytes =
+    let fourth : u32_bytes (first_u32 (drop 20 bytes)) ++ drop 4 (drop 20 bytes) ≡ drop 20 bytes =
     word_then (drop 20 bytes) (drop_small 20 bytes small)
     (omega (arith, length-drop 20 bytes)) in
     let at_16 : drop 8 (drop 8 bytes) ≡ drop 16 bytes = drop-drop 8 8 bytes in
@@ -86,17 +86,18 @@ run_is bytes run small enough h =
     ++ (u64_bytes len ++ (u32_bytes (kind_number s3.0) ++ (u32_bytes n ++ xs))))
     reserved at_24
     ∙ simp append_assoc in
-    let is : (bytes ≡ run_bytes read ++ drop 24 bytes) × (end_of read ≤ 2 ^ 52) = (spelled, low) in
+    let is : (bytes ≡ run_bytes read ++ drop 24 bytes)
+    × (region_end read ≤ 2 ^ 52) = (spelled, low) in
     rw (← s3.2) is
 
 runs_are : (n : ℕ) (bytes : List ℕ) (runs : List Region) → AreBytes bytes → length bytes ≡ 24 * n
     → runs_of n bytes ≡ Some runs
-    → (bytes ≡ flat_map run_bytes runs) × All (λ run. end_of run ≤ 2 ^ 52) runs
+    → (bytes ≡ flat_map run_bytes runs) × All (λ run. region_end run ≤ 2 ^ 52) runs
 runs_are zero bytes runs small len h =
     let read = same_some [] runs h in
     let nothing : bytes ≡ [] = drop_all 0 bytes (omega arith) in
-    let is : (bytes ≡ flat_map run_bytes []) × All (λ run. end_of run ≤ 2 ^ 52) [] =
-    (nothing, All-nil (λ (run : Region). end_of run ≤ 2 ^ 52)) in
+    let is : (bytes ≡ flat_map run_bytes []) × All (λ run. region_end run ≤ 2 ^ 52) [] =
+    (nothing, All-nil (λ (run : Region). region_end run ≤ 2 ^ 52)) in
     rw (← read) is
 runs_are (suc n) bytes runs small len h =
     let s1 = then _ (run_of bytes) runs h in
@@ -106,30 +107,31 @@ runs_are (suc n) bytes runs small len h =
     let rest_len : length (drop 24 bytes) ≡ 24 * n = omega (arith, length-drop 24 bytes) in
     let more = runs_are n (drop 24 bytes) s2.0 (drop_small 24 bytes small) rest_len s2.1 in
     let is : (bytes ≡ flat_map run_bytes (s1.0 ∷ s2.0))
-    × All (λ run. end_of run ≤ 2 ^ 52) (s1.0 ∷ s2.0) = (
+    × All (λ run. region_end run ≤ 2 ^ 52) (s1.0 ∷ s2.0) = (
       one.0 ∙ ap (λ (xs : List ℕ). run_bytes s1.0 ++ xs) more.0,
-      All-cons (λ (run : Region). end_of run ≤ 2 ^ 52) s1.0 s2.0 one.1 more.1,
+      All-cons (λ (run : Region). region_end run ≤ 2 ^ 52) s1.0 s2.0 one.1 more.1,
     ) in
     rw (← s2.2) is
 
 pub map_is : (body : List ℕ) (runs : List Region) → AreBytes body → map_of body ≡ Some runs
-    → (body ≡ map_body runs) × All (λ run. end_of run ≤ 2 ^ 52) runs
+    → (body ≡ map_body runs) × All (λ run. region_end run ≤ 2 ^ 52) runs
 unfolding map_of
 map_is body runs small h =
     let count = (length body - 8) / 24 in
     let s1 = passed_some (nat_lt (length body) 8) _ runs h in
-    let s2 = passed_some (not (nat_eq (word body) 24)) _ runs s1.1 in
-    let s3 = passed_some (not (nat_eq (word (drop 4 body)) 0)) _ runs s2.1 in
+    let s2 = passed_some (not (nat_eq (first_u32 body) 24)) _ runs s1.1 in
+    let s3 = passed_some (not (nat_eq (first_u32 (drop 4 body)) 0)) _ runs s2.1 in
     let s4 = passed_some (not (nat_eq ((length body - 8) % 24) 0)) _ runs s3.1 in
     let enough : 8 ≤ length body = grind (arith, nat_tests, s1.0) in
-    let entry_size : word body ≡ 24 = grind (arith, nat_tests, not-false _ s2.0) in
-    let entry_version : word (drop 4 body) ≡ 0 = grind (arith, nat_tests, not-false _ s3.0) in
+    let entry_size : first_u32 body ≡ 24 = grind (arith, nat_tests, not-false _ s2.0) in
+    let entry_version : first_u32 (drop 4 body) ≡ 0 = grind (arith, nat_tests, not-false _ s3.0) in
     let whole : (length body - 8) % 24 ≡ 0 = grind (arith, nat_tests, not-false _ s4.0) in
     let entries =
     runs_are count (drop 8 body) runs (drop_small 8 body small)
     (omega (arith, length-drop 8 body)) s4.1 in
-    let front : u32_bytes (word body) ++ drop 4 body ≡ body = word_then body small (omega arith) in
-    let second : u32_bytes (word (drop 4 body)) ++ drop 4 (drop 4 body) ≡ drop 4 body =
+    let front : u32_bytes (first_u32 body) ++ drop 4 body
+    ≡ body = word_then body small (omega arith) in
+    let second : u32_bytes (first_u32 (drop 4 body)) ++ drop 4 (drop 4 body) ≡ drop 4 body =
     word_then (drop 4 body) (drop_small 4 body small) (omega (arith, length-drop 4 body)) in
     let spelled : body ≡ map_body runs =
     sym front ∙ ap₂ (λ (n : ℕ) (xs : List ℕ). u32_bytes n ++ xs) entry_size (sym second)

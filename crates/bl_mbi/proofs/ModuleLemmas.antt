@@ -8,7 +8,7 @@ use Rattle.bl_mbi.specs.declared.fault.InfoFault.{InfoFault}
 use Rattle.bl_mbi.specs.declared.fault.InfoFault.TheVariants.{WrongLength, BadReserved, BadTag}
 use Rattle.bl_mbi.specs.declared.fault.InfoFault.TheVariants.{BadOrder, NoMemory}
 use Rattle.bl_mbi.specs.InformationFacts.{ModuleInfo}
-use Rattle.bl_mbi.specs.Fields.{◌>>=◌, Fails, Left, is_next}
+use Rattle.bl_mbi.specs.Fields.{◌>>=◌, MatchesFault, Left, is_next}
 use Rattle.bl_mbi.specs.Reading.{module_at, modules_upto, modules_at}
 
 -- what was read, and after it what is still read
@@ -94,8 +94,8 @@ stops start left done fault way next is =
 
 -- a module that fails there is where all of them fail
 pub fails : (start left : Left) (done : List ModuleInfo) (fault : InfoFault)
-    → IsOnWay start left done → is_next 3 left ≡ true → Fails fault (module_at left)
-    → Fails fault (modules_at start)
+    → IsOnWay start left done → is_next 3 left ≡ true → MatchesFault fault (module_at left)
+    → MatchesFault fault (modules_at start)
 fails start left done NoMemory way next is = tt
 fails start left done WrongLength way next is = stops start left done WrongLength way next is
 fails start left done BadReserved way next is = stops start left done BadReserved way next is

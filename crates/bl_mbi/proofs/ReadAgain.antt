@@ -8,8 +8,8 @@ use Rattle.bl_mbi.specs.InformationFacts.{InformationFacts, IsText, FitsFields}
 use Rattle.bl_mem.specs.Words.{u32_bytes}
 use Rattle.bl_mbi.specs.Tags.{tag, text_body, module_tag, memory_body, map_body, copy_tag}
 use Rattle.bl_mbi.specs.Tags.{load_base_tag}
-use Rattle.bl_mbi.specs.Spelling.{tags, spelling}
-use Rattle.bl_mbi.specs.Fields.{word}
+use Rattle.bl_mbi.specs.Spelling.{tags, info_spelling}
+use Rattle.bl_mbi.specs.Fields.{first_u32}
 use Rattle.bl_mbi.specs.Reading.{tags_of, info_of}
 use Rattle.bl_mem.proofs.WordLaws.{length-u32_bytes}
 use Rattle.bl_mbi.proofs.Sizes.{length-tag, length-tags, length-text_body, length-map_body}
@@ -86,9 +86,9 @@ tags_again at name facts name_is is fits =
     (end_at_again l8.at)
 
 pub spelled_is_read : (name : List ℕ) (facts : InformationFacts) → IsText name → FitsFields facts
-    → length (spelling name facts) < 2 ^ 32
-    → info_of (spelling name facts) ≡ Ok record { name = name; facts = facts }
-unfolding info_of spelling
+    → length (info_spelling name facts) < 2 ^ 32
+    → info_of (info_spelling name facts) ≡ Ok record { name = name; facts = facts }
+unfolding info_of info_spelling
 spelled_is_read name facts name_is is fits =
     let all = tags name facts in
     let total = 8 + length all in
@@ -102,8 +102,8 @@ spelled_is_read name facts name_is is fits =
     ) in
     let long : 16 ≤ total = omega (arith, length-tags name facts) in
     let not_short : nat_lt (length bytes) 16 ≡ false = grind (arith, nat_tests) in
-    let whole : word bytes ≡ total = word_front total _ (omega arith) in
+    let whole : first_u32 bytes ≡ total = word_front total _ (omega arith) in
     let same : nat_eq total (length bytes) ≡ true = grind (arith, nat_tests) in
-    let reserved : word (drop 4 bytes) ≡ 0 = rw behind_word (word_front 0 all (lit< tt)) in
+    let reserved : first_u32 (drop 4 bytes) ≡ 0 = rw behind_word (word_front 0 all (lit< tt)) in
     let rest : drop 8 bytes ≡ all = behind_words total 0 all in
     rw (not_short, whole, same, reserved, rest) (tags_again 8 name facts name_is is (omega arith))

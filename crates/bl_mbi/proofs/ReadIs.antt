@@ -9,13 +9,13 @@ use Rattle.std.proofs.lemmas.Bool.Decides.{nat_tests}
 use Rattle.std.proofs.lemmas.List.{drop_all, append-nil}
 use Rattle.std.proofs.lemmas.List.Elements.{All-nil, All-cons}
 use Rattle.bl_map.specs.declared.region.Region.{Region}
-use Rattle.bl_map.specs.Kinds.{end_of}
+use Rattle.bl_map.specs.Kinds.{region_end}
 use Rattle.bl_mbi.specs.InformationFacts.{ModuleInfo, IsModule, IsText, AreBytes}
 use Rattle.bl_mem.specs.Words.{u32_bytes}
 use Rattle.bl_mbi.specs.Tags.{tag, text_body, module_body, module_tag, memory_body, map_body}
 use Rattle.bl_mbi.specs.Tags.{copy_tag, load_base_tag}
-use Rattle.bl_mbi.specs.Fields.{Left, is_next, tag_at, or_bad}
-use Rattle.bl_mbi.specs.Bodies.{text_of, module_of, memory_of, map_of, load_base_of}
+use Rattle.bl_mbi.specs.Fields.{Left, is_next, info_tag_at, or_bad}
+use Rattle.bl_mbi.specs.Bodies.{text_of_body, module_of, memory_of, map_of, load_base_of}
 use Rattle.bl_mbi.specs.Reading.{text_tag_at, module_at, modules_upto, modules_at, memory_at}
 use Rattle.bl_mbi.specs.Reading.{map_at, copy_at, load_base_at, end_at}
 use Rattle.bl_mbi.proofs.Inverse.{passed, passed_last, made, not_bad, chosen, same_ok}
@@ -50,8 +50,8 @@ pub text_tag_at_is : (kind : ℕ) (left : Left) (read : List ℕ × Left) → Ar
     → IsRead left (tag kind (text_body read.0)) read.1 × IsText read.0
 unfolding text_tag_at
 text_tag_at_is kind left read small h =
-    let s1 = made (tag_at kind left) _ read h in
-    let s2 = made (or_bad left.at (text_of s1.0.0)) _ read s1.2 in
+    let s1 = made (info_tag_at kind left) _ read h in
+    let s2 = made (or_bad left.at (text_of_body s1.0.0)) _ read s1.2 in
     let whole = tag_is kind left s1.0 small s1.1 in
     let text = text_is s1.0.0 s2.0 whole.1 (not_bad left.at _ _ s2.1) in
     let is : IsRead left (tag kind (text_body s2.0)) s1.0.1 × IsText s2.0 =
@@ -62,7 +62,7 @@ module_at_is : (left : Left) (read : ModuleInfo × Left) → AreBytes left.bytes
     → module_at left ≡ Ok read → IsRead left (module_tag read.0) read.1 × IsModule read.0
 unfolding module_at
 module_at_is left read small h =
-    let s1 = made (tag_at 3 left) _ read h in
+    let s1 = made (info_tag_at 3 left) _ read h in
     let s2 = made (or_bad left.at (module_of s1.0.0)) _ read s1.2 in
     let whole = tag_is 3 left s1.0 small s1.1 in
     let body = module_is s1.0.0 s2.0 whole.1 (not_bad left.at _ _ s2.1) in
@@ -112,7 +112,7 @@ pub memory_at_is : (left : Left) (read : (ℕ × ℕ) × Left) → AreBytes left
     × (read.0.1 < 2 ^ 32)
 unfolding memory_at
 memory_at_is left read small h =
-    let s1 = made (tag_at 4 left) _ read h in
+    let s1 = made (info_tag_at 4 left) _ read h in
     let s2 = made (or_bad left.at (memory_of s1.0.0)) _ read s1.2 in
     let whole = tag_is 4 left s1.0 small s1.1 in
     let body = memory_is s1.0.0 s2.0 whole.1 (not_bad left.at _ _ s2.1) in
@@ -126,14 +126,15 @@ memory_at_is left read small h =
 
 pub map_at_is : (left : Left) (read : List Region × Left) → AreBytes left.bytes
     → map_at left ≡ Ok read
-    → IsRead left (tag 6 (map_body read.0)) read.1 × All (λ run. end_of run ≤ 2 ^ 52) read.0
+    → IsRead left (tag 6 (map_body read.0)) read.1 × All (λ run. region_end run ≤ 2 ^ 52) read.0
 unfolding map_at
 map_at_is left read small h =
-    let s1 = made (tag_at 6 left) _ read h in
+    let s1 = made (info_tag_at 6 left) _ read h in
     let s2 = made (or_bad left.at (map_of s1.0.0)) _ read s1.2 in
     let whole = tag_is 6 left s1.0 small s1.1 in
     let body = map_is s1.0.0 s2.0 whole.1 (not_bad left.at _ _ s2.1) in
-    let is : IsRead left (tag 6 (map_body s2.0)) s1.0.1 × All (λ run. end_of run ≤ 2 ^ 52) s2.0 =
+    let is : IsRead left (tag 6 (map_body s2.0)) s1.0.1
+    × All (λ run. region_end run ≤ 2 ^ 52) s2.0 =
     (read_as 6 left s1.0.1 s1.0.0 (map_body s2.0) whole.0 body.0, body.1) in
     rw (← same_ok _ read s2.2) is
 
@@ -149,7 +150,7 @@ copy_at_is kind left read small h =
           (nothing_read left small, tt) in
           rw (← same_ok (None, left) read none) is
       | inr some ↦
-          let s1 = made (tag_at kind left) _ read some in
+          let s1 = made (info_tag_at kind left) _ read some in
           let whole = tag_is kind left s1.0 small s1.1 in
           let is : IsRead left (copy_tag kind (Some s1.0.0)) s1.0.1
           × IfSome (Some s1.0.0) AreBytes = whole in
@@ -168,7 +169,7 @@ load_base_at_is left read small h =
           × IfSome None (λ (base : ℕ). base < 2 ^ 32) = (nothing_read left small, tt) in
           rw (← same_ok (None, left) read none) is
       | inr some ↦
-          let s1 = made (tag_at 21 left) _ read some in
+          let s1 = made (info_tag_at 21 left) _ read some in
           let s2 = made (or_bad left.at (load_base_of s1.0.0)) _ read s1.2 in
           let whole = tag_is 21 left s1.0 small s1.1 in
           let body = load_base_is s1.0.0 s2.0 whole.1 (not_bad left.at _ _ s2.1) in
@@ -181,11 +182,12 @@ load_base_at_is left read small h =
 pub end_at_is : (left : Left) → AreBytes left.bytes → end_at left ≡ Ok tt → left.bytes ≡ tag 0 []
 unfolding end_at
 end_at_is left small h =
-    let s1 = made (tag_at 0 left) _ tt h in
+    let s1 = made (info_tag_at 0 left) _ tt h in
     let s2 = passed (not (nat_eq (length s1.0.0) 0)) _ _ tt s1.2 in
     let s3 = passed_last (nat_eq (length s1.0.1.bytes) 0) _ _ tt s2.1 in
     let empty : length s1.0.0 ≡ 0 = grind (arith, nat_tests, not-false _ s2.0) in
     let no_body : s1.0.0 ≡ [] = drop_all 0 s1.0.0 (omega arith) in
     let no_rest : s1.0.1.bytes ≡ [] = drop_all 0 s1.0.1.bytes (grind (arith, nat_tests, s3.0)) in
-    empty_tag_is 0 left s1.0 small s1.1 empty ∙ ap₂ (λ (body rest : List ℕ). tag 0 body ++ rest) no_body no_rest
+    empty_tag_is 0 left s1.0 small s1.1 empty
+    ∙ ap₂ (λ (body rest : List ℕ). tag 0 body ++ rest) no_body no_rest
     ∙ append-nil (tag 0 [])

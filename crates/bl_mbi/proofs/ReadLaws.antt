@@ -8,7 +8,7 @@ use Rattle.bl_mbi.specs.declared.fault.InfoFault.TheVariants.{WrongLength, BadRe
 use Rattle.bl_mbi.specs.declared.fault.InfoFault.TheVariants.{BadOrder, NoMemory}
 use Rattle.bl_mbi.specs.InformationFacts.{AreBytes}
 use Rattle.bl_mbi.specs.InfoFacts.{InfoFacts, IsSpelling}
-use Rattle.bl_mbi.specs.Fields.{Gives}
+use Rattle.bl_mbi.specs.Fields.{MatchesReading}
 use Rattle.bl_mbi.specs.Reading.{info_of}
 use Rattle.bl_mbi.proofs.Inverse.{same_ok}
 use Rattle.bl_mbi.proofs.ReadAgain.{spelled_is_read}
@@ -18,7 +18,7 @@ pub are_bytes : (bytes : List ℕ) → ((i : ℕ) → get_or bytes i 0 < 256) �
 are_bytes bytes small = All-from_get_or (λ b. b < 256) bytes 0 (λ i inside. small i)
 
 pub spelling_by : (result : Result InfoFacts InfoFault) (bytes : List ℕ) → AreBytes bytes
-    → Gives (λ info. info) result (info_of bytes) → IfOk result (IsSpelling bytes)
+    → MatchesReading (λ info. info) result (info_of bytes) → IfOk result (IsSpelling bytes)
 spelling_by (Ok info) bytes small gives = read_is_spelled bytes info small gives
 spelling_by (Err fault) bytes small gives = tt
 
@@ -29,7 +29,8 @@ spelling_read bytes info is fits =
     rw e (spelled_is_read info.name info.facts is.name is.facts (rw (← e) fits))
 
 pub accepted_by : (result : Result InfoFacts InfoFault) (bytes : List ℕ) (info : InfoFacts)
-    → Gives (λ read. read) result (info_of bytes) → IsSpelling bytes info → length bytes < 2 ^ 32
+    → MatchesReading (λ read. read) result (info_of bytes) → IsSpelling bytes info → length bytes
+    < 2 ^ 32
     → MatchResult result (λ read. read ≡ info) (λ fault. fault ≡ NoMemory)
 accepted_by (Ok read) bytes info gives is fits =
     same_ok read info (sym gives ∙ spelling_read bytes info is fits)

@@ -13,7 +13,7 @@ use Rattle.bl_mbi.specs.InformationFacts.{InformationFacts, ModuleInfo, info_siz
 use Rattle.bl_mem.specs.Words.{u32_bytes}
 use Rattle.bl_mbi.specs.Tags.{padding, tag, text_body, module_body, module_tag, memory_body}
 use Rattle.bl_mbi.specs.Tags.{run_bytes, map_body, copy_tag, load_base_tag}
-use Rattle.bl_mbi.specs.Spelling.{tags, spelling}
+use Rattle.bl_mbi.specs.Spelling.{tags, info_spelling}
 
 pub length-padding : (n : ℕ) → length (padding n) ≡ (8 - n % 8) % 8
 length-padding n = length-replicate ((8 - n % 8) % 8) 0
@@ -97,14 +97,14 @@ length-tags name facts =
 
 -- by any loader's name
 pub length-spelling_by : (name : List ℕ) (facts : InformationFacts)
-    → length (spelling name facts) + 24 ≡ info_size facts + tag_size (length name + 1)
-unfolding spelling
+    → length (info_spelling name facts) + 24 ≡ info_size facts + tag_size (length name + 1)
+unfolding info_spelling
 length-spelling_by name facts =
     omega (arith, length-append {A = ℕ}, length-u32_bytes, length-tags name facts)
 
 -- with the name that is written
 pub length-spelling : (facts : InformationFacts)
-    → length (spelling (codes "bootcore") facts) ≡ info_size facts
+    → length (info_spelling (codes "bootcore") facts) ≡ info_size facts
 length-spelling facts = omega (arith, length-spelling_by (codes "bootcore") facts)
 
 -- no address and no number has a part in the size

@@ -12,7 +12,7 @@ use Rattle.bl_mbi.specs.Size.{padded}
 use Rattle.bl_mbi.specs.InformationFacts.{AreBytes}
 use Rattle.bl_mem.specs.Words.{u32_bytes}
 use Rattle.bl_mbi.specs.Tags.{padding, tag}
-use Rattle.bl_mbi.specs.Fields.{Left, word, tag_at}
+use Rattle.bl_mbi.specs.Fields.{Left, first_u32, info_tag_at}
 use Rattle.bl_mbi.proofs.Inverse.{passed, same_ok}
 use Rattle.bl_mbi.proofs.WordLaws.{word_then}
 
@@ -37,29 +37,30 @@ all_zero (x ∷ xs) h =
 -- what the checks of a tag say together
 record IsPassed (kind : ℕ) (left : Left) (read : List ℕ × Left) : Type 0 where
   long : 8 ≤ length left.bytes
-  kind_is : word left.bytes ≡ kind
-  large : 8 ≤ word (drop 4 left.bytes)
-  fits : word (drop 4 left.bytes) ≤ length left.bytes
+  kind_is : first_u32 left.bytes ≡ kind
+  large : 8 ≤ first_u32 (drop 4 left.bytes)
+  fits : first_u32 (drop 4 left.bytes) ≤ length left.bytes
   zeros : list_all (λ b. b == 0)
-      (slice_range left.bytes (word (drop 4 left.bytes)) (padded (word (drop 4 left.bytes)))) ≡ true
-  body : slice_range left.bytes 8 (word (drop 4 left.bytes)) ≡ read.0
-  rest : drop (padded (word (drop 4 left.bytes))) left.bytes ≡ read.1.bytes
+      (slice_range left.bytes (first_u32 (drop 4 left.bytes)) (padded (first_u32
+      (drop 4 left.bytes)))) ≡ true
+  body : slice_range left.bytes 8 (first_u32 (drop 4 left.bytes)) ≡ read.0
+  rest : drop (padded (first_u32 (drop 4 left.bytes))) left.bytes ≡ read.1.bytes
 
-passes : (kind : ℕ) (left : Left) (read : List ℕ × Left) → tag_at kind left ≡ Ok read
+passes : (kind : ℕ) (left : Left) (read : List ℕ × Left) → info_tag_at kind left ≡ Ok read
     → IsPassed kind left read
-unfolding tag_at
+unfolding info_tag_at
 passes kind left read h =
-    let size = word (drop 4 left.bytes) in
+    let size = first_u32 (drop 4 left.bytes) in
     let s1 = passed (nat_eq (length left.bytes) 0) _ _ read h in
     let s2 = passed (nat_lt (length left.bytes) 8) _ _ read s1.1 in
-    let s3 = passed (not (nat_eq (word left.bytes) kind)) _ _ read s2.1 in
+    let s3 = passed (not (nat_eq (first_u32 left.bytes) kind)) _ _ read s2.1 in
     let s4 = passed (nat_lt size 8) _ _ read s3.1 in
     let s5 = passed (nat_lt (length left.bytes) size) _ _ read s4.1 in
     let s6 =
     passed (not (list_all (λ b. b == 0) (slice_range left.bytes size (padded size)))) _ _ read
     s5.1 in
     let is = same_ok _ read s6.1 in
-    let kind_true = not-false (nat_eq (word left.bytes) kind) s3.0 in
+    let kind_true = not-false (nat_eq (first_u32 left.bytes) kind) s3.0 in
     record {
       long = grind (arith, nat_tests, s2.0);
       kind_is = grind (arith, nat_tests, kind_true);
@@ -72,9 +73,9 @@ passes kind left read h =
 
 -- its size counts type and size and the body
 size_is : (kind : ℕ) (left : Left) (read : List ℕ × Left) → IsPassed kind left read
-    → word (drop 4 left.bytes) ≡ 8 + length read.0
+    → first_u32 (drop 4 left.bytes) ≡ 8 + length read.0
 size_is kind left read p =
-    let size = word (drop 4 left.bytes) in
+    let size = first_u32 (drop 4 left.bytes) in
     let large = p.large in
     let fits = p.fits in
     let body_len : length (slice_range left.bytes 8 size) ≡ size - 8 = search (rules, places) in
@@ -82,17 +83,17 @@ size_is kind left read p =
 
 -- a tag whose padding is all there is spelled so
 whole_tag_is : (kind : ℕ) (left : Left) (read : List ℕ × Left) → AreBytes left.bytes
-    → IsPassed kind left read → padded (word (drop 4 left.bytes)) ≤ length left.bytes
+    → IsPassed kind left read → padded (first_u32 (drop 4 left.bytes)) ≤ length left.bytes
     → left.bytes ≡ tag kind read.0 ++ read.1.bytes
 whole_tag_is kind left read small p enough =
     let bytes = left.bytes in
-    let size = word (drop 4 bytes) in
+    let size = first_u32 (drop 4 bytes) in
     let whole = padded size in
     let body = slice_range bytes 8 size in
     let pad = slice_range bytes size whole in
     let long = p.long in
     let large = p.large in
-    let front : u32_bytes (word bytes) ++ drop 4 bytes ≡ bytes =
+    let front : u32_bytes (first_u32 bytes) ++ drop 4 bytes ≡ bytes =
     word_then bytes small (omega arith) in
     let second : u32_bytes size ++ drop 4 (drop 4 bytes) ≡ drop 4 bytes =
     word_then (drop 4 bytes) (drop_small 4 bytes small) (search (rules, places)) in
@@ -125,10 +126,10 @@ whole_tag_is kind left read small p enough =
 
 -- where something is left after a tag, its padding is all there
 pub tag_is : (kind : ℕ) (left : Left) (read : List ℕ × Left) → AreBytes left.bytes
-    → tag_at kind left ≡ Ok read → IsRead left (tag kind read.0) read.1 × AreBytes read.0
+    → info_tag_at kind left ≡ Ok read → IsRead left (tag kind read.0) read.1 × AreBytes read.0
 tag_is kind left read small h =
     let p = passes kind left read h in
-    let size = word (drop 4 left.bytes) in
+    let size = first_u32 (drop 4 left.bytes) in
     let is : IsRead left (tag kind read.0) read.1 = record {
       bytes = λ more.
           whole_tag_is kind left read small p
@@ -139,7 +140,7 @@ tag_is kind left read small h =
 
 -- a tag with no body has no padding
 pub empty_tag_is : (kind : ℕ) (left : Left) (read : List ℕ × Left) → AreBytes left.bytes
-    → tag_at kind left ≡ Ok read → length read.0 ≡ 0
+    → info_tag_at kind left ≡ Ok read → length read.0 ≡ 0
     → left.bytes ≡ tag kind read.0 ++ read.1.bytes
 empty_tag_is kind left read small h empty =
     let p = passes kind left read h in

@@ -9,20 +9,20 @@ use Rattle.std.proofs.lemmas.List.{take_at, drop_at, drop-drop}
 use Rattle.bl_mbi.specs.Size.{padded}
 use Rattle.bl_mem.specs.Words.{u32_bytes}
 use Rattle.bl_mbi.specs.Tags.{padding, tag}
-use Rattle.bl_mbi.specs.Fields.{Left, word, is_next, tag_at}
+use Rattle.bl_mbi.specs.Fields.{Left, first_u32, is_next, info_tag_at}
 use Rattle.bl_mbi.proofs.Sizes.{length-padding, length-tag}
 use Rattle.bl_mbi.proofs.WordLaws.{word_front, behind_word}
 
 -- the checks of a tag, each of which is passed
-tag_at_ok : (kind size : ℕ) (left : Left) → 8 ≤ length left.bytes → word left.bytes ≡ kind
-    → word (drop 4 left.bytes) ≡ size → 8 ≤ size → size ≤ length left.bytes
+tag_at_ok : (kind size : ℕ) (left : Left) → 8 ≤ length left.bytes → first_u32 left.bytes ≡ kind
+    → first_u32 (drop 4 left.bytes) ≡ size → 8 ≤ size → size ≤ length left.bytes
     → list_all (λ b. b == 0) (slice_range left.bytes size (padded size)) ≡ true
-    → tag_at kind left
+    → info_tag_at kind left
     ≡ Ok (
       slice_range left.bytes 8 size,
       record { at = left.at + padded size; bytes = drop (padded size) left.bytes },
     )
-unfolding tag_at
+unfolding info_tag_at
 tag_at_ok kind size left long kind_is size_is large fits zeros =
     let not_empty : nat_eq (length left.bytes) 0 ≡ false = grind (arith, nat_tests) in
     let not_short : nat_lt (length left.bytes) 8 ≡ false = grind (arith, nat_tests) in
@@ -48,7 +48,7 @@ behind_head kind body rest =
     rw (both, first, behind_word, behind_word) refl
 
 pub tag_again : (kind at : ℕ) (body rest : List ℕ) → kind < 2 ^ 32 → 8 + length body < 2 ^ 32
-    → tag_at kind record { at = at; bytes = tag kind body ++ rest }
+    → info_tag_at kind record { at = at; bytes = tag kind body ++ rest }
     ≡ Ok (body, record { at = at + length (tag kind body); bytes = rest })
 tag_again kind at body rest kind_fits size_fits =
     let size = 8 + length body in
@@ -59,8 +59,8 @@ tag_again kind at body rest kind_fits size_fits =
     let len = length-append (tag kind body) rest in
     let first : bytes ≡ u32_bytes kind ++ (u32_bytes size ++ (body ++ (pad ++ rest))) =
     simp append_assoc in
-    let kind_is : word bytes ≡ kind = rw first (word_front kind _ kind_fits) in
-    let size_is : word (drop 4 bytes) ≡ size =
+    let kind_is : first_u32 bytes ≡ kind = rw first (word_front kind _ kind_fits) in
+    let size_is : first_u32 (drop 4 bytes) ≡ size =
     rw (first, behind_word) (word_front size _ size_fits) in
     let body_is : slice_range bytes 8 size ≡ body =
     rw behind_head (take_at body (pad ++ rest) (size - 8) (omega arith)) in
@@ -91,5 +91,5 @@ next_tag kind other at body rest fits =
     ≡ u32_bytes other
     ++ (u32_bytes (8 + length body) ++ (body ++ (padding (length body) ++ rest))) =
     simp append_assoc in
-    let kind_is : word (tag other body ++ rest) ≡ other = rw first (word_front other _ fits) in
+    let kind_is : first_u32 (tag other body ++ rest) ≡ other = rw first (word_front other _ fits) in
     rw (long, kind_is) refl

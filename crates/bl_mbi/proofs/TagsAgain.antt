@@ -8,13 +8,13 @@ use Rattle.std.proofs.lemmas.Bool.Decides.{nat_tests}
 use Rattle.std.proofs.lemmas.List.{append-nil}
 use Rattle.std.proofs.lemmas.List.Elements.{All-head, All-tail}
 use Rattle.bl_map.specs.declared.region.Region.{Region}
-use Rattle.bl_map.specs.Kinds.{end_of}
+use Rattle.bl_map.specs.Kinds.{region_end}
 use Rattle.bl_mbi.specs.declared.fault.InfoFault.{InfoFault}
 use Rattle.bl_mbi.specs.InformationFacts.{InformationFacts, ModuleInfo, IsModule, IsText}
 use Rattle.bl_mem.specs.Words.{u32_bytes}
 use Rattle.bl_mbi.specs.Tags.{tag, text_body, module_body, module_tag, memory_body, map_body}
 use Rattle.bl_mbi.specs.Tags.{copy_tag, load_base_tag}
-use Rattle.bl_mbi.specs.Fields.{◌>>=◌, Left, is_next, tag_at}
+use Rattle.bl_mbi.specs.Fields.{◌>>=◌, Left, is_next, info_tag_at}
 use Rattle.bl_mbi.specs.Reading.{text_tag_at, module_at, modules_upto, modules_at, memory_at}
 use Rattle.bl_mbi.specs.Reading.{map_at, copy_at, load_base_at, end_at, tags_of}
 use Rattle.bl_mem.proofs.WordLaws.{length-u32_bytes}
@@ -114,7 +114,7 @@ memory_at_again at lower upper rest low fits =
     ) refl
 
 pub map_at_again : (at : ℕ) (runs : List Region) (rest : List ℕ) → 24 * length runs < 2 ^ 32 - 16
-    → All (λ run. end_of run ≤ 2 ^ 52) runs
+    → All (λ run. region_end run ≤ 2 ^ 52) runs
     → map_at (from at (tag 6 (map_body runs) ++ rest))
     ≡ Ok (runs, past at (tag 6 (map_body runs)) rest)
 unfolding map_at
@@ -157,8 +157,9 @@ load_base_at_again at (Some base) rest fits last =
 pub end_at_again : (at : ℕ) → end_at (from at (tag 0 [])) ≡ Ok tt
 unfolding end_at
 end_at_again at =
-    let P : List ℕ → Type 0 = λ bytes. tag_at 0 (from at bytes) ≡ Ok ([], past at (tag 0 []) []) in
-    let here : tag_at 0 (from at (tag 0 [])) ≡ Ok ([], past at (tag 0 []) []) =
+    let P : List ℕ → Type 0 = λ bytes. info_tag_at 0 (from at bytes)
+    ≡ Ok ([], past at (tag 0 []) []) in
+    let here : info_tag_at 0 (from at (tag 0 [])) ≡ Ok ([], past at (tag 0 []) []) =
     subst P (append-nil (tag 0 [])) (tag_again 0 at [] [] (lit< tt) (lit< tt)) in
     rw here refl
 

@@ -8,11 +8,11 @@ use Rattle.bl_map.specs.declared.region.Region.{Region}
 use Rattle.bl_map.specs.Kinds.{kind_of}
 use Rattle.bl_map.specs.Limits.{region_limit}
 use Rattle.bl_mbi.specs.InformationFacts.{ModuleInfo}
-use Rattle.bl_mbi.specs.Fields.{word, long}
+use Rattle.bl_mbi.specs.Fields.{first_u32, first_u64}
 
 -- 3.6.5 "Boot command line", 3.6.9 "Boot loader name": a text with its one zero after it
-unfoldable pub text_of : List ℕ → Option (List ℕ)
-text_of body =
+unfoldable pub text_of_body : List ℕ → Option (List ℕ)
+text_of_body body =
     if length body == 0 then None else
     let len = length body - 1 in
     if not (slice_index body len == 0) then None else
@@ -23,24 +23,34 @@ text_of body =
 unfoldable pub module_of : List ℕ → Option ModuleInfo
 module_of body =
     if nat_lt (length body) 8 then None else
-    if nat_lt (word (drop 4 body)) (word body) then None else
-    option_map (λ line. record { mod_start = word body; mod_end = word (drop 4 body); line = line })
-    (text_of (drop 8 body))
+    if nat_lt (first_u32 (drop 4 body)) (first_u32 body) then None else
+    option_map (λ line. record {
+      mod_start = first_u32 body;
+      mod_end = first_u32
+          (drop 4 body);
+      line = line;
+    })
+    (text_of_body (drop 8 body))
 
 -- 3.6.3 "Basic memory information": mem_lower, mem_upper
 unfoldable pub memory_of : List ℕ → Option (ℕ × ℕ)
 memory_of body =
     if not (length body == 8) then None else
-    if nat_lt 640 (word body) then None else
-    Some (word body, word (drop 4 body))
+    if nat_lt 640 (first_u32 body) then None else
+    Some (first_u32 body, first_u32 (drop 4 body))
 
 -- an entry of the memory map, 3.6.8, in 24 bytes: base_addr, length, type, reserved
 unfoldable pub run_of : List ℕ → Option Region
 run_of bytes =
-    if nat_lt region_limit (long bytes + long (drop 8 bytes)) then None else
-    if not (word (drop 20 bytes) == 0) then None else
-    option_map (λ kind. record { base = long bytes; length = long (drop 8 bytes); kind = kind })
-    (kind_of (word (drop 16 bytes)))
+    if nat_lt region_limit (first_u64 bytes + first_u64 (drop 8 bytes)) then None else
+    if not (first_u32 (drop 20 bytes) == 0) then None else
+    option_map (λ kind. record {
+      base = first_u64 bytes;
+      length = first_u64
+          (drop 8 bytes);
+      kind = kind;
+    })
+    (kind_of (first_u32 (drop 16 bytes)))
 
 -- so many entries, one after the other
 abbrev pub runs_of : ℕ → List ℕ → Option (List Region)
@@ -53,11 +63,11 @@ runs_of (suc n) bytes =
 unfoldable pub map_of : List ℕ → Option (List Region)
 map_of body =
     if nat_lt (length body) 8 then None else
-    if not (word body == 24) then None else
-    if not (word (drop 4 body) == 0) then None else
+    if not (first_u32 body == 24) then None else
+    if not (first_u32 (drop 4 body) == 0) then None else
     if not ((length body - 8) % 24 == 0) then None else
     runs_of ((length body - 8) / 24) (drop 8 body)
 
 -- 3.6, section "Image load base physical address": load_base_addr
 unfoldable pub load_base_of : List ℕ → Option ℕ
-load_base_of body = if not (length body == 4) then None else Some (word body)
+load_base_of body = if not (length body == 4) then None else Some (first_u32 body)

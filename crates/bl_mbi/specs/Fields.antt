@@ -16,20 +16,21 @@ abbrev pub ◌>>=◌ : {A B : Type 0} → Result A InfoFault → (A → Result B
 
 -- what a function returned, seen by a view, is what reading gives; but memory may run out at any
 -- growth
-abbrev pub Fails : {Y : Type 0} → InfoFault → Result Y InfoFault → Type 0
-Fails NoMemory read = Unit {0}
-Fails fault read = read ≡ Err fault
+abbrev pub MatchesFault : {Y : Type 0} → InfoFault → Result Y InfoFault → Type 0
+MatchesFault NoMemory read = Unit {0}
+MatchesFault fault read = read ≡ Err fault
 
-abbrev pub Gives : {X Y : Type 0} → (X → Y) → Result X InfoFault → Result Y InfoFault → Type 0
-Gives view (Ok x) read = read ≡ Ok (view x)
-Gives view (Err e) read = Fails e read
+abbrev pub MatchesReading : {X Y : Type 0} → (X → Y) → Result X InfoFault → Result Y InfoFault
+    → Type 0
+MatchesReading view (Ok x) read = read ≡ Ok (view x)
+MatchesReading view (Err e) read = MatchesFault e read
 
 -- the little-endian number at the front
-abbrev pub word : List ℕ → ℕ
-word bytes = u32_at bytes 0
+abbrev pub first_u32 : List ℕ → ℕ
+first_u32 bytes = u32_at bytes 0
 
-abbrev pub long : List ℕ → ℕ
-long bytes = u64_at bytes 0
+abbrev pub first_u64 : List ℕ → ℕ
+first_u64 bytes = u64_at bytes 0
 
 -- the bytes that are left, and the offset at which they stand
 pub record Left : Type 0 where
@@ -38,17 +39,17 @@ pub record Left : Type 0 where
 
 -- a tag of this type begins there
 abbrev pub is_next : ℕ → Left → Bool
-is_next kind left = nat_le 8 (length left.bytes) && (word left.bytes == kind)
+is_next kind left = nat_le 8 (length left.bytes) && (first_u32 left.bytes == kind)
 
 -- the body of the tag there, which must be of this type, and what is left after it: type and size
 -- take 8 bytes, the size counts them and the body, zeros follow up to a multiple of 8. The end may
 -- cut these zeros, and then nothing is left at that multiple.
-unfoldable pub tag_at : ℕ → Left → Result (List ℕ × Left) InfoFault
-tag_at kind left =
+unfoldable pub info_tag_at : ℕ → Left → Result (List ℕ × Left) InfoFault
+info_tag_at kind left =
     if length left.bytes == 0 then Err (BadOrder left.at) else
     if nat_lt (length left.bytes) 8 then Err (BadTag left.at) else
-    if not (word left.bytes == kind) then Err (BadOrder left.at) else
-    let size = word (drop 4 left.bytes) in
+    if not (first_u32 left.bytes == kind) then Err (BadOrder left.at) else
+    let size = first_u32 (drop 4 left.bytes) in
     if nat_lt size 8 then Err (BadTag left.at) else
     if nat_lt (length left.bytes) size then Err (BadTag left.at) else
     let padding = slice_range left.bytes size (padded size) in

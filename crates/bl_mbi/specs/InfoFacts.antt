@@ -1,7 +1,7 @@
 -- What boot information says to its reader: the facts, and the loader's name too.
 use Rattle.std.specs.Prelude.{◌≡◌, ℕ, List}
 use Rattle.bl_mbi.specs.InformationFacts.{InformationFacts, IsText, FitsFields}
-use Rattle.bl_mbi.specs.Spelling.{spelling}
+use Rattle.bl_mbi.specs.Spelling.{info_spelling}
 
 pub record InfoFacts : Type 0 where
   pub name : List ℕ
@@ -9,6 +9,6 @@ pub record InfoFacts : Type 0 where
 
 -- these bytes spell it: its name is a text, and its facts fit their fields
 pub record IsSpelling (bytes : List ℕ) (info : InfoFacts) : Type 0 where
-  pub exact : bytes ≡ spelling info.name info.facts
+  pub exact : bytes ≡ info_spelling info.name info.facts
   pub name : IsText info.name
   pub facts : FitsFields info.facts

@@ -4,8 +4,8 @@ use Rattle.std.specs.Prelude.{◌≢◌, ◌^◌, ◌<◌, ◌≤◌, ℕ, List,
 use Rattle.std.specs.Prelude.{is_some, IfSome}
 use Rattle.bl_map.specs.declared.region.Region.{Region}
 use Rattle.bl_map.specs.Limits.{region_limit}
-use Rattle.bl_map.specs.Kinds.{end_of}
-use Rattle.bl_mbi.specs.Size.{size_of}
+use Rattle.bl_map.specs.Kinds.{region_end}
+use Rattle.bl_mbi.specs.Size.{size_by_lengths}
 
 -- 3.6.6 "Modules": the addresses of its first byte and after its last one, and its line
 pub record ModuleInfo : Type 0 where
@@ -44,7 +44,7 @@ pub record FitsFields (facts : InformationFacts) : Type 0 where
   pub modules : All IsModule facts.modules
   pub mem_lower : facts.mem_lower ≤ 640
   pub mem_upper : facts.mem_upper < 2 ^ 32
-  pub runs : All (λ run. end_of run ≤ region_limit) facts.runs
+  pub runs : All (λ run. region_end run ≤ region_limit) facts.runs
   pub rsdp_old : IfSome facts.rsdp_old AreBytes
   pub rsdp_new : IfSome facts.rsdp_new AreBytes
   pub load_base : IfSome facts.load_base (λ base. base < 2 ^ 32)
@@ -52,7 +52,7 @@ pub record FitsFields (facts : InformationFacts) : Type 0 where
 -- how many bytes the facts take, with the loader's name `bootcore`
 abbrev pub info_size : InformationFacts → ℕ
 info_size facts =
-    size_of (length facts.line) (map (λ m. length m.line) facts.modules) (length facts.runs)
+    size_by_lengths (length facts.line) (map (λ m. length m.line) facts.modules) (length facts.runs)
     (option_map length facts.rsdp_old) (option_map length facts.rsdp_new) (is_some facts.load_base)
 
 -- facts that have a spelling with the loader's name `bootcore`: each fits its field, and the total

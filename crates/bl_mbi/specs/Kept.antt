@@ -3,5 +3,5 @@ use Rattle.bl_mbi.specs.declared.rest.Rest.{Rest}
 use Rattle.bl_mbi.specs.Fields.{Left}
 
 -- what the code keeps of what is left
-abbrev pub left_of : Rest → Left
-left_of rest = record { at = rest.at; bytes = rest.bytes.now }
+abbrev pub left_in : Rest → Left
+left_in rest = record { at = rest.at; bytes = rest.bytes.now }

@@ -7,19 +7,19 @@ use Rattle.bl_mbi.specs.declared.fault.InfoFault.{InfoFault}
 use Rattle.bl_mbi.specs.declared.fault.InfoFault.TheVariants.{WrongLength, BadReserved, BadTag}
 use Rattle.bl_mbi.specs.declared.fault.InfoFault.TheVariants.{BadOrder}
 use Rattle.bl_mbi.specs.InformationFacts.{ModuleInfo}
-use Rattle.bl_mbi.specs.Fields.{◌>>=◌, Left, word, is_next, tag_at, or_bad}
-use Rattle.bl_mbi.specs.Bodies.{text_of, module_of, memory_of, map_of, load_base_of}
+use Rattle.bl_mbi.specs.Fields.{◌>>=◌, Left, first_u32, is_next, info_tag_at, or_bad}
+use Rattle.bl_mbi.specs.Bodies.{text_of_body, module_of, memory_of, map_of, load_base_of}
 use Rattle.bl_mbi.specs.InfoFacts.{InfoFacts}
 
 unfoldable pub text_tag_at : ℕ → Left → Result (List ℕ × Left) InfoFault
 text_tag_at kind left = do
-  tag ← tag_at kind left
-  text ← or_bad left.at (text_of tag.0)
+  tag ← info_tag_at kind left
+  text ← or_bad left.at (text_of_body tag.0)
   Ok (text, tag.1)
 
 unfoldable pub module_at : Left → Result (ModuleInfo × Left) InfoFault
 module_at left = do
-  tag ← tag_at 3 left
+  tag ← info_tag_at 3 left
   m ← or_bad left.at (module_of tag.0)
   Ok (m, tag.1)
 
@@ -38,13 +38,13 @@ modules_at left = modules_upto (length left.bytes) left
 
 unfoldable pub memory_at : Left → Result ((ℕ × ℕ) × Left) InfoFault
 memory_at left = do
-  tag ← tag_at 4 left
+  tag ← info_tag_at 4 left
   sizes ← or_bad left.at (memory_of tag.0)
   Ok (sizes, tag.1)
 
 unfoldable pub map_at : Left → Result (List Region × Left) InfoFault
 map_at left = do
-  tag ← tag_at 6 left
+  tag ← info_tag_at 6 left
   runs ← or_bad left.at (map_of tag.0)
   Ok (runs, tag.1)
 
@@ -52,20 +52,20 @@ map_at left = do
 unfoldable pub copy_at : ℕ → Left → Result (Option (List ℕ) × Left) InfoFault
 copy_at kind left =
     if not (is_next kind left) then Ok (None, left) else do
-      tag ← tag_at kind left
+      tag ← info_tag_at kind left
       Ok (Some tag.0, tag.1)
 
 unfoldable pub load_base_at : Left → Result (Option ℕ × Left) InfoFault
 load_base_at left =
     if not (is_next 21 left) then Ok (None, left) else do
-      tag ← tag_at 21 left
+      tag ← info_tag_at 21 left
       base ← or_bad left.at (load_base_of tag.0)
       Ok (Some base, tag.1)
 
 -- the tag that ends the information, with nothing after it
 unfoldable pub end_at : Left → Result (Unit {0}) InfoFault
 end_at left = do
-  tag ← tag_at 0 left
+  tag ← info_tag_at 0 left
   if not (length tag.0 == 0) then Err (BadTag left.at) else
       if length tag.1.bytes == 0 then Ok tt else Err (BadOrder tag.1.at)
 
@@ -99,6 +99,6 @@ tags_of left = do
 unfoldable pub info_of : List ℕ → Result InfoFacts InfoFault
 info_of bytes =
     if nat_lt (length bytes) 16 then Err WrongLength else
-    if not (word bytes == length bytes) then Err WrongLength else
-    if not (word (drop 4 bytes) == 0) then Err BadReserved else
+    if not (first_u32 bytes == length bytes) then Err WrongLength else
+    if not (first_u32 (drop 4 bytes) == 0) then Err BadReserved else
     tags_of record { at = 8; bytes = drop 8 bytes }

@@ -23,7 +23,7 @@ load_base_size given = if given then 16 else 0
 -- all of it, by the lengths of the line and of each module's line, the number of runs, the lengths
 -- of the copies, and whether a load base is given; the loader's name takes 24. No address and no
 -- number has a part in it.
-abbrev pub size_of : ℕ → List ℕ → ℕ → Option ℕ → Option ℕ → Bool → ℕ
-size_of line lines runs rsdp_old rsdp_new load_base =
+abbrev pub size_by_lengths : ℕ → List ℕ → ℕ → Option ℕ → Option ℕ → Bool → ℕ
+size_by_lengths line lines runs rsdp_old rsdp_new load_base =
     8 + tag_size (line + 1) + 24 + sum_by (λ length. tag_size (length + 9)) lines
     + 16 + (16 + 24 * runs) + copy_size rsdp_old + copy_size rsdp_new + load_base_size load_base + 8

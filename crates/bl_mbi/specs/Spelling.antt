@@ -15,5 +15,6 @@ tags name facts =
     ++ (load_base_tag facts.load_base ++ tag 0 [])))))))
 
 -- "Basic structure": total_size, reserved, the tags; by the loader's name and the facts
-unfoldable pub spelling : List ℕ → InformationFacts → List ℕ
-spelling name facts = u32_bytes (8 + length (tags name facts)) ++ (u32_bytes 0 ++ tags name facts)
+unfoldable pub info_spelling : List ℕ → InformationFacts → List ℕ
+info_spelling name facts = u32_bytes (8 + length (tags name facts))
+    ++ (u32_bytes 0 ++ tags name facts)

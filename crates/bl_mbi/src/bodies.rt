@@ -1,7 +1,7 @@
 //! What the bodies of tags tell.
 ghost use Rattle.std.specs.Prelude.{◌≡◌, ◌≤◌, ◌%◌, ◌/◌, ◌==◌, length, option_map, IfSome};
 ghost use Rattle.std.specs.List.{list_all, list_any};
-ghost use Rattle.bl_mbi.specs.Fields.{Gives, or_bad};
+ghost use Rattle.bl_mbi.specs.Fields.{MatchesReading, or_bad};
 ghost use Rattle.bl_mbi.specs.Fields as fields;
 ghost use Rattle.bl_mbi.specs.Bodies as spec;
 
@@ -14,14 +14,14 @@ use std::alloc::Allocator;
 
 pub(crate) fn word(bytes: &[u8]) -> u32
     requires { 4 ≤ length bytes.now }
-    ensures { result ≡ fields.word bytes.now }
+    ensures { result ≡ fields.first_u32 bytes.now }
 {
     u32_at(&SliceView::new(bytes), 0)
 }
 
 fn long(bytes: &[u8]) -> u64
     requires { 8 ≤ length bytes.now }
-    ensures { result ≡ fields.long bytes.now }
+    ensures { result ≡ fields.first_u64 bytes.now }
 {
     u64_at(&SliceView::new(bytes), 0)
 }
@@ -39,9 +39,9 @@ fn has_zero(bytes: &[u8]) -> bool
 }
 
 /// A text that has its one zero after it.
-#[tactic(auto, unfolding(crate::specs::Bodies::text_of))]
+#[tactic(auto, unfolding(crate::specs::Bodies::text_of_body))]
 pub(crate) fn text_of(body: &[u8]) -> Option<&[u8]>
-    ensures { option_map (λ text. text.now) result ≡ spec.text_of body.now }
+    ensures { option_map (λ text. text.now) result ≡ spec.text_of_body body.now }
 {
     if body.is_empty() {
         return None;
@@ -63,7 +63,7 @@ pub(crate) fn module_of<A: Allocator>(
     at: u64,
     body: &[u8],
 ) -> Result<Module<A>, InfoFault>
-    ensures { Gives (λ m. m) result (or_bad at (spec.module_of body.now)) }
+    ensures { MatchesReading (λ m. m) result (or_bad at (spec.module_of body.now)) }
 {
     if body.len() < 8 {
         return Err(InfoFault::BadTag(at));
@@ -119,7 +119,7 @@ fn run_of(bytes: &[u8]) -> Option<Region>
 /// The entries of a memory map, one after the other.
 fn runs_of<A: Allocator>(alloc: A, at: u64, bytes: &[u8]) -> Result<Vec<Region, A>, InfoFault>
     requires { length bytes.now % 24 ≡ 0 }
-    ensures { Gives (λ runs. runs.items) result
+    ensures { MatchesReading (λ runs. runs.items) result
         (or_bad at (spec.runs_of (length bytes.now / 24) bytes.now)) }
 {
     let mut runs = Vec::new(alloc);
@@ -140,7 +140,7 @@ pub(crate) fn map_of<A: Allocator>(
     at: u64,
     body: &[u8],
 ) -> Result<Vec<Region, A>, InfoFault>
-    ensures { Gives (λ runs. runs.items) result (or_bad at (spec.map_of body.now)) }
+    ensures { MatchesReading (λ runs. runs.items) result (or_bad at (spec.map_of body.now)) }
 {
     if body.len() < 8 {
         return Err(InfoFault::BadTag(at));

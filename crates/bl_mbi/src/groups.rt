@@ -1,6 +1,6 @@
 //! The groups of tags, each read where it stands.
-ghost use Rattle.bl_mbi.specs.Fields.{Gives};
-ghost use Rattle.bl_mbi.specs.Kept.{left_of};
+ghost use Rattle.bl_mbi.specs.Fields.{MatchesReading};
+ghost use Rattle.bl_mbi.specs.Kept.{left_in};
 ghost use Rattle.bl_mbi.specs.ReadGroups as spec;
 
 use crate::fault::InfoFault;
@@ -18,8 +18,8 @@ pub(crate) fn texts_at<'a, A: Allocator + Copy>(
     alloc: A,
     rest: Rest<'a>,
 ) -> Result<((Bytes<A>, Bytes<A>, Vec<Module<A>, A>), Rest<'a>), InfoFault>
-    ensures { Gives (λ x. ((x.0.0, x.0.1, x.0.2.items), left_of x.1)) result
-        (spec.texts_at (left_of rest.entry)) }
+    ensures { MatchesReading (λ x. ((x.0.0, x.0.1, x.0.2.items), left_in x.1)) result
+        (spec.texts_at (left_in rest.entry)) }
 {
     let (line, rest) = text_tag_at(alloc, TAG_COMMAND_LINE, rest)?;
     let (name, rest) = text_tag_at(alloc, TAG_BOOT_LOADER_NAME, rest)?;
@@ -33,8 +33,8 @@ pub(crate) fn map_tags_at<'a, A: Allocator>(
     alloc: A,
     rest: Rest<'a>,
 ) -> Result<(((u32, u32), Vec<Region, A>), Rest<'a>), InfoFault>
-    ensures { Gives (λ x. ((x.0.0, x.0.1.items), left_of x.1)) result
-        (spec.map_tags_at (left_of rest.entry)) }
+    ensures { MatchesReading (λ x. ((x.0.0, x.0.1.items), left_in x.1)) result
+        (spec.map_tags_at (left_in rest.entry)) }
 {
     let (sizes, rest) = memory_at(rest)?;
     let (runs, rest) = map_at(alloc, rest)?;
@@ -47,7 +47,7 @@ pub(crate) fn last_at<A: Allocator + Copy>(
     alloc: A,
     rest: Rest,
 ) -> Result<(Option<Bytes<A>>, Option<Bytes<A>>, Option<u32>), InfoFault>
-    ensures { Gives (λ x. (x.0, x.1, x.2)) result (spec.last_at (left_of rest.entry)) }
+    ensures { MatchesReading (λ x. (x.0, x.1, x.2)) result (spec.last_at (left_in rest.entry)) }
 {
     let (rsdp_old, rest) = copy_at(alloc, TAG_ACPI_OLD, rest)?;
     let (rsdp_new, rest) = copy_at(alloc, TAG_ACPI_NEW, rest)?;

@@ -2,14 +2,14 @@
 ghost use Rattle.std.specs.Prelude.{◌≡◌, ◌^◌, ◌<◌, ℕ, List, Ok, length};
 ghost use Rattle.bl_mbi.specs.InformationFacts.{InformationFacts, IsText, FitsFields, AreBytes};
 ghost use Rattle.bl_mbi.specs.InfoFacts.{InfoFacts, IsSpelling};
-ghost use Rattle.bl_mbi.specs.Spelling.{spelling};
+ghost use Rattle.bl_mbi.specs.Spelling.{info_spelling};
 ghost use Rattle.bl_mbi.specs.Reading.{info_of};
 
 /// A spelling is read again.
 pub fn spelled_is_read()
     ensures { (name : List ℕ) (facts : InformationFacts) → IsText name → FitsFields facts
-        → length (spelling name facts) < 2 ^ 32
-        → info_of (spelling name facts) ≡ Ok record { name = name; facts = facts } }
+        → length (info_spelling name facts) < 2 ^ 32
+        → info_of (info_spelling name facts) ≡ Ok record { name = name; facts = facts } }
 {}
 
 /// Bytes that are read are a spelling of what they are read as.

@@ -17,6 +17,7 @@ mod module;
 mod read;
 mod reader;
 mod rest;
+mod size;
 mod tags;
 mod write;
 
@@ -26,4 +27,5 @@ pub use info::Info;
 pub use laws::{read_is_spelled, spelled_is_read};
 pub use module::Module;
 pub use reader::read_info;
+pub use size::{module_size, size_by_lengths};
 pub use write::{info_size, write_info};

@@ -1,9 +1,10 @@
 //! Boot information, read.
-ghost use Rattle.std.specs.Prelude.{◌≡◌, ◌^◌, ◌<◌, length, IfOk, MatchResult};
+ghost use Rattle.std.specs.Prelude.{◌≡◌, ◌^◌, ◌<◌, length, Err, IfOk, IfErr};
+ghost use Rattle.std.specs.Prelude.{MatchResult};
 ghost use Rattle.bl_mbi.specs.InfoFacts.{InfoFacts, IsSpelling};
 ghost use Rattle.bl_mbi.specs.declared.fault.InfoFault.TheVariants.{NoMemory};
-ghost use Rattle.bl_mbi.specs.Fields.{Gives};
-ghost use Rattle.bl_mbi.specs.Kept.{left_of};
+ghost use Rattle.bl_mbi.specs.Fields.{MatchesReading};
+ghost use Rattle.bl_mbi.specs.Kept.{left_in};
 ghost use Rattle.bl_mbi.specs.Reading as spec;
 
 use crate::bodies::word;
@@ -15,7 +16,7 @@ use std::alloc::Allocator;
 
 /// What the tags tell.
 fn tags_of<A: Allocator + Copy>(alloc: A, rest: Rest) -> Result<Info<A>, InfoFault>
-    ensures { Gives (λ info. info) result (spec.tags_of (left_of rest.entry)) }
+    ensures { MatchesReading (λ info. info) result (spec.tags_of (left_in rest.entry)) }
 {
     let ((line, name, modules), rest) = texts_at(alloc, rest)?;
     let (((mem_lower, mem_upper), runs), rest) = map_tags_at(alloc, rest)?;
@@ -33,10 +34,11 @@ fn tags_of<A: Allocator + Copy>(alloc: A, rest: Rest) -> Result<Info<A>, InfoFau
     })
 }
 
-/// What the bytes tell.
+/// The tags, where the bytes are exactly `total_size` and the reserved word is 0.
 #[tactic(auto, unfolding(crate::specs::Reading::info_of))]
-fn info_of<A: Allocator + Copy>(alloc: A, bytes: &[u8]) -> Result<Info<A>, InfoFault>
-    ensures { Gives (λ info. info) result (spec.info_of bytes.now) }
+fn tags_in(bytes: &[u8]) -> Result<Rest, InfoFault>
+    ensures tags { IfOk result (λ rest. spec.info_of bytes.now ≡ spec.tags_of (left_in rest)) }
+    ensures first_fault { IfErr result (λ fault. spec.info_of bytes.now ≡ Err fault) }
 {
     if bytes.len() < 16 {
         return Err(InfoFault::WrongLength);
@@ -47,11 +49,10 @@ fn info_of<A: Allocator + Copy>(alloc: A, bytes: &[u8]) -> Result<Info<A>, InfoF
     if word(&bytes[4..]) != 0 {
         return Err(InfoFault::BadReserved);
     }
-    let rest = Rest {
+    Ok(Rest {
         at: 8,
         bytes: &bytes[8..],
-    };
-    tags_of(alloc, rest)
+    })
 }
 
 /// What the bytes tell, which are exactly `total_size`, or the first fault. Each spelling is
@@ -62,7 +63,8 @@ pub fn read_info<A: Allocator + Copy>(alloc: A, bytes: &[u8]) -> Result<Info<A>,
     // Only memory can be wanting where the bytes are a spelling.
     ensures accepts { (info : InfoFacts) → IsSpelling bytes.now info → length bytes.now < 2 ^ 32
         → MatchResult result (λ read. read ≡ info) (λ fault. fault ≡ NoMemory) }
-    ensures first_fault { Gives (λ info. info) result (spec.info_of bytes.now) }
+    ensures first_fault { MatchesReading (λ info. info) result (spec.info_of bytes.now) }
 {
-    info_of(alloc, bytes)
+    let rest = tags_in(bytes)?;
+    tags_of(alloc, rest)
 }

@@ -4,7 +4,7 @@ ghost use Rattle.std.specs.Prelude.{option_map, vec_len, vec_capacity, IsOk, OnO
 ghost use Rattle.std.specs.List.{flat_map};
 ghost use Rattle.bl_mbi.specs.Size.{tag_size, copy_size};
 ghost use Rattle.bl_mbi.specs.InformationFacts.{info_size as size_of_info};
-ghost use Rattle.bl_mbi.specs.Spelling.{spelling};
+ghost use Rattle.bl_mbi.specs.Spelling.{info_spelling};
 ghost use Rattle.bl_mbi.specs.Tags.{tag, text_body, module_tag, memory_body, map_body, copy_tag};
 ghost use Rattle.bl_mbi.specs.Tags.{load_base_tag};
 ghost use Rattle.bl_mbi.specs.Groups.{texts_size, map_size, last_size};
@@ -14,17 +14,10 @@ use crate::format::{
     ENTRY_SIZE, TAG_ACPI_NEW, TAG_ACPI_OLD, TAG_BOOT_LOADER_NAME, TAG_COMMAND_LINE,
 };
 use crate::module::Module;
+use crate::size::tag_len;
 use crate::tags::{put_copy, put_end, put_load_base, put_map, put_memory, put_modules, put_text};
 use bl_mem::{Bytes, put_u32};
 use std::alloc::{AllocError, Allocator};
-
-/// How many bytes a tag takes whose body has so many.
-fn tag_len(body: u64) -> u64
-    requires { tag_size body < 2 ^ 32 }
-    ensures { result ≡ tag_size body }
-{
-    8 + (body + 7) / 8 * 8
-}
 
 /// How many bytes the tags of modules take.
 fn modules_len<A: Allocator>(modules: &[Module<A>]) -> u64
@@ -71,7 +64,7 @@ fn last_len<A: Allocator>(facts: &Facts<A>) -> u64
 
 /// How many bytes the information takes: its `total_size`, with the loader's name `bootcore`.
 pub fn info_size<A: Allocator>(facts: &Facts<A>) -> u64
-    ensures size { result ≡ length (spelling (codes "bootcore") facts.now) }
+    ensures size { result ≡ length (info_spelling (codes "bootcore") facts.now) }
     ensures by_lengths { result ≡ size_of_info facts.now }
     ensures small { result < 2 ^ 32 }
 {
@@ -123,7 +116,7 @@ pub fn write_info<A: Allocator, B: Allocator>(
     out: &mut Vec<u8, B>,
 ) -> Result<(), AllocError>
     ensures ok { OnOk result
-        (out.new.items ≡ out.old.items ++ spelling (codes "bootcore") facts.now) }
+        (out.new.items ≡ out.old.items ++ info_spelling (codes "bootcore") facts.now) }
     ensures err { OnErr result (out.new.items ≡ out.old.items) }
     ensures succeeds { vec_len out.old + size_of_info facts.now ≤ vec_capacity out.old
         → IsOk result }

@@ -2,6 +2,8 @@ pub mod Memory
 pub mod Words
 pub mod Least
 pub mod Contents
-pub mod Chunk
+pub mod Frame
+pub mod Frames
+pub mod Kept
 pub mod Sparse
 pub mod Files

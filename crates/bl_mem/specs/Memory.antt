@@ -1,5 +1,5 @@
 -- Memory after a write, and the addresses that a write may touch. Own.
-use Rattle.std.specs.Prelude.{ℕ, ◌+◌, ◌<◌, ◌≤◌, List, ◌++◌, length, take, drop, All}
+use Rattle.std.specs.Prelude.{◌≡◌, ℕ, ◌+◌, ◌<◌, ◌≤◌, List, ◌++◌, length, take, drop, All}
 use Rattle.std.specs.declared.ops.Range.{Range}
 
 -- the bytes with those from `at` on replaced by `part`, as many as it has
@@ -21,3 +21,10 @@ AllHaveRoom room ranges = All (λ range. HasRoom room range.start range.end) ran
 -- no address loses its room
 abbrev pub KeepsRoom : (ℕ → Type 0) → (ℕ → Type 0) → Type 0
 KeepsRoom old new = (a : ℕ) → old a → new a
+
+-- what each call leaves of a memory: whose it is, its size, and at least the room that it had
+pub record KeepsMemory {M : Type 0} (lender_in : M → ℕ) (bytes_in : M → List ℕ)
+    (room_in : M → ℕ → Type 0) (old : M) (new : M) : Type 0 where
+  pub lender : lender_in new ≡ lender_in old
+  pub size : length (bytes_in new) ≡ length (bytes_in old)
+  pub room : KeepsRoom (room_in old) (room_in new)

@@ -38,6 +38,8 @@ impl<A: Allocator> PhysMem for Flat<A> {
 
     ghost room = { λ _ _. Unit {0} };
 
+    ghost lender = { λ _. 0 };
+
     fn size(&self) -> u64 {
         self.held.len() as u64
     }

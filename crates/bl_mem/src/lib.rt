@@ -2,10 +2,12 @@
 #![tactic(auto)]
 
 mod bytes;
-mod chunk;
 mod file_set;
 mod flat;
+mod frame;
+mod frames;
 mod memory;
+mod opening;
 mod put;
 mod segment;
 mod sparse;

@@ -2,6 +2,7 @@
 ghost use Rattle.std.specs.Prelude.{◌≡◌, ◌≤◌, ◌<◌, ◌+◌, ◌*◌, ◌^◌, ◌++◌, length, All, vec_len};
 ghost use Rattle.std.specs.Prelude.{vec_capacity};
 ghost use Rattle.std.specs.List.{flat_map};
+ghost use Rattle.bl_mem.specs.Memory.{overwrite};
 ghost use Rattle.bl_mem.specs.Words.{u32_bytes, u64_bytes};
 
 use byteorder::{ByteOrder, LittleEndian};
@@ -15,6 +16,16 @@ pub fn put_bytes<A: Allocator>(out: &mut Vec<u8, A>, bytes: &[u8])
     ensures capacity { vec_capacity out.old ≤ vec_capacity out.new }
 {
     out.extend_from_slice(bytes).unwrap();
+}
+
+/// Puts bytes over those of a vector from `start` on.
+pub(crate) fn put_at<A: Allocator>(out: &mut Vec<u8, A>, start: usize, bytes: &[u8])
+    requires { start + length bytes.now ≤ vec_len out.old }
+    ensures items { out.new.items ≡ overwrite out.old.items start bytes.now }
+    ensures len { vec_len out.new ≡ vec_len out.old }
+    ensures capacity { vec_capacity out.new ≡ vec_capacity out.old }
+{
+    out[start..start + bytes.len()].copy_from_slice(bytes);
 }
 
 /// Appends the 4 bytes of a number to a vector that has room for them, and takes no memory.

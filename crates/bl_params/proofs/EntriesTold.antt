@@ -12,7 +12,7 @@ use Rattle.bl_mem.specs.Words.{number_at, u32_at, u64_at}
 use Rattle.bl_map.specs.declared.region.Region.{Region}
 use Rattle.bl_map.specs.declared.kind.Kind.{Kind}
 use Rattle.bl_map.specs.declared.kind.Kind.TheVariants.{Usable, Reserved, Acpi, Nvs, Bad}
-use Rattle.bl_map.specs.Kinds.{kind_number, end_of}
+use Rattle.bl_map.specs.Kinds.{kind_number, region_end}
 use Rattle.bl_params.specs.BootParams.{entry_bytes}
 use Rattle.bl_params.specs.Fields.{number_bytes}
 use Rattle.bl_params.specs.Form.{breaks_entry}
@@ -62,9 +62,9 @@ number_told n at x bytes fits told =
 
 abbrev AllLow : List Region → Type 0
 AllLow [] = Unit {0}
-AllLow (run ∷ runs) = (end_of run ≤ 2 ^ 52) × AllLow runs
+AllLow (run ∷ runs) = (region_end run ≤ 2 ^ 52) × AllLow runs
 
-pub all_low : (runs : List Region) → All (λ run. end_of run ≤ 2 ^ 52) runs → AllLow runs
+pub all_low : (runs : List Region) → All (λ run. region_end run ≤ 2 ^ 52) runs → AllLow runs
 all_low [] all = tt
 all_low (run ∷ runs) all =
     (all 0 run (omega arith), all_low runs (λ k d within. all (suc k) d (omega arith)))
@@ -106,7 +106,7 @@ stand_number n at x bytes fits stand =
     let len = length-number_bytes n x in
     number_told n at x bytes fits (λ k from below. stand k from (omega arith))
 
-entry_told : (bytes : List ℕ) (at : ℕ) (run : Region) → end_of run ≤ 2 ^ 52
+entry_told : (bytes : List ℕ) (at : ℕ) (run : Region) → region_end run ≤ 2 ^ 52
     → Stand bytes at (entry_bytes run) → IsEntry bytes at run
 entry_told bytes at run low stand =
     let base_len = length-number_bytes 8 run.base in
@@ -146,7 +146,7 @@ entries_told bytes at (run ∷ runs) low stand =
 -- one of them
 nth : (bytes : List ℕ) (at : ℕ) (runs : List Region) (j : ℕ) → j < length runs → AllLow runs
     → AreEntries bytes at runs
-    → (run : Region) × (IsEntry bytes (at + 20 * j) run × (end_of run ≤ 2 ^ 52))
+    → (run : Region) × (IsEntry bytes (at + 20 * j) run × (region_end run ≤ 2 ^ 52))
 nth bytes at [] j within low are = absurd (omega arith)
 nth bytes at (run ∷ runs) zero within low are =
     let here : at ≡ at + 20 * zero = omega arith in

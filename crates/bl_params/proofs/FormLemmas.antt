@@ -7,7 +7,7 @@ use Rattle.std.proofs.lemmas.Bool.Decides.{nat_tests}
 use Rattle.bl_mem.specs.Words.{u32_at, u64_at}
 use Rattle.bl_bzimage.specs.Setup.{header_end}
 use Rattle.bl_params.specs.Form.{breaks, breaks_header, breaks_entry, is_filled, entries_in}
-use Rattle.bl_params.specs.Form.{entry_at}
+use Rattle.bl_params.specs.Form.{e820_entry_at}
 use Rattle.bl_params.specs.Kept.{IsSoundUpto, IsQuiet}
 
 pub lt_yes : (k n : ℕ) → k < n → nat_lt k n ≡ true
@@ -59,7 +59,7 @@ behind_is bytes k from below =
       lt_yes k 0x2D0 below,
     ) refl
 
-pub entries_are : (bytes : List ℕ) (k : ℕ) → 0x2D0 ≤ k → k < entry_at (entries_in bytes)
+pub entries_are : (bytes : List ℕ) (k : ℕ) → 0x2D0 ≤ k → k < e820_entry_at (entries_in bytes)
     → breaks bytes k ≡ breaks_entry bytes ((k - 0x2D0) % 20) k
 unfolding breaks
 entries_are bytes k from below =
@@ -69,10 +69,10 @@ entries_are bytes k from below =
       lt_no k 0x1F1 (omega arith),
       lt_no k (header_end bytes) (omega arith),
       lt_no k 0x2D0 from,
-      lt_yes k (entry_at (entries_in bytes)) below,
+      lt_yes k (e820_entry_at (entries_in bytes)) below,
     ) refl
 
-pub end_is : (bytes : List ℕ) (k : ℕ) → 0x2D0 ≤ k → entry_at (entries_in bytes) ≤ k
+pub end_is : (bytes : List ℕ) (k : ℕ) → 0x2D0 ≤ k → e820_entry_at (entries_in bytes) ≤ k
     → breaks bytes k ≡ is_filled bytes k
 unfolding breaks
 end_is bytes k from above =
@@ -82,25 +82,28 @@ end_is bytes k from above =
       lt_no k 0x1F1 (omega arith),
       lt_no k (header_end bytes) (omega arith),
       lt_no k 0x2D0 from,
-      lt_no k (entry_at (entries_in bytes)) above,
+      lt_no k (e820_entry_at (entries_in bytes)) above,
     ) refl
 
 -- ---- the fields of an entry
 
-pub entry_is : (bytes : List ℕ) (i n m : ℕ) → i < entries_in bytes → n ≡ u64_at bytes (entry_at i)
-    → m ≡ u64_at bytes (entry_at i + 8)
-    → nat_lt (2 ^ 52) (n + m) ≡ breaks bytes (entry_at i)
+pub entry_is : (bytes : List ℕ) (i n m : ℕ) → i < entries_in bytes → n
+    ≡ u64_at bytes (e820_entry_at i)
+    → m ≡ u64_at bytes (e820_entry_at i + 8)
+    → nat_lt (2 ^ 52) (n + m) ≡ breaks bytes (e820_entry_at i)
 entry_is bytes i n m counted e f =
-    let place : (entry_at i - 0x2D0) % 20 ≡ 0 = omega arith in
+    let place : (e820_entry_at i - 0x2D0) % 20 ≡ 0 = omega arith in
     rw (e, f)
     (sym
-    (entries_are bytes (entry_at i) (omega arith) (omega arith) ∙ rw place (simp or_false)))
+    (entries_are bytes (e820_entry_at i) (omega arith) (omega arith) ∙ rw place (simp or_false)))
 
-pub kind_is : (bytes : List ℕ) (i n : ℕ) → i < entries_in bytes → n ≡ u32_at bytes (entry_at i + 16)
-    → not (nat_le 1 n && nat_le n 5) ≡ breaks bytes (entry_at i + 16)
+pub kind_is : (bytes : List ℕ) (i n : ℕ) → i < entries_in bytes → n
+    ≡ u32_at bytes (e820_entry_at i + 16)
+    → not (nat_le 1 n && nat_le n 5) ≡ breaks bytes (e820_entry_at i + 16)
 kind_is bytes i n counted e =
-    let place : (entry_at i + 16 - 0x2D0) % 20 ≡ 16 = omega arith in
-    rw e (sym (entries_are bytes (entry_at i + 16) (omega arith) (omega arith) ∙ rw place refl))
+    let place : (e820_entry_at i + 16 - 0x2D0) % 20 ≡ 16 = omega arith in
+    rw e (sym (entries_are bytes (e820_entry_at i + 16) (omega arith) (omega arith)
+    ∙ rw place refl))
 
 pub quiet_place : (bytes : List ℕ) (place k : ℕ) → place ≢ 0 → place ≢ 16
     → breaks_entry bytes place k ≡ false
@@ -108,13 +111,13 @@ quiet_place bytes place k not_first not_kind =
     rw (eq_no place 0 not_first, eq_no place 16 not_kind) refl
 
 pub quiet_first : (bytes : List ℕ) (i : ℕ) → i < entries_in bytes
-    → IsQuiet bytes (entry_at i + 1) (entry_at i + 16)
+    → IsQuiet bytes (e820_entry_at i + 1) (e820_entry_at i + 16)
 quiet_first bytes i counted = λ k from below.
     entries_are bytes k (omega arith) (omega arith)
     ∙ quiet_place bytes ((k - 0x2D0) % 20) k (omega arith) (omega arith)
 
 pub quiet_last : (bytes : List ℕ) (i : ℕ) → i < entries_in bytes
-    → IsQuiet bytes (entry_at i + 16 + 1) (entry_at i + 20)
+    → IsQuiet bytes (e820_entry_at i + 16 + 1) (e820_entry_at i + 20)
 quiet_last bytes i counted = λ k from below.
     entries_are bytes k (omega arith) (omega arith)
     ∙ quiet_place bytes ((k - 0x2D0) % 20) k (omega arith) (omega arith)

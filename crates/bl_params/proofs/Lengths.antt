@@ -4,14 +4,14 @@ use Rattle.std.proofs.lemmas.List.{length-append, length-replicate}
 use Rattle.std.proofs.lemmas.List.FromFn.{length-map-range_with_len}
 use Rattle.bl_params.specs.BootParams.{boot_params, fields_of}
 use Rattle.bl_params.specs.BootParamsFacts.{BootParamsFacts}
-use Rattle.bl_params.specs.Fields.{byte_of}
+use Rattle.bl_params.specs.Fields.{byte_of_fields}
 use Rattle.bl_params.specs.Gdt.{gdt, gdt_part, zeros}
 
 pub length-boot_params : (header : List ℕ) (facts : BootParamsFacts)
     → length (boot_params header facts) ≡ 4096
 unfolding boot_params
 length-boot_params header facts =
-    length-map-range_with_len (byte_of (fields_of header facts)) 0 4096
+    length-map-range_with_len (byte_of_fields (fields_of header facts)) 0 4096
 
 pub length-zeros : (n : ℕ) → length (zeros n) ≡ n
 unfolding zeros

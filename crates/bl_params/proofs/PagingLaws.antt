@@ -5,7 +5,8 @@ use Rattle.std.proofs.lemmas.Bool.{cases_lt}
 use Rattle.std.proofs.lemmas.Bool.Decides.{nat_tests}
 use Rattle.bl_params.specs.Fields.{number_bytes}
 use Rattle.bl_params.specs.Paging.{upper_word, page_word, paging_word, paging}
-use Rattle.bl_params.specs.Translation.{index_at, entry_at, frame_of, in_page, next_frame, walked}
+use Rattle.bl_params.specs.Translation.{index_at, table_entry_at, frame_in_word, in_page, next_frame}
+use Rattle.bl_params.specs.Translation.{walked}
 use Rattle.bl_params.specs.Translation.{translation}
 use Rattle.bl_params.proofs.EntriesTold.{number_told}
 use Rattle.bl_params.proofs.PagingLemmas.{length-paging, tables_byte, frame_byte}
@@ -37,7 +38,7 @@ last_word base frame index e = grind (arith, nat_tests)
 
 -- a word of the tables is read as it was made
 word_read : (base i j w : ℕ) → i < 6 → j < 512 → paging_word base i j ≡ w → w < 2 ^ 64
-    → w ≡ entry_at (paging base) i j
+    → w ≡ table_entry_at (paging base) i j
 word_read base i j w frame index is fits =
     sym
     (number_told 8 (0x1000 * i + 8 * j) w (paging base) (omega arith) (λ k from below.
@@ -49,35 +50,35 @@ word_read base i j w frame index is fits =
 
 -- ---- what the words lead to
 
-found_1 : (base word : ℕ) → word ≡ upper_word base 1 → Some 1 ≡ frame_of base word
-unfolding frame_of
+found_1 : (base word : ℕ) → word ≡ upper_word base 1 → Some 1 ≡ frame_in_word base word
+unfolding frame_in_word
 found_1 base word e = grind (arith, nat_tests)
 
-found_2 : (base word : ℕ) → word ≡ upper_word base 2 → Some 2 ≡ frame_of base word
-unfolding frame_of
+found_2 : (base word : ℕ) → word ≡ upper_word base 2 → Some 2 ≡ frame_in_word base word
+unfolding frame_in_word
 found_2 base word e = grind (arith, nat_tests)
 
-found_3 : (base word : ℕ) → word ≡ upper_word base 3 → Some 3 ≡ frame_of base word
-unfolding frame_of
+found_3 : (base word : ℕ) → word ≡ upper_word base 3 → Some 3 ≡ frame_in_word base word
+unfolding frame_in_word
 found_3 base word e = grind (arith, nat_tests)
 
-found_4 : (base word : ℕ) → word ≡ upper_word base 4 → Some 4 ≡ frame_of base word
-unfolding frame_of
+found_4 : (base word : ℕ) → word ≡ upper_word base 4 → Some 4 ≡ frame_in_word base word
+unfolding frame_in_word
 found_4 base word e = grind (arith, nat_tests)
 
-found_5 : (base word : ℕ) → word ≡ upper_word base 5 → Some 5 ≡ frame_of base word
-unfolding frame_of
+found_5 : (base word : ℕ) → word ≡ upper_word base 5 → Some 5 ≡ frame_in_word base word
+unfolding frame_in_word
 found_5 base word e = grind (arith, nat_tests)
 
-found : (base k : ℕ) → k < 4 → Some (2 + k) ≡ frame_of base (upper_word base (2 + k))
+found : (base k : ℕ) → k < 4 → Some (2 + k) ≡ frame_in_word base (upper_word base (2 + k))
 found base zero within = found_2 base (upper_word base 2) refl
 found base (suc zero) within = found_3 base (upper_word base 3) refl
 found base (suc (suc zero)) within = found_4 base (upper_word base 4) refl
 found base (suc (suc (suc zero))) within = found_5 base (upper_word base 5) refl
 found base (suc (suc (suc (suc k)))) within = absurd (omega arith)
 
-none_found : (base : ℕ) → None ≡ frame_of base 0
-unfolding frame_of
+none_found : (base : ℕ) → None ≡ frame_in_word base 0
+unfolding frame_in_word
 none_found base = grind (arith, nat_tests)
 
 page_found : (a n : ℕ) → Some (n * 0x200000 + a % 0x200000) ≡ in_page a (page_word n)
@@ -123,7 +124,7 @@ module _ (base a : ℕ) (low : base + 0x6000 ≤ 2 ^ 32) where
 
   to_page : a < 2 ^ 32
       → page_word (512 * index_at 30 a + index_at 21 a)
-      ≡ entry_at (paging base) (2 + index_at 30 a) (index_at 21 a)
+      ≡ table_entry_at (paging base) (2 + index_at 30 a) (index_at 21 a)
   to_page small =
       let index : index_at 30 a < 4 = omega arith in
       let within : index_at 21 a < 512 = omega arith in

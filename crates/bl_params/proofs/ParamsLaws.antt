@@ -6,7 +6,7 @@ use Rattle.bl_map.proofs.MapLaws.{same_kind}
 use Rattle.bl_params.specs.declared.fault.ParamFault.{ParamFault}
 use Rattle.bl_params.specs.declared.fault.ParamFault.TheVariants.{WrongLength, BadParams, NoMemory}
 use Rattle.bl_params.specs.ParamsFacts.{ParamsFacts}
-use Rattle.bl_params.specs.Reading.{IsEntry, AreEntries, IsParams, HasFirstFault}
+use Rattle.bl_params.specs.Reading.{IsEntry, AreEntries, IsParams, HasFirstParamFault}
 
 region_of : ℕ → ℕ → Kind → Region
 region_of base size kind = record { base = base; length = size; kind = kind }
@@ -65,7 +65,7 @@ one_reading bytes p q a b =
     }
 
 pub one_fault : (bytes : List ℕ) (f g : ParamFault) → ¬ (f ≡ NoMemory) → ¬ (g ≡ NoMemory)
-    → HasFirstFault bytes f → HasFirstFault bytes g → f ≡ g
+    → HasFirstParamFault bytes f → HasFirstParamFault bytes g → f ≡ g
 one_fault bytes WrongLength WrongLength nf ng a b = refl
 one_fault bytes WrongLength (BadParams j) nf ng a b = absurd (a b.0)
 one_fault bytes (BadParams i) WrongLength nf ng a b = absurd (b a.0)
@@ -79,7 +79,7 @@ one_fault bytes WrongLength NoMemory nf ng a b = absurd (ng refl)
 one_fault bytes (BadParams i) NoMemory nf ng a b = absurd (ng refl)
 
 pub not_both : (bytes : List ℕ) (params : ParamsFacts) (fault : ParamFault) → ¬ (fault ≡ NoMemory)
-    → IsParams bytes params → HasFirstFault bytes fault → ⊥
+    → IsParams bytes params → HasFirstParamFault bytes fault → ⊥
 not_both bytes params WrongLength other is has = has is.size
 not_both bytes params (BadParams k) other is has =
     let sound = is.sound k has.1.holds.0 in

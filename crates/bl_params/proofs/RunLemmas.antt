@@ -4,28 +4,28 @@ use Rattle.std.proofs.Common.{subst, ◌∙◌, All}
 use Rattle.std.proofs.lemmas.Bool.{ltb-false}
 use Rattle.std.proofs.lemmas.List.Elements.{All-nil, All-cons}
 use Rattle.bl_map.specs.declared.region.Region.{Region}
-use Rattle.bl_map.specs.Kinds.{end_of}
-use Rattle.bl_params.specs.Form.{breaks, entries_in, entry_at}
+use Rattle.bl_map.specs.Kinds.{region_end}
+use Rattle.bl_params.specs.Form.{breaks, entries_in, e820_entry_at}
 use Rattle.bl_params.specs.ParamsFacts.{ParamsFacts}
 use Rattle.bl_params.specs.Reading.{IsEntry, AreEntries, IsParams}
 use Rattle.bl_params.proofs.FormLemmas.{entry_is}
 
 module _ (bytes : List ℕ) (sound : (k : ℕ) → k < 4096 → breaks bytes k ≡ false) where
-  run_ends_low : (i : ℕ) (run : Region) → i < entries_in bytes → entry_at i < 4096
-      → IsEntry bytes (entry_at i) run → end_of run ≤ 2 ^ 52
+  run_ends_low : (i : ℕ) (run : Region) → i < entries_in bytes → e820_entry_at i < 4096
+      → IsEntry bytes (e820_entry_at i) run → region_end run ≤ 2 ^ 52
   run_ends_low i run counted within is =
       let test =
       entry_is bytes i run.base run.length counted is.base is.size
-      ∙ sound (entry_at i) within in
+      ∙ sound (e820_entry_at i) within in
       ltb-false (2 ^ 52) (run.base + run.length) test
 
   entries_end_low : (i : ℕ) (runs : List Region) → i + length runs ≤ entries_in bytes
-      → entry_at (i + length runs) ≤ 4096
-      → AreEntries bytes (entry_at i) runs → All (λ run. end_of run ≤ 2 ^ 52) runs
-  entries_end_low i [] counted within are = All-nil (λ (run : Region). end_of run ≤ 2 ^ 52)
+      → e820_entry_at (i + length runs) ≤ 4096
+      → AreEntries bytes (e820_entry_at i) runs → All (λ run. region_end run ≤ 2 ^ 52) runs
+  entries_end_low i [] counted within are = All-nil (λ (run : Region). region_end run ≤ 2 ^ 52)
   entries_end_low i (run ∷ runs) counted within are =
-      let next : entry_at i + 20 ≡ entry_at (suc i) = omega arith in
-      All-cons (λ (r : Region). end_of r ≤ 2 ^ 52) run runs
+      let next : e820_entry_at i + 20 ≡ e820_entry_at (suc i) = omega arith in
+      All-cons (λ (r : Region). region_end r ≤ 2 ^ 52) run runs
       (run_ends_low i run (omega arith) (omega arith) are.0)
       (entries_end_low (suc i) runs (omega arith) (omega arith)
       (subst (λ (at : ℕ). AreEntries bytes at runs) next are.1))
@@ -36,7 +36,7 @@ unfolding breaks
 few_entries bytes test = ltb-false 128 (entries_in bytes) test
 
 pub runs_end_low : (bytes : List ℕ) (params : ParamsFacts) → IsParams bytes params
-    → All (λ run. end_of run ≤ 2 ^ 52) params.runs
+    → All (λ run. region_end run ≤ 2 ^ 52) params.runs
 runs_end_low bytes params is =
     let few = few_entries bytes (is.sound 0x1E8 (omega arith)) in
     let count = is.count in

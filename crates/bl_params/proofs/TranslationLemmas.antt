@@ -1,12 +1,14 @@
 -- How a walk by page tables ends.
 use Rattle.std.proofs.Common.{◌≡◌, ◌∙◌, ℕ, List, Option, None, Some, refl, sym, ap}
-use Rattle.bl_params.specs.Translation.{index_at, entry_at, frame_of, in_page, next_frame, walked}
+use Rattle.bl_params.specs.Translation.{index_at, table_entry_at, frame_in_word, in_page, next_frame}
+use Rattle.bl_params.specs.Translation.{walked}
 
 module _ (tables : List ℕ) (base a : ℕ) where
   -- the frame that a word leads to is the next one
-  pub next_is : (bit frame word : ℕ) (r : Option ℕ) → word ≡ entry_at tables frame (index_at bit a)
-      → r ≡ frame_of base word → next_frame tables base a bit frame ≡ r
-  next_is bit frame word r e f = ap (frame_of base) (sym e) ∙ sym f
+  pub next_is : (bit frame word : ℕ) (r : Option ℕ) → word
+      ≡ table_entry_at tables frame (index_at bit a)
+      → r ≡ frame_in_word base word → next_frame tables base a bit frame ≡ r
+  next_is bit frame word r e f = ap (frame_in_word base) (sym e) ∙ sym f
 
   pub walked_none_4 : next_frame tables base a 39 0 ≡ None → walked tables base a ≡ None
   unfolding walked
@@ -20,7 +22,7 @@ module _ (tables : List ℕ) (base a : ℕ) where
   pub walked_page : (pointers directory word : ℕ) (r : Option ℕ)
       → next_frame tables base a 39 0 ≡ Some pointers
       → next_frame tables base a 30 pointers ≡ Some directory
-      → word ≡ entry_at tables directory (index_at 21 a)
+      → word ≡ table_entry_at tables directory (index_at 21 a)
       → r ≡ in_page a word → walked tables base a ≡ r
   unfolding walked
   walked_page pointers directory word r first second e f =

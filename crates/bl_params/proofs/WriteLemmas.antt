@@ -6,7 +6,7 @@ use Rattle.std.specs.List.{flat_map}
 use Rattle.bl_map.specs.declared.region.Region.{Region}
 use Rattle.bl_params.specs.BootParams.{boot_params, fields_of, entry_bytes}
 use Rattle.bl_params.specs.BootParamsFacts.{BootParamsFacts}
-use Rattle.bl_params.specs.Fields.{over, byte_of, number_bytes}
+use Rattle.bl_params.specs.Fields.{over, byte_of_fields, number_bytes}
 use Rattle.bl_params.proofs.OverLemmas.{over_same}
 
 zero_at : (n k : ℕ) → slice_index (replicate n 0) k ≡ 0
@@ -20,11 +20,11 @@ IsPut old at field new = (k : ℕ) → slice_index new k ≡ over at field (λ j
 
 next : (old new : List ℕ) (at : ℕ) (field same : List ℕ) (fields : List (ℕ × List ℕ))
     → IsPut old at field new → field ≡ same
-    → ((k : ℕ) → slice_index old k ≡ byte_of fields k) → (k : ℕ)
-    → slice_index new k ≡ byte_of ((at, same) ∷ fields) k
+    → ((k : ℕ) → slice_index old k ≡ byte_of_fields fields k) → (k : ℕ)
+    → slice_index new k ≡ byte_of_fields ((at, same) ∷ fields) k
 next old new at field same fields put e so_far k =
-    put k ∙ over_same at field (λ j. slice_index old j) (byte_of fields) so_far k
-    ∙ ap (λ (x : List ℕ). over at x (byte_of fields) k) e
+    put k ∙ over_same at field (λ j. slice_index old j) (byte_of_fields fields) so_far k
+    ∙ ap (λ (x : List ℕ). over at x (byte_of_fields fields) k) e
 
 pub written : (header h : List ℕ) (facts : BootParamsFacts) (runs : List Region) (n count : ℕ)
     (o0 o1 o2 o3 o4 o5 o6 o7 o8 o9 o10 : List ℕ)
@@ -54,7 +54,7 @@ written header h facts runs n count o0 o1 o2 o3 o4 o5 o6 o7 o8 o9 o10 same_heade
     let l7 : List (ℕ × List ℕ) = (0x214, number_bytes 4 facts.code32_start) ∷ l6 in
     let l8 : List (ℕ × List ℕ) = (0x210, 0xFF ∷ []) ∷ l7 in
     let l9 : List (ℕ × List ℕ) = (0x1FA, number_bytes 2 0xFFFF) ∷ l8 in
-    let f0 : (k : ℕ) → slice_index o0 k ≡ byte_of [] k =
+    let f0 : (k : ℕ) → slice_index o0 k ≡ byte_of_fields [] k =
     λ k. ap (λ (xs : List ℕ). slice_index xs k) clear ∙ zero_at n k in
     let f1 = next o0 o1 0x1F1 h header [] p1 same_header f0 in
     let f2 =
@@ -78,4 +78,4 @@ written header h facts runs n count o0 o1 o2 o3 o4 o5 o6 o7 o8 o9 o10 same_heade
     let f10 =
     next o9 o10 0x1E8 (count ∷ []) (length facts.runs ∷ []) l9 p10
     (ap (λ (x : ℕ). x ∷ []) same_count) f9 in
-    fill_by_all (byte_of (fields_of header facts)) o10 4096 0 long (λ k within. f10 k)
+    fill_by_all (byte_of_fields (fields_of header facts)) o10 4096 0 long (λ k within. f10 k)

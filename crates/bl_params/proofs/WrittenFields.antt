@@ -7,7 +7,7 @@ use Rattle.bl_mem.specs.Words.{number_at, u16_at, u32_at, u64_at}
 use Rattle.bl_bzimage.specs.Setup.{header_end}
 use Rattle.bl_params.specs.BootParamsFacts.{BootParamsFacts, AreTold}
 use Rattle.bl_params.specs.BootParams.{entry_bytes}
-use Rattle.bl_params.specs.Fields.{byte_of, number_bytes}
+use Rattle.bl_params.specs.Fields.{byte_of_fields, number_bytes}
 use Rattle.bl_params.specs.Form.{entries_in}
 use Rattle.bl_params.specs.Reading.{AreEntries}
 use Rattle.bl_params.proofs.OverLemmas.{over_in, over_above}
@@ -22,12 +22,13 @@ module _ (file header : List ℕ) (end : ℕ) (facts : BootParamsFacts)
     (long : 0x1F1 + length header ≡ end) (low : 0x264 ≤ end) (high : end ≤ 0x290)
     (same : (k : ℕ) → 0x1F1 ≤ k → k < end → slice_index header (k - 0x1F1) ≡ slice_index file k)
     (told : AreTold facts.runs) where
-  above_0 : (k : ℕ) → end ≤ k → byte_of (l1 header facts) k ≡ 0
-  above_0 k from = over_above 0x1F1 header (byte_of []) k (omega (arith, long))
+  above_0 : (k : ℕ) → end ≤ k → byte_of_fields (l1 header facts) k ≡ 0
+  above_0 k from = over_above 0x1F1 header (byte_of_fields []) k (omega (arith, long))
 
-  header_byte : (k : ℕ) → 0x1F1 ≤ k → k < end → byte_of (l1 header facts) k ≡ slice_index file k
+  header_byte : (k : ℕ) → 0x1F1 ≤ k → k < end → byte_of_fields (l1 header facts) k
+      ≡ slice_index file k
   header_byte k from below =
-      over_in 0x1F1 header (byte_of []) k from (omega (arith, long)) ∙ same k from below
+      over_in 0x1F1 header (byte_of_fields []) k from (omega (arith, long)) ∙ same k from below
 
   copied_1 : (k : ℕ) → 0x1FC ≤ k → k < 0x210
       → slice_index (params header facts) k ≡ slice_index file k
@@ -81,12 +82,13 @@ module _ (file header : List ℕ) (end : ℕ) (facts : BootParamsFacts)
   vid_mode = stand_number 2 0x1FA 0xFFFF (params header facts) (omega arith) (λ k from below.
       is_at header facts k (omega (arith, vid_len header facts))
       ∙ above_9 header facts k (omega arith)
-      ∙ over_in 0x1FA (number_bytes 2 0xFFFF) (byte_of (l8 header facts)) k from below)
+      ∙ over_in 0x1FA (number_bytes 2 0xFFFF) (byte_of_fields (l8 header facts)) k from below)
 
   pub loader : slice_index (params header facts) 0x210 ≡ 0xFF
   loader =
       is_at header facts 0x210 (omega arith) ∙ above_8 header facts 0x210 (omega arith)
-      ∙ over_in 0x210 (0xFF ∷ []) (byte_of (l7 header facts)) 0x210 (omega arith) (omega arith)
+      ∙ over_in 0x210 (0xFF
+      ∷ []) (byte_of_fields (l7 header facts)) 0x210 (omega arith) (omega arith)
 
   pub code32_start : facts.code32_start < 2 ^ 32
       → u32_at (params header facts) 0x214 ≡ facts.code32_start
@@ -94,7 +96,8 @@ module _ (file header : List ℕ) (end : ℕ) (facts : BootParamsFacts)
       stand_number 4 0x214 facts.code32_start (params header facts) (omega arith) (λ k from below.
       is_at header facts k (omega (arith, load_len header facts))
       ∙ above_7 header facts k (omega arith)
-      ∙ over_in 0x214 (number_bytes 4 facts.code32_start) (byte_of (l6 header facts)) k from below)
+      ∙ over_in 0x214 (number_bytes 4 facts.code32_start) (byte_of_fields
+      (l6 header facts)) k from below)
 
   pub ramdisk_image : facts.ramdisk_image < 2 ^ 32
       → u32_at (params header facts) 0x218 ≡ facts.ramdisk_image
@@ -102,7 +105,8 @@ module _ (file header : List ℕ) (end : ℕ) (facts : BootParamsFacts)
       stand_number 4 0x218 facts.ramdisk_image (params header facts) (omega arith) (λ k from below.
       is_at header facts k (omega (arith, image_len header facts))
       ∙ above_6 header facts k (omega arith)
-      ∙ over_in 0x218 (number_bytes 4 facts.ramdisk_image) (byte_of (l5 header facts)) k from below)
+      ∙ over_in 0x218 (number_bytes 4 facts.ramdisk_image) (byte_of_fields
+      (l5 header facts)) k from below)
 
   pub ramdisk_size : facts.ramdisk_size < 2 ^ 32
       → u32_at (params header facts) 0x21C ≡ facts.ramdisk_size
@@ -110,7 +114,8 @@ module _ (file header : List ℕ) (end : ℕ) (facts : BootParamsFacts)
       stand_number 4 0x21C facts.ramdisk_size (params header facts) (omega arith) (λ k from below.
       is_at header facts k (omega (arith, size_len header facts))
       ∙ above_5 header facts k (omega arith)
-      ∙ over_in 0x21C (number_bytes 4 facts.ramdisk_size) (byte_of (l4 header facts)) k from below)
+      ∙ over_in 0x21C (number_bytes 4 facts.ramdisk_size) (byte_of_fields
+      (l4 header facts)) k from below)
 
   pub cmd_line_ptr : facts.cmd_line_ptr < 2 ^ 32
       → u32_at (params header facts) 0x228 ≡ facts.cmd_line_ptr
@@ -118,25 +123,28 @@ module _ (file header : List ℕ) (end : ℕ) (facts : BootParamsFacts)
       stand_number 4 0x228 facts.cmd_line_ptr (params header facts) (omega arith) (λ k from below.
       is_at header facts k (omega (arith, line_len header facts))
       ∙ above_4 header facts k (omega arith)
-      ∙ over_in 0x228 (number_bytes 4 facts.cmd_line_ptr) (byte_of (l3 header facts)) k from below)
+      ∙ over_in 0x228 (number_bytes 4 facts.cmd_line_ptr) (byte_of_fields
+      (l3 header facts)) k from below)
 
   pub setup_data : u64_at (params header facts) 0x250 ≡ 0
   setup_data = stand_number 8 0x250 0 (params header facts) (omega arith) (λ k from below.
       is_at header facts k (omega (arith, data_len header facts))
       ∙ above_3 header facts k (omega arith)
-      ∙ over_in 0x250 (number_bytes 8 0) (byte_of (l2 header facts)) k from below)
+      ∙ over_in 0x250 (number_bytes 8 0) (byte_of_fields (l2 header facts)) k from below)
 
   pub count : entries_in (params header facts) ≡ length facts.runs
   count =
       is_at header facts 0x1E8 (omega arith)
-      ∙ over_in 0x1E8 (length facts.runs ∷ []) (byte_of (l9 header facts)) 0x1E8 (omega arith)
+      ∙ over_in 0x1E8 (length facts.runs
+      ∷ []) (byte_of_fields (l9 header facts)) 0x1E8 (omega arith)
       (omega arith)
 
   runs_stand : Stand (params header facts) 0x2D0 (flat_map entry_bytes facts.runs)
   runs_stand = λ k from below.
       is_at header facts k (omega (arith, map_len header facts, told.few))
       ∙ above_2 header facts k (omega arith)
-      ∙ over_in 0x2D0 (flat_map entry_bytes facts.runs) (byte_of (l1 header facts)) k from below
+      ∙ over_in 0x2D0 (flat_map entry_bytes facts.runs) (byte_of_fields
+      (l1 header facts)) k from below
 
   pub runs_are : AreEntries (params header facts) 0x2D0 facts.runs
   runs_are =

@@ -5,7 +5,7 @@ use Rattle.std.specs.List.{flat_map, range_with_len}
 use Rattle.bl_map.specs.declared.region.Region.{Region}
 use Rattle.bl_map.specs.Kinds.{kind_number}
 use Rattle.bl_params.specs.BootParamsFacts.{BootParamsFacts}
-use Rattle.bl_params.specs.Fields.{number_bytes, byte_of}
+use Rattle.bl_params.specs.Fields.{number_bytes, byte_of_fields}
 
 -- an entry of "e820_table": addr, size, type
 abbrev pub entry_bytes : Region → List ℕ
@@ -30,4 +30,4 @@ fields_of header facts =
 
 -- all of them: 4096 bytes, with 0 where there is no field
 unfoldable pub boot_params : List ℕ → BootParamsFacts → List ℕ
-boot_params header facts = map (byte_of (fields_of header facts)) (range_with_len 0 4096)
+boot_params header facts = map (byte_of_fields (fields_of header facts)) (range_with_len 0 4096)

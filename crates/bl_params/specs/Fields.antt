@@ -14,6 +14,6 @@ over at field rest k =
 
 -- the byte at k of fields, each an offset and its bytes: where several reach it the first counts,
 -- where none does it is 0
-abbrev pub byte_of : List (ℕ × List ℕ) → ℕ → ℕ
-byte_of [] k = 0
-byte_of ((at, field) ∷ fields) k = over at field (byte_of fields) k
+abbrev pub byte_of_fields : List (ℕ × List ℕ) → ℕ → ℕ
+byte_of_fields [] k = 0
+byte_of_fields ((at, field) ∷ fields) k = over at field (byte_of_fields fields) k

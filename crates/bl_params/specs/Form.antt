@@ -1,17 +1,19 @@
 -- The form of boot parameters (Linux/x86 Boot Protocol, "Details of Header Fields" and "Zero Page";
 -- own: what a loader of this kind writes), and the offsets at which bytes break it.
-use Rattle.std.specs.Prelude.{ℕ, ◌+◌, ◌-◌, ◌*◌, ◌%◌, ◌^◌, Bool, ◌&&◌, ◌||◌, not, if◌then◌else◌}
+use Rattle.std.specs.Prelude.{ℕ, ◌+◌, ◌-◌, ◌*◌, ◌%◌, Bool, ◌&&◌, ◌||◌, not, if◌then◌else◌}
 use Rattle.std.specs.Prelude.{◌==◌, nat_lt, nat_le, List, slice_index}
 use Rattle.bl_mem.specs.Words.{u16_at, u32_at, u64_at}
+use Rattle.bl_map.specs.Limits.{region_limit}
 use Rattle.bl_bzimage.specs.Setup.{header_end}
+use Rattle.bl_params.specs.BootParamsFacts.{max_e820_entries}
 
 -- "e820_entries"
 abbrev pub entries_in : List ℕ → ℕ
 entries_in bytes = slice_index bytes 0x1E8
 
 -- "e820_table": each entry takes 20 bytes
-abbrev pub entry_at : ℕ → ℕ
-entry_at i = 0x2D0 + 20 * i
+abbrev pub e820_entry_at : ℕ → ℕ
+e820_entry_at i = 0x2D0 + 20 * i
 
 -- a byte of no field must be 0
 abbrev pub is_filled : List ℕ → ℕ → Bool
@@ -31,16 +33,16 @@ breaks_header bytes k =
 -- the fields of an entry of "e820_table", by their place in it: addr with size at 0, type at 16
 abbrev pub breaks_entry : List ℕ → ℕ → ℕ → Bool
 breaks_entry bytes place k =
-    (place == 0 && nat_lt (2 ^ 52) (u64_at bytes k + u64_at bytes (k + 8)))
+    (place == 0 && nat_lt region_limit (u64_at bytes k + u64_at bytes (k + 8)))
     || (place == 16 && not (nat_le 1 (u32_at bytes k) && nat_le (u32_at bytes k) 5))
 
 -- whether what stands at an offset breaks the form
 unfoldable pub breaks : List ℕ → ℕ → Bool
 breaks bytes k =
     if nat_lt k 0x1E8 then is_filled bytes k else
-    if k == 0x1E8 then nat_lt 128 (entries_in bytes) else
+    if k == 0x1E8 then nat_lt max_e820_entries (entries_in bytes) else
     if nat_lt k 0x1F1 then is_filled bytes k else
     if nat_lt k (header_end bytes) then breaks_header bytes k else
     if nat_lt k 0x2D0 then is_filled bytes k else
-    if nat_lt k (entry_at (entries_in bytes)) then breaks_entry bytes ((k - 0x2D0) % 20) k else
+    if nat_lt k (e820_entry_at (entries_in bytes)) then breaks_entry bytes ((k - 0x2D0) % 20) k else
     is_filled bytes k

@@ -43,8 +43,8 @@ pub record IsParams (bytes : List ℕ) (params : ParamsFacts) : Type 0 where
 
 -- the least offset that breaks the form, of as many bytes as boot parameters have; or memory ran
 -- out
-abbrev pub HasFirstFault : List ℕ → ParamFault → Type 0
-HasFirstFault bytes WrongLength = ¬ (length bytes ≡ 4096)
-HasFirstFault bytes (BadParams k) =
+abbrev pub HasFirstParamFault : List ℕ → ParamFault → Type 0
+HasFirstParamFault bytes WrongLength = ¬ (length bytes ≡ 4096)
+HasFirstParamFault bytes (BadParams k) =
     (length bytes ≡ 4096) × IsLeast (λ j. (j < 4096) × (breaks bytes j ≡ true)) k
-HasFirstFault bytes NoMemory = Unit {0}
+HasFirstParamFault bytes NoMemory = Unit {0}

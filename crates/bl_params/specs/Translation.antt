@@ -11,12 +11,12 @@ abbrev pub index_at : ℕ → ℕ → ℕ
 index_at bit a = a / 2 ^ bit % 512
 
 -- the word that an index names in a frame
-abbrev pub entry_at : List ℕ → ℕ → ℕ → ℕ
-entry_at tables frame index = u64_at tables (0x1000 * frame + 8 * index)
+abbrev pub table_entry_at : List ℕ → ℕ → ℕ → ℕ
+table_entry_at tables frame index = u64_at tables (0x1000 * frame + 8 * index)
 
 -- the frame that an upper word leads to
-unfoldable pub frame_of : ℕ → ℕ → Option ℕ
-frame_of base word =
+unfoldable pub frame_in_word : ℕ → ℕ → Option ℕ
+frame_in_word base word =
     if word == upper_word base 0 then Some 0 else
     if word == upper_word base 1 then Some 1 else
     if word == upper_word base 2 then Some 2 else
@@ -32,7 +32,8 @@ in_page a word =
 
 -- the frame that the word of an address leads to, in a frame of the level that has this bit
 abbrev pub next_frame : List ℕ → ℕ → ℕ → ℕ → ℕ → Option ℕ
-next_frame tables base a bit frame = frame_of base (entry_at tables frame (index_at bit a))
+next_frame tables base a bit frame =
+    frame_in_word base (table_entry_at tables frame (index_at bit a))
 
 -- the walk goes on in the frame that a word leads to
 abbrev pub goes_on : Option ℕ → (ℕ → Option ℕ) → Option ℕ
@@ -44,7 +45,7 @@ unfoldable pub walked : List ℕ → ℕ → ℕ → Option ℕ
 walked tables base a =
     goes_on (next_frame tables base a 39 0) (λ pointers.
     goes_on (next_frame tables base a 30 pointers) (λ directory.
-    in_page a (entry_at tables directory (index_at 21 a))))
+    in_page a (table_entry_at tables directory (index_at 21 a))))
 
 -- the translation of an address by tables whose bytes stand at base
 unfoldable pub translation : List ℕ → ℕ → ℕ → Option ℕ

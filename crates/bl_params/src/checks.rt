@@ -3,19 +3,20 @@ ghost use Rattle.std.specs.Prelude.{◌≡◌, ◌≤◌, ◌<◌, ◌+◌, ◌=
 ghost use Rattle.std.specs.Prelude.{slice_index, MatchResult};
 ghost use Rattle.bl_bzimage.specs.Setup.{header_end};
 ghost use Rattle.bl_params.specs.Form.{breaks, is_filled, entries_in};
-ghost use Rattle.bl_params.specs.Reading.{HasFirstFault};
+ghost use Rattle.bl_params.specs.Reading.{HasFirstParamFault};
+ghost use Rattle.bl_params.specs.BootParamsFacts.{max_e820_entries};
 ghost use Rattle.bl_params.specs.Kept.{IsSoundUpto, IsQuiet};
 
 use crate::fault::ParamFault;
 use crate::fields::{
     BOOT_FLAG, BOOT_FLAG_MAGIC, E820_ENTRIES, HEADER, HEADER_MAGIC, HEADER_START,
-    JUMP_DISPLACEMENT, LEAST_END, LEAST_VERSION, LOADER_UNDEFINED, MOST_E820_ENTRIES, MOST_END,
+    JUMP_DISPLACEMENT, LOADER_UNDEFINED, MAX_E820_ENTRIES, MAX_END, MIN_END, MIN_VERSION,
     SETUP_DATA, TYPE_OF_LOADER, VERSION, VID_MODE, VID_MODE_NORMAL,
 };
 use crate::numbers::{u16_in, u32_in, u64_in};
 
 /// Goes on from `at` to `next`, unless what stands at `at` breaks the form.
-pub fn go_on(bytes: &[u8], at: usize, next: usize, is_broken: bool) -> Result<(), ParamFault>
+pub fn check_field(bytes: &[u8], at: usize, next: usize, is_broken: bool) -> Result<(), ParamFault>
     requires whole { length bytes.now ≡ 4096 }
     requires within { at < 4096 }
     requires upto { IsSoundUpto bytes.now at }
@@ -23,7 +24,7 @@ pub fn go_on(bytes: &[u8], at: usize, next: usize, is_broken: bool) -> Result<()
     requires quiet { IsQuiet bytes.now (at + 1) next }
     ensures { MatchResult result
         (λ _. IsSoundUpto bytes.now next × (is_broken ≡ false))
-        (HasFirstFault bytes.now) }
+        (HasFirstParamFault bytes.now) }
 {
     if is_broken {
         return Err(ParamFault::BadParams(at as u64));
@@ -39,10 +40,10 @@ pub fn pass_zeros(bytes: &[u8], start: usize, end: usize) -> Result<(), ParamFau
     requires upto { IsSoundUpto bytes.now start }
     requires plain { (k : ℕ) → start ≤ k → k < end
         → breaks bytes.now k ≡ is_filled bytes.now k }
-    ensures { MatchResult result (λ _. IsSoundUpto bytes.now end) (HasFirstFault bytes.now) }
+    ensures { MatchResult result (λ _. IsSoundUpto bytes.now end) (HasFirstParamFault bytes.now) }
 {
     for at in start..end {
-        go_on(bytes, at, at + 1, bytes[at] != 0)?;
+        check_field(bytes, at, at + 1, bytes[at] != 0)?;
     }
     Ok(())
 }
@@ -54,22 +55,22 @@ pub fn end_of_header(bytes: &[u8]) -> usize
     ensures from { 0x202 ≤ result }
     ensures within { result ≤ 0x290 }
 {
-    (HEADER + bytes[JUMP_DISPLACEMENT] as usize).min(MOST_END)
+    (HEADER + bytes[JUMP_DISPLACEMENT] as usize).min(MAX_END)
 }
 
 /// The bytes before the header.
 pub fn pass_front(bytes: &[u8]) -> Result<(), ParamFault>
     requires { length bytes.now ≡ 4096 }
     ensures { MatchResult result
-        (λ _. IsSoundUpto bytes.now 0x1F1 × (entries_in bytes.now ≤ 128))
-        (HasFirstFault bytes.now) }
+        (λ _. IsSoundUpto bytes.now 0x1F1 × (entries_in bytes.now ≤ max_e820_entries))
+        (HasFirstParamFault bytes.now) }
 {
     pass_zeros(bytes, 0, E820_ENTRIES)?;
-    go_on(
+    check_field(
         bytes,
         E820_ENTRIES,
         E820_ENTRIES + 1,
-        bytes[E820_ENTRIES] > MOST_E820_ENTRIES,
+        bytes[E820_ENTRIES] > MAX_E820_ENTRIES,
     )?;
     pass_zeros(bytes, E820_ENTRIES + 1, HEADER_START)?;
     Ok(())
@@ -81,27 +82,27 @@ fn pass_magic(bytes: &[u8]) -> Result<(), ParamFault>
     requires upto { IsSoundUpto bytes.now 0x1F1 }
     ensures { MatchResult result
         (λ _. IsSoundUpto bytes.now 0x206 × (0x264 ≤ header_end bytes.now))
-        (HasFirstFault bytes.now) }
+        (HasFirstParamFault bytes.now) }
 {
-    go_on(
+    check_field(
         bytes,
         VID_MODE,
         BOOT_FLAG,
         u16_in(bytes, VID_MODE) != VID_MODE_NORMAL,
     )?;
-    go_on(
+    check_field(
         bytes,
         BOOT_FLAG,
         JUMP_DISPLACEMENT,
         u16_in(bytes, BOOT_FLAG) != BOOT_FLAG_MAGIC,
     )?;
-    go_on(
+    check_field(
         bytes,
         JUMP_DISPLACEMENT,
         HEADER,
-        end_of_header(bytes) < LEAST_END,
+        end_of_header(bytes) < MIN_END,
     )?;
-    go_on(
+    check_field(
         bytes,
         HEADER,
         VERSION,
@@ -117,22 +118,22 @@ fn pass_loader(bytes: &[u8]) -> Result<(), ParamFault>
     requires upto { IsSoundUpto bytes.now 0x206 }
     ensures { MatchResult result
         (λ _. IsSoundUpto bytes.now (header_end bytes.now))
-        (HasFirstFault bytes.now) }
+        (HasFirstParamFault bytes.now) }
 {
     let end = end_of_header(bytes);
-    go_on(
+    check_field(
         bytes,
         VERSION,
         TYPE_OF_LOADER,
-        u16_in(bytes, VERSION) < LEAST_VERSION,
+        u16_in(bytes, VERSION) < MIN_VERSION,
     )?;
-    go_on(
+    check_field(
         bytes,
         TYPE_OF_LOADER,
         SETUP_DATA,
         bytes[TYPE_OF_LOADER] != LOADER_UNDEFINED,
     )?;
-    go_on(bytes, SETUP_DATA, end, u64_in(bytes, SETUP_DATA) != 0)
+    check_field(bytes, SETUP_DATA, end, u64_in(bytes, SETUP_DATA) != 0)
 }
 
 /// The header.
@@ -142,7 +143,7 @@ pub fn pass_header(bytes: &[u8]) -> Result<(), ParamFault>
     ensures { MatchResult result
         (λ _. IsSoundUpto bytes.now (header_end bytes.now)
         × (0x264 ≤ header_end bytes.now))
-        (HasFirstFault bytes.now) }
+        (HasFirstParamFault bytes.now) }
 {
     pass_magic(bytes)?;
     pass_loader(bytes)?;

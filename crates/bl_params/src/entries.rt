@@ -3,11 +3,12 @@ ghost use Rattle.std.specs.Prelude.{◌≡◌, ◌≤◌, ◌<◌, ◌+◌, ◌*
 ghost use Rattle.std.specs.Prelude.{length, MatchResult};
 ghost use Rattle.bl_map.specs.Kinds.{kind_number};
 ghost use Rattle.bl_bzimage.specs.Setup.{header_end};
-ghost use Rattle.bl_params.specs.Form.{entries_in, entry_at};
-ghost use Rattle.bl_params.specs.Reading.{HasFirstFault, AreEntries, IsEntry};
+ghost use Rattle.bl_params.specs.Form.{entries_in, e820_entry_at};
+ghost use Rattle.bl_params.specs.Reading.{HasFirstParamFault, AreEntries, IsEntry};
+ghost use Rattle.bl_params.specs.BootParamsFacts.{max_e820_entries};
 ghost use Rattle.bl_params.specs.Kept.{IsSoundUpto};
 
-use crate::checks::go_on;
+use crate::checks::check_field;
 use crate::fault::ParamFault;
 use crate::fields::{E820_ENTRIES, E820_TABLE, ENTRY_LENGTH, ENTRY_SIZE, ENTRY_TYPE};
 use crate::numbers::{u32_in, u64_in};
@@ -38,20 +39,21 @@ fn kind_of(number: u32) -> Kind
 /// The entry with a number, counted from 0.
 fn entry(bytes: &[u8], i: usize) -> Result<Region, ParamFault>
     requires whole { length bytes.now ≡ 4096 }
-    requires few { entries_in bytes.now ≤ 128 }
+    requires few { entries_in bytes.now ≤ max_e820_entries }
     requires counted { i < entries_in bytes.now }
-    requires upto { IsSoundUpto bytes.now (entry_at i) }
+    requires upto { IsSoundUpto bytes.now (e820_entry_at i) }
     ensures { MatchResult result
-        (λ run. IsEntry bytes.now (entry_at i) run × IsSoundUpto bytes.now (entry_at (i + 1)))
-        (HasFirstFault bytes.now) }
+        (λ run. IsEntry bytes.now (e820_entry_at i) run
+        × IsSoundUpto bytes.now (e820_entry_at (i + 1)))
+        (HasFirstParamFault bytes.now) }
 {
     let at = E820_TABLE + ENTRY_SIZE * i;
     let base = u64_in(bytes, at);
     let length = u64_in(bytes, at + ENTRY_LENGTH);
     let is_high = base as u128 + length as u128 > REGION_LIMIT as u128;
-    go_on(bytes, at, at + ENTRY_TYPE, is_high)?;
+    check_field(bytes, at, at + ENTRY_TYPE, is_high)?;
     let number = u32_in(bytes, at + ENTRY_TYPE);
-    go_on(bytes, at + ENTRY_TYPE, at + ENTRY_SIZE, !is_kind(number))?;
+    check_field(bytes, at + ENTRY_TYPE, at + ENTRY_SIZE, !is_kind(number))?;
     let kind = kind_of(number);
     Ok(Region { base, length, kind })
 }
@@ -59,12 +61,12 @@ fn entry(bytes: &[u8], i: usize) -> Result<Region, ParamFault>
 /// The memory map's runs.
 pub fn entries<A: Allocator>(alloc: A, bytes: &[u8]) -> Result<Vec<Region, A>, ParamFault>
     requires whole { length bytes.now ≡ 4096 }
-    requires few { entries_in bytes.now ≤ 128 }
+    requires few { entries_in bytes.now ≤ max_e820_entries }
     requires upto { IsSoundUpto bytes.now 0x2D0 }
     ensures { MatchResult result
         (λ runs. AreEntries bytes.now 0x2D0 runs.items × (length runs.items ≡ entries_in bytes.now)
-        × IsSoundUpto bytes.now (entry_at (entries_in bytes.now)))
-        (HasFirstFault bytes.now) }
+        × IsSoundUpto bytes.now (e820_entry_at (entries_in bytes.now)))
+        (HasFirstParamFault bytes.now) }
 {
     let mut runs = Vec::new(alloc);
     let count = bytes[E820_ENTRIES] as usize;

@@ -1,7 +1,7 @@
 //! Laws of the definitions.
 ghost use Rattle.std.specs.Prelude.{◌≡◌, ◌^◌, ◌+◌, ◌<◌, ◌≤◌, ℕ, List, length, take, All};
 ghost use Rattle.std.specs.Prelude.{None, Some};
-ghost use Rattle.bl_map.specs.Kinds.{end_of};
+ghost use Rattle.bl_map.specs.Kinds.{region_end};
 ghost use Rattle.bl_bzimage.specs.declared.setup.Setup.{Setup};
 ghost use Rattle.bl_bzimage.specs.Setup.{IsSetup};
 ghost use Rattle.bl_params.specs.BootParams.{boot_params};
@@ -9,7 +9,7 @@ ghost use Rattle.bl_params.specs.BootParamsFacts.{BootParamsFacts, AreTold};
 ghost use Rattle.bl_params.specs.Gdt.{gdt, gdt_part};
 ghost use Rattle.bl_params.specs.Paging.{paging};
 ghost use Rattle.bl_params.specs.Translation.{translation};
-ghost use Rattle.bl_params.specs.Reading.{IsParams, HasFirstFault};
+ghost use Rattle.bl_params.specs.Reading.{IsParams, HasFirstParamFault};
 ghost use Rattle.bl_params.specs.ParamsFacts.{ParamsFacts};
 ghost use Rattle.bl_params.specs.declared.fault.ParamFault.{ParamFault};
 ghost use Rattle.bl_params.specs.declared.fault.ParamFault.TheVariants.{NoMemory};
@@ -29,15 +29,15 @@ pub fn params_are_determined()
     ensures one_reading { (bytes : List ℕ) (p q : ParamsFacts)
         → IsParams bytes p → IsParams bytes q → p ≡ q }
     ensures one_fault { (bytes : List ℕ) (f g : ParamFault) → ¬ (f ≡ NoMemory) → ¬ (g ≡ NoMemory)
-        → HasFirstFault bytes f → HasFirstFault bytes g → f ≡ g }
+        → HasFirstParamFault bytes f → HasFirstParamFault bytes g → f ≡ g }
     ensures not_both { (bytes : List ℕ) (params : ParamsFacts) (fault : ParamFault)
-        → ¬ (fault ≡ NoMemory) → IsParams bytes params → HasFirstFault bytes fault → ⊥ }
+        → ¬ (fault ≡ NoMemory) → IsParams bytes params → HasFirstParamFault bytes fault → ⊥ }
 {}
 
 /// Each run that boot parameters tell of ends at most at 2^52.
 pub fn runs_end_low()
     ensures { (bytes : List ℕ) (params : ParamsFacts) → IsParams bytes params
-        → All (λ run. end_of run ≤ 2 ^ 52) params.runs }
+        → All (λ run. region_end run ≤ 2 ^ 52) params.runs }
 {}
 
 /// The descriptors are the first 32 bytes of their frame.

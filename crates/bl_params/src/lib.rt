@@ -21,6 +21,7 @@ pub use descriptors::gdt;
 pub use descriptors64::gdt64;
 pub use facts::ParamFacts;
 pub use fault::ParamFault;
+pub use fields::MAX_E820_ENTRIES;
 pub use laws::{
     gdt_part_begins_with_gdt, paging_keeps_addresses, params_are_determined, runs_end_low,
     written_is_read,

@@ -2,7 +2,7 @@
 ghost use Rattle.std.specs.Prelude.{◌≡◌, ◌+◌, ◌*◌, ◌%◌, ◌^◌, ◌<◌, ◌≤◌};
 ghost use Rattle.bl_params.specs.Paging as spec;
 
-use crate::put::put_u64;
+use crate::put::write_u64;
 
 fn upper_word(base: u64, frame: u64) -> u64
     requires low { base + 0x6000 ≤ 2 ^ 32 }
@@ -45,6 +45,6 @@ pub fn page_tables(base: u64, frame: u64, out: &mut [u8; 4096])
     ensures { out.new ≡ spec.paging_frame base frame }
 {
     for index in 0..512usize {
-        put_u64(out, 8 * index, paging_word(base, frame, index as u64));
+        write_u64(out, 8 * index, paging_word(base, frame, index as u64));
     }
 }

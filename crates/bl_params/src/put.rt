@@ -6,7 +6,7 @@ use byteorder::{ByteOrder, LittleEndian};
 
 /// Writes a field at an offset.
 #[tactic(auto, unfolding(crate::specs::Fields::over))]
-pub fn put(out: &mut [u8; 4096], at: usize, field: &[u8])
+pub fn write_field(out: &mut [u8; 4096], at: usize, field: &[u8])
     requires { at + length field.now ≤ 4096 }
     ensures { (k : ℕ) → slice_index out.new k
         ≡ over at field.now (λ j. slice_index out.old j) k }
@@ -16,36 +16,36 @@ pub fn put(out: &mut [u8; 4096], at: usize, field: &[u8])
 
 /// Writes a number of 2 bytes at an offset.
 #[tactic(auto, unfolding(crate::specs::Fields::number_bytes))]
-pub fn put_u16(out: &mut [u8; 4096], at: usize, n: u16)
+pub fn write_u16(out: &mut [u8; 4096], at: usize, n: u16)
     requires { at + 2 ≤ 4096 }
     ensures { (k : ℕ) → slice_index out.new k
         ≡ over at (number_bytes 2 n) (λ j. slice_index out.old j) k }
 {
     let mut field = [0u8; 2];
     LittleEndian::write_u16(&mut field, n);
-    put(out, at, &field);
+    write_field(out, at, &field);
 }
 
 /// Writes a number of 4 bytes at an offset.
 #[tactic(auto, unfolding(crate::specs::Fields::number_bytes))]
-pub fn put_u32(out: &mut [u8; 4096], at: usize, n: u32)
+pub fn write_u32(out: &mut [u8; 4096], at: usize, n: u32)
     requires { at + 4 ≤ 4096 }
     ensures { (k : ℕ) → slice_index out.new k
         ≡ over at (number_bytes 4 n) (λ j. slice_index out.old j) k }
 {
     let mut field = [0u8; 4];
     LittleEndian::write_u32(&mut field, n);
-    put(out, at, &field);
+    write_field(out, at, &field);
 }
 
 /// Writes a number of 8 bytes at an offset.
 #[tactic(auto, unfolding(crate::specs::Fields::number_bytes))]
-pub fn put_u64(out: &mut [u8; 4096], at: usize, n: u64)
+pub fn write_u64(out: &mut [u8; 4096], at: usize, n: u64)
     requires { at + 8 ≤ 4096 }
     ensures { (k : ℕ) → slice_index out.new k
         ≡ over at (number_bytes 8 n) (λ j. slice_index out.old j) k }
 {
     let mut field = [0u8; 8];
     LittleEndian::write_u64(&mut field, n);
-    put(out, at, &field);
+    write_field(out, at, &field);
 }

@@ -1,6 +1,6 @@
 //! Boot parameters, read back.
 ghost use Rattle.std.specs.Prelude.{◌≡◌, ◌≤◌, ◌+◌, ◌*◌, length, IfOk, IfErr};
-ghost use Rattle.bl_params.specs.Reading.{IsParams, HasFirstFault};
+ghost use Rattle.bl_params.specs.Reading.{IsParams, HasFirstParamFault};
 
 use crate::checks::{end_of_header, pass_front, pass_header, pass_zeros};
 use crate::entries::entries;
@@ -18,7 +18,7 @@ use std::alloc::Allocator;
 /// that form: it accepts nothing else, and names the least offset at which they break it.
 pub fn read_params<A: Allocator + Copy>(alloc: A, bytes: &[u8]) -> Result<Params<A>, ParamFault>
     ensures read { IfOk result (λ params. IsParams bytes.now params) }
-    ensures first_fault { IfErr result (λ fault. HasFirstFault bytes.now fault) }
+    ensures first_fault { IfErr result (λ fault. HasFirstParamFault bytes.now fault) }
 {
     if bytes.len() != PARAMS_SIZE {
         return Err(ParamFault::WrongLength);

@@ -6,9 +6,9 @@ use crate::numbers::u64_in;
 
 const TABLES_SIZE: usize = 0x6000;
 
-#[tactic(auto, unfolding(crate::specs::Translation::frame_of))]
+#[tactic(auto, unfolding(crate::specs::Translation::frame_in_word))]
 fn frame_of(base: u64, word: u64) -> Option<usize>
-    ensures value { result ≡ spec.frame_of base word }
+    ensures value { result ≡ spec.frame_in_word base word }
     ensures inside { IfSome result (λ frame. frame < 6) }
 {
     if word < base {
@@ -40,7 +40,7 @@ fn entry_at(tables: &[u8], frame: usize, index: u64) -> u64
     requires size { length tables.now ≡ 0x6000 }
     requires in_tables { frame < 6 }
     requires in_frame { index < 512 }
-    ensures { result ≡ spec.entry_at tables.now frame index }
+    ensures { result ≡ spec.table_entry_at tables.now frame index }
 {
     u64_in(tables, 0x1000 * frame + 8 * index as usize)
 }

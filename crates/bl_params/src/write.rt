@@ -3,6 +3,7 @@ ghost use Rattle.std.specs.Prelude.{◌≡◌, ◌≤◌, ◌+◌, ◌*◌, ℕ,
 ghost use Rattle.std.specs.List.{flat_map};
 ghost use Rattle.bl_params.specs.BootParams.{boot_params, entry_bytes};
 ghost use Rattle.bl_params.specs.Fields.{over};
+ghost use Rattle.bl_params.specs.BootParamsFacts.{max_e820_entries};
 
 use crate::facts::ParamFacts;
 use crate::fields::{
@@ -10,7 +11,7 @@ use crate::fields::{
     HEADER_START, LOADER_UNDEFINED, RAMDISK_IMAGE, RAMDISK_SIZE, SETUP_DATA, TYPE_OF_LOADER,
     VID_MODE, VID_MODE_NORMAL,
 };
-use crate::put::{put, put_u16, put_u32, put_u64};
+use crate::put::{write_field, write_u16, write_u32, write_u64};
 use bl_bzimage::Setup;
 use bl_map::Region;
 use std::alloc::Allocator;
@@ -27,14 +28,14 @@ fn put_entry(out: &mut [u8; 4096], at: usize, run: &Region)
     ensures { (k : ℕ) → slice_index out.new k
         ≡ over at (entry_bytes run.now) (λ j. slice_index out.old j) k }
 {
-    put_u64(out, at, run.base);
-    put_u64(out, at + ENTRY_LENGTH, run.length);
-    put_u32(out, at + ENTRY_TYPE, run.kind.number());
+    write_u64(out, at, run.base);
+    write_u64(out, at + ENTRY_LENGTH, run.length);
+    write_u32(out, at + ENTRY_TYPE, run.kind.number());
 }
 
 /// Writes the memory map.
 fn put_entries(out: &mut [u8; 4096], runs: &[Region])
-    requires { length runs.now ≤ 128 }
+    requires { length runs.now ≤ max_e820_entries }
     ensures { (k : ℕ) → slice_index out.new k
         ≡ over 0x2D0 (flat_map entry_bytes runs.now) (λ j. slice_index out.old j) k }
 {
@@ -53,14 +54,14 @@ pub fn write_params<A: Allocator>(setup: &Setup, facts: &ParamFacts<A>, out: &mu
 {
     let runs = facts.runs.as_slice();
     clear(out);
-    put(out, HEADER_START, setup.header.as_slice());
+    write_field(out, HEADER_START, setup.header.as_slice());
     put_entries(out, runs);
-    put_u64(out, SETUP_DATA, 0);
-    put_u32(out, CMD_LINE_PTR, facts.cmd_line_ptr);
-    put_u32(out, RAMDISK_SIZE, facts.ramdisk_size);
-    put_u32(out, RAMDISK_IMAGE, facts.ramdisk_image);
-    put_u32(out, CODE32_START, facts.code32_start);
-    put(out, TYPE_OF_LOADER, &[LOADER_UNDEFINED]);
-    put_u16(out, VID_MODE, VID_MODE_NORMAL);
-    put(out, E820_ENTRIES, &[runs.len() as u8]);
+    write_u64(out, SETUP_DATA, 0);
+    write_u32(out, CMD_LINE_PTR, facts.cmd_line_ptr);
+    write_u32(out, RAMDISK_SIZE, facts.ramdisk_size);
+    write_u32(out, RAMDISK_IMAGE, facts.ramdisk_image);
+    write_u32(out, CODE32_START, facts.code32_start);
+    write_field(out, TYPE_OF_LOADER, &[LOADER_UNDEFINED]);
+    write_u16(out, VID_MODE, VID_MODE_NORMAL);
+    write_field(out, E820_ENTRIES, &[runs.len() as u8]);
 }

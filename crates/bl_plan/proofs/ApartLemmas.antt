@@ -7,9 +7,9 @@ use Rattle.std.specs.declared.ops.Range.{Range}
 use Rattle.bl_mem.specs.Memory.{IsIn}
 use Rattle.bl_plan.specs.Kept.{IsBlocked}
 use Rattle.bl_plan.specs.Permitted.{AllOpen}
-use Rattle.bl_plan.specs.Planned.{AreApart}
+use Rattle.bl_plan.specs.Planned.{AreApartRanges}
 
-pub ends_ascend : (ranges : List (Range ℕ)) → AreApart ranges
+pub ends_ascend : (ranges : List (Range ℕ)) → AreApartRanges ranges
     → IsNonDecreasingBy (λ range. range.end) ranges
 ends_ascend ranges apart = λ i j d order within.
     elim (cases_lt i j) [
@@ -21,7 +21,7 @@ ends_ascend ranges apart = λ i j d order within.
 
 -- where the ranges before n end at the start of the bytes, and those from n on start after them,
 -- no range meets them
-pub open_where : (ranges : List (Range ℕ)) (n start end : ℕ) → AreApart ranges
+pub open_where : (ranges : List (Range ℕ)) (n start end : ℕ) → AreApartRanges ranges
     → AllWithin (λ range. range.end ≤ start) ranges 0 n
     → ((d : Range ℕ) → n < length ranges → end ≤ (get_or ranges n d).start)
     → AllOpen ranges start end
@@ -44,7 +44,7 @@ open_where ranges n start end apart before behind a above below k d within here 
     ]
 
 -- a range that meets the bytes
-pub taken_blocks : (ranges : List (Range ℕ)) (n start end : ℕ) (d : Range ℕ) → AreApart ranges
+pub taken_blocks : (ranges : List (Range ℕ)) (n start end : ℕ) (d : Range ℕ) → AreApartRanges ranges
     → n < length ranges
     → (get_or ranges n d).start < end → start < (get_or ranges n d).end
     → IsBlocked (λ a. All (λ range. ¬ IsIn range a) ranges) start end

@@ -7,20 +7,20 @@ use Rattle.std.proofs.lemmas.Bool.Decides.{nat_tests}
 use Rattle.std.proofs.lemmas.List.{get_or_default}
 use Rattle.bl_map.specs.declared.kind.Kind.TheVariants.{Usable}
 use Rattle.bl_map.specs.declared.region.Region.{Region}
-use Rattle.bl_map.specs.Kinds.{kind_at, kind_number, holds, end_of, AreRuns}
+use Rattle.bl_map.specs.Kinds.{kind_at, kind_number, region_holds, region_end, AreRuns}
 use Rattle.bl_map.proofs.KindLemmas.{kind_not_held, not_held_behind}
 use Rattle.bl_map.proofs.MapLaws.{fewer_runs, kind_in, same_kind}
 use Rattle.bl_plan.specs.Kept.{IsBlocked}
 
 -- a run of kind usable that holds an address
 abbrev pub IsUsableRun : ℕ → Region → Type 0
-IsUsableRun a run = (run.kind ≡ Usable) × (run.base ≤ a) × (a < end_of run)
+IsUsableRun a run = (run.kind ≡ Usable) × (run.base ≤ a) × (a < region_end run)
 
 held_at_one : (b : Bool) (n : ℕ) → (if b then n else 0) ≡ 1 → (b ≡ true) × (n ≡ 1)
 held_at_one true n h = (refl, h)
 held_at_one false n h = absurd (omega arith)
 
-within : (run : Region) (a : ℕ) → holds run a ≡ true → (run.base ≤ a) × (a < end_of run)
+within : (run : Region) (a : ℕ) → region_holds run a ≡ true → (run.base ≤ a) × (a < region_end run)
 within run a h = grind (arith, nat_tests)
 
 -- an address of kind 1 lies in a run of that kind
@@ -29,7 +29,8 @@ run_of_usable [] a h = absurd (omega arith)
 run_of_usable (run ∷ runs) a h =
     elim (cases_lt (kind_at runs a) 1) [
       | inl less ↦
-          let (in_it, one) = held_at_one (holds run a) (kind_number run.kind) (omega arith) in
+          let (in_it, one) = held_at_one (region_holds run a) (kind_number run.kind)
+          (omega arith) in
           let here = within run a in_it in
           (0, run, omega arith, refl, (same_kind run.kind Usable one, here.0, here.1))
       | inr more ↦
@@ -52,7 +53,7 @@ usable_in_run (run ∷ runs) (suc k) a d are inside h =
 -- that kind lies in run k or after it
 usable_from : (runs : List Region) (k from a : ℕ)
     → ((j : ℕ) (e : Region) → j < k → (get_or runs j e).kind ≡ Usable
-    → end_of (get_or runs j e) ≤ from)
+    → region_end (get_or runs j e) ≤ from)
     → from ≤ a → kind_at runs a ≡ 1
     → (j : ℕ) × (x : Region) × (k ≤ j) × (j < length runs) × (get_or runs j x ≡ x) × IsUsableRun a x
 usable_from runs k from a before above one =
@@ -60,7 +61,7 @@ usable_from runs k from a before above one =
     elim (cases_lt j k) [
       | inl less ↦
           let f = before j x less (ap (λ (r : Region). r.kind) at ∙ here.0) in
-          let g = ap (λ (r : Region). end_of r) at in
+          let g = ap (λ (r : Region). region_end r) at in
           absurd (omega (arith, here.2))
       | inr more ↦ (j, x, more, within, at, here)
     ]
@@ -69,7 +70,7 @@ usable_from runs k from a before above one =
 pub gap_blocks : (runs : List Region) (k from start end : ℕ) (d : Region) → AreRuns runs
     → k < length runs
     → ((j : ℕ) (e : Region) → j < k → (get_or runs j e).kind ≡ Usable
-    → end_of (get_or runs j e) ≤ from)
+    → region_end (get_or runs j e) ≤ from)
     → start < end → from < (get_or runs k d).base → start < (get_or runs k d).base → from < end
     → IsBlocked (λ a. kind_at runs a ≡ 1) start end
     (record { start = from; end = (get_or runs k d).base })
@@ -100,7 +101,7 @@ gap_blocks runs k from start end d are within before forward gap meets_start mee
 -- no run of kind usable is left
 pub last_blocks : (runs : List Region) (k from start end limit : ℕ) → length runs ≤ k
     → ((j : ℕ) (e : Region) → j < k → (get_or runs j e).kind ≡ Usable
-    → end_of (get_or runs j e) ≤ from)
+    → region_end (get_or runs j e) ≤ from)
     → start < end → from < end → end ≤ limit
     → IsBlocked (λ a. kind_at runs a ≡ 1) start end (record { start = from; end = limit })
 last_blocks runs k from start end limit all before forward gap below =
@@ -119,7 +120,7 @@ pub usable_more : (runs : List Region) (k from start end a : ℕ) (d : Region) �
     → (get_or runs k d).kind ≡ Usable
     → (from < (get_or runs k d).base → start < (get_or runs k d).base → from < end → ⊥)
     → ((b : ℕ) → start ≤ b → b < end → b < from → kind_at runs b ≡ 1)
-    → start ≤ a → a < end → a < end_of (get_or runs k d) → kind_at runs a ≡ 1
+    → start ≤ a → a < end → a < region_end (get_or runs k d) → kind_at runs a ≡ 1
 usable_more runs k from start end a d are within usable no_gap so_far above below in_run =
     elim (cases_lt a from) [
       | inl less ↦ so_far a above below less
@@ -131,14 +132,14 @@ usable_more runs k from start end a d are within usable no_gap so_far above belo
 
 -- no run up to k ends after run k
 pub ends_more : (runs : List Region) (k j : ℕ) (d e : Region) → AreRuns runs → k < length runs
-    → j < k + 1 → end_of (get_or runs j e) ≤ end_of (get_or runs k d)
+    → j < k + 1 → region_end (get_or runs j e) ≤ region_end (get_or runs k d)
 ends_more runs k j d e are within before =
     let same = get_or_default runs k d e within in
-    let f = ap (λ (r : Region). end_of r) same in
+    let f = ap (λ (r : Region). region_end r) same in
     elim (cases_lt j k) [
       | inl less ↦ let p = (are.in_order j k e less within).0 in omega arith
       | inr not_less ↦
           let g : j ≡ k = omega arith in
-          let h = ap (λ (n : ℕ). end_of (get_or runs n e)) g in
+          let h = ap (λ (n : ℕ). region_end (get_or runs n e)) g in
           omega arith
     ]

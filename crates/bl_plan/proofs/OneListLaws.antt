@@ -12,7 +12,8 @@ use Rattle.bl_plan.specs.declared.fault.PlanFault.{PlanFault}
 use Rattle.bl_plan.specs.declared.fault.PlanFault.TheVariants.{NotUsable, Overlap, NoRoom, NoMemory}
 use Rattle.bl_plan.specs.declared.part.Row.{Row}
 use Rattle.bl_plan.specs.declared.part.Place.{Place}
-use Rattle.bl_plan.specs.Placed.{IsChosen, HasFault, place_at, range_of, ArePlaced, IsFirstFault}
+use Rattle.bl_plan.specs.Placed.{IsChosen, HasChoiceFault, place_at, place_range, ArePlaced}
+use Rattle.bl_plan.specs.Placed.{IsFirstPlaceFault}
 
 one_least : (P : ℕ → Type 0) (a b : ℕ) → IsLeast P a → IsLeast P b → a ≡ b
 one_least P a b p q = omega (arith, p.least b q.holds, q.least a p.holds)
@@ -78,7 +79,8 @@ module _ (facts : MachineFacts) where
       one_preferred at (IsPermitted facts taken count align low high) a b p q
 
   not_chosen_and_faulty : (taken : List (Range ℕ)) (count : ℕ) (choice : Choice) (a : ℕ)
-      (f : PlanFault) → IsChosen facts taken count choice a → HasFault facts taken count choice f
+      (f : PlanFault) → IsChosen facts taken count choice a
+      → HasChoiceFault facts taken count choice f
       → ⊥
   not_chosen_and_faulty taken count (Fixed at) a f p q = not_fixed taken at (at + count) f p.1 p.2 q
   not_chosen_and_faulty taken count (Lowest align low high) a f p q =
@@ -90,7 +92,8 @@ module _ (facts : MachineFacts) where
       (preferred_holds at (IsPermitted facts taken count align low high) a p) q
 
   one_fault_of : (taken : List (Range ℕ)) (count : ℕ) (choice : Choice) (f g : PlanFault)
-      → HasFault facts taken count choice f → HasFault facts taken count choice g → f ≡ g
+      → HasChoiceFault facts taken count choice f → HasChoiceFault facts taken count choice g → f
+      ≡ g
   one_fault_of taken count (Fixed at) f g p q = one_fixed taken at (at + count) f g p q
   one_fault_of taken count (Lowest align low high) f g p q =
       one_no_room (IsPermitted facts taken count align low high) f g p q
@@ -111,13 +114,13 @@ module _ (facts : MachineFacts) where
       b.1
       ∙ ap (place_at row)
       (one_address taken row.length row.choice q.address p.address b.0 a.0) ∙ sym a.1 in
-      let rest : ArePlaced facts (put_in (range_of p) taken) rows qs =
-      subst (λ (x : Place). ArePlaced facts (put_in (range_of x) taken) rows qs) same b.2 in
+      let rest : ArePlaced facts (put_in (place_range p) taken) rows qs =
+      subst (λ (x : Place). ArePlaced facts (put_in (place_range x) taken) rows qs) same b.2 in
       ap₂ (λ (x : Place) (xs : List Place). x ∷ xs) (sym same)
-      (one_list (put_in (range_of p) taken) rows ps qs a.2 rest)
+      (one_list (put_in (place_range p) taken) rows ps qs a.2 rest)
 
   pub not_both : (taken : List (Range ℕ)) (rows : List Row) (ps : List Place) (f : PlanFault)
-      → ArePlaced facts taken rows ps → IsFirstFault facts taken rows f → ⊥
+      → ArePlaced facts taken rows ps → IsFirstPlaceFault facts taken rows f → ⊥
   not_both taken [] ps f a b = b
   not_both taken (row ∷ rows) [] f a b = a
   not_both taken (row ∷ rows) (p ∷ ps) f a (inl here) =
@@ -126,12 +129,12 @@ module _ (facts : MachineFacts) where
       let same : place_at row later.0 ≡ p =
       ap (place_at row) (one_address taken row.length row.choice later.0 p.address later.1 a.0)
       ∙ sym a.1 in
-      not_both (put_in (range_of p) taken) rows ps f a.2
-      (subst (λ (x : Place). IsFirstFault facts (put_in (range_of x) taken) rows f) same
+      not_both (put_in (place_range p) taken) rows ps f a.2
+      (subst (λ (x : Place). IsFirstPlaceFault facts (put_in (place_range x) taken) rows f) same
       later.2)
 
   pub one_fault : (taken : List (Range ℕ)) (rows : List Row) (f g : PlanFault)
-      → IsFirstFault facts taken rows f → IsFirstFault facts taken rows g → f ≡ g
+      → IsFirstPlaceFault facts taken rows f → IsFirstPlaceFault facts taken rows g → f ≡ g
   one_fault taken [] f g a b = absurd a
   one_fault taken (row ∷ rows) f g (inl a) (inl b) =
       one_fault_of taken row.length row.choice f g a b
@@ -141,5 +144,6 @@ module _ (facts : MachineFacts) where
       absurd (not_chosen_and_faulty taken row.length row.choice a.0 g a.1 b)
   one_fault taken (row ∷ rows) f g (inr a) (inr b) =
       let same = ap (place_at row) (one_address taken row.length row.choice b.0 a.0 b.1 a.1) in
-      one_fault (put_in (range_of (place_at row a.0)) taken) rows f g a.2
-      (subst (λ (x : Place). IsFirstFault facts (put_in (range_of x) taken) rows g) same b.2)
+      one_fault (put_in (place_range (place_at row a.0)) taken) rows f g a.2
+      (subst (λ (x : Place). IsFirstPlaceFault facts (put_in
+      (place_range x) taken) rows g) same b.2)

@@ -13,7 +13,7 @@ use Rattle.bl_plan.specs.declared.part.Choice.{Choice}
 use Rattle.bl_plan.specs.declared.part.Choice.TheVariants.{Fixed, Lowest, Highest, Preferred}
 use Rattle.bl_plan.specs.declared.part.Row.{Row}
 use Rattle.bl_plan.specs.declared.part.Place.{Place}
-use Rattle.bl_plan.specs.Placed.{IsChosen, place_at, range_of, ArePlaced, IsPlaceable, IsApart}
+use Rattle.bl_plan.specs.Placed.{IsChosen, place_at, place_range, ArePlaced, IsPlaceable, IsApart}
 use Rattle.bl_plan.specs.Placed.{IsOpen, IsPlaceOf}
 use Rattle.bl_plan.specs.Order.{range_key}
 use Rattle.bl_plan.proofs.OrderLemmas.{put_from}
@@ -49,7 +49,7 @@ module _ (facts : MachineFacts) where
       All-cons (IsPlaceable facts) p ps
       (λ b low high.
       chosen_usable taken row.length row.choice p.address a.0 b low (omega arith))
-      (all_usable (put_in (range_of p) taken) rows ps a.2)
+      (all_usable (put_in (place_range p) taken) rows ps a.2)
 
   here_open : (taken : List (Range ℕ)) (row : Row) (p : Place)
       → IsChosen facts taken row.length row.choice p.address → p ≡ place_at row p.address
@@ -70,15 +70,15 @@ module _ (facts : MachineFacts) where
   all_open taken [] (p ∷ ps) a = absurd a
   all_open taken (row ∷ rows) [] a = absurd a
   all_open taken (row ∷ rows) (p ∷ ps) a =
-      let rest = all_open (put_in (range_of p) taken) rows ps a.2 in
+      let rest = all_open (put_in (place_range p) taken) rows ps a.2 in
       All-cons (IsOpen taken) p ps (here_open taken row p a.0 a.1)
-      (λ k d within. less_open (range_of p) taken (get_or ps k d) (rest k d within))
+      (λ k d within. less_open (place_range p) taken (get_or ps k d) (rest k d within))
 
-  first_apart : (taken : List (Range ℕ)) (p q : Place) → IsOpen (put_in (range_of p) taken) q
+  first_apart : (taken : List (Range ℕ)) (p q : Place) → IsOpen (put_in (place_range p) taken) q
       → IsApart p q
   first_apart taken p q h =
       λ a in_p in_q.
-      (put_from range_key (λ r. ¬ IsIn r a) (range_of p) taken (h a in_q.0 in_q.1)).0 in_p
+      (put_from range_key (λ r. ¬ IsIn r a) (place_range p) taken (h a in_q.0 in_q.1)).0 in_p
 
   pub all_apart : (taken : List (Range ℕ)) (rows : List Row) (ps : List Place)
       → ArePlaced facts taken rows ps → AllPairs IsApart ps
@@ -86,16 +86,17 @@ module _ (facts : MachineFacts) where
   all_apart taken [] (p ∷ ps) a = absurd a
   all_apart taken (row ∷ rows) [] a = absurd a
   all_apart taken (row ∷ rows) (p ∷ ps) a =
-      let rest = all_open (put_in (range_of p) taken) rows ps a.2 in
+      let rest = all_open (put_in (place_range p) taken) rows ps a.2 in
       AllPairs-cons IsApart p ps (λ k e k_in. first_apart taken p (get_or ps k e) (rest k e k_in))
-      (all_apart (put_in (range_of p) taken) rows ps a.2)
+      (all_apart (put_in (place_range p) taken) rows ps a.2)
 
   pub as_many : (taken : List (Range ℕ)) (rows : List Row) (ps : List Place)
       → ArePlaced facts taken rows ps → length ps ≡ length rows
   as_many taken [] [] a = refl
   as_many taken [] (p ∷ ps) a = absurd a
   as_many taken (row ∷ rows) [] a = absurd a
-  as_many taken (row ∷ rows) (p ∷ ps) a = ap suc (as_many (put_in (range_of p) taken) rows ps a.2)
+  as_many taken (row ∷ rows) (p
+      ∷ ps) a = ap suc (as_many (put_in (place_range p) taken) rows ps a.2)
 
   pub of_rows : (taken : List (Range ℕ)) (rows : List Row) (ps : List Place)
       → ArePlaced facts taken rows ps → AllZip IsPlaceOf rows ps
@@ -108,5 +109,5 @@ module _ (facts : MachineFacts) where
       index = ap (λ (x : Place). x.index) a.1;
       length = ap (λ (x : Place). x.length) a.1;
     },
-    of_rows (put_in (range_of p) taken) rows ps a.2,
+    of_rows (put_in (place_range p) taken) rows ps a.2,
   )

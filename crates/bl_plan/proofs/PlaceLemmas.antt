@@ -9,7 +9,7 @@ use Rattle.bl_plan.specs.declared.fault.PlanFault.{PlanFault}
 use Rattle.bl_plan.specs.declared.part.Row.{Row}
 use Rattle.bl_plan.specs.declared.part.Place.{Place}
 use Rattle.bl_plan.specs.Permitted.{AllOpen, HasFixedFault, OrNoMemory}
-use Rattle.bl_plan.specs.Placed.{IsChosen, HasFault, ArePlaced}
+use Rattle.bl_plan.specs.Placed.{IsChosen, HasChoiceFault, ArePlaced}
 
 pub fixed_chosen : (facts : MachineFacts) (taken : List (Range ℕ)) (length at end : ℕ)
     (choice : Choice) → choice ≡ Fixed at → end ≡ at + length
@@ -21,10 +21,10 @@ fixed_chosen facts taken length at end choice fixed sum h =
 pub fixed_fault : (facts : MachineFacts) (taken : List (Range ℕ)) (length at end : ℕ)
     (choice : Choice) (fault : PlanFault) → choice ≡ Fixed at → end ≡ at + length
     → OrNoMemory (HasFixedFault facts taken at end) fault
-    → OrNoMemory (HasFault facts taken length choice) fault
+    → OrNoMemory (HasChoiceFault facts taken length choice) fault
 fixed_fault facts taken length at end choice fault fixed sum h =
     let here = subst (λ (n : ℕ). OrNoMemory (HasFixedFault facts taken at n) fault) sum h in
-    subst (λ (x : Choice). OrNoMemory (HasFault facts taken length x) fault) (sym fixed) here
+    subst (λ (x : Choice). OrNoMemory (HasChoiceFault facts taken length x) fault) (sym fixed) here
 
 -- all rows are placed where nothing is left
 pub placed_all : (facts : MachineFacts) (taken : List (Range ℕ)) (rest all : List Row)

@@ -7,7 +7,8 @@ use Rattle.bl_mem.specs.Least.{IsLeast, IsGreatest}
 use Rattle.bl_mem.proofs.LeastLaws.{least_below}
 use Rattle.bl_map.specs.MachineFacts.{MachineFacts}
 use Rattle.bl_plan.specs.Permitted.{IsPreferred}
-use Rattle.bl_plan.specs.Placed.{ArePlaced, IsFirstFault, IsChosen, HasFault, place_at, range_of}
+use Rattle.bl_plan.specs.Placed.{ArePlaced, IsFirstPlaceFault, IsChosen, HasChoiceFault, place_at}
+use Rattle.bl_plan.specs.Placed.{place_range}
 use Rattle.bl_plan.specs.Planned.{put_in}
 use Rattle.bl_plan.specs.declared.part.Choice.{Choice}
 use Rattle.bl_plan.specs.declared.part.Choice.TheVariants.{Fixed, Lowest, Highest, Preferred}
@@ -72,7 +73,7 @@ preferred_or_none P has n small at =
 abbrev IsMetOrNot : MachineFacts → List (Range ℕ) → ℕ → Choice → Type 0
 IsMetOrNot facts taken count choice =
     ((a : ℕ) × IsChosen facts taken count choice a)
-    ⊎ ((fault : PlanFault) × (fault ≢ NoMemory) × HasFault facts taken count choice fault)
+    ⊎ ((fault : PlanFault) × (fault ≢ NoMemory) × HasChoiceFault facts taken count choice fault)
 
 -- a choice is met, or it has a fault
 chosen_or_fault : (facts : MachineFacts) (taken : List (Range ℕ)) (count : ℕ) (choice : Choice)
@@ -107,13 +108,13 @@ chosen_or_fault facts taken count (Preferred at align low high) =
 -- rows have places, or one of them is the first that has none
 pub placed_or_fault : (facts : MachineFacts) (taken : List (Range ℕ)) (rows : List Row)
     → ((places : List Place) × ArePlaced facts taken rows places)
-    ⊎ ((fault : PlanFault) × (fault ≢ NoMemory) × IsFirstFault facts taken rows fault)
+    ⊎ ((fault : PlanFault) × (fault ≢ NoMemory) × IsFirstPlaceFault facts taken rows fault)
 placed_or_fault facts taken [] = inl ([], tt)
 placed_or_fault facts taken (row ∷ rows) =
     elim (chosen_or_fault facts taken row.length row.choice) [
       | inr (fault, some, has) ↦ inr (fault, some, inl has)
       | inl (a, chosen) ↦
-          elim (placed_or_fault facts (put_in (range_of (place_at row a)) taken) rows) [
+          elim (placed_or_fault facts (put_in (place_range (place_at row a)) taken) rows) [
             | inl (places, placed) ↦ inl (place_at row a ∷ places, (chosen, refl, placed))
             | inr (fault, some, has) ↦ inr (fault, some, inr (a, chosen, has))
           ]

@@ -3,10 +3,17 @@ use Rattle.std.specs.Prelude.{◌<◌, ◌≤◌, ℕ, List, All}
 use Rattle.std.specs.declared.ops.Range.{Range}
 use Rattle.bl_map.specs.MachineFacts.{MachineFacts, IsUsable}
 use Rattle.bl_mem.specs.Memory.{IsIn}
+use Rattle.bl_plan.specs.declared.part.Window.{Window}
+use Rattle.bl_plan.specs.Permitted.{IsPermitted}
 
 -- a byte that a part may have, beside the ranges that are taken
 abbrev pub IsFree : MachineFacts → List (Range ℕ) → ℕ → Type 0
 IsFree facts taken a = IsUsable facts a × All (λ range. ¬ IsIn range a) taken
+
+-- an address that is permitted for so many bytes in a window
+abbrev pub IsPermittedIn : MachineFacts → List (Range ℕ) → ℕ → Window → ℕ → Type 0
+IsPermittedIn facts taken length window a =
+    IsPermitted facts taken length window.align window.low window.high a
 
 -- from start up to end some byte lacks the property, and so does each byte of this stretch, which
 -- has that byte

@@ -1,10 +1,18 @@
--- How large a menu may be. Own.
+-- How large a menu and its texts may be. Own.
 use Rattle.std.specs.Prelude.{ℕ}
 
 -- a menu has at most so many entries
-abbrev pub most_entries : ℕ
-most_entries = 32
+abbrev pub max_entries : ℕ
+max_entries = 32
 
 -- an entry has at most so many modules
-abbrev pub most_modules : ℕ
-most_modules = 64
+abbrev pub max_modules : ℕ
+max_modules = 64
+
+-- a line has at most so many bytes, its zero byte not counted
+abbrev pub max_line : ℕ
+max_line = 4095
+
+-- a copy of an ACPI root table has at most so many
+abbrev pub max_copy : ℕ
+max_copy = 256

@@ -24,22 +24,22 @@ IsChosen facts taken length (Preferred at align low high) a =
     IsPreferred at (IsPermitted facts taken length align low high) a
 
 -- the choice can't be met, for this reason
-abbrev pub HasFault : MachineFacts → List (Range ℕ) → ℕ → Choice → PlanFault → Type 0
-HasFault facts taken length (Fixed at) fault =
+abbrev pub HasChoiceFault : MachineFacts → List (Range ℕ) → ℕ → Choice → PlanFault → Type 0
+HasChoiceFault facts taken length (Fixed at) fault =
     HasFixedFault facts taken at (at + length) fault
-HasFault facts taken length (Lowest align low high) fault =
+HasChoiceFault facts taken length (Lowest align low high) fault =
     HasNoRoom (IsPermitted facts taken length align low high) fault
-HasFault facts taken length (Highest align low high) fault =
+HasChoiceFault facts taken length (Highest align low high) fault =
     HasNoRoom (IsPermitted facts taken length align low high) fault
-HasFault facts taken length (Preferred at align low high) fault =
+HasChoiceFault facts taken length (Preferred at align low high) fault =
     HasNoRoom (IsPermitted facts taken length align low high) fault
 
 -- the place of a row at an address
 abbrev pub place_at : Row → ℕ → Place
 place_at row a = record { role = row.role; index = row.index; address = a; length = row.length }
 
-abbrev pub range_of : Place → Range ℕ
-range_of place = record { start = place.address; end = place.address + place.length }
+abbrev pub place_range : Place → Range ℕ
+place_range place = record { start = place.address; end = place.address + place.length }
 
 -- these are the places of these rows beside what is taken, each row against the places before it
 abbrev pub ArePlaced : MachineFacts → List (Range ℕ) → List Row → List Place → Type 0
@@ -49,15 +49,15 @@ ArePlaced facts taken (row ∷ rows) [] = ⊥
 ArePlaced facts taken (row ∷ rows) (place ∷ places) =
     IsChosen facts taken row.length row.choice place.address
     × (place ≡ place_at row place.address)
-    × ArePlaced facts (put_in (range_of place) taken) rows places
+    × ArePlaced facts (put_in (place_range place) taken) rows places
 
 -- the first of these rows that has no place has none for this reason
-abbrev pub IsFirstFault : MachineFacts → List (Range ℕ) → List Row → PlanFault → Type 0
-IsFirstFault facts taken [] fault = ⊥
-IsFirstFault facts taken (row ∷ rows) fault =
-    HasFault facts taken row.length row.choice fault
+abbrev pub IsFirstPlaceFault : MachineFacts → List (Range ℕ) → List Row → PlanFault → Type 0
+IsFirstPlaceFault facts taken [] fault = ⊥
+IsFirstPlaceFault facts taken (row ∷ rows) fault =
+    HasChoiceFault facts taken row.length row.choice fault
     ⊎ ((a : ℕ) × IsChosen facts taken row.length row.choice a
-    × IsFirstFault facts (put_in (range_of (place_at row a)) taken) rows fault)
+    × IsFirstPlaceFault facts (put_in (place_range (place_at row a)) taken) rows fault)
 
 -- a choice aligns to one byte at least
 abbrev pub IsChoice : Choice → Type 0
@@ -73,7 +73,7 @@ pub record IsRow (row : Row) : Type 0 where
 
 -- why rows are not placed: their first fault, or want of memory
 abbrev pub IsPlacingFault : MachineFacts → List Row → PlanFault → Type 0
-IsPlacingFault facts rows fault = OrNoMemory (IsFirstFault facts [] rows) fault
+IsPlacingFault facts rows fault = OrNoMemory (IsFirstPlaceFault facts [] rows) fault
 
 -- each byte of the place is usable
 abbrev pub IsPlaceable : MachineFacts → Place → Type 0

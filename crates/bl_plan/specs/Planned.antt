@@ -9,13 +9,13 @@ pub record PlannerFacts : Type 0 where
   pub taken : List (Range ℕ)
 
 -- ranges are not empty, and ascend with none meeting another
-pub record AreApart (ranges : List (Range ℕ)) : Type 0 where
+pub record AreApartRanges (ranges : List (Range ℕ)) : Type 0 where
   pub forward : All (λ range. range.start < range.end) ranges
   pub in_order : AllPairs (λ p q. p.end ≤ q.start) ranges
 
 -- so are taken ranges, and each of their bytes is usable
 pub record AreTaken (facts : MachineFacts) (taken : List (Range ℕ)) : Type 0 where
-  pub apart : AreApart taken
+  pub apart : AreApartRanges taken
   pub usable : All (λ range. AllUsable facts range.start range.end) taken
 
 -- these ranges with one more, before the first that starts above it

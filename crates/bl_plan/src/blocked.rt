@@ -6,7 +6,7 @@ ghost use Rattle.bl_map.specs.Kinds.{kind_at, AreRuns};
 ghost use Rattle.bl_map.specs.MachineFacts.{AllUsable};
 ghost use Rattle.bl_plan.specs.Kept.{IsBlocked, IsFree};
 ghost use Rattle.bl_plan.specs.Permitted.{AllOpen};
-ghost use Rattle.bl_plan.specs.Planned.{AreApart};
+ghost use Rattle.bl_plan.specs.Planned.{AreApartRanges};
 
 use bl_map::{FIRST_USABLE, Kind, Machine, Region, USABLE_LIMIT};
 use std::alloc::Allocator;
@@ -38,7 +38,7 @@ fn unusable_stretch(runs: &[Region], start: u64, end: u64) -> Option<Range<u64>>
 
 /// How many of these ascending ranges end at `start` or below.
 fn ended_by(ranges: &[Range<u64>], start: u64) -> usize
-    requires { AreApart ranges.now }
+    requires { AreApartRanges ranges.now }
     ensures bound { result ≤ length ranges.now }
     ensures before { AllWithin (λ range. range.end ≤ start) ranges.now 0 result }
     ensures behind { AllWithin (λ range. start < range.end) ranges.now result (length ranges.now) }
@@ -48,7 +48,7 @@ fn ended_by(ranges: &[Range<u64>], start: u64) -> usize
 
 /// A taken range that meets these bytes.
 pub fn taken_stretch(taken: &[Range<u64>], start: u64, end: u64) -> Option<Range<u64>>
-    requires apart { AreApart taken.now }
+    requires apart { AreApartRanges taken.now }
     ensures { MatchOption result
         (AllOpen taken.now start end)
         (λ stretch. IsBlocked (λ a. All (λ range. ¬ IsIn range a) taken.now) start end stretch) }
@@ -70,7 +70,7 @@ pub fn blocked_stretch<A: Allocator>(
     start: u64,
     end: u64,
 ) -> Option<Range<u64>>
-    requires apart { AreApart taken.now }
+    requires apart { AreApartRanges taken.now }
     requires forward { start < end }
     requires above { FIRST_USABLE ≤ start }
     requires in_size { end ≤ machine.now.size }

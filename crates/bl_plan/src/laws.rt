@@ -7,7 +7,7 @@ ghost use Rattle.bl_plan.specs.declared.fault.PlanFault.{PlanFault};
 ghost use Rattle.bl_plan.specs.declared.fault.PlanFault.TheVariants.{NoMemory};
 ghost use Rattle.bl_plan.specs.declared.part.Row.{Row};
 ghost use Rattle.bl_plan.specs.declared.part.Place.{Place};
-ghost use Rattle.bl_plan.specs.Placed.{ArePlaced, IsFirstFault, IsApart, IsPlaceable, IsOpen};
+ghost use Rattle.bl_plan.specs.Placed.{ArePlaced, IsFirstPlaceFault, IsApart, IsPlaceable, IsOpen};
 ghost use Rattle.bl_plan.specs.Placed.{IsPlaceOf};
 
 /// Rows have one list of places, or one first fault, and never both.
@@ -19,13 +19,13 @@ pub fn places_are_determined()
         → ps ≡ qs }
     ensures one_fault { (facts : MachineFacts) (taken : List (Range ℕ)) (rows : List Row)
         (f g : PlanFault)
-        → IsFirstFault facts taken rows f
-        → IsFirstFault facts taken rows g
+        → IsFirstPlaceFault facts taken rows f
+        → IsFirstPlaceFault facts taken rows g
         → f ≡ g }
     ensures not_both { (facts : MachineFacts) (taken : List (Range ℕ)) (rows : List Row)
         (ps : List Place) (f : PlanFault)
         → ArePlaced facts taken rows ps
-        → IsFirstFault facts taken rows f
+        → IsFirstPlaceFault facts taken rows f
         → ⊥ }
 {}
 
@@ -34,7 +34,7 @@ pub fn places_are_determined()
 pub fn rows_have_places_or_a_fault()
     ensures { (facts : MachineFacts) (taken : List (Range ℕ)) (rows : List Row)
         → ((places : List Place) × ArePlaced facts taken rows places)
-        ⊎ ((f : PlanFault) × (f ≢ NoMemory) × IsFirstFault facts taken rows f) }
+        ⊎ ((f : PlanFault) × (f ≢ NoMemory) × IsFirstPlaceFault facts taken rows f) }
 {}
 
 /// The places of rows are usable and meet neither one another nor what was taken before.

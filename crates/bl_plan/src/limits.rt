@@ -1,7 +1,13 @@
-//! How large a menu may be.
+//! How large a menu and its texts may be.
 
 /// The most entries of a menu.
-pub const MOST_ENTRIES: usize = 32;
+pub const MAX_ENTRIES: usize = 32;
 
 /// The most modules of an entry.
-pub const MOST_MODULES: usize = 64;
+pub const MAX_MODULES: usize = 64;
+
+/// The most bytes of a line, its zero byte not counted.
+pub const MAX_LINE: usize = 4095;
+
+/// The most bytes of a copy of a root table of ACPI (an RSDP). It has at least one.
+pub const MAX_COPY: usize = 256;

@@ -31,6 +31,24 @@ impl Role {
             Role::PageTables => 8,
         }
     }
+
+    /// The role of a number, or none of another number than 1 to 8.
+    #[tactic(auto, unfolding(crate::specs::Roles::role_numbered))]
+    pub fn from_number(number: u32) -> Option<Role>
+        ensures { result ≡ roles.role_numbered number }
+    {
+        match number {
+            1 => Some(Role::Kernel),
+            2 => Some(Role::Module),
+            3 => Some(Role::Information),
+            4 => Some(Role::BootParams),
+            5 => Some(Role::CommandLine),
+            6 => Some(Role::Gdt),
+            7 => Some(Role::Initrd),
+            8 => Some(Role::PageTables),
+            _ => None,
+        }
+    }
 }
 
 /// Which of the permitted addresses is taken.
@@ -38,6 +56,15 @@ impl Role {
 pub enum Side {
     Lowest,
     Highest,
+}
+
+/// Where a part may lie: at a multiple of `align` (any number from 1 on), not below `low`, and with
+/// its end at most at `high`. As one value none of the three can be taken for another.
+#[derive(Clone, Copy)]
+pub(crate) struct Window {
+    pub(crate) align: u64,
+    pub(crate) low: u64,
+    pub(crate) high: u64,
 }
 
 /// How a part's address is chosen. An address is permitted for a part where it is a multiple of

@@ -33,4 +33,40 @@ impl Protocol {
             Protocol::Linux64 => 3,
         }
     }
+
+    /// The protocol of a number, or none of another number than 1 to 3.
+    #[tactic(auto, unfolding(crate::specs::Protocols::protocol_numbered))]
+    pub fn from_number(number: u32) -> Option<Protocol>
+        ensures { result ≡ protocols.protocol_numbered number }
+    {
+        match number {
+            1 => Some(Protocol::Multiboot2),
+            2 => Some(Protocol::Linux),
+            3 => Some(Protocol::Linux64),
+            _ => None,
+        }
+    }
+
+    /// The protocol's name, as a description has it.
+    pub fn name(self) -> &'static str
+        ensures { result.now ≡ protocols.protocol_name self }
+    {
+        match self {
+            Protocol::Multiboot2 => "multiboot2",
+            Protocol::Linux => "linux",
+            Protocol::Linux64 => "linux64",
+        }
+    }
+
+    /// The protocol of this name, or none of any other.
+    pub fn from_name(name: &str) -> Option<Protocol>
+        ensures { result ≡ protocols.protocol_named name.now }
+    {
+        match name {
+            "multiboot2" => Some(Protocol::Multiboot2),
+            "linux" => Some(Protocol::Linux),
+            "linux64" => Some(Protocol::Linux64),
+            _ => None,
+        }
+    }
 }

@@ -2,11 +2,12 @@
 //! byte to byte.
 ghost use Rattle.std.specs.Prelude.{◌≡◌, ℕ, ◌+◌, ◌≤◌, MatchOption, MatchBool};
 ghost use Rattle.bl_mem.specs.Least.{IsLeast, IsGreatest};
-ghost use Rattle.bl_plan.specs.Permitted.{IsPermitted, IsAtSide};
-ghost use Rattle.bl_plan.specs.Planned.{AreApart};
+ghost use Rattle.bl_plan.specs.Permitted.{IsAtSide};
+ghost use Rattle.bl_plan.specs.Kept.{IsPermittedIn};
+ghost use Rattle.bl_plan.specs.Planned.{AreApartRanges};
 
 use crate::blocked::{blocked_stretch, taken_stretch};
-use crate::part::Side;
+use crate::part::{Side, Window};
 use crate::rounding::{round_down, round_up};
 use bl_map::{FIRST_USABLE, Machine, USABLE_LIMIT};
 use std::alloc::Allocator;
@@ -27,28 +28,26 @@ fn least_place<A: Allocator>(
     machine: &Machine<A>,
     taken: &[Range<u64>],
     length: u64,
-    align: u64,
-    low: u64,
-    high: u64,
+    window: Window,
 ) -> Option<u64>
-    requires apart { AreApart taken.now }
+    requires apart { AreApartRanges taken.now }
     requires filled { 1 ≤ length }
-    requires aligned { 1 ≤ align }
+    requires aligned { 1 ≤ window.align }
     ensures { MatchOption result
-        ((a : ℕ) → ¬ IsPermitted machine.now taken.now length align low high a)
-        (λ a. IsLeast (IsPermitted machine.now taken.now length align low high) a) }
+        ((a : ℕ) → ¬ IsPermittedIn machine.now taken.now length window a)
+        (λ a. IsLeast (IsPermittedIn machine.now taken.now length window) a) }
 {
-    let end = end_of_room(machine, high);
+    let end = end_of_room(machine, window.high);
     if end < length {
         return None;
     }
     let last = end - length;
-    let mut at = round_up(low.max(FIRST_USABLE), align)?;
+    let mut at = round_up(window.low.max(FIRST_USABLE), window.align)?;
     while at <= last {
         let Some(stretch) = blocked_stretch(machine, taken, at, at + length) else {
             return Some(at);
         };
-        at = round_up(stretch.end, align)?;
+        at = round_up(stretch.end, window.align)?;
     }
     None
 }
@@ -58,23 +57,21 @@ fn greatest_place<A: Allocator>(
     machine: &Machine<A>,
     taken: &[Range<u64>],
     length: u64,
-    align: u64,
-    low: u64,
-    high: u64,
+    window: Window,
 ) -> Option<u64>
-    requires apart { AreApart taken.now }
+    requires apart { AreApartRanges taken.now }
     requires filled { 1 ≤ length }
-    requires aligned { 1 ≤ align }
+    requires aligned { 1 ≤ window.align }
     ensures { MatchOption result
-        ((a : ℕ) → ¬ IsPermitted machine.now taken.now length align low high a)
-        (λ a. IsGreatest (IsPermitted machine.now taken.now length align low high) a) }
+        ((a : ℕ) → ¬ IsPermittedIn machine.now taken.now length window a)
+        (λ a. IsGreatest (IsPermittedIn machine.now taken.now length window) a) }
 {
-    let first = low.max(FIRST_USABLE);
-    let end = end_of_room(machine, high);
+    let first = window.low.max(FIRST_USABLE);
+    let end = end_of_room(machine, window.high);
     if end < length {
         return None;
     }
-    let mut at = round_down(end - length, align);
+    let mut at = round_down(end - length, window.align);
     while first <= at {
         let Some(stretch) = blocked_stretch(machine, taken, at, at + length) else {
             return Some(at);
@@ -82,7 +79,7 @@ fn greatest_place<A: Allocator>(
         if stretch.start < length {
             return None;
         }
-        at = round_down(stretch.start - length, align);
+        at = round_down(stretch.start - length, window.align);
     }
     None
 }
@@ -92,21 +89,19 @@ pub fn place_at_side<A: Allocator>(
     machine: &Machine<A>,
     taken: &[Range<u64>],
     length: u64,
-    align: u64,
-    low: u64,
-    high: u64,
+    window: Window,
     side: Side,
 ) -> Option<u64>
-    requires apart { AreApart taken.now }
+    requires apart { AreApartRanges taken.now }
     requires filled { 1 ≤ length }
-    requires aligned { 1 ≤ align }
+    requires aligned { 1 ≤ window.align }
     ensures { MatchOption result
-        ((a : ℕ) → ¬ IsPermitted machine.now taken.now length align low high a)
-        (λ a. IsAtSide side (IsPermitted machine.now taken.now length align low high) a) }
+        ((a : ℕ) → ¬ IsPermittedIn machine.now taken.now length window a)
+        (λ a. IsAtSide side (IsPermittedIn machine.now taken.now length window) a) }
 {
     match side {
-        Side::Lowest => least_place(machine, taken, length, align, low, high),
-        Side::Highest => greatest_place(machine, taken, length, align, low, high),
+        Side::Lowest => least_place(machine, taken, length, window),
+        Side::Highest => greatest_place(machine, taken, length, window),
     }
 }
 
@@ -116,27 +111,25 @@ pub fn is_permitted<A: Allocator>(
     taken: &[Range<u64>],
     at: u64,
     length: u64,
-    align: u64,
-    low: u64,
-    high: u64,
+    window: Window,
 ) -> bool
-    requires apart { AreApart taken.now }
+    requires apart { AreApartRanges taken.now }
     requires filled { 1 ≤ length }
-    requires aligned { 1 ≤ align }
+    requires aligned { 1 ≤ window.align }
     ensures { MatchBool result
-        (IsPermitted machine.now taken.now length align low high at)
-        (¬ IsPermitted machine.now taken.now length align low high at) }
+        (IsPermittedIn machine.now taken.now length window at)
+        (¬ IsPermittedIn machine.now taken.now length window at) }
 {
-    if at % align != 0 {
+    if at % window.align != 0 {
         return false;
     }
-    if at < low {
+    if at < window.low {
         return false;
     }
-    if high < length {
+    if window.high < length {
         return false;
     }
-    if high - length < at {
+    if window.high - length < at {
         return false;
     }
     if !machine.is_usable(at..at + length) {

@@ -6,10 +6,10 @@ ghost use Rattle.bl_load.specs.Value.{file_count, IsCopy, IsWithinLimits};
 
 use crate::entry::{EntryField, ModuleField, protocol_of};
 use crate::refusal::say_fault;
-use bl_load::{Entry, Handoff, MOST_COPY, Plan, load, prepare};
+use bl_load::{Entry, Handoff, MAX_COPY, Plan, load, prepare};
 use bl_map::Machine;
 use bl_mem::{Bytes, Flat, SliceView, Views};
-use bl_plan::{MOST_MODULES, Protocol};
+use bl_plan::{MAX_MODULES, Protocol};
 use bl_refusing::Refusing;
 use bl_rows::row::Row;
 
@@ -82,7 +82,7 @@ fn may_stand(copy: &Option<Bytes<&Refusing>>) -> bool
     ensures { IsTrue result → IfSome copy.now IsCopy }
 {
     match copy {
-        Some(bytes) => 1 <= bytes.len() && bytes.len() <= MOST_COPY,
+        Some(bytes) => 1 <= bytes.len() && bytes.len() <= MAX_COPY,
         None => true,
     }
 }
@@ -101,7 +101,7 @@ fn has_files(entry: &Entry<&Refusing>, files: usize) -> bool
             rsdp_new,
             ..
         } => {
-            modules.len() <= MOST_MODULES
+            modules.len() <= MAX_MODULES
                 && files == 1 + modules.len()
                 && may_stand(rsdp_old)
                 && may_stand(rsdp_new)

@@ -8,19 +8,19 @@ use bl_walk::{Seen, WalkFault, walk};
 
 /// The modules, as ` module=ADDRESS:BYTES:LINE`, and the initial ramdisk, as
 /// ` initrd=ADDRESS:BYTES`.
-fn say_files(row: &mut Row<'_>, seen: &Seen<&Refusing>) {
+fn say_files(row: &mut Row<'_>, seen: &Seen<'_, &Refusing>) {
     for module in &seen.modules {
         row.say_number(" module=", module.mod_start as u64);
-        row.say_bytes(":", module.bytes.as_slice());
+        row.say_bytes(":", module.bytes);
         row.say_bytes(":", module.line.as_slice());
     }
     if let Some(initrd) = &seen.initrd {
         row.say_number(" initrd=", initrd.address as u64);
-        row.say_bytes(":", initrd.bytes.as_slice());
+        row.say_bytes(":", initrd.bytes);
     }
 }
 
-fn say_seen(row: &mut Row<'_>, seen: &Seen<&Refusing>) {
+fn say_seen(row: &mut Row<'_>, seen: &Seen<'_, &Refusing>) {
     row.say_decimal("protocol ", seen.protocol.number() as u64);
     row.say_number(" entry=", seen.entry as u64);
     row.say_bytes(" line=", seen.line.as_slice());

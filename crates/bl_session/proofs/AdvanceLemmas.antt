@@ -6,15 +6,16 @@ use Rattle.std.proofs.lemmas.List.{drop_more, drop_all}
 use Rattle.bl_map.specs.MachineFacts.{MachineFacts}
 use Rattle.bl_load.specs.declared.refusal.Refusal.{Refusal}
 use Rattle.bl_stage.specs.Spots.{Spot, spots}
-use Rattle.bl_session.specs.declared.attempting.Attempt.{Attempt}
-use Rattle.bl_session.specs.declared.attempting.Attempt.TheVariants as attempt
+use Rattle.bl_session.specs.declared.attempt.Attempt.{Attempt}
+use Rattle.bl_session.specs.declared.attempt.Attempt.TheVariants as attempt
+use Rattle.bl_session.specs.declared.attempt.AttemptEnd.TheVariants as ended
 use Rattle.bl_session.specs.declared.words.RefusedEntry.{RefusedEntry}
 use Rattle.bl_session.specs.Ends.{handed, refused, size_refusal}
 use Rattle.bl_session.specs.Menu.{EntryFacts, MenuFacts, entry_at}
 use Rattle.bl_session.specs.Pieces.{are_whole}
 use Rattle.bl_session.specs.Boot.{BootFacts, State, running, handed_over, none_left, sizes_of}
 use Rattle.bl_session.specs.Boot.{fresh, Continues, BeginsUnless, Begins}
-use Rattle.bl_session.specs.Attempt.{IsAttempt, IsBegun, IsRefusedFor}
+use Rattle.bl_session.specs.Attempt.{IsAttempt, IsAttemptBegun, IsRefusedFor}
 use Rattle.bl_session.specs.Phases.{handover_held}
 
 -- ---- one attempt
@@ -25,16 +26,16 @@ abbrev pub state_by : {A : Type 0}
     → State
 state_by entry rest earlier bytes later (attempt.Waits stage) =
     running entry rest earlier (spots bytes stage)
-state_by entry rest earlier bytes later (attempt.HandedOver handoff) =
+state_by entry rest earlier bytes later (attempt.Ended (ended.HandedOver handoff)) =
     handed_over entry earlier (handover_held bytes handoff)
-state_by entry rest earlier bytes later (attempt.Refused refusal) = later
+state_by entry rest earlier bytes later (attempt.Ended (ended.Refused refusal)) = later
 
 -- the next one leads on, if this one is refused
 abbrev pub LeadsOn : {A : Type 0} → (List RefusedEntry → State → Type 0) → ℕ → List RefusedEntry
     → State → Attempt A → Type 0
 LeadsOn next entry earlier later (attempt.Waits stage) = Unit {0}
-LeadsOn next entry earlier later (attempt.HandedOver handoff) = Unit {0}
-LeadsOn next entry earlier later (attempt.Refused refusal) =
+LeadsOn next entry earlier later (attempt.Ended (ended.HandedOver handoff)) = Unit {0}
+LeadsOn next entry earlier later (attempt.Ended (ended.Refused refusal)) =
     next (earlier ++ record { entry = entry; refusal = refusal } ∷ []) later
 
 by_test : (b : Bool) (tested : Bool) (P Q : Type 0) → tested ≡ b → MatchBool b P Q
@@ -50,10 +51,10 @@ pub continues : {A : Type 0} (facts : BootFacts) (next : List RefusedEntry → S
 continues facts next entry rest earlier files bytes later (attempt.Waits stage) (whole, same)
     leads =
     by_test false (are_whole files) _ _ whole (ap (running entry rest earlier) same)
-continues facts next entry rest earlier files bytes later (attempt.HandedOver handoff) (whole, ends)
+continues facts next entry rest earlier files bytes later (attempt.Ended (ended.HandedOver handoff)) (whole, ends)
     leads =
     by_test true (are_whole files) _ _ whole (handed (handover_held bytes handoff), ends, refl)
-continues facts next entry rest earlier files bytes later (attempt.Refused refusal) (whole, ends)
+continues facts next entry rest earlier files bytes later (attempt.Ended (ended.Refused refusal)) (whole, ends)
     leads =
     by_test true (are_whole files) _ _ whole (refused refusal, ends, leads)
 
@@ -68,19 +69,29 @@ begins_unless facts next entry rest earlier bytes later one None is leads =
     continues facts next entry rest earlier (fresh facts entry) bytes later one is leads
 begins_unless facts next entry rest earlier bytes later (attempt.Waits stage) (Some r) is leads =
     absurd is
-begins_unless facts next entry rest earlier bytes later (attempt.HandedOver handoff) (Some r) is
+begins_unless facts next entry rest earlier bytes later (attempt.Ended (ended.HandedOver handoff)) (Some r) is
     leads = absurd is
-begins_unless facts next entry rest earlier bytes later (attempt.Refused refusal) (Some r) is
+begins_unless facts next entry rest earlier bytes later (attempt.Ended (ended.Refused refusal)) (Some r) is
     leads =
     subst (λ (x : Refusal). next (earlier ++ record { entry = entry; refusal = x } ∷ []) later) is
     leads
+
+-- an attempt was begun with the sizes that a slice has
+pub begun_by : {A : Type 0} (facts : MachineFacts) (entry : EntryFacts) (now sizes : List (Option ℕ))
+    (bytes : List ℕ) (one : Attempt A) → now ≡ sizes
+    → IsAttemptBegun facts entry (map (λ file. get_or now file None) entry.files) bytes one
+    → IsAttemptBegun facts entry (map (λ file. get_or sizes file None) entry.files) bytes one
+begun_by facts entry now sizes bytes one same begun =
+    subst
+    (λ (s : List (Option ℕ)).
+    IsAttemptBegun facts entry (map (λ file. get_or s file None) entry.files) bytes one) same begun
 
 -- the attempt of a number
 pub begins_at : {A : Type 0} (facts : BootFacts) (next entry : ℕ) (offered : EntryFacts)
     (earlier : List RefusedEntry) (bytes : List ℕ) (later : State) (got one : Attempt A)
     → next < length facts.menu.attempts → ((d : ℕ) → entry ≡ get_or facts.menu.attempts next d)
     → offered ≡ entry_at facts.menu entry
-    → IsBegun facts.machine offered (map (λ file. get_or facts.sizes file None) offered.files) bytes
+    → IsAttemptBegun facts.machine offered (map (λ file. get_or facts.sizes file None) offered.files) bytes
     got → got ≡ one
     → LeadsOn (Begins facts (drop (next + 1) facts.menu.attempts)) entry earlier later one
     → Begins facts (drop next facts.menu.attempts) earlier
@@ -92,13 +103,13 @@ begins_at {A} facts next entry offered earlier bytes later got one h is same beg
     let of_one =
     subst
     (λ (x : Attempt A).
-    IsBegun facts.machine offered
+    IsAttemptBegun facts.machine offered
     (map (λ file. get_or facts.sizes file None) offered.files) bytes x) got_is
     begun in
     let mine =
     subst
     (λ (e : EntryFacts).
-    IsBegun facts.machine e (map (λ file. get_or facts.sizes file None) e.files) bytes
+    IsAttemptBegun facts.machine e (map (λ file. get_or facts.sizes file None) e.files) bytes
     one) same of_one in
     subst (λ (xs : List ℕ). Begins facts xs earlier (state_by entry rest earlier bytes later one))
     (sym first)
@@ -106,25 +117,23 @@ begins_at {A} facts next entry offered earlier bytes later got one h is same beg
     (size_refusal facts.machine (sizes_of facts entry)) mine leads)
 
 -- one that is refused, where the next ones lead on
-pub begins_later : {A P E : Type 0} (facts : BootFacts) (next entry : ℕ) (offered : EntryFacts)
+pub begins_refused : {A : Type 0} (facts : BootFacts) (next entry : ℕ) (offered : EntryFacts)
     (earlier later : List RefusedEntry) (bytes : List ℕ) (got : Attempt A) (refusal : Refusal)
-    (result : Result P E) (state : P → State)
+    (state : State)
     → next < length facts.menu.attempts → ((d : ℕ) → entry ≡ get_or facts.menu.attempts next d)
     → offered ≡ entry_at facts.menu entry
-    → IsBegun facts.machine offered (map (λ file. get_or facts.sizes file None) offered.files) bytes
-    got → got ≡ attempt.Refused refusal
+    → IsAttemptBegun facts.machine offered (map (λ file. get_or facts.sizes file None) offered.files) bytes
+    got → got ≡ attempt.Ended (ended.Refused refusal)
     → later ≡ earlier ++ record { entry = entry; refusal = refusal } ∷ []
-    → IfOk result (λ phase. Begins facts (drop (next + 1) facts.menu.attempts) later (state phase))
-    → IfOk result (λ phase. Begins facts (drop next facts.menu.attempts) earlier (state phase))
-begins_later facts next entry offered earlier later bytes got refusal (Err e) state h is same begun
-    got_is grown leads = tt
-begins_later facts next entry offered earlier later bytes got refusal (Ok phase) state h is same
-    begun got_is grown leads =
-    begins_at facts next entry offered earlier bytes (state phase) got (attempt.Refused refusal) h
-    is same begun got_is
+    → Begins facts (drop (next + 1) facts.menu.attempts) later state
+    → Begins facts (drop next facts.menu.attempts) earlier state
+begins_refused facts next entry offered earlier later bytes got refusal state h is same begun got_is
+    grown leads =
+    begins_at facts next entry offered earlier bytes state got
+    (attempt.Ended (ended.Refused refusal)) h is same begun got_is
     (subst
-    (λ (r : List RefusedEntry).
-    Begins facts (drop (next + 1) facts.menu.attempts) r (state phase)) grown leads)
+    (λ (r : List RefusedEntry). Begins facts (drop (next + 1) facts.menu.attempts) r state) grown
+    leads)
 
 pub begins_none : (facts : BootFacts) (next : ℕ) (earlier : List RefusedEntry)
     → length facts.menu.attempts ≤ next
@@ -140,7 +149,7 @@ pub continues_later : {A P E : Type 0} (facts : BootFacts)
     (refusal : Refusal)
     (result : Result P E) (state : P → State)
     → IsAttempt facts.machine (entry_at facts.menu entry) files bytes got
-    → got ≡ attempt.Refused refusal
+    → got ≡ attempt.Ended (ended.Refused refusal)
     → IfOk result
     (λ phase. next (earlier ++ record { entry = entry; refusal = refusal } ∷ []) (state phase))
     → IfOk result (λ phase. Continues facts next entry rest earlier files (state phase))
@@ -152,7 +161,7 @@ continues_later {A} facts next entry rest earlier files bytes got refusal (Ok ph
     subst (λ (x : Attempt A). IsAttempt facts.machine (entry_at facts.menu entry) files bytes x)
     got_is is in
     continues {A = A} facts next entry rest earlier files bytes (state phase)
-    (attempt.Refused refusal) mine leads
+    (attempt.Ended (ended.Refused refusal)) mine leads
 
 -- an attempt as its entry is offered
 pub attempt_of_entry : {A : Type 0} (facts : MachineFacts) (menu : MenuFacts) (entry : ℕ)

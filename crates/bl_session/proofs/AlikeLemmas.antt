@@ -5,14 +5,14 @@ use Rattle.std.proofs.Common.{inr}
 use Rattle.bl_map.specs.MachineFacts.{MachineFacts}
 use Rattle.bl_load.specs.declared.refusal.Refusal.{Refusal}
 use Rattle.bl_load.specs.declared.refusal.Refusal.TheVariants.{FileFault}
-use Rattle.bl_stage.specs.Spots.{Spot, bytes_of}
+use Rattle.bl_stage.specs.Spots.{Spot, came_bytes}
 use Rattle.bl_session.specs.declared.words.RefusedEntry.{RefusedEntry}
-use Rattle.bl_session.specs.Ends.{End, handed, refused, EndsIn, size_refusal, lengths_of}
+use Rattle.bl_session.specs.Ends.{End, handed, refused, EndsIn, size_refusal, known_lengths}
 use Rattle.bl_session.specs.Menu.{MenuFacts, entry_at, value_with}
 use Rattle.bl_session.specs.Pieces.{are_whole, awaited, with_piece}
 use Rattle.bl_session.specs.Boot.{BootFacts, EventFacts, piece, fault, State, unstarted, running}
 use Rattle.bl_session.specs.Boot.{handed_over, none_left, out_of_memory, sizes_of, fresh}
-use Rattle.bl_session.specs.Boot.{EntryEndsIn, Sequel, GoesOn, Continues, BeginsUnless, Begins}
+use Rattle.bl_session.specs.Boot.{EntryEndsIn, Continuation, AfterAttempt, Continues, BeginsUnless, Begins}
 use Rattle.bl_session.specs.Boot.{is_wanted, Takes, Steps, StepsOrFails, Starts, StartsOrFails}
 use Rattle.bl_session.specs.Boot.{attempt_of}
 use Rattle.bl_session.specs.History.{Item}
@@ -51,14 +51,14 @@ ends_alike f g alike entry texts end ends =
     (subst (λ (m : MenuFacts). EndsIn f.machine (value_with (entry_at m entry) texts) end)
     alike.menu ends)
 
-goes_alike : (next more : Sequel) → ((r : List RefusedEntry) (s : State) → next r s → more r s)
+goes_alike : (next more : Continuation) → ((r : List RefusedEntry) (s : State) → next r s → more r s)
     → (entry : ℕ) (earlier : List RefusedEntry) (end : End) (new : State)
-    → GoesOn next entry earlier end new → GoesOn more entry earlier end new
+    → AfterAttempt next entry earlier end new → AfterAttempt more entry earlier end new
 goes_alike next more leads entry earlier (handed handover) new goes = goes
 goes_alike next more leads entry earlier (refused refusal) new goes =
     leads (earlier ++ record { entry = entry; refusal = refusal } ∷ []) new goes
 
-continues_alike : (f g : BootFacts) → AreAlike f g → (next more : Sequel)
+continues_alike : (f g : BootFacts) → AreAlike f g → (next more : Continuation)
     → ((r : List RefusedEntry) (s : State) → next r s → more r s)
     → (entry : ℕ) (rest : List ℕ) (earlier : List RefusedEntry) (files : List (List Spot))
     (new : State)
@@ -68,19 +68,19 @@ continues_alike f g alike next more leads entry rest earlier files new goes =
   where
     choice : (b : Bool)
         → MatchBool b
-        ((end : End) × EntryEndsIn f entry (map bytes_of files) end
-        × GoesOn next entry earlier end new) (new ≡ running entry rest earlier files)
+        ((end : End) × EntryEndsIn f entry (map came_bytes files) end
+        × AfterAttempt next entry earlier end new) (new ≡ running entry rest earlier files)
         → MatchBool b
-        ((end : End) × EntryEndsIn g entry (map bytes_of files) end
-        × GoesOn more entry earlier end new) (new ≡ running entry rest earlier files)
+        ((end : End) × EntryEndsIn g entry (map came_bytes files) end
+        × AfterAttempt more entry earlier end new) (new ≡ running entry rest earlier files)
     choice true (end, ends, on) = (
       end,
-      ends_alike f g alike entry (map bytes_of files) end ends,
+      ends_alike f g alike entry (map came_bytes files) end ends,
       goes_alike next more leads entry earlier end new on,
     )
     choice false same = same
 
-unless_alike : (f g : BootFacts) → AreAlike f g → (next more : Sequel)
+unless_alike : (f g : BootFacts) → AreAlike f g → (next more : Continuation)
     → ((r : List RefusedEntry) (s : State) → next r s → more r s)
     → (entry : ℕ) (rest : List ℕ) (earlier : List RefusedEntry) (why : Option Refusal) (new : State)
     → BeginsUnless f next entry rest earlier why new
@@ -91,7 +91,7 @@ unless_alike f g alike next more leads entry rest earlier None new goes =
     continues_alike f g alike next more leads entry rest earlier (fresh g entry) new
     (subst
     (λ (sizes : List (Option ℕ)).
-    Continues f next entry rest earlier (awaited (lengths_of sizes)) new)
+    Continues f next entry rest earlier (awaited (known_lengths sizes)) new)
     (alike.sizes entry) goes)
 
 begins_alike : (f g : BootFacts) → AreAlike f g

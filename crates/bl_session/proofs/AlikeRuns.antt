@@ -9,7 +9,7 @@ use Rattle.bl_session.specs.Attempts.{count_to, files_named}
 use Rattle.bl_session.specs.Boot.{BootFacts, State, unstarted}
 use Rattle.bl_session.specs.Outcome.{File, missing, size_of}
 use Rattle.bl_session.specs.History.{Item}
-use Rattle.bl_session.specs.Run.{World, world_of, Hears, Reads, IsRun}
+use Rattle.bl_session.specs.Run.{World, world_of, Delivers, Reads, IsRun}
 use Rattle.bl_session.specs.Phases.{boot_facts}
 use Rattle.bl_session.proofs.EntryEndLemmas.{size_at}
 use Rattle.bl_session.proofs.AlikeLemmas.{AreAlike, orders_alike, orders_after_alike, step_alike}
@@ -19,8 +19,8 @@ use Rattle.bl_session.proofs.AlikeLemmas.{start_alike}
 
 hears_alike : (f g : BootFacts) → AreAlike f g
     → (files : List File) (given : List Item) (state : State) (owed : List Item) (item : Item)
-    (next : World) → Hears f files given state owed item next
-    → Hears g files given state owed item next
+    (next : World) → Delivers f files given state owed item next
+    → Delivers g files given state owed item next
 hears_alike f g alike files given state (order ∷ owed) item next hears = hears
 hears_alike f g alike files given state [] item next (event, is, steps, left) = (
   event,

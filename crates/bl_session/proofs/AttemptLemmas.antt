@@ -1,20 +1,20 @@
 -- An attempt that waits, or whose files are whole.
-use Rattle.std.proofs.Common.{◌≡◌, ◌↔◌, ℕ, Bool, true, false, List, map, Option, None, Result, Ok}
-use Rattle.std.proofs.Common.{Err, IfOk, MatchOption, refl, sym, ap, subst, ◌∙◌}
+use Rattle.std.proofs.Common.{◌≡◌, ◌↔◌, ℕ, Bool, true, false, List, map, Option, None}
+use Rattle.std.proofs.Common.{MatchOption, refl, sym, ap, subst, ◌∙◌}
 use Rattle.std.specs.Bool.{IsTrue}
 use Rattle.bl_map.specs.MachineFacts.{MachineFacts}
 use Rattle.bl_load.specs.declared.entry.Entry.{Entry}
 use Rattle.bl_load.specs.declared.entry.Entry.TheVariants.{Multiboot2, Linux}
 use Rattle.bl_load.specs.declared.refusal.Refusal.{Refusal}
 use Rattle.bl_load.specs.Value.{EntryValue, value_of}
-use Rattle.bl_stage.specs.Staged.{Staging, AreStaged, AllCame, texts_of}
-use Rattle.bl_stage.specs.Spots.{Spot, spots, bytes_of}
-use Rattle.bl_session.specs.Ends.{End, EndsIn, size_refusal, lengths_of}
+use Rattle.bl_stage.specs.Staged.{Staging, AreStaged, AllCame, staged_texts}
+use Rattle.bl_stage.specs.Spots.{Spot, spots, came_bytes}
+use Rattle.bl_session.specs.Ends.{End, EndsIn, size_refusal, known_lengths}
 use Rattle.bl_session.specs.Menu.{EntryFacts, facts_of, value_with}
 use Rattle.bl_session.specs.Pieces.{are_whole, awaited}
 use Rattle.bl_session.specs.PhasesKept.{IsFresh}
-use Rattle.bl_session.specs.Attempt.{IsAttempt, IsBegun, IsRefusedFor}
-use Rattle.bl_session.specs.declared.attempting.Attempt.{Attempt}
+use Rattle.bl_session.specs.Attempt.{IsAttempt, IsAttemptBegun, IsRefusedFor}
+use Rattle.bl_session.specs.declared.attempt.Attempt.{Attempt}
 use Rattle.bl_session.proofs.WholeLemmas.{first_awaited, whole_came, whole_texts}
 
 -- its value once its files hold these texts
@@ -37,28 +37,26 @@ not_whole bytes stage complete kept exact is =
 -- what is known of the texts is known of the spots
 pub ends_by_spots : {A : Type 0} (facts : MachineFacts) (entry : Entry A) (bytes : List ℕ)
     (stage : Staging) (end : End) → AreStaged stage → AllCame stage
-    → EndsIn facts (value_of (texts_of bytes stage) entry) end
-    → EndsIn facts (value_with (facts_of entry) (map bytes_of (spots bytes stage))) end
+    → EndsIn facts (value_of (staged_texts bytes stage) entry) end
+    → EndsIn facts (value_with (facts_of entry) (map came_bytes (spots bytes stage))) end
 ends_by_spots facts entry bytes stage end kept came ends =
-    let value : value_of (texts_of bytes stage) entry
-    ≡ value_with (facts_of entry) (map bytes_of (spots bytes stage)) =
+    let value : value_of (staged_texts bytes stage) entry
+    ≡ value_with (facts_of entry) (map came_bytes (spots bytes stage)) =
     sym
     (ap (value_with (facts_of entry)) (whole_texts bytes stage kept came)
-    ∙ value_is entry (texts_of bytes stage)) in
+    ∙ value_is entry (staged_texts bytes stage)) in
     subst (λ (v : EntryValue). EndsIn facts v end) value ends
 
 -- an attempt whose stage was begun
-pub begun_staged : {A E : Type 0} (facts : MachineFacts) (entry : EntryFacts)
-    (sizes : List (Option ℕ)) (old new : List ℕ) (stage : Staging) (result : Result (Attempt A) E)
+pub begun_staged : {A : Type 0} (facts : MachineFacts) (entry : EntryFacts)
+    (sizes : List (Option ℕ)) (old new : List ℕ) (stage : Staging) (attempt : Attempt A)
     → size_refusal facts sizes ≡ None → IsFresh facts sizes stage
-    → IfOk result (IsAttempt facts entry (spots old stage) new)
-    → IfOk result (IsBegun facts entry sizes new)
-begun_staged facts entry sizes old new stage (Err e) none begun is = tt
-begun_staged facts entry sizes old new stage (Ok attempt) none begun is =
-    let same : spots old stage ≡ awaited (lengths_of sizes) =
-    ap (spots old) begun.1 ∙ first_awaited old facts.pool (lengths_of sizes) begun.0 in
+    → IsAttempt facts entry (spots old stage) new attempt → IsAttemptBegun facts entry sizes new attempt
+begun_staged facts entry sizes old new stage attempt none begun is =
+    let same : spots old stage ≡ awaited (known_lengths sizes) =
+    ap (spots old) begun.1 ∙ first_awaited old facts.pool (known_lengths sizes) begun.0 in
     subst
     (λ (o : Option Refusal).
-    MatchOption o (IsAttempt facts entry (awaited (lengths_of sizes)) new attempt)
+    MatchOption o (IsAttempt facts entry (awaited (known_lengths sizes)) new attempt)
     (IsRefusedFor attempt)) (sym none)
     (subst (λ (files : List (List Spot)). IsAttempt facts entry files new attempt) same is)

@@ -12,7 +12,7 @@ use Rattle.bl_load.proofs.HandoverLaws.{one_handover, one_refusal, not_both}
 use Rattle.bl_load.proofs.TotalLaws.{handover_or_refusal}
 use Rattle.bl_session.specs.Ends.{End, handed, refused, HasRoomBeside, LacksRoom, EndsIn}
 use Rattle.bl_session.specs.Ends.{part_range}
-use Rattle.bl_session.specs.Ends.{Else, Ends, size_refusal}
+use Rattle.bl_session.specs.Ends.{OrRefused, Ends, size_refusal}
 
 -- an entry whose parts leave no room is not handed over
 no_room : (facts : MachineFacts) (value : EntryValue) (handover : Handover) → LacksRoom facts value
@@ -67,13 +67,13 @@ some_end_in facts value =
 
 -- a check before one end
 one_behind : (first : Option Refusal) (rest : End → Type 0)
-    → ((e f : End) → rest e → rest f → e ≡ f) → (e f : End) → Else first rest e → Else first rest f
+    → ((e f : End) → rest e → rest f → e ≡ f) → (e f : End) → OrRefused first rest e → OrRefused first rest f
     → e ≡ f
 one_behind None rest one e f a b = one e f a b
 one_behind (Some refusal) rest one e f a b = a ∙ sym b
 
 some_behind : (first : Option Refusal) (rest : End → Type 0) → (end : End) × rest end
-    → (end : End) × Else first rest end
+    → (end : End) × OrRefused first rest end
 some_behind None rest some = some
 some_behind (Some refusal) rest some = (refused refusal, refl)
 
@@ -81,11 +81,11 @@ pub one_end : (facts : MachineFacts) (sizes : List (Option ℕ)) (fault : Option
     (value : EntryValue) (e f : End) → Ends facts sizes fault value e
     → Ends facts sizes fault value f → e ≡ f
 one_end facts sizes fault value =
-    one_behind (size_refusal facts sizes) (Else (option_map FileFault fault) (EndsIn facts value))
+    one_behind (size_refusal facts sizes) (OrRefused (option_map FileFault fault) (EndsIn facts value))
     (one_behind (option_map FileFault fault) (EndsIn facts value) (one_end_in facts value))
 
 pub some_end : (facts : MachineFacts) (sizes : List (Option ℕ)) (fault : Option ℕ)
     (value : EntryValue) → (end : End) × Ends facts sizes fault value end
 some_end facts sizes fault value =
-    some_behind (size_refusal facts sizes) (Else (option_map FileFault fault) (EndsIn facts value))
+    some_behind (size_refusal facts sizes) (OrRefused (option_map FileFault fault) (EndsIn facts value))
     (some_behind (option_map FileFault fault) (EndsIn facts value) (some_end_in facts value))

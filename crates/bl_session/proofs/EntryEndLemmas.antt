@@ -9,8 +9,8 @@ use Rattle.bl_load.specs.declared.refusal.Refusal.{Refusal}
 use Rattle.bl_load.specs.declared.refusal.Refusal.TheVariants.{FileFault, FileTooLong}
 use Rattle.bl_load.specs.Value.{EntryValue}
 use Rattle.bl_stage.specs.Spots.{waiting_spots}
-use Rattle.bl_session.specs.Ends.{End, refused, EndsIn, Ends, Else, size_refusal, file_refusal}
-use Rattle.bl_session.specs.Ends.{pool_refusal, lengths_of, file_limit}
+use Rattle.bl_session.specs.Ends.{End, refused, EndsIn, Ends, OrRefused, size_refusal, file_refusal}
+use Rattle.bl_session.specs.Ends.{pool_refusal, known_lengths, file_limit}
 use Rattle.bl_session.specs.Menu.{entry_at}
 use Rattle.bl_session.specs.Boot.{BootFacts, sizes_of, fresh}
 use Rattle.bl_session.specs.Outcome.{File, missing, too_long, whole, size_of, file_bytes, texts_of}
@@ -67,7 +67,7 @@ first_none None b e = refl
 first_none (Some r) b e = absurd cc
 
 fits_read : (sizes : List (Option ℕ)) (texts : List (List ℕ)) → AreRead sizes texts
-    → FitAll (map waiting_spots (lengths_of sizes)) texts
+    → FitAll (map waiting_spots (known_lengths sizes)) texts
 fits_read [] [] h = tt
 fits_read [] (text ∷ texts) h = absurd h
 fits_read (size ∷ sizes) [] h = absurd h
@@ -86,7 +86,7 @@ are_read facts files entry k e =
     let none : file_refusal 0 (map (λ file. get_or (map size_of files) file None) indices) ≡ None =
     rw sizes at
     (first_none (file_refusal 0 (sizes_of facts entry))
-    (pool_refusal facts.machine (lengths_of (sizes_of facts entry))) e) in
+    (pool_refusal facts.machine (known_lengths (sizes_of facts entry))) e) in
     rw sizes (read_all files 0 indices none)
 
 pub fits_fresh : (facts : BootFacts) (files : List File) (entry : ℕ)
@@ -97,7 +97,7 @@ fits_fresh facts files entry k e = fits_read _ _ (are_read facts files entry k e
 
 -- the length of each file is that of its text
 pub length_read : (sizes : List (Option ℕ)) (texts : List (List ℕ)) → AreRead sizes texts → (i : ℕ)
-    → get_or (lengths_of sizes) i 0 ≡ length (get_or texts i [])
+    → get_or (known_lengths sizes) i 0 ≡ length (get_or texts i [])
 length_read [] [] read i = refl
 length_read [] (text ∷ texts) read i = absurd read
 length_read (size ∷ sizes) [] read i = absurd read
@@ -112,7 +112,7 @@ pub ends_by_size : (facts : MachineFacts) (sizes : List (Option ℕ)) (faulty : 
 ends_by_size facts sizes faulty value r e =
     subst
     (λ (x : Option Refusal).
-    Else x (Else (option_map FileFault faulty) (EndsIn facts value)) (refused r)) (sym e)
+    OrRefused x (OrRefused (option_map FileFault faulty) (EndsIn facts value)) (refused r)) (sym e)
     refl
 
 pub ends_by_fault : (facts : MachineFacts) (sizes : List (Option ℕ)) (faulty : Option ℕ)
@@ -121,11 +121,11 @@ pub ends_by_fault : (facts : MachineFacts) (sizes : List (Option ℕ)) (faulty :
 ends_by_fault facts sizes faulty value place e f =
     subst
     (λ (x : Option Refusal).
-    Else x (Else (option_map FileFault faulty) (EndsIn facts value))
+    OrRefused x (OrRefused (option_map FileFault faulty) (EndsIn facts value))
     (refused (FileFault place))) (sym e)
     (subst
     (λ (x : Option ℕ).
-    Else (option_map FileFault x) (EndsIn facts value) (refused (FileFault place))) (sym f)
+    OrRefused (option_map FileFault x) (EndsIn facts value) (refused (FileFault place))) (sym f)
     refl)
 
 pub ends_whole : (facts : MachineFacts) (sizes : List (Option ℕ)) (faulty : Option ℕ)
@@ -134,6 +134,6 @@ pub ends_whole : (facts : MachineFacts) (sizes : List (Option ℕ)) (faulty : Op
 ends_whole facts sizes faulty value end e f in_value =
     subst
     (λ (x : Option Refusal).
-    Else x (Else (option_map FileFault faulty) (EndsIn facts value)) end) (sym e)
-    (subst (λ (x : Option ℕ). Else (option_map FileFault x) (EndsIn facts value) end) (sym f)
+    OrRefused x (OrRefused (option_map FileFault faulty) (EndsIn facts value)) end) (sym e)
+    (subst (λ (x : Option ℕ). OrRefused (option_map FileFault x) (EndsIn facts value) end) (sym f)
     in_value)

@@ -8,7 +8,7 @@ use Rattle.bl_session.specs.Boot.{none_left, out_of_memory, is_wanted, Takes, St
 use Rattle.bl_session.specs.Outcome.{File, Faults}
 use Rattle.bl_session.specs.History.{Item}
 use Rattle.bl_session.specs.Orders.{orders_after}
-use Rattle.bl_session.specs.Run.{IsAnswer, World, Hears, IsMarked, AreToldFaults, IsGenuineItem}
+use Rattle.bl_session.specs.Run.{IsAnswer, World, Delivers, IsMarked, AreToldFaults, IsGenuineItem}
 use Rattle.bl_session.specs.Run.{AreGenuine}
 use Rattle.bl_session.proofs.BootLaws.{one_step}
 use Rattle.bl_session.proofs.WentLemmas.{IsNewFrom}
@@ -83,7 +83,7 @@ module _ (facts : BootFacts) (files : List File) where
     other_world : (others : Faults) (event : EventFacts) (next world : World) (items : List Item)
         → IsAnswer files given earlier spots item event → Steps facts here event next.state
         → next.owed ≡ orders_after facts here next.state
-        → Hears facts files given here [] item world
+        → Delivers facts files given here [] item world
         → AreGenuine facts files others (given ++ item ∷ []) next items
         → AreGenuine facts files others (given ++ item ∷ []) world items
     other_world others event next world items p goes left (other, q, inr (lost, ends), owed)

@@ -5,7 +5,7 @@ use Rattle.bl_session.specs.Boot.{none_left, out_of_memory, StartsOrFails}
 use Rattle.bl_session.specs.Outcome.{File, Faults}
 use Rattle.bl_session.specs.History.{Item}
 use Rattle.bl_session.specs.Orders.{orders}
-use Rattle.bl_session.specs.Run.{IsEventOf, World, world_of, Hears, Reads, IsRun, AreGenuine}
+use Rattle.bl_session.specs.Run.{IsEventOf, World, world_of, Delivers, Reads, IsRun, AreGenuine}
 use Rattle.bl_session.specs.Run.{IsGenuineRun}
 use Rattle.bl_session.specs.Marked.{IsMarkedItem, AreMarked, IsMarkedRun}
 use Rattle.bl_session.proofs.BootLaws.{one_start}
@@ -19,7 +19,7 @@ module _ (facts : BootFacts) (files : List File) where
       (owed : List Item) (next : World) (end : State)
       → ((event : EventFacts) → owed ≡ [] → IsEventOf files given state item event
       → IsMarkedItem state item event)
-      → Hears facts files given state owed item next
+      → Delivers facts files given state owed item next
       → Reads facts files (given ++ item ∷ []) next items end
       → Fits facts files (given ++ item ∷ []) next items
       → Fits facts files given (record { state = state; owed = owed }) (item ∷ items)

@@ -3,13 +3,13 @@ use Rattle.std.proofs.Common.{◌≡◌, ℕ, Bool, true, false, MatchBool, List
 use Rattle.std.proofs.Common.{Option, Some, None, sym, ap, subst, ◌∙◌, refl, map, if◌then◌else◌}
 use Rattle.bl_load.specs.declared.refusal.Refusal.{Refusal}
 use Rattle.bl_load.specs.declared.refusal.Refusal.TheVariants.{FileFault}
-use Rattle.bl_stage.specs.Spots.{Spot, bytes_of}
+use Rattle.bl_stage.specs.Spots.{Spot, came_bytes}
 use Rattle.bl_session.specs.declared.words.RefusedEntry.{RefusedEntry}
 use Rattle.bl_session.specs.Ends.{End, handed, refused, EndsIn, size_refusal}
 use Rattle.bl_session.specs.Pieces.{are_whole, with_piece}
 use Rattle.bl_session.specs.Boot.{BootFacts, EventFacts, piece, fault, State, unstarted, running}
 use Rattle.bl_session.specs.Boot.{handed_over, none_left, out_of_memory, sizes_of, fresh}
-use Rattle.bl_session.specs.Boot.{EntryEndsIn, GoesOn, BeginsUnless, Begins, is_wanted, Takes}
+use Rattle.bl_session.specs.Boot.{EntryEndsIn, AfterAttempt, BeginsUnless, Begins, is_wanted, Takes}
 use Rattle.bl_session.specs.Boot.{Steps, LeadsTo}
 use Rattle.bl_session.specs.Outcome.{File, size_of, texts_of, value_in, faulty_in, IsTrueOf}
 use Rattle.bl_session.specs.Outcome.{IsGenuineAt, IsGenuine, EntryEnds, IsFirst, IsOutcome}
@@ -49,7 +49,7 @@ module _ (facts : BootFacts) (files : List File) (faults : ℕ → Option ℕ)
   follows_end : (entry : ℕ) (rest : List ℕ) (earlier : List RefusedEntry) (e : End) (new : State)
       → ((r : List RefusedEntry) (s : State) → Begins facts rest r s → Follows rest r s)
       → EntryEnds facts files (faults (length earlier)) entry e
-      → GoesOn (Begins facts rest) entry earlier e new → Follows (entry ∷ rest) earlier new
+      → AfterAttempt (Begins facts rest) entry earlier e new → Follows (entry ∷ rest) earlier new
   follows_end entry rest earlier (handed h) new more ends goes = (
     subst Holds (sym goes) tt,
     λ end comes. (handed h, ends, subst (λ (s : State). Comes s end) goes comes),
@@ -68,8 +68,8 @@ module _ (facts : BootFacts) (files : List File) (faults : ℕ → Option ℕ)
       → (full ≡ true → faulty_in facts entry (faults (length earlier)) ≡ None)
       → are_whole spots ≡ full
       → MatchBool full
-      ((end : End) × EntryEndsIn facts entry (map bytes_of spots) end
-      × GoesOn (Begins facts rest) entry earlier end new)
+      ((end : End) × EntryEndsIn facts entry (map came_bytes spots) end
+      × AfterAttempt (Begins facts rest) entry earlier end new)
       (new ≡ running entry rest earlier spots)
       → Follows (entry ∷ rest) earlier new
   follows_pieces entry rest earlier spots false new more sized fit waits told is goes = (
@@ -77,7 +77,7 @@ module _ (facts : BootFacts) (files : List File) (faults : ℕ → Option ℕ)
     λ end comes. subst (λ (s : State). Comes s end) goes comes,
   )
   follows_pieces entry rest earlier spots true new more sized fit waits told is (e, ends, goes) =
-      let texts : map bytes_of spots ≡ texts_of facts files entry =
+      let texts : map came_bytes spots ≡ texts_of facts files entry =
       whole_files spots (texts_of facts files entry) fit is in
       let of_value : EndsIn facts.machine (value_in facts files entry) e =
       subst (λ (x : List (List ℕ)). EntryEndsIn facts entry x e) texts ends in

@@ -5,7 +5,7 @@ use Rattle.std.proofs.Common.{ap, ◌∙◌, arith, length-drop}
 use Rattle.std.specs.List.{list_all, range_with_len}
 use Rattle.std.proofs.lemmas.List.{take-append-drop, drop-drop}
 use Rattle.bl_map.specs.Room.{frames_of}
-use Rattle.bl_stage.specs.Spots.{Spot, waits, has, waiting_spots, piece_of, bytes_of}
+use Rattle.bl_stage.specs.Spots.{Spot, waits, has, waiting_spots, piece_of, came_bytes}
 use Rattle.bl_session.specs.Pieces.{is_awaited, are_whole, with_piece}
 
 -- each piece that came is the file's, and each other one is awaited
@@ -66,7 +66,7 @@ both true b e = (refl, e)
 both false b e = absurd cc
 
 whole_file : (spots : List Spot) (text : List ℕ) → Fits spots text
-    → list_all (λ spot. not (is_awaited spot)) spots ≡ true → bytes_of spots ≡ text
+    → list_all (λ spot. not (is_awaited spot)) spots ≡ true → came_bytes spots ≡ text
 whole_file [] text f w = sym f
 whole_file (waits size ∷ spots) text f w = absurd cc
 whole_file (has bytes ∷ spots) text f w =
@@ -74,7 +74,7 @@ whole_file (has bytes ∷ spots) text f w =
 
 -- once each came
 pub whole_files : (files : List (List Spot)) (texts : List (List ℕ)) → FitAll files texts
-    → are_whole files ≡ true → map bytes_of files ≡ texts
+    → are_whole files ≡ true → map came_bytes files ≡ texts
 whole_files [] [] f w = refl
 whole_files [] (text ∷ texts) f w = absurd f
 whole_files (spots ∷ files) [] f w = absurd f

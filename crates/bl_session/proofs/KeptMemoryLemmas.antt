@@ -5,7 +5,7 @@ use Rattle.std.proofs.Common.{inr, arith}
 use Rattle.std.specs.declared.ops.Range.{Range}
 use Rattle.std.proofs.lemmas.Bool.{cases_lt}
 use Rattle.std.proofs.lemmas.Bool.Decides.{nat_tests}
-use Rattle.bl_mem.specs.Memory.{IsIn}
+use Rattle.bl_mem.specs.Memory.{IsIn, KeepsMemory}
 use Rattle.bl_load.specs.After.{IsAfter}
 use Rattle.bl_load.specs.Handover.{Part}
 use Rattle.bl_stage.specs.Ranges.{IsSameOutside, scrubbed}
@@ -13,6 +13,16 @@ use Rattle.bl_session.specs.Boot.{State, running, handed_over, none_left, unstar
 use Rattle.bl_session.specs.Memory.{IsMemoryIn}
 
 -- ---- memory
+
+-- a call after another keeps what both keep
+pub keeps_on : {M : Type 0} {lender : M → ℕ} {bytes : M → List ℕ} {room : M → ℕ → Type 0}
+    {old mid new : M} → KeepsMemory lender bytes room old mid
+    → KeepsMemory lender bytes room mid new → KeepsMemory lender bytes room old new
+keeps_on first second = record {
+  lender = second.lender ∙ first.lender;
+  size = second.size ∙ first.size;
+  room = λ a had. second.room a (first.room a had);
+}
 
 pub same_on : (pool : Range ℕ) (old mid new : List ℕ) → IsSameOutside pool old mid
     → IsSameOutside pool mid new → IsSameOutside pool old new

@@ -24,6 +24,8 @@ pub mod AfterLemmas
 pub mod FinishLemmas
 pub mod StepLemmas
 pub mod StepFaultLemmas
+pub mod SubmissionLemmas
+pub mod EndedLemmas
 pub mod RequestLemmas
 pub mod StoreLemmas
 pub mod ToldLemmas

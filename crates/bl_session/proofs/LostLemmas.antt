@@ -5,7 +5,7 @@ use Rattle.bl_session.specs.Boot.{BootFacts, State, out_of_memory, attempt_of}
 use Rattle.bl_session.specs.Outcome.{File}
 use Rattle.bl_session.specs.History.{Item}
 use Rattle.bl_session.specs.Orders.{orders, orders_after}
-use Rattle.bl_session.specs.Run.{World, Hears, Reads}
+use Rattle.bl_session.specs.Run.{World, Delivers, Reads}
 
 -- memory ran out, and nothing is to be asked for
 abbrev pub LacksMemory : World → Type 0
@@ -26,11 +26,11 @@ lost_step facts old world lost owed =
 
 pub hears_nothing : (facts : BootFacts) (files : List File) (given : List Item) (world : World)
     (item : Item) (next : World) → LacksMemory world
-    → Hears facts files given world.state world.owed item next → ⊥
+    → Delivers facts files given world.state world.owed item next → ⊥
 hears_nothing facts files given world item next (lost, none) hears =
-    let at : Hears facts files given out_of_memory [] item next =
-    subst (λ (owed : List Item). Hears facts files given out_of_memory owed item next) none
-    (subst (λ (s : State). Hears facts files given s world.owed item next) lost hears) in
+    let at : Delivers facts files given out_of_memory [] item next =
+    subst (λ (owed : List Item). Delivers facts files given out_of_memory owed item next) none
+    (subst (λ (s : State). Delivers facts files given s world.owed item next) lost hears) in
     absurd at.1
 
 pub reads_nothing : (facts : BootFacts) (files : List File) (given : List Item) (world : World)

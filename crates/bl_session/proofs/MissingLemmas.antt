@@ -27,24 +27,23 @@ not_here : (i : ℕ) (spot : Spot) (rest : List Spot) → is_awaited spot ≡ fa
 not_here i (waits size) rest e = absurd cc
 not_here i (has bytes) rest e = refl
 
-pub piece_here : (all : List Spot) (i : ℕ) → i < length all
-    → is_awaited (get_or all i (has [])) ≡ true → first_spot 0 all ≡ first_spot i (drop i all)
-    → Some i ≡ first_spot 0 all
-piece_here all i h e so_far =
+pub piece_here : (all : List Spot) (i : ℕ) (x : Option ℕ) → i < length all
+    → is_awaited (get_or all i (has [])) ≡ true → x ≡ first_spot i (drop i all) → Some i ≡ x
+piece_here all i x h e so_far =
     sym
     (so_far ∙ ap (first_spot i) (drop_more all i (has []) h)
     ∙ here i (get_or all i (has [])) (drop (i + 1) all) e)
 
-pub piece_later : (all : List Spot) (i : ℕ) → i < length all
-    → is_awaited (get_or all i (has [])) ≡ false → first_spot 0 all ≡ first_spot i (drop i all)
-    → first_spot 0 all ≡ first_spot (i + 1) (drop (i + 1) all)
-piece_later all i h e so_far =
+pub piece_later : (all : List Spot) (i : ℕ) (x : Option ℕ) → i < length all
+    → is_awaited (get_or all i (has [])) ≡ false → x ≡ first_spot i (drop i all)
+    → x ≡ first_spot (i + 1) (drop (i + 1) all)
+piece_later all i x h e so_far =
     so_far ∙ ap (first_spot i) (drop_more all i (has []) h)
     ∙ not_here i (get_or all i (has [])) (drop (i + 1) all) e
 
-pub piece_none : (all : List Spot) (i : ℕ) → length all ≤ i
-    → first_spot 0 all ≡ first_spot i (drop i all) → None ≡ first_spot 0 all
-piece_none all i h so_far = sym (so_far ∙ ap (first_spot i) (drop_all i all h))
+pub piece_none : (all : List Spot) (i : ℕ) (x : Option ℕ) → length all ≤ i
+    → x ≡ first_spot i (drop i all) → None ≡ x
+piece_none all i x h so_far = sym (so_far ∙ ap (first_spot i) (drop_all i all h))
 
 pub length-file_spots : (bytes : List ℕ) (stage : Staging) (file : ℕ) → file < length stage.sizes
     → length (get_or (spots bytes stage) file []) ≡ frames_of (get_or stage.sizes file 0)
@@ -58,12 +57,11 @@ file_next : (attempt place : ℕ) (files : List (List Spot)) → place < length 
     (first_spot 0 (get_or files place []))
 file_next attempt place files h = ap (first_ticket attempt place) (drop_more files place [] h)
 
-pub ticket_here : (attempt place piece : ℕ) (bytes : List ℕ) (stage : Staging)
+pub ticket_here : (attempt place piece : ℕ) (bytes : List ℕ) (stage : Staging) (x : Option Ticket)
     → place < length stage.sizes → Some piece ≡ first_spot 0 (get_or (spots bytes stage) place [])
-    → first_ticket attempt 0 (spots bytes stage)
-    ≡ first_ticket attempt place (drop place (spots bytes stage))
-    → Some (ticket_of attempt place piece) ≡ first_ticket attempt 0 (spots bytes stage)
-ticket_here attempt place piece bytes stage h e so_far =
+    → x ≡ first_ticket attempt place (drop place (spots bytes stage))
+    → Some (ticket_of attempt place piece) ≡ x
+ticket_here attempt place piece bytes stage x h e so_far =
     let long = length-spots bytes stage in
     let files = spots bytes stage in
     sym
@@ -72,25 +70,21 @@ ticket_here attempt place piece bytes stage h e so_far =
     (ticket_or attempt place
     (first_ticket attempt (place + 1) (drop (place + 1) files))) (sym e))
 
-pub ticket_later : (attempt place : ℕ) (bytes : List ℕ) (stage : Staging)
+pub ticket_later : (attempt place : ℕ) (bytes : List ℕ) (stage : Staging) (x : Option Ticket)
     → place < length stage.sizes → None ≡ first_spot 0 (get_or (spots bytes stage) place [])
-    → first_ticket attempt 0 (spots bytes stage)
-    ≡ first_ticket attempt place (drop place (spots bytes stage))
-    → first_ticket attempt 0 (spots bytes stage)
-    ≡ first_ticket attempt (place + 1) (drop (place + 1) (spots bytes stage))
-ticket_later attempt place bytes stage h e so_far =
+    → x ≡ first_ticket attempt place (drop place (spots bytes stage))
+    → x ≡ first_ticket attempt (place + 1) (drop (place + 1) (spots bytes stage))
+ticket_later attempt place bytes stage x h e so_far =
     let long = length-spots bytes stage in
     let files = spots bytes stage in
     so_far ∙ file_next attempt place files (omega arith)
     ∙ ap (ticket_or attempt place (first_ticket attempt (place + 1) (drop (place + 1) files)))
     (sym e)
 
-pub ticket_none : (attempt place : ℕ) (bytes : List ℕ) (stage : Staging)
+pub ticket_none : (attempt place : ℕ) (bytes : List ℕ) (stage : Staging) (x : Option Ticket)
     → length stage.sizes ≤ place
-    → first_ticket attempt 0 (spots bytes stage)
-    ≡ first_ticket attempt place (drop place (spots bytes stage))
-    → None ≡ first_ticket attempt 0 (spots bytes stage)
-ticket_none attempt place bytes stage h so_far =
+    → x ≡ first_ticket attempt place (drop place (spots bytes stage)) → None ≡ x
+ticket_none attempt place bytes stage x h so_far =
     let long = length-spots bytes stage in
     sym
     (so_far

@@ -9,7 +9,7 @@ use Rattle.bl_load.specs.Handover.{Handover}
 use Rattle.bl_load.specs.Parts.{IsHandover}
 use Rattle.bl_load.proofs.HandoverLaws.{one_handover}
 use Rattle.bl_session.specs.declared.words.RefusedEntry.{RefusedEntry}
-use Rattle.bl_session.specs.Ends.{End, handed, refused, EndsIn, Ends, Else, size_refusal}
+use Rattle.bl_session.specs.Ends.{End, handed, refused, EndsIn, Ends, OrRefused, size_refusal}
 use Rattle.bl_session.specs.Boot.{BootFacts, State, handed_over, sizes_of}
 use Rattle.bl_session.specs.Outcome.{File, value_in, faulty_in, IsFirst, IsOutcome}
 use Rattle.bl_session.proofs.EndLaws.{one_end}
@@ -18,7 +18,7 @@ use Rattle.bl_session.proofs.BootLaws.{one_goes}
 -- ---- what is handed over
 
 handed_behind : (first : Option Refusal) (rest : End → Type 0) (h : Handover)
-    → Else first rest (handed h) → rest (handed h)
+    → OrRefused first rest (handed h) → rest (handed h)
 handed_behind None rest h is = is
 handed_behind (Some r) rest h is = absurd cc
 
@@ -28,7 +28,7 @@ handed_value : (facts : MachineFacts) (sizes : List (Option ℕ)) (faulty : Opti
 handed_value facts sizes faulty value h is =
     (handed_behind (option_map FileFault faulty) (EndsIn facts value) h
     (handed_behind (size_refusal facts sizes)
-    (Else (option_map FileFault faulty) (EndsIn facts value)) h is)).0
+    (OrRefused (option_map FileFault faulty) (EndsIn facts value)) h is)).0
 
 first_handed : (facts : BootFacts) (files : List File) (faults : ℕ → Option ℕ) (attempts : List ℕ)
     (before earlier : List RefusedEntry) (entry : ℕ) (h : Handover)

@@ -1,136 +1,150 @@
--- A store's history and the requests that are still to be answered, as it is asked.
-use Rattle.std.proofs.Common.{◌≡◌, ◌↔◌, ℕ, ◌+◌, ◌≤◌, ◌==◌, ◌&&◌, Bool, true, false, if◌then◌else◌}
-use Rattle.std.proofs.Common.{List, [], ◌∷◌, ◌++◌, Option, None, Some, refl, sym, subst, rules}
-use Rattle.std.proofs.Common.{arith, append_assoc}
-use Rattle.std.proofs.lemmas.List.{append-nil}
-use Rattle.std.specs.Bool.{Decides}
-use Rattle.std.proofs.lemmas.Bool.Decides.{Decides-like, Decides-and, Decides-eqb}
-use Rattle.std.specs.Prelude.{slice_index_or}
-use Rattle.bl_stage.specs.Spots.{piece_of}
+-- The pieces that an attempt awaits, one after the other.
+use Rattle.std.proofs.Common.{◌≡◌, ℕ, ◌+◌, ◌-◌, ◌*◌, ◌<◌, ◌≤◌, ◌&&◌, Bool, true, false, not, nat_lt}
+use Rattle.std.proofs.Common.{min, List, [], length, drop, get_or, Option, None, Some, refl, sym, ap}
+use Rattle.std.proofs.Common.{◌∙◌, arith, subst, option_map}
+use Rattle.std.proofs.lemmas.List.{drop_all, get_or_past}
+use Rattle.std.proofs.lemmas.Bool.Decides.{nat_tests}
+use Rattle.bl_map.specs.Room.{frames_of}
+use Rattle.bl_stage.specs.Staged.{Staging, staged_file}
+use Rattle.bl_stage.specs.Pieces.{is_missing, slot_in}
+use Rattle.bl_stage.specs.Spots as stage
+use Rattle.bl_stage.specs.Spots.{Spot, spots, piece_of}
+use Rattle.bl_session.specs.declared.words.RefusedEntry.{RefusedEntry}
+use Rattle.bl_session.specs.declared.words.Request.{Request}
 use Rattle.bl_session.specs.declared.words.Ticket.{Ticket}
-use Rattle.bl_session.specs.declared.store.Completion.{Completion}
-use Rattle.bl_session.specs.declared.store.Completion.TheVariants.{Piece, Fault}
-use Rattle.bl_session.specs.declared.request.Request.{Request}
-use Rattle.bl_session.specs.Outcome.{File, missing, file_bytes}
-use Rattle.bl_session.specs.History.{Item, submitted, is_same, file_under, IsPieceOf, IsItemOf}
-use Rattle.bl_session.specs.Faithful.{asked, IsFaithfulItem, IsFaithfulAfter}
-use Rattle.bl_session.specs.Stores.{are_equal, is_piece_of}
-use Rattle.bl_session.specs.StoresKept.{item_of, count_of, WasAsked, AreAskedFor, AreKept}
-use Rattle.bl_session.proofs.TicketLemmas.{is_same_self, asked_both, answered_both, file_both}
+use Rattle.bl_session.specs.Boot.{BootFacts}
+use Rattle.bl_session.specs.Menu.{entry_at}
+use Rattle.bl_session.specs.Phases.{PhaseFacts, waits, state_at}
+use Rattle.bl_session.specs.Pieces.{spot_of}
+use Rattle.bl_session.specs.Orders.{first_spot, first_ticket, ticket_or}
+use Rattle.bl_session.specs.Requests.{length_awaited, request_for, first_request}
+use Rattle.bl_session.specs.Requests.{request_after, ticket_after}
+use Rattle.bl_session.proofs.SpotLemmas.{Named, length-spots, spot_named}
+use Rattle.bl_session.proofs.StoredLemmas.{piece_size}
 
--- ---- the mark of an answer
+-- ---- a piece that did not come
 
-equal_decides : (xs ys : List ℕ) → Decides (are_equal xs ys) (xs ≡ ys)
-equal_decides [] [] = (λ h. refl, λ h. refl)
-equal_decides [] (y ∷ ys) = (λ h. cc, λ h. cc)
-equal_decides (x ∷ xs) [] = (λ h. cc, λ h. cc)
-equal_decides (x ∷ xs) (y ∷ ys) =
-    Decides-like ((x == y) && are_equal xs ys)
-    (λ (h : (x ≡ y) × (xs ≡ ys)). let e : x ≡ y = h.0 in let f : xs ≡ ys = h.1 in cc)
-    (λ (h : x ∷ xs ≡ y ∷ ys). let e : x ≡ y = cc in let f : xs ≡ ys = cc in (e, f))
-    (Decides-and (x == y) (are_equal xs ys) (Decides-eqb x y) (equal_decides xs ys))
+both : (a b : Bool) → (a && b) ≡ true → (a ≡ true) × (b ≡ true)
+both true b e = (refl, e)
+both false b e = absurd cc
 
-pub marks : (files : List File) (found : Option ℕ) (index : ℕ) (bytes : List ℕ)
-    → (is_piece_of files found index bytes ≡ true) ↔ IsPieceOf files found index bytes
-marks files None index bytes = (λ h. cc, λ h. absurd h)
-marks files (Some file) index bytes =
-    equal_decides bytes (piece_of (file_bytes (slice_index_or files file missing)) index)
+pub missing_named : (stage : Staging) (file index : ℕ) → is_missing stage file index ≡ true
+    → Named stage file index
+missing_named stage file index e =
+    let size = get_or stage.sizes file 0 in
+    let came = get_or stage.came (slot_in stage file index) false in
+    let first = both (nat_lt file (length stage.sizes)) (nat_lt index (frames_of size) && not came) e
+    in
+    let second = both (nat_lt index (frames_of size)) (not came) first.1 in
+    let file_is = first.0 in
+    let index_is = second.0 in (
+      (let h : file < length stage.sizes = grind (arith, nat_tests) in h),
+      (let i : index < frames_of size = grind (arith, nat_tests) in i),
+    )
 
-pub item_is : {A : Type 0} (files : List File) (given : List Item) (answer : Option (Completion A))
-    → IsItemOf files given answer (item_of files given answer)
-item_is files given None = refl
-item_is files given (Some (Fault ticket)) = refl
-item_is files given (Some (Piece ticket bytes)) = (
-  is_piece_of files (file_under given ticket) ticket.piece bytes.items,
-  refl,
-  marks files (file_under given ticket) ticket.piece bytes.items,
-)
+length_if : (came : Bool) (piece : List ℕ) → not came ≡ true
+    → length_awaited (stage.spot_by came piece) ≡ length piece
+length_if true piece e = absurd cc
+length_if false piece e = refl
 
--- ---- one item more
+pub missing_length : (bytes : List ℕ) (stage : Staging) (file index : ℕ)
+    → is_missing stage file index ≡ true
+    → length_awaited (spot_of (spots bytes stage) file index)
+    ≡ min 4096 (get_or stage.sizes file 0 - 4096 * index)
+missing_length bytes stage file index e =
+    let size = get_or stage.sizes file 0 in
+    let came = get_or stage.came (slot_in stage file index) false in
+    let first = both (nat_lt file (length stage.sizes)) (nat_lt index (frames_of size) && not came) e
+    in
+    let second = both (nat_lt index (frames_of size)) (not came) first.1 in
+    ap length_awaited (spot_named bytes stage file index (missing_named stage file index e))
+    ∙ length_if came (piece_of (staged_file bytes stage file) index) second.1
+    ∙ piece_size bytes stage file index
 
-pub faithful_more : (files : List File) (given items : List Item) (item : Item)
-    → IsFaithfulAfter files given items → IsFaithfulItem files (given ++ items) item
-    → IsFaithfulAfter files given (items ++ item ∷ [])
-faithful_more files given [] item old new =
-    (subst (λ (g : List Item). IsFaithfulItem files g item) (append-nil given) new, tt)
-faithful_more files given (x ∷ items) item old new = (
-  old.0,
-  faithful_more files (given ++ x ∷ []) items item old.1
-      (subst (λ (g : List Item). IsFaithfulItem files g item)
-      (sym (append_assoc given (x ∷ []) items)) new),
-)
+-- ---- after a ticket
+
+pub after_is : (attempt : ℕ) (files : List (List Spot)) (ticket : Ticket) (found : Option ℕ)
+    → found
+    ≡ first_spot (ticket.piece + 1) (drop (ticket.piece + 1) (get_or files ticket.file []))
+    → ticket_or attempt ticket.file
+    (first_ticket attempt (ticket.file + 1) (drop (ticket.file + 1) files)) found
+    ≡ ticket_after attempt files ticket
+after_is attempt files ticket found e =
+    ap
+    (ticket_or attempt ticket.file
+    (first_ticket attempt (ticket.file + 1) (drop (ticket.file + 1) files))) e
+
+pub after_past : (attempt : ℕ) (bytes : List ℕ) (stage : Staging) (ticket : Ticket)
+    → length stage.sizes ≤ ticket.file → None ≡ ticket_after attempt (spots bytes stage) ticket
+after_past attempt bytes stage ticket h =
+    let long = length-spots bytes stage in
+    let files = spots bytes stage in
+    let none : get_or files ticket.file [] ≡ [] = get_or_past files ticket.file [] (omega arith) in
+    let spot : None
+    ≡ first_spot (ticket.piece + 1) (drop (ticket.piece + 1) (get_or files ticket.file [])) =
+    sym
+    (ap (λ (s : List Spot). first_spot (ticket.piece + 1) (drop (ticket.piece + 1) s)) none
+    ∙ ap (first_spot (ticket.piece + 1)) (drop_all (ticket.piece + 1) [] (omega arith))) in
+    sym
+    (ap (first_ticket attempt (ticket.file + 1)) (drop_all (ticket.file + 1) files (omega arith)))
+    ∙ after_is attempt files ticket None spot
 
 -- ---- requests
 
-pub count_append : (front back : List Request) (ticket : Ticket)
-    → count_of (front ++ back) ticket ≡ count_of front ticket + count_of back ticket
-count_append [] back ticket = search rules
-count_append (request ∷ front) back ticket = rw (count_append front back ticket) (omega arith)
+abbrev pub asked_by : (file : ℕ) → Ticket → (len : ℕ) → Request
+asked_by file ticket len = record { file = file; ticket = ticket; len = len }
 
--- one request more was asked for
-one_case : (b : Bool) (n : ℕ) (old new : Option ℕ) (file : ℕ) → 1 ≤ n → (n ≡ 1 → old ≡ Some file)
-    → (1 ≤ n + ((if b then 1 else 0) + 0))
-    × (n + ((if b then 1 else 0) + 0) ≡ 1 → (if b then new else old) ≡ Some file)
-one_case true n old new file some under = (omega arith, λ e. absurd (omega arith))
-one_case false n old new file some under = (omega arith, λ e. under (omega arith))
+pub request_is : (indices : List ℕ) (files : List (List Spot)) (ticket : Ticket)
+    (found : Option Ticket) (file len : ℕ) → found ≡ Some ticket
+    → file ≡ get_or indices ticket.file 0
+    → len ≡ length_awaited (spot_of files ticket.file ticket.piece)
+    → Some (asked_by file ticket len) ≡ option_map (request_for indices files) found
+request_is indices files ticket found file len e file_is len_is =
+    let here : Some (asked_by file ticket len) ≡ Some (request_for indices files ticket) =
+    ap (λ n. Some (asked_by n ticket len)) file_is
+    ∙ ap (λ n. Some (asked_by (get_or indices ticket.file 0) ticket n)) len_is in
+    here ∙ sym (ap (option_map (request_for indices files)) e)
 
-one_asked : (given : List Item) (new request : Request) → WasAsked given request
-    → WasAsked (given ++ submitted new.file new.ticket ∷ []) request
-one_asked given new request (some, under) =
-    let item : Item = submitted new.file new.ticket in
-    rw (
-      asked_both given (item ∷ []) request.ticket,
-      file_both None given (item ∷ []) request.ticket,
-    )
-    (one_case (is_same new.ticket request.ticket) (asked given request.ticket)
-    (file_under given request.ticket) (Some new.file) request.file some under)
+-- the request for what is found, by the session's own lists
+same_request : (indices own : List ℕ) (files : List (List Spot)) (found right : Option Ticket)
+    (result : Option Request) → indices ≡ own → found ≡ right
+    → result ≡ option_map (request_for indices files) found
+    → result ≡ option_map (request_for own files) right
+same_request indices own files found right result indices_are found_is is =
+    is ∙ ap (option_map (request_for indices files)) found_is
+    ∙ ap (λ (is : List ℕ). option_map (request_for is files) right) indices_are
 
-all_asked : (given : List Item) (new : Request) (requests : List Request)
-    → AreAskedFor given requests
-    → AreAskedFor (given ++ submitted new.file new.ticket ∷ []) requests
-all_asked given new [] asked_for = tt
-all_asked given new (request ∷ requests) (first, others) =
-    (one_asked given new request first, all_asked given new requests others)
+pub first_request_is : (boot : BootFacts) (phase : PhaseFacts) (entry : ℕ) (rest : List ℕ)
+    (earlier : List RefusedEntry) (stage : Staging) (number : ℕ) (indices : List ℕ)
+    (found : Option Ticket) (result : Option Request) (bytes : List ℕ)
+    → phase ≡ waits entry rest earlier stage → number ≡ length earlier
+    → indices ≡ (entry_at boot.menu entry).files
+    → found ≡ first_ticket number 0 (spots bytes stage)
+    → result ≡ option_map (request_for indices (spots bytes stage)) found
+    → result ≡ first_request boot (state_at bytes phase)
+first_request_is boot phase entry rest earlier stage number indices found result bytes phase_is
+    number_is indices_are found_is is =
+    let files = spots bytes stage in
+    let right : found ≡ first_ticket (length earlier) 0 files =
+    found_is ∙ ap (λ n. first_ticket n 0 files) number_is in
+    subst (λ (p : PhaseFacts). result ≡ first_request boot (state_at bytes p)) (sym phase_is)
+    (same_request indices (entry_at boot.menu entry).files files found
+    (first_ticket (length earlier) 0 files) result indices_are right is)
 
-pub asked_append : (given : List Item) (front back : List Request) → AreAskedFor given front
-    → AreAskedFor given back → AreAskedFor given (front ++ back)
-asked_append given [] back f b = b
-asked_append given (request ∷ front) back (first, f) b = (first, asked_append given front back f b)
-
-pub asked_apart : (given : List Item) (front back : List Request)
-    → AreAskedFor given (front ++ back)
-    → AreAskedFor given front × AreAskedFor given back
-asked_apart given [] back h = (tt, h)
-asked_apart given (request ∷ front) back (first, h) =
-    let apart : AreAskedFor given front × AreAskedFor given back =
-    asked_apart given front back h in ((first, apart.0), apart.1)
-
--- the new request itself
-new_asked : (given : List Item) (new : Request)
-    → WasAsked (given ++ submitted new.file new.ticket ∷ []) new
-new_asked given new =
-    let item : Item = submitted new.file new.ticket in
-    rw (
-      asked_both given (item ∷ []) new.ticket,
-      file_both None given (item ∷ []) new.ticket,
-      is_same_self new.ticket,
-    ) (omega arith, λ e. refl)
-
--- ---- what a store keeps
-
-pub kept_request : (files : List File) (pending : List Request) (given : List Item) (new : Request)
-    → AreKept files pending given
-    → AreKept files (pending ++ new ∷ []) (given ++ submitted new.file new.ticket ∷ [])
-kept_request files pending given new kept = record {
-  faithful = faithful_more files [] given (submitted new.file new.ticket) kept.faithful tt;
-  counts =
-      λ ticket.
-      rw (
-        answered_both given ((submitted new.file new.ticket) ∷ []) ticket,
-        asked_both given ((submitted new.file new.ticket) ∷ []) ticket,
-        count_append pending (new ∷ []) ticket,
-      ) (omega (arith, kept.counts ticket));
-  asked_for =
-      asked_append (given ++ submitted new.file new.ticket ∷ []) pending (new ∷ [])
-      (all_asked given new pending kept.asked_for) (new_asked given new, tt);
-}
+pub request_after_is : (boot : BootFacts) (phase : PhaseFacts) (entry : ℕ) (rest : List ℕ)
+    (earlier : List RefusedEntry) (stage : Staging) (number : ℕ) (indices : List ℕ)
+    (found : Option Ticket) (result : Option Request) (ticket : Ticket) (bytes : List ℕ)
+    → phase ≡ waits entry rest earlier stage → number ≡ length earlier
+    → indices ≡ (entry_at boot.menu entry).files
+    → found ≡ ticket_after number (spots bytes stage) ticket
+    → result ≡ option_map (request_for indices (spots bytes stage)) found
+    → result ≡ request_after boot (state_at bytes phase) ticket
+request_after_is boot phase entry rest earlier stage number indices found result ticket bytes
+    phase_is number_is indices_are found_is is =
+    let files = spots bytes stage in
+    let right : found ≡ ticket_after (length earlier) files ticket =
+    found_is ∙ ap (λ n. ticket_after n files ticket) number_is in
+    subst (λ (p : PhaseFacts). result ≡ request_after boot (state_at bytes p) ticket)
+    (sym phase_is)
+    (same_request indices (entry_at boot.menu entry).files files found
+    (ticket_after (length earlier) files ticket) result indices_are right is)

@@ -7,7 +7,7 @@ use Rattle.bl_session.specs.Boot.{none_left, out_of_memory, Begins, Steps, Start
 use Rattle.bl_session.specs.Outcome.{File, size_of, IsGenuineAt, IsGenuine, IsOutcome, HasEnded}
 use Rattle.bl_session.specs.History.{Item}
 use Rattle.bl_session.specs.Orders.{orders}
-use Rattle.bl_session.specs.Run.{IsEventOf, World, world_of, Hears, Reads, IsRun, IsGenuineItem}
+use Rattle.bl_session.specs.Run.{IsEventOf, World, world_of, Delivers, Reads, IsRun, IsGenuineItem}
 use Rattle.bl_session.specs.Run.{AreGenuine, IsGenuineRun}
 use Rattle.bl_session.proofs.BootLaws.{one_step}
 use Rattle.bl_session.proofs.FirstEndLaws.{first_ended}
@@ -31,7 +31,7 @@ module _ (facts : BootFacts) (files : List File) (faults : ℕ → Option ℕ) w
   heard : (given : List Item) (state : State) (owed : List Item) (item : Item) (next : World)
       → AreAsked facts (given ++ owed) state
       → ((event : EventFacts) → owed ≡ [] → IsEventOf files given state item event
-      → IsGenuineItem faults state item event) → Hears facts files given state owed item next
+      → IsGenuineItem faults state item event) → Delivers facts files given state owed item next
       → Heard (given ++ item ∷ []) state next ⊎ LacksMemory next
   heard given state (order ∷ owed) item next asked genuine (is, same) =
       let stays : next.state ≡ state = ap (λ (w : World). w.state) same in

@@ -13,8 +13,8 @@ use Rattle.bl_map.specs.Room.{frames_of, is_beside, is_open, frames_for}
 use Rattle.bl_mem.specs.Files.{AreBelow, AllBeside}
 use Rattle.bl_mem.specs.Memory.{IsIn}
 use Rattle.bl_stage.specs.Ranges.{meets}
-use Rattle.bl_stage.specs.Staged.{Staging, AreStaged, HasPool, IsStagedOn, file_of, table_of}
-use Rattle.bl_stage.specs.Staged.{first_of, texts_of, with_frames}
+use Rattle.bl_stage.specs.Staged.{Staging, AreStaged, HasPool, IsStagedOn, staged_file, table_of}
+use Rattle.bl_stage.specs.Staged.{first_of, staged_texts, with_frames}
 use Rattle.bl_stage.specs.TextLaws.{same_firsts}
 use Rattle.bl_stage.proofs.FileLemmas.{file_within, read_part}
 use Rattle.bl_stage.proofs.FrameLemmas.{staged_length}
@@ -22,11 +22,11 @@ use Rattle.bl_stage.proofs.FrameLemmas.{staged_length}
 -- ---- how many frames
 
 lengths_are : (bytes : List ℕ) (stage : Staging)
-    → map (λ text. length text) (texts_of bytes stage) ≡ stage.sizes
+    → map (λ text. length text) (staged_texts bytes stage) ≡ stage.sizes
 lengths_are bytes stage =
     let n = length stage.sizes in
-    let size : ℕ → ℕ = λ file. length (file_of bytes stage file) in
-    map-map (λ (text : List ℕ). length text) (λ file. file_of bytes stage file) (range_with_len 0 n)
+    let size : ℕ → ℕ = λ file. length (staged_file bytes stage file) in
+    map-map (λ (text : List ℕ). length text) (λ file. staged_file bytes stage file) (range_with_len 0 n)
     ∙ ext_get_or 0 (map size (range_with_len 0 n)) stage.sizes (length-map-range_with_len size 0 n)
     (λ k h.
     let below : k < n = let e = length-map-range_with_len size 0 n in omega arith in
@@ -34,7 +34,7 @@ lengths_are bytes stage =
     ∙ staged_length bytes (table_of stage k) (get_or stage.sizes k 0))
 
 pub texts_needed : (bytes : List ℕ) (stage : Staging)
-    → frames_for (map length (texts_of bytes stage)) ≡ frames_for stage.sizes
+    → frames_for (map length (staged_texts bytes stage)) ≡ frames_for stage.sizes
 texts_needed bytes stage = ap frames_for (lengths_are bytes stage)
 
 -- ---- where they lie
@@ -84,9 +84,9 @@ files_beside stage ranges kept clear i d within a low high on =
 
 pub texts_kept : (old new : List ℕ) (stage : Staging) (frames : List ℕ)
     → ((file : ℕ) → file < length stage.sizes
-    → file_of new (with_frames stage frames) file ≡ file_of old stage file)
-    → texts_of new (with_frames stage frames) ≡ texts_of old stage
+    → staged_file new (with_frames stage frames) file ≡ staged_file old stage file)
+    → staged_texts new (with_frames stage frames) ≡ staged_texts old stage
 texts_kept old new stage frames same =
     let d : List ℕ = [] in
-    same_firsts d (λ file. file_of new (with_frames stage frames) file)
-    (λ file. file_of old stage file) (length stage.sizes) same
+    same_firsts d (λ file. staged_file new (with_frames stage frames) file)
+    (λ file. staged_file old stage file) (length stage.sizes) same

@@ -4,7 +4,7 @@ use Rattle.std.proofs.Common.{get_or, None, refl, ap, ◌∙◌, arith}
 use Rattle.std.proofs.lemmas.List.{get_or-map}
 use Rattle.bl_stage.specs.Spots.{waits}
 use Rattle.bl_session.specs.declared.words.Ticket.{Ticket}
-use Rattle.bl_session.specs.Ends.{size_refusal, lengths_of}
+use Rattle.bl_session.specs.Ends.{size_refusal, known_lengths}
 use Rattle.bl_session.specs.Menu.{entry_at}
 use Rattle.bl_session.specs.Pieces.{is_awaited, spot_of}
 use Rattle.bl_session.specs.Boot.{BootFacts, State, unstarted, running, handed_over, none_left}
@@ -61,7 +61,7 @@ module _ (facts : BootFacts) where
             untouched_both given asked_for t (apart t (omega arith))
             (untouched_files (length later) 0 indices spots t (λ (a, p). omega arith)),
         λ t a e.
-            let one = is_piece (lengths_of (sizes_of facts entry)) t.file t.piece (rw first at e) in
+            let one = is_piece (known_lengths (sizes_of facts entry)) t.file t.piece (rw first at e) in
             let many = fresh_length facts entry in
             let file_in : t.file < length spots = rw first one.file_in in
             let piece_in : t.piece < length (get_or spots t.file []) = rw first one.piece_in in
@@ -86,7 +86,7 @@ module _ (facts : BootFacts) (files : List File) (known : facts.sizes ≡ map si
 
   length_is : (entry place : ℕ) → size_refusal facts.machine (sizes_of facts entry) ≡ None
       → place < length (entry_at facts.menu entry).files
-      → get_or (lengths_of (sizes_of facts entry)) place 0 ≡ length (text_at entry place)
+      → get_or (known_lengths (sizes_of facts entry)) place 0 ≡ length (text_at entry place)
   length_is entry place sized h =
       length_read (sizes_of facts entry) (texts_of facts files entry)
       (are_read facts files entry known sized) place ∙ ap length (text_is entry place h)
@@ -98,7 +98,7 @@ module _ (facts : BootFacts) (files : List File) (known : facts.sizes ≡ map si
       × (spot_of (fresh facts entry) place index
       ≡ waits (min 4096 (length (text_at entry place) - 4096 * index)))
   awaited_piece entry place index sized e =
-      let one = is_piece (lengths_of (sizes_of facts entry)) place index e in
+      let one = is_piece (known_lengths (sizes_of facts entry)) place index e in
       let file_in = one.file_in in
       let many = fresh_length facts entry in
       let long = length_is entry place sized (omega arith) in

@@ -1,4 +1,4 @@
--- A store's history and the requests that are still to be answered, as it answers.
+-- A store's history and the submissions that are still to be answered, as it answers.
 use Rattle.std.proofs.Common.{◌≡◌, ℕ, ◌*◌, ◌<◌, ◌≤◌, nat_lt, Bool, true, false, if◌then◌else◌, List}
 use Rattle.std.proofs.Common.{[], ◌∷◌, ◌++◌, length, take, drop, Option, None, Some, suc, get_or}
 use Rattle.std.proofs.Common.{refl, sym, ap, subst, ◌∙◌, arith}
@@ -10,7 +10,7 @@ use Rattle.std.specs.Prelude.{slice_get, slice_index_or, option_map}
 use Rattle.bl_stage.specs.Spots.{piece_of}
 use Rattle.bl_session.specs.declared.words.Ticket.{Ticket}
 use Rattle.bl_session.specs.declared.store.Completion.{Completion}
-use Rattle.bl_session.specs.declared.request.Request.{Request}
+use Rattle.bl_session.specs.declared.submission.Submission.{Submission}
 use Rattle.bl_session.specs.declared.queue.Order.{Order}
 use Rattle.bl_session.specs.declared.queue.Order.TheVariants.{Forward, Reverse}
 use Rattle.bl_session.specs.Boot.{EventFacts, piece, fault}
@@ -21,8 +21,8 @@ use Rattle.bl_session.specs.Stores.{item_of_event, item_of_told, event_of, answe
 use Rattle.bl_session.specs.Stores.{without}
 use Rattle.bl_session.specs.StoresKept.{item_of, count_of, WasAsked, AreAskedFor, AreKept}
 use Rattle.bl_session.proofs.TicketLemmas.{is_same_self, asked_both, answered_both, file_both}
-use Rattle.bl_session.proofs.RequestLemmas.{marks, faithful_more, count_append, asked_append}
-use Rattle.bl_session.proofs.RequestLemmas.{asked_apart}
+use Rattle.bl_session.proofs.SubmissionLemmas.{marks, faithful_more, count_append, asked_append}
+use Rattle.bl_session.proofs.SubmissionLemmas.{asked_apart}
 
 -- an answer leaves what was asked for
 nothing_asked : (files : List File) (given : List Item) (event : EventFacts) (ticket : Ticket)
@@ -40,19 +40,19 @@ same_under files given (piece t bytes) ticket =
     file_both None given ((item_of_event files given (piece t bytes)) ∷ []) ticket
 same_under files given (fault t) ticket = file_both None given ((failed t) ∷ []) ticket
 
-same_asked : (files : List File) (given : List Item) (event : EventFacts) (requests : List Request)
-    → AreAskedFor given requests
-    → AreAskedFor (given ++ item_of_event files given event ∷ []) requests
+same_asked : (files : List File) (given : List Item) (event : EventFacts) (submissions : List Submission)
+    → AreAskedFor given submissions
+    → AreAskedFor (given ++ item_of_event files given event ∷ []) submissions
 same_asked files given event [] h = tt
-same_asked files given event (request ∷ requests) (first, others) = (
+same_asked files given event (submission ∷ submissions) (first, others) = (
   rw (
-    nothing_asked files given event request.ticket,
-    same_under files given event request.ticket,
+    nothing_asked files given event submission.ticket,
+    same_under files given event submission.ticket,
   ) first,
-  same_asked files given event requests others,
+  same_asked files given event submissions others,
 )
 
--- the answer to a request, by whether its file has the piece
+-- the answer to a submission, by whether its file has the piece
 abbrev answer_if : Bool → List ℕ → Ticket → EventFacts
 answer_if has text ticket = if has then piece ticket (piece_of text ticket.piece) else fault ticket
 
@@ -63,69 +63,69 @@ if_answered : (files : List File) (given : List Item) (has : Bool) (text : List 
 if_answered files given true text t ticket = omega arith
 if_answered files given false text t ticket = omega arith
 
-if_faithful : (files : List File) (given : List Item) (request : Request) (has : Bool)
-    → nat_lt (4096 * request.ticket.piece)
-    (length (file_bytes (slice_index_or files request.file missing))) ≡ has
-    → WasAsked given request → answered given request.ticket < asked given request.ticket
+if_faithful : (files : List File) (given : List Item) (submission : Submission) (has : Bool)
+    → nat_lt (4096 * submission.ticket.piece)
+    (length (file_bytes (slice_index_or files submission.file missing))) ≡ has
+    → WasAsked given submission → answered given submission.ticket < asked given submission.ticket
     → IsFaithfulItem files given
     (item_of_event files given
-    (answer_if has (file_bytes (slice_index_or files request.file missing)) request.ticket))
-if_faithful files given request true e (some, under) fewer =
-    let index = request.ticket.piece in
-    let bytes = piece_of (file_bytes (slice_index_or files request.file missing)) index in (
+    (answer_if has (file_bytes (slice_index_or files submission.file missing)) submission.ticket))
+if_faithful files given submission true e (some, under) fewer =
+    let index = submission.ticket.piece in
+    let bytes = piece_of (file_bytes (slice_index_or files submission.file missing)) index in (
       fewer,
-      λ one. (marks files (file_under given request.ticket) index bytes).1
+      λ one. (marks files (file_under given submission.ticket) index bytes).1
           (subst (λ (file : Option ℕ). IsPieceOf files file index bytes) (sym (under one)) refl),
     )
-if_faithful files given request false e (some, under) fewer =
-    let index = request.ticket.piece in (
+if_faithful files given submission false e (some, under) fewer =
+    let index = submission.ticket.piece in (
       fewer,
       λ one has.
           not_from_Decides
-          (nat_lt (4096 * index) (length (file_bytes (slice_index_or files request.file missing))))
+          (nat_lt (4096 * index) (length (file_bytes (slice_index_or files submission.file missing))))
           (Decides-ltb (4096 * index)
-          (length (file_bytes (slice_index_or files request.file missing)))) e
+          (length (file_bytes (slice_index_or files submission.file missing)))) e
           (subst (λ (file : Option ℕ). HasPiece files file index) (under one) has),
     )
 
 -- ---- after an answer
 
--- the ticket of a request has an answer to come
-still : (front back : List Request) (request : Request)
-    → 1 ≤ count_of (front ++ request ∷ back) request.ticket
-still front back request =
-    rw (count_append front (request ∷ back) request.ticket, is_same_self request.ticket)
+-- the ticket of a submission has an answer to come
+still : (front back : List Submission) (submission : Submission)
+    → 1 ≤ count_of (front ++ submission ∷ back) submission.ticket
+still front back submission =
+    rw (count_append front (submission ∷ back) submission.ticket, is_same_self submission.ticket)
     (omega arith)
 
-kept_answer : (files : List File) (front back : List Request) (given : List Item)
-    (request : Request) → AreKept files (front ++ request ∷ back) given
+kept_answer : (files : List File) (front back : List Submission) (given : List Item)
+    (submission : Submission) → AreKept files (front ++ submission ∷ back) given
     → AreKept files (front ++ back)
-    (given ++ item_of_event files given (answer_to files request) ∷ [])
-kept_answer files front back given request kept =
-    let text = file_bytes (slice_index_or files request.file missing) in
-    let has = nat_lt (4096 * request.ticket.piece) (length text) in
-    let item : Item = item_of_event files given (answer_to files request) in
-    let apart : AreAskedFor given front × AreAskedFor given (request ∷ back) =
-    asked_apart given front (request ∷ back) kept.asked_for in
-    let fewer : answered given request.ticket < asked given request.ticket =
-    omega (arith, kept.counts request.ticket, still front back request) in
+    (given ++ item_of_event files given (answer_to files submission) ∷ [])
+kept_answer files front back given submission kept =
+    let text = file_bytes (slice_index_or files submission.file missing) in
+    let has = nat_lt (4096 * submission.ticket.piece) (length text) in
+    let item : Item = item_of_event files given (answer_to files submission) in
+    let apart : AreAskedFor given front × AreAskedFor given (submission ∷ back) =
+    asked_apart given front (submission ∷ back) kept.asked_for in
+    let fewer : answered given submission.ticket < asked given submission.ticket =
+    omega (arith, kept.counts submission.ticket, still front back submission) in
     record {
       faithful =
           faithful_more files [] given item kept.faithful
-          (if_faithful files given request has refl apart.1.0 fewer);
+          (if_faithful files given submission has refl apart.1.0 fewer);
       counts =
           λ ticket.
           omega (
             arith,
             kept.counts ticket,
             answered_both given (item ∷ []) ticket,
-            if_answered files given has text request.ticket ticket,
-            nothing_asked files given (answer_to files request) ticket,
-            count_append front (request ∷ back) ticket,
+            if_answered files given has text submission.ticket ticket,
+            nothing_asked files given (answer_to files submission) ticket,
+            count_append front (submission ∷ back) ticket,
             count_append front back ticket,
           );
       asked_for =
-          same_asked files given (answer_to files request) (front ++ back)
+          same_asked files given (answer_to files submission) (front ++ back)
           (asked_append given front back apart.0 apart.1.1);
     }
 
@@ -148,12 +148,12 @@ kept_nothing files given kept = record {
 
 -- ---- after what a store answers next
 
-pub place_within : (order : Order) (first : Request) (others : List Request)
+pub place_within : (order : Order) (first : Submission) (others : List Submission)
     → next_place order (first ∷ others) < length (first ∷ others)
 place_within Forward first others = omega arith
 place_within Reverse first others = omega arith
 
-kept_told : (files : List File) (order : Order) (pending : List Request) (given : List Item)
+kept_told : (files : List File) (order : Order) (pending : List Submission) (given : List Item)
     (told : Option EventFacts)
     → told ≡ option_map (answer_to files) (slice_get pending (next_place order pending))
     → AreKept files pending given
@@ -166,14 +166,14 @@ kept_told files Reverse [] given told is kept =
     subst (λ (t : Option EventFacts). AreKept files [] (given ++ item_of_told files given t ∷ []))
     (sym is) (kept_nothing files given kept)
 kept_told files order (first ∷ others) given told is kept =
-    let pending : List Request = first ∷ others in
+    let pending : List Submission = first ∷ others in
     let place : ℕ = next_place order (first ∷ others) in
     let within : place < length pending = place_within order first others in
-    let request : Request = get_or pending place first in
-    let e : told ≡ Some (answer_to files request) =
+    let submission : Submission = get_or pending place first in
+    let e : told ≡ Some (answer_to files submission) =
     is ∙ ap (option_map (answer_to files)) (slice_get-get_or pending place first within) in
-    let at : AreKept files (take place pending ++ request ∷ drop (suc place) pending) given =
-    subst (λ (p : List Request). AreKept files p given) (split_at pending place first within)
+    let at : AreKept files (take place pending ++ submission ∷ drop (suc place) pending) given =
+    subst (λ (p : List Submission). AreKept files p given) (split_at pending place first within)
     kept in
     subst
     (λ (t : Option EventFacts).
@@ -182,11 +182,11 @@ kept_told files order (first ∷ others) given told is kept =
     (subst
     (λ (n : ℕ).
     AreKept files (take place pending ++ drop n pending)
-    (given ++ item_of_event files given (answer_to files request) ∷ []))
+    (given ++ item_of_event files given (answer_to files submission) ∷ []))
     (sym (add-one place))
-    (kept_answer files (take place pending) (drop (suc place) pending) given request at))
+    (kept_answer files (take place pending) (drop (suc place) pending) given submission at))
 
-pub kept_next : {A : Type 0} (files : List File) (order : Order) (pending : List Request)
+pub kept_next : {A : Type 0} (files : List File) (order : Order) (pending : List Submission)
     (given : List Item) (answer : Option (Completion A))
     → option_map event_of answer
     ≡ option_map (answer_to files) (slice_get pending (next_place order pending))

@@ -5,7 +5,7 @@ use Rattle.std.proofs.Common.{refl, sym, ap, ◌∙◌, inl, inr}
 use Rattle.std.proofs.lemmas.Bool.{cases_lt}
 use Rattle.std.proofs.lemmas.Bool.Decides.{nat_tests}
 use Rattle.bl_map.specs.Room.{frames_of}
-use Rattle.bl_stage.specs.Staged.{Staging, file_of, table_of}
+use Rattle.bl_stage.specs.Staged.{Staging, staged_file, table_of}
 use Rattle.bl_stage.specs.Pieces.{is_piece, slot_in, put_answer, is_missing}
 use Rattle.bl_stage.specs.declared.stage.putting.Put.{Put}
 use Rattle.bl_stage.specs.declared.stage.putting.Put.TheVariants.{Stored, Repeated, Strange}
@@ -19,19 +19,19 @@ use Rattle.bl_session.proofs.SpotLemmas.{Named, file_spots, spot_named, spot_pas
 -- ---- what is awaited
 
 awaits_if : (came : Bool) (piece : List ℕ) (size len : ℕ) → length piece ≡ size
-    → awaits (stage.spot_of came piece) len ≡ (not came && (size == len))
+    → awaits (stage.spot_by came piece) len ≡ (not came && (size == len))
 awaits_if true piece size len e = refl
 awaits_if false piece size len e = ap (λ n. n == len) e
 
-awaited_if : (came : Bool) (piece : List ℕ) → is_awaited (stage.spot_of came piece) ≡ not came
+awaited_if : (came : Bool) (piece : List ℕ) → is_awaited (stage.spot_by came piece) ≡ not came
 awaited_if true piece = refl
 awaited_if false piece = refl
 
-piece_size : (bytes : List ℕ) (stage : Staging) (file index : ℕ)
-    → length (piece_of (file_of bytes stage file) index)
+pub piece_size : (bytes : List ℕ) (stage : Staging) (file index : ℕ)
+    → length (piece_of (staged_file bytes stage file) index)
     ≡ min 4096 (get_or stage.sizes file 0 - 4096 * index)
 piece_size bytes stage file index =
-    piece_long (file_of bytes stage file) index
+    piece_long (staged_file bytes stage file) index
     ∙ ap (λ n. min 4096 (n - 4096 * index))
     (staged_length bytes (table_of stage file) (get_or stage.sizes file 0))
 
@@ -69,7 +69,7 @@ awaits_named bytes stage file index len named =
     (same_length len (min 4096 (size - 4096 * index)) (min (size - 4096 * index) 4096)
     (omega arith)) in
     ap (λ (s : Spot). awaits s len) (spot_named bytes stage file index named)
-    ∙ awaits_if came (piece_of (file_of bytes stage file) index) (min 4096 (size - 4096 * index))
+    ∙ awaits_if came (piece_of (staged_file bytes stage file) index) (min 4096 (size - 4096 * index))
     len (piece_size bytes stage file index)
     ∙ ap (λ (b : Bool). not came && b) (sym test)
   where
@@ -146,7 +146,7 @@ missing_awaited bytes stage file index =
             (sym
             (ap is_awaited (spot_named bytes stage file index (h, i))
             ∙ awaited_if (get_or stage.came (slot_in stage file index) false)
-            (piece_of (file_of bytes stage file) index)))
+            (piece_of (staged_file bytes stage file) index)))
         | inr past ↦
             let file_is : nat_lt file (length stage.sizes) ≡ true = grind (arith, nat_tests) in
             let no : nat_lt index (frames_of (get_or stage.sizes file 0)) ≡ false =

@@ -5,7 +5,7 @@ use Rattle.std.proofs.Common.{length-append, length-take, length-drop, refl, ap,
 use Rattle.std.specs.Prelude.{slice_get, option_map}
 use Rattle.std.proofs.lemmas.Option.{slice_get-get_or}
 use Rattle.bl_session.specs.declared.store.Completion.{Completion}
-use Rattle.bl_session.specs.declared.request.Request.{Request}
+use Rattle.bl_session.specs.declared.submission.Submission.{Submission}
 use Rattle.bl_session.specs.declared.queue.Order.{Order}
 use Rattle.bl_session.specs.Boot.{EventFacts}
 use Rattle.bl_session.specs.Outcome.{File}
@@ -15,7 +15,7 @@ use Rattle.bl_session.specs.Stores.{next_place, without, after_answer}
 use Rattle.bl_session.specs.StoresKept.{item_of}
 use Rattle.bl_session.specs.Scripts as scripts
 use Rattle.bl_session.specs.Scripts.{ScriptStoreFacts, event_by, picked_place}
-use Rattle.bl_session.proofs.RequestLemmas.{item_is}
+use Rattle.bl_session.proofs.SubmissionLemmas.{item_is}
 use Rattle.bl_session.proofs.StoreLemmas.{place_within}
 
 -- nothing is answered exactly if nothing is still to be answered
@@ -85,7 +85,7 @@ tells_taken event files1 files2 given1 given2 pending1 pending2 place answer wit
       err = tt;
     }
 
-next_within : (order : Order) (pending : List Request) → 0 < length pending
+next_within : (order : Order) (pending : List Submission) → 0 < length pending
     → next_place order pending < length pending
 next_within order [] some = absurd (omega arith)
 next_within order (first ∷ others) some = place_within order first others
@@ -117,8 +117,8 @@ picked_within store some = omega arith
 
 pub script_store_tells : {A E : Type 0} (old new : ScriptStoreFacts)
     (result : Result (Option (Completion A)) E)
-    → IfOk result (λ answer. option_map event_of answer ≡ scripts.next_event old)
-    → IfOk result (λ answer. new ≡ scripts.after_answer old (option_map event_of answer))
+    → IfOk result (λ answer. option_map event_of answer ≡ scripts.script_event old)
+    → IfOk result (λ answer. new ≡ scripts.after_script_answer old (option_map event_of answer))
     → OnErr result (new ≡ old)
     → Tells old.files new.files old.given new.given (length old.pending) (length new.pending) result
 script_store_tells old new (Ok answer) is ok err =

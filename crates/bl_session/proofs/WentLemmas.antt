@@ -5,15 +5,15 @@ use Rattle.std.proofs.Common.{inl, inr, arith, length-append}
 use Rattle.std.proofs.lemmas.List.{length-map}
 use Rattle.bl_load.specs.declared.refusal.Refusal.{Refusal}
 use Rattle.bl_load.specs.declared.refusal.Refusal.TheVariants.{FileFault}
-use Rattle.bl_stage.specs.Spots.{Spot, bytes_of, waiting_spots}
+use Rattle.bl_stage.specs.Spots.{Spot, came_bytes, waiting_spots}
 use Rattle.bl_session.specs.declared.words.RefusedEntry.{RefusedEntry}
 use Rattle.bl_session.specs.declared.words.Ticket.{Ticket}
-use Rattle.bl_session.specs.Ends.{End, handed, refused, size_refusal, lengths_of}
+use Rattle.bl_session.specs.Ends.{End, handed, refused, size_refusal, known_lengths}
 use Rattle.bl_session.specs.Menu.{entry_at}
 use Rattle.bl_session.specs.Pieces.{are_whole, with_piece}
 use Rattle.bl_session.specs.Boot.{BootFacts, EventFacts, piece, fault, State, unstarted, running}
 use Rattle.bl_session.specs.Boot.{handed_over, none_left, out_of_memory, sizes_of, fresh}
-use Rattle.bl_session.specs.Boot.{EntryEndsIn, GoesOn, Continues, BeginsUnless, Begins, is_wanted}
+use Rattle.bl_session.specs.Boot.{EntryEndsIn, AfterAttempt, Continues, BeginsUnless, Begins, is_wanted}
 use Rattle.bl_session.specs.Boot.{Takes, Steps}
 
 -- the boot has ended; or an attempt has just begun, with at least this many refusals before it and
@@ -41,7 +41,7 @@ pub new_goes : (facts : BootFacts) (rest : List ℕ) (entry : ℕ) (earlier : Li
     (end : End) (new : State)
     → ((r : List RefusedEntry) (s : State) → Begins facts rest r s
     → IsNewFrom facts (length rest) (length r) s)
-    → GoesOn (Begins facts rest) entry earlier end new
+    → AfterAttempt (Begins facts rest) entry earlier end new
     → IsNewFrom facts (length rest) (length earlier + 1) new
 new_goes facts rest entry earlier (handed handover) new more goes =
     subst (IsNewFrom facts (length rest) (length earlier + 1)) (sym goes) tt
@@ -64,8 +64,8 @@ goes_or_new facts entry rest earlier files new more goes = choice (are_whole fil
   where
     choice : (b : Bool)
         → MatchBool b
-        ((end : End) × EntryEndsIn facts entry (map bytes_of files) end
-        × GoesOn (Begins facts rest) entry earlier end new)
+        ((end : End) × EntryEndsIn facts entry (map came_bytes files) end
+        × AfterAttempt (Begins facts rest) entry earlier end new)
         (new ≡ running entry rest earlier files)
         → (new ≡ running entry rest earlier files)
         ⊎ IsNewFrom facts (length rest) (length earlier + 1) new
@@ -142,6 +142,6 @@ step_went facts entry rest earlier files event new goes =
 pub fresh_length : (facts : BootFacts) (entry : ℕ)
     → length (fresh facts entry) ≡ length (entry_at facts.menu entry).files
 fresh_length facts entry =
-    length-map (lengths_of (sizes_of facts entry)) waiting_spots
+    length-map (known_lengths (sizes_of facts entry)) waiting_spots
     ∙ length-map (sizes_of facts entry) _
     ∙ length-map (entry_at facts.menu entry).files _

@@ -9,11 +9,11 @@ use Rattle.std.proofs.lemmas.List.{get_or_default, get_or-map, length-map, ext_g
 use Rattle.std.proofs.lemmas.List.Sums.{sum_by-cons}
 use Rattle.std.proofs.lemmas.List.FromFn.{length-map-range_with_len, get_or-map-range_with_len}
 use Rattle.bl_map.specs.Room.{frames_of, frames_for}
-use Rattle.bl_stage.specs.Staged.{Staging, AreStaged, AllCame, file_of, texts_of, fresh}
+use Rattle.bl_stage.specs.Staged.{Staging, AreStaged, AllCame, staged_file, staged_texts, empty_stage}
 use Rattle.bl_stage.specs.Staged.{first_of}
 use Rattle.bl_stage.specs.Pieces.{slot_in}
 use Rattle.bl_stage.specs.Spots as stage
-use Rattle.bl_stage.specs.Spots.{Spot, spots, spots_of, spot_at, piece_of, waiting_spots, bytes_of}
+use Rattle.bl_stage.specs.Spots.{Spot, spots, spots_of, spot_at, piece_of, waiting_spots, came_bytes}
 use Rattle.bl_stage.specs.TextLaws.{same_firsts}
 use Rattle.bl_stage.proofs.FileLemmas.{file_within}
 use Rattle.bl_stage.proofs.SpotLaws.{complete_spots, fresh_spots}
@@ -33,7 +33,7 @@ each_size sizes =
     ∙ sym (get_or-map waiting_spots sizes k 0 d (omega arith)))
 
 pub first_awaited : (bytes : List ℕ) (pool : Range ℕ) (sizes frames : List ℕ)
-    → spots bytes (fresh pool sizes frames) ≡ awaited sizes
+    → spots bytes (empty_stage pool sizes frames) ≡ awaited sizes
 first_awaited bytes pool sizes frames = fresh_spots bytes pool sizes frames ∙ each_size sizes
 
 -- ---- each came
@@ -96,7 +96,7 @@ came_whole bytes stage kept came =
     all_from q (λ k. spot_at bytes stage file k) 0 (frames_of (get_or stage.sizes file 0)) (λ k m i.
     rw (came_slot stage file k kept came (omega arith) (omega arith)) refl))
 
-flag_of : (came : Bool) (piece : List ℕ) → not (is_awaited (stage.spot_of came piece)) ≡ true
+flag_of : (came : Bool) (piece : List ℕ) → not (is_awaited (stage.spot_by came piece)) ≡ true
     → came ≡ true
 flag_of true piece e = refl
 flag_of false piece e = absurd cc
@@ -118,7 +118,7 @@ whole_came bytes stage kept whole = λ k d h.
     found.1 of_file (omega arith) (omega arith) in
     let came =
     flag_of (get_or stage.came (slot_in stage found.0 found.1) false)
-    (piece_of (file_of bytes stage found.0) found.1) of_piece in
+    (piece_of (staged_file bytes stage found.0) found.1) of_piece in
     get_or_default stage.came k d false h ∙ ap (λ n. get_or stage.came n false) (sym found.4) ∙ came
 
 -- ---- the files' bytes
@@ -129,10 +129,10 @@ map_after g f [] = refl
 map_after g f (x ∷ xs) = ap (λ rest. g (f x) ∷ rest) (map_after g f xs)
 
 pub whole_texts : (bytes : List ℕ) (stage : Staging) → AreStaged stage → AllCame stage
-    → map bytes_of (spots bytes stage) ≡ texts_of bytes stage
+    → map came_bytes (spots bytes stage) ≡ staged_texts bytes stage
 whole_texts bytes stage kept came =
     let d : List ℕ = [] in
-    map_after bytes_of (λ file. spots_of bytes stage file) (range_with_len 0 (length stage.sizes))
-    ∙ same_firsts d (λ file. bytes_of (spots_of bytes stage file))
-    (λ file. file_of bytes stage file) (length stage.sizes)
+    map_after came_bytes (λ file. spots_of bytes stage file) (range_with_len 0 (length stage.sizes))
+    ∙ same_firsts d (λ file. came_bytes (spots_of bytes stage file))
+    (λ file. staged_file bytes stage file) (length stage.sizes)
     (λ file h. complete_spots bytes stage file kept came h)

@@ -1,18 +1,27 @@
 -- Where an attempt stands, and what memory holds then.
-use Rattle.std.specs.Prelude.{◌≡◌, ℕ, List, map, length, true, false, Option, MatchOption}
+use Rattle.std.specs.Prelude.{◌≡◌, ℕ, List, map, length, true, false, Option, None, Some}
+use Rattle.std.specs.Prelude.{MatchOption}
 use Rattle.std.specs.declared.ops.Range.{Range}
 use Rattle.bl_map.specs.MachineFacts.{MachineFacts}
 use Rattle.bl_load.specs.After.{IsAfter}
 use Rattle.bl_load.specs.declared.refusal.Refusal.{Refusal}
 use Rattle.bl_stage.specs.Ranges.{IsSameOutside}
-use Rattle.bl_stage.specs.Spots.{Spot, spots, bytes_of}
-use Rattle.bl_session.specs.declared.attempting.Attempt.{Attempt}
-use Rattle.bl_session.specs.declared.attempting.Attempt.TheVariants.{Waits, HandedOver, Refused}
-use Rattle.bl_session.specs.Ends.{handed, refused, EndsIn, size_refusal, lengths_of}
+use Rattle.bl_stage.specs.Spots.{Spot, spots, came_bytes}
+use Rattle.bl_stage.specs.Staged.{Staging}
+use Rattle.bl_session.specs.declared.attempt.Attempt.{Attempt}
+use Rattle.bl_session.specs.declared.attempt.Attempt.TheVariants.{Waits, Ended}
+use Rattle.bl_session.specs.declared.attempt.AttemptEnd.{AttemptEnd}
+use Rattle.bl_session.specs.declared.attempt.AttemptEnd.TheVariants.{HandedOver, Refused}
+use Rattle.bl_session.specs.Ends.{handed, refused, EndsIn, size_refusal, known_lengths}
 use Rattle.bl_session.specs.Menu.{EntryFacts, value_with}
 use Rattle.bl_session.specs.Pieces.{are_whole, awaited}
 use Rattle.bl_session.specs.Phases.{handover_held, EndsWithin}
 use Rattle.bl_session.specs.PhasesKept.{HasSmallFiles, LacksPiece}
+
+-- an attempt with this stage, unless it has ended
+abbrev pub attempt_by : {A : Type 0} → Staging → Option (AttemptEnd A) → Attempt A
+attempt_by stage None = Waits stage
+attempt_by stage (Some end) = Ended end
 
 -- with these spots of its files it waits for what is missing, or ends by its entry's value
 abbrev pub IsAttempt :
@@ -20,26 +29,26 @@ abbrev pub IsAttempt :
     → Type 0
 IsAttempt facts entry files bytes (Waits stage) =
     (are_whole files ≡ false) × (spots bytes stage ≡ files)
-IsAttempt facts entry files bytes (HandedOver handoff) =
+IsAttempt facts entry files bytes (Ended (HandedOver handoff)) =
     (are_whole files ≡ true)
-    × EndsIn facts (value_with entry (map bytes_of files)) (handed (handover_held bytes handoff))
-IsAttempt facts entry files bytes (Refused refusal) =
+    × EndsIn facts (value_with entry (map came_bytes files)) (handed (handover_held bytes handoff))
+IsAttempt facts entry files bytes (Ended (Refused refusal)) =
     (are_whole files ≡ true)
-    × EndsIn facts (value_with entry (map bytes_of files)) (refused refusal)
+    × EndsIn facts (value_with entry (map came_bytes files)) (refused refusal)
 
 -- it is refused for this
 abbrev pub IsRefusedFor : {A : Type 0} → Attempt A → Refusal → Type 0
 IsRefusedFor (Waits stage) refusal = ⊥
-IsRefusedFor (HandedOver handoff) refusal = ⊥
-IsRefusedFor (Refused r) refusal = r ≡ refusal
+IsRefusedFor (Ended (HandedOver handoff)) refusal = ⊥
+IsRefusedFor (Ended (Refused r)) refusal = r ≡ refusal
 
 -- it begins, if its files' sizes don't refuse it
-abbrev pub IsBegun :
+abbrev pub IsAttemptBegun :
     {A : Type 0} → MachineFacts → EntryFacts → List (Option ℕ) → (bytes : List ℕ) → Attempt A
     → Type 0
-IsBegun facts entry sizes bytes attempt =
+IsAttemptBegun facts entry sizes bytes attempt =
     MatchOption (size_refusal facts sizes)
-    (IsAttempt facts entry (awaited (lengths_of sizes)) bytes attempt)
+    (IsAttempt facts entry (awaited (known_lengths sizes)) bytes attempt)
     (IsRefusedFor attempt)
 
 -- the stage that it waits with is one of so many files, and lacks a piece; each part that it hands
@@ -48,13 +57,13 @@ abbrev pub KeepsAttempt : {A : Type 0} → MachineFacts → ℕ → Attempt A �
 KeepsAttempt facts count (Waits stage) =
     (stage.pool ≡ facts.pool) × (length stage.sizes ≡ count) × HasSmallFiles stage
     × LacksPiece stage
-KeepsAttempt facts count (HandedOver handoff) = EndsWithin facts.size handoff
-KeepsAttempt facts count (Refused refusal) = Unit {0}
+KeepsAttempt facts count (Ended (HandedOver handoff)) = EndsWithin facts.size handoff
+KeepsAttempt facts count (Ended (Refused refusal)) = Unit {0}
 
 -- memory beside: after a handover it is that which is handed over; else no byte outside the pool
 -- changed
 abbrev pub IsMemoryOf : {A : Type 0} → Range ℕ → (old new : List ℕ) → Attempt A → Type 0
 IsMemoryOf pool old new (Waits stage) = IsSameOutside pool old new
-IsMemoryOf pool old new (HandedOver handoff) =
+IsMemoryOf pool old new (Ended (HandedOver handoff)) =
     IsAfter pool (handover_held new handoff).parts old new
-IsMemoryOf pool old new (Refused refusal) = IsSameOutside pool old new
+IsMemoryOf pool old new (Ended (Refused refusal)) = IsSameOutside pool old new

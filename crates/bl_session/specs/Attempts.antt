@@ -2,7 +2,7 @@
 use Rattle.std.specs.Prelude.{ℕ, ◌+◌, ◌<◌, ◌≤◌, ◌==◌, Bool, max, List, [], ◌∷◌, ◌++◌, length, All}
 use Rattle.std.specs.Prelude.{if◌then◌else◌}
 use Rattle.std.specs.List.{list_any}
-use Rattle.bl_plan.specs.Limits.{most_entries}
+use Rattle.bl_plan.specs.Limits.{max_entries}
 use Rattle.bl_load.specs.declared.entry.Entry.{Entry}
 use Rattle.bl_load.specs.Value.{IsWithinLimits}
 use Rattle.bl_session.specs.Menu.{EntryFacts}
@@ -24,7 +24,7 @@ attempts_of default fallbacks = once_by (λ i j. i == j) [] (default ∷ fallbac
 -- few entries, each within its limits
 abbrev pub IsSmall : {A : Type 0} → List (Entry A) → Type 0
 IsSmall entries =
-    (length entries ≤ most_entries) × All IsWithinLimits entries
+    (length entries ≤ max_entries) × All IsWithinLimits entries
 
 -- each index names one of so many entries
 abbrev pub NameEntries : ℕ → ℕ → List ℕ → Type 0

@@ -5,12 +5,12 @@ use Rattle.bl_map.specs.MachineFacts.{MachineFacts}
 use Rattle.bl_load.specs.declared.refusal.Refusal.{Refusal}
 use Rattle.bl_load.specs.declared.refusal.Refusal.TheVariants.{FileFault}
 use Rattle.bl_load.specs.Handover.{Handover}
-use Rattle.bl_stage.specs.Spots.{Spot, bytes_of}
+use Rattle.bl_stage.specs.Spots.{Spot, came_bytes}
 use Rattle.bl_session.specs.declared.words.Ticket.{Ticket}
 use Rattle.bl_session.specs.declared.words.RefusedEntry.{RefusedEntry}
 use Rattle.bl_session.specs.declared.words.Progress.{Progress}
 use Rattle.bl_session.specs.declared.words.Progress.TheVariants.{Waiting, Next, Done, Failed}
-use Rattle.bl_session.specs.Ends.{End, handed, refused, EndsIn, size_refusal, lengths_of}
+use Rattle.bl_session.specs.Ends.{End, handed, refused, EndsIn, size_refusal, known_lengths}
 use Rattle.bl_session.specs.Menu.{MenuFacts, entry_at, value_with}
 use Rattle.bl_session.specs.Pieces.{is_awaited, awaits, spot_of, with_piece, are_whole, awaited}
 
@@ -46,7 +46,7 @@ sizes_of facts entry =
 
 -- its pieces, of which none came
 abbrev pub fresh : BootFacts → ℕ → List (List Spot)
-fresh facts entry = awaited (lengths_of (sizes_of facts entry))
+fresh facts entry = awaited (known_lengths (sizes_of facts entry))
 
 -- what it ends in once its files hold these texts
 abbrev pub EntryEndsIn : BootFacts → ℕ → List (List ℕ) → End → Type 0
@@ -55,30 +55,30 @@ EntryEndsIn facts entry texts = EndsIn facts.machine (value_with (entry_at facts
 -- ---- attempts, one after the other
 
 -- the rest of a boot: with these refusals so far, it leads to this state
-abbrev pub Sequel : Type 1
-Sequel = List RefusedEntry → State → Type 0
+abbrev pub Continuation : Type 1
+Continuation = List RefusedEntry → State → Type 0
 
 -- the attempt of an entry ended so: a handover ends the boot; a refusal is added to those so far,
 -- and the rest of the boot follows
-abbrev pub GoesOn : Sequel → ℕ → List RefusedEntry → End → State → Type 0
-GoesOn next entry earlier (handed handover) state = state ≡ handed_over entry earlier handover
-GoesOn next entry earlier (refused refusal) state =
+abbrev pub AfterAttempt : Continuation → ℕ → List RefusedEntry → End → State → Type 0
+AfterAttempt next entry earlier (handed handover) state = state ≡ handed_over entry earlier handover
+AfterAttempt next entry earlier (refused refusal) state =
     next (earlier ++ record { entry = entry; refusal = refusal } ∷ []) state
 
 -- the attempt has these spots: it waits for what is missing; if each piece came, it ends
 abbrev pub Continues :
-    BootFacts → Sequel → ℕ → List ℕ → List RefusedEntry → List (List Spot) → State → Type 0
+    BootFacts → Continuation → ℕ → List ℕ → List RefusedEntry → List (List Spot) → State → Type 0
 Continues facts next entry rest earlier files state =
     MatchBool (are_whole files)
-    ((end : End) × EntryEndsIn facts entry (map bytes_of files) end
-    × GoesOn next entry earlier end state)
+    ((end : End) × EntryEndsIn facts entry (map came_bytes files) end
+    × AfterAttempt next entry earlier end state)
     (state ≡ running entry rest earlier files)
 
 -- the attempt begins, if the sizes of its files don't refuse it
 abbrev pub BeginsUnless :
-    BootFacts → Sequel → ℕ → List ℕ → List RefusedEntry → Option Refusal → State → Type 0
+    BootFacts → Continuation → ℕ → List ℕ → List RefusedEntry → Option Refusal → State → Type 0
 BeginsUnless facts next entry rest earlier (Some refusal) state =
-    GoesOn next entry earlier (refused refusal) state
+    AfterAttempt next entry earlier (refused refusal) state
 BeginsUnless facts next entry rest earlier None state =
     Continues facts next entry rest earlier (fresh facts entry) state
 
@@ -107,7 +107,7 @@ Takes facts entry rest earlier files (piece ticket bytes) state =
     Continues facts (Begins facts rest) entry rest earlier
     (with_piece files ticket.file ticket.piece bytes) state
 Takes facts entry rest earlier files (fault ticket) state =
-    GoesOn (Begins facts rest) entry earlier (refused (FileFault ticket.file)) state
+    AfterAttempt (Begins facts rest) entry earlier (refused (FileFault ticket.file)) state
 
 -- an event that is not wanted changes nothing
 abbrev pub Steps : BootFacts → State → EventFacts → State → Type 0

@@ -30,8 +30,8 @@ file_refusal place (None ∷ sizes) = Some (NoFile place)
 file_refusal place (Some size ∷ sizes) =
     if nat_lt file_limit size then Some (FileTooLong place) else file_refusal (place + 1) sizes
 
-abbrev pub lengths_of : List (Option ℕ) → List ℕ
-lengths_of sizes = map (λ size. unwrap_or size 0) sizes
+abbrev pub known_lengths : List (Option ℕ) → List ℕ
+known_lengths sizes = map (λ size. unwrap_or size 0) sizes
 
 -- files of these lengths, each in frames of its own, need more frames than the pool has
 abbrev pub pool_refusal : MachineFacts → List ℕ → Option Refusal
@@ -40,7 +40,8 @@ pool_refusal facts lengths =
 
 -- what the sizes refuse an entry for: a file, and else the pool
 abbrev pub size_refusal : MachineFacts → List (Option ℕ) → Option Refusal
-size_refusal facts sizes = option_or (file_refusal 0 sizes) (pool_refusal facts (lengths_of sizes))
+size_refusal facts sizes =
+    option_or (file_refusal 0 sizes) (pool_refusal facts (known_lengths sizes))
 
 -- ---- once each file is whole: by the entry's value
 
@@ -67,12 +68,13 @@ EndsIn facts value (refused refusal) =
 -- ---- a whole attempt
 
 -- if the check refuses, that is the end; else the rest tells it
-abbrev pub Else : Option Refusal → (End → Type 0) → End → Type 0
-Else None rest end = rest end
-Else (Some refusal) rest end = end ≡ refused refusal
+abbrev pub OrRefused : Option Refusal → (End → Type 0) → End → Type 0
+OrRefused None rest end = rest end
+OrRefused (Some refusal) rest end = end ≡ refused refusal
 
 -- what an attempt ends in: with these sizes of its files, the place of a file of which a fault
 -- came, or None, and this value of its entry
 abbrev pub Ends : MachineFacts → List (Option ℕ) → Option ℕ → EntryValue → End → Type 0
 Ends facts sizes faulty value =
-    Else (size_refusal facts sizes) (Else (option_map FileFault faulty) (EndsIn facts value))
+    OrRefused (size_refusal facts sizes)
+    (OrRefused (option_map FileFault faulty) (EndsIn facts value))

@@ -2,7 +2,7 @@
 use Rattle.std.specs.Prelude.{◌≡◌, ◌+◌, ◌≤◌, ℕ, List, length, All}
 use Rattle.bl_map.specs.MachineFacts.{MachineFacts}
 use Rattle.bl_stage.specs.Ranges.{IsSameOutside}
-use Rattle.bl_stage.specs.Staged.{Staging, texts_of}
+use Rattle.bl_stage.specs.Staged.{Staging, staged_texts}
 use Rattle.bl_load.specs.After.{IsAfter}
 use Rattle.bl_load.specs.HandoffFacts.{HandoffFacts}
 use Rattle.bl_load.specs.Handover.{Handover}
@@ -34,4 +34,4 @@ IsNotHandedOver facts value NoMemory old new = IsSameOutside facts.pool old new
 -- refusal the stage is as before; after want of memory each file reads as before
 abbrev pub IsStageLeft : PrepFault → (old new : Staging) → (before after : List ℕ) → Type 0
 IsStageLeft (Refused refusal) old new before after = new ≡ old
-IsStageLeft NoMemory old new before after = texts_of after new ≡ texts_of before old
+IsStageLeft NoMemory old new before after = staged_texts after new ≡ staged_texts before old

@@ -4,7 +4,7 @@ use Rattle.bl_session.specs.Boot.{BootFacts, EventFacts, State, unstarted, runni
 use Rattle.bl_session.specs.Boot.{none_left, out_of_memory, is_wanted, StartsOrFails}
 use Rattle.bl_session.specs.Outcome.{File}
 use Rattle.bl_session.specs.History.{Item}
-use Rattle.bl_session.specs.Run.{World, world_of, Hears, IsEventOf, IsMarked}
+use Rattle.bl_session.specs.Run.{World, world_of, Delivers, IsEventOf, IsMarked}
 
 -- an event that is wanted is marked; one that is not may be anything
 abbrev pub IsMarkedItem : State → Item → EventFacts → Type 0
@@ -21,7 +21,7 @@ AreMarked facts files given world [] = Unit {0}
 AreMarked facts files given world (item ∷ items) =
     ((event : EventFacts) → world.owed ≡ [] → IsEventOf files given world.state item event
     → IsMarkedItem world.state item event)
-    × ((next : World) → Hears facts files given world.state world.owed item next
+    × ((next : World) → Delivers facts files given world.state world.owed item next
     → AreMarked facts files (given ++ item ∷ []) next items)
 
 -- a history that grew so is marked

@@ -8,7 +8,8 @@ use Rattle.bl_session.specs.Ends.{End, Ends, file_limit}
 use Rattle.bl_session.specs.Menu.{entry_at, value_with}
 use Rattle.bl_session.specs.Pieces.{are_whole, with_piece}
 use Rattle.bl_session.specs.Boot.{BootFacts, EventFacts, piece, fault, State, unstarted, running}
-use Rattle.bl_session.specs.Boot.{handed_over, none_left, out_of_memory, sizes_of, fresh, GoesOn}
+use Rattle.bl_session.specs.Boot.{handed_over, none_left, out_of_memory, sizes_of, fresh}
+use Rattle.bl_session.specs.Boot.{AfterAttempt}
 use Rattle.bl_session.specs.Boot.{is_wanted, Steps}
 
 -- ---- the files of a menu
@@ -95,7 +96,7 @@ abbrev pub IsFirst :
 IsFirst facts files faults [] earlier state = state ≡ none_left earlier
 IsFirst facts files faults (entry ∷ rest) earlier state =
     (end : End) × EntryEnds facts files (faults (length earlier)) entry end
-    × GoesOn (IsFirst facts files faults rest) entry earlier end state
+    × AfterAttempt (IsFirst facts files faults rest) entry earlier end state
 
 -- the outcome of a boot with these files and faults
 abbrev pub IsOutcome : BootFacts → List File → Faults → State → Type 0

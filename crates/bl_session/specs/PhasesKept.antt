@@ -1,14 +1,14 @@
 -- What a session keeps of its phase, and of the stage of an attempt that waits.
-use Rattle.std.specs.Prelude.{◌≡◌, ℕ, ◌<◌, ◌≤◌, List, length, All, Option, Some}
+use Rattle.std.specs.Prelude.{◌≡◌, ℕ, ◌<◌, ◌≤◌, List, length, All, Option, None, Some}
 use Rattle.bl_map.specs.MachineFacts.{MachineFacts}
 use Rattle.bl_load.specs.declared.refusal.PrepFault.{PrepFault}
 use Rattle.bl_load.specs.declared.refusal.PrepFault.TheVariants as prep_fault
-use Rattle.bl_stage.specs.Staged.{Staging, AllCame, fresh}
+use Rattle.bl_stage.specs.Staged.{Staging, AllCame, empty_stage}
 use Rattle.bl_session.specs.declared.boot.Boot.{Boot}
 use Rattle.bl_session.specs.declared.phase.Running.{Running}
 use Rattle.bl_session.specs.declared.phase.Phase.{Phase}
 use Rattle.bl_session.specs.declared.phase.Phase.TheVariants.{Unstarted, Waits, HandedOver, Failed}
-use Rattle.bl_session.specs.Ends.{file_limit, file_refusal, size_refusal, lengths_of}
+use Rattle.bl_session.specs.Ends.{file_limit, file_refusal, size_refusal, known_lengths}
 use Rattle.bl_session.specs.Menu.{MenuFacts, entry_at}
 use Rattle.bl_session.specs.Boot.{BootFacts, State}
 use Rattle.bl_session.specs.Phases.{state_at, running_facts, phase_facts, boot_facts, EndsWithin}
@@ -31,10 +31,11 @@ IsSizeFault facts sizes prep_fault.NoMemory = Unit {0}
 
 -- a stage to which no piece came, for files of these sizes
 abbrev pub IsFresh : MachineFacts → List (Option ℕ) → Staging → Type 0
-IsFresh facts sizes stage = (frames : List ℕ) × (stage ≡ fresh facts.pool (lengths_of sizes) frames)
+IsFresh facts sizes stage =
+    (frames : List ℕ) × (stage ≡ empty_stage facts.pool (known_lengths sizes) frames)
 
 abbrev pub facts_of_boot : {A : Type 0} → Boot A → BootFacts
-facts_of_boot boot = boot_facts boot.machine.now boot.menu.now boot.sizes.now
+facts_of_boot boot = boot_facts boot.machine.now boot.menu.now boot.sizes.items
 
 -- the states of its phases
 abbrev pub state_in : {A : Type 0} → Boot A → (bytes : List ℕ) → Phase A → State
@@ -42,6 +43,11 @@ state_in boot bytes phase = state_of boot.menu.now.attempts bytes phase
 
 abbrev pub running_in : {A : Type 0} → Boot A → (bytes : List ℕ) → Running A → State
 running_in boot bytes r = running_state boot.menu.now.attempts bytes r
+
+-- where an attempt stands that runs on, or the phase that ended it
+abbrev pub phase_by : {A : Type 0} → Running A → Option (Phase A) → Phase A
+phase_by r None = Waits r
+phase_by r (Some phase) = phase
 
 -- each file has at most the most bytes
 pub record HasSmallFiles (stage : Staging) : Type 0 where
@@ -62,8 +68,8 @@ pub record IsWaiting {A : Type 0} (machine : MachineFacts) (menu : MenuFacts)
   pub next : r.next ≤ length menu.attempts
 
 -- an attempt waits only while a piece is missing
-abbrev pub IsKept : {A : Type 0} → MachineFacts → MenuFacts → Phase A → Type 0
-IsKept machine menu Unstarted = Unit {0}
-IsKept machine menu (Waits r) = IsWaiting machine menu r × LacksPiece r.stage
-IsKept machine menu (HandedOver outcome) = EndsWithin machine.size outcome.handoff
-IsKept machine menu (Failed why) = Unit {0}
+abbrev pub IsPhaseKept : {A : Type 0} → MachineFacts → MenuFacts → Phase A → Type 0
+IsPhaseKept machine menu Unstarted = Unit {0}
+IsPhaseKept machine menu (Waits r) = IsWaiting machine menu r × LacksPiece r.stage
+IsPhaseKept machine menu (HandedOver outcome) = EndsWithin machine.size outcome.handoff
+IsPhaseKept machine menu (Failed why) = Unit {0}

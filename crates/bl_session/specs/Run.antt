@@ -53,10 +53,10 @@ world_of facts state = record { state = state; owed = orders facts state }
 
 -- one item after this history: the first that is to be asked for; with none it is an answer, the
 -- next event
-abbrev pub Hears : BootFacts → List File → List Item → State → List Item → Item → World → Type 0
-Hears facts files given state (order ∷ owed) item new =
+abbrev pub Delivers : BootFacts → List File → List Item → State → List Item → Item → World → Type 0
+Delivers facts files given state (order ∷ owed) item new =
     (item ≡ order) × (new ≡ record { state = state; owed = owed })
-Hears facts files given state [] item new =
+Delivers facts files given state [] item new =
     (event : EventFacts) × IsEventOf files given state item event
     × StepsOrFails facts state event new.state
     × (new.owed ≡ orders_after facts state new.state)
@@ -67,7 +67,7 @@ abbrev pub Reads : BootFacts → List File → List Item → World → List Item
 Reads facts files given old [] new =
     (new ≡ old.state) ⊎ ((new ≡ out_of_memory) × (is_running old.state ≡ true))
 Reads facts files given old (item ∷ items) new =
-    (next : World) × Hears facts files given old.state old.owed item next
+    (next : World) × Delivers facts files given old.state old.owed item next
     × Reads facts files (given ++ item ∷ []) next items new
 
 -- a boot that made its store's history grow so came to this state
@@ -111,7 +111,7 @@ AreGenuine facts files faults given world [] = Unit {0}
 AreGenuine facts files faults given world (item ∷ items) =
     ((event : EventFacts) → world.owed ≡ [] → IsEventOf files given world.state item event
     → IsGenuineItem faults world.state item event)
-    × ((next : World) → Hears facts files given world.state world.owed item next
+    × ((next : World) → Delivers facts files given world.state world.owed item next
     → AreGenuine facts files faults (given ++ item ∷ []) next items)
 
 -- a history that grew so is genuine with these faults

@@ -4,7 +4,7 @@ use Rattle.std.specs.Prelude.{slice_get, slice_index_or, Option, option_map}
 use Rattle.std.specs.List.{list_any}
 use Rattle.std.specs.Int.Bits.{bit_xor}
 use Rattle.bl_session.specs.declared.words.Ticket.{Ticket}
-use Rattle.bl_session.specs.declared.request.Request.{Request}
+use Rattle.bl_session.specs.declared.submission.Submission.{Submission}
 use Rattle.bl_session.specs.declared.reply.Reply.{Reply}
 use Rattle.bl_session.specs.declared.reply.Reply.TheVariants.{Answer, Altered, Fault}
 use Rattle.bl_session.specs.Boot.{EventFacts, piece, fault}
@@ -18,21 +18,21 @@ altered (piece ticket bytes) = piece ticket (map (λ byte. bit_xor byte 255) byt
 altered (fault ticket) = fault ticket
 
 abbrev pub event_by : List File → Reply → EventFacts
-event_by files (Answer request) = answer_to files request
-event_by files (Altered request) = altered (answer_to files request)
+event_by files (Answer submission) = answer_to files submission
+event_by files (Altered submission) = altered (answer_to files submission)
 event_by files (Fault ticket) = fault ticket
 
 abbrev pub is_among : List Ticket → Ticket → Bool
 is_among tickets ticket = list_any (λ t. is_same t ticket) tickets
 
--- what comes of a request: a fault, or the answer, or the answer and an altered one
-abbrev pub replies_to : (twice fail : List Ticket) → Request → List Reply
-replies_to twice fail request =
-    if is_among fail request.ticket
-    then Fault request.ticket ∷ []
-    else if is_among twice request.ticket
-    then Answer request ∷ Altered request ∷ []
-    else Answer request ∷ []
+-- what comes of a submission: a fault, or the answer, or the answer and an altered one
+abbrev pub replies_to : (twice fail : List Ticket) → Submission → List Reply
+replies_to twice fail submission =
+    if is_among fail submission.ticket
+    then Fault submission.ticket ∷ []
+    else if is_among twice submission.ticket
+    then Answer submission ∷ Altered submission ∷ []
+    else Answer submission ∷ []
 
 -- a `ScriptStore`: its files, the tickets that are answered twice, those that fail, the places that
 -- are not used up, what is still to come, and its history
@@ -48,23 +48,24 @@ pub record ScriptStoreFacts : Type 0 where
 abbrev pub picked_place : ScriptStoreFacts → ℕ
 picked_place store = slice_index_or store.picks 0 0 % length store.pending
 
-abbrev pub next_event : ScriptStoreFacts → Option EventFacts
-next_event store = option_map (event_by store.files) (slice_get store.pending (picked_place store))
+abbrev pub script_event : ScriptStoreFacts → Option EventFacts
+script_event store =
+    option_map (event_by store.files) (slice_get store.pending (picked_place store))
 
--- after a request what comes of it is the last that is still to come; after an answer it is left
+-- after a submission what comes of it is the last that is still to come; after an answer it is left
 -- out, and so is its place
-abbrev pub after_request : ScriptStoreFacts → Request → ScriptStoreFacts
-after_request store request = record {
+abbrev pub after_script_submission : ScriptStoreFacts → Submission → ScriptStoreFacts
+after_script_submission store submission = record {
   files = store.files;
   twice = store.twice;
   fail = store.fail;
   picks = store.picks;
-  pending = store.pending ++ replies_to store.twice store.fail request;
-  given = store.given ++ submitted request.file request.ticket ∷ [];
+  pending = store.pending ++ replies_to store.twice store.fail submission;
+  given = store.given ++ submitted submission.file submission.ticket ∷ [];
 }
 
-abbrev pub after_answer : ScriptStoreFacts → Option EventFacts → ScriptStoreFacts
-after_answer store told = record {
+abbrev pub after_script_answer : ScriptStoreFacts → Option EventFacts → ScriptStoreFacts
+after_script_answer store told = record {
   files = store.files;
   twice = store.twice;
   fail = store.fail;

@@ -8,7 +8,7 @@ use Rattle.bl_session.specs.declared.store.Completion.{Completion}
 use Rattle.bl_session.specs.declared.store.Completion.TheVariants.{Piece, Fault}
 use Rattle.bl_session.specs.declared.fetched.Fetched.{Fetched}
 use Rattle.bl_session.specs.declared.fetched.Fetched.TheVariants.{Missing, TooLong, Bytes}
-use Rattle.bl_session.specs.declared.request.Request.{Request}
+use Rattle.bl_session.specs.declared.submission.Submission.{Submission}
 use Rattle.bl_session.specs.declared.queue.Order.{Order}
 use Rattle.bl_session.specs.declared.queue.Order.TheVariants.{Forward, Reverse}
 use Rattle.bl_session.specs.Ends.{file_limit}
@@ -33,16 +33,16 @@ abbrev pub event_of : {A : Type 0} → Completion A → EventFacts
 event_of (Piece ticket bytes) = piece ticket bytes.items
 event_of (Fault ticket) = fault ticket
 
--- to a request for a file of this text: the piece, or a fault, if the text has no such piece
+-- to a submission for a file of this text: the piece, or a fault, if the text has no such piece
 abbrev pub answer_of : List ℕ → Ticket → EventFacts
 answer_of text ticket =
     if nat_lt (4096 * ticket.piece) (length text)
     then piece ticket (piece_of text ticket.piece)
     else fault ticket
 
-abbrev pub answer_to : List File → Request → EventFacts
-answer_to files request =
-    answer_of (file_bytes (slice_index_or files request.file missing)) request.ticket
+abbrev pub answer_to : List File → Submission → EventFacts
+answer_to files submission =
+    answer_of (file_bytes (slice_index_or files submission.file missing)) submission.ticket
 
 -- ---- a history, one answer longer
 
@@ -70,8 +70,8 @@ item_of_told files given (Some event) = item_of_event files given event
 
 -- ---- a store over files that were fetched
 
--- which request is answered next, of those that are still to be answered: the first, or the last
-abbrev pub next_place : Order → List Request → ℕ
+-- which submission is answered next, of those that are still to be answered: the first, or the last
+abbrev pub next_place : Order → List Submission → ℕ
 next_place Forward pending = 0
 next_place Reverse pending = length pending - 1
 
@@ -79,12 +79,12 @@ next_place Reverse pending = length pending - 1
 abbrev pub without : {T : Type 0} → List T → ℕ → List T
 without list place = take place list ++ drop (place + 1) list
 
--- a `FileStore`: its files, the order of its answers, the requests that are still to be answered,
--- and its history
+-- a `FileStore`: its files, the order of its answers, the submissions that are still to be
+-- answered, and its history
 pub record FileStoreFacts : Type 0 where
   pub files : List File
   pub order : Order
-  pub pending : List Request
+  pub pending : List Submission
   pub given : List Item
 
 -- the answer that is next
@@ -93,13 +93,14 @@ next_event store =
     option_map (answer_to store.files)
     (slice_get store.pending (next_place store.order store.pending))
 
--- after a request it is the last that is to be answered; after an answer its request is left out
-abbrev pub after_request : FileStoreFacts → Request → FileStoreFacts
-after_request store request = record {
+-- after a submission it is the last that is to be answered; after an answer its submission is left
+-- out
+abbrev pub after_submission : FileStoreFacts → Submission → FileStoreFacts
+after_submission store submission = record {
   files = store.files;
   order = store.order;
-  pending = store.pending ++ request ∷ [];
-  given = store.given ++ submitted request.file request.ticket ∷ [];
+  pending = store.pending ++ submission ∷ [];
+  given = store.given ++ submitted submission.file submission.ticket ∷ [];
 }
 
 abbrev pub after_answer : FileStoreFacts → Option EventFacts → FileStoreFacts

@@ -1,31 +1,34 @@
--- What a `FileStore` keeps of the requests that are still to be answered, and of its history.
+-- What a `FileStore` keeps of the submissions that are still to be answered, and of its history.
 use Rattle.std.specs.Prelude.{◌≡◌, ℕ, ◌+◌, ◌≤◌, List, [], ◌∷◌, Some, if◌then◌else◌, Option}
 use Rattle.std.specs.Prelude.{option_map}
 use Rattle.bl_session.specs.declared.words.Ticket.{Ticket}
-use Rattle.bl_session.specs.declared.request.Request.{Request}
+use Rattle.bl_session.specs.declared.submission.Submission.{Submission}
 use Rattle.bl_session.specs.Outcome.{File}
 use Rattle.bl_session.specs.History.{Item, is_same, file_under}
 use Rattle.bl_session.specs.Faithful.{IsFaithful, asked, answered}
 use Rattle.bl_session.specs.declared.store.Completion.{Completion}
 use Rattle.bl_session.specs.Stores.{event_of, item_of_told}
 
--- how many of these requests have a ticket
-abbrev pub count_of : List Request → Ticket → ℕ
+-- how many of these submissions have a ticket
+abbrev pub count_of : List Submission → Ticket → ℕ
 count_of [] ticket = 0
-count_of (request ∷ requests) ticket =
-    (if is_same request.ticket ticket then 1 else 0) + count_of requests ticket
+count_of (submission ∷ submissions) ticket =
+    (if is_same submission.ticket ticket then 1 else 0) + count_of submissions ticket
 
 -- it was asked for; if its ticket was asked for once, under that ticket
-abbrev pub WasAsked : List Item → Request → Type 0
-WasAsked given request =
-    (1 ≤ asked given request.ticket)
-    × (asked given request.ticket ≡ 1 → file_under given request.ticket ≡ Some request.file)
+abbrev pub WasAsked : List Item → Submission → Type 0
+WasAsked given submission =
+    (1 ≤ asked given submission.ticket)
+    × (asked given submission.ticket ≡ 1
+    → file_under given submission.ticket ≡ Some submission.file)
 
-abbrev pub AreAskedFor : List Item → List Request → Type 0
+abbrev pub AreAskedFor : List Item → List Submission → Type 0
 AreAskedFor given [] = Unit {0}
-AreAskedFor given (request ∷ requests) = WasAsked given request × AreAskedFor given requests
+AreAskedFor given (submission ∷ submissions) =
+    WasAsked given submission × AreAskedFor given submissions
 
-pub record AreKept (files : List File) (pending : List Request) (given : List Item) : Type 0 where
+pub record AreKept (files : List File) (pending : List Submission) (given : List Item)
+    : Type 0 where
   pub faithful : IsFaithful files given
   pub counts :
       (ticket : Ticket) → answered given ticket + count_of pending ticket ≡ asked given ticket

@@ -6,7 +6,7 @@ use Rattle.bl_session.specs.Boot.{out_of_memory}
 use Rattle.bl_session.specs.Outcome.{File}
 use Rattle.bl_session.specs.History.{Item}
 use Rattle.bl_session.specs.Orders.{first_ticket}
-use Rattle.bl_session.specs.Run.{World, Hears}
+use Rattle.bl_session.specs.Run.{World, Delivers}
 
 -- of these orders, in order, all but the rest were asked for
 pub record IsAsked (orders rest old new : List Item) : Type 0 where
@@ -19,7 +19,7 @@ abbrev pub LeadsOn :
     BootFacts → List File → List Item → World → List Item → World → Type 0
 LeadsOn facts files given old [] new = new ≡ old
 LeadsOn facts files given old (item ∷ items) new =
-    (next : World) × Hears facts files given old.state old.owed item next
+    (next : World) × Delivers facts files given old.state old.owed item next
     × LeadsOn facts files (given ++ item ∷ []) next items new
 
 -- a history that grew so leads from one world to another

@@ -9,5 +9,5 @@ pub struct Boot<'a, A: Allocator + Copy> {
     pub alloc: A,
     pub machine: &'a Machine<A>,
     pub menu: &'a Menu<A>,
-    pub sizes: &'a [Option<u64>],
+    pub sizes: Vec<Option<u64>, A>,
 }

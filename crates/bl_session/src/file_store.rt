@@ -2,8 +2,8 @@
 use crate::fetched::{Fetched, size_in};
 use crate::history::History;
 use crate::queue::{Order, Queue};
-use crate::request::{Request, answer};
 use crate::store::{Completion, Store};
+use crate::submission::{Submission, answer};
 use crate::words::Ticket;
 use std::alloc::{AllocError, Allocator};
 use std::marker::Model;
@@ -65,12 +65,12 @@ impl<A: Allocator + Copy> FileStore<A> {
         let _ = &self.files;
     }
 
-    /// The answer to the request that is next.
+    /// The answer to the submission that is next.
     fn answer_next(&self) -> Result<Option<Completion<A>>, AllocError>
         ensures { IfOk result (λ answer. option_map event_of answer ≡ next_event self.now) }
     {
         match self.queue.next(self.order) {
-            Some(request) => Ok(Some(answer(self.alloc, &self.files, &request)?)),
+            Some(submission) => Ok(Some(answer(self.alloc, &self.files, &submission)?)),
             None => Ok(None),
         }
     }
@@ -78,7 +78,7 @@ impl<A: Allocator + Copy> FileStore<A> {
 
 impl<A: Allocator + Copy> Store for FileStore<A> {
     ghost use Rattle.std.specs.Prelude.{◌≡◌, length, IfOk, OnOk, OnErr, option_map};
-    ghost use Rattle.bl_session.specs.Stores.{event_of, next_event, after_request, after_answer};
+    ghost use Rattle.bl_session.specs.Stores.{event_of, next_event, after_submission, after_answer};
 
     type Alloc = A;
 
@@ -97,15 +97,15 @@ impl<A: Allocator + Copy> Store for FileStore<A> {
     }
 
     fn submit(&mut self, file: u32, ticket: Ticket) -> Result<(), AllocError>
-        ensures ok { OnOk result (self.new ≡ after_request self.old (record {
+        ensures ok { OnOk result (self.new ≡ after_submission self.old (record {
           file = file;
           ticket = ticket;
         })) }
         ensures err { OnErr result (self.new ≡ self.old) }
     {
-        let request = Request { file, ticket };
-        self.queue.push(request)?;
-        self.history = self.history.and_request(&request);
+        let submission = Submission { file, ticket };
+        self.queue.push(submission)?;
+        self.history = self.history.and_submission(&submission);
         Ok(())
     }
 

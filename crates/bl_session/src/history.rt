@@ -4,15 +4,33 @@ ghost use Rattle.std.specs.Borrow.{ftrue};
 ghost use Rattle.bl_session.specs.History.{Item};
 
 use crate::fetched::Fetched;
-use crate::request::Request;
 use crate::store::Completion;
+use crate::submission::Submission;
 use std::alloc::Allocator;
 use std::marker::Model;
 
 /// What a store was asked and answered. It has no items of its own: nothing of it is there as the
 /// program runs.
+///
+/// A store of one's own keeps one in a field, and gives its `items` as `given` in its `impl Store`:
+///
+/// ```text
+/// fn submit(&mut self, file: u32, ticket: Ticket) -> Result<(), AllocError> {
+///     // .. note what is to be answered; only then, as want of memory changes nothing:
+///     self.history = self.history.and_submission(&Submission { file, ticket });
+///     Ok(())
+/// }
+///
+/// fn next(&mut self) -> Result<Option<Completion<A>>, AllocError> {
+///     let answer = ..;
+///     self.history = self.history.and_answer(&self.files, &answer);
+///     Ok(answer)
+/// }
+/// ```
+///
+/// `item_is` of `proofs/SubmissionLemmas.antt` proves the clause `given` of `next` from it.
 #[derive(Drop)]
-pub(crate) struct History {
+pub struct History {
     ghost items: { List Item },
 }
 
@@ -26,22 +44,22 @@ impl History {
     ghost use Rattle.bl_session.specs.StoresKept.{item_of};
 
     /// Nothing was asked or answered.
-    pub(crate) fn new() -> History
+    pub fn new() -> History
         ensures { result.items ≡ [] }
     {
         History {}
     }
 
     /// This was asked for too.
-    pub(crate) fn and_request(&self, _request: &Request) -> History
+    pub fn and_submission(&self, _submission: &Submission) -> History
         ensures { result.items
-            ≡ self.now.items ++ submitted _request.now.file _request.now.ticket ∷ [] }
+            ≡ self.now.items ++ submitted _submission.now.file _submission.now.ticket ∷ [] }
     {
         History {}
     }
 
     /// This was answered too, by a store of these files.
-    pub(crate) fn and_answer<A: Allocator>(
+    pub fn and_answer<A: Allocator>(
         &self,
         _files: &[Fetched<A>],
         _answer: &Option<Completion<A>>,

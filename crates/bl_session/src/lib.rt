@@ -1,40 +1,39 @@
 //! The boot of a menu's first entry that is not refused.
 #![tactic(auto)]
 
-mod advancing;
-mod asking;
-mod attempting;
-mod beginning;
+mod attempt;
+mod attempts;
 mod boot;
-mod booting;
+mod events;
 mod fetched;
 mod file_store;
-mod finishing;
+mod handing_over;
 mod history;
 mod laws;
 mod menu;
-mod missing;
+mod orders;
 mod phase;
 mod picks;
+mod pieces;
 mod queue;
 mod reply;
-mod request;
+mod requests;
 mod run_laws;
+mod runs;
 mod script_store;
 mod session;
-mod stepping;
+mod stage_files;
+mod steps;
 mod store;
-mod submitting;
-mod taking;
-mod turn;
+mod submission;
+mod turns;
 mod words;
 
-pub use beginning::FILE_LIMIT;
-pub use bl_plan::{MOST_ENTRIES, MOST_MODULES};
-pub use booting::run;
+pub use bl_plan::{MAX_ENTRIES, MAX_MODULES};
 pub use fetched::Fetched;
 pub use file_store::FileStore;
-pub use finishing::finish;
+pub use handing_over::finish;
+pub use history::History;
 pub use laws::{
     each_attempt_ends, each_step_leads_on, ends_are_determined, first_entry_not_refused,
     steps_are_determined, two_outcomes, values_are_offered,
@@ -45,7 +44,10 @@ pub use run_laws::{
     faithful_stores_boot_by_their_files, marked_histories_are_genuine,
     runs_end_with_the_first_entry_not_refused,
 };
+pub use runs::run;
 pub use script_store::ScriptStore;
 pub use session::Session;
+pub use stage_files::FILE_LIMIT;
 pub use store::{Completion, Store};
-pub use words::{BootFault, Event, Outcome, Progress, RefusedEntry, Ticket};
+pub use submission::Submission;
+pub use words::{BootFault, Event, Outcome, Progress, RefusedEntry, Request, Ticket};

@@ -33,7 +33,7 @@ impl<A: Allocator> Model for Menu<A> {
     ghost use Rattle.bl_load.specs.Offered.{IsOffer};
     ghost use Rattle.bl_load.specs.Value.{IsWithinLimits};
     ghost use Rattle.bl_session.specs.Menu.{MenuFacts, facts_of};
-    ghost use Rattle.bl_plan.specs.Limits.{most_entries};
+    ghost use Rattle.bl_plan.specs.Limits.{max_entries};
 
     ghost Value = { MenuFacts };
 
@@ -46,7 +46,7 @@ impl<A: Allocator> Model for Menu<A> {
         All (λ entry. entry < length menu.entries.items) menu.attempts.items
         × All IsWithinLimits menu.entries.items
         × All IsOffer menu.entries.items
-        × (length menu.attempts.items ≤ most_entries) };
+        × (length menu.attempts.items ≤ max_entries) };
 }
 
 fn is_among(index: u32, earlier: &[u32]) -> bool

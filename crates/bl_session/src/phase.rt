@@ -1,5 +1,12 @@
 //! Where a session stands.
-use crate::words::{BootFault, Outcome, RefusedEntry};
+ghost use Rattle.std.specs.Prelude.{◌≡◌, ℕ, List};
+ghost use Rattle.bl_session.specs.Boot.{attempt_of};
+ghost use Rattle.bl_session.specs.Boot as boot;
+ghost use Rattle.bl_session.specs.PhasesKept.{state_of, IsPhaseKept};
+
+use crate::menu::Menu;
+use crate::words::{BootFault, Outcome, Progress, RefusedEntry};
+use bl_map::Machine;
 use bl_stage::Stage;
 use std::alloc::Allocator;
 
@@ -20,4 +27,45 @@ pub enum Phase<A: Allocator> {
     Waits(Running<A>),
     HandedOver(Outcome<A>),
     Failed(BootFault<A>),
+}
+
+/// The number of the attempt of a phase.
+pub fn number_of<A: Allocator>(phase: &Phase<A>) -> usize
+    ensures { (attempts bytes : List ℕ) → result ≡ attempt_of (state_of attempts bytes phase.now) }
+{
+    match phase {
+        Phase::Unstarted => 0,
+        Phase::Waits(waiting) => waiting.earlier.len(),
+        Phase::HandedOver(outcome) => outcome.refused.len(),
+        Phase::Failed(BootFault::NoEntryLeft(refused)) => refused.len(),
+        Phase::Failed(BootFault::NoMemory) => 0,
+    }
+}
+
+/// What a call answers that led from the attempt of this number to a phase.
+pub fn progress_of<A: Allocator>(
+    machine: &Machine<A>,
+    menu: &Menu<A>,
+    attempt: usize,
+    phase: &Phase<A>,
+) -> Progress
+    requires { IsPhaseKept machine.now menu.now phase.now }
+    ensures { (bytes : List ℕ)
+        → result ≡ boot.progress attempt (state_of menu.now.attempts bytes phase.now) }
+{
+    // what this ensures says that the number is small
+    menu.attempts();
+    match phase {
+        Phase::Unstarted => Progress::Waiting,
+        Phase::Waits(waiting) => {
+            let running = waiting.earlier.len();
+            if running == attempt {
+                Progress::Waiting
+            } else {
+                Progress::Next(running as u32)
+            }
+        }
+        Phase::HandedOver(_) => Progress::Done,
+        Phase::Failed(_) => Progress::Failed,
+    }
 }

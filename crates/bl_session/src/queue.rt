@@ -1,8 +1,8 @@
-//! The requests that a store is still to answer.
+//! The submissions that a store is still to answer.
 ghost use Rattle.std.specs.Prelude.{◌≡◌, [], ◌∷◌, ◌++◌, length, slice_get, OnOk, OnErr};
 ghost use Rattle.bl_session.specs.Stores.{next_place, without};
 
-use crate::request::Request;
+use crate::submission::Submission;
 use std::alloc::{AllocError, Allocator};
 use std::marker::Model;
 
@@ -13,32 +13,32 @@ pub enum Order {
     Reverse,
 }
 
-/// Requests, from the first to the last. None moves as another is taken from an end.
+/// Submissions, from the first to the last. None moves as another is taken from an end.
 #[derive(Drop)]
 pub(crate) struct Queue<A: Allocator> {
-    requests: Vec<Request, A>,
+    submissions: Vec<Submission, A>,
     // So many of the first were taken.
     taken: usize,
 }
 
 impl<A: Allocator> Model for Queue<A> {
     ghost use Rattle.std.specs.Prelude.{◌≤◌, List, length, drop};
-    ghost use Rattle.bl_session.specs.declared.request.Request.{Request};
+    ghost use Rattle.bl_session.specs.declared.submission.Submission.{Submission};
 
-    ghost Value = { List Request };
+    ghost Value = { List Submission };
 
-    ghost view = { λ queue. drop queue.taken queue.requests.items };
+    ghost view = { λ queue. drop queue.taken queue.submissions.items };
 
-    ghost invariant = { λ queue. queue.taken ≤ length queue.requests.items };
+    ghost invariant = { λ queue. queue.taken ≤ length queue.submissions.items };
 }
 
 impl<A: Allocator> Queue<A> {
-    /// No request.
+    /// No submission.
     pub(crate) fn new(alloc: A) -> Queue<A>
         ensures { result ≡ [] }
     {
         Queue {
-            requests: Vec::new(alloc),
+            submissions: Vec::new(alloc),
             taken: 0,
         }
     }
@@ -46,26 +46,26 @@ impl<A: Allocator> Queue<A> {
     pub(crate) fn len(&self) -> usize
         ensures { result ≡ length self.now }
     {
-        self.requests.len() - self.taken
+        self.submissions.len() - self.taken
     }
 
     /// One more, after the others.
-    pub(crate) fn push(&mut self, request: Request) -> Result<(), AllocError>
-        ensures ok { OnOk result (self.new ≡ self.old ++ request ∷ []) }
+    pub(crate) fn push(&mut self, submission: Submission) -> Result<(), AllocError>
+        ensures ok { OnOk result (self.new ≡ self.old ++ submission ∷ []) }
         ensures err { OnErr result (self.new ≡ self.old) }
     {
-        self.requests.push(request)?;
+        self.submissions.push(submission)?;
         Ok(())
     }
 
     /// The next one in this order.
-    pub(crate) fn next(&self, order: Order) -> Option<Request>
+    pub(crate) fn next(&self, order: Order) -> Option<Submission>
         ensures { result ≡ slice_get self.now (next_place order self.now) }
     {
-        let requests = &self.requests[self.taken..];
+        let submissions = &self.submissions[self.taken..];
         match order {
-            Order::Forward => requests.first().copied(),
-            Order::Reverse => requests.last().copied(),
+            Order::Forward => submissions.first().copied(),
+            Order::Reverse => submissions.last().copied(),
         }
     }
 
@@ -73,16 +73,16 @@ impl<A: Allocator> Queue<A> {
     pub(crate) fn remove_next(&mut self, order: Order)
         ensures { self.new ≡ without self.old (next_place order self.old) }
     {
-        if self.taken < self.requests.len() {
+        if self.taken < self.submissions.len() {
             match order {
                 Order::Forward => self.taken += 1,
                 Order::Reverse => {
-                    self.requests.pop();
+                    self.submissions.pop();
                 }
             }
         }
-        if self.taken == self.requests.len() {
-            self.requests.clear();
+        if self.taken == self.submissions.len() {
+            self.submissions.clear();
             self.taken = 0;
         }
     }

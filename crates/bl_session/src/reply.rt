@@ -5,16 +5,16 @@ ghost use Rattle.bl_session.specs.Stores.{stored_files, event_of};
 ghost use Rattle.bl_session.specs.Scripts.{altered, event_by, replies_to};
 
 use crate::fetched::Fetched;
-use crate::request::{Request, answer};
 use crate::store::Completion;
+use crate::submission::{Submission, answer};
 use crate::words::Ticket;
 use std::alloc::{AllocError, Allocator};
 
-/// What comes of a request: its answer, the same with each byte altered, or a fault.
+/// What comes of a submission: its answer, the same with each byte altered, or a fault.
 #[derive(Clone, Copy)]
 pub(crate) enum Reply {
-    Answer(Request),
-    Altered(Request),
+    Answer(Submission),
+    Altered(Submission),
     Fault(Ticket),
 }
 
@@ -35,8 +35,8 @@ pub(crate) fn completion_of<A: Allocator + Copy>(
         event_of completion ≡ event_by (stored_files files.now) reply.now) }
 {
     match reply {
-        Reply::Answer(request) => Ok(answer(alloc, files, request)?),
-        Reply::Altered(request) => match answer(alloc, files, request)? {
+        Reply::Answer(submission) => Ok(answer(alloc, files, submission)?),
+        Reply::Altered(submission) => match answer(alloc, files, submission)? {
             Completion::Piece(ticket, bytes) => {
                 Ok(Completion::Piece(ticket, alter(alloc, &bytes)?))
             }
@@ -46,26 +46,26 @@ pub(crate) fn completion_of<A: Allocator + Copy>(
     }
 }
 
-/// Appends what comes of a request: a fault, if its ticket is one of those that fail; the answer
+/// Appends what comes of a submission: a fault, if its ticket is one of those that fail; the answer
 /// and an altered one, if it is one of those that are answered twice; else the answer.
 pub(crate) fn push_replies<A: Allocator>(
     replies: &mut Vec<Reply, A>,
     twice: &[Ticket],
     fail: &[Ticket],
-    request: Request,
+    submission: Submission,
 ) -> Result<(), AllocError>
     ensures ok { OnOk result
-        (replies.new.items ≡ replies.old.items ++ replies_to twice.now fail.now request) }
+        (replies.new.items ≡ replies.old.items ++ replies_to twice.now fail.now submission) }
     ensures err { OnErr result (replies.new.items ≡ replies.old.items) }
 {
-    if fail.contains(&request.ticket) {
-        replies.push(Reply::Fault(request.ticket))?;
-    } else if twice.contains(&request.ticket) {
+    if fail.contains(&submission.ticket) {
+        replies.push(Reply::Fault(submission.ticket))?;
+    } else if twice.contains(&submission.ticket) {
         replies.reserve(2)?;
-        replies.push(Reply::Answer(request))?;
-        replies.push(Reply::Altered(request))?;
+        replies.push(Reply::Answer(submission))?;
+        replies.push(Reply::Altered(submission))?;
     } else {
-        replies.push(Reply::Answer(request))?;
+        replies.push(Reply::Answer(submission))?;
     }
     Ok(())
 }

@@ -3,8 +3,8 @@ use crate::fetched::{Fetched, size_in};
 use crate::history::History;
 use crate::picks::Picks;
 use crate::reply::{Reply, completion_of, push_replies};
-use crate::request::Request;
 use crate::store::{Completion, Store};
+use crate::submission::Submission;
 use crate::words::Ticket;
 use std::alloc::{AllocError, Allocator};
 use std::marker::Model;
@@ -41,7 +41,7 @@ impl<A: Allocator + Copy> Model for ScriptStore<A> {
 impl<A: Allocator + Copy> ScriptStore<A> {
     ghost use Rattle.std.specs.Prelude.{◌≡◌, [], slice_get, IfOk, option_map};
     ghost use Rattle.bl_session.specs.Stores.{stored_files, event_of};
-    ghost use Rattle.bl_session.specs.Scripts.{next_event, picked_place};
+    ghost use Rattle.bl_session.specs.Scripts.{script_event, picked_place};
 
     /// A store of these files, by their index in the menu. A ticket of `fail` comes as a fault, and
     /// else one of `twice` comes twice, the second time with each byte exclusive-or 0xFF.
@@ -89,7 +89,7 @@ impl<A: Allocator + Copy> ScriptStore<A> {
 
     /// The answer that is next.
     fn answer_next(&self) -> Result<Option<Completion<A>>, AllocError>
-        ensures { IfOk result (λ answer. option_map event_of answer ≡ next_event self.now) }
+        ensures { IfOk result (λ answer. option_map event_of answer ≡ script_event self.now) }
     {
         match self.next_reply() {
             Some(reply) => Ok(Some(completion_of(self.alloc, &self.files, &reply)?)),
@@ -101,7 +101,8 @@ impl<A: Allocator + Copy> ScriptStore<A> {
 impl<A: Allocator + Copy> Store for ScriptStore<A> {
     ghost use Rattle.std.specs.Prelude.{◌≡◌, length, IfOk, OnOk, OnErr, option_map};
     ghost use Rattle.bl_session.specs.Stores.{event_of};
-    ghost use Rattle.bl_session.specs.Scripts.{next_event, after_request, after_answer};
+    ghost use Rattle.bl_session.specs.Scripts.{script_event, after_script_submission};
+    ghost use Rattle.bl_session.specs.Scripts.{after_script_answer};
 
     type Alloc = A;
 
@@ -120,23 +121,23 @@ impl<A: Allocator + Copy> Store for ScriptStore<A> {
     }
 
     fn submit(&mut self, file: u32, ticket: Ticket) -> Result<(), AllocError>
-        ensures ok { OnOk result (self.new ≡ after_request self.old (record {
+        ensures ok { OnOk result (self.new ≡ after_script_submission self.old (record {
           file = file;
           ticket = ticket;
         })) }
         ensures err { OnErr result (self.new ≡ self.old) }
     {
-        let request = Request { file, ticket };
-        push_replies(&mut self.replies, &self.twice, &self.fail, request)?;
-        self.history = self.history.and_request(&request);
+        let submission = Submission { file, ticket };
+        push_replies(&mut self.replies, &self.twice, &self.fail, submission)?;
+        self.history = self.history.and_submission(&submission);
         Ok(())
     }
 
     fn next(&mut self) -> Result<Option<Completion<A>>, AllocError>
         ensures answer { IfOk result (λ answer.
-            option_map event_of answer ≡ next_event self.old) }
+            option_map event_of answer ≡ script_event self.old) }
         ensures ok { IfOk result (λ answer.
-            self.new ≡ after_answer self.old (option_map event_of answer)) }
+            self.new ≡ after_script_answer self.old (option_map event_of answer)) }
         ensures err { OnErr result (self.new ≡ self.old) }
     {
         let answer = self.answer_next()?;

@@ -4,7 +4,7 @@ ghost use Rattle.std.specs.Prelude.{IfSome, IsNone, slice_index_or};
 ghost use Rattle.bl_session.specs.History.{Item, submitted, IsItemOf};
 ghost use Rattle.bl_session.specs.Outcome.{File, missing, size_of};
 
-use crate::words::Ticket;
+use crate::words::{Event, Ticket};
 use std::alloc::{AllocError, Allocator};
 
 /// An answer to a ticket: a piece, or a fault in its place.
@@ -12,6 +12,21 @@ use std::alloc::{AllocError, Allocator};
 pub enum Completion<A: Allocator> {
     Piece(Ticket, Vec<u8, A>),
     Fault(Ticket),
+}
+
+impl<A: Allocator> Completion<A> {
+    ghost use Rattle.bl_session.specs.Phases.{event_facts};
+    ghost use Rattle.bl_session.specs.Stores.{event_of};
+
+    /// The event that it is.
+    pub fn event(&self) -> Event
+        ensures { event_facts result ≡ event_of self.now }
+    {
+        match self {
+            Completion::Piece(ticket, bytes) => Event::Piece(*ticket, bytes.as_slice()),
+            Completion::Fault(ticket) => Event::Fault(*ticket),
+        }
+    }
 }
 
 /// Where the pieces of a menu's files come from. Completions may come in any order, repeated, and

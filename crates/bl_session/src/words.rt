@@ -13,6 +13,15 @@ pub struct Ticket {
     pub piece: u32,
 }
 
+/// A piece that an attempt awaits: the index of its file in the menu, its ticket, and how many
+/// bytes it has.
+#[derive(Clone, Copy, Debug, PartialEq, Eq)]
+pub struct Request {
+    pub file: u32,
+    pub ticket: Ticket,
+    pub len: u32,
+}
+
 /// What happens at once: one piece came, or a fault in its place.
 #[derive(Clone, Copy)]
 pub enum Event<'a> {

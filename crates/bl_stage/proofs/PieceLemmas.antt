@@ -1,6 +1,6 @@
 -- What has come of a file, and what its stage reads as after a piece of it or a move of its frames.
 use Rattle.std.proofs.Common.{◌≡◌, ◌≢◌, ℕ, suc, ◌+◌, ◌-◌, ◌*◌, ◌/◌, ◌%◌, ◌<◌, ◌≤◌, List, [], ◌∷◌}
-use Rattle.std.proofs.Common.{length, get_or, set, slice_range, min, Bool, true, false, not, cond}
+use Rattle.std.proofs.Common.{length, get_or, slice_range, min, Bool, true, false, not, cond}
 use Rattle.std.proofs.Common.{Some, None, arith, refl, sym, ap, ◌∙◌, inl, inr, ◌==◌}
 use Rattle.std.specs.List.{count_by, All}
 use Rattle.std.proofs.lemmas.Bool.{cases_lt}
@@ -9,13 +9,13 @@ use Rattle.std.proofs.lemmas.Bool.Decides.{nat_tests}
 use Rattle.std.proofs.lemmas.List.Sums.{get_or-le-sum_by, sum_by-cons}
 use Rattle.bl_mem.specs.Memory.{overwrite}
 use Rattle.bl_map.specs.Room.{frames_of}
-use Rattle.bl_stage.specs.Cells.{cell_at, ReadsAs}
+use Rattle.bl_stage.specs.Cells.{cell_at, ReadAlike}
 use Rattle.bl_stage.specs.Staged.{AreInside, place_of, staged, first_of, Staging, AreStaged}
-use Rattle.bl_stage.specs.Staged.{file_of, HasPool, with_frames}
+use Rattle.bl_stage.specs.Staged.{staged_file, HasPool, with_frames}
 use Rattle.bl_stage.specs.Pieces.{is_piece, slot_in}
 use Rattle.std.specs.declared.ops.Range.{Range}
 use Rattle.bl_stage.specs.declared.cell.Cell.{Cell}
-use Rattle.bl_stage.specs.Kept.{IsKept}
+use Rattle.bl_stage.specs.Kept.{KeepsTables}
 use Rattle.bl_stage.proofs.FrameLemmas.{same_below}
 use Rattle.bl_stage.proofs.FileLemmas.{file_within, file_before, read_part, file_kept, file_put}
 
@@ -84,9 +84,9 @@ module _ (stage : Staging) (staged_ : AreStaged stage) (bytes piece : List ℕ) 
       let high = staged_.high k h in let end = pool (omega arith) in omega arith
 
   -- the file to which the piece belongs has it
-  pub piece_in_file : file_of
+  pub piece_in_file : staged_file
       (overwrite bytes (4096 * get_or stage.frames (slot_in stage file index) 0) piece) stage file
-      ≡ overwrite (file_of bytes stage file) (4096 * index) piece
+      ≡ overwrite (staged_file bytes stage file) (4096 * index) piece
   piece_in_file =
       let size = get_or stage.sizes file 0 in
       let w = file_within stage.sizes file is.named in
@@ -97,8 +97,8 @@ module _ (stage : Staging) (staged_ : AreStaged stage) (bytes piece : List ℕ) 
 
   -- and the others are as before
   pub piece_in_others : (other : ℕ) → other < length stage.sizes → other ≢ file
-      → file_of (overwrite bytes (4096 * get_or stage.frames (slot_in stage file index) 0) piece)
-      stage other ≡ file_of bytes stage other
+      → staged_file (overwrite bytes (4096 * get_or stage.frames (slot_in stage file index) 0) piece)
+      stage other ≡ staged_file bytes stage other
   piece_in_others other h differ =
       let size = get_or stage.sizes other 0 in
       let w = file_within stage.sizes other h in
@@ -115,7 +115,7 @@ module _ (stage : Staging) (staged_ : AreStaged stage) (bytes piece : List ℕ) 
 
 -- the tables that a stage keeps give each file frames of its own
 pub kept_staged : (base : ℕ) (pool : Range ℕ) (sizes starts frames : List ℕ) (came : List Bool)
-    (cells : List Cell) (waiting : ℕ) → IsKept base pool sizes starts frames came cells waiting
+    (cells : List Cell) (waiting : ℕ) → KeepsTables base pool sizes starts frames came cells waiting
     → AreStaged (record { pool = pool; sizes = sizes; frames = frames; came = came })
 kept_staged base pool sizes starts frames came cells waiting kept = record {
   all = kept.all;
@@ -135,7 +135,7 @@ found_piece true n slot e = (refl, cc)
 found_piece false n slot e = cc
 
 -- a file reads as before if each frame does
-file_moved : (old new old_frames frames : List ℕ) (a n size : ℕ) → ReadsAs old old_frames new frames
+file_moved : (old new old_frames frames : List ℕ) (a n size : ℕ) → ReadAlike old old_frames new frames
     → length frames ≡ length old_frames → a + n ≤ length old_frames → size ≤ 4096 * n
     → staged new (slice_range frames a (a + n)) size
     ≡ staged old (slice_range old_frames a (a + n)) size
@@ -149,9 +149,9 @@ file_moved old new old_frames frames a n size same long within enough =
     (same (a + i / 4096) (i % 4096) (omega arith) (omega arith)))
 
 pub file_evacuated : (old new : List ℕ) (stage : Staging) (frames : List ℕ) (file : ℕ)
-    → AreStaged stage → ReadsAs old stage.frames new frames → length frames ≡ length stage.frames
+    → AreStaged stage → ReadAlike old stage.frames new frames → length frames ≡ length stage.frames
     → file < length stage.sizes
-    → file_of new (with_frames stage frames) file ≡ file_of old stage file
+    → staged_file new (with_frames stage frames) file ≡ staged_file old stage file
 file_evacuated old new stage frames file kept same long h =
     let size = get_or stage.sizes file 0 in
     let w = file_within stage.sizes file h in

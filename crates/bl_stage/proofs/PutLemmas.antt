@@ -8,9 +8,8 @@ use Rattle.std.proofs.lemmas.List.Sums.{sum_by-set}
 use Rattle.bl_mem.specs.Memory.{overwrite}
 use Rattle.bl_mem.proofs.Overwrites.{get_or-overwrite_below, get_or-overwrite_above}
 use Rattle.bl_stage.specs.declared.cell.Cell.{Cell}
-use Rattle.bl_stage.specs.declared.stage.putting.Put.{Put}
 use Rattle.bl_stage.specs.declared.stage.putting.Put.TheVariants.{Stored, Repeated, Strange}
-use Rattle.bl_stage.specs.Kept.{IsKept}
+use Rattle.bl_stage.specs.Kept.{KeepsTables}
 use Rattle.bl_stage.specs.Ranges.{IsSameOutside}
 use Rattle.bl_stage.specs.Staged.{HasPool}
 
@@ -43,9 +42,9 @@ waits_less came slot h is =
 -- the tables as a piece comes
 pub kept_put : {base : ℕ} {pool : Range ℕ} {sizes starts frames : List ℕ} {came : List Bool}
     {cells : List Cell} {waiting : ℕ} (slot : ℕ)
-    → IsKept base pool sizes starts frames came cells waiting → slot < length frames
+    → KeepsTables base pool sizes starts frames came cells waiting → slot < length frames
     → get_or came slot false ≡ false
-    → IsKept base pool sizes starts frames (set came slot true) cells (waiting - 1)
+    → KeepsTables base pool sizes starts frames (set came slot true) cells (waiting - 1)
 kept_put {came = came} slot kept inside waits = record {
   held = kept.held;
   all = kept.all;
@@ -63,7 +62,7 @@ kept_put {came = came} slot kept inside waits = record {
 -- a piece that did not come is waited for
 pub some_waits : {base : ℕ} {pool : Range ℕ} {sizes starts frames : List ℕ} {came : List Bool}
     {cells : List Cell} {waiting : ℕ} (slot : ℕ)
-    → IsKept base pool sizes starts frames came cells waiting → slot < length frames
+    → KeepsTables base pool sizes starts frames came cells waiting → slot < length frames
     → get_or came slot false ≡ false → 1 ≤ waiting
 some_waits {came = came} slot kept inside waits =
     let less = waits_less came slot (let flags = kept.flags in omega arith) waits in

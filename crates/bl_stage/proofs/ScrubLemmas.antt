@@ -1,12 +1,12 @@
 -- The pool after a stretch of it was cleared.
 use Rattle.std.proofs.Common.{◌≡◌, ℕ, ◌+◌, ◌-◌, ◌<◌, ◌≤◌, List, length, get_or, replicate, Bool}
-use Rattle.std.proofs.Common.{false, not, cond, nat_lt, nat_le, ◌&&◌, arith, sym, ap, ◌∙◌, inl, inr}
+use Rattle.std.proofs.Common.{false, not, cond, nat_lt, nat_le, ◌&&◌, arith, sym, ◌∙◌, inl, inr}
 use Rattle.std.specs.declared.ops.Range.{Range}
 use Rattle.std.proofs.lemmas.Bool.{cases_lt}
 use Rattle.std.proofs.lemmas.Bool.Decides.{nat_tests}
 use Rattle.std.proofs.lemmas.List.{get_or-replicate, length-replicate}
 use Rattle.bl_mem.specs.Memory.{overwrite}
-use Rattle.bl_mem.proofs.Overwrites.{length-overwrite, get_or-overwrite_in, get_or-overwrite_below}
+use Rattle.bl_mem.proofs.Overwrites.{get_or-overwrite_in, get_or-overwrite_below}
 use Rattle.bl_mem.proofs.Overwrites.{get_or-overwrite_above}
 use Rattle.bl_stage.specs.Ranges.{has, scrubbed}
 
@@ -22,9 +22,6 @@ module _ (pool : Range ℕ) (keep : List (Range ℕ)) (old bytes : List ℕ) (at
     (forward : at ≤ edge) (inside : edge ≤ length bytes) where
   fits : at + length {A = ℕ} (replicate (edge - at) 0) ≤ length bytes
   fits = omega (arith, length-replicate {A = ℕ} (edge - at) 0)
-
-  pub size_zeroed : length (zeroed bytes at edge) ≡ length bytes
-  size_zeroed = length-overwrite bytes at (replicate (edge - at) 0) fits
 
   pub rest_zeroed : (a : ℕ) → edge ≤ a → get_or (zeroed bytes at edge) a 0 ≡ get_or bytes a 0
   rest_zeroed a h =

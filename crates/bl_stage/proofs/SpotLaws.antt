@@ -10,11 +10,11 @@ use Rattle.std.proofs.lemmas.List.{take_all, append_assoc, append-nil, get_or-re
 use Rattle.std.proofs.lemmas.List.{length-replicate, get_or_past}
 use Rattle.std.proofs.lemmas.List.FromFn.{map-range_with_len_more}
 use Rattle.bl_map.specs.Room.{frames_of}
-use Rattle.bl_stage.specs.Cells.{ReadsAs}
-use Rattle.bl_stage.specs.Staged.{Staging, AreStaged, AllCame, file_of, fresh, table_of}
+use Rattle.bl_stage.specs.Cells.{ReadAlike}
+use Rattle.bl_stage.specs.Staged.{Staging, AreStaged, AllCame, staged_file, empty_stage, table_of}
 use Rattle.bl_stage.specs.Pieces.{slot_in}
 use Rattle.bl_stage.specs.Spots.{Spot, waits, has, spot_at, spots_of, spots, piece_of}
-use Rattle.bl_stage.specs.Spots.{waiting_spots, bytes_of}
+use Rattle.bl_stage.specs.Spots.{waiting_spots, came_bytes}
 use Rattle.bl_stage.proofs.FrameLemmas.{staged_length}
 use Rattle.bl_stage.proofs.FileLemmas.{file_within}
 use Rattle.bl_stage.proofs.PieceLemmas.{file_evacuated}
@@ -23,21 +23,21 @@ use Rattle.bl_stage.proofs.SpotLemmas.{piece_long}
 
 -- a stage to which no piece came waits for each
 pub fresh_spots : (bytes : List ℕ) (pool : Range ℕ) (sizes frames : List ℕ)
-    → spots bytes (fresh pool sizes frames)
+    → spots bytes (empty_stage pool sizes frames)
     ≡ map (λ file. waiting_spots (get_or sizes file 0)) (range_with_len 0 (length sizes))
 fresh_spots bytes pool sizes frames =
-    let stage = fresh pool sizes frames in
+    let stage = empty_stage pool sizes frames in
     let d : List Spot = [] in
     same_firsts d (λ file. spots_of bytes stage file) (λ file. waiting_spots (get_or sizes file 0))
     (length sizes) (λ file h.
     let size = get_or sizes file 0 in
     same_firsts (has []) (λ k. spot_at bytes stage file k) (λ k. waits (min 4096 (size - 4096 * k)))
     (frames_of size) (λ k hk.
-    let long : length (file_of bytes stage file) ≡ size =
+    let long : length (staged_file bytes stage file) ≡ size =
     staged_length bytes (table_of stage file) size in
     rw (never (length frames) (slot_in stage file k))
     (ap waits
-    (piece_long (file_of bytes stage file) k ∙ ap (λ n. min 4096 (n - 4096 * k)) long))))
+    (piece_long (staged_file bytes stage file) k ∙ ap (λ n. min 4096 (n - 4096 * k)) long))))
   where
     never : (n k : ℕ) → get_or (replicate n false) k false ≡ false
     never n k = elim (cases_lt k n) [
@@ -46,12 +46,12 @@ fresh_spots bytes pool sizes frames =
           get_or_past (replicate n false) k false (let e = length-replicate n false in omega arith)
     ]
 
-bytes_of-append : (xs ys : List Spot) → bytes_of (xs ++ ys) ≡ bytes_of xs ++ bytes_of ys
+bytes_of-append : (xs ys : List Spot) → came_bytes (xs ++ ys) ≡ came_bytes xs ++ came_bytes ys
 bytes_of-append [] ys = refl
 bytes_of-append (waits n ∷ xs) ys = bytes_of-append xs ys
 bytes_of-append (has piece ∷ xs) ys =
     ap (λ l. piece ++ l) (bytes_of-append xs ys)
-    ∙ sym (append_assoc piece (bytes_of xs) (bytes_of ys))
+    ∙ sym (append_assoc piece (came_bytes xs) (came_bytes ys))
 
 take_pieces : (file : List ℕ) (n : ℕ)
     → take (4096 * n) file ++ take 4096 (drop (4096 * n) file) ≡ take (4096 * (n + 1)) file
@@ -61,13 +61,13 @@ take_pieces file n =
 
 -- the first n pieces of a file are its first bytes
 first_pieces : (file : List ℕ) (n : ℕ)
-    → bytes_of (map (λ k. has (piece_of file k)) (range_with_len 0 n)) ≡ take (4096 * n) file
+    → came_bytes (map (λ k. has (piece_of file k)) (range_with_len 0 n)) ≡ take (4096 * n) file
 first_pieces file zero = refl
 first_pieces file (suc n) =
     let f : ℕ → Spot = λ k. has (piece_of file k) in
     let next : suc n ≡ n + 1 = omega arith in
-    ap (λ m. bytes_of (map f (range_with_len 0 m))) next
-    ∙ ap bytes_of (map-range_with_len_more f 0 n n (omega arith))
+    ap (λ m. came_bytes (map f (range_with_len 0 m))) next
+    ∙ ap came_bytes (map-range_with_len_more f 0 n n (omega arith))
     ∙ bytes_of-append (map f (range_with_len 0 n)) (f n ∷ [])
     ∙ ap (λ l. l ++ (piece_of file n ++ [])) (first_pieces file n)
     ∙ ap (λ l. take (4096 * n) file ++ l) (append-nil (piece_of file n)) ∙ take_pieces file n
@@ -75,22 +75,22 @@ first_pieces file (suc n) =
 
 -- where each piece came, a file's spots have its bytes
 pub complete_spots : (bytes : List ℕ) (stage : Staging) (file : ℕ) → AreStaged stage → AllCame stage
-    → file < length stage.sizes → bytes_of (spots_of bytes stage file) ≡ file_of bytes stage file
+    → file < length stage.sizes → came_bytes (spots_of bytes stage file) ≡ staged_file bytes stage file
 complete_spots bytes stage file kept came h =
     let size = get_or stage.sizes file 0 in
-    let text = file_of bytes stage file in
+    let text = staged_file bytes stage file in
     let long : length text ≡ size = staged_length bytes (table_of stage file) size in
     let w = file_within stage.sizes file h in
     let a = kept.all in
     let b = kept.flags in
-    ap bytes_of
+    ap came_bytes
     (same_firsts (has []) (λ k. spot_at bytes stage file k) (λ k. has (piece_of text k))
     (frames_of size) (λ k hk. rw (came (slot_in stage file k) false (omega arith)) refl))
     ∙ first_pieces text (frames_of size) ∙ take_all (4096 * frames_of size) text (omega arith)
 
 -- files read as before if each of their frames does
 pub files_elsewhere : (old new : List ℕ) (stage : Staging) (file : ℕ) → AreStaged stage
-    → ReadsAs old stage.frames new stage.frames → file < length stage.sizes
-    → file_of new stage file ≡ file_of old stage file
+    → ReadAlike old stage.frames new stage.frames → file < length stage.sizes
+    → staged_file new stage file ≡ staged_file old stage file
 files_elsewhere old new stage file kept same h =
     file_evacuated old new stage stage.frames file kept same refl h

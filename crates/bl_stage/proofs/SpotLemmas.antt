@@ -11,10 +11,10 @@ use Rattle.bl_map.specs.Room.{frames_of}
 use Rattle.bl_mem.specs.Memory.{overwrite}
 use Rattle.bl_mem.proofs.Overwrites.{length-overwrite, get_or-overwrite_in, get_or-overwrite_below}
 use Rattle.bl_mem.proofs.Overwrites.{get_or-overwrite_above}
-use Rattle.bl_stage.specs.Staged.{Staging, AreStaged, file_of, table_of, with_frames}
-use Rattle.bl_stage.specs.Pieces.{is_piece, slot_in, with_piece}
+use Rattle.bl_stage.specs.Staged.{Staging, AreStaged, staged_file, table_of, with_frames}
+use Rattle.bl_stage.specs.Pieces.{is_piece, slot_in, stage_with}
 use Rattle.bl_stage.specs.TextLaws.{same_firsts}
-use Rattle.bl_stage.specs.Spots.{Spot, has, spot_of, spot_at, spots_of, spots, piece_of, put_spot}
+use Rattle.bl_stage.specs.Spots.{Spot, has, spot_by, spot_at, spots_of, spots, piece_of, put_spot}
 use Rattle.bl_stage.proofs.FrameLemmas.{staged_length}
 use Rattle.bl_stage.proofs.FileLemmas.{file_within, file_before}
 use Rattle.bl_stage.proofs.PieceLemmas.{IsPiece, piece_is}
@@ -100,23 +100,23 @@ module _ (file piece : List ℕ) (index : ℕ) (inside : 4096 * index + length p
 
 module _ (stage : Staging) (old new piece : List ℕ) (file index : ℕ) (staged_ : AreStaged stage)
     (test : is_piece stage file index (length piece) ≡ true)
-    (in_file : file_of new (with_piece stage file index) file
-    ≡ overwrite (file_of old stage file) (4096 * index) piece)
+    (in_file : staged_file new (stage_with stage file index) file
+    ≡ overwrite (staged_file old stage file) (4096 * index) piece)
     (in_others : (other : ℕ) → other < length stage.sizes → other ≢ file
-    → file_of new (with_piece stage file index) other ≡ file_of old stage other) where
+    → staged_file new (stage_with stage file index) other ≡ staged_file old stage other) where
   abbrev now : Staging
-  now = with_piece stage file index
+  now = stage_with stage file index
 
   is : IsPiece stage file index (length piece)
   is = piece_is stage file index (length piece) test
 
-  long : length (file_of old stage file) ≡ get_or stage.sizes file 0
+  long : length (staged_file old stage file) ≡ get_or stage.sizes file 0
   long = staged_length old (table_of stage file) (get_or stage.sizes file 0)
 
-  room : 4096 * index + length piece ≤ length (file_of old stage file)
+  room : 4096 * index + length piece ≤ length (staged_file old stage file)
   room = let i = is.inside in omega (arith, long)
 
-  size : length piece ≡ min (length (file_of old stage file) - 4096 * index) 4096
+  size : length piece ≡ min (length (staged_file old stage file) - 4096 * index) 4096
   size = rw long (piece_size stage file index (length piece) test)
 
   -- the spot of the piece has it
@@ -128,7 +128,7 @@ module _ (stage : Staging) (old new piece : List ℕ) (file index : ℕ) (staged
       let b = staged_.flags in
       let came : get_or now.came (slot_in now file index) false ≡ true =
       get_or-set_same stage.came (slot_in stage file index) true false (omega arith) in
-      rw (came, in_file) (ap has (piece_here (file_of old stage file) piece index room size))
+      rw (came, in_file) (ap has (piece_here (staged_file old stage file) piece index room size))
 
   -- each other spot of its file is as before
   spot_there : (k : ℕ) → k ≢ index → spot_at new now file k ≡ spot_at old stage file k
@@ -138,8 +138,8 @@ module _ (stage : Staging) (old new piece : List ℕ) (file index : ℕ) (staged
       get_or-set_other stage.came (slot_in stage file index) (slot_in stage file k) true
       false (λ e. other (omega arith)) in
       rw (came, in_file)
-      (ap (spot_of (get_or stage.came (slot_in stage file k) false))
-      (piece_there (file_of old stage file) piece index room size k other))
+      (ap (spot_by (get_or stage.came (slot_in stage file k) false))
+      (piece_there (staged_file old stage file) piece index room size k other))
 
   -- and so is each spot of the other files
   spot_else : (f k : ℕ) → f < length stage.sizes → f ≢ file → k < frames_of (get_or stage.sizes f 0)
@@ -151,7 +151,7 @@ module _ (stage : Staging) (old new piece : List ℕ) (file index : ℕ) (staged
       (other_slot stage f file k index h is.named other hk is.within) in
       rw (came, in_others f h other) refl
 
-  pub spots_put : spots new (with_piece stage file index) ≡ put_spot old stage file index piece
+  pub spots_put : spots new (stage_with stage file index) ≡ put_spot old stage file index piece
   spots_put =
       let d : List Spot = [] in
       one_changed d (λ f. spots_of old stage f) (λ f. spots_of new now f) (length stage.sizes) file
@@ -166,7 +166,7 @@ module _ (stage : Staging) (old new piece : List ℕ) (file index : ℕ) (staged
 -- files that read as before have the spots that they had
 pub spots_same : (stage : Staging) (frames old new : List ℕ)
     → ((file : ℕ) → file < length stage.sizes
-    → file_of new (with_frames stage frames) file ≡ file_of old stage file)
+    → staged_file new (with_frames stage frames) file ≡ staged_file old stage file)
     → spots new (with_frames stage frames) ≡ spots old stage
 spots_same stage frames old new same =
     let d : List Spot = [] in

@@ -4,8 +4,8 @@ use Rattle.std.proofs.lemmas.List.{places}
 use Rattle.std.proofs.lemmas.List.FromFn.{length-map-range_with_len, get_or-map-range_with_len}
 use Rattle.bl_map.specs.Room.{frames_of}
 use Rattle.bl_mem.specs.Files.{AreBelow, text_at}
-use Rattle.bl_stage.specs.Staged.{AreInside, Staging, AreStaged, HasPool, file_of, table_of}
-use Rattle.bl_stage.specs.Staged.{first_of, texts_of, IsStagedOn}
+use Rattle.bl_stage.specs.Staged.{AreInside, Staging, AreStaged, HasPool, staged_file, table_of}
+use Rattle.bl_stage.specs.Staged.{first_of, staged_texts, IsStagedOn}
 use Rattle.bl_stage.proofs.FileLemmas.{file_within, read_part}
 
 -- a file's own frames are as many as it needs
@@ -49,15 +49,15 @@ table_below stage file size kept h below k hk =
 
 -- a file of the texts
 pub text_of_file : (stage : Staging) (bytes : List ℕ) (file : ℕ)
-    → file < length (texts_of bytes stage)
-    → (file < length stage.sizes) × (text_at (texts_of bytes stage) file ≡ file_of bytes stage file)
+    → file < length (staged_texts bytes stage)
+    → (file < length stage.sizes) × (text_at (staged_texts bytes stage) file ≡ staged_file bytes stage file)
 text_of_file stage bytes file h =
     let below : file < length stage.sizes =
     let e =
-    length-map-range_with_len (λ f. file_of bytes stage f) 0 (length stage.sizes) in
+    length-map-range_with_len (λ f. staged_file bytes stage f) 0 (length stage.sizes) in
     omega arith in
     let d : List ℕ = [] in (
       below,
-      get_or-map-range_with_len (λ f. file_of bytes stage f) 0 (length stage.sizes) file file
+      get_or-map-range_with_len (λ f. staged_file bytes stage f) 0 (length stage.sizes) file file
           d below (omega arith),
     )

@@ -40,8 +40,8 @@ pub record AreHeld (base : ℕ) (frames : List ℕ) (cells : List Cell) : Type 0
   pub count : count_by is_held_cell cells ≡ length frames
 
 -- each byte of each frame reads as before, where the frame lies now
-abbrev pub ReadsAs : List ℕ → List ℕ → List ℕ → List ℕ → Type 0
-ReadsAs old_bytes old_frames bytes frames =
+abbrev pub ReadAlike : List ℕ → List ℕ → List ℕ → List ℕ → Type 0
+ReadAlike old_bytes old_frames bytes frames =
     (k i : ℕ) → k < length old_frames → i < 4096
     → slice_index bytes (4096 * slice_index frames k + i)
     ≡ slice_index old_bytes (4096 * slice_index old_frames k + i)
@@ -57,7 +57,7 @@ pub record Moved (base : ℕ) (old new : List ℕ) (old_frames frames : List ℕ
   pub long : length frames ≡ length old_frames
   pub wide : length cells ≡ length old_cells
   pub size : length new ≡ length old
-  pub same : ReadsAs old old_frames new frames
+  pub same : ReadAlike old old_frames new frames
   pub shut : (j : ℕ) → (cell_at cells j).shut ≡ (cell_at old_cells j).shut
   pub left : (j : ℕ) → j < done → (cell_at cells j).shut ≡ true → (cell_at cells j).holder ≡ None
   pub stays : (k : ℕ) → k < length old_frames
@@ -73,7 +73,7 @@ pub record MadeWay (base count : ℕ) (ranges : List (Range ℕ))
   pub clear : (k : ℕ) → k < length frames → meets ranges (slice_index frames k) ≡ false
   pub stays : (k : ℕ) → k < length old_frames → meets ranges (slice_index old_frames k) ≡ false
       → slice_index frames k ≡ slice_index old_frames k
-  pub same : ReadsAs old old_frames new frames
+  pub same : ReadAlike old old_frames new frames
   pub outside : IsSameOutside (frames_range base count) old new
   pub size : length new ≡ length old
 

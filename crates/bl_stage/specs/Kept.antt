@@ -7,7 +7,7 @@ use Rattle.bl_stage.specs.Cells.{AreHeld}
 use Rattle.bl_stage.specs.Staged.{first_of}
 use Rattle.bl_map.specs.Room.{frames_for}
 
-pub record IsKept (base : ℕ) (pool : Range ℕ) (sizes starts frames : List ℕ) (came : List Bool)
+pub record KeepsTables (base : ℕ) (pool : Range ℕ) (sizes starts frames : List ℕ) (came : List Bool)
     (cells : List Cell) (waiting : ℕ) : Type 0 where
   pub held : AreHeld base frames cells
   pub all : length frames ≡ frames_for sizes

@@ -32,8 +32,8 @@ put_answer stage file index len =
     else Strange
 
 -- the stage to which one more piece came
-abbrev pub with_piece : Staging → ℕ → ℕ → Staging
-with_piece stage file index = record {
+abbrev pub stage_with : Staging → ℕ → ℕ → Staging
+stage_with stage file index = record {
   pool = stage.pool;
   sizes = stage.sizes;
   frames = stage.frames;

@@ -3,7 +3,7 @@ use Rattle.std.specs.Prelude.{ℕ, ◌*◌, ◌-◌, ◌++◌, min, List, [], �
 use Rattle.std.specs.Prelude.{slice_index, slice_index_or, slice_set, Bool, true, false}
 use Rattle.std.specs.List.{range_with_len}
 use Rattle.bl_map.specs.Room.{frames_of}
-use Rattle.bl_stage.specs.Staged.{Staging, file_of}
+use Rattle.bl_stage.specs.Staged.{Staging, staged_file}
 use Rattle.bl_stage.specs.Pieces.{slot_in}
 
 -- a spot waits for a piece of so many bytes, or has the bytes of the piece that came
@@ -15,14 +15,14 @@ pub data Spot : Type 0 where
 abbrev pub piece_of : List ℕ → ℕ → List ℕ
 piece_of file index = take 4096 (drop (4096 * index) file)
 
-abbrev pub spot_of : Bool → List ℕ → Spot
-spot_of true piece = has piece
-spot_of false piece = waits (length piece)
+abbrev pub spot_by : Bool → List ℕ → Spot
+spot_by true piece = has piece
+spot_by false piece = waits (length piece)
 
 abbrev pub spot_at : List ℕ → Staging → ℕ → ℕ → Spot
 spot_at bytes stage file index =
-    spot_of (slice_index_or stage.came (slot_in stage file index) false)
-    (piece_of (file_of bytes stage file) index)
+    spot_by (slice_index_or stage.came (slot_in stage file index) false)
+    (piece_of (staged_file bytes stage file) index)
 
 -- the spots of a file
 abbrev pub spots_of : List ℕ → Staging → ℕ → List Spot
@@ -45,7 +45,7 @@ waiting_spots size =
     map (λ index. waits (min 4096 (size - 4096 * index))) (range_with_len 0 (frames_of size))
 
 -- the bytes that came, in the file's order
-abbrev pub bytes_of : List Spot → List ℕ
-bytes_of [] = []
-bytes_of (waits size ∷ spots) = bytes_of spots
-bytes_of (has bytes ∷ spots) = bytes ++ bytes_of spots
+abbrev pub came_bytes : List Spot → List ℕ
+came_bytes [] = []
+came_bytes (waits size ∷ spots) = came_bytes spots
+came_bytes (has bytes ∷ spots) = bytes ++ came_bytes spots

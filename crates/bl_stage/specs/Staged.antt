@@ -33,8 +33,8 @@ table_of stage file =
     (first_of stage.sizes file + frames_of (slice_index stage.sizes file))
 
 -- a file's bytes
-abbrev pub file_of : List ℕ → Staging → ℕ → List ℕ
-file_of bytes stage file = staged bytes (table_of stage file) (slice_index stage.sizes file)
+abbrev pub staged_file : List ℕ → Staging → ℕ → List ℕ
+staged_file bytes stage file = staged bytes (table_of stage file) (slice_index stage.sizes file)
 
 -- no frame is named twice
 abbrev pub AreApart : List ℕ → Type 0
@@ -52,8 +52,8 @@ pub record AreStaged (stage : Staging) : Type 0 where
   pub apart : AreApart stage.frames
 
 -- a stage to which no piece came
-abbrev pub fresh : Range ℕ → List ℕ → List ℕ → Staging
-fresh pool sizes frames = record {
+abbrev pub empty_stage : Range ℕ → List ℕ → List ℕ → Staging
+empty_stage pool sizes frames = record {
   pool = pool;
   sizes = sizes;
   frames = frames;
@@ -78,9 +78,9 @@ with_frames stage frames = record {
 }
 
 -- the bytes of each file
-abbrev pub texts_of : List ℕ → Staging → List (List ℕ)
-texts_of bytes stage =
-    map (λ file. file_of bytes stage file) (range_with_len 0 (length stage.sizes))
+abbrev pub staged_texts : List ℕ → Staging → List (List ℕ)
+staged_texts bytes stage =
+    map (λ file. staged_file bytes stage file) (range_with_len 0 (length stage.sizes))
 
 -- the address lies in a frame of a file
 pub record IsStagedOn (stage : Staging) (a : ℕ) : Type 0 where

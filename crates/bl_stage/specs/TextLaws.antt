@@ -5,7 +5,8 @@ use Rattle.std.specs.List.{range_with_len}
 use Rattle.std.proofs.lemmas.List.{ext_get_or}
 use Rattle.std.proofs.lemmas.List.FromFn.{length-map-range_with_len, get_or-map-range_with_len}
 use Rattle.bl_mem.specs.Files.{Agree}
-use Rattle.bl_stage.specs.Staged.{Staging, file_of, table_of, texts_of, place_of, IsStagedOn}
+use Rattle.bl_stage.specs.Staged.{Staging, staged_file, table_of, staged_texts, place_of}
+use Rattle.bl_stage.specs.Staged.{IsStagedOn}
 
 -- functions that agree below n have the same first n values
 pub same_firsts : {X : Type 0} (d : X) (f g : ℕ → X) (n : ℕ) → ((a : ℕ) → a < n → f a ≡ g a)
@@ -18,10 +19,10 @@ same_firsts d f g n same =
     ∙ sym (get_or-map-range_with_len g 0 n a a d below (omega arith)))
 
 pub same_texts : (stage : Staging) (old new : List ℕ) → Agree (λ a. IsStagedOn stage a) old new
-    → texts_of new stage ≡ texts_of old stage
+    → staged_texts new stage ≡ staged_texts old stage
 same_texts stage old new agree =
     let d : List ℕ = [] in
-    same_firsts d (λ file. file_of new stage file) (λ file. file_of old stage file)
+    same_firsts d (λ file. staged_file new stage file) (λ file. staged_file old stage file)
     (length stage.sizes) (λ file h.
     let table = table_of stage file in
     same_firsts 0 (λ i. slice_index new (place_of table i))

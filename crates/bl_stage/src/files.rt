@@ -1,5 +1,5 @@
 //! The files of a stage, for what is loaded into the memory that holds them.
-ghost use Rattle.bl_stage.specs.Staged.{texts_of, IsStagedOn};
+ghost use Rattle.bl_stage.specs.Staged.{staged_texts, IsStagedOn};
 ghost use Rattle.bl_stage.specs.TextLaws.{same_texts};
 
 use crate::stage::Stage;
@@ -7,7 +7,7 @@ use bl_mem::{ByteView, FileSet, PhysMem};
 use std::alloc::Allocator;
 
 impl<A: Allocator> FileSet for Stage<A> {
-    ghost texts = { λ stage bytes. texts_of bytes stage };
+    ghost texts = { λ stage bytes. staged_texts bytes stage };
 
     ghost holds = { λ stage a. IsStagedOn stage a };
 

@@ -4,7 +4,7 @@ ghost use Rattle.std.specs.Prelude.{slice_range, slice_set, true, false, Some, N
 ghost use Rattle.std.specs.List.{count_by};
 ghost use Rattle.std.specs.Bool.{OnTrue, OnFalse};
 ghost use Rattle.bl_map.specs.Room.{open_among};
-ghost use Rattle.bl_mem.specs.Memory.{overwrite, HasRoom, KeepsRoom};
+ghost use Rattle.bl_mem.specs.Memory.{overwrite, HasRoom, KeepsMemory};
 ghost use Rattle.bl_stage.specs.Cells.{is_open_cell, AreHeld, Moved, MadeWay, HasFrames};
 
 use crate::cell::{Cell, next_spare};
@@ -13,34 +13,38 @@ use bl_map::FRAME;
 use bl_mem::PhysMem;
 use std::ops::Range;
 
-/// Moves one frame of a file into a spare one.
-fn move_cell<M: PhysMem>(
+/// Copies a frame of the pool, by its place in it, over another one.
+fn copy_frame<M: PhysMem>(
     memory: &mut M,
     base: u64,
-    frames: &mut [u64],
-    cells: &mut [Cell],
     from: usize,
     to: usize,
-    slot: u32,
     buffer: &mut [u8; 4096],
 )
-    requires slot { slot < length frames.old }
-    requires from { from < length cells.old }
-    requires to { to < length cells.old }
-    requires inside { HasFrames (M.bytes memory.old) base (length cells.old) }
-    requires room { HasRoom (M.room memory.old) (4096 * base) (4096 * (base + length cells.old)) }
-    ensures frames { frames.new ≡ slice_set frames.old slot (base + to) }
-    ensures cells { cells.new
-        ≡ slice_set (slice_set cells.old from (record { holder = None; shut = true })) to
-        (record { holder = Some slot; shut = false }) }
-    ensures bytes { M.bytes memory.new
+    requires from { HasFrames (M.bytes memory.old) base (from + 1) }
+    requires to { HasFrames (M.bytes memory.old) base (to + 1) }
+    requires room { HasRoom (M.room memory.old) (4096 * (base + to)) (4096 * (base + to) + 4096) }
+    ensures after { M.bytes memory.new
         ≡ overwrite (M.bytes memory.old) (4096 * (base + to))
         (slice_range (M.bytes memory.old) (4096 * (base + from)) (4096 * (base + from) + 4096)) }
-    ensures kept { KeepsRoom (M.room memory.old) (M.room memory.new) }
+    ensures kept { KeepsMemory M.lender M.bytes M.room memory.old memory.new }
 {
     let _size = memory.size();
     memory.read(FRAME * (base + from as u64), buffer);
     memory.write(FRAME * (base + to as u64), buffer);
+}
+
+/// Tells the tables that the frame of a slot stands in the cell `to`, and no more in `from`.
+fn move_slot(base: u64, frames: &mut [u64], cells: &mut [Cell], from: usize, to: usize, slot: u32)
+    requires slot { slot < length frames.old }
+    requires from { from < length cells.old }
+    requires to { to < length cells.old }
+    requires small { base + to < 2 ^ 64 }
+    ensures frames { frames.new ≡ slice_set frames.old slot (base + to) }
+    ensures cells { cells.new
+        ≡ slice_set (slice_set cells.old from (record { holder = None; shut = true })) to
+        (record { holder = Some slot; shut = false }) }
+{
     frames[slot as usize] = base + to as u64;
     cells[from] = Cell {
         holder: None,
@@ -62,11 +66,12 @@ fn move_out<M: PhysMem>(
 )
     requires held { AreHeld base frames.old cells.old }
     requires enough { length frames.old ≤ count_by is_open_cell cells.old }
+    requires small { 4096 * (base + length cells.old) < 2 ^ 64 }
     requires inside { HasFrames (M.bytes memory.old) base (length cells.old) }
     requires room { HasRoom (M.room memory.old) (4096 * base) (4096 * (base + length cells.old)) }
     ensures moved { Moved base (M.bytes memory.old) (M.bytes memory.new) frames.old frames.new
         cells.old cells.new (length cells.old) }
-    ensures kept { KeepsRoom (M.room memory.old) (M.room memory.new) }
+    ensures kept { KeepsMemory M.lender M.bytes M.room memory.old memory.new }
 {
     let mut to = 0;
     for from in 0..cells.len() {
@@ -74,7 +79,8 @@ fn move_out<M: PhysMem>(
         if cell.shut {
             if let Some(slot) = cell.holder {
                 to = next_spare(cells, to);
-                move_cell(memory, base, frames, cells, from, to, slot, buffer);
+                copy_frame(memory, base, from, to, buffer);
+                move_slot(base, frames, cells, from, to, slot);
                 to += 1;
             }
         }
@@ -101,7 +107,7 @@ pub fn make_way<M: PhysMem>(
         (M.bytes memory.old) (M.bytes memory.new) frames.old frames.new) }
     ensures no { OnFalse result
         ((frames.new ≡ frames.old) × (M.bytes memory.new ≡ M.bytes memory.old)) }
-    ensures kept { KeepsRoom (M.room memory.old) (M.room memory.new) }
+    ensures kept { KeepsMemory M.lender M.bytes M.room memory.old memory.new }
 {
     mark(cells, base, ranges);
     if count_open(cells) < frames.len() {

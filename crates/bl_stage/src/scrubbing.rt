@@ -1,6 +1,6 @@
 //! Zeros in the pool.
 ghost use Rattle.std.specs.Prelude.{◌≡◌, ℕ, ◌<◌, ◌≤◌, length, slice_index};
-ghost use Rattle.bl_mem.specs.Memory.{HasRoom, KeepsRoom};
+ghost use Rattle.bl_mem.specs.Memory.{HasRoom, KeepsMemory};
 ghost use Rattle.bl_stage.specs.Ranges.{has, scrubbed};
 ghost use Rattle.bl_stage.specs.Staged.{HasPool};
 
@@ -43,10 +43,9 @@ fn next_edge(keep: &[Range<u64>], at: u64, end: u64) -> u64
 fn scrub_range<M: PhysMem>(memory: &mut M, pool: Range<u64>, keep: &[Range<u64>])
     requires inside { HasPool (M.bytes memory.old) pool }
     requires room { HasRoom (M.room memory.old) pool.start pool.end }
-    ensures size { length (M.bytes memory.new) ≡ length (M.bytes memory.old) }
     ensures after { (a : ℕ) → slice_index (M.bytes memory.new) a
         ≡ scrubbed pool keep.now (M.bytes memory.old) a }
-    ensures kept { KeepsRoom (M.room memory.old) (M.room memory.new) }
+    ensures kept { KeepsMemory M.lender M.bytes M.room memory.old memory.new }
 {
     let mut at = pool.start;
     while at < pool.end {
@@ -66,8 +65,7 @@ pub fn scrub<A: Allocator, M: PhysMem>(machine: &Machine<A>, memory: &mut M, kee
     requires room { HasRoom (M.room memory.old) machine.now.pool.start machine.now.pool.end }
     ensures after { (a : ℕ) → slice_index (M.bytes memory.new) a
         ≡ scrubbed machine.now.pool keep.now (M.bytes memory.old) a }
-    ensures size { length (M.bytes memory.new) ≡ length (M.bytes memory.old) }
-    ensures kept { KeepsRoom (M.room memory.old) (M.room memory.new) }
+    ensures kept { KeepsMemory M.lender M.bytes M.room memory.old memory.new }
 {
     scrub_range(memory, machine.pool(), keep);
 }

@@ -31,7 +31,7 @@ pub struct Stage<A: Allocator> {
 
 impl<A: Allocator> Model for Stage<A> {
     ghost use Rattle.bl_stage.specs.Staged.{Staging};
-    ghost use Rattle.bl_stage.specs.Kept.{IsKept};
+    ghost use Rattle.bl_stage.specs.Kept.{KeepsTables};
 
     ghost Value = { Staging };
 
@@ -42,14 +42,14 @@ impl<A: Allocator> Model for Stage<A> {
       came = s.came.items;
     } };
 
-    ghost invariant = { λ s. IsKept s.base s.pool s.sizes.items s.starts.items s.frames.items
+    ghost invariant = { λ s. KeepsTables s.base s.pool s.sizes.items s.starts.items s.frames.items
         s.came.items s.cells.items s.waiting };
 }
 
 impl<A: Allocator> Stage<A> {
     ghost use Rattle.std.specs.Prelude.{◌≡◌, ◌<◌, ◌↔◌, IsTrue, length, slice_index};
-    ghost use Rattle.bl_stage.specs.Staged.{staged, file_of, table_of, AreStaged, AllCame, HasPool};
-    ghost use Rattle.bl_stage.specs.Staged.{AreInside};
+    ghost use Rattle.bl_stage.specs.Staged.{staged, staged_file, table_of, AreStaged, AllCame};
+    ghost use Rattle.bl_stage.specs.Staged.{HasPool, AreInside};
     ghost use Rattle.bl_stage.specs.Pieces.{is_missing};
 
     /// Whether each piece of each file came.
@@ -108,7 +108,7 @@ impl<A: Allocator> Stage<A> {
         requires complete { AllCame self.now }
         requires inside { HasPool (M.bytes memory.now) self.now.pool }
         ensures { staged (M.bytes result.memory.now) result.frames.now result.size
-            ≡ file_of (M.bytes memory.now) self.now file }
+            ≡ staged_file (M.bytes memory.now) self.now file }
     {
         self.are_staged();
         self.lies_in(memory, file as usize)
@@ -119,7 +119,7 @@ impl<A: Allocator> Stage<A> {
         requires file { file < length self.now.sizes }
         requires inside { AreInside (table_of self.now file) (length (M.bytes memory.now)) }
         ensures { staged (M.bytes result.memory.now) result.frames.now result.size
-            ≡ file_of (M.bytes memory.now) self.now file }
+            ≡ staged_file (M.bytes memory.now) self.now file }
     {
         let size = self.sizes[file];
         let first = self.starts[file];

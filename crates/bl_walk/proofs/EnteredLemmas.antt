@@ -7,7 +7,7 @@ use Rattle.std.specs.declared.ops.Range.{Range}
 use Rattle.bl_map.specs.MachineFacts.{MachineFacts}
 use Rattle.bl_mem.specs.Contents.{holds, holds_at}
 use Rattle.bl_mem.specs.declared.segment.Segment.{Segment}
-use Rattle.bl_plan.specs.Placed.{ArePlaced, range_of}
+use Rattle.bl_plan.specs.Placed.{ArePlaced, place_range}
 use Rattle.bl_plan.specs.Planned.{put_in}
 use Rattle.bl_plan.specs.declared.part.Place.{Place}
 use Rattle.bl_plan.specs.declared.part.Role.TheVariants.{Kernel}
@@ -43,7 +43,7 @@ segments_enter facts taken k entry (s ∷ segments) rest (p ∷ places) placed h
           rw here)
       | false ↦ λ e h. (
           let later =
-          segments_enter facts (put_in (range_of p) taken) (suc k) entry segments rest places
+          segments_enter facts (put_in (place_range p) taken) (suc k) entry segments rest places
           placed.2 h in
           rw later (or-true (kernel_holds entry p)))
     ] refl held

@@ -7,7 +7,7 @@ use Rattle.std.proofs.lemmas.List.Elements.{All-head, All-tail}
 use Rattle.bl_map.specs.MachineFacts.{MachineFacts, AreMachineFacts}
 use Rattle.bl_mbi.specs.InformationFacts.{InformationFacts, AreBytes, FitsFields}
 use Rattle.bl_mbi.specs.Size.{copy_size}
-use Rattle.bl_mbi.specs.Spelling.{spelling}
+use Rattle.bl_mbi.specs.Spelling.{info_spelling}
 use Rattle.bl_mbi.proofs.Sizes.{length-spelling}
 use Rattle.bl_plan.specs.Placed.{ArePlaced}
 use Rattle.bl_plan.specs.declared.part.Place.{Place}
@@ -25,7 +25,7 @@ use Rattle.bl_load.specs.Rows.{rows_of, kernel_rows, module_rows, information_ro
 use Rattle.bl_load.specs.Value.{EntryValue, kernel_file, module_file, line_fault, lines_fault}
 use Rattle.bl_load.specs.Value.{lines_of}
 use Rattle.bl_load.proofs.EntryLemmas.{small_address}
-use Rattle.bl_load.proofs.InformationLemmas.{info_size_is, tags_small, told_below, most_copy_size}
+use Rattle.bl_load.proofs.InformationLemmas.{info_size_is, tags_small, told_below, copy_size_small}
 use Rattle.bl_load.proofs.LineLemmas.{sound_text, sound_short, first_sound}
 use Rattle.bl_load.proofs.ModuleLemmas.{modules_end_low}
 use Rattle.bl_load.proofs.FullLemmas.{kernel_full}
@@ -55,7 +55,7 @@ module _ (facts : MachineFacts) (value : EntryValue) (kernel : KernelFacts)
   handover = handover_of facts value (multiboot2 kernel) places
 
   abbrev pub text : List ℕ
-  text = spelling (codes "bootcore") told
+  text = info_spelling (codes "bootcore") told
 
 module _ (facts : MachineFacts) (value : EntryValue) (kernel : KernelFacts) (places : List Place)
     (machine : AreMachineFacts facts) (offered : IsOffered value)
@@ -120,15 +120,15 @@ module _ (facts : MachineFacts) (value : EntryValue) (kernel : KernelFacts) (pla
         load_base = base_fits kernel.relocation (address_of Kernel 0 places) (omega arith);
       }
 
-  pub size_is : length (spelling (codes "bootcore") (told facts value kernel places)) < 2 ^ 32
+  pub size_is : length (info_spelling (codes "bootcore") (told facts value kernel places)) < 2 ^ 32
   size_is =
       let split = first_sound (line_fault value.line) (lines_fault value.module_lines) lines in
       let short = sound_short value.line split.0 in
       let few = offered.limits.few in
       let tags = tags_small value.module_lines (lines_short value.module_lines split.1) in
       let small : tags_size value.module_lines < 2 ^ 20 = omega (arith, few, tags) in
-      let old = most_copy_size value.rsdp_old offered.limits.rsdp_old in
-      let new = most_copy_size value.rsdp_new offered.limits.rsdp_new in
+      let old = copy_size_small value.rsdp_old offered.limits.rsdp_old in
+      let new = copy_size_small value.rsdp_new offered.limits.rsdp_new in
       let below =
       told_below (length value.line) (tags_size value.module_lines) (length facts.runs)
       (copy_size (option_map length value.rsdp_old)) (copy_size (option_map length value.rsdp_new))

@@ -13,8 +13,8 @@ use Rattle.bl_map.specs.MachineFacts.{MachineFacts}
 use Rattle.bl_mem.specs.Words.{u32_at, u32_bytes}
 use Rattle.bl_mem.proofs.WordLaws.{length-u32_bytes, u32_again}
 use Rattle.bl_mbi.specs.InformationFacts.{InformationFacts, AreBytes, IsModule}
-use Rattle.bl_mbi.specs.Spelling.{spelling, tags}
-use Rattle.bl_plan.specs.Placed.{ArePlaced, range_of}
+use Rattle.bl_mbi.specs.Spelling.{info_spelling, tags}
+use Rattle.bl_plan.specs.Placed.{ArePlaced, place_range}
 use Rattle.bl_plan.specs.Planned.{put_in}
 use Rattle.bl_plan.specs.Roles.{role_number}
 use Rattle.bl_plan.specs.declared.part.Place.{Place}
@@ -23,7 +23,7 @@ use Rattle.bl_plan.specs.declared.part.Role.TheVariants.{Module}
 use Rattle.bl_plan.specs.declared.part.Row.{Row}
 use Rattle.bl_load.specs.Addresses.{address_of}
 use Rattle.bl_load.specs.Handover.{Part}
-use Rattle.bl_load.specs.Rows.{module_rows, modules_of}
+use Rattle.bl_load.specs.Rows.{module_rows, told_modules}
 use Rattle.bl_load.specs.Value.{module_file, line_fault, lines_fault}
 use Rattle.bl_load.proofs.LineLemmas.{sound_text, first_sound}
 use Rattle.bl_walk.specs.Inside.{bytes_in}
@@ -52,7 +52,7 @@ row_held facts role index taken (row ∷ rows) (p ∷ places) placed held =
           λ e h.
           (let here = same ∙ e in
           let later =
-          row_held facts role index (put_in (range_of p) taken) rows places placed.2
+          row_held facts role index (put_in (place_range p) taken) rows places placed.2
           h in rw here later)
     ] refl held
 
@@ -85,9 +85,10 @@ module_row files k index (line ∷ lines) low high =
 -- ---- the information
 
 -- the first word of a spelling is its length
-pub first_word : (name : List ℕ) (facts : InformationFacts) → length (spelling name facts) < 2 ^ 32
-    → length (spelling name facts) ≡ u32_at (take 4 (spelling name facts)) 0
-unfolding spelling
+pub first_word : (name : List ℕ) (facts : InformationFacts) → length (info_spelling name facts)
+    < 2 ^ 32
+    → length (info_spelling name facts) ≡ u32_at (take 4 (info_spelling name facts)) 0
+unfolding info_spelling
 first_word name facts small =
     let size = 8 + length (tags name facts) in
     let first = u32_bytes size in
@@ -105,7 +106,7 @@ first_word name facts small =
 pub modules_fit : (files : List (List ℕ)) (places : List Place) (k : ℕ) (lines : List (List ℕ))
     → ((i : ℕ) → k ≤ i → i < k + length lines
     → address_of Module i places + length (module_file files i) ≤ 0xFFFFF000)
-    → lines_fault lines ≡ None → All AreBytes lines → All IsModule (modules_of files places k lines)
+    → lines_fault lines ≡ None → All AreBytes lines → All IsModule (told_modules files places k lines)
 modules_fit files places k [] ends sound bytes = All-nil IsModule
 modules_fit files places k (line ∷ lines) ends sound bytes =
     let split = first_sound (line_fault line) (lines_fault lines) sound in
@@ -127,7 +128,7 @@ modules_fit files places k (line ∷ lines) ends sound bytes =
       mod_end = address_of Module k places + length (module_file files k);
       line = line;
     }
-    (modules_of files places (suc k) lines) first
+    (told_modules files places (suc k) lines) first
     (modules_fit files places (suc k) lines (λ i low high. ends i (omega arith) (omega arith))
     split.1 (All-tail AreBytes line lines bytes))
 
@@ -144,7 +145,7 @@ pub modules_seen : (parts : List Part) (files : List (List ℕ)) (places : List 
     → ((i : ℕ) → k ≤ i → i < k + length lines
     → bytes_in parts (address_of Module i places) (length (module_file files i))
     ≡ Some (module_file files i))
-    → AreSeenModules parts (modules_of files places k lines) (shown_modules files places k lines)
+    → AreSeenModules parts (told_modules files places k lines) (shown_modules files places k lines)
 modules_seen parts files places k [] held = tt
 modules_seen parts files places k (line ∷ lines) held =
     let start = address_of Module k places in

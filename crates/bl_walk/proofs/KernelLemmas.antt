@@ -9,7 +9,7 @@ use Rattle.std.proofs.lemmas.List.Elements.{All-head, All-tail}
 use Rattle.std.specs.declared.ops.Range.{Range}
 use Rattle.bl_map.specs.MachineFacts.{MachineFacts}
 use Rattle.bl_plan.specs.Order.{put, in_order, in_order_among, place_key}
-use Rattle.bl_plan.specs.Placed.{ArePlaced, range_of}
+use Rattle.bl_plan.specs.Placed.{ArePlaced, place_range}
 use Rattle.bl_plan.specs.Planned.{put_in}
 use Rattle.bl_plan.specs.Roles.{role_number}
 use Rattle.bl_plan.specs.declared.part.Place.{Place}
@@ -159,7 +159,7 @@ are_split facts taken [] rest places placed =
     }
 are_split facts taken (row ∷ first) rest [] placed = absurd placed
 are_split facts taken (row ∷ first) rest (p ∷ places) placed =
-    let later = are_split facts (put_in (range_of p) taken) first rest places placed.2 in
+    let later = are_split facts (put_in (place_range p) taken) first rest places placed.2 in
     record {
       places_first = p ∷ later.places_first;
       places_rest = later.places_rest;

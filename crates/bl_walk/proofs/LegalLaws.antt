@@ -12,7 +12,7 @@ use Rattle.bl_load.specs.Value.{EntryValue, lines_fault, lines_of}
 use Rattle.bl_load.proofs.PartLaws.{all_apart}
 use Rattle.bl_image.specs.declared.version.Version.{Version}
 use Rattle.bl_image.specs.Image.{spelling}
-use Rattle.bl_image.specs.ImageParts.{IsImage, IsKept}
+use Rattle.bl_image.specs.ImageParts.{IsImage, IsKeptByImages}
 use Rattle.bl_image.proofs.ReadAgain.{image_is_read_again}
 use Rattle.bl_walk.specs.Faults.{IsSound}
 use Rattle.bl_walk.specs.Seen.{IsSeen}
@@ -97,14 +97,14 @@ handovers_are_sound facts value h machine offered is =
 -- ---- from the image
 
 -- an image is one handover's, in one version
-same_handover : (version other : Version) (h image : Handover) → IsKept h
+same_handover : (version other : Version) (h image : Handover) → IsKeptByImages h
     → IsImage other (spelling version h) image → h ≡ image
 same_handover version other h image kept is =
     (image_is_read_again version other h image kept.spellable is.kept.spellable is.is).1
 
 pub images_show : (facts : MachineFacts) (value : EntryValue) (version other : Version)
     (h image : Handover) (seen : SeenFacts) → AreMachineFacts facts → IsOffered value
-    → IsHandover facts value h → IsKept h → IsImage other (spelling version h) image
+    → IsHandover facts value h → IsKeptByImages h → IsImage other (spelling version h) image
     → IsSeen image seen → ShowsEntry facts value seen
 images_show facts value version other h image seen machine offered is kept spelled sees =
     let all = shows facts value h machine offered is in
@@ -115,14 +115,14 @@ images_show facts value version other h image seen machine offered is kept spell
 
 pub images_are_sound : (facts : MachineFacts) (value : EntryValue) (version other : Version)
     (h image : Handover) → AreMachineFacts facts → IsOffered value → IsHandover facts value h
-    → IsKept h → IsImage other (spelling version h) image → IsSound image
+    → IsKeptByImages h → IsImage other (spelling version h) image → IsSound image
 images_are_sound facts value version other h image machine offered is kept spelled =
     subst IsSound (same_handover version other h image kept spelled)
     (handovers_are_sound facts value h machine offered is)
 
 pub images_are_entered : (facts : MachineFacts) (value : EntryValue) (version other : Version)
     (h image : Handover) → AreMachineFacts facts → IsOffered value → IsHandover facts value h
-    → IsKept h → IsImage other (spelling version h) image → IsEntered image
+    → IsKeptByImages h → IsImage other (spelling version h) image → IsEntered image
 images_are_entered facts value version other h image machine offered is kept spelled =
     subst IsEntered (same_handover version other h image kept spelled)
     (handovers_are_entered facts value h machine offered is)

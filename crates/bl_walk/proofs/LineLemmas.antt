@@ -19,7 +19,7 @@ use Rattle.bl_plan.proofs.OrderCountLemmas.{list_any-in_order}
 use Rattle.bl_load.specs.Addresses.{address_of}
 use Rattle.bl_load.specs.Handover.{end_of, filled}
 use Rattle.bl_walk.specs.Inside.{rest_in}
-use Rattle.bl_walk.specs.Seen.{text_of}
+use Rattle.bl_walk.specs.Seen.{text_to_zero}
 use Rattle.bl_walk.proofs.RangeLemmas.{some_rest_in}
 use Rattle.bl_walk.proofs.PartLemmas.{is_of, is_at, part_of, parts_of, found_there, address_held}
 use Rattle.bl_walk.proofs.PartLemmas.{both_true, same_role}
@@ -98,8 +98,8 @@ zero_behind line rest text =
     position_or_len_is p (line ++ 0 ∷ rest) (length line) 0 (omega (arith, size)) before
     (λ lt. ap p (get_or-append_seam line 0 rest 0))
 
-text_before : (line rest : List ℕ) → IsText line → text_of (line ++ 0 ∷ rest) ≡ Some line
-unfolding text_of
+text_before : (line rest : List ℕ) → IsText line → text_to_zero (line ++ 0 ∷ rest) ≡ Some line
+unfolding text_to_zero
 text_before line rest text =
     let size = length-append line (0 ∷ rest) in
     let within : nat_lt (length line) (length (line ++ 0 ∷ rest)) ≡ true =
@@ -107,8 +107,8 @@ text_before line rest text =
     rw (zero_behind line rest text, within) (ap Some (take_at line (0 ∷ rest) (length line) refl))
 
 pub line_shown : (line : List ℕ) (size : ℕ) → IsText line → length line < size
-    → text_of (filled size line) ≡ Some line
+    → text_to_zero (filled size line) ≡ Some line
 line_shown line size text short =
     let next : size - length line ≡ suc (size - length line - 1) = omega arith in
-    ap (λ (n : ℕ). text_of (line ++ replicate n 0)) next
+    ap (λ (n : ℕ). text_to_zero (line ++ replicate n 0)) next
     ∙ text_before line (replicate (size - length line - 1) 0) text

@@ -3,7 +3,7 @@ use Rattle.std.proofs.Common.{◌≡◌, ◌∙◌, ◌<◌, ◌+◌, ◌*◌, �
 use Rattle.std.proofs.Common.{Option, None, Some, cond, nat_lt, refl, ap, subst, arith}
 use Rattle.std.specs.Prelude.{◌&&◌, ◌==◌}
 use Rattle.std.proofs.lemmas.Bool.Decides.{nat_tests}
-use Rattle.bl_params.specs.Translation.{index_at, entry_at, frame_of, in_page, next_frame}
+use Rattle.bl_params.specs.Translation.{index_at, table_entry_at, frame_in_word, in_page, next_frame}
 use Rattle.bl_params.specs.Translation.{goes_on, walked, translation}
 use Rattle.bl_walk.specs.State.{KeepsAddresses}
 
@@ -35,23 +35,24 @@ walked_same : (tables : List ℕ) (base a b : ℕ) → index_at 39 b ≡ index_a
 unfolding walked
 walked_same tables base a b first second third within begins is =
     let page : ℕ → ℕ → ℕ → Option ℕ =
-    λ x i directory. in_page x (entry_at tables directory i) in
+    λ x i directory. in_page x (table_entry_at tables directory i) in
     let after : ℕ → ℕ → ℕ → ℕ → Option ℕ =
     λ x j i pointers. goes_on (next_frame tables base x 30 pointers) (page x i) in
     subst
-    (λ (i : ℕ). goes_on (frame_of base (entry_at tables 0 i)) (after a (index_at 30 a) (index_at 21 a))
+    (λ (i : ℕ). goes_on (frame_in_word base (table_entry_at tables 0 i))
+    (after a (index_at 30 a) (index_at 21 a))
     ≡ Some a) first
     (on_some (next_frame tables base b 39 0) (after b (index_at 30 b) (index_at 21 b))
     (after a (index_at 30 a) (index_at 21 a)) a b
     (λ pointers goes.
     subst
-    (λ (i : ℕ). goes_on (frame_of base (entry_at tables pointers i)) (page a (index_at 21 a))
+    (λ (i : ℕ). goes_on (frame_in_word base (table_entry_at tables pointers i)) (page a (index_at 21 a))
     ≡ Some a) second
     (on_some (next_frame tables base b 30 pointers) (page b (index_at 21 b))
     (page a (index_at 21 a)) a b
     (λ directory ends.
-    subst (λ (i : ℕ). in_page a (entry_at tables directory i) ≡ Some a) third
-    (page_same a b (entry_at tables directory (index_at 21 b)) within begins ends))
+    subst (λ (i : ℕ). in_page a (table_entry_at tables directory i) ≡ Some a) third
+    (page_same a b (table_entry_at tables directory (index_at 21 b)) within begins ends))
     goes))
     is)
 

@@ -7,7 +7,7 @@ use Rattle.std.specs.Prelude.{option_to_list}
 use Rattle.std.proofs.lemmas.List.Elements.{All-append, All-cons, All-nil}
 use Rattle.bl_map.specs.MachineFacts.{MachineFacts}
 use Rattle.bl_map.specs.declared.region.Region.{Region}
-use Rattle.bl_map.specs.Limits.{most_size}
+use Rattle.bl_map.specs.Limits.{max_size}
 use Rattle.bl_bzimage.specs.declared.setup.Setup.{Setup}
 use Rattle.bl_plan.specs.Order.{in_order}
 use Rattle.bl_plan.specs.Placed.{ArePlaced, place_at}
@@ -35,7 +35,7 @@ use Rattle.bl_walk.proofs.RegisterLemmas.{entry_offset}
 
 unfoldable pub params_rows : Protocol → Setup → List ℕ → List Row
 params_rows protocol setup initrd =
-    frame_row BootParams most_size ∷ frame_row CommandLine line_limit ∷ frame_row Gdt most_size
+    frame_row BootParams max_size ∷ frame_row CommandLine line_limit ∷ frame_row Gdt max_size
     ∷ (option_to_list (paging_row protocol) ++ initrd_rows setup initrd)
 
 pub kernel_of_kernel : (setup : Setup) → All (Anywhere IsOfKernel) (linux_kernel_row setup ∷ [])
@@ -62,12 +62,12 @@ pub params_other : (protocol : Protocol) (setup : Setup) (initrd : List ℕ)
 unfolding params_rows
 params_other protocol setup initrd =
     let paging = option_to_list (paging_row protocol) in
-    All-cons (Anywhere IsOther) (frame_row BootParams most_size)
-    (frame_row CommandLine line_limit ∷ frame_row Gdt most_size
+    All-cons (Anywhere IsOther) (frame_row BootParams max_size)
+    (frame_row CommandLine line_limit ∷ frame_row Gdt max_size
     ∷ (paging ++ initrd_rows setup initrd)) (λ a. refl)
     (All-cons (Anywhere IsOther) (frame_row CommandLine line_limit)
-    (frame_row Gdt most_size ∷ (paging ++ initrd_rows setup initrd)) (λ a. refl)
-    (All-cons (Anywhere IsOther) (frame_row Gdt most_size) (paging ++ initrd_rows setup initrd)
+    (frame_row Gdt max_size ∷ (paging ++ initrd_rows setup initrd)) (λ a. refl)
+    (All-cons (Anywhere IsOther) (frame_row Gdt max_size) (paging ++ initrd_rows setup initrd)
     (λ a. refl)
     (All-append (Anywhere IsOther) paging (initrd_rows setup initrd) (paging_other protocol)
     (initrd_other setup initrd))))

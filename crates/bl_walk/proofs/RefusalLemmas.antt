@@ -3,20 +3,20 @@ use Rattle.std.proofs.Common.{◌≡◌, ℕ, List, Ok, Err, Result, sym, subst}
 use Rattle.std.specs.Prelude.{IsErrAnd, IfErr}
 use Rattle.bl_mbi.specs.declared.fault.InfoFault.{InfoFault}
 use Rattle.bl_mbi.specs.declared.fault.InfoFault.TheVariants as info_fault
-use Rattle.bl_mbi.specs.Fields.{Fails}
+use Rattle.bl_mbi.specs.Fields.{MatchesFault}
 use Rattle.bl_mbi.specs.Reading.{info_of}
 use Rattle.bl_params.specs.declared.fault.ParamFault.{ParamFault}
 use Rattle.bl_params.specs.declared.fault.ParamFault.TheVariants as param_fault
-use Rattle.bl_params.specs.Reading.{HasFirstFault}
+use Rattle.bl_params.specs.Reading.{HasFirstParamFault}
 use Rattle.bl_load.specs.Handover.{Handover}
 use Rattle.bl_walk.specs.declared.fault.WalkFault.{WalkFault}
-use Rattle.bl_walk.specs.Faults.{HasFault, other_information, other_parameters}
+use Rattle.bl_walk.specs.Faults.{HasWalkFault, other_information, other_parameters}
 use Rattle.bl_walk.specs.Kept.{information_refusal, parameters_refusal}
 use Rattle.bl_walk.specs.Seen.{IsInformation, AreParameters}
 
 pub refused_information : (h : Handover) (bytes : List ℕ) (fault : InfoFault)
-    → IsInformation h bytes → Fails fault (info_of bytes)
-    → HasFault h (information_refusal fault)
+    → IsInformation h bytes → MatchesFault fault (info_of bytes)
+    → HasWalkFault h (information_refusal fault)
 refused_information h bytes info_fault.WrongLength is fails =
     other_information bytes info_fault.WrongLength is fails
 refused_information h bytes info_fault.BadReserved is fails =
@@ -28,8 +28,8 @@ refused_information h bytes (info_fault.BadOrder at) is fails =
 refused_information h bytes info_fault.NoMemory is fails = tt
 
 pub refused_parameters : (h : Handover) (bytes : List ℕ) (fault : ParamFault)
-    → AreParameters h bytes → HasFirstFault bytes fault
-    → HasFault h (parameters_refusal fault)
+    → AreParameters h bytes → HasFirstParamFault bytes fault
+    → HasWalkFault h (parameters_refusal fault)
 refused_parameters h bytes param_fault.WrongLength are first =
     other_parameters bytes param_fault.WrongLength are (λ same. absurd (cc)) first
 refused_parameters h bytes (param_fault.BadParams at) are first =
@@ -38,6 +38,6 @@ refused_parameters h bytes param_fault.NoMemory are first = tt
 
 -- where a fault of the reader is answered
 pub answered : {A : Type 0} (result : Result A WalkFault) (h : Handover) (refusal : WalkFault)
-    → IsErrAnd result (λ fault. fault ≡ refusal) → HasFault h refusal → IfErr result (HasFault h)
+    → IsErrAnd result (λ fault. fault ≡ refusal) → HasWalkFault h refusal → IfErr result (HasWalkFault h)
 answered (Ok x) h refusal is stands = tt
-answered (Err fault) h refusal is stands = subst (HasFault h) (sym is) stands
+answered (Err fault) h refusal is stands = subst (HasWalkFault h) (sym is) stands

@@ -6,7 +6,7 @@ use Rattle.bl_mbi.specs.InfoFacts.{InfoFacts}
 use Rattle.bl_params.specs.ParamsFacts.{ParamsFacts}
 use Rattle.bl_load.specs.Handover.{Part, Handover}
 use Rattle.bl_walk.specs.Seen.{IsSeenModule, AreSeenModules, InformationShows, IsLine, IsInitrd}
-use Rattle.bl_walk.specs.Seen.{ParametersShow, IsSeen, text_of}
+use Rattle.bl_walk.specs.Seen.{ParametersShow, IsSeen, text_to_zero}
 use Rattle.bl_walk.specs.SeenFacts.{SeenModuleFacts, SeenFileFacts, SeenFacts}
 use Rattle.bl_walk.proofs.LengthLemmas.{same_some}
 use Rattle.bl_walk.proofs.OneToldLemmas.{not_handed, same_info, same_params}
@@ -34,7 +34,7 @@ same_line : (parts : List Part) (address : ℕ) (s t : List ℕ) → IsLine part
     → IsLine parts address t → s ≡ t
 same_line parts address s t a b =
     let rest = same_some a.rest b.rest (sym a.from ∙ b.from) in
-    same_some s t (sym a.text ∙ ap text_of rest ∙ b.text)
+    same_some s t (sym a.text ∙ ap text_to_zero rest ∙ b.text)
 
 same_initrd : (parts : List Part) (params : ParamsFacts) (s t : Option SeenFileFacts)
     → IsInitrd parts params s → IsInitrd parts params t → s ≡ t

@@ -7,7 +7,7 @@ use Rattle.bl_map.specs.MachineFacts.{MachineFacts}
 use Rattle.bl_mb2head.specs.declared.relocation.Relocation.{Relocation}
 use Rattle.bl_mem.specs.declared.segment.Segment.{Segment}
 use Rattle.bl_plan.specs.Order.{put, in_order, in_order_among, in_order_by, ascending}
-use Rattle.bl_plan.specs.Placed.{ArePlaced, range_of}
+use Rattle.bl_plan.specs.Placed.{ArePlaced, place_range}
 use Rattle.bl_plan.specs.Planned.{put_in}
 use Rattle.bl_plan.specs.declared.part.Place.{Place}
 use Rattle.bl_plan.specs.declared.part.Role.TheVariants.{Kernel}
@@ -62,7 +62,8 @@ segments_seen facts taken k (s ∷ segments) [] placed = absurd placed
 segments_seen facts taken k (s ∷ segments) (p ∷ places) placed =
     let at : p.address ≡ s.address = placed.0.0 in
     let size : p.length ≡ s.memsz = ap (λ (q : Place). q.length) placed.1 in
-    let rest = segments_seen facts (put_in (range_of p) taken) (suc k) segments places placed.2 in
+    let rest = segments_seen facts (put_in (place_range p) taken)
+    (suc k) segments places placed.2 in
     λ i. record { address = at i; length = size i } ∷ rest i
 
 segment_rows_of_kernel : (k : ℕ) (segments : List Segment)

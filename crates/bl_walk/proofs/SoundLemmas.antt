@@ -20,7 +20,7 @@ use Rattle.bl_walk.specs.Faults.{endless_line, other_registers, other_descriptor
 use Rattle.bl_walk.specs.Faults.{other_translation}
 use Rattle.bl_walk.specs.Inside.{bytes_in, rest_in}
 use Rattle.bl_walk.specs.Seen.{InformationSays, AreSeenModules, InformationShows, ParametersSay}
-use Rattle.bl_walk.specs.Seen.{IsLine, IsInitrd, ParametersShow, IsSeen, text_of}
+use Rattle.bl_walk.specs.Seen.{IsLine, IsInitrd, ParametersShow, IsSeen, text_to_zero}
 use Rattle.bl_walk.specs.SeenFacts.{SeenModuleFacts, SeenFileFacts, SeenFacts}
 use Rattle.bl_walk.specs.State.{IsEntered}
 use Rattle.bl_walk.proofs.RangeLemmas.{nothing_in, rest_is_inside}
@@ -123,7 +123,7 @@ module _ (h : Handover) (params : ParamsFacts) (line : List ℕ) (file : Option 
       (same_params h params other say is) in
       let one = same_some text.rest rest (sym text.from ∙ same ∙ from) in
       let ended = text.text in
-      let fails = ap text_of one ∙ none in
+      let fails = ap text_to_zero one ∙ none in
       cc
 
 -- ---- both

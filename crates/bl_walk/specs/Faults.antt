@@ -7,7 +7,7 @@ use Rattle.bl_mbi.specs.InfoFacts.{InfoFacts}
 use Rattle.bl_mbi.specs.Reading.{info_of}
 use Rattle.bl_mbi.specs.declared.fault.InfoFault.{InfoFault}
 use Rattle.bl_params.specs.ParamsFacts.{ParamsFacts}
-use Rattle.bl_params.specs.Reading.{HasFirstFault}
+use Rattle.bl_params.specs.Reading.{HasFirstParamFault}
 use Rattle.bl_params.specs.Translation.{translation}
 use Rattle.bl_params.specs.declared.fault.ParamFault.{ParamFault}
 use Rattle.bl_params.specs.declared.fault.ParamFault.TheVariants as param_fault
@@ -21,7 +21,7 @@ use Rattle.bl_walk.specs.declared.fault.WalkFault.TheVariants.{NoMemory}
 use Rattle.bl_walk.specs.Inside.{bytes_in, rest_in}
 use Rattle.bl_walk.specs.State.{entry_registers, is_in_kernel}
 use Rattle.bl_walk.specs.Seen.{HasTotalSize, IsInformation, InformationSays, AreParameters}
-use Rattle.bl_walk.specs.Seen.{ParametersSay, text_of}
+use Rattle.bl_walk.specs.Seen.{ParametersSay, text_to_zero}
 
 abbrev pub walk_fault_number : WalkFault → ℕ
 walk_fault_number OutsideImage = 81
@@ -62,9 +62,9 @@ pub data HasBadInfo (h : Handover) : Type 0 where
   other_information : (bytes : List ℕ) (fault : InfoFault) → IsInformation h bytes
       → info_of bytes ≡ Err fault → HasBadInfo h
   other_parameters : (bytes : List ℕ) (fault : ParamFault) → AreParameters h bytes
-      → ¬ (fault ≡ param_fault.NoMemory) → HasFirstFault bytes fault → HasBadInfo h
+      → ¬ (fault ≡ param_fault.NoMemory) → HasFirstParamFault bytes fault → HasBadInfo h
   endless_line : (params : ParamsFacts) (rest : List ℕ) → ParametersSay h params
-      → rest_in h.parts params.cmd_line_ptr ≡ Some rest → text_of rest ≡ None → HasBadInfo h
+      → rest_in h.parts params.cmd_line_ptr ≡ Some rest → text_to_zero rest ≡ None → HasBadInfo h
 
 -- 83: a register that does not hold an address has another number, or the kernel is handed other
 -- descriptors than its protocol gives it, or page tables that do not translate an address to itself
@@ -80,11 +80,11 @@ pub data HasBadState (h : Handover) : Type 0 where
       → HasBadState h
 
 -- a fault stands; want of memory says nothing of the image
-abbrev pub HasFault : Handover → WalkFault → Type 0
-HasFault h OutsideImage = IsOutside h
-HasFault h BadInfo = HasBadInfo h
-HasFault h BadState = HasBadState h
-HasFault h NoMemory = Unit {0}
+abbrev pub HasWalkFault : Handover → WalkFault → Type 0
+HasWalkFault h OutsideImage = IsOutside h
+HasWalkFault h BadInfo = HasBadInfo h
+HasWalkFault h BadState = HasBadState h
+HasWalkFault h NoMemory = Unit {0}
 
 -- none of the three stands
 pub record IsSound (h : Handover) : Type 0 where

@@ -87,14 +87,14 @@ pub record ParametersSay (h : Handover) (params : ParamsFacts) : Type 0 where
   pub told : IsParams bytes params
 
 -- a text up to its zero, None where there is none
-unfoldable pub text_of : List ℕ → Option (List ℕ)
-text_of bytes = option_map (λ count. take count bytes) (position (λ b. b == 0) bytes)
+unfoldable pub text_to_zero : List ℕ → Option (List ℕ)
+text_to_zero bytes = option_map (λ count. take count bytes) (position (λ b. b == 0) bytes)
 
 -- "cmd_line_ptr"
 pub record IsLine (parts : List Part) (address : ℕ) (line : List ℕ) : Type 0 where
   pub rest : List ℕ
   pub from : rest_in parts address ≡ Some rest
-  pub text : text_of rest ≡ Some line
+  pub text : text_to_zero rest ≡ Some line
 
 -- "ramdisk_image", "ramdisk_size": a size of 0 is none
 abbrev pub IsInitrd : List Part → ParamsFacts → Option SeenFileFacts → Type 0

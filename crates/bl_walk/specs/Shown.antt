@@ -2,7 +2,7 @@
 use Rattle.std.specs.Prelude.{◌≡◌, ◌<◌, ◌≤◌, ◌+◌, ℕ, List, [], ◌∷◌, length, map, slice_index_or}
 use Rattle.std.specs.Prelude.{All, Option, Some, None, option_map}
 use Rattle.bl_mem.specs.declared.segment.Segment.{Segment}
-use Rattle.bl_map.specs.Kinds.{end_of}
+use Rattle.bl_map.specs.Kinds.{region_end}
 use Rattle.bl_map.specs.Limits.{region_limit}
 use Rattle.bl_map.specs.MachineFacts.{MachineFacts}
 use Rattle.bl_mb2head.specs.declared.relocation.Relocation.{Relocation}
@@ -92,4 +92,4 @@ pub record ShowsEntry (facts : MachineFacts) (value : EntryValue) (seen : SeenFa
 
 -- each run of the memory map that is seen ends at most at 2^52
 abbrev pub RunsEndLow : SeenFacts → Type 0
-RunsEndLow seen = All (λ run. end_of run ≤ region_limit) seen.map
+RunsEndLow seen = All (λ run. region_end run ≤ region_limit) seen.map

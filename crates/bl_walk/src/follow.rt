@@ -1,7 +1,7 @@
 //! What a kernel follows.
 ghost use Rattle.std.specs.Prelude.{◌≡◌, ◌==◌, length, Some, IfOk, IfErr, option_copied};
 ghost use Rattle.std.specs.List.{position};
-ghost use Rattle.bl_walk.specs.Faults.{IsFollowed, HasFault};
+ghost use Rattle.bl_walk.specs.Faults.{IsFollowed, HasWalkFault};
 ghost use Rattle.bl_walk.specs.Inside.{bytes_in};
 ghost use Rattle.bl_walk.specs.Seen as seen;
 
@@ -20,7 +20,7 @@ pub(crate) fn follow<A: Allocator>(
     ensures ok { IfOk result
         (λ bytes. bytes_in image.now.parts address count ≡ Some bytes.now) }
     ensures long { IfOk result (λ bytes. length bytes.now ≡ count) }
-    ensures fault { IfErr result (HasFault image.now) }
+    ensures fault { IfErr result (HasWalkFault image.now) }
 {
     match bytes_at(image, address, count) {
         Some(bytes) => Ok(bytes),
@@ -36,9 +36,9 @@ fn zero_at(bytes: &[u8]) -> Option<usize>
 }
 
 /// A text up to its zero.
-#[tactic(auto, unfolding(crate::specs::Seen::text_of))]
-pub(crate) fn text_of(bytes: &[u8]) -> Option<&[u8]>
-    ensures { option_copied result ≡ seen.text_of bytes.now }
+#[tactic(auto, unfolding(crate::specs::Seen::text_to_zero))]
+pub(crate) fn text_to_zero(bytes: &[u8]) -> Option<&[u8]>
+    ensures { option_copied result ≡ seen.text_to_zero bytes.now }
 {
     match zero_at(bytes) {
         Some(count) => Some(&bytes[..count]),

@@ -1,7 +1,7 @@
 //! What boot information shows a Multiboot2 kernel.
 ghost use Rattle.std.specs.Prelude.{◌≡◌, ◌-◌, ◌≤◌, IfOk, IfErr};
 ghost use Rattle.bl_plan.specs.declared.protocol.Protocol.TheVariants as protocol;
-ghost use Rattle.bl_walk.specs.Faults.{HasFault};
+ghost use Rattle.bl_walk.specs.Faults.{HasWalkFault};
 ghost use Rattle.bl_walk.specs.Seen.{HasTotalSize, InformationSays, IsSeen};
 
 use crate::fault::WalkFault;
@@ -24,7 +24,7 @@ fn total_size<A: Allocator>(image: &Image<A>) -> Result<u32, WalkFault>
     requires { image.now.protocol ≡ protocol.Multiboot2 }
     ensures ok { IfOk result (HasTotalSize image.now) }
     ensures least { IfOk result (λ size. 16 ≤ size) }
-    ensures fault { IfErr result (HasFault image.now) }
+    ensures fault { IfErr result (HasWalkFault image.now) }
 {
     let word = follow(image, image.registers().information(), SIZE_WORD)?;
     let size = u32_at(&SliceView::new(word), 0);
@@ -38,7 +38,7 @@ fn total_size<A: Allocator>(image: &Image<A>) -> Result<u32, WalkFault>
 fn information<A: Allocator + Copy>(alloc: A, image: &Image<A>) -> Result<Info<A>, WalkFault>
     requires { image.now.protocol ≡ protocol.Multiboot2 }
     ensures ok { IfOk result (InformationSays image.now) }
-    ensures fault { IfErr result (HasFault image.now) }
+    ensures fault { IfErr result (HasWalkFault image.now) }
 {
     let size = total_size(image)?;
     let bytes = follow(image, image.registers().information(), size)?;
@@ -46,13 +46,13 @@ fn information<A: Allocator + Copy>(alloc: A, image: &Image<A>) -> Result<Info<A
 }
 
 /// What the information shows.
-pub(crate) fn shown_by_information<A: Allocator + Copy>(
+pub(crate) fn shown_by_information<'a, A: Allocator + Copy>(
     alloc: A,
-    image: &Image<A>,
-) -> Result<Seen<A>, WalkFault>
+    image: &'a Image<A>,
+) -> Result<Seen<'a, A>, WalkFault>
     requires { image.now.protocol ≡ protocol.Multiboot2 }
     ensures ok { IfOk result (IsSeen image.now) }
-    ensures fault { IfErr result (HasFault image.now) }
+    ensures fault { IfErr result (HasWalkFault image.now) }
 {
     let info = information(alloc, image)?;
     let modules = modules_at(alloc, image, info.modules.as_slice())?;

@@ -7,7 +7,7 @@ ghost use Rattle.bl_load.specs.Offered.{IsOffered};
 ghost use Rattle.bl_load.specs.Parts.{IsHandover};
 ghost use Rattle.bl_load.specs.Value.{EntryValue};
 ghost use Rattle.bl_image.specs.Image.{spelling};
-ghost use Rattle.bl_image.specs.ImageParts.{IsImage, IsKept};
+ghost use Rattle.bl_image.specs.ImageParts.{IsImage, IsKeptByImages};
 ghost use Rattle.bl_image.specs.declared.version.Version.{Version};
 ghost use Rattle.bl_walk.specs.Faults.{IsSound};
 ghost use Rattle.bl_walk.specs.Inside.{part_with};
@@ -55,14 +55,14 @@ pub fn handovers_are_seen()
 pub fn images_show_their_entries()
     ensures seen { (facts : MachineFacts) (value : EntryValue) (version other : Version)
         (h image : Handover) (seen : SeenFacts) → AreMachineFacts facts → IsOffered value
-        → IsHandover facts value h → IsKept h → IsImage other (spelling version h) image
+        → IsHandover facts value h → IsKeptByImages h → IsImage other (spelling version h) image
         → IsSeen image seen → ShowsEntry facts value seen }
     ensures entered { (facts : MachineFacts) (value : EntryValue) (version other : Version)
         (h image : Handover) → AreMachineFacts facts → IsOffered value → IsHandover facts value h
-        → IsKept h → IsImage other (spelling version h) image → IsEntered image }
+        → IsKeptByImages h → IsImage other (spelling version h) image → IsEntered image }
     ensures sound { (facts : MachineFacts) (value : EntryValue) (version other : Version)
         (h image : Handover) → AreMachineFacts facts → IsOffered value → IsHandover facts value h
-        → IsKept h → IsImage other (spelling version h) image → IsSound image }
+        → IsKeptByImages h → IsImage other (spelling version h) image → IsSound image }
 {}
 
 /// Each run of a memory map that is seen ends at most at 2^52.

@@ -2,7 +2,7 @@
 ghost use Rattle.std.specs.Prelude.{◌≡◌, ◌-◌, ◌≤◌, ℕ, length, IfOk, IfErr, All};
 ghost use Rattle.std.specs.List.{Contains};
 ghost use Rattle.bl_mbi.specs.InformationFacts.{IsModule};
-ghost use Rattle.bl_walk.specs.Faults.{IsFollowed, HasFault};
+ghost use Rattle.bl_walk.specs.Faults.{IsFollowed, HasWalkFault};
 ghost use Rattle.bl_walk.specs.Seen.{IsSeenModule, AreSeenModules};
 
 use crate::fault::WalkFault;
@@ -14,36 +14,36 @@ use bl_mem::Bytes;
 use std::alloc::Allocator;
 
 /// A module with its bytes.
-fn module_at<A: Allocator + Copy>(
+fn module_at<'a, A: Allocator + Copy>(
     alloc: A,
-    image: &Image<A>,
+    image: &'a Image<A>,
     told: &Module<A>,
-) -> Result<SeenModule<A>, WalkFault>
+) -> Result<SeenModule<'a, A>, WalkFault>
     requires forward { told.now.mod_start ≤ told.now.mod_end }
     requires followed { let m = told.now in
         IsFollowed image.now m.mod_start (m.mod_end - m.mod_start) }
     ensures ok { IfOk result (IsSeenModule image.now.parts told.now) }
-    ensures fault { IfErr result (HasFault image.now) }
+    ensures fault { IfErr result (HasWalkFault image.now) }
 {
     let bytes = follow(image, told.mod_start as u64, told.mod_end - told.mod_start)?;
     Ok(SeenModule {
         mod_start: told.mod_start,
-        bytes: Bytes::copy(alloc, bytes)?,
+        bytes,
         line: Bytes::copy(alloc, told.line.as_slice())?,
     })
 }
 
 /// The modules with their bytes.
-pub(crate) fn modules_at<A: Allocator + Copy>(
+pub(crate) fn modules_at<'a, A: Allocator + Copy>(
     alloc: A,
-    image: &Image<A>,
+    image: &'a Image<A>,
     modules: &[Module<A>],
-) -> Result<Vec<SeenModule<A>, A>, WalkFault>
+) -> Result<Vec<SeenModule<'a, A>, A>, WalkFault>
     requires forward { All IsModule modules.now }
     requires followed { All (λ m. IsFollowed image.now m.mod_start (m.mod_end - m.mod_start))
         modules.now }
     ensures ok { IfOk result (λ seen. AreSeenModules image.now.parts modules.now seen.items) }
-    ensures fault { IfErr result (HasFault image.now) }
+    ensures fault { IfErr result (HasWalkFault image.now) }
 {
     let mut seen = Vec::with_capacity(alloc, modules.len())?;
     for told in modules {

@@ -1,11 +1,11 @@
 //! What boot parameters show a Linux kernel.
 ghost use Rattle.std.specs.Prelude.{◌≡◌, ◌-◌, ◌≤◌, true, IfOk, IfErr};
 ghost use Rattle.bl_load.specs.Protocols.{has_params};
-ghost use Rattle.bl_walk.specs.Faults.{HasFault};
+ghost use Rattle.bl_walk.specs.Faults.{HasWalkFault};
 ghost use Rattle.bl_walk.specs.Seen.{ParametersSay, IsLine, IsInitrd, IsSeen};
 
 use crate::fault::WalkFault;
-use crate::follow::{follow, text_of};
+use crate::follow::{follow, text_to_zero};
 use crate::inside::rest_at;
 use crate::seen::{Seen, SeenFile};
 use bl_image::Image;
@@ -20,7 +20,7 @@ const PARAMS_SIZE: u32 = 4096;
 fn parameters<A: Allocator + Copy>(alloc: A, image: &Image<A>) -> Result<Params<A>, WalkFault>
     requires { has_params image.now.protocol ≡ true }
     ensures ok { IfOk result (ParametersSay image.now) }
-    ensures fault { IfErr result (HasFault image.now) }
+    ensures fault { IfErr result (HasWalkFault image.now) }
 {
     let bytes = follow(image, image.registers().params(), PARAMS_SIZE)?;
     Ok(read_params(alloc, bytes)?)
@@ -34,26 +34,25 @@ fn line<A: Allocator + Copy>(
 ) -> Result<Bytes<A>, WalkFault>
     requires { ParametersSay image.now params.now }
     ensures ok { IfOk result (IsLine image.now.parts params.now.cmd_line_ptr) }
-    ensures fault { IfErr result (HasFault image.now) }
+    ensures fault { IfErr result (HasWalkFault image.now) }
 {
     let Some(rest) = rest_at(image, params.cmd_line_ptr as u64) else {
         return Err(WalkFault::OutsideImage);
     };
-    match text_of(rest) {
+    match text_to_zero(rest) {
         Some(text) => Ok(Bytes::copy(alloc, text)?),
         None => Err(WalkFault::BadInfo),
     }
 }
 
 /// The initial ramdisk, if it has a byte.
-fn initrd<A: Allocator + Copy>(
-    alloc: A,
-    image: &Image<A>,
+fn initrd<'a, A: Allocator>(
+    image: &'a Image<A>,
     params: &Params<A>,
-) -> Result<Option<SeenFile<A>>, WalkFault>
+) -> Result<Option<SeenFile<'a>>, WalkFault>
     requires { ParametersSay image.now params.now }
     ensures ok { IfOk result (IsInitrd image.now.parts params.now) }
-    ensures fault { IfErr result (HasFault image.now) }
+    ensures fault { IfErr result (HasWalkFault image.now) }
 {
     if params.ramdisk_size == 0 {
         return Ok(None);
@@ -61,22 +60,22 @@ fn initrd<A: Allocator + Copy>(
     let bytes = follow(image, params.ramdisk_image as u64, params.ramdisk_size)?;
     Ok(Some(SeenFile {
         address: params.ramdisk_image,
-        bytes: Bytes::copy(alloc, bytes)?,
+        bytes,
     }))
 }
 
 /// What the boot parameters show.
-pub(crate) fn shown_by_parameters<A: Allocator + Copy>(
+pub(crate) fn shown_by_parameters<'a, A: Allocator + Copy>(
     alloc: A,
-    image: &Image<A>,
-) -> Result<Seen<A>, WalkFault>
+    image: &'a Image<A>,
+) -> Result<Seen<'a, A>, WalkFault>
     requires { has_params image.now.protocol ≡ true }
     ensures ok { IfOk result (IsSeen image.now) }
-    ensures fault { IfErr result (HasFault image.now) }
+    ensures fault { IfErr result (HasWalkFault image.now) }
 {
     let params = parameters(alloc, image)?;
     let line = line(alloc, image, &params)?;
-    let initrd = initrd(alloc, image, &params)?;
+    let initrd = initrd(image, &params)?;
     let mut seen = Seen::new(alloc, image, line, params.runs)?;
     seen.initrd = initrd;
     Ok(seen)

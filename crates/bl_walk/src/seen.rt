@@ -16,57 +16,63 @@ pub struct SeenPart {
 }
 
 /// A module (Multiboot2 3.6.6 "Modules"): the physical address of its first byte, its bytes up to
-/// `mod_end`, its line without a zero at its end. An empty module has an address too, and no byte.
+/// `mod_end` as the image holds them, its line without a zero at its end. An empty module has an
+/// address too, and no byte.
 #[derive(Drop)]
-pub struct SeenModule<A: Allocator> {
+pub struct SeenModule<'a, A: Allocator> {
     pub mod_start: u32,
-    pub bytes: Bytes<A>,
+    pub bytes: &'a [u8],
     pub line: Bytes<A>,
 }
 
-impl<A: Allocator> Model for SeenModule<A> {
+impl<'a, A: Allocator> Model for SeenModule<'a, A> {
     ghost use Rattle.bl_walk.specs.SeenFacts.{SeenModuleFacts};
 
     ghost Value = { SeenModuleFacts };
 
-    ghost view = { λ m. record { mod_start = m.mod_start; bytes = m.bytes; line = m.line } };
+    ghost view = { λ m. record {
+      mod_start = m.mod_start;
+      bytes = m.bytes.now;
+      line = m.line;
+    } };
 }
 
 /// An initial ramdisk (Linux/x86 boot protocol: "ramdisk_image", "ramdisk_size"): the physical
-/// address of its first byte, and its bytes, of which there is one at least.
+/// address of its first byte, and its bytes as the image holds them, of which there is one at
+/// least.
 #[derive(Drop)]
-pub struct SeenFile<A: Allocator> {
+pub struct SeenFile<'a> {
     pub address: u32,
-    pub bytes: Bytes<A>,
+    pub bytes: &'a [u8],
 }
 
-impl<A: Allocator> Model for SeenFile<A> {
+impl<'a> Model for SeenFile<'a> {
     ghost use Rattle.bl_walk.specs.SeenFacts.{SeenFileFacts};
 
     ghost Value = { SeenFileFacts };
 
-    ghost view = { λ f. record { address = f.address; bytes = f.bytes } };
+    ghost view = { λ f. record { address = f.address; bytes = f.bytes.now } };
 }
 
 /// What a kernel sees in an image: how and where it is entered, a physical address, its line, its
 /// parts in address order, the modules in order (none under Linux), the initial ramdisk (none under
 /// Multiboot2, nor where it has no byte), the memory map's runs, and the copies of the Root System
 /// Description Pointer (Multiboot2 3.6.12 "ACPI old RSDP", 3.6.13 "ACPI new RSDP"; none under
-/// Linux).
+/// Linux). The bytes of files are those of the image, and are not copied.
 #[derive(Drop)]
-pub struct Seen<A: Allocator> {
+pub struct Seen<'a, A: Allocator> {
     pub protocol: Protocol,
     pub entry: u64,
     pub line: Bytes<A>,
     pub kernel: Vec<SeenPart, A>,
-    pub modules: Vec<SeenModule<A>, A>,
-    pub initrd: Option<SeenFile<A>>,
+    pub modules: Vec<SeenModule<'a, A>, A>,
+    pub initrd: Option<SeenFile<'a>>,
     pub map: Vec<Region, A>,
     pub rsdp_old: Option<Bytes<A>>,
     pub rsdp_new: Option<Bytes<A>>,
 }
 
-impl<A: Allocator> Model for Seen<A> {
+impl<'a, A: Allocator> Model for Seen<'a, A> {
     ghost use Rattle.bl_walk.specs.SeenFacts.{SeenFacts};
 
     ghost Value = { SeenFacts };
@@ -84,7 +90,7 @@ impl<A: Allocator> Model for Seen<A> {
     } };
 }
 
-impl<A: Allocator + Copy> Seen<A> {
+impl<'a, A: Allocator + Copy> Seen<'a, A> {
     ghost use Rattle.std.specs.Prelude.{◌≡◌, IfOk};
     ghost use Rattle.bl_walk.specs.Kept.{seen_alone};
 
@@ -95,7 +101,7 @@ impl<A: Allocator + Copy> Seen<A> {
         image: &Image<A>,
         line: Bytes<A>,
         map: Vec<Region, A>,
-    ) -> Result<Seen<A>, AllocError>
+    ) -> Result<Seen<'a, A>, AllocError>
         ensures { IfOk result (λ seen. seen ≡ seen_alone image.now line map.items) }
     {
         Ok(Seen {

@@ -4,7 +4,7 @@ ghost use Rattle.std.specs.Prelude.{IfErr, MatchOption, length};
 ghost use Rattle.bl_params.specs.Translation.{translation};
 ghost use Rattle.bl_load.specs.Protocols as protocols;
 ghost use Rattle.bl_load.specs.Registers.{entry_in, gdt_in, tables_in};
-ghost use Rattle.bl_walk.specs.Faults.{HasFault};
+ghost use Rattle.bl_walk.specs.Faults.{HasWalkFault};
 ghost use Rattle.bl_walk.specs.Inside.{bytes_in};
 ghost use Rattle.bl_walk.specs.State as state;
 ghost use Rattle.bl_walk.specs.State.{IsEntered};
@@ -47,7 +47,7 @@ fn are_entered(protocol: Protocol, registers: Registers) -> bool
 fn check_registers<A: Allocator>(image: &Image<A>) -> Result<(), WalkFault>
     ensures ok { OnOk result
         (image.now.registers ≡ state.entry_registers image.now.protocol image.now.registers) }
-    ensures fault { IfErr result (HasFault image.now) }
+    ensures fault { IfErr result (HasWalkFault image.now) }
 {
     if !are_entered(image.protocol(), image.registers()) {
         return Err(WalkFault::BadState);
@@ -76,7 +76,7 @@ fn is_in_kernel<A: Allocator>(image: &Image<A>, address: u64) -> bool
 fn check_entry<A: Allocator>(image: &Image<A>) -> Result<(), WalkFault>
     ensures ok { OnOk result
         (state.is_in_kernel image.now.parts (entry_in image.now.registers) ≡ true) }
-    ensures fault { IfErr result (HasFault image.now) }
+    ensures fault { IfErr result (HasWalkFault image.now) }
 {
     if !is_in_kernel(image, image.registers().entry()) {
         return Err(WalkFault::OutsideImage);
@@ -99,7 +99,7 @@ fn check_descriptors<A: Allocator>(
     requires { protocols.descriptors_of image.now.protocol ≡ Some descriptors.now }
     ensures ok { OnOk result (bytes_in image.now.parts (gdt_in image.now.registers)
         (length descriptors.now) ≡ Some descriptors.now) }
-    ensures fault { IfErr result (HasFault image.now) }
+    ensures fault { IfErr result (HasWalkFault image.now) }
 {
     let found = follow(image, image.registers().gdt(), descriptors.len() as u32)?;
     if !are_descriptors(found, descriptors) {
@@ -128,7 +128,7 @@ fn check_tables<A: Allocator>(image: &Image<A>) -> Result<(), WalkFault>
     ensures ok { OnOk result ((tables : List ℕ)
         × (bytes_in image.now.parts (tables_in image.now.registers) 0x6000 ≡ Some tables)
         × state.KeepsAddresses (tables_in image.now.registers) tables) }
-    ensures fault { IfErr result (HasFault image.now) }
+    ensures fault { IfErr result (HasWalkFault image.now) }
 {
     let base = image.registers().tables();
     let tables = follow(image, base, TABLES)?;
@@ -141,7 +141,7 @@ fn check_tables<A: Allocator>(image: &Image<A>) -> Result<(), WalkFault>
 /// The kernel is entered as its protocol says.
 pub(crate) fn check_state<A: Allocator>(image: &Image<A>) -> Result<(), WalkFault>
     ensures ok { OnOk result (IsEntered image.now) }
-    ensures fault { IfErr result (HasFault image.now) }
+    ensures fault { IfErr result (HasWalkFault image.now) }
 {
     check_registers(image)?;
     check_entry(image)?;

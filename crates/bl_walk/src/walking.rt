@@ -1,6 +1,6 @@
 //! What a kernel sees in an image.
 ghost use Rattle.std.specs.Prelude.{◌≡◌, IfOk, OnOk, IfErr};
-ghost use Rattle.bl_walk.specs.Faults.{HasFault, IsSound};
+ghost use Rattle.bl_walk.specs.Faults.{HasWalkFault, IsSound};
 ghost use Rattle.bl_walk.specs.Seen.{IsSeen};
 ghost use Rattle.bl_walk.specs.Shown.{RunsEndLow};
 
@@ -15,7 +15,10 @@ use std::alloc::Allocator;
 
 /// What a kernel sees that follows the addresses in its registers, or why the image is none that a
 /// kernel can be entered with. Of several faults that stand any may be answered.
-pub fn walk<A: Allocator + Copy>(alloc: A, image: &Image<A>) -> Result<Seen<A>, WalkFault>
+pub fn walk<'a, A: Allocator + Copy>(
+    alloc: A,
+    image: &'a Image<A>,
+) -> Result<Seen<'a, A>, WalkFault>
     ensures seen { IfOk result (IsSeen image.now) }
 
     // No fault but want of memory stands where a value is answered.
@@ -23,7 +26,7 @@ pub fn walk<A: Allocator + Copy>(alloc: A, image: &Image<A>) -> Result<Seen<A>, 
 
     // Each run ends at most at 2^52.
     ensures low { IfOk result RunsEndLow }
-    ensures fault { IfErr result (HasFault image.now) }
+    ensures fault { IfErr result (HasWalkFault image.now) }
 {
     check_state(image)?;
     match image.protocol() {

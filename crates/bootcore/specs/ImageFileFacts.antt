@@ -8,10 +8,10 @@ pub record ImageFileFacts : Type 0 where
   pub faults : ℕ
 
 -- what a sink took that may not be there yet, and its faults
-abbrev pub contents_of : Option IoSinkFacts → List ℕ
-contents_of None = []
-contents_of (Some sink) = sink.contents
+abbrev pub sink_contents : Option IoSinkFacts → List ℕ
+sink_contents None = []
+sink_contents (Some sink) = sink.contents
 
-abbrev pub faults_of : Option IoSinkFacts → ℕ
-faults_of None = 0
-faults_of (Some sink) = sink.faults
+abbrev pub sink_faults : Option IoSinkFacts → ℕ
+sink_faults None = 0
+sink_faults (Some sink) = sink.faults

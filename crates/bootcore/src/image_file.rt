@@ -16,12 +16,12 @@ pub struct ImageFile<'a> {
 
 impl<'a> Model for ImageFile<'a> {
     ghost use Rattle.std.specs.Prelude.{◌+◌};
-    ghost use Rattle.bootcore.specs.ImageFileFacts.{ImageFileFacts, contents_of, faults_of};
+    ghost use Rattle.bootcore.specs.ImageFileFacts.{ImageFileFacts, sink_contents, sink_faults};
 
     ghost Value = { ImageFileFacts };
 
     ghost view = { λ f.
-        record { contents = contents_of f.sink; faults = f.not_created + faults_of f.sink } };
+        record { contents = sink_contents f.sink; faults = f.not_created + sink_faults f.sink } };
 }
 
 impl<'a> ImageFile<'a> {

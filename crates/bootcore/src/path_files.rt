@@ -1,6 +1,6 @@
 //! Files of the operating system.
 ghost use Rattle.std.specs.Prelude.{IfOk};
-ghost use Rattle.bl_boot.specs.Files.{IsRead};
+ghost use Rattle.bl_boot.specs.Files.{IsReadWhole};
 
 use bl_boot::{AskedNames, FILE_LIMIT, Fetched, Files};
 use bl_mem::Bytes;
@@ -20,7 +20,7 @@ pub fn read_file<R: rt::Files, A: Allocator>(
     path: &str,
     limit: u64,
 ) -> io::Result<Fetched<A>>
-    ensures { IfOk result (IsRead limit) }
+    ensures { IfOk result (IsReadWhole limit) }
 {
     let metadata = fs::metadata(rt, path)?;
     if !metadata.is_file() {

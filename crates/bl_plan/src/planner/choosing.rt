@@ -4,10 +4,10 @@ ghost use Rattle.bl_map.specs.Limits.{usable_limit};
 ghost use Rattle.bl_plan.specs.Permitted.{IsPermitted, IsAtSide, IsPreferred, HasNoRoom};
 ghost use Rattle.bl_plan.specs.Permitted.{OrNoMemory};
 ghost use Rattle.bl_plan.specs.Planned.{with_taken};
-ghost use Rattle.bl_plan.specs.Placed.{IsRow, IsChosen, HasFault};
+ghost use Rattle.bl_plan.specs.Placed.{IsRow, IsChosen, HasChoiceFault};
 
 use crate::fault::PlanFault;
-use crate::part::{Choice, Row, Side};
+use crate::part::{Choice, Row, Side, Window};
 use crate::planner::Planner;
 use crate::search::{is_permitted, place_at_side};
 use std::alloc::Allocator;
@@ -44,7 +44,8 @@ impl<'m, A: Allocator> Planner<'m, A> {
         ensures unchanged { OnErr result (self.new ≡ self.old) }
     {
         let taken = self.taken.as_slice();
-        match place_at_side(self.machine, taken, length, align, low, high, side) {
+        let window = Window { align, low, high };
+        match place_at_side(self.machine, taken, length, window, side) {
             None => Err(PlanFault::NoRoom),
             Some(at) => {
                 self.take(at..at + length)?;
@@ -78,7 +79,8 @@ impl<'m, A: Allocator> Planner<'m, A> {
         ensures unchanged { OnErr result (self.new ≡ self.old) }
     {
         let taken = self.taken.as_slice();
-        if !is_permitted(self.machine, taken, at, length, align, low, high) {
+        let window = Window { align, low, high };
+        if !is_permitted(self.machine, taken, at, length, window) {
             return self.place(length, align, low, high, Side::Lowest);
         }
         self.take(at..at + length)?;
@@ -95,7 +97,8 @@ impl<'m, A: Allocator> Planner<'m, A> {
             self.new ≡ with_taken self.old (record { start = a; end = a + row.now.length })) }
         ensures below { IfOk result (λ a. a + row.now.length ≤ usable_limit) }
         ensures fault { IfErr result
-            (OrNoMemory (HasFault self.old.facts self.old.taken row.now.length row.now.choice)) }
+            (OrNoMemory
+            (HasChoiceFault self.old.facts self.old.taken row.now.length row.now.choice)) }
         ensures unchanged { OnErr result (self.new ≡ self.old) }
     {
         match row.choice {

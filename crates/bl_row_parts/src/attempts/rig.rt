@@ -9,7 +9,7 @@ use bl_mem::{PhysMem, Sparse};
 use bl_refusing::Refusing;
 use bl_rows::calls::memory::give_room;
 use bl_rows::row::Row;
-use bl_session::{Event, Menu, Progress, Session};
+use bl_session::{Event, Menu, Progress, Request, Session, Ticket};
 use std::marker::Model;
 use std::ops::Range;
 
@@ -47,6 +47,15 @@ fn say_progress(row: &mut Row<'_>, progress: Progress) {
         Progress::Done => row.say("done"),
         Progress::Failed => row.say("failed"),
     }
+}
+
+/// A piece that is awaited: its file's index in the menu, its ticket, its length.
+fn say_request(row: &mut Row<'_>, request: &Request) {
+    row.say_number("file ", request.file as u64);
+    row.say_number(" ticket ", request.ticket.attempt as u64);
+    row.say_number(".", request.ticket.file as u64);
+    row.say_number(".", request.ticket.piece as u64);
+    row.say_number(" length ", request.len as u64);
 }
 
 impl<'a, 'h> Rig<'a, 'h> {
@@ -92,6 +101,27 @@ impl<'a, 'h> Rig<'a, 'h> {
         let pool = self.machine.pool();
         match self.session.outcome() {
             Some(end) => say_end(row, &self.memory, &pool, end),
+            None => row.say("none"),
+        }
+    }
+
+    /// Whether an attempt waits for pieces.
+    pub fn say_waiting(&self, row: &mut Row<'_>) {
+        row.say(if self.session.is_waiting() {
+            "yes"
+        } else {
+            "no"
+        });
+    }
+
+    /// The first piece that is awaited, or the first one after that of a ticket, or `none`.
+    pub fn say_missing(&self, row: &mut Row<'_>, after: Option<Ticket>) {
+        let request = match after {
+            Some(ticket) => self.session.missing_after(ticket),
+            None => self.session.missing(),
+        };
+        match request {
+            Some(request) => say_request(row, &request),
             None => row.say("none"),
         }
     }

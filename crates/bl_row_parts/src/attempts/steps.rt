@@ -1,7 +1,9 @@
 //! `session MENU .. do STEP; STEP ..`: a session that is told one letter after the other.
 //!
-//! A step is a letter (`start`, `piece A.F.P BYTES`, `fault A.F.P`), `outcome`, `outside` (whether
-//! memory outside the pool and the parts is as it was), or `read AT LENGTH`.
+//! A step is a letter (`start`, `piece A.F.P BYTES`, `fault A.F.P`), `waiting`, `missing` (the
+//! piece that is awaited first), `missing A.F.P` (the first one after that of this ticket),
+//! `outcome`, `outside` (whether memory outside the pool and the parts is as it was), or
+//! `read AT LENGTH`.
 
 use crate::attempts::boot_fields::read_fields;
 use crate::attempts::rig::Rig;
@@ -25,6 +27,16 @@ fn step(row: &mut Row<'_>, rig: &mut Rig<'_, '_>) {
             let word = row.word();
             let ticket = ticket_of(row, word);
             rig.event(row, Event::Fault(ticket));
+        }
+        "waiting" => rig.say_waiting(row),
+        "missing" => {
+            let word = row.word();
+            let after = if word.is_empty() {
+                None
+            } else {
+                Some(ticket_of(row, word))
+            };
+            rig.say_missing(row, after);
         }
         "outcome" => rig.say_end(row),
         "outside" => rig.say_outside(row),

@@ -8,7 +8,7 @@
 //! - `read_params BYTES`: what boot parameters tell, or their first fault.
 //! - `gdt`: the descriptors.
 ghost use Rattle.std.specs.Prelude.{◌≤◌, ◌^◌, All, IsTrue};
-ghost use Rattle.bl_map.specs.Kinds.{end_of};
+ghost use Rattle.bl_map.specs.Kinds.{region_end};
 
 use crate::row::Row;
 use bl_bzimage::{Setup, SetupFault, read_setup};
@@ -84,7 +84,7 @@ fn say_pieces(row: &mut Row<'_>, bytes: &[u8]) {
 const MOST_END: u64 = 1 << 52;
 
 fn are_low(runs: &[Region]) -> bool
-    ensures { IsTrue result → All (λ run. end_of run ≤ 2 ^ 52) runs.now }
+    ensures { IsTrue result → All (λ run. region_end run ≤ 2 ^ 52) runs.now }
 {
     runs.iter().all(|run| run.base <= MOST_END && run.length <= MOST_END - run.base)
 }

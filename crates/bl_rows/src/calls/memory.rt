@@ -1,5 +1,5 @@
 //! `memory size=SIZE fill=BYTE STEP; STEP ..` and `sparse ..`: one step after the other on new
-//! memory in one block, or on memory that keeps only the chunks which have room.
+//! memory in one block, or on memory that keeps only the frames which have room.
 ghost use Rattle.std.specs.Prelude.{All, IsTrue, length, ◌≤◌};
 ghost use Rattle.bl_mem.specs.Memory.{HasRoom};
 
@@ -132,7 +132,7 @@ fn make_steps<M: PhysMem>(row: &mut Row<'_>, memory: &mut M) {
     }
 }
 
-/// Makes the steps on memory that keeps only some chunks, or in one block.
+/// Makes the steps on memory that keeps only some frames, or in one block.
 pub fn answer(row: &mut Row<'_>, is_sparse: bool) {
     let size = row.number_field("size");
     let fill = row.byte_field("fill");

@@ -1,7 +1,7 @@
 //! `stage sizes=N,N frames=A,B STEP; STEP ..`: files of these sizes staged in these frames of the
 //! machine's pool, or with `frames=any` in frames that the stage chooses; then one step after the
 //! other. The memory has the machine's size, is a5 everywhere and one block; that of
-//! `sparse_stage ..` keeps only the chunks which have room.
+//! `sparse_stage ..` keeps only the frames which have room.
 ghost use Rattle.std.specs.Prelude.{All, IsTrue, ◌≡◌, ◌≤◌, ◌<◌, ◌%◌, length};
 ghost use Rattle.bl_stage.specs.Staged.{AreApart};
 ghost use Rattle.bl_map.specs.Room.{frames_for};

@@ -4,9 +4,9 @@ ghost use Rattle.bl_load.specs.Value.{IsCopy, IsWithinLimits};
 ghost use Rattle.bl_session.specs.Attempts.{IsSmall, NameEntries};
 ghost use Rattle.bl_session.specs.declared.menu.fault.MenuFault.TheVariants.{NoMemory};
 
-use bl_load::{Entry, MOST_COPY};
+use bl_load::{Entry, MAX_COPY};
 use bl_mem::Bytes;
-use bl_plan::{MOST_ENTRIES, MOST_MODULES};
+use bl_plan::{MAX_ENTRIES, MAX_MODULES};
 use std::alloc::{AllocError, AllocFailed, Allocator};
 use thiserror::Error;
 
@@ -58,7 +58,7 @@ fn is_copy<A: Allocator>(copy: &Option<Bytes<A>>) -> bool
     ensures { IsTrue result ↔ IfSome copy.now IsCopy }
 {
     match copy {
-        Some(bytes) => !bytes.is_empty() && bytes.len() <= MOST_COPY,
+        Some(bytes) => !bytes.is_empty() && bytes.len() <= MAX_COPY,
         None => true,
     }
 }
@@ -74,7 +74,7 @@ fn is_within_limits<A: Allocator>(entry: &Entry<A>) -> bool
             rsdp_old,
             rsdp_new,
             ..
-        } => modules.len() <= MOST_MODULES && is_copy(rsdp_old) && is_copy(rsdp_new),
+        } => modules.len() <= MAX_MODULES && is_copy(rsdp_old) && is_copy(rsdp_new),
         Entry::Linux { .. } => true,
     }
 }
@@ -91,7 +91,7 @@ fn are_within_limits<A: Allocator>(entries: &[Entry<A>]) -> bool
 pub(crate) fn is_small<A: Allocator>(entries: &[Entry<A>]) -> bool
     ensures { IsTrue result ↔ IsSmall entries.now }
 {
-    entries.len() <= MOST_ENTRIES && are_within_limits(entries)
+    entries.len() <= MAX_ENTRIES && are_within_limits(entries)
 }
 
 /// Whether each index names one of so many entries.

@@ -2,7 +2,7 @@
 ghost use Rattle.std.specs.Prelude.{◌≡◌, ℕ, ◌+◌, ◌*◌, ◌<◌, ◌≤◌, ◌↔◌, length, slice_index, IfErr};
 ghost use Rattle.std.specs.Prelude.{◌/◌, ◌%◌, ◌^◌, IfOk, All, List, Err, map};
 ghost use Rattle.bl_map.specs.Room as room;
-ghost use Rattle.bl_stage.specs.Staged.{AreStaged, fresh, AreApart};
+ghost use Rattle.bl_stage.specs.Staged.{AreStaged, empty_stage, AreApart};
 ghost use Rattle.bl_map.specs.Room.{frames_for};
 
 use crate::cell::Cell;
@@ -31,7 +31,7 @@ impl<A: Allocator + Copy> Stage<A> {
         requires high { (k : ℕ) → k < length frames.items
             → slice_index frames.items k < pool.end / 4096 }
         requires apart { AreApart frames.items }
-        ensures ok { IfOk result (λ stage. stage ≡ fresh pool sizes.now frames.items) }
+        ensures ok { IfOk result (λ stage. stage ≡ empty_stage pool sizes.now frames.items) }
         ensures err { IfErr result (λ fault. fault ≡ StageFault.NoMemory) }
     {
         let base = pool.start / FRAME;
@@ -69,7 +69,7 @@ impl<A: Allocator + Copy> Stage<A> {
             × (frame < machine.now.pool.end)) frames.now }
         requires apart { AreApart frames.now }
         ensures ok { IfOk result (λ stage. stage
-            ≡ fresh machine.now.pool sizes.now (map (λ frame. frame / 4096) frames.now)) }
+            ≡ empty_stage machine.now.pool sizes.now (map (λ frame. frame / 4096) frames.now)) }
         ensures err { IfErr result (λ fault. fault ≡ StageFault.NoMemory) }
     {
         let pool = machine.pool();
@@ -89,7 +89,7 @@ impl<A: Allocator + Copy> Stage<A> {
         ensures no_pool { (result ≡ Err StageFault.NoPool)
             ↔ (room.frames_in machine.now.pool < frames_for sizes.now) }
         ensures ok { IfOk result (λ stage. (frames : List ℕ)
-            × (stage ≡ fresh machine.now.pool sizes.now frames)) }
+            × (stage ≡ empty_stage machine.now.pool sizes.now frames)) }
         ensures staged { IfOk result AreStaged }
     {
         let pool = machine.pool();

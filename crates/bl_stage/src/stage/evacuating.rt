@@ -1,9 +1,9 @@
 //! The files' frames make way for ranges.
 ghost use Rattle.std.specs.Prelude.{◌≡◌, ℕ, ◌<◌, ◌↔◌, length, slice_index, IsErr, IfErr, OnErr};
 ghost use Rattle.std.specs.Prelude.{OnOk, false};
-ghost use Rattle.bl_mem.specs.Memory.{HasRoom, KeepsRoom};
+ghost use Rattle.bl_mem.specs.Memory.{HasRoom, KeepsMemory};
 ghost use Rattle.bl_map.specs.Room as room;
-ghost use Rattle.bl_stage.specs.Staged.{file_of, with_frames, AreStaged, HasPool};
+ghost use Rattle.bl_stage.specs.Staged.{staged_file, with_frames, AreStaged, HasPool};
 ghost use Rattle.bl_map.specs.Room.{frames_for};
 ghost use Rattle.bl_stage.specs.Spots.{spots};
 ghost use Rattle.bl_stage.specs.Ranges.{meets, IsSameOutside};
@@ -41,14 +41,13 @@ impl<A: Allocator> Stage<A> {
             → meets ranges.now (slice_index self.old.frames k) ≡ false
             → slice_index self.new.frames k ≡ slice_index self.old.frames k) }
         ensures files { OnOk result ((file : ℕ) → file < length self.old.sizes
-            → file_of (M.bytes memory.new) self.new file
-            ≡ file_of (M.bytes memory.old) self.old file) }
+            → staged_file (M.bytes memory.new) self.new file
+            ≡ staged_file (M.bytes memory.old) self.old file) }
         ensures spots { OnOk result (spots (M.bytes memory.new) self.new
             ≡ spots (M.bytes memory.old) self.old) }
         ensures staged { AreStaged self.new }
         ensures outside { IsSameOutside self.old.pool (M.bytes memory.old) (M.bytes memory.new) }
-        ensures size { length (M.bytes memory.new) ≡ length (M.bytes memory.old) }
-        ensures kept { KeepsRoom (M.room memory.old) (M.room memory.new) }
+        ensures kept { KeepsMemory M.lender M.bytes M.room memory.old memory.new }
     {
         let made = make_way(
             memory,

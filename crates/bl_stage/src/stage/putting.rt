@@ -1,9 +1,9 @@
 //! A piece is put into its frame.
 ghost use Rattle.std.specs.Prelude.{◌≡◌, ◌≢◌, ℕ, ◌+◌, ◌*◌, ◌<◌, ◌≤◌, IfSome, length, slice_index};
 ghost use Rattle.std.specs.Prelude.{if◌then◌else◌, Some, None};
-ghost use Rattle.bl_mem.specs.Memory.{overwrite, HasRoom, KeepsRoom};
-ghost use Rattle.bl_stage.specs.Staged.{file_of, AreStaged, HasPool};
-ghost use Rattle.bl_stage.specs.Pieces.{is_piece, slot_in, put_answer, with_piece};
+ghost use Rattle.bl_mem.specs.Memory.{overwrite, HasRoom, KeepsMemory};
+ghost use Rattle.bl_stage.specs.Staged.{staged_file, AreStaged, HasPool};
+ghost use Rattle.bl_stage.specs.Pieces.{is_piece, slot_in, put_answer, stage_with};
 ghost use Rattle.bl_stage.specs.Spots.{spots, put_spot};
 ghost use Rattle.bl_stage.specs.Ranges.{IsSameOutside};
 
@@ -66,14 +66,14 @@ impl<A: Allocator> Stage<A> {
         requires inside { HasPool (M.bytes memory.old) self.old.pool }
         requires room { HasRoom (M.room memory.old) self.old.pool.start self.old.pool.end }
         ensures answer { result ≡ put_answer self.old file index (length bytes.now) }
-        ensures stored { result ≡ Put.Stored → self.new ≡ with_piece self.old file index }
+        ensures stored { result ≡ Put.Stored → self.new ≡ stage_with self.old file index }
         ensures in_file { result ≡ Put.Stored
-            → file_of (M.bytes memory.new) self.new file
-            ≡ overwrite (file_of (M.bytes memory.old) self.old file) (4096 * index) bytes.now }
+            → staged_file (M.bytes memory.new) self.new file
+            ≡ overwrite (staged_file (M.bytes memory.old) self.old file) (4096 * index) bytes.now }
         ensures in_others { result ≡ Put.Stored
             → (other : ℕ) → other < length self.old.sizes → other ≢ file
-            → file_of (M.bytes memory.new) self.new other
-            ≡ file_of (M.bytes memory.old) self.old other }
+            → staged_file (M.bytes memory.new) self.new other
+            ≡ staged_file (M.bytes memory.old) self.old other }
         ensures spots { result ≡ Put.Stored
             → spots (M.bytes memory.new) self.new
             ≡ put_spot (M.bytes memory.old) self.old file index bytes.now }
@@ -81,8 +81,7 @@ impl<A: Allocator> Stage<A> {
             → (self.new ≡ self.old) × (M.bytes memory.new ≡ M.bytes memory.old) }
         ensures staged { AreStaged self.new }
         ensures outside { IsSameOutside self.old.pool (M.bytes memory.old) (M.bytes memory.new) }
-        ensures size { length (M.bytes memory.new) ≡ length (M.bytes memory.old) }
-        ensures kept { KeepsRoom (M.room memory.old) (M.room memory.new) }
+        ensures kept { KeepsMemory M.lender M.bytes M.room memory.old memory.new }
     {
         let Some(slot) = self.slot_of(file, index, bytes.len()) else {
             return Put::Strange;

@@ -1,7 +1,7 @@
 use Rattle.std.proofs.Common.{◌∙◌, map, arith}
 use Rattle.std.proofs.lemmas.Result.{err_from_is_err_and}
 use Rattle.bl_desc.specs.Values.{in_table}
-use Rattle.bl_desc.specs.Entries.{entry_in}
+use Rattle.bl_desc.specs.Entries.{menu_entry_in}
 use Rattle.bl_desc.specs.Views.{entry_view}
 use Rattle.bl_desc.proofs.ItemLemmas.{one_more, all_read, one_fails}
 use Rattle.bl_desc.proofs.entries.entries_in.Goals as goal
@@ -9,7 +9,7 @@ use Rattle.bl_desc.proofs.entries.entries_in.Goals as goal
 pub loop-item-preserved : goal.loop-item-preserved
 loop-item-preserved g c =
     let one =
-    one_more entry_view (in_table entry_in) c.args.items.now c.loop-item.item-index
+    one_more entry_view (in_table menu_entry_in) c.args.items.now c.loop-item.item-index
     c.item-item.result
     c.loop-item.entries.items c.push.new.self.items c.in_ok-entry.entry
     c.loop-item-test.true c.item-item.is c.in_ok-entry.ensures c.in_ok-push.ensures.items in
@@ -17,7 +17,7 @@ loop-item-preserved g c =
 
 pub returns : goal.returns
 returns g c =
-    all_read (in_table entry_in) c.args.items.now c.loop-item.item-index
+    all_read (in_table menu_entry_in) c.args.items.now c.loop-item.item-index
     (map entry_view c.loop-item.entries.items)
     (omega (arith, c.loop-item-test.false)) c.loop-item.invariant
 
@@ -25,6 +25,6 @@ pub returns-in_err-entry : goal.returns-in_err-entry
 returns-in_err-entry g c =
     let p = err_from_is_err_and c.from_residual.result c.from_residual.ensures.1 in
     rw (p.1, p.2)
-    (one_fails (in_table entry_in) c.args.items.now c.loop-item.item-index c.item-item.result
+    (one_fails (in_table menu_entry_in) c.args.items.now c.loop-item.item-index c.item-item.result
     (map entry_view c.loop-item.entries.items) _ c.loop-item-test.true c.item-item.is
     c.in_err-entry.ensures c.loop-item.invariant)

@@ -1,6 +1,6 @@
 use Rattle.std.proofs.Common.{◌≡◌, ◌<◌, [], ◌∷◌, ◌++◌, length, map, sym, ap, ◌∙◌, arith}
 use Rattle.std.proofs.lemmas.Result.{err_from_is_err_and}
-use Rattle.bl_image.specs.ImageParts.{place_of}
+use Rattle.bl_image.specs.ImageParts.{part_place}
 use Rattle.bl_image.proofs.Inputs.{comes_more, comes_as}
 use Rattle.bl_image.proofs.PartLemmas.{all_bytes, part_cut, places_more, bytes_more}
 use Rattle.bl_image.proofs.part_reader.read_parts.Goals as goal
@@ -24,7 +24,7 @@ loop-i-preserved g c =
           comes_as (sym (ap all_bytes e ∙ bytes_more old part))
           (comes_more c.loop-i.invariant.came c.in_ok-part.ensures.ok);
       are =
-          ap (map place_of) e
+          ap (map part_place) e
           ∙ places_more c.args.places.now old c.loop-i.i _ part c.loop-i.invariant.are
           inside c.in_ok-part.ensures.place;
       faults = omega (arith, c.in_ok-part.ensures.faults, c.loop-i.invariant.faults);

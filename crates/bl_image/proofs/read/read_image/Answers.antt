@@ -1,14 +1,201 @@
-use Rattle.bl_image.proofs.KnownLemmas.{known_by}
+use Rattle.std.proofs.Common.{Ok, ◌≡◌, ◌≤◌, ◌^◌, ℕ, Bool, All, length, sym, ap, ◌∙◌, subst, arith}
+use Rattle.std.proofs.lemmas.Result.{err_from_is_err_and}
+use Rattle.bl_image.specs.Image.{head, spelling}
+use Rattle.bl_image.specs.ImageParts.{IsKeptByImages}
+use Rattle.bl_image.specs.ImageFaults.{image_fault, parts_fault, none_before, end_fault}
+use Rattle.bl_image.specs.RecordsKept.{bytes_at}
+use Rattle.bl_plan.specs.declared.part.Place.{Place}
+use Rattle.bl_plan.specs.declared.protocol.Protocol.{Protocol}
+use Rattle.bl_load.specs.declared.registers.Registers.{Registers}
+use Rattle.bl_load.specs.Handover.{Handover}
+use Rattle.bl_load.specs.HandoffFacts.{MayStand}
+use Rattle.bl_load.specs.Protocols.{is_wide}
+use Rattle.bl_image.specs.declared.version.Version.{Version}
+use Rattle.bl_image.specs.Layouts.{most_role}
+use Rattle.bl_image.specs.Source.{Input, Comes}
+use Rattle.bl_image.specs.Spellable.{FitsRegisters}
+use Rattle.bl_image.specs.Versions.{HasProtocol}
+use Rattle.bl_image.proofs.Inputs.{comes_more, comes_as}
+use Rattle.bl_image.proofs.FieldLemmas.{Passed, passed_more, passed_refuses, cut_refuses}
+use Rattle.bl_image.proofs.FrontLemmas.{head_front, head_refuses}
+use Rattle.bl_image.proofs.PartLemmas.{all_bytes, end_short, end_more, parts_size, spelled_by}
+use Rattle.bl_image.proofs.PartLemmas.{parts_kept, image_kept}
+use Rattle.bl_image.proofs.SoundLemmas.{sound_kept}
+use Rattle.bl_image.proofs.KnownLemmas.{known_ok, known_err}
 use Rattle.bl_image.proofs.ImageLaws.{accepted_by}
 use Rattle.bl_image.proofs.read.read_image.Goals as goal
 
+-- a head came, and leaves the parts to be judged
+fronted : {old new : Input} (v : Version) (p : Protocol) (r : Registers) (count : ℕ) (wide : Bool)
+    → Comes old new (head v p r count) → HasProtocol v p → FitsRegisters p r → count ≤ 256
+    → wide ≡ is_wide p
+    → Passed image_fault old new (parts_fault (most_role wide) count none_before)
+fronted v p r count wide comes has fit few same = record {
+  done = _;
+  comes = comes;
+  on =
+      λ bytes.
+      head_front v p r count bytes has fit few
+      ∙ ap (λ (b : Bool). parts_fault (most_role b) count none_before bytes) (sym same);
+}
+
+pub returns-in_err-head-clause-refused : goal.returns-in_err-head-clause-refused
+returns-in_err-head-clause-refused g c =
+    let p = err_from_is_err_and c.from_residual.result c.from_residual.ensures.1 in
+    rw (p.1, p.2) (head_refuses _ _ _ c.in_err-head.ensures.refused)
+
+pub returns-in_err-places-clause-refused : goal.returns-in_err-places-clause-refused
+returns-in_err-places-clause-refused g c =
+    let p =
+    err_from_is_err_and c.from_residual-in_err-places.result
+    c.from_residual-in_err-places.ensures.1 in
+    let head = c.in_ok-head.head in
+    let wide = c.are_wide.ensures ∙ c.in_ok-head.ensures.fit.0 in
+    let front : Passed image_fault _ _
+    (parts_fault (most_role c.are_wide.result) head.count none_before) =
+    fronted head.version head.protocol head.registers head.count c.are_wide.result
+    c.in_ok-head.ensures.ok c.in_ok-head.ensures.has c.in_ok-head.ensures.fit
+    c.in_ok-head.ensures.few wide in
+    rw (p.1, p.2) (passed_refuses front _ _ c.in_err-places.ensures.refused)
+
+pub returns-in_err-parts-clause-refused : goal.returns-in_err-parts-clause-refused
+returns-in_err-parts-clause-refused g c =
+    let p =
+    err_from_is_err_and c.from_residual-in_err-parts.result
+    c.from_residual-in_err-parts.ensures.1 in
+    let head = c.in_ok-head.head in
+    let places = c.in_ok-places.places.items in
+    let wide = c.are_wide.ensures ∙ c.in_ok-head.ensures.fit.0 in
+    let front : Passed image_fault _ _
+    (parts_fault (most_role c.are_wide.result) head.count none_before) =
+    fronted head.version head.protocol head.registers head.count c.are_wide.result
+    c.in_ok-head.ensures.ok c.in_ok-head.ensures.has c.in_ok-head.ensures.fit
+    c.in_ok-head.ensures.few wide in
+    let passed : Passed image_fault _ _ (end_fault (bytes_at places)) =
+    passed_more _ front c.in_ok-places.ensures.ok c.in_ok-places.ensures.judged in
+    let cut = rw c.deref.ensures.value at c.in_err-parts.ensures.cut in
+    rw (p.1, p.2)
+    (passed_refuses passed
+    _ _ (cut_refuses (end_fault (bytes_at places)) _ _ (bytes_at places)
+    _ (end_short (bytes_at places)) cut))
+
+pub returns-in_err-read_end-clause-refused : goal.returns-in_err-read_end-clause-refused
+returns-in_err-read_end-clause-refused g c =
+    let p =
+    err_from_is_err_and c.from_residual-in_err-read_end.result
+    c.from_residual-in_err-read_end.ensures.1 in
+    let head = c.in_ok-head.head in
+    let places = c.in_ok-places.places.items in
+    let parts = c.in_ok-parts.parts.items in
+    let wide = c.are_wide.ensures ∙ c.in_ok-head.ensures.fit.0 in
+    let front : Passed image_fault _ _
+    (parts_fault (most_role c.are_wide.result) head.count none_before) =
+    fronted head.version head.protocol head.registers head.count c.are_wide.result
+    c.in_ok-head.ensures.ok c.in_ok-head.ensures.has c.in_ok-head.ensures.fit
+    c.in_ok-head.ensures.few wide in
+    let passed : Passed image_fault _ _ (end_fault (bytes_at places)) =
+    passed_more _ front c.in_ok-places.ensures.ok c.in_ok-places.ensures.judged in
+    let size : length (all_bytes parts) ≡ bytes_at places =
+    parts_size parts ∙ ap bytes_at (c.in_ok-parts.ensures.places ∙ c.deref.ensures.value) in
+    let left : Passed image_fault _ _ (end_fault 0) =
+    passed_more _ passed c.in_ok-parts.ensures.ok
+    (λ bytes. end_more (bytes_at places) (all_bytes parts) bytes size) in
+    rw (p.1, p.2) (passed_refuses left _ _ c.in_err-read_end.ensures.refused)
+
+pub read_parts-requires-clause-few : goal.read_parts-requires-clause-few
+read_parts-requires-clause-few g c =
+    rw c.deref.ensures.value
+    (λ k d within. let low = c.in_ok-places.ensures.sound.below k d within in omega arith)
+
+pub new-requires : goal.new-requires
+new-requires g c =
+    let head = c.in_ok-head.head in
+    let places = c.in_ok-places.places.items in
+    let few : length places ≤ 256 =
+    omega (arith, c.in_ok-places.ensures.count, c.in_ok-head.ensures.few) in
+    let roles : All (λ (p : Place). MayStand (is_wide head.protocol) p.role) places =
+    subst (λ (b : Bool). All (λ (p : Place). MayStand b p.role) places)
+    (c.are_wide.ensures ∙ c.in_ok-head.ensures.fit.0) c.in_ok-places.ensures.may in
+    parts_kept head.protocol head.registers places c.in_ok-parts.parts.items
+    (c.in_ok-parts.ensures.places ∙ c.deref.ensures.value)
+    (sound_kept head.protocol head.registers places (2 ^ 32) c.in_ok-head.ensures.fit.0 roles few
+    c.in_ok-places.ensures.sound)
+
+pub returns-clause-ok : goal.returns-clause-ok
+returns-clause-ok g c =
+    let head = c.in_ok-head.head in
+    let came =
+    comes_more
+    (comes_more (comes_more c.in_ok-head.ensures.ok c.in_ok-places.ensures.ok)
+    c.in_ok-parts.ensures.ok) c.in_ok-read_end.ensures.ok in (
+      head.version,
+      subst (λ (p : Protocol). HasProtocol head.version p)
+          (ap (λ (h : Handover). h.protocol) (sym c.new.ensures)) c.in_ok-head.ensures.has,
+      comes_as
+          (spelled_by head.version head.protocol head.registers head.count
+          c.in_ok-places.places.items c.in_ok-parts.parts.items
+          (c.in_ok-parts.ensures.places ∙ c.deref.ensures.value) c.in_ok-places.ensures.count
+          ∙ ap (spelling head.version) (sym c.new.ensures)) came,
+    )
+
+pub returns-clause-kept : goal.returns-clause-kept
+returns-clause-kept g c =
+    let head = c.in_ok-head.head in
+    let places = c.in_ok-places.places.items in
+    let few : length places ≤ 256 =
+    omega (arith, c.in_ok-places.ensures.count, c.in_ok-head.ensures.few) in
+    let roles : All (λ (p : Place). MayStand (is_wide head.protocol) p.role) places =
+    subst (λ (b : Bool). All (λ (p : Place). MayStand b p.role) places)
+    (c.are_wide.ensures ∙ c.in_ok-head.ensures.fit.0) c.in_ok-places.ensures.may in
+    subst IsKeptByImages (sym c.new.ensures)
+    (image_kept head.protocol head.registers places
+    c.in_ok-parts.parts.items (c.in_ok-parts.ensures.places ∙ c.deref.ensures.value)
+    (sound_kept head.protocol head.registers places (2 ^ 32) c.in_ok-head.ensures.fit.0 roles few
+    c.in_ok-places.ensures.sound)
+    c.in_ok-places.ensures.sound.fit c.in_ok-head.ensures.fit.1)
+
+pub returns-in_err-head-clause-known : goal.returns-in_err-head-clause-known
+returns-in_err-head-clause-known g c =
+    known_err c.from_residual.result (g.S.Source.input c.args.source.now) _ _
+    c.from_residual.ensures.1 (returns-in_err-head-clause-refused g c)
+
+pub returns-in_err-head-clause-accepts : goal.returns-in_err-head-clause-accepts
+returns-in_err-head-clause-accepts g c bytes e =
+    accepted_by c.from_residual.result bytes (returns-in_err-head-clause-known g c bytes e)
+
+pub returns-in_err-places-clause-known : goal.returns-in_err-places-clause-known
+returns-in_err-places-clause-known g c =
+    known_err c.from_residual-in_err-places.result (g.S.Source.input c.args.source.now) _ _
+    c.from_residual-in_err-places.ensures.1 (returns-in_err-places-clause-refused g c)
+
+pub returns-in_err-places-clause-accepts : goal.returns-in_err-places-clause-accepts
+returns-in_err-places-clause-accepts g c bytes e =
+    accepted_by c.from_residual-in_err-places.result bytes (returns-in_err-places-clause-known g c bytes e)
+
+pub returns-in_err-parts-clause-known : goal.returns-in_err-parts-clause-known
+returns-in_err-parts-clause-known g c =
+    known_err c.from_residual-in_err-parts.result (g.S.Source.input c.args.source.now) _ _
+    c.from_residual-in_err-parts.ensures.1 (returns-in_err-parts-clause-refused g c)
+
+pub returns-in_err-parts-clause-accepts : goal.returns-in_err-parts-clause-accepts
+returns-in_err-parts-clause-accepts g c bytes e =
+    accepted_by c.from_residual-in_err-parts.result bytes (returns-in_err-parts-clause-known g c bytes e)
+
+pub returns-in_err-read_end-clause-known : goal.returns-in_err-read_end-clause-known
+returns-in_err-read_end-clause-known g c =
+    known_err c.from_residual-in_err-read_end.result (g.S.Source.input c.args.source.now) _ _
+    c.from_residual-in_err-read_end.ensures.1 (returns-in_err-read_end-clause-refused g c)
+
+pub returns-in_err-read_end-clause-accepts : goal.returns-in_err-read_end-clause-accepts
+returns-in_err-read_end-clause-accepts g c bytes e =
+    accepted_by c.from_residual-in_err-read_end.result bytes (returns-in_err-read_end-clause-known g c bytes e)
+
 pub returns-clause-known : goal.returns-clause-known
 returns-clause-known g c =
-    known_by _ _ _ c.read_whole.ensures.ok c.read_whole.ensures.ended c.read_whole.ensures.kept
-    c.read_whole.ensures.refused
+    known_ok c.new.result (g.S.Source.input c.args.source.now)
+    (g.S.Source.input c.read_end.new.source) (returns-clause-ok g c)
+    c.in_ok-read_end.ensures.ended (returns-clause-kept g c)
 
 pub returns-clause-accepts : goal.returns-clause-accepts
 returns-clause-accepts g c bytes e =
-    accepted_by _ bytes
-    (known_by _ _ _ c.read_whole.ensures.ok c.read_whole.ensures.ended c.read_whole.ensures.kept
-    c.read_whole.ensures.refused bytes e)
+    accepted_by (Ok c.new.result) bytes (returns-clause-known g c bytes e)

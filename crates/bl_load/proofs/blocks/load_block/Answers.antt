@@ -6,7 +6,8 @@ use Rattle.bl_load.specs.Blocks.{span_of}
 use Rattle.bl_load.specs.Parts.{no_segment}
 use Rattle.bl_load.proofs.BlockLemmas.{block_from}
 use Rattle.bl_load.proofs.BlockStepLemmas.{block_from_first, first_below, left_behind, gap_beside}
-use Rattle.bl_load.proofs.BlockStepLemmas.{segment_beside, step_size, block_step}
+use Rattle.bl_load.proofs.BlockStepLemmas.{segment_beside, block_step}
+use Rattle.bl_load.proofs.MemoryLemmas.{keeps_all, keeps_on}
 use Rattle.bl_load.proofs.blocks.load_block.Goals as goal
 
 pub loop-segment-init : goal.loop-segment-init
@@ -18,14 +19,13 @@ loop-segment-init g c =
     c.args.file) segments no_segment c.requires.some c.requires.copied
     c.requires.ascending in
     record {
-      size = refl;
       same = refl;
       above =
           λ k d from within. let low =
           first_below segments no_segment c.requires.ascending k d within in omega arith;
       count = simp (add-zero, zero-add) (sym first.0);
       rest = simp (add-zero, first.1);
-      kept = λ a had. had;
+      kept = keeps_all;
     }
 
 -- the files are as they were once zeros fill the gap
@@ -106,7 +106,8 @@ load_segment-requires-clause-room g c =
     let behind = left_behind text old c.args.at low done s rest copied up inside in
     λ a from to.
     let bound : a < c.args.at + span_of segments = omega arith in
-    c.zero.ensures.kept a (c.loop-segment.invariant.kept a (c.requires.room a (omega arith) bound))
+    c.zero.ensures.kept.room a
+    (c.loop-segment.invariant.kept.room a (c.requires.room a (omega arith) bound))
 
 pub loop-segment-preserved : goal.loop-segment-preserved
 loop-segment-preserved g c =
@@ -136,10 +137,6 @@ loop-segment-preserved g c =
     ≡ g.F.FileSet.texts c.args.files.now (g.M.PhysMem.bytes c.args.memory.now) =
     rw c.zero.ensures.after same in
     record {
-      size =
-          rw (c.load_segment.ensures.after, kept, c.zero.ensures.after)
-          (step_size text old c.args.at low done s rest copied up inside
-          ∙ c.loop-segment.invariant.size);
       same = c.load_segment.ensures.texts ∙ kept;
       above =
           λ k d next within. let ahead =
@@ -150,7 +147,6 @@ loop-segment-preserved g c =
           rw (c.load_segment.ensures.after, kept, c.zero.ensures.after)
           (block_step text old c.args.at low done s rest copied up inside ∙ whole);
       kept =
-          λ a had.
-          c.load_segment.ensures.kept a
-          (c.zero.ensures.kept a (c.loop-segment.invariant.kept a had));
+          keeps_on (keeps_on c.loop-segment.invariant.kept c.zero.ensures.kept)
+          c.load_segment.ensures.kept;
     }

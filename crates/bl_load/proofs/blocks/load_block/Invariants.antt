@@ -1,7 +1,7 @@
 use Rattle.std.proofs.Common.{◌≡◌, ◌+◌, ◌≤◌, ◌<◌, ℕ, length, drop, get_or}
 use Rattle.bl_mem.specs.declared.segment.Segment.{Segment}
 use Rattle.bl_mem.specs.Files.{text_at}
-use Rattle.bl_mem.specs.Memory.{overwrite, KeepsRoom}
+use Rattle.bl_mem.specs.Memory.{overwrite, KeepsMemory}
 use Rattle.bl_load.specs.Blocks.{span_of, block_of}
 use Rattle.bl_load.proofs.BlockLemmas.{block_from}
 use Rattle.bl_load.proofs.blocks.load_block.Given as goal
@@ -10,17 +10,15 @@ use Rattle.bl_load.proofs.blocks.load_block.Given as goal
 abbrev pub invariant-loop-segment : goal.invariant-loop-segment
 invariant-loop-segment g l =
     let bytes = g.M.PhysMem.bytes in
-    let room = g.M.PhysMem.room in
     let texts = g.F.FileSet.texts l.files in
     let text = text_at (texts (bytes l.fn.memory)) l.file in
     let left = block_from text (l.low + l.done) (drop l.segment-index l.segments) in
     record {
-      size : length (bytes l.memory) ≡ length (bytes l.fn.memory);
       same : texts (bytes l.memory) ≡ texts (bytes l.fn.memory);
       above : (k : ℕ) (d : Segment) → l.segment-index ≤ k → k < length l.segments
           → l.low + l.done ≤ (get_or l.segments k d).address;
       count : l.done + length left ≡ span_of l.segments;
       rest : overwrite (bytes l.memory) (l.at + l.done) left
           ≡ overwrite (bytes l.fn.memory) l.at (block_of text l.segments);
-      kept : KeepsRoom (room l.fn.memory) (room l.memory);
+      kept : KeepsMemory g.M.PhysMem.lender bytes g.M.PhysMem.room l.fn.memory l.memory;
     }

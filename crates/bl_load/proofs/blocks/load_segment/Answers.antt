@@ -1,6 +1,6 @@
 use Rattle.std.proofs.Common.{◌≡◌, ◌+◌, length, arith, slice_range, ◌∙◌}
 use Rattle.bl_mem.specs.Files.{text_at}
-use Rattle.bl_mem.proofs.Overwrites.{beside_zeros, length-overwrite}
+use Rattle.bl_mem.proofs.Overwrites.{beside_zeros}
 use Rattle.bl_load.proofs.BlockLemmas.{length-filed}
 use Rattle.bl_load.proofs.WrittenLemmas.{zeros_behind}
 use Rattle.bl_load.proofs.blocks.load_segment.Goals as goal
@@ -22,10 +22,8 @@ returns-clause-texts g c =
     let old = g.M.PhysMem.bytes c.args.memory.now in
     let copied = g.M.PhysMem.bytes c.copy.new.memory in
     let text = text_at (g.F.FileSet.texts c.args.files.now old) c.args.file in
-    let piece = slice_range text segment.offset (segment.offset + segment.filesz) in
     let count = length-filed text segment c.requires.copied in
-    let size : length copied ≡ length old =
-    rw c.copy.ensures.after (length-overwrite old c.args.at piece (omega arith)) in
+    let size : length copied ≡ length old = c.copy.ensures.kept.size in
     rw c.zero.ensures.after
     (g.met.F.FileSet.same c.args.files.now copied
     _ (beside_zeros (g.F.FileSet.holds c.args.files.now) copied (c.args.at + segment.filesz)

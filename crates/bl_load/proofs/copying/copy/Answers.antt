@@ -1,11 +1,12 @@
-use Rattle.std.proofs.Common.{◌≡◌, ◌+◌, length, take, slice_range, arith, rules, ◌∙◌}
+use Rattle.std.proofs.Common.{◌≡◌, length, take, arith, rules, ◌∙◌}
 use Rattle.std.proofs.lemmas.List.{places}
 use Rattle.bl_mem.specs.Files.{text_at}
-use Rattle.bl_mem.proofs.Overwrites.{copy_more, length-overwrite}
+use Rattle.bl_mem.proofs.Overwrites.{copy_more}
+use Rattle.bl_load.proofs.MemoryLemmas.{keeps_on}
 use Rattle.bl_load.proofs.copying.copy.Goals as goal
 
 pub copy_piece-requires-clause-held : goal.copy_piece-requires-clause-held
-copy_piece-requires-clause-held g c = rw c.loop-done.invariant.size c.requires.held
+copy_piece-requires-clause-held g c = rw c.loop-done.invariant.kept.size c.requires.held
 
 pub copy_piece-requires-clause-file : goal.copy_piece-requires-clause-file
 copy_piece-requires-clause-file g c = rw c.loop-done.invariant.same c.requires.file
@@ -15,7 +16,7 @@ copy_piece-requires-clause-room g c =
     let next = c.min-next.result in
     let size : length (take next c.loop-done.buffer) ≡ next = search (rules, places) in
     λ a from to.
-    c.loop-done.invariant.kept a (c.requires.room a (omega arith) (omega arith))
+    c.loop-done.invariant.kept.room a (c.requires.room a (omega arith) (omega arith))
 
 pub copy_piece-requires-clause-beside : goal.copy_piece-requires-clause-beside
 copy_piece-requires-clause-beside g c =
@@ -30,19 +31,12 @@ loop-done-preserved g c =
     let text = text_at (g.F.FileSet.texts c.args.files.now old) c.args.file in
     let next = c.min-next.result in
     let size : length (take next c.loop-done.buffer) ≡ next = search (rules, places) in
-    let from = c.args.offset + c.loop-done.done in
-    let piece : length (slice_range text from (from + next)) ≡ next = search (rules, places) in
     record {
       within = omega arith;
-      size =
-          rw (c.copy_piece.ensures.after, before.same, size)
-          (length-overwrite (g.M.PhysMem.bytes c.loop-done.memory)
-          (c.args.at + c.loop-done.done) (slice_range text from (from + next)) (omega arith)
-          ∙ before.size);
       same = c.copy_piece.ensures.texts ∙ before.same;
       after =
           rw (c.copy_piece.ensures.after, before.same, before.after, size)
           (copy_more old text c.args.at c.args.offset c.loop-done.done next (omega arith)
           (omega arith));
-      kept = λ a had. c.copy_piece.ensures.kept a (before.kept a had);
+      kept = keeps_on before.kept c.copy_piece.ensures.kept;
     }

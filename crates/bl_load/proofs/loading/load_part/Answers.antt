@@ -1,5 +1,5 @@
 use Rattle.std.proofs.Common.{◌≡◌, ◌≤◌, ◌+◌, length, refl, sym, ◌∙◌, arith}
-use Rattle.bl_mem.proofs.Overwrites.{beside_zeros, length-overwrite}
+use Rattle.bl_mem.proofs.Overwrites.{beside_zeros}
 use Rattle.bl_load.specs.PlanFacts.{content_by}
 use Rattle.bl_load.proofs.HeldLemmas.{length-content_by}
 use Rattle.bl_load.proofs.WrittenLemmas.{zeros_behind}
@@ -32,9 +32,7 @@ returns-clause-texts g c =
     let inside = c.requires.can.inside in
     let count = c.load_content-count.result in
     let counted = c.load_content-count.ensures.count in
-    let size : length held ≡ length old =
-    rw c.load_content-count.ensures.after
-    (length-overwrite old part.place.address content (omega arith)) in
+    let size : length held ≡ length old = c.load_content-count.ensures.kept.size in
     rw c.zero.ensures.after
     (g.met.F.FileSet.same c.args.files.now held
     _ (beside_zeros (g.F.FileSet.holds c.args.files.now) held (part.place.address + count)

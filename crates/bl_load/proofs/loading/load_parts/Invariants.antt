@@ -1,5 +1,5 @@
-use Rattle.std.proofs.Common.{◌≡◌, length, drop, map}
-use Rattle.bl_mem.specs.Memory.{KeepsRoom}
+use Rattle.std.proofs.Common.{◌≡◌, drop, map}
+use Rattle.bl_mem.specs.Memory.{KeepsMemory}
 use Rattle.bl_load.specs.Handover.{written}
 use Rattle.bl_load.specs.PlanFacts.{part_by}
 use Rattle.bl_load.proofs.loading.load_parts.Given as goal
@@ -8,13 +8,11 @@ use Rattle.bl_load.proofs.loading.load_parts.Given as goal
 abbrev pub invariant-loop-part : goal.invariant-loop-part
 invariant-loop-part g l =
     let bytes = g.M.PhysMem.bytes in
-    let room = g.M.PhysMem.room in
     let texts = g.F.FileSet.texts l.files in
     let part = part_by (texts (bytes l.fn.memory)) in
     record {
-      size : length (bytes l.memory) ≡ length (bytes l.fn.memory);
       same : texts (bytes l.memory) ≡ texts (bytes l.fn.memory);
       rest : written (map part (drop l.part-index l.parts)) (bytes l.memory)
           ≡ written (map part l.parts) (bytes l.fn.memory);
-      kept : KeepsRoom (room l.fn.memory) (room l.memory);
+      kept : KeepsMemory g.M.PhysMem.lender bytes g.M.PhysMem.room l.fn.memory l.memory;
     }

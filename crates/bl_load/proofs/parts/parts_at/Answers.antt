@@ -6,30 +6,31 @@ use Rattle.bl_plan.specs.declared.part.Role.TheVariants.{Kernel}
 use Rattle.bl_load.specs.declared.plan.PlannedPart.{PlannedPart}
 use Rattle.bl_load.specs.Handover.{Part, part_at, filled}
 use Rattle.bl_load.specs.Parts.{part_from}
-use Rattle.bl_load.specs.Place.{place_of}
+use Rattle.bl_load.specs.Place.{planned_place}
 use Rattle.bl_load.specs.PlanFacts.{part_by}
 use Rattle.bl_load.specs.Loadable.{lengths_of, IsBacked, StaysInFiles}
-use Rattle.bl_load.specs.SourceKept.{reading_in, texts_in, value_in}
+use Rattle.bl_load.specs.EntryFilesKept.{texts_in, value_of_files}
 use Rattle.bl_load.proofs.parts.parts_at.Goals as goal
 
-pub content_at-requires-clause-rowed : goal.content_at-requires-clause-rowed
-content_at-requires-clause-rowed g c =
+pub content-requires-clause-rowed : goal.content-requires-clause-rowed
+content-requires-clause-rowed g c =
     c.requires.rowed c.loop-place.place-index _ c.loop-place-test.true
 
-pub content_at-requires-clause-small : goal.content_at-requires-clause-small
-content_at-requires-clause-small g c =
+pub content-requires-clause-small : goal.content-requires-clause-small
+content-requires-clause-small g c =
     c.requires.small c.loop-place.place-index _ c.loop-place-test.true
 
 pub loop-place-preserved : goal.loop-place-preserved
 loop-place-preserved g c =
-    let source = c.args.source.now in
-    let texts = texts_in source in
+    let entry = c.args.entry.now in
+    let texts = texts_in entry in
     let from : Place → Part =
-    part_from source.machine.now (value_in source) (reading_in source) c.args.places.now in
+    part_from entry.machine.now (value_of_files entry) (g.K.ReadKernel.reading c.args.kernel.now)
+    c.args.places.now in
     let by : PlannedPart g.row.A.Denot → Part = part_by texts in
     let stays : PlannedPart g.row.A.Denot → Type 0 =
     λ part. StaysInFiles part.place.role part.content in
-    let place_in : PlannedPart g.row.A.Denot → Place = place_of in
+    let place_in : PlannedPart g.row.A.Denot → Place = planned_place in
     let k = c.loop-place.place-index in
     let all = c.args.sorted.now in
     let none : Place = record { role = Kernel; index = 0; address = 0; length = 0 } in

@@ -1,20 +1,21 @@
 use Rattle.std.proofs.Common.{◌≡◌, take, map, All}
 use Rattle.bl_load.specs.Parts.{part_from}
-use Rattle.bl_load.specs.Place.{place_of}
+use Rattle.bl_load.specs.Place.{planned_place}
 use Rattle.bl_load.specs.PlanFacts.{part_by}
 use Rattle.bl_load.specs.Loadable.{lengths_of, IsBacked, IsLean}
-use Rattle.bl_load.specs.SourceKept.{reading_in, texts_in, value_in}
+use Rattle.bl_load.specs.EntryFilesKept.{texts_in, value_of_files}
 use Rattle.bl_load.proofs.parts.parts_at.Given as goal
 
 -- the parts so far are those at the places so far
 abbrev pub invariant-loop-place : goal.invariant-loop-place
 invariant-loop-place g l =
-    let texts = texts_in l.source in
+    let texts = texts_in l.entry in
     record {
       parts : map (part_by texts) l.parts.items
-          ≡ map (part_from l.source.machine.now (value_in l.source) (reading_in l.source) l.places)
-          (take l.place-index l.sorted);
+          ≡ map
+          (part_from l.entry.machine.now (value_of_files l.entry) (g.K.ReadKernel.reading l.kernel)
+          l.places) (take l.place-index l.sorted);
       backed : All (IsBacked (lengths_of texts)) l.parts.items;
       lean : IsLean l.parts.items;
-      places : map place_of l.parts.items ≡ take l.place-index l.sorted;
+      places : map planned_place l.parts.items ≡ take l.place-index l.sorted;
     }

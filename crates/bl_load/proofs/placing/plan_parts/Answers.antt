@@ -7,37 +7,37 @@ use Rattle.bl_plan.specs.declared.part.Row.{Row}
 use Rattle.bl_plan.specs.Placed.{ArePlaced, IsRow, IsPlacingFault}
 use Rattle.bl_plan.specs.Order.{in_order, place_key}
 use Rattle.bl_plan.proofs.OrderLemmas.{in_order_all}
-use Rattle.bl_load.specs.Place.{place_of}
+use Rattle.bl_load.specs.Place.{planned_place}
 use Rattle.bl_load.specs.HandoffFacts.{AreHandoffFacts}
 use Rattle.bl_load.specs.Parts.{registers_of}
 use Rattle.bl_load.specs.declared.registers.Registers.{Registers}
 use Rattle.bl_load.specs.PlacingKept.{IsRowed, told_rows_by}
 use Rattle.bl_load.specs.Rows.{rows_of}
 use Rattle.bl_load.specs.ReadKept.{FitsTold, CanEnter}
-use Rattle.bl_load.specs.SourceKept.{reading_in, value_in}
+use Rattle.bl_load.specs.EntryFilesKept.{value_of_files}
 use Rattle.bl_load.proofs.PlacingLemmas.{refused_place}
 use Rattle.bl_load.proofs.ReadingLaws.{reading_rows, reading_rowed, reading_kept}
 use Rattle.bl_load.proofs.ReadingLaws.{reading_not_overlap}
 use Rattle.bl_load.proofs.ReadingLemmas.{told_are_rows, told_placed, told_fault, fits_told}
-use Rattle.bl_load.proofs.ReadingLemmas.{can_enter}
+use Rattle.bl_load.proofs.ReadingLemmas.{can_enter, enters_by}
 use Rattle.bl_load.proofs.PlaceBoundLemmas.{are_inside}
 use Rattle.bl_load.proofs.placing.plan_parts.Goals as goal
 
 pub place_rows-requires : goal.place_rows-requires
 place_rows-requires g c =
-    let facts = c.args.source.now.machine.now in
-    let reading = reading_in c.args.source.now in
-    let value = value_in c.args.source.now in
+    let facts = c.args.entry.now.machine.now in
+    let reading = g.K.ReadKernel.reading c.args.kernel.now in
+    let value = value_of_files c.args.entry.now in
     let rows : c.as_slice.result.now ≡ told_rows_by facts value reading =
     c.as_slice.ensures.value ∙ c.in_ok-rows.ensures in
     subst (λ (rs : List Row). All IsRow rs) (sym rows)
     (told_are_rows facts value reading _ c.requires.read c.requires.files)
 
-pub fault_of-requires : goal.fault_of-requires
-fault_of-requires g c =
-    let facts = c.args.source.now.machine.now in
-    let reading = reading_in c.args.source.now in
-    let value = value_in c.args.source.now in
+pub as_prep_fault-requires : goal.as_prep_fault-requires
+as_prep_fault-requires g c =
+    let facts = c.args.entry.now.machine.now in
+    let reading = g.K.ReadKernel.reading c.args.kernel.now in
+    let value = value_of_files c.args.entry.now in
     let rows : c.as_slice.result.now ≡ told_rows_by facts value reading =
     c.as_slice.ensures.value ∙ c.in_ok-rows.ensures in
     reading_not_overlap facts value reading c.in-Err.fault c.requires.read
@@ -47,24 +47,29 @@ fault_of-requires g c =
 
 pub returns-in-Err-clause-fault : goal.returns-in-Err-clause-fault
 returns-in-Err-clause-fault g c =
-    let facts = c.args.source.now.machine.now in
-    let reading = reading_in c.args.source.now in
-    let value = value_in c.args.source.now in
+    let facts = c.args.entry.now.machine.now in
+    let reading = g.K.ReadKernel.reading c.args.kernel.now in
+    let value = value_of_files c.args.entry.now in
     let rows : c.as_slice.result.now ≡ told_rows_by facts value reading =
     c.as_slice.ensures.value ∙ c.in_ok-rows.ensures in
-    refused_place facts (rows_of facts value reading) c.in-Err.fault c.fault_of.result
+    refused_place facts (rows_of facts value reading) c.in-Err.fault c.as_prep_fault.result
     (told_fault facts value reading c.in-Err.fault
     (subst (λ (rs : List Row). IsPlacingFault facts rs c.in-Err.fault) rows
-    c.in-Err.ensures.fault)) c.fault_of.ensures
+    c.in-Err.ensures.fault)) c.as_prep_fault.ensures
 
-pub registers_of-registers-requires-clause-low : goal.registers_of-registers-requires-clause-low
-registers_of-registers-requires-clause-low g c = rw c.as_slice-2.ensures.value c.in-Ok.ensures.below
+pub registers-registers-requires-clause-protocol : goal.registers-registers-requires-clause-protocol
+registers-registers-requires-clause-protocol g c =
+    enters_by c.args.entry.now.machine.now (value_of_files c.args.entry.now)
+    (g.K.ReadKernel.reading c.args.kernel.now) c.requires.read
 
-pub registers_of-registers-requires-clause-enter : goal.registers_of-registers-requires-clause-enter
-registers_of-registers-requires-clause-enter g c =
-    let facts = c.args.source.now.machine.now in
-    let reading = reading_in c.args.source.now in
-    let value = value_in c.args.source.now in
+pub registers-registers-requires-clause-low : goal.registers-registers-requires-clause-low
+registers-registers-requires-clause-low g c = rw c.as_slice-2.ensures.value c.in-Ok.ensures.below
+
+pub registers-registers-requires-clause-enter : goal.registers-registers-requires-clause-enter
+registers-registers-requires-clause-enter g c =
+    let facts = c.args.entry.now.machine.now in
+    let reading = g.K.ReadKernel.reading c.args.kernel.now in
+    let value = value_of_files c.args.entry.now in
     let rows : c.as_slice.result.now ≡ told_rows_by facts value reading =
     c.as_slice.ensures.value ∙ c.in_ok-rows.ensures in
     let told : ArePlaced facts [] (told_rows_by facts value reading) c.in-Ok.places.items =
@@ -77,9 +82,9 @@ registers_of-registers-requires-clause-enter g c =
 
 pub parts_at-requires-clause-fits : goal.parts_at-requires-clause-fits
 parts_at-requires-clause-fits g c =
-    let facts = c.args.source.now.machine.now in
-    let reading = reading_in c.args.source.now in
-    let value = value_in c.args.source.now in
+    let facts = c.args.entry.now.machine.now in
+    let reading = g.K.ReadKernel.reading c.args.kernel.now in
+    let value = value_of_files c.args.entry.now in
     let rows : c.as_slice.result.now ≡ told_rows_by facts value reading =
     c.as_slice.ensures.value ∙ c.in_ok-rows.ensures in
     let told : ArePlaced facts [] (told_rows_by facts value reading) c.in-Ok.places.items =
@@ -92,9 +97,9 @@ parts_at-requires-clause-fits g c =
 
 pub parts_at-requires-clause-rowed : goal.parts_at-requires-clause-rowed
 parts_at-requires-clause-rowed g c =
-    let facts = c.args.source.now.machine.now in
-    let reading = reading_in c.args.source.now in
-    let value = value_in c.args.source.now in
+    let facts = c.args.entry.now.machine.now in
+    let reading = g.K.ReadKernel.reading c.args.kernel.now in
+    let value = value_of_files c.args.entry.now in
     let rows : c.as_slice.result.now ≡ told_rows_by facts value reading =
     c.as_slice.ensures.value ∙ c.in_ok-rows.ensures in
     let told : ArePlaced facts [] (told_rows_by facts value reading) c.in-Ok.places.items =
@@ -119,9 +124,9 @@ parts_at-requires-clause-small g c =
 
 pub ranges_of-requires : goal.ranges_of-requires
 ranges_of-requires g c =
-    let facts = c.args.source.now.machine.now in
-    let reading = reading_in c.args.source.now in
-    let value = value_in c.args.source.now in
+    let facts = c.args.entry.now.machine.now in
+    let reading = g.K.ReadKernel.reading c.args.kernel.now in
+    let value = value_of_files c.args.entry.now in
     let rows : c.as_slice.result.now ≡ told_rows_by facts value reading =
     c.as_slice.ensures.value ∙ c.in_ok-rows.ensures in
     let told : ArePlaced facts [] (told_rows_by facts value reading) c.in-Ok.places.items =
@@ -131,21 +136,21 @@ ranges_of-requires g c =
     let sorted : c.as_slice-5.result.now ≡ in_order c.in-Ok.places.items =
     c.as_slice-5.ensures.value ∙ c.in_ok-sorted.ensures
     ∙ ap in_order c.as_slice-3.ensures.value in
-    let places : map place_of c.in_ok-parts.parts.items ≡ in_order c.in-Ok.places.items =
+    let places : map planned_place c.in_ok-parts.parts.items ≡ in_order c.in-Ok.places.items =
     c.in_ok-parts.ensures.places ∙ sorted in
-    let count = length-map c.args.source.now.modules.now (λ m. m.line) in
+    let count = length-map c.args.entry.now.modules.now (λ m. m.line) in
     let kept =
     reading_kept facts value reading c.in-Ok.places.items c.requires.read
-    (omega (arith, count, c.args.source.now.few)) placed in
+    (omega (arith, count, c.args.entry.now.few)) placed in
     let small : All (λ p. p.address + p.length < 2 ^ 64) (in_order c.in-Ok.places.items) =
     λ k d within. let low = kept.below k d within in omega arith in
     rw (c.as_slice-6.ensures.value, places) small
 
 pub returns-clause-loadable : goal.returns-clause-loadable
 returns-clause-loadable g c =
-    let facts = c.args.source.now.machine.now in
-    let reading = reading_in c.args.source.now in
-    let value = value_in c.args.source.now in
+    let facts = c.args.entry.now.machine.now in
+    let reading = g.K.ReadKernel.reading c.args.kernel.now in
+    let value = value_of_files c.args.entry.now in
     let rows : c.as_slice.result.now ≡ told_rows_by facts value reading =
     c.as_slice.ensures.value ∙ c.in_ok-rows.ensures in
     let told : ArePlaced facts [] (told_rows_by facts value reading) c.in-Ok.places.items =
@@ -155,12 +160,12 @@ returns-clause-loadable g c =
     let sorted : c.as_slice-5.result.now ≡ in_order c.in-Ok.places.items =
     c.as_slice-5.ensures.value ∙ c.in_ok-sorted.ensures
     ∙ ap in_order c.as_slice-3.ensures.value in
-    let places : map place_of c.in_ok-parts.parts.items ≡ in_order c.in-Ok.places.items =
+    let places : map planned_place c.in_ok-parts.parts.items ≡ in_order c.in-Ok.places.items =
     c.in_ok-parts.ensures.places ∙ sorted in
-    let count = length-map c.args.source.now.modules.now (λ m. m.line) in
-    let registers : c.registers_of-registers.result
+    let count = length-map c.args.entry.now.modules.now (λ m. m.line) in
+    let registers : c.registers-registers.result
     ≡ registers_of value.protocol reading c.in-Ok.places.items =
-    c.registers_of-registers.ensures
+    c.registers-registers.ensures
     ∙ ap (registers_of value.protocol reading) c.as_slice-2.ensures.value in
     let kept =
     subst (λ (r : Registers). AreHandoffFacts (record {
@@ -169,7 +174,7 @@ returns-clause-loadable g c =
       places = in_order c.in-Ok.places.items;
     })) (sym registers)
     (reading_kept facts value reading c.in-Ok.places.items c.requires.read
-    (omega (arith, count, c.args.source.now.few)) placed) in
+    (omega (arith, count, c.args.entry.now.few)) placed) in
     let inside =
     in_order_all place_key (λ (p : Place). p.address + p.length ≤ facts.size)
     c.in-Ok.places.items
@@ -182,17 +187,17 @@ returns-clause-loadable g c =
           (sym places) inside;
       kept =
           subst (λ (ps : List Place). AreHandoffFacts (record {
-            protocol = c.args.source.now.protocol;
-            registers = c.registers_of-registers.result;
+            protocol = c.args.entry.now.protocol;
+            registers = c.registers-registers.result;
             places = ps;
           })) (sym places) kept;
     }
 
 pub returns-clause-handover : goal.returns-clause-handover
 returns-clause-handover g c =
-    let facts = c.args.source.now.machine.now in
-    let reading = reading_in c.args.source.now in
-    let value = value_in c.args.source.now in
+    let facts = c.args.entry.now.machine.now in
+    let reading = g.K.ReadKernel.reading c.args.kernel.now in
+    let value = value_of_files c.args.entry.now in
     let rows : c.as_slice.result.now ≡ told_rows_by facts value reading =
     c.as_slice.ensures.value ∙ c.in_ok-rows.ensures in
     let told : ArePlaced facts [] (told_rows_by facts value reading) c.in-Ok.places.items =

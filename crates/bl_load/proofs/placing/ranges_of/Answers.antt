@@ -1,7 +1,7 @@
 use Rattle.std.proofs.Common.{◌+◌, ◌<◌, ◌^◌, arith, ap}
 use Rattle.bl_plan.specs.declared.part.Place.{Place}
 use Rattle.bl_load.specs.declared.plan.PlannedPart.{PlannedPart}
-use Rattle.bl_load.specs.Place.{place_of}
+use Rattle.bl_load.specs.Place.{planned_place}
 use Rattle.bl_load.proofs.HeldLemmas.{all_under}
 use Rattle.bl_load.proofs.placing.ranges_of.Goals as goal
 
@@ -10,7 +10,7 @@ overflow_add-part g c =
     let x = c.part-item.result in
     let is = c.part-item.is in
     let small =
-    all_under (λ (place : Place). place.address + place.length < 2 ^ 64) place_of
+    all_under (λ (place : Place). place.address + place.length < 2 ^ 64) planned_place
     c.args.parts.now c.requires c.loop-part.part-index x c.loop-part-test.true in
     omega (
       arith,

@@ -4,14 +4,14 @@ use Rattle.std.proofs.lemmas.List.{length-append}
 use Rattle.std.proofs.lemmas.Bool.{cases_lt}
 use Rattle.bl_map.specs.declared.kind.Kind.{Kind}
 use Rattle.bl_map.specs.declared.region.Region.{Region}
-use Rattle.bl_map.specs.Faults.{IsLow}
+use Rattle.bl_map.specs.Faults.{IsLowRegion}
 use Rattle.bl_map.specs.Kinds.{kind_at, kind_number}
 use Rattle.bl_map.proofs.EdgeLemmas.{edges_most, edges_fall, edges_fall_once}
 use Rattle.bl_map.proofs.KindLemmas.{none_behind, number_positive}
 use Rattle.bl_map.proofs.SweepLemmas.{upto_none, upto_gap, upto_run, upto_all, run_of, IsRunEnd}
 use Rattle.bl_map.proofs.sweep.normal_map.Goals as goal
 
-changes : (regions : List Region) (at end : ℕ) (kind : Kind) → All IsLow regions
+changes : (regions : List Region) (at end : ℕ) (kind : Kind) → All IsLowRegion regions
     → IsRunEnd regions at end → kind_number kind ≡ kind_at regions at
     → kind_at regions end ≢ kind_at regions at
 changes regions at end kind low run is = elim (cases_lt end (2 ^ 52)) [

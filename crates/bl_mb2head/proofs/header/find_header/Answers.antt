@@ -5,24 +5,25 @@ use Rattle.bl_mb2head.specs.declared.fault.HeadFault.{HeadFault}
 use Rattle.bl_mb2head.specs.declared.last.LastTags.{LastTags}
 use Rattle.bl_mb2head.specs.declared.tag.Tag.{Tag}
 use Rattle.bl_mb2head.specs.Address.{address_fault}
-use Rattle.bl_mb2head.specs.Header.{BeginsAt, HasFirstFault}
+use Rattle.bl_mb2head.specs.Header.{BeginsAt, HasFirstHeadFault}
 use Rattle.bl_mb2head.specs.Kept.{last_tags}
-use Rattle.bl_mb2head.specs.Tags.{AreAllTags, IsFirstFault}
+use Rattle.bl_mb2head.specs.Tags.{AreAllTags, IsFirstTagFault}
 use Rattle.bl_mb2head.proofs.FaultLemmas.{tag_fault_first, address_fault_first}
 use Rattle.bl_mb2head.proofs.HeaderLemmas.{ends_after_tag, ends_in_file, ends_in_front}
 use Rattle.bl_mb2head.proofs.HeaderLemmas.{lies_before}
 use Rattle.bl_mb2head.proofs.header.find_header.Goals as goal
 
 tag_fault : (bytes : List ℕ) (h word : ℕ) (fault : HeadFault) → word ≡ u32_at bytes (h + 8)
-    → BeginsAt bytes h → IsFirstFault bytes (h + word) (h + 16) fault → HasFirstFault bytes fault
+    → BeginsAt bytes h → IsFirstTagFault bytes (h + word) (h + 16) fault
+    → HasFirstHeadFault bytes fault
 tag_fault bytes h word fault is begins first =
     tag_fault_first bytes h fault begins
-    (subst (λ (w : ℕ). IsFirstFault bytes (h + w) (h + 16) fault) is first)
+    (subst (λ (w : ℕ). IsFirstTagFault bytes (h + w) (h + 16) fault) is first)
 
 address_tag_fault : (bytes : List ℕ) (h word : ℕ) (fault : HeadFault) (last : LastTags)
     → word ≡ u32_at bytes (h + 8) → BeginsAt bytes h
     → (ts : List Tag) × AreAllTags bytes (h + word) (h + 16) ts × (last ≡ last_tags ts)
-    → address_fault bytes h last.address ≡ Some fault → HasFirstFault bytes fault
+    → address_fault bytes h last.address ≡ Some fault → HasFirstHeadFault bytes fault
 address_tag_fault bytes h word fault last is begins tags faulty =
     address_fault_first bytes h fault begins record {
       tags = tags.0;

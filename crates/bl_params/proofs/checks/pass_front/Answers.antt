@@ -5,8 +5,8 @@ use Rattle.bl_params.proofs.checks.pass_front.Goals as goal
 pub pass_zeros-requires-clause-plain : goal.pass_zeros-requires-clause-plain
 pass_zeros-requires-clause-plain c = λ k from below. front_is _ k below
 
-pub go_on-requires-clause-here : goal.go_on-requires-clause-here
-go_on-requires-clause-here c = sym (count_is _)
+pub check_field-requires-clause-here : goal.check_field-requires-clause-here
+check_field-requires-clause-here c = sym (count_is _)
 
 pub pass_zeros-requires-2-clause-plain : goal.pass_zeros-requires-2-clause-plain
 pass_zeros-requires-2-clause-plain c = λ k from below. gap_is _ k from below

@@ -1,5 +1,5 @@
 use Rattle.std.proofs.Common.{◌≡◌, length}
-use Rattle.bl_params.specs.Form.{entry_at}
+use Rattle.bl_params.specs.Form.{e820_entry_at}
 use Rattle.bl_params.specs.Reading.{AreEntries}
 use Rattle.bl_params.specs.Kept.{IsSoundUpto}
 use Rattle.bl_params.proofs.entries.entries.Given as goal
@@ -7,7 +7,7 @@ use Rattle.bl_params.proofs.entries.entries.Given as goal
 -- the entries so far are read
 abbrev pub invariant-loop-i : goal.invariant-loop-i
 invariant-loop-i g l = record {
-  sound : IsSoundUpto l.bytes (entry_at l.i);
+  sound : IsSoundUpto l.bytes (e820_entry_at l.i);
   count : length l.runs.items ≡ l.i;
   are : AreEntries l.bytes 0x2D0 l.runs.items;
 }

@@ -2,16 +2,16 @@ use Rattle.std.proofs.Common.{◌∙◌, ap, not}
 use Rattle.bl_params.proofs.FormLemmas.{entry_is, kind_is, quiet_first, quiet_last}
 use Rattle.bl_params.proofs.entries.entry.Goals as goal
 
-pub go_on-requires-clause-here : goal.go_on-requires-clause-here
-go_on-requires-clause-here c =
+pub check_field-requires-clause-here : goal.check_field-requires-clause-here
+check_field-requires-clause-here c =
     entry_is _ c.args.i _ _ c.requires.counted c.u64_in-base.ensures c.u64_in-length.ensures
 
-pub go_on-requires-clause-quiet : goal.go_on-requires-clause-quiet
-go_on-requires-clause-quiet c = quiet_first _ c.args.i c.requires.counted
+pub check_field-requires-clause-quiet : goal.check_field-requires-clause-quiet
+check_field-requires-clause-quiet c = quiet_first _ c.args.i c.requires.counted
 
-pub go_on-requires-2-clause-here : goal.go_on-requires-2-clause-here
-go_on-requires-2-clause-here c =
+pub check_field-requires-2-clause-here : goal.check_field-requires-2-clause-here
+check_field-requires-2-clause-here c =
     ap not c.is_kind.ensures ∙ kind_is _ c.args.i _ c.requires.counted c.u32_in-number.ensures
 
-pub go_on-requires-2-clause-quiet : goal.go_on-requires-2-clause-quiet
-go_on-requires-2-clause-quiet c = quiet_last _ c.args.i c.requires.counted
+pub check_field-requires-2-clause-quiet : goal.check_field-requires-2-clause-quiet
+check_field-requires-2-clause-quiet c = quiet_last _ c.args.i c.requires.counted

@@ -7,10 +7,10 @@ loop-index-init c = record { long = c.told-out; told = λ k below. absurd (omega
 
 pub loop-index-preserved : goal.loop-index-preserved
 loop-index-preserved c = record {
-  long = c.put_u64.array_long;
+  long = c.write_u64.array_long;
   told = put_step c.args.base c.args.frame c.loop-index.index c.paging_word.result
-      c.loop-index.out c.put_u64.new.out c.paging_word.ensures c.loop-index-test.true
-      c.loop-index.invariant.told c.put_u64.ensures;
+      c.loop-index.out c.write_u64.new.out c.paging_word.ensures c.loop-index-test.true
+      c.loop-index.invariant.told c.write_u64.ensures;
 }
 
 pub returns : goal.returns

@@ -8,6 +8,6 @@ returns c =
     let base = length-number_bytes 8 c.args.run.now.base in
     let size = length-number_bytes 8 c.args.run.now.length in
     λ k.
-    rw (c.number.ensures) at (c.put_u32.ensures k)
-    ∙ over_same _ _ _ _ (λ k. c.put_u64-2.ensures k ∙ over_same _ _ _ _ c.put_u64.ensures k) k
+    rw (c.number.ensures) at (c.write_u32.ensures k)
+    ∙ over_same _ _ _ _ (λ k. c.write_u64-2.ensures k ∙ over_same _ _ _ _ c.write_u64.ensures k) k
     ∙ over_three _ _ _ _ _ _ _ k (omega arith) (omega arith)

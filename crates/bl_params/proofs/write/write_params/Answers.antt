@@ -18,7 +18,7 @@ returns g c =
     _ (length c.as_slice-runs.result.now) _ _ _ _ _ _ _ _ _ _ _
     c.as_slice.ensures.same c.as_slice-runs.ensures.value
     (ap (λ (rs : List Region). length rs) c.as_slice-runs.ensures.value) c.clear.ensures
-    c.put.ensures c.put_entries.ensures c.put_u64.ensures
-    c.put_u32.ensures c.put_u32-2.ensures c.put_u32-3.ensures c.put_u32-4.ensures c.put-2.ensures
-    c.put_u16.ensures c.put-3.ensures c.put-3.array_long
+    c.write_field.ensures c.put_entries.ensures c.write_u64.ensures
+    c.write_u32.ensures c.write_u32-2.ensures c.write_u32-3.ensures c.write_u32-4.ensures c.write_field-2.ensures
+    c.write_u16.ensures c.write_field-3.ensures c.write_field-3.array_long
     ∙ ap (λ (f : BootParamsFacts). boot_params c.args.setup.now.header f) c.facts.view_is

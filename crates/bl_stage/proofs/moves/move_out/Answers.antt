@@ -1,5 +1,5 @@
 use Rattle.std.proofs.Common.{◌≡◌, ◌+◌, ◌*◌, ◌<◌, ◌≤◌, length, drop, slice_range, Some, true, false}
-use Rattle.std.proofs.Common.{arith, rules, sym, ap, ◌∙◌}
+use Rattle.std.proofs.Common.{arith, rules, refl, sym, ap, ◌∙◌}
 use Rattle.std.specs.List.{count_by}
 use Rattle.bl_mem.specs.Memory.{overwrite}
 use Rattle.bl_stage.specs.Cells.{cell_at, is_spare_cell, is_stranded_cell}
@@ -16,7 +16,7 @@ loop-from-init g c = record {
       c.args.cells.now c.requires.held;
   enough =
       enough_first c.args.base c.args.frames.now c.args.cells.now c.requires.held c.requires.enough;
-  kept = λ a had. had;
+  kept = record { lender = refl; size = refl; room = λ a had. had };
 }
 
 pub loop-from-preserved : goal.loop-from-preserved
@@ -45,9 +45,9 @@ loop-from-preserved g c =
           ≡ overwrite (bytes loop.memory) (4096 * (c.args.base + to))
           (slice_range (bytes loop.memory) (4096 * (c.args.base + from))
           (4096 * (c.args.base + from) + 4096)) =
-          ap bytes w.memory-is ∙ w.move_cell.ensures.bytes in
-          let f = w.frames-is ∙ w.move_cell.ensures.frames in
-          let k = w.cells-is ∙ w.move_cell.ensures.cells in
+          ap bytes w.memory-is ∙ w.copy_frame.ensures.after in
+          let f = w.frames-is ∙ w.move_slot.ensures.frames in
+          let k = w.cells-is ∙ w.move_slot.ensures.cells in
           let rest = w.next_spare-to.ensures.rest in
           let before : count_by is_stranded_cell (drop from cells)
           ≤ count_by is_spare_cell (drop to cells) =
@@ -59,7 +59,14 @@ loop-from-preserved g c =
                 rw (k, w.to-is)
                 (enough_after c.args.base loop.frames cells from to slot done.held here
                 w.next_spare-to.ensures.within goes shut spare.1 spare.0 before);
-            kept = λ a had. rw w.memory-is (w.move_cell.ensures.kept a (loop.invariant.kept a had));
+            kept =
+                let now = w.copy_frame.ensures.kept in
+                let before = loop.invariant.kept in
+                rw w.memory-is (record {
+                  lender = now.lender ∙ before.lender;
+                  size = now.size ∙ before.size;
+                  room = λ a had. now.room a (before.room a had);
+                });
           }
       | then-cell+in_default w ↦
           record {
@@ -72,7 +79,7 @@ loop-from-preserved g c =
                 rw (w.cells-is, w.to-is)
                 (enough_rest cells from (count_by is_spare_cell (drop loop.to cells)) here
                 loop.invariant.enough);
-            kept = λ a had. rw w.memory-is (loop.invariant.kept a had);
+            kept = rw w.memory-is loop.invariant.kept;
           }
       | else-cell w ↦
           let open_ : (cell_at cells from).shut ≡ false = search rules in
@@ -86,6 +93,11 @@ loop-from-preserved g c =
                 rw (w.cells-is, w.to-is)
                 (enough_rest cells from (count_by is_spare_cell (drop loop.to cells)) here
                 loop.invariant.enough);
-            kept = λ a had. rw w.memory-is (loop.invariant.kept a had);
+            kept = rw w.memory-is loop.invariant.kept;
           }
     ]
+
+pub move_slot-requires-clause-small : goal.move_slot-requires-clause-small
+move_slot-requires-clause-small g c =
+    let wide = c.loop-from.invariant.moved.wide in
+    omega (arith, wide, c.next_spare-to.ensures.within, c.requires.small)

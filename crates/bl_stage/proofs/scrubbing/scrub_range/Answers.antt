@@ -1,5 +1,5 @@
-use Rattle.std.proofs.Common.{◌≤◌, ℕ, length, get_or, arith, ap, ◌∙◌}
-use Rattle.bl_stage.proofs.ScrubLemmas.{size_zeroed, rest_zeroed, done_zeroed}
+use Rattle.std.proofs.Common.{◌≤◌, length, get_or, arith, ap, ◌∙◌}
+use Rattle.bl_stage.proofs.ScrubLemmas.{rest_zeroed, done_zeroed}
 use Rattle.bl_stage.proofs.scrubbing.scrub_range.Goals as goal
 
 pub loop-at-preserved-then-not-is_kept : goal.loop-at-preserved-then-not-is_kept
@@ -12,14 +12,11 @@ loop-at-preserved-then-not-is_kept g c =
     let pool = c.args.pool in
     let forward : at ≤ edge.result = omega (arith, edge.ensures.above) in
     let within : edge.result ≤ length bytes =
-    omega (arith, loop.size, edge.ensures.within, c.requires.inside (omega arith)) in
+    omega (arith, loop.kept.size, edge.ensures.within, c.requires.inside (omega arith)) in
     let is = c.zero.ensures.after in
     record {
       low = omega (arith, loop.low);
       high = λ h. edge.ensures.within;
-      size =
-          ap length is
-          ∙ size_zeroed pool c.args.keep.now old bytes at edge.result forward within ∙ loop.size;
       done =
           λ a h. ap (λ b. get_or b a 0) is
           ∙ done_zeroed pool c.args.keep.now old bytes at edge.result forward within loop.low
@@ -28,5 +25,9 @@ loop-at-preserved-then-not-is_kept g c =
           λ a h. ap (λ b. get_or b a 0) is
           ∙ rest_zeroed pool c.args.keep.now old bytes at edge.result forward within a h
           ∙ loop.rest a (omega arith);
-      kept = λ a h. c.zero.ensures.kept a (loop.kept a h);
+      kept = record {
+        lender = c.zero.ensures.kept.lender ∙ loop.kept.lender;
+        size = c.zero.ensures.kept.size ∙ loop.kept.size;
+        room = λ a h. c.zero.ensures.kept.room a (loop.kept.room a h);
+      };
     }

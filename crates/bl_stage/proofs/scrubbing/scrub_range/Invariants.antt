@@ -1,5 +1,5 @@
-use Rattle.std.proofs.Common.{◌≡◌, ℕ, ◌<◌, ◌≤◌, ◌-◌, length, get_or}
-use Rattle.bl_mem.specs.Memory.{KeepsRoom}
+use Rattle.std.proofs.Common.{◌≡◌, ℕ, ◌<◌, ◌≤◌, ◌-◌, get_or}
+use Rattle.bl_mem.specs.Memory.{KeepsMemory}
 use Rattle.bl_stage.specs.Ranges.{scrubbed}
 use Rattle.bl_stage.proofs.scrubbing.scrub_range.Given as goal
 
@@ -10,11 +10,10 @@ invariant-loop-at g l =
     record {
       low : l.pool.start ≤ l.at;
       high : l.pool.start ≤ l.pool.end → l.at ≤ l.pool.end;
-      size : length (bytes l.memory) ≡ length (bytes l.fn.memory);
       done : (a : ℕ) → a < l.at
           → get_or (bytes l.memory) a 0 ≡ scrubbed l.pool l.keep (bytes l.fn.memory) a;
       rest : (a : ℕ) → l.at ≤ a → get_or (bytes l.memory) a 0 ≡ get_or (bytes l.fn.memory) a 0;
-      kept : KeepsRoom (g.M.PhysMem.room l.fn.memory) (g.M.PhysMem.room l.memory);
+      kept : KeepsMemory g.M.PhysMem.lender bytes g.M.PhysMem.room l.fn.memory l.memory;
     }
 
 abbrev pub decreases-loop-at : goal.decreases-loop-at

@@ -9,18 +9,18 @@ use Rattle.bl_mem.proofs.sparse.SparsePhysMem.read.Goals as goal
 pub loop-done-preserved : goal.loop-done-preserved
 loop-done-preserved g c =
     let this = c.args.self.now in
-    let text = bytes_of this.chunks this.fill this.size in
-    let size = bytes_of_length this.chunks this.fill this.size in
+    let text = bytes_of this.frames this.size in
+    let size = bytes_of_length this.frames this.size in
     let done = c.loop-done.done in
     let next = c.min-next.result in
-    let piece = c.read_chunk.new.out in
+    let piece = c.read_frame.new.out in
     let kept : length piece ≡ done + next - done = search (rules, places) in
     record {
       within = search (rules, places);
       after =
           read_on text c.loop-done.out _ piece c.args.at done next (omega arith) (omega arith)
           c.loop-done.invariant.after
-          (c.read_chunk.ensures
+          (c.read_frame.ensures
           ∙ ap (λ n. slice_range text (c.args.at + done) (c.args.at + done + n))
           (search (rules, places)))
           (take-put_mid done (done + next - done) c.loop-done.out piece

@@ -8,7 +8,7 @@ invariant-loop-done g l =
     record {
       within : l.done ≤ length l.out;
       after : take l.done l.out
-          ≡ slice_range (bytes_of l.self.chunks l.self.fill l.self.size) l.at (l.at + l.done);
+          ≡ slice_range (bytes_of l.self.frames l.self.size) l.at (l.at + l.done);
     }
 
 abbrev pub decreases-loop-done : goal.decreases-loop-done

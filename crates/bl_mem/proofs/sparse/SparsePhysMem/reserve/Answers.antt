@@ -3,8 +3,7 @@ use Rattle.std.specs.declared.ops.Range.{Range}
 use Rattle.std.proofs.lemmas.List.{take_all}
 use Rattle.std.proofs.lemmas.List.Elements.{All-more, All-same, All-weaker}
 use Rattle.bl_mem.specs.Memory.{HasRoom}
-use Rattle.bl_mem.specs.Sparse.{IsHeld}
-use Rattle.bl_mem.proofs.ValueLemmas.{bytes_of_length}
+use Rattle.bl_mem.specs.Frames.{IsHeld}
 use Rattle.bl_mem.proofs.sparse.SparsePhysMem.reserve.Goals as goal
 
 pub loop-range-init : goal.loop-range-init
@@ -15,19 +14,11 @@ loop-range-init g c = record {
   made = λ k d h. absurd (omega arith);
 }
 
-pub hold-requires : goal.hold-requires
-hold-requires g c =
-    let this = c.args.self.now in
-    let none : Range ℕ = record { start = 0; end = 0 } in
-    let inside = c.requires.inside c.loop-range.range-index none c.loop-range-test.true in
-    let size = bytes_of_length this.chunks this.fill this.size in
-    omega (arith, inside, size, c.loop-range.invariant.size)
-
 pub loop-range-preserved : goal.loop-range-preserved
 loop-range-preserved g c =
     let before = c.loop-range.invariant in
-    let old = c.loop-range.self.chunks in
-    let new = c.hold.new.self.chunks in
+    let old = c.loop-range.self.frames in
+    let new = c.hold.new.self.frames in
     let none : Range ℕ = record { start = 0; end = 0 } in
     record {
       same = c.hold.ensures.same ∙ before.same;
@@ -46,8 +37,8 @@ loop-range-preserved g c =
 pub returns-clause-made : goal.returns-clause-made
 returns-clause-made g c =
     let at = c.loop-range.range-index in
-    let chunks = c.loop-range.self.chunks in
+    let frames = c.loop-range.self.frames in
     let ranges = c.args.ranges.now in
-    All-same (λ (range : Range ℕ). HasRoom (IsHeld chunks) range.start range.end) ranges
+    All-same (λ (range : Range ℕ). HasRoom (IsHeld frames) range.start range.end) ranges
     (take at ranges) (sym (take_all at ranges c.loop-range-test.false))
     c.loop-range.invariant.made

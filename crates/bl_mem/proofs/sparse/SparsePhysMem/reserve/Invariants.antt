@@ -1,15 +1,16 @@
 use Rattle.std.proofs.Common.{◌≡◌, take}
 use Rattle.bl_mem.specs.Memory.{KeepsRoom, AllHaveRoom}
-use Rattle.bl_mem.specs.Sparse.{bytes_of, IsHeld}
+use Rattle.bl_mem.specs.Sparse.{bytes_of}
+use Rattle.bl_mem.specs.Frames.{IsHeld}
 use Rattle.bl_mem.proofs.sparse.SparsePhysMem.reserve.Given as goal
 
 -- the ranges so far have room
 abbrev pub invariant-loop-range : goal.invariant-loop-range
 invariant-loop-range g l =
     record {
-      same : bytes_of l.self.chunks l.self.fill l.self.size
-          ≡ bytes_of l.fn.self.chunks l.fn.self.fill l.fn.self.size;
+      same : bytes_of l.self.frames l.self.size
+          ≡ bytes_of l.fn.self.frames l.fn.self.size;
       size : l.self.size ≡ l.fn.self.size;
-      kept : KeepsRoom (IsHeld l.fn.self.chunks) (IsHeld l.self.chunks);
-      made : AllHaveRoom (IsHeld l.self.chunks) (take l.range-index l.ranges);
+      kept : KeepsRoom (IsHeld l.fn.self.frames) (IsHeld l.self.frames);
+      made : AllHaveRoom (IsHeld l.self.frames) (take l.range-index l.ranges);
     }

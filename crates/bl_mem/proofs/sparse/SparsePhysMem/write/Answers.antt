@@ -7,13 +7,13 @@ use Rattle.bl_mem.proofs.sparse.SparsePhysMem.write.Goals as goal
 pub loop-done-preserved : goal.loop-done-preserved
 loop-done-preserved g c =
     let this = c.args.self.now in
-    let size = bytes_of_length this.chunks this.fill this.size in
+    let size = bytes_of_length this.frames this.size in
     record {
       within = omega arith;
-      size = c.write_chunk.ensures.size ∙ c.loop-done.invariant.size;
+      size = c.write_frame.ensures.size ∙ c.loop-done.invariant.size;
       after =
-          rw (c.write_chunk.ensures.after, c.loop-done.invariant.after)
-          (write_on (bytes_of this.chunks this.fill this.size) c.args.part.now c.args.at
+          rw (c.write_frame.ensures.after, c.loop-done.invariant.after)
+          (write_on (bytes_of this.frames this.size) c.args.part.now c.args.at
           c.loop-done.done c.min-next.result (omega arith) (omega arith));
-      kept = λ a had. c.write_chunk.ensures.kept a (c.loop-done.invariant.kept a had);
+      kept = λ a had. c.write_frame.ensures.kept a (c.loop-done.invariant.kept a had);
     }

@@ -9,8 +9,8 @@ use Rattle.bl_mem.proofs.sparse.SparsePhysMem.zero.Goals as goal
 pub loop-at-preserved : goal.loop-at-preserved
 loop-at-preserved g c =
     let this = c.args.self.now in
-    let old = bytes_of this.chunks this.fill this.size in
-    let size = bytes_of_length this.chunks this.fill this.size in
+    let old = bytes_of this.frames this.size in
+    let size = bytes_of_length this.frames this.size in
     let start = c.args.range.start in
     let done = c.loop-at.at - start in
     let next = c.min-next.result in
@@ -20,11 +20,11 @@ loop-at-preserved g c =
     record {
       from = omega arith;
       within = omega arith;
-      size = c.zero_chunk.ensures.size ∙ c.loop-at.invariant.size;
-      after = rw (c.zero_chunk.ensures.after, c.loop-at.invariant.after) (
+      size = c.zero_frame.ensures.size ∙ c.loop-at.invariant.size;
+      after = rw (c.zero_frame.ensures.after, c.loop-at.invariant.after) (
           overwrite_more old start (replicate done 0) (replicate next 0) c.loop-at.at (omega arith)
           (omega arith)
           ∙ ap (overwrite old start)
           (replicate-append-replicate done next 0 ∙ ap (λ n. replicate n 0) all));
-      kept = λ a had. c.zero_chunk.ensures.kept a (c.loop-at.invariant.kept a had);
+      kept = λ a had. c.zero_frame.ensures.kept a (c.loop-at.invariant.kept a had);
     }

@@ -1,6 +1,7 @@
 use Rattle.std.proofs.Common.{◌≡◌, ◌-◌, ◌≤◌, replicate}
 use Rattle.bl_mem.specs.Memory.{overwrite, KeepsRoom}
-use Rattle.bl_mem.specs.Sparse.{bytes_of, IsHeld}
+use Rattle.bl_mem.specs.Sparse.{bytes_of}
+use Rattle.bl_mem.specs.Frames.{IsHeld}
 use Rattle.bl_mem.proofs.sparse.SparsePhysMem.zero.Given as goal
 
 -- the zeros so far
@@ -10,10 +11,10 @@ invariant-loop-at g l =
       from : l.range.start ≤ l.at;
       within : l.at ≤ l.range.end;
       size : l.self.size ≡ l.fn.self.size;
-      after : bytes_of l.self.chunks l.self.fill l.self.size
-          ≡ overwrite (bytes_of l.fn.self.chunks l.fn.self.fill l.fn.self.size) l.range.start
+      after : bytes_of l.self.frames l.self.size
+          ≡ overwrite (bytes_of l.fn.self.frames l.fn.self.size) l.range.start
           (replicate (l.at - l.range.start) 0);
-      kept : KeepsRoom (IsHeld l.fn.self.chunks) (IsHeld l.self.chunks);
+      kept : KeepsRoom (IsHeld l.fn.self.frames) (IsHeld l.self.frames);
     }
 
 abbrev pub decreases-loop-at : goal.decreases-loop-at

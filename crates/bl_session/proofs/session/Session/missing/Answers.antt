@@ -1,9 +1,26 @@
-use Rattle.std.proofs.Common.{arith}
+use Rattle.std.proofs.Common.{◌≡◌, ◌∙◌, arith, drop, length, rules, ap, sym}
 use Rattle.std.proofs.lemmas.Grind.{common_steps}
+use Rattle.bl_session.specs.Menu.{EntryFacts, files_of, entry_at}
+use Rattle.bl_session.specs.Phases.{SessionFacts, phase_facts}
 use Rattle.bl_session.proofs.MenuLemmas.{few_files}
+use Rattle.bl_session.proofs.RequestLemmas.{first_request_is}
 use Rattle.bl_session.proofs.session.Session.missing.Goals as goal
 
-pub missing_piece-requires-clause-few : goal.missing_piece-requires-clause-few
-missing_piece-requires-clause-few g c =
-    let few = few_files c.entry.result.now c.entry.ensures.limits in
+pub first_missing-found-requires-clause-few : goal.first_missing-found-requires-clause-few
+first_missing-found-requires-clause-few g c =
+    let few = few_files c.entry-entry.result.now c.entry-entry.ensures.limits in
     grind (arith, common_steps, few)
+
+pub returns-in-Waits : goal.returns-in-Waits
+returns-in-Waits g c = λ bytes.
+    let w = c.in-Waits.waiting in
+    let attempts = c.self.inside.boot.menu.now.attempts in
+    let number : c.len.result ≡ length w.earlier.items = search rules in
+    first_request_is c.args.self.now.boot c.args.self.now.phase w.entry (drop w.next attempts)
+    w.earlier.items w.stage c.len.result (files_of c.entry-entry.result.now)
+    c.first_missing-found.result c.request_of.result bytes
+    (sym (ap (λ (s : SessionFacts). s.phase) c.self.view_is)
+    ∙ ap (phase_facts attempts) c.in-Waits.is) number
+    (ap (λ (e : EntryFacts). e.files) c.entry-entry.ensures.entry
+    ∙ ap (λ (s : SessionFacts). (entry_at s.boot.menu w.entry).files) c.self.view_is)
+    (c.first_missing-found.ensures.first bytes) (c.request_of.ensures bytes)

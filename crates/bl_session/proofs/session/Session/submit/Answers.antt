@@ -10,7 +10,7 @@ use Rattle.bl_session.proofs.session.Session.submit.Goals as goal
 pub returns-clause-err : goal.returns-clause-err
 returns-clause-err g c =
     let w = c.in-Waits.waiting in
-    let attempts = c.self.inside.menu.now.attempts in
+    let attempts = c.self.inside.boot.menu.now.attempts in
     let files = files_of c.entry-entry.result.now in
     let given = g.S.Store.given in
     let number : c.len.result ≡ length w.earlier.items = search rules in

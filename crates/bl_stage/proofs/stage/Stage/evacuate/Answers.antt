@@ -1,8 +1,8 @@
 use Rattle.std.proofs.Common.{arith, ◌≡◌, length, rules, ap, ◌∙◌}
 use Rattle.std.specs.Vec.{with_items}
 use Rattle.std.proofs.lemmas.List.{with_items_is}
-use Rattle.bl_stage.specs.Staged.{Staging, AreStaged, file_of, with_frames}
-use Rattle.bl_stage.specs.Cells.{ReadsAs, MadeWay}
+use Rattle.bl_stage.specs.Staged.{Staging, AreStaged, staged_file, with_frames}
+use Rattle.bl_stage.specs.Cells.{ReadAlike, MadeWay}
 use Rattle.bl_stage.specs.Spots.{spots}
 use Rattle.bl_stage.proofs.PieceLemmas.{kept_staged, file_evacuated}
 use Rattle.bl_stage.proofs.SpotLemmas.{spots_same}
@@ -29,7 +29,7 @@ returns-clause-files g c =
           let items : (with_items inside.frames frames).items ≡ frames =
           with_items_is inside.frames frames (search rules) in
           let before : inside.frames.items ≡ stage.frames = ap (λ s. s.frames) c.self.view_is in
-          let same : ReadsAs bytes stage.frames new frames = rw (← before) way.same in
+          let same : ReadAlike bytes stage.frames new frames = rw (← before) way.same in
           let long : length frames ≡ length stage.frames = way.long ∙ ap length before in
           let view : Staging =
           record {
@@ -40,8 +40,8 @@ returns-clause-files g c =
           } in
           rw w.result-is
           (λ file h.
-          ap (λ fs. file_of new (with_frames view fs) file) items
-          ∙ ap (λ s. file_of new (with_frames s frames) file) c.self.view_is
+          ap (λ fs. staged_file new (with_frames view fs) file) items
+          ∙ ap (λ s. staged_file new (with_frames s frames) file) c.self.view_is
           ∙ file_evacuated bytes new stage frames file kept same long h)
       | else-made w ↦ rw w.result-is tt
     ]
@@ -65,7 +65,7 @@ returns-clause-spots g c =
           let items : (with_items inside.frames frames).items ≡ frames =
           with_items_is inside.frames frames (search rules) in
           let before : inside.frames.items ≡ stage.frames = ap (λ s. s.frames) c.self.view_is in
-          let same : ReadsAs bytes stage.frames new frames = rw (← before) way.same in
+          let same : ReadAlike bytes stage.frames new frames = rw (← before) way.same in
           let long : length frames ≡ length stage.frames = way.long ∙ ap length before in
           let view : Staging =
           record {

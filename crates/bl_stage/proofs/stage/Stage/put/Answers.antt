@@ -1,13 +1,12 @@
 use Rattle.std.proofs.Common.{◌≡◌, ◌*◌, ◌<◌, ℕ, length, get_or, set, true, sym, ap, ◌∙◌}
 use Rattle.bl_mem.specs.Memory.{overwrite}
-use Rattle.bl_stage.specs.Staged.{Staging, AreStaged, file_of}
+use Rattle.bl_stage.specs.Staged.{Staging, AreStaged, staged_file}
 use Rattle.bl_stage.specs.Spots.{spots}
 use Rattle.bl_stage.specs.Pieces.{slot_in, is_piece}
 use Rattle.bl_stage.proofs.PieceLemmas.{IsPiece, kept_staged, found_piece, piece_is, piece_in_file}
 use Rattle.bl_stage.proofs.PieceLemmas.{piece_in_others}
-use Rattle.bl_stage.proofs.PutLemmas.{piece_inside, write_outside, kept_put}
+use Rattle.bl_stage.proofs.PutLemmas.{write_outside, kept_put}
 use Rattle.bl_stage.proofs.PutLemmas.{some_waits, answer_repeated}
-use Rattle.bl_mem.proofs.Overwrites.{length-overwrite}
 use Rattle.bl_stage.proofs.SpotLemmas.{spots_put}
 use Rattle.bl_stage.proofs.stage.Stage.put.Goals as goal
 
@@ -37,7 +36,7 @@ returns-clause-in_file g c =
     (c.address_of-at.ensures.is
     ∙ ap (λ k. 4096 * get_or stage.frames k 0) found.1) in
     λ _.
-    ap (λ s. file_of new s file) c.self.view_is ∙ ap (λ m. file_of m stage file) wrote
+    ap (λ s. staged_file new s file) c.self.view_is ∙ ap (λ m. staged_file m stage file) wrote
     ∙ piece_in_file stage kept bytes piece file index is c.requires.inside
 
 pub returns-clause-in_others : goal.returns-clause-in_others
@@ -66,7 +65,7 @@ returns-clause-in_others g c =
     (c.address_of-at.ensures.is
     ∙ ap (λ k. 4096 * get_or stage.frames k 0) found.1) in
     λ _ other h differ.
-    ap (λ s. file_of new s other) c.self.view_is ∙ ap (λ m. file_of m stage other) wrote
+    ap (λ s. staged_file new s other) c.self.view_is ∙ ap (λ m. staged_file m stage other) wrote
     ∙ piece_in_others stage kept bytes piece file index is c.requires.inside other h differ
 
 pub returns-clause-spots : goal.returns-clause-spots
@@ -95,10 +94,10 @@ returns-clause-spots g c =
     (c.address_of-at.ensures.is
     ∙ ap (λ k. 4096 * get_or stage.frames k 0) found.1) in
     let all = spots_put stage bytes new piece file index kept found.0
-    (ap (λ m. file_of m stage file) wrote
+    (ap (λ m. staged_file m stage file) wrote
     ∙ piece_in_file stage kept bytes piece file index is c.requires.inside)
     (λ other h differ.
-    ap (λ m. file_of m stage other) wrote
+    ap (λ m. staged_file m stage other) wrote
     ∙ piece_in_others stage kept bytes piece file index is c.requires.inside other h
     differ) in
     let put : Staging → ℕ → Staging =
@@ -119,16 +118,6 @@ returns-clause-spots g c =
     let same : put view c.in-Some.slot ≡ put stage (slot_in stage file index) =
     ap (λ s. put s c.in-Some.slot) c.self.view_is ∙ ap (λ k. put stage k) found.1 in
     λ _. ap (spots new) same ∙ all
-
-pub returns-clause-size : goal.returns-clause-size
-returns-clause-size g c =
-    let at = c.address_of-at.ensures in
-    let bytes = g.M.PhysMem.bytes c.args.memory.now in
-    let pool = c.args.self.now.pool in
-    ap length c.write.ensures.after
-    ∙ length-overwrite bytes c.address_of-at.result c.args.bytes.now
-    (piece_inside pool.start pool.end c.address_of-at.result (length c.args.bytes.now)
-    (length bytes) at.low at.high c.in-Some.ensures.short c.requires.inside)
 
 pub returns-clause-outside : goal.returns-clause-outside
 returns-clause-outside g c =

@@ -18,4 +18,4 @@ returns g c =
     (omega (arith, c.requires.low)) in
     rw c.load-handoff.ensures.places
     (λ k d h. let i = loadable.inside k d h in
-    omega (arith, i, size, c.load-handoff.ensures.size))
+    omega (arith, i, size, c.load-handoff.ensures.kept.size))

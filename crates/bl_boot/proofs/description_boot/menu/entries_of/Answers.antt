@@ -1,0 +1,21 @@
+use Rattle.std.proofs.Common.{map, arith}
+use Rattle.std.proofs.lemmas.List.{length-append}
+use Rattle.bl_load.specs.Value.{IsWithinLimits}
+use Rattle.bl_boot.proofs.MenuLemmas.{entries_more}
+use Rattle.bl_boot.proofs.ValueLemmas.{all_more}
+use Rattle.bl_boot.proofs.description_boot.menu.entries_of.Goals as goal
+
+pub loop-row-preserved : goal.loop-row-preserved
+loop-row-preserved g c =
+    let entries = c.loop-row.entries.items in
+    let entry = c.in_ok-entry_of.field-0 in
+    let count = c.loop-row.invariant.1 in (
+      rw c.in_ok-push.ensures.items
+          (entries_more (map (λ n. n.now) c.args.names.now) c.args.rows.now c.loop-row.row-index
+          c.row-item.result
+          entries entry c.row-item.is c.loop-row-test.true c.loop-row.invariant.0
+          c.in_ok-entry_of.ensures.entry),
+      rw (c.in_ok-push.ensures.items, length-append) (omega (arith, count)),
+      all_more IsWithinLimits entries _ entry c.in_ok-push.ensures.items c.loop-row.invariant.2
+          c.in_ok-entry_of.ensures.few,
+    )

@@ -1,0 +1,45 @@
+use Rattle.std.proofs.Common.{◌≡◌, ℕ, true, List, length, arith, ap, subst}
+use Rattle.bl_plan.specs.declared.part.Role.{Role}
+use Rattle.bl_params.proofs.Lengths.{length-boot_params}
+use Rattle.bl_params.proofs.PagingLemmas.{length-paging}
+use Rattle.bl_plan.specs.declared.part.Role.TheVariants.{PageTables}
+use Rattle.bl_load.specs.Addresses.{address_of}
+use Rattle.bl_load.specs.Protocols.{is_wide}
+use Rattle.bl_load.specs.LinuxRows.{told_of}
+use Rattle.bl_load.specs.Reading.{linux}
+use Rattle.bl_load.specs.PlacingKept.{HasLength}
+use Rattle.bl_load.specs.EntryFilesKept.{value_of_files}
+use Rattle.bl_load.proofs.linux.contents.linux_content.Goals as goal
+
+pub returns-in_ok-boot_params-in-BootParams-clause-short : goal.returns-in_ok-boot_params-in-BootParams-clause-short
+returns-in_ok-boot_params-in-BootParams-clause-short g c =
+    let facts = c.args.entry.now.machine.now in
+    let setup = c.args.setup.now in
+    let value = value_of_files c.args.entry.now in
+    let place = c.args.place.now in
+    let long : place.length ≡ 4096 =
+    subst (λ (role : Role). HasLength facts value (linux setup) role place.index place.length)
+    c.in-BootParams.is c.requires.rowed in
+    omega (
+      arith,
+      long,
+      length-boot_params setup.header (told_of facts value c.args.places.now),
+      ap (λ (bytes : List ℕ). length bytes) c.in_ok-boot_params-in-BootParams.ensures,
+    )
+
+pub returns-in_ok-page_tables_at-in-PageTables-clause-short : goal.returns-in_ok-page_tables_at-in-PageTables-clause-short
+returns-in_ok-page_tables_at-in-PageTables-clause-short g c =
+    let facts = c.args.entry.now.machine.now in
+    let setup = c.args.setup.now in
+    let value = value_of_files c.args.entry.now in
+    let place = c.args.place.now in
+    let has : (is_wide value.protocol ≡ true) × (place.length ≡ 0x6000) =
+    subst (λ (role : Role). HasLength facts value (linux setup) role place.index place.length)
+    c.in-PageTables.is c.requires.rowed in
+    let long = has.1 in
+    omega (
+      arith,
+      long,
+      length-paging (address_of PageTables 0 c.args.places.now),
+      ap (λ (bytes : List ℕ). length bytes) c.in_ok-page_tables_at-in-PageTables.ensures,
+    )

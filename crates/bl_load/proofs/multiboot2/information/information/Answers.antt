@@ -1,0 +1,22 @@
+use Rattle.std.proofs.Common.{◌≤◌, ℕ, List, length, arith}
+use Rattle.std.proofs.lemmas.List.{length-map}
+use Rattle.std.proofs.lemmas.List.Elements.{All-map}
+use Rattle.bl_load.specs.Kept.{lines_by}
+use Rattle.bl_load.specs.EntryFilesKept.{texts_in}
+use Rattle.bl_load.proofs.LineLemmas.{all_short}
+use Rattle.bl_load.proofs.InformationLemmas.{tags_size_is, tags_small}
+use Rattle.bl_load.proofs.multiboot2.information.information.Goals as goal
+
+pub facts_of-requires-clause-small : goal.facts_of-requires-clause-small
+facts_of-requires-clause-small g c =
+    let entry = c.args.entry.now in
+    let modules = entry.modules.now in
+    let files = texts_in entry in
+    let short = all_short modules entry.sound_modules in
+    let small =
+    tags_small (lines_by modules)
+    (All-map (λ (line : List ℕ). length line ≤ 4095) (λ m. m.line) modules short) in
+    let count = length-map modules (λ m. m.line) in
+    let few = entry.few in
+    let is = tags_size_is files c.args.places.now 0 (lines_by modules) in
+    rw c.in_ok-told.ensures.told (omega (arith, small, count, few, is))

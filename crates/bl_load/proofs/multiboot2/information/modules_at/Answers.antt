@@ -1,0 +1,68 @@
+use Rattle.std.proofs.Common.{◌≡◌, ℕ, List, ◌∷◌, ◌++◌, ◌+◌, get_or, map, drop, arith, sym, ap, length, ◌∙◌}
+use Rattle.std.proofs.lemmas.List.{drop_more}
+use Rattle.std.proofs.lemmas.List.Elements.{All-push}
+use Rattle.bl_plan.specs.declared.part.Role.TheVariants as role
+use Rattle.bl_load.specs.declared.entry.Module.{Module}
+use Rattle.bl_load.specs.Addresses.{address_of}
+use Rattle.bl_mbi.specs.InformationFacts.{IsModule}
+use Rattle.bl_load.specs.Kept.{lines_by}
+use Rattle.bl_load.specs.Rows.{told_modules}
+use Rattle.bl_load.specs.Value.{module_file}
+use Rattle.bl_load.proofs.ModuleLemmas.{told_by, told_module, told_more, view_length_at}
+use Rattle.bl_load.proofs.multiboot2.information.modules_at.Goals as goal
+
+-- a module's file, as it is told
+size_is : (g : _) (c : goal.After-len-size g)
+    → c.len-size.result
+    ≡ length (module_file (map g.V.ByteView.bytes c.args.files.now) c.loop-index.index)
+size_is g c =
+    c.len-size.ensures
+    ∙ view_length_at g.V.ByteView.bytes c.args.files.now (c.loop-index.index + 1)
+    c.index-files-index.result c.index-files-index.is
+    (omega (arith, c.requires.files, c.loop-index-test.true))
+
+pub module_at-requires-clause-end : goal.module_at-requires-clause-end
+module_at-requires-clause-end g c =
+    rw (size_is g c) (c.requires.ends c.loop-index.index c.loop-index-test.true)
+
+pub module_at-requires-clause-sound : goal.module_at-requires-clause-sound
+module_at-requires-clause-sound g c =
+    rw (c.as_slice-line.ensures, c.index-modules-index.is)
+    (c.requires.sound c.loop-index.index c.index-modules-index.result c.loop-index-test.true)
+
+pub loop-index-preserved : goal.loop-index-preserved
+loop-index-preserved g c =
+    let texts = map g.V.ByteView.bytes c.args.files.now in
+    let places = c.args.places.now in
+    let k = c.loop-index.index in
+    let modules = c.args.modules.now in
+    let i = c.loop-index.invariant in
+    let m = get_or modules k c.index-modules-index.result in
+    let rest = drop (k + 1) modules in
+    let new = c.in_ok-info.info in
+    let left : lines_by (drop k modules) ≡ m.line ∷ lines_by rest =
+    ap lines_by (drop_more modules k c.index-modules-index.result c.loop-index-test.true) in
+    let size =
+    c.len-size.ensures
+    ∙ view_length_at g.V.ByteView.bytes c.args.files.now (k + 1) c.index-files-index.result
+    c.index-files-index.is (omega (arith, c.requires.files, c.loop-index-test.true)) in
+    let line : c.as_slice-line.result.now ≡ m.line =
+    c.as_slice-line.ensures
+    ∙ ap (λ (x : Module g.row.A.Denot). x.line) c.index-modules-index.is in
+    let is : new ≡ told_module texts places k m.line =
+    c.in_ok-info.ensures.told
+    ∙ ap (λ (n : ℕ). told_by (address_of role.Module k places) n c.as_slice-line.result.now) size
+    ∙ ap (told_module texts places k) line in
+    let all : c.loop-index.told.items ++ told_modules texts places k (m.line ∷ lines_by rest)
+    ≡ told_modules texts places 0 (lines_by modules) =
+    ap (λ (ls : List (List ℕ)). c.loop-index.told.items ++ told_modules texts places k ls) (sym left)
+    ∙ i.told in
+    record {
+      told =
+          rw c.in_ok-push.ensures.items
+          (told_more texts places k c.loop-index.told.items new m.line (lines_by rest)
+          (told_modules texts places 0 (lines_by modules)) is all);
+      fits =
+          rw c.in_ok-push.ensures.items
+          (All-push IsModule c.loop-index.told.items new i.fits c.in_ok-info.ensures.fits);
+    }

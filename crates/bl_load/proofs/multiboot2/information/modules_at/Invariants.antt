@@ -1,0 +1,15 @@
+use Rattle.std.proofs.Common.{◌≡◌, ◌++◌, drop, map, All}
+use Rattle.bl_mbi.specs.InformationFacts.{IsModule}
+use Rattle.bl_load.specs.Kept.{lines_by}
+use Rattle.bl_load.specs.Rows.{told_modules}
+use Rattle.bl_load.proofs.multiboot2.information.modules_at.Given as goal
+
+-- what is told so far, and what is left, is all
+abbrev pub invariant-loop-index : goal.invariant-loop-index
+invariant-loop-index g l = record {
+  told : l.told.items
+      ++ told_modules (map g.V.ByteView.bytes l.files) l.places l.index
+      (lines_by (drop l.index l.modules))
+      ≡ told_modules (map g.V.ByteView.bytes l.files) l.places 0 (lines_by l.modules);
+  fits : All IsModule l.told.items;
+}

@@ -1,0 +1,93 @@
+use Rattle.std.proofs.Common.{◌≤◌, ℕ, List, length, map, arith, refl, subst}
+use Rattle.std.proofs.lemmas.List.{length-map}
+use Rattle.std.proofs.lemmas.Result.{IfOk-weaker, IfErr-weaker, err_from_is_err_and}
+use Rattle.bl_load.specs.KernelKept.{kernel_by, AreLoadable, IsKernelFault}
+use Rattle.bl_load.specs.Kernel.{IsKernel}
+use Rattle.bl_load.specs.Kept.{lines_by}
+use Rattle.bl_load.specs.PlanFacts.{handover_by}
+use Rattle.bl_load.specs.Reading.{multiboot2}
+use Rattle.bl_load.specs.Value.{multiboot2_value, line_fault, lines_fault}
+use Rattle.bl_load.proofs.LineLemmas.{sound_short, first_sound, all_sound}
+use Rattle.bl_load.proofs.PrepareLemmas.{first_text, prepared, refused_multiboot2, refused_places}
+use Rattle.bl_load.proofs.multiboot2.prepare.Goals as goal
+
+pub invariant_of-entry : goal.invariant_of-entry
+invariant_of-entry g c =
+    let sound =
+    first_sound (line_fault c.args.line.now) (lines_fault (lines_by c.args.modules.now))
+    c.in_ok-check_lines.ensures in
+    record {
+      sound = sound.0;
+      short = sound_short c.args.line.now sound.0;
+      sound_modules = all_sound c.args.modules.now sound.1;
+      few = c.requires.few;
+      old = c.requires.old;
+      new = c.requires.new;
+    }
+
+pub plan_parts-requires : goal.plan_parts-requires
+plan_parts-requires g c =
+    let some : 1 ≤ length c.args.files.now = omega (arith, c.requires.files) in
+    let file =
+    first_text g.V.ByteView.bytes c.args.files.now c.index-files-0.result some
+    c.index-files-0.is in
+    let kernel = kernel_by c.in_ok-kernel.kernel in
+    record {
+      read =
+          (refl, subst (λ (f : List ℕ). IsKernel f kernel) file c.in_ok-kernel.ensures.kernel);
+      files = (
+        omega (arith, c.requires.files, length-map c.args.files.now g.V.ByteView.bytes),
+        subst (λ (f : List ℕ). AreLoadable f kernel.segments)
+            file c.in_ok-kernel.ensures.loadable,
+      );
+    }
+
+pub returns-in_err-kernel-clause-fault : goal.returns-in_err-kernel-clause-fault
+returns-in_err-kernel-clause-fault g c =
+    let p =
+    err_from_is_err_and c.from_residual-in_err-kernel.result
+    c.from_residual-in_err-kernel.ensures.1 in
+    let fault = c.in_err-kernel.field-0.0 in
+    let texts = map g.V.ByteView.bytes c.args.files.now in
+    let some : 1 ≤ length c.args.files.now = omega (arith, c.requires.files) in
+    let file =
+    first_text g.V.ByteView.bytes c.args.files.now c.index-files-0.result some
+    c.index-files-0.is in
+    rw (p.1, p.2)
+    (refused_multiboot2 c.args.machine.now texts c.args.line.now (lines_by c.args.modules.now)
+    c.args.rsdps.now.old.now c.args.rsdps.now.new.now c.in_ok-check_lines.ensures fault
+    (subst (λ (f : List ℕ). IsKernelFault f fault) file c.in_err-kernel.ensures.fault))
+
+pub returns-clause-handover : goal.returns-clause-handover
+returns-clause-handover g c =
+    let facts = c.args.machine.now in
+    let texts = map g.V.ByteView.bytes c.args.files.now in
+    let value = multiboot2_value texts c.args.line.now (lines_by c.args.modules.now)
+    c.args.rsdps.now.old.now c.args.rsdps.now.new.now in
+    let kernel = kernel_by c.in_ok-kernel.kernel in
+    let some : 1 ≤ length c.args.files.now = omega (arith, c.requires.files) in
+    let file =
+    first_text g.V.ByteView.bytes c.args.files.now c.index-files-0.result some
+    c.index-files-0.is in
+    let is = subst (λ (f : List ℕ). IsKernel f kernel) file c.in_ok-kernel.ensures.kernel in
+    IfOk-weaker c.plan_parts.result
+    _ _ (λ plan h.
+    prepared facts value c.in_ok-check_lines.ensures (multiboot2 kernel)
+    (handover_by texts plan) (refl, is) h) c.plan_parts.ensures.handover
+
+pub returns-clause-fault : goal.returns-clause-fault
+returns-clause-fault g c =
+    let facts = c.args.machine.now in
+    let texts = map g.V.ByteView.bytes c.args.files.now in
+    let value = multiboot2_value texts c.args.line.now (lines_by c.args.modules.now)
+    c.args.rsdps.now.old.now c.args.rsdps.now.new.now in
+    let kernel = kernel_by c.in_ok-kernel.kernel in
+    let some : 1 ≤ length c.args.files.now = omega (arith, c.requires.files) in
+    let file =
+    first_text g.V.ByteView.bytes c.args.files.now c.index-files-0.result some
+    c.index-files-0.is in
+    let is = subst (λ (f : List ℕ). IsKernel f kernel) file c.in_ok-kernel.ensures.kernel in
+    IfErr-weaker c.plan_parts.result
+    _ _ (λ fault h.
+    refused_places facts value c.in_ok-check_lines.ensures (multiboot2 kernel) fault
+    (refl, is) h) c.plan_parts.ensures.fault

@@ -1,0 +1,36 @@
+//! An entry with its files, on a machine.
+ghost use Rattle.std.specs.Prelude.{◌≡◌, ◌≤◌, None, All, IfSome, length};
+ghost use Rattle.std.proofs.Props.{props};
+ghost use Rattle.bl_load.specs.Value.{line_fault, IsCopy};
+
+use crate::entry::Module;
+use bl_map::Machine;
+use bl_mem::{ByteView, Bytes};
+use bl_plan::Protocol;
+use std::alloc::Allocator;
+
+/// An entry with its files, on a machine: its protocol, its line, its modules and its copies of the
+/// RSDP, and its files, the kernel first. The lines have no fault.
+#[derive(Drop)]
+pub struct EntryFiles<'a, A: Allocator, V: ByteView> {
+    pub protocol: Protocol,
+    pub machine: &'a Machine<A>,
+    pub line: &'a [u8],
+    pub modules: &'a [Module<A>],
+    pub rsdp_old: &'a Option<Bytes<A>>,
+    pub rsdp_new: &'a Option<Bytes<A>>,
+    pub files: &'a [V],
+    ghost sound: { line_fault line.now ≡ None },
+    ghost short: { length line.now ≤ 4095 },
+    ghost sound_modules: { All (λ m. line_fault m.line ≡ None) modules.now },
+    ghost few: { length modules.now ≤ 64 },
+    ghost old: { IfSome rsdp_old.now IsCopy } by { Prim.hlevel props },
+    ghost new: { IfSome rsdp_new.now IsCopy } by { Prim.hlevel props },
+}
+
+/// The copies of the RSDP that an entry hands over, of ACPI 1.0 and of ACPI 2.0 or later.
+#[derive(Drop)]
+pub struct Rsdps<'a, A: Allocator> {
+    pub old: &'a Option<Bytes<A>>,
+    pub new: &'a Option<Bytes<A>>,
+}

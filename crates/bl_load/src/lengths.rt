@@ -1,0 +1,14 @@
+//! How long parts are that hold a file.
+ghost use Rattle.std.specs.Prelude.{◌≡◌};
+ghost use Rattle.bl_load.specs.PlacingKept as kept;
+
+use bl_map::whole_frames;
+
+/// How many bytes the part of a module or an initrd takes, by the length of its file. A file that
+/// no machine can hold is told as one of 2^40 bytes, which no machine can hold either, so that no
+/// sum wraps.
+pub fn told_length(size: u64) -> u64
+    ensures { result ≡ kept.told_length size }
+{
+    whole_frames(size.min(1 << 40).max(1))
+}

@@ -1,0 +1,176 @@
+//! The contents of a Linux entry's parts, at their places.
+ghost use Rattle.std.specs.Prelude.{◌≡◌, ◌≤◌, ◌<◌, ◌^◌, [], All, IfOk, length, map, unwrap_or};
+ghost use Rattle.bl_params.specs.BootParams as params;
+ghost use Rattle.bl_params.specs.Paging.{paging};
+ghost use Rattle.bl_plan.specs.declared.part.Role.TheVariants as role;
+ghost use Rattle.bl_load.specs.Value.{initrd_file};
+ghost use Rattle.bl_load.specs.Addresses as addresses;
+ghost use Rattle.bl_load.specs.LinuxRows as table;
+ghost use Rattle.bl_load.specs.Protocols as protocols;
+ghost use Rattle.bl_load.specs.Reading.{linux};
+ghost use Rattle.bl_load.specs.Parts.{content_of, payload_of};
+ghost use Rattle.bl_bzimage.specs.Setup.{IsSetup};
+ghost use Rattle.bl_load.specs.PlanFacts.{content_by};
+ghost use Rattle.bl_mem.specs.Files.{text_at};
+ghost use Rattle.bl_load.specs.Loadable.{lengths_of, content_length, IsThere, StaysInFiles};
+ghost use Rattle.bl_load.specs.PlacingKept.{IsRowed, EndsLow};
+ghost use Rattle.bl_load.specs.ReadKept.{TablesFit};
+ghost use Rattle.bl_load.specs.EntryFilesKept.{texts_in, value_of_files};
+
+use crate::addresses::address_of;
+use crate::entry_files::EntryFiles;
+use crate::linux::rows::initrd_size;
+use crate::plan::Content;
+use crate::protocols::descriptors_of;
+use bl_bzimage::Setup;
+use bl_map::{FRAME, Machine};
+use bl_mem::{ByteView, Bytes};
+use bl_params::{ParamFacts, page_tables, write_params};
+use bl_plan::{Place, Protocol, Role};
+use std::alloc::{AllocError, Allocator};
+
+/// What a kernel is told of an entry's parts, where they have these places.
+fn told_of<A: Allocator + Copy>(
+    alloc: A,
+    machine: &Machine<A>,
+    ramdisk_size: u64,
+    places: &[Place],
+) -> Result<ParamFacts<A>, AllocError>
+    requires few { length machine.now.runs ≤ 128 }
+    requires size { ramdisk_size < 2 ^ 32 }
+    requires low { All EndsLow places.now }
+    ensures { IfOk result (λ facts. facts ≡ record {
+      code32_start = addresses.address_of role.Kernel 0 places.now;
+      ramdisk_image = addresses.address_of role.Initrd 0 places.now;
+      ramdisk_size = ramdisk_size;
+      cmd_line_ptr = addresses.address_of role.CommandLine 0 places.now;
+      runs = machine.now.runs;
+    }) }
+{
+    let runs = Vec::from_slice(alloc, machine.normal())?;
+    Ok(ParamFacts::new(
+        address_of(Role::Kernel, 0, places),
+        address_of(Role::Initrd, 0, places),
+        ramdisk_size as u32,
+        address_of(Role::CommandLine, 0, places),
+        runs,
+    ))
+}
+
+/// The boot parameters, where the parts have these places.
+fn boot_params<A: Allocator + Copy, V: ByteView>(
+    alloc: A,
+    entry: &EntryFiles<'_, A, V>,
+    setup: &Setup,
+    places: &[Place],
+) -> Result<Bytes<A>, AllocError>
+    requires few { length entry.now.machine.now.runs ≤ 128 }
+    requires size { length (initrd_file (texts_in entry.now)) < 2 ^ 32 }
+    requires low { All EndsLow places.now }
+    ensures { IfOk result (λ bytes. bytes ≡ params.boot_params setup.now.header
+        (table.told_of entry.now.machine.now (value_of_files entry.now) places.now)) }
+{
+    let facts = told_of(alloc, entry.machine, initrd_size(entry.files), places)?;
+    let mut bytes = [0u8; 4096];
+    write_params(setup, &facts, &mut bytes);
+    Bytes::copy(alloc, &bytes)
+}
+
+/// The descriptors that a kernel of this protocol is handed.
+fn descriptors<A: Allocator>(alloc: A, protocol: Protocol) -> Result<Bytes<A>, AllocError>
+    ensures { IfOk result (λ bytes. bytes ≡ unwrap_or (protocols.descriptors_of protocol) []) }
+{
+    match descriptors_of(protocol) {
+        Some(bytes) => Bytes::copy(alloc, &bytes),
+        None => Bytes::copy(alloc, &[]),
+    }
+}
+
+/// The page tables, where the parts have these places.
+fn page_tables_at<A: Allocator>(alloc: A, places: &[Place]) -> Result<Bytes<A>, AllocError>
+    requires low { All EndsLow places.now }
+    requires fits { TablesFit places.now }
+    ensures { IfOk result (λ bytes. bytes
+        ≡ paging (addresses.address_of role.PageTables 0 places.now)) }
+{
+    let base = address_of(Role::PageTables, 0, places) as u64;
+    let mut bytes = Vec::with_capacity(alloc, 6 * FRAME as usize)?;
+    let mut frame = [0u8; 4096];
+    for index in 0..6 {
+        page_tables(base, index, &mut frame);
+        bytes.extend_from_slice(&frame)?;
+    }
+    Ok(Bytes::from(bytes))
+}
+
+/// The content of the initrd's part: its whole file.
+fn initrd_content<A: Allocator, V: ByteView>(files: &[V]) -> Content<A>
+    requires some { 1 ≤ length (initrd_file (map V.bytes files.now)) }
+    ensures content { content_by (map V.bytes files.now) result
+        ≡ initrd_file (map V.bytes files.now) }
+    ensures there { IsThere (lengths_of (map V.bytes files.now)) result }
+    ensures length { content_length result ≡ length (initrd_file (map V.bytes files.now)) }
+    ensures lean { StaysInFiles role.Initrd result }
+{
+    Content::File {
+        file: 1,
+        offset: 0,
+        count: initrd_size(files),
+    }
+}
+
+/// The content of the kernel's part: its payload.
+fn payload_content<A: Allocator, V: ByteView>(files: &[V], setup: &Setup) -> Content<A>
+    requires some { 1 ≤ length files.now }
+    requires setup { IsSetup (text_at (map V.bytes files.now) 0) setup.now }
+    ensures content { content_by (map V.bytes files.now) result
+        ≡ payload_of (text_at (map V.bytes files.now) 0) setup.now }
+    ensures there { IsThere (lengths_of (map V.bytes files.now)) result }
+    ensures length { content_length result ≡ setup.now.payload_size }
+    ensures lean { StaysInFiles role.Kernel result }
+{
+    Content::File {
+        file: 0,
+        offset: setup.payload_offset,
+        count: setup.payload_size,
+    }
+}
+
+/// The content of the part at a place, where the parts have these places.
+pub fn linux_content<A: Allocator + Copy, V: ByteView>(
+    alloc: A,
+    entry: &EntryFiles<'_, A, V>,
+    setup: &Setup,
+    places: &[Place],
+    place: &Place,
+) -> Result<Content<A>, AllocError>
+    requires some { 1 ≤ length entry.now.files.now }
+    requires setup { IsSetup (text_at (texts_in entry.now) 0) setup.now }
+    requires few { length entry.now.machine.now.runs ≤ 128 }
+    requires size { length (initrd_file (texts_in entry.now)) < 2 ^ 32 }
+    requires low { All EndsLow places.now }
+    requires tables { TablesFit places.now }
+    requires rowed { IsRowed entry.now.machine.now (value_of_files entry.now)
+        (linux setup.now) place.now }
+    ensures content { IfOk result (λ content. content_by (texts_in entry.now) content
+        ≡ content_of entry.now.machine.now (value_of_files entry.now)
+        (linux setup.now) places.now place.now.role place.now.index) }
+    ensures there { IfOk result (λ content. IsThere (lengths_of (texts_in entry.now)) content) }
+    ensures short { IfOk result (λ content. content_length content ≤ place.now.length) }
+    ensures lean { IfOk result (StaysInFiles place.now.role) }
+{
+    match place.role {
+        Role::Kernel => Ok(payload_content(entry.files, setup)),
+        Role::BootParams => Ok(Content::Own(boot_params(alloc, entry, setup, places)?)),
+        Role::CommandLine => Ok(Content::Own(Bytes::copy(alloc, entry.line)?)),
+        Role::Gdt => Ok(Content::Own(descriptors(alloc, entry.protocol)?)),
+        Role::Initrd => Ok(initrd_content(entry.files)),
+        Role::PageTables => Ok(Content::Own(page_tables_at(alloc, places)?)),
+        // A Linux entry has no such part, and this is no byte of it.
+        Role::Module | Role::Information => Ok(Content::File {
+            file: 0,
+            offset: 0,
+            count: 0,
+        }),
+    }
+}

@@ -1,0 +1,114 @@
+//! A Multiboot2 entry.
+ghost use Rattle.std.specs.Prelude.{◌≡◌, ◌≤◌, ◌<◌, ◌+◌, ◌^◌, IfOk, IfErr, IfSome, length, map};
+ghost use Rattle.bl_load.specs.Blocks as blocks;
+ghost use Rattle.bl_load.specs.KernelKept.{kernel_by};
+ghost use Rattle.bl_load.specs.Reading.{multiboot2};
+ghost use Rattle.bl_load.specs.Value.{multiboot2_value, IsCopy};
+ghost use Rattle.bl_load.specs.Parts as parts;
+ghost use Rattle.bl_load.specs.Parts.{IsHandover, IsPrepFault};
+ghost use Rattle.bl_load.specs.PlanFacts.{handover_by};
+ghost use Rattle.bl_load.specs.Kept.{lines_by};
+ghost use Rattle.bl_load.specs.Loadable.{lengths_of, IsLoadable, IsLean};
+
+use crate::addresses::address_of;
+use crate::entry::Module;
+use crate::entry_files::{EntryFiles, Rsdps};
+use crate::lines::check_lines;
+use crate::multiboot2::contents::multiboot2_content;
+use crate::multiboot2::kernel::{Kernel, read_kernel};
+use crate::multiboot2::rows::{low_of, multiboot2_rows};
+use crate::placing::plan_parts;
+use crate::plan::{Content, Plan};
+use crate::reading::ReadKernel;
+use crate::refusal::PrepFault;
+use crate::registers::{Registers, multiboot2_registers};
+use bl_map::Machine;
+use bl_mem::ByteView;
+use bl_plan::{Place, Protocol, Role, Row};
+use std::alloc::{AllocError, Allocator};
+
+mod contents;
+mod information;
+mod kernel;
+mod rows;
+
+/// Where a Multiboot2 kernel is entered, once the first of its parts stands at `base`.
+fn entered_at<A: Allocator>(kernel: &Kernel<A>, base: u64) -> u64
+    requires above { blocks.low_of (kernel_by kernel.now).segments ≤ kernel.now.entry }
+    requires below { kernel.now.entry + base < 2 ^ 64 }
+    ensures { result ≡ parts.entered_at kernel.now.entry (kernel_by kernel.now).segments
+        kernel.now.relocation base }
+{
+    match kernel.relocation {
+        None => kernel.entry,
+        Some(_) => kernel.entry - low_of(kernel.executable.segments()) + base,
+    }
+}
+
+impl<B: Allocator> ReadKernel for Kernel<B> {
+    ghost reading = { λ kernel. multiboot2 (kernel_by kernel) };
+
+    fn rows<A: Allocator + Copy, V: ByteView>(
+        &self,
+        alloc: A,
+        entry: &EntryFiles<'_, A, V>,
+    ) -> Result<Vec<Row, A>, AllocError> {
+        multiboot2_rows(alloc, entry, self)
+    }
+
+    fn content<A: Allocator + Copy, V: ByteView>(
+        &self,
+        alloc: A,
+        entry: &EntryFiles<'_, A, V>,
+        places: &[Place],
+        place: &Place,
+    ) -> Result<Content<A>, AllocError> {
+        multiboot2_content(alloc, entry, self, places, place)
+    }
+
+    fn registers(&self, _protocol: Protocol, places: &[Place]) -> Registers {
+        let base = address_of(Role::Kernel, 0, places);
+        let entry = entered_at(self, base as u64) as u32;
+        let information = address_of(Role::Information, 0, places);
+        Registers::Bits32(multiboot2_registers(entry, information))
+    }
+}
+
+/// What is loaded for a Multiboot2 entry of this line, these modules and these copies of the RSDP,
+/// or its first refusal.
+pub fn prepare<A: Allocator + Copy, V: ByteView>(
+    alloc: A,
+    machine: &Machine<A>,
+    line: &[u8],
+    modules: &[Module<A>],
+    rsdps: &Rsdps<'_, A>,
+    files: &[V],
+) -> Result<Plan<A>, PrepFault>
+    requires files { length files.now ≡ 1 + length modules.now }
+    requires few { length modules.now ≤ 64 }
+    requires old { IfSome rsdps.now.old.now IsCopy }
+    requires new { IfSome rsdps.now.new.now IsCopy }
+    ensures handover { IfOk result (λ plan. IsHandover machine.now
+        (multiboot2_value (map V.bytes files.now) line.now (lines_by modules.now) rsdps.now.old.now
+        rsdps.now.new.now)
+        (handover_by (map V.bytes files.now) plan)) }
+    ensures loadable { IfOk result (λ plan. IsLoadable
+        (lengths_of (map V.bytes files.now)) machine.now.size plan) }
+    ensures lean { IfOk result (λ plan. IsLean plan.parts.items) }
+    ensures fault { IfErr result (λ fault. IsPrepFault machine.now
+        (multiboot2_value (map V.bytes files.now) line.now (lines_by modules.now) rsdps.now.old.now
+        rsdps.now.new.now) fault) }
+{
+    check_lines(line, modules)?;
+    let kernel = read_kernel(alloc, &files[0])?;
+    let entry = EntryFiles {
+        protocol: Protocol::Multiboot2,
+        machine,
+        line,
+        modules,
+        rsdp_old: rsdps.old,
+        rsdp_new: rsdps.new,
+        files,
+    };
+    plan_parts(alloc, &entry, &kernel)
+}

@@ -1,0 +1,167 @@
+//! The information that a Multiboot2 kernel is handed.
+ghost use Rattle.std.specs.Prelude.{◌≡◌, ◌≤◌, ◌<◌, ◌+◌, ◌^◌, None, All, length, map, sum_by, codes};
+ghost use Rattle.std.specs.Prelude.{option_map, IfOk, IfSome};
+ghost use Rattle.bl_map.specs.Kinds.{low_kib, high_kib};
+ghost use Rattle.bl_mbi.specs.InformationFacts.{AreBytes, IsModule};
+ghost use Rattle.bl_mbi.specs.Size.{tag_size};
+ghost use Rattle.bl_mbi.specs.Spelling.{info_spelling};
+ghost use Rattle.bl_plan.specs.declared.part.Role.TheVariants as role;
+ghost use Rattle.bl_load.specs.Addresses.{address_of};
+ghost use Rattle.bl_load.specs.Value.{line_fault};
+ghost use Rattle.bl_load.specs.Rows.{told_modules, information_of};
+ghost use Rattle.bl_load.specs.Kept.{lines_by};
+ghost use Rattle.bl_load.specs.PlacingKept.{EndsLow, ModulesEndLow};
+ghost use Rattle.bl_load.specs.EntryFilesKept.{texts_in, value_of_files};
+
+use crate::addresses;
+use crate::entry::Module;
+use crate::entry_files::EntryFiles;
+use bl_mb2head::Relocation;
+use bl_mbi::{Facts, Module as ModuleInfo, write_info};
+use bl_mem::{ByteView, Bytes};
+use bl_plan::{Place, Role};
+use std::alloc::{AllocError, Allocator};
+
+/// What the information tells of the module of this line, whose file has `size` bytes, where the
+/// parts have these places.
+fn module_at<A: Allocator + Copy>(
+    alloc: A,
+    index: u32,
+    line: &[u8],
+    size: u64,
+    places: &[Place],
+) -> Result<ModuleInfo<A>, AllocError>
+    requires sound { line_fault line.now ≡ None }
+    requires low { All EndsLow places.now }
+    requires end { address_of role.Module index places.now + size ≤ 0xFFFFF000 }
+    ensures told { IfOk result (λ told. told ≡ record {
+      mod_start = address_of role.Module index places.now;
+      mod_end = address_of role.Module index places.now + size;
+      line = line.now;
+    }) }
+    ensures fits { IfOk result IsModule }
+{
+    let mod_start = addresses::address_of(Role::Module, index, places);
+    let line = Bytes::copy(alloc, line)?;
+    Ok(ModuleInfo {
+        mod_start,
+        mod_end: mod_start + size as u32,
+        line,
+    })
+}
+
+/// What the information tells of the modules, where the parts have these places.
+fn modules_at<A: Allocator + Copy, V: ByteView>(
+    alloc: A,
+    modules: &[Module<A>],
+    files: &[V],
+    places: &[Place],
+) -> Result<Vec<ModuleInfo<A>, A>, AllocError>
+    requires sound { All (λ m. line_fault m.line ≡ None) modules.now }
+    requires few { length modules.now ≤ 64 }
+    requires files { length files.now ≡ 1 + length modules.now }
+    requires low { All EndsLow places.now }
+    requires ends { ModulesEndLow (map V.bytes files.now) places.now (length modules.now) }
+    ensures told { IfOk result (λ told. told.items
+        ≡ told_modules (map V.bytes files.now) places.now 0 (lines_by modules.now)) }
+    ensures fits { IfOk result (λ told. All IsModule told.items) }
+{
+    let mut told = Vec::with_capacity(alloc, modules.len())?;
+    for (index, module) in modules.iter().enumerate() {
+        let line = module.line.as_slice();
+        let size = files[index + 1].len();
+        let info = module_at(alloc, index as u32, line, size, places)?;
+        told.push(info)?;
+    }
+    Ok(told)
+}
+
+/// A copy of the copy, if there is one.
+fn copy_of<A: Allocator + Copy>(
+    alloc: A,
+    copy: &Option<Bytes<A>>,
+) -> Result<Option<Bytes<A>>, AllocError>
+    ensures same { IfOk result (λ same. same ≡ copy.now) }
+    ensures bytes { IfOk result (λ same. IfSome same AreBytes) }
+{
+    match copy {
+        Some(bytes) => Ok(Some(Bytes::copy(alloc, bytes.as_slice())?)),
+        None => Ok(None),
+    }
+}
+
+/// What the information tells, with these modules.
+fn facts_of<A: Allocator + Copy, V: ByteView>(
+    alloc: A,
+    entry: &EntryFiles<'_, A, V>,
+    modules: Vec<ModuleInfo<A>, A>,
+    load_base: Option<u32>,
+) -> Result<Facts<A>, AllocError>
+    requires modules { All IsModule modules.items }
+    requires small { sum_by (λ n. tag_size (n + 9)) (map (λ m. length m.line) modules.items)
+        < 2 ^ 20 }
+    requires base { IfSome load_base (λ base. base < 2 ^ 32) }
+    ensures { IfOk result (λ facts. facts ≡ record {
+      line = entry.now.line.now;
+      modules = modules.items;
+      mem_lower = low_kib entry.now.machine.now.runs;
+      mem_upper = high_kib entry.now.machine.now.runs;
+      runs = entry.now.machine.now.runs;
+      rsdp_old = entry.now.rsdp_old.now;
+      rsdp_new = entry.now.rsdp_new.now;
+      load_base = load_base;
+    }) }
+{
+    let machine = entry.machine;
+    let mem_lower = machine.low_kib() as u32;
+    let mem_upper = machine.high_kib() as u32;
+    let line = Bytes::copy(alloc, entry.line)?;
+    let runs = Vec::from_slice(alloc, machine.normal())?;
+    let rsdp_old = copy_of(alloc, entry.rsdp_old)?;
+    let rsdp_new = copy_of(alloc, entry.rsdp_new)?;
+    Ok(Facts::new(
+        line, modules, mem_lower, mem_upper, runs, rsdp_old, rsdp_new, load_base,
+    ))
+}
+
+/// The information's bytes.
+fn spell<A: Allocator>(alloc: A, facts: Facts<A>) -> Result<Bytes<A>, AllocError>
+    ensures { IfOk result (λ bytes. bytes ≡ info_spelling (codes "bootcore") facts) }
+{
+    let mut out = Vec::new(alloc);
+    write_info(&facts, &mut out)?;
+    Ok(Bytes::from(out))
+}
+
+/// The load base that the information tells: only where the kernel has a relocatable header tag.
+fn load_base_of(relocation: &Option<Relocation>, base: u32) -> Option<u32>
+    ensures value { result ≡ option_map (λ r. base) relocation.now }
+    ensures below { IfSome result (λ base. base < 2 ^ 32) }
+{
+    match relocation {
+        Some(_) => Some(base),
+        None => None,
+    }
+}
+
+/// The information's bytes, where the parts have these places.
+pub fn information<A: Allocator + Copy, V: ByteView>(
+    alloc: A,
+    entry: &EntryFiles<'_, A, V>,
+    relocation: &Option<Relocation>,
+    places: &[Place],
+) -> Result<Bytes<A>, AllocError>
+    requires files { length entry.now.files.now ≡ 1 + length entry.now.modules.now }
+    requires low { All EndsLow places.now }
+    requires ends { ModulesEndLow (texts_in entry.now) places.now
+        (length entry.now.modules.now) }
+    ensures { IfOk result (λ bytes. bytes
+        ≡ info_spelling (codes "bootcore") (information_of entry.now.machine.now
+        (value_of_files entry.now) relocation.now places.now)) }
+{
+    let base = addresses::address_of(Role::Kernel, 0, places);
+    let load_base = load_base_of(relocation, base);
+    let told = modules_at(alloc, entry.modules, entry.files, places)?;
+    let facts = facts_of(alloc, entry, told, load_base)?;
+    spell(alloc, facts)
+}

@@ -1,0 +1,15 @@
+use Rattle.std.proofs.Common.{◌≡◌, ◌-◌, ◌+◌, ◌*◌, ◌<◌, ℕ}
+use Rattle.bl_mem.specs.declared.frame.Frame.TheVariants.{Kept}
+use Rattle.bl_mem.specs.Frames.{frame_numbered}
+use Rattle.bl_mem.proofs.frames.Frames.are_together.Given as goal
+
+-- the frames so far do
+abbrev pub invariant-loop-index : goal.invariant-loop-index
+invariant-loop-index g l =
+    record {
+      within : 4096 * l.index < l.count + 4096;
+      made : (k : ℕ) → k < l.index → frame_numbered l.self (l.number + k) ≡ Kept (l.slot + k);
+    }
+
+abbrev pub decreases-loop-index : goal.decreases-loop-index
+decreases-loop-index g l = l.count - 4096 * l.index

@@ -1,0 +1,24 @@
+-- What a frame of memory reads as, and where it is kept. Own.
+use Rattle.std.specs.Prelude.{ℕ, ◌+◌, ◌*◌, Bool, true, false, List, slice_index_or}
+use Rattle.bl_mem.specs.declared.frame.Frame.{Frame}
+use Rattle.bl_mem.specs.declared.frame.Frame.TheVariants.{Bare, Plain, Kept, Wiped}
+
+abbrev pub has_room : Frame → Bool
+has_room Bare = false
+has_room (Plain value) = true
+has_room (Kept slot) = true
+has_room (Wiped slot) = true
+
+-- the byte at a place of a frame: `fill` if it has no room, and that of its slot if it is kept
+abbrev pub byte_in : ℕ → List ℕ → Frame → ℕ → ℕ
+byte_in fill kept Bare place = fill
+byte_in fill kept (Plain value) place = value
+byte_in fill kept (Kept slot) place = slice_index_or kept (4096 * slot + place) 0
+byte_in fill kept (Wiped slot) place = 0
+
+-- a frame after it was cleared
+abbrev pub cleared : Frame → Frame
+cleared Bare = Bare
+cleared (Plain value) = Plain 0
+cleared (Kept slot) = Wiped slot
+cleared (Wiped slot) = Wiped slot

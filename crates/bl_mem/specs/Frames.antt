@@ -1,0 +1,57 @@
+-- What memory reads as, of which only some frames of 4096 bytes are kept. Own.
+use Rattle.std.specs.Prelude.{◌≡◌, ℕ, ◌+◌, ◌-◌, ◌/◌, ◌%◌, ◌<◌, ◌≤◌, true, List, length}
+use Rattle.std.specs.Prelude.{slice_index_or}
+use Rattle.bl_mem.specs.declared.frame.Frame.{Frame}
+use Rattle.bl_mem.specs.declared.frame.Frame.TheVariants.{Bare}
+use Rattle.bl_mem.specs.Memory.{KeepsRoom}
+use Rattle.bl_mem.specs.Frame.{has_room, byte_in}
+
+-- the byte of a frame without room, the frames by number, and the slots, of 4096 bytes each
+pub record FramesFacts : Type 0 where
+  pub fill : ℕ
+  pub table : List Frame
+  pub kept : List ℕ
+
+abbrev pub frame_numbered : FramesFacts → ℕ → Frame
+frame_numbered facts number = slice_index_or facts.table number Bare
+
+-- the byte at an address: frame a div 4096, place a mod 4096
+abbrev pub frame_byte : FramesFacts → ℕ → ℕ
+frame_byte facts a = byte_in facts.fill facts.kept (frame_numbered facts (a / 4096)) (a % 4096)
+
+-- the address's frame has room
+abbrev pub IsHeld : FramesFacts → ℕ → Type 0
+IsHeld facts a = has_room (frame_numbered facts (a / 4096)) ≡ true
+
+-- the frames from `first` on have room, up to `end`
+abbrev pub AreOpen : FramesFacts → ℕ → ℕ → Type 0
+AreOpen facts first end =
+    (number : ℕ) → first ≤ number → number < end → has_room (frame_numbered facts number) ≡ true
+
+-- all bytes are as they were
+abbrev pub SameBytes : FramesFacts → FramesFacts → Type 0
+SameBytes old new = (a : ℕ) → frame_byte new a ≡ frame_byte old a
+
+-- the bytes of a part are those from `at` on
+abbrev pub AreBytesAt : (ℕ → ℕ) → ℕ → List ℕ → Type 0
+AreBytesAt byte at part = (k : ℕ) → k < length part → byte (at + k) ≡ slice_index_or part k 0
+
+-- likewise, of a part that is lent
+pub record IsLent (facts : FramesFacts) (at : ℕ) (count : ℕ) (part : List ℕ) : Type 0 where
+  pub len : length part ≡ count
+  pub bytes : AreBytesAt (frame_byte facts) at part
+
+-- a part was written from `at` on, and nothing else changed
+pub record IsWritten (old : FramesFacts) (new : FramesFacts) (at : ℕ) (part : List ℕ) : Type 0 where
+  pub inside : (a : ℕ) → at ≤ a → a < at + length part
+      → frame_byte new a ≡ slice_index_or part (a - at) 0
+  pub below : (a : ℕ) → a < at → frame_byte new a ≡ frame_byte old a
+  pub above : (a : ℕ) → at + length part ≤ a → frame_byte new a ≡ frame_byte old a
+  pub room : KeepsRoom (IsHeld old) (IsHeld new)
+
+-- a frame's bytes are a part's, and nothing else changed
+pub record IsStored (old : FramesFacts) (new : FramesFacts) (number : ℕ) (part : List ℕ)
+    : Type 0 where
+  pub here : (a : ℕ) → a / 4096 ≡ number → frame_byte new a ≡ slice_index_or part (a % 4096) 0
+  pub beside : (a : ℕ) → ¬ (a / 4096 ≡ number) → frame_byte new a ≡ frame_byte old a
+  pub room : KeepsRoom (IsHeld old) (IsHeld new)

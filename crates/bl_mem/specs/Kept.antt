@@ -1,0 +1,65 @@
+-- What only the code of frames keeps: whose each slot is, and that there is room for more. Own.
+use Rattle.std.specs.Prelude.{◌≡◌, ℕ, ◌+◌, ◌-◌, ◌*◌, ◌/◌, ◌%◌, ◌<◌, ◌≤◌, true, List, length}
+use Rattle.std.specs.Prelude.{Option, Some, None, slice_index_or}
+use Rattle.std.specs.List.{sum_by}
+use Rattle.bl_mem.specs.declared.frame.Frame.{Frame}
+use Rattle.bl_mem.specs.declared.frame.Frame.TheVariants.{Bare, Plain, Kept, Wiped}
+use Rattle.bl_mem.specs.Memory.{KeepsRoom}
+use Rattle.bl_mem.specs.Frame.{has_room, byte_in}
+use Rattle.bl_mem.specs.Frames.{FramesFacts, frame_numbered, frame_byte, IsHeld}
+
+-- the slot that is a frame's own
+abbrev pub slot_of : Frame → Option ℕ
+slot_of Bare = None
+slot_of (Plain value) = None
+slot_of (Kept slot) = Some slot
+slot_of (Wiped slot) = Some slot
+
+-- 1 if a frame has room and no slot
+abbrev pub owes : Frame → ℕ
+owes Bare = 0
+owes (Plain value) = 1
+owes (Kept slot) = 0
+owes (Wiped slot) = 0
+
+-- each frame's slot is one of those kept, and its own alone; each frame that has room and no slot
+-- is counted, and there is room for so many
+pub record AreSoundSlots (table : List Frame) (len : ℕ) (owed : ℕ) (capacity : ℕ) : Type 0 where
+  pub whole : len % 4096 ≡ 0
+  pub counted : owed ≡ sum_by owes table
+  pub room : len + 4096 * owed ≤ capacity
+  pub few : len + 4096 * owed ≤ 17592186044416
+  pub inside : (i s : ℕ) → slot_of (slice_index_or table i Bare) ≡ Some s → 4096 * s + 4096 ≤ len
+  pub own : (i j s : ℕ) → slot_of (slice_index_or table i Bare) ≡ Some s
+      → slot_of (slice_index_or table j Bare) ≡ Some s → i ≡ j
+
+-- a frame is kept in a slot, and the bytes of all other frames stay
+pub record IsKeptIn (old : FramesFacts) (new : FramesFacts) (number : ℕ) (slot : ℕ) : Type 0 where
+  pub here : frame_numbered new number ≡ Kept slot
+  pub beside : (a : ℕ) → ¬ (a / 4096 ≡ number) → frame_byte new a ≡ frame_byte old a
+  pub room : KeepsRoom (IsHeld old) (IsHeld new)
+
+-- a slot has the bytes of a part
+abbrev pub IsPutAt : List ℕ → ℕ → List ℕ → Type 0
+IsPutAt kept slot part =
+    (k : ℕ) → k < 4096 → slice_index_or kept (4096 * slot + k) 0 ≡ slice_index_or part k 0
+
+-- the slots of frames follow one another, for `count` bytes
+abbrev pub AreTogether : FramesFacts → ℕ → ℕ → ℕ → Type 0
+AreTogether facts number slot count =
+    (k : ℕ) → 4096 * k < count → frame_numbered facts (number + k) ≡ Kept (slot + k)
+
+-- frames have room, and those that had none are counted; each reads as before
+pub record AreOpened (old : List Frame) (new : List Frame) (first : ℕ) (end : ℕ) (fill : ℕ)
+    (opened : ℕ) : Type 0 where
+  pub size : length new ≡ length old
+  pub counted : sum_by owes new ≡ sum_by owes old + opened
+  pub most : opened ≤ end - first
+  pub made : (i : ℕ) → first ≤ i → i < end → has_room (slice_index_or new i Bare) ≡ true
+  pub room : (i : ℕ) → has_room (slice_index_or old i Bare) ≡ true
+      → has_room (slice_index_or new i Bare) ≡ true
+  pub slots : (i s : ℕ) → slot_of (slice_index_or new i Bare) ≡ Some s
+      → slot_of (slice_index_or old i Bare) ≡ Some s
+  pub bytes : (kept : List ℕ) (i place : ℕ)
+      → byte_in fill kept (slice_index_or new i Bare) place
+      ≡ byte_in fill kept (slice_index_or old i Bare) place

@@ -1,0 +1,42 @@
+//! What one frame of memory is.
+ghost use Rattle.std.specs.Prelude.{◌≡◌};
+ghost use Rattle.bl_mem.specs.Frame.{has_room, cleared};
+
+/// The bytes of a frame.
+pub const FRAME: u64 = 4096;
+
+/// A frame: whether it has room, and what it reads as.
+#[derive(Clone, Copy)]
+pub enum Frame {
+    /// It has no room.
+    Bare,
+    /// It has room that nothing was written into, and each of its bytes is this.
+    Plain(u8),
+    /// Its bytes are kept, in the slot of this number.
+    Kept(u32),
+    /// It was cleared after it was written, so each of its bytes is 0. The slot is still its own.
+    Wiped(u32),
+}
+
+impl Frame {
+    /// Whether it has room.
+    pub fn has_room(self) -> bool
+        ensures { result ≡ has_room self }
+    {
+        match self {
+            Frame::Bare => false,
+            Frame::Plain(_) | Frame::Kept(_) | Frame::Wiped(_) => true,
+        }
+    }
+
+    /// The frame after it was cleared, which has room.
+    pub fn cleared(self) -> Frame
+        ensures { result ≡ cleared self }
+    {
+        match self {
+            Frame::Bare => Frame::Bare,
+            Frame::Plain(_) => Frame::Plain(0),
+            Frame::Kept(slot) | Frame::Wiped(slot) => Frame::Wiped(slot),
+        }
+    }
+}

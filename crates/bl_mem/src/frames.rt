@@ -1,0 +1,138 @@
+//! Frames of memory, of which those are kept that were written to.
+ghost use Rattle.std.specs.Prelude.{◌≡◌, ◌+◌, ◌*◌, ◌%◌, ◌/◌, ◌<◌, ◌≤◌, ◌^◌, [], length, true};
+ghost use Rattle.std.specs.Prelude.{IfSome};
+ghost use Rattle.bl_mem.specs.declared.frame.Frame.TheVariants.{Kept};
+ghost use Rattle.bl_mem.specs.Frames.{frame_numbered, frame_byte, AreBytesAt, IsLent};
+ghost use Rattle.bl_mem.specs.Kept.{AreTogether};
+
+use crate::frame::{FRAME, Frame};
+use std::alloc::Allocator;
+use std::marker::Model;
+
+mod room;
+mod writing;
+
+/// The bytes of a frame.
+const WIDTH: usize = 4096;
+
+/// The frames of a memory.
+///
+/// A frame gets its slot by the first write to it, so that the slots lie in the order of these
+/// writes, and no byte is put down before it is written. Room is asked for as one request for all
+/// frames of a gap, and nothing is written into it then.
+#[derive(Drop)]
+pub struct Frames<A: Allocator> {
+    fill: u8,
+    table: Vec<Frame, A>,
+    kept: Vec<u8, A>,
+    /// How many frames have room and no slot yet.
+    owed: usize,
+}
+
+impl<A: Allocator> Model for Frames<A> {
+    ghost use Rattle.std.specs.Prelude.{vec_len, vec_capacity};
+    ghost use Rattle.bl_mem.specs.Frames.{FramesFacts};
+    ghost use Rattle.bl_mem.specs.Kept.{AreSoundSlots};
+
+    ghost Value = { FramesFacts };
+
+    ghost view = { λ frames. record {
+      fill = frames.fill;
+      table = frames.table.items;
+      kept = frames.kept.items;
+    } };
+
+    ghost invariant = { λ frames. AreSoundSlots frames.table.items (vec_len frames.kept) frames.owed
+        (vec_capacity frames.kept) };
+}
+
+impl<A: Allocator + Copy> Frames<A> {
+    /// No frame has room, and all bytes are `fill`.
+    pub fn new(alloc: A, fill: u8) -> Frames<A>
+        ensures { result ≡ record { fill = fill; table = []; kept = [] } }
+    {
+        Frames {
+            fill,
+            table: Vec::new(alloc),
+            kept: Vec::new(alloc),
+            owed: 0,
+        }
+    }
+
+    /// The frame of a number.
+    fn frame(&self, number: u64) -> Frame
+        ensures { result ≡ frame_numbered self.now number }
+    {
+        if number < self.table.len() as u64 {
+            self.table[number as usize]
+        } else {
+            Frame::Bare
+        }
+    }
+
+    /// Where the byte of an address stands whose frame is kept.
+    fn start(&self, at: u64, slot: u32) -> usize
+        requires { frame_numbered self.now (at / 4096) ≡ Kept slot }
+        ensures exact { result ≡ 4096 * slot + at % 4096 }
+        ensures inside { 4096 * slot + 4096 ≤ length self.now.kept }
+        ensures few { length self.now.kept ≤ 2 ^ 44 }
+    {
+        let _owed = self.owed;
+        WIDTH * slot as usize + (at % FRAME) as usize
+    }
+
+    /// Reads bytes of one frame.
+    pub fn read(&self, at: u64, out: &mut [u8])
+        requires one { at % 4096 + length out.old ≤ 4096 }
+        ensures { AreBytesAt (frame_byte self.now) at out.new }
+    {
+        match self.frame(at / FRAME) {
+            Frame::Bare => out.fill(self.fill),
+            Frame::Plain(value) => out.fill(value),
+            Frame::Kept(slot) => {
+                let start = self.start(at, slot);
+                out.copy_from_slice(&self.kept[start..start + out.len()]);
+            }
+            Frame::Wiped(_) => out.fill(0),
+        }
+    }
+
+    /// Whether the slots of the frames from `number` on follow one another from `slot` on, for
+    /// `count` bytes.
+    fn are_together(&self, number: u64, slot: u32, count: usize) -> bool
+        requires small { number ≤ 2 ^ 60 }
+        requires few { count ≤ 2 ^ 60 }
+        ensures { result ≡ true → AreTogether self.now number slot count }
+    {
+        let mut index = 0;
+        while FRAME * index < count as u64 {
+            match self.frame(number + index) {
+                Frame::Kept(next) => {
+                    if next as u64 != slot as u64 + index {
+                        return false;
+                    }
+                }
+                Frame::Bare | Frame::Plain(_) | Frame::Wiped(_) => return false,
+            }
+            index += 1;
+        }
+        true
+    }
+
+    /// Lends bytes if they are kept and lie together.
+    pub fn lend(&self, at: u64, count: usize) -> Option<&[u8]>
+        requires { at + count < 2 ^ 64 }
+        ensures { IfSome result (λ part. IsLent self.now at count part.now) }
+    {
+        let place = (at % FRAME) as usize;
+        if let Frame::Kept(slot) = self.frame(at / FRAME) {
+            let start = self.start(at, slot);
+            if count <= self.kept.len() - start
+                && self.are_together(at / FRAME, slot, place + count)
+            {
+                return Some(&self.kept[start..start + count]);
+            }
+        }
+        None
+    }
+}

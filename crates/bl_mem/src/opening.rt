@@ -1,0 +1,49 @@
+//! Room for frames.
+ghost use Rattle.std.specs.Prelude.{◌≡◌, ◌≤◌, ◌<◌, ◌+◌, length, replicate, vec_len};
+ghost use Rattle.bl_mem.specs.Memory.{overwrite};
+ghost use Rattle.bl_mem.specs.Kept.{AreOpened};
+
+use crate::frame::Frame;
+use std::alloc::Allocator;
+
+/// Notes that a frame has room, and answers 1 if it had none, and else 0.
+fn open_frame<A: Allocator>(table: &mut Vec<Frame, A>, at: usize, fill: u8) -> usize
+    requires { at < vec_len table.old }
+    ensures { AreOpened table.old.items table.new.items at (at + 1) fill result }
+{
+    if table[at].has_room() {
+        return 0;
+    }
+    table[at] = Frame::Plain(fill);
+    1
+}
+
+/// Notes that the frames from `first` on and below `end` have room, and answers how many had none.
+pub fn give_room<A: Allocator>(
+    table: &mut Vec<Frame, A>,
+    first: usize,
+    end: usize,
+    fill: u8,
+) -> usize
+    requires forward { first ≤ end }
+    requires inside { end ≤ vec_len table.old }
+    ensures { AreOpened table.old.items table.new.items first end fill result }
+{
+    let mut opened = 0;
+    let mut at = first;
+    while at < end {
+        opened += open_frame(table, at, fill);
+        at += 1;
+    }
+    opened
+}
+
+/// A frame whose bytes all are `value` but for those of a part.
+pub fn frame_around(value: u8, place: usize, part: &[u8]) -> [u8; 4096]
+    requires { place + length part.now ≤ 4096 }
+    ensures { result ≡ overwrite (replicate 4096 value) place part.now }
+{
+    let mut whole = [value; 4096];
+    whole[place..place + part.len()].copy_from_slice(part);
+    whole
+}

@@ -1,0 +1,75 @@
+use Rattle.std.proofs.Common.{◌≡◌, List, Some, drop, ap, refl, rules, subst}
+use Rattle.bl_session.specs.Menu.{facts_of}
+use Rattle.bl_session.specs.Boot.{unstarted, handed_over, Begins, Continues}
+use Rattle.bl_session.specs.Attempt.{attempt_by}
+use Rattle.bl_stage.specs.Spots.{spots}
+use Rattle.bl_session.specs.PhasesKept.{facts_of_boot, state_of, phase_by}
+use Rattle.bl_session.specs.declared.attempt.Attempt.TheVariants.{Waits, Ended}
+use Rattle.bl_session.specs.declared.attempt.AttemptEnd.TheVariants.{HandedOver, Refused}
+use Rattle.bl_session.specs.Phases.{handover_held}
+use Rattle.bl_session.specs.declared.words.RefusedEntry.{RefusedEntry}
+use Rattle.bl_session.proofs.AdvanceLemmas.{continues, continues_later, attempt_of_entry}
+use Rattle.bl_session.proofs.KeptMemoryLemmas.{memory_later}
+use Rattle.bl_session.proofs.attempts.settle.Goals as goal
+
+pub returns-in-None-clause-continues : goal.returns-in-None-clause-continues
+returns-in-None-clause-continues g c =
+    let w = c.args.running.now in
+    let facts = facts_of_boot c.args.boot.now in
+    let rest = drop w.next facts.menu.attempts in
+    let files = spots (g.M.PhysMem.bytes c.args.memory.now) w.stage in
+    let bytes = g.M.PhysMem.bytes c.end_attempt.new.memory in
+    let stage = c.end_attempt.new.stage in
+    continues {A = g.row.A.Denot} facts (Begins facts rest) w.entry rest w.earlier.items files bytes
+    unstarted (Waits stage)
+    (attempt_of_entry facts.machine facts.menu w.entry (facts_of c.entry.result.now) files bytes
+    (attempt_by stage c.in_ok-end_attempt.field-0) (Waits stage) c.entry.ensures.entry
+    c.in_ok-end_attempt.ensures.attempt (ap (attempt_by stage) c.in-None.is)) tt
+
+pub returns-in-Some-HandedOver-clause-continues : goal.returns-in-Some-HandedOver-clause-continues
+returns-in-Some-HandedOver-clause-continues g c =
+    let w = c.args.running.now in
+    let facts = facts_of_boot c.args.boot.now in
+    let rest = drop w.next facts.menu.attempts in
+    let files = spots (g.M.PhysMem.bytes c.args.memory.now) w.stage in
+    let bytes = g.M.PhysMem.bytes c.end_attempt.new.memory in
+    let stage = c.end_attempt.new.stage in
+    let end = HandedOver c.in-Some-HandedOver.handoff in
+    let one = Ended end in
+    let is : c.in_ok-end_attempt.field-0 ≡ Some end = cc in
+    let same : w.earlier.items ≡ c.replace.result.items = search rules in
+    subst
+    (λ (earlier : List RefusedEntry).
+    Continues facts (Begins facts rest) w.entry rest w.earlier.items files
+    (handed_over w.entry earlier (handover_held bytes c.in-Some-HandedOver.handoff))) same
+    (continues facts (Begins facts rest) w.entry rest w.earlier.items files bytes unstarted one
+    (attempt_of_entry facts.machine facts.menu w.entry (facts_of c.entry.result.now) files bytes
+    (attempt_by stage c.in_ok-end_attempt.field-0) one c.entry.ensures.entry
+    c.in_ok-end_attempt.ensures.attempt (ap (attempt_by stage) is)) tt)
+
+pub returns-in-Some-Refused-clause-continues : goal.returns-in-Some-Refused-clause-continues
+returns-in-Some-Refused-clause-continues g c =
+    let w = c.args.running.now in
+    let facts = facts_of_boot c.args.boot.now in
+    let rest = drop w.next facts.menu.attempts in
+    let files = spots (g.M.PhysMem.bytes c.args.memory.now) w.stage in
+    let mid = g.M.PhysMem.bytes c.end_attempt.new.memory in
+    let new = g.M.PhysMem.bytes c.refuse.new.memory in
+    let one = attempt_by c.end_attempt.new.stage c.in_ok-end_attempt.field-0 in
+    let is : c.in_ok-end_attempt.field-0 ≡ Some (Refused c.in-Some-Refused.refusal) = cc in
+    continues_later facts (Begins facts rest) w.entry rest w.earlier.items files mid one
+    c.in-Some-Refused.refusal c.refuse.result
+    (λ ended. state_of facts.menu.attempts new (phase_by c.refuse.new.running ended))
+    (attempt_of_entry facts.machine facts.menu w.entry (facts_of c.entry.result.now) files mid
+    one one c.entry.ensures.entry c.in_ok-end_attempt.ensures.attempt refl)
+    (ap (attempt_by c.end_attempt.new.stage) is) c.refuse.ensures.begun
+
+pub returns-in-Some-Refused-clause-memory : goal.returns-in-Some-Refused-clause-memory
+returns-in-Some-Refused-clause-memory g c =
+    let facts = facts_of_boot c.args.boot.now in
+    let old = g.M.PhysMem.bytes c.args.memory.now in
+    let mid = g.M.PhysMem.bytes c.end_attempt.new.memory in
+    let new = g.M.PhysMem.bytes c.refuse.new.memory in
+    memory_later facts.machine.pool old mid new c.refuse.result
+    (λ ended. state_of facts.menu.attempts new (phase_by c.refuse.new.running ended))
+    (search rules) c.refuse.ensures.memory

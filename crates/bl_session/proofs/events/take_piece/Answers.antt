@@ -1,0 +1,119 @@
+use Rattle.std.proofs.Common.{drop, arith, rules, subst, sym}
+use Rattle.bl_map.proofs.PoolLemmas.{pool_in_memory}
+use Rattle.bl_stage.specs.Spots.{spots}
+use Rattle.bl_stage.specs.Staged.{Staging}
+use Rattle.bl_session.specs.Boot.{piece, is_wanted}
+use Rattle.bl_session.specs.Phases.{boot_facts}
+use Rattle.bl_session.specs.PhasesKept.{state_of, phase_by, IsPhaseKept}
+use Rattle.bl_session.specs.declared.phase.Phase.TheVariants.{Waits}
+use Rattle.bl_session.proofs.StepLemmas.{wanted_not, steps_unchanged, wanted_stored, spots_after}
+use Rattle.bl_session.proofs.StepLemmas.{steps_piece, lacks_piece, memory_taken, memory_same}
+use Rattle.bl_session.proofs.StepLemmas.{outside_taken}
+use Rattle.bl_session.proofs.events.take_piece.Goals as goal
+
+pub returns-then-not-is_stored-clause-step : goal.returns-then-not-is_stored-clause-step
+returns-then-not-is_stored-clause-step g c =
+    let menu = c.args.boot.now.menu.now in
+    let w = c.args.running.now in
+    let old = g.M.PhysMem.bytes c.args.memory.now in
+    let new = g.M.PhysMem.bytes c.put-answer.new.memory in
+    let bytes = c.args.bytes.now in
+    let same = c.put-answer.ensures.unchanged c.if-not-is_stored.ensures in
+    steps_unchanged (boot_facts c.args.boot.now.machine.now menu c.args.boot.now.sizes.items) w.entry
+    (drop w.next menu.attempts) w.earlier.items old new w.stage c.put-answer.new.self
+    (piece c.args.ticket bytes) same.0 same.1
+    (wanted_not old w.stage w.earlier.items c.args.ticket bytes c.put-answer.result
+    c.put-answer.ensures.answer c.if-not-is_stored.ensures)
+
+pub returns-clause-step : goal.returns-clause-step
+returns-clause-step g c =
+    let menu = c.args.boot.now.menu.now in
+    let w = c.args.running.now in
+    let old = g.M.PhysMem.bytes c.args.memory.now in
+    let mid = g.M.PhysMem.bytes c.put-answer.new.memory in
+    let new = g.M.PhysMem.bytes c.settle.new.memory in
+    let bytes = c.args.bytes.now in
+    let ticket = c.args.ticket in
+    let answer = c.put-answer.result in
+    let told = c.put-answer.ensures.answer in
+    let stored = c.if-not-is_stored.ensures in
+    steps_piece (boot_facts c.args.boot.now.machine.now menu c.args.boot.now.sizes.items) w.entry
+    (drop w.next menu.attempts) w.earlier.items (spots old w.stage)
+    (spots mid c.put-answer.new.self) ticket bytes c.settle.result
+    (λ ended. state_of menu.attempts new (phase_by c.settle.new.running ended))
+    (wanted_stored old w.stage w.earlier.items ticket bytes c.is_of.result answer c.is_of.ensures
+    c.if-not-is_of.false told stored)
+    (spots_after old mid w.stage c.put-answer.new.self ticket bytes answer told stored
+    (c.put-answer.ensures.spots stored)) c.settle.ensures.continues
+
+pub returns-clause-lacking : goal.returns-clause-lacking
+returns-clause-lacking g c =
+    let menu = c.args.boot.now.menu.now in
+    let w = c.args.running.now in
+    let old = g.M.PhysMem.bytes c.args.memory.now in
+    let mid = g.M.PhysMem.bytes c.put-answer.new.memory in
+    let bytes = c.args.bytes.now in
+    let ticket = c.args.ticket in
+    let answer = c.put-answer.result in
+    let told = c.put-answer.ensures.answer in
+    let stored = c.if-not-is_stored.ensures in
+    lacks_piece w.entry (drop w.next menu.attempts) w.earlier.items (spots old w.stage)
+    (spots mid c.put-answer.new.self) ticket bytes c.settle.result
+    (wanted_stored old w.stage w.earlier.items ticket bytes c.is_of.result answer c.is_of.ensures
+    c.if-not-is_of.false told stored)
+    (spots_after old mid w.stage c.put-answer.new.self ticket bytes answer told stored
+    (c.put-answer.ensures.spots stored)) c.settle.ensures.whole
+
+pub returns-clause-memory : goal.returns-clause-memory
+returns-clause-memory g c =
+    let menu = c.args.boot.now.menu.now in
+    let w = c.args.running.now in
+    let old = g.M.PhysMem.bytes c.args.memory.now in
+    let mid = g.M.PhysMem.bytes c.put-answer.new.memory in
+    let new = g.M.PhysMem.bytes c.settle.new.memory in
+    let bytes = c.args.bytes.now in
+    let ticket = c.args.ticket in
+    let answer = c.put-answer.result in
+    let told = c.put-answer.ensures.answer in
+    let stored = c.if-not-is_stored.ensures in
+    memory_taken c.args.boot.now.machine.now.pool
+    (is_wanted w.earlier.items (spots old w.stage) (piece ticket bytes)) old mid new
+    c.settle.result (λ ended. state_of menu.attempts new (phase_by c.settle.new.running ended))
+    (wanted_stored old w.stage w.earlier.items ticket bytes c.is_of.result answer c.is_of.ensures
+    c.if-not-is_of.false told stored) (search rules) c.settle.ensures.memory
+
+pub put-answer-requires-clause-inside : goal.put-answer-requires-clause-inside
+put-answer-requires-clause-inside g c = rw c.requires.waiting.pool (λ some.
+    let end = pool_in_memory c.args.boot.now.machine.now c.pool.ensures.facts some in
+    omega (arith, end, c.requires.size))
+
+pub returns-then-not-is_stored-clause-memory : goal.returns-then-not-is_stored-clause-memory
+returns-then-not-is_stored-clause-memory g c =
+    let w = c.args.running.now in
+    let old = g.M.PhysMem.bytes c.args.memory.now in
+    let new = g.M.PhysMem.bytes c.put-answer.new.memory in
+    let bytes = c.args.bytes.now in
+    let other = c.if-not-is_stored.ensures in
+    memory_same (is_wanted w.earlier.items (spots old w.stage) (piece c.args.ticket bytes)) _ old
+    new
+    (wanted_not old w.stage w.earlier.items c.args.ticket bytes c.put-answer.result
+    c.put-answer.ensures.answer other)
+    (c.put-answer.ensures.unchanged other).1
+
+pub returns-then-not-is_stored-clause-phase : goal.returns-then-not-is_stored-clause-phase
+returns-then-not-is_stored-clause-phase g c =
+    let w = c.args.running.now in
+    let same = c.put-answer.ensures.unchanged c.if-not-is_stored.ensures in
+    subst
+    (λ (s : Staging).
+    IsPhaseKept {A = g.row.A.Denot} c.args.boot.now.machine.now c.args.boot.now.menu.now
+    (Waits (record w { stage = s }))) (sym same.0)
+    (c.requires.waiting, c.requires.missing)
+
+pub returns-clause-err : goal.returns-clause-err
+returns-clause-err g c =
+    let old = g.M.PhysMem.bytes c.args.memory.now in
+    let mid = g.M.PhysMem.bytes c.put-answer.new.memory in
+    let new = g.M.PhysMem.bytes c.settle.new.memory in
+    outside_taken c.args.boot.now.machine.now.pool old mid new c.settle.result (search rules)
+    c.settle.ensures.err

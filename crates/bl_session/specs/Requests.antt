@@ -1,0 +1,54 @@
+-- What whoever drives a boot asks for: the pieces that the attempt which runs awaits, files
+-- ascending, and in each of them pieces ascending. Own.
+use Rattle.std.specs.Prelude.{ℕ, ◌+◌, List, [], drop, length, slice_index_or, Option, None}
+use Rattle.std.specs.Prelude.{option_map}
+use Rattle.bl_stage.specs.Spots.{Spot, waits, has}
+use Rattle.bl_session.specs.declared.words.Ticket.{Ticket}
+use Rattle.bl_session.specs.declared.words.Request.{Request}
+use Rattle.bl_session.specs.Menu.{entry_at}
+use Rattle.bl_session.specs.Pieces.{spot_of}
+use Rattle.bl_session.specs.Boot.{BootFacts, State, unstarted, running, handed_over, none_left}
+use Rattle.bl_session.specs.Boot.{out_of_memory}
+use Rattle.bl_session.specs.Orders.{first_spot, first_ticket, ticket_or}
+
+-- how many bytes a piece has that is awaited
+abbrev pub length_awaited : Spot → ℕ
+length_awaited (waits size) = size
+length_awaited (has bytes) = 0
+
+-- what is asked for under a ticket: the entry's file at its place, by its index in the menu
+abbrev pub request_for : (indices : List ℕ) → List (List Spot) → Ticket → Request
+request_for indices files ticket = record {
+  file = slice_index_or indices ticket.file 0;
+  ticket = ticket;
+  len = length_awaited (spot_of files ticket.file ticket.piece);
+}
+
+-- the ticket of the first piece that is awaited after that of a ticket: in its file, or else in the
+-- files after it
+abbrev pub ticket_after : (attempt : ℕ) → List (List Spot) → Ticket → Option Ticket
+ticket_after attempt files ticket =
+    ticket_or attempt ticket.file
+    (first_ticket attempt (ticket.file + 1) (drop (ticket.file + 1) files))
+    (first_spot (ticket.piece + 1)
+    (drop (ticket.piece + 1) (slice_index_or files ticket.file [])))
+
+-- the first piece that the attempt which runs awaits
+abbrev pub first_request : BootFacts → State → Option Request
+first_request facts (running entry rest earlier files) =
+    option_map (request_for (entry_at facts.menu entry).files files)
+    (first_ticket (length earlier) 0 files)
+first_request facts unstarted = None
+first_request facts (handed_over entry earlier handover) = None
+first_request facts (none_left earlier) = None
+first_request facts out_of_memory = None
+
+-- the first one after that of a ticket
+abbrev pub request_after : BootFacts → State → Ticket → Option Request
+request_after facts (running entry rest earlier files) ticket =
+    option_map (request_for (entry_at facts.menu entry).files files)
+    (ticket_after (length earlier) files ticket)
+request_after facts unstarted ticket = None
+request_after facts (handed_over entry earlier handover) ticket = None
+request_after facts (none_left earlier) ticket = None
+request_after facts out_of_memory ticket = None

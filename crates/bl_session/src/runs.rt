@@ -1,0 +1,136 @@
+//! A whole boot over a store.
+ghost use Rattle.std.specs.Prelude.{◌≡◌, ◌≢◌, ◌+◌, ◌≤◌, ◌^◌, [], ℕ, All, None, true, false};
+ghost use Rattle.std.specs.Prelude.{IfOk, OnErr, length, map};
+ghost use Rattle.std.specs.Prelude.{slice_index_or};
+ghost use Rattle.std.specs.List.{range_with_len};
+ghost use Rattle.bl_mem.specs.Memory.{KeepsMemory};
+ghost use Rattle.bl_stage.specs.Ranges.{IsSameOutside};
+ghost use Rattle.bl_session.specs.Boot.{out_of_memory};
+ghost use Rattle.bl_session.specs.Memory.{IsMemoryIn};
+ghost use Rattle.bl_session.specs.Faithful.{IsFaithful};
+ghost use Rattle.bl_session.specs.Outcome.{Faults, IsOutcome, HasEnded, missing};
+ghost use Rattle.bl_session.specs.Outcome as outcome;
+ghost use Rattle.bl_session.specs.Phases.{boot_facts, state_at, is_waiting, not_started};
+ghost use Rattle.bl_session.specs.Phases.{EndsWithin};
+ghost use Rattle.bl_session.specs.Run.{IsRun, IsGenuineRun, boot_end};
+
+use crate::menu::Menu;
+use crate::session::Session;
+use crate::store::Store;
+use crate::turns::drive;
+use crate::words::{BootFault, Outcome};
+use bl_map::Machine;
+use bl_mem::PhysMem;
+use std::alloc::{AllocError, Allocator};
+
+/// The sizes of so many files of a store, by their index.
+fn sizes_of<S: Store, A: Allocator>(
+    alloc: A,
+    store: &S,
+    count: usize,
+) -> Result<Vec<Option<u64>, A>, AllocError>
+    requires { count ≤ 2 ^ 32 }
+    ensures { IfOk result (λ sizes. sizes.items
+        ≡ map (λ file. outcome.size_of (slice_index_or (S.files store.now) file missing))
+        (range_with_len 0 count)) }
+{
+    let mut sizes = Vec::new(alloc);
+    for file in 0..count {
+        let size = store.size(file as u32)?;
+        sizes.push(size)?;
+    }
+    Ok(sizes)
+}
+
+/// A session that has ended: a boot, but for what want of memory answers.
+fn run_session<'a, M: PhysMem, S: Store, A: Allocator + Copy>(
+    alloc: A,
+    memory: &mut M,
+    store: &mut S,
+    machine: &'a Machine<A>,
+    menu: &'a Menu<A>,
+) -> Result<Session<'a, A>, AllocError>
+    requires { length (M.bytes memory.old) ≡ machine.now.size }
+    ensures run { IfOk result (λ session. IsRun
+        (boot_facts machine.now menu.now (map outcome.size_of (S.files store.old)))
+        (S.files store.old) (S.given store.old) (S.given store.new)
+        (state_at (M.bytes memory.new) session.phase)) }
+    ensures machine { IfOk result (λ session. session.boot.machine ≡ machine.now) }
+    ensures started { IfOk result (λ session. session.phase ≢ not_started) }
+    ensures ended { IfOk result (λ session. is_waiting session.phase ≡ false) }
+    ensures memory { IfOk result (λ session. IsMemoryIn machine.now.pool
+        (state_at (M.bytes memory.new) session.phase)
+        (M.bytes memory.old) (M.bytes memory.new)) }
+    ensures lacking { OnErr result (IsRun
+        (boot_facts machine.now menu.now (map outcome.size_of (S.files store.old)))
+        (S.files store.old) (S.given store.old) (S.given store.new) out_of_memory) }
+    ensures outside { OnErr result
+        (IsSameOutside machine.now.pool (M.bytes memory.old) (M.bytes memory.new)) }
+    ensures files { S.files store.new ≡ S.files store.old }
+    ensures kept { KeepsMemory M.lender M.bytes M.room memory.old memory.new }
+{
+    let sizes = sizes_of(alloc, store, menu.files())?;
+    let mut session = Session::new(alloc, machine, menu, &sizes)?;
+    session.start(memory);
+    drive(&mut session, memory, store)?;
+    Ok(session)
+}
+
+/// The end of a session that has ended.
+fn end_of<A: Allocator + Copy>(session: Session<A>) -> Result<Outcome<A>, BootFault<A>>
+    requires started { session.phase ≢ not_started }
+    requires ended { is_waiting session.phase ≡ false }
+    ensures end { boot_end result ≡ session.entry.phase }
+    ensures inside { IfOk result (λ outcome.
+        EndsWithin session.entry.boot.machine.size outcome.handoff) }
+{
+    match session.into_outcome() {
+        Some(end) => end,
+        None => unreachable!(),
+    }
+}
+
+/// Boots the first entry of a menu that is not refused, with the pieces that a store gives. It asks
+/// once for the size of each file that the menu names. As an attempt begins it asks for each piece
+/// of its files, and then takes answers until the attempt has ended. An answer that the attempt
+/// does not wait for changes nothing. If nothing more is to come, the first missing piece is lost,
+/// and the entry is refused for its file.
+///
+/// If the store's answers are genuine, the boot ends with the first entry that is not refused; and
+/// if the store is faithful and was asked for nothing before, its files alone decide.
+///
+/// Memory has the machine's size. Afterwards it is as after `Session::start`.
+pub fn run<M: PhysMem, S: Store, A: Allocator + Copy>(
+    alloc: A,
+    memory: &mut M,
+    store: &mut S,
+    machine: &Machine<A>,
+    menu: &Menu<A>,
+) -> Result<Outcome<A>, BootFault<A>>
+    requires { length (M.bytes memory.old) ≡ machine.now.size }
+    ensures run { IsRun (boot_facts machine.now menu.now (map outcome.size_of (S.files store.old)))
+        (S.files store.old) (S.given store.old) (S.given store.new)
+        (state_at (M.bytes memory.new) (boot_end result)) }
+    ensures outcome { (faults : Faults) → IsGenuineRun
+        (boot_facts machine.now menu.now (map outcome.size_of (S.files store.old)))
+        (S.files store.old) faults (S.given store.old) (S.given store.new)
+        → HasEnded (state_at (M.bytes memory.new) (boot_end result))
+        → IsOutcome (boot_facts machine.now menu.now (map outcome.size_of (S.files store.old)))
+        (S.files store.old) faults (state_at (M.bytes memory.new) (boot_end result)) }
+    ensures faithful { S.given store.old ≡ []
+        → IsFaithful (S.files store.old) (S.given store.new)
+        → HasEnded (state_at (M.bytes memory.new) (boot_end result))
+        → IsOutcome (boot_facts machine.now menu.now (map outcome.size_of (S.files store.old)))
+        (S.files store.old) (λ _. None) (state_at (M.bytes memory.new) (boot_end result)) }
+    ensures memory { IsMemoryIn machine.now.pool (state_at (M.bytes memory.new) (boot_end result))
+        (M.bytes memory.old) (M.bytes memory.new) }
+    ensures inside { IfOk result (λ outcome. All (λ place.
+        place.address + place.length ≤ machine.now.size) outcome.handoff.places) }
+    ensures files { S.files store.new ≡ S.files store.old }
+    ensures kept { KeepsMemory M.lender M.bytes M.room memory.old memory.new }
+{
+    match run_session(alloc, memory, store, machine, menu) {
+        Ok(session) => end_of(session),
+        Err(_) => Err(BootFault::NoMemory),
+    }
+}

@@ -1,0 +1,128 @@
+//! The phase of a session after its start, and after an event.
+ghost use Rattle.std.specs.Prelude.{◌≡◌, ◌≢◌, [], true, IfOk, OnErr, OnOk, MatchBool, length};
+ghost use Rattle.bl_mem.specs.Memory.{HasRoom, KeepsMemory};
+ghost use Rattle.bl_stage.specs.Ranges.{IsSameOutside};
+ghost use Rattle.bl_session.specs.Boot.{is_taken, Begins, StepsOrFails, StartsOrFails};
+ghost use Rattle.bl_session.specs.Memory.{IsMemoryIn};
+ghost use Rattle.bl_session.specs.Phases.{event_facts, phase_facts};
+ghost use Rattle.bl_session.specs.Phases.{is_waiting, not_started};
+ghost use Rattle.bl_session.specs.PhasesKept.{facts_of_boot, state_in, IsPhaseKept};
+
+use crate::attempts::begin;
+use crate::boot::Boot;
+use crate::events::take;
+use crate::phase::Phase;
+use crate::words::{BootFault, Event};
+use bl_map::Machine;
+use bl_mem::PhysMem;
+use std::alloc::{AllocError, Allocator};
+
+/// Takes an event. One that no attempt waits for changes nothing.
+pub fn advance<M: PhysMem, A: Allocator + Copy>(
+    boot: &Boot<A>,
+    memory: &mut M,
+    phase: &mut Phase<A>,
+    event: Event,
+)
+    requires standing { IsPhaseKept boot.now.machine.now boot.now.menu.now phase.old }
+    requires size { length (M.bytes memory.old) ≡ boot.now.machine.now.size }
+    requires room { is_waiting (phase_facts boot.now.menu.now.attempts phase.old) ≡ true
+        → HasRoom (M.room memory.old)
+        boot.now.machine.now.pool.start boot.now.machine.now.pool.end }
+    ensures step { StepsOrFails (facts_of_boot boot.now)
+        (state_in boot.now (M.bytes memory.old) phase.old) (event_facts event.entry)
+        (state_in boot.now (M.bytes memory.new) phase.new) }
+    ensures memory { MatchBool
+        (is_taken (state_in boot.now (M.bytes memory.old) phase.old)
+        (event_facts event.entry))
+        (IsMemoryIn boot.now.machine.now.pool (state_in boot.now (M.bytes memory.new) phase.new)
+        (M.bytes memory.old) (M.bytes memory.new))
+        (M.bytes memory.new ≡ M.bytes memory.old) }
+    ensures stands { IsPhaseKept boot.now.machine.now boot.now.menu.now phase.new }
+    ensures kept { KeepsMemory M.lender M.bytes M.room memory.old memory.new }
+{
+    let ended = match phase {
+        Phase::Waits(running) => take(boot, memory, running, event),
+        Phase::Unstarted => Ok(None),
+        Phase::HandedOver(_) => Ok(None),
+        Phase::Failed(_) => Ok(None),
+    };
+    match ended {
+        Ok(None) => {}
+        Ok(Some(next)) => *phase = next,
+        Err(_) => *phase = Phase::Failed(BootFault::NoMemory),
+    }
+}
+
+/// Gives room to the pool.
+fn reserve_pool<M: PhysMem, A: Allocator>(
+    machine: &Machine<A>,
+    memory: &mut M,
+) -> Result<(), AllocError>
+    requires { length (M.bytes memory.old) ≡ machine.now.size }
+    ensures same { M.bytes memory.new ≡ M.bytes memory.old }
+    ensures room { OnOk result
+        (HasRoom (M.room memory.new) machine.now.pool.start machine.now.pool.end) }
+    ensures kept { KeepsMemory M.lender M.bytes M.room memory.old memory.new }
+{
+    let pool = machine.pool();
+    // A pool of no frames may lie anywhere.
+    if pool.start < pool.end {
+        memory.reserve(&[pool])?;
+    }
+    Ok(())
+}
+
+/// Gives room to the pool, and begins the first attempt.
+fn begin_all<M: PhysMem, A: Allocator + Copy>(
+    boot: &Boot<A>,
+    memory: &mut M,
+) -> Result<Phase<A>, AllocError>
+    requires { length (M.bytes memory.old) ≡ boot.now.machine.now.size }
+    ensures begun { IfOk result (λ phase. Begins (facts_of_boot boot.now)
+        boot.now.menu.now.attempts [] (state_in boot.now (M.bytes memory.new) phase)) }
+    ensures memory { IfOk result (λ phase. IsMemoryIn boot.now.machine.now.pool
+        (state_in boot.now (M.bytes memory.new) phase)
+        (M.bytes memory.old) (M.bytes memory.new)) }
+    ensures phase { IfOk result (IsPhaseKept boot.now.machine.now boot.now.menu.now) }
+    ensures err { OnErr result
+        (IsSameOutside boot.now.machine.now.pool (M.bytes memory.old) (M.bytes memory.new)) }
+    ensures room { OnOk result
+        (HasRoom (M.room memory.new)
+        boot.now.machine.now.pool.start boot.now.machine.now.pool.end) }
+    ensures kept { KeepsMemory M.lender M.bytes M.room memory.old memory.new }
+{
+    reserve_pool(boot.machine, memory)?;
+    begin(boot, memory, 0, Vec::new(boot.alloc))
+}
+
+/// The start. It acts once.
+pub fn begin_first<M: PhysMem, A: Allocator + Copy>(
+    boot: &Boot<A>,
+    memory: &mut M,
+    phase: &mut Phase<A>,
+)
+    requires standing { IsPhaseKept boot.now.machine.now boot.now.menu.now phase.old }
+    requires size { length (M.bytes memory.old) ≡ boot.now.machine.now.size }
+    ensures step { StartsOrFails (facts_of_boot boot.now)
+        (state_in boot.now (M.bytes memory.old) phase.old)
+        (state_in boot.now (M.bytes memory.new) phase.new) }
+    ensures memory { phase_facts boot.now.menu.now.attempts phase.old ≡ not_started
+        → IsMemoryIn boot.now.machine.now.pool (state_in boot.now (M.bytes memory.new) phase.new)
+        (M.bytes memory.old) (M.bytes memory.new) }
+    ensures same { phase_facts boot.now.menu.now.attempts phase.old ≢ not_started
+        → M.bytes memory.new ≡ M.bytes memory.old }
+    ensures room { phase_facts boot.now.menu.now.attempts phase.old ≡ not_started
+        → is_waiting (phase_facts boot.now.menu.now.attempts phase.new) ≡ true
+        → HasRoom (M.room memory.new)
+        boot.now.machine.now.pool.start boot.now.machine.now.pool.end }
+    ensures stands { IsPhaseKept boot.now.machine.now boot.now.menu.now phase.new }
+    ensures kept { KeepsMemory M.lender M.bytes M.room memory.old memory.new }
+{
+    if let Phase::Unstarted = phase {
+        *phase = match begin_all(boot, memory) {
+            Ok(first) => first,
+            Err(_) => Phase::Failed(BootFault::NoMemory),
+        };
+    }
+}
