@@ -6,3 +6,4 @@ pub mod SparseLemmas
 pub mod ValueLemmas
 pub mod FrameLemmas
 pub mod SoundLemmas
+pub mod BaseLemmas

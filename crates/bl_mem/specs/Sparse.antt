@@ -6,3 +6,8 @@ use Rattle.bl_mem.specs.Frames.{FramesFacts, frame_byte}
 -- the bytes at 0, 1, .. up to the size
 abbrev pub bytes_of : FramesFacts → ℕ → List ℕ
 bytes_of facts size = map (frame_byte facts) (range_with_len 0 size)
+
+-- such memory: its size, and its frames
+pub record SparseFacts : Type 0 where
+  pub size : ℕ
+  pub frames : FramesFacts

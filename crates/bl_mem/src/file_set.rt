@@ -1,5 +1,6 @@
 //! Files that memory may hold.
 ghost use Rattle.std.specs.Prelude.{◌≡◌, ℕ, ◌+◌, ◌<◌, ◌≤◌, List, length, map, slice_range, refl};
+ghost use Rattle.std.specs.Prelude.{IfSome};
 ghost use Rattle.bl_mem.specs.Files.{text_at, AreBelow, Agree};
 
 use crate::memory::PhysMem;
@@ -28,6 +29,19 @@ pub trait FileSet {
         ensures { out.new ≡ slice_range (text_at (texts self.now (M.bytes memory.now)) file)
             at (at + length out.old) };
 
+    /// Lends the `count` bytes of a file from offset `at` on, so that they are copied once on their
+    /// way. Files that lie in memory, or in which these bytes don't lie together, lend nothing;
+    /// `read` gives them always.
+    fn lend<M: PhysMem>(&self, memory: &M, file: usize, at: u64, count: usize) -> Option<&[u8]>
+        requires file { file < length (texts self.now (M.bytes memory.now)) }
+        requires inside { at + count
+            ≤ length (text_at (texts self.now (M.bytes memory.now)) file) }
+        ensures { IfSome result (λ part. part.now
+            ≡ slice_range (text_at (texts self.now (M.bytes memory.now)) file) at (at + count)) }
+    {
+        None
+    }
+
     /// A write beside the files' addresses changes none of them.
     ghost same: { (files : Self) (old new : List ℕ) → Agree (holds files) old new
         → texts files new ≡ texts files old };
@@ -50,6 +64,10 @@ impl<V: ByteView> FileSet for Views<'_, V> {
 
     fn read<M: PhysMem>(&self, _memory: &M, file: usize, at: u64, out: &mut [u8]) {
         self.views[file].read(at, out);
+    }
+
+    fn lend<M: PhysMem>(&self, _memory: &M, file: usize, at: u64, count: usize) -> Option<&[u8]> {
+        self.views[file].lend(at, count)
     }
 
     ghost same = { λ files old new agree. refl };

@@ -9,6 +9,7 @@ use crate::frame::FRAME;
 use crate::frames::Frames;
 use crate::memory::PhysMem;
 use std::alloc::{AllocError, Allocator};
+use std::marker::Model;
 use std::ops::Range;
 
 /// A machine's memory that keeps only those frames of 4096 bytes which were written to. An address
@@ -22,6 +23,17 @@ use std::ops::Range;
 pub struct Sparse<A: Allocator> {
     size: u64,
     frames: Frames<A>,
+}
+
+impl<A: Allocator> Model for Sparse<A> {
+    ghost use Rattle.bl_mem.specs.Sparse.{SparseFacts};
+
+    ghost Value = { SparseFacts };
+
+    ghost view = { λ memory. record {
+      size = memory.size;
+      frames = memory.frames;
+    } };
 }
 
 impl<A: Allocator + Copy> Sparse<A> {

@@ -1,5 +1,5 @@
 //! What a reader asks of a file.
-ghost use Rattle.std.specs.Prelude.{◌≡◌, ℕ, ◌+◌, ◌≤◌, List, length, slice_range};
+ghost use Rattle.std.specs.Prelude.{◌≡◌, ℕ, ◌+◌, ◌≤◌, List, length, slice_range, IfSome};
 
 /// A file whose bytes can be copied out from any offset, in any order. They need not lie side by
 /// side.
@@ -15,6 +15,16 @@ pub trait ByteView {
     fn read(&self, at: u64, out: &mut [u8])
         requires { at + length out.old ≤ length (bytes self.now) }
         ensures { out.new ≡ slice_range (bytes self.now) at (at + length out.old) };
+
+    /// Lends the `count` bytes from offset `at` on, so that whoever only hands them on copies none.
+    /// A file in which they don't lie together lends nothing; `read` gives them always.
+    fn lend(&self, at: u64, count: usize) -> Option<&[u8]>
+        requires { at + count ≤ length (bytes self.now) }
+        ensures { IfSome result
+            (λ part. part.now ≡ slice_range (bytes self.now) at (at + count)) }
+    {
+        None
+    }
 }
 
 /// A file in one slice.
@@ -33,6 +43,8 @@ impl<'a> SliceView<'a> {
 }
 
 impl ByteView for SliceView<'_> {
+    ghost use Rattle.std.specs.Prelude.{IsSome};
+
     ghost bytes = { λ view. view.bytes.now };
 
     fn len(&self) -> u64 {
@@ -42,5 +54,15 @@ impl ByteView for SliceView<'_> {
     fn read(&self, at: u64, out: &mut [u8]) {
         let rest = &self.bytes[at as usize..];
         out.copy_from_slice(&rest[..out.len()]);
+    }
+
+    fn lend(&self, at: u64, count: usize) -> Option<&[u8]>
+        requires { at + count ≤ length self.now.bytes.now }
+        ensures exact { IfSome result
+            (λ part. part.now ≡ slice_range self.now.bytes.now at (at + count)) }
+        ensures some { IsSome result }
+    {
+        let from = at as usize;
+        Some(&self.bytes[from..from + count])
     }
 }

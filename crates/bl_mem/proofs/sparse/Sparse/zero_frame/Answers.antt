@@ -1,12 +1,18 @@
-use Rattle.std.proofs.Common.{replicate}
+use Rattle.std.proofs.Common.{ap, replicate, subst}
 use Rattle.std.proofs.lemmas.List.{length-replicate}
-use Rattle.bl_mem.specs.Frames.{frame_byte}
+use Rattle.bl_mem.specs.Frames.{frame_byte, IsWritten}
+use Rattle.bl_mem.specs.Sparse.{SparseFacts}
 use Rattle.bl_mem.proofs.ValueLemmas.{values_overwritten}
 use Rattle.bl_mem.proofs.sparse.Sparse.zero_frame.Goals as goal
 
 pub returns-clause-after : goal.returns-clause-after
 returns-clause-after g c =
     let this = c.args.self.now in
+    let written =
+    subst (λ (facts : SparseFacts). IsWritten facts.frames c.zero.new.self c.args.at
+    (replicate c.args.count 0)) c.self.view_is c.zero.ensures in
+    let size = ap (λ (facts : SparseFacts). facts.size) c.self.view_is in
+    rw size (
     values_overwritten (frame_byte this.frames) (frame_byte c.zero.new.self) this.size c.args.at
-    (replicate c.args.count 0) (rw length-replicate c.requires.inside) c.zero.ensures.inside
-    c.zero.ensures.below c.zero.ensures.above
+    (replicate c.args.count 0) (rw length-replicate c.requires.inside) written.inside
+    written.below written.above)

@@ -1,0 +1,17 @@
+use Rattle.std.proofs.Common.{◌+◌, ◌-◌, ◌∙◌, ap, arith, length, slice_range, sym}
+use Rattle.bl_mem.specs.Memory.{bytes_from}
+use Rattle.bl_mem.proofs.BaseLemmas.{length-from, read_below}
+use Rattle.bl_mem.proofs.slice_memory.SliceMemoryPhysMem.read.Goals as goal
+
+pub returns-else-at-base : goal.returns-else-at-base
+returns-else-at-base c =
+    let this = c.args.self.now in
+    let at = c.args.at in
+    let count = length c.args.out.now in
+    let zeros = c.min-zeros.result in
+    let size = length-from this.base this.held.now in
+    let rest = count - zeros in
+    c.read_from_below.ensures
+    ∙ sym (read_below this.base this.held.now at zeros rest (omega arith) (λ some. omega arith)
+    (omega arith))
+    ∙ ap (λ end. slice_range (bytes_from this.base this.held.now) at (at + end)) (omega arith)
