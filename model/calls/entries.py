@@ -1,4 +1,4 @@
-"""prepare, load, refusal: the calls of bl_load."""
+"""prepare, load, load_entry, refusal: the calls of bl_load."""
 
 from typing import List, Optional
 
@@ -78,17 +78,39 @@ def memory_after(machine, handover: Handover, fill: int) -> bytes:
     return memory.read(0, machine.size)
 
 
-def load(table, line):
+def read_load(table, line):
+    """`fill=VV` before the entry: the machine, the byte, the entry."""
     demand(bool(line.words))
     filled = number(single(fields(line.words[:1])[0], "fill"), 8)
-    machine = last_machine(table)
+    return last_machine(table), filled, read_entry(table, line.words[1:], line.data)
+
+
+def load(table, line):
+    machine, filled, entry = read_load(table, line)
     try:
-        handover = entries.prepare(machine, read_entry(table, line.words[1:], line.data))
+        handover = entries.prepare(machine, entry)
     except Refused as refused:
         return "refused " + refusal_text(refused)
     # Loading asks for no memory.
     return "%s, asked 0, memory %s" % (handover_text(handover),
                                        spell(memory_after(machine, handover, filled)))
+
+
+def load_entry(table, line):
+    """What is handed over, or the refusal, and all of memory, which a refusal leaves."""
+    machine, filled, entry = read_load(table, line)
+    try:
+        handover = entries.prepare(machine, entry)
+    except Refused as refused:
+        return "refused %s, memory %s" % (refusal_text(refused),
+                                          spell(bytes([filled]) * machine.size))
+    return "%s, memory %s" % (handover_text(handover), spell(memory_after(machine, handover, filled)))
+
+
+def load_entry_is_refused(table, line, text):
+    """Memory that ran out leaves each byte, too."""
+    machine, filled, _ = read_load(table, line)
+    return text in ("no memory", "no memory, memory " + spell(bytes([filled]) * machine.size))
 
 
 def refusal(table, line):
@@ -110,5 +132,6 @@ def refusal(table, line):
 CALLS = {
     "prepare": Call(prepare, BYTES_OF),
     "load": Call(load, BYTES_OF),
+    "load_entry": Call(load_entry, BYTES_OF, load_entry_is_refused),
     "refusal": Call(refusal),
 }

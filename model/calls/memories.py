@@ -1,4 +1,4 @@
-"""memory, sparse, view, spell, own: the calls of bl_mem."""
+"""memory, sparse, slice_memory, view, spell, own: the calls of bl_mem."""
 
 from typing import Callable, List
 
@@ -100,6 +100,58 @@ def sparse_is_refused(table, line, text):
     return True
 
 
+class Slice:
+    """Memory in a slice from a base on: what lies below is zero, and no call touches it."""
+
+    def __init__(self, base: int, length: int, fill: int):
+        self.base, self.size = base, base + length
+        self.slice = bytearray([fill]) * length
+
+    def holds(self, start: int, end: int) -> bool:
+        return start <= end <= self.size
+
+    def read(self, at: int, length: int) -> bytes:
+        return bytes(self.slice[a - self.base] if self.base <= a else 0
+                     for a in range(at, at + length))
+
+    def write(self, at: int, data: bytes) -> None:
+        self.slice[at - self.base:at - self.base + len(data)] = data
+
+    def zero(self, start: int, end: int) -> None:
+        self.write(start, bytes(end - start))
+
+
+# Room that memory can't have is refused though no request for memory was.
+NO_ROOM = NO_MEMORY + ", unasked"
+
+
+def slice_step(table, words: List[str], memory: Slice) -> str:
+    """A step as for other memory, but nothing below the base has room or is lent."""
+    demand(bool(words))
+    made = step_of(table, words, True)
+    if words[0] == "lend" and number(words[1]) < memory.base:
+        demand(memory.holds(number(words[1]), number(words[1]) + number(words[2])))
+        return "nothing"
+    starts = {"write": lambda: numbers(words[1]),
+              "zero": lambda: [pair(words[1], "..")[0]],
+              "reserve": lambda: [pair(word, "..")[0] for word in words[1:]]}
+    if words[0] in starts and any(at < memory.base for at in starts[words[0]]()):
+        return NO_ROOM
+    return made(memory)
+
+
+def slice_memory(table, line):
+    """`base=ADDRESS size=N fill=VV`, before the steps; behind them all of the slice is told."""
+    demand(len(line.words) >= 3)
+    named, bare = fields(line.words[:3])
+    only(named, "base", "size", "fill")
+    demand(not bare)
+    memory = Slice(number(single(named, "base"), 32), number(single(named, "size")),
+                   number(single(named, "fill"), 8))
+    told = [slice_step(table, words, memory) for words in steps(line.words[3:])]
+    return "; ".join(told + ["slice " + spelled(bytes(memory.slice))])
+
+
 def view(table, line):
     demand(len(line.words) >= 2)
     at, length = number(line.words[0]), number(line.words[1])
@@ -132,6 +184,7 @@ def own(table, line):
 CALLS = {
     "memory": Call(flat),
     "sparse": Call(sparse, is_refused=sparse_is_refused),
+    "slice_memory": Call(slice_memory),
     "view": Call(view),
     "spell": Call(spell),
     "own": Call(own, "all"),

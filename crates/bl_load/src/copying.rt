@@ -32,10 +32,9 @@ fn copy_piece<M: PhysMem, F: FileSet>(
     memory.write(at, buffer);
 }
 
-/// Copies `count` bytes of the file, from `offset` on, to `at`. They go through one buffer, which
-/// stays in the processor's cache. Where `count` is 0 nothing is read, and `offset` may lie outside
-/// the file.
-pub(crate) fn copy<M: PhysMem, F: FileSet>(
+/// Copies `count` bytes of the file, from `offset` on, to `at`, through one buffer, which stays in
+/// the processor's cache.
+fn copy_by_pieces<M: PhysMem, F: FileSet>(
     memory: &mut M,
     at: u64,
     files: &F,
@@ -73,5 +72,57 @@ pub(crate) fn copy<M: PhysMem, F: FileSet>(
             &mut buffer[..next as usize],
         );
         done += next;
+    }
+}
+
+/// Writes bytes that the files lent.
+fn write_lent<M: PhysMem, F: FileSet>(
+    memory: &mut M,
+    at: u64,
+    files: &F,
+    lent: &[u8],
+)
+    requires held { AreBelow (F.holds files.now) (length (M.bytes memory.old)) }
+    requires inside { at + length lent.now ≤ length (M.bytes memory.old) }
+    requires room { HasRoom (M.room memory.old) at (at + length lent.now) }
+    requires beside { IsBeside (F.holds files.now) at (at + length lent.now) }
+    ensures after { M.bytes memory.new ≡ overwrite (M.bytes memory.old) at lent.now }
+    ensures texts { F.texts files.now (M.bytes memory.new)
+        ≡ F.texts files.now (M.bytes memory.old) }
+    ensures kept { KeepsMemory M.lender M.bytes M.room memory.old memory.new }
+{
+    memory.write(at, lent);
+}
+
+/// Copies `count` bytes of the file, from `offset` on, to `at`: at once where the files lend them,
+/// else piece by piece. Where `count` is 0 nothing is read, and `offset` may lie outside the file.
+pub(crate) fn copy<M: PhysMem, F: FileSet>(
+    memory: &mut M,
+    at: u64,
+    files: &F,
+    file: usize,
+    offset: u64,
+    count: u64,
+)
+    requires held { AreBelow (F.holds files.now) (length (M.bytes memory.old)) }
+    requires file { file < length (F.texts files.now (M.bytes memory.old)) }
+    requires source { 1 ≤ count → offset + count
+        ≤ length (text_at (F.texts files.now (M.bytes memory.old)) file) }
+    requires inside { at + count ≤ length (M.bytes memory.old) }
+    requires room { HasRoom (M.room memory.old) at (at + count) }
+    requires beside { IsBeside (F.holds files.now) at (at + count) }
+    ensures after { M.bytes memory.new ≡ overwrite (M.bytes memory.old) at (slice_range
+        (text_at (F.texts files.now (M.bytes memory.old)) file) offset (offset + count)) }
+    ensures texts { F.texts files.now (M.bytes memory.new)
+        ≡ F.texts files.now (M.bytes memory.old) }
+    ensures kept { KeepsMemory M.lender M.bytes M.room memory.old memory.new }
+{
+    if count == 0 {
+        return;
+    }
+    let _source = files.len(memory, file);
+    match files.lend(memory, file, offset, count as usize) {
+        Some(lent) => write_lent(memory, at, files, lent),
+        None => copy_by_pieces(memory, at, files, file, offset, count),
     }
 }

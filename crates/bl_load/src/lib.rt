@@ -6,6 +6,7 @@ mod blocks;
 mod copying;
 mod entry;
 mod entry_files;
+mod entry_loading;
 mod handoff;
 mod laws;
 mod lengths;
@@ -25,6 +26,7 @@ mod registers64;
 
 pub use bl_plan::{MAX_COPY, MAX_LINE, Protocol};
 pub use entry::{Entry, Module};
+pub use entry_loading::load_entry;
 pub use handoff::Handoff;
 pub use laws::{
     each_entry_has_an_answer, handovers_are_determined, handovers_are_legal,

@@ -2,7 +2,7 @@
 
 use crate::attempts::{menu, run, steps};
 use crate::{
-    describe, handoff, image, line, read_image, read_info, refusal, rewrite, sink, walk, write_info,
+    describe, handoff, image, line, loaded, read_image, read_info, refusal, rewrite, sink, walk, write_info,
 };
 use bl_rows::row::Row;
 
@@ -37,6 +37,7 @@ pub fn make_over(row: &mut Row<'_>, name: &str) -> bool {
         "write_info" => write_info::answer(row),
         "prepare" => handoff::answer_prepare(row),
         "load" => handoff::answer_load(row),
+        "load_entry" => loaded::answer(row),
         "image" => image::answer(row),
         "images" => image::answer_each(row),
         "image_of" => image::answer_held(row),

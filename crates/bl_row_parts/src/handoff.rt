@@ -1,7 +1,7 @@
 //! `prepare ENTRY of KERNEL` and `load fill=VV ENTRY of KERNEL`, on the last machine.
 
 use crate::prepared::{LoadedEntry, load_entry, prepare_entry, read_entry};
-use bl_load::{Plan, Registers, Registers32, Registers64};
+use bl_load::{Handoff, Plan, Registers, Registers32, Registers64};
 use bl_mem::PhysMem;
 use bl_plan::{Place, Role};
 use bl_refusing::Refusing;
@@ -117,13 +117,18 @@ fn say_plan(row: &mut Row<'_>, plan: &Plan<&Refusing>) {
     }
 }
 
-/// All of a handoff's calls, how often loading asked for memory, and all of memory.
-fn say_loaded(row: &mut Row<'_>, loaded: &LoadedEntry<'_>) {
-    row.say_decimal("protocol ", loaded.handoff.protocol().number() as u64);
-    say_registers(row, &loaded.handoff.registers());
-    for i in 0..loaded.handoff.len() {
-        say_place(row, &loaded.handoff.place(i));
+/// All of a handoff's calls.
+pub fn say_handoff(row: &mut Row<'_>, handoff: &Handoff<&Refusing>) {
+    row.say_decimal("protocol ", handoff.protocol().number() as u64);
+    say_registers(row, &handoff.registers());
+    for i in 0..handoff.len() {
+        say_place(row, &handoff.place(i));
     }
+}
+
+/// A handoff, how often loading asked for memory, and all of memory.
+fn say_loaded(row: &mut Row<'_>, loaded: &LoadedEntry<'_>) {
+    say_handoff(row, &loaded.handoff);
     row.say_number(", asked ", loaded.requests);
     let size = loaded.memory.size();
     let memory = read(row, &loaded.memory, 0, size);

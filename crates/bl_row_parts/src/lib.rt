@@ -9,6 +9,7 @@ mod entry;
 mod handoff;
 mod image;
 mod line;
+mod loaded;
 mod pairs;
 mod prepared;
 mod read_image;

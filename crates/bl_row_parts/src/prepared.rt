@@ -114,6 +114,27 @@ fn has_files(entry: &Entry<&Refusing>, files: usize) -> bool
     }
 }
 
+/// The entry, which has so many files. Where it can't be had, why is the answer.
+pub fn entry_of<'h>(
+    row: &mut Row<'_>,
+    heap: &'h Refusing,
+    read: &RowEntry,
+    files: usize,
+) -> Option<Entry<&'h Refusing>>
+    ensures files { IfSome result (λ entry. files ≡ file_count entry) }
+    ensures limits { IfSome result IsWithinLimits }
+{
+    let Ok(entry) = read.entry.entry_over(heap) else {
+        row.say("no memory");
+        return None;
+    };
+    if !has_files(&entry, files) {
+        row.refuse();
+        return None;
+    }
+    Some(entry)
+}
+
 /// What is prepared for an entry. Where that is nothing, why is the answer.
 pub fn prepare_entry<'h>(
     row: &mut Row<'_>,
@@ -125,14 +146,7 @@ pub fn prepare_entry<'h>(
     ensures { IfSome result (IsLoadable
         (lengths_of (map (λ file. file.bytes.now) files.now)) machine.now.size) }
 {
-    let Ok(entry) = read.entry.entry_over(heap) else {
-        row.say("no memory");
-        return None;
-    };
-    if !has_files(&entry, files.len()) {
-        row.refuse();
-        return None;
-    }
+    let entry = entry_of(row, heap, read, files.len())?;
     match prepare(heap, machine, &entry, files) {
         Ok(plan) => Some(plan),
         Err(fault) => {

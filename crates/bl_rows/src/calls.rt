@@ -63,6 +63,7 @@ fn make_on_memory(row: &mut Row<'_>, name: &str) {
         "order" => segments::answer_order(row),
         "memory" => memory::answer(row, false),
         "sparse" => memory::answer(row, true),
+        "slice_memory" => memory::answer_slice(row),
         "stage" => stage::answer(row, false),
         "sparse_stage" => stage::answer(row, true),
         _ => make_other(row, name),

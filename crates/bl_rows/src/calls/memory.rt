@@ -1,10 +1,11 @@
-//! `memory size=SIZE fill=BYTE STEP; STEP ..` and `sparse ..`: one step after the other on new
-//! memory in one block, or on memory that keeps only the frames which have room.
+//! `memory size=SIZE fill=BYTE STEP; STEP ..`, `sparse ..` and `slice_memory base=ADDRESS ..`: one
+//! step after the other on new memory in one block, on memory that keeps only the frames which have
+//! room, or on a slice from a base address on.
 ghost use Rattle.std.specs.Prelude.{All, IsTrue, length, ◌≤◌};
 ghost use Rattle.bl_mem.specs.Memory.{HasRoom};
 
 use crate::row::Row;
-use bl_mem::{Flat, PhysMem, Sparse};
+use bl_mem::{Flat, PhysMem, SliceMemory, Sparse};
 use std::ops::Range;
 
 /// Whether these ranges go forward, and end at most at the size.
@@ -147,4 +148,19 @@ pub fn answer(row: &mut Row<'_>, is_sparse: bool) {
             Err(_) => row.lack(),
         }
     }
+}
+
+/// Makes the steps on memory in a slice of so many bytes, and tells what the slice holds then.
+pub fn answer_slice(row: &mut Row<'_>) {
+    let base = row.number_field("base");
+    let size = row.number_field("size");
+    let fill = row.byte_field("fill");
+    let Ok(base) = u32::try_from(base) else {
+        return row.refuse();
+    };
+    let mut held = row.zeros(size);
+    held.as_mut_slice().fill(fill);
+    let mut memory = SliceMemory::from_base(base, held.as_mut_slice());
+    make_steps(row, &mut memory);
+    row.say_bytes("; slice ", held.as_slice());
 }

@@ -3,7 +3,7 @@ use Rattle.std.proofs.lemmas.List.{places}
 use Rattle.bl_mem.specs.Files.{text_at}
 use Rattle.bl_mem.proofs.Overwrites.{copy_more}
 use Rattle.bl_load.proofs.MemoryLemmas.{keeps_on}
-use Rattle.bl_load.proofs.copying.copy.Goals as goal
+use Rattle.bl_load.proofs.copying.copy_by_pieces.Goals as goal
 
 pub copy_piece-requires-clause-held : goal.copy_piece-requires-clause-held
 copy_piece-requires-clause-held g c = rw c.loop-done.invariant.kept.size c.requires.held

@@ -1,7 +1,7 @@
 use Rattle.std.proofs.Common.{◌≡◌, ◌-◌, ◌+◌, ◌≤◌, slice_range}
 use Rattle.bl_mem.specs.Files.{text_at}
 use Rattle.bl_mem.specs.Memory.{overwrite, KeepsMemory}
-use Rattle.bl_load.proofs.copying.copy.Given as goal
+use Rattle.bl_load.proofs.copying.copy_by_pieces.Given as goal
 
 -- what was copied so far; the files are as they were
 abbrev pub invariant-loop-done : goal.invariant-loop-done
