@@ -2,16 +2,16 @@
 use Rattle.std.proofs.Common.{◌≡◌, ℕ, ◌+◌, ◌-◌, ◌≤◌, List, ◌++◌, length}
 use Rattle.std.proofs.Common.{slice_range, replicate, arith, rules}
 use Rattle.std.proofs.lemmas.List.{places, same_lists}
-use Rattle.bl_mem.specs.Memory.{overwrite, bytes_from}
+use Rattle.bl_mem.specs.Memory.{overwrite, memory_from}
 
 -- how much memory that is
-pub length-from : (base : ℕ) (held : List ℕ) → length (bytes_from base held) ≡ base + length held
+pub length-from : (base : ℕ) (held : List ℕ) → length (memory_from base held) ≡ base + length held
 length-from base held = search (rules, places)
 
 -- what is read above the base
 pub read_above : (base : ℕ) (held : List ℕ) (at count : ℕ) → base ≤ at
     → at + count ≤ base + length held
-    → slice_range (bytes_from base held) at (at + count)
+    → slice_range (memory_from base held) at (at + count)
     ≡ slice_range held (at - base) (at - base + count)
 read_above base held at count above inside =
     same_lists _ _ (search (rules, places)) (λ k d h. grind (arith, places))
@@ -19,7 +19,7 @@ read_above base held at count above inside =
 -- what is read from below the base on
 pub read_below : (base : ℕ) (held : List ℕ) (at low high : ℕ) → at + low ≤ base
     → (1 ≤ high → at + low ≡ base) → high ≤ length held
-    → slice_range (bytes_from base held) at (at + (low + high))
+    → slice_range (memory_from base held) at (at + (low + high))
     ≡ replicate low 0 ++ slice_range held 0 high
 read_below base held at low high below meets inside =
     same_lists _ _ (search (rules, places)) (λ k d h. grind (arith, places))
@@ -27,12 +27,12 @@ read_below base held at low high below meets inside =
 -- what is written above the base
 pub write_above : (base : ℕ) (held : List ℕ) (at : ℕ) (part : List ℕ) → base ≤ at
     → at + length part ≤ base + length held
-    → bytes_from base (overwrite held (at - base) part) ≡ overwrite (bytes_from base held) at part
+    → memory_from base (overwrite held (at - base) part) ≡ overwrite (memory_from base held) at part
 write_above base held at part above inside =
     same_lists _ _ (search (rules, places)) (λ k d h. grind (arith, places))
 
 -- it is as long after a write
 pub length-above : (base : ℕ) (held : List ℕ) (at : ℕ) (part : List ℕ) → base ≤ at
     → at + length part ≤ base + length held
-    → length (bytes_from base (overwrite held (at - base) part)) ≡ length (bytes_from base held)
+    → length (memory_from base (overwrite held (at - base) part)) ≡ length (memory_from base held)
 length-above base held at part above inside = search (rules, places)

@@ -8,8 +8,8 @@ abbrev pub overwrite : List ℕ → ℕ → List ℕ → List ℕ
 overwrite bytes at part = take at bytes ++ part ++ drop (at + length part) bytes
 
 -- memory that begins at a base, with these bytes from there on; what lies below reads as zero
-abbrev pub bytes_from : ℕ → List ℕ → List ℕ
-bytes_from base held = replicate base 0 ++ held
+abbrev pub memory_from : ℕ → List ℕ → List ℕ
+memory_from base held = replicate base 0 ++ held
 
 -- the address is the range's start or after it, and before its end
 abbrev pub IsIn : Range ℕ → ℕ → Type 0

@@ -1,6 +1,6 @@
 //! Memory in a slice that the caller keeps.
 ghost use Rattle.std.specs.Prelude.{◌≡◌, ◌+◌, ◌-◌, ◌≤◌, ◌++◌, length, replicate, slice_range};
-ghost use Rattle.bl_mem.specs.Memory.{bytes_from, overwrite};
+ghost use Rattle.bl_mem.specs.Memory.{memory_from, overwrite};
 
 use crate::memory::PhysMem;
 use std::alloc::{AllocError, Allocator};
@@ -83,7 +83,7 @@ impl<'a> SliceMemory<'a> {
 }
 
 impl PhysMem for SliceMemory<'_> {
-    ghost bytes = { λ memory. bytes_from memory.base memory.held.now };
+    ghost bytes = { λ memory. memory_from memory.base memory.held.now };
 
     ghost room = { λ memory a. memory.base ≤ a };
 

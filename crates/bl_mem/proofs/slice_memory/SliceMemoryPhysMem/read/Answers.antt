@@ -1,5 +1,5 @@
 use Rattle.std.proofs.Common.{◌+◌, ◌-◌, ◌∙◌, ap, arith, length, slice_range, sym}
-use Rattle.bl_mem.specs.Memory.{bytes_from}
+use Rattle.bl_mem.specs.Memory.{memory_from}
 use Rattle.bl_mem.proofs.BaseLemmas.{length-from, read_below}
 use Rattle.bl_mem.proofs.slice_memory.SliceMemoryPhysMem.read.Goals as goal
 
@@ -14,4 +14,4 @@ returns-else-at-base c =
     c.read_from_below.ensures
     ∙ sym (read_below this.base this.held.now at zeros rest (omega arith) (λ some. omega arith)
     (omega arith))
-    ∙ ap (λ end. slice_range (bytes_from this.base this.held.now) at (at + end)) (omega arith)
+    ∙ ap (λ end. slice_range (memory_from this.base this.held.now) at (at + end)) (omega arith)
