@@ -76,12 +76,7 @@ fn copy_by_pieces<M: PhysMem, F: FileSet>(
 }
 
 /// Writes bytes that the files lent.
-fn write_lent<M: PhysMem, F: FileSet>(
-    memory: &mut M,
-    at: u64,
-    files: &F,
-    lent: &[u8],
-)
+fn write_lent<M: PhysMem, F: FileSet>(memory: &mut M, at: u64, files: &F, lent: &[u8])
     requires held { AreBelow (F.holds files.now) (length (M.bytes memory.old)) }
     requires inside { at + length lent.now ≤ length (M.bytes memory.old) }
     requires room { HasRoom (M.room memory.old) at (at + length lent.now) }
