@@ -6,6 +6,7 @@ pub mod TextLemmas
 pub mod SpotLemmas
 pub mod SpotLaws
 pub mod CountLemmas
+pub mod CellGroupLemmas
 pub mod MovedCells
 pub mod SpareLemmas
 pub mod MoveLemmas

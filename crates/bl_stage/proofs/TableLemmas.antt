@@ -148,6 +148,12 @@ module _ (base : ℕ) (all : List ℕ) (cells : List Cell) (slot : ℕ) (shut : 
         omega (arith, set_count, was, held.count, next, so_far);
   }
 
+  -- one cell more than the frames so far
+  pub held_fewer : slot < length cells
+  held_fewer =
+      let most = held_few base all (set cells here cell) (slot + 1) (omega arith) hold_more in
+      omega (arith, most, length-set cells here cell)
+
 -- the number of a frame whose address is given
 pub read_number : (addresses : List ℕ) (k : ℕ) → k < length addresses
     → get_or (map (λ a. a / 4096) addresses) k 0 ≡ get_or addresses k 0 / 4096

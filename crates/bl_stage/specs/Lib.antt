@@ -3,5 +3,6 @@ pub mod Pieces
 pub mod Spots
 pub mod Ranges
 pub mod Cells
+pub mod CellGroups
 pub mod Kept
 pub mod TextLaws

@@ -1,7 +1,6 @@
 //! One frame of the pool, as a stage keeps it.
-ghost use Rattle.std.specs.Prelude.{◌≡◌, ◌+◌, ◌<◌, ◌≤◌, length, drop, true};
-ghost use Rattle.std.specs.List.{count_by};
-ghost use Rattle.bl_stage.specs.Cells.{is_spare_cell, cell_at};
+ghost use Rattle.std.specs.Prelude.{◌≡◌};
+ghost use Rattle.bl_stage.specs.Cells.{is_spare_cell};
 
 /// One frame of the pool: which place of the list of all files' frames it has, and whether it is
 /// to be left.
@@ -18,20 +17,4 @@ impl Cell {
     {
         !self.shut && self.holder.is_none()
     }
-}
-
-/// The first spare cell from `start` on.
-pub fn next_spare(cells: &[Cell], start: usize) -> usize
-    requires { 0 < count_by is_spare_cell (drop start cells.now) }
-    ensures from { start ≤ result }
-    ensures within { result < length cells.now }
-    ensures spare { is_spare_cell (cell_at cells.now result) ≡ true }
-    ensures rest { count_by is_spare_cell (drop (result + 1) cells.now) + 1
-        ≡ count_by is_spare_cell (drop start cells.now) }
-{
-    let mut at = start;
-    while !cells[at].is_spare() {
-        at += 1;
-    }
-    at
 }

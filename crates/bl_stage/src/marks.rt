@@ -5,23 +5,26 @@ ghost use Rattle.bl_map.specs.Room.{is_beside};
 ghost use Rattle.bl_stage.specs.Cells.{is_open_cell, cell_at};
 ghost use Rattle.bl_stage.specs.Ranges.{meets};
 
-use crate::cell::Cell;
+use crate::cells::Cells;
 use bl_map::FRAME;
+use std::alloc::Allocator;
 use std::ops::Range;
 
 /// Opens each cell.
-fn open_all(cells: &mut [Cell])
+fn open_all<A: Allocator>(cells: &mut Cells<A>)
+    ensures wide { length cells.new ≡ length cells.old }
     ensures holders { (j : ℕ) → (cell_at cells.new j).holder ≡ (cell_at cells.old j).holder }
     ensures open { (j : ℕ) → (cell_at cells.new j).shut ≡ false }
 {
     for at in 0..cells.len() {
-        cells[at].shut = false;
+        cells.set_shut(at, false);
     }
 }
 
 /// Shuts each cell whose frame the range meets.
-fn shut_range(cells: &mut [Cell], base: u64, range: &Range<u64>)
+fn shut_range<A: Allocator>(cells: &mut Cells<A>, base: u64, range: &Range<u64>)
     requires { 4096 * (base + length cells.old) < 2 ^ 64 }
+    ensures wide { length cells.new ≡ length cells.old }
     ensures holders { (j : ℕ) → (cell_at cells.new j).holder ≡ (cell_at cells.old j).holder }
     ensures shut { (j : ℕ) → j < length cells.old → (cell_at cells.new j).shut
         ≡ ((cell_at cells.old j).shut || not (is_beside range.now (4096 * (base + j)))) }
@@ -30,14 +33,15 @@ fn shut_range(cells: &mut [Cell], base: u64, range: &Range<u64>)
         let first = (range.start / FRAME).max(base) - base;
         let behind = ((range.end - 1) / FRAME + 1).min(base + cells.len() as u64);
         for at in first as usize..(behind.max(base) - base) as usize {
-            cells[at].shut = true;
+            cells.set_shut(at, true);
         }
     }
 }
 
 /// Shuts the cells whose frames a range meets, and opens all others.
-pub fn mark(cells: &mut [Cell], base: u64, ranges: &[Range<u64>])
+pub fn mark<A: Allocator>(cells: &mut Cells<A>, base: u64, ranges: &[Range<u64>])
     requires { 4096 * (base + length cells.old) < 2 ^ 64 }
+    ensures wide { length cells.new ≡ length cells.old }
     ensures holders { (j : ℕ) → (cell_at cells.new j).holder ≡ (cell_at cells.old j).holder }
     ensures shut { (j : ℕ) → j < length cells.old
         → (cell_at cells.new j).shut ≡ meets ranges.now (base + j) }
@@ -49,12 +53,12 @@ pub fn mark(cells: &mut [Cell], base: u64, ranges: &[Range<u64>])
 }
 
 /// How many cells are open.
-pub fn count_open(cells: &[Cell]) -> usize
+pub fn count_open<A: Allocator>(cells: &Cells<A>) -> usize
     ensures { result ≡ count_by is_open_cell cells.now }
 {
     let mut open = 0;
-    for cell in cells {
-        if !cell.shut {
+    for at in 0..cells.len() {
+        if !cells.get(at).shut {
             open += 1;
         }
     }

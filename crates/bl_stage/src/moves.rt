@@ -1,17 +1,38 @@
 //! Files' frames that are to be left are moved into spare ones.
-ghost use Rattle.std.specs.Prelude.{◌≡◌, ◌+◌, ◌*◌, ◌<◌, ◌≤◌, ◌^◌, ◌↔◌, IsTrue, length};
+ghost use Rattle.std.specs.Prelude.{◌≡◌, ◌+◌, ◌*◌, ◌<◌, ◌≤◌, ◌^◌, ◌↔◌, IsTrue, length, drop};
 ghost use Rattle.std.specs.Prelude.{slice_range, slice_set, true, false, Some, None};
 ghost use Rattle.std.specs.List.{count_by};
 ghost use Rattle.std.specs.Bool.{OnTrue, OnFalse};
 ghost use Rattle.bl_map.specs.Room.{open_among};
 ghost use Rattle.bl_mem.specs.Memory.{overwrite, HasRoom, KeepsMemory};
-ghost use Rattle.bl_stage.specs.Cells.{is_open_cell, AreHeld, Moved, MadeWay, HasFrames};
+ghost use Rattle.bl_stage.specs.Cells.{is_open_cell, is_spare_cell, cell_at, AreHeld, Moved};
+ghost use Rattle.bl_stage.specs.Cells.{MadeWay, HasFrames};
+ghost use Rattle.bl_stage.specs.CellGroups.{no_holder};
 
-use crate::cell::{Cell, next_spare};
+use crate::cell::Cell;
+use crate::cells::Cells;
 use crate::marks::{count_open, mark};
 use bl_map::FRAME;
 use bl_mem::PhysMem;
+use std::alloc::Allocator;
 use std::ops::Range;
+
+/// The first spare cell from `start` on.
+fn next_spare<A: Allocator>(cells: &Cells<A>, start: usize) -> usize
+    requires { 0 < count_by is_spare_cell (drop start cells.now) }
+    ensures from { start ≤ result }
+    ensures within { result < length cells.now }
+    ensures spare { is_spare_cell (cell_at cells.now result) ≡ true }
+    ensures rest { count_by is_spare_cell (drop (result + 1) cells.now) + 1
+        ≡ count_by is_spare_cell (drop start cells.now) }
+{
+    let _count = cells.len();
+    let mut at = start;
+    while !cells.get(at).is_spare() {
+        at += 1;
+    }
+    at
+}
 
 /// Copies a frame of the pool, by its place in it, over another one.
 fn copy_frame<M: PhysMem>(
@@ -35,8 +56,16 @@ fn copy_frame<M: PhysMem>(
 }
 
 /// Tells the tables that the frame of a slot stands in the cell `to`, and no more in `from`.
-fn move_slot(base: u64, frames: &mut [u64], cells: &mut [Cell], from: usize, to: usize, slot: u32)
+fn move_slot<A: Allocator>(
+    base: u64,
+    frames: &mut [u64],
+    cells: &mut Cells<A>,
+    from: usize,
+    to: usize,
+    slot: u32,
+)
     requires slot { slot < length frames.old }
+    requires named { slot < no_holder }
     requires from { from < length cells.old }
     requires to { to < length cells.old }
     requires small { base + to < 2 ^ 64 }
@@ -46,22 +75,24 @@ fn move_slot(base: u64, frames: &mut [u64], cells: &mut [Cell], from: usize, to:
         (record { holder = Some slot; shut = false }) }
 {
     frames[slot as usize] = base + to as u64;
-    cells[from] = Cell {
+    let left = Cell {
         holder: None,
         shut: true,
     };
-    cells[to] = Cell {
+    cells.put(from, left);
+    let taken = Cell {
         holder: Some(slot),
         shut: false,
     };
+    cells.put(to, taken);
 }
 
 /// Moves each frame of a file whose cell is shut into a spare one, in one pass over the cells.
-fn move_out<M: PhysMem>(
+fn move_out<A: Allocator, M: PhysMem>(
     memory: &mut M,
     base: u64,
     frames: &mut [u64],
-    cells: &mut [Cell],
+    cells: &mut Cells<A>,
     buffer: &mut [u8; 4096],
 )
     requires held { AreHeld base frames.old cells.old }
@@ -75,7 +106,7 @@ fn move_out<M: PhysMem>(
 {
     let mut to = 0;
     for from in 0..cells.len() {
-        let cell = cells[from];
+        let cell = cells.get(from);
         if cell.shut {
             if let Some(slot) = cell.holder {
                 to = next_spare(cells, to);
@@ -89,11 +120,11 @@ fn move_out<M: PhysMem>(
 
 /// Moves each frame of a file that a range meets, if the frames that none meets are enough for
 /// all files. Else it answers false, and nothing is changed.
-pub fn make_way<M: PhysMem>(
+pub fn make_way<A: Allocator, M: PhysMem>(
     memory: &mut M,
     base: u64,
     frames: &mut [u64],
-    cells: &mut [Cell],
+    cells: &mut Cells<A>,
     ranges: &[Range<u64>],
 ) -> bool
     requires held { AreHeld base frames.old cells.old }
@@ -102,6 +133,7 @@ pub fn make_way<M: PhysMem>(
     requires room { HasRoom (M.room memory.old) (4096 * base) (4096 * (base + length cells.old)) }
     ensures exact { IsTrue result
         ↔ (length frames.old ≤ open_among ranges.now (4096 * base) (length cells.old)) }
+    ensures wide { length cells.new ≡ length cells.old }
     ensures held { AreHeld base frames.new cells.new }
     ensures yes { OnTrue result (MadeWay base (length cells.old) ranges.now
         (M.bytes memory.old) (M.bytes memory.new) frames.old frames.new) }

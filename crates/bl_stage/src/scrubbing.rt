@@ -39,24 +39,6 @@ fn next_edge(keep: &[Range<u64>], at: u64, end: u64) -> u64
     edge
 }
 
-/// Clears a pool outside of the ranges to keep.
-fn scrub_range<M: PhysMem>(memory: &mut M, pool: Range<u64>, keep: &[Range<u64>])
-    requires inside { HasPool (M.bytes memory.old) pool }
-    requires room { HasRoom (M.room memory.old) pool.start pool.end }
-    ensures after { (a : ℕ) → slice_index (M.bytes memory.new) a
-        ≡ scrubbed pool keep.now (M.bytes memory.old) a }
-    ensures kept { KeepsMemory M.lender M.bytes M.room memory.old memory.new }
-{
-    let mut at = pool.start;
-    while at < pool.end {
-        let edge = next_edge(keep, at, pool.end);
-        if !is_kept(keep, at) {
-            memory.zero(at..edge);
-        }
-        at = edge;
-    }
-}
-
 /// Clears to 0 each byte of the machine's pool that lies in none of the ranges to keep, and
 /// changes no other byte. The ranges may lie anywhere, overlap or have no byte. It takes no
 /// memory and needs no stage.
@@ -67,5 +49,13 @@ pub fn scrub<A: Allocator, M: PhysMem>(machine: &Machine<A>, memory: &mut M, kee
         ≡ scrubbed machine.now.pool keep.now (M.bytes memory.old) a }
     ensures kept { KeepsMemory M.lender M.bytes M.room memory.old memory.new }
 {
-    scrub_range(memory, machine.pool(), keep);
+    let pool = machine.pool();
+    let mut at = pool.start;
+    while at < pool.end {
+        let edge = next_edge(keep, at, pool.end);
+        if !is_kept(keep, at) {
+            memory.zero(at..edge);
+        }
+        at = edge;
+    }
 }

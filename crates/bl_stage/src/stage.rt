@@ -1,5 +1,5 @@
 //! An entry's files, staged in frames of the pool.
-use crate::cell::Cell;
+use crate::cells::Cells;
 use crate::view::FrameView;
 use bl_map::frames_of;
 use bl_mem::PhysMem;
@@ -25,7 +25,7 @@ pub struct Stage<A: Allocator> {
     starts: Vec<u64, A>,
     frames: Vec<u64, A>,
     came: Vec<bool, A>,
-    cells: Vec<Cell, A>,
+    cells: Cells<A>,
     waiting: usize,
 }
 
@@ -43,7 +43,7 @@ impl<A: Allocator> Model for Stage<A> {
     } };
 
     ghost invariant = { λ s. KeepsTables s.base s.pool s.sizes.items s.starts.items s.frames.items
-        s.came.items s.cells.items s.waiting };
+        s.came.items s.cells s.waiting };
 }
 
 impl<A: Allocator> Stage<A> {

@@ -6,6 +6,7 @@ ghost use Rattle.bl_stage.specs.Staged.{first_of, AreApart};
 ghost use Rattle.bl_map.specs.Room.{frames_for};
 
 use crate::cell::Cell;
+use crate::cells::Cells;
 use bl_map::{FRAME, frames_of};
 use std::alloc::{AllocError, Allocator};
 
@@ -42,17 +43,23 @@ pub fn starts_of<A: Allocator>(alloc: A, sizes: &[u64]) -> Result<Vec<u64, A>, A
 }
 
 /// Notes each of these frames in its cell, by its place in their list.
-pub fn hold_all(cells: &mut [Cell], base: u64, frames: &[u64])
+pub fn hold_all<A: Allocator>(cells: &mut Cells<A>, base: u64, frames: &[u64])
     requires empty { (j : ℕ) → (cell_at cells.old j).holder ≡ None }
     requires few { length cells.old < 2 ^ 32 }
     requires low { (k : ℕ) → k < length frames.now → base ≤ slice_index frames.now k }
     requires high { (k : ℕ) → k < length frames.now
         → slice_index frames.now k < base + length cells.old }
     requires apart { AreApart frames.now }
-    ensures { AreHeld base frames.now cells.new }
+    ensures wide { length cells.new ≡ length cells.old }
+    ensures held { AreHeld base frames.now cells.new }
 {
     for slot in 0..frames.len() {
-        cells[(frames[slot] - base) as usize].holder = Some(slot as u32);
+        let at = (frames[slot] - base) as usize;
+        let cell = Cell {
+            holder: Some(slot as u32),
+            shut: cells.get(at).shut,
+        };
+        cells.put(at, cell);
     }
 }
 

@@ -5,7 +5,7 @@ ghost use Rattle.bl_map.specs.Room as room;
 ghost use Rattle.bl_stage.specs.Staged.{AreStaged, empty_stage, AreApart};
 ghost use Rattle.bl_map.specs.Room.{frames_for};
 
-use crate::cell::Cell;
+use crate::cells::Cells;
 use crate::fault::StageFault;
 use crate::stage::Stage;
 use crate::tables::{first_frames, frames_within, hold_all, numbers_of, starts_of};
@@ -35,12 +35,8 @@ impl<A: Allocator + Copy> Stage<A> {
         ensures err { IfErr result (λ fault. fault ≡ StageFault.NoMemory) }
     {
         let base = pool.start / FRAME;
-        let empty = Cell {
-            holder: None,
-            shut: false,
-        };
-        let mut cells = Vec::from_elem(alloc, empty, frames_in(&pool) as usize)?;
-        hold_all(cells.as_mut_slice(), base, &frames);
+        let mut cells = Cells::empty(alloc, frames_in(&pool) as usize)?;
+        hold_all(&mut cells, base, &frames);
         let waiting = frames.len();
         Ok(Stage {
             base,

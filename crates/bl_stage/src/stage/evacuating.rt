@@ -53,7 +53,7 @@ impl<A: Allocator> Stage<A> {
             memory,
             self.base,
             self.frames.as_mut_slice(),
-            self.cells.as_mut_slice(),
+            &mut self.cells,
             ranges,
         );
         if made {

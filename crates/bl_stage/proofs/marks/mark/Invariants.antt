@@ -5,7 +5,7 @@ use Rattle.bl_stage.proofs.marks.mark.Given as goal
 
 -- what is shut is what the ranges so far meet
 abbrev pub invariant-loop-range : goal.invariant-loop-range
-invariant-loop-range l = record {
+invariant-loop-range g l = record {
   wide : length l.cells ≡ length l.fn.cells;
   holders : (j : ℕ) → (cell_at l.cells j).holder ≡ (cell_at l.fn.cells j).holder;
   shut : (j : ℕ) → j < length l.fn.cells

@@ -20,11 +20,11 @@ returns-clause-files g c =
     let kept : AreStaged stage =
     rw (← c.self.view_is)
     (kept_staged inside.base inside.pool inside.sizes.items inside.starts.items
-    inside.frames.items inside.came.items inside.cells.items inside.waiting
+    inside.frames.items inside.came.items inside.cells inside.waiting
     c.self.invariant) in
     elim c.if-made.branch [
       | then-made w ↦
-          let way : MadeWay inside.base (length inside.cells.items) c.args.ranges.now bytes new
+          let way : MadeWay inside.base (length inside.cells) c.args.ranges.now bytes new
           inside.frames.items frames = search rules in
           let items : (with_items inside.frames frames).items ≡ frames =
           with_items_is inside.frames frames (search rules) in
@@ -56,11 +56,11 @@ returns-clause-spots g c =
     let kept : AreStaged stage =
     rw (← c.self.view_is)
     (kept_staged inside.base inside.pool inside.sizes.items inside.starts.items
-    inside.frames.items inside.came.items inside.cells.items inside.waiting
+    inside.frames.items inside.came.items inside.cells inside.waiting
     c.self.invariant) in
     elim c.if-made.branch [
       | then-made w ↦
-          let way : MadeWay inside.base (length inside.cells.items) c.args.ranges.now bytes new
+          let way : MadeWay inside.base (length inside.cells) c.args.ranges.now bytes new
           inside.frames.items frames = search rules in
           let items : (with_items inside.frames frames).items ≡ frames =
           with_items_is inside.frames frames (search rules) in

@@ -22,7 +22,7 @@ returns-clause-in_file g c =
     let kept : AreStaged stage =
     rw (← c.self.view_is)
     (kept_staged inside.base inside.pool inside.sizes.items inside.starts.items
-    inside.frames.items inside.came.items inside.cells.items inside.waiting
+    inside.frames.items inside.came.items inside.cells inside.waiting
     c.self.invariant) in
     let found =
     found_piece (is_piece stage file index (length piece)) (slot_in stage file index)
@@ -51,7 +51,7 @@ returns-clause-in_others g c =
     let kept : AreStaged stage =
     rw (← c.self.view_is)
     (kept_staged inside.base inside.pool inside.sizes.items inside.starts.items
-    inside.frames.items inside.came.items inside.cells.items inside.waiting
+    inside.frames.items inside.came.items inside.cells inside.waiting
     c.self.invariant) in
     let found =
     found_piece (is_piece stage file index (length piece)) (slot_in stage file index)
@@ -80,7 +80,7 @@ returns-clause-spots g c =
     let kept : AreStaged stage =
     rw (← c.self.view_is)
     (kept_staged inside.base inside.pool inside.sizes.items inside.starts.items
-    inside.frames.items inside.came.items inside.cells.items inside.waiting
+    inside.frames.items inside.came.items inside.cells inside.waiting
     c.self.invariant) in
     let found =
     found_piece (is_piece stage file index (length piece)) (slot_in stage file index)

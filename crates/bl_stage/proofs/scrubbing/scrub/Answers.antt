@@ -1,6 +1,7 @@
 use Rattle.std.proofs.Common.{◌≤◌, length, get_or, arith, ap, ◌∙◌}
+use Rattle.bl_stage.specs.Staged.{HasPool}
 use Rattle.bl_stage.proofs.ScrubLemmas.{rest_zeroed, done_zeroed}
-use Rattle.bl_stage.proofs.scrubbing.scrub_range.Goals as goal
+use Rattle.bl_stage.proofs.scrubbing.scrub.Goals as goal
 
 pub loop-at-preserved-then-not-is_kept : goal.loop-at-preserved-then-not-is_kept
 loop-at-preserved-then-not-is_kept g c =
@@ -9,10 +10,11 @@ loop-at-preserved-then-not-is_kept g c =
     let bytes = g.M.PhysMem.bytes c.loop-at.memory in
     let old = g.M.PhysMem.bytes c.args.memory.now in
     let at = c.loop-at.at in
-    let pool = c.args.pool in
+    let pool = c.pool-pool.result in
+    let inside : HasPool old pool = rw c.pool-pool.ensures.pool c.requires.inside in
     let forward : at ≤ edge.result = omega (arith, edge.ensures.above) in
     let within : edge.result ≤ length bytes =
-    omega (arith, loop.kept.size, edge.ensures.within, c.requires.inside (omega arith)) in
+    omega (arith, loop.kept.size, edge.ensures.within, inside (omega arith)) in
     let is = c.zero.ensures.after in
     record {
       low = omega (arith, loop.low);

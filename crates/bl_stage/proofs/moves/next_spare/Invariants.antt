@@ -1,14 +1,14 @@
 use Rattle.std.proofs.Common.{◌≡◌, ◌≤◌, ◌-◌, length, drop}
 use Rattle.std.specs.List.{count_by}
 use Rattle.bl_stage.specs.Cells.{is_spare_cell}
-use Rattle.bl_stage.proofs.cell.next_spare.Given as goal
+use Rattle.bl_stage.proofs.moves.next_spare.Given as goal
 
 -- no cell so far is spare
 abbrev pub invariant-loop-at : goal.invariant-loop-at
-invariant-loop-at l = record {
+invariant-loop-at g l = record {
   from : l.start ≤ l.at;
   rest : count_by is_spare_cell (drop l.at l.cells) ≡ count_by is_spare_cell (drop l.start l.cells);
 }
 
 abbrev pub decreases-loop-at : goal.decreases-loop-at
-decreases-loop-at l = length l.cells - l.at
+decreases-loop-at g l = length l.cells - l.at

@@ -1,7 +1,7 @@
 use Rattle.std.proofs.Common.{◌≡◌, ℕ, ◌<◌, ◌≤◌, ◌-◌, get_or}
 use Rattle.bl_mem.specs.Memory.{KeepsMemory}
 use Rattle.bl_stage.specs.Ranges.{scrubbed}
-use Rattle.bl_stage.proofs.scrubbing.scrub_range.Given as goal
+use Rattle.bl_stage.proofs.scrubbing.scrub.Given as goal
 
 -- the pool is zeroed up to `at`
 abbrev pub invariant-loop-at : goal.invariant-loop-at
