@@ -1,11 +1,11 @@
-use Rattle.std.proofs.Common.{◌<◌, ℕ, arith, sym, subst}
+use Rattle.std.proofs.Common.{◌<◌, ℕ, arith}
 use Rattle.std.proofs.lemmas.List.Elements.{All-from_get_or}
 use Rattle.bl_mbi.specs.InformationFacts.{IsText}
 use Rattle.bl_load.proofs.LineLemmas.{sound_text}
 use Rattle.bl_load.proofs.multiboot2.information.module_at.Goals as goal
 
 pub returns-clause-fits : goal.returns-clause-fits
-returns-clause-fits g c =
+returns-clause-fits c =
     let at = c.address_of-mod_start.ensures in
     let end = c.requires.end in
     let text : IsText c.args.line.now =
@@ -15,5 +15,5 @@ returns-clause-fits g c =
     record {
       forward = omega arith;
       small = omega (arith, at, end);
-      line = subst IsText (sym c.in_ok-line.ensures.ok) text;
+      line = text;
     }

@@ -10,10 +10,6 @@ use Rattle.bl_load.proofs.LineLemmas.{all_short}
 use Rattle.bl_load.proofs.InformationLemmas.{info_size_is}
 use Rattle.bl_load.proofs.multiboot2.rows.information_row.Goals as goal
 
-pub tags_size-modules-requires-clause-short : goal.tags_size-modules-requires-clause-short
-tags_size-modules-requires-clause-short g c =
-    all_short c.args.entry.now.modules.now c.args.entry.now.sound_modules
-
 row_of : ℕ → Row
 row_of length =
     record { role = Information; index = 0; length = length; choice = Lowest 4096 4096 0x100000000 }
