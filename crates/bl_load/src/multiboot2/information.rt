@@ -2,7 +2,7 @@
 ghost use Rattle.std.specs.Prelude.{◌≡◌, ◌≤◌, ◌<◌, ◌+◌, ◌^◌, None, All, length, map, sum_by, codes};
 ghost use Rattle.std.specs.Prelude.{option_map, option_copied, IfOk, IfSome};
 ghost use Rattle.bl_map.specs.Kinds.{low_kib, high_kib};
-ghost use Rattle.bl_mbi.specs.InformationFacts.{AreBytes, IsModule};
+ghost use Rattle.bl_mbi.specs.InformationFacts.{AreBytes, IsModule, IsText};
 ghost use Rattle.bl_mbi.specs.Size.{tag_size};
 ghost use Rattle.bl_mbi.specs.Spelling.{info_spelling};
 ghost use Rattle.bl_plan.specs.declared.part.Role.TheVariants as role;
@@ -22,6 +22,15 @@ use bl_mem::{ByteView, Bytes};
 use bl_plan::{Place, Role};
 use std::alloc::{AllocError, Allocator};
 
+/// A line that has no fault, as it is told.
+fn text_of(line: &[u8]) -> &[u8]
+    requires sound { line_fault line.now ≡ None }
+    ensures same { result.now ≡ line.now }
+    ensures text { IsText line.now }
+{
+    line
+}
+
 /// What the information tells of the module of this line, whose file has `size` bytes, where the
 /// parts have these places.
 fn module_at<'a>(index: u32, line: &'a [u8], size: u64, places: &[Place]) -> ModuleFacts<'a>
@@ -39,7 +48,7 @@ fn module_at<'a>(index: u32, line: &'a [u8], size: u64, places: &[Place]) -> Mod
     ModuleFacts {
         mod_start,
         mod_end: mod_start + size as u32,
-        line,
+        line: text_of(line),
     }
 }
 
@@ -104,7 +113,7 @@ fn facts_of<'a, A: Allocator, V: ByteView>(
     } }
 {
     Facts {
-        line: entry.line,
+        line: text_of(entry.line),
         modules,
         mem_lower: entry.machine.low_kib() as u32,
         mem_upper: entry.machine.high_kib() as u32,

@@ -1,9 +1,32 @@
-use Rattle.std.proofs.Common.{length, arith}
+use Rattle.std.proofs.Common.{◌+◌, length, arith, sym, subst}
 use Rattle.std.specs.Prelude.{map, is_some, sum_by}
-use Rattle.std.proofs.lemmas.List.Elements.{All-from_get_or}
-use Rattle.bl_mbi.specs.InformationFacts.{ModuleInfo}
+use Rattle.bl_mbi.specs.InformationFacts.{IsText, ModuleInfo}
 use Rattle.bl_mbi.specs.Size.{tag_size}
-use Rattle.bl_load.proofs.LineLemmas.{sound_text}
 use Rattle.bl_load.proofs.InformationLemmas.{told_below}
 use Rattle.bl_load.proofs.multiboot2.information.facts_of.Goals as goal
 
+pub invariant_of-result : goal.invariant_of-result
+invariant_of-result g c =
+    let entry = c.args.entry.now in
+    let line = entry.line.now in
+    let facts = c.normal.ensures.facts in
+    let short =
+    told_below (length line) (sum_by (λ n. tag_size (n + 9))
+    (map (λ (m : ModuleInfo). length m.line) c.args.modules.now)) (length entry.machine.now.runs)
+    entry.rsdp_old.now entry.rsdp_new.now (is_some c.args.load_base) entry.short facts.few
+    c.requires.small entry.old entry.new in
+    record {
+      told = record {
+        line = subst IsText (sym c.text_of.ensures.same) c.text_of.ensures.text;
+        modules = c.requires.modules;
+        mem_lower = c.low_kib.ensures.most;
+        mem_upper = c.high_kib.ensures.most;
+        runs = rw c.normal.ensures.runs facts.runs.low;
+        rsdp_old = rw c.bytes_of.ensures.same c.bytes_of.ensures.bytes;
+        rsdp_new = rw c.bytes_of-2.ensures.same c.bytes_of-2.ensures.bytes;
+        load_base = c.requires.base;
+      };
+      small =
+          rw (c.text_of.ensures.same, c.normal.ensures.runs, c.bytes_of.ensures.same, c.bytes_of-2.ensures.same)
+          (omega (arith, short));
+    }
