@@ -16,16 +16,11 @@ use Rattle.bl_load.specs.Addresses.{address_of}
 use Rattle.bl_load.specs.Value.{EntryValue, IsCopy}
 use Rattle.bl_map.specs.Room.{whole_frames}
 use Rattle.bl_load.specs.Rows.{told_modules, information_of}
-use Rattle.bl_load.specs.PlacingKept.{tags_size, copies_size}
+use Rattle.bl_load.specs.PlacingKept.{tags_size}
 
 most_load_base : (b : Bool) → load_base_size b ≤ 16
 most_load_base true = omega arith
 most_load_base false = omega arith
-
--- with no module it is short
-pub size_below : (line runs : ℕ) (given : Bool) → line ≤ 4095 → runs ≤ 256
-    → size_by_lengths line [] runs None None given < 2 ^ 16
-size_below line runs given l r = let b = most_load_base given in omega arith
 
 same_given : (relocation : Option Relocation) (base : ℕ)
     → is_some (option_map (λ r. base) relocation) ≡ is_some relocation
@@ -54,24 +49,32 @@ tags_small (line ∷ lines) short =
     omega arith
 
 -- a copy's tag takes at most 264 bytes
-pub copy_size_small : (copy : Option (List ℕ)) → IfSome copy IsCopy
+copy_size_small : (copy : Option (List ℕ)) → IfSome copy IsCopy
     → copy_size (option_map length copy) ≤ 264
 copy_size_small None is = omega arith
 copy_size_small (Some copy) is = let short = is.short in omega (arith, short)
 
--- with few modules and copies it is short too
-pub told_below : (line tags runs old new : ℕ) (given : Bool) → line ≤ 4095 → runs ≤ 256
-    → tags < 2 ^ 20 → old ≤ 264 → new ≤ 264
-    → size_by_lengths line [] runs None None given + tags + old + new < 2 ^ 32
+-- with few modules and copies it is short
+pub told_below : (line tags runs : ℕ) (old new : Option (List ℕ)) (given : Bool) → line ≤ 4095
+    → runs ≤ 256 → tags < 2 ^ 20 → IfSome old IsCopy → IfSome new IsCopy
+    → size_by_lengths line [] runs (option_map length old) (option_map length new) given + tags
+    < 2 ^ 32
 told_below line tags runs old new given l r t o n =
-    let s = size_below line runs given l r in omega (arith, s)
+    omega (arith, most_load_base given, copy_size_small old o, copy_size_small new n)
+
+-- the length of a copy is below 2^31
+pub copy_short : (copy : Option (List ℕ)) → IfSome copy IsCopy
+    → IfSome (option_map length copy) (λ n. n < 2 ^ 31)
+copy_short None is = tt
+copy_short (Some copy) is = let short = is.short in omega (arith, short)
 
 -- its size does not depend on any place
 pub info_size_is : (facts : MachineFacts) (value : EntryValue) (relocation : Option Relocation)
     (places : List Place)
     → info_size (information_of facts value relocation places)
-    ≡ size_by_lengths (length value.line) [] (length facts.runs) None None (is_some relocation)
-    + (tags_size value.module_lines + copies_size value.rsdp_old value.rsdp_new)
+    ≡ size_by_lengths (length value.line) [] (length facts.runs) (option_map length value.rsdp_old)
+    (option_map length value.rsdp_new) (is_some relocation)
+    + tags_size value.module_lines
 info_size_is facts value relocation places =
     let tags = tags_size_is value.files places 0 value.module_lines in
     let given = same_given relocation (address_of Kernel 0 places) in

@@ -11,7 +11,7 @@ use Rattle.bl_plan.specs.declared.part.Role.TheVariants.{Kernel, Module, Informa
 use Rattle.bl_plan.specs.declared.part.Role.TheVariants.{CommandLine, Gdt, Initrd, PageTables}
 use Rattle.bl_plan.specs.declared.part.Choice.TheVariants.{Lowest, Highest}
 use Rattle.bl_map.specs.Limits.{frame_size, first_usable, max_size}
-use Rattle.bl_mbi.specs.Size.{tag_size, copy_size}
+use Rattle.bl_mbi.specs.Size.{tag_size}
 use Rattle.bl_load.specs.Kernel.{KernelFacts}
 use Rattle.bl_plan.specs.declared.protocol.Protocol.{Protocol}
 use Rattle.bl_plan.specs.declared.part.Row.{Row}
@@ -142,10 +142,6 @@ told_rows_by facts value (linux setup) =
 abbrev pub tags_size : List (List ℕ) → ℕ
 tags_size [] = 0
 tags_size (line ∷ lines) = tag_size (length line + 9) + tags_size lines
-
--- how long the tags of copies of the RSDP are
-abbrev pub copies_size : Option (List ℕ) → Option (List ℕ) → ℕ
-copies_size old new = copy_size (option_map length old) + copy_size (option_map length new)
 
 -- each of so many modules ends below the last frame of 4 GiB
 abbrev pub ModulesEndLow : List (List ℕ) → List Place → ℕ → Type 0

@@ -1,4 +1,4 @@
-//! A module, as the information tells of it.
+//! A module, as it was read.
 use bl_mem::Bytes;
 use std::alloc::Allocator;
 use std::marker::Model;

@@ -1,7 +1,7 @@
 //! Each tag of boot information, appended where there is room for it.
 ghost use Rattle.std.specs.Prelude.{◌≡◌, ◌≤◌, ◌+◌, ◌-◌, ◌*◌, ◌%◌, ◌^◌, ◌<◌, ◌++◌, [], length};
 ghost use Rattle.std.specs.Prelude.{is_some, sum_by};
-ghost use Rattle.std.specs.Prelude.{option_map, vec_len, vec_capacity};
+ghost use Rattle.std.specs.Prelude.{option_map, option_copied, vec_len, vec_capacity};
 ghost use Rattle.std.specs.List.{flat_map};
 ghost use Rattle.bl_mbi.specs.Size.{tag_size, copy_size, load_base_size};
 ghost use Rattle.bl_mbi.specs.Tags.{padding, tag, text_body, module_tag, memory_body, run_bytes};
@@ -11,9 +11,9 @@ ghost use Rattle.bl_mbi.specs.Tags.{copy_tag, load_base_tag};
 use crate::format::{
     ENTRY_SIZE, TAG_BASIC_MEMORY, TAG_END, TAG_LOAD_BASE, TAG_MEMORY_MAP, TAG_MODULE,
 };
-use crate::module::Module;
+use crate::module_facts::ModuleFacts;
 use bl_map::Region;
-use bl_mem::{Bytes, put_bytes, put_u32, put_u64};
+use bl_mem::{put_bytes, put_u32, put_u64};
 use std::alloc::Allocator;
 
 /// Appends zeros after `len` bytes of a body, up to the next multiple of 8.
@@ -45,14 +45,14 @@ pub(crate) fn put_text<A: Allocator>(out: &mut Vec<u8, A>, kind: u32, text: &[u8
 }
 
 /// Appends a module's tag.
-fn put_module<A: Allocator, B: Allocator>(out: &mut Vec<u8, B>, loaded: &Module<A>)
+fn put_module<A: Allocator>(out: &mut Vec<u8, A>, loaded: &ModuleFacts<'_>)
     requires room { vec_len out.old + tag_size (length loaded.now.line + 9) ≤ vec_capacity out.old }
     requires small { tag_size (length loaded.now.line + 9) < 2 ^ 32 }
     ensures items { out.new.items ≡ out.old.items ++ module_tag loaded.now }
     ensures len { vec_len out.new ≡ vec_len out.old + tag_size (length loaded.now.line + 9) }
     ensures capacity { vec_capacity out.old ≤ vec_capacity out.new }
 {
-    let line = loaded.line.as_slice();
+    let line = loaded.line;
     put_u32(out, TAG_MODULE);
     put_u32(out, line.len() as u32 + 17);
     put_u32(out, loaded.mod_start);
@@ -63,7 +63,7 @@ fn put_module<A: Allocator, B: Allocator>(out: &mut Vec<u8, B>, loaded: &Module<
 }
 
 /// Appends the tags of modules, in their order.
-pub(crate) fn put_modules<A: Allocator, B: Allocator>(out: &mut Vec<u8, B>, modules: &[Module<A>])
+pub(crate) fn put_modules<A: Allocator>(out: &mut Vec<u8, A>, modules: &[ModuleFacts<'_>])
     requires room { vec_len out.old + sum_by (λ m. tag_size (length m.line + 9)) modules.now
         ≤ vec_capacity out.old }
     requires small { sum_by (λ m. tag_size (length m.line + 9)) modules.now < 2 ^ 32 }
@@ -129,22 +129,19 @@ pub(crate) fn put_map<A: Allocator>(out: &mut Vec<u8, A>, runs: &[Region])
 }
 
 /// Appends the tag of a copy, where there is one.
-pub(crate) fn put_copy<A: Allocator, B: Allocator>(
-    out: &mut Vec<u8, B>,
-    kind: u32,
-    copy: &Option<Bytes<A>>,
-)
-    requires room { vec_len out.old + copy_size (option_map length copy.now)
+pub(crate) fn put_copy<A: Allocator>(out: &mut Vec<u8, A>, kind: u32, copy: Option<&[u8]>)
+    requires room { vec_len out.old + copy_size (option_map length (option_copied copy))
         ≤ vec_capacity out.old }
-    requires small { copy_size (option_map length copy.now) < 2 ^ 32 }
-    ensures items { out.new.items ≡ out.old.items ++ copy_tag kind copy.now }
-    ensures len { vec_len out.new ≡ vec_len out.old + copy_size (option_map length copy.now) }
+    requires small { copy_size (option_map length (option_copied copy)) < 2 ^ 32 }
+    ensures items { out.new.items ≡ out.old.items ++ copy_tag kind (option_copied copy.entry) }
+    ensures len { vec_len out.new
+        ≡ vec_len out.old + copy_size (option_map length (option_copied copy.entry)) }
     ensures capacity { vec_capacity out.old ≤ vec_capacity out.new }
 {
     if let Some(copy) = copy {
         put_u32(out, kind);
         put_u32(out, copy.len() as u32 + 8);
-        put_bytes(out, copy.as_slice());
+        put_bytes(out, copy);
         put_padding(out, copy.len() as u64);
     }
 }

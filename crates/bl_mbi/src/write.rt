@@ -1,6 +1,6 @@
 //! Boot information as bytes.
 ghost use Rattle.std.specs.Prelude.{◌≡◌, ◌≤◌, ◌+◌, ◌^◌, ◌<◌, ◌++◌, [], codes, length, sum_by};
-ghost use Rattle.std.specs.Prelude.{option_map, vec_len, vec_capacity, IsOk, OnOk, OnErr};
+ghost use Rattle.std.specs.Prelude.{option_map, option_copied, vec_len, vec_capacity, IsOk, OnOk, OnErr};
 ghost use Rattle.std.specs.List.{flat_map};
 ghost use Rattle.bl_mbi.specs.Size.{tag_size, copy_size};
 ghost use Rattle.bl_mbi.specs.InformationFacts.{info_size as size_of_info};
@@ -13,14 +13,14 @@ use crate::facts::Facts;
 use crate::format::{
     ENTRY_SIZE, TAG_ACPI_NEW, TAG_ACPI_OLD, TAG_BOOT_LOADER_NAME, TAG_COMMAND_LINE,
 };
-use crate::module::Module;
+use crate::module_facts::ModuleFacts;
 use crate::size::tag_len;
 use crate::tags::{put_copy, put_end, put_load_base, put_map, put_memory, put_modules, put_text};
-use bl_mem::{Bytes, put_u32};
+use bl_mem::put_u32;
 use std::alloc::{AllocError, Allocator};
 
 /// How many bytes the tags of modules take.
-fn modules_len<A: Allocator>(modules: &[Module<A>]) -> u64
+fn modules_len(modules: &[ModuleFacts<'_>]) -> u64
     requires { sum_by (λ m. tag_size (length m.line + 9)) modules.now < 2 ^ 32 }
     ensures { result ≡ sum_by (λ m. tag_size (length m.line + 9)) modules.now }
 {
@@ -32,9 +32,9 @@ fn modules_len<A: Allocator>(modules: &[Module<A>]) -> u64
 }
 
 /// How many bytes a copy's tag takes, where there is one.
-fn copy_len<A: Allocator>(copy: &Option<Bytes<A>>) -> u64
-    requires { copy_size (option_map length copy.now) < 2 ^ 32 }
-    ensures { result ≡ copy_size (option_map length copy.now) }
+fn copy_len(copy: Option<&[u8]>) -> u64
+    requires { copy_size (option_map length (option_copied copy)) < 2 ^ 32 }
+    ensures { result ≡ copy_size (option_map length (option_copied copy.entry)) }
 {
     match copy {
         Some(copy) => tag_len(copy.len() as u64),
@@ -43,27 +43,27 @@ fn copy_len<A: Allocator>(copy: &Option<Bytes<A>>) -> u64
 }
 
 /// How many bytes the tags of texts take: the line, the loader's name, the modules.
-fn texts_len<A: Allocator>(facts: &Facts<A>) -> u64
+fn texts_len(facts: &Facts<'_>) -> u64
     requires { texts_size facts.now < 2 ^ 32 }
     ensures { result ≡ texts_size facts.now }
 {
     let line = tag_len(facts.line.len() as u64 + 1);
     let name = tag_len(b"bootcore".len() as u64 + 1);
-    line + name + modules_len(&facts.modules)
+    line + name + modules_len(facts.modules)
 }
 
 /// How many bytes the last tags take: those that do not always stand, and the one that ends the
 /// information.
-fn last_len<A: Allocator>(facts: &Facts<A>) -> u64
+fn last_len(facts: &Facts<'_>) -> u64
     requires { last_size facts.now < 2 ^ 32 }
     ensures { result ≡ last_size facts.now }
 {
     let load_base = if facts.load_base.is_some() { 16 } else { 0 };
-    copy_len(&facts.rsdp_old) + copy_len(&facts.rsdp_new) + load_base + 8
+    copy_len(facts.rsdp_old) + copy_len(facts.rsdp_new) + load_base + 8
 }
 
 /// How many bytes the information takes: its `total_size`, with the loader's name `bootcore`.
-pub fn info_size<A: Allocator>(facts: &Facts<A>) -> u64
+pub fn info_size(facts: &Facts<'_>) -> u64
     ensures size { result ≡ length (info_spelling (codes "bootcore") facts.now) }
     ensures by_lengths { result ≡ size_of_info facts.now }
     ensures small { result < 2 ^ 32 }
@@ -73,20 +73,20 @@ pub fn info_size<A: Allocator>(facts: &Facts<A>) -> u64
 }
 
 /// Appends the tags of texts: the line, the loader's name, the modules.
-fn put_texts<A: Allocator, B: Allocator>(facts: &Facts<A>, out: &mut Vec<u8, B>)
+fn put_texts<A: Allocator>(facts: &Facts<'_>, out: &mut Vec<u8, A>)
     requires { vec_len out.old + texts_size facts.now ≤ vec_capacity out.old }
     ensures items { out.new.items ≡ out.old.items ++ (tag 1 (text_body facts.now.line)
         ++ (tag 2 (text_body (codes "bootcore")) ++ flat_map module_tag facts.now.modules)) }
     ensures len { vec_len out.new ≡ vec_len out.old + texts_size facts.now }
     ensures capacity { vec_capacity out.old ≤ vec_capacity out.new }
 {
-    put_text(out, TAG_COMMAND_LINE, facts.line.as_slice());
+    put_text(out, TAG_COMMAND_LINE, facts.line);
     put_text(out, TAG_BOOT_LOADER_NAME, b"bootcore");
-    put_modules(out, &facts.modules);
+    put_modules(out, facts.modules);
 }
 
 /// Appends the tags of memory: its sizes, its map.
-fn put_map_tags<A: Allocator, B: Allocator>(facts: &Facts<A>, out: &mut Vec<u8, B>)
+fn put_map_tags<A: Allocator>(facts: &Facts<'_>, out: &mut Vec<u8, A>)
     requires { vec_len out.old + map_size facts.now ≤ vec_capacity out.old }
     ensures items { out.new.items ≡ out.old.items
         ++ (tag 4 (memory_body facts.now.mem_lower facts.now.mem_upper)
@@ -95,25 +95,25 @@ fn put_map_tags<A: Allocator, B: Allocator>(facts: &Facts<A>, out: &mut Vec<u8, 
     ensures capacity { vec_capacity out.old ≤ vec_capacity out.new }
 {
     put_memory(out, facts.mem_lower, facts.mem_upper);
-    put_map(out, &facts.runs);
+    put_map(out, facts.runs);
 }
 
 /// Appends the tags that do not always stand, and the one that ends the information.
-fn put_last<A: Allocator, B: Allocator>(facts: &Facts<A>, out: &mut Vec<u8, B>)
+fn put_last<A: Allocator>(facts: &Facts<'_>, out: &mut Vec<u8, A>)
     requires { vec_len out.old + last_size facts.now ≤ vec_capacity out.old }
     ensures { out.new.items ≡ out.old.items ++ (copy_tag 14 facts.now.rsdp_old
         ++ (copy_tag 15 facts.now.rsdp_new ++ (load_base_tag facts.now.load_base ++ tag 0 []))) }
 {
-    put_copy(out, TAG_ACPI_OLD, &facts.rsdp_old);
-    put_copy(out, TAG_ACPI_NEW, &facts.rsdp_new);
+    put_copy(out, TAG_ACPI_OLD, facts.rsdp_old);
+    put_copy(out, TAG_ACPI_NEW, facts.rsdp_new);
     put_load_base(out, facts.load_base);
     put_end(out);
 }
 
 /// Appends the information, with the loader's name `bootcore`, or leaves the bytes as they were.
-pub fn write_info<A: Allocator, B: Allocator>(
-    facts: &Facts<A>,
-    out: &mut Vec<u8, B>,
+pub fn write_info<A: Allocator>(
+    facts: &Facts<'_>,
+    out: &mut Vec<u8, A>,
 ) -> Result<(), AllocError>
     ensures ok { OnOk result
         (out.new.items ≡ out.old.items ++ info_spelling (codes "bootcore") facts.now) }

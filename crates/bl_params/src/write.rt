@@ -14,7 +14,6 @@ use crate::fields::{
 use crate::put::{write_field, write_u16, write_u32, write_u64};
 use bl_bzimage::Setup;
 use bl_map::Region;
-use std::alloc::Allocator;
 
 fn clear(out: &mut [u8])
     ensures { out.new ≡ replicate (length out.old) 0 }
@@ -49,10 +48,10 @@ fn put_entries(out: &mut [u8; 4096], runs: &[Region])
 /// Writes boot parameters over whatever stands there: zeros, the setup header from 0x1F1 on as it
 /// stands in the file, the fields that a loader writes, and the memory map (Linux/x86 Boot
 /// Protocol, "Zero Page"). Takes no memory.
-pub fn write_params<A: Allocator>(setup: &Setup, facts: &ParamFacts<A>, out: &mut [u8; 4096])
+pub fn write_params(setup: &Setup, facts: &ParamFacts<'_>, out: &mut [u8; 4096])
     ensures { out.new ≡ boot_params setup.now.header facts.now }
 {
-    let runs = facts.runs.as_slice();
+    let runs = facts.runs;
     clear(out);
     write_field(out, HEADER_START, setup.header.as_slice());
     put_entries(out, runs);

@@ -8,15 +8,14 @@ mod facts;
 mod row;
 
 use bl_mbi::{Facts, info_size, write_info};
-use bl_refusing::Refusing;
 use bl_rows::row::Row;
-use facts::facts_of;
+use facts::{facts_of, modules_of, three_runs};
 use row::read_row;
 use std::alloc::AllocError;
 
 /// Writes the information over the heap, after the row's bytes.
-fn say_written<'h>(row: &mut Row<'_>, heap: &'h Refusing, facts: &Facts<&'h Refusing>) {
-    let Ok(mut out) = Vec::from_slice(heap, row.bytes) else {
+fn say_written(row: &mut Row<'_>, facts: &Facts<'_>) {
+    let Ok(mut out) = Vec::from_slice(row.heap, row.bytes) else {
         return row.say("no memory");
     };
     match write_info(facts, &mut out) {
@@ -28,10 +27,9 @@ fn say_written<'h>(row: &mut Row<'_>, heap: &'h Refusing, facts: &Facts<&'h Refu
 
 /// Writes the facts of the words after the bytes.
 pub fn answer(row: &mut Row<'_>) {
-    let heap = row.heap;
     let read = read_row(row);
-    match facts_of(row, heap, &read) {
-        Ok(facts) => say_written(row, heap, &facts),
-        Err(AllocError) => row.say("no memory"),
-    }
+    let modules = modules_of(row, read.modules.as_slice());
+    let runs = three_runs();
+    let facts = facts_of(row, &read, modules.as_slice(), &runs);
+    say_written(row, &facts);
 }

@@ -30,35 +30,33 @@ use bl_plan::{Place, Protocol, Role};
 use std::alloc::{AllocError, Allocator};
 
 /// What a kernel is told of an entry's parts, where they have these places.
-fn told_of<A: Allocator + Copy>(
-    alloc: A,
-    machine: &Machine<A>,
+fn told_of<'a, A: Allocator>(
+    machine: &'a Machine<A>,
     ramdisk_size: u64,
     places: &[Place],
-) -> Result<ParamFacts<A>, AllocError>
+) -> ParamFacts<'a>
     requires few { length machine.now.runs ≤ 128 }
     requires size { ramdisk_size < 2 ^ 32 }
     requires low { All EndsLow places.now }
-    ensures { IfOk result (λ facts. facts ≡ record {
+    ensures { result ≡ record {
       code32_start = addresses.address_of role.Kernel 0 places.now;
       ramdisk_image = addresses.address_of role.Initrd 0 places.now;
       ramdisk_size = ramdisk_size;
       cmd_line_ptr = addresses.address_of role.CommandLine 0 places.now;
       runs = machine.now.runs;
-    }) }
+    } }
 {
-    let runs = Vec::from_slice(alloc, machine.normal())?;
-    Ok(ParamFacts::new(
-        address_of(Role::Kernel, 0, places),
-        address_of(Role::Initrd, 0, places),
-        ramdisk_size as u32,
-        address_of(Role::CommandLine, 0, places),
-        runs,
-    ))
+    ParamFacts {
+        code32_start: address_of(Role::Kernel, 0, places),
+        ramdisk_image: address_of(Role::Initrd, 0, places),
+        ramdisk_size: ramdisk_size as u32,
+        cmd_line_ptr: address_of(Role::CommandLine, 0, places),
+        runs: machine.normal(),
+    }
 }
 
 /// The boot parameters, where the parts have these places.
-fn boot_params<A: Allocator + Copy, V: ByteView>(
+fn boot_params<A: Allocator, V: ByteView>(
     alloc: A,
     entry: &EntryFiles<'_, A, V>,
     setup: &Setup,
@@ -70,7 +68,7 @@ fn boot_params<A: Allocator + Copy, V: ByteView>(
     ensures { IfOk result (λ bytes. bytes ≡ params.boot_params setup.now.header
         (table.told_of entry.now.machine.now (value_of_files entry.now) places.now)) }
 {
-    let facts = told_of(alloc, entry.machine, initrd_size(entry.files), places)?;
+    let facts = told_of(entry.machine, initrd_size(entry.files), places);
     let mut bytes = [0u8; 4096];
     write_params(setup, &facts, &mut bytes);
     Bytes::copy(alloc, &bytes)

@@ -1,8 +1,8 @@
 //! The information that a Multiboot2 kernel is handed.
 ghost use Rattle.std.specs.Prelude.{◌≡◌, ◌≤◌, ◌<◌, ◌+◌, ◌^◌, None, All, length, map, sum_by, codes};
-ghost use Rattle.std.specs.Prelude.{option_map, IfOk, IfSome};
+ghost use Rattle.std.specs.Prelude.{option_map, option_copied, IfOk, IfSome};
 ghost use Rattle.bl_map.specs.Kinds.{low_kib, high_kib};
-ghost use Rattle.bl_mbi.specs.InformationFacts.{AreBytes, IsModule};
+ghost use Rattle.bl_mbi.specs.InformationFacts.{AreBytes, IsModule, IsText};
 ghost use Rattle.bl_mbi.specs.Size.{tag_size};
 ghost use Rattle.bl_mbi.specs.Spelling.{info_spelling};
 ghost use Rattle.bl_plan.specs.declared.part.Role.TheVariants as role;
@@ -17,46 +17,48 @@ use crate::addresses;
 use crate::entry::Module;
 use crate::entry_files::EntryFiles;
 use bl_mb2head::Relocation;
-use bl_mbi::{Facts, Module as ModuleInfo, write_info};
+use bl_mbi::{Facts, ModuleFacts, write_info};
 use bl_mem::{ByteView, Bytes};
 use bl_plan::{Place, Role};
 use std::alloc::{AllocError, Allocator};
 
+/// A line that has no fault, as it is told.
+fn text_of(line: &[u8]) -> &[u8]
+    requires sound { line_fault line.now ≡ None }
+    ensures same { result.now ≡ line.now }
+    ensures text { IsText line.now }
+{
+    line
+}
+
 /// What the information tells of the module of this line, whose file has `size` bytes, where the
 /// parts have these places.
-fn module_at<A: Allocator + Copy>(
-    alloc: A,
-    index: u32,
-    line: &[u8],
-    size: u64,
-    places: &[Place],
-) -> Result<ModuleInfo<A>, AllocError>
+fn module_at<'a>(index: u32, line: &'a [u8], size: u64, places: &[Place]) -> ModuleFacts<'a>
     requires sound { line_fault line.now ≡ None }
     requires low { All EndsLow places.now }
     requires end { address_of role.Module index places.now + size ≤ 0xFFFFF000 }
-    ensures told { IfOk result (λ told. told ≡ record {
+    ensures told { result ≡ record {
       mod_start = address_of role.Module index places.now;
       mod_end = address_of role.Module index places.now + size;
       line = line.now;
-    }) }
-    ensures fits { IfOk result IsModule }
+    } }
+    ensures fits { IsModule result }
 {
     let mod_start = addresses::address_of(Role::Module, index, places);
-    let line = Bytes::copy(alloc, line)?;
-    Ok(ModuleInfo {
+    ModuleFacts {
         mod_start,
         mod_end: mod_start + size as u32,
-        line,
-    })
+        line: text_of(line),
+    }
 }
 
 /// What the information tells of the modules, where the parts have these places.
-fn modules_at<A: Allocator + Copy, V: ByteView>(
+fn modules_at<'a, A: Allocator, V: ByteView>(
     alloc: A,
-    modules: &[Module<A>],
+    modules: &'a [Module<A>],
     files: &[V],
     places: &[Place],
-) -> Result<Vec<ModuleInfo<A>, A>, AllocError>
+) -> Result<Vec<ModuleFacts<'a>, A>, AllocError>
     requires sound { All (λ m. line_fault m.line ≡ None) modules.now }
     requires few { length modules.now ≤ 64 }
     requires files { length files.now ≡ 1 + length modules.now }
@@ -70,67 +72,56 @@ fn modules_at<A: Allocator + Copy, V: ByteView>(
     for (index, module) in modules.iter().enumerate() {
         let line = module.line.as_slice();
         let size = files[index + 1].len();
-        let info = module_at(alloc, index as u32, line, size, places)?;
-        told.push(info)?;
+        told.push(module_at(index as u32, line, size, places))?;
     }
     Ok(told)
 }
 
-/// A copy of the copy, if there is one.
-fn copy_of<A: Allocator + Copy>(
-    alloc: A,
-    copy: &Option<Bytes<A>>,
-) -> Result<Option<Bytes<A>>, AllocError>
-    ensures same { IfOk result (λ same. same ≡ copy.now) }
-    ensures bytes { IfOk result (λ same. IfSome same AreBytes) }
+/// The bytes of a copy, if there is one.
+fn bytes_of<A: Allocator>(copy: &Option<Bytes<A>>) -> Option<&[u8]>
+    ensures same { option_copied result ≡ copy.now }
+    ensures bytes { IfSome copy.now AreBytes }
 {
     match copy {
-        Some(bytes) => Ok(Some(Bytes::copy(alloc, bytes.as_slice())?)),
-        None => Ok(None),
+        Some(bytes) => {
+            bytes.are_bytes();
+            Some(bytes.as_slice())
+        }
+        None => None,
     }
 }
 
 /// What the information tells, with these modules.
-fn facts_of<A: Allocator + Copy, V: ByteView>(
-    alloc: A,
-    entry: &EntryFiles<'_, A, V>,
-    modules: Vec<ModuleInfo<A>, A>,
+fn facts_of<'a, A: Allocator, V: ByteView>(
+    entry: &'a EntryFiles<'_, A, V>,
+    modules: &'a [ModuleFacts<'a>],
     load_base: Option<u32>,
-) -> Result<Facts<A>, AllocError>
-    requires modules { All IsModule modules.items }
-    requires small { sum_by (λ n. tag_size (n + 9)) (map (λ m. length m.line) modules.items)
+) -> Facts<'a>
+    requires modules { All IsModule modules.now }
+    requires small { sum_by (λ n. tag_size (n + 9)) (map (λ m. length m.line) modules.now)
         < 2 ^ 20 }
     requires base { IfSome load_base (λ base. base < 2 ^ 32) }
-    ensures { IfOk result (λ facts. facts ≡ record {
+    ensures { result ≡ record {
       line = entry.now.line.now;
-      modules = modules.items;
+      modules = modules.now;
       mem_lower = low_kib entry.now.machine.now.runs;
       mem_upper = high_kib entry.now.machine.now.runs;
       runs = entry.now.machine.now.runs;
       rsdp_old = entry.now.rsdp_old.now;
       rsdp_new = entry.now.rsdp_new.now;
       load_base = load_base;
-    }) }
+    } }
 {
-    let machine = entry.machine;
-    let mem_lower = machine.low_kib() as u32;
-    let mem_upper = machine.high_kib() as u32;
-    let line = Bytes::copy(alloc, entry.line)?;
-    let runs = Vec::from_slice(alloc, machine.normal())?;
-    let rsdp_old = copy_of(alloc, entry.rsdp_old)?;
-    let rsdp_new = copy_of(alloc, entry.rsdp_new)?;
-    Ok(Facts::new(
-        line, modules, mem_lower, mem_upper, runs, rsdp_old, rsdp_new, load_base,
-    ))
-}
-
-/// The information's bytes.
-fn spell<A: Allocator>(alloc: A, facts: Facts<A>) -> Result<Bytes<A>, AllocError>
-    ensures { IfOk result (λ bytes. bytes ≡ info_spelling (codes "bootcore") facts) }
-{
-    let mut out = Vec::new(alloc);
-    write_info(&facts, &mut out)?;
-    Ok(Bytes::from(out))
+    Facts {
+        line: text_of(entry.line),
+        modules,
+        mem_lower: entry.machine.low_kib() as u32,
+        mem_upper: entry.machine.high_kib() as u32,
+        runs: entry.machine.normal(),
+        rsdp_old: bytes_of(entry.rsdp_old),
+        rsdp_new: bytes_of(entry.rsdp_new),
+        load_base,
+    }
 }
 
 /// The load base that the information tells: only where the kernel has a relocatable header tag.
@@ -162,6 +153,8 @@ pub fn information<A: Allocator + Copy, V: ByteView>(
     let base = addresses::address_of(Role::Kernel, 0, places);
     let load_base = load_base_of(relocation, base);
     let told = modules_at(alloc, entry.modules, entry.files, places)?;
-    let facts = facts_of(alloc, entry, told, load_base)?;
-    spell(alloc, facts)
+    let facts = facts_of(entry, told.as_slice(), load_base);
+    let mut out = Vec::new(alloc);
+    write_info(&facts, &mut out)?;
+    Ok(Bytes::from(out))
 }

@@ -1,10 +1,8 @@
 //! The table of places of a Multiboot2 entry's parts.
-ghost use Rattle.std.specs.Prelude.{◌≡◌, ◌≤◌, ◌<◌, ◌+◌, ◌^◌, ◌++◌, ◌*◌, [], None, All};
-ghost use Rattle.std.specs.Prelude.{length, map, option_map, IfOk, IfSome};
-ghost use Rattle.bl_mbi.specs.Size as size;
+ghost use Rattle.std.specs.Prelude.{◌≡◌, ◌≤◌, ◌<◌, ◌+◌, ◌^◌, ◌++◌, ◌*◌, All, length, map};
+ghost use Rattle.std.specs.Prelude.{option_map, IfOk};
 ghost use Rattle.bl_load.specs.Blocks as blocks;
 ghost use Rattle.bl_load.specs.Rows as table;
-ghost use Rattle.bl_load.specs.Value.{IsCopy};
 ghost use Rattle.bl_load.specs.Kept.{lines_by};
 ghost use Rattle.bl_load.specs.PlacingKept as kept;
 ghost use Rattle.bl_load.specs.KernelKept.{kernel_by};
@@ -16,6 +14,7 @@ use crate::lengths::told_length;
 use crate::multiboot2::kernel::Kernel;
 use crate::multiboot2::rows::kernel::push_kernel_rows;
 use bl_map::{FIRST_USABLE, FRAME, HIGH_START, MAX_SIZE, whole_frames};
+use bl_mbi::{module_size, size_by_lengths};
 use bl_mem::{ByteView, Bytes};
 use bl_plan::{Choice, Role, Row};
 use std::alloc::{AllocError, Allocator};
@@ -59,35 +58,19 @@ fn tags_size<A: Allocator>(modules: &[Module<A>]) -> u64
 {
     let mut size = 0;
     for module in modules {
-        size += 8 + (module.line.len() as u64 + 16) / 8 * 8;
+        size += module_size(module.line.len() as u64);
     }
     size
 }
 
-/// How many bytes the tag of a copy takes, if there is one.
-fn copy_size<A: Allocator>(copy: &Option<Bytes<A>>) -> u64
-    requires { IfSome copy.now IsCopy }
-    ensures value { result ≡ size.copy_size (option_map length copy.now) }
-    ensures small { result ≤ 264 }
+/// How many bytes a copy has, if there is one.
+fn length_of<A: Allocator>(copy: &Option<Bytes<A>>) -> Option<u64>
+    ensures { result ≡ option_map length copy.now }
 {
     match copy {
-        Some(bytes) => 8 + (bytes.len() as u64 + 7) / 8 * 8,
-        None => 0,
+        Some(bytes) => Some(bytes.len() as u64),
+        None => None,
     }
-}
-
-/// How many bytes the information takes, by the lengths of the line, of the tags of modules and
-/// copies, and of the map.
-fn info_length(line: u64, tags: u64, runs: u64, is_relocatable: bool) -> u64
-    requires line { line ≤ 4095 }
-    requires tags { tags < 2 ^ 20 }
-    requires runs { runs ≤ 256 }
-    ensures value { result ≡ size.size_by_lengths line [] runs None None is_relocatable + tags }
-    ensures small { result < 2 ^ 21 }
-{
-    let load_base = if is_relocatable { 16 } else { 0 };
-    let line_tag = 8 + (line + 8) / 8 * 8;
-    8 + line_tag + 24 + tags + 16 + (16 + 24 * runs) + load_base + 8
 }
 
 /// The row of the information.
@@ -98,11 +81,14 @@ fn information_row<A: Allocator, B: Allocator, V: ByteView>(
     ensures { result ≡ table.information_row entry.now.machine.now (value_of_files entry.now)
         kernel.now.relocation }
 {
-    let line = entry.line.len() as u64;
-    let runs = entry.machine.normal().len() as u64;
-    let modules = tags_size(entry.modules);
-    let copies = copy_size(entry.rsdp_old) + copy_size(entry.rsdp_new);
-    let length = info_length(line, modules + copies, runs, kernel.relocation.is_some());
+    let length = size_by_lengths(
+        entry.line.len() as u64,
+        tags_size(entry.modules),
+        entry.machine.normal().len() as u64,
+        length_of(entry.rsdp_old),
+        length_of(entry.rsdp_new),
+        kernel.relocation.is_some(),
+    );
     Row {
         role: Role::Information,
         index: 0,

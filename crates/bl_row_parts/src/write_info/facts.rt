@@ -1,17 +1,14 @@
 //! The facts of a row, on a machine of 636 and 3072 KiB with three runs. Where they may not be told
 //! the row is refused, and others stand for them.
-ghost use Rattle.std.specs.Prelude.{◌≡◌, ◌≢◌, ◌≤◌, ◌<◌, ◌^◌, ◌+◌, length, map, option_map};
-ghost use Rattle.std.specs.Prelude.{All, IfOk, IfSome, IsTrue};
+ghost use Rattle.std.specs.Prelude.{◌≡◌, ◌≢◌, ◌≤◌, ◌<◌, ◌^◌, ◌+◌, length, option_map};
+ghost use Rattle.std.specs.Prelude.{option_copied, All, IfSome, IsTrue};
 ghost use Rattle.bl_mbi.specs.InformationFacts.{IsText, IsModule, AreBytes};
 ghost use Rattle.bl_mbi.specs.Size.{copy_size};
 
 use crate::write_info::row::{InfoRow, ModuleRow};
 use bl_map::{Kind, Region};
-use bl_mbi::{Facts, Module};
-use bl_mem::Bytes;
-use bl_refusing::Refusing;
+use bl_mbi::{Facts, ModuleFacts};
 use bl_rows::row::Row;
-use std::alloc::AllocError;
 
 /// The most bytes that a text or a copy of a row has.
 const SHORT: usize = 512;
@@ -31,61 +28,45 @@ fn is_text(bytes: &[u8]) -> bool
     true
 }
 
-/// A copy of bytes, if they are few.
-fn copied<'h>(
-    row: &mut Row<'_>,
-    heap: &'h Refusing,
-    bytes: &[u8],
-) -> Result<Bytes<&'h Refusing>, AllocError>
-    ensures bytes { IfOk result AreBytes }
-    ensures short { IfOk result (λ copy. length copy ≤ 512) }
-{
-    if bytes.len() > SHORT {
-        row.refuse();
-        return Bytes::copy(heap, &[]);
-    }
-    Bytes::copy(heap, bytes)
-}
-
 /// A short text.
-fn text_of<'h>(
-    row: &mut Row<'_>,
-    heap: &'h Refusing,
-    bytes: &[u8],
-) -> Result<Bytes<&'h Refusing>, AllocError>
-    ensures text { IfOk result IsText }
-    ensures short { IfOk result (λ text. length text ≤ 512) }
+fn text_of<'a>(row: &mut Row<'_>, bytes: &'a [u8]) -> &'a [u8]
+    ensures text { IsText result.now }
+    ensures short { length result.now ≤ 512 }
 {
     if bytes.len() > SHORT || !is_text(bytes) {
         row.refuse();
-        return Bytes::copy(heap, &[]);
+        return &[];
     }
-    Bytes::copy(heap, bytes)
+    bytes
+}
+
+/// A short copy.
+fn short_copy<'a>(row: &mut Row<'_>, bytes: &'a [u8]) -> &'a [u8]
+    ensures bytes { AreBytes result.now }
+    ensures short { length result.now ≤ 512 }
+{
+    if bytes.len() > SHORT {
+        row.refuse();
+        return &[];
+    }
+    bytes
 }
 
 /// A short copy, if there is one.
-fn copy_of<'h>(
-    row: &mut Row<'_>,
-    heap: &'h Refusing,
-    copy: &Option<Vec<u8>>,
-) -> Result<Option<Bytes<&'h Refusing>>, AllocError>
-    ensures bytes { IfOk result (λ copy. IfSome copy AreBytes) }
-    ensures short { IfOk result (λ copy. copy_size (option_map length copy) ≤ 520) }
+fn copy_of<'a>(row: &mut Row<'_>, copy: &'a Option<Vec<u8>>) -> Option<&'a [u8]>
+    ensures bytes { IfSome (option_copied result) AreBytes }
+    ensures short { copy_size (option_map length (option_copied result)) ≤ 520 }
 {
     match copy {
-        Some(bytes) => Ok(Some(copied(row, heap, bytes.as_slice())?)),
-        None => Ok(None),
+        Some(bytes) => Some(short_copy(row, bytes.as_slice())),
+        None => None,
     }
 }
 
 /// A module, which may not end before it starts.
-fn module_of<'h>(
-    row: &mut Row<'_>,
-    heap: &'h Refusing,
-    read: &ModuleRow,
-) -> Result<Module<&'h Refusing>, AllocError>
-    ensures module { IfOk result IsModule }
-    ensures short { IfOk result (λ m. length m.line ≤ 512) }
+fn module_of<'a>(row: &mut Row<'_>, read: &'a ModuleRow) -> ModuleFacts<'a>
+    ensures module { IsModule result }
+    ensures short { length result.line ≤ 512 }
 {
     let mod_start = read.start;
     let mut mod_end = read.end;
@@ -93,42 +74,38 @@ fn module_of<'h>(
         row.refuse();
         mod_end = mod_start;
     }
-    let line = text_of(row, heap, read.line.as_slice())?;
-    Ok(Module {
+    ModuleFacts {
         mod_start,
         mod_end,
-        line,
-    })
+        line: text_of(row, read.line.as_slice()),
+    }
 }
 
 /// At most two modules.
-fn modules_of<'h>(
-    row: &mut Row<'_>,
-    heap: &'h Refusing,
-    rows: &[ModuleRow],
-) -> Result<Vec<Module<&'h Refusing>, &'h Refusing>, AllocError>
-    ensures modules { IfOk result (λ modules. All IsModule modules.items) }
-    ensures short { IfOk result (λ modules. All (λ m. length m.line ≤ 512) modules.items) }
-    ensures few { IfOk result (λ modules. length modules.items ≤ 2) }
+pub fn modules_of<'a>(row: &mut Row<'_>, rows: &'a [ModuleRow]) -> Vec<ModuleFacts<'a>>
+    ensures modules { All IsModule result.items }
+    ensures short { All (λ m. length m.line ≤ 512) result.items }
+    ensures few { length result.items ≤ 2 }
 {
-    let mut modules = Vec::new(heap);
+    let mut modules = Vec::new(row.alloc);
     if rows.len() > FEW {
         row.refuse();
-        return Ok(modules);
+        return modules;
     }
     for read in rows {
-        let module = module_of(row, heap, read)?;
-        modules.push(module)?;
+        let module = module_of(row, read);
+        if modules.push(module).is_err() {
+            row.run_short();
+        }
     }
-    Ok(modules)
+    modules
 }
 
 /// 636 KiB, the firmware's 64 KiB, and 3 MiB from 1 MiB on.
-fn runs<'h>(heap: &'h Refusing) -> Result<Vec<Region, &'h Refusing>, AllocError>
-    ensures few { IfOk result (λ runs. length runs.items ≡ 3) }
-    ensures low { IfOk result (λ runs. All (λ run. run.base + run.length ≤ 2 ^ 52) runs.items) }
+pub fn three_runs() -> [Region; 3]
+    ensures { All (λ run. run.base + run.length ≤ 2 ^ 52) result }
 {
-    let runs = [
+    [
         Region {
             base: 0,
             length: 0x9F000,
@@ -144,8 +121,7 @@ fn runs<'h>(heap: &'h Refusing) -> Result<Vec<Region, &'h Refusing>, AllocError>
             length: 0x300000,
             kind: Kind::Usable,
         },
-    ];
-    Vec::from_slice(heap, &runs)
+    ]
 }
 
 /// The load base of a row.
@@ -156,17 +132,26 @@ fn base_of(read: &InfoRow) -> Option<u32>
     Some(base)
 }
 
-/// The facts of a row, on a machine of 636 and 3072 KiB.
-pub fn facts_of<'h>(
+/// The facts of a row with these modules, on a machine of 636 and 3072 KiB with these runs.
+pub fn facts_of<'a>(
     row: &mut Row<'_>,
-    heap: &'h Refusing,
-    read: &InfoRow,
-) -> Result<Facts<&'h Refusing>, AllocError> {
-    let base = base_of(read);
-    let line = text_of(row, heap, read.line.as_slice())?;
-    let modules = modules_of(row, heap, read.modules.as_slice())?;
-    let runs = runs(heap)?;
-    let old = copy_of(row, heap, &read.old)?;
-    let new = copy_of(row, heap, &read.new)?;
-    Ok(Facts::new(line, modules, 636, 3072, runs, old, new, base))
+    read: &'a InfoRow,
+    modules: &'a [ModuleFacts<'a>],
+    runs: &'a [Region; 3],
+) -> Facts<'a>
+    requires modules { All IsModule modules.now }
+    requires short { All (λ m. length m.line ≤ 512) modules.now }
+    requires few { length modules.now ≤ 2 }
+    requires low { All (λ run. run.base + run.length ≤ 2 ^ 52) runs.now }
+{
+    Facts {
+        line: text_of(row, read.line.as_slice()),
+        modules,
+        mem_lower: 636,
+        mem_upper: 3072,
+        runs: runs.as_slice(),
+        rsdp_old: copy_of(row, &read.old),
+        rsdp_new: copy_of(row, &read.new),
+        load_base: base_of(read),
+    }
 }

@@ -114,7 +114,13 @@ pub fn answer_write(row: &mut Row<'_>) {
     if runs.len() > 128 || !are_low(runs.as_slice()) {
         return row.refuse();
     }
-    let facts = ParamFacts::new(load, image, size, line, runs);
+    let facts = ParamFacts {
+        code32_start: load,
+        ramdisk_image: image,
+        ramdisk_size: size,
+        cmd_line_ptr: line,
+        runs: runs.as_slice(),
+    };
     let mut out = [0xA5u8; 4096];
     write_params(&setup, &facts, &mut out);
     say_pieces(row, out.as_slice());

@@ -1,12 +1,12 @@
-use Rattle.std.proofs.Common.{◌+◌, ◌∙◌, ap, length, arith}
+use Rattle.std.proofs.Common.{◌+◌, ap, length, arith}
 use Rattle.bl_mbi.specs.InformationFacts.{ModuleInfo}
 use Rattle.bl_mbi.specs.Size.{tag_size}
 use Rattle.bl_mbi.proofs.SumLemmas.{next_fits, next_sum}
 use Rattle.bl_mbi.proofs.write.modules_len.Goals as goal
 
 pub tag_len-sum-requires : goal.tag_len-sum-requires
-tag_len-sum-requires g c =
-    let line = c.len.ensures ∙ ap (λ (m : ModuleInfo). length m.line) c.loaded.view_is in
+tag_len-sum-requires c =
+    let line = ap (λ (m : ModuleInfo). length m.line) c.loaded.view_is in
     omega (
       arith,
       line,
@@ -16,8 +16,8 @@ tag_len-sum-requires g c =
     )
 
 pub overflow_add-sum : goal.overflow_add-sum
-overflow_add-sum g c =
-    let line = c.len.ensures ∙ ap (λ (m : ModuleInfo). length m.line) c.loaded.view_is in
+overflow_add-sum c =
+    let line = ap (λ (m : ModuleInfo). length m.line) c.loaded.view_is in
     omega (
       arith,
       line,
@@ -29,8 +29,8 @@ overflow_add-sum g c =
     )
 
 pub loop-loaded-preserved : goal.loop-loaded-preserved
-loop-loaded-preserved g c =
-    let line = c.len.ensures ∙ ap (λ (m : ModuleInfo). length m.line) c.loaded.view_is in
+loop-loaded-preserved c =
+    let line = ap (λ (m : ModuleInfo). length m.line) c.loaded.view_is in
     omega (
       arith,
       line,

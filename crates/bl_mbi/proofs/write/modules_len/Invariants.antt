@@ -4,5 +4,5 @@ use Rattle.bl_mbi.proofs.write.modules_len.Given as goal
 
 -- what the modules so far take
 abbrev pub invariant-loop-loaded : goal.invariant-loop-loaded
-invariant-loop-loaded g l =
+invariant-loop-loaded l =
     l.sum ≡ sum_by (λ m. tag_size (length m.line + 9)) (take l.loaded-index l.modules)

@@ -2,4 +2,4 @@ use Rattle.bl_mbi.proofs.GroupLemmas.{modules_small}
 use Rattle.bl_mbi.proofs.write.put_texts.Goals as goal
 
 pub put_modules-requires-clause-small : goal.put_modules-requires-clause-small
-put_modules-requires-clause-small g c = rw c.deref.ensures.value (modules_small _ c.facts.invariant)
+put_modules-requires-clause-small g c = modules_small _ c.facts.invariant

@@ -7,8 +7,8 @@ use Rattle.bl_load.proofs.LineLemmas.{all_short}
 use Rattle.bl_load.proofs.InformationLemmas.{tags_size_is, tags_small}
 use Rattle.bl_load.proofs.multiboot2.information.information.Goals as goal
 
-pub facts_of-requires-clause-small : goal.facts_of-requires-clause-small
-facts_of-requires-clause-small g c =
+pub facts_of-facts-requires-clause-small : goal.facts_of-facts-requires-clause-small
+facts_of-facts-requires-clause-small g c =
     let entry = c.args.entry.now in
     let modules = entry.modules.now in
     let files = texts_in entry in
@@ -19,4 +19,4 @@ facts_of-requires-clause-small g c =
     let count = length-map modules (λ m. m.line) in
     let few = entry.few in
     let is = tags_size_is files c.args.places.now 0 (lines_by modules) in
-    rw c.in_ok-told.ensures.told (omega (arith, small, count, few, is))
+    rw (c.as_slice.ensures.value, c.in_ok-told.ensures.told) (omega (arith, small, count, few, is))

@@ -11,19 +11,14 @@ use Rattle.bl_load.specs.Value.{module_file}
 use Rattle.bl_load.proofs.ModuleLemmas.{told_by, told_module, told_more, view_length_at}
 use Rattle.bl_load.proofs.multiboot2.information.modules_at.Goals as goal
 
--- a module's file, as it is told
-size_is : (g : _) (c : goal.After-len-size g)
-    → c.len-size.result
-    ≡ length (module_file (map g.V.ByteView.bytes c.args.files.now) c.loop-index.index)
-size_is g c =
+pub module_at-requires-clause-end : goal.module_at-requires-clause-end
+module_at-requires-clause-end g c =
+    let size =
     c.len-size.ensures
     ∙ view_length_at g.V.ByteView.bytes c.args.files.now (c.loop-index.index + 1)
     c.index-files-index.result c.index-files-index.is
-    (omega (arith, c.requires.files, c.loop-index-test.true))
-
-pub module_at-requires-clause-end : goal.module_at-requires-clause-end
-module_at-requires-clause-end g c =
-    rw (size_is g c) (c.requires.ends c.loop-index.index c.loop-index-test.true)
+    (omega (arith, c.requires.files, c.loop-index-test.true)) in
+    rw size (c.requires.ends c.loop-index.index c.loop-index-test.true)
 
 pub module_at-requires-clause-sound : goal.module_at-requires-clause-sound
 module_at-requires-clause-sound g c =
@@ -39,7 +34,7 @@ loop-index-preserved g c =
     let i = c.loop-index.invariant in
     let m = get_or modules k c.index-modules-index.result in
     let rest = drop (k + 1) modules in
-    let new = c.in_ok-info.info in
+    let new = c.module_at.result in
     let left : lines_by (drop k modules) ≡ m.line ∷ lines_by rest =
     ap lines_by (drop_more modules k c.index-modules-index.result c.loop-index-test.true) in
     let size =
@@ -50,7 +45,7 @@ loop-index-preserved g c =
     c.as_slice-line.ensures
     ∙ ap (λ (x : Module g.row.A.Denot). x.line) c.index-modules-index.is in
     let is : new ≡ told_module texts places k m.line =
-    c.in_ok-info.ensures.told
+    c.module_at.ensures.told
     ∙ ap (λ (n : ℕ). told_by (address_of role.Module k places) n c.as_slice-line.result.now) size
     ∙ ap (told_module texts places k) line in
     let all : c.loop-index.told.items ++ told_modules texts places k (m.line ∷ lines_by rest)
@@ -64,5 +59,5 @@ loop-index-preserved g c =
           (told_modules texts places 0 (lines_by modules)) is all);
       fits =
           rw c.in_ok-push.ensures.items
-          (All-push IsModule c.loop-index.told.items new i.fits c.in_ok-info.ensures.fits);
+          (All-push IsModule c.loop-index.told.items new i.fits c.module_at.ensures.fits);
     }

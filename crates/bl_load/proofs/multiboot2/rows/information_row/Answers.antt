@@ -1,4 +1,4 @@
-use Rattle.std.proofs.Common.{◌≡◌, ℕ, [], length, ap, ◌∙◌}
+use Rattle.std.proofs.Common.{◌≡◌, ◌<◌, ◌^◌, ℕ, [], length, ap, ◌∙◌, arith}
 use Rattle.bl_map.specs.Room.{whole_frames}
 use Rattle.bl_mbi.specs.InformationFacts.{info_size}
 use Rattle.bl_plan.specs.declared.part.Choice.TheVariants.{Lowest}
@@ -7,16 +7,38 @@ use Rattle.bl_plan.specs.declared.part.Row.{Row}
 use Rattle.bl_load.specs.Rows.{information_of}
 use Rattle.bl_load.specs.EntryFilesKept.{value_of_files}
 use Rattle.bl_load.proofs.LineLemmas.{all_short}
-use Rattle.bl_load.proofs.InformationLemmas.{info_size_is}
+use Rattle.bl_load.proofs.InformationLemmas.{info_size_is, told_below, copy_short}
 use Rattle.bl_load.proofs.multiboot2.rows.information_row.Goals as goal
-
-pub tags_size-modules-requires-clause-short : goal.tags_size-modules-requires-clause-short
-tags_size-modules-requires-clause-short g c =
-    all_short c.args.entry.now.modules.now c.args.entry.now.sound_modules
 
 row_of : ℕ → Row
 row_of length =
     record { role = Information; index = 0; length = length; choice = Lowest 4096 4096 0x100000000 }
+
+pub tags_size-requires-clause-short : goal.tags_size-requires-clause-short
+tags_size-requires-clause-short g c =
+    all_short c.args.entry.now.modules.now c.args.entry.now.sound_modules
+
+pub size_by_lengths-length-requires-clause-old : goal.size_by_lengths-length-requires-clause-old
+size_by_lengths-length-requires-clause-old g c =
+    rw c.length_of.ensures (copy_short _ c.args.entry.now.old)
+
+pub size_by_lengths-length-requires-clause-new : goal.size_by_lengths-length-requires-clause-new
+size_by_lengths-length-requires-clause-new g c =
+    rw c.length_of-2.ensures (copy_short _ c.args.entry.now.new)
+
+pub whole_frames-requires : goal.whole_frames-requires
+whole_frames-requires g c =
+    let entry = c.args.entry.now in
+    let size : c.size_by_lengths-length.result < 2 ^ 32 =
+    rw (
+      c.size_by_lengths-length.ensures,
+      c.length_of.ensures,
+      c.length_of-2.ensures,
+      c.normal.ensures.runs,
+    ) (told_below _ _ _ entry.rsdp_old.now entry.rsdp_new.now _ entry.short
+    c.normal.ensures.facts.few
+    (omega (arith, c.tags_size.ensures.small, entry.few)) entry.old entry.new) in
+    omega (arith, size)
 
 pub returns : goal.returns
 unfolding row_of
@@ -26,13 +48,14 @@ returns g c =
     let value = value_of_files entry in
     let relocation = c.args.kernel.now.relocation in
     let e = info_size_is facts value relocation [] in
-    let size : c.info_length-length.result ≡ info_size (information_of facts value relocation []) =
+    let size : c.size_by_lengths-length.result
+    ≡ info_size (information_of facts value relocation []) =
     rw (
       e,
       ← c.normal.ensures.runs,
       ← c.is_some.ensures,
-      ← c.tags_size-modules.ensures.value,
-      ← c.copy_size.ensures.value,
-      ← c.copy_size-2.ensures.value,
-    ) c.info_length-length.ensures.value in
+      ← c.tags_size.ensures.value,
+      ← c.length_of.ensures,
+      ← c.length_of-2.ensures,
+    ) c.size_by_lengths-length.ensures in
     ap row_of (c.whole_frames.ensures ∙ ap whole_frames size)

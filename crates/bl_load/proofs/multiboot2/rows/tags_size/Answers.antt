@@ -9,27 +9,6 @@ overflow_add-size g c =
     (c.requires.short c.loop-module.module-index item c.loop-module-test.true) in
     omega (arith, short)
 
-pub overflow_mul-size : goal.overflow_mul-size
-overflow_mul-size g c =
-    let item = c.module-item.result in
-    let short = rw (← c.module-item.is) at
-    (c.requires.short c.loop-module.module-index item c.loop-module-test.true) in
-    omega (arith, short)
-
-pub overflow_add-size-in-loop-module : goal.overflow_add-size-in-loop-module
-overflow_add-size-in-loop-module g c =
-    let item = c.module-item.result in
-    let short = rw (← c.module-item.is) at
-    (c.requires.short c.loop-module.module-index item c.loop-module-test.true) in
-    omega (arith, short)
-
-pub overflow_add-size-in-loop-module-2 : goal.overflow_add-size-in-loop-module-2
-overflow_add-size-in-loop-module-2 g c =
-    let item = c.module-item.result in
-    let short = rw (← c.module-item.is) at
-    (c.requires.short c.loop-module.module-index item c.loop-module-test.true) in
-    omega (arith, short)
-
 pub loop-module-preserved : goal.loop-module-preserved
 loop-module-preserved g c =
     let item = c.module-item.result in
