@@ -37,6 +37,17 @@ pub data State : Type 0 where
   none_left : (earlier : List RefusedEntry) → State
   out_of_memory : State
 
+-- what is so while an attempt runs, by its entry, the entries that are left, the refusals so far
+-- and what came of its files; else the other
+abbrev pub on_running {ℓ} :
+    {X : Type ℓ} → State → (other : X)
+    → (ℕ → List ℕ → List RefusedEntry → List (List Spot) → X) → X
+on_running unstarted other runs = other
+on_running (running entry rest earlier files) other runs = runs entry rest earlier files
+on_running (handed_over entry earlier handover) other runs = other
+on_running (none_left earlier) other runs = other
+on_running out_of_memory other runs = other
+
 -- ---- an entry
 
 -- the sizes of its files
@@ -111,43 +122,31 @@ Takes facts entry rest earlier files (fault ticket) state =
 
 -- an event that is not wanted changes nothing
 abbrev pub Steps : BootFacts → State → EventFacts → State → Type 0
-Steps facts (running entry rest earlier files) event new =
-    MatchBool (is_wanted earlier files event)
-    (Takes facts entry rest earlier files event new)
-    (new ≡ running entry rest earlier files)
-Steps facts unstarted event new = new ≡ unstarted
-Steps facts (handed_over entry earlier handover) event new =
-    new ≡ handed_over entry earlier handover
-Steps facts (none_left earlier) event new = new ≡ none_left earlier
-Steps facts out_of_memory event new = new ≡ out_of_memory
+Steps facts old event new =
+    on_running old (new ≡ old)
+    (λ entry rest earlier files. MatchBool (is_wanted earlier files event)
+    (Takes facts entry rest earlier files event new) (new ≡ old))
 
 -- the event is one that the attempt which runs waits for
 abbrev pub is_taken : State → EventFacts → Bool
-is_taken (running entry rest earlier files) event = is_wanted earlier files event
-is_taken unstarted event = false
-is_taken (handed_over entry earlier handover) event = false
-is_taken (none_left earlier) event = false
-is_taken out_of_memory event = false
+is_taken state event =
+    on_running state false (λ entry rest earlier files. is_wanted earlier files event)
 
 -- an attempt runs
 abbrev pub is_running : State → Bool
-is_running (running entry rest earlier files) = true
-is_running unstarted = false
-is_running (handed_over entry earlier handover) = false
-is_running (none_left earlier) = false
-is_running out_of_memory = false
+is_running state = on_running state false (λ entry rest earlier files. true)
 
--- the event ends the attempt that runs: its last piece, or a fault
-abbrev pub ends_attempt : State → EventFacts → Bool
-ends_attempt (running entry rest earlier files) (piece ticket bytes) =
+-- the event is wanted and ends the attempt: its last piece, or a fault
+abbrev pub is_wanted_last : List RefusedEntry → List (List Spot) → EventFacts → Bool
+is_wanted_last earlier files (piece ticket bytes) =
     is_wanted earlier files (piece ticket bytes)
     && are_whole (with_piece files ticket.file ticket.piece bytes)
-ends_attempt (running entry rest earlier files) (fault ticket) =
-    is_wanted earlier files (fault ticket)
-ends_attempt unstarted event = false
-ends_attempt (handed_over entry earlier handover) event = false
-ends_attempt (none_left earlier) event = false
-ends_attempt out_of_memory event = false
+is_wanted_last earlier files (fault ticket) = is_wanted earlier files (fault ticket)
+
+-- the event ends the attempt that runs
+abbrev pub ends_attempt : State → EventFacts → Bool
+ends_attempt state event =
+    on_running state false (λ entry rest earlier files. is_wanted_last earlier files event)
 
 -- one step, or want of memory, which only an event meets that ends an attempt
 abbrev pub StepsOrFails : BootFacts → State → EventFacts → State → Type 0

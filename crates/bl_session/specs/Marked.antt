@@ -1,19 +1,16 @@
 -- Histories whose wanted pieces are their files', whatever faults come. Own.
 use Rattle.std.specs.Prelude.{◌≡◌, true, List, [], ◌∷◌, ◌++◌}
-use Rattle.bl_session.specs.Boot.{BootFacts, EventFacts, State, unstarted, running, handed_over}
-use Rattle.bl_session.specs.Boot.{none_left, out_of_memory, is_wanted, StartsOrFails}
+use Rattle.bl_session.specs.Boot.{BootFacts, EventFacts, State, unstarted, is_wanted, StartsOrFails}
+use Rattle.bl_session.specs.Boot.{on_running}
 use Rattle.bl_session.specs.Outcome.{File}
 use Rattle.bl_session.specs.History.{Item}
 use Rattle.bl_session.specs.Run.{World, world_of, Delivers, IsEventOf, IsMarked}
 
 -- an event that is wanted is marked; one that is not may be anything
 abbrev pub IsMarkedItem : State → Item → EventFacts → Type 0
-IsMarkedItem (running entry rest earlier spots) item event =
-    is_wanted earlier spots event ≡ true → IsMarked item
-IsMarkedItem unstarted item event = Unit {0}
-IsMarkedItem (handed_over entry earlier handover) item event = Unit {0}
-IsMarkedItem (none_left earlier) item event = Unit {0}
-IsMarkedItem out_of_memory item event = Unit {0}
+IsMarkedItem state item event =
+    on_running state (Unit {0})
+    (λ entry rest earlier spots. is_wanted earlier spots event ≡ true → IsMarked item)
 
 -- each answer is so where it comes
 abbrev pub AreMarked : BootFacts → List File → List Item → World → List Item → Type 0

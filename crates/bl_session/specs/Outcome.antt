@@ -9,8 +9,7 @@ use Rattle.bl_session.specs.Menu.{entry_at, value_with}
 use Rattle.bl_session.specs.Pieces.{are_whole, with_piece}
 use Rattle.bl_session.specs.Boot.{BootFacts, EventFacts, piece, fault, State, unstarted, running}
 use Rattle.bl_session.specs.Boot.{handed_over, none_left, out_of_memory, sizes_of, fresh}
-use Rattle.bl_session.specs.Boot.{AfterAttempt}
-use Rattle.bl_session.specs.Boot.{is_wanted, Steps}
+use Rattle.bl_session.specs.Boot.{AfterAttempt, is_wanted, Steps, on_running}
 
 -- ---- the files of a menu
 
@@ -62,12 +61,9 @@ IsTrueOf facts files faults entry earlier spots (fault ticket) =
 
 -- an event that is not wanted may be anything
 abbrev pub IsGenuineAt : BootFacts → List File → Faults → State → EventFacts → Type 0
-IsGenuineAt facts files faults (running entry rest earlier spots) event =
-    is_wanted earlier spots event ≡ true → IsTrueOf facts files faults entry earlier spots event
-IsGenuineAt facts files faults unstarted event = Unit {0}
-IsGenuineAt facts files faults (handed_over entry earlier handover) event = Unit {0}
-IsGenuineAt facts files faults (none_left earlier) event = Unit {0}
-IsGenuineAt facts files faults out_of_memory event = Unit {0}
+IsGenuineAt facts files faults state event =
+    on_running state (Unit {0}) (λ entry rest earlier spots. is_wanted earlier spots event ≡ true
+    → IsTrueOf facts files faults entry earlier spots event)
 
 -- each event is so where it comes
 abbrev pub IsGenuine : BootFacts → List File → Faults → State → List EventFacts → Type 0

@@ -7,9 +7,9 @@ use Rattle.bl_session.specs.declared.words.RefusedEntry.{RefusedEntry}
 use Rattle.bl_session.specs.declared.words.BootFault.{BootFault}
 use Rattle.bl_session.specs.declared.words.Outcome.{Outcome}
 use Rattle.bl_session.specs.Pieces.{with_piece, are_whole}
-use Rattle.bl_session.specs.Boot.{BootFacts, EventFacts, piece, fault, State, unstarted, running}
-use Rattle.bl_session.specs.Boot.{handed_over, none_left, out_of_memory, is_running, is_wanted}
-use Rattle.bl_session.specs.Boot.{StartsOrFails, StepsOrFails}
+use Rattle.bl_session.specs.Boot.{BootFacts, EventFacts, piece, fault, State, unstarted}
+use Rattle.bl_session.specs.Boot.{out_of_memory, is_running, is_wanted, StartsOrFails, StepsOrFails}
+use Rattle.bl_session.specs.Boot.{on_running}
 use Rattle.bl_session.specs.Outcome.{File, Faults}
 use Rattle.bl_session.specs.History.{Item, submitted, came, failed, nothing, file_under, IsPieceOf}
 use Rattle.bl_session.specs.Orders.{orders, orders_after, first_ticket}
@@ -33,14 +33,9 @@ IsAnswer files given earlier spots nothing event =
 
 -- only an attempt that runs takes answers
 abbrev pub IsEventOf : List File → List Item → State → Item → EventFacts → Type 0
-IsEventOf files given (running entry rest earlier spots) item event =
-    IsAnswer files given earlier spots item event
-IsEventOf files given unstarted item event = ⊥
-IsEventOf files given (handed_over entry earlier handover) item event = ⊥
-IsEventOf files given (none_left earlier) item event = ⊥
-IsEventOf files given out_of_memory item event = ⊥
-
--- ---- a history, read item by item
+IsEventOf files given state item event =
+    on_running state ⊥
+    (λ entry rest earlier spots. IsAnswer files given earlier spots item event)
 
 -- where a boot stands, and what it is still to ask for
 pub record World : Type 0 where
@@ -98,12 +93,9 @@ AreToldFaults faults earlier spots (fault ticket) = faults (length earlier) ≡ 
 
 -- an event that is not wanted may be anything
 abbrev pub IsGenuineItem : Faults → State → Item → EventFacts → Type 0
-IsGenuineItem faults (running entry rest earlier spots) item event =
-    is_wanted earlier spots event ≡ true → IsMarked item × AreToldFaults faults earlier spots event
-IsGenuineItem faults unstarted item event = Unit {0}
-IsGenuineItem faults (handed_over entry earlier handover) item event = Unit {0}
-IsGenuineItem faults (none_left earlier) item event = Unit {0}
-IsGenuineItem faults out_of_memory item event = Unit {0}
+IsGenuineItem faults state item event =
+    on_running state (Unit {0}) (λ entry rest earlier spots. is_wanted earlier spots event ≡ true
+    → IsMarked item × AreToldFaults faults earlier spots event)
 
 -- each answer is so where it comes
 abbrev pub AreGenuine : BootFacts → List File → Faults → List Item → World → List Item → Type 0
