@@ -10,9 +10,9 @@ use Rattle.bl_session.specs.Ends.{End, refused}
 use Rattle.bl_session.specs.Pieces.{are_whole, with_piece}
 use Rattle.bl_session.specs.Boot.{BootFacts, EventFacts, piece, fault, State, running, EntryEndsIn}
 use Rattle.bl_session.specs.Boot.{AfterAttempt, Begins, Takes}
-use Rattle.bl_session.specs.Outcome.{File, Faults}
+use Rattle.bl_session.specs.Outcome.{File, Faults, AreToldFaults}
 use Rattle.bl_session.specs.History.{Item, submitted, came, failed, nothing, file_under, IsPieceOf}
-use Rattle.bl_session.specs.Run.{IsAnswer, IsMarked, AreToldFaults}
+use Rattle.bl_session.specs.Run.{IsAnswer, IsMarked}
 use Rattle.bl_session.proofs.WentLemmas.{IsNewFrom, new_begins, new_goes}
 
 -- ---- an answer that is wanted is one event

@@ -48,16 +48,22 @@ Faults = ℕ → Option ℕ
 abbrev pub no_fault : Faults
 no_fault attempt = None
 
--- a piece holds its file's bytes at its place, and completes its attempt only if no fault comes of
--- it; a fault is the one that comes
+-- a piece completes its attempt only if no fault comes of it; a fault is the one that comes
+abbrev pub AreToldFaults :
+    Faults → List RefusedEntry → List (List Spot) → EventFacts → Type 0
+AreToldFaults faults earlier spots (piece ticket bytes) =
+    are_whole (with_piece spots ticket.file ticket.piece bytes) ≡ true
+    → faults (length earlier) ≡ None
+AreToldFaults faults earlier spots (fault ticket) = faults (length earlier) ≡ Some ticket.file
+
+-- a piece holds its file's bytes at its place; and the faults are these
 abbrev pub IsTrueOf :
     BootFacts → List File → Faults → ℕ → List RefusedEntry → List (List Spot) → EventFacts → Type 0
 IsTrueOf facts files faults entry earlier spots (piece ticket bytes) =
     (bytes ≡ piece_of (slice_index_or (texts_of facts files entry) ticket.file []) ticket.piece)
-    × (are_whole (with_piece spots ticket.file ticket.piece bytes) ≡ true
-    → faults (length earlier) ≡ None)
+    × AreToldFaults faults earlier spots (piece ticket bytes)
 IsTrueOf facts files faults entry earlier spots (fault ticket) =
-    faults (length earlier) ≡ Some ticket.file
+    AreToldFaults faults earlier spots (fault ticket)
 
 -- an event that is not wanted may be anything
 abbrev pub IsGenuineAt : BootFacts → List File → Faults → State → EventFacts → Type 0
