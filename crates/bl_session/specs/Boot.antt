@@ -10,7 +10,8 @@ use Rattle.bl_session.specs.declared.words.Ticket.{Ticket}
 use Rattle.bl_session.specs.declared.words.RefusedEntry.{RefusedEntry}
 use Rattle.bl_session.specs.declared.words.Progress.{Progress}
 use Rattle.bl_session.specs.declared.words.Progress.TheVariants.{Waiting, Next, Done, Failed}
-use Rattle.bl_session.specs.Ends.{End, handed, refused, EndsIn, size_refusal, known_lengths}
+use Rattle.bl_session.specs.AttemptResult.{AttemptResult, handed, refused, HasResult, size_refusal}
+use Rattle.bl_session.specs.AttemptResult.{known_lengths}
 use Rattle.bl_session.specs.Menu.{MenuFacts, entry_at, value_with}
 use Rattle.bl_session.specs.Pieces.{is_awaited, awaits, spot_of, with_piece, are_whole, awaited}
 
@@ -59,9 +60,10 @@ sizes_of facts entry =
 abbrev pub fresh : BootFacts → ℕ → List (List Spot)
 fresh facts entry = awaited (known_lengths (sizes_of facts entry))
 
--- what it ends in once its files hold these texts
-abbrev pub EntryEndsIn : BootFacts → ℕ → List (List ℕ) → End → Type 0
-EntryEndsIn facts entry texts = EndsIn facts.machine (value_with (entry_at facts.menu entry) texts)
+-- the result of its attempt once its files hold these texts
+abbrev pub TextsHaveResult : BootFacts → ℕ → List (List ℕ) → AttemptResult → Type 0
+TextsHaveResult facts entry texts =
+    HasResult facts.machine (value_with (entry_at facts.menu entry) texts)
 
 -- ---- attempts, one after the other
 
@@ -69,9 +71,9 @@ EntryEndsIn facts entry texts = EndsIn facts.machine (value_with (entry_at facts
 abbrev pub Continuation : Type 1
 Continuation = List RefusedEntry → State → Type 0
 
--- the attempt of an entry ended so: a handover ends the boot; a refusal is added to those so far,
--- and the rest of the boot follows
-abbrev pub AfterAttempt : Continuation → ℕ → List RefusedEntry → End → State → Type 0
+-- the attempt of an entry has this result: a handover ends the boot; a refusal is added to those so
+-- far, and the rest of the boot follows
+abbrev pub AfterAttempt : Continuation → ℕ → List RefusedEntry → AttemptResult → State → Type 0
 AfterAttempt next entry earlier (handed handover) state = state ≡ handed_over entry earlier handover
 AfterAttempt next entry earlier (refused refusal) state =
     next (earlier ++ record { entry = entry; refusal = refusal } ∷ []) state
@@ -81,8 +83,8 @@ abbrev pub Continues :
     BootFacts → Continuation → ℕ → List ℕ → List RefusedEntry → List (List Spot) → State → Type 0
 Continues facts next entry rest earlier files state =
     MatchBool (are_whole files)
-    ((end : End) × EntryEndsIn facts entry (map came_bytes files) end
-    × AfterAttempt next entry earlier end state)
+    ((result : AttemptResult) × TextsHaveResult facts entry (map came_bytes files) result
+    × AfterAttempt next entry earlier result state)
     (state ≡ running entry rest earlier files)
 
 -- the attempt begins, if the sizes of its files don't refuse it

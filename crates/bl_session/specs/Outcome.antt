@@ -4,7 +4,7 @@ use Rattle.std.specs.Prelude.{None, Some, if◌then◌else◌}
 use Rattle.bl_load.specs.Value.{EntryValue}
 use Rattle.bl_stage.specs.Spots.{Spot, piece_of}
 use Rattle.bl_session.specs.declared.words.RefusedEntry.{RefusedEntry}
-use Rattle.bl_session.specs.Ends.{End, Ends, file_limit}
+use Rattle.bl_session.specs.AttemptResult.{AttemptResult, AttemptHasResult, file_limit}
 use Rattle.bl_session.specs.Menu.{entry_at, value_with}
 use Rattle.bl_session.specs.Pieces.{are_whole, with_piece}
 use Rattle.bl_session.specs.Boot.{BootFacts, EventFacts, piece, fault, State, unstarted, running}
@@ -85,10 +85,10 @@ IsGenuine facts files faults state (event ∷ events) =
 abbrev pub faulty_in : BootFacts → ℕ → Option ℕ → Option ℕ
 faulty_in facts entry faulty = if are_whole (fresh facts entry) then None else faulty
 
--- what the attempt of an entry ends in
-abbrev pub EntryEnds : BootFacts → List File → Option ℕ → ℕ → End → Type 0
-EntryEnds facts files faulty entry =
-    Ends facts.machine (sizes_of facts entry) (faulty_in facts entry faulty)
+-- the result of the attempt of an entry
+abbrev pub EntryHasResult : BootFacts → List File → Option ℕ → ℕ → AttemptResult → Type 0
+EntryHasResult facts files faulty entry =
+    AttemptHasResult facts.machine (sizes_of facts entry) (faulty_in facts entry faulty)
     (value_in facts files entry)
 
 -- the first of these entries that is not refused is handed over, with the refusals before it; or
@@ -97,8 +97,8 @@ abbrev pub IsFirst :
     BootFacts → List File → Faults → List ℕ → List RefusedEntry → State → Type 0
 IsFirst facts files faults [] earlier state = state ≡ none_left earlier
 IsFirst facts files faults (entry ∷ rest) earlier state =
-    (end : End) × EntryEnds facts files (faults (length earlier)) entry end
-    × AfterAttempt (IsFirst facts files faults rest) entry earlier end state
+    (result : AttemptResult) × EntryHasResult facts files (faults (length earlier)) entry result
+    × AfterAttempt (IsFirst facts files faults rest) entry earlier result state
 
 -- the outcome of a boot with these files and faults
 abbrev pub IsOutcome : BootFacts → List File → Faults → State → Type 0
