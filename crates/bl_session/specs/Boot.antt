@@ -40,8 +40,7 @@ pub data State : Type 0 where
 
 -- what is so while an attempt runs, by its entry, the entries that are left, the refusals so far
 -- and what came of its files; else the other
-abbrev pub on_running {ℓ} :
-    {X : Type ℓ} → State → (other : X)
+abbrev pub on_running {ℓ} : {X : Type ℓ} → State → (other : X)
     → (ℕ → List ℕ → List RefusedEntry → List (List Spot) → X) → X
 on_running unstarted other runs = other
 on_running (running entry rest earlier files) other runs = runs entry rest earlier files
