@@ -49,7 +49,8 @@ none_if false = refl
 
 ends_alike : (m n : MachineFacts) (s t : List (Option ℕ)) (p q : Option ℕ) (v w : EntryValue)
     (e f : AttemptResult)
-    → m ≡ n → s ≡ t → p ≡ q → v ≡ w → AttemptHasResult m s p v e → AttemptHasResult n t q w f → e ≡ f
+    → m ≡ n → s ≡ t → p ≡ q → v ≡ w → AttemptHasResult m s p v e → AttemptHasResult n t q w f
+    → e ≡ f
 ends_alike m n s t p q v w e f machine sizes faulty value x y =
     one_end n t q w e f (rw (← machine, ← sizes, ← faulty, ← value) x) y
 

@@ -44,8 +44,8 @@ orders_after_alike f g alike old new =
 
 -- ---- one attempt after the other
 
-ends_alike : (f g : BootFacts) → AreAlike f g → (entry : ℕ) (texts : List (List ℕ)) (end : AttemptResult)
-    → TextsHaveResult f entry texts end → TextsHaveResult g entry texts end
+ends_alike : (f g : BootFacts) → AreAlike f g → (entry : ℕ) (texts : List (List ℕ))
+    (end : AttemptResult) → TextsHaveResult f entry texts end → TextsHaveResult g entry texts end
 ends_alike f g alike entry texts end ends =
     subst (λ (m : MachineFacts). HasResult m (value_with (entry_at g.menu entry) texts) end)
     alike.machine

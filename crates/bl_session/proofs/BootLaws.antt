@@ -39,7 +39,8 @@ one_whole : (facts : BootFacts) (next : List RefusedEntry → State → Type 0) 
     (earlier : List RefusedEntry) (texts : List (List ℕ))
     → ((r : List RefusedEntry) → IsOne (next r))
     → IsOne
-    (λ new. (end : AttemptResult) × TextsHaveResult facts entry texts end × AfterAttempt next entry earlier end new)
+    (λ new. (end : AttemptResult) × TextsHaveResult facts entry texts end
+    × AfterAttempt next entry earlier end new)
 one_whole facts next entry earlier texts one = λ a b (e, p, x) (f, q, y).
     one_goes next entry earlier e f one
     (one_end_in facts.machine (value_with (entry_at facts.menu entry) texts) e f p q) a b x y
@@ -118,7 +119,8 @@ some_whole : (facts : BootFacts) (next : List RefusedEntry → State → Type 0)
     (earlier : List RefusedEntry) (texts : List (List ℕ))
     → ((r : List RefusedEntry) → HasOne (next r))
     → HasOne
-    (λ new. (end : AttemptResult) × TextsHaveResult facts entry texts end × AfterAttempt next entry earlier end new)
+    (λ new. (end : AttemptResult) × TextsHaveResult facts entry texts end
+    × AfterAttempt next entry earlier end new)
 some_whole facts next entry earlier texts some =
     let end = some_end_in facts.machine (value_with (entry_at facts.menu entry) texts) in
     let new = some_goes next entry earlier end.0 some in

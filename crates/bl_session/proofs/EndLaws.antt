@@ -38,14 +38,15 @@ one_refused facts value r s (inr (lacks, no_pool)) (inl b) =
     absurd (not_both facts value lacks.handover s lacks.is b)
 one_refused facts value r s (inr (lacks, a)) (inr (lacking, b)) = a ∙ sym b
 
-pub one_end_in : (facts : MachineFacts) (value : EntryValue) (e f : AttemptResult) → HasResult facts value e
-    → HasResult facts value f → e ≡ f
+pub one_end_in : (facts : MachineFacts) (value : EntryValue) (e f : AttemptResult)
+    → HasResult facts value e → HasResult facts value f → e ≡ f
 one_end_in facts value (handed h) (handed k) a b = ap handed (one_handover facts value h k a.0 b.0)
 one_end_in facts value (handed h) (refused s) a b = absurd (never_both facts value h s a b)
 one_end_in facts value (refused r) (handed k) a b = absurd (never_both facts value k r b a)
 one_end_in facts value (refused r) (refused s) a b = ap refused (one_refused facts value r s a b)
 
-pub some_end_in : (facts : MachineFacts) (value : EntryValue) → (end : AttemptResult) × HasResult facts value end
+pub some_end_in : (facts : MachineFacts) (value : EntryValue)
+    → (end : AttemptResult) × HasResult facts value end
 some_end_in facts value =
     elim (handover_or_refusal facts value) [
       | inl (handover, is) ↦ elim (room_or_none facts value handover) [
@@ -67,12 +68,14 @@ some_end_in facts value =
 
 -- a check before one end
 one_behind : (first : Option Refusal) (rest : AttemptResult → Type 0)
-    → ((e f : AttemptResult) → rest e → rest f → e ≡ f) → (e f : AttemptResult) → OrRefused first rest e → OrRefused first rest f
+    → ((e f : AttemptResult) → rest e → rest f → e ≡ f) → (e f : AttemptResult)
+    → OrRefused first rest e → OrRefused first rest f
     → e ≡ f
 one_behind None rest one e f a b = one e f a b
 one_behind (Some refusal) rest one e f a b = a ∙ sym b
 
-some_behind : (first : Option Refusal) (rest : AttemptResult → Type 0) → (end : AttemptResult) × rest end
+some_behind : (first : Option Refusal) (rest : AttemptResult → Type 0)
+    → (end : AttemptResult) × rest end
     → (end : AttemptResult) × OrRefused first rest end
 some_behind None rest some = some
 some_behind (Some refusal) rest some = (refused refusal, refl)
@@ -81,11 +84,13 @@ pub one_end : (facts : MachineFacts) (sizes : List (Option ℕ)) (fault : Option
     (value : EntryValue) (e f : AttemptResult) → AttemptHasResult facts sizes fault value e
     → AttemptHasResult facts sizes fault value f → e ≡ f
 one_end facts sizes fault value =
-    one_behind (size_refusal facts sizes) (OrRefused (option_map FileFault fault) (HasResult facts value))
+    one_behind (size_refusal facts sizes)
+    (OrRefused (option_map FileFault fault) (HasResult facts value))
     (one_behind (option_map FileFault fault) (HasResult facts value) (one_end_in facts value))
 
 pub some_end : (facts : MachineFacts) (sizes : List (Option ℕ)) (fault : Option ℕ)
     (value : EntryValue) → (end : AttemptResult) × AttemptHasResult facts sizes fault value end
 some_end facts sizes fault value =
-    some_behind (size_refusal facts sizes) (OrRefused (option_map FileFault fault) (HasResult facts value))
+    some_behind (size_refusal facts sizes)
+    (OrRefused (option_map FileFault fault) (HasResult facts value))
     (some_behind (option_map FileFault fault) (HasResult facts value) (some_end_in facts value))

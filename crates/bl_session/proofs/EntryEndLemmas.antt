@@ -113,7 +113,8 @@ pub ends_by_size : (facts : MachineFacts) (sizes : List (Option ℕ)) (faulty : 
 ends_by_size facts sizes faulty value r e =
     subst
     (λ (x : Option Refusal).
-    OrRefused x (OrRefused (option_map FileFault faulty) (HasResult facts value)) (refused r)) (sym e)
+    OrRefused x (OrRefused (option_map FileFault faulty) (HasResult facts value)) (refused r))
+    (sym e)
     refl
 
 pub ends_by_fault : (facts : MachineFacts) (sizes : List (Option ℕ)) (faulty : Option ℕ)
@@ -136,5 +137,6 @@ ends_whole facts sizes faulty value end e f in_value =
     subst
     (λ (x : Option Refusal).
     OrRefused x (OrRefused (option_map FileFault faulty) (HasResult facts value)) end) (sym e)
-    (subst (λ (x : Option ℕ). OrRefused (option_map FileFault x) (HasResult facts value) end) (sym f)
+    (subst (λ (x : Option ℕ). OrRefused (option_map FileFault x) (HasResult facts value) end)
+    (sym f)
     in_value)

@@ -96,7 +96,8 @@ module _ (facts : BootFacts) (files : List File) where
         ap (λ (s : State). record { state = s; owed = next.owed }) state
         ∙ ap (λ (o : List Item). record { state = world.state; owed = o })
         (left ∙ ap (orders_after facts here) state ∙ sym owed) in
-        subst (λ (w : World). AllAnswers facts files (IsGenuineItem others) (given ++ item ∷ []) w items) same
+        subst (λ (w : World).
+        AllAnswers facts files (IsGenuineItem others) (given ++ item ∷ []) w items) same
         genuine
       where
         same_state : (a b : Bool) → is_wanted earlier spots other ≡ a
@@ -129,7 +130,8 @@ module _ (facts : BootFacts) (files : List File) where
             → (is_last spots event ≡ true → is_wanted earlier spots event ≡ true
             → others (length earlier) ≡ told event)
             → ((n : ℕ) → IsFrom next.state n → others n ≡ faults n)
-            → AllAnswers facts files (IsGenuineItem others) given (record { state = here; owed = [] })
+            → AllAnswers facts files (IsGenuineItem others) given
+            (record { state = here; owed = [] })
             (item ∷ items)
         whole others is same = (
           λ other none q is_it.

@@ -27,7 +27,8 @@ module _ (facts : BootFacts) (files : List File) where
     λ others agree. (
       λ event none p. absurd (let clash : order ∷ owed ≡ [] = none in cc),
       λ world (is_too, same_too).
-          subst (λ (w : World). AllAnswers facts files (IsGenuineItem others) (given ++ item ∷ []) w items)
+          subst (λ (w : World).
+          AllAnswers facts files (IsGenuineItem others) (given ++ item ∷ []) w items)
           (same ∙ sym same_too)
           (more others
           (λ n from. agree n (subst (λ (w : World). IsFrom facts files w.state n) same from))),
@@ -59,7 +60,8 @@ module _ (facts : BootFacts) (files : List File) where
       absurd is
 
   fits : (items given : List Item) (world : World) (end : State)
-      → AllAnswers facts files IsMarkedItem given world items → Reads facts files given world items end
+      → AllAnswers facts files IsMarkedItem given world items
+      → Reads facts files given world items end
       → Fits facts files given world items
   fits [] given world end marked reads = (λ n. None, λ others same. tt)
   fits (item ∷ items) given world end marked (next, hears, reads) =
@@ -75,11 +77,13 @@ module _ (facts : BootFacts) (files : List File) where
   -- a boot that began so, as it is told, or one that lacks memory from the first
   begun_alike : (old gained : List Item) (a b : State) (end : State)
       → StartsOrFails facts unstarted a → Reads facts files old (world_of facts a) gained end
-      → (faults : Faults) → AllAnswers facts files (IsGenuineItem faults) old (world_of facts a) gained
+      → (faults : Faults)
+      → AllAnswers facts files (IsGenuineItem faults) old (world_of facts a) gained
       → StartsOrFails facts unstarted b
       → AllAnswers facts files (IsGenuineItem faults) old (world_of facts b) gained
   begun_alike old gained a b end (inl p) reads faults genuine (inl q) =
-      subst (λ (s : State). AllAnswers facts files (IsGenuineItem faults) old (world_of facts s) gained)
+      subst (λ (s : State).
+      AllAnswers facts files (IsGenuineItem faults) old (world_of facts s) gained)
       (one_start facts unstarted a b p q) genuine
   begun_alike old gained a b end p reads faults genuine (inr (lost, is)) =
       lost_genuine facts files faults gained old (world_of facts b) (lost, ap (orders facts) lost)
@@ -87,7 +91,8 @@ module _ (facts : BootFacts) (files : List File) where
       let none =
       reads_nothing facts files old (world_of facts a) gained end (lost, ap (orders facts) lost)
       reads in
-      subst (λ (items : List Item). AllAnswers facts files (IsGenuineItem faults) old (world_of facts b) items)
+      subst (λ (items : List Item).
+      AllAnswers facts files (IsGenuineItem faults) old (world_of facts b) items)
       (sym none) tt
 
   pub some_faults : (old new : List Item) (end : State) → IsRun facts files old new end

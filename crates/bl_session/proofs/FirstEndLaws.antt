@@ -46,7 +46,8 @@ module _ (facts : BootFacts) (files : List File) (faults : ℕ → Option ℕ)
       Holds new × ((end : State) → Comes new end → IsFirst facts files faults rest earlier end)
 
   -- the attempt of an entry ended so
-  follows_end : (entry : ℕ) (rest : List ℕ) (earlier : List RefusedEntry) (e : AttemptResult) (new : State)
+  follows_end : (entry : ℕ) (rest : List ℕ) (earlier : List RefusedEntry) (e : AttemptResult)
+      (new : State)
       → ((r : List RefusedEntry) (s : State) → Begins facts rest r s → Follows rest r s)
       → EntryHasResult facts files (faults (length earlier)) entry e
       → AfterAttempt (Begins facts rest) entry earlier e new → Follows (entry ∷ rest) earlier new

@@ -108,7 +108,8 @@ module _ (facts : BootFacts) (files : List File) (faults : ℕ → Option ℕ) w
 
   schedule : (items given : List Item) (world : World) (end : State)
       → AreAsked facts (given ++ world.owed) world.state
-      → AllAnswers facts files (IsGenuineItem faults) given world items → Reads facts files given world items end
+      → AllAnswers facts files (IsGenuineItem faults) given world items
+      → Reads facts files given world items end
       → HasEnded end
       → IsScheduled world.state end
   schedule [] given world end asked genuine (inl same) ended = ([], tt, same)
