@@ -11,8 +11,7 @@ use Rattle.bl_load.specs.Value.{EntryValue}
 use Rattle.bl_image.specs.Image.{spelling}
 use Rattle.bl_image.specs.Versions.{written_version}
 use Rattle.bl_session.specs.Boot.{fresh}
-use Rattle.bl_session.specs.Ends as session
-use Rattle.bl_session.specs.Ends.{End}
+use Rattle.bl_session.specs.AttemptResult.{AttemptResult, AttemptHasResult}
 use Rattle.bl_session.specs.Outcome.{File, no_fault, faulty_in}
 use Rattle.bl_session.specs.Pieces.{are_whole}
 use Rattle.bl_session.proofs.EndLaws.{one_end}
@@ -49,8 +48,9 @@ none_if true = refl
 none_if false = refl
 
 ends_alike : (m n : MachineFacts) (s t : List (Option ℕ)) (p q : Option ℕ) (v w : EntryValue)
-    (e f : End)
-    → m ≡ n → s ≡ t → p ≡ q → v ≡ w → session.Ends m s p v e → session.Ends n t q w f → e ≡ f
+    (e f : AttemptResult)
+    → m ≡ n → s ≡ t → p ≡ q → v ≡ w → AttemptHasResult m s p v e → AttemptHasResult n t q w f
+    → e ≡ f
 ends_alike m n s t p q v w e f machine sizes faulty value x y =
     one_end n t q w e f (rw (← machine, ← sizes, ← faulty, ← value) x) y
 
@@ -62,7 +62,7 @@ module _ {F G : Type 0} {answers : F → List ℕ → File → Type 0} {faults :
         (b : BootCase replies wants other began ended)
         → a.facts ≡ b.facts → (entry index : ℕ) → sizes_at a entry ≡ sizes_at b index
         → value_at a entry ≡ value_at b index
-        → (e f : End) → EndsAt a entry e → EndsAt b index f → e ≡ f
+        → (e f : AttemptResult) → EndsAt a entry e → EndsAt b index f → e ≡ f
     one_end_at a b machine entry index sizes value e f x y =
         let f_a = boot_of a.description a.facts a.files in
         let f_b = boot_of b.description b.facts b.files in

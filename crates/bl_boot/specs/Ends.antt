@@ -16,9 +16,9 @@ use Rattle.bl_desc.specs.Described.{Described, described, file_named}
 use Rattle.bl_boot.specs.Found.{AreFound, names_asked}
 use Rattle.bl_load.specs.Value.{EntryValue}
 use Rattle.bl_session.specs.declared.words.RefusedEntry.{RefusedEntry}
-use Rattle.bl_session.specs.Ends.{End}
+use Rattle.bl_session.specs.AttemptResult.{AttemptResult}
 use Rattle.bl_session.specs.Boot.{State, handed_over, none_left, sizes_of}
-use Rattle.bl_session.specs.Outcome.{File, IsOutcome, EntryEnds, value_in, no_fault}
+use Rattle.bl_session.specs.Outcome.{File, IsOutcome, EntryHasResult, value_in, no_fault}
 use Rattle.bl_boot.specs.Attempted.{entry_of, names_in, boot_of}
 use Rattle.bl_boot.specs.Says.{booted_line, refused_lines, no_entry_line}
 
@@ -133,10 +133,10 @@ abbrev pub sizes_at : {F : Type 0} {answers : F → List ℕ → File → Type 0
     → BootCase answers faults desc before after → ℕ → List (Option ℕ)
 sizes_at case entry = sizes_of (boot_of case.description case.facts case.files) entry
 
--- what the attempt of it ends in
+-- the result of its attempt
 abbrev pub EndsAt : {F : Type 0} {answers : F → List ℕ → File → Type 0} {faults : F → ℕ}
     {desc : List ℕ} {before after : F}
-    → BootCase answers faults desc before after → ℕ → End → Type 0
-EndsAt case entry end =
-    EntryEnds (boot_of case.description case.facts case.files) case.files None
-    entry end
+    → BootCase answers faults desc before after → ℕ → AttemptResult → Type 0
+EndsAt case entry result =
+    EntryHasResult (boot_of case.description case.facts case.files) case.files None
+    entry result

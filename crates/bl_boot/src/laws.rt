@@ -11,7 +11,7 @@ ghost use Rattle.bl_walk.specs.Faults.{IsSound};
 ghost use Rattle.bl_walk.specs.Seen.{IsSeen};
 ghost use Rattle.bl_walk.specs.SeenFacts.{SeenFacts};
 ghost use Rattle.bl_walk.specs.Shown.{ShowsEntry};
-ghost use Rattle.bl_session.specs.Ends.{End};
+ghost use Rattle.bl_session.specs.AttemptResult.{AttemptResult};
 ghost use Rattle.bl_boot.specs.Converted.{Converts, Walks, WalkRefuses};
 ghost use Rattle.bl_desc.specs.Described.{Described};
 ghost use Rattle.bl_boot.specs.Ends.{BootCase, IsBooted, IsMachineOf, Surroundings};
@@ -37,7 +37,7 @@ pub fn two_boots<F: Files, G: Files>()
         (a : BootCase F.answers F.faults desc before after)
         (b : BootCase G.answers G.faults other began ended) → a.facts ≡ b.facts
         → (entry index : ℕ) → sizes_at a entry ≡ sizes_at b index
-        → value_at a entry ≡ value_at b index → (e f : End)
+        → value_at a entry ≡ value_at b index → (e f : AttemptResult)
         → EndsAt a entry e → EndsAt b index f → e ≡ f }
 
     // Machines have equal facts where size and pool are equal and each address has one kind in

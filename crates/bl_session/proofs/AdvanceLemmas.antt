@@ -10,7 +10,7 @@ use Rattle.bl_session.specs.declared.attempt.Attempt.{Attempt}
 use Rattle.bl_session.specs.declared.attempt.Attempt.TheVariants as attempt
 use Rattle.bl_session.specs.declared.attempt.AttemptEnd.TheVariants as ended
 use Rattle.bl_session.specs.declared.words.RefusedEntry.{RefusedEntry}
-use Rattle.bl_session.specs.Ends.{handed, refused, size_refusal}
+use Rattle.bl_session.specs.AttemptResult.{handed, refused, size_refusal}
 use Rattle.bl_session.specs.Menu.{EntryFacts, MenuFacts, entry_at}
 use Rattle.bl_session.specs.Pieces.{are_whole}
 use Rattle.bl_session.specs.Boot.{BootFacts, State, running, handed_over, none_left, sizes_of}

@@ -20,7 +20,7 @@ use Rattle.bl_load.specs.Loadable.{lengths_of, IsBacked}
 use Rattle.bl_load.specs.PlanFacts.{part_by, part_in}
 use Rattle.bl_load.specs.After.{Spans, IsAfter}
 use Rattle.bl_load.proofs.HeldLemmas.{length-bytes_by, map_same}
-use Rattle.bl_session.specs.Ends.{part_range}
+use Rattle.bl_session.specs.AttemptResult.{part_range}
 
 -- the ranges of what a plan hands over are those of its places
 pub ranges_are : {A : Type 0} (texts : List (List ℕ)) (parts : List (PlannedPart A))

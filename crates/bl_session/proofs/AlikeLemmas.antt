@@ -7,14 +7,15 @@ use Rattle.bl_load.specs.declared.refusal.Refusal.{Refusal}
 use Rattle.bl_load.specs.declared.refusal.Refusal.TheVariants.{FileFault}
 use Rattle.bl_stage.specs.Spots.{Spot, came_bytes}
 use Rattle.bl_session.specs.declared.words.RefusedEntry.{RefusedEntry}
-use Rattle.bl_session.specs.Ends.{End, handed, refused, EndsIn, size_refusal, known_lengths}
+use Rattle.bl_session.specs.AttemptResult.{AttemptResult, handed, refused, HasResult, size_refusal}
+use Rattle.bl_session.specs.AttemptResult.{known_lengths}
 use Rattle.bl_session.specs.Menu.{MenuFacts, entry_at, value_with}
 use Rattle.bl_session.specs.Pieces.{are_whole, awaited, with_piece}
 use Rattle.bl_session.specs.Boot.{BootFacts, EventFacts, piece, fault, State, unstarted, running}
 use Rattle.bl_session.specs.Boot.{handed_over, none_left, out_of_memory, sizes_of, fresh}
-use Rattle.bl_session.specs.Boot.{EntryEndsIn, Continuation, AfterAttempt, Continues, BeginsUnless, Begins}
-use Rattle.bl_session.specs.Boot.{is_wanted, Takes, Steps, StepsOrFails, Starts, StartsOrFails}
-use Rattle.bl_session.specs.Boot.{attempt_of}
+use Rattle.bl_session.specs.Boot.{TextsHaveResult, Continuation, AfterAttempt, Continues}
+use Rattle.bl_session.specs.Boot.{BeginsUnless, Begins, is_wanted, Takes, Steps, StepsOrFails}
+use Rattle.bl_session.specs.Boot.{Starts, StartsOrFails, attempt_of}
 use Rattle.bl_session.specs.History.{Item}
 use Rattle.bl_session.specs.Orders.{file_orders, orders, orders_after}
 
@@ -43,16 +44,16 @@ orders_after_alike f g alike old new =
 
 -- ---- one attempt after the other
 
-ends_alike : (f g : BootFacts) → AreAlike f g → (entry : ℕ) (texts : List (List ℕ)) (end : End)
-    → EntryEndsIn f entry texts end → EntryEndsIn g entry texts end
+ends_alike : (f g : BootFacts) → AreAlike f g → (entry : ℕ) (texts : List (List ℕ))
+    (end : AttemptResult) → TextsHaveResult f entry texts end → TextsHaveResult g entry texts end
 ends_alike f g alike entry texts end ends =
-    subst (λ (m : MachineFacts). EndsIn m (value_with (entry_at g.menu entry) texts) end)
+    subst (λ (m : MachineFacts). HasResult m (value_with (entry_at g.menu entry) texts) end)
     alike.machine
-    (subst (λ (m : MenuFacts). EndsIn f.machine (value_with (entry_at m entry) texts) end)
+    (subst (λ (m : MenuFacts). HasResult f.machine (value_with (entry_at m entry) texts) end)
     alike.menu ends)
 
 goes_alike : (next more : Continuation) → ((r : List RefusedEntry) (s : State) → next r s → more r s)
-    → (entry : ℕ) (earlier : List RefusedEntry) (end : End) (new : State)
+    → (entry : ℕ) (earlier : List RefusedEntry) (end : AttemptResult) (new : State)
     → AfterAttempt next entry earlier end new → AfterAttempt more entry earlier end new
 goes_alike next more leads entry earlier (handed handover) new goes = goes
 goes_alike next more leads entry earlier (refused refusal) new goes =
@@ -68,10 +69,10 @@ continues_alike f g alike next more leads entry rest earlier files new goes =
   where
     choice : (b : Bool)
         → MatchBool b
-        ((end : End) × EntryEndsIn f entry (map came_bytes files) end
+        ((end : AttemptResult) × TextsHaveResult f entry (map came_bytes files) end
         × AfterAttempt next entry earlier end new) (new ≡ running entry rest earlier files)
         → MatchBool b
-        ((end : End) × EntryEndsIn g entry (map came_bytes files) end
+        ((end : AttemptResult) × TextsHaveResult g entry (map came_bytes files) end
         × AfterAttempt more entry earlier end new) (new ≡ running entry rest earlier files)
     choice true (end, ends, on) = (
       end,

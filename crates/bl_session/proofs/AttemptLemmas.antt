@@ -9,7 +9,7 @@ use Rattle.bl_load.specs.declared.refusal.Refusal.{Refusal}
 use Rattle.bl_load.specs.Value.{EntryValue, value_of}
 use Rattle.bl_stage.specs.Staged.{Staging, AreStaged, AllCame, staged_texts}
 use Rattle.bl_stage.specs.Spots.{Spot, spots, came_bytes}
-use Rattle.bl_session.specs.Ends.{End, EndsIn, size_refusal, known_lengths}
+use Rattle.bl_session.specs.AttemptResult.{AttemptResult, HasResult, size_refusal, known_lengths}
 use Rattle.bl_session.specs.Menu.{EntryFacts, facts_of, value_with}
 use Rattle.bl_session.specs.Pieces.{are_whole, awaited}
 use Rattle.bl_session.specs.PhasesKept.{IsFresh}
@@ -36,16 +36,16 @@ not_whole bytes stage complete kept exact is =
 
 -- what is known of the texts is known of the spots
 pub ends_by_spots : {A : Type 0} (facts : MachineFacts) (entry : Entry A) (bytes : List ℕ)
-    (stage : Staging) (end : End) → AreStaged stage → AllCame stage
-    → EndsIn facts (value_of (staged_texts bytes stage) entry) end
-    → EndsIn facts (value_with (facts_of entry) (map came_bytes (spots bytes stage))) end
+    (stage : Staging) (end : AttemptResult) → AreStaged stage → AllCame stage
+    → HasResult facts (value_of (staged_texts bytes stage) entry) end
+    → HasResult facts (value_with (facts_of entry) (map came_bytes (spots bytes stage))) end
 ends_by_spots facts entry bytes stage end kept came ends =
     let value : value_of (staged_texts bytes stage) entry
     ≡ value_with (facts_of entry) (map came_bytes (spots bytes stage)) =
     sym
     (ap (value_with (facts_of entry)) (whole_texts bytes stage kept came)
     ∙ value_is entry (staged_texts bytes stage)) in
-    subst (λ (v : EntryValue). EndsIn facts v end) value ends
+    subst (λ (v : EntryValue). HasResult facts v end) value ends
 
 -- an attempt whose stage was begun
 pub begun_staged : {A : Type 0} (facts : MachineFacts) (entry : EntryFacts)

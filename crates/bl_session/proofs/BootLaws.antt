@@ -5,13 +5,13 @@ use Rattle.bl_load.specs.declared.refusal.Refusal.{Refusal}
 use Rattle.bl_load.specs.declared.refusal.Refusal.TheVariants.{FileFault}
 use Rattle.bl_stage.specs.Spots.{Spot, came_bytes}
 use Rattle.bl_session.specs.declared.words.RefusedEntry.{RefusedEntry}
-use Rattle.bl_session.specs.Ends.{End, handed, refused, size_refusal}
+use Rattle.bl_session.specs.AttemptResult.{AttemptResult, handed, refused, size_refusal}
 use Rattle.bl_session.specs.Menu.{entry_at, value_with}
 use Rattle.bl_session.specs.Pieces.{are_whole, with_piece}
 use Rattle.bl_session.specs.Boot.{BootFacts, EventFacts, piece, fault, State, unstarted, running}
 use Rattle.bl_session.specs.Boot.{handed_over, none_left, out_of_memory, sizes_of, fresh}
-use Rattle.bl_session.specs.Boot.{EntryEndsIn, AfterAttempt, Continues, BeginsUnless, Begins, is_wanted}
-use Rattle.bl_session.specs.Boot.{Takes, Steps, Starts}
+use Rattle.bl_session.specs.Boot.{TextsHaveResult, AfterAttempt, Continues, BeginsUnless, Begins}
+use Rattle.bl_session.specs.Boot.{is_wanted, Takes, Steps, Starts}
 use Rattle.bl_session.proofs.EndLaws.{one_end_in, some_end_in}
 
 abbrev pub IsOne : (State → Type 0) → Type 0
@@ -25,7 +25,7 @@ one_choice true P state one = one
 one_choice false P state one = λ a b p q. p ∙ sym q
 
 pub one_goes : (next : List RefusedEntry → State → Type 0) (entry : ℕ) (earlier : List RefusedEntry)
-    (e f : End) → ((r : List RefusedEntry) → IsOne (next r)) → e ≡ f
+    (e f : AttemptResult) → ((r : List RefusedEntry) → IsOne (next r)) → e ≡ f
     → (a b : State) → AfterAttempt next entry earlier e a → AfterAttempt next entry earlier f b → a ≡ b
 one_goes next entry earlier (handed h) (handed k) one same a b p q =
     p ∙ (let e : handed_over entry earlier h ≡ handed_over entry earlier k = cc in e) ∙ sym q
@@ -39,7 +39,8 @@ one_whole : (facts : BootFacts) (next : List RefusedEntry → State → Type 0) 
     (earlier : List RefusedEntry) (texts : List (List ℕ))
     → ((r : List RefusedEntry) → IsOne (next r))
     → IsOne
-    (λ new. (end : End) × EntryEndsIn facts entry texts end × AfterAttempt next entry earlier end new)
+    (λ new. (end : AttemptResult) × TextsHaveResult facts entry texts end
+    × AfterAttempt next entry earlier end new)
 one_whole facts next entry earlier texts one = λ a b (e, p, x) (f, q, y).
     one_goes next entry earlier e f one
     (one_end_in facts.machine (value_with (entry_at facts.menu entry) texts) e f p q) a b x y
@@ -108,7 +109,7 @@ some_choice true P state some = some
 some_choice false P state some = (state, refl)
 
 some_goes : (next : List RefusedEntry → State → Type 0) (entry : ℕ) (earlier : List RefusedEntry)
-    (end : End) → ((r : List RefusedEntry) → HasOne (next r))
+    (end : AttemptResult) → ((r : List RefusedEntry) → HasOne (next r))
     → HasOne (AfterAttempt next entry earlier end)
 some_goes next entry earlier (handed h) some = (handed_over entry earlier h, refl)
 some_goes next entry earlier (refused r) some =
@@ -118,7 +119,8 @@ some_whole : (facts : BootFacts) (next : List RefusedEntry → State → Type 0)
     (earlier : List RefusedEntry) (texts : List (List ℕ))
     → ((r : List RefusedEntry) → HasOne (next r))
     → HasOne
-    (λ new. (end : End) × EntryEndsIn facts entry texts end × AfterAttempt next entry earlier end new)
+    (λ new. (end : AttemptResult) × TextsHaveResult facts entry texts end
+    × AfterAttempt next entry earlier end new)
 some_whole facts next entry earlier texts some =
     let end = some_end_in facts.machine (value_with (entry_at facts.menu entry) texts) in
     let new = some_goes next entry earlier end.0 some in

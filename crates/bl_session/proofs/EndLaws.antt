@@ -10,27 +10,27 @@ use Rattle.bl_load.specs.Value.{EntryValue}
 use Rattle.bl_load.specs.Handover.{Handover}
 use Rattle.bl_load.proofs.HandoverLaws.{one_handover, one_refusal, not_both}
 use Rattle.bl_load.proofs.TotalLaws.{handover_or_refusal}
-use Rattle.bl_session.specs.Ends.{End, handed, refused, HasRoomBeside, LacksRoom, EndsIn}
-use Rattle.bl_session.specs.Ends.{part_range}
-use Rattle.bl_session.specs.Ends.{OrRefused, Ends, size_refusal}
+use Rattle.bl_session.specs.AttemptResult.{AttemptResult, handed, refused, HasRoomBeside, LacksRoom}
+use Rattle.bl_session.specs.AttemptResult.{HasResult, part_range, OrRefused, AttemptHasResult}
+use Rattle.bl_session.specs.AttemptResult.{size_refusal}
 
 -- an entry whose parts leave no room is not handed over
 no_room : (facts : MachineFacts) (value : EntryValue) (handover : Handover) → LacksRoom facts value
-    → EndsIn facts value (handed handover) → ⊥
+    → HasResult facts value (handed handover) → ⊥
 no_room facts value handover lacks (is, room) =
     lacks.lacking
     (subst (λ (h : Handover). HasRoomBeside facts value h)
     (one_handover facts value handover lacks.handover is lacks.is) room)
 
 never_both : (facts : MachineFacts) (value : EntryValue) (handover : Handover) (refusal : Refusal)
-    → EndsIn facts value (handed handover) → EndsIn facts value (refused refusal) → ⊥
+    → HasResult facts value (handed handover) → HasResult facts value (refused refusal) → ⊥
 never_both facts value handover refusal (is, room) (inl other) =
     not_both facts value handover refusal is other
 never_both facts value handover refusal is (inr (lacks, no_pool)) =
     no_room facts value handover lacks is
 
 one_refused : (facts : MachineFacts) (value : EntryValue) (r s : Refusal)
-    → EndsIn facts value (refused r) → EndsIn facts value (refused s) → r ≡ s
+    → HasResult facts value (refused r) → HasResult facts value (refused s) → r ≡ s
 one_refused facts value r s (inl a) (inl b) = one_refusal facts value r s a b
 one_refused facts value r s (inl a) (inr (lacks, no_pool)) =
     absurd (not_both facts value lacks.handover r lacks.is a)
@@ -38,14 +38,15 @@ one_refused facts value r s (inr (lacks, no_pool)) (inl b) =
     absurd (not_both facts value lacks.handover s lacks.is b)
 one_refused facts value r s (inr (lacks, a)) (inr (lacking, b)) = a ∙ sym b
 
-pub one_end_in : (facts : MachineFacts) (value : EntryValue) (e f : End) → EndsIn facts value e
-    → EndsIn facts value f → e ≡ f
+pub one_end_in : (facts : MachineFacts) (value : EntryValue) (e f : AttemptResult)
+    → HasResult facts value e → HasResult facts value f → e ≡ f
 one_end_in facts value (handed h) (handed k) a b = ap handed (one_handover facts value h k a.0 b.0)
 one_end_in facts value (handed h) (refused s) a b = absurd (never_both facts value h s a b)
 one_end_in facts value (refused r) (handed k) a b = absurd (never_both facts value k r b a)
 one_end_in facts value (refused r) (refused s) a b = ap refused (one_refused facts value r s a b)
 
-pub some_end_in : (facts : MachineFacts) (value : EntryValue) → (end : End) × EndsIn facts value end
+pub some_end_in : (facts : MachineFacts) (value : EntryValue)
+    → (end : AttemptResult) × HasResult facts value end
 some_end_in facts value =
     elim (handover_or_refusal facts value) [
       | inl (handover, is) ↦ elim (room_or_none facts value handover) [
@@ -66,26 +67,30 @@ some_end_in facts value =
         ]
 
 -- a check before one end
-one_behind : (first : Option Refusal) (rest : End → Type 0)
-    → ((e f : End) → rest e → rest f → e ≡ f) → (e f : End) → OrRefused first rest e → OrRefused first rest f
+one_behind : (first : Option Refusal) (rest : AttemptResult → Type 0)
+    → ((e f : AttemptResult) → rest e → rest f → e ≡ f) → (e f : AttemptResult)
+    → OrRefused first rest e → OrRefused first rest f
     → e ≡ f
 one_behind None rest one e f a b = one e f a b
 one_behind (Some refusal) rest one e f a b = a ∙ sym b
 
-some_behind : (first : Option Refusal) (rest : End → Type 0) → (end : End) × rest end
-    → (end : End) × OrRefused first rest end
+some_behind : (first : Option Refusal) (rest : AttemptResult → Type 0)
+    → (end : AttemptResult) × rest end
+    → (end : AttemptResult) × OrRefused first rest end
 some_behind None rest some = some
 some_behind (Some refusal) rest some = (refused refusal, refl)
 
 pub one_end : (facts : MachineFacts) (sizes : List (Option ℕ)) (fault : Option ℕ)
-    (value : EntryValue) (e f : End) → Ends facts sizes fault value e
-    → Ends facts sizes fault value f → e ≡ f
+    (value : EntryValue) (e f : AttemptResult) → AttemptHasResult facts sizes fault value e
+    → AttemptHasResult facts sizes fault value f → e ≡ f
 one_end facts sizes fault value =
-    one_behind (size_refusal facts sizes) (OrRefused (option_map FileFault fault) (EndsIn facts value))
-    (one_behind (option_map FileFault fault) (EndsIn facts value) (one_end_in facts value))
+    one_behind (size_refusal facts sizes)
+    (OrRefused (option_map FileFault fault) (HasResult facts value))
+    (one_behind (option_map FileFault fault) (HasResult facts value) (one_end_in facts value))
 
 pub some_end : (facts : MachineFacts) (sizes : List (Option ℕ)) (fault : Option ℕ)
-    (value : EntryValue) → (end : End) × Ends facts sizes fault value end
+    (value : EntryValue) → (end : AttemptResult) × AttemptHasResult facts sizes fault value end
 some_end facts sizes fault value =
-    some_behind (size_refusal facts sizes) (OrRefused (option_map FileFault fault) (EndsIn facts value))
-    (some_behind (option_map FileFault fault) (EndsIn facts value) (some_end_in facts value))
+    some_behind (size_refusal facts sizes)
+    (OrRefused (option_map FileFault fault) (HasResult facts value))
+    (some_behind (option_map FileFault fault) (HasResult facts value) (some_end_in facts value))

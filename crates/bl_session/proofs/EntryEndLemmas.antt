@@ -9,8 +9,9 @@ use Rattle.bl_load.specs.declared.refusal.Refusal.{Refusal}
 use Rattle.bl_load.specs.declared.refusal.Refusal.TheVariants.{FileFault, FileTooLong}
 use Rattle.bl_load.specs.Value.{EntryValue}
 use Rattle.bl_stage.specs.Spots.{waiting_spots}
-use Rattle.bl_session.specs.Ends.{End, refused, EndsIn, Ends, OrRefused, size_refusal, file_refusal}
-use Rattle.bl_session.specs.Ends.{pool_refusal, known_lengths, file_limit}
+use Rattle.bl_session.specs.AttemptResult.{AttemptResult, refused, HasResult, AttemptHasResult}
+use Rattle.bl_session.specs.AttemptResult.{OrRefused, size_refusal, file_refusal, pool_refusal}
+use Rattle.bl_session.specs.AttemptResult.{known_lengths, file_limit}
 use Rattle.bl_session.specs.Menu.{entry_at}
 use Rattle.bl_session.specs.Boot.{BootFacts, sizes_of, fresh}
 use Rattle.bl_session.specs.Outcome.{File, missing, too_long, whole, size_of, file_bytes, texts_of}
@@ -108,32 +109,34 @@ length_read (size ∷ sizes) (text ∷ texts) read (suc i) = length_read sizes t
 
 pub ends_by_size : (facts : MachineFacts) (sizes : List (Option ℕ)) (faulty : Option ℕ)
     (value : EntryValue) (r : Refusal) → size_refusal facts sizes ≡ Some r
-    → Ends facts sizes faulty value (refused r)
+    → AttemptHasResult facts sizes faulty value (refused r)
 ends_by_size facts sizes faulty value r e =
     subst
     (λ (x : Option Refusal).
-    OrRefused x (OrRefused (option_map FileFault faulty) (EndsIn facts value)) (refused r)) (sym e)
+    OrRefused x (OrRefused (option_map FileFault faulty) (HasResult facts value)) (refused r))
+    (sym e)
     refl
 
 pub ends_by_fault : (facts : MachineFacts) (sizes : List (Option ℕ)) (faulty : Option ℕ)
     (value : EntryValue) (place : ℕ) → size_refusal facts sizes ≡ None → faulty ≡ Some place
-    → Ends facts sizes faulty value (refused (FileFault place))
+    → AttemptHasResult facts sizes faulty value (refused (FileFault place))
 ends_by_fault facts sizes faulty value place e f =
     subst
     (λ (x : Option Refusal).
-    OrRefused x (OrRefused (option_map FileFault faulty) (EndsIn facts value))
+    OrRefused x (OrRefused (option_map FileFault faulty) (HasResult facts value))
     (refused (FileFault place))) (sym e)
     (subst
     (λ (x : Option ℕ).
-    OrRefused (option_map FileFault x) (EndsIn facts value) (refused (FileFault place))) (sym f)
+    OrRefused (option_map FileFault x) (HasResult facts value) (refused (FileFault place))) (sym f)
     refl)
 
 pub ends_whole : (facts : MachineFacts) (sizes : List (Option ℕ)) (faulty : Option ℕ)
-    (value : EntryValue) (end : End) → size_refusal facts sizes ≡ None → faulty ≡ None
-    → EndsIn facts value end → Ends facts sizes faulty value end
+    (value : EntryValue) (end : AttemptResult) → size_refusal facts sizes ≡ None → faulty ≡ None
+    → HasResult facts value end → AttemptHasResult facts sizes faulty value end
 ends_whole facts sizes faulty value end e f in_value =
     subst
     (λ (x : Option Refusal).
-    OrRefused x (OrRefused (option_map FileFault faulty) (EndsIn facts value)) end) (sym e)
-    (subst (λ (x : Option ℕ). OrRefused (option_map FileFault x) (EndsIn facts value) end) (sym f)
+    OrRefused x (OrRefused (option_map FileFault faulty) (HasResult facts value)) end) (sym e)
+    (subst (λ (x : Option ℕ). OrRefused (option_map FileFault x) (HasResult facts value) end)
+    (sym f)
     in_value)

@@ -5,11 +5,10 @@ use Rattle.bl_stage.specs.Spots.{Spot}
 use Rattle.bl_session.specs.declared.words.RefusedEntry.{RefusedEntry}
 use Rattle.bl_session.specs.Boot.{BootFacts, EventFacts, State, unstarted, running, handed_over}
 use Rattle.bl_session.specs.Boot.{none_left, out_of_memory, is_wanted, Takes, Steps}
-use Rattle.bl_session.specs.Outcome.{File, Faults}
+use Rattle.bl_session.specs.Outcome.{File, Faults, AreToldFaults}
 use Rattle.bl_session.specs.History.{Item}
 use Rattle.bl_session.specs.Orders.{orders_after}
-use Rattle.bl_session.specs.Run.{IsAnswer, World, Delivers, IsMarked, AreToldFaults, IsGenuineItem}
-use Rattle.bl_session.specs.Run.{AreGenuine}
+use Rattle.bl_session.specs.Run.{IsAnswer, World, Delivers, IsMarked, IsGenuineItem, AllAnswers}
 use Rattle.bl_session.proofs.BootLaws.{one_step}
 use Rattle.bl_session.proofs.WentLemmas.{IsNewFrom}
 use Rattle.bl_session.proofs.LostLemmas.{LacksMemory, lost_step, hears_nothing}
@@ -41,12 +40,12 @@ module _ (facts : BootFacts) (files : List File) where
   Fits given world items =
       (faults : Faults)
       × ((others : Faults) → ((n : ℕ) → IsFrom world.state n → others n ≡ faults n)
-      → AreGenuine facts files others given world items)
+      → AllAnswers facts files (IsGenuineItem others) given world items)
 
   -- ---- want of memory
 
   pub lost_genuine : (others : Faults) (items given : List Item) (world : World) → LacksMemory world
-      → AreGenuine facts files others given world items
+      → AllAnswers facts files (IsGenuineItem others) given world items
   lost_genuine others [] given world lost = tt
   lost_genuine others (item ∷ items) given world lost = (
     λ event e is. subst (λ (s : State). IsGenuineItem others s item event) (sym lost.0) tt,
@@ -84,8 +83,8 @@ module _ (facts : BootFacts) (files : List File) where
         → IsAnswer files given earlier spots item event → Steps facts here event next.state
         → next.owed ≡ orders_after facts here next.state
         → Delivers facts files given here [] item world
-        → AreGenuine facts files others (given ++ item ∷ []) next items
-        → AreGenuine facts files others (given ++ item ∷ []) world items
+        → AllAnswers facts files (IsGenuineItem others) (given ++ item ∷ []) next items
+        → AllAnswers facts files (IsGenuineItem others) (given ++ item ∷ []) world items
     other_world others event next world items p goes left (other, q, inr (lost, ends), owed)
         genuine =
         lost_genuine others items (given ++ item ∷ []) world (lost_step facts here world lost owed)
@@ -97,7 +96,8 @@ module _ (facts : BootFacts) (files : List File) where
         ap (λ (s : State). record { state = s; owed = next.owed }) state
         ∙ ap (λ (o : List Item). record { state = world.state; owed = o })
         (left ∙ ap (orders_after facts here) state ∙ sym owed) in
-        subst (λ (w : World). AreGenuine facts files others (given ++ item ∷ []) w items) same
+        subst (λ (w : World).
+        AllAnswers facts files (IsGenuineItem others) (given ++ item ∷ []) w items) same
         genuine
       where
         same_state : (a b : Bool) → is_wanted earlier spots other ≡ a
@@ -130,7 +130,8 @@ module _ (facts : BootFacts) (files : List File) where
             → (is_last spots event ≡ true → is_wanted earlier spots event ≡ true
             → others (length earlier) ≡ told event)
             → ((n : ℕ) → IsFrom next.state n → others n ≡ faults n)
-            → AreGenuine facts files others given (record { state = here; owed = [] })
+            → AllAnswers facts files (IsGenuineItem others) given
+            (record { state = here; owed = [] })
             (item ∷ items)
         whole others is same = (
           λ other none q is_it.

@@ -5,9 +5,8 @@ use Rattle.bl_session.specs.Boot.{none_left, out_of_memory, StartsOrFails}
 use Rattle.bl_session.specs.Outcome.{File, Faults}
 use Rattle.bl_session.specs.History.{Item}
 use Rattle.bl_session.specs.Orders.{orders}
-use Rattle.bl_session.specs.Run.{IsEventOf, World, world_of, Delivers, Reads, IsRun, AreGenuine}
-use Rattle.bl_session.specs.Run.{IsGenuineRun}
-use Rattle.bl_session.specs.Marked.{IsMarkedItem, AreMarked, IsMarkedRun}
+use Rattle.bl_session.specs.Run.{IsEventOf, World, world_of, Delivers, Reads, IsRun, IsGenuineRun}
+use Rattle.bl_session.specs.Run.{AllAnswers, IsMarkedItem, IsMarkedRun, IsGenuineItem}
 use Rattle.bl_session.proofs.BootLaws.{one_start}
 use Rattle.bl_session.proofs.LostLemmas.{lost_step, reads_nothing}
 use Rattle.bl_session.proofs.FaultEventLemmas.{IsFrom, Fits, lost_genuine, taken, lost_last}
@@ -28,7 +27,8 @@ module _ (facts : BootFacts) (files : List File) where
     λ others agree. (
       λ event none p. absurd (let clash : order ∷ owed ≡ [] = none in cc),
       λ world (is_too, same_too).
-          subst (λ (w : World). AreGenuine facts files others (given ++ item ∷ []) w items)
+          subst (λ (w : World).
+          AllAnswers facts files (IsGenuineItem others) (given ++ item ∷ []) w items)
           (same ∙ sym same_too)
           (more others
           (λ n from. agree n (subst (λ (w : World). IsFrom facts files w.state n) same from))),
@@ -60,7 +60,8 @@ module _ (facts : BootFacts) (files : List File) where
       absurd is
 
   fits : (items given : List Item) (world : World) (end : State)
-      → AreMarked facts files given world items → Reads facts files given world items end
+      → AllAnswers facts files IsMarkedItem given world items
+      → Reads facts files given world items end
       → Fits facts files given world items
   fits [] given world end marked reads = (λ n. None, λ others same. tt)
   fits (item ∷ items) given world end marked (next, hears, reads) =
@@ -76,11 +77,13 @@ module _ (facts : BootFacts) (files : List File) where
   -- a boot that began so, as it is told, or one that lacks memory from the first
   begun_alike : (old gained : List Item) (a b : State) (end : State)
       → StartsOrFails facts unstarted a → Reads facts files old (world_of facts a) gained end
-      → (faults : Faults) → AreGenuine facts files faults old (world_of facts a) gained
+      → (faults : Faults)
+      → AllAnswers facts files (IsGenuineItem faults) old (world_of facts a) gained
       → StartsOrFails facts unstarted b
-      → AreGenuine facts files faults old (world_of facts b) gained
+      → AllAnswers facts files (IsGenuineItem faults) old (world_of facts b) gained
   begun_alike old gained a b end (inl p) reads faults genuine (inl q) =
-      subst (λ (s : State). AreGenuine facts files faults old (world_of facts s) gained)
+      subst (λ (s : State).
+      AllAnswers facts files (IsGenuineItem faults) old (world_of facts s) gained)
       (one_start facts unstarted a b p q) genuine
   begun_alike old gained a b end p reads faults genuine (inr (lost, is)) =
       lost_genuine facts files faults gained old (world_of facts b) (lost, ap (orders facts) lost)
@@ -88,7 +91,8 @@ module _ (facts : BootFacts) (files : List File) where
       let none =
       reads_nothing facts files old (world_of facts a) gained end (lost, ap (orders facts) lost)
       reads in
-      subst (λ (items : List Item). AreGenuine facts files faults old (world_of facts b) items)
+      subst (λ (items : List Item).
+      AllAnswers facts files (IsGenuineItem faults) old (world_of facts b) items)
       (sym none) tt
 
   pub some_faults : (old new : List Item) (end : State) → IsRun facts files old new end
@@ -104,7 +108,7 @@ module _ (facts : BootFacts) (files : List File) where
             same_rest old run.gained gained (sym run.given ∙ given) in
             subst
             (λ (items : List Item).
-            AreGenuine facts files found.0 old (world_of facts begun) items) same
+            AllAnswers facts files (IsGenuineItem found.0) old (world_of facts begun) items) same
             (begun_alike old run.gained run.begun begun end run.begins run.reads found.0
             (found.1 found.0 (λ n from. refl)) begins),
       )

@@ -6,13 +6,13 @@ use Rattle.std.proofs.lemmas.Bool.Decides.{nat_tests}
 use Rattle.bl_load.specs.declared.refusal.Refusal.TheVariants.{FileFault}
 use Rattle.bl_stage.specs.Spots.{Spot, came_bytes}
 use Rattle.bl_session.specs.declared.words.RefusedEntry.{RefusedEntry}
-use Rattle.bl_session.specs.Ends.{End, refused}
+use Rattle.bl_session.specs.AttemptResult.{AttemptResult, refused}
 use Rattle.bl_session.specs.Pieces.{are_whole, with_piece}
-use Rattle.bl_session.specs.Boot.{BootFacts, EventFacts, piece, fault, State, running, EntryEndsIn}
-use Rattle.bl_session.specs.Boot.{AfterAttempt, Begins, Takes}
-use Rattle.bl_session.specs.Outcome.{File, Faults}
+use Rattle.bl_session.specs.Boot.{BootFacts, EventFacts, piece, fault, State, running}
+use Rattle.bl_session.specs.Boot.{TextsHaveResult, AfterAttempt, Begins, Takes}
+use Rattle.bl_session.specs.Outcome.{File, Faults, AreToldFaults}
 use Rattle.bl_session.specs.History.{Item, submitted, came, failed, nothing, file_under, IsPieceOf}
-use Rattle.bl_session.specs.Run.{IsAnswer, IsMarked, AreToldFaults}
+use Rattle.bl_session.specs.Run.{IsAnswer, IsMarked}
 use Rattle.bl_session.proofs.WentLemmas.{IsNewFrom, new_begins, new_goes}
 
 -- ---- an answer that is wanted is one event
@@ -84,7 +84,7 @@ last_new facts entry rest earlier spots (piece ticket bytes) new last takes =
     subst
     (λ (b : Bool).
     MatchBool b
-    ((end : End) × EntryEndsIn facts entry (map came_bytes after) end
+    ((end : AttemptResult) × TextsHaveResult facts entry (map came_bytes after) end
     × AfterAttempt (Begins facts rest) entry earlier end new)
     (new ≡ running entry rest earlier after)) last takes in
     new_goes facts rest entry earlier ends.0 new (new_begins facts rest) ends.2
@@ -103,7 +103,7 @@ goes_on facts entry rest earlier spots (piece ticket bytes) new last takes =
       subst
           (λ (b : Bool).
           MatchBool b
-          ((end : End) × EntryEndsIn facts entry (map came_bytes after) end
+          ((end : AttemptResult) × TextsHaveResult facts entry (map came_bytes after) end
           × AfterAttempt (Begins facts rest) entry earlier end new)
           (new ≡ running entry rest earlier after)) last takes,
     )

@@ -13,7 +13,7 @@ use Rattle.bl_load.specs.Loadable.{lengths_of, IsBacked}
 use Rattle.bl_load.specs.Parts.{IsHandover, IsPrepFault}
 use Rattle.bl_load.specs.PlanFacts.{handover_by, places_of}
 use Rattle.bl_load.specs.Value.{EntryValue, value_of}
-use Rattle.bl_session.specs.Ends.{EndsIn, HasRoomBeside, refused}
+use Rattle.bl_session.specs.AttemptResult.{HasResult, HasRoomBeside, refused}
 use Rattle.bl_stage.specs.Staged.{Staging}
 use Rattle.bl_session.specs.Finished.{IsNotHandedOver, IsStageLeft}
 use Rattle.bl_session.proofs.AfterLemmas.{ranges_are}
@@ -42,7 +42,7 @@ module _ {A : Type 0} (facts : MachineFacts) (texts : List (List ℕ)) (entry : 
   has_room room = rw (files_are texts entry, ranges_are texts plan.parts.items backed) room
 
   pub lacks_room : ¬ HasRoomFor facts.pool (map place_range (places_of plan)) texts
-      → EndsIn facts (value_of texts entry) (refused NoPool)
+      → HasResult facts (value_of texts entry) (refused NoPool)
   lacks_room full =
       inr (
         record {

@@ -5,14 +5,14 @@ use Rattle.bl_load.specs.declared.refusal.Refusal.{Refusal}
 use Rattle.bl_load.specs.declared.refusal.Refusal.TheVariants.{FileFault}
 use Rattle.bl_stage.specs.Spots.{Spot, came_bytes}
 use Rattle.bl_session.specs.declared.words.RefusedEntry.{RefusedEntry}
-use Rattle.bl_session.specs.Ends.{End, handed, refused, EndsIn, size_refusal}
+use Rattle.bl_session.specs.AttemptResult.{AttemptResult, handed, refused, HasResult, size_refusal}
 use Rattle.bl_session.specs.Pieces.{are_whole, with_piece}
 use Rattle.bl_session.specs.Boot.{BootFacts, EventFacts, piece, fault, State, unstarted, running}
 use Rattle.bl_session.specs.Boot.{handed_over, none_left, out_of_memory, sizes_of, fresh}
-use Rattle.bl_session.specs.Boot.{EntryEndsIn, AfterAttempt, BeginsUnless, Begins, is_wanted, Takes}
-use Rattle.bl_session.specs.Boot.{Steps, LeadsTo}
+use Rattle.bl_session.specs.Boot.{TextsHaveResult, AfterAttempt, BeginsUnless, Begins, is_wanted}
+use Rattle.bl_session.specs.Boot.{Takes, Steps, LeadsTo}
 use Rattle.bl_session.specs.Outcome.{File, size_of, texts_of, value_in, faulty_in, IsTrueOf}
-use Rattle.bl_session.specs.Outcome.{IsGenuineAt, IsGenuine, EntryEnds, IsFirst, IsOutcome}
+use Rattle.bl_session.specs.Outcome.{IsGenuineAt, IsGenuine, EntryHasResult, IsFirst, IsOutcome}
 use Rattle.bl_session.specs.Outcome.{HasEnded}
 use Rattle.bl_session.proofs.GatherLemmas.{FitAll, fits_piece, whole_files}
 use Rattle.bl_session.proofs.EntryEndLemmas.{fits_fresh, ends_by_size, ends_by_fault, ends_whole}
@@ -46,9 +46,10 @@ module _ (facts : BootFacts) (files : List File) (faults : ℕ → Option ℕ)
       Holds new × ((end : State) → Comes new end → IsFirst facts files faults rest earlier end)
 
   -- the attempt of an entry ended so
-  follows_end : (entry : ℕ) (rest : List ℕ) (earlier : List RefusedEntry) (e : End) (new : State)
+  follows_end : (entry : ℕ) (rest : List ℕ) (earlier : List RefusedEntry) (e : AttemptResult)
+      (new : State)
       → ((r : List RefusedEntry) (s : State) → Begins facts rest r s → Follows rest r s)
-      → EntryEnds facts files (faults (length earlier)) entry e
+      → EntryHasResult facts files (faults (length earlier)) entry e
       → AfterAttempt (Begins facts rest) entry earlier e new → Follows (entry ∷ rest) earlier new
   follows_end entry rest earlier (handed h) new more ends goes = (
     subst Holds (sym goes) tt,
@@ -68,7 +69,7 @@ module _ (facts : BootFacts) (files : List File) (faults : ℕ → Option ℕ)
       → (full ≡ true → faulty_in facts entry (faults (length earlier)) ≡ None)
       → are_whole spots ≡ full
       → MatchBool full
-      ((end : End) × EntryEndsIn facts entry (map came_bytes spots) end
+      ((end : AttemptResult) × TextsHaveResult facts entry (map came_bytes spots) end
       × AfterAttempt (Begins facts rest) entry earlier end new)
       (new ≡ running entry rest earlier spots)
       → Follows (entry ∷ rest) earlier new
@@ -79,8 +80,8 @@ module _ (facts : BootFacts) (files : List File) (faults : ℕ → Option ℕ)
   follows_pieces entry rest earlier spots true new more sized fit waits told is (e, ends, goes) =
       let texts : map came_bytes spots ≡ texts_of facts files entry =
       whole_files spots (texts_of facts files entry) fit is in
-      let of_value : EndsIn facts.machine (value_in facts files entry) e =
-      subst (λ (x : List (List ℕ)). EntryEndsIn facts entry x e) texts ends in
+      let of_value : HasResult facts.machine (value_in facts files entry) e =
+      subst (λ (x : List (List ℕ)). TextsHaveResult facts entry x e) texts ends in
       follows_end entry rest earlier e new more
       (ends_whole facts.machine (sizes_of facts entry) _ (value_in facts files entry) e sized
       (told refl) of_value) goes

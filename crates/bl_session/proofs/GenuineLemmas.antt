@@ -10,9 +10,9 @@ use Rattle.bl_session.specs.declared.words.Ticket.{Ticket}
 use Rattle.bl_session.specs.Menu.{entry_at}
 use Rattle.bl_session.specs.Pieces.{awaits, spot_of}
 use Rattle.bl_session.specs.Boot.{BootFacts, EventFacts, piece, running, is_wanted}
-use Rattle.bl_session.specs.Outcome.{File, missing, file_bytes, texts_of, IsTrueOf}
+use Rattle.bl_session.specs.Outcome.{File, missing, file_bytes, texts_of, IsTrueOf, AreToldFaults}
 use Rattle.bl_session.specs.History.{Item, submitted, came, failed, nothing, file_under, IsPieceOf}
-use Rattle.bl_session.specs.Run.{IsEventOf, AreToldFaults, IsGenuineItem}
+use Rattle.bl_session.specs.Run.{IsEventOf, IsGenuineItem}
 use Rattle.bl_session.proofs.TicketLemmas.{both, file_both}
 use Rattle.bl_session.proofs.AskedLemmas.{AreAsked}
 

@@ -10,7 +10,7 @@ use Rattle.bl_stage.specs.Spots.{Spot}
 use Rattle.bl_session.specs.declared.words.Ticket.{Ticket}
 use Rattle.bl_session.specs.declared.words.RefusedEntry.{RefusedEntry}
 use Rattle.bl_session.specs.declared.words.Progress.TheVariants.{Waiting, Next}
-use Rattle.bl_session.specs.Ends.{refused}
+use Rattle.bl_session.specs.AttemptResult.{refused}
 use Rattle.bl_session.specs.Pieces.{with_piece}
 use Rattle.bl_session.specs.Boot.{BootFacts, EventFacts, fault, State, unstarted, running}
 use Rattle.bl_session.specs.Boot.{handed_over, none_left, out_of_memory, is_wanted, is_taken, Takes}

@@ -8,7 +8,7 @@ use Rattle.bl_session.specs.Outcome.{File, size_of, IsGenuineAt, IsGenuine, IsOu
 use Rattle.bl_session.specs.History.{Item}
 use Rattle.bl_session.specs.Orders.{orders}
 use Rattle.bl_session.specs.Run.{IsEventOf, World, world_of, Delivers, Reads, IsRun, IsGenuineItem}
-use Rattle.bl_session.specs.Run.{AreGenuine, IsGenuineRun}
+use Rattle.bl_session.specs.Run.{IsGenuineRun, AllAnswers}
 use Rattle.bl_session.proofs.BootLaws.{one_step}
 use Rattle.bl_session.proofs.FirstEndLaws.{first_ended}
 use Rattle.bl_session.proofs.OutcomeLaws.{one_outcome}
@@ -108,7 +108,8 @@ module _ (facts : BootFacts) (files : List File) (faults : ℕ → Option ℕ) w
 
   schedule : (items given : List Item) (world : World) (end : State)
       → AreAsked facts (given ++ world.owed) world.state
-      → AreGenuine facts files faults given world items → Reads facts files given world items end
+      → AllAnswers facts files (IsGenuineItem faults) given world items
+      → Reads facts files given world items end
       → HasEnded end
       → IsScheduled world.state end
   schedule [] given world end asked genuine (inl same) ended = ([], tt, same)

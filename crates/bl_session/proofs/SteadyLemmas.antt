@@ -4,7 +4,7 @@ use Rattle.std.proofs.Common.{get_or, None, refl, ap, ◌∙◌, arith}
 use Rattle.std.proofs.lemmas.List.{get_or-map}
 use Rattle.bl_stage.specs.Spots.{waits}
 use Rattle.bl_session.specs.declared.words.Ticket.{Ticket}
-use Rattle.bl_session.specs.Ends.{size_refusal, known_lengths}
+use Rattle.bl_session.specs.AttemptResult.{size_refusal, known_lengths}
 use Rattle.bl_session.specs.Menu.{entry_at}
 use Rattle.bl_session.specs.Pieces.{is_awaited, spot_of}
 use Rattle.bl_session.specs.Boot.{BootFacts, State, unstarted, running, handed_over, none_left}

@@ -8,13 +8,14 @@ use Rattle.bl_load.specs.declared.refusal.Refusal.TheVariants.{FileFault}
 use Rattle.bl_stage.specs.Spots.{Spot, came_bytes, waiting_spots}
 use Rattle.bl_session.specs.declared.words.RefusedEntry.{RefusedEntry}
 use Rattle.bl_session.specs.declared.words.Ticket.{Ticket}
-use Rattle.bl_session.specs.Ends.{End, handed, refused, size_refusal, known_lengths}
+use Rattle.bl_session.specs.AttemptResult.{AttemptResult, handed, refused, size_refusal}
+use Rattle.bl_session.specs.AttemptResult.{known_lengths}
 use Rattle.bl_session.specs.Menu.{entry_at}
 use Rattle.bl_session.specs.Pieces.{are_whole, with_piece}
 use Rattle.bl_session.specs.Boot.{BootFacts, EventFacts, piece, fault, State, unstarted, running}
 use Rattle.bl_session.specs.Boot.{handed_over, none_left, out_of_memory, sizes_of, fresh}
-use Rattle.bl_session.specs.Boot.{EntryEndsIn, AfterAttempt, Continues, BeginsUnless, Begins, is_wanted}
-use Rattle.bl_session.specs.Boot.{Takes, Steps}
+use Rattle.bl_session.specs.Boot.{TextsHaveResult, AfterAttempt, Continues, BeginsUnless, Begins}
+use Rattle.bl_session.specs.Boot.{is_wanted, Takes, Steps}
 
 -- the boot has ended; or an attempt has just begun, with at least this many refusals before it and
 -- fewer than so many attempts after it
@@ -38,7 +39,7 @@ new_later facts count more low high out_of_memory c h is = tt
 
 -- an attempt that ended, if each one after it is new
 pub new_goes : (facts : BootFacts) (rest : List ℕ) (entry : ℕ) (earlier : List RefusedEntry)
-    (end : End) (new : State)
+    (end : AttemptResult) (new : State)
     → ((r : List RefusedEntry) (s : State) → Begins facts rest r s
     → IsNewFrom facts (length rest) (length r) s)
     → AfterAttempt (Begins facts rest) entry earlier end new
@@ -64,7 +65,7 @@ goes_or_new facts entry rest earlier files new more goes = choice (are_whole fil
   where
     choice : (b : Bool)
         → MatchBool b
-        ((end : End) × EntryEndsIn facts entry (map came_bytes files) end
+        ((end : AttemptResult) × TextsHaveResult facts entry (map came_bytes files) end
         × AfterAttempt (Begins facts rest) entry earlier end new)
         (new ≡ running entry rest earlier files)
         → (new ≡ running entry rest earlier files)

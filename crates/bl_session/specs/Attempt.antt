@@ -12,10 +12,10 @@ use Rattle.bl_session.specs.declared.attempt.Attempt.{Attempt}
 use Rattle.bl_session.specs.declared.attempt.Attempt.TheVariants.{Waits, Ended}
 use Rattle.bl_session.specs.declared.attempt.AttemptEnd.{AttemptEnd}
 use Rattle.bl_session.specs.declared.attempt.AttemptEnd.TheVariants.{HandedOver, Refused}
-use Rattle.bl_session.specs.Ends.{handed, refused, EndsIn, size_refusal, known_lengths}
+use Rattle.bl_session.specs.AttemptResult.{handed, refused, HasResult, size_refusal, known_lengths}
 use Rattle.bl_session.specs.Menu.{EntryFacts, value_with}
 use Rattle.bl_session.specs.Pieces.{are_whole, awaited}
-use Rattle.bl_session.specs.Phases.{handover_held, EndsWithin}
+use Rattle.bl_session.specs.Phases.{handover_held, LiesWithin}
 use Rattle.bl_session.specs.PhasesKept.{HasSmallFiles, LacksPiece}
 
 -- an attempt with this stage, unless it has ended
@@ -31,10 +31,11 @@ IsAttempt facts entry files bytes (Waits stage) =
     (are_whole files ≡ false) × (spots bytes stage ≡ files)
 IsAttempt facts entry files bytes (Ended (HandedOver handoff)) =
     (are_whole files ≡ true)
-    × EndsIn facts (value_with entry (map came_bytes files)) (handed (handover_held bytes handoff))
+    × HasResult facts (value_with entry (map came_bytes files))
+    (handed (handover_held bytes handoff))
 IsAttempt facts entry files bytes (Ended (Refused refusal)) =
     (are_whole files ≡ true)
-    × EndsIn facts (value_with entry (map came_bytes files)) (refused refusal)
+    × HasResult facts (value_with entry (map came_bytes files)) (refused refusal)
 
 -- it is refused for this
 abbrev pub IsRefusedFor : {A : Type 0} → Attempt A → Refusal → Type 0
@@ -52,12 +53,12 @@ IsAttemptBegun facts entry sizes bytes attempt =
     (IsRefusedFor attempt)
 
 -- the stage that it waits with is one of so many files, and lacks a piece; each part that it hands
--- over ends within memory
+-- over lies within memory
 abbrev pub KeepsAttempt : {A : Type 0} → MachineFacts → ℕ → Attempt A → Type 0
 KeepsAttempt facts count (Waits stage) =
     (stage.pool ≡ facts.pool) × (length stage.sizes ≡ count) × HasSmallFiles stage
     × LacksPiece stage
-KeepsAttempt facts count (Ended (HandedOver handoff)) = EndsWithin facts.size handoff
+KeepsAttempt facts count (Ended (HandedOver handoff)) = LiesWithin facts.size handoff
 KeepsAttempt facts count (Ended (Refused refusal)) = Unit {0}
 
 -- memory beside: after a handover it is that which is handed over; else no byte outside the pool

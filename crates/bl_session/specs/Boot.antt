@@ -10,7 +10,8 @@ use Rattle.bl_session.specs.declared.words.Ticket.{Ticket}
 use Rattle.bl_session.specs.declared.words.RefusedEntry.{RefusedEntry}
 use Rattle.bl_session.specs.declared.words.Progress.{Progress}
 use Rattle.bl_session.specs.declared.words.Progress.TheVariants.{Waiting, Next, Done, Failed}
-use Rattle.bl_session.specs.Ends.{End, handed, refused, EndsIn, size_refusal, known_lengths}
+use Rattle.bl_session.specs.AttemptResult.{AttemptResult, handed, refused, HasResult, size_refusal}
+use Rattle.bl_session.specs.AttemptResult.{known_lengths}
 use Rattle.bl_session.specs.Menu.{MenuFacts, entry_at, value_with}
 use Rattle.bl_session.specs.Pieces.{is_awaited, awaits, spot_of, with_piece, are_whole, awaited}
 
@@ -37,6 +38,16 @@ pub data State : Type 0 where
   none_left : (earlier : List RefusedEntry) → State
   out_of_memory : State
 
+-- what is so while an attempt runs, by its entry, the entries that are left, the refusals so far
+-- and what came of its files; else the other
+abbrev pub on_running {ℓ} : {X : Type ℓ} → State → (other : X)
+    → (ℕ → List ℕ → List RefusedEntry → List (List Spot) → X) → X
+on_running unstarted other runs = other
+on_running (running entry rest earlier files) other runs = runs entry rest earlier files
+on_running (handed_over entry earlier handover) other runs = other
+on_running (none_left earlier) other runs = other
+on_running out_of_memory other runs = other
+
 -- ---- an entry
 
 -- the sizes of its files
@@ -48,9 +59,10 @@ sizes_of facts entry =
 abbrev pub fresh : BootFacts → ℕ → List (List Spot)
 fresh facts entry = awaited (known_lengths (sizes_of facts entry))
 
--- what it ends in once its files hold these texts
-abbrev pub EntryEndsIn : BootFacts → ℕ → List (List ℕ) → End → Type 0
-EntryEndsIn facts entry texts = EndsIn facts.machine (value_with (entry_at facts.menu entry) texts)
+-- the result of its attempt once its files hold these texts
+abbrev pub TextsHaveResult : BootFacts → ℕ → List (List ℕ) → AttemptResult → Type 0
+TextsHaveResult facts entry texts =
+    HasResult facts.machine (value_with (entry_at facts.menu entry) texts)
 
 -- ---- attempts, one after the other
 
@@ -58,9 +70,9 @@ EntryEndsIn facts entry texts = EndsIn facts.machine (value_with (entry_at facts
 abbrev pub Continuation : Type 1
 Continuation = List RefusedEntry → State → Type 0
 
--- the attempt of an entry ended so: a handover ends the boot; a refusal is added to those so far,
--- and the rest of the boot follows
-abbrev pub AfterAttempt : Continuation → ℕ → List RefusedEntry → End → State → Type 0
+-- the attempt of an entry has this result: a handover ends the boot; a refusal is added to those so
+-- far, and the rest of the boot follows
+abbrev pub AfterAttempt : Continuation → ℕ → List RefusedEntry → AttemptResult → State → Type 0
 AfterAttempt next entry earlier (handed handover) state = state ≡ handed_over entry earlier handover
 AfterAttempt next entry earlier (refused refusal) state =
     next (earlier ++ record { entry = entry; refusal = refusal } ∷ []) state
@@ -70,8 +82,8 @@ abbrev pub Continues :
     BootFacts → Continuation → ℕ → List ℕ → List RefusedEntry → List (List Spot) → State → Type 0
 Continues facts next entry rest earlier files state =
     MatchBool (are_whole files)
-    ((end : End) × EntryEndsIn facts entry (map came_bytes files) end
-    × AfterAttempt next entry earlier end state)
+    ((result : AttemptResult) × TextsHaveResult facts entry (map came_bytes files) result
+    × AfterAttempt next entry earlier result state)
     (state ≡ running entry rest earlier files)
 
 -- the attempt begins, if the sizes of its files don't refuse it
@@ -111,43 +123,31 @@ Takes facts entry rest earlier files (fault ticket) state =
 
 -- an event that is not wanted changes nothing
 abbrev pub Steps : BootFacts → State → EventFacts → State → Type 0
-Steps facts (running entry rest earlier files) event new =
-    MatchBool (is_wanted earlier files event)
-    (Takes facts entry rest earlier files event new)
-    (new ≡ running entry rest earlier files)
-Steps facts unstarted event new = new ≡ unstarted
-Steps facts (handed_over entry earlier handover) event new =
-    new ≡ handed_over entry earlier handover
-Steps facts (none_left earlier) event new = new ≡ none_left earlier
-Steps facts out_of_memory event new = new ≡ out_of_memory
+Steps facts old event new =
+    on_running old (new ≡ old)
+    (λ entry rest earlier files. MatchBool (is_wanted earlier files event)
+    (Takes facts entry rest earlier files event new) (new ≡ old))
 
 -- the event is one that the attempt which runs waits for
 abbrev pub is_taken : State → EventFacts → Bool
-is_taken (running entry rest earlier files) event = is_wanted earlier files event
-is_taken unstarted event = false
-is_taken (handed_over entry earlier handover) event = false
-is_taken (none_left earlier) event = false
-is_taken out_of_memory event = false
+is_taken state event =
+    on_running state false (λ entry rest earlier files. is_wanted earlier files event)
 
 -- an attempt runs
 abbrev pub is_running : State → Bool
-is_running (running entry rest earlier files) = true
-is_running unstarted = false
-is_running (handed_over entry earlier handover) = false
-is_running (none_left earlier) = false
-is_running out_of_memory = false
+is_running state = on_running state false (λ entry rest earlier files. true)
 
--- the event ends the attempt that runs: its last piece, or a fault
-abbrev pub ends_attempt : State → EventFacts → Bool
-ends_attempt (running entry rest earlier files) (piece ticket bytes) =
+-- the event is wanted and ends the attempt: its last piece, or a fault
+abbrev pub is_wanted_last : List RefusedEntry → List (List Spot) → EventFacts → Bool
+is_wanted_last earlier files (piece ticket bytes) =
     is_wanted earlier files (piece ticket bytes)
     && are_whole (with_piece files ticket.file ticket.piece bytes)
-ends_attempt (running entry rest earlier files) (fault ticket) =
-    is_wanted earlier files (fault ticket)
-ends_attempt unstarted event = false
-ends_attempt (handed_over entry earlier handover) event = false
-ends_attempt (none_left earlier) event = false
-ends_attempt out_of_memory event = false
+is_wanted_last earlier files (fault ticket) = is_wanted earlier files (fault ticket)
+
+-- the event ends the attempt that runs
+abbrev pub ends_attempt : State → EventFacts → Bool
+ends_attempt state event =
+    on_running state false (λ entry rest earlier files. is_wanted_last earlier files event)
 
 -- one step, or want of memory, which only an event meets that ends an attempt
 abbrev pub StepsOrFails : BootFacts → State → EventFacts → State → Type 0

@@ -10,14 +10,14 @@ use Rattle.bl_load.specs.PlanFacts.{handover_in}
 use Rattle.bl_load.specs.Value.{EntryValue}
 use Rattle.bl_load.specs.declared.refusal.PrepFault.{PrepFault}
 use Rattle.bl_load.specs.declared.refusal.PrepFault.TheVariants.{Refused, NoMemory}
-use Rattle.bl_session.specs.Ends.{EndsIn, handed, refused}
+use Rattle.bl_session.specs.AttemptResult.{HasResult, handed, refused}
 
 -- the entry is handed over: memory holds it at the handoff's places, and each of its bytes is what
 -- it is after a handover
 pub record IsHandedOver (facts : MachineFacts) (value : EntryValue) (handoff : HandoffFacts)
     (old new : List ℕ) : Type 0 where
   pub handover : Handover
-  pub ends : EndsIn facts value (handed handover)
+  pub ends : HasResult facts value (handed handover)
   pub held : handover_in new handoff.protocol handoff.registers handoff.places ≡ handover
   pub inside : All (λ place. place.address + place.length ≤ length new) handoff.places
   pub after : IsAfter facts.pool handover.parts old new
@@ -27,7 +27,7 @@ pub record IsHandedOver (facts : MachineFacts) (value : EntryValue) (handoff : H
 abbrev pub IsNotHandedOver : MachineFacts → EntryValue → PrepFault → (old new : List ℕ)
     → Type 0
 IsNotHandedOver facts value (Refused refusal) old new =
-    EndsIn facts value (refused refusal) × (new ≡ old)
+    HasResult facts value (refused refusal) × (new ≡ old)
 IsNotHandedOver facts value NoMemory old new = IsSameOutside facts.pool old new
 
 -- what is left of the entry's staged files then, where memory had and has these bytes: after a

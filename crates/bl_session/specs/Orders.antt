@@ -5,8 +5,7 @@ use Rattle.std.specs.List.{range_with_len}
 use Rattle.bl_stage.specs.Spots.{Spot, waits, has}
 use Rattle.bl_session.specs.declared.words.Ticket.{Ticket}
 use Rattle.bl_session.specs.Menu.{entry_at}
-use Rattle.bl_session.specs.Boot.{BootFacts, State, unstarted, running, handed_over, none_left}
-use Rattle.bl_session.specs.Boot.{out_of_memory, attempt_of}
+use Rattle.bl_session.specs.Boot.{BootFacts, State, attempt_of, on_running}
 use Rattle.bl_session.specs.History.{Item, submitted}
 
 -- the ticket of a piece of the file at this place of an entry
@@ -29,12 +28,9 @@ file_orders attempt place (index ∷ indices) (spots ∷ files) =
 
 -- each piece of the attempt that runs: files ascending, and in each of them pieces ascending
 abbrev pub orders : BootFacts → State → List Item
-orders facts (running entry rest earlier files) =
-    file_orders (length earlier) 0 (entry_at facts.menu entry).files files
-orders facts unstarted = []
-orders facts (handed_over entry earlier handover) = []
-orders facts (none_left earlier) = []
-orders facts out_of_memory = []
+orders facts state =
+    on_running state [] (λ entry rest earlier files.
+    file_orders (length earlier) 0 (entry_at facts.menu entry).files files)
 
 -- what is to be asked for after a step from one state to another: nothing more if the attempt goes
 -- on, else each piece of the attempt that runs now

@@ -4,13 +4,12 @@ use Rattle.std.specs.Prelude.{None, Some, if◌then◌else◌}
 use Rattle.bl_load.specs.Value.{EntryValue}
 use Rattle.bl_stage.specs.Spots.{Spot, piece_of}
 use Rattle.bl_session.specs.declared.words.RefusedEntry.{RefusedEntry}
-use Rattle.bl_session.specs.Ends.{End, Ends, file_limit}
+use Rattle.bl_session.specs.AttemptResult.{AttemptResult, AttemptHasResult, file_limit}
 use Rattle.bl_session.specs.Menu.{entry_at, value_with}
 use Rattle.bl_session.specs.Pieces.{are_whole, with_piece}
 use Rattle.bl_session.specs.Boot.{BootFacts, EventFacts, piece, fault, State, unstarted, running}
 use Rattle.bl_session.specs.Boot.{handed_over, none_left, out_of_memory, sizes_of, fresh}
-use Rattle.bl_session.specs.Boot.{AfterAttempt}
-use Rattle.bl_session.specs.Boot.{is_wanted, Steps}
+use Rattle.bl_session.specs.Boot.{AfterAttempt, is_wanted, Steps, on_running}
 
 -- ---- the files of a menu
 
@@ -49,25 +48,28 @@ Faults = ℕ → Option ℕ
 abbrev pub no_fault : Faults
 no_fault attempt = None
 
--- a piece holds its file's bytes at its place, and completes its attempt only if no fault comes of
--- it; a fault is the one that comes
+-- a piece completes its attempt only if no fault comes of it; a fault is the one that comes
+abbrev pub AreToldFaults :
+    Faults → List RefusedEntry → List (List Spot) → EventFacts → Type 0
+AreToldFaults faults earlier spots (piece ticket bytes) =
+    are_whole (with_piece spots ticket.file ticket.piece bytes) ≡ true
+    → faults (length earlier) ≡ None
+AreToldFaults faults earlier spots (fault ticket) = faults (length earlier) ≡ Some ticket.file
+
+-- a piece holds its file's bytes at its place; and the faults are these
 abbrev pub IsTrueOf :
     BootFacts → List File → Faults → ℕ → List RefusedEntry → List (List Spot) → EventFacts → Type 0
 IsTrueOf facts files faults entry earlier spots (piece ticket bytes) =
     (bytes ≡ piece_of (slice_index_or (texts_of facts files entry) ticket.file []) ticket.piece)
-    × (are_whole (with_piece spots ticket.file ticket.piece bytes) ≡ true
-    → faults (length earlier) ≡ None)
+    × AreToldFaults faults earlier spots (piece ticket bytes)
 IsTrueOf facts files faults entry earlier spots (fault ticket) =
-    faults (length earlier) ≡ Some ticket.file
+    AreToldFaults faults earlier spots (fault ticket)
 
 -- an event that is not wanted may be anything
 abbrev pub IsGenuineAt : BootFacts → List File → Faults → State → EventFacts → Type 0
-IsGenuineAt facts files faults (running entry rest earlier spots) event =
-    is_wanted earlier spots event ≡ true → IsTrueOf facts files faults entry earlier spots event
-IsGenuineAt facts files faults unstarted event = Unit {0}
-IsGenuineAt facts files faults (handed_over entry earlier handover) event = Unit {0}
-IsGenuineAt facts files faults (none_left earlier) event = Unit {0}
-IsGenuineAt facts files faults out_of_memory event = Unit {0}
+IsGenuineAt facts files faults state event =
+    on_running state (Unit {0}) (λ entry rest earlier spots. is_wanted earlier spots event ≡ true
+    → IsTrueOf facts files faults entry earlier spots event)
 
 -- each event is so where it comes
 abbrev pub IsGenuine : BootFacts → List File → Faults → State → List EventFacts → Type 0
@@ -83,10 +85,10 @@ IsGenuine facts files faults state (event ∷ events) =
 abbrev pub faulty_in : BootFacts → ℕ → Option ℕ → Option ℕ
 faulty_in facts entry faulty = if are_whole (fresh facts entry) then None else faulty
 
--- what the attempt of an entry ends in
-abbrev pub EntryEnds : BootFacts → List File → Option ℕ → ℕ → End → Type 0
-EntryEnds facts files faulty entry =
-    Ends facts.machine (sizes_of facts entry) (faulty_in facts entry faulty)
+-- the result of the attempt of an entry
+abbrev pub EntryHasResult : BootFacts → List File → Option ℕ → ℕ → AttemptResult → Type 0
+EntryHasResult facts files faulty entry =
+    AttemptHasResult facts.machine (sizes_of facts entry) (faulty_in facts entry faulty)
     (value_in facts files entry)
 
 -- the first of these entries that is not refused is handed over, with the refusals before it; or
@@ -95,8 +97,8 @@ abbrev pub IsFirst :
     BootFacts → List File → Faults → List ℕ → List RefusedEntry → State → Type 0
 IsFirst facts files faults [] earlier state = state ≡ none_left earlier
 IsFirst facts files faults (entry ∷ rest) earlier state =
-    (end : End) × EntryEnds facts files (faults (length earlier)) entry end
-    × AfterAttempt (IsFirst facts files faults rest) entry earlier end state
+    (result : AttemptResult) × EntryHasResult facts files (faults (length earlier)) entry result
+    × AfterAttempt (IsFirst facts files faults rest) entry earlier result state
 
 -- the outcome of a boot with these files and faults
 abbrev pub IsOutcome : BootFacts → List File → Faults → State → Type 0

@@ -96,9 +96,9 @@ pub record SessionFacts : Type 0 where
 abbrev pub boot_facts : MachineFacts → MenuFacts → List (Option ℕ) → BootFacts
 boot_facts machine menu sizes = record { machine = machine; menu = menu; sizes = sizes }
 
--- each part that is handed over ends within a memory of this size
-abbrev pub EndsWithin : ℕ → HandoffFacts → Type 0
-EndsWithin size handoff = All (λ place. place.address + place.length ≤ size) handoff.places
+-- each part that is handed over lies within a memory of this size
+abbrev pub LiesWithin : ℕ → HandoffFacts → Type 0
+LiesWithin size handoff = All (λ place. place.address + place.length ≤ size) handoff.places
 
 -- an event as it is passed
 abbrev pub event_facts : Event → EventFacts

@@ -8,10 +8,10 @@ use Rattle.bl_session.specs.declared.boot.Boot.{Boot}
 use Rattle.bl_session.specs.declared.phase.Running.{Running}
 use Rattle.bl_session.specs.declared.phase.Phase.{Phase}
 use Rattle.bl_session.specs.declared.phase.Phase.TheVariants.{Unstarted, Waits, HandedOver, Failed}
-use Rattle.bl_session.specs.Ends.{file_limit, file_refusal, size_refusal, known_lengths}
+use Rattle.bl_session.specs.AttemptResult.{file_limit, file_refusal, size_refusal, known_lengths}
 use Rattle.bl_session.specs.Menu.{MenuFacts, entry_at}
 use Rattle.bl_session.specs.Boot.{BootFacts, State}
-use Rattle.bl_session.specs.Phases.{state_at, running_facts, phase_facts, boot_facts, EndsWithin}
+use Rattle.bl_session.specs.Phases.{state_at, running_facts, phase_facts, boot_facts, LiesWithin}
 
 abbrev pub running_state : {A : Type 0} → (attempts bytes : List ℕ) → Running A → State
 running_state attempts bytes r = state_at bytes (running_facts attempts r)
@@ -71,5 +71,5 @@ pub record IsWaiting {A : Type 0} (machine : MachineFacts) (menu : MenuFacts)
 abbrev pub IsPhaseKept : {A : Type 0} → MachineFacts → MenuFacts → Phase A → Type 0
 IsPhaseKept machine menu Unstarted = Unit {0}
 IsPhaseKept machine menu (Waits r) = IsWaiting machine menu r × LacksPiece r.stage
-IsPhaseKept machine menu (HandedOver outcome) = EndsWithin machine.size outcome.handoff
+IsPhaseKept machine menu (HandedOver outcome) = LiesWithin machine.size outcome.handoff
 IsPhaseKept machine menu (Failed why) = Unit {0}

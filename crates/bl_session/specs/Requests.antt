@@ -7,8 +7,7 @@ use Rattle.bl_session.specs.declared.words.Ticket.{Ticket}
 use Rattle.bl_session.specs.declared.words.Request.{Request}
 use Rattle.bl_session.specs.Menu.{entry_at}
 use Rattle.bl_session.specs.Pieces.{spot_of}
-use Rattle.bl_session.specs.Boot.{BootFacts, State, unstarted, running, handed_over, none_left}
-use Rattle.bl_session.specs.Boot.{out_of_memory}
+use Rattle.bl_session.specs.Boot.{BootFacts, State, on_running}
 use Rattle.bl_session.specs.Orders.{first_spot, first_ticket, ticket_or}
 
 -- how many bytes a piece has that is awaited
@@ -35,20 +34,14 @@ ticket_after attempt files ticket =
 
 -- the first piece that the attempt which runs awaits
 abbrev pub first_request : BootFacts → State → Option Request
-first_request facts (running entry rest earlier files) =
+first_request facts state =
+    on_running state None (λ entry rest earlier files.
     option_map (request_for (entry_at facts.menu entry).files files)
-    (first_ticket (length earlier) 0 files)
-first_request facts unstarted = None
-first_request facts (handed_over entry earlier handover) = None
-first_request facts (none_left earlier) = None
-first_request facts out_of_memory = None
+    (first_ticket (length earlier) 0 files))
 
 -- the first one after that of a ticket
 abbrev pub request_after : BootFacts → State → Ticket → Option Request
-request_after facts (running entry rest earlier files) ticket =
+request_after facts state ticket =
+    on_running state None (λ entry rest earlier files.
     option_map (request_for (entry_at facts.menu entry).files files)
-    (ticket_after (length earlier) files ticket)
-request_after facts unstarted ticket = None
-request_after facts (handed_over entry earlier handover) ticket = None
-request_after facts (none_left earlier) ticket = None
-request_after facts out_of_memory ticket = None
+    (ticket_after (length earlier) files ticket))

@@ -1,16 +1,15 @@
 -- A boot over a store: what the store was asked and answered, read from left to right. Own.
-use Rattle.std.specs.Prelude.{◌≡◌, ◌⊎◌, ◌↔◌, ℕ, true, List, [], ◌∷◌, ◌++◌, length, None, Some}
-use Rattle.std.specs.Prelude.{Result, Ok, Err}
+use Rattle.std.specs.Prelude.{◌≡◌, ◌⊎◌, ◌↔◌, ℕ, true, List, [], ◌∷◌, ◌++◌, length, Some, Result, Ok}
+use Rattle.std.specs.Prelude.{Err}
 use Rattle.bl_stage.specs.Spots.{Spot}
 use Rattle.bl_session.specs.declared.words.Ticket.{Ticket}
 use Rattle.bl_session.specs.declared.words.RefusedEntry.{RefusedEntry}
 use Rattle.bl_session.specs.declared.words.BootFault.{BootFault}
 use Rattle.bl_session.specs.declared.words.Outcome.{Outcome}
-use Rattle.bl_session.specs.Pieces.{with_piece, are_whole}
-use Rattle.bl_session.specs.Boot.{BootFacts, EventFacts, piece, fault, State, unstarted, running}
-use Rattle.bl_session.specs.Boot.{handed_over, none_left, out_of_memory, is_running, is_wanted}
-use Rattle.bl_session.specs.Boot.{StartsOrFails, StepsOrFails}
-use Rattle.bl_session.specs.Outcome.{File, Faults}
+use Rattle.bl_session.specs.Boot.{BootFacts, EventFacts, piece, fault, State, unstarted}
+use Rattle.bl_session.specs.Boot.{out_of_memory, is_running, is_wanted, StartsOrFails, StepsOrFails}
+use Rattle.bl_session.specs.Boot.{on_running}
+use Rattle.bl_session.specs.Outcome.{File, Faults, AreToldFaults}
 use Rattle.bl_session.specs.History.{Item, submitted, came, failed, nothing, file_under, IsPieceOf}
 use Rattle.bl_session.specs.Orders.{orders, orders_after, first_ticket}
 use Rattle.bl_session.specs.Phases.{PhaseFacts, outcome_facts, fault_facts}
@@ -33,14 +32,9 @@ IsAnswer files given earlier spots nothing event =
 
 -- only an attempt that runs takes answers
 abbrev pub IsEventOf : List File → List Item → State → Item → EventFacts → Type 0
-IsEventOf files given (running entry rest earlier spots) item event =
-    IsAnswer files given earlier spots item event
-IsEventOf files given unstarted item event = ⊥
-IsEventOf files given (handed_over entry earlier handover) item event = ⊥
-IsEventOf files given (none_left earlier) item event = ⊥
-IsEventOf files given out_of_memory item event = ⊥
-
--- ---- a history, read item by item
+IsEventOf files given state item event =
+    on_running state ⊥
+    (λ entry rest earlier spots. IsAnswer files given earlier spots item event)
 
 -- where a boot stands, and what it is still to ask for
 pub record World : Type 0 where
@@ -81,44 +75,50 @@ pub record IsRun (facts : BootFacts) (files : List File) (old new : List Item)
 
 -- ---- genuine histories
 
--- an event that is wanted: a piece is marked as its file's, and completes its attempt only if no
--- fault comes of it; a fault is the one that comes
+-- a piece is marked as its file's
 abbrev pub IsMarked : Item → Type 0
 IsMarked (submitted file ticket) = Unit {0}
 IsMarked (came ticket count genuine) = genuine ≡ true
 IsMarked (failed ticket) = Unit {0}
 IsMarked nothing = Unit {0}
 
-abbrev pub AreToldFaults :
-    Faults → List RefusedEntry → List (List Spot) → EventFacts → Type 0
-AreToldFaults faults earlier spots (piece ticket bytes) =
-    are_whole (with_piece spots ticket.file ticket.piece bytes) ≡ true
-    → faults (length earlier) ≡ None
-AreToldFaults faults earlier spots (fault ticket) = faults (length earlier) ≡ Some ticket.file
+-- an event that is wanted is marked, whatever faults come; one that is not may be anything
+abbrev pub IsMarkedItem : State → Item → EventFacts → Type 0
+IsMarkedItem state item event =
+    on_running state (Unit {0})
+    (λ entry rest earlier spots. is_wanted earlier spots event ≡ true → IsMarked item)
 
--- an event that is not wanted may be anything
+-- an event that is wanted is marked, and its faults are these; one that is not may be anything
 abbrev pub IsGenuineItem : Faults → State → Item → EventFacts → Type 0
-IsGenuineItem faults (running entry rest earlier spots) item event =
-    is_wanted earlier spots event ≡ true → IsMarked item × AreToldFaults faults earlier spots event
-IsGenuineItem faults unstarted item event = Unit {0}
-IsGenuineItem faults (handed_over entry earlier handover) item event = Unit {0}
-IsGenuineItem faults (none_left earlier) item event = Unit {0}
-IsGenuineItem faults out_of_memory item event = Unit {0}
+IsGenuineItem faults state item event =
+    on_running state (Unit {0}) (λ entry rest earlier spots. is_wanted earlier spots event ≡ true
+    → IsMarked item × AreToldFaults faults earlier spots event)
 
--- each answer is so where it comes
-abbrev pub AreGenuine : BootFacts → List File → Faults → List Item → World → List Item → Type 0
-AreGenuine facts files faults given world [] = Unit {0}
-AreGenuine facts files faults given world (item ∷ items) =
+-- of these items, after this history, each answer is so where it comes
+abbrev pub AllAnswers :
+    BootFacts → List File → (State → Item → EventFacts → Type 0) → List Item → World → List Item
+    → Type 0
+AllAnswers facts files IsSo given world [] = Unit {0}
+AllAnswers facts files IsSo given world (item ∷ items) =
     ((event : EventFacts) → world.owed ≡ [] → IsEventOf files given world.state item event
-    → IsGenuineItem faults world.state item event)
+    → IsSo world.state item event)
     × ((next : World) → Delivers facts files given world.state world.owed item next
-    → AreGenuine facts files faults (given ++ item ∷ []) next items)
+    → AllAnswers facts files IsSo (given ++ item ∷ []) next items)
 
--- a history that grew so is genuine with these faults
-abbrev pub IsGenuineRun : BootFacts → List File → Faults → (old new : List Item) → Type 0
-IsGenuineRun facts files faults old new =
+-- of what a history gained in a boot each answer is so where it comes
+abbrev pub AllGained :
+    BootFacts → List File → (State → Item → EventFacts → Type 0) → (old new : List Item) → Type 0
+AllGained facts files IsSo old new =
     (gained : List Item) (begun : State) → new ≡ old ++ gained → StartsOrFails facts unstarted begun
-    → AreGenuine facts files faults old (world_of facts begun) gained
+    → AllAnswers facts files IsSo old (world_of facts begun) gained
+
+-- the pieces that were wanted are their files', whatever faults came
+abbrev pub IsMarkedRun : BootFacts → List File → (old new : List Item) → Type 0
+IsMarkedRun facts files old new = AllGained facts files IsMarkedItem old new
+
+-- the pieces that were wanted are their files', and these faults came
+abbrev pub IsGenuineRun : BootFacts → List File → Faults → (old new : List Item) → Type 0
+IsGenuineRun facts files faults old new = AllGained facts files (IsGenuineItem faults) old new
 
 -- ---- the end of a boot
 

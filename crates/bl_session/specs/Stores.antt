@@ -11,7 +11,7 @@ use Rattle.bl_session.specs.declared.fetched.Fetched.TheVariants.{Missing, TooLo
 use Rattle.bl_session.specs.declared.submission.Submission.{Submission}
 use Rattle.bl_session.specs.declared.queue.Order.{Order}
 use Rattle.bl_session.specs.declared.queue.Order.TheVariants.{Forward, Reverse}
-use Rattle.bl_session.specs.Ends.{file_limit}
+use Rattle.bl_session.specs.AttemptResult.{file_limit}
 use Rattle.bl_session.specs.Boot.{EventFacts, piece, fault}
 use Rattle.bl_session.specs.Outcome.{File, missing, too_long, whole, file_bytes}
 use Rattle.bl_session.specs.History.{Item, submitted, came, failed, nothing, file_under}

@@ -1,8 +1,7 @@
 -- Parts of a run: what a history gained leads from one world to another. Own.
 use Rattle.std.specs.Prelude.{◌≡◌, ℕ, ◌+◌, List, [], ◌∷◌, ◌++◌, length, Option, None}
 use Rattle.bl_session.specs.declared.words.Ticket.{Ticket}
-use Rattle.bl_session.specs.Boot.{BootFacts, State, unstarted, running, handed_over, none_left}
-use Rattle.bl_session.specs.Boot.{out_of_memory}
+use Rattle.bl_session.specs.Boot.{BootFacts, State, on_running}
 use Rattle.bl_session.specs.Outcome.{File}
 use Rattle.bl_session.specs.History.{Item}
 use Rattle.bl_session.specs.Orders.{first_ticket}
@@ -31,16 +30,9 @@ pub record IsHeard (facts : BootFacts) (files : List File) (old new : List Item)
 
 -- how many attempts are left, with the one that runs
 abbrev pub attempts_in : State → ℕ
-attempts_in unstarted = 0
-attempts_in (running entry rest earlier files) = length rest + 1
-attempts_in (handed_over entry earlier handover) = 0
-attempts_in (none_left earlier) = 0
-attempts_in out_of_memory = 0
+attempts_in state = on_running state 0 (λ entry rest earlier files. length rest + 1)
 
 -- the ticket of the first piece that the attempt awaits
 abbrev pub missing_in : State → Option Ticket
-missing_in unstarted = None
-missing_in (running entry rest earlier files) = first_ticket (length earlier) 0 files
-missing_in (handed_over entry earlier handover) = None
-missing_in (none_left earlier) = None
-missing_in out_of_memory = None
+missing_in state =
+    on_running state None (λ entry rest earlier files. first_ticket (length earlier) 0 files)

@@ -3,7 +3,7 @@ ghost use Rattle.std.specs.Prelude.{◌≡◌, ◌≤◌, ℕ, List, [], Option,
 ghost use Rattle.bl_map.specs.MachineFacts.{MachineFacts};
 ghost use Rattle.bl_load.specs.Offered.{IsOffered};
 ghost use Rattle.bl_load.specs.Value.{EntryValue};
-ghost use Rattle.bl_session.specs.Ends.{End, Ends, EndsIn};
+ghost use Rattle.bl_session.specs.AttemptResult.{AttemptResult, AttemptHasResult, HasResult};
 ghost use Rattle.bl_session.specs.Boot.{BootFacts, EventFacts, State, Starts, Steps};
 ghost use Rattle.bl_session.specs.Boot.{Begins, LeadsTo, handed_over};
 ghost use Rattle.bl_session.specs.Outcome.{File, size_of, value_in, IsGenuine, IsOutcome};
@@ -12,22 +12,24 @@ ghost use Rattle.bl_session.specs.declared.words.RefusedEntry.{RefusedEntry};
 ghost use Rattle.bl_load.specs.Handover.{Handover};
 ghost use Rattle.bl_load.specs.Parts.{IsHandover};
 
-/// An attempt has at most one end: it is handed over, or refused, by the machine's facts, the
+/// An attempt has at most one result: it is handed over, or refused, by the machine's facts, the
 /// files' sizes, a fault that came or none, and the entry's value. Nothing else decides.
 pub fn ends_are_determined()
-    ensures whole { (facts : MachineFacts) (value : EntryValue) (e f : End)
-        → EndsIn facts value e → EndsIn facts value f → e ≡ f }
+    ensures whole { (facts : MachineFacts) (value : EntryValue) (e f : AttemptResult)
+        → HasResult facts value e → HasResult facts value f → e ≡ f }
     ensures attempt { (facts : MachineFacts) (sizes : List (Option ℕ)) (faulty : Option ℕ)
-        (value : EntryValue) (e f : End)
-        → Ends facts sizes faulty value e → Ends facts sizes faulty value f → e ≡ f }
+        (value : EntryValue) (e f : AttemptResult)
+        → AttemptHasResult facts sizes faulty value e
+        → AttemptHasResult facts sizes faulty value f → e ≡ f }
 {}
 
-/// An attempt has an end, so by the law above exactly one.
+/// An attempt has a result, so by the law above exactly one.
 pub fn each_attempt_ends()
     ensures whole { (facts : MachineFacts) (value : EntryValue)
-        → (end : End) × EndsIn facts value end }
+        → (result : AttemptResult) × HasResult facts value result }
     ensures attempt { (facts : MachineFacts) (sizes : List (Option ℕ)) (faulty : Option ℕ)
-        (value : EntryValue) → (end : End) × Ends facts sizes faulty value end }
+        (value : EntryValue)
+        → (result : AttemptResult) × AttemptHasResult facts sizes faulty value result }
 {}
 
 /// From each state the start and each event lead to at most one state, apart from want of memory.

@@ -3,8 +3,7 @@ ghost use Rattle.std.specs.Prelude.{◌≡◌, List, [], map, None};
 ghost use Rattle.bl_session.specs.Boot.{BootFacts, EventFacts, State, Begins, LeadsTo};
 ghost use Rattle.bl_session.specs.Outcome.{File, Faults, size_of, IsGenuine, IsOutcome, HasEnded};
 ghost use Rattle.bl_session.specs.History.{Item};
-ghost use Rattle.bl_session.specs.Run.{IsRun, IsGenuineRun};
-ghost use Rattle.bl_session.specs.Marked.{IsMarkedRun};
+ghost use Rattle.bl_session.specs.Run.{IsRun, IsMarkedRun, IsGenuineRun};
 ghost use Rattle.bl_session.specs.Faithful.{IsFaithful};
 
 /// A boot over a store that answers genuinely and comes to an end ends with the first entry that

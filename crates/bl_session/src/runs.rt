@@ -11,7 +11,7 @@ ghost use Rattle.bl_session.specs.Faithful.{IsFaithful};
 ghost use Rattle.bl_session.specs.Outcome.{Faults, IsOutcome, HasEnded, missing};
 ghost use Rattle.bl_session.specs.Outcome as outcome;
 ghost use Rattle.bl_session.specs.Phases.{boot_facts, state_at, is_waiting, not_started};
-ghost use Rattle.bl_session.specs.Phases.{EndsWithin};
+ghost use Rattle.bl_session.specs.Phases.{LiesWithin};
 ghost use Rattle.bl_session.specs.Run.{IsRun, IsGenuineRun, boot_end};
 
 use crate::menu::Menu;
@@ -82,7 +82,7 @@ fn end_of<A: Allocator + Copy>(session: Session<A>) -> Result<Outcome<A>, BootFa
     requires ended { is_waiting session.phase ≡ false }
     ensures end { boot_end result ≡ session.entry.phase }
     ensures inside { IfOk result (λ outcome.
-        EndsWithin session.entry.boot.machine.size outcome.handoff) }
+        LiesWithin session.entry.boot.machine.size outcome.handoff) }
 {
     match session.into_outcome() {
         Some(end) => end,

@@ -5,8 +5,7 @@ ghost use Rattle.bl_session.specs.Boot.{StepsOrFails, StartsOrFails, is_taken, a
 ghost use Rattle.bl_session.specs.Boot as boot;
 ghost use Rattle.bl_session.specs.Memory.{IsMemoryIn};
 ghost use Rattle.bl_session.specs.Phases.{boot_facts, event_facts, state_at, is_waiting};
-ghost use Rattle.bl_session.specs.Phases.{phase_facts, end_facts, told, not_started};
-ghost use Rattle.bl_session.specs.Phases.{EndsWithin};
+ghost use Rattle.bl_session.specs.Phases.{phase_facts, end_facts, told, not_started, LiesWithin};
 ghost use Rattle.bl_session.specs.Run.{boot_end};
 
 use crate::boot::Boot;
@@ -129,7 +128,7 @@ impl<'a, A: Allocator + Copy> Session<'a, A> {
     pub fn outcome(&self) -> Option<Result<&Outcome<A>, &BootFault<A>>>
         ensures end { told result ≡ end_facts self.now.phase }
         ensures inside { IfSome result (λ end. IfOk end (λ outcome.
-            EndsWithin self.now.boot.machine.size outcome.now.handoff)) }
+            LiesWithin self.now.boot.machine.size outcome.now.handoff)) }
     {
         match &self.phase {
             Phase::HandedOver(outcome) => Some(Ok(outcome)),
@@ -143,7 +142,7 @@ impl<'a, A: Allocator + Copy> Session<'a, A> {
     pub fn into_outcome(self) -> Option<Result<Outcome<A>, BootFault<A>>>
         ensures end { option_map boot_end result ≡ end_facts self.entry.phase }
         ensures inside { IfSome result (λ end. IfOk end (λ outcome.
-            EndsWithin self.entry.boot.machine.size outcome.handoff)) }
+            LiesWithin self.entry.boot.machine.size outcome.handoff)) }
     {
         let Session { phase, .. } = self;
         match phase {

@@ -4,8 +4,8 @@ ghost use Rattle.std.specs.Prelude.{IfErr};
 ghost use Rattle.std.specs.Prelude.{length, map, slice_index_or, MatchResult};
 ghost use Rattle.bl_load.specs.Value.{IsWithinLimits};
 ghost use Rattle.bl_stage.specs.Staged.{AreStaged};
-ghost use Rattle.bl_session.specs.Ends.{file_refusal, size_refusal};
-ghost use Rattle.bl_session.specs.Ends as ends;
+ghost use Rattle.bl_session.specs.AttemptResult.{file_refusal, size_refusal};
+ghost use Rattle.bl_session.specs.AttemptResult as attempt;
 ghost use Rattle.bl_session.specs.Menu as menu;
 ghost use Rattle.bl_session.specs.PhasesKept.{IsFresh, IsSizeFault, IsFileFault, HasSmallFiles};
 
@@ -91,7 +91,7 @@ fn lengths_of<A: Allocator + Copy>(
     requires { length files.now ≤ 65 }
     ensures ok { IfOk result (λ lengths.
         let known = map (λ file. slice_index_or sizes.now file None) files.now in
-        (file_refusal 0 known ≡ None) × (lengths.items ≡ ends.known_lengths known)) }
+        (file_refusal 0 known ≡ None) × (lengths.items ≡ attempt.known_lengths known)) }
     ensures err { IfErr result (λ fault. IsFileFault
         (map (λ file. slice_index_or sizes.now file None) files.now) fault) }
 {

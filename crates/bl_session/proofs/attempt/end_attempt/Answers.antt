@@ -4,7 +4,7 @@ use Rattle.bl_load.specs.declared.refusal.PrepFault.{PrepFault}
 use Rattle.bl_load.specs.declared.refusal.PrepFault.TheVariants.{Refused}
 use Rattle.bl_load.specs.Value.{value_of}
 use Rattle.bl_stage.specs.Staged.{staged_texts}
-use Rattle.bl_session.specs.Ends.{handed, refused, EndsIn}
+use Rattle.bl_session.specs.AttemptResult.{handed, refused, HasResult}
 use Rattle.bl_session.specs.Finished.{IsNotHandedOver}
 use Rattle.bl_session.specs.Phases.{handover_held}
 use Rattle.bl_session.proofs.AttemptLemmas.{not_whole, ends_by_spots}
@@ -32,7 +32,7 @@ returns-in-Ok-clause-attempt g c =
     let ends =
     subst
     (λ (h : Handover).
-    EndsIn facts (value_of (staged_texts bytes stage) c.args.entry.now) (handed h))
+    HasResult facts (value_of (staged_texts bytes stage) c.args.entry.now) (handed h))
     (sym told.held) told.ends in (
       came_whole bytes stage kept came,
       ends_by_spots facts c.args.entry.now bytes stage

@@ -1,6 +1,6 @@
 use Rattle.std.proofs.Common.{◌≡◌, ◌++◌, List, Option, None, ℕ, drop, map, slice_index_or}
-use Rattle.bl_session.specs.Ends.{file_refusal}
-use Rattle.bl_session.specs.Ends as ends
+use Rattle.bl_session.specs.AttemptResult.{file_refusal}
+use Rattle.bl_session.specs.AttemptResult as attempt
 use Rattle.bl_session.proofs.stage_files.lengths_of.Given as goal
 
 -- what is left decides; what was found and what is left give all
@@ -11,5 +11,5 @@ invariant-loop-place g l =
     let all : List (Option ℕ) = map (λ file. slice_index_or l.sizes file None) l.files in
     record {
       refusal : file_refusal l.place left ≡ file_refusal 0 all;
-      found : l.lengths.items ++ ends.known_lengths left ≡ ends.known_lengths all;
+      found : l.lengths.items ++ attempt.known_lengths left ≡ attempt.known_lengths all;
     }

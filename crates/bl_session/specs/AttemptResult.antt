@@ -1,4 +1,4 @@
--- What an attempt to boot an entry ends in: the entry is handed over, or refused. Own.
+-- The result of an attempt to boot an entry: the entry is handed over, or refused. Own.
 use Rattle.std.specs.Prelude.{◌≡◌, ◌⊎◌, ℕ, ◌+◌, List, [], ◌∷◌, map, Option, Some, None, option_map}
 use Rattle.std.specs.Prelude.{unwrap_or, if◌then◌else◌, nat_lt}
 use Rattle.std.specs.Option.{option_or}
@@ -12,9 +12,9 @@ use Rattle.bl_load.specs.Value.{EntryValue}
 use Rattle.bl_load.specs.Handover.{Part, Handover, end_of}
 use Rattle.bl_load.specs.Parts.{IsHandover, IsRefusal}
 
-pub data End : Type 0 where
-  handed : Handover → End
-  refused : Refusal → End
+pub data AttemptResult : Type 0 where
+  handed : Handover → AttemptResult
+  refused : Refusal → AttemptResult
 
 -- ---- before any piece comes: by the sizes of the entry's files, in order, the kernel's first;
 -- None is a missing file
@@ -59,22 +59,24 @@ pub record LacksRoom (facts : MachineFacts) (value : EntryValue) : Type 0 where
   pub is : IsHandover facts value handover
   pub lacking : ¬ HasRoomBeside facts value handover
 
-abbrev pub EndsIn : MachineFacts → EntryValue → End → Type 0
-EndsIn facts value (handed handover) =
+-- the result of an attempt whose files are whole
+abbrev pub HasResult : MachineFacts → EntryValue → AttemptResult → Type 0
+HasResult facts value (handed handover) =
     IsHandover facts value handover × HasRoomBeside facts value handover
-EndsIn facts value (refused refusal) =
+HasResult facts value (refused refusal) =
     IsRefusal facts value refusal ⊎ (LacksRoom facts value × (refusal ≡ NoPool))
 
 -- ---- a whole attempt
 
--- if the check refuses, that is the end; else the rest tells it
-abbrev pub OrRefused : Option Refusal → (End → Type 0) → End → Type 0
-OrRefused None rest end = rest end
-OrRefused (Some refusal) rest end = end ≡ refused refusal
+-- if the check refuses, that is the result; else the rest tells it
+abbrev pub OrRefused : Option Refusal → (AttemptResult → Type 0) → AttemptResult → Type 0
+OrRefused None rest result = rest result
+OrRefused (Some refusal) rest result = result ≡ refused refusal
 
--- what an attempt ends in: with these sizes of its files, the place of a file of which a fault
+-- the result of an attempt with these sizes of its files, the place of a file of which a fault
 -- came, or None, and this value of its entry
-abbrev pub Ends : MachineFacts → List (Option ℕ) → Option ℕ → EntryValue → End → Type 0
-Ends facts sizes faulty value =
+abbrev pub AttemptHasResult :
+    MachineFacts → List (Option ℕ) → Option ℕ → EntryValue → AttemptResult → Type 0
+AttemptHasResult facts sizes faulty value =
     OrRefused (size_refusal facts sizes)
-    (OrRefused (option_map FileFault faulty) (EndsIn facts value))
+    (OrRefused (option_map FileFault faulty) (HasResult facts value))
