@@ -33,3 +33,4 @@ pub mod HandoverLaws
 pub mod LegalLaws
 pub mod TotalLaws
 pub mod PartLaws
+pub mod SegmentLaws

@@ -23,8 +23,10 @@ mod reading;
 mod refusal;
 mod registers;
 mod registers64;
+mod segment_laws;
+mod segments;
 
-pub use bl_plan::{MAX_COPY, MAX_LINE, Protocol};
+pub use bl_plan::{MAX_COPY, MAX_LINE, Place, Protocol, Role};
 pub use entry::{Entry, Module};
 pub use entry_loading::load_entry;
 pub use handoff::Handoff;
@@ -39,3 +41,5 @@ pub use protocols::descriptors_of;
 pub use refusal::{PrepFault, Refusal};
 pub use registers::{Registers, Registers32, linux_registers, multiboot2_registers};
 pub use registers64::{Registers64, linux64_registers};
+pub use segment_laws::selectors_name_the_segments;
+pub use segments::{SegmentName, SegmentRegister};

@@ -1,0 +1,19 @@
+//! The law of segment registers and descriptors.
+ghost use Rattle.std.specs.Prelude.{◌≡◌, List, IfSome};
+ghost use Rattle.bl_mem.specs.Words.{u64_at};
+ghost use Rattle.bl_plan.specs.declared.part.Place.{Place};
+ghost use Rattle.bl_plan.specs.declared.protocol.Protocol.{Protocol};
+ghost use Rattle.bl_load.specs.declared.segments.SegmentName.{SegmentName};
+ghost use Rattle.bl_load.specs.Reading.{Reading};
+ghost use Rattle.bl_load.specs.Parts.{registers_of};
+ghost use Rattle.bl_load.specs.Protocols.{descriptors_of};
+ghost use Rattle.bl_load.specs.Segments.{segment_in, descriptor};
+
+/// If a kernel is handed descriptors, each segment register is what it would be loaded with from
+/// them: the 8 bytes that its selector names, as a number, are the descriptor of that segment.
+pub fn selectors_name_the_segments()
+    ensures { (protocol : Protocol) (reading : Reading) (places : List Place) (name : SegmentName)
+        → let segment = segment_in (registers_of protocol reading places) name in
+        IfSome (descriptors_of protocol)
+        (λ bytes. u64_at bytes segment.selector ≡ descriptor segment) }
+{}
