@@ -1,8 +1,7 @@
 //! The keys of a description's tables.
-ghost use Rattle.std.specs.Prelude.{◌≡◌, [], map, option_map, string_bytes};
-ghost use Rattle.std.specs.List.{list_any, list_all};
+ghost use Rattle.std.specs.Prelude.{◌≡◌, [], map, option_map};
+ghost use Rattle.std.specs.List.{list_any};
 ghost use Rattle.std.specs.Str.{bytes_eq};
-ghost use Rattle.std.specs.BTreeMap.{keys};
 ghost use Rattle.toml.specs.View.{view, table_view};
 ghost use Rattle.toml.specs.Data.{get_member};
 ghost use Rattle.bl_desc.specs.Values as spec;
@@ -73,17 +72,9 @@ fn is_among(key: &str, known: &[&str]) -> bool
     known.iter().any(|k| *k == key)
 }
 
-/// Whether each key of a table is one of these, in the words of a map: what `has_only` rests on.
-fn are_keys_among(table: &Table, known: &[&str]) -> bool
-    ensures { result ≡ list_all
-        (λ key. list_any (λ k. bytes_eq k.now (string_bytes key)) known.now) (keys table.now) }
-{
-    table.keys().all(|key| is_among(key.as_str(), known))
-}
-
 /// Whether a table has no key but these.
 pub fn has_only(table: &Table, known: &[&str]) -> bool
     ensures { result ≡ spec.has_only (map (λ k. k.now) known.now) (table_view table.now) }
 {
-    are_keys_among(table, known)
+    table.keys().all(|key| is_among(key.as_str(), known))
 }

@@ -1,6 +1,6 @@
 -- The cells that groups of four stand for, as a stage keeps them in memory.
-use Rattle.std.specs.Prelude.{ℕ, ◌/◌, ◌%◌, ◌==◌, List, [], map, slice_index, slice_index_or, if◌then◌else◌}
-use Rattle.std.specs.Prelude.{Option, Some, None, false}
+use Rattle.std.specs.Prelude.{ℕ, ◌/◌, ◌%◌, ◌==◌, List, [], map, slice_index, slice_index_or, false}
+use Rattle.std.specs.Prelude.{Option, Some, None, if◌then◌else◌}
 use Rattle.std.specs.List.{range_with_len}
 use Rattle.bl_stage.specs.declared.cell.Cell.{Cell}
 use Rattle.bl_stage.specs.declared.cells.CellGroup.{CellGroup}

@@ -31,7 +31,8 @@ returns g c =
       holders = set group.holders (at % 4) c.unwrap_or.result;
       shut = set group.shut (at % 4) c.args.cell.shut;
     } in
-    let name = ap holder_of c.unwrap_or.ensures ∙ holder_again c.args.cell.holder c.requires.named in
+    let name =
+    ap holder_of c.unwrap_or.ensures ∙ holder_again c.args.cell.holder c.requires.named in
     let here : cell_in next (at % 4) ≡ c.args.cell =
     put_here group.holders group.shut (at % 4) c.unwrap_or.result c.args.cell.shut
     (omega (arith, holders)) (omega (arith, flags))

@@ -28,7 +28,8 @@ returns g c =
     let is : group ≡ get_or groups (at / 4) no_group =
     c.index_mut.ensures.value ∙ get_or_default groups (at / 4) group no_group within in
     let inside : at % 4 < length group.shut = search rules in
-    let next : CellGroup = record { holders = group.holders; shut = set group.shut (at % 4) flag } in
+    let next : CellGroup =
+    record { holders = group.holders; shut = set group.shut (at % 4) flag } in
     let was : cell_in group (at % 4) ≡ cell_at c.args.self.now at =
     ap (λ g. cell_in g (at % 4)) is ∙ sym (cells_read groups fields.count at below)
     ∙ ap (λ cells. cell_at cells at) c.self.view_is in
