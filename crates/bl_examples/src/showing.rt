@@ -38,7 +38,7 @@ pub fn show_guest(rt: &HostRuntime) -> io::Result<()> {
 }
 
 /// How many parts, and where the kernel is entered.
-fn show_handoff(rt: &HostRuntime, name: &str, handoff: &Handoff<Global>) -> io::Result<()> {
+pub fn show_handoff(rt: &HostRuntime, name: &str, handoff: &Handoff<Global>) -> io::Result<()> {
     let entry = handoff.registers().entry();
     let count = handoff.len();
     println!(rt; "{name}: {count} parts, entered at {entry:x}")
