@@ -1,12 +1,28 @@
 //! What a menu offers.
+ghost use Rattle.std.specs.Prelude.{◌≡◌, ◌↔◌, IfOk, IfSome, IsTrue};
+ghost use Rattle.bl_load.specs.Value.{file_count, IsCopy, IsWithinLimits};
+
 use bl_mem::Bytes;
-use std::alloc::Allocator;
+use bl_plan::{MAX_COPY, MAX_MODULES};
+use std::alloc::{AllocError, Allocator};
 
 /// A module of a Multiboot2 entry: a file of the menu, by its index, and the module's line.
 #[derive(Drop)]
 pub struct Module<A: Allocator> {
     pub file: u32,
     pub line: Bytes<A>,
+}
+
+impl<A: Allocator> Module<A> {
+    /// A module with a copy of its line.
+    pub fn new(alloc: A, file: u32, line: &[u8]) -> Result<Module<A>, AllocError>
+        ensures { IfOk result (λ module. module ≡ record { file = file; line = line.now }) }
+    {
+        Ok(Module {
+            file,
+            line: Bytes::copy(alloc, line)?,
+        })
+    }
 }
 
 /// An entry. Files are named by their index; those of an entry are the kernel, and then the modules
@@ -30,4 +46,48 @@ pub enum Entry<A: Allocator> {
         initrd: Option<u32>,
         wide: bool,
     },
+}
+
+/// Whether there is no copy of an RSDP, or one of 1 to 256 bytes.
+fn is_copy<A: Allocator>(copy: &Option<Bytes<A>>) -> bool
+    ensures { IsTrue result ↔ IfSome copy.now IsCopy }
+{
+    match copy {
+        Some(bytes) => !bytes.is_empty() && bytes.len() <= MAX_COPY,
+        None => true,
+    }
+}
+
+impl<A: Allocator> Entry<A> {
+    /// How many files it has: the kernel, and the modules or the initial ramdisk. `prepare` takes
+    /// as many.
+    pub fn file_count(&self) -> usize
+        ensures { result ≡ file_count self.now }
+    {
+        match self {
+            Entry::Multiboot2 { modules, .. } => 1 + modules.len(),
+            Entry::Linux { initrd: None, .. } => 1,
+            Entry::Linux {
+                initrd: Some(_),
+                ..
+            } => 2,
+        }
+    }
+
+    /// Whether it has at most 64 modules, and copies of an RSDP of 1 to 256 bytes, as `prepare`
+    /// requires. Each entry of a menu is so.
+    #[tactic(auto, unfolding(crate::specs::Value::IsWithinLimits))]
+    pub fn is_within_limits(&self) -> bool
+        ensures { IsTrue result ↔ IsWithinLimits self.now }
+    {
+        match self {
+            Entry::Multiboot2 {
+                modules,
+                rsdp_old,
+                rsdp_new,
+                ..
+            } => modules.len() <= MAX_MODULES && is_copy(rsdp_old) && is_copy(rsdp_new),
+            Entry::Linux { .. } => true,
+        }
+    }
 }

@@ -1,15 +1,15 @@
 //! Entries of rows, prepared and loaded: `multiboot2 line=BYTES module=BYTES:BYTES ..
 //! rsdp_old=BYTES rsdp_new=BYTES` or `linux line=BYTES initrd=BYTES`.
-ghost use Rattle.std.specs.Prelude.{◌≡◌, ◌+◌, ◌≤◌, length, map, All, IfSome, IsTrue};
+ghost use Rattle.std.specs.Prelude.{◌≡◌, ◌+◌, ◌≤◌, length, map, All, IfSome};
 ghost use Rattle.bl_load.specs.Loadable.{lengths_of, IsLoadable};
-ghost use Rattle.bl_load.specs.Value.{file_count, IsCopy, IsWithinLimits};
+ghost use Rattle.bl_load.specs.Value.{file_count, IsWithinLimits};
 
 use crate::entry::{EntryField, ModuleField, protocol_of};
 use crate::refusal::say_fault;
-use bl_load::{Entry, Handoff, MAX_COPY, Plan, load, prepare};
+use bl_load::{Entry, Handoff, Plan, load, prepare};
 use bl_map::Machine;
-use bl_mem::{Bytes, Flat, SliceView, Views};
-use bl_plan::{MAX_MODULES, Protocol};
+use bl_mem::{Flat, SliceView, Views};
+use bl_plan::Protocol;
 use bl_refusing::Refusing;
 use bl_rows::row::Row;
 
@@ -77,43 +77,6 @@ impl RowEntry {
     }
 }
 
-/// Whether there is no copy of an RSDP, or one of 1 to 256 bytes.
-fn may_stand(copy: &Option<Bytes<&Refusing>>) -> bool
-    ensures { IsTrue result → IfSome copy.now IsCopy }
-{
-    match copy {
-        Some(bytes) => 1 <= bytes.len() && bytes.len() <= MAX_COPY,
-        None => true,
-    }
-}
-
-/// Whether an entry has so many files, no more modules than it may have, and no copy of another
-/// length than it may have.
-#[tactic(auto, unfolding(bl_load::specs::Value::IsWithinLimits))]
-fn has_files(entry: &Entry<&Refusing>, files: usize) -> bool
-    ensures files { IsTrue result → files ≡ file_count entry.now }
-    ensures limits { IsTrue result → IsWithinLimits entry.now }
-{
-    match entry {
-        Entry::Multiboot2 {
-            modules,
-            rsdp_old,
-            rsdp_new,
-            ..
-        } => {
-            modules.len() <= MAX_MODULES
-                && files == 1 + modules.len()
-                && may_stand(rsdp_old)
-                && may_stand(rsdp_new)
-        }
-        Entry::Linux { initrd: None, .. } => files == 1,
-        Entry::Linux {
-            initrd: Some(_),
-            ..
-        } => files == 2,
-    }
-}
-
 /// The entry, which has so many files. Where it can't be had, why is the answer.
 pub fn entry_of<'h>(
     row: &mut Row<'_>,
@@ -128,7 +91,7 @@ pub fn entry_of<'h>(
         row.say("no memory");
         return None;
     };
-    if !has_files(&entry, files) {
+    if entry.file_count() != files || !entry.is_within_limits() {
         row.refuse();
         return None;
     }

@@ -1,12 +1,11 @@
 //! Why there is no menu.
-ghost use Rattle.std.specs.Prelude.{◌≡◌, ◌↔◌, All, IfSome, IsTrue};
-ghost use Rattle.bl_load.specs.Value.{IsCopy, IsWithinLimits};
+ghost use Rattle.std.specs.Prelude.{◌≡◌, ◌↔◌, All, IsTrue};
+ghost use Rattle.bl_load.specs.Value.{IsWithinLimits};
 ghost use Rattle.bl_session.specs.Attempts.{IsSmall, NameEntries};
 ghost use Rattle.bl_session.specs.declared.menu.fault.MenuFault.TheVariants.{NoMemory};
 
-use bl_load::{Entry, MAX_COPY};
-use bl_mem::Bytes;
-use bl_plan::{MAX_ENTRIES, MAX_MODULES};
+use bl_load::Entry;
+use bl_plan::MAX_ENTRIES;
 use std::alloc::{AllocError, AllocFailed, Allocator};
 use thiserror::Error;
 
@@ -53,38 +52,13 @@ impl<T: Drop> From<AllocFailed<T>> for MenuFault {
     }
 }
 
-/// Whether a copy of the RSDP, if there is one, has 1 to 256 bytes.
-fn is_copy<A: Allocator>(copy: &Option<Bytes<A>>) -> bool
-    ensures { IsTrue result ↔ IfSome copy.now IsCopy }
-{
-    match copy {
-        Some(bytes) => !bytes.is_empty() && bytes.len() <= MAX_COPY,
-        None => true,
-    }
-}
-
-/// Whether an entry has at most 64 modules, and copies of 1 to 256 bytes.
-#[tactic(auto, unfolding(bl_load::specs::Value::IsWithinLimits))]
-fn is_within_limits<A: Allocator>(entry: &Entry<A>) -> bool
-    ensures { IsTrue result ↔ IsWithinLimits entry.now }
-{
-    match entry {
-        Entry::Multiboot2 {
-            modules,
-            rsdp_old,
-            rsdp_new,
-            ..
-        } => modules.len() <= MAX_MODULES && is_copy(rsdp_old) && is_copy(rsdp_new),
-        Entry::Linux { .. } => true,
-    }
-}
-
+/// Whether each entry has at most 64 modules, and copies of 1 to 256 bytes.
 fn are_within_limits<A: Allocator>(entries: &[Entry<A>]) -> bool
     ensures { IsTrue result ↔ All IsWithinLimits entries.now }
 {
     match entries {
         [] => true,
-        [entry, rest @ ..] => is_within_limits(entry) && are_within_limits(rest),
+        [entry, rest @ ..] => entry.is_within_limits() && are_within_limits(rest),
     }
 }
 

@@ -1,0 +1,101 @@
+//! Runs the programs on what they boot, and prints what comes of it.
+ghost use Rattle.std.specs.Prelude.{◌≡◌, length};
+
+use crate::by_hand::boot_by_hand;
+use crate::check::check_image;
+use crate::disk::Disk;
+use crate::guest::{guest_machine, load_guest};
+use crate::menu::{KERNEL, SIZE, machine, menu};
+use bl_image::{MemSink, write_image};
+use bl_load::{Entry, Handoff};
+use bl_mem::{Bytes, Flat, PhysMem, SliceView};
+use bl_session::{Session, run};
+use std::alloc::Global;
+use std::io;
+
+/// The files of the menu, by their index: no kernel, a kernel, its module.
+const FILES: [&[u8]; 3] = [b"no kernel", &KERNEL, b"hello"];
+
+/// Loads the kernel into a guest's memory.
+pub fn show_guest(rt: &HostRuntime) -> io::Result<()> {
+    let alloc = rt.alloc();
+    let Ok(machine) = guest_machine(alloc, SIZE) else {
+        return rt.println("guest: no machine");
+    };
+    let entry = Entry::Multiboot2 {
+        kernel: 0,
+        line: Bytes::copy(alloc, b"guest")?,
+        modules: Vec::new(alloc),
+        rsdp_old: None,
+        rsdp_new: None,
+    };
+    let mut memory = Vec::from_elem(alloc, 0u8, machine.size() as usize)?;
+    let files = [SliceView::new(&KERNEL)];
+    match load_guest(alloc, &machine, memory.as_mut_slice(), &entry, &files) {
+        Ok(handoff) => show_handoff(rt, "guest", &handoff),
+        Err(fault) => println!(rt; "guest: {fault}"),
+    }
+}
+
+/// How many parts, and where the kernel is entered.
+pub fn show_handoff(rt: &HostRuntime, name: &str, handoff: &Handoff<Global>) -> io::Result<()> {
+    let entry = handoff.registers().entry();
+    let count = handoff.len();
+    println!(rt; "{name}: {count} parts, entered at {entry:x}")
+}
+
+/// Writes the image of what was booted, checks it, and prints how long it is.
+fn show_image<M: PhysMem>(rt: &HostRuntime, memory: &M, handoff: &Handoff<Global>) -> io::Result<()> {
+    let alloc = rt.alloc();
+    let mut sink = MemSink::new(alloc, 65536, 65536)?;
+    if let Err(fault) = write_image(handoff, memory, &mut sink) {
+        return println!(rt; "no image: {fault}");
+    }
+    let bytes = Vec::from_slice(alloc, sink.contents())?;
+    let len = bytes.len();
+    match check_image(alloc, bytes) {
+        Ok(image) => println!(rt; "checked: {len} bytes, {} parts", image.len()),
+        Err(fault) => println!(rt; "{fault}"),
+    }
+}
+
+/// Boots the menu by events.
+pub fn show_by_hand(rt: &HostRuntime) -> io::Result<()> {
+    let alloc = rt.alloc();
+    let Ok(machine) = machine(alloc) else {
+        return rt.println("by hand: no machine");
+    };
+    let Ok(menu) = menu(alloc) else {
+        return rt.println("by hand: no menu");
+    };
+    let mut memory = Flat::new(alloc, machine.size(), 0xA5)?;
+    let mut session = Session::new(alloc, &machine, &menu, &[Some(9), Some(160), Some(5)])?;
+    let progress = boot_by_hand(&mut memory, &mut session, &FILES);
+    println!(rt; "by hand: {progress:?}")?;
+    match session.into_outcome() {
+        Some(Ok(outcome)) => show_image(rt, &memory, &outcome.handoff),
+        Some(Err(_)) => rt.println("by hand: refused"),
+        None => rt.println("by hand: waits"),
+    }
+}
+
+/// Boots the menu over the disk.
+pub fn show_disk(rt: &HostRuntime) -> io::Result<()> {
+    let alloc = rt.alloc();
+    let Ok(machine) = machine(alloc) else {
+        return rt.println("disk: no machine");
+    };
+    let Ok(menu) = menu(alloc) else {
+        return rt.println("disk: no menu");
+    };
+    let mut memory = Flat::new(alloc, machine.size(), 0)?;
+    let files = [Some(FILES[0]), Some(FILES[1]), Some(FILES[2])];
+    let mut disk = Disk::new(alloc, &files);
+    match run(alloc, &mut memory, &mut disk, &machine, &menu) {
+        Ok(outcome) => {
+            show_handoff(rt, "disk", &outcome.handoff)?;
+            show_image(rt, &memory, &outcome.handoff)
+        }
+        Err(fault) => println!(rt; "disk: fault {}", fault.number()),
+    }
+}
