@@ -5,7 +5,7 @@ use Rattle.std.proofs.Common.{Result, Ok, Err, IfOk, refl, sym, ap, subst, ◌�
 use Rattle.std.proofs.lemmas.List.{drop_more, drop_all}
 use Rattle.bl_map.specs.MachineFacts.{MachineFacts}
 use Rattle.bl_load.specs.declared.refusal.Refusal.{Refusal}
-use Rattle.bl_stage.specs.Spots.{Spot, spots}
+use Rattle.bl_stage.specs.PieceStates.{PieceState, piece_states}
 use Rattle.bl_session.specs.declared.attempt.Attempt.{Attempt}
 use Rattle.bl_session.specs.declared.attempt.Attempt.TheVariants as attempt
 use Rattle.bl_session.specs.declared.attempt.AttemptEnd.TheVariants as ended
@@ -25,7 +25,7 @@ abbrev pub state_by : {A : Type 0}
     → (entry : ℕ) (rest : List ℕ) (earlier : List RefusedEntry) (bytes : List ℕ) → State → Attempt A
     → State
 state_by entry rest earlier bytes later (attempt.Waits stage) =
-    running entry rest earlier (spots bytes stage)
+    running entry rest earlier (piece_states bytes stage)
 state_by entry rest earlier bytes later (attempt.Ended (ended.HandedOver handoff)) =
     handed_over entry earlier (handover_held bytes handoff)
 state_by entry rest earlier bytes later (attempt.Ended (ended.Refused refusal)) = later
@@ -43,7 +43,7 @@ by_test : (b : Bool) (tested : Bool) (P Q : Type 0) → tested ≡ b → MatchBo
 by_test b tested P Q e h = subst (λ (x : Bool). MatchBool x P Q) (sym e) h
 
 pub continues : {A : Type 0} (facts : BootFacts) (next : List RefusedEntry → State → Type 0)
-    (entry : ℕ) (rest : List ℕ) (earlier : List RefusedEntry) (files : List (List Spot))
+    (entry : ℕ) (rest : List ℕ) (earlier : List RefusedEntry) (files : List (List PieceState))
     (bytes : List ℕ) (later : State) (one : Attempt A)
     → IsAttempt facts.machine (entry_at facts.menu entry) files bytes one
     → LeadsOn next entry earlier later one
@@ -145,7 +145,8 @@ begins_none facts next earlier h =
 -- an attempt that is refused, where the next ones lead on
 pub continues_later : {A P E : Type 0} (facts : BootFacts)
     (next : List RefusedEntry → State → Type 0) (entry : ℕ) (rest : List ℕ)
-    (earlier : List RefusedEntry) (files : List (List Spot)) (bytes : List ℕ) (got : Attempt A)
+    (earlier : List RefusedEntry) (files : List (List PieceState)) (bytes : List ℕ)
+    (got : Attempt A)
     (refusal : Refusal)
     (result : Result P E) (state : P → State)
     → IsAttempt facts.machine (entry_at facts.menu entry) files bytes got
@@ -165,7 +166,7 @@ continues_later {A} facts next entry rest earlier files bytes got refusal (Ok ph
 
 -- an attempt as its entry is offered
 pub attempt_of_entry : {A : Type 0} (facts : MachineFacts) (menu : MenuFacts) (entry : ℕ)
-    (offered : EntryFacts) (files : List (List Spot)) (bytes : List ℕ) (got one : Attempt A)
+    (offered : EntryFacts) (files : List (List PieceState)) (bytes : List ℕ) (got one : Attempt A)
     → offered ≡ entry_at menu entry → IsAttempt facts offered files bytes got → got ≡ one
     → IsAttempt facts (entry_at menu entry) files bytes one
 attempt_of_entry {A} facts menu entry offered files bytes got one same is got_is =

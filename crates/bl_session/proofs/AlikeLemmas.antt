@@ -5,7 +5,7 @@ use Rattle.std.proofs.Common.{inr}
 use Rattle.bl_map.specs.MachineFacts.{MachineFacts}
 use Rattle.bl_load.specs.declared.refusal.Refusal.{Refusal}
 use Rattle.bl_load.specs.declared.refusal.Refusal.TheVariants.{FileFault}
-use Rattle.bl_stage.specs.Spots.{Spot, came_bytes}
+use Rattle.bl_stage.specs.PieceStates.{PieceState, came_bytes}
 use Rattle.bl_session.specs.declared.words.RefusedEntry.{RefusedEntry}
 use Rattle.bl_session.specs.AttemptResult.{AttemptResult, handed, refused, HasResult, size_refusal}
 use Rattle.bl_session.specs.AttemptResult.{known_lengths}
@@ -61,7 +61,7 @@ goes_alike next more leads entry earlier (refused refusal) new goes =
 
 continues_alike : (f g : BootFacts) → AreAlike f g → (next more : Continuation)
     → ((r : List RefusedEntry) (s : State) → next r s → more r s)
-    → (entry : ℕ) (rest : List ℕ) (earlier : List RefusedEntry) (files : List (List Spot))
+    → (entry : ℕ) (rest : List ℕ) (earlier : List RefusedEntry) (files : List (List PieceState))
     (new : State)
     → Continues f next entry rest earlier files new → Continues g more entry rest earlier files new
 continues_alike f g alike next more leads entry rest earlier files new goes =
@@ -111,7 +111,7 @@ begins_alike f g alike (entry ∷ rest) earlier new goes =
 -- ---- one event
 
 takes_alike : (f g : BootFacts) → AreAlike f g
-    → (entry : ℕ) (rest : List ℕ) (earlier : List RefusedEntry) (files : List (List Spot))
+    → (entry : ℕ) (rest : List ℕ) (earlier : List RefusedEntry) (files : List (List PieceState))
     (event : EventFacts) (new : State)
     → Takes f entry rest earlier files event new → Takes g entry rest earlier files event new
 takes_alike f g alike entry rest earlier files (piece ticket bytes) new goes =

@@ -3,7 +3,7 @@ use Rattle.std.proofs.Common.{◌≡◌, ◌≢◌, ◌↔◌, ℕ, Bool, true, 
 use Rattle.std.proofs.Common.{subst, ◌∙◌}
 use Rattle.std.specs.declared.ops.Range.{Range}
 use Rattle.bl_stage.specs.Ranges.{IsSameOutside}
-use Rattle.bl_stage.specs.Spots.{spots}
+use Rattle.bl_stage.specs.PieceStates.{piece_states}
 use Rattle.bl_session.specs.declared.words.Ticket.{Ticket}
 use Rattle.bl_session.specs.declared.words.Progress.{Progress}
 use Rattle.bl_session.specs.declared.words.Progress.TheVariants.{Waiting}
@@ -28,7 +28,8 @@ pub event_piece : (files : List File) (given : List Item) (phase : PhaseFacts) (
     × ((genuine ≡ true) ↔ IsPieceOf files (file_under given ticket) ticket.piece bytes)
     → IsEventOf files given (state_at before phase) item (piece ticket bytes)
 event_piece files given (waits entry rest earlier stage) before ticket bytes item w is =
-    subst (λ (i : Item). IsAnswer files given earlier (spots before stage) i (piece ticket bytes))
+    subst (λ (i : Item). IsAnswer files given earlier (piece_states before stage) i
+    (piece ticket bytes))
     (sym is.1) (bytes, refl, refl, is.2)
 event_piece files given not_started before ticket bytes item w is = absurd cc
 event_piece files given (hands_over n refusals handoff) before ticket bytes item w is = absurd cc
@@ -39,7 +40,7 @@ pub event_fault : (files : List File) (given : List Item) (phase : PhaseFacts) (
     (ticket : Ticket) (item : Item) → is_waiting phase ≡ true → item ≡ failed ticket
     → IsEventOf files given (state_at before phase) item (fault ticket)
 event_fault files given (waits entry rest earlier stage) before ticket item w is =
-    subst (λ (i : Item). IsAnswer files given earlier (spots before stage) i (fault ticket))
+    subst (λ (i : Item). IsAnswer files given earlier (piece_states before stage) i (fault ticket))
     (sym is) refl
 event_fault files given not_started before ticket item w is = absurd cc
 event_fault files given (hands_over n refusals handoff) before ticket item w is = absurd cc
@@ -51,7 +52,7 @@ pub event_lost : (files : List File) (given : List Item) (phase : PhaseFacts) (b
     → missing_in (state_at before phase) ≡ Some ticket
     → IsEventOf files given (state_at before phase) item (fault ticket)
 event_lost files given (waits entry rest earlier stage) before ticket item w is first =
-    subst (λ (i : Item). IsAnswer files given earlier (spots before stage) i (fault ticket))
+    subst (λ (i : Item). IsAnswer files given earlier (piece_states before stage) i (fault ticket))
     (sym is) (ticket, first, refl)
 event_lost files given not_started before ticket item w is first = absurd cc
 event_lost files given (hands_over n refusals handoff) before ticket item w is first = absurd cc
@@ -64,7 +65,8 @@ pub lost : (facts : BootFacts) (old new : PhaseFacts) (before after : List ℕ) 
     → StepsOrFails facts (state_at before old) (fault ticket) (state_at after new)
     → p ≡ progress (attempt_of (state_at before old)) (state_at after new) → p ≢ Waiting
 lost facts (waits entry rest earlier stage) new before after ticket p w first step told = λ e.
-    lost_ends facts entry rest earlier (spots before stage) ticket (state_at after new) first step
+    lost_ends facts entry rest earlier (piece_states before stage) ticket (state_at after new) first
+    step
     (sym told ∙ e)
 lost facts not_started new before after ticket p w first step told = absurd cc
 lost facts (hands_over n refusals handoff) new before after ticket p w first step told = absurd cc

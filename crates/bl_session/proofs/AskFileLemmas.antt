@@ -5,7 +5,7 @@ use Rattle.std.specs.List.{range_with_len}
 use Rattle.std.proofs.lemmas.List.{drop_more, drop_all}
 use Rattle.bl_map.specs.Room.{frames_of}
 use Rattle.bl_stage.specs.Staged.{Staging}
-use Rattle.bl_stage.specs.Spots.{Spot, spots, spots_of}
+use Rattle.bl_stage.specs.PieceStates.{PieceState, piece_states, piece_states_of}
 use Rattle.bl_session.specs.History.{Item}
 use Rattle.bl_session.specs.declared.words.RefusedEntry.{RefusedEntry}
 use Rattle.bl_session.specs.Boot.{BootFacts}
@@ -13,7 +13,7 @@ use Rattle.bl_session.specs.Menu.{entry_at}
 use Rattle.bl_session.specs.Orders.{piece_orders, file_orders, orders}
 use Rattle.bl_session.specs.Phases.{PhaseFacts, waits, state_at}
 use Rattle.bl_session.specs.Turns.{IsAsked}
-use Rattle.bl_session.proofs.SpotLemmas.{length-spots_of}
+use Rattle.bl_session.proofs.PieceStateLemmas.{length-piece_states_of}
 use Rattle.bl_session.proofs.AskLemmas.{asked_on, asked_part, asked_all}
 
 -- ---- the files of an attempt
@@ -25,7 +25,7 @@ sized_orders attempt place (file ∷ files) [] = []
 sized_orders attempt place (file ∷ files) (size ∷ sizes) =
     piece_orders attempt place file (frames_of size) ++ sized_orders attempt (place + 1) files sizes
 
-sized_by : (S : ℕ → List Spot) (attempt place start : ℕ) (files sizes : List ℕ)
+sized_by : (S : ℕ → List PieceState) (attempt place start : ℕ) (files sizes : List ℕ)
     → ((k : ℕ) → k < length sizes → length (S (start + k)) ≡ frames_of (get_or sizes k 0))
     → file_orders attempt place files (map S (range_with_len start (length sizes)))
     ≡ sized_orders attempt place files sizes
@@ -46,11 +46,12 @@ sized_by S attempt place start (file ∷ files) (size ∷ sizes) h =
     ∙ ap (λ (l : List Item). piece_orders attempt place file (frames_of size) ++ l) more
 
 pub orders_sized : (bytes : List ℕ) (stage : Staging) (attempt : ℕ) (files : List ℕ)
-    → file_orders attempt 0 files (spots bytes stage) ≡ sized_orders attempt 0 files stage.sizes
+    → file_orders attempt 0 files (piece_states bytes stage)
+    ≡ sized_orders attempt 0 files stage.sizes
 orders_sized bytes stage attempt files =
-    sized_by (λ file. spots_of bytes stage file) attempt 0 0 files stage.sizes
+    sized_by (λ file. piece_states_of bytes stage file) attempt 0 0 files stage.sizes
     (λ k h. let same : 0 + k ≡ k = omega arith in
-    ap (λ n. length (spots_of bytes stage n)) same ∙ length-spots_of bytes stage k)
+    ap (λ n. length (piece_states_of bytes stage n)) same ∙ length-piece_states_of bytes stage k)
 
 sized_next : (attempt place : ℕ) (files sizes : List ℕ) → place < length files
     → place < length sizes
@@ -106,7 +107,7 @@ pub asked_files : (bytes : List ℕ) (stage : Staging) (attempt place : ℕ) (fi
     (old new : List Item) → length files ≤ place
     → IsAsked (sized_orders attempt 0 files stage.sizes)
     (sized_orders attempt place (drop place files) (drop place stage.sizes)) old new
-    → new ≡ old ++ file_orders attempt 0 files (spots bytes stage)
+    → new ≡ old ++ file_orders attempt 0 files (piece_states bytes stage)
 asked_files bytes stage attempt place files old new h a =
     let none : sized_orders attempt place (drop place files) (drop place stage.sizes) ≡ [] =
     ap (λ (fs : List ℕ). sized_orders attempt place fs (drop place stage.sizes))
@@ -118,7 +119,8 @@ asked_files bytes stage attempt place files old new h a =
 pub asked_sized : (bytes : List ℕ) (stage : Staging) (attempt : ℕ) (files : List ℕ)
     (old new : List Item)
     → (rest : List Item) × IsAsked (sized_orders attempt 0 files stage.sizes) rest old new
-    → (rest : List Item) × IsAsked (file_orders attempt 0 files (spots bytes stage)) rest old new
+    → (rest : List Item) × IsAsked (file_orders attempt 0 files (piece_states bytes stage)) rest old
+    new
 asked_sized bytes stage attempt files old new a = (
   a.0,
   subst (λ (l : List Item). IsAsked l a.0 old new)
@@ -134,7 +136,7 @@ pub asked_in : {T E : Type 0} (result : Result T E) (facts : BootFacts) (phase :
     → OnErr result
     ((bytes : List ℕ)
     → (left : List Item)
-    × IsAsked (file_orders number 0 files (spots bytes stage)) left old new)
+    × IsAsked (file_orders number 0 files (piece_states bytes stage)) left old new)
     → OnErr result
     ((bytes : List ℕ)
     → (left : List Item) × IsAsked (orders facts (state_at bytes phase)) left old new)
@@ -143,9 +145,9 @@ asked_in (Ok x) facts phase entry rest earlier stage number files old new is num
 asked_in (Err e) facts phase entry rest earlier stage number files old new is number_is files_is
     asked = λ bytes.
     let one = asked bytes in
-    let same : file_orders number 0 files (spots bytes stage)
+    let same : file_orders number 0 files (piece_states bytes stage)
     ≡ orders facts (state_at bytes phase) =
-    ap (λ n. file_orders n 0 files (spots bytes stage)) number_is
-    ∙ ap (λ (fs : List ℕ). file_orders (length earlier) 0 fs (spots bytes stage)) files_is
+    ap (λ n. file_orders n 0 files (piece_states bytes stage)) number_is
+    ∙ ap (λ (fs : List ℕ). file_orders (length earlier) 0 fs (piece_states bytes stage)) files_is
     ∙ sym (ap (λ (p : PhaseFacts). orders facts (state_at bytes p)) is) in
     (one.0, subst (λ (l : List Item). IsAsked l one.0 old new) same one.1)

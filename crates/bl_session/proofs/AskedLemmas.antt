@@ -4,7 +4,7 @@ use Rattle.std.proofs.Common.{◌++◌, length, get_or, None, Some, sym, ap, sub
 use Rattle.std.proofs.Common.{arith}
 use Rattle.std.proofs.lemmas.Bool.Decides.{nat_tests}
 use Rattle.std.proofs.lemmas.List.{append-nil}
-use Rattle.bl_stage.specs.Spots.{Spot}
+use Rattle.bl_stage.specs.PieceStates.{PieceState}
 use Rattle.bl_session.specs.declared.words.RefusedEntry.{RefusedEntry}
 use Rattle.bl_session.specs.declared.words.Ticket.{Ticket}
 use Rattle.bl_session.specs.Menu.{entry_at}
@@ -61,7 +61,8 @@ asked_same facts items more out_of_memory same asked = tt
 
 -- so does a piece
 asked_piece : (facts : BootFacts) (items : List Item) (entry : ℕ) (rest : List ℕ)
-    (earlier : List RefusedEntry) (files : List (List Spot)) (ticket : Ticket) (bytes : List ℕ)
+    (earlier : List RefusedEntry) (files : List (List PieceState)) (ticket : Ticket)
+    (bytes : List ℕ)
     → AreAsked facts items (running entry rest earlier files)
     → AreAsked facts items
     (running entry rest earlier (with_piece files ticket.file ticket.piece bytes))
@@ -88,19 +89,23 @@ on_same facts items old new e asked =
     asked
 
 on_new : (facts : BootFacts) (items : List Item) (entry : ℕ) (rest : List ℕ)
-    (earlier : List RefusedEntry) (files : List (List Spot)) (new : State)
+    (earlier : List RefusedEntry) (files : List (List PieceState)) (new : State)
     → IsNewFrom facts (length rest) (length earlier + 1) new
     → AreAsked facts (items ++ orders_after facts (running entry rest earlier files) new) new
 on_new facts items entry rest earlier files unstarted is = tt
-on_new facts items entry rest earlier files (running index others before spots) is =
+on_new facts items entry rest earlier files (running index others before piece_states) is =
     let low = is.0 in
     let other : (length before == length earlier) ≡ false = grind (arith, nat_tests) in
     let owed : orders_after facts (running entry rest earlier files)
-    (running index others before spots) ≡ orders facts (running index others before spots) =
-    ap (λ (b : Bool). if b then [] else orders facts (running index others before spots)) other in
-    subst (λ (xs : List Item). AreAsked facts (items ++ xs) (running index others before spots))
+    (running index others before piece_states)
+    ≡ orders facts (running index others before piece_states) =
+    ap (λ (b : Bool). if b then [] else orders facts (running index others before piece_states))
+    other in
+    subst (λ (xs : List Item). AreAsked facts (items ++ xs)
+    (running index others before piece_states))
     (sym owed)
-    (asked_new facts items (length rest) (length earlier + 1) (running index others before spots)
+    (asked_new facts items (length rest) (length earlier + 1)
+    (running index others before piece_states)
     is)
 on_new facts items entry rest earlier files (handed_over index before handover) is = tt
 on_new facts items entry rest earlier files (none_left before) is = tt
@@ -108,7 +113,8 @@ on_new facts items entry rest earlier files out_of_memory is = tt
 
 -- each step keeps it, once what it asks for was asked for
 pub asked_step : (facts : BootFacts) (items : List Item) (entry : ℕ) (rest : List ℕ)
-    (earlier : List RefusedEntry) (files : List (List Spot)) (event : EventFacts) (new : State)
+    (earlier : List RefusedEntry) (files : List (List PieceState)) (event : EventFacts)
+    (new : State)
     → AreAsked facts items (running entry rest earlier files)
     → Steps facts (running entry rest earlier files) event new
     → AreAsked facts (items ++ orders_after facts (running entry rest earlier files) new) new

@@ -8,7 +8,7 @@ use Rattle.bl_load.specs.declared.entry.Entry.TheVariants.{Multiboot2, Linux}
 use Rattle.bl_load.specs.declared.refusal.Refusal.{Refusal}
 use Rattle.bl_load.specs.Value.{EntryValue, value_of}
 use Rattle.bl_stage.specs.Staged.{Staging, AreStaged, AllCame, staged_texts}
-use Rattle.bl_stage.specs.Spots.{Spot, spots, came_bytes}
+use Rattle.bl_stage.specs.PieceStates.{PieceState, piece_states, came_bytes}
 use Rattle.bl_session.specs.AttemptResult.{AttemptResult, HasResult, size_refusal, known_lengths}
 use Rattle.bl_session.specs.Menu.{EntryFacts, facts_of, value_with}
 use Rattle.bl_session.specs.Pieces.{are_whole, awaited}
@@ -29,19 +29,20 @@ by_whole false P holds none = refl
 
 -- a stage that lacks a piece is not whole
 pub not_whole : (bytes : List ℕ) (stage : Staging) (complete : Bool) → AreStaged stage
-    → (IsTrue complete ↔ AllCame stage) → complete ≡ false → are_whole (spots bytes stage) ≡ false
+    → (IsTrue complete ↔ AllCame stage) → complete ≡ false
+    → are_whole (piece_states bytes stage) ≡ false
 not_whole bytes stage complete kept exact is =
-    by_whole (are_whole (spots bytes stage)) (AllCame stage) (whole_came bytes stage kept)
+    by_whole (are_whole (piece_states bytes stage)) (AllCame stage) (whole_came bytes stage kept)
     (λ came. absurd (let e : complete ≡ true = exact.1 came in cc))
 
--- what is known of the texts is known of the spots
-pub ends_by_spots : {A : Type 0} (facts : MachineFacts) (entry : Entry A) (bytes : List ℕ)
+-- what is known of the texts is known of the pieces
+pub ends_by_piece_states : {A : Type 0} (facts : MachineFacts) (entry : Entry A) (bytes : List ℕ)
     (stage : Staging) (end : AttemptResult) → AreStaged stage → AllCame stage
     → HasResult facts (value_of (staged_texts bytes stage) entry) end
-    → HasResult facts (value_with (facts_of entry) (map came_bytes (spots bytes stage))) end
-ends_by_spots facts entry bytes stage end kept came ends =
+    → HasResult facts (value_with (facts_of entry) (map came_bytes (piece_states bytes stage))) end
+ends_by_piece_states facts entry bytes stage end kept came ends =
     let value : value_of (staged_texts bytes stage) entry
-    ≡ value_with (facts_of entry) (map came_bytes (spots bytes stage)) =
+    ≡ value_with (facts_of entry) (map came_bytes (piece_states bytes stage)) =
     sym
     (ap (value_with (facts_of entry)) (whole_texts bytes stage kept came)
     ∙ value_is entry (staged_texts bytes stage)) in
@@ -51,12 +52,13 @@ ends_by_spots facts entry bytes stage end kept came ends =
 pub begun_staged : {A : Type 0} (facts : MachineFacts) (entry : EntryFacts)
     (sizes : List (Option ℕ)) (old new : List ℕ) (stage : Staging) (attempt : Attempt A)
     → size_refusal facts sizes ≡ None → IsFresh facts sizes stage
-    → IsAttempt facts entry (spots old stage) new attempt → IsAttemptBegun facts entry sizes new attempt
+    → IsAttempt facts entry (piece_states old stage) new attempt
+    → IsAttemptBegun facts entry sizes new attempt
 begun_staged facts entry sizes old new stage attempt none begun is =
-    let same : spots old stage ≡ awaited (known_lengths sizes) =
-    ap (spots old) begun.1 ∙ first_awaited old facts.pool (known_lengths sizes) begun.0 in
+    let same : piece_states old stage ≡ awaited (known_lengths sizes) =
+    ap (piece_states old) begun.1 ∙ first_awaited old facts.pool (known_lengths sizes) begun.0 in
     subst
     (λ (o : Option Refusal).
     MatchOption o (IsAttempt facts entry (awaited (known_lengths sizes)) new attempt)
     (IsRefusedFor attempt)) (sym none)
-    (subst (λ (files : List (List Spot)). IsAttempt facts entry files new attempt) same is)
+    (subst (λ (files : List (List PieceState)). IsAttempt facts entry files new attempt) same is)

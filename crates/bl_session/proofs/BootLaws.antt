@@ -3,7 +3,7 @@ use Rattle.std.proofs.Common.{◌≡◌, ℕ, Bool, true, false, MatchBool, List
 use Rattle.std.proofs.Common.{Some, None, sym, ◌∙◌, refl, map}
 use Rattle.bl_load.specs.declared.refusal.Refusal.{Refusal}
 use Rattle.bl_load.specs.declared.refusal.Refusal.TheVariants.{FileFault}
-use Rattle.bl_stage.specs.Spots.{Spot, came_bytes}
+use Rattle.bl_stage.specs.PieceStates.{PieceState, came_bytes}
 use Rattle.bl_session.specs.declared.words.RefusedEntry.{RefusedEntry}
 use Rattle.bl_session.specs.AttemptResult.{AttemptResult, handed, refused, size_refusal}
 use Rattle.bl_session.specs.Menu.{entry_at, value_with}
@@ -46,7 +46,7 @@ one_whole facts next entry earlier texts one = λ a b (e, p, x) (f, q, y).
     (one_end_in facts.machine (value_with (entry_at facts.menu entry) texts) e f p q) a b x y
 
 one_continues : (facts : BootFacts) (next : List RefusedEntry → State → Type 0) (entry : ℕ)
-    (rest : List ℕ) (earlier : List RefusedEntry) (files : List (List Spot))
+    (rest : List ℕ) (earlier : List RefusedEntry) (files : List (List PieceState))
     → ((r : List RefusedEntry) → IsOne (next r))
     → IsOne (Continues facts next entry rest earlier files)
 one_continues facts next entry rest earlier files one =
@@ -70,7 +70,7 @@ one_begins facts (entry ∷ rest) earlier =
     (size_refusal facts.machine (sizes_of facts entry)) (one_begins facts rest)
 
 one_takes : (facts : BootFacts) (entry : ℕ) (rest : List ℕ) (earlier : List RefusedEntry)
-    (files : List (List Spot)) (event : EventFacts)
+    (files : List (List PieceState)) (event : EventFacts)
     → IsOne (Takes facts entry rest earlier files event)
 one_takes facts entry rest earlier files (piece ticket bytes) =
     one_continues facts (Begins facts rest) entry rest earlier
@@ -127,7 +127,7 @@ some_whole facts next entry earlier texts some =
     (new.0, (end.0, end.1, new.1))
 
 some_continues : (facts : BootFacts) (next : List RefusedEntry → State → Type 0) (entry : ℕ)
-    (rest : List ℕ) (earlier : List RefusedEntry) (files : List (List Spot))
+    (rest : List ℕ) (earlier : List RefusedEntry) (files : List (List PieceState))
     → ((r : List RefusedEntry) → HasOne (next r))
     → HasOne (Continues facts next entry rest earlier files)
 some_continues facts next entry rest earlier files some =
@@ -151,7 +151,7 @@ some_begins facts (entry ∷ rest) earlier =
     (size_refusal facts.machine (sizes_of facts entry)) (some_begins facts rest)
 
 some_takes : (facts : BootFacts) (entry : ℕ) (rest : List ℕ) (earlier : List RefusedEntry)
-    (files : List (List Spot)) (event : EventFacts)
+    (files : List (List PieceState)) (event : EventFacts)
     → HasOne (Takes facts entry rest earlier files event)
 some_takes facts entry rest earlier files (piece ticket bytes) =
     some_continues facts (Begins facts rest) entry rest earlier

@@ -8,7 +8,7 @@ use Rattle.bl_map.specs.MachineFacts.{MachineFacts}
 use Rattle.bl_load.specs.declared.refusal.Refusal.{Refusal}
 use Rattle.bl_load.specs.declared.refusal.Refusal.TheVariants.{FileFault, FileTooLong}
 use Rattle.bl_load.specs.Value.{EntryValue}
-use Rattle.bl_stage.specs.Spots.{waiting_spots}
+use Rattle.bl_stage.specs.PieceStates.{waiting_pieces}
 use Rattle.bl_session.specs.AttemptResult.{AttemptResult, refused, HasResult, AttemptHasResult}
 use Rattle.bl_session.specs.AttemptResult.{OrRefused, size_refusal, file_refusal, pool_refusal}
 use Rattle.bl_session.specs.AttemptResult.{known_lengths, file_limit}
@@ -68,7 +68,7 @@ first_none None b e = refl
 first_none (Some r) b e = absurd cc
 
 fits_read : (sizes : List (Option ℕ)) (texts : List (List ℕ)) → AreRead sizes texts
-    → FitAll (map waiting_spots (known_lengths sizes)) texts
+    → FitAll (map waiting_pieces (known_lengths sizes)) texts
 fits_read [] [] h = tt
 fits_read [] (text ∷ texts) h = absurd h
 fits_read (size ∷ sizes) [] h = absurd h

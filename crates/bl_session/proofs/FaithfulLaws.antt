@@ -18,8 +18,9 @@ module _ (facts : BootFacts) (files : List File) (known : facts.sizes ≡ map si
   genuine_one : (state : State) (given : List Item) (item : Item) (event : EventFacts)
       → Steady facts given state → IsFaithfulItem files given item
       → IsEventOf files given state item event → IsGenuineItem (λ attempt. None) state item event
-  genuine_one (running entry rest earlier spots) given item event steady faithful is =
-      tell_true facts files known entry rest earlier spots given steady item event faithful is
+  genuine_one (running entry rest earlier piece_states) given item event steady faithful is =
+      tell_true facts files known entry rest earlier piece_states given steady item event faithful
+      is
   genuine_one unstarted given item event steady faithful is = tt
   genuine_one (handed_over entry earlier handover) given item event steady faithful is = tt
   genuine_one (none_left earlier) given item event steady faithful is = tt
@@ -29,8 +30,10 @@ module _ (facts : BootFacts) (files : List File) (known : facts.sizes ≡ map si
       → Steady facts given state → IsFaithfulItem files given item
       → IsEventOf files given state item event → StepsOrFails facts state event new
       → Steady facts ((given ++ item ∷ []) ++ orders_after facts state new) new
-  steady_one (running entry rest earlier spots) given item event new steady faithful is goes =
-      hear_any facts files known entry rest earlier spots given steady item event new faithful is
+  steady_one (running entry rest earlier piece_states) given item event new steady faithful is
+      goes =
+      hear_any facts files known entry rest earlier piece_states given steady item event new
+      faithful is
       goes
   steady_one unstarted given item event new steady faithful is goes = absurd is
   steady_one (handed_over entry earlier handover) given item event new steady faithful is goes =

@@ -1,7 +1,7 @@
 -- An answer whose wanted pieces are marked is a genuine event, with the fault that came of it.
 use Rattle.std.proofs.Common.{◌≡◌, ℕ, ◌+◌, ◌≤◌, Bool, true, false, MatchBool, List, [], ◌∷◌, ◌++◌}
 use Rattle.std.proofs.Common.{length, refl, sym, ap, subst, ◌∙◌, inl, inr, arith}
-use Rattle.bl_stage.specs.Spots.{Spot}
+use Rattle.bl_stage.specs.PieceStates.{PieceState}
 use Rattle.bl_session.specs.declared.words.RefusedEntry.{RefusedEntry}
 use Rattle.bl_session.specs.Boot.{BootFacts, EventFacts, State, unstarted, running, handed_over}
 use Rattle.bl_session.specs.Boot.{none_left, out_of_memory, is_wanted, Takes, Steps}
@@ -21,7 +21,7 @@ module _ (facts : BootFacts) (files : List File) where
   -- the attempt of this number is that which runs, or comes later
   abbrev pub IsFrom : State → ℕ → Type 0
   IsFrom unstarted n = ⊥
-  IsFrom (running entry rest earlier spots) n = length earlier ≤ n
+  IsFrom (running entry rest earlier piece_states) n = length earlier ≤ n
   IsFrom (handed_over entry earlier handover) n = ⊥
   IsFrom (none_left earlier) n = ⊥
   IsFrom out_of_memory n = ⊥
@@ -29,7 +29,7 @@ module _ (facts : BootFacts) (files : List File) where
   from_new : (count number : ℕ) (state : State) (n : ℕ) → IsNewFrom facts count number state
       → IsFrom state n → number ≤ n
   from_new count number unstarted n is from = absurd from
-  from_new count number (running entry rest earlier spots) n is from =
+  from_new count number (running entry rest earlier piece_states) n is from =
       let low = is.0 in omega (arith, low, from)
   from_new count number (handed_over entry earlier handover) n is from = absurd from
   from_new count number (none_left earlier) n is from = absurd from
@@ -55,32 +55,35 @@ module _ (facts : BootFacts) (files : List File) where
   -- ---- one answer of an attempt that runs
 
   module _ (given : List Item) (entry : ℕ) (rest : List ℕ) (earlier : List RefusedEntry)
-      (spots : List (List Spot)) (item : Item)
-      (marked : (event : EventFacts) → IsAnswer files given earlier spots item event
-      → is_wanted earlier spots event ≡ true → IsMarked item) where
+      (piece_states : List (List PieceState)) (item : Item)
+      (marked : (event : EventFacts) → IsAnswer files given earlier piece_states item event
+      → is_wanted earlier piece_states event ≡ true → IsMarked item) where
     abbrev here : State
-    here = running entry rest earlier spots
+    here = running entry rest earlier piece_states
 
     -- an event that is wanted is the only one
-    is_event : (a b : EventFacts) → IsAnswer files given earlier spots item a
-        → is_wanted earlier spots a ≡ true → IsAnswer files given earlier spots item b → a ≡ b
-    is_event a b p wanted q = one_event files given earlier spots item a b (marked a p wanted) p q
+    is_event : (a b : EventFacts) → IsAnswer files given earlier piece_states item a
+        → is_wanted earlier piece_states a ≡ true → IsAnswer files given earlier piece_states item b
+        → a ≡ b
+    is_event a b p wanted q =
+        one_event files given earlier piece_states item a b (marked a p wanted) p q
 
     -- it is genuine with these faults
     told_right : (others : Faults) (event other : EventFacts)
-        → IsAnswer files given earlier spots item event
-        → (is_last spots event ≡ true → others (length earlier) ≡ told event)
-        → IsAnswer files given earlier spots item other → is_wanted earlier spots other ≡ true
-        → IsMarked item × AreToldFaults others earlier spots other
+        → IsAnswer files given earlier piece_states item event
+        → (is_last piece_states event ≡ true → others (length earlier) ≡ told event)
+        → IsAnswer files given earlier piece_states item other
+        → is_wanted earlier piece_states other ≡ true
+        → IsMarked item × AreToldFaults others earlier piece_states other
     told_right others event other p is q wanted = (
       marked other q wanted,
-      subst (AreToldFaults others earlier spots) (sym (is_event other event q wanted p))
-          (are_told others earlier spots event is),
+      subst (AreToldFaults others earlier piece_states) (sym (is_event other event q wanted p))
+          (are_told others earlier piece_states event is),
     )
 
     -- each other world that is reached is the same, or lacks memory
     other_world : (others : Faults) (event : EventFacts) (next world : World) (items : List Item)
-        → IsAnswer files given earlier spots item event → Steps facts here event next.state
+        → IsAnswer files given earlier piece_states item event → Steps facts here event next.state
         → next.owed ≡ orders_after facts here next.state
         → Delivers facts files given here [] item world
         → AllAnswers facts files (IsGenuineItem others) (given ++ item ∷ []) next items
@@ -90,7 +93,8 @@ module _ (facts : BootFacts) (files : List File) where
         lost_genuine others items (given ++ item ∷ []) world (lost_step facts here world lost owed)
     other_world others event next world items p goes left (other, q, inl steps, owed) genuine =
         let state : next.state ≡ world.state =
-        same_state (is_wanted earlier spots other) (is_wanted earlier spots event) refl refl
+        same_state (is_wanted earlier piece_states other) (is_wanted earlier piece_states event)
+        refl refl
         steps goes in
         let same : next ≡ world =
         ap (λ (s : State). record { state = s; owed = next.owed }) state
@@ -100,11 +104,11 @@ module _ (facts : BootFacts) (files : List File) where
         AllAnswers facts files (IsGenuineItem others) (given ++ item ∷ []) w items) same
         genuine
       where
-        same_state : (a b : Bool) → is_wanted earlier spots other ≡ a
-            → is_wanted earlier spots event ≡ b
-            → MatchBool a (Takes facts entry rest earlier spots other world.state)
+        same_state : (a b : Bool) → is_wanted earlier piece_states other ≡ a
+            → is_wanted earlier piece_states event ≡ b
+            → MatchBool a (Takes facts entry rest earlier piece_states other world.state)
             (world.state ≡ here)
-            → MatchBool b (Takes facts entry rest earlier spots event next.state)
+            → MatchBool b (Takes facts entry rest earlier piece_states event next.state)
             (next.state ≡ here)
             → next.state ≡ world.state
         same_state true b e f takes other_takes =
@@ -119,15 +123,15 @@ module _ (facts : BootFacts) (files : List File) where
 
     -- the faults after it, and that of this attempt if it ended
     pub taken : (event : EventFacts) (next : World) (items : List Item)
-        → IsAnswer files given earlier spots item event → Steps facts here event next.state
+        → IsAnswer files given earlier piece_states item event → Steps facts here event next.state
         → next.owed ≡ orders_after facts here next.state
         → Fits (given ++ item ∷ []) next items
         → Fits given (record { state = here; owed = [] }) (item ∷ items)
     taken event next items p goes left (faults, more) =
-        wanted (is_wanted earlier spots event) refl goes
+        wanted (is_wanted earlier piece_states event) refl goes
       where
         whole : (others : Faults)
-            → (is_last spots event ≡ true → is_wanted earlier spots event ≡ true
+            → (is_last piece_states event ≡ true → is_wanted earlier piece_states event ≡ true
             → others (length earlier) ≡ told event)
             → ((n : ℕ) → IsFrom next.state n → others n ≡ faults n)
             → AllAnswers facts files (IsGenuineItem others) given
@@ -138,17 +142,17 @@ module _ (facts : BootFacts) (files : List File) where
               told_right others event other p
               (λ last.
               is last
-              (ap (is_wanted earlier spots) (sym (is_event other event q is_it p))
+              (ap (is_wanted earlier piece_states) (sym (is_event other event q is_it p))
               ∙ is_it)) q is_it,
           λ world hears.
               other_world others event next world items p goes left hears (more others same),
         )
 
-        ended : (last : Bool) → is_last spots event ≡ last
-            → Takes facts entry rest earlier spots event next.state
+        ended : (last : Bool) → is_last piece_states event ≡ last
+            → Takes facts entry rest earlier piece_states event next.state
             → Fits given (record { state = here; owed = [] }) (item ∷ items)
         ended true e takes =
-            let new = last_new facts entry rest earlier spots event next.state e takes in (
+            let new = last_new facts entry rest earlier piece_states event next.state e takes in (
               with_fault (length earlier) (told event) faults,
               λ others same.
                   whole others
@@ -162,7 +166,7 @@ module _ (facts : BootFacts) (files : List File) where
                   ∙ past_fault (length earlier) (told event) faults n (omega (arith, later))),
             )
         ended false e takes =
-            let on = goes_on facts entry rest earlier spots event next.state e takes in (
+            let on = goes_on facts entry rest earlier piece_states event next.state e takes in (
               faults,
               λ others same.
                   whole others
@@ -170,10 +174,10 @@ module _ (facts : BootFacts) (files : List File) where
                   (λ n from. same n (subst (λ (s : State). IsFrom s n) on.1 from)),
             )
 
-        wanted : (b : Bool) → is_wanted earlier spots event ≡ b
-            → MatchBool b (Takes facts entry rest earlier spots event next.state)
+        wanted : (b : Bool) → is_wanted earlier piece_states event ≡ b
+            → MatchBool b (Takes facts entry rest earlier piece_states event next.state)
             (next.state ≡ here) → Fits given (record { state = here; owed = [] }) (item ∷ items)
-        wanted true e takes = ended (is_last spots event) refl takes
+        wanted true e takes = ended (is_last piece_states event) refl takes
         wanted false e stays = (
           faults,
           λ others same.
@@ -182,7 +186,7 @@ module _ (facts : BootFacts) (files : List File) where
         )
 
     -- memory ran out by it
-    pub lost_last : (event : EventFacts) → IsAnswer files given earlier spots item event
+    pub lost_last : (event : EventFacts) → IsAnswer files given earlier piece_states item event
         → Fits given (record { state = here; owed = [] }) (item ∷ [])
     lost_last event p = (
       λ n. told event,

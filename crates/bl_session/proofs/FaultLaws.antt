@@ -36,21 +36,23 @@ module _ (facts : BootFacts) (files : List File) where
   )
   one_item items item given unstarted [] next end marked (event, is, goes, left) reads more =
       absurd is
-  one_item items item given (running entry rest earlier spots) [] next end marked
+  one_item items item given (running entry rest earlier piece_states) [] next end marked
       (event, is, inl goes, left) reads more =
-      taken facts files given entry rest earlier spots item (λ other p. marked other refl p) event
+      taken facts files given entry rest earlier piece_states item (λ other p. marked other refl p)
+      event
       next items is
       goes left more
-  one_item items item given (running entry rest earlier spots) [] next end marked
+  one_item items item given (running entry rest earlier piece_states) [] next end marked
       (event, is, inr (lost, ends), left) reads more =
       let none =
       reads_nothing facts files (given ++ item ∷ []) next items end
-      (lost_step facts (running entry rest earlier spots) next lost left) reads in
+      (lost_step facts (running entry rest earlier piece_states) next lost left) reads in
       subst
       (λ (rest_of : List Item).
-      Fits facts files given (record { state = running entry rest earlier spots; owed = [] })
+      Fits facts files given (record { state = running entry rest earlier piece_states; owed = [] })
       (item ∷ rest_of)) (sym none)
-      (lost_last facts files given entry rest earlier spots item (λ other p. marked other refl p)
+      (lost_last facts files given entry rest earlier piece_states item
+      (λ other p. marked other refl p)
       event is)
   one_item items item given (handed_over entry earlier handover) [] next end marked
       (event, is, goes, left) reads more = absurd is

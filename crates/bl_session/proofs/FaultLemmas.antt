@@ -4,7 +4,7 @@ use Rattle.std.proofs.Common.{List, length, map, Option, None, Some, refl, sym, 
 use Rattle.std.proofs.Common.{arith}
 use Rattle.std.proofs.lemmas.Bool.Decides.{nat_tests}
 use Rattle.bl_load.specs.declared.refusal.Refusal.TheVariants.{FileFault}
-use Rattle.bl_stage.specs.Spots.{Spot, came_bytes}
+use Rattle.bl_stage.specs.PieceStates.{PieceState, came_bytes}
 use Rattle.bl_session.specs.declared.words.RefusedEntry.{RefusedEntry}
 use Rattle.bl_session.specs.AttemptResult.{AttemptResult, refused}
 use Rattle.bl_session.specs.Pieces.{are_whole, with_piece}
@@ -23,16 +23,17 @@ one_piece files None index a b p q = absurd p
 one_piece files (Some file) index a b p q = p ∙ sym q
 
 pub one_event : (files : List File) (given : List Item) (earlier : List RefusedEntry)
-    (spots : List (List Spot)) (item : Item) (a b : EventFacts) → IsMarked item
-    → IsAnswer files given earlier spots item a → IsAnswer files given earlier spots item b → a ≡ b
-one_event files given earlier spots (submitted file ticket) a b marked p q = absurd p
-one_event files given earlier spots (came ticket count mark) a b marked (x, is, long, mine)
+    (piece_states : List (List PieceState)) (item : Item) (a b : EventFacts) → IsMarked item
+    → IsAnswer files given earlier piece_states item a
+    → IsAnswer files given earlier piece_states item b → a ≡ b
+one_event files given earlier piece_states (submitted file ticket) a b marked p q = absurd p
+one_event files given earlier piece_states (came ticket count mark) a b marked (x, is, long, mine)
     (y, other, same, its) =
     is ∙ ap (piece ticket)
     (one_piece files (file_under given ticket) ticket.piece x y (mine.0 marked) (its.0 marked))
     ∙ sym other
-one_event files given earlier spots (failed ticket) a b marked p q = p ∙ sym q
-one_event files given earlier spots nothing a b marked (s, first, is) (t, found, other) =
+one_event files given earlier piece_states (failed ticket) a b marked p q = p ∙ sym q
+one_event files given earlier piece_states nothing a b marked (s, first, is) (t, found, other) =
     let e : Some s ≡ Some t = sym first ∙ found in
     let same : s ≡ t = cc in
     is ∙ ap fault same ∙ sym other
@@ -40,20 +41,23 @@ one_event files given earlier spots nothing a b marked (s, first, is) (t, found,
 -- ---- the fault of which an attempt ends
 
 -- the event ends its attempt
-abbrev pub is_last : List (List Spot) → EventFacts → Bool
-is_last spots (piece ticket bytes) = are_whole (with_piece spots ticket.file ticket.piece bytes)
-is_last spots (fault ticket) = true
+abbrev pub is_last : List (List PieceState) → EventFacts → Bool
+is_last piece_states (piece ticket bytes) =
+    are_whole (with_piece piece_states ticket.file ticket.piece bytes)
+is_last piece_states (fault ticket) = true
 
 -- the file of which a fault comes by it
 abbrev pub told : EventFacts → Option ℕ
 told (piece ticket bytes) = None
 told (fault ticket) = Some ticket.file
 
-pub are_told : (faults : Faults) (earlier : List RefusedEntry) (spots : List (List Spot))
-    (event : EventFacts) → (is_last spots event ≡ true → faults (length earlier) ≡ told event)
-    → AreToldFaults faults earlier spots event
-are_told faults earlier spots (piece ticket bytes) is = is
-are_told faults earlier spots (fault ticket) is = is refl
+pub are_told : (faults : Faults) (earlier : List RefusedEntry)
+    (piece_states : List (List PieceState))
+    (event : EventFacts) → (is_last piece_states event ≡ true
+    → faults (length earlier) ≡ told event)
+    → AreToldFaults faults earlier piece_states event
+are_told faults earlier piece_states (piece ticket bytes) is = is
+are_told faults earlier piece_states (fault ticket) is = is refl
 
 -- these faults, but for one attempt
 abbrev pub with_fault : ℕ → Option ℕ → Faults → Faults
@@ -75,11 +79,12 @@ past_fault number place faults n h =
 
 -- the last event of an attempt leads to a new one
 pub last_new : (facts : BootFacts) (entry : ℕ) (rest : List ℕ) (earlier : List RefusedEntry)
-    (spots : List (List Spot)) (event : EventFacts) (new : State) → is_last spots event ≡ true
-    → Takes facts entry rest earlier spots event new
+    (piece_states : List (List PieceState)) (event : EventFacts) (new : State)
+    → is_last piece_states event ≡ true
+    → Takes facts entry rest earlier piece_states event new
     → IsNewFrom facts (length rest) (length earlier + 1) new
-last_new facts entry rest earlier spots (piece ticket bytes) new last takes =
-    let after = with_piece spots ticket.file ticket.piece bytes in
+last_new facts entry rest earlier piece_states (piece ticket bytes) new last takes =
+    let after = with_piece piece_states ticket.file ticket.piece bytes in
     let ends =
     subst
     (λ (b : Bool).
@@ -88,17 +93,18 @@ last_new facts entry rest earlier spots (piece ticket bytes) new last takes =
     × AfterAttempt (Begins facts rest) entry earlier end new)
     (new ≡ running entry rest earlier after)) last takes in
     new_goes facts rest entry earlier ends.0 new (new_begins facts rest) ends.2
-last_new facts entry rest earlier spots (fault ticket) new last takes =
+last_new facts entry rest earlier piece_states (fault ticket) new last takes =
     new_goes facts rest entry earlier (refused (FileFault ticket.file)) new (new_begins facts rest)
     takes
 
 -- each other one leaves it as it runs
 pub goes_on : (facts : BootFacts) (entry : ℕ) (rest : List ℕ) (earlier : List RefusedEntry)
-    (spots : List (List Spot)) (event : EventFacts) (new : State) → is_last spots event ≡ false
-    → Takes facts entry rest earlier spots event new
-    → (after : List (List Spot)) × (new ≡ running entry rest earlier after)
-goes_on facts entry rest earlier spots (piece ticket bytes) new last takes =
-    let after = with_piece spots ticket.file ticket.piece bytes in (
+    (piece_states : List (List PieceState)) (event : EventFacts) (new : State)
+    → is_last piece_states event ≡ false
+    → Takes facts entry rest earlier piece_states event new
+    → (after : List (List PieceState)) × (new ≡ running entry rest earlier after)
+goes_on facts entry rest earlier piece_states (piece ticket bytes) new last takes =
+    let after = with_piece piece_states ticket.file ticket.piece bytes in (
       after,
       subst
           (λ (b : Bool).
@@ -107,4 +113,4 @@ goes_on facts entry rest earlier spots (piece ticket bytes) new last takes =
           × AfterAttempt (Begins facts rest) entry earlier end new)
           (new ≡ running entry rest earlier after)) last takes,
     )
-goes_on facts entry rest earlier spots (fault ticket) new last takes = absurd cc
+goes_on facts entry rest earlier piece_states (fault ticket) new last takes = absurd cc

@@ -3,7 +3,7 @@ use Rattle.std.proofs.Common.{◌≡◌, ℕ, Bool, true, false, MatchBool, List
 use Rattle.std.proofs.Common.{Option, Some, None, sym, ap, subst, ◌∙◌, refl, map, if◌then◌else◌}
 use Rattle.bl_load.specs.declared.refusal.Refusal.{Refusal}
 use Rattle.bl_load.specs.declared.refusal.Refusal.TheVariants.{FileFault}
-use Rattle.bl_stage.specs.Spots.{Spot, came_bytes}
+use Rattle.bl_stage.specs.PieceStates.{PieceState, came_bytes}
 use Rattle.bl_session.specs.declared.words.RefusedEntry.{RefusedEntry}
 use Rattle.bl_session.specs.AttemptResult.{AttemptResult, handed, refused, HasResult, size_refusal}
 use Rattle.bl_session.specs.Pieces.{are_whole, with_piece}
@@ -24,7 +24,7 @@ module _ (facts : BootFacts) (files : List File) (faults : ℕ → Option ℕ)
   -- what a boot that stands so comes to
   abbrev Comes : State → State → Type 0
   Comes unstarted end = end ≡ unstarted
-  Comes (running entry rest earlier spots) end =
+  Comes (running entry rest earlier piece_states) end =
       IsFirst facts files faults (entry ∷ rest) earlier end
   Comes (handed_over entry earlier handover) end = end ≡ handed_over entry earlier handover
   Comes (none_left earlier) end = end ≡ none_left earlier
@@ -33,9 +33,9 @@ module _ (facts : BootFacts) (files : List File) (faults : ℕ → Option ℕ)
   -- what holds of a running attempt
   abbrev Holds : State → Type 0
   Holds unstarted = Unit {0}
-  Holds (running entry rest earlier spots) =
+  Holds (running entry rest earlier piece_states) =
       (size_refusal facts.machine (sizes_of facts entry) ≡ None)
-      × (are_whole (fresh facts entry) ≡ false) × FitAll spots (texts_of facts files entry)
+      × (are_whole (fresh facts entry) ≡ false) × FitAll piece_states (texts_of facts files entry)
   Holds (handed_over entry earlier handover) = Unit {0}
   Holds (none_left earlier) = Unit {0}
   Holds out_of_memory = Unit {0}
@@ -61,25 +61,26 @@ module _ (facts : BootFacts) (files : List File) (faults : ℕ → Option ℕ)
 
   -- an attempt with these pieces
   follows_pieces : (entry : ℕ) (rest : List ℕ) (earlier : List RefusedEntry)
-      (spots : List (List Spot)) (full : Bool) (new : State)
+      (piece_states : List (List PieceState)) (full : Bool) (new : State)
       → ((r : List RefusedEntry) (s : State) → Begins facts rest r s → Follows rest r s)
       → size_refusal facts.machine (sizes_of facts entry) ≡ None
-      → FitAll spots (texts_of facts files entry)
+      → FitAll piece_states (texts_of facts files entry)
       → (full ≡ false → are_whole (fresh facts entry) ≡ false)
       → (full ≡ true → faulty_in facts entry (faults (length earlier)) ≡ None)
-      → are_whole spots ≡ full
+      → are_whole piece_states ≡ full
       → MatchBool full
-      ((end : AttemptResult) × TextsHaveResult facts entry (map came_bytes spots) end
+      ((end : AttemptResult) × TextsHaveResult facts entry (map came_bytes piece_states) end
       × AfterAttempt (Begins facts rest) entry earlier end new)
-      (new ≡ running entry rest earlier spots)
+      (new ≡ running entry rest earlier piece_states)
       → Follows (entry ∷ rest) earlier new
-  follows_pieces entry rest earlier spots false new more sized fit waits told is goes = (
+  follows_pieces entry rest earlier piece_states false new more sized fit waits told is goes = (
     subst Holds (sym goes) (sized, waits refl, fit),
     λ end comes. subst (λ (s : State). Comes s end) goes comes,
   )
-  follows_pieces entry rest earlier spots true new more sized fit waits told is (e, ends, goes) =
-      let texts : map came_bytes spots ≡ texts_of facts files entry =
-      whole_files spots (texts_of facts files entry) fit is in
+  follows_pieces entry rest earlier piece_states true new more sized fit waits told is
+      (e, ends, goes) =
+      let texts : map came_bytes piece_states ≡ texts_of facts files entry =
+      whole_files piece_states (texts_of facts files entry) fit is in
       let of_value : HasResult facts.machine (value_in facts files entry) e =
       subst (λ (x : List (List ℕ)). TextsHaveResult facts entry x e) texts ends in
       follows_end entry rest earlier e new more
@@ -125,40 +126,43 @@ module _ (facts : BootFacts) (files : List File) (faults : ℕ → Option ℕ)
       → faulty_in facts entry told ≡ None
   has_none entry told e f = ap (λ (b : Bool). if b then None else told) e ∙ f
 
-  keeps_taken : (entry : ℕ) (rest : List ℕ) (earlier : List RefusedEntry) (spots : List (List Spot))
-      (event : EventFacts) (new : State) → Holds (running entry rest earlier spots)
-      → IsTrueOf facts files faults entry earlier spots event
-      → Takes facts entry rest earlier spots event new
-      → Keeps (running entry rest earlier spots) new
-  keeps_taken entry rest earlier spots (piece ticket bytes) new (sized, some, fit) (is, last) goes =
-      follows_pieces entry rest earlier (with_piece spots ticket.file ticket.piece bytes)
-      (are_whole (with_piece spots ticket.file ticket.piece bytes)) new (follows_begins rest)
+  keeps_taken : (entry : ℕ) (rest : List ℕ) (earlier : List RefusedEntry)
+      (piece_states : List (List PieceState))
+      (event : EventFacts) (new : State) → Holds (running entry rest earlier piece_states)
+      → IsTrueOf facts files faults entry earlier piece_states event
+      → Takes facts entry rest earlier piece_states event new
+      → Keeps (running entry rest earlier piece_states) new
+  keeps_taken entry rest earlier piece_states (piece ticket bytes) new (sized, some, fit) (is, last)
+      goes =
+      follows_pieces entry rest earlier (with_piece piece_states ticket.file ticket.piece bytes)
+      (are_whole (with_piece piece_states ticket.file ticket.piece bytes)) new (follows_begins rest)
       sized
-      (fits_piece spots (texts_of facts files entry) ticket.file ticket.piece bytes is fit)
+      (fits_piece piece_states (texts_of facts files entry) ticket.file ticket.piece bytes is fit)
       (λ e. some) (λ e. has_none entry (faults (length earlier)) some (last e)) refl goes
-  keeps_taken entry rest earlier spots (fault ticket) new (sized, some, fit) told goes =
+  keeps_taken entry rest earlier piece_states (fault ticket) new (sized, some, fit) told goes =
       follows_end entry rest earlier (refused (FileFault ticket.file)) new (follows_begins rest)
       (ends_by_fault facts.machine (sizes_of facts entry) _ (value_in facts files entry) ticket.file
       sized (has_fault entry (faults (length earlier)) ticket.file some told)) goes
 
   keeps_choice : (entry : ℕ) (rest : List ℕ) (earlier : List RefusedEntry)
-      (spots : List (List Spot)) (event : EventFacts) (wanted : Bool) (new : State)
-      → Holds (running entry rest earlier spots)
-      → (wanted ≡ true → IsTrueOf facts files faults entry earlier spots event)
-      → MatchBool wanted (Takes facts entry rest earlier spots event new)
-      (new ≡ running entry rest earlier spots)
-      → Keeps (running entry rest earlier spots) new
-  keeps_choice entry rest earlier spots event true new holds is goes =
-      keeps_taken entry rest earlier spots event new holds (is refl) goes
-  keeps_choice entry rest earlier spots event false new holds is goes =
+      (piece_states : List (List PieceState)) (event : EventFacts) (wanted : Bool) (new : State)
+      → Holds (running entry rest earlier piece_states)
+      → (wanted ≡ true → IsTrueOf facts files faults entry earlier piece_states event)
+      → MatchBool wanted (Takes facts entry rest earlier piece_states event new)
+      (new ≡ running entry rest earlier piece_states)
+      → Keeps (running entry rest earlier piece_states) new
+  keeps_choice entry rest earlier piece_states event true new holds is goes =
+      keeps_taken entry rest earlier piece_states event new holds (is refl) goes
+  keeps_choice entry rest earlier piece_states event false new holds is goes =
       (subst Holds (sym goes) holds, λ end comes. subst (λ (s : State). Comes s end) goes comes)
 
   keeps_step : (old : State) (event : EventFacts) (new : State) → Holds old
       → IsGenuineAt facts files faults old event → Steps facts old event new → Keeps old new
   keeps_step unstarted event new holds genuine goes =
       (subst Holds (sym goes) tt, λ end comes. subst (λ (s : State). Comes s end) goes comes)
-  keeps_step (running entry rest earlier spots) event new holds genuine goes =
-      keeps_choice entry rest earlier spots event (is_wanted earlier spots event) new holds genuine
+  keeps_step (running entry rest earlier piece_states) event new holds genuine goes =
+      keeps_choice entry rest earlier piece_states event (is_wanted earlier piece_states event) new
+      holds genuine
       goes
   keeps_step (handed_over entry earlier handover) event new holds genuine goes =
       (subst Holds (sym goes) tt, λ end comes. subst (λ (s : State). Comes s end) goes comes)
@@ -169,7 +173,7 @@ module _ (facts : BootFacts) (files : List File) (faults : ℕ → Option ℕ)
 
   comes_end : (end : State) → HasEnded end → Comes end end
   comes_end unstarted ended = absurd ended
-  comes_end (running entry rest earlier spots) ended = absurd ended
+  comes_end (running entry rest earlier piece_states) ended = absurd ended
   comes_end (handed_over entry earlier handover) ended = refl
   comes_end (none_left earlier) ended = refl
   comes_end out_of_memory ended = absurd ended

@@ -2,7 +2,7 @@
 use Rattle.std.proofs.Common.{◌≡◌, ◌≢◌, ℕ, ◌+◌, ◌<◌, true, MatchBool, List, length, refl, sym, ap}
 use Rattle.std.proofs.Common.{subst, ◌∙◌, inl, inr}
 use Rattle.std.specs.declared.ops.Range.{Range}
-use Rattle.bl_stage.specs.Spots.{Spot, spots}
+use Rattle.bl_stage.specs.PieceStates.{PieceState, piece_states}
 use Rattle.bl_session.specs.declared.words.Progress.{Progress}
 use Rattle.bl_session.specs.declared.words.Progress.TheVariants.{Waiting}
 use Rattle.bl_session.specs.declared.words.RefusedEntry.{RefusedEntry}
@@ -18,7 +18,7 @@ use Rattle.bl_session.proofs.NextLemmas.{memory_step}
 -- ---- one event
 
 running_waits : (phase : PhaseFacts) (bytes : List ℕ) (entry : ℕ) (rest : List ℕ)
-    (earlier : List RefusedEntry) (files : List (List Spot))
+    (earlier : List RefusedEntry) (files : List (List PieceState))
     → state_at bytes phase ≡ running entry rest earlier files → is_waiting phase ≡ true
 running_waits not_started bytes entry rest earlier files e = absurd cc
 running_waits (waits n r refusals stage) bytes entry rest earlier files e = refl
@@ -34,7 +34,7 @@ pub hears_on : (facts : BootFacts) (event : EventFacts) (old new : PhaseFacts)
 hears_on facts event (waits entry rest earlier stage) new before after p w step told is =
     let on =
     still_runs facts entry rest earlier (state_at after new)
-    (next_step facts entry rest earlier (spots before stage) event (state_at after new)
+    (next_step facts entry rest earlier (piece_states before stage) event (state_at after new)
     step) (sym told ∙ is) in
     running_waits new after entry rest earlier on.0 on.1
 hears_on facts event not_started new before after p w step told is = absurd cc
@@ -50,7 +50,7 @@ pub hears_as_many : (facts : BootFacts) (event : EventFacts) (old new : PhaseFac
 hears_as_many facts event (waits entry rest earlier stage) new before after p w step told is =
     let on =
     still_runs facts entry rest earlier (state_at after new)
-    (next_step facts entry rest earlier (spots before stage) event (state_at after new)
+    (next_step facts entry rest earlier (piece_states before stage) event (state_at after new)
     step) (sym told ∙ is) in
     ap attempts_in on.1
 hears_as_many facts event not_started new before after p w step told is = absurd cc
@@ -67,7 +67,7 @@ pub hears_fewer : (facts : BootFacts) (event : EventFacts) (old new : PhaseFacts
 hears_fewer facts event (waits entry rest earlier stage) new before after p w step told is =
     fewer_left facts (length rest) (length earlier + 1) (state_at after new)
     (has_ended facts entry rest earlier (state_at after new)
-    (next_step facts entry rest earlier (spots before stage) event (state_at after new) step)
+    (next_step facts entry rest earlier (piece_states before stage) event (state_at after new) step)
     (λ e. is (told ∙ e)))
 hears_fewer facts event not_started new before after p w step told is = absurd cc
 hears_fewer facts event (hands_over n refusals handoff) new before after p w step told is =
@@ -87,7 +87,8 @@ pub hears_started : (facts : BootFacts) (event : EventFacts) (old new : PhaseFac
 hears_started facts event (waits entry rest earlier stage) new before after w step = λ e.
     not_unstarted facts entry rest earlier
     (subst (λ (p : PhaseFacts). IsNext facts entry rest earlier (state_at after p)) e
-    (next_step facts entry rest earlier (spots before stage) event (state_at after new) step))
+    (next_step facts entry rest earlier (piece_states before stage) event (state_at after new)
+    step))
 hears_started facts event not_started new before after w step = absurd cc
 hears_started facts event (hands_over n refusals handoff) new before after w step = absurd cc
 hears_started facts event (has_none refusals) new before after w step = absurd cc
@@ -100,7 +101,8 @@ pub hears_memory : (pool : Range ℕ) (facts : BootFacts) (event : EventFacts) (
     (IsMemoryIn pool (state_at after new) before after) (after ≡ before)
     → IsMemoryIn pool (state_at after new) before after
 hears_memory pool facts event (waits entry rest earlier stage) new before after w step memory =
-    memory_step pool facts entry rest earlier (spots before stage) event (state_at after new) before
+    memory_step pool facts entry rest earlier (piece_states before stage) event (state_at after new)
+    before
     after step memory
 hears_memory pool facts event not_started new before after w step memory = absurd cc
 hears_memory pool facts event (hands_over n refusals handoff) new before after w step memory =

@@ -3,10 +3,10 @@ use Rattle.std.proofs.Common.{◌≡◌, ℕ, ◌+◌, ◌<◌, ◌==◌, Bool, 
 use Rattle.std.proofs.Common.{length, map, refl, sym, ap, subst, ◌∙◌, inl, inr, arith}
 use Rattle.std.proofs.lemmas.Bool.Decides.{nat_tests}
 use Rattle.std.proofs.lemmas.List.{append-nil}
-use Rattle.bl_stage.specs.Spots.{Spot}
+use Rattle.bl_stage.specs.PieceStates.{PieceState}
 use Rattle.bl_session.specs.declared.words.Ticket.{Ticket}
 use Rattle.bl_session.specs.declared.words.RefusedEntry.{RefusedEntry}
-use Rattle.bl_session.specs.Pieces.{is_awaited, spot_of, with_piece}
+use Rattle.bl_session.specs.Pieces.{is_awaited, piece_state_of, with_piece}
 use Rattle.bl_session.specs.Boot.{BootFacts, EventFacts, piece, fault, State, unstarted, running}
 use Rattle.bl_session.specs.Boot.{handed_over, none_left, out_of_memory, Steps, StepsOrFails}
 use Rattle.bl_session.specs.History.{Item, submitted, came, failed, nothing, file_under, IsPieceOf}
@@ -24,22 +24,24 @@ use Rattle.bl_session.proofs.AwaitedAnswers.{Awaited, once, no_fault, no_end, ma
 use Rattle.bl_session.proofs.AwaitedAnswers.{wanted_fault, is_no_later}
 
 module _ (facts : BootFacts) (files : List File) (known : facts.sizes ≡ map size_of files)
-    (entry : ℕ) (rest : List ℕ) (earlier : List RefusedEntry) (spots : List (List Spot))
+    (entry : ℕ) (rest : List ℕ) (earlier : List RefusedEntry)
+    (piece_states : List (List PieceState))
     (given : List Item)
-    (steady : Steady facts given (running entry rest earlier spots)) where
+    (steady : Steady facts given (running entry rest earlier piece_states)) where
   -- ---- the state after it
 
   abbrev Next : Item → State → Type 0
   Next item new =
       Steady facts
-      ((given ++ item ∷ []) ++ orders_after facts (running entry rest earlier spots) new) new
+      ((given ++ item ∷ []) ++ orders_after facts (running entry rest earlier piece_states) new) new
 
   -- the attempt goes on with these pieces
-  stays : (item : Item) (left : List (List Spot)) (new : State)
-      → ((file index : ℕ) → is_awaited (spot_of left file index) ≡ true
-      → spot_of left file index ≡ spot_of spots file index)
+  stays : (item : Item) (left : List (List PieceState)) (new : State)
+      → ((file index : ℕ) → is_awaited (piece_state_of left file index) ≡ true
+      → piece_state_of left file index ≡ piece_state_of piece_states file index)
       → ((t : Ticket) → length earlier < t.attempt → IsUntouched (item ∷ []) t)
-      → ((t : Ticket) → t.attempt ≡ length earlier → is_awaited (spot_of left t.file t.piece) ≡ true
+      → ((t : Ticket) → t.attempt ≡ length earlier
+      → is_awaited (piece_state_of left t.file t.piece) ≡ true
       → IsUntouched (item ∷ []) t)
       → new ≡ running entry rest earlier left → Next item new
   stays item left new same later apart goes =
@@ -52,7 +54,7 @@ module _ (facts : BootFacts) (files : List File) (known : facts.sizes ≡ map si
         (λ t a e.
             let at = same t.file t.piece e in
             once_first (file_at facts entry t.file) given (item ∷ []) t
-            (once facts files known entry rest earlier spots given steady t
+            (once facts files known entry rest earlier piece_states given steady t
             (a, ap is_awaited (sym at) ∙ e)) (apart t a e)),
       ) in
       subst (λ (s : State). Next item s) (sym goes) holds
@@ -83,47 +85,47 @@ module _ (facts : BootFacts) (files : List File) (known : facts.sizes ≡ map si
 
   stored : (t : Ticket) (bytes : List ℕ) (count : ℕ) (genuine : Bool) (new : State)
       → ((s : Ticket) → length earlier < s.attempt → IsUntouched (came t count genuine ∷ []) s)
-      → new ≡ running entry rest earlier (with_piece spots t.file t.piece bytes)
+      → new ≡ running entry rest earlier (with_piece piece_states t.file t.piece bytes)
       → Next (came t count genuine) new
   stored t bytes count genuine new later goes =
-      stays (came t count genuine) (with_piece spots t.file t.piece bytes) new
-      (λ file index e. (still_awaited spots t.file t.piece bytes file index e).1) later
+      stays (came t count genuine) (with_piece piece_states t.file t.piece bytes) new
+      (λ file index e. (still_awaited piece_states t.file t.piece bytes file index e).1) later
       (λ s a e. untouched_piece t s count genuine (other_ticket t s (λ same.
       let is = same_ticket t s same in
-      (still_awaited spots t.file t.piece bytes s.file s.piece e).0
+      (still_awaited piece_states t.file t.piece bytes s.file s.piece e).0
       (ap (λ (x : Ticket). x.file) (sym is), ap (λ (x : Ticket). x.piece) (sym is)))))
       goes
 
   -- an answer that is not wanted is to a ticket that is not awaited
   stays_so : (item : Item) (new : State)
       → ((t : Ticket) → length earlier < t.attempt → IsUntouched (item ∷ []) t)
-      → ((t : Ticket) → Awaited earlier spots t → IsUntouched (item ∷ []) t)
-      → new ≡ running entry rest earlier spots → Next item new
+      → ((t : Ticket) → Awaited earlier piece_states t → IsUntouched (item ∷ []) t)
+      → new ≡ running entry rest earlier piece_states → Next item new
   stays_so item new later apart goes =
-      stays item spots new (λ file index e. refl) later (λ t a e. apart t (a, e)) goes
+      stays item piece_states new (λ file index e. refl) later (λ t a e. apart t (a, e)) goes
 
   take_piece : (t : Ticket) (bytes : List ℕ) (count : ℕ) (genuine : Bool) (new : State)
       → IsFaithfulItem files given (came t count genuine)
       → (genuine ≡ true → IsPieceOf files (file_under given t) t.piece bytes)
-      → Steps facts (running entry rest earlier spots) (piece t bytes) new
+      → Steps facts (running entry rest earlier piece_states) (piece t bytes) new
       → Next (came t count genuine) new
   take_piece t bytes count genuine new faithful of_file goes =
       let later : (s : Ticket) → length earlier < s.attempt
       → IsUntouched (came t count genuine ∷ []) s =
       λ s l.
       untouched_piece t s count genuine
-      (is_no_later facts files known entry rest earlier spots given steady t s faithful.0
+      (is_no_later facts files known entry rest earlier piece_states given steady t s faithful.0
       l) in
-      elim (step_went facts entry rest earlier spots (piece t bytes) new goes) [
+      elim (step_went facts entry rest earlier piece_states (piece t bytes) new goes) [
         | inl (unwanted, same) ↦
             stays_so (came t count genuine) new later
             (λ s awaited. untouched_piece t s count genuine (other_ticket t s (λ is.
-            let here : Awaited earlier spots t =
-            subst (Awaited earlier spots) (sym (same_ticket t s is)) awaited in
+            let here : Awaited earlier piece_states t =
+            subst (Awaited earlier piece_states) (sym (same_ticket t s is)) awaited in
             let wanted =
-            wants_piece facts files known entry rest earlier spots given steady t bytes here
+            wants_piece facts files known entry rest earlier piece_states given steady t bytes here
             (of_file
-            (marked facts files known entry rest earlier spots given steady t count genuine
+            (marked facts files known entry rest earlier piece_states given steady t count genuine
             here faithful)) in
             let clash : false ≡ true = sym unwanted ∙ wanted in
             absurd (cc))))
@@ -135,59 +137,60 @@ module _ (facts : BootFacts) (files : List File) (known : facts.sizes ≡ map si
             (same
             ∙ ap
             (λ (x : Ticket).
-            running entry rest earlier (with_piece spots x.file x.piece b)) ticket
+            running entry rest earlier (with_piece piece_states x.file x.piece b)) ticket
             ∙ ap
             (λ (x : List ℕ).
             running entry rest earlier
-            (with_piece spots t.file t.piece x)) same_bytes)
+            (with_piece piece_states t.file t.piece x)) same_bytes)
         | inr (wanted, inr is) ↦ renews (came t count genuine) new later is
       ]
 
   take_fault : (t : Ticket) (new : State) → IsFaithfulItem files given (failed t)
-      → Steps facts (running entry rest earlier spots) (fault t) new → Next (failed t) new
+      → Steps facts (running entry rest earlier piece_states) (fault t) new → Next (failed t) new
   take_fault t new faithful goes =
-      elim (step_went facts entry rest earlier spots (fault t) new goes) [
+      elim (step_went facts entry rest earlier piece_states (fault t) new goes) [
         | inl (unwanted, same) ↦
             stays_so (failed t) new
             (λ s l.
             untouched_fault t s
-            (is_no_later facts files known entry rest earlier spots given steady t s
+            (is_no_later facts files known entry rest earlier piece_states given steady t s
             faithful.0 l))
             (λ s awaited.
             untouched_fault t s
             (other_ticket t s
             (λ is.
-            no_fault facts files known entry rest earlier spots given steady t
-            (subst (Awaited earlier spots) (sym (same_ticket t s is)) awaited)
+            no_fault facts files known entry rest earlier piece_states given steady t
+            (subst (Awaited earlier piece_states) (sym (same_ticket t s is)) awaited)
             faithful)))
             same
         | inr (wanted, how) ↦
             absurd
-            (no_fault facts files known entry rest earlier spots given steady t
-            (wanted_fault facts files known entry rest earlier spots given steady t wanted)
+            (no_fault facts files known entry rest earlier piece_states given steady t
+            (wanted_fault facts files known entry rest earlier piece_states given steady t wanted)
             faithful)
       ]
 
   -- ---- any answer
 
   hear : (item : Item) (event : EventFacts) (new : State) → IsFaithfulItem files given item
-      → IsAnswer files given earlier spots item event
-      → Steps facts (running entry rest earlier spots) event new → Next item new
+      → IsAnswer files given earlier piece_states item event
+      → Steps facts (running entry rest earlier piece_states) event new → Next item new
   hear (submitted file t) event new faithful is goes = absurd is
   hear (came t count genuine) event new faithful (bytes, same, long, of_file) goes =
       take_piece t bytes count genuine new faithful of_file.0
-      (subst (λ (e : EventFacts). Steps facts (running entry rest earlier spots) e new) same
+      (subst (λ (e : EventFacts). Steps facts (running entry rest earlier piece_states) e new) same
       goes)
   hear (failed t) event new faithful same goes =
       take_fault t new faithful
-      (subst (λ (e : EventFacts). Steps facts (running entry rest earlier spots) e new) same
+      (subst (λ (e : EventFacts). Steps facts (running entry rest earlier piece_states) e new) same
       goes)
   hear nothing event new faithful (t, first, same) goes =
-      absurd (no_end facts files known entry rest earlier spots given steady t first faithful)
+      absurd (no_end facts files known entry rest earlier piece_states given steady t first
+      faithful)
 
   pub hear_any : (item : Item) (event : EventFacts) (new : State) → IsFaithfulItem files given item
-      → IsAnswer files given earlier spots item event
-      → StepsOrFails facts (running entry rest earlier spots) event new → Next item new
+      → IsAnswer files given earlier piece_states item event
+      → StepsOrFails facts (running entry rest earlier piece_states) event new → Next item new
   hear_any item event new faithful is (inl goes) = hear item event new faithful is goes
   hear_any item event new faithful is (inr (lacks, ends)) =
       subst (λ (s : State). Next item s) (sym lacks) tt

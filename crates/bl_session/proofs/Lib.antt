@@ -13,7 +13,7 @@ pub mod HeardLemmas
 pub mod FaithfulLaws
 pub mod OnceLemmas
 pub mod MenuLemmas
-pub mod SpotLemmas
+pub mod PieceStateLemmas
 pub mod StoredLemmas
 pub mod WholeLemmas
 pub mod AttemptLemmas

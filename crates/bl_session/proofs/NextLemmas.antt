@@ -6,7 +6,7 @@ use Rattle.std.proofs.lemmas.Bool.Decides.{nat_tests}
 use Rattle.std.specs.declared.ops.Range.{Range}
 use Rattle.bl_load.specs.declared.refusal.Refusal.TheVariants.{FileFault}
 use Rattle.bl_stage.specs.Ranges.{IsSameOutside}
-use Rattle.bl_stage.specs.Spots.{Spot}
+use Rattle.bl_stage.specs.PieceStates.{PieceState}
 use Rattle.bl_session.specs.declared.words.Ticket.{Ticket}
 use Rattle.bl_session.specs.declared.words.RefusedEntry.{RefusedEntry}
 use Rattle.bl_session.specs.declared.words.Progress.TheVariants.{Waiting, Next}
@@ -25,11 +25,11 @@ use Rattle.bl_session.proofs.WentLemmas.{IsNewFrom, new_goes, new_begins, step_w
 -- the attempt that runs goes on, or it ended
 abbrev pub IsNext : BootFacts → (entry : ℕ) → List ℕ → List RefusedEntry → State → Type 0
 IsNext facts entry rest earlier state =
-    ((files : List (List Spot)) × (state ≡ running entry rest earlier files))
+    ((files : List (List PieceState)) × (state ≡ running entry rest earlier files))
     ⊎ IsNewFrom facts (length rest) (length earlier + 1) state
 
 pub next_step : (facts : BootFacts) (entry : ℕ) (rest : List ℕ) (earlier : List RefusedEntry)
-    (files : List (List Spot)) (event : EventFacts) (state : State)
+    (files : List (List PieceState)) (event : EventFacts) (state : State)
     → StepsOrFails facts (running entry rest earlier files) event state
     → IsNext facts entry rest earlier state
 next_step facts entry rest earlier files event state (inl steps) =
@@ -61,7 +61,7 @@ same_number n = let same : (n == n) ≡ true = grind (arith, nat_tests) in rw sa
 pub still_runs : (facts : BootFacts) (entry : ℕ) (rest : List ℕ) (earlier : List RefusedEntry)
     (state : State) → IsNext facts entry rest earlier state
     → progress (length earlier) state ≡ Waiting
-    → (files : List (List Spot)) × (state ≡ running entry rest earlier files)
+    → (files : List (List PieceState)) × (state ≡ running entry rest earlier files)
 still_runs facts entry rest earlier state (inl same) e = same
 still_runs facts entry rest earlier state (inr later) e =
     absurd (later_ended facts (length rest) (length earlier) state later e)
@@ -86,7 +86,7 @@ fewer_left facts count number out_of_memory later = omega arith
 
 -- a fault of the first missing piece ends it
 pub lost_ends : (facts : BootFacts) (entry : ℕ) (rest : List ℕ) (earlier : List RefusedEntry)
-    (files : List (List Spot)) (ticket : Ticket) (state : State)
+    (files : List (List PieceState)) (ticket : Ticket) (state : State)
     → first_ticket (length earlier) 0 files ≡ Some ticket
     → StepsOrFails facts (running entry rest earlier files) (fault ticket) state
     → progress (length earlier) state ≢ Waiting
@@ -107,7 +107,8 @@ lost_ends facts entry rest earlier files ticket state first (inr fails) =
 -- ---- memory
 
 memory_if : (pool : Range ℕ) (facts : BootFacts) (entry : ℕ) (rest : List ℕ)
-    (earlier : List RefusedEntry) (files : List (List Spot)) (event : EventFacts) (state : State)
+    (earlier : List RefusedEntry) (files : List (List PieceState)) (event : EventFacts)
+    (state : State)
     (old new : List ℕ) (wanted : Bool)
     → is_wanted earlier files event ≡ wanted
     → StepsOrFails facts (running entry rest earlier files) event state
@@ -126,7 +127,8 @@ memory_if pool facts entry rest earlier files event state old new false is (inr 
     absurd (let no : true ≡ false = sym taken ∙ is in cc)
 
 pub memory_step : (pool : Range ℕ) (facts : BootFacts) (entry : ℕ) (rest : List ℕ)
-    (earlier : List RefusedEntry) (files : List (List Spot)) (event : EventFacts) (state : State)
+    (earlier : List RefusedEntry) (files : List (List PieceState)) (event : EventFacts)
+    (state : State)
     (old new : List ℕ)
     → StepsOrFails facts (running entry rest earlier files) event state
     → MatchBool (is_taken (running entry rest earlier files) event) (IsMemoryIn pool state old new)

@@ -44,30 +44,30 @@ module _ (facts : BootFacts) (files : List File) (faults : ℕ → Option ℕ) w
         inl stays,
       )
   heard given unstarted [] item next asked genuine (event, is, goes, left) = absurd is
-  heard given (running entry rest earlier spots) [] item next asked genuine
+  heard given (running entry rest earlier piece_states) [] item next asked genuine
       (event, is, inl goes, left) =
-      let now : AreAsked facts given (running entry rest earlier spots) =
-      subst (λ (xs : List Item). AreAsked facts xs (running entry rest earlier spots))
+      let now : AreAsked facts given (running entry rest earlier piece_states) =
+      subst (λ (xs : List Item). AreAsked facts xs (running entry rest earlier piece_states))
       (append-nil given) asked in
       let more =
-      asked_same facts given (given ++ item ∷ []) (running entry rest earlier spots)
-      (same_under facts files faults given entry rest earlier spots item event is) now in
+      asked_same facts given (given ++ item ∷ []) (running entry rest earlier piece_states)
+      (same_under facts files faults given entry rest earlier piece_states item event is) now in
       let behind =
-      asked_step facts (given ++ item ∷ []) entry rest earlier spots event next.state more
+      asked_step facts (given ++ item ∷ []) entry rest earlier piece_states event next.state more
       goes in
       inl (
         subst (λ (xs : List Item). AreAsked facts ((given ++ item ∷ []) ++ xs) next.state)
             (sym left) behind,
         inr (
           event,
-          genuine_event facts files faults given entry rest earlier spots item event now is
+          genuine_event facts files faults given entry rest earlier piece_states item event now is
               (genuine event refl is),
           goes,
         ),
       )
-  heard given (running entry rest earlier spots) [] item next asked genuine
+  heard given (running entry rest earlier piece_states) [] item next asked genuine
       (event, is, inr (lost, ends), left) =
-      inr (lost_step facts (running entry rest earlier spots) next lost left)
+      inr (lost_step facts (running entry rest earlier piece_states) next lost left)
   heard given (handed_over entry earlier handover) [] item next asked genuine
       (event, is, goes, left) = absurd is
   heard given (none_left earlier) [] item next asked genuine (event, is, goes, left) = absurd is

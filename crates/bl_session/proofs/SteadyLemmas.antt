@@ -2,11 +2,11 @@
 use Rattle.std.proofs.Common.{◌≡◌, ℕ, ◌-◌, ◌*◌, ◌<◌, ◌≤◌, true, min, List, [], ◌++◌, length, map}
 use Rattle.std.proofs.Common.{get_or, None, refl, ap, ◌∙◌, arith}
 use Rattle.std.proofs.lemmas.List.{get_or-map}
-use Rattle.bl_stage.specs.Spots.{waits}
+use Rattle.bl_stage.specs.PieceStates.{waits}
 use Rattle.bl_session.specs.declared.words.Ticket.{Ticket}
 use Rattle.bl_session.specs.AttemptResult.{size_refusal, known_lengths}
 use Rattle.bl_session.specs.Menu.{entry_at}
-use Rattle.bl_session.specs.Pieces.{is_awaited, spot_of}
+use Rattle.bl_session.specs.Pieces.{is_awaited, piece_state_of}
 use Rattle.bl_session.specs.Boot.{BootFacts, State, unstarted, running, handed_over, none_left}
 use Rattle.bl_session.specs.Boot.{out_of_memory, sizes_of, fresh}
 use Rattle.bl_session.specs.History.{Item}
@@ -28,13 +28,13 @@ module _ (facts : BootFacts) where
   -- tickets of later attempts are not in it; one whose piece is awaited is asked for once, and not
   -- answered
   abbrev pub Steady : List Item → State → Type 0
-  Steady all (running entry rest earlier spots) =
+  Steady all (running entry rest earlier piece_states) =
       (size_refusal facts.machine (sizes_of facts entry) ≡ None)
-      × ((file piece : ℕ) → is_awaited (spot_of spots file piece) ≡ true
-      → spot_of spots file piece ≡ spot_of (fresh facts entry) file piece)
+      × ((file piece : ℕ) → is_awaited (piece_state_of piece_states file piece) ≡ true
+      → piece_state_of piece_states file piece ≡ piece_state_of (fresh facts entry) file piece)
       × ((t : Ticket) → length earlier < t.attempt → IsUntouched all t)
       × ((t : Ticket) → t.attempt ≡ length earlier
-      → is_awaited (spot_of spots t.file t.piece) ≡ true
+      → is_awaited (piece_state_of piece_states t.file t.piece) ≡ true
       → IsAskedOnce (file_at entry t.file) all t)
   Steady all unstarted = Unit {0}
   Steady all (handed_over entry earlier handover) = Unit {0}
@@ -52,22 +52,25 @@ module _ (facts : BootFacts) where
   steady_new given count number (handed_over entry later handover) is apart = tt
   steady_new given count number (none_left later) is apart = tt
   steady_new given count number out_of_memory is apart = tt
-  steady_new given count number (running entry rest later spots) (long, few, sized, first) apart =
+  steady_new given count number (running entry rest later piece_states) (long, few, sized, first)
+      apart =
       let indices = (entry_at facts.menu entry).files in
-      let asked_for = file_orders (length later) 0 indices spots in (
+      let asked_for = file_orders (length later) 0 indices piece_states in (
         sized,
         λ file piece e. rw first refl,
         λ t l.
             untouched_both given asked_for t (apart t (omega arith))
-            (untouched_files (length later) 0 indices spots t (λ (a, p). omega arith)),
+            (untouched_files (length later) 0 indices piece_states t (λ (a, p). omega arith)),
         λ t a e.
             let one = is_piece (known_lengths (sizes_of facts entry)) t.file t.piece (rw first at e) in
             let many = fresh_length facts entry in
-            let file_in : t.file < length spots = rw first one.file_in in
-            let piece_in : t.piece < length (get_or spots t.file []) = rw first one.piece_in in
+            let file_in : t.file < length piece_states = rw first one.file_in in
+            let piece_in : t.piece < length (get_or piece_states t.file []) =
+            rw first one.piece_in in
             let within : t.file < length indices = let f = one.file_in in omega arith in
             once_last (file_at entry t.file) given asked_for t (apart t (omega arith))
-            (once_files (length later) 0 indices spots t.file t a (omega arith) within file_in
+            (once_files (length later) 0 indices piece_states t.file t a (omega arith) within
+            file_in
             piece_in),
       )
 
@@ -93,13 +96,13 @@ module _ (facts : BootFacts) (files : List File) (known : facts.sizes ≡ map si
 
   pub awaited_piece : (entry place index : ℕ)
       → size_refusal facts.machine (sizes_of facts entry) ≡ None
-      → is_awaited (spot_of (fresh facts entry) place index) ≡ true
+      → is_awaited (piece_state_of (fresh facts entry) place index) ≡ true
       → (4096 * index < length (text_at entry place))
-      × (spot_of (fresh facts entry) place index
+      × (piece_state_of (fresh facts entry) place index
       ≡ waits (min 4096 (length (text_at entry place) - 4096 * index)))
   awaited_piece entry place index sized e =
       let one = is_piece (known_lengths (sizes_of facts entry)) place index e in
       let file_in = one.file_in in
       let many = fresh_length facts entry in
       let long = length_is entry place sized (omega arith) in
-      (rw (← long) one.inside, rw (← long) one.spot)
+      (rw (← long) one.inside, rw (← long) one.piece_state)

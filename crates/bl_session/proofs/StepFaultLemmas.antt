@@ -4,7 +4,7 @@ use Rattle.std.proofs.Common.{Result, Ok, Err, IfOk, OnErr, refl}
 use Rattle.std.specs.declared.ops.Range.{Range}
 use Rattle.bl_load.specs.declared.refusal.Refusal.TheVariants.{FileFault}
 use Rattle.bl_stage.specs.Ranges.{IsSameOutside}
-use Rattle.bl_stage.specs.Spots.{Spot}
+use Rattle.bl_stage.specs.PieceStates.{PieceState}
 use Rattle.bl_session.specs.declared.words.RefusedEntry.{RefusedEntry}
 use Rattle.bl_session.specs.declared.words.Ticket.{Ticket}
 use Rattle.bl_session.specs.Pieces.{with_piece, are_whole}
@@ -17,7 +17,8 @@ use Rattle.bl_session.proofs.StepLemmas.{by_test}
 -- ---- a fault
 
 pub steps_fault : {P E : Type 0} (facts : BootFacts) (entry : ℕ) (rest : List ℕ)
-    (earlier : List RefusedEntry) (files : List (List Spot)) (ticket : Ticket) (result : Result P E)
+    (earlier : List RefusedEntry) (files : List (List PieceState)) (ticket : Ticket)
+    (result : Result P E)
     (state : P → State)
     → is_wanted earlier files (fault ticket) ≡ true
     → IfOk result
@@ -32,7 +33,7 @@ steps_fault facts entry rest earlier files ticket (Ok phase) state wanted goes =
     by_test true (is_wanted earlier files (fault ticket)) _ _ wanted goes
 
 pub lacks_fault : {P E : Type 0} (entry : ℕ) (rest : List ℕ) (earlier : List RefusedEntry)
-    (files : List (List Spot)) (ticket : Ticket) (result : Result P E)
+    (files : List (List PieceState)) (ticket : Ticket) (result : Result P E)
     → is_wanted earlier files (fault ticket) ≡ true
     → OnErr result (ends_attempt (running entry rest earlier files) (fault ticket) ≡ true)
 lacks_fault entry rest earlier files ticket (Ok phase) wanted = tt

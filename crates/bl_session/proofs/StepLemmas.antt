@@ -10,10 +10,10 @@ use Rattle.bl_stage.specs.Staged.{Staging}
 use Rattle.bl_stage.specs.Pieces.{put_answer}
 use Rattle.bl_stage.specs.declared.stage.putting.Put.{Put}
 use Rattle.bl_stage.specs.declared.stage.putting.Put.TheVariants.{Stored, Strange}
-use Rattle.bl_stage.specs.Spots.{Spot, spots, put_spot}
+use Rattle.bl_stage.specs.PieceStates.{PieceState, piece_states, put_piece_state}
 use Rattle.bl_session.specs.declared.words.RefusedEntry.{RefusedEntry}
 use Rattle.bl_session.specs.declared.words.Ticket.{Ticket}
-use Rattle.bl_session.specs.Pieces.{awaits, spot_of, with_piece, are_whole}
+use Rattle.bl_session.specs.Pieces.{awaits, piece_state_of, with_piece, are_whole}
 use Rattle.bl_session.specs.Boot.{BootFacts, EventFacts, piece, State, running, Begins, Continues}
 use Rattle.bl_session.specs.Boot.{Steps, is_wanted, ends_attempt}
 use Rattle.bl_session.specs.Memory.{IsMemoryIn}
@@ -27,7 +27,7 @@ by_test b tested P Q e h = subst (λ (x : Bool). MatchBool x P Q) (sym e) h
 -- ---- an event that is not wanted
 
 pub steps_same : (facts : BootFacts) (entry : ℕ) (rest : List ℕ) (earlier : List RefusedEntry)
-    (files : List (List Spot)) (event : EventFacts) → is_wanted earlier files event ≡ false
+    (files : List (List PieceState)) (event : EventFacts) → is_wanted earlier files event ≡ false
     → Steps facts (running entry rest earlier files) event (running entry rest earlier files)
 steps_same facts entry rest earlier files event e =
     by_test false (is_wanted earlier files event) _ _ e refl
@@ -36,17 +36,17 @@ pub memory_same : (wanted : Bool) (P : Type 0) (old new : List ℕ) → wanted �
     → MatchBool wanted P (new ≡ old)
 memory_same wanted P old new e same = by_test false wanted P (new ≡ old) e same
 
-pub other_attempt : (earlier : List RefusedEntry) (files : List (List Spot)) (ticket : Ticket)
+pub other_attempt : (earlier : List RefusedEntry) (files : List (List PieceState)) (ticket : Ticket)
     (bytes : List ℕ) (test : Bool) → test ≡ (ticket.attempt == length earlier) → test ≡ false
     → is_wanted earlier files (piece ticket bytes) ≡ false
 other_attempt earlier files ticket bytes test is e =
-    ap (λ (b : Bool). b && awaits (spot_of files ticket.file ticket.piece) (length bytes))
+    ap (λ (b : Bool). b && awaits (piece_state_of files ticket.file ticket.piece) (length bytes))
     (sym is ∙ e)
 
 pub wanted_not : (old : List ℕ) (stage : Staging) (earlier : List RefusedEntry) (ticket : Ticket)
     (bytes : List ℕ) (answer : Put)
     → answer ≡ put_answer stage ticket.file ticket.piece (length bytes) → answer ≢ Stored
-    → is_wanted earlier (spots old stage) (piece ticket bytes) ≡ false
+    → is_wanted earlier (piece_states old stage) (piece ticket bytes) ≡ false
 wanted_not old stage earlier ticket bytes answer is other =
     ap (λ (b : Bool). (ticket.attempt == length earlier) && b)
     (not_stored old stage ticket.file ticket.piece (length bytes) answer is other)
@@ -56,17 +56,18 @@ wanted_not old stage earlier ticket bytes answer is other =
     and_none true = refl
     and_none false = refl
 
--- the stage is as before, and so are its spots
+-- the stage is as before, and so are its pieces
 pub steps_unchanged : (facts : BootFacts) (entry : ℕ) (rest : List ℕ) (earlier : List RefusedEntry)
     (old new : List ℕ) (stage later : Staging) (event : EventFacts) → later ≡ stage → new ≡ old
-    → is_wanted earlier (spots old stage) event ≡ false
-    → Steps facts (running entry rest earlier (spots old stage)) event
-    (running entry rest earlier (spots new later))
+    → is_wanted earlier (piece_states old stage) event ≡ false
+    → Steps facts (running entry rest earlier (piece_states old stage)) event
+    (running entry rest earlier (piece_states new later))
 steps_unchanged facts entry rest earlier old new stage later event same bytes e =
-    let is : running entry rest earlier (spots old stage)
-    ≡ running entry rest earlier (spots new later) = rw (same, bytes) refl in
-    subst (λ (s : State). Steps facts (running entry rest earlier (spots old stage)) event s) is
-    (steps_same facts entry rest earlier (spots old stage) event e)
+    let is : running entry rest earlier (piece_states old stage)
+    ≡ running entry rest earlier (piece_states new later) = rw (same, bytes) refl in
+    subst (λ (s : State). Steps facts (running entry rest earlier (piece_states old stage)) event s)
+    is
+    (steps_same facts entry rest earlier (piece_states old stage) event e)
 
 -- ---- a piece that is stored
 
@@ -74,10 +75,10 @@ pub wanted_stored : (old : List ℕ) (stage : Staging) (earlier : List RefusedEn
     (bytes : List ℕ) (test : Bool) (answer : Put) → test ≡ (ticket.attempt == length earlier)
     → test ≡ true
     → answer ≡ put_answer stage ticket.file ticket.piece (length bytes) → answer ≡ Stored
-    → is_wanted earlier (spots old stage) (piece ticket bytes) ≡ true
+    → is_wanted earlier (piece_states old stage) (piece ticket bytes) ≡ true
 wanted_stored old stage earlier ticket bytes test answer is e told e_stored =
     ap (λ (b : Bool).
-    b && awaits (spot_of (spots old stage) ticket.file ticket.piece) (length bytes))
+    b && awaits (piece_state_of (piece_states old stage) ticket.file ticket.piece) (length bytes))
     (sym is ∙ e)
     ∙ stored old stage ticket.file ticket.piece (length bytes) answer told e_stored
 
@@ -96,19 +97,20 @@ named_stored stage file index len e = elim (cases_lt file (length stage.sizes)) 
       absurd (let bad : Strange ≡ Stored = sym strange ∙ e in cc)
 ]
 
--- the spots after it
-pub spots_after : (old new : List ℕ) (stage later : Staging) (ticket : Ticket) (bytes : List ℕ)
+-- the pieces after it
+pub piece_states_after : (old new : List ℕ) (stage later : Staging) (ticket : Ticket)
+    (bytes : List ℕ)
     (answer : Put) → answer ≡ put_answer stage ticket.file ticket.piece (length bytes)
     → answer ≡ Stored
-    → spots new later ≡ put_spot old stage ticket.file ticket.piece bytes
-    → spots new later ≡ with_piece (spots old stage) ticket.file ticket.piece bytes
-spots_after old new stage later ticket bytes answer told is spots_is =
-    spots_is
+    → piece_states new later ≡ put_piece_state old stage ticket.file ticket.piece bytes
+    → piece_states new later ≡ with_piece (piece_states old stage) ticket.file ticket.piece bytes
+piece_states_after old new stage later ticket bytes answer told is piece_states_is =
+    piece_states_is
     ∙ put_with old stage ticket.file ticket.piece bytes
     (named_stored stage ticket.file ticket.piece (length bytes) (sym told ∙ is))
 
 pub steps_piece : {P E : Type 0} (facts : BootFacts) (entry : ℕ) (rest : List ℕ)
-    (earlier : List RefusedEntry) (files after : List (List Spot)) (ticket : Ticket)
+    (earlier : List RefusedEntry) (files after : List (List PieceState)) (ticket : Ticket)
     (bytes : List ℕ) (result : Result P E) (state : P → State)
     → is_wanted earlier files (piece ticket bytes) ≡ true
     → after ≡ with_piece files ticket.file ticket.piece bytes
@@ -120,11 +122,11 @@ steps_piece facts entry rest earlier files after ticket bytes (Err e) state want
 steps_piece facts entry rest earlier files after ticket bytes (Ok phase) state wanted is goes =
     by_test true (is_wanted earlier files (piece ticket bytes)) _ _ wanted
     (subst
-    (λ (fs : List (List Spot)).
+    (λ (fs : List (List PieceState)).
     Continues facts (Begins facts rest) entry rest earlier fs (state phase)) is goes)
 
 pub lacks_piece : {P E : Type 0} (entry : ℕ) (rest : List ℕ) (earlier : List RefusedEntry)
-    (files after : List (List Spot)) (ticket : Ticket) (bytes : List ℕ) (result : Result P E)
+    (files after : List (List PieceState)) (ticket : Ticket) (bytes : List ℕ) (result : Result P E)
     → is_wanted earlier files (piece ticket bytes) ≡ true
     → after ≡ with_piece files ticket.file ticket.piece bytes
     → OnErr result (are_whole after ≡ true)

@@ -7,7 +7,7 @@ use Rattle.std.proofs.Math.Seq.{split_at}
 use Rattle.std.proofs.Math.Numerals.{add-one}
 use Rattle.std.proofs.lemmas.Bool.Decides.{Decides-ltb, not_from_Decides}
 use Rattle.std.specs.Prelude.{slice_get, slice_index_or, option_map}
-use Rattle.bl_stage.specs.Spots.{piece_of}
+use Rattle.bl_stage.specs.PieceStates.{piece_of}
 use Rattle.bl_session.specs.declared.words.Ticket.{Ticket}
 use Rattle.bl_session.specs.declared.store.Completion.{Completion}
 use Rattle.bl_session.specs.declared.submission.Submission.{Submission}

@@ -9,21 +9,23 @@ use Rattle.bl_stage.specs.Staged.{Staging, staged_file, table_of}
 use Rattle.bl_stage.specs.Pieces.{is_piece, slot_in, put_answer, is_missing}
 use Rattle.bl_stage.specs.declared.stage.putting.Put.{Put}
 use Rattle.bl_stage.specs.declared.stage.putting.Put.TheVariants.{Stored, Repeated, Strange}
-use Rattle.bl_stage.specs.Spots as stage
-use Rattle.bl_stage.specs.Spots.{Spot, has, spots, piece_of, put_spot}
+use Rattle.bl_stage.specs.PieceStates as stage
+use Rattle.bl_stage.specs.PieceStates.{PieceState, has, piece_states, piece_of, put_piece_state}
 use Rattle.bl_stage.proofs.FrameLemmas.{staged_length}
-use Rattle.bl_stage.proofs.SpotLemmas.{piece_long}
-use Rattle.bl_session.specs.Pieces.{is_awaited, awaits, spot_of, with_piece}
-use Rattle.bl_session.proofs.SpotLemmas.{Named, file_spots, spot_named, spot_past, index_past}
+use Rattle.bl_stage.proofs.PieceStateLemmas.{piece_long}
+use Rattle.bl_session.specs.Pieces.{is_awaited, awaits, piece_state_of, with_piece}
+use Rattle.bl_session.proofs.PieceStateLemmas.{Named, file_piece_states, piece_state_named}
+use Rattle.bl_session.proofs.PieceStateLemmas.{piece_state_past, index_past}
 
 -- ---- what is awaited
 
 awaits_if : (came : Bool) (piece : List ℕ) (size len : ℕ) → length piece ≡ size
-    → awaits (stage.spot_by came piece) len ≡ (not came && (size == len))
+    → awaits (stage.piece_state_by came piece) len ≡ (not came && (size == len))
 awaits_if true piece size len e = refl
 awaits_if false piece size len e = ap (λ n. n == len) e
 
-awaited_if : (came : Bool) (piece : List ℕ) → is_awaited (stage.spot_by came piece) ≡ not came
+awaited_if : (came : Bool) (piece : List ℕ)
+    → is_awaited (stage.piece_state_by came piece) ≡ not came
 awaited_if true piece = refl
 awaited_if false piece = refl
 
@@ -54,7 +56,7 @@ and-none false = refl
 
 -- a piece is stored if it is awaited
 awaits_named : (bytes : List ℕ) (stage : Staging) (file index len : ℕ) → Named stage file index
-    → awaits (spot_of (spots bytes stage) file index) len
+    → awaits (piece_state_of (piece_states bytes stage) file index) len
     ≡ (not (get_or stage.came (slot_in stage file index) false)
     && is_piece stage file index len)
 awaits_named bytes stage file index len named =
@@ -68,7 +70,7 @@ awaits_named bytes stage file index len named =
     rw (file_is, index_is)
     (same_length len (min 4096 (size - 4096 * index)) (min (size - 4096 * index) 4096)
     (omega arith)) in
-    ap (λ (s : Spot). awaits s len) (spot_named bytes stage file index named)
+    ap (λ (s : PieceState). awaits s len) (piece_state_named bytes stage file index named)
     ∙ awaits_if came (piece_of (staged_file bytes stage file) index) (min 4096 (size - 4096 * index))
     len (piece_size bytes stage file index)
     ∙ ap (λ (b : Bool). not came && b) (sym test)
@@ -78,18 +80,19 @@ awaits_named bytes stage file index len named =
 
 -- where there is no such piece
 awaits_none : (bytes : List ℕ) (stage : Staging) (file index len : ℕ)
-    → spot_of (spots bytes stage) file index ≡ has [] → is_piece stage file index len ≡ false
-    → awaits (spot_of (spots bytes stage) file index) len
+    → piece_state_of (piece_states bytes stage) file index ≡ has []
+    → is_piece stage file index len ≡ false
+    → awaits (piece_state_of (piece_states bytes stage) file index) len
     ≡ (not (get_or stage.came (slot_in stage file index) false)
     && is_piece stage file index len)
 awaits_none bytes stage file index len none test =
-    ap (λ (s : Spot). awaits s len) none
+    ap (λ (s : PieceState). awaits s len) none
     ∙ sym
     (ap (λ (b : Bool). not (get_or stage.came (slot_in stage file index) false) && b) test
     ∙ and-none (get_or stage.came (slot_in stage file index) false))
 
 pub awaits_stored : (bytes : List ℕ) (stage : Staging) (file index len : ℕ)
-    → awaits (spot_of (spots bytes stage) file index) len
+    → awaits (piece_state_of (piece_states bytes stage) file index) len
     ≡ is_stored (put_answer stage file index len)
 awaits_stored bytes stage file index len =
     (elim (cases_lt file (length stage.sizes)) [
@@ -103,7 +106,7 @@ awaits_stored bytes stage file index len =
             (nat_lt index (frames_of (get_or stage.sizes file 0))) _ no)
       ]
       | inr past ↦
-          awaits_none bytes stage file index len (spot_past bytes stage file index past)
+          awaits_none bytes stage file index len (piece_state_past bytes stage file index past)
           (let no : nat_lt file (length stage.sizes) ≡ false = grind (arith, nat_tests) in
           rw no refl)
     ]) ∙ sym
@@ -117,13 +120,13 @@ awaits_stored bytes stage file index len =
 -- a piece that is stored is awaited, and every other one is not
 pub stored : (bytes : List ℕ) (stage : Staging) (file index len : ℕ) (answer : Put)
     → answer ≡ put_answer stage file index len → answer ≡ Stored
-    → awaits (spot_of (spots bytes stage) file index) len ≡ true
+    → awaits (piece_state_of (piece_states bytes stage) file index) len ≡ true
 stored bytes stage file index len answer is e =
     awaits_stored bytes stage file index len ∙ ap is_stored (sym is ∙ e)
 
 pub not_stored : (bytes : List ℕ) (stage : Staging) (file index len : ℕ) (answer : Put)
     → answer ≡ put_answer stage file index len → answer ≢ Stored
-    → awaits (spot_of (spots bytes stage) file index) len ≡ false
+    → awaits (piece_state_of (piece_states bytes stage) file index) len ≡ false
 not_stored bytes stage file index len answer is e =
     awaits_stored bytes stage file index len ∙ ap is_stored (sym is) ∙ other answer e
   where
@@ -134,7 +137,8 @@ not_stored bytes stage file index len answer is e =
 
 -- a piece is missing if it is awaited
 pub missing_awaited : (bytes : List ℕ) (stage : Staging) (file index : ℕ)
-    → is_missing stage file index ≡ is_awaited (spot_of (spots bytes stage) file index)
+    → is_missing stage file index ≡ is_awaited
+    (piece_state_of (piece_states bytes stage) file index)
 missing_awaited bytes stage file index =
     elim (cases_lt file (length stage.sizes)) [
       | inl h ↦ elim (cases_lt index (frames_of (get_or stage.sizes file 0))) [
@@ -144,7 +148,7 @@ missing_awaited bytes stage file index =
             grind (arith, nat_tests) in
             rw (file_is, index_is)
             (sym
-            (ap is_awaited (spot_named bytes stage file index (h, i))
+            (ap is_awaited (piece_state_named bytes stage file index (h, i))
             ∙ awaited_if (get_or stage.came (slot_in stage file index) false)
             (piece_of (staged_file bytes stage file) index)))
         | inr past ↦
@@ -156,14 +160,15 @@ missing_awaited bytes stage file index =
       | inr past ↦
           let no : nat_lt file (length stage.sizes) ≡ false =
           grind (arith, nat_tests) in
-          rw no (sym (ap is_awaited (spot_past bytes stage file index past)))
+          rw no (sym (ap is_awaited (piece_state_past bytes stage file index past)))
     ]
 
 -- ---- after a piece
 
 pub put_with : (bytes : List ℕ) (stage : Staging) (file index : ℕ) (piece : List ℕ)
     → file < length stage.sizes
-    → put_spot bytes stage file index piece ≡ with_piece (spots bytes stage) file index piece
+    → put_piece_state bytes stage file index piece
+    ≡ with_piece (piece_states bytes stage) file index piece
 put_with bytes stage file index piece h =
-    ap (λ (s : List Spot). set (spots bytes stage) file (set s index (has piece)))
-    (sym (file_spots bytes stage file h))
+    ap (λ (s : List PieceState). set (piece_states bytes stage) file (set s index (has piece)))
+    (sym (file_piece_states bytes stage file h))

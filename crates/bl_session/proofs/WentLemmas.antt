@@ -5,7 +5,7 @@ use Rattle.std.proofs.Common.{inl, inr, arith, length-append}
 use Rattle.std.proofs.lemmas.List.{length-map}
 use Rattle.bl_load.specs.declared.refusal.Refusal.{Refusal}
 use Rattle.bl_load.specs.declared.refusal.Refusal.TheVariants.{FileFault}
-use Rattle.bl_stage.specs.Spots.{Spot, came_bytes, waiting_spots}
+use Rattle.bl_stage.specs.PieceStates.{PieceState, came_bytes, waiting_pieces}
 use Rattle.bl_session.specs.declared.words.RefusedEntry.{RefusedEntry}
 use Rattle.bl_session.specs.declared.words.Ticket.{Ticket}
 use Rattle.bl_session.specs.AttemptResult.{AttemptResult, handed, refused, size_refusal}
@@ -55,7 +55,7 @@ new_goes facts rest entry earlier (refused refusal) new more goes =
 
 -- an attempt goes on, or it ended and what comes is new
 goes_or_new : (facts : BootFacts) (entry : ℕ) (rest : List ℕ) (earlier : List RefusedEntry)
-    (files : List (List Spot)) (new : State)
+    (files : List (List PieceState)) (new : State)
     → ((r : List RefusedEntry) (s : State) → Begins facts rest r s
     → IsNewFrom facts (length rest) (length r) s)
     → Continues facts (Begins facts rest) entry rest earlier files new
@@ -102,7 +102,8 @@ new_begins facts (entry ∷ rest) earlier new goes =
 
 -- what one event does to an attempt that runs: nothing, if it is not wanted; it stores a piece; or
 -- the attempt ended, and what comes is new
-abbrev pub Went : BootFacts → ℕ → List ℕ → List RefusedEntry → List (List Spot) → EventFacts → State
+abbrev pub Went : BootFacts → ℕ → List ℕ → List RefusedEntry → List (List PieceState) → EventFacts
+    → State
     → Type 0
 Went facts entry rest earlier files event new =
     ((is_wanted earlier files event ≡ false) × (new ≡ running entry rest earlier files))
@@ -112,7 +113,7 @@ Went facts entry rest earlier files event new =
     ⊎ IsNewFrom facts (length rest) (length earlier + 1) new))
 
 pub step_went : (facts : BootFacts) (entry : ℕ) (rest : List ℕ) (earlier : List RefusedEntry)
-    (files : List (List Spot)) (event : EventFacts) (new : State)
+    (files : List (List PieceState)) (event : EventFacts) (new : State)
     → Steps facts (running entry rest earlier files) event new
     → Went facts entry rest earlier files event new
 step_went facts entry rest earlier files event new goes =
@@ -139,10 +140,10 @@ step_went facts entry rest earlier files event new goes =
     choice true e takes = inr (e, taken event takes)
     choice false e same = inl (e, same)
 
--- a new attempt has spots for each of its files
+-- a new attempt has a state of each piece of its files
 pub fresh_length : (facts : BootFacts) (entry : ℕ)
     → length (fresh facts entry) ≡ length (entry_at facts.menu entry).files
 fresh_length facts entry =
-    length-map (known_lengths (sizes_of facts entry)) waiting_spots
+    length-map (known_lengths (sizes_of facts entry)) waiting_pieces
     ∙ length-map (sizes_of facts entry) _
     ∙ length-map (entry_at facts.menu entry).files _

@@ -12,29 +12,30 @@ use Rattle.bl_map.specs.Room.{frames_of, frames_for}
 use Rattle.bl_stage.specs.Staged.{Staging, AreStaged, AllCame, staged_file, staged_texts, empty_stage}
 use Rattle.bl_stage.specs.Staged.{first_of}
 use Rattle.bl_stage.specs.Pieces.{slot_in}
-use Rattle.bl_stage.specs.Spots as stage
-use Rattle.bl_stage.specs.Spots.{Spot, spots, spots_of, spot_at, piece_of, waiting_spots, came_bytes}
+use Rattle.bl_stage.specs.PieceStates as stage
+use Rattle.bl_stage.specs.PieceStates.{PieceState, piece_states, piece_states_of, piece_state_at}
+use Rattle.bl_stage.specs.PieceStates.{piece_of, waiting_pieces, came_bytes}
 use Rattle.bl_stage.specs.TextLaws.{same_firsts}
 use Rattle.bl_stage.proofs.FileLemmas.{file_within}
-use Rattle.bl_stage.proofs.SpotLaws.{complete_spots, fresh_spots}
+use Rattle.bl_stage.proofs.PieceStateLaws.{complete_piece_states, fresh_piece_states}
 use Rattle.bl_session.specs.Pieces.{is_awaited, are_whole, awaited}
 
 -- ---- at first
 
 each_size : (sizes : List ℕ)
-    → map (λ file. waiting_spots (get_or sizes file 0)) (range_with_len 0 (length sizes))
+    → map (λ file. waiting_pieces (get_or sizes file 0)) (range_with_len 0 (length sizes))
     ≡ awaited sizes
 each_size sizes =
-    let d : List Spot = [] in
-    let f : ℕ → List Spot = λ file. waiting_spots (get_or sizes file 0) in
+    let d : List PieceState = [] in
+    let f : ℕ → List PieceState = λ file. waiting_pieces (get_or sizes file 0) in
     let long = length-map-range_with_len f 0 (length sizes) in
-    ext_get_or d _ _ (long ∙ sym (length-map sizes waiting_spots)) (λ k h.
+    ext_get_or d _ _ (long ∙ sym (length-map sizes waiting_pieces)) (λ k h.
     get_or-map-range_with_len f 0 (length sizes) k k d (omega arith) (omega arith)
-    ∙ sym (get_or-map waiting_spots sizes k 0 d (omega arith)))
+    ∙ sym (get_or-map waiting_pieces sizes k 0 d (omega arith)))
 
 pub first_awaited : (bytes : List ℕ) (pool : Range ℕ) (sizes frames : List ℕ)
-    → spots bytes (empty_stage pool sizes frames) ≡ awaited sizes
-first_awaited bytes pool sizes frames = fresh_spots bytes pool sizes frames ∙ each_size sizes
+    → piece_states bytes (empty_stage pool sizes frames) ≡ awaited sizes
+first_awaited bytes pool sizes frames = fresh_piece_states bytes pool sizes frames ∙ each_size sizes
 
 -- ---- each came
 
@@ -88,33 +89,35 @@ came_slot stage file index kept came h i =
     came (slot_in stage file index) false (omega arith)
 
 pub came_whole : (bytes : List ℕ) (stage : Staging) → AreStaged stage → AllCame stage
-    → are_whole (spots bytes stage) ≡ true
+    → are_whole (piece_states bytes stage) ≡ true
 came_whole bytes stage kept came =
-    let q : Spot → Bool = λ spot. not (is_awaited spot) in
-    all_from (λ (s : List Spot). list_all q s) (λ file. spots_of bytes stage file) 0
+    let q : PieceState → Bool = λ piece_state. not (is_awaited piece_state) in
+    all_from (λ (s : List PieceState). list_all q s) (λ file. piece_states_of bytes stage file) 0
     (length stage.sizes) (λ file l h.
-    all_from q (λ k. spot_at bytes stage file k) 0 (frames_of (get_or stage.sizes file 0)) (λ k m i.
+    all_from q (λ k. piece_state_at bytes stage file k) 0 (frames_of (get_or stage.sizes file 0))
+    (λ k m i.
     rw (came_slot stage file k kept came (omega arith) (omega arith)) refl))
 
-flag_of : (came : Bool) (piece : List ℕ) → not (is_awaited (stage.spot_by came piece)) ≡ true
+flag_of : (came : Bool) (piece : List ℕ) → not (is_awaited (stage.piece_state_by came piece)) ≡ true
     → came ≡ true
 flag_of true piece e = refl
 flag_of false piece e = absurd cc
 
 pub whole_came : (bytes : List ℕ) (stage : Staging) → AreStaged stage
-    → are_whole (spots bytes stage) ≡ true → AllCame stage
+    → are_whole (piece_states bytes stage) ≡ true → AllCame stage
 whole_came bytes stage kept whole = λ k d h.
-    let q : Spot → Bool = λ spot. not (is_awaited spot) in
+    let q : PieceState → Bool = λ piece_state. not (is_awaited piece_state) in
     let all = kept.all in
     let flags = kept.flags in
     let found = find_piece stage.sizes k (omega arith) in
     let named = found.2 in
     let within = found.3 in
     let of_file =
-    all_at (λ (s : List Spot). list_all q s) (λ file. spots_of bytes stage file) 0
+    all_at (λ (s : List PieceState). list_all q s) (λ file. piece_states_of bytes stage file) 0
     (length stage.sizes) found.0 whole (omega arith) (omega arith) in
     let of_piece =
-    all_at q (λ i. spot_at bytes stage found.0 i) 0 (frames_of (get_or stage.sizes found.0 0))
+    all_at q (λ i. piece_state_at bytes stage found.0 i) 0
+    (frames_of (get_or stage.sizes found.0 0))
     found.1 of_file (omega arith) (omega arith) in
     let came =
     flag_of (get_or stage.came (slot_in stage found.0 found.1) false)
@@ -129,10 +132,11 @@ map_after g f [] = refl
 map_after g f (x ∷ xs) = ap (λ rest. g (f x) ∷ rest) (map_after g f xs)
 
 pub whole_texts : (bytes : List ℕ) (stage : Staging) → AreStaged stage → AllCame stage
-    → map came_bytes (spots bytes stage) ≡ staged_texts bytes stage
+    → map came_bytes (piece_states bytes stage) ≡ staged_texts bytes stage
 whole_texts bytes stage kept came =
     let d : List ℕ = [] in
-    map_after came_bytes (λ file. spots_of bytes stage file) (range_with_len 0 (length stage.sizes))
-    ∙ same_firsts d (λ file. came_bytes (spots_of bytes stage file))
+    map_after came_bytes (λ file. piece_states_of bytes stage file)
+    (range_with_len 0 (length stage.sizes))
+    ∙ same_firsts d (λ file. came_bytes (piece_states_of bytes stage file))
     (λ file. staged_file bytes stage file) (length stage.sizes)
-    (λ file h. complete_spots bytes stage file kept came h)
+    (λ file h. complete_piece_states bytes stage file kept came h)

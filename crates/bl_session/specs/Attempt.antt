@@ -6,7 +6,7 @@ use Rattle.bl_map.specs.MachineFacts.{MachineFacts}
 use Rattle.bl_load.specs.After.{IsAfter}
 use Rattle.bl_load.specs.declared.refusal.Refusal.{Refusal}
 use Rattle.bl_stage.specs.Ranges.{IsSameOutside}
-use Rattle.bl_stage.specs.Spots.{Spot, spots, came_bytes}
+use Rattle.bl_stage.specs.PieceStates.{PieceState, piece_states, came_bytes}
 use Rattle.bl_stage.specs.Staged.{Staging}
 use Rattle.bl_session.specs.declared.attempt.Attempt.{Attempt}
 use Rattle.bl_session.specs.declared.attempt.Attempt.TheVariants.{Waits, Ended}
@@ -23,12 +23,12 @@ abbrev pub attempt_by : {A : Type 0} → Staging → Option (AttemptEnd A) → A
 attempt_by stage None = Waits stage
 attempt_by stage (Some end) = Ended end
 
--- with these spots of its files it waits for what is missing, or ends by its entry's value
+-- with these pieces of its files it waits for what is missing, or ends by its entry's value
 abbrev pub IsAttempt :
-    {A : Type 0} → MachineFacts → EntryFacts → List (List Spot) → (bytes : List ℕ) → Attempt A
+    {A : Type 0} → MachineFacts → EntryFacts → List (List PieceState) → (bytes : List ℕ) → Attempt A
     → Type 0
 IsAttempt facts entry files bytes (Waits stage) =
-    (are_whole files ≡ false) × (spots bytes stage ≡ files)
+    (are_whole files ≡ false) × (piece_states bytes stage ≡ files)
 IsAttempt facts entry files bytes (Ended (HandedOver handoff)) =
     (are_whole files ≡ true)
     × HasResult facts (value_with entry (map came_bytes files))

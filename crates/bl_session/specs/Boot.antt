@@ -5,7 +5,7 @@ use Rattle.bl_map.specs.MachineFacts.{MachineFacts}
 use Rattle.bl_load.specs.declared.refusal.Refusal.{Refusal}
 use Rattle.bl_load.specs.declared.refusal.Refusal.TheVariants.{FileFault}
 use Rattle.bl_load.specs.Handover.{Handover}
-use Rattle.bl_stage.specs.Spots.{Spot, came_bytes}
+use Rattle.bl_stage.specs.PieceStates.{PieceState, came_bytes}
 use Rattle.bl_session.specs.declared.words.Ticket.{Ticket}
 use Rattle.bl_session.specs.declared.words.RefusedEntry.{RefusedEntry}
 use Rattle.bl_session.specs.declared.words.Progress.{Progress}
@@ -13,7 +13,8 @@ use Rattle.bl_session.specs.declared.words.Progress.TheVariants.{Waiting, Next, 
 use Rattle.bl_session.specs.AttemptResult.{AttemptResult, handed, refused, HasResult, size_refusal}
 use Rattle.bl_session.specs.AttemptResult.{known_lengths}
 use Rattle.bl_session.specs.Menu.{MenuFacts, entry_at, value_with}
-use Rattle.bl_session.specs.Pieces.{is_awaited, awaits, spot_of, with_piece, are_whole, awaited}
+use Rattle.bl_session.specs.Pieces.{is_awaited, awaits, piece_state_of, with_piece, are_whole}
+use Rattle.bl_session.specs.Pieces.{awaited}
 
 -- what does not change in a boot: the machine, the menu, and the size of each file of the menu,
 -- None if it is missing
@@ -32,7 +33,8 @@ pub data EventFacts : Type 0 where
 pub data State : Type 0 where
   unstarted : State
   running :
-      (entry : ℕ) → (rest : List ℕ) → (earlier : List RefusedEntry) → (files : List (List Spot))
+      (entry : ℕ) → (rest : List ℕ) → (earlier : List RefusedEntry)
+      → (files : List (List PieceState))
       → State
   handed_over : (entry : ℕ) → (earlier : List RefusedEntry) → Handover → State
   none_left : (earlier : List RefusedEntry) → State
@@ -41,7 +43,7 @@ pub data State : Type 0 where
 -- what is so while an attempt runs, by its entry, the entries that are left, the refusals so far
 -- and what came of its files; else the other
 abbrev pub on_running {ℓ} : {X : Type ℓ} → State → (other : X)
-    → (ℕ → List ℕ → List RefusedEntry → List (List Spot) → X) → X
+    → (ℕ → List ℕ → List RefusedEntry → List (List PieceState) → X) → X
 on_running unstarted other runs = other
 on_running (running entry rest earlier files) other runs = runs entry rest earlier files
 on_running (handed_over entry earlier handover) other runs = other
@@ -56,7 +58,7 @@ sizes_of facts entry =
     map (λ file. slice_index_or facts.sizes file None) (entry_at facts.menu entry).files
 
 -- its pieces, of which none came
-abbrev pub fresh : BootFacts → ℕ → List (List Spot)
+abbrev pub fresh : BootFacts → ℕ → List (List PieceState)
 fresh facts entry = awaited (known_lengths (sizes_of facts entry))
 
 -- the result of its attempt once its files hold these texts
@@ -77,9 +79,10 @@ AfterAttempt next entry earlier (handed handover) state = state ≡ handed_over 
 AfterAttempt next entry earlier (refused refusal) state =
     next (earlier ++ record { entry = entry; refusal = refusal } ∷ []) state
 
--- the attempt has these spots: it waits for what is missing; if each piece came, it ends
+-- the attempt has these pieces: it waits for what is missing; if each piece came, it ends
 abbrev pub Continues :
-    BootFacts → Continuation → ℕ → List ℕ → List RefusedEntry → List (List Spot) → State → Type 0
+    BootFacts → Continuation → ℕ → List ℕ → List RefusedEntry → List (List PieceState) → State
+    → Type 0
 Continues facts next entry rest earlier files state =
     MatchBool (are_whole files)
     ((result : AttemptResult) × TextsHaveResult facts entry (map came_bytes files) result
@@ -105,16 +108,17 @@ Begins facts (entry ∷ rest) earlier state =
 
 -- the event is of the attempt that runs, which awaits the piece that it names, and a piece has the
 -- right length
-abbrev pub is_wanted : List RefusedEntry → List (List Spot) → EventFacts → Bool
+abbrev pub is_wanted : List RefusedEntry → List (List PieceState) → EventFacts → Bool
 is_wanted earlier files (piece ticket bytes) =
     (ticket.attempt == length earlier)
-    && awaits (spot_of files ticket.file ticket.piece) (length bytes)
+    && awaits (piece_state_of files ticket.file ticket.piece) (length bytes)
 is_wanted earlier files (fault ticket) =
-    (ticket.attempt == length earlier) && is_awaited (spot_of files ticket.file ticket.piece)
+    (ticket.attempt == length earlier) && is_awaited (piece_state_of files ticket.file ticket.piece)
 
 -- what a wanted event does: a piece is stored, a fault refuses the entry
 abbrev pub Takes :
-    BootFacts → ℕ → List ℕ → List RefusedEntry → List (List Spot) → EventFacts → State → Type 0
+    BootFacts → ℕ → List ℕ → List RefusedEntry → List (List PieceState) → EventFacts → State
+    → Type 0
 Takes facts entry rest earlier files (piece ticket bytes) state =
     Continues facts (Begins facts rest) entry rest earlier
     (with_piece files ticket.file ticket.piece bytes) state
@@ -138,7 +142,7 @@ abbrev pub is_running : State → Bool
 is_running state = on_running state false (λ entry rest earlier files. true)
 
 -- the event is wanted and ends the attempt: its last piece, or a fault
-abbrev pub is_wanted_last : List RefusedEntry → List (List Spot) → EventFacts → Bool
+abbrev pub is_wanted_last : List RefusedEntry → List (List PieceState) → EventFacts → Bool
 is_wanted_last earlier files (piece ticket bytes) =
     is_wanted earlier files (piece ticket bytes)
     && are_whole (with_piece files ticket.file ticket.piece bytes)

@@ -2,7 +2,7 @@
 use Rattle.std.specs.Prelude.{ℕ, ◌+◌, ◌==◌, List, [], ◌∷◌, ◌++◌, length, map, Option, None, Some}
 use Rattle.std.specs.Prelude.{if◌then◌else◌}
 use Rattle.std.specs.List.{range_with_len}
-use Rattle.bl_stage.specs.Spots.{Spot, waits, has}
+use Rattle.bl_stage.specs.PieceStates.{PieceState, waits, has}
 use Rattle.bl_session.specs.declared.words.Ticket.{Ticket}
 use Rattle.bl_session.specs.Menu.{entry_at}
 use Rattle.bl_session.specs.Boot.{BootFacts, State, attempt_of, on_running}
@@ -17,13 +17,13 @@ abbrev pub piece_orders : (attempt place file count : ℕ) → List Item
 piece_orders attempt place file count =
     map (λ piece. submitted file (ticket_of attempt place piece)) (range_with_len 0 count)
 
--- the files of an entry, by their index, from this place on, the one with the first of these spots,
--- and so on
-abbrev pub file_orders : (attempt place : ℕ) → List ℕ → List (List Spot) → List Item
+-- the files of an entry, by their index, from this place on, the one with the first of these
+-- pieces, and so on
+abbrev pub file_orders : (attempt place : ℕ) → List ℕ → List (List PieceState) → List Item
 file_orders attempt place [] files = []
 file_orders attempt place (index ∷ indices) [] = []
-file_orders attempt place (index ∷ indices) (spots ∷ files) =
-    piece_orders attempt place index (length spots)
+file_orders attempt place (index ∷ indices) (piece_states ∷ files) =
+    piece_orders attempt place index (length piece_states)
     ++ file_orders attempt (place + 1) indices files
 
 -- each piece of the attempt that runs: files ascending, and in each of them pieces ascending
@@ -39,16 +39,17 @@ orders_after facts old new = if attempt_of new == attempt_of old then [] else or
 
 -- ---- the first piece that is awaited: files ascending, and in each of them pieces ascending
 
-abbrev pub first_spot : (piece : ℕ) → List Spot → Option ℕ
-first_spot piece [] = None
-first_spot piece (waits size ∷ spots) = Some piece
-first_spot piece (has bytes ∷ spots) = first_spot (piece + 1) spots
+abbrev pub first_awaited_piece : (piece : ℕ) → List PieceState → Option ℕ
+first_awaited_piece piece [] = None
+first_awaited_piece piece (waits size ∷ piece_states) = Some piece
+first_awaited_piece piece (has bytes ∷ piece_states) = first_awaited_piece (piece + 1) piece_states
 
 abbrev pub ticket_or : (attempt place : ℕ) → Option Ticket → Option ℕ → Option Ticket
 ticket_or attempt place others None = others
 ticket_or attempt place others (Some piece) = Some (ticket_of attempt place piece)
 
-abbrev pub first_ticket : (attempt place : ℕ) → List (List Spot) → Option Ticket
+abbrev pub first_ticket : (attempt place : ℕ) → List (List PieceState) → Option Ticket
 first_ticket attempt place [] = None
-first_ticket attempt place (spots ∷ files) =
-    ticket_or attempt place (first_ticket attempt (place + 1) files) (first_spot 0 spots)
+first_ticket attempt place (piece_states ∷ files) =
+    ticket_or attempt place (first_ticket attempt (place + 1) files)
+    (first_awaited_piece 0 piece_states)

@@ -2,7 +2,7 @@
 use Rattle.std.specs.Prelude.{◌≡◌, ℕ, ◌+◌, true, List, [], ◌∷◌, length, map, slice_index_or, Option}
 use Rattle.std.specs.Prelude.{None, Some, if◌then◌else◌}
 use Rattle.bl_load.specs.Value.{EntryValue}
-use Rattle.bl_stage.specs.Spots.{Spot, piece_of}
+use Rattle.bl_stage.specs.PieceStates.{PieceState, piece_of}
 use Rattle.bl_session.specs.declared.words.RefusedEntry.{RefusedEntry}
 use Rattle.bl_session.specs.AttemptResult.{AttemptResult, AttemptHasResult, file_limit}
 use Rattle.bl_session.specs.Menu.{entry_at, value_with}
@@ -50,26 +50,29 @@ no_fault attempt = None
 
 -- a piece completes its attempt only if no fault comes of it; a fault is the one that comes
 abbrev pub AreToldFaults :
-    Faults → List RefusedEntry → List (List Spot) → EventFacts → Type 0
-AreToldFaults faults earlier spots (piece ticket bytes) =
-    are_whole (with_piece spots ticket.file ticket.piece bytes) ≡ true
+    Faults → List RefusedEntry → List (List PieceState) → EventFacts → Type 0
+AreToldFaults faults earlier piece_states (piece ticket bytes) =
+    are_whole (with_piece piece_states ticket.file ticket.piece bytes) ≡ true
     → faults (length earlier) ≡ None
-AreToldFaults faults earlier spots (fault ticket) = faults (length earlier) ≡ Some ticket.file
+AreToldFaults faults earlier piece_states (fault ticket) =
+    faults (length earlier) ≡ Some ticket.file
 
 -- a piece holds its file's bytes at its place; and the faults are these
 abbrev pub IsTrueOf :
-    BootFacts → List File → Faults → ℕ → List RefusedEntry → List (List Spot) → EventFacts → Type 0
-IsTrueOf facts files faults entry earlier spots (piece ticket bytes) =
+    BootFacts → List File → Faults → ℕ → List RefusedEntry → List (List PieceState) → EventFacts
+    → Type 0
+IsTrueOf facts files faults entry earlier piece_states (piece ticket bytes) =
     (bytes ≡ piece_of (slice_index_or (texts_of facts files entry) ticket.file []) ticket.piece)
-    × AreToldFaults faults earlier spots (piece ticket bytes)
-IsTrueOf facts files faults entry earlier spots (fault ticket) =
-    AreToldFaults faults earlier spots (fault ticket)
+    × AreToldFaults faults earlier piece_states (piece ticket bytes)
+IsTrueOf facts files faults entry earlier piece_states (fault ticket) =
+    AreToldFaults faults earlier piece_states (fault ticket)
 
 -- an event that is not wanted may be anything
 abbrev pub IsGenuineAt : BootFacts → List File → Faults → State → EventFacts → Type 0
 IsGenuineAt facts files faults state event =
-    on_running state (Unit {0}) (λ entry rest earlier spots. is_wanted earlier spots event ≡ true
-    → IsTrueOf facts files faults entry earlier spots event)
+    on_running state (Unit {0}) (λ entry rest earlier piece_states. is_wanted earlier piece_states
+    event ≡ true
+    → IsTrueOf facts files faults entry earlier piece_states event)
 
 -- each event is so where it comes
 abbrev pub IsGenuine : BootFacts → List File → Faults → State → List EventFacts → Type 0

@@ -7,7 +7,7 @@ use Rattle.bl_load.specs.HandoffFacts.{HandoffFacts}
 use Rattle.bl_load.specs.Handover.{Handover}
 use Rattle.bl_load.specs.PlanFacts.{handover_in}
 use Rattle.bl_stage.specs.Staged.{Staging}
-use Rattle.bl_stage.specs.Spots.{spots}
+use Rattle.bl_stage.specs.PieceStates.{piece_states}
 use Rattle.bl_session.specs.declared.words.RefusedEntry.{RefusedEntry}
 use Rattle.bl_session.specs.declared.words.BootFault.{BootFault}
 use Rattle.bl_session.specs.declared.words.BootFault.TheVariants.{NoEntryLeft, NoMemory}
@@ -38,11 +38,12 @@ pub data PhaseFacts : Type 0 where
   has_none : (earlier : List RefusedEntry) → PhaseFacts
   lacks_memory : PhaseFacts
 
--- the state of the boot, where memory has these bytes: a stage's spots and the parts of a handover
+-- the state of the boot, where memory has these bytes: a stage's pieces and the parts of a handover
 -- are what it holds
 abbrev pub state_at : List ℕ → PhaseFacts → State
 state_at bytes not_started = unstarted
-state_at bytes (waits entry rest earlier stage) = running entry rest earlier (spots bytes stage)
+state_at bytes (waits entry rest earlier stage) =
+    running entry rest earlier (piece_states bytes stage)
 state_at bytes (hands_over entry earlier handoff) =
     handed_over entry earlier (handover_held bytes handoff)
 state_at bytes (has_none earlier) = none_left earlier

@@ -1,7 +1,7 @@
 -- A boot over a store: what the store was asked and answered, read from left to right. Own.
 use Rattle.std.specs.Prelude.{◌≡◌, ◌⊎◌, ◌↔◌, ℕ, true, List, [], ◌∷◌, ◌++◌, length, Some, Result, Ok}
 use Rattle.std.specs.Prelude.{Err}
-use Rattle.bl_stage.specs.Spots.{Spot}
+use Rattle.bl_stage.specs.PieceStates.{PieceState}
 use Rattle.bl_session.specs.declared.words.Ticket.{Ticket}
 use Rattle.bl_session.specs.declared.words.RefusedEntry.{RefusedEntry}
 use Rattle.bl_session.specs.declared.words.BootFault.{BootFault}
@@ -16,25 +16,25 @@ use Rattle.bl_session.specs.Phases.{PhaseFacts, outcome_facts, fault_facts}
 
 -- ---- answers as events
 
--- the event that an answer is, after this history, if the attempt has these spots: a piece has as
+-- the event that an answer is, after this history, if the attempt has these pieces: one has as
 -- many bytes as were told, and they are its file's exactly if they are marked so; with nothing more
 -- to come, it is a fault of the first piece that is awaited
 abbrev pub IsAnswer :
-    List File → List Item → List RefusedEntry → List (List Spot) → Item → EventFacts → Type 0
-IsAnswer files given earlier spots (submitted file ticket) event = ⊥
-IsAnswer files given earlier spots (came ticket count genuine) event =
+    List File → List Item → List RefusedEntry → List (List PieceState) → Item → EventFacts → Type 0
+IsAnswer files given earlier piece_states (submitted file ticket) event = ⊥
+IsAnswer files given earlier piece_states (came ticket count genuine) event =
     (bytes : List ℕ) × (event ≡ piece ticket bytes) × (length bytes ≡ count)
     × ((genuine ≡ true) ↔ IsPieceOf files (file_under given ticket) ticket.piece bytes)
-IsAnswer files given earlier spots (failed ticket) event = event ≡ fault ticket
-IsAnswer files given earlier spots nothing event =
-    (ticket : Ticket) × (first_ticket (length earlier) 0 spots ≡ Some ticket)
+IsAnswer files given earlier piece_states (failed ticket) event = event ≡ fault ticket
+IsAnswer files given earlier piece_states nothing event =
+    (ticket : Ticket) × (first_ticket (length earlier) 0 piece_states ≡ Some ticket)
     × (event ≡ fault ticket)
 
 -- only an attempt that runs takes answers
 abbrev pub IsEventOf : List File → List Item → State → Item → EventFacts → Type 0
 IsEventOf files given state item event =
     on_running state ⊥
-    (λ entry rest earlier spots. IsAnswer files given earlier spots item event)
+    (λ entry rest earlier piece_states. IsAnswer files given earlier piece_states item event)
 
 -- where a boot stands, and what it is still to ask for
 pub record World : Type 0 where
@@ -86,13 +86,14 @@ IsMarked nothing = Unit {0}
 abbrev pub IsMarkedItem : State → Item → EventFacts → Type 0
 IsMarkedItem state item event =
     on_running state (Unit {0})
-    (λ entry rest earlier spots. is_wanted earlier spots event ≡ true → IsMarked item)
+    (λ entry rest earlier piece_states. is_wanted earlier piece_states event ≡ true → IsMarked item)
 
 -- an event that is wanted is marked, and its faults are these; one that is not may be anything
 abbrev pub IsGenuineItem : Faults → State → Item → EventFacts → Type 0
 IsGenuineItem faults state item event =
-    on_running state (Unit {0}) (λ entry rest earlier spots. is_wanted earlier spots event ≡ true
-    → IsMarked item × AreToldFaults faults earlier spots event)
+    on_running state (Unit {0}) (λ entry rest earlier piece_states. is_wanted earlier piece_states
+    event ≡ true
+    → IsMarked item × AreToldFaults faults earlier piece_states event)
 
 -- of these items, after this history, each answer is so where it comes
 abbrev pub AllAnswers :

@@ -3,7 +3,7 @@ ghost use Rattle.std.specs.Prelude.{◌≡◌, None, IfOk, OnErr, length, map, s
 ghost use Rattle.bl_mem.specs.Memory.{HasRoom, KeepsMemory};
 ghost use Rattle.bl_load.specs.Value.{IsWithinLimits};
 ghost use Rattle.bl_stage.specs.Ranges.{IsSameOutside};
-ghost use Rattle.bl_stage.specs.Spots.{spots};
+ghost use Rattle.bl_stage.specs.PieceStates.{piece_states};
 ghost use Rattle.bl_session.specs.Attempt.{IsAttempt, IsAttemptBegun, IsMemoryOf, KeepsAttempt};
 ghost use Rattle.bl_session.specs.Attempt.{attempt_by};
 ghost use Rattle.bl_session.specs.Menu.{facts_of, files_of};
@@ -57,14 +57,15 @@ pub fn end_attempt<M: PhysMem, A: Allocator + Copy>(
     requires size { length (M.bytes memory.old) ≡ machine.now.size }
     requires room { HasRoom (M.room memory.old) machine.now.pool.start machine.now.pool.end }
     ensures attempt { IfOk result (λ end. IsAttempt machine.now (facts_of entry.now)
-        (spots (M.bytes memory.old) stage.old) (M.bytes memory.new) (attempt_by stage.new end)) }
+        (piece_states (M.bytes memory.old) stage.old) (M.bytes memory.new)
+        (attempt_by stage.new end)) }
     ensures keeps { IfOk result (λ end. KeepsAttempt machine.now (length (files_of entry.now))
         (attempt_by stage.new end)) }
     ensures memory { IfOk result (λ end. IsMemoryOf machine.now.pool
         (M.bytes memory.old) (M.bytes memory.new) (attempt_by stage.new end)) }
     ensures err { OnErr result
         (IsSameOutside machine.now.pool (M.bytes memory.old) (M.bytes memory.new)) }
-    ensures whole { OnErr result (are_whole (spots (M.bytes memory.old) stage.old) ≡ true) }
+    ensures whole { OnErr result (are_whole (piece_states (M.bytes memory.old) stage.old) ≡ true) }
     ensures kept { KeepsMemory M.lender M.bytes M.room memory.old memory.new }
 {
     stage.are_staged();

@@ -2,7 +2,7 @@
 ghost use Rattle.std.specs.Prelude.{◌≡◌, ◌<◌, ◌≤◌, ◌++◌, ◌∷◌, [], true, IfOk, OnErr, length, drop};
 ghost use Rattle.bl_mem.specs.Memory.{HasRoom, KeepsMemory};
 ghost use Rattle.bl_stage.specs.Ranges.{IsSameOutside};
-ghost use Rattle.bl_stage.specs.Spots.{spots};
+ghost use Rattle.bl_stage.specs.PieceStates.{piece_states};
 ghost use Rattle.bl_session.specs.Boot.{Begins, Continues};
 ghost use Rattle.bl_session.specs.Pieces.{are_whole};
 ghost use Rattle.bl_session.specs.Memory.{IsMemoryIn};
@@ -128,7 +128,7 @@ pub fn settle<M: PhysMem, A: Allocator + Copy>(
         (Begins (facts_of_boot boot.now)
         (drop running.old.next boot.now.menu.now.attempts))
         running.old.entry (drop running.old.next boot.now.menu.now.attempts)
-        running.old.earlier.items (spots (M.bytes memory.old) running.old.stage)
+        running.old.earlier.items (piece_states (M.bytes memory.old) running.old.stage)
         (state_in boot.now (M.bytes memory.new) (phase_by running.new ended))) }
     ensures memory { IfOk result (λ ended. IsMemoryIn boot.now.machine.now.pool
         (state_in boot.now (M.bytes memory.new) (phase_by running.new ended))
@@ -138,7 +138,7 @@ pub fn settle<M: PhysMem, A: Allocator + Copy>(
     ensures err { OnErr result
         (IsSameOutside boot.now.machine.now.pool (M.bytes memory.old) (M.bytes memory.new)) }
     ensures whole { OnErr result
-        (are_whole (spots (M.bytes memory.old) running.old.stage) ≡ true) }
+        (are_whole (piece_states (M.bytes memory.old) running.old.stage) ≡ true) }
     ensures kept { KeepsMemory M.lender M.bytes M.room memory.old memory.new }
 {
     let entry = running.entry;

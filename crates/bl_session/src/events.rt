@@ -2,7 +2,7 @@
 ghost use Rattle.std.specs.Prelude.{◌≡◌, ◌≢◌, ◌==◌, ℕ, List, true, IfOk, OnErr, MatchBool, length};
 ghost use Rattle.bl_mem.specs.Memory.{HasRoom, KeepsMemory};
 ghost use Rattle.bl_stage.specs.Ranges.{IsSameOutside};
-ghost use Rattle.bl_stage.specs.Spots.{spots};
+ghost use Rattle.bl_stage.specs.PieceStates.{piece_states};
 ghost use Rattle.bl_session.specs.Boot.{Steps, piece, fault, is_wanted, is_taken, ends_attempt};
 ghost use Rattle.bl_session.specs.Memory.{IsMemoryIn};
 ghost use Rattle.bl_session.specs.Phases.{event_facts};
@@ -28,7 +28,7 @@ fn is_of<A: Allocator>(running: &Running<A>, ticket: Ticket) -> bool
 /// Whether a fault of this ticket is awaited.
 fn awaits_fault<A: Allocator>(running: &Running<A>, ticket: Ticket) -> bool
     ensures { (bytes : List ℕ) → result ≡ is_wanted running.now.earlier.items
-        (spots bytes running.now.stage) (fault ticket) }
+        (piece_states bytes running.now.stage) (fault ticket) }
 {
     is_of(running, ticket) && running.stage.is_missing(ticket.file, ticket.piece)
 }

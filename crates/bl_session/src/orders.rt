@@ -2,7 +2,7 @@
 ghost use Rattle.std.specs.Prelude.{◌≡◌, ◌<◌, ◌^◌, ◌++◌, ℕ, List, OnOk, OnErr, length};
 ghost use Rattle.std.specs.Prelude.{slice_index, slice_index_or};
 ghost use Rattle.bl_map.specs.Room as room;
-ghost use Rattle.bl_stage.specs.Spots.{spots};
+ghost use Rattle.bl_stage.specs.PieceStates.{piece_states};
 ghost use Rattle.bl_session.specs.History.{Item};
 ghost use Rattle.bl_session.specs.Menu.{files_of};
 ghost use Rattle.bl_session.specs.Orders.{piece_orders, file_orders};
@@ -89,9 +89,9 @@ pub fn submit_files<S: Store, A: Allocator>(
     requires small { HasSmallFiles stage.now }
     ensures ok { OnOk result ((bytes : List ℕ) → S.given store.new
         ≡ S.given store.old
-        ++ file_orders attempt 0 (files_of entry.now) (spots bytes stage.now)) }
+        ++ file_orders attempt 0 (files_of entry.now) (piece_states bytes stage.now)) }
     ensures err { OnErr result ((bytes : List ℕ) → (rest : List Item) × IsAsked
-        (file_orders attempt 0 (files_of entry.now) (spots bytes stage.now)) rest
+        (file_orders attempt 0 (files_of entry.now) (piece_states bytes stage.now)) rest
         (S.given store.old) (S.given store.new)) }
     ensures files { S.files store.new ≡ S.files store.old }
 {

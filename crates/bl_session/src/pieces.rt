@@ -2,11 +2,11 @@
 ghost use Rattle.std.specs.Prelude.{◌≡◌, ◌+◌, ◌<◌, ◌^◌, [], ℕ, List, IfSome, length, drop};
 ghost use Rattle.std.specs.Prelude.{slice_index_or, option_map, true};
 ghost use Rattle.bl_stage.specs.Pieces.{is_missing};
-ghost use Rattle.bl_stage.specs.Spots.{spots};
+ghost use Rattle.bl_stage.specs.PieceStates.{piece_states};
 ghost use Rattle.bl_session.specs.Menu.{files_of};
-ghost use Rattle.bl_session.specs.Orders.{first_spot, first_ticket};
+ghost use Rattle.bl_session.specs.Orders.{first_awaited_piece, first_ticket};
 ghost use Rattle.bl_session.specs.PhasesKept.{HasSmallFiles, LacksPiece};
-ghost use Rattle.bl_session.specs.Pieces.{spot_of};
+ghost use Rattle.bl_session.specs.Pieces.{piece_state_of};
 ghost use Rattle.bl_session.specs.Requests.{length_awaited, request_for, ticket_after};
 
 use crate::orders::{file_at, pieces_of};
@@ -23,7 +23,8 @@ fn piece_from<A: Allocator>(stage: &Stage<A>, place: u32, start: usize) -> Optio
     requires file { place < length stage.now.sizes }
     requires small { HasSmallFiles stage.now }
     ensures first { (bytes : List ℕ) → result
-        ≡ first_spot start (drop start (slice_index_or (spots bytes stage.now) place [])) }
+        ≡ first_awaited_piece start (drop start
+        (slice_index_or (piece_states bytes stage.now) place [])) }
     ensures missing { IfSome result (λ piece. is_missing stage.now place piece ≡ true) }
 {
     for piece in start..pieces_of(stage, place as usize) as usize {
@@ -39,7 +40,7 @@ fn ticket_from<A: Allocator>(attempt: u32, stage: &Stage<A>, start: usize) -> Op
     requires few { length stage.now.sizes < 2 ^ 32 }
     requires small { HasSmallFiles stage.now }
     ensures first { (bytes : List ℕ)
-        → result ≡ first_ticket attempt start (drop start (spots bytes stage.now)) }
+        → result ≡ first_ticket attempt start (drop start (piece_states bytes stage.now)) }
     ensures missing { IfSome result (λ ticket.
         is_missing stage.now ticket.file ticket.piece ≡ true) }
 {
@@ -59,7 +60,8 @@ fn ticket_from<A: Allocator>(attempt: u32, stage: &Stage<A>, start: usize) -> Op
 pub fn first_missing<A: Allocator>(attempt: u32, stage: &Stage<A>) -> Option<Ticket>
     requires few { length stage.now.sizes < 2 ^ 32 }
     requires small { HasSmallFiles stage.now }
-    ensures first { (bytes : List ℕ) → result ≡ first_ticket attempt 0 (spots bytes stage.now) }
+    ensures first { (bytes : List ℕ)
+        → result ≡ first_ticket attempt 0 (piece_states bytes stage.now) }
     ensures missing { IfSome result (λ ticket.
         is_missing stage.now ticket.file ticket.piece ≡ true) }
 {
@@ -71,7 +73,7 @@ pub fn next_missing<A: Allocator>(attempt: u32, stage: &Stage<A>, ticket: Ticket
     requires few { length stage.now.sizes < 2 ^ 32 }
     requires small { HasSmallFiles stage.now }
     ensures first { (bytes : List ℕ)
-        → result ≡ ticket_after attempt (spots bytes stage.now) ticket }
+        → result ≡ ticket_after attempt (piece_states bytes stage.now) ticket }
     ensures missing { IfSome result (λ found.
         is_missing stage.now found.file found.piece ≡ true) }
 {
@@ -93,7 +95,7 @@ pub fn next_missing<A: Allocator>(attempt: u32, stage: &Stage<A>, ticket: Ticket
 fn length_of<A: Allocator>(stage: &Stage<A>, ticket: Ticket) -> u32
     requires missing { is_missing stage.now ticket.file ticket.piece ≡ true }
     ensures { (bytes : List ℕ) → result
-        ≡ length_awaited (spot_of (spots bytes stage.now) ticket.file ticket.piece) }
+        ≡ length_awaited (piece_state_of (piece_states bytes stage.now) ticket.file ticket.piece) }
 {
     let size = stage.size_of(ticket.file as usize);
     size.saturating_sub(PIECE * ticket.piece as u64).min(PIECE) as u32
@@ -109,7 +111,7 @@ pub fn request_of<A: Allocator>(
         is_missing stage.now ticket.file ticket.piece ≡ true) }
     requires files { length stage.now.sizes ≡ length (files_of entry.now) }
     ensures { (bytes : List ℕ) → result
-        ≡ option_map (request_for (files_of entry.now) (spots bytes stage.now)) found }
+        ≡ option_map (request_for (files_of entry.now) (piece_states bytes stage.now)) found }
 {
     match found {
         Some(ticket) => Some(Request {
@@ -126,7 +128,8 @@ pub fn missing_piece<A: Allocator>(attempt: u32, stage: &Stage<A>) -> Ticket
     requires few { length stage.now.sizes < 2 ^ 32 }
     requires small { HasSmallFiles stage.now }
     requires lacks { LacksPiece stage.now }
-    ensures { (bytes : List ℕ) → first_ticket attempt 0 (spots bytes stage.now) ≡ Some result }
+    ensures { (bytes : List ℕ) → first_ticket attempt 0 (piece_states bytes stage.now)
+        ≡ Some result }
 {
     stage.are_staged();
     match first_missing(attempt, stage) {

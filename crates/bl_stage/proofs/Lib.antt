@@ -3,8 +3,8 @@ pub mod TableLemmas
 pub mod FileLemmas
 pub mod PieceLemmas
 pub mod TextLemmas
-pub mod SpotLemmas
-pub mod SpotLaws
+pub mod PieceStateLemmas
+pub mod PieceStateLaws
 pub mod CountLemmas
 pub mod CellGroupLemmas
 pub mod MovedCells

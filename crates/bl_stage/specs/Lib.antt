@@ -1,6 +1,6 @@
 pub mod Staged
 pub mod Pieces
-pub mod Spots
+pub mod PieceStates
 pub mod Ranges
 pub mod Cells
 pub mod CellGroups

@@ -5,7 +5,7 @@ ghost use Rattle.bl_mem.specs.Memory.{HasRoom, KeepsMemory};
 ghost use Rattle.bl_map.specs.Room as room;
 ghost use Rattle.bl_stage.specs.Staged.{staged_file, with_frames, AreStaged, HasPool};
 ghost use Rattle.bl_map.specs.Room.{frames_for};
-ghost use Rattle.bl_stage.specs.Spots.{spots};
+ghost use Rattle.bl_stage.specs.PieceStates.{piece_states};
 ghost use Rattle.bl_stage.specs.Ranges.{meets, IsSameOutside};
 
 use crate::fault::StageFault;
@@ -43,8 +43,8 @@ impl<A: Allocator> Stage<A> {
         ensures files { OnOk result ((file : ℕ) → file < length self.old.sizes
             → staged_file (M.bytes memory.new) self.new file
             ≡ staged_file (M.bytes memory.old) self.old file) }
-        ensures spots { OnOk result (spots (M.bytes memory.new) self.new
-            ≡ spots (M.bytes memory.old) self.old) }
+        ensures piece_states { OnOk result (piece_states (M.bytes memory.new) self.new
+            ≡ piece_states (M.bytes memory.old) self.old) }
         ensures staged { AreStaged self.new }
         ensures outside { IsSameOutside self.old.pool (M.bytes memory.old) (M.bytes memory.new) }
         ensures kept { KeepsMemory M.lender M.bytes M.room memory.old memory.new }

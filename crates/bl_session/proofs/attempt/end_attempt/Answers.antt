@@ -7,7 +7,7 @@ use Rattle.bl_stage.specs.Staged.{staged_texts}
 use Rattle.bl_session.specs.AttemptResult.{handed, refused, HasResult}
 use Rattle.bl_session.specs.Finished.{IsNotHandedOver}
 use Rattle.bl_session.specs.Phases.{handover_held}
-use Rattle.bl_session.proofs.AttemptLemmas.{not_whole, ends_by_spots}
+use Rattle.bl_session.proofs.AttemptLemmas.{not_whole, ends_by_piece_states}
 use Rattle.bl_session.proofs.WholeLemmas.{came_whole}
 use Rattle.std.proofs.lemmas.Grind.{common_steps}
 use Rattle.bl_session.proofs.attempt.end_attempt.Goals as goal
@@ -35,7 +35,7 @@ returns-in-Ok-clause-attempt g c =
     HasResult facts (value_of (staged_texts bytes stage) c.args.entry.now) (handed h))
     (sym told.held) told.ends in (
       came_whole bytes stage kept came,
-      ends_by_spots facts c.args.entry.now bytes stage
+      ends_by_piece_states facts c.args.entry.now bytes stage
           (handed (handover_held new c.in-Ok.handoff)) kept came ends,
     )
 
@@ -52,7 +52,7 @@ returns-in-Err-Refused-clause-attempt g c =
     subst (λ (fault : PrepFault). IsNotHandedOver c.args.machine.now value fault bytes new) same
     c.in-Err-Refused.ensures.err in (
       came_whole bytes stage kept came,
-      ends_by_spots c.args.machine.now c.args.entry.now bytes stage
+      ends_by_piece_states c.args.machine.now c.args.entry.now bytes stage
           (refused c.in-Err-Refused.refusal) kept came told.0,
     )
 

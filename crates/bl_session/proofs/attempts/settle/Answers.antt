@@ -2,7 +2,7 @@ use Rattle.std.proofs.Common.{◌≡◌, List, Some, drop, ap, refl, rules, subs
 use Rattle.bl_session.specs.Menu.{facts_of}
 use Rattle.bl_session.specs.Boot.{unstarted, handed_over, Begins, Continues}
 use Rattle.bl_session.specs.Attempt.{attempt_by}
-use Rattle.bl_stage.specs.Spots.{spots}
+use Rattle.bl_stage.specs.PieceStates.{piece_states}
 use Rattle.bl_session.specs.PhasesKept.{facts_of_boot, state_of, phase_by}
 use Rattle.bl_session.specs.declared.attempt.Attempt.TheVariants.{Waits, Ended}
 use Rattle.bl_session.specs.declared.attempt.AttemptEnd.TheVariants.{HandedOver, Refused}
@@ -17,7 +17,7 @@ returns-in-None-clause-continues g c =
     let w = c.args.running.now in
     let facts = facts_of_boot c.args.boot.now in
     let rest = drop w.next facts.menu.attempts in
-    let files = spots (g.M.PhysMem.bytes c.args.memory.now) w.stage in
+    let files = piece_states (g.M.PhysMem.bytes c.args.memory.now) w.stage in
     let bytes = g.M.PhysMem.bytes c.end_attempt.new.memory in
     let stage = c.end_attempt.new.stage in
     continues {A = g.row.A.Denot} facts (Begins facts rest) w.entry rest w.earlier.items files bytes
@@ -31,7 +31,7 @@ returns-in-Some-HandedOver-clause-continues g c =
     let w = c.args.running.now in
     let facts = facts_of_boot c.args.boot.now in
     let rest = drop w.next facts.menu.attempts in
-    let files = spots (g.M.PhysMem.bytes c.args.memory.now) w.stage in
+    let files = piece_states (g.M.PhysMem.bytes c.args.memory.now) w.stage in
     let bytes = g.M.PhysMem.bytes c.end_attempt.new.memory in
     let stage = c.end_attempt.new.stage in
     let end = HandedOver c.in-Some-HandedOver.handoff in
@@ -52,7 +52,7 @@ returns-in-Some-Refused-clause-continues g c =
     let w = c.args.running.now in
     let facts = facts_of_boot c.args.boot.now in
     let rest = drop w.next facts.menu.attempts in
-    let files = spots (g.M.PhysMem.bytes c.args.memory.now) w.stage in
+    let files = piece_states (g.M.PhysMem.bytes c.args.memory.now) w.stage in
     let mid = g.M.PhysMem.bytes c.end_attempt.new.memory in
     let new = g.M.PhysMem.bytes c.refuse.new.memory in
     let one = attempt_by c.end_attempt.new.stage c.in_ok-end_attempt.field-0 in

@@ -1,6 +1,6 @@
 use Rattle.std.proofs.Common.{Bool, ◌&&◌, sym, ap, ◌∙◌}
-use Rattle.bl_stage.specs.Spots.{spots}
-use Rattle.bl_session.specs.Pieces.{is_awaited, spot_of}
+use Rattle.bl_stage.specs.PieceStates.{piece_states}
+use Rattle.bl_session.specs.Pieces.{is_awaited, piece_state_of}
 use Rattle.bl_session.proofs.StoredLemmas.{missing_awaited}
 use Rattle.bl_session.proofs.events.awaits_fault.Goals as goal
 
@@ -10,5 +10,6 @@ returns-then-is_of g c = λ bytes.
     let ticket = c.args.ticket in
     c.is_missing.ensures ∙ missing_awaited bytes stage ticket.file ticket.piece
     ∙ sym
-    (ap (λ (b : Bool). b && is_awaited (spot_of (spots bytes stage) ticket.file ticket.piece))
+    (ap (λ (b : Bool). b && is_awaited
+    (piece_state_of (piece_states bytes stage) ticket.file ticket.piece))
     (sym c.is_of.ensures ∙ c.if-is_of.true))

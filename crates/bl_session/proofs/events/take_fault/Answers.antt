@@ -1,5 +1,5 @@
 use Rattle.std.proofs.Common.{drop, sym, ◌∙◌}
-use Rattle.bl_stage.specs.Spots.{spots}
+use Rattle.bl_stage.specs.PieceStates.{piece_states}
 use Rattle.bl_session.specs.Boot.{fault, is_wanted}
 use Rattle.bl_session.specs.Phases.{boot_facts}
 use Rattle.bl_session.specs.PhasesKept.{state_of, phase_by}
@@ -15,7 +15,7 @@ returns-clause-step g c =
     let new = g.M.PhysMem.bytes c.refuse.new.memory in
     let wanted = sym (c.awaits_fault.ensures old) ∙ c.if-not-awaits_fault.false in
     steps_fault (boot_facts c.args.boot.now.machine.now menu c.args.boot.now.sizes.items) w.entry
-    (drop w.next menu.attempts) w.earlier.items (spots old w.stage) c.args.ticket
+    (drop w.next menu.attempts) w.earlier.items (piece_states old w.stage) c.args.ticket
     c.refuse.result (λ ended. state_of menu.attempts new (phase_by c.refuse.new.running ended))
     wanted c.refuse.ensures.begun
 
@@ -25,7 +25,7 @@ returns-clause-lacking g c =
     let w = c.args.running.now in
     let old = g.M.PhysMem.bytes c.args.memory.now in
     let wanted = sym (c.awaits_fault.ensures old) ∙ c.if-not-awaits_fault.false in
-    lacks_fault w.entry (drop w.next menu.attempts) w.earlier.items (spots old w.stage)
+    lacks_fault w.entry (drop w.next menu.attempts) w.earlier.items (piece_states old w.stage)
     c.args.ticket c.refuse.result wanted
 
 pub returns-clause-memory : goal.returns-clause-memory
@@ -36,6 +36,6 @@ returns-clause-memory g c =
     let new = g.M.PhysMem.bytes c.refuse.new.memory in
     let wanted = sym (c.awaits_fault.ensures old) ∙ c.if-not-awaits_fault.false in
     memory_taken c.args.boot.now.machine.now.pool
-    (is_wanted w.earlier.items (spots old w.stage) (fault c.args.ticket)) old old new
+    (is_wanted w.earlier.items (piece_states old w.stage) (fault c.args.ticket)) old old new
     c.refuse.result (λ ended. state_of menu.attempts new (phase_by c.refuse.new.running ended))
     wanted (same_itself c.args.boot.now.machine.now.pool old) c.refuse.ensures.memory

@@ -1,12 +1,13 @@
 use Rattle.std.proofs.Common.{drop, arith, rules, subst, sym}
 use Rattle.bl_map.proofs.PoolLemmas.{pool_in_memory}
-use Rattle.bl_stage.specs.Spots.{spots}
+use Rattle.bl_stage.specs.PieceStates.{piece_states}
 use Rattle.bl_stage.specs.Staged.{Staging}
 use Rattle.bl_session.specs.Boot.{piece, is_wanted}
 use Rattle.bl_session.specs.Phases.{boot_facts}
 use Rattle.bl_session.specs.PhasesKept.{state_of, phase_by, IsPhaseKept}
 use Rattle.bl_session.specs.declared.phase.Phase.TheVariants.{Waits}
-use Rattle.bl_session.proofs.StepLemmas.{wanted_not, steps_unchanged, wanted_stored, spots_after}
+use Rattle.bl_session.proofs.StepLemmas.{wanted_not, steps_unchanged, wanted_stored}
+use Rattle.bl_session.proofs.StepLemmas.{piece_states_after}
 use Rattle.bl_session.proofs.StepLemmas.{steps_piece, lacks_piece, memory_taken, memory_same}
 use Rattle.bl_session.proofs.StepLemmas.{outside_taken}
 use Rattle.bl_session.proofs.events.take_piece.Goals as goal
@@ -38,13 +39,13 @@ returns-clause-step g c =
     let told = c.put-answer.ensures.answer in
     let stored = c.if-not-is_stored.ensures in
     steps_piece (boot_facts c.args.boot.now.machine.now menu c.args.boot.now.sizes.items) w.entry
-    (drop w.next menu.attempts) w.earlier.items (spots old w.stage)
-    (spots mid c.put-answer.new.self) ticket bytes c.settle.result
+    (drop w.next menu.attempts) w.earlier.items (piece_states old w.stage)
+    (piece_states mid c.put-answer.new.self) ticket bytes c.settle.result
     (λ ended. state_of menu.attempts new (phase_by c.settle.new.running ended))
     (wanted_stored old w.stage w.earlier.items ticket bytes c.is_of.result answer c.is_of.ensures
     c.if-not-is_of.false told stored)
-    (spots_after old mid w.stage c.put-answer.new.self ticket bytes answer told stored
-    (c.put-answer.ensures.spots stored)) c.settle.ensures.continues
+    (piece_states_after old mid w.stage c.put-answer.new.self ticket bytes answer told stored
+    (c.put-answer.ensures.piece_states stored)) c.settle.ensures.continues
 
 pub returns-clause-lacking : goal.returns-clause-lacking
 returns-clause-lacking g c =
@@ -57,12 +58,12 @@ returns-clause-lacking g c =
     let answer = c.put-answer.result in
     let told = c.put-answer.ensures.answer in
     let stored = c.if-not-is_stored.ensures in
-    lacks_piece w.entry (drop w.next menu.attempts) w.earlier.items (spots old w.stage)
-    (spots mid c.put-answer.new.self) ticket bytes c.settle.result
+    lacks_piece w.entry (drop w.next menu.attempts) w.earlier.items (piece_states old w.stage)
+    (piece_states mid c.put-answer.new.self) ticket bytes c.settle.result
     (wanted_stored old w.stage w.earlier.items ticket bytes c.is_of.result answer c.is_of.ensures
     c.if-not-is_of.false told stored)
-    (spots_after old mid w.stage c.put-answer.new.self ticket bytes answer told stored
-    (c.put-answer.ensures.spots stored)) c.settle.ensures.whole
+    (piece_states_after old mid w.stage c.put-answer.new.self ticket bytes answer told stored
+    (c.put-answer.ensures.piece_states stored)) c.settle.ensures.whole
 
 pub returns-clause-memory : goal.returns-clause-memory
 returns-clause-memory g c =
@@ -77,7 +78,7 @@ returns-clause-memory g c =
     let told = c.put-answer.ensures.answer in
     let stored = c.if-not-is_stored.ensures in
     memory_taken c.args.boot.now.machine.now.pool
-    (is_wanted w.earlier.items (spots old w.stage) (piece ticket bytes)) old mid new
+    (is_wanted w.earlier.items (piece_states old w.stage) (piece ticket bytes)) old mid new
     c.settle.result (λ ended. state_of menu.attempts new (phase_by c.settle.new.running ended))
     (wanted_stored old w.stage w.earlier.items ticket bytes c.is_of.result answer c.is_of.ensures
     c.if-not-is_of.false told stored) (search rules) c.settle.ensures.memory
@@ -94,7 +95,8 @@ returns-then-not-is_stored-clause-memory g c =
     let new = g.M.PhysMem.bytes c.put-answer.new.memory in
     let bytes = c.args.bytes.now in
     let other = c.if-not-is_stored.ensures in
-    memory_same (is_wanted w.earlier.items (spots old w.stage) (piece c.args.ticket bytes)) _ old
+    memory_same (is_wanted w.earlier.items (piece_states old w.stage) (piece c.args.ticket bytes)) _
+    old
     new
     (wanted_not old w.stage w.earlier.items c.args.ticket bytes c.put-answer.result
     c.put-answer.ensures.answer other)

@@ -1,5 +1,5 @@
 use Rattle.std.proofs.Common.{[], sym, ◌∙◌}
-use Rattle.bl_stage.specs.Spots.{spots}
+use Rattle.bl_stage.specs.PieceStates.{piece_states}
 use Rattle.bl_session.proofs.WholeLemmas.{whole_came}
 use Rattle.bl_session.proofs.MissingLemmas.{none_missing}
 use Rattle.bl_session.proofs.pieces.missing_piece.Goals as goal
@@ -10,4 +10,4 @@ unreachable-requires g c =
     let none = sym (c.first_missing.ensures.first []) ∙ c.in-None.is in
     c.requires.lacks.lacks
     (whole_came [] stage c.are_staged.ensures
-    (none_missing c.args.attempt 0 (spots [] stage) none))
+    (none_missing c.args.attempt 0 (piece_states [] stage) none))

@@ -1,15 +1,16 @@
 use Rattle.std.proofs.Common.{◌∙◌, [], slice_index_or, sym, arith}
-use Rattle.bl_stage.specs.Spots.{spots}
+use Rattle.bl_stage.specs.PieceStates.{piece_states}
 use Rattle.bl_session.proofs.StoredLemmas.{missing_awaited}
-use Rattle.bl_session.proofs.MissingLemmas.{piece_here, piece_later, piece_none, length-file_spots}
+use Rattle.bl_session.proofs.MissingLemmas.{piece_here, piece_later, piece_none}
+use Rattle.bl_session.proofs.MissingLemmas.{length-file_piece_states}
 use Rattle.bl_session.proofs.pieces.piece_from.Goals as goal
 
 pub loop-piece-preserved : goal.loop-piece-preserved
 loop-piece-preserved g c = λ bytes.
     let stage = c.args.stage.now in
     let place = c.args.place in
-    let long = length-file_spots bytes stage place c.requires.file in
-    piece_later (slice_index_or (spots bytes stage) place []) c.loop-piece.piece _
+    let long = length-file_piece_states bytes stage place c.requires.file in
+    piece_later (slice_index_or (piece_states bytes stage) place []) c.loop-piece.piece _
     (omega (arith, long, c.pieces_of-piece-end.ensures))
     (sym (missing_awaited bytes stage place c.loop-piece.piece) ∙ sym c.is_missing.ensures
     ∙ c.if-is_missing.false) (c.loop-piece.invariant bytes)
@@ -18,8 +19,8 @@ pub returns-then-is_missing-clause-first : goal.returns-then-is_missing-clause-f
 returns-then-is_missing-clause-first g c = λ bytes.
     let stage = c.args.stage.now in
     let place = c.args.place in
-    let long = length-file_spots bytes stage place c.requires.file in
-    piece_here (slice_index_or (spots bytes stage) place []) c.loop-piece.piece _
+    let long = length-file_piece_states bytes stage place c.requires.file in
+    piece_here (slice_index_or (piece_states bytes stage) place []) c.loop-piece.piece _
     (omega (arith, long, c.pieces_of-piece-end.ensures))
     (sym (missing_awaited bytes stage place c.loop-piece.piece) ∙ sym c.is_missing.ensures
     ∙ c.if-is_missing.true) (c.loop-piece.invariant bytes)
@@ -28,6 +29,6 @@ pub returns-clause-first : goal.returns-clause-first
 returns-clause-first g c = λ bytes.
     let stage = c.args.stage.now in
     let place = c.args.place in
-    let long = length-file_spots bytes stage place c.requires.file in
-    piece_none (slice_index_or (spots bytes stage) place []) c.loop-piece.piece _
+    let long = length-file_piece_states bytes stage place c.requires.file in
+    piece_none (slice_index_or (piece_states bytes stage) place []) c.loop-piece.piece _
     (omega (arith, long, c.pieces_of-piece-end.ensures)) (c.loop-piece.invariant bytes)

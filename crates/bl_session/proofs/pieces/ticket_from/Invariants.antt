@@ -1,5 +1,5 @@
 use Rattle.std.proofs.Common.{◌≡◌, ℕ, List, drop}
-use Rattle.bl_stage.specs.Spots.{spots}
+use Rattle.bl_stage.specs.PieceStates.{piece_states}
 use Rattle.bl_session.specs.Orders.{first_ticket}
 use Rattle.bl_session.proofs.pieces.ticket_from.Given as goal
 
@@ -7,5 +7,5 @@ use Rattle.bl_session.proofs.pieces.ticket_from.Given as goal
 abbrev pub invariant-loop-place : goal.invariant-loop-place
 invariant-loop-place g l =
     (bytes : List ℕ)
-    → first_ticket l.attempt l.start (drop l.start (spots bytes l.stage))
-    ≡ first_ticket l.attempt l.place (drop l.place (spots bytes l.stage))
+    → first_ticket l.attempt l.start (drop l.start (piece_states bytes l.stage))
+    ≡ first_ticket l.attempt l.place (drop l.place (piece_states bytes l.stage))

@@ -3,9 +3,9 @@ use Rattle.std.specs.Vec.{with_items}
 use Rattle.std.proofs.lemmas.List.{with_items_is}
 use Rattle.bl_stage.specs.Staged.{Staging, AreStaged, staged_file, with_frames}
 use Rattle.bl_stage.specs.Cells.{ReadAlike, MadeWay}
-use Rattle.bl_stage.specs.Spots.{spots}
+use Rattle.bl_stage.specs.PieceStates.{piece_states}
 use Rattle.bl_stage.proofs.PieceLemmas.{kept_staged, file_evacuated}
-use Rattle.bl_stage.proofs.SpotLemmas.{spots_same}
+use Rattle.bl_stage.proofs.PieceStateLemmas.{piece_states_same}
 use Rattle.std.proofs.lemmas.Grind.{common_steps}
 use Rattle.bl_stage.proofs.stage.Stage.evacuate.Goals as goal
 use Rattle.bl_stage.proofs.stage.Stage.evacuate.Goals.{then-made, else-made}
@@ -46,8 +46,8 @@ returns-clause-files g c =
       | else-made w ↦ rw w.result-is tt
     ]
 
-pub returns-clause-spots : goal.returns-clause-spots
-returns-clause-spots g c =
+pub returns-clause-piece_states : goal.returns-clause-piece_states
+returns-clause-piece_states g c =
     let inside = c.self.inside in
     let stage = c.args.self.now in
     let bytes = g.M.PhysMem.bytes c.args.memory.now in
@@ -75,9 +75,9 @@ returns-clause-spots g c =
             came = inside.came.items;
           } in
           rw w.result-is
-          (ap (λ fs. spots new (with_frames view fs)) items
-          ∙ ap (λ s. spots new (with_frames s frames)) c.self.view_is
-          ∙ spots_same stage frames bytes new
+          (ap (λ fs. piece_states new (with_frames view fs)) items
+          ∙ ap (λ s. piece_states new (with_frames s frames)) c.self.view_is
+          ∙ piece_states_same stage frames bytes new
           (λ file h. file_evacuated bytes new stage frames file kept same long h))
       | else-made w ↦ rw w.result-is tt
     ]

@@ -1,13 +1,13 @@
 use Rattle.std.proofs.Common.{◌≡◌, ◌*◌, ◌<◌, ℕ, length, get_or, set, true, sym, ap, ◌∙◌}
 use Rattle.bl_mem.specs.Memory.{overwrite}
 use Rattle.bl_stage.specs.Staged.{Staging, AreStaged, staged_file}
-use Rattle.bl_stage.specs.Spots.{spots}
+use Rattle.bl_stage.specs.PieceStates.{piece_states}
 use Rattle.bl_stage.specs.Pieces.{slot_in, is_piece}
 use Rattle.bl_stage.proofs.PieceLemmas.{IsPiece, kept_staged, found_piece, piece_is, piece_in_file}
 use Rattle.bl_stage.proofs.PieceLemmas.{piece_in_others}
 use Rattle.bl_stage.proofs.PutLemmas.{write_outside, kept_put}
 use Rattle.bl_stage.proofs.PutLemmas.{some_waits, answer_repeated}
-use Rattle.bl_stage.proofs.SpotLemmas.{spots_put}
+use Rattle.bl_stage.proofs.PieceStateLemmas.{piece_states_put}
 use Rattle.bl_stage.proofs.stage.Stage.put.Goals as goal
 
 pub returns-clause-in_file : goal.returns-clause-in_file
@@ -68,8 +68,8 @@ returns-clause-in_others g c =
     ap (λ s. staged_file new s other) c.self.view_is ∙ ap (λ m. staged_file m stage other) wrote
     ∙ piece_in_others stage kept bytes piece file index is c.requires.inside other h differ
 
-pub returns-clause-spots : goal.returns-clause-spots
-returns-clause-spots g c =
+pub returns-clause-piece_states : goal.returns-clause-piece_states
+returns-clause-piece_states g c =
     let inside = c.self.inside in
     let stage = c.args.self.now in
     let bytes = g.M.PhysMem.bytes c.args.memory.now in
@@ -93,7 +93,7 @@ returns-clause-spots g c =
     ∙ ap (λ a. overwrite bytes a piece)
     (c.address_of-at.ensures.is
     ∙ ap (λ k. 4096 * get_or stage.frames k 0) found.1) in
-    let all = spots_put stage bytes new piece file index kept found.0
+    let all = piece_states_put stage bytes new piece file index kept found.0
     (ap (λ m. staged_file m stage file) wrote
     ∙ piece_in_file stage kept bytes piece file index is c.requires.inside)
     (λ other h differ.
@@ -117,7 +117,7 @@ returns-clause-spots g c =
     } in
     let same : put view c.in-Some.slot ≡ put stage (slot_in stage file index) =
     ap (λ s. put s c.in-Some.slot) c.self.view_is ∙ ap (λ k. put stage k) found.1 in
-    λ _. ap (spots new) same ∙ all
+    λ _. ap (piece_states new) same ∙ all
 
 pub returns-clause-outside : goal.returns-clause-outside
 returns-clause-outside g c =

@@ -1,4 +1,4 @@
--- The spots of files, after a piece came and after frames moved.
+-- The states of files' pieces, after one came and after frames moved.
 use Rattle.std.proofs.Common.{◌≡◌, ◌≢◌, ℕ, ◌+◌, ◌-◌, ◌*◌, ◌<◌, ◌≤◌, List, [], length, get_or, set}
 use Rattle.std.proofs.Common.{drop, min, map, true, false, arith, refl, sym, ap, ◌∙◌, inl, inr}
 use Rattle.std.specs.List.{range_with_len}
@@ -14,7 +14,8 @@ use Rattle.bl_mem.proofs.Overwrites.{get_or-overwrite_above}
 use Rattle.bl_stage.specs.Staged.{Staging, AreStaged, staged_file, table_of, with_frames}
 use Rattle.bl_stage.specs.Pieces.{is_piece, slot_in, stage_with}
 use Rattle.bl_stage.specs.TextLaws.{same_firsts}
-use Rattle.bl_stage.specs.Spots.{Spot, has, spot_by, spot_at, spots_of, spots, piece_of, put_spot}
+use Rattle.bl_stage.specs.PieceStates.{PieceState, has, piece_state_by, piece_state_at}
+use Rattle.bl_stage.specs.PieceStates.{piece_states_of, piece_states, piece_of, put_piece_state}
 use Rattle.bl_stage.proofs.FrameLemmas.{staged_length}
 use Rattle.bl_stage.proofs.FileLemmas.{file_within, file_before}
 use Rattle.bl_stage.proofs.PieceLemmas.{IsPiece, piece_is}
@@ -119,9 +120,9 @@ module _ (stage : Staging) (old new piece : List ℕ) (file index : ℕ) (staged
   size : length piece ≡ min (length (staged_file old stage file) - 4096 * index) 4096
   size = rw long (piece_size stage file index (length piece) test)
 
-  -- the spot of the piece has it
-  spot_here : spot_at new now file index ≡ has piece
-  spot_here =
+  -- the state of the piece has its bytes
+  piece_state_here : piece_state_at new now file index ≡ has piece
+  piece_state_here =
       let w = file_within stage.sizes file is.named in
       let i = is.within in
       let a = staged_.all in
@@ -130,49 +131,55 @@ module _ (stage : Staging) (old new piece : List ℕ) (file index : ℕ) (staged
       get_or-set_same stage.came (slot_in stage file index) true false (omega arith) in
       rw (came, in_file) (ap has (piece_here (staged_file old stage file) piece index room size))
 
-  -- each other spot of its file is as before
-  spot_there : (k : ℕ) → k ≢ index → spot_at new now file k ≡ spot_at old stage file k
-  spot_there k other =
+  -- each other piece of its file is as before
+  piece_state_there : (k : ℕ) → k ≢ index
+      → piece_state_at new now file k ≡ piece_state_at old stage file k
+  piece_state_there k other =
       let came : get_or now.came (slot_in now file k) false
       ≡ get_or stage.came (slot_in stage file k) false =
       get_or-set_other stage.came (slot_in stage file index) (slot_in stage file k) true
       false (λ e. other (omega arith)) in
       rw (came, in_file)
-      (ap (spot_by (get_or stage.came (slot_in stage file k) false))
+      (ap (piece_state_by (get_or stage.came (slot_in stage file k) false))
       (piece_there (staged_file old stage file) piece index room size k other))
 
-  -- and so is each spot of the other files
-  spot_else : (f k : ℕ) → f < length stage.sizes → f ≢ file → k < frames_of (get_or stage.sizes f 0)
-      → spot_at new now f k ≡ spot_at old stage f k
-  spot_else f k h other hk =
+  -- and so is each piece of the other files
+  piece_state_else : (f k : ℕ) → f < length stage.sizes → f ≢ file
+      → k < frames_of (get_or stage.sizes f 0)
+      → piece_state_at new now f k ≡ piece_state_at old stage f k
+  piece_state_else f k h other hk =
       let came : get_or now.came (slot_in now f k) false
       ≡ get_or stage.came (slot_in stage f k) false =
       get_or-set_other stage.came (slot_in stage file index) (slot_in stage f k) true false
       (other_slot stage f file k index h is.named other hk is.within) in
       rw (came, in_others f h other) refl
 
-  pub spots_put : spots new (stage_with stage file index) ≡ put_spot old stage file index piece
-  spots_put =
-      let d : List Spot = [] in
-      one_changed d (λ f. spots_of old stage f) (λ f. spots_of new now f) (length stage.sizes) file
-      (set (spots_of old stage file) index (has piece)) is.named
-      (one_changed (has []) (λ k. spot_at old stage file k) (λ k. spot_at new now file k)
-      (frames_of (get_or stage.sizes file 0)) index (has piece) is.within spot_here
-      (λ k h other. spot_there k other))
+  pub piece_states_put : piece_states new (stage_with stage file index)
+      ≡ put_piece_state old stage file index piece
+  piece_states_put =
+      let d : List PieceState = [] in
+      one_changed d (λ f. piece_states_of old stage f) (λ f. piece_states_of new now f)
+      (length stage.sizes) file
+      (set (piece_states_of old stage file) index (has piece)) is.named
+      (one_changed (has []) (λ k. piece_state_at old stage file k)
+      (λ k. piece_state_at new now file k)
+      (frames_of (get_or stage.sizes file 0)) index (has piece) is.within piece_state_here
+      (λ k h other. piece_state_there k other))
       (λ f h other.
-      same_firsts (has []) (λ k. spot_at new now f k) (λ k. spot_at old stage f k)
-      (frames_of (get_or stage.sizes f 0)) (λ k hk. spot_else f k h other hk))
+      same_firsts (has []) (λ k. piece_state_at new now f k) (λ k. piece_state_at old stage f k)
+      (frames_of (get_or stage.sizes f 0)) (λ k hk. piece_state_else f k h other hk))
 
--- files that read as before have the spots that they had
-pub spots_same : (stage : Staging) (frames old new : List ℕ)
+-- files that read as before have the piece states that they had
+pub piece_states_same : (stage : Staging) (frames old new : List ℕ)
     → ((file : ℕ) → file < length stage.sizes
     → staged_file new (with_frames stage frames) file ≡ staged_file old stage file)
-    → spots new (with_frames stage frames) ≡ spots old stage
-spots_same stage frames old new same =
-    let d : List Spot = [] in
-    same_firsts d (λ f. spots_of new (with_frames stage frames) f) (λ f. spots_of old stage f)
+    → piece_states new (with_frames stage frames) ≡ piece_states old stage
+piece_states_same stage frames old new same =
+    let d : List PieceState = [] in
+    same_firsts d (λ f. piece_states_of new (with_frames stage frames) f)
+    (λ f. piece_states_of old stage f)
     (length stage.sizes)
     (λ f h.
-    same_firsts (has []) (λ k. spot_at new (with_frames stage frames) f k)
-    (λ k. spot_at old stage f k) (frames_of (get_or stage.sizes f 0))
+    same_firsts (has []) (λ k. piece_state_at new (with_frames stage frames) f k)
+    (λ k. piece_state_at old stage f k) (frames_of (get_or stage.sizes f 0))
     (λ k hk. rw (same f h) refl))

@@ -1,5 +1,5 @@
--- Laws of a stage's meaning, for the crates above: at first each spot waits, at last the spots have
--- the file's bytes, and files read as before if their frames do.
+-- Laws of a stage's meaning, for the crates above: at first each piece is awaited, at last the
+-- pieces have the file's bytes, and files read as before if their frames do.
 use Rattle.std.proofs.Common.{◌≡◌, ℕ, zero, suc, ◌+◌, ◌-◌, ◌*◌, ◌<◌, List, [], ◌∷◌, ◌++◌, length}
 use Rattle.std.proofs.Common.{get_or, take, take-add, drop, min, map, replicate, false, arith, refl}
 use Rattle.std.proofs.Common.{sym, ap, ◌∙◌, inl, inr}
@@ -13,25 +13,28 @@ use Rattle.bl_map.specs.Room.{frames_of}
 use Rattle.bl_stage.specs.Cells.{ReadAlike}
 use Rattle.bl_stage.specs.Staged.{Staging, AreStaged, AllCame, staged_file, empty_stage, table_of}
 use Rattle.bl_stage.specs.Pieces.{slot_in}
-use Rattle.bl_stage.specs.Spots.{Spot, waits, has, spot_at, spots_of, spots, piece_of}
-use Rattle.bl_stage.specs.Spots.{waiting_spots, came_bytes}
+use Rattle.bl_stage.specs.PieceStates.{PieceState, waits, has, piece_state_at, piece_states_of}
+use Rattle.bl_stage.specs.PieceStates.{piece_states, piece_of}
+use Rattle.bl_stage.specs.PieceStates.{waiting_pieces, came_bytes}
 use Rattle.bl_stage.proofs.FrameLemmas.{staged_length}
 use Rattle.bl_stage.proofs.FileLemmas.{file_within}
 use Rattle.bl_stage.proofs.PieceLemmas.{file_evacuated}
 use Rattle.bl_stage.specs.TextLaws.{same_firsts}
-use Rattle.bl_stage.proofs.SpotLemmas.{piece_long}
+use Rattle.bl_stage.proofs.PieceStateLemmas.{piece_long}
 
 -- a stage to which no piece came waits for each
-pub fresh_spots : (bytes : List ℕ) (pool : Range ℕ) (sizes frames : List ℕ)
-    → spots bytes (empty_stage pool sizes frames)
-    ≡ map (λ file. waiting_spots (get_or sizes file 0)) (range_with_len 0 (length sizes))
-fresh_spots bytes pool sizes frames =
+pub fresh_piece_states : (bytes : List ℕ) (pool : Range ℕ) (sizes frames : List ℕ)
+    → piece_states bytes (empty_stage pool sizes frames)
+    ≡ map (λ file. waiting_pieces (get_or sizes file 0)) (range_with_len 0 (length sizes))
+fresh_piece_states bytes pool sizes frames =
     let stage = empty_stage pool sizes frames in
-    let d : List Spot = [] in
-    same_firsts d (λ file. spots_of bytes stage file) (λ file. waiting_spots (get_or sizes file 0))
+    let d : List PieceState = [] in
+    same_firsts d (λ file. piece_states_of bytes stage file)
+    (λ file. waiting_pieces (get_or sizes file 0))
     (length sizes) (λ file h.
     let size = get_or sizes file 0 in
-    same_firsts (has []) (λ k. spot_at bytes stage file k) (λ k. waits (min 4096 (size - 4096 * k)))
+    same_firsts (has []) (λ k. piece_state_at bytes stage file k)
+    (λ k. waits (min 4096 (size - 4096 * k)))
     (frames_of size) (λ k hk.
     let long : length (staged_file bytes stage file) ≡ size =
     staged_length bytes (table_of stage file) size in
@@ -46,7 +49,7 @@ fresh_spots bytes pool sizes frames =
           get_or_past (replicate n false) k false (let e = length-replicate n false in omega arith)
     ]
 
-bytes_of-append : (xs ys : List Spot) → came_bytes (xs ++ ys) ≡ came_bytes xs ++ came_bytes ys
+bytes_of-append : (xs ys : List PieceState) → came_bytes (xs ++ ys) ≡ came_bytes xs ++ came_bytes ys
 bytes_of-append [] ys = refl
 bytes_of-append (waits n ∷ xs) ys = bytes_of-append xs ys
 bytes_of-append (has piece ∷ xs) ys =
@@ -64,7 +67,7 @@ first_pieces : (file : List ℕ) (n : ℕ)
     → came_bytes (map (λ k. has (piece_of file k)) (range_with_len 0 n)) ≡ take (4096 * n) file
 first_pieces file zero = refl
 first_pieces file (suc n) =
-    let f : ℕ → Spot = λ k. has (piece_of file k) in
+    let f : ℕ → PieceState = λ k. has (piece_of file k) in
     let next : suc n ≡ n + 1 = omega arith in
     ap (λ m. came_bytes (map f (range_with_len 0 m))) next
     ∙ ap came_bytes (map-range_with_len_more f 0 n n (omega arith))
@@ -73,10 +76,12 @@ first_pieces file (suc n) =
     ∙ ap (λ l. take (4096 * n) file ++ l) (append-nil (piece_of file n)) ∙ take_pieces file n
     ∙ ap (λ m. take (4096 * m) file) (sym next)
 
--- where each piece came, a file's spots have its bytes
-pub complete_spots : (bytes : List ℕ) (stage : Staging) (file : ℕ) → AreStaged stage → AllCame stage
-    → file < length stage.sizes → came_bytes (spots_of bytes stage file) ≡ staged_file bytes stage file
-complete_spots bytes stage file kept came h =
+-- where each piece came, a file's pieces have its bytes
+pub complete_piece_states : (bytes : List ℕ) (stage : Staging) (file : ℕ) → AreStaged stage
+    → AllCame stage
+    → file < length stage.sizes → came_bytes (piece_states_of bytes stage file)
+    ≡ staged_file bytes stage file
+complete_piece_states bytes stage file kept came h =
     let size = get_or stage.sizes file 0 in
     let text = staged_file bytes stage file in
     let long : length text ≡ size = staged_length bytes (table_of stage file) size in
@@ -84,7 +89,7 @@ complete_spots bytes stage file kept came h =
     let a = kept.all in
     let b = kept.flags in
     ap came_bytes
-    (same_firsts (has []) (λ k. spot_at bytes stage file k) (λ k. has (piece_of text k))
+    (same_firsts (has []) (λ k. piece_state_at bytes stage file k) (λ k. has (piece_of text k))
     (frames_of size) (λ k hk. rw (came (slot_in stage file k) false (omega arith)) refl))
     ∙ first_pieces text (frames_of size) ∙ take_all (4096 * frames_of size) text (omega arith)
 
