@@ -8,7 +8,7 @@ use bl_session::{Menu, MenuFault};
 use std::alloc::Allocator;
 
 /// The machine's memory in bytes.
-pub const SIZE: u64 = 0x40_0000;
+pub const MACHINE_SIZE: u64 = 0x40_0000;
 
 /// The frames that files are staged in begin here.
 const POOL_START: u64 = 0x30_0000;
@@ -33,10 +33,10 @@ pub fn machine<A: Allocator>(alloc: A) -> Result<Machine<A>, MapFault>
 {
     let usable = Region {
         base: 0,
-        length: SIZE,
+        length: MACHINE_SIZE,
         kind: Kind::Usable,
     };
-    Machine::new(alloc, SIZE, &[usable], POOL_START..SIZE)
+    Machine::new(alloc, MACHINE_SIZE, &[usable], POOL_START..MACHINE_SIZE)
 }
 
 /// A menu whose first entry is refused, and whose fallback is the kernel with a module.

@@ -5,7 +5,7 @@ use crate::by_hand::boot_by_hand;
 use crate::check::check_image;
 use crate::disk::Disk;
 use crate::guest::{guest_machine, load_guest};
-use crate::menu::{KERNEL, SIZE, machine, menu};
+use crate::menu::{KERNEL, MACHINE_SIZE, machine, menu};
 use bl_image::{MemSink, write_image};
 use bl_load::{Entry, Handoff};
 use bl_mem::{Bytes, Flat, PhysMem, SliceView};
@@ -19,7 +19,7 @@ const FILES: [&[u8]; 3] = [b"no kernel", &KERNEL, b"hello"];
 /// Loads the kernel into a guest's memory.
 pub fn show_guest(rt: &HostRuntime) -> io::Result<()> {
     let alloc = rt.alloc();
-    let Ok(machine) = guest_machine(alloc, SIZE) else {
+    let Ok(machine) = guest_machine(alloc, MACHINE_SIZE) else {
         return rt.println("guest: no machine");
     };
     let entry = Entry::Multiboot2 {
