@@ -45,7 +45,11 @@ pub fn show_handoff(rt: &HostRuntime, name: &str, handoff: &Handoff<Global>) -> 
 }
 
 /// Writes the image of what was booted, checks it, and prints how long it is.
-fn show_image<M: PhysMem>(rt: &HostRuntime, memory: &M, handoff: &Handoff<Global>) -> io::Result<()> {
+fn show_image<M: PhysMem>(
+    rt: &HostRuntime,
+    memory: &M,
+    handoff: &Handoff<Global>,
+) -> io::Result<()> {
     let alloc = rt.alloc();
     let mut sink = MemSink::new(alloc, 65536, 65536)?;
     if let Err(fault) = write_image(handoff, memory, &mut sink) {

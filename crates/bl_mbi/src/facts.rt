@@ -5,8 +5,8 @@ use std::marker::Model;
 
 /// The facts of boot information, all but the loader's name (Multiboot2 3.6 "Boot information
 /// format"). Sizes of memory are in KiB. What it tells stays its owner's: nothing is copied. Facts
-/// always have a spelling: texts without a zero byte, `mod_start` at most `mod_end`, at most 640 KiB
-/// of lower memory, runs that end at most at 2^52, a total size below 2^32.
+/// always have a spelling: texts without a zero byte, `mod_start` at most `mod_end`, at most 640
+/// KiB of lower memory, runs that end at most at 2^52, a total size below 2^32.
 #[derive(Drop)]
 pub struct Facts<'a> {
     pub line: &'a [u8],

@@ -2,7 +2,8 @@
 
 use crate::attempts::{menu, run, steps};
 use crate::{
-    describe, handoff, image, line, loaded, read_image, read_info, refusal, rewrite, sink, walk, write_info,
+    describe, handoff, image, line, loaded, read_image, read_info, refusal, rewrite, sink, walk,
+    write_info,
 };
 use bl_rows::row::Row;
 
