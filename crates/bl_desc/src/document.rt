@@ -38,7 +38,11 @@ fn fill_in(table: &Table) -> Result<u8, DescFault>
 }
 
 #[tactic(auto, unfolding(crate::specs::Described::described_in))]
-fn described_in<A: Allocator + Copy>(alloc: A, table: &Table) -> Result<Description<A>, DescFault>
+fn described_in<A: Allocator + Copy>(
+    alloc: A,
+    global: Global,
+    table: &Table,
+) -> Result<Description<A>, DescFault>
     ensures given { AnswersAs view result (spec.described_in (table_view table.now)) }
     ensures menu { IfOk result HasMenu }
 {
@@ -52,7 +56,7 @@ fn described_in<A: Allocator + Copy>(alloc: A, table: &Table) -> Result<Descript
     let pool = pool_in(table)?;
     let fill = fill_in(table)?;
     let regions = regions_at(alloc, table)?;
-    let files = files_at(alloc, table)?;
+    let files = files_at(alloc, global, table)?;
     let entries = entries_at(alloc, table)?;
     let default = default_at(table, &entries)?;
     let fallbacks = fallbacks_at(alloc, table, &entries)?;
@@ -72,7 +76,7 @@ fn described_in<A: Allocator + Copy>(alloc: A, table: &Table) -> Result<Descript
 /// is not TOML, where a key is unknown, missing or of another type, and where a value is not
 /// allowed.
 ///
-/// `global` is what the TOML reader takes its memory from; the description is made in `alloc`.
+/// `global` is what reading takes its memory from; the description is made in `alloc`.
 #[tactic(auto, unfolding(crate::specs::Described::described))]
 pub fn read_description<A: Allocator + Copy>(
     alloc: A,
@@ -86,7 +90,7 @@ pub fn read_description<A: Allocator + Copy>(
         return Err(DescFault::BadDescription);
     };
     match toml::table_from_str(global, text) {
-        Ok(table) => described_in(alloc, &table),
+        Ok(table) => described_in(alloc, global, &table),
         Err(e) => {
             if e.is_memory() {
                 Err(DescFault::NoMemory)

@@ -1,5 +1,5 @@
 //! The files of a description.
-ghost use Rattle.std.specs.Prelude.{◌≡◌, [], map, codes};
+ghost use Rattle.std.specs.Prelude.{◌≡◌, [], map, codes, Some};
 ghost use Rattle.toml.specs.View.{view, table_view, items_view};
 ghost use Rattle.bl_desc.specs.Values as values;
 ghost use Rattle.bl_desc.specs.Described as spec;
@@ -11,7 +11,8 @@ use crate::keys::{at_key, has_only, text_at};
 use crate::text::Text;
 use crate::values::toml_bytes;
 use bl_mem::Bytes;
-use std::alloc::Allocator;
+use std::alloc::{Allocator, Global};
+use std::collections::BTreeSet;
 use toml::{Table, Value};
 
 fn hex_in<A: Allocator>(alloc: A, table: &Table) -> Result<Bytes<A>, DescFault>
@@ -61,54 +62,50 @@ fn files_in<A: Allocator + Copy>(alloc: A, items: &[Value]) -> Result<Vec<FileRo
     Ok(files)
 }
 
-/// Whether one of the files has this name.
-fn has_file<A: Allocator>(name: &str, files: &[FileRow<A>]) -> bool
-    ensures { result ≡ spec.has_file name.now (map file_view files.now) }
+/// Whether no two files have one name. The names so far are kept in memory of `global`.
+fn names_differ<A: Allocator>(global: Global, files: &[FileRow<A>]) -> Result<bool, DescFault>
+    ensures { AnswersAs (λ differ. differ) result
+        (Some (spec.names_differ (map file_view files.now))) }
 {
+    let mut names = BTreeSet::new(global);
     for file in files {
-        if file.name.as_str() == name {
-            return true;
+        if !names.insert(file.name.as_str())? {
+            return Ok(false);
         }
     }
-    false
-}
-
-/// Whether no two files have one name.
-fn names_differ<A: Allocator>(files: &[FileRow<A>]) -> bool
-    ensures { result ≡ spec.names_differ (map file_view files.now) }
-{
-    for (i, file) in files.iter().enumerate() {
-        if has_file(file.name.as_str(), &files[i + 1..]) {
-            return false;
-        }
-    }
-    true
+    Ok(true)
 }
 
 #[tactic(auto, unfolding(crate::specs::Described::toml_files))]
-fn toml_files<A: Allocator + Copy>(alloc: A, value: &Value) -> Result<Vec<FileRow<A>, A>, DescFault>
+fn toml_files<A: Allocator + Copy>(
+    alloc: A,
+    global: Global,
+    value: &Value,
+) -> Result<Vec<FileRow<A>, A>, DescFault>
     ensures { AnswersAs (λ v. map file_view v.items) result (spec.toml_files (view value.now)) }
 {
     let Some(items) = value.as_array() else {
         return Err(DescFault::BadDescription);
     };
     let files = files_in(alloc, items)?;
-    if !names_differ(&files) {
+    if !names_differ(global, &files)? {
         return Err(DescFault::BadDescription);
     }
     Ok(files)
 }
 
-/// The files of a description, none where it has no such key.
+/// The files of a description, none where it has no such key. What is looked up on the way takes
+/// its memory from `global`.
 pub fn files_at<A: Allocator + Copy>(
     alloc: A,
+    global: Global,
     table: &Table,
 ) -> Result<Vec<FileRow<A>, A>, DescFault>
     ensures { AnswersAs (λ v. map file_view v.items) result
         (values.at_key_or [] spec.toml_files (codes "file") (table_view table.now)) }
 {
     match at_key(table, "file") {
-        Some(value) => toml_files(alloc, value),
+        Some(value) => toml_files(alloc, global, value),
         None => Ok(Vec::new(alloc)),
     }
 }

@@ -1,27 +1,43 @@
-use Rattle.std.proofs.Common.{◌∙◌, sym, map}
-use Rattle.std.proofs.lemmas.List.{at_drop_all}
-use Rattle.bl_desc.specs.Described.{names_differ}
+use Rattle.std.proofs.Common.{◌≡◌, ◌+◌, true, false, Some, map, take, rules, sym, ap, ◌∙◌}
+use Rattle.std.specs.Str.{bytes_eq}
+use Rattle.std.proofs.lemmas.Map.Text.{is_eq-slice_cmp}
+use Rattle.bl_desc.specs.Described.{has_file, names_differ}
 use Rattle.bl_desc.specs.Views.{file_view}
-use Rattle.bl_desc.proofs.FileLemmas.{names_differ-step}
+use Rattle.bl_desc.proofs.NameLemmas.{first_files, differ_more, differ_not, has_more}
 use Rattle.bl_desc.proofs.files.names_differ.Goals as goal
 
-pub loop-i-preserved : goal.loop-i-preserved
-loop-i-preserved g c =
-    let step =
-    names_differ-step c.as_str.result.now c.args.files.now c.loop-i.i c.index-files-i.result _
-    c.loop-i-test.true c.index-files-i.is c.as_str.ensures c.if-has_file.ensures in
-    sym step ∙ c.loop-i.invariant
+pub returns-then-not-branch : goal.returns-then-not-branch
+returns-then-not-branch g c =
+    let loop = c.loop-file in
+    let files = c.args.files.now in
+    let f = file_view c.file-item.result in
+    let before = map file_view (take loop.file-index files) in
+    let had =
+    loop.invariant.has c.as_str.result ∙ ap (λ name. has_file name before) c.as_str.ensures in
+    let more = differ_more before f _ loop.invariant.differ had in
+    let was : c.in_ok-insert.field-0 ≡ false = search rules in
+    let two : names_differ (map file_view (take (loop.file-index + 1) files)) ≡ false =
+    ap names_differ
+    (first_files files loop.file-index c.file-item.result c.loop-file-test.true c.file-item.is)
+    ∙ more ∙ sym c.in_ok-insert.ensures.added ∙ was in
+    ap (λ differ. Some differ) (differ_not files (loop.file-index + 1) two)
 
-pub returns-then-has_file : goal.returns-then-has_file
-returns-then-has_file g c =
-    let step =
-    names_differ-step c.as_str.result.now c.args.files.now c.loop-i.i c.index-files-i.result _
-    c.loop-i-test.true c.index-files-i.is c.as_str.ensures c.if-has_file.ensures in
-    sym step ∙ c.loop-i.invariant
-
-pub returns : goal.returns
-returns g c =
-    let none =
-    at_drop_all (λ fs. names_differ (map file_view fs)) c.args.files.now c.loop-i.i
-    c.loop-i-test.false in
-    sym none ∙ c.loop-i.invariant
+pub loop-file-preserved : goal.loop-file-preserved
+loop-file-preserved g c =
+    let loop = c.loop-file in
+    let files = c.args.files.now in
+    let f = file_view c.file-item.result in
+    let key = c.as_str.result in
+    let before = map file_view (take loop.file-index files) in
+    let next =
+    first_files files loop.file-index c.file-item.result c.loop-file-test.true c.file-item.is in
+    let had = loop.invariant.has key ∙ ap (λ name. has_file name before) c.as_str.ensures in
+    let more = differ_more before f _ loop.invariant.differ had in
+    let was : c.in_ok-insert.field-0 ≡ true = search rules in
+    record {
+      differ = ap names_differ next ∙ more ∙ sym c.in_ok-insert.ensures.added ∙ was;
+      has = λ q.
+          has_more before f q.now _ _ _ (loop.invariant.has q) (c.in_ok-insert.ensures.updates.0 q)
+          (is_eq-slice_cmp key.now q.now ∙ ap (λ name. bytes_eq name q.now) c.as_str.ensures)
+          ∙ ap (has_file q.now) (sym next);
+    }
