@@ -16,7 +16,7 @@ pub struct Module<A: Allocator> {
 impl<A: Allocator> Module<A> {
     /// A module with a copy of its line.
     pub fn new(alloc: A, file: u32, line: &[u8]) -> Result<Module<A>, AllocError>
-        ensures { IfOk result (λ module. module ≡ record { file = file; line = line.now }) }
+        ensures { IfOk result (λ made. made ≡ record { file = file; line = line.now }) }
     {
         Ok(Module {
             file,
