@@ -29,6 +29,7 @@ pub mod EndedLemmas
 pub mod RequestLemmas
 pub mod StoreLemmas
 pub mod ToldLemmas
+pub mod LedgerLemmas
 pub mod AskLemmas
 pub mod AskFileLemmas
 pub mod MissingLemmas

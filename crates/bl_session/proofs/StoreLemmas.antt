@@ -97,7 +97,7 @@ still front back submission =
     rw (count_append front (submission ∷ back) submission.ticket, is_same_self submission.ticket)
     (omega arith)
 
-kept_answer : (files : List File) (front back : List Submission) (given : List Item)
+pub kept_answer : (files : List File) (front back : List Submission) (given : List Item)
     (submission : Submission) → AreKept files (front ++ submission ∷ back) given
     → AreKept files (front ++ back)
     (given ++ item_of_event files given (answer_to files submission) ∷ [])
@@ -129,7 +129,7 @@ kept_answer files front back given submission kept =
           (asked_append given front back apart.0 apart.1.1);
     }
 
-kept_nothing : (files : List File) (given : List Item) → AreKept files [] given
+pub kept_nothing : (files : List File) (given : List Item) → AreKept files [] given
     → AreKept files [] (given ++ nothing ∷ [])
 kept_nothing files given kept = record {
   faithful =

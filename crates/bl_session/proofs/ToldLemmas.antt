@@ -64,7 +64,7 @@ pub record Tells {A E : Type 0} (files1 files2 : List File) (given1 given2 : Lis
   pub err : OnErr result ((given2 ≡ given1) × (left2 ≡ left1))
 
 -- an answer that takes what stands at a place
-tells_taken : {A E R : Type 0} (event : R → EventFacts) (files1 files2 : List File)
+pub tells_taken : {A E R : Type 0} (event : R → EventFacts) (files1 files2 : List File)
     (given1 given2 : List Item) (pending1 pending2 : List R) (place : ℕ)
     (answer : Option (Completion A)) → (0 < length pending1 → place < length pending1)
     → option_map event_of answer ≡ option_map event (slice_get pending1 place)

@@ -6,6 +6,7 @@ ghost use Rattle.bl_session.specs.Outcome.{missing, size_of, file_bytes};
 ghost use Rattle.bl_session.specs.Stores.{file_of, stored_files};
 
 use crate::stage_files::FILE_LIMIT;
+use crate::stored_files::StoredFiles;
 use bl_mem::Bytes;
 use std::alloc::Allocator;
 
@@ -72,8 +73,20 @@ pub(crate) fn piece_in<A: Allocator>(files: &[Fetched<A>], file: u32, index: u32
     }
 }
 
+impl<A: Allocator> StoredFiles for Vec<Fetched<A>, A> {
+    ghost files = { λ fetched. stored_files fetched.items };
+
+    fn size(&self, file: u32) -> Option<u64> {
+        size_in(self, file)
+    }
+
+    fn piece(&self, file: u32, index: u32) -> Option<&[u8]> {
+        piece_in(self, file, index)
+    }
+}
+
 /// The bytes of a piece, if there is one.
-fn piece_at(bytes: &[u8], index: usize) -> Option<&[u8]>
+pub(crate) fn piece_at(bytes: &[u8], index: usize) -> Option<&[u8]>
     requires { index < 2 ^ 32 }
     ensures some { IsSome result ↔ (4096 * index < length bytes.now) }
     ensures piece { IfSome result (λ piece. piece.now ≡ piece_of bytes.now index) }

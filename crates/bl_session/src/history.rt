@@ -5,6 +5,7 @@ ghost use Rattle.bl_session.specs.History.{Item};
 
 use crate::fetched::Fetched;
 use crate::store::Completion;
+use crate::stored_files::StoredFiles;
 use crate::submission::Submission;
 use std::alloc::Allocator;
 use std::marker::Model;
@@ -12,23 +13,11 @@ use std::marker::Model;
 /// What a store was asked and answered. It has no items of its own: nothing of it is there as the
 /// program runs.
 ///
-/// A store of one's own keeps one in a field, and gives its `items` as `given` in its `impl Store`:
-///
-/// ```text
-/// fn submit(&mut self, file: u32, ticket: Ticket) -> Result<(), AllocError> {
-///     // .. note what is to be answered; only then, as want of memory changes nothing:
-///     self.history = self.history.and_submission(&Submission { file, ticket });
-///     Ok(())
-/// }
-///
-/// fn next(&mut self) -> Result<Option<Completion<A>>, AllocError> {
-///     let answer = ..;
-///     self.history = self.history.and_answer(&self.files, &answer);
-///     Ok(answer)
-/// }
-/// ```
-///
-/// `item_is` of `proofs/SubmissionLemmas.antt` proves the clause `given` of `next` from it.
+/// A store of one's own that answers each ticket once keeps a [`Ledger`](crate::Ledger), which keeps
+/// a history, and needs no proof. A store that answers in some other way, as `ScriptStore` answers a
+/// ticket twice, keeps a history in a field and gives its `items` as `given` in its `impl Store`:
+/// `and_submission` after a submission that was not refused memory, `and_answer` after each answer.
+/// `item_is` of `proofs/SubmissionLemmas.antt` then proves the clause `given` of `next`.
 #[derive(Drop)]
 pub struct History {
     ghost items: { List Item },
@@ -66,6 +55,18 @@ impl History {
     ) -> History
         ensures { result.items
             ≡ self.now.items ++ item_of (stored_files _files.now) self.now.items _answer.now ∷ [] }
+    {
+        History {}
+    }
+
+    /// The same for a store of whatever keeps its files.
+    pub(crate) fn and_answer_of<F: StoredFiles, A: Allocator>(
+        &self,
+        _files: &F,
+        _answer: &Option<Completion<A>>,
+    ) -> History
+        ensures { result.items
+            ≡ self.now.items ++ item_of (F.files _files.now) self.now.items _answer.now ∷ [] }
     {
         History {}
     }

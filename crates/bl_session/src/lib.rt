@@ -10,8 +10,10 @@ mod file_store;
 mod handing_over;
 mod history;
 mod laws;
+mod ledger;
 mod menu;
 mod orders;
+mod pending;
 mod phase;
 mod picks;
 mod pieces;
@@ -22,9 +24,11 @@ mod run_laws;
 mod runs;
 mod script_store;
 mod session;
+mod slice_store;
 mod stage_files;
 mod steps;
 mod store;
+mod stored_files;
 mod submission;
 mod turns;
 mod words;
@@ -38,6 +42,7 @@ pub use laws::{
     each_attempt_ends, each_step_leads_on, ends_are_determined, first_entry_not_refused,
     steps_are_determined, two_outcomes, values_are_offered,
 };
+pub use ledger::Ledger;
 pub use menu::{Menu, MenuFault, order_attempts};
 pub use queue::Order;
 pub use run_laws::{
@@ -47,7 +52,9 @@ pub use run_laws::{
 pub use runs::run;
 pub use script_store::ScriptStore;
 pub use session::Session;
+pub use slice_store::SliceStore;
 pub use stage_files::FILE_LIMIT;
 pub use store::{Completion, Store};
+pub use stored_files::{SliceFiles, StoredFiles};
 pub use submission::Submission;
 pub use words::{BootFault, Event, Outcome, Progress, RefusedEntry, Request, Ticket};

@@ -4,6 +4,7 @@ ghost use Rattle.bl_session.specs.Stores.{stored_files, answer_to, event_of};
 
 use crate::fetched::{Fetched, piece_in};
 use crate::store::Completion;
+use crate::stored_files::StoredFiles;
 use crate::words::Ticket;
 use std::alloc::{AllocError, Allocator};
 
@@ -25,6 +26,22 @@ pub(crate) fn answer<A: Allocator + Copy>(
 {
     let Submission { file, ticket } = *submission;
     match piece_in(files, file, ticket.piece) {
+        Some(piece) => Ok(Completion::Piece(ticket, Vec::from_slice(alloc, piece)?)),
+        None => Ok(Completion::Fault(ticket)),
+    }
+}
+
+/// The same for a submission to whatever keeps the files.
+pub(crate) fn answer_from<F: StoredFiles, A: Allocator + Copy>(
+    alloc: A,
+    files: &F,
+    submission: &Submission,
+) -> Result<Completion<A>, AllocError>
+    ensures { IfOk result (λ completion.
+        event_of completion ≡ answer_to (F.files files.now) submission.now) }
+{
+    let Submission { file, ticket } = *submission;
+    match files.piece(file, ticket.piece) {
         Some(piece) => Ok(Completion::Piece(ticket, Vec::from_slice(alloc, piece)?)),
         None => Ok(Completion::Fault(ticket)),
     }

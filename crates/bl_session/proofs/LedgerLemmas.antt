@@ -1,0 +1,89 @@
+-- A ledger, as the submission at a place is answered.
+use Rattle.std.proofs.Common.{◌≡◌, ℕ, ◌+◌, ◌<◌, List, [], ◌∷◌, ◌++◌, length, take, drop, Option, None, Some}
+use Rattle.std.proofs.Common.{Result, Ok, Err, IfOk, OnOk, OnErr, suc, get_or, refl, sym, ap, subst, ◌∙◌}
+use Rattle.std.proofs.Common.{arith}
+use Rattle.std.proofs.lemmas.Option.{slice_get-get_or}
+use Rattle.std.proofs.Math.Seq.{split_at, take-nil, drop-nil}
+use Rattle.std.proofs.Math.Numerals.{add-one}
+use Rattle.std.specs.Prelude.{slice_get, option_map}
+use Rattle.bl_session.specs.declared.store.Completion.{Completion}
+use Rattle.bl_session.specs.declared.submission.Submission.{Submission}
+use Rattle.bl_session.specs.Boot.{EventFacts}
+use Rattle.bl_session.specs.Outcome.{File}
+use Rattle.bl_session.specs.History.{Item}
+use Rattle.bl_session.specs.Stores.{event_of, answer_to, item_of_event, item_of_told, without}
+use Rattle.bl_session.specs.StoresKept.{item_of, AreKept}
+use Rattle.bl_session.specs.Ledger.{LedgerFacts, answer_at, ledger_answered}
+use Rattle.bl_session.proofs.StoreLemmas.{kept_answer, kept_nothing}
+use Rattle.bl_session.proofs.ToldLemmas.{Tells, tells_taken}
+
+-- ---- what is kept
+
+without_any : (place : ℕ) → without {T = Submission} [] place ≡ []
+without_any place = rw (take-nil {A = Submission} place, drop-nil {A = Submission} (place + 1)) refl
+
+kept_place : (files : List File) (pending : List Submission) (place : ℕ) (given : List Item)
+    (told : Option EventFacts) → (0 < length pending → place < length pending)
+    → told ≡ option_map (answer_to files) (slice_get pending place) → AreKept files pending given
+    → AreKept files (without pending place) (given ++ item_of_told files given told ∷ [])
+kept_place files [] place given told within is kept =
+    subst
+    (λ (left : List Submission).
+    AreKept files left (given ++ item_of_told files given told ∷ []))
+    (sym (without_any place))
+    (subst (λ (t : Option EventFacts). AreKept files [] (given ++ item_of_told files given t ∷ []))
+    (sym is) (kept_nothing files given kept))
+kept_place files (first ∷ others) place given told within is kept =
+    let pending : List Submission = first ∷ others in
+    let inside : place < length pending = within (omega arith) in
+    let submission : Submission = get_or pending place first in
+    let e : told ≡ Some (answer_to files submission) =
+    is ∙ ap (option_map (answer_to files)) (slice_get-get_or pending place first inside) in
+    let at : AreKept files (take place pending ++ submission ∷ drop (suc place) pending) given =
+    subst (λ (p : List Submission). AreKept files p given) (split_at pending place first inside)
+    kept in
+    subst
+    (λ (t : Option EventFacts).
+    AreKept files (without pending place) (given ++ item_of_told files given t ∷ []))
+    (sym e)
+    (subst
+    (λ (n : ℕ).
+    AreKept files (take place pending ++ drop n pending)
+    (given ++ item_of_event files given (answer_to files submission) ∷ []))
+    (sym (add-one place))
+    (kept_answer files (take place pending) (drop (suc place) pending) given submission at))
+
+pub kept_at : {A : Type 0} (files : List File) (pending : List Submission) (place : ℕ)
+    (given : List Item) (answer : Option (Completion A))
+    → (0 < length pending → place < length pending)
+    → option_map event_of answer ≡ option_map (answer_to files) (slice_get pending place)
+    → AreKept files pending given
+    → AreKept files (without pending place) (given ++ item_of files given answer ∷ [])
+kept_at files pending place given answer within is kept =
+    kept_place files pending place given (option_map event_of answer) within is kept
+
+-- ---- what is told
+
+pub ledger_tells : {A E : Type 0} (old new : LedgerFacts) (place : ℕ)
+    (result : Result (Option (Completion A)) E)
+    → (0 < length old.pending → place < length old.pending)
+    → IfOk result (λ answer. option_map event_of answer ≡ answer_at old place)
+    → OnOk result (new ≡ ledger_answered old place) → OnErr result (new ≡ old)
+    → Tells old.files new.files old.given new.given (length old.pending) (length new.pending) result
+ledger_tells old new place (Ok answer) within is ok unchanged =
+    tells_taken (answer_to old.files) old.files new.files old.given new.given old.pending
+    new.pending place answer within is (ap (λ (l : LedgerFacts). l.files) ok)
+    (ap (λ (l : LedgerFacts). l.given) ok
+    ∙ ap (λ (t : Option EventFacts). old.given ++ item_of_told old.files old.given t ∷ []) (sym is))
+    (ap (λ (l : LedgerFacts). l.pending) ok)
+ledger_tells old new place (Err fault) within is ok unchanged = record {
+  files = ap (λ (l : LedgerFacts). l.files) unchanged;
+  given = tt;
+  none = tt;
+  fewer = tt;
+  as_many = tt;
+  err = (
+    ap (λ (l : LedgerFacts). l.given) unchanged,
+    ap (λ (l : LedgerFacts). length l.pending) unchanged,
+  );
+}
