@@ -6,28 +6,7 @@ use std::alloc::{AllocError, Allocator};
 /// one in the middle.
 #[derive(Drop)]
 pub struct Disk<'a, A: Allocator + Copy> {
-    ledger: Ledger<SliceFiles<'a>, A>,
-}
-
-impl<'a, A: Allocator + Copy> Disk<'a, A> {
-    ghost use Rattle.std.specs.Prelude.{◌≡◌, []};
-    ghost use Rattle.bl_session.specs.Faithful.{IsFaithful};
-
-    /// A disk with these files, by their index in the menu.
-    pub fn new(alloc: A, files: &'a [Option<&'a [u8]>]) -> Disk<'a, A>
-        ensures { result.ledger.given ≡ [] }
-    {
-        Disk {
-            ledger: Ledger::new(alloc, SliceFiles { files }),
-        }
-    }
-
-    /// That it answers each ticket once, with the piece that was asked for.
-    pub fn faithful(&self)
-        ensures { IsFaithful self.now.ledger.files self.now.ledger.given }
-    {
-        self.ledger.faithful();
-    }
+    pub ledger: Ledger<SliceFiles<'a>, A>,
 }
 
 impl<A: Allocator + Copy> Store for Disk<'_, A> {

@@ -5,6 +5,7 @@
 mod by_hand;
 mod check;
 mod disk;
+mod disk_boot;
 mod files;
 mod guest;
 mod menu;

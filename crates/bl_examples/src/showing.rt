@@ -3,13 +3,13 @@ ghost use Rattle.std.specs.Prelude.{◌≡◌, length};
 
 use crate::by_hand::boot_by_hand;
 use crate::check::check_image;
-use crate::disk::Disk;
+use crate::disk_boot::boot_from_disk;
 use crate::guest::{guest_machine, load_guest};
 use crate::menu::{KERNEL, MACHINE_SIZE, machine, menu};
 use bl_image::{MemSink, write_image};
 use bl_load::{Entry, Handoff};
 use bl_mem::{Bytes, Flat, PhysMem, SliceView};
-use bl_session::{Session, run};
+use bl_session::Session;
 use std::alloc::Global;
 use std::io;
 
@@ -94,8 +94,7 @@ pub fn show_disk(rt: &HostRuntime) -> io::Result<()> {
     };
     let mut memory = Flat::new(alloc, machine.size(), 0)?;
     let files = [Some(FILES[0]), Some(FILES[1]), Some(FILES[2])];
-    let mut disk = Disk::new(alloc, &files);
-    match run(alloc, &mut memory, &mut disk, &machine, &menu) {
+    match boot_from_disk(alloc, &mut memory, &files, &machine, &menu) {
         Ok(outcome) => {
             show_handoff(rt, "disk", &outcome.handoff)?;
             show_image(rt, &memory, &outcome.handoff)
