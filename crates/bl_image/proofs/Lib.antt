@@ -26,3 +26,4 @@ pub mod NumberLemmas
 pub mod NumbersAgain
 pub mod ReadAgain
 mod FitLemmas
+mod LengthLemmas

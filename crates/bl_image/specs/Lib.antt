@@ -5,6 +5,7 @@ pub mod Image
 pub mod ImageFaults
 pub mod ImageParts
 pub mod Layouts
+pub mod Lengths
 pub mod RecordsKept
 pub mod Source
 pub mod SourceKept

@@ -33,10 +33,10 @@ const REGISTERS_AT: usize = 16;
 const COUNT_AT: usize = REGISTERS_AT + 8 * WIDE;
 
 /// How many bytes the head that is written has.
-const HEAD: usize = COUNT_AT + 8;
+pub(crate) const HEAD: usize = COUNT_AT + 8;
 
 /// How many bytes a record has, and where in it the address stands, with the length behind it.
-const RECORD: usize = 24;
+pub(crate) const RECORD: usize = 24;
 
 const ADDRESS_AT: usize = 8;
 

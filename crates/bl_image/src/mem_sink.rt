@@ -1,5 +1,7 @@
 //! A sink in memory.
+use crate::lengths::image_len;
 use crate::sink::{DeviceFault, Sink};
+use bl_load::Handoff;
 use std::alloc::{AllocError, Allocator};
 use std::marker::Model;
 
@@ -31,7 +33,8 @@ impl<A: Allocator> Model for MemSink<A> {
 }
 
 impl<A: Allocator> MemSink<A> {
-    ghost use Rattle.std.specs.Prelude.{◌≡◌, ◌≤◌, [], IfOk};
+    ghost use Rattle.std.specs.Prelude.{◌≡◌, ◌≤◌, ◌-◌, ◌^◌, [], IfOk};
+    ghost use Rattle.bl_image.specs.Lengths.{image_length};
 
     /// An empty sink, with the memory for all that it may take.
     pub fn new(alloc: A, limit: usize, step: usize) -> Result<MemSink<A>, AllocError>
@@ -47,11 +50,31 @@ impl<A: Allocator> MemSink<A> {
         })
     }
 
+    /// An empty sink, with the memory for the image of a handoff.
+    pub fn for_image(alloc: A, handoff: &Handoff<A>) -> Result<MemSink<A>, AllocError>
+        ensures ok { IfOk result (λ sink. sink ≡ record {
+          contents = [];
+          faults = 0;
+          limit = image_length handoff.now.places;
+          step = 2 ^ 64 - 1;
+        }) }
+    {
+        MemSink::new(alloc, image_len(handoff) as usize, usize::MAX)
+    }
+
     /// What was taken.
     pub fn contents(&self) -> &[u8]
         ensures { result.now ≡ self.now.contents }
     {
         self.held.as_slice()
+    }
+
+    /// What was taken, as a vector that keeps the sink's memory.
+    pub fn into_vec(self) -> Vec<u8, A>
+        ensures { result.items ≡ self.contents }
+    {
+        let MemSink { held, .. } = self;
+        held
     }
 }
 
