@@ -11,6 +11,7 @@ use std::alloc::Allocator;
 
 /// The end of the memory below 1 MiB that a guest may use, and where it goes on.
 const LOW_END: u64 = 0x9_F000;
+
 const HIGH_START: u64 = 0x10_0000;
 
 /// A guest's machine of so many bytes, without a pool: nothing is staged.

@@ -51,13 +51,12 @@ fn show_image<M: PhysMem>(
     handoff: &Handoff<Global>,
 ) -> io::Result<()> {
     let alloc = rt.alloc();
-    let mut sink = MemSink::new(alloc, 65536, 65536)?;
+    let mut sink = MemSink::for_image(alloc, handoff)?;
     if let Err(fault) = write_image(handoff, memory, &mut sink) {
         return println!(rt; "no image: {fault}");
     }
-    let bytes = Vec::from_slice(alloc, sink.contents())?;
-    let len = bytes.len();
-    match check_image(alloc, bytes) {
+    let len = sink.contents().len();
+    match check_image(alloc, sink.into_vec()) {
         Ok(image) => println!(rt; "checked: {len} bytes, {} parts", image.len()),
         Err(fault) => println!(rt; "{fault}"),
     }

@@ -13,9 +13,10 @@ use std::marker::Model;
 /// What a store was asked and answered. It has no items of its own: nothing of it is there as the
 /// program runs.
 ///
-/// A store of one's own that answers each ticket once keeps a [`Ledger`](crate::Ledger), which keeps
-/// a history, and needs no proof. A store that answers in some other way, as `ScriptStore` answers a
-/// ticket twice, keeps a history in a field and gives its `items` as `given` in its `impl Store`:
+/// A store of one's own that answers each ticket once keeps a [`Ledger`](crate::Ledger), which
+/// keeps a history, and needs no proof. A store that answers in some other way, as `ScriptStore`
+/// answers a ticket twice, keeps a history in a field and gives its `items` as `given` in its `impl
+/// Store`:
 /// `and_submission` after a submission that was not refused memory, `and_answer` after each answer.
 /// `item_is` of `proofs/SubmissionLemmas.antt` then proves the clause `given` of `next`.
 #[derive(Drop)]

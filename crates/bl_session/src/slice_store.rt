@@ -7,8 +7,8 @@ use crate::words::Ticket;
 use std::alloc::{AllocError, Allocator};
 
 /// A store over files that lie in slices: it copies a piece as it answers, and never a whole file.
-/// It answers each ticket once: with a copy of the piece, or with a fault, if the file is missing or
-/// has no such piece.
+/// It answers each ticket once: with a copy of the piece, or with a fault, if the file is missing
+/// or has no such piece.
 #[derive(Drop)]
 pub struct SliceStore<'a, A: Allocator + Copy> {
     ledger: Ledger<SliceFiles<'a>, A>,

@@ -16,8 +16,8 @@ pub trait StoredFiles {
     fn size(&self, file: u32) -> Option<u64>
         ensures { result ≡ size_of (slice_index_or (files self.now) file missing) };
 
-    /// The bytes of a piece of a file: 4096 of them from byte 4096 times `index` on, or what is left
-    /// of the file. None if the file is not kept or has no such piece.
+    /// The bytes of a piece of a file: 4096 of them from byte 4096 times `index` on, or what is
+    /// left of the file. None if the file is not kept or has no such piece.
     fn piece(&self, file: u32, index: u32) -> Option<&[u8]>
         ensures some { IsSome result ↔ (4096 * index
             < length (file_bytes (slice_index_or (files self.now) file missing))) }
