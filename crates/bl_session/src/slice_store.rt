@@ -58,9 +58,9 @@ impl<'a, A: Allocator + Copy> SliceStore<'a, A> {
 }
 
 impl<'a, A: Allocator + Copy> Store for SliceStore<'a, A> {
-    ghost use Rattle.std.specs.Prelude.{◌≡◌, ◌↔◌, ◌+◌, [], ◌∷◌, ◌++◌, length, option_map};
+    ghost use Rattle.std.specs.Prelude.{◌≡◌, ◌↔◌, ◌+◌, ◌≤◌, [], ◌∷◌, ◌++◌, length, option_map};
     ghost use Rattle.std.specs.Prelude.{IfOk, OnOk, OnErr, IfSome, IsNone};
-    ghost use Rattle.bl_session.specs.History.{Item, IsItemOf};
+    ghost use Rattle.bl_session.specs.History.{Item, submitted, IsItemOf};
     ghost use Rattle.bl_session.specs.Stores.{event_of, next_place};
     ghost use Rattle.bl_session.specs.Ledger.{answer_at, ledger_asked, ledger_answered};
 
@@ -85,7 +85,13 @@ impl<'a, A: Allocator + Copy> Store for SliceStore<'a, A> {
           ledger = ledger_asked self.old.ledger (record { file = file; ticket = ticket });
           order = self.old.order;
         }) }
-        ensures err { OnErr result (self.new ≡ self.old) }
+        ensures unchanged { OnErr result (self.new ≡ self.old) }
+        ensures files { self.new.ledger.files ≡ self.old.ledger.files }
+        ensures given { OnOk result
+            (self.new.ledger.given ≡ self.old.ledger.given ++ submitted file ticket ∷ []) }
+        ensures left { length self.new.ledger.pending ≤ length self.old.ledger.pending + 2 }
+        ensures err { OnErr result ((self.new.ledger.given ≡ self.old.ledger.given)
+            × (length self.new.ledger.pending ≡ length self.old.ledger.pending)) }
     {
         self.ledger.submit(file, ticket)
     }
@@ -98,7 +104,9 @@ impl<'a, A: Allocator + Copy> Store for SliceStore<'a, A> {
               (next_place self.old.order self.old.ledger.pending);
           order = self.old.order;
         }) }
-        ensures err { OnErr result (self.new ≡ self.old) }
+        ensures unchanged { OnErr result (self.new ≡ self.old) }
+        ensures err { OnErr result ((self.new.ledger.given ≡ self.old.ledger.given)
+            × (length self.new.ledger.pending ≡ length self.old.ledger.pending)) }
         ensures files { self.new.ledger.files ≡ self.old.ledger.files }
         ensures given { IfOk result (λ answer. (item : Item)
             × IsItemOf self.old.ledger.files self.old.ledger.given answer item

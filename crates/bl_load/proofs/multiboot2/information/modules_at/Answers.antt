@@ -1,4 +1,4 @@
-use Rattle.std.proofs.Common.{◌≡◌, ℕ, List, ◌∷◌, ◌++◌, ◌+◌, get_or, map, drop, arith, sym, ap, length, ◌∙◌}
+use Rattle.std.proofs.Common.{◌≡◌, ℕ, List, ◌∷◌, ◌++◌, ◌+◌, get_or, map, drop, arith, sym, ap, ◌∙◌}
 use Rattle.std.proofs.lemmas.List.{drop_more}
 use Rattle.std.proofs.lemmas.List.Elements.{All-push}
 use Rattle.bl_plan.specs.declared.part.Role.TheVariants as role
@@ -7,7 +7,6 @@ use Rattle.bl_load.specs.Addresses.{address_of}
 use Rattle.bl_mbi.specs.InformationFacts.{IsModule}
 use Rattle.bl_load.specs.Kept.{lines_by}
 use Rattle.bl_load.specs.Rows.{told_modules}
-use Rattle.bl_load.specs.Value.{module_file}
 use Rattle.bl_load.proofs.ModuleLemmas.{told_by, told_module, told_more, view_length_at}
 use Rattle.bl_load.proofs.multiboot2.information.modules_at.Goals as goal
 
