@@ -1,6 +1,7 @@
 //! A boot: from a description to the image of the handover.
 
 mod boot_end;
+mod described_boot;
 mod found_boot;
 mod found_files;
 mod handover;

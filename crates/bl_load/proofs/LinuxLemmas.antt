@@ -6,7 +6,7 @@ use Rattle.std.specs.Prelude.{option_to_list}
 use Rattle.std.proofs.lemmas.Bool.{cond_both}
 use Rattle.std.proofs.lemmas.List.Elements.{All-nil, All-cons, All-append}
 use Rattle.std.specs.declared.ops.Range.{Range}
-use Rattle.bl_map.specs.Limits.{max_size}
+use Rattle.bl_map.specs.Limits.{max_size, high_start}
 use Rattle.bl_map.specs.MachineFacts.{MachineFacts}
 use Rattle.bl_map.specs.Room.{whole_frames}
 use Rattle.bl_bzimage.specs.declared.setup.Setup.{Setup}
@@ -24,7 +24,7 @@ use Rattle.bl_plan.specs.declared.part.Row.{Row}
 use Rattle.bl_plan.specs.declared.protocol.Protocol.{Protocol}
 use Rattle.bl_plan.specs.declared.protocol.Protocol.TheVariants as protocols
 use Rattle.bl_plan.proofs.PlaceLaws.{as_many}
-use Rattle.bl_load.specs.LinuxRows.{high_start, moved_row, fixed_row, linux_kernel_row, frame_row}
+use Rattle.bl_load.specs.LinuxRows.{moved_row, fixed_row, linux_kernel_row, frame_row}
 use Rattle.bl_load.specs.LinuxRows.{line_limit, paging_row, front_rows, initrd_rows, linux_rows}
 use Rattle.bl_load.specs.PlacingKept.{HasLength, IsRowed}
 use Rattle.bl_load.specs.Protocols.{is_wide}

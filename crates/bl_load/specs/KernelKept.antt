@@ -40,12 +40,16 @@ abbrev pub IsKernelFault : List ℕ → PrepFault → Type 0
 IsKernelFault file (prep_fault.Refused refused) = HasKernelFault file refused
 IsKernelFault file prep_fault.NoMemory = Unit {0}
 
+-- own: a kernel has at most so many segments
+abbrev pub max_segments : ℕ
+max_segments = 128
+
 -- what holds of the segments of a kernel with no fault: each takes memory, what it takes of the
 -- file is there, it begins below 4 GiB; no two share a byte, and their block has a length of 64
 -- bits
 pub record AreLoadable (file : List ℕ) (segments : List Segment) : Type 0 where
   pub some : 1 ≤ length segments
-  pub few : length segments ≤ 128
+  pub few : length segments ≤ max_segments
   pub filled : All (λ s. 1 ≤ s.memsz) segments
   pub fits : All (λ s. s.filesz ≤ s.memsz) segments
   pub in_file : All (λ s. 0 < s.filesz → s.offset + s.filesz ≤ length file) segments

@@ -4,10 +4,11 @@
 use Rattle.std.specs.Prelude.{ℕ, ◌+◌, ◌-◌, max, if◌then◌else◌, ◌==◌, List, [], ◌∷◌, ◌++◌, length}
 use Rattle.std.specs.Prelude.{Option, Some, None, option_to_list}
 use Rattle.bl_map.specs.MachineFacts.{MachineFacts}
-use Rattle.bl_map.specs.Limits.{frame_size, first_usable, max_size}
+use Rattle.bl_map.specs.Limits.{frame_size, first_usable, max_size, high_start}
 use Rattle.bl_map.specs.Room.{whole_frames}
 use Rattle.bl_bzimage.specs.declared.setup.Setup.{Setup}
 use Rattle.bl_params.specs.BootParamsFacts.{BootParamsFacts}
+use Rattle.bl_params.specs.Numbers.{tables_size}
 use Rattle.bl_plan.specs.declared.protocol.Protocol.{Protocol}
 use Rattle.bl_plan.specs.declared.protocol.Protocol.TheVariants as protocols
 use Rattle.bl_plan.specs.declared.part.Row.{Row}
@@ -19,11 +20,8 @@ use Rattle.bl_plan.specs.declared.part.Choice.TheVariants.{Fixed, Lowest, Highes
 use Rattle.bl_load.specs.Addresses.{address_of}
 use Rattle.bl_load.specs.Value.{EntryValue, initrd_file}
 
--- a kernel that is loaded high lies from here on ("loadflags", LOADED_HIGH)
-abbrev pub high_start : ℕ
-high_start = 0x100000
-
--- a relocatable kernel that is loaded below "pref_address" moves itself up to it, so it is not
+-- a kernel that is loaded high lies from 1 MiB on ("loadflags", LOADED_HIGH); a relocatable one
+-- that is loaded below "pref_address" moves itself up to it, so it is not
 -- placed below; it needs "init_size" bytes where it lies
 abbrev pub moved_row : Setup → Row
 moved_row setup = record {
@@ -67,7 +65,7 @@ paging_row protocols.Linux = None
 paging_row protocols.Linux64 = Some (record {
   role = PageTables;
   index = 0;
-  length = 0x6000;
+  length = tables_size;
   choice = Lowest frame_size first_usable max_size;
 })
 

@@ -10,8 +10,9 @@ use Rattle.bl_plan.specs.declared.part.Role.{Role}
 use Rattle.bl_plan.specs.declared.part.Role.TheVariants.{Kernel, Module, Information, BootParams}
 use Rattle.bl_plan.specs.declared.part.Role.TheVariants.{CommandLine, Gdt, Initrd, PageTables}
 use Rattle.bl_plan.specs.declared.part.Choice.TheVariants.{Lowest, Highest}
-use Rattle.bl_map.specs.Limits.{frame_size, first_usable, max_size}
+use Rattle.bl_map.specs.Limits.{frame_size, first_usable, max_size, high_start, usable_limit}
 use Rattle.bl_mbi.specs.Size.{tag_size}
+use Rattle.bl_params.specs.Numbers.{tables_size}
 use Rattle.bl_load.specs.Kernel.{KernelFacts}
 use Rattle.bl_plan.specs.declared.protocol.Protocol.{Protocol}
 use Rattle.bl_plan.specs.declared.part.Row.{Row}
@@ -65,7 +66,7 @@ HasLength facts value (linux setup) Initrd i count =
     (1 ≤ length (initrd_file value.files))
     × (count ≡ whole_frames (length (initrd_file value.files)))
 HasLength facts value (linux setup) PageTables i count =
-    (is_wide value.protocol ≡ true) × (count ≡ 0x6000)
+    (is_wide value.protocol ≡ true) × (count ≡ tables_size)
 
 abbrev pub IsRowed : MachineFacts → EntryValue → Reading → Place → Type 0
 IsRowed facts value reading place =
@@ -104,7 +105,7 @@ told_rows files k (line ∷ lines) = record {
   role = Module;
   index = k;
   length = told_length (length (module_file files k));
-  choice = Lowest frame_size 0x100000 max_size;
+  choice = Lowest frame_size high_start max_size;
 } ∷ told_rows files (suc k) lines
 
 -- the rows of an entry as the code tells them
@@ -146,4 +147,4 @@ tags_size (line ∷ lines) = tag_size (length line + 9) + tags_size lines
 -- each of so many modules ends below the last frame of 4 GiB
 abbrev pub ModulesEndLow : List (List ℕ) → List Place → ℕ → Type 0
 ModulesEndLow files places count =
-    (k : ℕ) → k < count → address_of Module k places + length (module_file files k) ≤ 0xFFFFF000
+    (k : ℕ) → k < count → address_of Module k places + length (module_file files k) ≤ usable_limit

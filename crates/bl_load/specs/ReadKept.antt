@@ -18,6 +18,7 @@ use Rattle.bl_load.specs.PlacingKept.{ModulesEndLow}
 use Rattle.bl_mem.specs.Files.{text_at}
 use Rattle.bl_load.specs.Reading.{Reading, multiboot2, linux}
 use Rattle.bl_load.specs.Value.{EntryValue, initrd_file}
+use Rattle.bl_params.specs.Numbers.{tables_size}
 
 -- a kernel that was read so is entered by this protocol
 abbrev pub EntersBy : Protocol → Reading → Type 0
@@ -35,7 +36,7 @@ HasFiles texts modules (linux setup) = 1 ≤ length texts
 abbrev pub TablesFit : List Place → Type 0
 TablesFit places =
     (address_of role.PageTables 0 places % frame_size ≡ 0)
-    × (address_of role.PageTables 0 places + 0x6000 ≤ 2 ^ 32)
+    × (address_of role.PageTables 0 places + tables_size ≤ 2 ^ 32)
 
 -- what is told of the parts fits 32 bits
 abbrev pub FitsTold : EntryValue → Reading → List Place → Type 0

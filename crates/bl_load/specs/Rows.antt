@@ -5,7 +5,7 @@ use Rattle.std.specs.Prelude.{Option, Some, None, option_map}
 use Rattle.bl_mem.specs.declared.segment.Segment.{Segment}
 use Rattle.bl_map.specs.MachineFacts.{MachineFacts}
 use Rattle.bl_map.specs.Kinds.{low_kib, high_kib}
-use Rattle.bl_map.specs.Limits.{frame_size, first_usable, max_size}
+use Rattle.bl_map.specs.Limits.{frame_size, first_usable, max_size, high_start}
 use Rattle.bl_map.specs.Room.{whole_frames}
 use Rattle.bl_mb2head.specs.declared.relocation.Relocation.{Relocation}
 use Rattle.bl_mbi.specs.InformationFacts.{ModuleInfo, InformationFacts, info_size}
@@ -31,12 +31,18 @@ segment_rows k (s ∷ segments) =
 abbrev pub align_of : Relocation → ℕ
 align_of r = if r.align == 0 then 1 else r.align
 
--- preference 1 is the lowest place, 2 the highest, any other the linked address, and the lowest
--- where that is not permitted
+-- the preference for the lowest place, and for the highest
+abbrev pub prefer_lowest : ℕ
+prefer_lowest = 1
+
+abbrev pub prefer_highest : ℕ
+prefer_highest = 2
+
+-- any other preference is the linked address, and the lowest place where that is not permitted
 abbrev pub block_choice : Relocation → ℕ → Choice
 block_choice r linked =
-    if r.preference == 1 then Lowest (align_of r) r.min_addr r.max_addr else
-    if r.preference == 2 then Highest (align_of r) r.min_addr r.max_addr else
+    if r.preference == prefer_lowest then Lowest (align_of r) r.min_addr r.max_addr else
+    if r.preference == prefer_highest then Highest (align_of r) r.min_addr r.max_addr else
     Preferred linked (align_of r) r.min_addr r.max_addr
 
 -- each segment at its address; with a relocatable tag one block
@@ -61,7 +67,7 @@ module_rows files k (line ∷ lines) = record {
   role = Module;
   index = k;
   length = module_length (module_file files k);
-  choice = Lowest frame_size 0x100000 max_size;
+  choice = Lowest frame_size high_start max_size;
 } ∷ module_rows files (suc k) lines
 
 -- what the information tells of each module in order, numbered from k on, where the parts have

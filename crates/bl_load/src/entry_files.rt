@@ -2,6 +2,7 @@
 ghost use Rattle.std.specs.Prelude.{◌≡◌, ◌≤◌, None, All, IfSome, length};
 ghost use Rattle.std.proofs.Props.{props};
 ghost use Rattle.bl_load.specs.Value.{line_fault, IsCopy};
+ghost use Rattle.bl_plan.specs.Limits.{max_line, max_modules};
 
 use crate::entry::Module;
 use bl_map::Machine;
@@ -21,9 +22,9 @@ pub struct EntryFiles<'a, A: Allocator, V: ByteView> {
     pub rsdp_new: &'a Option<Bytes<A>>,
     pub files: &'a [V],
     ghost sound: { line_fault line.now ≡ None },
-    ghost short: { length line.now ≤ 4095 },
+    ghost short: { length line.now ≤ max_line },
     ghost sound_modules: { All (λ m. line_fault m.line ≡ None) modules.now },
-    ghost few: { length modules.now ≤ 64 },
+    ghost few: { length modules.now ≤ max_modules },
     ghost old: { IfSome rsdp_old.now IsCopy } by { Prim.hlevel props },
     ghost new: { IfSome rsdp_new.now IsCopy } by { Prim.hlevel props },
 }

@@ -9,6 +9,7 @@ ghost use Rattle.bl_load.specs.Parts.{IsHandover, IsPrepFault};
 ghost use Rattle.bl_load.specs.PlanFacts.{handover_by};
 ghost use Rattle.bl_load.specs.Kept.{lines_by};
 ghost use Rattle.bl_load.specs.Loadable.{lengths_of, IsLoadable, IsLean};
+ghost use Rattle.bl_plan.specs.Limits.{max_modules};
 
 use crate::addresses::address_of;
 use crate::entry::Module;
@@ -85,7 +86,7 @@ pub fn prepare<A: Allocator + Copy, V: ByteView>(
     files: &[V],
 ) -> Result<Plan<A>, PrepFault>
     requires files { length files.now ≡ 1 + length modules.now }
-    requires few { length modules.now ≤ 64 }
+    requires few { length modules.now ≤ max_modules }
     requires old { IfSome rsdps.now.old.now IsCopy }
     requires new { IfSome rsdps.now.new.now IsCopy }
     ensures handover { IfOk result (λ plan. IsHandover machine.now

@@ -5,7 +5,7 @@ use Rattle.std.specs.Prelude.{nat_le, nat_lt, min, max, List, [], ◌∷◌, All
 use Rattle.std.specs.Prelude.{None, codes}
 use Rattle.std.specs.List.{find}
 use Rattle.std.specs.Str.{bytes_eq}
-use Rattle.bl_map.specs.Limits.{region_limit}
+use Rattle.bl_map.specs.Limits.{region_limit, kib, max_low_kib, high_start, max_high_kib}
 use Rattle.bl_map.specs.declared.kind.Kind.{Kind}
 use Rattle.bl_map.specs.declared.kind.Kind.TheVariants.{Usable, Reserved, Acpi, Nvs, Bad}
 use Rattle.bl_map.specs.declared.region.Region.{Region}
@@ -79,10 +79,10 @@ usable_end (run ∷ runs) a =
     if (kind_number run.kind == 1) && region_holds run a then region_end run else usable_end runs a
 
 -- Multiboot2 3.6.3 "Basic memory information": mem_lower, KiB of usable memory from address 0 on,
--- at most 640
+-- at most so many
 abbrev pub low_kib : List Region → ℕ
-low_kib runs = min (usable_end runs 0 / 1024) 640
+low_kib runs = min (usable_end runs 0 / kib) max_low_kib
 
--- mem_upper, KiB of usable memory from 1 MiB on, at most what 32 bits hold
+-- mem_upper, KiB of usable memory from 1 MiB on, at most so many
 abbrev pub high_kib : List Region → ℕ
-high_kib runs = min ((usable_end runs 0x100000 - 0x100000) / 1024) 0xFFFFFFFF
+high_kib runs = min ((usable_end runs high_start - high_start) / kib) max_high_kib

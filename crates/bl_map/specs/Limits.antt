@@ -20,6 +20,22 @@ max_regions = 128
 abbrev pub region_limit : ℕ
 region_limit = 2 ^ 52
 
+-- bytes in a KiB
+abbrev pub kib : ℕ
+kib = 1024
+
+-- Multiboot2 3.6.3 "Basic memory information": the most KiB that mem_lower tells
+abbrev pub max_low_kib : ℕ
+max_low_kib = 640
+
+-- where high memory starts: 1 MiB
+abbrev pub high_start : ℕ
+high_start = 0x100000
+
+-- the most KiB that mem_upper tells: what 32 bits hold
+abbrev pub max_high_kib : ℕ
+max_high_kib = 0xFFFFFFFF
+
 -- a normal map has at most so many runs
 abbrev pub max_runs : ℕ
 max_runs = 256

@@ -6,9 +6,10 @@ use Rattle.std.specs.Prelude.{option_map, option_and_then}
 use Rattle.std.specs.List.{list_any}
 use Rattle.bl_map.specs.declared.region.Region.{Region}
 use Rattle.bl_map.specs.Kinds.{kind_of}
-use Rattle.bl_map.specs.Limits.{region_limit}
+use Rattle.bl_map.specs.Limits.{region_limit, max_low_kib}
 use Rattle.bl_mbi.specs.InformationFacts.{ModuleInfo}
 use Rattle.bl_mbi.specs.Fields.{first_u32, first_u64}
+use Rattle.bl_mbi.specs.Size.{map_entry_size}
 
 -- 3.6.5 "Boot command line", 3.6.9 "Boot loader name": a text with its one zero after it
 unfoldable pub text_of_body : List ℕ → Option (List ℕ)
@@ -36,10 +37,10 @@ module_of body =
 unfoldable pub memory_of : List ℕ → Option (ℕ × ℕ)
 memory_of body =
     if not (length body == 8) then None else
-    if nat_lt 640 (first_u32 body) then None else
+    if nat_lt max_low_kib (first_u32 body) then None else
     Some (first_u32 body, first_u32 (drop 4 body))
 
--- an entry of the memory map, 3.6.8, in 24 bytes: base_addr, length, type, reserved
+-- an entry of the memory map, 3.6.8: base_addr, length, type, reserved
 unfoldable pub run_of : List ℕ → Option Region
 run_of bytes =
     if nat_lt region_limit (first_u64 bytes + first_u64 (drop 8 bytes)) then None else
@@ -56,17 +57,17 @@ run_of bytes =
 abbrev pub runs_of : ℕ → List ℕ → Option (List Region)
 runs_of zero bytes = Some []
 runs_of (suc n) bytes =
-    option_and_then (λ run. option_map (λ runs. run ∷ runs) (runs_of n (drop 24 bytes)))
+    option_and_then (λ run. option_map (λ runs. run ∷ runs) (runs_of n (drop map_entry_size bytes)))
     (run_of bytes)
 
 -- 3.6.8 "Memory map": entry_size, entry_version, entries
 unfoldable pub map_of : List ℕ → Option (List Region)
 map_of body =
     if nat_lt (length body) 8 then None else
-    if not (first_u32 body == 24) then None else
+    if not (first_u32 body == map_entry_size) then None else
     if not (first_u32 (drop 4 body) == 0) then None else
-    if not ((length body - 8) % 24 == 0) then None else
-    runs_of ((length body - 8) / 24) (drop 8 body)
+    if not ((length body - 8) % map_entry_size == 0) then None else
+    runs_of ((length body - 8) / map_entry_size) (drop 8 body)
 
 -- 3.6, section "Image load base physical address": load_base_addr
 unfoldable pub load_base_of : List ℕ → Option ℕ

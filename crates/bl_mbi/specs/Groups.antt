@@ -1,16 +1,18 @@
 -- How long the groups of tags are that are written one after the other. Own.
 use Rattle.std.specs.Prelude.{◌+◌, ◌*◌, ℕ, length, sum_by, option_map, is_some}
-use Rattle.bl_mbi.specs.Size.{tag_size, copy_size, load_base_size}
+use Rattle.bl_mbi.specs.Size.{tag_size, copy_size, load_base_size, map_entry_size}
+use Rattle.bl_mbi.specs.Size.{loader_name_size}
 use Rattle.bl_mbi.specs.InformationFacts.{InformationFacts}
 
 -- types 1, 2 and 3, with the loader's name `bootcore`
 abbrev pub texts_size : InformationFacts → ℕ
 texts_size facts =
-    tag_size (length facts.line + 1) + 24 + sum_by (λ m. tag_size (length m.line + 9)) facts.modules
+    tag_size (length facts.line + 1) + loader_name_size
+    + sum_by (λ m. tag_size (length m.line + 9)) facts.modules
 
 -- types 4 and 6
 abbrev pub map_size : InformationFacts → ℕ
-map_size facts = 32 + 24 * length facts.runs
+map_size facts = 32 + map_entry_size * length facts.runs
 
 -- types 14, 15, 21 and 0
 abbrev pub last_size : InformationFacts → ℕ

@@ -10,6 +10,7 @@ use Rattle.bl_mbi.specs.InformationFacts.{ModuleInfo}
 use Rattle.bl_mbi.specs.Fields.{◌>>=◌, Left, first_u32, is_next, info_tag_at, or_bad}
 use Rattle.bl_mbi.specs.Bodies.{text_of_body, module_of, memory_of, map_of, load_base_of}
 use Rattle.bl_mbi.specs.InfoFacts.{InfoFacts}
+use Rattle.bl_mbi.specs.Size.{min_info_size}
 
 unfoldable pub text_tag_at : ℕ → Left → Result (List ℕ × Left) InfoFault
 text_tag_at kind left = do
@@ -98,7 +99,7 @@ tags_of left = do
 -- "Basic structure": total_size, reserved, the tags
 unfoldable pub info_of : List ℕ → Result InfoFacts InfoFault
 info_of bytes =
-    if nat_lt (length bytes) 16 then Err WrongLength else
+    if nat_lt (length bytes) min_info_size then Err WrongLength else
     if not (first_u32 bytes == length bytes) then Err WrongLength else
     if not (first_u32 (drop 4 bytes) == 0) then Err BadReserved else
     tags_of record { at = 8; bytes = drop 8 bytes }

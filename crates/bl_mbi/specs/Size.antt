@@ -3,6 +3,18 @@
 use Rattle.std.specs.Prelude.{◌+◌, ◌*◌, ◌/◌, ℕ, Bool, if◌then◌else◌, List, sum_by, Option, Some}
 use Rattle.std.specs.Prelude.{None}
 
+-- information has at least total_size, reserved, and the tag that ends it
+abbrev pub min_info_size : ℕ
+min_info_size = 16
+
+-- an entry of the memory map: its entry_size (3.6.8 "Memory map")
+abbrev pub map_entry_size : ℕ
+map_entry_size = 24
+
+-- the tag of the loader's name `bootcore`
+abbrev pub loader_name_size : ℕ
+loader_name_size = 24
+
 -- a size up to the next multiple of 8
 abbrev pub padded : ℕ → ℕ
 padded size = (size + 7) / 8 * 8
@@ -21,9 +33,9 @@ abbrev pub load_base_size : Bool → ℕ
 load_base_size given = if given then 16 else 0
 
 -- all of it, by the lengths of the line and of each module's line, the number of runs, the lengths
--- of the copies, and whether a load base is given; the loader's name takes 24. No address and no
--- number has a part in it.
+-- of the copies, and whether a load base is given. No address and no number has a part in it.
 abbrev pub size_by_lengths : ℕ → List ℕ → ℕ → Option ℕ → Option ℕ → Bool → ℕ
 size_by_lengths line lines runs rsdp_old rsdp_new load_base =
-    8 + tag_size (line + 1) + 24 + sum_by (λ length. tag_size (length + 9)) lines
-    + 16 + (16 + 24 * runs) + copy_size rsdp_old + copy_size rsdp_new + load_base_size load_base + 8
+    8 + tag_size (line + 1) + loader_name_size + sum_by (λ length. tag_size (length + 9)) lines
+    + 16 + (16 + map_entry_size * runs) + copy_size rsdp_old + copy_size rsdp_new
+    + load_base_size load_base + 8

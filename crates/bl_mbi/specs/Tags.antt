@@ -6,6 +6,7 @@ use Rattle.bl_map.specs.declared.region.Region.{Region}
 use Rattle.bl_map.specs.Kinds.{kind_number}
 use Rattle.bl_mem.specs.Words.{u32_bytes, u64_bytes}
 use Rattle.bl_mbi.specs.InformationFacts.{ModuleInfo}
+use Rattle.bl_mbi.specs.Size.{map_entry_size}
 
 -- zeros after so many bytes, up to the next multiple of 8
 abbrev pub padding : ℕ → List ℕ
@@ -38,7 +39,7 @@ run_bytes run =
 
 -- 3.6.8 "Memory map" (type 6): entry_size, entry_version, entries
 abbrev pub map_body : List Region → List ℕ
-map_body runs = u32_bytes 24 ++ (u32_bytes 0 ++ flat_map run_bytes runs)
+map_body runs = u32_bytes map_entry_size ++ (u32_bytes 0 ++ flat_map run_bytes runs)
 
 -- 3.6, sections "ACPI old RSDP" (type 14) and "ACPI new RSDP" (type 15): a copy, where there is one
 abbrev pub copy_tag : ℕ → Option (List ℕ) → List ℕ

@@ -4,11 +4,12 @@ ghost use Rattle.std.specs.List.{list_all, list_any};
 ghost use Rattle.bl_mbi.specs.Fields.{MatchesReading, or_bad};
 ghost use Rattle.bl_mbi.specs.Fields as fields;
 ghost use Rattle.bl_mbi.specs.Bodies as spec;
+ghost use Rattle.bl_mbi.specs.Size.{map_entry_size};
 
 use crate::fault::InfoFault;
-use crate::format::{ENTRY_SIZE, MEM_LOWER_LIMIT};
+use crate::format::ENTRY_SIZE;
 use crate::module::Module;
-use bl_map::{Kind, REGION_LIMIT, Region};
+use bl_map::{Kind, MAX_LOW_KIB, REGION_LIMIT, Region};
 use bl_mem::{Bytes, SliceView, u32_at, u64_at};
 use std::alloc::Allocator;
 
@@ -92,16 +93,16 @@ pub(crate) fn memory_of(body: &[u8]) -> Option<(u32, u32)>
         return None;
     }
     let mem_lower = word(body);
-    if mem_lower > MEM_LOWER_LIMIT {
+    if mem_lower as u64 > MAX_LOW_KIB {
         return None;
     }
     Some((mem_lower, word(&body[4..])))
 }
 
-/// The entry of the memory map in 24 bytes.
+/// The entry of the memory map that bytes begin with.
 #[tactic(auto, unfolding(crate::specs::Bodies::run_of))]
 fn run_of(bytes: &[u8]) -> Option<Region>
-    requires { 24 ≤ length bytes.now }
+    requires { map_entry_size ≤ length bytes.now }
     ensures { result ≡ spec.run_of bytes.now }
 {
     let base = long(bytes);
@@ -118,9 +119,9 @@ fn run_of(bytes: &[u8]) -> Option<Region>
 
 /// The entries of a memory map, one after the other.
 fn runs_of<A: Allocator>(alloc: A, at: u64, bytes: &[u8]) -> Result<Vec<Region, A>, InfoFault>
-    requires { length bytes.now % 24 ≡ 0 }
+    requires { length bytes.now % map_entry_size ≡ 0 }
     ensures { MatchesReading (λ runs. runs.items) result
-        (or_bad at (spec.runs_of (length bytes.now / 24) bytes.now)) }
+        (or_bad at (spec.runs_of (length bytes.now / map_entry_size) bytes.now)) }
 {
     let mut runs = Vec::new(alloc);
     let count = bytes.len() / ENTRY_SIZE as usize;

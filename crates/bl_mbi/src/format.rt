@@ -27,8 +27,9 @@ pub(crate) const TAG_LOAD_BASE: u32 = 21;
 /// 3.6.2 "Basic tags structure": the tag that ends the information.
 pub(crate) const TAG_END: u32 = 0;
 
-/// The most KiB that `mem_lower` may tell, 3.6.3.
-pub(crate) const MEM_LOWER_LIMIT: u32 = 640;
-
 /// The `entry_size` of the memory map, 3.6.8.
 pub(crate) const ENTRY_SIZE: u32 = 24;
+
+/// The least `total_size`, 3.6.2 "Basic tags structure": that word, the reserved one, and the tag
+/// that ends the information.
+pub const MIN_INFO_SIZE: u32 = 16;

@@ -24,6 +24,7 @@ mod write;
 
 pub use facts::Facts;
 pub use fault::InfoFault;
+pub use format::MIN_INFO_SIZE;
 pub use info::Info;
 pub use laws::{read_is_spelled, spelled_is_read};
 pub use module::Module;

@@ -9,6 +9,7 @@ ghost use Rattle.bl_mbi.specs.Reading as spec;
 
 use crate::bodies::word;
 use crate::fault::InfoFault;
+use crate::format::MIN_INFO_SIZE;
 use crate::groups::{last_at, map_tags_at, texts_at};
 use crate::info::Info;
 use crate::rest::Rest;
@@ -40,7 +41,7 @@ fn tags_in(bytes: &[u8]) -> Result<Rest, InfoFault>
     ensures tags { IfOk result (λ rest. spec.info_of bytes.now ≡ spec.tags_of (left_in rest)) }
     ensures first_fault { IfErr result (λ fault. spec.info_of bytes.now ≡ Err fault) }
 {
-    if bytes.len() < 16 {
+    if bytes.len() < MIN_INFO_SIZE as usize {
         return Err(InfoFault::WrongLength);
     }
     if word(bytes) as usize != bytes.len() {

@@ -3,7 +3,7 @@ ghost use Rattle.std.specs.Prelude.{◌≡◌, ◌≤◌, ◌+◌, ◌-◌, ◌*
 ghost use Rattle.std.specs.Prelude.{is_some, sum_by};
 ghost use Rattle.std.specs.Prelude.{option_map, option_copied, vec_len, vec_capacity};
 ghost use Rattle.std.specs.List.{flat_map};
-ghost use Rattle.bl_mbi.specs.Size.{tag_size, copy_size, load_base_size};
+ghost use Rattle.bl_mbi.specs.Size.{tag_size, copy_size, load_base_size, map_entry_size};
 ghost use Rattle.bl_mbi.specs.Tags.{padding, tag, text_body, module_tag, memory_body, run_bytes};
 ghost use Rattle.bl_mbi.specs.Tags.{map_body};
 ghost use Rattle.bl_mbi.specs.Tags.{copy_tag, load_base_tag};
@@ -91,9 +91,9 @@ pub(crate) fn put_memory<A: Allocator>(out: &mut Vec<u8, A>, mem_lower: u32, mem
 }
 
 fn put_run<A: Allocator>(out: &mut Vec<u8, A>, run: &Region)
-    requires { vec_len out.old + 24 ≤ vec_capacity out.old }
+    requires { vec_len out.old + map_entry_size ≤ vec_capacity out.old }
     ensures items { out.new.items ≡ out.old.items ++ run_bytes run.now }
-    ensures len { vec_len out.new ≡ vec_len out.old + 24 }
+    ensures len { vec_len out.new ≡ vec_len out.old + map_entry_size }
     ensures capacity { vec_capacity out.old ≤ vec_capacity out.new }
 {
     put_u64(out, run.base);
@@ -103,9 +103,9 @@ fn put_run<A: Allocator>(out: &mut Vec<u8, A>, run: &Region)
 }
 
 fn put_runs<A: Allocator>(out: &mut Vec<u8, A>, runs: &[Region])
-    requires { vec_len out.old + 24 * length runs.now ≤ vec_capacity out.old }
+    requires { vec_len out.old + map_entry_size * length runs.now ≤ vec_capacity out.old }
     ensures items { out.new.items ≡ out.old.items ++ flat_map run_bytes runs.now }
-    ensures len { vec_len out.new ≡ vec_len out.old + 24 * length runs.now }
+    ensures len { vec_len out.new ≡ vec_len out.old + map_entry_size * length runs.now }
     ensures capacity { vec_capacity out.old ≤ vec_capacity out.new }
 {
     for run in runs {
@@ -115,10 +115,11 @@ fn put_runs<A: Allocator>(out: &mut Vec<u8, A>, runs: &[Region])
 
 /// Appends the memory map.
 pub(crate) fn put_map<A: Allocator>(out: &mut Vec<u8, A>, runs: &[Region])
-    requires room { vec_len out.old + (16 + 24 * length runs.now) ≤ vec_capacity out.old }
-    requires small { 16 + 24 * length runs.now < 2 ^ 32 }
+    requires room { vec_len out.old + (16 + map_entry_size * length runs.now)
+        ≤ vec_capacity out.old }
+    requires small { 16 + map_entry_size * length runs.now < 2 ^ 32 }
     ensures items { out.new.items ≡ out.old.items ++ tag 6 (map_body runs.now) }
-    ensures len { vec_len out.new ≡ vec_len out.old + (16 + 24 * length runs.now) }
+    ensures len { vec_len out.new ≡ vec_len out.old + (16 + map_entry_size * length runs.now) }
     ensures capacity { vec_capacity out.old ≤ vec_capacity out.new }
 {
     put_u32(out, TAG_MEMORY_MAP);

@@ -1,6 +1,7 @@
 //! Boot information as bytes.
 ghost use Rattle.std.specs.Prelude.{◌≡◌, ◌≤◌, ◌+◌, ◌^◌, ◌<◌, ◌++◌, [], codes, length, sum_by};
-ghost use Rattle.std.specs.Prelude.{option_map, option_copied, vec_len, vec_capacity, IsOk, OnOk, OnErr};
+ghost use Rattle.std.specs.Prelude.{option_map, option_copied, vec_len, vec_capacity, IsOk, OnOk};
+ghost use Rattle.std.specs.Prelude.{OnErr};
 ghost use Rattle.std.specs.List.{flat_map};
 ghost use Rattle.bl_mbi.specs.Size.{tag_size, copy_size};
 ghost use Rattle.bl_mbi.specs.InformationFacts.{info_size as size_of_info};
@@ -111,10 +112,7 @@ fn put_last<A: Allocator>(facts: &Facts<'_>, out: &mut Vec<u8, A>)
 }
 
 /// Appends the information, with the loader's name `bootcore`, or leaves the bytes as they were.
-pub fn write_info<A: Allocator>(
-    facts: &Facts<'_>,
-    out: &mut Vec<u8, A>,
-) -> Result<(), AllocError>
+pub fn write_info<A: Allocator>(facts: &Facts<'_>, out: &mut Vec<u8, A>) -> Result<(), AllocError>
     ensures ok { OnOk result
         (out.new.items ≡ out.old.items ++ info_spelling (codes "bootcore") facts.now) }
     ensures err { OnErr result (out.new.items ≡ out.old.items) }

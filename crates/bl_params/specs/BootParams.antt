@@ -6,6 +6,7 @@ use Rattle.bl_map.specs.declared.region.Region.{Region}
 use Rattle.bl_map.specs.Kinds.{kind_number}
 use Rattle.bl_params.specs.BootParamsFacts.{BootParamsFacts}
 use Rattle.bl_params.specs.Fields.{number_bytes, byte_of_fields}
+use Rattle.bl_params.specs.Numbers.{params_size}
 
 -- an entry of "e820_table": addr, size, type
 abbrev pub entry_bytes : Region → List ℕ
@@ -28,6 +29,7 @@ fields_of header facts =
     ∷ (0x1F1, header)  -- the setup header, from setup_sects on
     ∷ []
 
--- all of them: 4096 bytes, with 0 where there is no field
+-- all of them, with 0 where there is no field
 unfoldable pub boot_params : List ℕ → BootParamsFacts → List ℕ
-boot_params header facts = map (byte_of_fields (fields_of header facts)) (range_with_len 0 4096)
+boot_params header facts =
+    map (byte_of_fields (fields_of header facts)) (range_with_len 0 params_size)

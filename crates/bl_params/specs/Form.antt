@@ -6,14 +6,16 @@ use Rattle.bl_mem.specs.Words.{u16_at, u32_at, u64_at}
 use Rattle.bl_map.specs.Limits.{region_limit}
 use Rattle.bl_bzimage.specs.Setup.{header_end}
 use Rattle.bl_params.specs.BootParamsFacts.{max_e820_entries}
+use Rattle.bl_params.specs.Numbers.{e820_entries_at, e820_table_at, e820_entry_size, e820_size_at}
+use Rattle.bl_params.specs.Numbers.{e820_type_at, header_at}
 
 -- "e820_entries"
 abbrev pub entries_in : List ℕ → ℕ
-entries_in bytes = slice_index bytes 0x1E8
+entries_in bytes = slice_index bytes e820_entries_at
 
--- "e820_table": each entry takes 20 bytes
+-- an entry of "e820_table"
 abbrev pub e820_entry_at : ℕ → ℕ
-e820_entry_at i = 0x2D0 + 20 * i
+e820_entry_at i = e820_table_at + e820_entry_size * i
 
 -- a byte of no field must be 0
 abbrev pub is_filled : List ℕ → ℕ → Bool
@@ -30,19 +32,20 @@ breaks_header bytes k =
     || (k == 0x210 && not (slice_index bytes 0x210 == 0xFF))  -- type_of_loader
     || (k == 0x250 && not (u64_at bytes 0x250 == 0))  -- setup_data
 
--- the fields of an entry of "e820_table", by their place in it: addr with size at 0, type at 16
+-- the fields of an entry of "e820_table", by their place in it: addr with size at 0, and type
 abbrev pub breaks_entry : List ℕ → ℕ → ℕ → Bool
 breaks_entry bytes place k =
-    (place == 0 && nat_lt region_limit (u64_at bytes k + u64_at bytes (k + 8)))
-    || (place == 16 && not (nat_le 1 (u32_at bytes k) && nat_le (u32_at bytes k) 5))
+    (place == 0 && nat_lt region_limit (u64_at bytes k + u64_at bytes (k + e820_size_at)))
+    || (place == e820_type_at && not (nat_le 1 (u32_at bytes k) && nat_le (u32_at bytes k) 5))
 
 -- whether what stands at an offset breaks the form
 unfoldable pub breaks : List ℕ → ℕ → Bool
 breaks bytes k =
-    if nat_lt k 0x1E8 then is_filled bytes k else
-    if k == 0x1E8 then nat_lt max_e820_entries (entries_in bytes) else
-    if nat_lt k 0x1F1 then is_filled bytes k else
+    if nat_lt k e820_entries_at then is_filled bytes k else
+    if k == e820_entries_at then nat_lt max_e820_entries (entries_in bytes) else
+    if nat_lt k header_at then is_filled bytes k else
     if nat_lt k (header_end bytes) then breaks_header bytes k else
-    if nat_lt k 0x2D0 then is_filled bytes k else
-    if nat_lt k (e820_entry_at (entries_in bytes)) then breaks_entry bytes ((k - 0x2D0) % 20) k else
+    if nat_lt k e820_table_at then is_filled bytes k else
+    if nat_lt k (e820_entry_at (entries_in bytes)) then
+    breaks_entry bytes ((k - e820_table_at) % e820_entry_size) k else
     is_filled bytes k

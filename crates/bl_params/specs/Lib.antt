@@ -9,4 +9,5 @@ pub mod Translation
 pub mod Form
 pub mod Reading
 pub mod Kept
+pub mod Numbers
 pub mod Told

@@ -5,6 +5,7 @@
 use Rattle.std.specs.Prelude.{ℕ, ◌+◌, ◌-◌, ◌*◌, ◌==◌, nat_lt, if◌then◌else◌, List}
 use Rattle.std.specs.List.{flat_map, range_with_len}
 use Rattle.bl_params.specs.Fields.{number_bytes}
+use Rattle.bl_params.specs.Numbers.{page_size}
 
 -- the address of a frame, present and writable: how an upper table names the next one
 abbrev pub upper_word : ℕ → ℕ → ℕ
@@ -12,7 +13,7 @@ upper_word base frame = base + 0x1000 * frame + 3
 
 -- the nth page of 2 MiB, present, writable and of that size (bit 7)
 abbrev pub page_word : ℕ → ℕ
-page_word n = n * 0x200000 + 0x83
+page_word n = n * page_size + 0x83
 
 -- the word at an index of a frame: the page map of level 4 names the page-directory-pointer table,
 -- which names the four page directories, whose words are the pages in order

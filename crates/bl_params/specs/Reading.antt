@@ -8,23 +8,26 @@ use Rattle.bl_params.specs.declared.fault.ParamFault.{ParamFault}
 use Rattle.bl_params.specs.declared.fault.ParamFault.TheVariants.{WrongLength, BadParams, NoMemory}
 use Rattle.bl_params.specs.Form.{breaks, entries_in}
 use Rattle.bl_params.specs.ParamsFacts.{ParamsFacts}
+use Rattle.bl_params.specs.Numbers.{params_size, e820_table_at, e820_entry_size, e820_size_at}
+use Rattle.bl_params.specs.Numbers.{e820_type_at}
 
 -- the entry of "e820_table" that stands at an offset
 pub record IsEntry (bytes : List ℕ) (at : ℕ) (run : Region) : Type 0 where
   pub base : run.base ≡ u64_at bytes at
-  pub size : run.length ≡ u64_at bytes (at + 8)
-  pub kind : kind_number run.kind ≡ u32_at bytes (at + 16)
+  pub size : run.length ≡ u64_at bytes (at + e820_size_at)
+  pub kind : kind_number run.kind ≡ u32_at bytes (at + e820_type_at)
 
 -- the entries from an offset on, one after the other
 abbrev pub AreEntries : List ℕ → ℕ → List Region → Type 0
 AreEntries bytes at [] = Unit {0}
-AreEntries bytes at (run ∷ runs) = IsEntry bytes at run × AreEntries bytes (at + 20) runs
+AreEntries bytes at (run ∷ runs) =
+    IsEntry bytes at run × AreEntries bytes (at + e820_entry_size) runs
 
 -- these bytes have the form, and tell this: each number at its offset, and as many runs as are
 -- counted
 pub record IsParams (bytes : List ℕ) (params : ParamsFacts) : Type 0 where
-  pub size : length bytes ≡ 4096
-  pub sound : (k : ℕ) → k < 4096 → breaks bytes k ≡ false
+  pub size : length bytes ≡ params_size
+  pub sound : (k : ℕ) → k < params_size → breaks bytes k ≡ false
   pub version : params.version ≡ u16_at bytes 0x206
   pub loadflags : params.loadflags ≡ slice_index bytes 0x211
   pub code32_start : params.code32_start ≡ u32_at bytes 0x214
@@ -39,12 +42,13 @@ pub record IsParams (bytes : List ℕ) (params : ParamsFacts) : Type 0 where
   pub pref_address : params.pref_address ≡ u64_at bytes 0x258
   pub init_size : params.init_size ≡ u32_at bytes 0x260
   pub count : length params.runs ≡ entries_in bytes
-  pub runs : AreEntries bytes 0x2D0 params.runs
+  pub runs : AreEntries bytes e820_table_at params.runs
 
 -- the least offset that breaks the form, of as many bytes as boot parameters have; or memory ran
 -- out
 abbrev pub HasFirstParamFault : List ℕ → ParamFault → Type 0
-HasFirstParamFault bytes WrongLength = ¬ (length bytes ≡ 4096)
+HasFirstParamFault bytes WrongLength = ¬ (length bytes ≡ params_size)
 HasFirstParamFault bytes (BadParams k) =
-    (length bytes ≡ 4096) × IsLeast (λ j. (j < 4096) × (breaks bytes j ≡ true)) k
+    (length bytes ≡ params_size)
+    × IsLeast (λ j. (j < params_size) × (breaks bytes j ≡ true)) k
 HasFirstParamFault bytes NoMemory = Unit {0}

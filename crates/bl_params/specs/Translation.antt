@@ -5,6 +5,7 @@ use Rattle.std.specs.Prelude.{ℕ, ◌+◌, ◌*◌, ◌/◌, ◌%◌, ◌^◌, 
 use Rattle.std.specs.Prelude.{List, length, Option, None, Some}
 use Rattle.bl_mem.specs.Words.{u64_at}
 use Rattle.bl_params.specs.Paging.{upper_word}
+use Rattle.bl_params.specs.Numbers.{tables_size, page_size}
 
 -- nine bits of an address from a bit on: the index into the tables of one level
 abbrev pub index_at : ℕ → ℕ → ℕ
@@ -28,7 +29,7 @@ frame_in_word base word =
 -- the address in the page that a last word names: its low 21 bits tell that it is one
 unfoldable pub in_page : ℕ → ℕ → Option ℕ
 in_page a word =
-    if word % 0x200000 == 0x83 then Some (word / 0x200000 * 0x200000 + a % 0x200000) else None
+    if word % page_size == 0x83 then Some (word / page_size * page_size + a % page_size) else None
 
 -- the frame that the word of an address leads to, in a frame of the level that has this bit
 abbrev pub next_frame : List ℕ → ℕ → ℕ → ℕ → ℕ → Option ℕ
@@ -50,4 +51,4 @@ walked tables base a =
 -- the translation of an address by tables whose bytes stand at base
 unfoldable pub translation : List ℕ → ℕ → ℕ → Option ℕ
 translation tables base a =
-    if length tables == 0x6000 && nat_lt a (2 ^ 48) then walked tables base a else None
+    if length tables == tables_size && nat_lt a (2 ^ 48) then walked tables base a else None

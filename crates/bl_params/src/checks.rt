@@ -6,6 +6,7 @@ ghost use Rattle.bl_params.specs.Form.{breaks, is_filled, entries_in};
 ghost use Rattle.bl_params.specs.Reading.{HasFirstParamFault};
 ghost use Rattle.bl_params.specs.BootParamsFacts.{max_e820_entries};
 ghost use Rattle.bl_params.specs.Kept.{IsSoundUpto, IsQuiet};
+ghost use Rattle.bl_params.specs.Numbers.{params_size};
 
 use crate::fault::ParamFault;
 use crate::fields::{
@@ -17,8 +18,8 @@ use crate::numbers::{u16_in, u32_in, u64_in};
 
 /// Goes on from `at` to `next`, unless what stands at `at` breaks the form.
 pub fn check_field(bytes: &[u8], at: usize, next: usize, is_broken: bool) -> Result<(), ParamFault>
-    requires whole { length bytes.now ≡ 4096 }
-    requires within { at < 4096 }
+    requires whole { length bytes.now ≡ params_size }
+    requires within { at < params_size }
     requires upto { IsSoundUpto bytes.now at }
     requires here { is_broken ≡ breaks bytes.now at }
     requires quiet { IsQuiet bytes.now (at + 1) next }
@@ -34,8 +35,8 @@ pub fn check_field(bytes: &[u8], at: usize, next: usize, is_broken: bool) -> Res
 
 /// Goes on from `start` to `end`, where each byte must be 0.
 pub fn pass_zeros(bytes: &[u8], start: usize, end: usize) -> Result<(), ParamFault>
-    requires whole { length bytes.now ≡ 4096 }
-    requires within { end ≤ 4096 }
+    requires whole { length bytes.now ≡ params_size }
+    requires within { end ≤ params_size }
     requires forward { start ≤ end }
     requires upto { IsSoundUpto bytes.now start }
     requires plain { (k : ℕ) → start ≤ k → k < end
@@ -50,7 +51,7 @@ pub fn pass_zeros(bytes: &[u8], start: usize, end: usize) -> Result<(), ParamFau
 
 /// Where the header ends.
 pub fn end_of_header(bytes: &[u8]) -> usize
-    requires { length bytes.now ≡ 4096 }
+    requires { length bytes.now ≡ params_size }
     ensures exact { result ≡ header_end bytes.now }
     ensures from { 0x202 ≤ result }
     ensures within { result ≤ 0x290 }
@@ -60,7 +61,7 @@ pub fn end_of_header(bytes: &[u8]) -> usize
 
 /// The bytes before the header.
 pub fn pass_front(bytes: &[u8]) -> Result<(), ParamFault>
-    requires { length bytes.now ≡ 4096 }
+    requires { length bytes.now ≡ params_size }
     ensures { MatchResult result
         (λ _. IsSoundUpto bytes.now 0x1F1 × (entries_in bytes.now ≤ max_e820_entries))
         (HasFirstParamFault bytes.now) }
@@ -78,7 +79,7 @@ pub fn pass_front(bytes: &[u8]) -> Result<(), ParamFault>
 
 /// The fields of the header that precede its version.
 fn pass_magic(bytes: &[u8]) -> Result<(), ParamFault>
-    requires whole { length bytes.now ≡ 4096 }
+    requires whole { length bytes.now ≡ params_size }
     requires upto { IsSoundUpto bytes.now 0x1F1 }
     ensures { MatchResult result
         (λ _. IsSoundUpto bytes.now 0x206 × (0x264 ≤ header_end bytes.now))
@@ -113,7 +114,7 @@ fn pass_magic(bytes: &[u8]) -> Result<(), ParamFault>
 
 /// The fields of the header from its version on.
 fn pass_loader(bytes: &[u8]) -> Result<(), ParamFault>
-    requires whole { length bytes.now ≡ 4096 }
+    requires whole { length bytes.now ≡ params_size }
     requires long { 0x264 ≤ header_end bytes.now }
     requires upto { IsSoundUpto bytes.now 0x206 }
     ensures { MatchResult result
@@ -138,7 +139,7 @@ fn pass_loader(bytes: &[u8]) -> Result<(), ParamFault>
 
 /// The header.
 pub fn pass_header(bytes: &[u8]) -> Result<(), ParamFault>
-    requires whole { length bytes.now ≡ 4096 }
+    requires whole { length bytes.now ≡ params_size }
     requires upto { IsSoundUpto bytes.now 0x1F1 }
     ensures { MatchResult result
         (λ _. IsSoundUpto bytes.now (header_end bytes.now)

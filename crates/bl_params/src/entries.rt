@@ -7,6 +7,7 @@ ghost use Rattle.bl_params.specs.Form.{entries_in, e820_entry_at};
 ghost use Rattle.bl_params.specs.Reading.{HasFirstParamFault, AreEntries, IsEntry};
 ghost use Rattle.bl_params.specs.BootParamsFacts.{max_e820_entries};
 ghost use Rattle.bl_params.specs.Kept.{IsSoundUpto};
+ghost use Rattle.bl_params.specs.Numbers.{e820_table_at, params_size};
 
 use crate::checks::check_field;
 use crate::fault::ParamFault;
@@ -38,7 +39,7 @@ fn kind_of(number: u32) -> Kind
 
 /// The entry with a number, counted from 0.
 fn entry(bytes: &[u8], i: usize) -> Result<Region, ParamFault>
-    requires whole { length bytes.now ≡ 4096 }
+    requires whole { length bytes.now ≡ params_size }
     requires few { entries_in bytes.now ≤ max_e820_entries }
     requires counted { i < entries_in bytes.now }
     requires upto { IsSoundUpto bytes.now (e820_entry_at i) }
@@ -60,11 +61,12 @@ fn entry(bytes: &[u8], i: usize) -> Result<Region, ParamFault>
 
 /// The memory map's runs.
 pub fn entries<A: Allocator>(alloc: A, bytes: &[u8]) -> Result<Vec<Region, A>, ParamFault>
-    requires whole { length bytes.now ≡ 4096 }
+    requires whole { length bytes.now ≡ params_size }
     requires few { entries_in bytes.now ≤ max_e820_entries }
-    requires upto { IsSoundUpto bytes.now 0x2D0 }
+    requires upto { IsSoundUpto bytes.now e820_table_at }
     ensures { MatchResult result
-        (λ runs. AreEntries bytes.now 0x2D0 runs.items × (length runs.items ≡ entries_in bytes.now)
+        (λ runs. AreEntries bytes.now e820_table_at runs.items
+        × (length runs.items ≡ entries_in bytes.now)
         × IsSoundUpto bytes.now (e820_entry_at (entries_in bytes.now)))
         (HasFirstParamFault bytes.now) }
 {

@@ -14,6 +14,8 @@ ghost use Rattle.bl_params.specs.ParamsFacts.{ParamsFacts};
 ghost use Rattle.bl_params.specs.declared.fault.ParamFault.{ParamFault};
 ghost use Rattle.bl_params.specs.declared.fault.ParamFault.TheVariants.{NoMemory};
 ghost use Rattle.bl_params.specs.Told.{AreWords, params_of};
+ghost use Rattle.bl_params.specs.Numbers.{tables_size};
+ghost use Rattle.bl_map.specs.Limits.{frame_size};
 
 /// Boot parameters that were written for the setup of a file are accepted, and tell what they were
 /// made of.
@@ -43,14 +45,14 @@ pub fn runs_end_low()
 /// The descriptors are the first 32 bytes of their frame.
 pub fn gdt_part_begins_with_gdt()
     ensures front { take 32 gdt_part ≡ gdt }
-    ensures long { length gdt_part ≡ 4096 }
+    ensures long { length gdt_part ≡ frame_size }
 {}
 
 /// The page tables at an address whose six frames end at most at 2^32 translate each address below
 /// 2^32 to itself, and no other.
 pub fn paging_keeps_addresses()
-    ensures below { (base a : ℕ) → base + 0x6000 ≤ 2 ^ 32 → a < 2 ^ 32
+    ensures below { (base a : ℕ) → base + tables_size ≤ 2 ^ 32 → a < 2 ^ 32
         → translation (paging base) base a ≡ Some a }
-    ensures above { (base a : ℕ) → base + 0x6000 ≤ 2 ^ 32 → 2 ^ 32 ≤ a
+    ensures above { (base a : ℕ) → base + tables_size ≤ 2 ^ 32 → 2 ^ 32 ≤ a
         → translation (paging base) base a ≡ None }
 {}

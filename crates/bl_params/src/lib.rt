@@ -21,12 +21,12 @@ pub use descriptors::gdt;
 pub use descriptors64::gdt64;
 pub use facts::ParamFacts;
 pub use fault::ParamFault;
-pub use fields::MAX_E820_ENTRIES;
+pub use fields::{MAX_E820_ENTRIES, PARAMS_SIZE};
 pub use laws::{
     gdt_part_begins_with_gdt, paging_keeps_addresses, params_are_determined, runs_end_low,
     written_is_read,
 };
-pub use paging::page_tables;
+pub use paging::{LOW_PAGES, PAGE_SIZE, TABLES_SIZE, page_tables};
 pub use params::Params;
 pub use reader::read_params;
 pub use translation::translate;

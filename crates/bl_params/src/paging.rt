@@ -1,11 +1,22 @@
 //! The page tables for the 64-bit entry.
 ghost use Rattle.std.specs.Prelude.{◌≡◌, ◌+◌, ◌*◌, ◌%◌, ◌^◌, ◌<◌, ◌≤◌};
 ghost use Rattle.bl_params.specs.Paging as spec;
+ghost use Rattle.bl_params.specs.Numbers.{tables_size};
+ghost use Rattle.bl_map.specs.Limits.{frame_size};
 
 use crate::put::write_u64;
 
+/// How many bytes page tables take: six frames.
+pub const TABLES_SIZE: u32 = 0x6000;
+
+/// How many bytes a page takes: 2 MiB.
+pub const PAGE_SIZE: u64 = 0x20_0000;
+
+/// How many pages there are below 4 GiB.
+pub const LOW_PAGES: u64 = 2048;
+
 fn upper_word(base: u64, frame: u64) -> u64
-    requires low { base + 0x6000 ≤ 2 ^ 32 }
+    requires low { base + tables_size ≤ 2 ^ 32 }
     requires in_tables { frame < 6 }
     ensures { result ≡ spec.upper_word base frame }
 {
@@ -14,7 +25,7 @@ fn upper_word(base: u64, frame: u64) -> u64
 
 #[tactic(auto, unfolding(crate::specs::Paging::paging_word))]
 fn paging_word(base: u64, frame: u64, index: u64) -> u64
-    requires low { base + 0x6000 ≤ 2 ^ 32 }
+    requires low { base + tables_size ≤ 2 ^ 32 }
     requires in_tables { frame < 6 }
     requires in_frame { index < 512 }
     ensures { result ≡ spec.paging_word base frame index }
@@ -31,7 +42,7 @@ fn paging_word(base: u64, frame: u64, index: u64) -> u64
         }
         return 0;
     }
-    (512 * (frame - 2) + index) * 0x20_0000 + 0x83
+    (512 * (frame - 2) + index) * PAGE_SIZE + 0x83
 }
 
 /// Writes a frame, 0 to 5, of the page tables that stand at `base`, over whatever stands there: the
@@ -39,8 +50,8 @@ fn paging_word(base: u64, frame: u64, index: u64) -> u64
 /// "64-bit Boot Protocol"; Intel SDM, volume 3, chapter 4.5). The tables take 6 frames of 4096
 /// bytes, which end at most at 2^32. Takes no memory.
 pub fn page_tables(base: u64, frame: u64, out: &mut [u8; 4096])
-    requires aligned { base % 4096 ≡ 0 }
-    requires low { base + 0x6000 ≤ 2 ^ 32 }
+    requires aligned { base % frame_size ≡ 0 }
+    requires low { base + tables_size ≤ 2 ^ 32 }
     requires in_tables { frame < 6 }
     ensures { out.new ≡ spec.paging_frame base frame }
 {

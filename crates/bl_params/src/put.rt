@@ -1,13 +1,14 @@
 //! Fields written at their offsets.
 ghost use Rattle.std.specs.Prelude.{◌≡◌, ◌≤◌, ◌+◌, ℕ, length, slice_index};
 ghost use Rattle.bl_params.specs.Fields.{over, number_bytes};
+ghost use Rattle.bl_params.specs.Numbers.{params_size};
 
 use byteorder::{ByteOrder, LittleEndian};
 
 /// Writes a field at an offset.
 #[tactic(auto, unfolding(crate::specs::Fields::over))]
 pub fn write_field(out: &mut [u8; 4096], at: usize, field: &[u8])
-    requires { at + length field.now ≤ 4096 }
+    requires { at + length field.now ≤ params_size }
     ensures { (k : ℕ) → slice_index out.new k
         ≡ over at field.now (λ j. slice_index out.old j) k }
 {
@@ -17,7 +18,7 @@ pub fn write_field(out: &mut [u8; 4096], at: usize, field: &[u8])
 /// Writes a number of 2 bytes at an offset.
 #[tactic(auto, unfolding(crate::specs::Fields::number_bytes))]
 pub fn write_u16(out: &mut [u8; 4096], at: usize, n: u16)
-    requires { at + 2 ≤ 4096 }
+    requires { at + 2 ≤ params_size }
     ensures { (k : ℕ) → slice_index out.new k
         ≡ over at (number_bytes 2 n) (λ j. slice_index out.old j) k }
 {
@@ -29,7 +30,7 @@ pub fn write_u16(out: &mut [u8; 4096], at: usize, n: u16)
 /// Writes a number of 4 bytes at an offset.
 #[tactic(auto, unfolding(crate::specs::Fields::number_bytes))]
 pub fn write_u32(out: &mut [u8; 4096], at: usize, n: u32)
-    requires { at + 4 ≤ 4096 }
+    requires { at + 4 ≤ params_size }
     ensures { (k : ℕ) → slice_index out.new k
         ≡ over at (number_bytes 4 n) (λ j. slice_index out.old j) k }
 {
@@ -41,7 +42,7 @@ pub fn write_u32(out: &mut [u8; 4096], at: usize, n: u32)
 /// Writes a number of 8 bytes at an offset.
 #[tactic(auto, unfolding(crate::specs::Fields::number_bytes))]
 pub fn write_u64(out: &mut [u8; 4096], at: usize, n: u64)
-    requires { at + 8 ≤ 4096 }
+    requires { at + 8 ≤ params_size }
     ensures { (k : ℕ) → slice_index out.new k
         ≡ over at (number_bytes 8 n) (λ j. slice_index out.old j) k }
 {

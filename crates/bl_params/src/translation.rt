@@ -1,10 +1,10 @@
 //! Addresses translated by page tables.
 ghost use Rattle.std.specs.Prelude.{◌≡◌, ◌+◌, ◌*◌, ◌^◌, ◌<◌, IfSome, length};
 ghost use Rattle.bl_params.specs.Translation as spec;
+ghost use Rattle.bl_params.specs.Numbers.{tables_size};
 
 use crate::numbers::u64_in;
-
-const TABLES_SIZE: usize = 0x6000;
+use crate::paging::{PAGE_SIZE, TABLES_SIZE};
 
 #[tactic(auto, unfolding(crate::specs::Translation::frame_in_word))]
 fn frame_of(base: u64, word: u64) -> Option<usize>
@@ -37,7 +37,7 @@ fn frame_of(base: u64, word: u64) -> Option<usize>
 }
 
 fn entry_at(tables: &[u8], frame: usize, index: u64) -> u64
-    requires size { length tables.now ≡ 0x6000 }
+    requires size { length tables.now ≡ tables_size }
     requires in_tables { frame < 6 }
     requires in_frame { index < 512 }
     ensures { result ≡ spec.table_entry_at tables.now frame index }
@@ -49,15 +49,15 @@ fn entry_at(tables: &[u8], frame: usize, index: u64) -> u64
 fn in_page(a: u64, word: u64) -> Option<u64>
     ensures { result ≡ spec.in_page a word }
 {
-    if word % 0x20_0000 != 0x83 {
+    if word % PAGE_SIZE != 0x83 {
         return None;
     }
-    Some(word / 0x20_0000 * 0x20_0000 + a % 0x20_0000)
+    Some(word / PAGE_SIZE * PAGE_SIZE + a % PAGE_SIZE)
 }
 
 #[tactic(auto, unfolding(crate::specs::Translation::walked))]
 fn walked(tables: &[u8], base: u64, a: u64) -> Option<u64>
-    requires { length tables.now ≡ 0x6000 }
+    requires { length tables.now ≡ tables_size }
     ensures { result ≡ spec.walked tables.now base a }
 {
     let upper = entry_at(tables, 0, a / 0x80_0000_0000 % 512);
@@ -67,7 +67,7 @@ fn walked(tables: &[u8], base: u64, a: u64) -> Option<u64>
             let pointer = entry_at(tables, pointers, a / 0x4000_0000 % 512);
             match frame_of(base, pointer) {
                 None => None,
-                Some(directory) => in_page(a, entry_at(tables, directory, a / 0x20_0000 % 512)),
+                Some(directory) => in_page(a, entry_at(tables, directory, a / PAGE_SIZE % 512)),
             }
         }
     }
@@ -81,7 +81,7 @@ fn walked(tables: &[u8], base: u64, a: u64) -> Option<u64>
 pub fn translate(tables: &[u8], base: u64, a: u64) -> Option<u64>
     ensures { result ≡ spec.translation tables.now base a }
 {
-    if tables.len() != TABLES_SIZE {
+    if tables.len() != TABLES_SIZE as usize {
         return None;
     }
     if a >= 0x1_0000_0000_0000 {

@@ -4,6 +4,7 @@ ghost use Rattle.std.specs.List.{flat_map};
 ghost use Rattle.bl_params.specs.BootParams.{boot_params, entry_bytes};
 ghost use Rattle.bl_params.specs.Fields.{over};
 ghost use Rattle.bl_params.specs.BootParamsFacts.{max_e820_entries};
+ghost use Rattle.bl_params.specs.Numbers.{e820_entry_size, e820_table_at, params_size};
 
 use crate::facts::ParamFacts;
 use crate::fields::{
@@ -23,7 +24,7 @@ fn clear(out: &mut [u8])
 
 /// Writes an entry of the memory map.
 fn put_entry(out: &mut [u8; 4096], at: usize, run: &Region)
-    requires { at + 20 ≤ 4096 }
+    requires { at + e820_entry_size ≤ params_size }
     ensures { (k : ℕ) → slice_index out.new k
         ≡ over at (entry_bytes run.now) (λ j. slice_index out.old j) k }
 {
@@ -36,7 +37,7 @@ fn put_entry(out: &mut [u8; 4096], at: usize, run: &Region)
 fn put_entries(out: &mut [u8; 4096], runs: &[Region])
     requires { length runs.now ≤ max_e820_entries }
     ensures { (k : ℕ) → slice_index out.new k
-        ≡ over 0x2D0 (flat_map entry_bytes runs.now) (λ j. slice_index out.old j) k }
+        ≡ over e820_table_at (flat_map entry_bytes runs.now) (λ j. slice_index out.old j) k }
 {
     let mut at = E820_TABLE;
     for run in runs {

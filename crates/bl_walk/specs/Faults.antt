@@ -22,6 +22,8 @@ use Rattle.bl_walk.specs.Inside.{bytes_in, rest_in}
 use Rattle.bl_walk.specs.State.{entry_registers, is_in_kernel}
 use Rattle.bl_walk.specs.Seen.{HasTotalSize, IsInformation, InformationSays, AreParameters}
 use Rattle.bl_walk.specs.Seen.{ParametersSay, text_to_zero}
+use Rattle.bl_mbi.specs.Size.{min_info_size}
+use Rattle.bl_params.specs.Numbers.{params_size, tables_size, page_size, low_pages}
 
 abbrev pub walk_fault_number : WalkFault → ℕ
 walk_fault_number OutsideImage = 81
@@ -34,7 +36,7 @@ pub data IsFollowed (h : Handover) : ℕ → ℕ → Type 0 where
   -- Multiboot2: the word total_size; as many bytes, if they are enough for the fixed part and the
   -- tag that ends the information; each module
   size_word : h.protocol ≡ Multiboot2 → IsFollowed h (information_in h.registers) 4
-  information : (size : ℕ) → HasTotalSize h size → 16 ≤ size
+  information : (size : ℕ) → HasTotalSize h size → min_info_size ≤ size
       → IsFollowed h (information_in h.registers) size
   loaded_module : (info : InfoFacts) (m : ModuleInfo) → InformationSays h info
       → Contains info.facts.modules m → IsFollowed h m.mod_start (m.mod_end - m.mod_start)
@@ -42,13 +44,13 @@ pub data IsFollowed (h : Handover) : ℕ → ℕ → Type 0 where
   descriptors : (gdt : List ℕ) → descriptors_of h.protocol ≡ Some gdt
       → IsFollowed h (gdt_in h.registers) (length gdt)
   -- Linux: the boot parameters, the line's first byte, the initial ramdisk
-  boot_params : has_params h.protocol ≡ true → IsFollowed h (params_in h.registers) 4096
+  boot_params : has_params h.protocol ≡ true → IsFollowed h (params_in h.registers) params_size
   command_line : (params : ParamsFacts) → ParametersSay h params
       → IsFollowed h params.cmd_line_ptr 1
   initrd : (params : ParamsFacts) → ParametersSay h params
       → IsFollowed h params.ramdisk_image params.ramdisk_size
   -- the page tables, where a kernel is entered with paging
-  page_tables : is_wide h.protocol ≡ true → IsFollowed h (tables_in h.registers) 0x6000
+  page_tables : is_wide h.protocol ≡ true → IsFollowed h (tables_in h.registers) tables_size
 
 -- 81: the kernel is entered outside of its parts, or a range that it follows lies in no one part
 pub data IsOutside (h : Handover) : Type 0 where
@@ -58,7 +60,8 @@ pub data IsOutside (h : Handover) : Type 0 where
 
 -- 82: the information or the boot parameters are refused by their reader, or no zero ends the line
 pub data HasBadInfo (h : Handover) : Type 0 where
-  short_information : (size : ℕ) → HasTotalSize h size → size < 16 → HasBadInfo h
+  short_information : (size : ℕ) → HasTotalSize h size → size < min_info_size
+      → HasBadInfo h
   other_information : (bytes : List ℕ) (fault : InfoFault) → IsInformation h bytes
       → info_of bytes ≡ Err fault → HasBadInfo h
   other_parameters : (bytes : List ℕ) (fault : ParamFault) → AreParameters h bytes
@@ -74,9 +77,9 @@ pub data HasBadState (h : Handover) : Type 0 where
       → bytes_in h.parts (gdt_in h.registers) (length gdt) ≡ Some bytes → ¬ (bytes ≡ gdt)
       → HasBadState h
   other_translation : (tables : List ℕ) (page : ℕ) → is_wide h.protocol ≡ true
-      → bytes_in h.parts (tables_in h.registers) 0x6000 ≡ Some tables → page < 2048
-      → ¬ (translation tables (tables_in h.registers) (page * 0x200000)
-      ≡ Some (page * 0x200000))
+      → bytes_in h.parts (tables_in h.registers) tables_size ≡ Some tables → page < low_pages
+      → ¬ (translation tables (tables_in h.registers) (page * page_size)
+      ≡ Some (page * page_size))
       → HasBadState h
 
 -- a fault stands; want of memory says nothing of the image

@@ -17,6 +17,8 @@ use Rattle.bl_walk.specs.declared.seen.SeenPart.{SeenPart}
 use Rattle.bl_walk.specs.Inside.{bytes_in, rest_in}
 use Rattle.bl_walk.specs.State.{is_kernel}
 use Rattle.bl_walk.specs.SeenFacts.{SeenModuleFacts, SeenFileFacts, SeenFacts}
+use Rattle.bl_mbi.specs.Size.{min_info_size}
+use Rattle.bl_params.specs.Numbers.{params_size}
 
 -- the parts of the kernel, by address and length
 abbrev pub kernel_in : List Part → List SeenPart
@@ -39,7 +41,7 @@ pub record HasTotalSize (h : Handover) (size : ℕ) : Type 0 where
 pub record IsInformation (h : Handover) (bytes : List ℕ) : Type 0 where
   pub size : ℕ
   pub total_size : HasTotalSize h size
-  pub least : 16 ≤ size
+  pub least : min_info_size ≤ size
   pub whole : bytes_in h.parts (information_in h.registers) size ≡ Some bytes
 
 -- what it says
@@ -78,7 +80,7 @@ pub record InformationShows (h : Handover) (seen : SeenFacts) : Type 0 where
 -- the bytes of the boot parameters, where a kernel is handed them
 pub record AreParameters (h : Handover) (bytes : List ℕ) : Type 0 where
   pub handed : has_params h.protocol ≡ true
-  pub whole : bytes_in h.parts (params_in h.registers) 4096 ≡ Some bytes
+  pub whole : bytes_in h.parts (params_in h.registers) params_size ≡ Some bytes
 
 -- their numbers
 pub record ParametersSay (h : Handover) (params : ParamsFacts) : Type 0 where

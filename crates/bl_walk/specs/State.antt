@@ -14,6 +14,7 @@ use Rattle.bl_load.specs.Registers.{multiboot2_registers, linux_registers, linux
 use Rattle.bl_load.specs.Registers.{entry_in, information_in, params_in, gdt_in, tables_in}
 use Rattle.bl_load.specs.Handover.{Part, Handover}
 use Rattle.bl_walk.specs.Inside.{part_with, bytes_in}
+use Rattle.bl_params.specs.Numbers.{tables_size}
 
 -- the registers that a kernel is entered with, where the ones that hold addresses hold those of `r`
 abbrev pub entry_registers : Protocol → Registers → Registers
@@ -41,5 +42,5 @@ pub record IsEntered (h : Handover) : Type 0 where
   pub descriptors : (gdt : List ℕ) → descriptors_of h.protocol ≡ Some gdt
       → bytes_in h.parts (gdt_in h.registers) (length gdt) ≡ Some gdt
   pub paging : is_wide h.protocol ≡ true → (tables : List ℕ)
-      × (bytes_in h.parts (tables_in h.registers) 0x6000 ≡ Some tables)
+      × (bytes_in h.parts (tables_in h.registers) tables_size ≡ Some tables)
       × KeepsAddresses (tables_in h.registers) tables

@@ -3,32 +3,30 @@ ghost use Rattle.std.specs.Prelude.{◌≡◌, ◌-◌, ◌≤◌, IfOk, IfErr};
 ghost use Rattle.bl_plan.specs.declared.protocol.Protocol.TheVariants as protocol;
 ghost use Rattle.bl_walk.specs.Faults.{HasWalkFault};
 ghost use Rattle.bl_walk.specs.Seen.{HasTotalSize, InformationSays, IsSeen};
+ghost use Rattle.bl_mbi.specs.Size.{min_info_size};
 
 use crate::fault::WalkFault;
 use crate::follow::follow;
 use crate::module::modules_at;
 use crate::seen::Seen;
 use bl_image::Image;
-use bl_mbi::{Info, read_info};
+use bl_mbi::{Info, MIN_INFO_SIZE, read_info};
 use bl_mem::{SliceView, u32_at};
 use std::alloc::Allocator;
 
 /// How many bytes total_size takes (Multiboot2 3.6 "Boot information format").
 const SIZE_WORD: u32 = 4;
 
-/// The least total_size: the fixed part, and the tag that ends the information.
-const LEAST_SIZE: u32 = 16;
-
 /// The total_size.
 fn total_size<A: Allocator>(image: &Image<A>) -> Result<u32, WalkFault>
     requires { image.now.protocol ≡ protocol.Multiboot2 }
     ensures ok { IfOk result (HasTotalSize image.now) }
-    ensures least { IfOk result (λ size. 16 ≤ size) }
+    ensures least { IfOk result (λ size. min_info_size ≤ size) }
     ensures fault { IfErr result (HasWalkFault image.now) }
 {
     let word = follow(image, image.registers().information(), SIZE_WORD)?;
     let size = u32_at(&SliceView::new(word), 0);
-    if size < LEAST_SIZE {
+    if size < MIN_INFO_SIZE {
         return Err(WalkFault::BadInfo);
     }
     Ok(size)

@@ -10,11 +10,8 @@ use crate::inside::rest_at;
 use crate::seen::{Seen, SeenFile};
 use bl_image::Image;
 use bl_mem::Bytes;
-use bl_params::{Params, read_params};
+use bl_params::{PARAMS_SIZE, Params, read_params};
 use std::alloc::Allocator;
-
-/// How many bytes boot parameters have (Linux/x86 boot protocol, "Zero Page").
-const PARAMS_SIZE: u32 = 4096;
 
 /// What the boot parameters say.
 fn parameters<A: Allocator + Copy>(alloc: A, image: &Image<A>) -> Result<Params<A>, WalkFault>
@@ -22,7 +19,7 @@ fn parameters<A: Allocator + Copy>(alloc: A, image: &Image<A>) -> Result<Params<
     ensures ok { IfOk result (ParametersSay image.now) }
     ensures fault { IfErr result (HasWalkFault image.now) }
 {
-    let bytes = follow(image, image.registers().params(), PARAMS_SIZE)?;
+    let bytes = follow(image, image.registers().params(), PARAMS_SIZE as u32)?;
     Ok(read_params(alloc, bytes)?)
 }
 

@@ -8,6 +8,7 @@ ghost use Rattle.bl_walk.specs.Faults.{HasWalkFault};
 ghost use Rattle.bl_walk.specs.Inside.{bytes_in};
 ghost use Rattle.bl_walk.specs.State as state;
 ghost use Rattle.bl_walk.specs.State.{IsEntered};
+ghost use Rattle.bl_params.specs.Numbers.{tables_size, page_size, low_pages};
 
 use crate::fault::WalkFault;
 use crate::follow::follow;
@@ -16,17 +17,9 @@ use bl_image::{Image, ImagePart};
 use bl_load::{
     Protocol, Registers, descriptors_of, linux_registers, linux64_registers, multiboot2_registers,
 };
-use bl_params::translate;
+use bl_params::{LOW_PAGES, PAGE_SIZE, TABLES_SIZE, translate};
 use bl_plan::Role;
 use std::alloc::Allocator;
-
-/// How many bytes page tables have: six frames.
-const TABLES: u32 = 0x6000;
-
-/// How many bytes a page has, and how many pages are below 4 GiB.
-const PAGE: u64 = 0x20_0000;
-
-const PAGES: u64 = 2048;
 
 /// Whether the registers are those that a kernel is entered with, whatever the ones hold that hold
 /// addresses.
@@ -112,11 +105,11 @@ fn check_descriptors<A: Allocator>(
 /// The first page of 2 MiB below 4 GiB that page tables at an address do not translate to itself.
 fn moved_page(base: u64, tables: &[u8]) -> Option<u64>
     ensures { MatchOption result (state.KeepsAddresses base tables.now)
-        (λ page. (page < 2048)
-        × ¬ (translation tables.now base (page * 0x200000) ≡ Some (page * 0x200000))) }
+        (λ page. (page < low_pages)
+        × ¬ (translation tables.now base (page * page_size) ≡ Some (page * page_size))) }
 {
-    for page in 0..PAGES {
-        if translate(tables, base, page * PAGE) != Some(page * PAGE) {
+    for page in 0..LOW_PAGES {
+        if translate(tables, base, page * PAGE_SIZE) != Some(page * PAGE_SIZE) {
             return Some(page);
         }
     }
@@ -127,12 +120,12 @@ fn moved_page(base: u64, tables: &[u8]) -> Option<u64>
 fn check_tables<A: Allocator>(image: &Image<A>) -> Result<(), WalkFault>
     requires { protocols.is_wide image.now.protocol ≡ true }
     ensures ok { OnOk result ((tables : List ℕ)
-        × (bytes_in image.now.parts (tables_in image.now.registers) 0x6000 ≡ Some tables)
+        × (bytes_in image.now.parts (tables_in image.now.registers) tables_size ≡ Some tables)
         × state.KeepsAddresses (tables_in image.now.registers) tables) }
     ensures fault { IfErr result (HasWalkFault image.now) }
 {
     let base = image.registers().tables();
-    let tables = follow(image, base, TABLES)?;
+    let tables = follow(image, base, TABLES_SIZE)?;
     match moved_page(base, tables) {
         None => Ok(()),
         Some(_) => Err(WalkFault::BadState),

@@ -7,12 +7,12 @@ ghost use Rattle.bl_boot.specs.Kept.{FoundEnds, HasFaults};
 ghost use Rattle.bl_desc.specs.Views.{view};
 
 use crate::description_boot::boot_end::{End, EndFault};
+use crate::description_boot::described_boot::DescribedBoot;
 use crate::description_boot::handover::{say_none_left, write_handover};
 use bl_desc::Description;
 use bl_image::Sink;
-use bl_map::Machine;
 use bl_mem::PhysMem;
-use bl_session::{BootFault, FileStore, Menu, run};
+use bl_session::{BootFault, FileStore, run};
 use std::alloc::Allocator;
 
 /// The title of an entry, by its index; none if there is no such entry.
@@ -25,31 +25,29 @@ fn title_of<A: Allocator>(description: &Description<A>, entry: u32) -> &str
     }
 }
 
-/// Boots a description's menu by a store, writes the image of what is handed over, and says what
+/// Boots what is described by a store, writes the image of what is handed over, and says what
 /// the boot came to.
 pub fn boot_found<A: Allocator + Copy, M: PhysMem, S: Sink, B: Allocator>(
     alloc: A,
     memory: &mut M,
     mut store: FileStore<A>,
-    description: &Description<A>,
-    machine: &Machine<A>,
-    menu: &Menu<A>,
+    boot: &DescribedBoot<'_, A>,
     out: &mut S,
     say: &mut Vec<u8, B>,
 ) -> Result<End, EndFault>
-    requires size { length (M.bytes memory.old) ≡ machine.now.size }
+    requires size { length (M.bytes memory.old) ≡ boot.now.machine.now.size }
     requires store { store.given ≡ [] }
     requires sink { S.faults out.old < 2 ^ 63 }
-    ensures ends { FoundEnds (view description.now)
-        (boot_facts machine.now menu.now (map size_of store.files)) store.files
+    ensures ends { FoundEnds (view boot.now.description.now)
+        (boot_facts boot.now.machine.now boot.now.menu.now (map size_of store.files)) store.files
         (S.contents out.old) (S.contents out.new) say.old.items say.new.items result }
     ensures faults { HasFaults (S.faults out.old) (S.faults out.new) result }
 {
-    let ended = run(alloc, memory, &mut store, machine, menu);
+    let ended = run(alloc, memory, &mut store, boot.machine, boot.menu);
     store.faithful();
     match ended {
         Ok(outcome) => {
-            let title = title_of(description, outcome.entry);
+            let title = title_of(boot.description, outcome.entry);
             write_handover(alloc, &outcome, memory, title, out, say)?;
             Ok(End::Booted)
         }

@@ -10,6 +10,7 @@ ghost use Rattle.bl_session.specs.Outcome.{File};
 ghost use Rattle.bl_desc.specs.Described.{described};
 
 use crate::description_boot::boot_end::{End, EndFault};
+use crate::description_boot::described_boot::DescribedBoot;
 use crate::description_boot::found_boot::boot_found;
 use crate::description_boot::found_files::find_files;
 use crate::description_boot::machine::machine_of;
@@ -65,16 +66,12 @@ fn run_boot<A: Allocator + Copy, F: Files, S: Sink, B: Allocator>(
     let found = find_files(alloc, &description, &names, files)?;
     drop(names);
     let store = FileStore::new(alloc, found, order_of(order));
-    boot_found(
-        alloc,
-        &mut memory,
-        store,
-        &description,
-        &machine,
-        &menu,
-        out,
-        say,
-    )
+    let boot = DescribedBoot {
+        description: &description,
+        machine: &machine,
+        menu: &menu,
+    };
+    boot_found(alloc, &mut memory, store, &boot, out, say)
 }
 
 /// Boots the first entry of a description's menu that is not refused, and writes the image of the

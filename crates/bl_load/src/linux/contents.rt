@@ -16,6 +16,7 @@ ghost use Rattle.bl_load.specs.Loadable.{lengths_of, content_length, IsThere, St
 ghost use Rattle.bl_load.specs.PlacingKept.{IsRowed, EndsLow};
 ghost use Rattle.bl_load.specs.ReadKept.{TablesFit};
 ghost use Rattle.bl_load.specs.EntryFilesKept.{texts_in, value_of_files};
+ghost use Rattle.bl_params.specs.BootParamsFacts.{max_e820_entries};
 
 use crate::addresses::address_of;
 use crate::entry_files::EntryFiles;
@@ -35,7 +36,7 @@ fn told_of<'a, A: Allocator>(
     ramdisk_size: u64,
     places: &[Place],
 ) -> ParamFacts<'a>
-    requires few { length machine.now.runs ≤ 128 }
+    requires few { length machine.now.runs ≤ max_e820_entries }
     requires size { ramdisk_size < 2 ^ 32 }
     requires low { All EndsLow places.now }
     ensures { result ≡ record {
@@ -62,7 +63,7 @@ fn boot_params<A: Allocator, V: ByteView>(
     setup: &Setup,
     places: &[Place],
 ) -> Result<Bytes<A>, AllocError>
-    requires few { length entry.now.machine.now.runs ≤ 128 }
+    requires few { length entry.now.machine.now.runs ≤ max_e820_entries }
     requires size { length (initrd_file (texts_in entry.now)) < 2 ^ 32 }
     requires low { All EndsLow places.now }
     ensures { IfOk result (λ bytes. bytes ≡ params.boot_params setup.now.header
@@ -144,7 +145,7 @@ pub fn linux_content<A: Allocator + Copy, V: ByteView>(
 ) -> Result<Content<A>, AllocError>
     requires some { 1 ≤ length entry.now.files.now }
     requires setup { IsSetup (text_at (texts_in entry.now) 0) setup.now }
-    requires few { length entry.now.machine.now.runs ≤ 128 }
+    requires few { length entry.now.machine.now.runs ≤ max_e820_entries }
     requires size { length (initrd_file (texts_in entry.now)) < 2 ^ 32 }
     requires low { All EndsLow places.now }
     requires tables { TablesFit places.now }

@@ -4,19 +4,18 @@ ghost use Rattle.bl_plan.specs.declared.part.Role.TheVariants as role;
 ghost use Rattle.bl_load.specs.LinuxRows as table;
 ghost use Rattle.bl_load.specs.PlacingKept as kept;
 ghost use Rattle.bl_load.specs.Value.{initrd_file};
+ghost use Rattle.bl_map.specs.Limits.{high_start};
 
 use crate::lengths::told_length;
 use bl_bzimage::Setup;
 use bl_map::{FIRST_USABLE, FRAME, HIGH_START, MAX_SIZE};
 use bl_mem::ByteView;
+use bl_params::TABLES_SIZE;
 use bl_plan::{Choice, Protocol, Role, Row};
 use std::alloc::{AllocError, Allocator};
 
 /// Where the line ends at most ("cmd_line_ptr").
 const LINE_LIMIT: u64 = 0xA_0000;
-
-/// How many bytes page tables take: six frames.
-const PAGING: u64 = 0x6000;
 
 /// What a processor takes the address of a table to be a multiple of (Intel SDM, volume 3, chapter
 /// 4.5: bits 12 and up of CR3 and of a word that names a table).
@@ -41,7 +40,7 @@ fn moved_row(setup: &Setup) -> Row
 /// The row of a kernel that lies at 1 MiB and runs at `pref_address`. What it needs is told from
 /// 1 MiB on, so that no sum wraps.
 fn fixed_row(setup: &Setup) -> Row
-    requires from { 0x100000 ≤ setup.now.pref_address }
+    requires from { high_start ≤ setup.now.pref_address }
     requires upto { setup.now.pref_address < 2 ^ 32 }
     ensures { result ≡ table.fixed_row setup.now }
 {
@@ -57,7 +56,7 @@ fn fixed_row(setup: &Setup) -> Row
 /// The kernel's row.
 fn kernel_row(setup: &Setup) -> Row
     requires { setup.now.relocatable_kernel ≡ 0
-        → (0x100000 ≤ setup.now.pref_address) × (setup.now.pref_address < 2 ^ 32) }
+        → (high_start ≤ setup.now.pref_address) × (setup.now.pref_address < 2 ^ 32) }
     ensures { result ≡ table.linux_kernel_row setup.now }
 {
     if setup.relocatable_kernel == 0 {
@@ -93,7 +92,7 @@ fn paging_row(protocol: Protocol) -> Option<Row>
         Protocol::Linux64 => Some(Row {
             role: Role::PageTables,
             index: 0,
-            length: PAGING,
+            length: TABLES_SIZE as u64,
             choice: Choice::Lowest {
                 align: TABLE_ALIGN,
                 low: FIRST_USABLE,
@@ -145,7 +144,7 @@ pub fn linux_rows<A: Allocator, V: ByteView>(
     files: &[V],
 ) -> Result<Vec<Row, A>, AllocError>
     requires { setup.now.relocatable_kernel ≡ 0
-        → (0x100000 ≤ setup.now.pref_address) × (setup.now.pref_address < 2 ^ 32) }
+        → (high_start ≤ setup.now.pref_address) × (setup.now.pref_address < 2 ^ 32) }
     ensures { IfOk result (λ rows. rows.items
         ≡ kept.told_linux_rows protocol setup.now (initrd_file (map V.bytes files.now))) }
 {

@@ -12,6 +12,8 @@ ghost use Rattle.bl_load.specs.Rows.{told_modules, information_of};
 ghost use Rattle.bl_load.specs.Kept.{lines_by};
 ghost use Rattle.bl_load.specs.PlacingKept.{EndsLow, ModulesEndLow};
 ghost use Rattle.bl_load.specs.EntryFilesKept.{texts_in, value_of_files};
+ghost use Rattle.bl_plan.specs.Limits.{max_modules};
+ghost use Rattle.bl_map.specs.Limits.{usable_limit};
 
 use crate::addresses;
 use crate::entry::Module;
@@ -36,7 +38,7 @@ fn text_of(line: &[u8]) -> &[u8]
 fn module_at<'a>(index: u32, line: &'a [u8], size: u64, places: &[Place]) -> ModuleFacts<'a>
     requires sound { line_fault line.now ≡ None }
     requires low { All EndsLow places.now }
-    requires end { address_of role.Module index places.now + size ≤ 0xFFFFF000 }
+    requires end { address_of role.Module index places.now + size ≤ usable_limit }
     ensures told { result ≡ record {
       mod_start = address_of role.Module index places.now;
       mod_end = address_of role.Module index places.now + size;
@@ -60,7 +62,7 @@ fn modules_at<'a, A: Allocator, V: ByteView>(
     places: &[Place],
 ) -> Result<Vec<ModuleFacts<'a>, A>, AllocError>
     requires sound { All (λ m. line_fault m.line ≡ None) modules.now }
-    requires few { length modules.now ≤ 64 }
+    requires few { length modules.now ≤ max_modules }
     requires files { length files.now ≡ 1 + length modules.now }
     requires low { All EndsLow places.now }
     requires ends { ModulesEndLow (map V.bytes files.now) places.now (length modules.now) }

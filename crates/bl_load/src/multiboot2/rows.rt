@@ -5,8 +5,9 @@ ghost use Rattle.bl_load.specs.Blocks as blocks;
 ghost use Rattle.bl_load.specs.Rows as table;
 ghost use Rattle.bl_load.specs.Kept.{lines_by};
 ghost use Rattle.bl_load.specs.PlacingKept as kept;
-ghost use Rattle.bl_load.specs.KernelKept.{kernel_by};
+ghost use Rattle.bl_load.specs.KernelKept.{kernel_by, max_segments};
 ghost use Rattle.bl_load.specs.EntryFilesKept.{value_of_files};
+ghost use Rattle.bl_plan.specs.Limits.{max_line, max_modules};
 
 use crate::entry::Module;
 use crate::entry_files::EntryFiles;
@@ -29,7 +30,7 @@ fn push_module_rows<A: Allocator, B: Allocator, V: ByteView>(
     modules: &[Module<B>],
     files: &[V],
 ) -> Result<(), AllocError>
-    requires few { length modules.now ≤ 64 }
+    requires few { length modules.now ≤ max_modules }
     requires files { length files.now ≡ 1 + length modules.now }
     ensures { IfOk result (λ _. rows.new.items
         ≡ rows.old.items ++ kept.told_rows (map V.bytes files.now) 0 (lines_by modules.now)) }
@@ -51,8 +52,8 @@ fn push_module_rows<A: Allocator, B: Allocator, V: ByteView>(
 
 /// How many bytes the tags of modules take.
 fn tags_size<A: Allocator>(modules: &[Module<A>]) -> u64
-    requires short { All (λ m. length m.line ≤ 4095) modules.now }
-    requires few { length modules.now ≤ 64 }
+    requires short { All (λ m. length m.line ≤ max_line) modules.now }
+    requires few { length modules.now ≤ max_modules }
     ensures value { result ≡ kept.tags_size (lines_by modules.now) }
     ensures small { result ≤ 4120 * length modules.now }
 {
@@ -108,7 +109,7 @@ pub fn multiboot2_rows<A: Allocator, B: Allocator, V: ByteView>(
     kernel: &Kernel<B>,
 ) -> Result<Vec<Row, A>, AllocError>
     requires files { length entry.now.files.now ≡ 1 + length entry.now.modules.now }
-    requires few { length (kernel_by kernel.now).segments ≤ 128 }
+    requires few { length (kernel_by kernel.now).segments ≤ max_segments }
     requires span { blocks.span_of (kernel_by kernel.now).segments < 2 ^ 64 }
     ensures { IfOk result (λ rows. rows.items ≡ kept.told_rows_of entry.now.machine.now
         (value_of_files entry.now) (kernel_by kernel.now)) }

@@ -2,13 +2,19 @@
 ghost use Rattle.std.specs.Prelude.{◌≡◌, ◌≤◌, ◌<◌, ◌+◌, ◌^◌, ◌++◌, length, IfOk};
 ghost use Rattle.bl_load.specs.Blocks as blocks;
 ghost use Rattle.bl_load.specs.Rows as table;
-ghost use Rattle.bl_load.specs.KernelKept.{kernel_by};
+ghost use Rattle.bl_load.specs.KernelKept.{kernel_by, max_segments};
 
 use crate::multiboot2::kernel::Kernel;
 use bl_mb2head::Relocation;
 use bl_mem::Segment;
 use bl_plan::{Choice, Role, Row};
 use std::alloc::{AllocError, Allocator};
+
+/// The preference for the lowest place (Multiboot2 3.1.13 "Relocatable header tag").
+const PREFER_LOWEST: u32 = 1;
+
+/// The preference for the highest place.
+const PREFER_HIGHEST: u32 = 2;
 
 /// The least address of segments.
 pub fn low_of(segments: &[Segment]) -> u64
@@ -59,8 +65,8 @@ fn block_choice(relocation: &Relocation, linked: u64) -> Choice
     let low = relocation.min_addr as u64;
     let high = relocation.max_addr as u64;
     match relocation.preference {
-        1 => Choice::Lowest { align, low, high },
-        2 => Choice::Highest { align, low, high },
+        PREFER_LOWEST => Choice::Lowest { align, low, high },
+        PREFER_HIGHEST => Choice::Highest { align, low, high },
         _ => Choice::Preferred {
             at: linked,
             align,
@@ -75,7 +81,7 @@ fn push_segment_rows<A: Allocator>(
     rows: &mut Vec<Row, A>,
     segments: &[Segment],
 ) -> Result<(), AllocError>
-    requires { length segments.now ≤ 128 }
+    requires { length segments.now ≤ max_segments }
     ensures { IfOk result (λ _. rows.new.items ≡ rows.old.items ++ table.segment_rows 0
         segments.now) }
 {
@@ -95,7 +101,7 @@ pub(crate) fn push_kernel_rows<A: Allocator, B: Allocator>(
     rows: &mut Vec<Row, A>,
     kernel: &Kernel<B>,
 ) -> Result<(), AllocError>
-    requires few { length (kernel_by kernel.now).segments ≤ 128 }
+    requires few { length (kernel_by kernel.now).segments ≤ max_segments }
     requires span { blocks.span_of (kernel_by kernel.now).segments < 2 ^ 64 }
     ensures { IfOk result (λ _. rows.new.items ≡ rows.old.items ++ table.kernel_rows
         (kernel_by kernel.now).segments kernel.now.relocation) }
