@@ -28,8 +28,10 @@ fn say_written(row: &mut Row<'_>, facts: &Facts<'_>) {
 /// Writes the facts of the words after the bytes.
 pub fn answer(row: &mut Row<'_>) {
     let read = read_row(row);
-    let modules = modules_of(row, read.modules.as_slice());
+    let Ok(modules) = modules_of(row, read.modules.as_slice()) else {
+        return row.run_short();
+    };
     let runs = three_runs();
-    let facts = facts_of(row, &read, modules.as_slice(), &runs);
+    let facts = facts_of(row, &read, modules.as_slice(), runs.as_slice());
     say_written(row, &facts);
 }

@@ -1,7 +1,7 @@
 //! The facts of a row, on a machine of 636 and 3072 KiB with three runs. Where they may not be told
 //! the row is refused, and others stand for them.
 ghost use Rattle.std.specs.Prelude.{◌≡◌, ◌≢◌, ◌≤◌, ◌<◌, ◌^◌, ◌+◌, length, option_map};
-ghost use Rattle.std.specs.Prelude.{option_copied, All, IfSome, IsTrue};
+ghost use Rattle.std.specs.Prelude.{option_copied, All, IfOk, IfSome, IsTrue};
 ghost use Rattle.bl_mbi.specs.InformationFacts.{IsText, IsModule, AreBytes};
 ghost use Rattle.bl_mbi.specs.Size.{copy_size};
 
@@ -9,6 +9,7 @@ use crate::write_info::row::{InfoRow, ModuleRow};
 use bl_map::{Kind, Region};
 use bl_mbi::{Facts, ModuleFacts};
 use bl_rows::row::Row;
+use std::alloc::AllocError;
 
 /// The most bytes that a text or a copy of a row has.
 const SHORT: usize = 512;
@@ -82,28 +83,30 @@ fn module_of<'a>(row: &mut Row<'_>, read: &'a ModuleRow) -> ModuleFacts<'a>
 }
 
 /// At most two modules.
-pub fn modules_of<'a>(row: &mut Row<'_>, rows: &'a [ModuleRow]) -> Vec<ModuleFacts<'a>>
-    ensures modules { All IsModule result.items }
-    ensures short { All (λ m. length m.line ≤ 512) result.items }
-    ensures few { length result.items ≤ 2 }
+pub fn modules_of<'a>(
+    row: &mut Row<'_>,
+    rows: &'a [ModuleRow],
+) -> Result<Vec<ModuleFacts<'a>>, AllocError>
+    ensures modules { IfOk result (λ modules. All IsModule modules.items) }
+    ensures short { IfOk result (λ modules. All (λ m. length m.line ≤ 512) modules.items) }
+    ensures few { IfOk result (λ modules. length modules.items ≤ 2) }
 {
     let mut modules = Vec::new(row.alloc);
     if rows.len() > FEW {
         row.refuse();
-        return modules;
+        return Ok(modules);
     }
     for read in rows {
         let module = module_of(row, read);
-        if modules.push(module).is_err() {
-            row.run_short();
-        }
+        modules.push(module)?;
     }
-    modules
+    Ok(modules)
 }
 
 /// 636 KiB, the firmware's 64 KiB, and 3 MiB from 1 MiB on.
 pub fn three_runs() -> [Region; 3]
-    ensures { All (λ run. run.base + run.length ≤ 2 ^ 52) result }
+    ensures count { length result ≡ 3 }
+    ensures low { All (λ run. run.base + run.length ≤ 2 ^ 52) result }
 {
     [
         Region {
@@ -137,11 +140,12 @@ pub fn facts_of<'a>(
     row: &mut Row<'_>,
     read: &'a InfoRow,
     modules: &'a [ModuleFacts<'a>],
-    runs: &'a [Region; 3],
+    runs: &'a [Region],
 ) -> Facts<'a>
     requires modules { All IsModule modules.now }
     requires short { All (λ m. length m.line ≤ 512) modules.now }
     requires few { length modules.now ≤ 2 }
+    requires count { length runs.now ≡ 3 }
     requires low { All (λ run. run.base + run.length ≤ 2 ^ 52) runs.now }
 {
     Facts {
@@ -149,7 +153,7 @@ pub fn facts_of<'a>(
         modules,
         mem_lower: 636,
         mem_upper: 3072,
-        runs: runs.as_slice(),
+        runs,
         rsdp_old: copy_of(row, &read.old),
         rsdp_new: copy_of(row, &read.new),
         load_base: base_of(read),

@@ -19,26 +19,26 @@ most_modules (a ∷ b ∷ []) short few =
     omega (arith, short 0 a (omega arith), short 1 b (omega arith))
 most_modules (a ∷ b ∷ c ∷ rest) short few = absurd (omega arith)
 
-pub new-requires : goal.new-requires
-new-requires c =
+pub invariant_of-result : goal.invariant_of-result
+invariant_of-result c =
     record {
       told = record {
-        line = c.in_ok-line.ensures.text;
-        modules = c.in_ok-modules.ensures.modules;
+        line = c.text_of.ensures.text;
+        modules = c.requires.modules;
         mem_lower = omega arith;
         mem_upper = omega arith;
-        runs = c.in_ok-runs.ensures.low;
-        rsdp_old = c.in_ok-old.ensures.bytes;
-        rsdp_new = c.in_ok-new.ensures.bytes;
-        load_base = c.base_of-base.ensures;
+        runs = c.requires.low;
+        rsdp_old = c.copy_of.ensures.bytes;
+        rsdp_new = c.copy_of-2.ensures.bytes;
+        load_base = c.base_of.ensures;
       };
       small = omega (
         arith,
-        c.in_ok-line.ensures.short,
-        most_modules _ c.in_ok-modules.ensures.short c.in_ok-modules.ensures.few,
-        c.in_ok-runs.ensures.few,
-        c.in_ok-old.ensures.short,
-        c.in_ok-new.ensures.short,
-        most_load_base (is_some c.base_of-base.result),
+        c.text_of.ensures.short,
+        most_modules _ c.requires.short c.requires.few,
+        c.requires.count,
+        c.copy_of.ensures.short,
+        c.copy_of-2.ensures.short,
+        most_load_base (is_some c.base_of.result),
       );
     }

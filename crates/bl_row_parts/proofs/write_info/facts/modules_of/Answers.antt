@@ -7,9 +7,9 @@ pub loop-read-preserved : goal.loop-read-preserved
 loop-read-preserved c =
     record {
       modules = subst (All IsModule) (sym c.in_ok-push.ensures.items)
-          (All-push IsModule _ _ c.loop-read.invariant.modules c.in_ok-module.ensures.module);
+          (All-push IsModule _ _ c.loop-read.invariant.modules c.module_of-module.ensures.module);
       short = subst (All (λ m. length m.line ≤ 512)) (sym c.in_ok-push.ensures.items)
           (All-push (λ m. length m.line ≤ 512) _ _ c.loop-read.invariant.short
-          c.in_ok-module.ensures.short);
+          c.module_of-module.ensures.short);
       count = search rules;
     }
