@@ -50,6 +50,6 @@ pub fn map_to<A: Allocator + Copy, B: Allocator>(
     match run_map(alloc, global, desc, say) {
         Ok(()) => 0,
         Err(EndFault::BadDescription) => 2,
-        Err(_) => 4,
+        Err(EndFault::Device | EndFault::NoMemory) => 4,
     }
 }

@@ -52,7 +52,7 @@ pub fn is_usable_among(regions: &[Region], size: u64, start: u64, end: u64) -> b
     }
     match greatest_kind(regions, start) {
         Some(Kind::Usable) => end <= run_end(regions, start),
-        _ => false,
+        Some(Kind::Reserved | Kind::Acpi | Kind::Nvs | Kind::Bad) | None => false,
     }
 }
 

@@ -1,12 +1,11 @@
 -- What a Multiboot2 kernel is told fits its fields, and stands in the image of its handover.
 use Rattle.std.proofs.Common.{◌≡◌, ◌+◌, ◌<◌, ◌≤◌, ◌^◌, ◌∷◌, ◌++◌, ℕ, true, List, [], length, take}
 use Rattle.std.proofs.Common.{Some, None, refl, arith, All, AllPairs}
-use Rattle.std.specs.Prelude.{is_some, codes, option_map}
+use Rattle.std.specs.Prelude.{is_some, codes}
 use Rattle.std.specs.List.{list_any}
 use Rattle.std.proofs.lemmas.List.Elements.{All-head, All-tail}
 use Rattle.bl_map.specs.MachineFacts.{MachineFacts, AreMachineFacts}
 use Rattle.bl_mbi.specs.InformationFacts.{InformationFacts, AreBytes, FitsFields}
-use Rattle.bl_mbi.specs.Size.{copy_size}
 use Rattle.bl_mbi.specs.Spelling.{info_spelling}
 use Rattle.bl_mbi.proofs.Sizes.{length-spelling}
 use Rattle.bl_plan.specs.Placed.{ArePlaced}
@@ -25,7 +24,7 @@ use Rattle.bl_load.specs.Rows.{rows_of, kernel_rows, module_rows, information_ro
 use Rattle.bl_load.specs.Value.{EntryValue, kernel_file, module_file, line_fault, lines_fault}
 use Rattle.bl_load.specs.Value.{lines_of}
 use Rattle.bl_load.proofs.EntryLemmas.{small_address}
-use Rattle.bl_load.proofs.InformationLemmas.{info_size_is, tags_small, told_below, copy_size_small}
+use Rattle.bl_load.proofs.InformationLemmas.{info_size_is, tags_small, told_below}
 use Rattle.bl_load.proofs.LineLemmas.{sound_text, sound_short, first_sound}
 use Rattle.bl_load.proofs.ModuleLemmas.{modules_end_low}
 use Rattle.bl_load.proofs.FullLemmas.{kernel_full}
@@ -127,12 +126,10 @@ module _ (facts : MachineFacts) (value : EntryValue) (kernel : KernelFacts) (pla
       let few = offered.limits.few in
       let tags = tags_small value.module_lines (lines_short value.module_lines split.1) in
       let small : tags_size value.module_lines < 2 ^ 20 = omega (arith, few, tags) in
-      let old = copy_size_small value.rsdp_old offered.limits.rsdp_old in
-      let new = copy_size_small value.rsdp_new offered.limits.rsdp_new in
       let below =
       told_below (length value.line) (tags_size value.module_lines) (length facts.runs)
-      (copy_size (option_map length value.rsdp_old)) (copy_size (option_map length value.rsdp_new))
-      (is_some kernel.relocation) short machine.few small old new in
+      value.rsdp_old value.rsdp_new (is_some kernel.relocation) short machine.few small
+      offered.limits.rsdp_old offered.limits.rsdp_new in
       let whole = length-spelling (told facts value kernel places) in
       let sum = info_size_is facts value kernel.relocation places in
       omega (arith, below, whole, sum)

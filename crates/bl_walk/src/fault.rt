@@ -68,8 +68,11 @@ impl From<InfoFault> for WalkFault {
 
     fn from(fault: InfoFault) -> WalkFault {
         match fault {
+            InfoFault::WrongLength
+            | InfoFault::BadReserved
+            | InfoFault::BadTag(_)
+            | InfoFault::BadOrder(_) => WalkFault::BadInfo,
             InfoFault::NoMemory => WalkFault::NoMemory,
-            _ => WalkFault::BadInfo,
         }
     }
 }
@@ -81,8 +84,8 @@ impl From<ParamFault> for WalkFault {
 
     fn from(fault: ParamFault) -> WalkFault {
         match fault {
+            ParamFault::WrongLength | ParamFault::BadParams(_) => WalkFault::BadInfo,
             ParamFault::NoMemory => WalkFault::NoMemory,
-            _ => WalkFault::BadInfo,
         }
     }
 }

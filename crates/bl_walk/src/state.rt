@@ -32,7 +32,8 @@ fn are_entered(protocol: Protocol, registers: Registers) -> bool
         (Protocol::Linux64, Registers::Bits64(r)) => {
             r == linux64_registers(r.rip, r.rsi, r.gdt_base, r.cr3)
         }
-        _ => false,
+        (Protocol::Multiboot2 | Protocol::Linux, Registers::Bits64(_)) => false,
+        (Protocol::Linux64, Registers::Bits32(_)) => false,
     }
 }
 

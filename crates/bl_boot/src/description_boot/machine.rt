@@ -21,7 +21,12 @@ pub fn machine_of<A: Allocator + Copy>(
     let regions = description.regions.as_slice();
     match Machine::new(alloc, description.size, regions, pool) {
         Ok(machine) => Ok(machine),
+        Err(
+            MapFault::BadSize
+            | MapFault::BadRegion(_)
+            | MapFault::TooManyRegions
+            | MapFault::BadPool,
+        ) => Err(EndFault::BadDescription),
         Err(MapFault::NoMemory) => Err(EndFault::NoMemory),
-        Err(_) => Err(EndFault::BadDescription),
     }
 }

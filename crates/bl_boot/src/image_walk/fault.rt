@@ -25,9 +25,13 @@ impl From<ImageFault> for WalkEnd {
 
     fn from(fault: ImageFault) -> WalkEnd {
         match fault {
+            ImageFault::BadMagic
+            | ImageFault::BadVersion
+            | ImageFault::BadHeader
+            | ImageFault::BadPart(_)
+            | ImageFault::WrongLength => WalkEnd::BadImage(fault.number()),
             ImageFault::DeviceFault => WalkEnd::Device,
             ImageFault::NoMemory => WalkEnd::NoMemory,
-            _ => WalkEnd::BadImage(fault.number()),
         }
     }
 }
@@ -37,8 +41,10 @@ impl From<WalkFault> for WalkEnd {
 
     fn from(fault: WalkFault) -> WalkEnd {
         match fault {
+            WalkFault::OutsideImage | WalkFault::BadInfo | WalkFault::BadState => {
+                WalkEnd::BadImage(fault.number())
+            }
             WalkFault::NoMemory => WalkEnd::NoMemory,
-            _ => WalkEnd::BadImage(fault.number()),
         }
     }
 }

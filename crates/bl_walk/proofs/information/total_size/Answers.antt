@@ -6,8 +6,8 @@ use Rattle.bl_walk.proofs.information.total_size.Goals as goal
 pub follow-requires : goal.follow-requires
 follow-requires g c = rw (c.information.ensures, c.registers.ensures) (size_word c.requires)
 
-pub returns-then-size-lt-LEAST_SIZE-clause-fault :
-    goal.returns-then-size-lt-LEAST_SIZE-clause-fault
-returns-then-size-lt-LEAST_SIZE-clause-fault g c =
+pub returns-then-size-lt-MIN_INFO_SIZE-clause-fault :
+    goal.returns-then-size-lt-MIN_INFO_SIZE-clause-fault
+returns-then-size-lt-MIN_INFO_SIZE-clause-fault g c =
     let is : HasTotalSize c.args.image.now c.u32_at-size.result = search rules in
-    short_information c.u32_at-size.result is c.if-size-lt-LEAST_SIZE.true
+    short_information c.u32_at-size.result is c.if-size-lt-MIN_INFO_SIZE.true
