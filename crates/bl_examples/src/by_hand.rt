@@ -28,6 +28,8 @@ pub fn boot_by_hand<M: PhysMem, A: Allocator + Copy>(
     requires size { length (M.bytes memory.old) ≡ session.old.boot.machine.size }
     requires room { is_waiting session.old.phase ≡ true → HasRoom (M.room memory.old)
         session.old.boot.machine.pool.start session.old.boot.machine.pool.end }
+    ensures boot { session.new.boot ≡ session.old.boot }
+    ensures size { length (M.bytes memory.new) ≡ length (M.bytes memory.old) }
 {
     let mut progress = session.start(memory);
     for _ in 0..MAX_EVENTS {

@@ -1,5 +1,6 @@
 //! A boot from that disk.
-ghost use Rattle.std.specs.Prelude.{◌≡◌, length, map, None, option_copied};
+ghost use Rattle.std.specs.Prelude.{◌≡◌, ◌+◌, ◌≤◌, length, map, None, option_copied};
+ghost use Rattle.std.specs.Prelude.{All, IfOk};
 ghost use Rattle.bl_session.specs.Ledger.{sliced_file};
 ghost use Rattle.bl_session.specs.Outcome.{IsOutcome, HasEnded};
 ghost use Rattle.bl_session.specs.Outcome as outcome;
@@ -22,12 +23,15 @@ pub fn boot_from_disk<M: PhysMem, A: Allocator + Copy>(
     menu: &Menu<A>,
 ) -> Result<Outcome<A>, BootFault<A>>
     requires { length (M.bytes memory.old) ≡ machine.now.size }
-    ensures { HasEnded (state_at (M.bytes memory.new) (boot_end result))
+    ensures outcome { HasEnded (state_at (M.bytes memory.new) (boot_end result))
         → IsOutcome
         (boot_facts machine.now menu.now
         (map outcome.size_of (map (λ file. sliced_file (option_copied file)) files.now)))
         (map (λ file. sliced_file (option_copied file)) files.now) (λ _. None)
         (state_at (M.bytes memory.new) (boot_end result)) }
+    ensures inside { IfOk result (λ outcome.
+        All (λ place. place.address + place.length ≤ machine.now.size) outcome.handoff.places) }
+    ensures size { length (M.bytes memory.new) ≡ length (M.bytes memory.old) }
 {
     let mut disk = Disk {
         ledger: Ledger::new(alloc, SliceFiles { files }),

@@ -1,10 +1,10 @@
 //! Runs the programs on what they boot, and prints what comes of it.
-ghost use Rattle.std.specs.Prelude.{◌≡◌, length};
+ghost use Rattle.std.specs.Prelude.{◌+◌, ◌≤◌, length, All};
 
 use crate::by_hand::boot_by_hand;
 use crate::check::check_image;
 use crate::disk_boot::boot_from_disk;
-use crate::guest::{guest_machine, load_guest};
+use crate::files::show_load;
 use crate::menu::{KERNEL, MACHINE_SIZE, machine, menu};
 use bl_image::{MemSink, write_image};
 use bl_load::{Entry, Handoff};
@@ -18,23 +18,16 @@ const FILES: [&[u8]; 3] = [b"no kernel", &KERNEL, b"hello"];
 
 /// Loads the kernel into a guest's memory.
 pub fn show_guest(rt: &HostRuntime) -> io::Result<()> {
-    let alloc = rt.alloc();
-    let Ok(machine) = guest_machine(alloc, MACHINE_SIZE) else {
-        return rt.println("guest: no machine");
-    };
     let entry = Entry::Multiboot2 {
         kernel: 0,
-        line: Bytes::copy(alloc, b"guest")?,
-        modules: Vec::new(alloc),
+        line: Bytes::copy(rt.alloc(), b"guest")?,
+        modules: Vec::new(rt.alloc()),
         rsdp_old: None,
         rsdp_new: None,
     };
-    let mut memory = Vec::from_elem(alloc, 0u8, machine.size() as usize)?;
+    let mut memory = Vec::from_elem(rt.alloc(), 0u8, MACHINE_SIZE as usize)?;
     let files = [SliceView::new(&KERNEL)];
-    match load_guest(alloc, &machine, memory.as_mut_slice(), &entry, &files) {
-        Ok(handoff) => show_handoff(rt, "guest", &handoff),
-        Err(fault) => println!(rt; "guest: {fault}"),
-    }
+    show_load(rt, memory.as_mut_slice(), &entry, &files)
 }
 
 /// How many parts, and where the kernel is entered.
@@ -49,7 +42,10 @@ fn show_image<M: PhysMem>(
     rt: &HostRuntime,
     memory: &M,
     handoff: &Handoff<Global>,
-) -> io::Result<()> {
+) -> io::Result<()>
+    requires { All (λ place. place.address + place.length ≤ length (M.bytes memory.now))
+        handoff.now.places }
+{
     let alloc = rt.alloc();
     let mut sink = MemSink::for_image(alloc, handoff)?;
     if let Err(fault) = write_image(handoff, memory, &mut sink) {

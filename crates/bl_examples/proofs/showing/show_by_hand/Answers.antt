@@ -1,0 +1,16 @@
+use Rattle.std.proofs.Common.{◌∙◌, ℕ, List, ap, arith, length}
+use Rattle.std.proofs.lemmas.List.{length-replicate}
+use Rattle.bl_session.specs.Boot.{BootFacts}
+use Rattle.bl_session.specs.Phases.{SessionFacts}
+use Rattle.bl_examples.proofs.showing.show_by_hand.Goals as goal
+
+pub show_image-requires : goal.show_image-requires
+show_image-requires c =
+    let size =
+    c.boot_by_hand-progress.ensures.size ∙ ap (λ (m : List ℕ). length m) c.in_ok-memory.ensures.ok
+    ∙ length-replicate c.size.result 0xA5 ∙ c.size.ensures.size in
+    let machine =
+    ap (λ (b : BootFacts). b.machine.size) c.boot_by_hand-progress.ensures.boot
+    ∙ ap (λ (s : SessionFacts). s.boot.machine.size) c.in_ok-session.ensures in
+    λ k d h. let inside = c.in-Some-Ok.ensures.inside k d h in
+    omega (arith, inside, size, machine)
