@@ -38,11 +38,7 @@ pub fn show_handoff(rt: &HostRuntime, name: &str, handoff: &Handoff<Global>) -> 
 }
 
 /// Writes the image of what was booted, checks it, and prints how long it is.
-fn show_image<M: PhysMem>(
-    rt: &HostRuntime,
-    memory: &M,
-    handoff: &Handoff<Global>,
-) -> io::Result<()>
+fn show_image<M: PhysMem>(rt: &HostRuntime, memory: &M, handoff: &Handoff<Global>) -> io::Result<()>
     requires { All (λ place. place.address + place.length ≤ length (M.bytes memory.now))
         handoff.now.places }
 {

@@ -12,5 +12,6 @@ show_image-requires c =
     let machine =
     ap (λ (b : BootFacts). b.machine.size) c.boot_by_hand-progress.ensures.boot
     ∙ ap (λ (s : SessionFacts). s.boot.machine.size) c.in_ok-session.ensures in
-    λ k d h. let inside = c.in-Some-Ok.ensures.inside k d h in
+    let within = rw c.in-Some-Ok.field-0-is at c.in-Some-Ok.ensures.inside in
+    λ k d h. let inside = within k d h in
     omega (arith, inside, size, machine)
