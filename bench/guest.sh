@@ -7,8 +7,8 @@
 # The files are a Linux kernel of 10 MiB and an initial ramdisk of 200 MiB. The program under test is the argument, else
 # crates/bl_examples/out/bl_examples. Both programs read the files, and then load them once or eleven times; the difference
 # is ten loads, without what reading costs. The programs take turns, and the best of all rounds counts. Peak memory is that of
-# one load, of which the files and the guest's memory are 210 MiB and what is written of 512 MiB. Needs bash 5, coreutils,
-# awk and rustc.
+# one load; files and guest are 722 MiB of it, of which the plain program touches only what it writes. Needs bash 5,
+# coreutils, awk and rustc.
 # shellcheck source-path=SCRIPTDIR source=measure.sh
 source "$(dirname "${BASH_SOURCE[0]}")/measure.sh"
 
