@@ -6,6 +6,10 @@
 # One sector of setup stands behind the boot sector. The setup header is of version 2.12 and ends at 0x268; the kernel may lie
 # at multiples of 2 MiB, prefers 16 MiB, and needs twice its payload there; its initial ramdisk lies below 2 GiB.
 set -eu
+if [ "${1:-}" = --help ]; then
+    sed -n '2,/^[^#]/s/^# \{0,1\}//p' "$0"
+    exit 0
+fi
 
 file=$1
 bytes=$(($2))

@@ -7,6 +7,10 @@
 # segment has 1 MiB of zeros behind its bytes, and the first one lies at 0x200000. The Multiboot2 header stands
 # behind the program headers.
 set -eu
+if [ "${1:-}" = --help ]; then
+    sed -n '2,/^[^#]/s/^# \{0,1\}//p' "$0"
+    exit 0
+fi
 
 file=$1
 segments=$2

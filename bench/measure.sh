@@ -3,6 +3,12 @@
 set -euo pipefail
 export LC_ALL=C
 
+# --help of each of them: the comment that it begins with
+if [ "${1:-}" = --help ]; then
+    sed -n '2,/^[^#]/s/^# \{0,1\}//p' "$0" | grep -v '^shellcheck '
+    exit 0
+fi
+
 rounds=5
 here=$(cd "$(dirname "${BASH_SOURCE[0]}")" && pwd)
 

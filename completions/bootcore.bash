@@ -6,7 +6,7 @@ _bootcore() {
     local word=${COMP_WORDS[COMP_CWORD]} before=${COMP_WORDS[COMP_CWORD - 1]} choices='' option
     COMPREPLY=()
     if [ "$COMP_CWORD" = 1 ]; then
-        choices='boot map walk convert --help'
+        choices='boot map walk convert explain --help'
     elif [ "$COMP_CWORD" -gt 2 ]; then
         case "${COMP_WORDS[1]} $before" in
             'boot --out') ;;
@@ -26,6 +26,13 @@ _bootcore() {
                 case " ${COMP_WORDS[*]:2:COMP_CWORD-2} " in
                     *' --out '*) return 0 ;;
                     *) choices='--out' ;;
+                esac
+                ;;
+            'explain --order') choices='forward reverse' ;;
+            explain\ *)
+                case " ${COMP_WORDS[*]:2:COMP_CWORD-2} " in
+                    *' --order '*) return 0 ;;
+                    *) choices='--order' ;;
                 esac
                 ;;
             # map and walk take one file

@@ -21,18 +21,33 @@
 #   dpkg-deb -x linux-image-*.deb unpacked; cp unpacked/boot/vmlinuz-* vmlinuz
 #
 # An initial ramdisk is any file: bootcore looks at none of its bytes, and unpacks nothing. This
-# makes one of a folder's files:
+# makes one of a folder's files; ramdisk.sh makes a small one with a login prompt:
 #   (cd FOLDER && find . | cpio -o -H newc) | gzip > initrd.img
 #
 # It prints `booted 0 Linux`, by the 64-bit entry `booted 0 Linux, 64-bit entry`. What the kernel
-# sees then, this prints:
+# sees then, and what it does then, these show:
 #   PATH-OF-THIS-REPOSITORY/bootcore walk linux.image
+#   PATH-OF-THIS-REPOSITORY/examples/qemu.sh linux.image PATH-OF-THIS-REPOSITORY/examples/linux.toml
 #
 # docs/FORMATS.md says what linux.image holds. This shows the fields of the kernel's setup header:
 #   xxd -s 0x1f1 -l 0x80 vmlinuz
 #
 # The program is the variable BOOTCORE, else the script `bootcore` of the repository.
 set -u
+entry=${1:-linux}
+case "$#,$entry" in
+0,* | 1,linux | 1,linux64) ;;
+1,--help)
+    echo "usage: examples/linux.sh [linux|linux64]"
+    echo "  boots vmlinuz and initrd.img of the current folder into linux.image, by the 32-bit entry"
+    echo "  or by the 64-bit one"
+    exit 0
+    ;;
+*)
+    echo "usage: examples/linux.sh [linux|linux64]" >&2
+    exit 64
+    ;;
+esac
 top=$(cd "$(dirname "${BASH_SOURCE[0]}")/.." && pwd) || exit 1
 for file in vmlinuz initrd.img; do
     if [ ! -f "$file" ]; then
@@ -41,4 +56,4 @@ for file in vmlinuz initrd.img; do
         exit 1
     fi
 done
-exec "${BOOTCORE:-$top/bootcore}" boot "$top/examples/${1:-linux}.toml" --out linux.image
+exec "${BOOTCORE:-$top/bootcore}" boot "$top/examples/$entry.toml" --out linux.image

@@ -17,6 +17,18 @@
 #
 # The program is the variable BOOTCORE, else the script `bootcore` of the repository.
 set -u
+case "$#,${1:-}" in
+0,) ;;
+1,--help)
+    echo "usage: examples/modules.sh"
+    echo "  boots kernel.elf, ramdisk.img and settings.cfg of the current folder into modules.image"
+    exit 0
+    ;;
+*)
+    echo "usage: examples/modules.sh" >&2
+    exit 64
+    ;;
+esac
 top=$(cd "$(dirname "${BASH_SOURCE[0]}")/.." && pwd) || exit 1
 for file in kernel.elf ramdisk.img settings.cfg; do
     if [ ! -f "$file" ]; then

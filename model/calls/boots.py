@@ -1,9 +1,9 @@
-"""boot, boots, map, fetch: the calls of bl_boot on a description."""
+"""boot, boots, map, explain, fetch: the calls of bl_boot on a description."""
 
 from typing import List, Optional, Set, Union
 
 from language import demand, fields, number, only, pair, quoted, single, spell
-from rules import booting, description
+from rules import booting, description, explaining
 from rules.image import spell as image_of
 
 from . import BYTES_OF, Call
@@ -96,6 +96,20 @@ def map_is_refused(table, line, text):
     return text in ("no memory", "status 4, no memory, said " + quoted(Given(table, line).said))
 
 
+def explain(table, line):
+    given = Given(table, line)
+    run = explaining.explain(line.data, given.path_named)
+    return "%s, missing %d" % (said_text(given, run.status, run.said), given.missing(line.data))
+
+
+def explain_is_refused(table, line, text):
+    """Nothing is said. What was said before may lack the memory too."""
+    given = Given(table, line)
+    ends = ["status 4, no memory, said %s, missing %d" % (quoted(given.said), missing)
+            for missing in range(given.missing(line.data) + 1)]
+    return text in ends + ["no memory"]
+
+
 def fetch(table, line):
     demand(bool(line.words))
     given = Given(table, line._replace(words=line.words[1:]))
@@ -109,5 +123,6 @@ CALLS = {
     "boot": Call(boot, BYTES_OF, boot_is_refused),
     "boots": Call(boots, BYTES_OF),
     "map": Call(map_of, BYTES_OF, map_is_refused),
+    "explain": Call(explain, BYTES_OF, explain_is_refused),
     "fetch": Call(fetch, is_refused=lambda table, line, text: text == "no memory, missing 0"),
 }

@@ -8,7 +8,8 @@ from . import Call
 HELP = ("--help", "-h")
 ORDERS = ("forward", "reverse")
 # The options of each subcommand; --out must be given where it may be.
-OPTIONS = {"boot": ("--out", "--order"), "map": (), "walk": (), "convert": ("--out",)}
+OPTIONS = {"boot": ("--out", "--order"), "map": (), "walk": (), "convert": ("--out",),
+           "explain": ("--order",)}
 
 
 class Refused(Exception):
@@ -64,6 +65,8 @@ def job(words: List[str]) -> str:
         return "convert %s to %s" % (paths[0], options["--out"])
     if command == "boot":
         return "boot %s to %s %s" % (paths[0], options["--out"], order)
+    if command == "explain":
+        return "explain %s %s" % (paths[0], order)
     return "%s %s" % (command, paths[0])
 
 

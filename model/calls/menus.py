@@ -15,7 +15,7 @@ from .kernels import fault_text
 File = Union[bytes, int, None]
 WORDS = ("file", "entry", "modules", "rsdp_old", "rsdp_new", "default", "fallback", "store",
          "twice", "fail", "picks", "answers")
-STORES = ("forward", "reverse", "counting", "silent", "script")
+STORES = ("forward", "reverse", "counting", "slices", "slices_reverse", "silent", "script")
 
 
 class MenuEntry(NamedTuple):

@@ -62,7 +62,7 @@ def store_of(menu: Menu):
     elif menu.store == "silent":
         store = stores.SilentStore()
     else:
-        store = stores.FileStore(menu.store == "reverse")
+        store = stores.FileStore(menu.store in ("reverse", "slices_reverse"))
     if "answers" in named:
         return stores.DryStore(store, number(single(named, "answers")))
     return store

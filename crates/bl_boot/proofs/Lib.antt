@@ -9,3 +9,5 @@ pub mod RunLemmas
 pub mod SaidLemmas
 pub mod ShownLaws
 pub mod ConvertLaws
+pub mod ExplainLemmas
+pub mod ExplainEnds

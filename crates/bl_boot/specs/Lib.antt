@@ -9,3 +9,10 @@ pub mod WalkSays
 pub mod Walked
 pub mod WalkKept
 pub mod Converted
+pub mod Sought
+pub mod RefusalWords
+pub mod HandedLines
+pub mod Told
+pub mod Blames
+pub mod Explained
+pub mod ExplainKept

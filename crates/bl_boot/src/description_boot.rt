@@ -11,5 +11,10 @@ mod names;
 mod whole_boot;
 
 pub use boot_end::{End, EndFault};
+pub use described_boot::DescribedBoot;
+pub use found_boot::title_of;
+pub use found_files::find_files;
 pub use machine::machine_of;
-pub use whole_boot::boot;
+pub use menu::menu_of;
+pub use names::{index_of, names_in};
+pub use whole_boot::{boot, order_of};

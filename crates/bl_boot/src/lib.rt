@@ -2,6 +2,7 @@
 #![tactic(auto)]
 
 mod description_boot;
+mod explanation;
 mod file_source;
 mod image_conversion;
 mod image_walk;
@@ -11,6 +12,7 @@ mod machine_map;
 
 pub use bl_session::{FILE_LIMIT, Fetched};
 pub use description_boot::boot;
+pub use explanation::explain_to;
 pub use file_source::{AskedNames, Files, MemFiles};
 pub use image_conversion::convert;
 pub use image_walk::walk_to;

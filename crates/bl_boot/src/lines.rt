@@ -1,9 +1,21 @@
 //! The lines that the program says on standard output.
 
+mod attempts;
+mod blame;
+mod handed;
+mod hints;
 mod map;
 mod outcome;
+mod refusal;
+mod refusal_words;
+mod registers;
+mod sought;
 mod walk;
 
+pub use attempts::{say_attempt, say_refused_attempts};
+pub use blame::say_blame;
+pub use handed::say_handoff;
+pub use hints::say_hints;
 pub use map::say_map;
 pub use outcome::{say_booted, say_no_entry_left, say_refusals};
 pub use walk::say_walk;

@@ -2,7 +2,7 @@
 use crate::guest::{guest_machine, load_guest};
 use crate::showing::show_handoff;
 use bl_load::Entry;
-use bl_mem::{Bytes, SliceView};
+use bl_mem::SliceView;
 use std::alloc::Global;
 use std::{fs, io};
 
@@ -34,12 +34,7 @@ pub fn show_load(
 pub fn show_files(rt: &HostRuntime, kernel: &str, initrd: &str, rounds: u64) -> io::Result<()> {
     let kernel = fs::read(rt, kernel)?;
     let initrd = fs::read(rt, initrd)?;
-    let entry = Entry::Linux {
-        kernel: 0,
-        line: Bytes::copy(rt.alloc(), b"console=ttyS0")?,
-        initrd: Some(1),
-        wide: false,
-    };
+    let entry = Entry::linux(rt.alloc(), 0, b"console=ttyS0", Some(1))?;
     let mut memory = Vec::from_elem(rt.alloc(), 0u8, GUEST_SIZE as usize)?;
     let files = [
         SliceView::new(kernel.as_slice()),

@@ -3,7 +3,6 @@ ghost use Rattle.std.specs.Prelude.{◌≡◌, IfOk};
 
 use bl_load::{Entry, Module};
 use bl_map::{Kind, Machine, MapFault, Region};
-use bl_mem::Bytes;
 use bl_session::{Menu, MenuFault};
 use std::alloc::Allocator;
 
@@ -42,23 +41,9 @@ pub fn machine<A: Allocator>(alloc: A) -> Result<Machine<A>, MapFault>
 /// A menu whose first entry is refused, and whose fallback is the kernel with a module.
 pub fn menu<A: Allocator + Copy>(alloc: A) -> Result<Menu<A>, MenuFault> {
     let mut modules = Vec::new(alloc);
-    modules.push(Module {
-        file: 2,
-        line: Bytes::copy(alloc, b"module")?,
-    })?;
+    modules.push(Module::new(alloc, 2, b"module")?)?;
     let mut entries = Vec::new(alloc);
-    entries.push(Entry::Linux {
-        kernel: 0,
-        line: Bytes::copy(alloc, b"quiet")?,
-        initrd: None,
-        wide: false,
-    })?;
-    entries.push(Entry::Multiboot2 {
-        kernel: 1,
-        line: Bytes::copy(alloc, b"kernel")?,
-        modules,
-        rsdp_old: None,
-        rsdp_new: None,
-    })?;
+    entries.push(Entry::linux(alloc, 0, b"quiet", None)?)?;
+    entries.push(Entry::multiboot2(alloc, 1, b"kernel", modules)?)?;
     Menu::new(alloc, entries, 0, &[1])
 }

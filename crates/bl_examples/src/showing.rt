@@ -8,7 +8,7 @@ use crate::files::show_load;
 use crate::menu::{KERNEL, MACHINE_SIZE, machine, menu};
 use bl_image::{MemSink, write_image};
 use bl_load::{Entry, Handoff};
-use bl_mem::{Bytes, Flat, PhysMem, SliceView};
+use bl_mem::{Flat, PhysMem, SliceView};
 use bl_session::Session;
 use std::alloc::Global;
 use std::io;
@@ -18,23 +18,17 @@ const FILES: [&[u8]; 3] = [b"no kernel", &KERNEL, b"hello"];
 
 /// Loads the kernel into a guest's memory.
 pub fn show_guest(rt: &HostRuntime) -> io::Result<()> {
-    let entry = Entry::Multiboot2 {
-        kernel: 0,
-        line: Bytes::copy(rt.alloc(), b"guest")?,
-        modules: Vec::new(rt.alloc()),
-        rsdp_old: None,
-        rsdp_new: None,
-    };
+    let entry = Entry::multiboot2(rt.alloc(), 0, b"guest", Vec::new(rt.alloc()))?;
     let mut memory = Vec::from_elem(rt.alloc(), 0u8, MACHINE_SIZE as usize)?;
     let files = [SliceView::new(&KERNEL)];
     show_load(rt, memory.as_mut_slice(), &entry, &files)
 }
 
-/// How many parts, and where the kernel is entered.
+/// How many parts, and the registers that the kernel begins with.
 pub fn show_handoff(rt: &HostRuntime, name: &str, handoff: &Handoff<Global>) -> io::Result<()> {
-    let entry = handoff.registers().entry();
+    let registers = handoff.registers();
     let count = handoff.len();
-    println!(rt; "{name}: {count} parts, entered at {entry:x}")
+    println!(rt; "{name}: {count} parts, {registers}")
 }
 
 /// Writes the image of what was booted, checks it, and prints how long it is.
@@ -90,6 +84,6 @@ pub fn show_disk(rt: &HostRuntime) -> io::Result<()> {
             show_handoff(rt, "disk", &outcome.handoff)?;
             show_image(rt, &memory, &outcome.handoff)
         }
-        Err(fault) => println!(rt; "disk: fault {}", fault.number()),
+        Err(fault) => println!(rt; "disk: {fault}"),
     }
 }

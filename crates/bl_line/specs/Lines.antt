@@ -15,10 +15,10 @@ use Rattle.bl_line.specs.declared.fault.LineFault.TheVariants.{Help, Refused, No
 use Rattle.bl_line.specs.declared.job.Order.{Order}
 use Rattle.bl_line.specs.declared.job.Order.TheVariants.{Forward, Reverse}
 use Rattle.bl_line.specs.declared.job.Job.{Job}
-use Rattle.bl_line.specs.declared.job.Job.TheVariants.{Boot, Map, Walk, Convert}
+use Rattle.bl_line.specs.declared.job.Job.TheVariants.{Boot, Map, Walk, Convert, Explain}
 
--- ---- the command: boot DESC --out IMAGE [--order forward|reverse], map DESC, walk IMAGE, or
--- convert IMAGE --out NEW
+-- ---- the command: boot DESC --out IMAGE [--order forward|reverse], map DESC, walk IMAGE,
+-- convert IMAGE --out NEW, or explain DESC [--order forward|reverse]
 
 -- the parser takes the two orders by name
 abbrev pub IsOrderParser : ValueParser → Type 0
@@ -58,6 +58,9 @@ walk_app = with_rule (new_app (codes "walk")) image_rule
 abbrev pub convert_app : App
 convert_app = with_rule (with_rule (new_app (codes "convert")) image_rule) out_rule
 
+abbrev pub explain_app : ValueParser → App
+explain_app parser = with_rule (with_rule (new_app (codes "explain")) desc_rule) (order_rule parser)
+
 -- a subcommand must be given, and `help` is none
 abbrev pub top_app : App
 top_app = record {
@@ -71,9 +74,11 @@ top_app = record {
 abbrev pub line_app : ValueParser → App
 line_app parser =
     with_subcommand
+    (with_subcommand
     (with_subcommand (with_subcommand (with_subcommand top_app (boot_app parser).top) map_app.top)
     walk_app.top)
-    convert_app.top
+    convert_app.top)
+    (explain_app parser).top
 
 -- ---- the job
 
@@ -97,6 +102,9 @@ IsJobOf chosen (Walk image) = (bytes_eq chosen.0 (codes "walk") ≡ true)
 IsJobOf chosen (Convert image new) = (bytes_eq chosen.0 (codes "convert") ≡ true)
     × (image.now ≡ argument_text (codes "image") chosen.1)
     × (new.now ≡ argument_text (codes "out") chosen.1)
+IsJobOf chosen (Explain description order) = (bytes_eq chosen.0 (codes "explain") ≡ true)
+    × (description.now ≡ argument_text (codes "desc") chosen.1)
+    × (order ≡ order_named (argument_text (codes "order") chosen.1))
 
 -- clap's own definition has no fault for the words, and its matches tell the job
 abbrev pub Tells : List Text → Job → Type 0

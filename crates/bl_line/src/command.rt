@@ -3,8 +3,9 @@
 ghost use Rattle.std.specs.Prelude.{◌≡◌, true, false, IfOk};
 ghost use Rattle.clap.specs.Words.{app_of, new_app, new_rule, rule_of, with_rule, with_subcommand};
 ghost use Rattle.clap.specs.declared.builder.command.Command.TheViews.{out-Command as fields_of};
-ghost use Rattle.bl_line.specs.Lines.{WithOrders, boot_app, convert_app, top_app, line_app};
-ghost use Rattle.bl_line.specs.Lines.{out_rule, order_rule};
+ghost use Rattle.bl_line.specs.Lines.{WithOrders, boot_app, convert_app, explain_app, top_app};
+ghost use Rattle.bl_line.specs.Lines.{line_app, out_rule, order_rule};
+ghost use Rattle.clap.specs.declared.builder.value_parser.ValueParser.TheVariants.{Names};
 
 use clap::{Arg, Command};
 use std::alloc::{AllocError, Global};
@@ -27,14 +28,12 @@ fn out_arg<'a>(global: Global) -> Arg<'a>
     Arg::new(global, "out").long("out").required(true)
 }
 
-/// The order of a file's pieces, which need not be given.
-fn order_arg<'a>(global: Global) -> Arg<'a>
+/// The order of a file's pieces, one of these, which need not be given.
+fn order_arg<'a>(global: Global, orders: &'a [&'a str]) -> Arg<'a>
     ensures local { result.global ≡ false }
-    ensures rule { WithOrders (λ parser. rule_of result ≡ order_rule parser) }
+    ensures rule { rule_of result ≡ order_rule (Names orders.entry) }
 {
-    Arg::new(global, "order")
-        .long("order")
-        .value_parser(ORDERS.as_slice())
+    Arg::new(global, "order").long("order").value_parser(orders)
 }
 
 /// A command of this name with one argument, which must be given.
@@ -46,13 +45,20 @@ fn command_of<'a>(global: Global, name: &'a str, id: &'a str) -> Result<Command<
     Command::new(global, name).arg(given_arg(global, id))
 }
 
-fn boot_command<'a>(global: Global) -> Result<Command<'a>, AllocError>
+fn boot_command<'a>(global: Global, orders: &'a [&'a str]) -> Result<Command<'a>, AllocError>
     ensures local { IfOk result (λ c. (fields_of c).has_globals ≡ false) }
-    ensures app { IfOk result (λ c. WithOrders (λ parser. app_of c ≡ boot_app parser)) }
+    ensures app { IfOk result (λ c. app_of c ≡ boot_app (Names orders.entry)) }
 {
     command_of(global, "boot", "desc")?
         .arg(out_arg(global))?
-        .arg(order_arg(global))
+        .arg(order_arg(global, orders))
+}
+
+fn explain_command<'a>(global: Global, orders: &'a [&'a str]) -> Result<Command<'a>, AllocError>
+    ensures local { IfOk result (λ c. (fields_of c).has_globals ≡ false) }
+    ensures app { IfOk result (λ c. app_of c ≡ explain_app (Names orders.entry)) }
+{
+    command_of(global, "explain", "desc")?.arg(order_arg(global, orders))
 }
 
 fn convert_command<'a>(global: Global) -> Result<Command<'a>, AllocError>
@@ -72,12 +78,25 @@ fn top_command<'a>(global: Global) -> Command<'a>
 }
 
 /// The program's command, with its first subcommand.
-fn with_boot<'a>(global: Global) -> Result<Command<'a>, AllocError>
-    ensures { IfOk result (λ c. WithOrders (λ parser.
-        app_of c ≡ with_subcommand top_app (boot_app parser).top)) }
+fn with_boot<'a>(global: Global, orders: &'a [&'a str]) -> Result<Command<'a>, AllocError>
+    ensures { IfOk result (λ c.
+        app_of c ≡ with_subcommand top_app (boot_app (Names orders.entry)).top) }
 {
-    let boot = boot_command(global)?;
+    let boot = boot_command(global, orders)?;
     top_command(global).subcommand(boot)
+}
+
+/// A command, with the subcommand that explains.
+fn with_explain<'a>(
+    global: Global,
+    top: Command<'a>,
+    orders: &'a [&'a str],
+) -> Result<Command<'a>, AllocError>
+    ensures { IfOk result (λ c. app_of c
+        ≡ with_subcommand (app_of top.entry) (explain_app (Names orders.entry)).top) }
+{
+    let explain = explain_command(global, orders)?;
+    top.subcommand(explain)
 }
 
 /// A command, with a subcommand of this name that has one argument, which must be given.
@@ -93,13 +112,21 @@ fn with_file<'a>(
     top.subcommand(command_of(global, name, id)?)
 }
 
+/// The program's command, with its subcommands, two of which take one of these orders.
+fn command_with<'a>(global: Global, orders: &'a [&'a str]) -> Result<Command<'a>, AllocError>
+    ensures { IfOk result (λ c. app_of c ≡ line_app (Names orders.entry)) }
+{
+    let top = with_boot(global, orders)?;
+    let top = with_file(global, top, "map", "desc")?;
+    let top = with_file(global, top, "walk", "image")?;
+    let convert = convert_command(global)?;
+    let top = top.subcommand(convert)?;
+    with_explain(global, top, orders)
+}
+
 /// The program's command, with its subcommands.
 pub fn line_command<'a>(global: Global) -> Result<Command<'a>, AllocError>
     ensures { IfOk result (λ c. WithOrders (λ parser. app_of c ≡ line_app parser)) }
 {
-    let top = with_boot(global)?;
-    let top = with_file(global, top, "map", "desc")?;
-    let top = with_file(global, top, "walk", "image")?;
-    let convert = convert_command(global)?;
-    top.subcommand(convert)
+    command_with(global, ORDERS.as_slice())
 }

@@ -29,4 +29,9 @@ pub enum Job<'a> {
         image: &'a str,
         new: &'a str,
     },
+    /// Tell the boot of a description for a person, without an image.
+    Explain {
+        description: &'a str,
+        order: Order,
+    },
 }

@@ -38,7 +38,8 @@ fn job_of<'a>(name: &str, matches: &ArgMatches<'a>) -> Option<Job<'a>>
     ensures { MatchOption result
         ((bytes_eq name.now (codes "boot") ≡ false) × (bytes_eq name.now (codes "map") ≡ false)
         × (bytes_eq name.now (codes "walk") ≡ false)
-        × (bytes_eq name.now (codes "convert") ≡ false))
+        × (bytes_eq name.now (codes "convert") ≡ false)
+        × (bytes_eq name.now (codes "explain") ≡ false))
         (IsJobOf (name.now, rows_of (found_of matches.now))) }
 {
     match name {
@@ -56,6 +57,10 @@ fn job_of<'a>(name: &str, matches: &ArgMatches<'a>) -> Option<Job<'a>>
         "convert" => Some(Job::Convert {
             image: argument_text(matches, "image"),
             new: argument_text(matches, "out"),
+        }),
+        "explain" => Some(Job::Explain {
+            description: argument_text(matches, "desc"),
+            order: order_named(argument_text(matches, "order")),
         }),
         _ => None,
     }

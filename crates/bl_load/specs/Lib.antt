@@ -16,6 +16,7 @@ pub mod Reading
 pub mod LinuxRows
 pub mod Rows
 pub mod Registers
+pub mod NamedRegisters
 pub mod Segments
 pub mod Protocols
 pub mod Parts

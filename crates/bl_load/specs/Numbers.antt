@@ -12,6 +12,8 @@ use Rattle.bl_load.specs.declared.refusal.Refusal.TheVariants.{NotUsable, NoRoom
 use Rattle.bl_load.specs.declared.refusal.Refusal.TheVariants.{NotBzImage, OldProtocol, NotHigh}
 use Rattle.bl_load.specs.declared.refusal.Refusal.TheVariants.{SetupCut, BadPreferred, LineTooLong}
 use Rattle.bl_load.specs.declared.refusal.Refusal.TheVariants.{LineHasNul, MapTooLong, No64Entry}
+use Rattle.bl_load.specs.declared.refusal.PrepFault.{PrepFault}
+use Rattle.bl_load.specs.declared.refusal.PrepFault.TheVariants.{Refused, NoMemory}
 
 abbrev pub refusal_number : Refusal → ℕ
 refusal_number (NoFile file) = 1
@@ -44,3 +46,8 @@ refusal_number LineTooLong = 27
 refusal_number LineHasNul = 28
 refusal_number MapTooLong = 29
 refusal_number No64Entry = 30
+
+-- the number of why an entry is not prepared; want of memory has that of a boot's
+abbrev pub prep_fault_number : PrepFault → ℕ
+prep_fault_number (Refused refusal) = refusal_number refusal
+prep_fault_number NoMemory = 41

@@ -1,6 +1,7 @@
 //! What a menu offers.
-ghost use Rattle.std.specs.Prelude.{◌≡◌, ◌↔◌, IfOk, IfSome, IsTrue};
+ghost use Rattle.std.specs.Prelude.{◌≡◌, ◌↔◌, IfOk, IfSome, IsTrue, None, true, false};
 ghost use Rattle.bl_load.specs.Value.{file_count, IsCopy, IsWithinLimits};
+ghost use Rattle.bl_load.specs.declared.entry.Entry.TheVariants.{Multiboot2, Linux};
 
 use bl_mem::Bytes;
 use bl_plan::{MAX_COPY, MAX_MODULES};
@@ -59,6 +60,58 @@ fn is_copy<A: Allocator>(copy: &Option<Bytes<A>>) -> bool
 }
 
 impl<A: Allocator> Entry<A> {
+    /// A Multiboot2 entry with a copy of its line, which hands over no copy of an RSDP.
+    pub fn multiboot2(
+        alloc: A,
+        kernel: u32,
+        line: &[u8],
+        modules: Vec<Module<A>, A>,
+    ) -> Result<Entry<A>, AllocError>
+        ensures { IfOk result (λ entry. entry ≡ Multiboot2 kernel line.now modules None None) }
+    {
+        Ok(Entry::Multiboot2 {
+            kernel,
+            line: Bytes::copy(alloc, line)?,
+            modules,
+            rsdp_old: None,
+            rsdp_new: None,
+        })
+    }
+
+    /// A Linux entry with a copy of its line, whose kernel is entered with 32 bits.
+    pub fn linux(
+        alloc: A,
+        kernel: u32,
+        line: &[u8],
+        initrd: Option<u32>,
+    ) -> Result<Entry<A>, AllocError>
+        ensures { IfOk result (λ entry. entry ≡ Linux kernel line.now initrd false) }
+    {
+        Ok(Entry::Linux {
+            kernel,
+            line: Bytes::copy(alloc, line)?,
+            initrd,
+            wide: false,
+        })
+    }
+
+    /// A Linux entry with a copy of its line, whose kernel is entered with 64 bits.
+    pub fn linux64(
+        alloc: A,
+        kernel: u32,
+        line: &[u8],
+        initrd: Option<u32>,
+    ) -> Result<Entry<A>, AllocError>
+        ensures { IfOk result (λ entry. entry ≡ Linux kernel line.now initrd true) }
+    {
+        Ok(Entry::Linux {
+            kernel,
+            line: Bytes::copy(alloc, line)?,
+            initrd,
+            wide: true,
+        })
+    }
+
     /// How many files it has: the kernel, and the modules or the initial ramdisk. `prepare` takes
     /// as many.
     pub fn file_count(&self) -> usize

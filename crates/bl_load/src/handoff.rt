@@ -3,6 +3,7 @@ use crate::plan::PlannedPart;
 use crate::registers::Registers;
 use bl_plan::{Place, Protocol};
 use std::alloc::Allocator;
+use std::fmt;
 use std::marker::Model;
 use std::ops::Range;
 
@@ -41,6 +42,7 @@ impl<A: Allocator> Handoff<A> {
     ghost use Rattle.std.specs.Prelude.{◌≡◌, ◌<◌, length, map, slice_index_or};
     ghost use Rattle.bl_plan.specs.Placed.{place_range};
     ghost use Rattle.bl_load.specs.HandoffFacts.{AreHandoffFacts};
+    ghost use Rattle.bl_load.specs.Place.{planned_place};
 
     /// How the kernel is entered.
     pub fn protocol(&self) -> Protocol
@@ -72,10 +74,28 @@ impl<A: Allocator> Handoff<A> {
         self.parts[index].place
     }
 
+    /// The parts in address order: the place of each, and where its bytes came from.
+    pub fn parts(&self) -> &[PlannedPart<A>]
+        ensures { map planned_place result.now ≡ self.now.places }
+    {
+        self.parts.as_slice()
+    }
+
     /// The ranges of the parts, in address order. They are the plan's.
     pub fn ranges(&self) -> &[Range<u64>]
         ensures { result.now ≡ map place_range self.now.places }
     {
         self.ranges.as_slice()
+    }
+}
+
+/// The protocol, the registers and the ranges. By hand: a derive would ask it of the allocator too.
+impl<A: Allocator> fmt::Debug for Handoff<A> {
+    fn fmt<W: fmt::Write>(&self, f: &mut fmt::Formatter<W>) -> fmt::Result {
+        f.debug_struct("Handoff")
+            .field("protocol", &self.protocol)
+            .field("registers", &self.registers)
+            .field("ranges", &self.ranges())
+            .finish()
     }
 }

@@ -14,6 +14,7 @@ mod lines;
 mod linux;
 mod loading;
 mod multiboot2;
+mod named_register;
 mod parts;
 mod placing;
 mod plan;
@@ -21,6 +22,7 @@ mod preparing;
 mod protocols;
 mod reading;
 mod refusal;
+mod register_text;
 mod registers;
 mod registers64;
 mod segment_laws;
@@ -35,6 +37,7 @@ pub use laws::{
     parts_are_apart_and_usable,
 };
 pub use loading::load;
+pub use named_register::NamedRegister;
 pub use plan::{Content, Plan, PlannedPart};
 pub use preparing::prepare;
 pub use protocols::descriptors_of;

@@ -121,6 +121,18 @@ pub enum PrepFault {
     NoMemory,
 }
 
+impl PrepFault {
+    /// The number of the refusal, 1 to 30, or 41 when memory ran out, as of a boot.
+    pub fn number(self) -> u32
+        ensures { result ≡ numbers.prep_fault_number self }
+    {
+        match self {
+            PrepFault::Refused(refusal) => refusal.number(),
+            PrepFault::NoMemory => 41,
+        }
+    }
+}
+
 impl From<Refusal> for PrepFault {
     ghost from_gives = { λ refusal fault. fault ≡ Refused refusal };
 

@@ -11,3 +11,4 @@ pub mod OneListLaws
 pub mod PlaceLaws
 pub mod DecidedLemmas
 pub mod TotalLaws
+pub mod UnusableLemmas

@@ -6,3 +6,4 @@ pub mod Permitted
 pub mod Planned
 pub mod Placed
 pub mod Kept
+pub mod Unusable

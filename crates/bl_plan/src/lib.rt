@@ -12,6 +12,7 @@ mod planner;
 mod protocol;
 mod rounding;
 mod search;
+mod unusable;
 
 pub use fault::PlanFault;
 pub use laws::{
@@ -23,3 +24,4 @@ pub use part::{Choice, Place, Role, Row, Side};
 pub use placing::place_rows;
 pub use planner::Planner;
 pub use protocol::Protocol;
+pub use unusable::first_unusable;

@@ -24,7 +24,7 @@ pub fn say_said(row: &mut Row<'_>, before: &str, said: &[u8]) {
 }
 
 /// A status, and what was said.
-fn say_status(row: &mut Row<'_>, status: u8, said: &[u8]) {
+pub fn say_status(row: &mut Row<'_>, status: u8, said: &[u8]) {
     row.say_decimal("status ", status as u64);
     if status == 4 {
         row.say(", no memory");

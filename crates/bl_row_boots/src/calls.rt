@@ -1,6 +1,6 @@
 //! The calls on whole boots, walks and conversions, by their names.
 
-use crate::{boot, convert, walk_to};
+use crate::{boot, convert, explain, walk_to};
 use bl_rows::row::Row;
 
 /// Makes a call of this name, whose words are left in the row, if it is one of these; and answers
@@ -24,6 +24,7 @@ pub fn make_over(row: &mut Row<'_>, name: &str) -> bool {
         "boot" => boot::answer_boot(row),
         "boots" => boot::answer_boots(row),
         "map" => boot::answer_map(row),
+        "explain" => explain::answer(row),
         _ => return false,
     }
     true

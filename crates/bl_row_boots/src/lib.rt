@@ -6,6 +6,7 @@ mod boot;
 pub mod calls;
 mod conversion;
 mod convert;
+mod explain;
 mod long_files;
 mod sink;
 mod walk_to;

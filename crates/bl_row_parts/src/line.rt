@@ -3,6 +3,13 @@
 use bl_line::{Job, LineFault, Order, read_line};
 use bl_rows::row::Row;
 
+fn say_order(row: &mut Row<'_>, order: Order) {
+    row.say(match order {
+        Order::Forward => " forward",
+        Order::Reverse => " reverse",
+    });
+}
+
 fn say_job(row: &mut Row<'_>, job: Job<'_>) {
     match job {
         Job::Boot {
@@ -14,10 +21,7 @@ fn say_job(row: &mut Row<'_>, job: Job<'_>) {
             row.say(description);
             row.say(" to ");
             row.say(image);
-            row.say(match order {
-                Order::Forward => " forward",
-                Order::Reverse => " reverse",
-            });
+            say_order(row, order);
         }
         Job::Map { description } => {
             row.say("map ");
@@ -32,6 +36,11 @@ fn say_job(row: &mut Row<'_>, job: Job<'_>) {
             row.say(image);
             row.say(" to ");
             row.say(new);
+        }
+        Job::Explain { description, order } => {
+            row.say("explain ");
+            row.say(description);
+            say_order(row, order);
         }
     }
 }

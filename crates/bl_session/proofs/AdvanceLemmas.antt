@@ -76,16 +76,6 @@ begins_unless facts next entry rest earlier bytes later (attempt.Ended (ended.Re
     subst (λ (x : Refusal). next (earlier ++ record { entry = entry; refusal = x } ∷ []) later) is
     leads
 
--- an attempt was begun with the sizes that a slice has
-pub begun_by : {A : Type 0} (facts : MachineFacts) (entry : EntryFacts) (now sizes : List (Option ℕ))
-    (bytes : List ℕ) (one : Attempt A) → now ≡ sizes
-    → IsAttemptBegun facts entry (map (λ file. get_or now file None) entry.files) bytes one
-    → IsAttemptBegun facts entry (map (λ file. get_or sizes file None) entry.files) bytes one
-begun_by facts entry now sizes bytes one same begun =
-    subst
-    (λ (s : List (Option ℕ)).
-    IsAttemptBegun facts entry (map (λ file. get_or s file None) entry.files) bytes one) same begun
-
 -- the attempt of a number
 pub begins_at : {A : Type 0} (facts : BootFacts) (next entry : ℕ) (offered : EntryFacts)
     (earlier : List RefusedEntry) (bytes : List ℕ) (later : State) (got one : Attempt A)

@@ -35,7 +35,7 @@ IsFresh facts sizes stage =
     (frames : List ℕ) × (stage ≡ empty_stage facts.pool (known_lengths sizes) frames)
 
 abbrev pub facts_of_boot : {A : Type 0} → Boot A → BootFacts
-facts_of_boot boot = boot_facts boot.machine.now boot.menu.now boot.sizes.items
+facts_of_boot boot = boot_facts boot.machine.now boot.menu.now boot.sizes.now
 
 -- the states of its phases
 abbrev pub state_in : {A : Type 0} → Boot A → (bytes : List ℕ) → Phase A → State

@@ -51,7 +51,7 @@ pub fn begin<M: PhysMem, A: Allocator + Copy>(
             boot.alloc,
             boot.machine,
             boot.menu.entry(entry),
-            &boot.sizes,
+            boot.sizes,
             memory,
         )? {
             Attempt::Waits(stage) => {

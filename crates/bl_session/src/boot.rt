@@ -3,11 +3,12 @@ use crate::menu::Menu;
 use bl_map::Machine;
 use std::alloc::Allocator;
 
-/// A boot: its machine, its menu, the sizes of the menu's files, and where its lists are allocated.
+/// A boot for one call: its machine, its menu, the sizes of the menu's files, and where its lists
+/// are allocated.
 #[derive(Drop)]
 pub struct Boot<'a, A: Allocator + Copy> {
     pub alloc: A,
     pub machine: &'a Machine<A>,
     pub menu: &'a Menu<A>,
-    pub sizes: Vec<Option<u64>, A>,
+    pub sizes: &'a [Option<u64>],
 }

@@ -3,16 +3,20 @@
 
 mod attempt;
 mod attempts;
+mod awaited;
 mod boot;
+mod ends;
 mod events;
 mod fetched;
 mod file_store;
+mod frames;
 mod handing_over;
 mod history;
 mod laws;
 mod ledger;
 mod menu;
 mod orders;
+mod owned_session;
 mod pending;
 mod phase;
 mod picks;
@@ -36,6 +40,7 @@ mod words;
 pub use bl_plan::{MAX_ENTRIES, MAX_MODULES};
 pub use fetched::Fetched;
 pub use file_store::FileStore;
+pub use frames::frames_for;
 pub use handing_over::finish;
 pub use history::History;
 pub use laws::{
@@ -44,6 +49,7 @@ pub use laws::{
 };
 pub use ledger::Ledger;
 pub use menu::{Menu, MenuFault, order_attempts};
+pub use owned_session::OwnedSession;
 pub use queue::Order;
 pub use run_laws::{
     faithful_stores_boot_by_their_files, marked_histories_are_genuine,

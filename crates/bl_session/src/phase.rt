@@ -2,6 +2,7 @@
 ghost use Rattle.std.specs.Prelude.{◌≡◌, ℕ, List};
 ghost use Rattle.bl_session.specs.Boot.{attempt_of};
 ghost use Rattle.bl_session.specs.Boot as boot;
+ghost use Rattle.bl_session.specs.Phases.{phase_facts, is_waiting};
 ghost use Rattle.bl_session.specs.PhasesKept.{state_of, IsPhaseKept};
 
 use crate::menu::Menu;
@@ -27,6 +28,18 @@ pub enum Phase<A: Allocator> {
     Waits(Running<A>),
     HandedOver(Outcome<A>),
     Failed(BootFault<A>),
+}
+
+/// Whether an attempt waits for pieces.
+pub fn awaits_pieces<A: Allocator>(phase: &Phase<A>) -> bool
+    ensures { (attempts : List ℕ) → result ≡ is_waiting (phase_facts attempts phase.now) }
+{
+    match phase {
+        Phase::Waits(_) => true,
+        Phase::Unstarted => false,
+        Phase::HandedOver(_) => false,
+        Phase::Failed(_) => false,
+    }
 }
 
 /// The number of the attempt of a phase.

@@ -6,9 +6,8 @@ ghost use Rattle.bl_session.specs.Phases.{state_at, is_waiting};
 ghost use Rattle.bl_session.specs.Requests.{first_request, request_after};
 ghost use Rattle.bl_session.specs.Turns.{IsAsked, missing_in};
 
-use crate::orders::submit_files;
-use crate::phase::Phase;
-use crate::pieces::{first_missing, missing_piece, next_missing, request_of};
+use crate::boot::Boot;
+use crate::phase::awaits_pieces;
 use crate::session::Session;
 use crate::store::Store;
 use crate::words::{Request, Ticket};
@@ -19,12 +18,7 @@ impl<'a, A: Allocator + Copy> Session<'a, A> {
     pub fn is_waiting(&self) -> bool
         ensures { result ≡ is_waiting self.now.phase }
     {
-        match &self.phase {
-            Phase::Waits(_) => true,
-            Phase::Unstarted => false,
-            Phase::HandedOver(_) => false,
-            Phase::Failed(_) => false,
-        }
+        awaits_pieces(&self.phase)
     }
 
     /// Asks for each piece of the attempt that waits.
@@ -37,15 +31,13 @@ impl<'a, A: Allocator + Copy> Session<'a, A> {
             (S.given store.old) (S.given store.new)) }
         ensures files { S.files store.new ≡ S.files store.old }
     {
-        match &self.phase {
-            Phase::Waits(waiting) => {
-                // what this ensures says that the number is small
-                self.boot.menu.attempts();
-                let entry = self.boot.menu.entry(waiting.entry);
-                submit_files(store, waiting.earlier.len() as u32, entry, &waiting.stage)
-            }
-            _ => unreachable!(),
-        }
+        let boot = Boot {
+            alloc: self.alloc,
+            machine: self.machine,
+            menu: self.menu,
+            sizes: &self.sizes,
+        };
+        boot.submit(&self.phase, store)
     }
 
     /// The first piece that the attempt awaits: files ascending, and in each of them pieces
@@ -54,18 +46,13 @@ impl<'a, A: Allocator + Copy> Session<'a, A> {
         ensures { (bytes : List ℕ)
             → result ≡ first_request self.now.boot (state_at bytes self.now.phase) }
     {
-        match &self.phase {
-            Phase::Waits(waiting) => {
-                // what these ensure says that the numbers are small
-                self.boot.menu.attempts();
-                let entry = self.boot.menu.entry(waiting.entry);
-                let found = first_missing(waiting.earlier.len() as u32, &waiting.stage);
-                request_of(entry, &waiting.stage, found)
-            }
-            Phase::Unstarted => None,
-            Phase::HandedOver(_) => None,
-            Phase::Failed(_) => None,
-        }
+        let boot = Boot {
+            alloc: self.alloc,
+            machine: self.machine,
+            menu: self.menu,
+            sizes: &self.sizes,
+        };
+        boot.missing(&self.phase)
     }
 
     /// The first piece that the attempt awaits after that of a ticket, of whatever attempt.
@@ -73,18 +60,13 @@ impl<'a, A: Allocator + Copy> Session<'a, A> {
         ensures { (bytes : List ℕ)
             → result ≡ request_after self.now.boot (state_at bytes self.now.phase) ticket }
     {
-        match &self.phase {
-            Phase::Waits(waiting) => {
-                // what these ensure says that the numbers are small
-                self.boot.menu.attempts();
-                let entry = self.boot.menu.entry(waiting.entry);
-                let found = next_missing(waiting.earlier.len() as u32, &waiting.stage, ticket);
-                request_of(entry, &waiting.stage, found)
-            }
-            Phase::Unstarted => None,
-            Phase::HandedOver(_) => None,
-            Phase::Failed(_) => None,
-        }
+        let boot = Boot {
+            alloc: self.alloc,
+            machine: self.machine,
+            menu: self.menu,
+            sizes: &self.sizes,
+        };
+        boot.missing_after(&self.phase, ticket)
     }
 
     /// The ticket of the first piece that the attempt awaits.
@@ -92,14 +74,12 @@ impl<'a, A: Allocator + Copy> Session<'a, A> {
         requires { is_waiting self.now.phase ≡ true }
         ensures { (bytes : List ℕ) → missing_in (state_at bytes self.now.phase) ≡ Some result }
     {
-        match &self.phase {
-            Phase::Waits(waiting) => {
-                // what these ensure says that the numbers are small
-                self.boot.menu.attempts();
-                self.boot.menu.entry(waiting.entry);
-                missing_piece(waiting.earlier.len() as u32, &waiting.stage)
-            }
-            _ => unreachable!(),
-        }
+        let boot = Boot {
+            alloc: self.alloc,
+            machine: self.machine,
+            menu: self.menu,
+            sizes: &self.sizes,
+        };
+        boot.lost_ticket(&self.phase)
     }
 }

@@ -9,8 +9,9 @@ ghost use Rattle.bl_session.specs.Phases.{phase_facts, end_facts, told, not_star
 ghost use Rattle.bl_session.specs.Run.{boot_end};
 
 use crate::boot::Boot;
+use crate::ends::{end_of, into_end};
 use crate::menu::Menu;
-use crate::phase::{Phase, number_of, progress_of};
+use crate::phase::Phase;
 use crate::steps::{advance, begin_first};
 use crate::words::{BootFault, Event, Outcome, Progress};
 use bl_map::Machine;
@@ -22,22 +23,25 @@ use std::marker::Model;
 /// its calls is handed.
 #[derive(Drop)]
 pub struct Session<'a, A: Allocator + Copy> {
-    pub(crate) boot: Boot<'a, A>,
+    pub(crate) alloc: A,
+    pub(crate) machine: &'a Machine<A>,
+    pub(crate) menu: &'a Menu<A>,
+    pub(crate) sizes: Vec<Option<u64>, A>,
     pub(crate) phase: Phase<A>,
 }
 
 impl<'a, A: Allocator + Copy> Model for Session<'a, A> {
-    ghost use Rattle.bl_session.specs.Phases.{SessionFacts, phase_facts};
-    ghost use Rattle.bl_session.specs.PhasesKept.{IsPhaseKept, facts_of_boot};
+    ghost use Rattle.bl_session.specs.Phases.{SessionFacts, boot_facts, phase_facts};
+    ghost use Rattle.bl_session.specs.PhasesKept.{IsPhaseKept};
 
     ghost Value = { SessionFacts };
 
     ghost view = { λ s. record {
-      boot = facts_of_boot s.boot;
-      phase = phase_facts s.boot.menu.now.attempts s.phase;
+      boot = boot_facts s.machine.now s.menu.now s.sizes.items;
+      phase = phase_facts s.menu.now.attempts s.phase;
     } };
 
-    ghost invariant = { λ s. IsPhaseKept s.boot.machine.now s.boot.menu.now s.phase };
+    ghost invariant = { λ s. IsPhaseKept s.machine.now s.menu.now s.phase };
 }
 
 impl<'a, A: Allocator + Copy> Session<'a, A> {
@@ -55,12 +59,10 @@ impl<'a, A: Allocator + Copy> Session<'a, A> {
         }) }
     {
         Ok(Session {
-            boot: Boot {
-                alloc,
-                machine,
-                menu,
-                sizes: Vec::from_slice(alloc, sizes)?,
-            },
+            alloc,
+            machine,
+            menu,
+            sizes: Vec::from_slice(alloc, sizes)?,
             phase: Phase::Unstarted,
         })
     }
@@ -89,9 +91,13 @@ impl<'a, A: Allocator + Copy> Session<'a, A> {
             self.old.boot.machine.pool.start self.old.boot.machine.pool.end }
         ensures kept { KeepsMemory M.lender M.bytes M.room memory.old memory.new }
     {
-        let attempt = number_of(&self.phase);
-        begin_first(&self.boot, memory, &mut self.phase);
-        progress_of(self.boot.machine, self.boot.menu, attempt, &self.phase)
+        let boot = Boot {
+            alloc: self.alloc,
+            machine: self.machine,
+            menu: self.menu,
+            sizes: &self.sizes,
+        };
+        begin_first(&boot, memory, &mut self.phase)
     }
 
     /// Takes one event. One that is not wanted changes nothing: before the start, after the end, of
@@ -119,9 +125,13 @@ impl<'a, A: Allocator + Copy> Session<'a, A> {
             self.old.boot.machine.pool.start self.old.boot.machine.pool.end }
         ensures kept { KeepsMemory M.lender M.bytes M.room memory.old memory.new }
     {
-        let attempt = number_of(&self.phase);
-        advance(&self.boot, memory, &mut self.phase, event);
-        progress_of(self.boot.machine, self.boot.menu, attempt, &self.phase)
+        let boot = Boot {
+            alloc: self.alloc,
+            machine: self.machine,
+            menu: self.menu,
+            sizes: &self.sizes,
+        };
+        advance(&boot, memory, &mut self.phase, event)
     }
 
     /// The end, once there is one.
@@ -130,12 +140,7 @@ impl<'a, A: Allocator + Copy> Session<'a, A> {
         ensures inside { IfSome result (λ end. IfOk end (λ outcome.
             LiesWithin self.now.boot.machine.size outcome.now.handoff)) }
     {
-        match &self.phase {
-            Phase::HandedOver(outcome) => Some(Ok(outcome)),
-            Phase::Failed(fault) => Some(Err(fault)),
-            Phase::Unstarted => None,
-            Phase::Waits(_) => None,
-        }
+        end_of(&self.phase)
     }
 
     /// The end, once there is one, for good.
@@ -145,11 +150,6 @@ impl<'a, A: Allocator + Copy> Session<'a, A> {
             LiesWithin self.entry.boot.machine.size outcome.handoff)) }
     {
         let Session { phase, .. } = self;
-        match phase {
-            Phase::HandedOver(outcome) => Some(Ok(outcome)),
-            Phase::Failed(fault) => Some(Err(fault)),
-            Phase::Unstarted => None,
-            Phase::Waits(_) => None,
-        }
+        into_end(phase)
     }
 }

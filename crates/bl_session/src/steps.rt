@@ -2,7 +2,8 @@
 ghost use Rattle.std.specs.Prelude.{◌≡◌, ◌≢◌, [], true, IfOk, OnErr, OnOk, MatchBool, length};
 ghost use Rattle.bl_mem.specs.Memory.{HasRoom, KeepsMemory};
 ghost use Rattle.bl_stage.specs.Ranges.{IsSameOutside};
-ghost use Rattle.bl_session.specs.Boot.{is_taken, Begins, StepsOrFails, StartsOrFails};
+ghost use Rattle.bl_session.specs.Boot.{is_taken, attempt_of, Begins, StepsOrFails, StartsOrFails};
+ghost use Rattle.bl_session.specs.Boot as boot_specs;
 ghost use Rattle.bl_session.specs.Memory.{IsMemoryIn};
 ghost use Rattle.bl_session.specs.Phases.{event_facts, phase_facts};
 ghost use Rattle.bl_session.specs.Phases.{is_waiting, not_started};
@@ -11,8 +12,8 @@ ghost use Rattle.bl_session.specs.PhasesKept.{facts_of_boot, state_in, IsPhaseKe
 use crate::attempts::begin;
 use crate::boot::Boot;
 use crate::events::take;
-use crate::phase::Phase;
-use crate::words::{BootFault, Event};
+use crate::phase::{Phase, number_of, progress_of};
+use crate::words::{BootFault, Event, Progress};
 use bl_map::Machine;
 use bl_mem::PhysMem;
 use std::alloc::{AllocError, Allocator};
@@ -23,7 +24,7 @@ pub fn advance<M: PhysMem, A: Allocator + Copy>(
     memory: &mut M,
     phase: &mut Phase<A>,
     event: Event,
-)
+) -> Progress
     requires standing { IsPhaseKept boot.now.machine.now boot.now.menu.now phase.old }
     requires size { length (M.bytes memory.old) ≡ boot.now.machine.now.size }
     requires room { is_waiting (phase_facts boot.now.menu.now.attempts phase.old) ≡ true
@@ -31,6 +32,9 @@ pub fn advance<M: PhysMem, A: Allocator + Copy>(
         boot.now.machine.now.pool.start boot.now.machine.now.pool.end }
     ensures step { StepsOrFails (facts_of_boot boot.now)
         (state_in boot.now (M.bytes memory.old) phase.old) (event_facts event.entry)
+        (state_in boot.now (M.bytes memory.new) phase.new) }
+    ensures progress { result ≡ boot_specs.progress
+        (attempt_of (state_in boot.now (M.bytes memory.old) phase.old))
         (state_in boot.now (M.bytes memory.new) phase.new) }
     ensures memory { MatchBool
         (is_taken (state_in boot.now (M.bytes memory.old) phase.old)
@@ -41,6 +45,7 @@ pub fn advance<M: PhysMem, A: Allocator + Copy>(
     ensures stands { IsPhaseKept boot.now.machine.now boot.now.menu.now phase.new }
     ensures kept { KeepsMemory M.lender M.bytes M.room memory.old memory.new }
 {
+    let attempt = number_of(phase);
     let ended = match phase {
         Phase::Waits(running) => take(boot, memory, running, event),
         Phase::Unstarted => Ok(None),
@@ -52,6 +57,7 @@ pub fn advance<M: PhysMem, A: Allocator + Copy>(
         Ok(Some(next)) => *phase = next,
         Err(_) => *phase = Phase::Failed(BootFault::NoMemory),
     }
+    progress_of(boot.machine, boot.menu, attempt, phase)
 }
 
 /// Gives room to the pool.
@@ -101,11 +107,14 @@ pub fn begin_first<M: PhysMem, A: Allocator + Copy>(
     boot: &Boot<A>,
     memory: &mut M,
     phase: &mut Phase<A>,
-)
+) -> Progress
     requires standing { IsPhaseKept boot.now.machine.now boot.now.menu.now phase.old }
     requires size { length (M.bytes memory.old) ≡ boot.now.machine.now.size }
     ensures step { StartsOrFails (facts_of_boot boot.now)
         (state_in boot.now (M.bytes memory.old) phase.old)
+        (state_in boot.now (M.bytes memory.new) phase.new) }
+    ensures progress { result ≡ boot_specs.progress
+        (attempt_of (state_in boot.now (M.bytes memory.old) phase.old))
         (state_in boot.now (M.bytes memory.new) phase.new) }
     ensures memory { phase_facts boot.now.menu.now.attempts phase.old ≡ not_started
         → IsMemoryIn boot.now.machine.now.pool (state_in boot.now (M.bytes memory.new) phase.new)
@@ -119,10 +128,12 @@ pub fn begin_first<M: PhysMem, A: Allocator + Copy>(
     ensures stands { IsPhaseKept boot.now.machine.now boot.now.menu.now phase.new }
     ensures kept { KeepsMemory M.lender M.bytes M.room memory.old memory.new }
 {
+    let attempt = number_of(phase);
     if let Phase::Unstarted = phase {
         *phase = match begin_all(boot, memory) {
             Ok(first) => first,
             Err(_) => Phase::Failed(BootFault::NoMemory),
         };
     }
+    progress_of(boot.machine, boot.menu, attempt, phase)
 }

@@ -3,6 +3,8 @@ ghost use Rattle.std.specs.Prelude.{◌≡◌};
 
 use bl_load::{Handoff, Refusal};
 use std::alloc::Allocator;
+use std::error::Error;
+use std::fmt;
 
 /// Names a piece: the attempt's number, the file's place in its entry (the kernel 0), the piece's
 /// index in the file. All count from 0.
@@ -23,7 +25,7 @@ pub struct Request {
 }
 
 /// What happens at once: one piece came, or a fault in its place.
-#[derive(Clone, Copy)]
+#[derive(Clone, Copy, Debug)]
 pub enum Event<'a> {
     Piece(Ticket, &'a [u8]),
     Fault(Ticket),
@@ -49,12 +51,31 @@ pub struct RefusedEntry {
     pub refusal: Refusal,
 }
 
+/// As `entry 0: not an ELF file`.
+impl fmt::Display for RefusedEntry {
+    fn fmt<W: fmt::Write>(&self, f: &mut fmt::Formatter<W>) -> fmt::Result {
+        let RefusedEntry { entry, refusal } = *self;
+        write!(f, "entry {entry}: {refusal}")
+    }
+}
+
 /// The entry that is handed over, by its index in the menu, with the refusals before it, in order.
 #[derive(Drop)]
 pub struct Outcome<A: Allocator> {
     pub entry: u32,
     pub refused: Vec<RefusedEntry, A>,
     pub handoff: Handoff<A>,
+}
+
+/// By hand, as of `BootFault`: a derive would ask it of the allocator too.
+impl<A: Allocator> fmt::Debug for Outcome<A> {
+    fn fmt<W: fmt::Write>(&self, f: &mut fmt::Formatter<W>) -> fmt::Result {
+        f.debug_struct("Outcome")
+            .field("entry", &self.entry)
+            .field("refused", &self.refused.as_slice())
+            .field("handoff", &self.handoff)
+            .finish()
+    }
 }
 
 /// Why nothing is handed over.
@@ -79,3 +100,32 @@ impl<A: Allocator> BootFault<A> {
         }
     }
 }
+
+impl<A: Allocator> fmt::Debug for BootFault<A> {
+    fn fmt<W: fmt::Write>(&self, f: &mut fmt::Formatter<W>) -> fmt::Result {
+        match self {
+            BootFault::NoEntryLeft(refused) => f
+                .debug_tuple("NoEntryLeft")
+                .field(&refused.as_slice())
+                .finish(),
+            BootFault::NoMemory => f.write_str("NoMemory"),
+        }
+    }
+}
+
+/// As `no entry is left` or `no memory`; each refusal prints by itself.
+impl<A: Allocator> fmt::Display for BootFault<A> {
+    ghost use Rattle.std.specs.Prelude.{Some};
+    ghost use Rattle.bl_session.specs.Phases.{boot_fault_text};
+
+    ghost output = { λ fault. Some (boot_fault_text fault) };
+
+    fn fmt<W: fmt::Write>(&self, f: &mut fmt::Formatter<W>) -> fmt::Result {
+        match self {
+            BootFault::NoEntryLeft(_) => f.write_str("no entry is left"),
+            BootFault::NoMemory => f.write_str("no memory"),
+        }
+    }
+}
+
+impl<A: Allocator> Error for BootFault<A> {}

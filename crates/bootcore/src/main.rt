@@ -5,10 +5,13 @@
 ghost use Rattle.std.specs.Prelude.{◌≡◌, ◌⊎◌, ◌≤◌};
 
 mod image_file;
+mod image_jobs;
 mod path_files;
 mod program;
 
-pub use bl_boot::{AskedNames, FILE_LIMIT, Fetched, Files, MemFiles, boot, map_to, walk_to};
+pub use bl_boot::{
+    AskedNames, FILE_LIMIT, Fetched, Files, MemFiles, boot, explain_to, map_to, walk_to,
+};
 pub use bl_line::{Job, LineFault, Order, read_line};
 pub use image_file::ImageFile;
 pub use path_files::{PathFiles, read_file};

@@ -3,24 +3,26 @@ ghost use Rattle.std.specs.Prelude.{◌≡◌, ◌⊎◌, ◌≤◌, option_map,
 ghost use Rattle.bootcore.specs.Statuses as statuses;
 
 use crate::image_file::ImageFile;
+use crate::image_jobs::{convert_path, walk_path};
 use crate::path_files::{PathFiles, read_file};
-use bl_boot::{Fetched, boot, convert, map_to, walk_to};
-use bl_image::IoSource;
+use bl_boot::{Fetched, boot, explain_to, map_to};
 use bl_line::{Job, LineFault, Order, read_line};
 use bl_mem::Bytes;
 use std::alloc::Global;
+use std::io;
 use std::io::Write;
-use std::{fs, io, rt};
 
 const USAGE: &str = "\
+bootcore 1.0
 usage: bootcore boot DESC --out IMAGE [--order forward|reverse]
        bootcore map DESC
        bootcore walk IMAGE
        bootcore convert IMAGE --out NEW
+       bootcore explain DESC [--order forward|reverse]
 ";
 
 /// Writes to standard output, whose faults are not told.
-fn tell(rt: &HostRuntime, text: &[u8]) {
+pub fn tell(rt: &HostRuntime, text: &[u8]) {
     let mut out = rt.stdout();
     let _ = out.write_all(text);
     let _ = out.flush();
@@ -84,6 +86,28 @@ fn boot_path(rt: &HostRuntime, path: &str, image: &str, order: Order) -> u8
     status
 }
 
+/// Tells the boot of the description at a path for a person.
+fn explain_path(rt: &HostRuntime, path: &str, order: Order) -> u8
+    ensures { result ≤ 4 }
+{
+    let desc = match read_desc(rt, path) {
+        Ok(desc) => desc,
+        Err(status) => return status,
+    };
+    let mut files = PathFiles::new(rt);
+    let mut say = Vec::new(rt.alloc());
+    let status = explain_to(
+        rt.alloc(),
+        rt.alloc(),
+        desc.as_slice(),
+        &mut files,
+        order,
+        &mut say,
+    );
+    tell(rt, &say);
+    status
+}
+
 /// Says the map of the description at a path.
 fn map_path(rt: &HostRuntime, path: &str) -> u8
     ensures { result ≤ 4 }
@@ -96,67 +120,6 @@ fn map_path(rt: &HostRuntime, path: &str) -> u8
     let status = map_to(rt.alloc(), rt.alloc(), desc.as_slice(), &mut say);
     tell(rt, &say);
     status
-}
-
-/// Opens the regular file at a path, or answers the status where there is none that can be opened.
-fn open_image<R: rt::Files>(rt: &R, path: &str) -> Result<R::File, u8>
-    ensures { IfErr result (λ status. (status ≡ 3) ⊎ (status ≡ 4)) }
-{
-    match fs::metadata(rt, path) {
-        Ok(metadata) if metadata.is_file() => {}
-        Err(error) if error.kind() == io::ErrorKind::OutOfMemory => return Err(4),
-        _ => return Err(3),
-    }
-    match fs::open(rt, path) {
-        Ok(file) => Ok(file),
-        Err(error) if error.kind() == io::ErrorKind::OutOfMemory => Err(4),
-        Err(_) => Err(3),
-    }
-}
-
-/// Says on standard error what is wrong with an image, where the status is 2, or what the status
-/// means, and answers it.
-fn tell_blame(rt: &HostRuntime, status: u8, blame: &[u8]) -> u8
-    ensures { result ≡ status }
-{
-    if status != 2 {
-        return tell_status(rt, status);
-    }
-    let mut err = rt.stderr();
-    let _ = err.write_all(blame);
-    status
-}
-
-/// Says what a kernel sees in the image at a path, or what is wrong with it.
-fn walk_path(rt: &HostRuntime, path: &str) -> u8
-    ensures { result ≤ 4 }
-{
-    let file = match open_image(rt, path) {
-        Ok(file) => file,
-        Err(status) => return tell_status(rt, status),
-    };
-    let mut source = IoSource::new(file);
-    let mut say = Vec::new(rt.alloc());
-    let mut blame = Vec::new(rt.alloc());
-    let status = walk_to(rt.alloc(), &mut source, &mut say, &mut blame);
-    tell(rt, &say);
-    tell_blame(rt, status, &blame)
-}
-
-/// Writes the image at a path to another, in the version that is written, or says what is wrong
-/// with it.
-fn convert_path(rt: &HostRuntime, path: &str, new: &str) -> u8
-    ensures { result ≤ 4 }
-{
-    let file = match open_image(rt, path) {
-        Ok(file) => file,
-        Err(status) => return tell_status(rt, status),
-    };
-    let mut source = IoSource::new(file);
-    let mut out = ImageFile::new(rt, new);
-    let mut blame = Vec::new(rt.alloc());
-    let status = convert(rt.alloc(), &mut source, &mut out, &mut blame);
-    tell_blame(rt, status, &blame)
 }
 
 /// Does what a command line asks for, and answers the program's status.
@@ -174,6 +137,9 @@ pub fn run_line(rt: &HostRuntime, words: &[&str]) -> u8
         Ok(Job::Map { description }) => tell_status(rt, map_path(rt, description)),
         Ok(Job::Walk { image }) => walk_path(rt, image),
         Ok(Job::Convert { image, new }) => convert_path(rt, image, new),
+        Ok(Job::Explain { description, order }) => {
+            tell_status(rt, explain_path(rt, description, order))
+        }
         Err(LineFault::Help) => {
             tell(rt, USAGE.as_bytes());
             0

@@ -16,7 +16,7 @@ use bl_session::{BootFault, FileStore, run};
 use std::alloc::Allocator;
 
 /// The title of an entry, by its index; none if there is no such entry.
-fn title_of<A: Allocator>(description: &Description<A>, entry: u32) -> &str
+pub fn title_of<A: Allocator>(description: &Description<A>, entry: u32) -> &str
     ensures { result.now ≡ (entry_of (view description.now) entry).title }
 {
     match description.entries.get(entry as usize) {

@@ -26,7 +26,7 @@ use bl_session::FileStore;
 use std::alloc::{Allocator, Global};
 
 /// The order of pieces that is named on the command line, as a store takes it.
-fn order_of(order: Order) -> session::Order {
+pub fn order_of(order: Order) -> session::Order {
     match order {
         Order::Forward => session::Order::Forward,
         Order::Reverse => session::Order::Reverse,

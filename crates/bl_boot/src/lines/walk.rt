@@ -29,7 +29,7 @@ fn say_text<A: Allocator + Copy>(out: &mut Vec<u8, A>, text: &[u8]) -> Result<()
     out.extend_from_slice(word.as_bytes())
 }
 
-fn say_protocol<A: Allocator + Copy>(
+pub(crate) fn say_protocol<A: Allocator + Copy>(
     out: &mut Vec<u8, A>,
     protocol: Protocol,
 ) -> Result<(), AllocError>

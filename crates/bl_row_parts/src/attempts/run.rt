@@ -1,6 +1,6 @@
 //! `run MENU ..`: a whole boot over a store, on the last machine.
 
-use crate::attempts::boot_fields::{BootFields, read_fields};
+use crate::attempts::boot_fields::{BootFields, FileField, read_fields};
 use crate::attempts::building::Plan;
 use crate::attempts::dry_store::DryStore;
 use crate::attempts::end::{parts_of, say_end};
@@ -9,7 +9,7 @@ use crate::attempts::store_fields::StoreKind;
 use bl_mem::{PhysMem, Sparse};
 use bl_refusing::Refusing;
 use bl_rows::row::Row;
-use bl_session::{FileStore, Order, ScriptStore, Store, run};
+use bl_session::{FileStore, Order, ScriptStore, SliceStore, Store, run};
 use std::alloc::AllocError;
 
 /// Boots over the heap, and says what memory outside holds then, and what it ended in.
@@ -84,6 +84,32 @@ fn say_script<'h>(
     Ok(())
 }
 
+/// The files as slices. One that is longer than a file may be has no bytes in a row: it is refused.
+fn slices_of<'f>(row: &mut Row<'_>, files: &'f [FileField]) -> Vec<Option<&'f [u8]>> {
+    let mut slices = Vec::new(row.alloc);
+    for file in files {
+        match file {
+            FileField::Missing => row.keep(&mut slices, None),
+            FileField::Long => row.refuse(),
+            FileField::Whole(bytes) => row.keep(&mut slices, Some(bytes.as_slice())),
+        }
+    }
+    slices
+}
+
+/// Boots with a store over slices.
+fn say_slices<'h>(
+    row: &mut Row<'_>,
+    heap: &'h Refusing,
+    plan: &Plan<'h>,
+    fields: &BootFields,
+    order: Order,
+) {
+    let slices = slices_of(row, fields.files.as_slice());
+    let store = SliceStore::new(heap, slices.as_slice(), order);
+    let _sizes = say_run_upto(row, heap, plan, store, fields.store.answers);
+}
+
 /// Boots over the heap. The machine, the menu and the files stand over another, so that their
 /// requests are not refused, and what a script says.
 fn answer_over(row: &mut Row<'_>, heap: &Refusing, fields: &BootFields) -> Result<(), AllocError> {
@@ -93,6 +119,10 @@ fn answer_over(row: &mut Row<'_>, heap: &Refusing, fields: &BootFields) -> Resul
     };
     match fields.store.kind {
         StoreKind::Script => say_script(row, heap, &beside, &plan, fields),
+        StoreKind::Slices(order) => {
+            say_slices(row, heap, &plan, fields, order);
+            Ok(())
+        }
         _ => say_files(row, heap, &beside, &plan, fields),
     }
 }

@@ -1,11 +1,12 @@
 //! What a row says of a store.
 //!
 //! `store=forward`, `reverse`, `counting` (forward, and tells how often a size was asked),
-//! `silent`, or `script`, and then `twice=A.F.P,..`, `fail=A.F.P,..`, `picks=N,N,..`. `answers=N`:
-//! the store gives so many answers, and then nothing more.
+//! `slices`, `slices_reverse` (a store over slices, the first or the last one first), `silent`, or
+//! `script`, and then `twice=A.F.P,..`, `fail=A.F.P,..`, `picks=N,N,..`. `answers=N`: the store
+//! gives so many answers, and then nothing more.
 
 use bl_rows::row::Row;
-use bl_session::Ticket;
+use bl_session::{Order, Ticket};
 
 /// How a store answers.
 #[derive(Clone, Copy)]
@@ -13,6 +14,7 @@ pub enum StoreKind {
     Forward,
     Reverse,
     Counting,
+    Slices(Order),
     Script,
 }
 
@@ -64,6 +66,8 @@ impl StoreFields {
             "forward" => self.kind = StoreKind::Forward,
             "reverse" => self.kind = StoreKind::Reverse,
             "counting" => self.kind = StoreKind::Counting,
+            "slices" => self.kind = StoreKind::Slices(Order::Forward),
+            "slices_reverse" => self.kind = StoreKind::Slices(Order::Reverse),
             "script" => self.kind = StoreKind::Script,
             "silent" => self.answers = 0,
             _ => row.refuse(),

@@ -12,11 +12,10 @@ returns c =
     arg_added _ c.in_ok-arg.field-0 _ _ _ before.app c.out_arg.ensures.rule
     c.out_arg.ensures.local c.in_ok-arg.ensures in
     let order = c.order_arg.ensures in
-    let rule = order.rule in
     record {
       local = IfOk-weaker c.arg-2.result _ _
           (λ made adds. arg_keeps_local _ made _ local order.local adds) c.arg-2.ensures;
       app = IfOk-weaker c.arg-2.result _ _
-          (λ made adds. (rule.0, rule.1, arg_added _ made _ _ _ app rule.2 order.local adds))
+          (λ made adds. arg_added _ made _ _ _ app order.rule order.local adds)
           c.arg-2.ensures;
     }

@@ -7,7 +7,7 @@ use Rattle.bl_session.specs.PhasesKept.{facts_of_boot}
 use Rattle.bl_session.specs.declared.attempt.Attempt.{Attempt}
 use Rattle.bl_session.specs.declared.attempt.Attempt.TheVariants.{Waits, Ended}
 use Rattle.bl_session.specs.declared.attempt.AttemptEnd.TheVariants.{HandedOver, Refused}
-use Rattle.bl_session.proofs.AdvanceLemmas.{begun_by, begins_at, begins_refused}
+use Rattle.bl_session.proofs.AdvanceLemmas.{begins_at, begins_refused}
 use Rattle.bl_session.proofs.KeptMemoryLemmas.{memory_on, same_on, keeps_on}
 use Rattle.bl_session.proofs.attempts.begin.Goals as goal
 
@@ -15,10 +15,7 @@ pub returns-in-Waits-clause-begun : goal.returns-in-Waits-clause-begun
 returns-in-Waits-clause-begun g c =
     let facts = facts_of_boot c.args.boot.now in
     let within : c.attempts.number < length facts.menu.attempts = search rules in
-    let begun =
-    begun_by facts.machine (facts_of c.entry.result.now) c.deref.result.now facts.sizes
-    (g.M.PhysMem.bytes c.begin_attempt.new.memory) c.in_ok-stage.field-0 c.deref.ensures.value
-    c.in_ok-stage.ensures.begun in
+    let begun = c.in_ok-stage.ensures.begun in
     c.attempts.invariant.leads _
     (begins_at facts c.attempts.number c.entry_of-entry.result (facts_of c.entry.result.now)
     c.attempts.refused.items (g.M.PhysMem.bytes c.begin_attempt.new.memory) unstarted
@@ -29,10 +26,7 @@ pub returns-in-Ended-HandedOver-clause-begun : goal.returns-in-Ended-HandedOver-
 returns-in-Ended-HandedOver-clause-begun g c =
     let facts = facts_of_boot c.args.boot.now in
     let within : c.attempts.number < length facts.menu.attempts = search rules in
-    let begun =
-    begun_by facts.machine (facts_of c.entry.result.now) c.deref.result.now facts.sizes
-    (g.M.PhysMem.bytes c.begin_attempt.new.memory) c.in_ok-stage.field-0 c.deref.ensures.value
-    c.in_ok-stage.ensures.begun in
+    let begun = c.in_ok-stage.ensures.begun in
     let is : c.in_ok-stage.field-0 ≡ Ended (HandedOver c.in-Ended-HandedOver.handoff) = cc in
     c.attempts.invariant.leads _
     (begins_at facts c.attempts.number c.entry_of-entry.result (facts_of c.entry.result.now)
@@ -68,10 +62,7 @@ attempts-preserved g c =
     let mid = bytes c.attempts.memory in
     let new = bytes c.begin_attempt.new.memory in
     let within : c.attempts.number < length facts.menu.attempts = search rules in
-    let begun =
-    begun_by facts.machine (facts_of c.entry.result.now) c.deref.result.now facts.sizes
-    (g.M.PhysMem.bytes c.begin_attempt.new.memory) c.in_ok-stage.field-0 c.deref.ensures.value
-    c.in_ok-stage.ensures.begun in
+    let begun = c.in_ok-stage.ensures.begun in
     let is : c.in_ok-stage.field-0 ≡ Ended (Refused refusal) = cc in
     record {
       number = search rules;

@@ -14,7 +14,7 @@ returns-clause-step g c =
     let old = g.M.PhysMem.bytes c.args.memory.now in
     let new = g.M.PhysMem.bytes c.refuse.new.memory in
     let wanted = sym (c.awaits_fault.ensures old) ∙ c.if-not-awaits_fault.false in
-    steps_fault (boot_facts c.args.boot.now.machine.now menu c.args.boot.now.sizes.items) w.entry
+    steps_fault (boot_facts c.args.boot.now.machine.now menu c.args.boot.now.sizes.now) w.entry
     (drop w.next menu.attempts) w.earlier.items (piece_states old w.stage) c.args.ticket
     c.refuse.result (λ ended. state_of menu.attempts new (phase_by c.refuse.new.running ended))
     wanted c.refuse.ensures.begun

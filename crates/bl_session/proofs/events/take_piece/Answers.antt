@@ -20,7 +20,7 @@ returns-then-not-is_stored-clause-step g c =
     let new = g.M.PhysMem.bytes c.put-answer.new.memory in
     let bytes = c.args.bytes.now in
     let same = c.put-answer.ensures.unchanged c.if-not-is_stored.ensures in
-    steps_unchanged (boot_facts c.args.boot.now.machine.now menu c.args.boot.now.sizes.items) w.entry
+    steps_unchanged (boot_facts c.args.boot.now.machine.now menu c.args.boot.now.sizes.now) w.entry
     (drop w.next menu.attempts) w.earlier.items old new w.stage c.put-answer.new.self
     (piece c.args.ticket bytes) same.0 same.1
     (wanted_not old w.stage w.earlier.items c.args.ticket bytes c.put-answer.result
@@ -38,7 +38,7 @@ returns-clause-step g c =
     let answer = c.put-answer.result in
     let told = c.put-answer.ensures.answer in
     let stored = c.if-not-is_stored.ensures in
-    steps_piece (boot_facts c.args.boot.now.machine.now menu c.args.boot.now.sizes.items) w.entry
+    steps_piece (boot_facts c.args.boot.now.machine.now menu c.args.boot.now.sizes.now) w.entry
     (drop w.next menu.attempts) w.earlier.items (piece_states old w.stage)
     (piece_states mid c.put-answer.new.self) ticket bytes c.settle.result
     (λ ended. state_of menu.attempts new (phase_by c.settle.new.running ended))

@@ -1,29 +1,16 @@
-use Rattle.std.proofs.Common.{arith}
-use Rattle.std.proofs.lemmas.Grind.{common_steps}
-use Rattle.bl_session.proofs.MenuLemmas.{few_files}
-use Rattle.std.proofs.Common.{◌≡◌, ◌∙◌, drop, length, rules, ap, sym}
-use Rattle.bl_session.specs.Menu.{EntryFacts, files_of, entry_at}
-use Rattle.bl_session.specs.Phases.{SessionFacts, phase_facts}
-use Rattle.bl_session.proofs.AskFileLemmas.{asked_in}
+use Rattle.std.proofs.Common.{ℕ, List, subst}
+use Rattle.std.specs.Prelude.{OnErr}
+use Rattle.bl_session.specs.History.{Item}
+use Rattle.bl_session.specs.Orders.{orders}
+use Rattle.bl_session.specs.Phases.{SessionFacts, state_at}
+use Rattle.bl_session.specs.Turns.{IsAsked}
 use Rattle.bl_session.proofs.session.Session.submit.Goals as goal
 
 pub returns-clause-err : goal.returns-clause-err
 returns-clause-err g c =
-    let w = c.in-Waits.waiting in
-    let attempts = c.self.inside.boot.menu.now.attempts in
-    let files = files_of c.entry-entry.result.now in
     let given = g.S.Store.given in
-    let number : c.len.result ≡ length w.earlier.items = search rules in
-    asked_in c.submit_files.result c.args.self.now.boot c.args.self.now.phase w.entry
-    (drop w.next attempts) w.earlier.items w.stage c.len.result files (given c.args.store.now)
-    (given c.submit_files.new.store)
-    (sym (ap (λ (s : SessionFacts). s.phase) c.self.view_is)
-    ∙ ap (phase_facts attempts) c.in-Waits.is) number
-    (ap (λ (e : EntryFacts). e.files) c.entry-entry.ensures.entry
-    ∙ ap (λ (s : SessionFacts). (entry_at s.boot.menu w.entry).files) c.self.view_is)
-    c.submit_files.ensures.err
-
-pub submit_files-requires-clause-few : goal.submit_files-requires-clause-few
-submit_files-requires-clause-few g c =
-    let few = few_files c.entry-entry.result.now c.entry-entry.ensures.limits in
-    grind (arith, common_steps, few)
+    subst
+    (λ (s : SessionFacts). OnErr c.submit.result ((bytes : List ℕ)
+    → (rest : List Item) × IsAsked (orders s.boot (state_at bytes s.phase)) rest
+    (given c.args.store.now) (given c.submit.new.store)))
+    c.self.view_is c.submit.ensures.err

@@ -1,0 +1,63 @@
+-- Why there is no menu, by what was made of its entries.
+use Rattle.std.proofs.Common.{◌≡◌, ◌∙◌, ◌+◌, ◌<◌, ℕ, List, All, length, map, ap, sym, subst}
+use Rattle.std.proofs.Common.{arith, drop, get_or, Option, None}
+use Rattle.std.specs.Option.{option_or}
+use Rattle.std.proofs.lemmas.List.{length-map, get_or-map, drop_more}
+use Rattle.bl_load.specs.declared.entry.Entry.{Entry}
+use Rattle.bl_load.specs.Value.{HasLimits, IsWithinLimits}
+use Rattle.bl_session.specs.Attempts.{IsSmall, NameEntries, HasMenuFault}
+use Rattle.bl_session.specs.Menu.{EntryFacts, facts_of}
+use Rattle.bl_session.specs.declared.menu.fault.MenuFault.{MenuFault}
+use Rattle.bl_session.specs.declared.menu.fault.MenuFault.TheVariants as menu_faults
+use Rattle.bl_abi.specs.declared.misuse.Misuse.{Misuse}
+use Rattle.bl_abi.specs.declared.records.EntryRecord.{EntryRecord}
+use Rattle.bl_abi.specs.Checks.{entry_misuse}
+use Rattle.bl_abi.specs.Given.{GivenFacts}
+use Rattle.bl_abi.specs.Boot.{entries_misuse, facts_given, menu_fault, AreFewGiven, IsMenuFault}
+use Rattle.bl_abi.specs.Boot.{too_many, bad_index, no_memory}
+
+-- as many entries as are given
+pub entry_count : {A : Type 0} (given : GivenFacts) (rows : List EntryRecord)
+    (typed : List (Entry A)) → map facts_of typed ≡ map (facts_given given) rows
+    → length typed ≡ length rows
+entry_count given rows typed is =
+    sym (length-map typed facts_of) ∙ ap length is ∙ length-map rows (facts_given given)
+
+few_typed : {A : Type 0} (given : GivenFacts) (rows : List EntryRecord) (typed : List (Entry A))
+    → map facts_of typed ≡ map (facts_given given) rows → AreFewGiven given rows → IsSmall typed
+unfolding IsWithinLimits
+few_typed given rows typed is few =
+    let count = entry_count given rows typed is in
+    let P : EntryFacts → Type 0 = λ f. HasLimits f.blank in
+    let all : All P (map facts_of typed) = subst (All P) (sym is) few.1 in
+    let most = few.0 in (
+      omega (arith, count, most),
+      λ k d h.
+          subst P (get_or-map facts_of typed k d (facts_of d) h)
+          (all k (facts_of d) (omega (arith, h, length-map typed facts_of))),
+    )
+
+-- a fault of the menu of these entries
+pub menu_fault_is : {A : Type 0} (given : GivenFacts) (rows : List EntryRecord) (default : ℕ)
+    (fallbacks : List ℕ) (typed : List (Entry A)) (fault : MenuFault)
+    → map facts_of typed ≡ map (facts_given given) rows
+    → HasMenuFault typed default fallbacks fault
+    → IsMenuFault given rows default fallbacks (menu_fault fault)
+menu_fault_is given rows default fallbacks typed menu_faults.TooMany is has =
+    too_many (λ few. has (few_typed given rows typed is few))
+menu_fault_is given rows default fallbacks typed menu_faults.BadIndex is has =
+    bad_index (λ named.
+    has.1 (subst (λ n. NameEntries n default fallbacks)
+    (sym (entry_count given rows typed is)) named))
+menu_fault_is given rows default fallbacks typed menu_faults.NoMemory is has = no_memory
+
+-- where an entry has no misuse, that of the entries from it on is that of those behind it
+pub sound_left : (given : GivenFacts) (entries : List EntryRecord) (i : ℕ) (d : EntryRecord)
+    (misuse : Option Misuse) → i < length entries
+    → entry_misuse given (get_or entries i d) ≡ None
+    → entries_misuse given (drop i entries) ≡ misuse
+    → entries_misuse given (drop (i + 1) entries) ≡ misuse
+sound_left given entries i d misuse within sound is =
+    let rest = entries_misuse given (drop (i + 1) entries) in
+    sym (ap (λ (m : Option Misuse). option_or m rest) sound)
+    ∙ sym (ap (entries_misuse given) (drop_more entries i d within)) ∙ is

@@ -1,0 +1,4 @@
+mod TellLemmas
+mod ValueLemmas
+mod LoadLemmas
+mod BootLemmas

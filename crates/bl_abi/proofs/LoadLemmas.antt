@@ -1,0 +1,56 @@
+-- How a load of an entry ends, by what was made of it.
+use Rattle.std.proofs.Common.{◌≡◌, ℕ, List, [], length, map, subst, sym, refl}
+use Rattle.std.proofs.Common.{inr, ap, ◌∙◌}
+use Rattle.std.proofs.lemmas.List.{length-map}
+use Rattle.bl_map.specs.MachineFacts.{MachineFacts}
+use Rattle.bl_load.specs.declared.entry.Entry.{Entry}
+use Rattle.bl_load.specs.declared.refusal.PrepFault.{PrepFault}
+use Rattle.bl_load.specs.declared.refusal.PrepFault.TheVariants as prep_fault
+use Rattle.bl_load.specs.Parts.{IsPrepFault, IsRefusal}
+use Rattle.bl_load.specs.Value.{EntryValue, HasLimits, IsWithinLimits, value_of}
+use Rattle.bl_abi.specs.declared.records.EntryRecord.{EntryRecord}
+use Rattle.bl_abi.specs.declared.misuse.Misuse.TheVariants.{TooMany}
+use Rattle.bl_abi.specs.declared.given_fault.GivenFault.{GivenFault}
+use Rattle.bl_abi.specs.declared.given_fault.GivenFault.TheVariants as given_fault
+use Rattle.bl_abi.specs.Given.{GivenFacts, entry_given, files_given, file_given, value_given}
+use Rattle.bl_abi.specs.Load.{IsEntryMisuse, IsEntryGivenFault, IsEntryFault, of_given, of_prepared}
+use Rattle.bl_abi.proofs.ValueLemmas.{value_is}
+
+-- an entry's value is the one that is given
+pub given_value : {A : Type 0} (given : GivenFacts) (r : EntryRecord) (entry : Entry A)
+    (texts : List (List ℕ)) → value_of [] entry ≡ entry_given given r
+    → texts ≡ map (file_given given) (files_given given r)
+    → value_of texts entry ≡ value_given given r
+given_value given r entry texts is same =
+    value_is entry (entry_given given r) texts (map (file_given given) (files_given given r)) is
+    same
+
+-- as many files as are given
+pub given_count : {V : Type 0} (bytes : V → List ℕ) (given : GivenFacts) (r : EntryRecord)
+    (views : List V) → map bytes views ≡ map (file_given given) (files_given given r)
+    → length views ≡ length (files_given given r)
+given_count bytes given r views is =
+    sym (length-map views bytes) ∙ ap length is
+    ∙ length-map (files_given given r) (file_given given)
+
+-- an entry that has not its limits is misused
+pub too_many : {A : Type 0} (given : GivenFacts) (r : EntryRecord) (entry : Entry A)
+    → value_of [] entry ≡ entry_given given r → ¬ IsWithinLimits entry
+    → IsEntryMisuse given r TooMany
+unfolding IsWithinLimits
+too_many given r entry is not =
+    inr (refl, λ limits. not (subst HasLimits (sym is) limits))
+
+-- what is not taken is not loaded
+pub of_given_is : (facts : MachineFacts) (given : GivenFacts) (r : EntryRecord)
+    (fault : GivenFault) → IsEntryGivenFault given r fault
+    → IsEntryFault facts given r (of_given fault)
+of_given_is facts given r (given_fault.Misused misuse) is = is
+of_given_is facts given r given_fault.NoMemory is = tt
+
+pub of_prepared_is : (facts : MachineFacts) (given : GivenFacts) (r : EntryRecord)
+    (value : EntryValue) (fault : PrepFault) → value ≡ value_given given r
+    → IsPrepFault facts value fault → IsEntryFault facts given r (of_prepared fault)
+of_prepared_is facts given r value (prep_fault.Refused refused) same is =
+    subst (λ (v : EntryValue). IsRefusal facts v refused) same is
+of_prepared_is facts given r value prep_fault.NoMemory same is = tt

@@ -1,0 +1,40 @@
+use Rattle.std.proofs.Common.{ℕ, arith, length, refl, subst, sym}
+use Rattle.std.proofs.lemmas.List.{length-append, length-replicate}
+use Rattle.bl_mem.specs.Memory.{memory_from}
+use Rattle.bl_abi.specs.declared.fault.LoadFault.{LoadFault}
+use Rattle.bl_abi.specs.Load.{few_places, bad_machine, bad_memory, bad_entry}
+use Rattle.bl_abi.specs.Load.{IsNotLoaded}
+use Rattle.bl_abi.proofs.loading.load.Goals as goal
+
+pub returns-then-room-lt-MOST_PLACES-clause-end : goal.returns-then-room-lt-MOST_PLACES-clause-end
+returns-then-room-lt-MOST_PLACES-clause-end g c = (few_places (omega arith), refl)
+
+pub returns-in-Err-clause-end : goal.returns-in-Err-clause-end
+returns-in-Err-clause-end g c =
+    let end = length (memory_from c.args.base c.args.memory.now) in (
+      subst
+          (λ (f : LoadFault).
+          IsNotLoaded c.args.machine.now c.args.regions.now c.args.given.now c.args.entry.now
+          c.args.room end f)
+          (sym c.given_fault.ensures) (bad_machine c.in-Err.fault c.in-Err.ensures.fault),
+      refl,
+    )
+
+pub returns-then-end-size-clause-end : goal.returns-then-end-size-clause-end
+returns-then-end-size-clause-end g c =
+    let size = c.in-Ok.ensures.machine.size in
+    let told = c.size.ensures.size in
+    let below = c.if-end-size.true in (
+      bad_memory (omega (arith, length-append {A = ℕ}, length-replicate {A = ℕ}, size, told, below)),
+      refl,
+    )
+
+pub returns-clause-end : goal.returns-clause-end
+returns-clause-end g c = (
+  bad_entry c.in-Err-load_given.fault record {
+    facts = c.in-Ok.made;
+    machine_is = c.in-Ok.ensures.machine;
+    is = c.in-Err-load_given.ensures.fault;
+  },
+  c.in-Err-load_given.ensures.unchanged,
+)

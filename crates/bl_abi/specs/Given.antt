@@ -1,0 +1,109 @@
+-- What the records and arrays of C stand for. A range, an index or a number that stands for nothing
+-- is given a meaning too, so that each of these is a function; a call that meets one answers a
+-- misuse (`Misuse`). Own.
+use Rattle.std.specs.Prelude.{ℕ, ◌+◌, ◌-◌, ◌^◌, ◌==◌, nat_le, Bool, if◌then◌else◌, List, [], ◌∷◌}
+use Rattle.std.specs.Prelude.{length, map, slice_range, slice_index_or, Option, Some, None}
+use Rattle.std.specs.Prelude.{unwrap_or}
+use Rattle.bl_map.specs.declared.region.Region.{Region}
+use Rattle.bl_map.specs.declared.kind.Kind.TheVariants.{Reserved}
+use Rattle.bl_map.specs.Kinds.{kind_of}
+use Rattle.bl_plan.specs.Protocols.{of_linux}
+use Rattle.bl_load.specs.Value.{EntryValue, multiboot2_value, linux_value}
+use Rattle.bl_abi.specs.declared.records.ByteRange.{ByteRange}
+use Rattle.bl_abi.specs.declared.records.RegionRecord.{RegionRecord}
+use Rattle.bl_abi.specs.declared.records.ModuleRecord.{ModuleRecord}
+use Rattle.bl_abi.specs.declared.records.EntryRecord.{EntryRecord}
+
+-- the arrays beside the records
+pub record GivenFacts : Type 0 where
+  pub modules : List ModuleRecord
+  pub text : List ℕ
+  pub files : List ByteRange
+  pub contents : List ℕ
+
+-- ---- bytes
+
+-- so many elements from a first one on are among so many
+abbrev pub are_among : ℕ → ℕ → ℕ → Bool
+are_among first count all = nat_le (first + count) all
+
+-- the bytes of a range, none if it does not lie within
+abbrev pub range_bytes : List ℕ → ByteRange → List ℕ
+range_bytes bytes range =
+    if are_among range.offset range.length (length bytes)
+    then slice_range bytes range.offset (range.offset + range.length)
+    else []
+
+-- the bytes of a line or of a copy
+abbrev pub line_given : GivenFacts → ByteRange → List ℕ
+line_given given range = range_bytes given.text range
+
+-- a copy without bytes is none
+abbrev pub copy_given : GivenFacts → ByteRange → Option (List ℕ)
+copy_given given range = if range.length == 0 then None else Some (line_given given range)
+
+-- ---- files
+
+-- the range of a file that can't be read
+abbrev pub no_range : ByteRange
+no_range = record { offset = 2 ^ 64 - 1; length = 0 }
+
+-- the bytes of a file, by its index
+abbrev pub file_given : GivenFacts → ℕ → List ℕ
+file_given given index = range_bytes given.contents (slice_index_or given.files index no_range)
+
+-- ---- entries
+
+-- the modules of an entry, none if they are not among those given
+abbrev pub modules_given : GivenFacts → EntryRecord → List ModuleRecord
+modules_given given entry =
+    if are_among entry.first_module entry.module_count (length given.modules)
+    then slice_range given.modules entry.first_module (entry.first_module + entry.module_count)
+    else []
+
+-- the index of the initial ramdisk's file; 2^32 - 1 is none
+abbrev pub initrd_given : EntryRecord → List ℕ
+initrd_given entry = if entry.initrd == 2 ^ 32 - 1 then [] else entry.initrd ∷ []
+
+-- the indices of the files beside the kernel: those of its modules, or of its initial ramdisk
+abbrev pub files_beside : GivenFacts → EntryRecord → List ℕ
+files_beside given entry =
+    if entry.protocol == 1
+    then map (λ m. m.file) (modules_given given entry)
+    else initrd_given entry
+
+-- the indices of its files, the kernel's first
+abbrev pub files_given : GivenFacts → EntryRecord → List ℕ
+files_given given entry = entry.kernel ∷ files_beside given entry
+
+-- the value of an entry of protocol 1, with no files yet
+abbrev pub multiboot2_given : GivenFacts → EntryRecord → EntryValue
+multiboot2_given given entry =
+    multiboot2_value [] (line_given given entry.line)
+    (map (λ m. line_given given m.line) (modules_given given entry))
+    (copy_given given entry.rsdp_old) (copy_given given entry.rsdp_new)
+
+-- that of an entry of another protocol: the Linux boot protocol, by its 64-bit entry if it is 3
+abbrev pub linux_given : GivenFacts → EntryRecord → EntryValue
+linux_given given entry =
+    linux_value (of_linux (entry.protocol == 3)) [] (line_given given entry.line)
+
+-- the value of an entry with no files yet
+abbrev pub entry_given : GivenFacts → EntryRecord → EntryValue
+entry_given given entry =
+    if entry.protocol == 1 then multiboot2_given given entry else linux_given given entry
+
+-- its value with the files' bytes
+abbrev pub value_given : GivenFacts → EntryRecord → EntryValue
+value_given given entry =
+    record (entry_given given entry) { files = map (file_given given) (files_given given entry) }
+
+-- ---- regions
+
+-- a region; a number that is no kind's is taken for a reserved one's
+abbrev pub region_given : RegionRecord → Region
+region_given region = record {
+  base = region.base;
+  length = region.length;
+  kind = unwrap_or (kind_of region.kind) Reserved;
+}

@@ -1,0 +1,10 @@
+pub mod Given
+pub mod Checks
+pub mod Machines
+pub mod Load
+pub mod Refused
+pub mod Status
+pub mod Told
+pub mod Boot
+pub mod BootTold
+pub mod Walk

@@ -1,0 +1,97 @@
+-- What comes of an entry that C has loaded. Own.
+use Rattle.std.specs.Prelude.{◌≡◌, ◌⊎◌, ℕ, ◌+◌, ◌≤◌, ◌<◌, List, length, All}
+use Rattle.std.specs.Prelude.{Some, Result, Ok, Err}
+use Rattle.bl_map.specs.MachineFacts.{MachineFacts}
+use Rattle.bl_load.specs.declared.refusal.PrepFault.{PrepFault}
+use Rattle.bl_load.specs.declared.refusal.PrepFault.TheVariants as prep_fault
+use Rattle.bl_load.specs.HandoffFacts.{HandoffFacts, most_parts}
+use Rattle.bl_load.specs.Handover.{written}
+use Rattle.bl_load.specs.Parts.{IsHandover, IsRefusal}
+use Rattle.bl_load.specs.PlanFacts.{handover_in}
+use Rattle.bl_load.specs.Value.{HasLimits}
+use Rattle.bl_abi.specs.declared.records.RegionRecord.{RegionRecord}
+use Rattle.bl_abi.specs.declared.records.MachineRecord.{MachineRecord}
+use Rattle.bl_abi.specs.declared.records.EntryRecord.{EntryRecord}
+use Rattle.bl_abi.specs.declared.misuse.Misuse.{Misuse}
+use Rattle.bl_abi.specs.declared.misuse.Misuse.TheVariants.{BadMemory, FewPlaces, TooMany}
+use Rattle.bl_abi.specs.declared.given_fault.GivenFault.{GivenFault}
+use Rattle.bl_abi.specs.declared.given_fault.GivenFault.TheVariants as given_fault
+use Rattle.bl_abi.specs.declared.fault.LoadFault.{LoadFault}
+use Rattle.bl_abi.specs.declared.fault.LoadFault.TheVariants.{Misused, Refused, NoMemory}
+use Rattle.bl_abi.specs.Given.{GivenFacts, entry_given, value_given}
+use Rattle.bl_abi.specs.Checks.{load_misuse}
+use Rattle.bl_abi.specs.Machines.{IsMachineGiven, HasMachineFault}
+
+abbrev pub of_prepared : PrepFault → LoadFault
+of_prepared (prep_fault.Refused refusal) = Refused refusal
+of_prepared prep_fault.NoMemory = NoMemory
+
+abbrev pub of_given : GivenFault → LoadFault
+of_given (given_fault.Misused misuse) = Misused misuse
+of_given given_fault.NoMemory = NoMemory
+
+-- ---- on a machine of these facts
+
+-- the first misuse of an entry: of what its record names, and then of its size
+abbrev pub IsEntryMisuse : GivenFacts → EntryRecord → Misuse → Type 0
+IsEntryMisuse given entry misuse =
+    (load_misuse given entry ≡ Some misuse)
+    ⊎ ((misuse ≡ TooMany) × (¬ HasLimits (entry_given given entry)))
+
+-- why it is not taken
+abbrev pub IsEntryGivenFault : GivenFacts → EntryRecord → GivenFault → Type 0
+IsEntryGivenFault given entry (given_fault.Misused misuse) = IsEntryMisuse given entry misuse
+IsEntryGivenFault given entry given_fault.NoMemory = Unit {0}
+
+-- why it is not loaded
+abbrev pub IsEntryFault : MachineFacts → GivenFacts → EntryRecord → LoadFault → Type 0
+IsEntryFault facts given entry (Misused misuse) = IsEntryMisuse given entry misuse
+IsEntryFault facts given entry (Refused refused) = IsRefusal facts (value_given given entry) refused
+IsEntryFault facts given entry NoMemory = Unit {0}
+
+-- memory holds what is handed over, and is what it was with those parts written into it: each byte
+-- of no part is as before
+pub record IsHandedIn (facts : MachineFacts) (given : GivenFacts) (entry : EntryRecord)
+    (old new : List ℕ) (handoff : HandoffFacts) : Type 0 where
+  pub handover : IsHandover facts (value_given given entry)
+      (handover_in new handoff.protocol handoff.registers handoff.places)
+  pub after : new
+      ≡ written (handover_in new handoff.protocol handoff.registers handoff.places).parts old
+  pub inside : All (λ place. place.address + place.length ≤ facts.size) handoff.places
+
+-- ---- on the machine that is given
+
+pub record IsLoaded (machine : MachineRecord) (regions : List RegionRecord) (given : GivenFacts)
+    (entry : EntryRecord) (old new : List ℕ) (handoff : HandoffFacts) : Type 0 where
+  pub facts : MachineFacts
+  pub machine_is : IsMachineGiven machine regions facts
+  pub handed : IsHandedIn facts given entry old new handoff
+
+-- there is such a machine, and its entry has this fault
+pub record HasEntryFault (machine : MachineRecord) (regions : List RegionRecord)
+    (given : GivenFacts) (entry : EntryRecord) (fault : LoadFault) : Type 0 where
+  pub facts : MachineFacts
+  pub machine_is : IsMachineGiven machine regions facts
+  pub is : IsEntryFault facts given entry fault
+
+-- the first that stands: too little room for places, a fault of the machine, a memory that ends
+-- below the machine's, a fault of the entry; memory may run out
+pub data IsNotLoaded (machine : MachineRecord) (regions : List RegionRecord) (given : GivenFacts)
+    (entry : EntryRecord) (room end : ℕ) : LoadFault → Type 0 where
+  few_places : room < most_parts
+      → IsNotLoaded machine regions given entry room end (Misused FewPlaces)
+  bad_machine : (fault : GivenFault) → HasMachineFault machine regions fault
+      → IsNotLoaded machine regions given entry room end (of_given fault)
+  bad_memory : end < machine.size
+      → IsNotLoaded machine regions given entry room end (Misused BadMemory)
+  bad_entry : (fault : LoadFault) → HasEntryFault machine regions given entry fault
+      → IsNotLoaded machine regions given entry room end fault
+
+-- how a call ends that has room for so many places, with memory that held the old bytes from
+-- address 0 on: after a fault it has them still
+abbrev pub IsLoadEnd : MachineRecord → List RegionRecord → GivenFacts → EntryRecord → ℕ
+    → (old new : List ℕ) → Result HandoffFacts LoadFault → Type 0
+IsLoadEnd machine regions given entry room old new (Ok handoff) =
+    IsLoaded machine regions given entry old new handoff
+IsLoadEnd machine regions given entry room old new (Err fault) =
+    IsNotLoaded machine regions given entry room (length old) fault × (new ≡ old)

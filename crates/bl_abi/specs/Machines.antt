@@ -1,0 +1,51 @@
+-- The machine that C gives, or what refuses it. Own.
+use Rattle.std.specs.Prelude.{◌≡◌, ◌⊎◌, ℕ, ◌+◌, ◌-◌, ◌^◌, false, List, map, min}
+use Rattle.std.specs.declared.ops.Range.{Range}
+use Rattle.bl_map.specs.declared.fault.MapFault.{MapFault}
+use Rattle.bl_map.specs.declared.fault.MapFault.TheVariants as map_fault
+use Rattle.bl_map.specs.Faults.{HasFirstMapFault}
+use Rattle.bl_map.specs.Kinds.{IsNormalMap}
+use Rattle.bl_map.specs.MachineFacts.{MachineFacts}
+use Rattle.bl_abi.specs.declared.records.RegionRecord.{RegionRecord}
+use Rattle.bl_abi.specs.declared.records.MachineRecord.{MachineRecord}
+use Rattle.bl_abi.specs.declared.misuse.Misuse.TheVariants.{BadKind, BadSize, TooManyRegions}
+use Rattle.bl_abi.specs.declared.misuse.Misuse.TheVariants.{BadRegion, BadPool}
+use Rattle.bl_abi.specs.declared.given_fault.GivenFault.{GivenFault}
+use Rattle.bl_abi.specs.declared.given_fault.GivenFault.TheVariants.{Misused, NoMemory}
+use Rattle.bl_abi.specs.Given.{region_given}
+use Rattle.bl_abi.specs.Checks.{are_kinds}
+
+-- the addresses of the pool; one that ends at 2^64 or above ends at 2^64 - 1, which is no frame's
+abbrev pub pool_given : MachineRecord → Range ℕ
+pool_given machine = record {
+  start = machine.pool_base;
+  end = min (machine.pool_base + machine.pool_length) (2 ^ 64 - 1);
+}
+
+-- these are the facts of the machine that is given
+pub record IsMachineGiven (machine : MachineRecord) (regions : List RegionRecord)
+    (facts : MachineFacts) : Type 0 where
+  pub size : facts.size ≡ machine.size
+  pub runs : IsNormalMap (map region_given regions) facts.runs
+  pub pool : facts.pool ≡ pool_given machine
+
+-- a fault of a machine's parts as a misuse
+abbrev pub machine_fault : MapFault → GivenFault
+machine_fault map_fault.BadSize = Misused BadSize
+machine_fault (map_fault.BadRegion index) = Misused BadRegion
+machine_fault map_fault.TooManyRegions = Misused TooManyRegions
+machine_fault map_fault.BadPool = Misused BadPool
+machine_fault map_fault.NoMemory = NoMemory
+
+-- the machine that is given has this fault of its parts
+pub record HasPartFault (machine : MachineRecord) (regions : List RegionRecord)
+    (fault : GivenFault) : Type 0 where
+  pub found : MapFault
+  pub first : HasFirstMapFault machine.size (map region_given regions) (pool_given machine) found
+  pub is : fault ≡ machine_fault found
+
+-- its first fault: a kind of a region that is none, and then one of its parts; memory may run out
+abbrev pub HasMachineFault : MachineRecord → List RegionRecord → GivenFault → Type 0
+HasMachineFault machine regions fault =
+    ((are_kinds regions ≡ false) × (fault ≡ Misused BadKind))
+    ⊎ (fault ≡ NoMemory) ⊎ HasPartFault machine regions fault

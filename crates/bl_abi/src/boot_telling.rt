@@ -1,0 +1,73 @@
+//! What C is told of the end of a boot.
+ghost use Rattle.std.specs.Prelude.{◌≡◌, ◌≤◌, length, OnOk};
+ghost use Rattle.bl_abi.specs.Boot.{typed_end};
+ghost use Rattle.bl_abi.specs.BootTold as spec;
+ghost use Rattle.bl_abi.specs.Load.{of_given};
+ghost use Rattle.bl_abi.specs.Status.{fault_status};
+
+use crate::given_fault::GivenFault;
+use crate::refusals::refusal_record;
+use crate::telling::{handoff_told, tell_places};
+use crate::told::{HandoffRecord, PlaceRecord, RefusalRecord};
+use bl_session::{BootFault, Outcome, RefusedEntry};
+use std::alloc::Allocator;
+
+/// Tells refusals in the first records, as many as there is room for.
+fn tell_refusals(refused: &[RefusedEntry], refusals: &mut [RefusalRecord])
+    ensures { refusals.new ≡ spec.refusals_told refused.now refusals.old }
+{
+    for index in 0..refused.len().min(refusals.len()) {
+        let one = refused[index];
+        refusals[index] = refusal_record(one.entry, one.refusal);
+    }
+}
+
+fn given_status(fault: GivenFault) -> u32
+    ensures { result ≡ fault_status (of_given fault) }
+{
+    match fault {
+        GivenFault::Misused(misuse) => misuse.status(),
+        GivenFault::NoMemory => 4,
+    }
+}
+
+/// Tells the end of a boot, with its status.
+pub(crate) fn tell_boot<A: Allocator>(
+    end: Result<Result<Outcome<A>, BootFault<A>>, GivenFault>,
+    told: &mut HandoffRecord,
+    places: &mut [PlaceRecord],
+    refusals: &mut [RefusalRecord],
+    count: &mut u64,
+) -> u32
+    requires { OnOk end (256 ≤ length places.old) }
+    ensures { spec.TellsBoot (typed_end end) result
+        (record {
+          handoff = told.old;
+          places = places.old;
+          refusals = refusals.old;
+          count = count.old;
+        })
+        (record {
+          handoff = told.new;
+          places = places.new;
+          refusals = refusals.new;
+          count = count.new;
+        }) }
+{
+    match end {
+        Ok(Ok(outcome)) => {
+            tell_places(&outcome.handoff, places);
+            *told = handoff_told(outcome.entry, &outcome.handoff);
+            tell_refusals(&outcome.refused, refusals);
+            *count = outcome.refused.len() as u64;
+            0
+        }
+        Ok(Err(BootFault::NoEntryLeft(refused))) => {
+            tell_refusals(&refused, refusals);
+            *count = refused.len() as u64;
+            1
+        }
+        Ok(Err(BootFault::NoMemory)) => 4,
+        Err(fault) => given_status(fault),
+    }
+}

@@ -1,0 +1,184 @@
+//! A menu is booted in memory of the caller's own.
+ghost use Rattle.std.specs.Prelude.{◌≡◌, ◌+◌, ◌≤◌, None, IfOk, IfErr, OnOk, Result, map, length};
+ghost use Rattle.std.specs.Prelude.{option_copied};
+ghost use Rattle.bl_mem.specs.Memory.{memory_from};
+ghost use Rattle.bl_session.specs.Ledger.{sliced_file};
+ghost use Rattle.bl_session.specs.Memory.{IsMemoryIn};
+ghost use Rattle.bl_session.specs.Outcome.{IsOutcome, HasEnded};
+ghost use Rattle.bl_session.specs.Outcome as outcome;
+ghost use Rattle.bl_session.specs.Phases.{boot_facts, state_at};
+ghost use Rattle.bl_session.specs.Run.{boot_end};
+ghost use Rattle.bl_session.specs.Phases.{PhaseFacts};
+ghost use Rattle.bl_abi.specs.Boot.{HasBooted, IsBootEnd, IsMenuFault, typed_end, menu_given};
+ghost use Rattle.bl_abi.specs.Boot as spec;
+ghost use Rattle.bl_abi.specs.BootTold.{TellsBoot};
+ghost use Rattle.bl_abi.specs.declared.given_fault.GivenFault.{GivenFault};
+
+use crate::boot_telling::tell_boot;
+use crate::given::Given;
+use crate::given_fault::GivenFault;
+use crate::loading::MOST_PLACES;
+use crate::machines::machine_of;
+use crate::misuse::Misuse;
+use crate::records::{EntryRecord, MachineRecord, RegionRecord};
+use crate::stored::{check_menu, entries_of, stored_files};
+use crate::told::{HandoffRecord, PlaceRecord, RefusalRecord};
+use bl_map::Machine;
+use bl_mem::SliceMemory;
+use bl_session::{BootFault, Menu, MenuFault, Order, Outcome, SliceStore, run};
+use std::alloc::Allocator;
+
+/// Boots a menu from files in slices, in memory that begins at a base.
+fn boot_files<A: Allocator + Copy>(
+    alloc: A,
+    memory: &mut [u8],
+    base: u32,
+    files: &[Option<&[u8]>],
+    machine: &Machine<A>,
+    menu: &Menu<A>,
+) -> Result<Outcome<A>, BootFault<A>>
+    requires { base + length memory.old ≡ machine.now.size }
+    ensures outcome { HasEnded (state_at (memory_from base memory.new) (boot_end result))
+        → IsOutcome
+        (boot_facts machine.now menu.now
+        (map outcome.size_of (map (λ file. sliced_file (option_copied file)) files.now)))
+        (map (λ file. sliced_file (option_copied file)) files.now) (λ _. None)
+        (state_at (memory_from base memory.new) (boot_end result)) }
+    ensures memory { IsMemoryIn machine.now.pool
+        (state_at (memory_from base memory.new) (boot_end result))
+        (memory_from base memory.old) (memory_from base memory.new) }
+{
+    let mut store = SliceStore::new(alloc, files, Order::Forward);
+    let mut own = SliceMemory::from_base(base, memory);
+    let end = run(alloc, &mut own, &mut store, machine, menu);
+    store.faithful();
+    end
+}
+
+/// Boots a menu from the files that are given.
+fn boot_given<A: Allocator + Copy>(
+    alloc: A,
+    memory: &mut [u8],
+    base: u32,
+    given: &Given,
+    machine: &Machine<A>,
+    menu: &Menu<A>,
+) -> Result<Outcome<A>, BootFault<A>>
+    requires { base + length memory.old ≡ machine.now.size }
+    ensures { HasBooted machine.now menu.now (spec.given_files given.now)
+        (memory_from base memory.old) (memory_from base memory.new) (boot_end result) }
+{
+    let Ok(files) = stored_files(alloc, given) else {
+        return Err(BootFault::NoMemory);
+    };
+    boot_files(alloc, memory, base, &files, machine, menu)
+}
+
+fn menu_fault(fault: MenuFault) -> GivenFault
+    ensures { result ≡ spec.menu_fault fault }
+{
+    match fault {
+        MenuFault::TooMany => GivenFault::Misused(Misuse::TooMany),
+        MenuFault::BadIndex => GivenFault::Misused(Misuse::BadIndex),
+        MenuFault::NoMemory => GivenFault::NoMemory,
+    }
+}
+
+/// The menu that is given, if it may be.
+fn menu_of<A: Allocator + Copy>(
+    alloc: A,
+    given: &Given,
+    entries: &[EntryRecord],
+    default: u32,
+    fallbacks: &[u32],
+) -> Result<Menu<A>, GivenFault>
+    ensures menu { IfOk result (λ menu.
+        menu ≡ menu_given given.now entries.now default fallbacks.now) }
+    ensures fault { IfErr result (IsMenuFault given.now entries.now default fallbacks.now) }
+{
+    if let Err(misuse) = check_menu(given, entries) {
+        return Err(GivenFault::Misused(misuse));
+    }
+    let Ok(typed) = entries_of(alloc, given, entries) else {
+        return Err(GivenFault::NoMemory);
+    };
+    match Menu::new(alloc, typed, default, fallbacks) {
+        Ok(menu) => Ok(menu),
+        Err(fault) => Err(menu_fault(fault)),
+    }
+}
+
+/// Boots a menu in memory that begins at a base, with room for so many places.
+pub(crate) fn boot<A: Allocator + Copy>(
+    alloc: A,
+    memory: &mut [u8],
+    base: u32,
+    machine: &MachineRecord,
+    regions: &[RegionRecord],
+    given: &Given,
+    entries: &[EntryRecord],
+    default: u32,
+    fallbacks: &[u32],
+    room: usize,
+) -> Result<Result<Outcome<A>, BootFault<A>>, GivenFault>
+    ensures end { IsBootEnd machine.now regions.now given.now entries.now default fallbacks.now
+        room (memory_from base memory.old) (memory_from base memory.new) (typed_end result) }
+    ensures room { OnOk result (MOST_PLACES ≤ room) }
+{
+    if room < MOST_PLACES {
+        return Err(GivenFault::Misused(Misuse::FewPlaces));
+    }
+    let made = match machine_of(alloc, machine, regions) {
+        Ok(made) => made,
+        Err(fault) => return Err(fault),
+    };
+    let end = base as u64 + memory.len() as u64;
+    if end != made.size() {
+        return Err(GivenFault::Misused(Misuse::BadMemory));
+    }
+    let menu = match menu_of(alloc, given, entries, default, fallbacks) {
+        Ok(menu) => menu,
+        Err(fault) => return Err(fault),
+    };
+    Ok(boot_given(alloc, memory, base, given, &made, &menu))
+}
+
+/// Boots a menu, and tells what comes of it.
+pub fn boot_told<A: Allocator + Copy>(
+    alloc: A,
+    memory: &mut [u8],
+    base: u32,
+    machine: &MachineRecord,
+    regions: &[RegionRecord],
+    given: &Given,
+    entries: &[EntryRecord],
+    default: u32,
+    fallbacks: &[u32],
+    told: &mut HandoffRecord,
+    places: &mut [PlaceRecord],
+    refusals: &mut [RefusalRecord],
+    count: &mut u64,
+) -> u32
+    ensures { (end : Result PhaseFacts GivenFault)
+        × IsBootEnd machine.now regions.now given.now entries.now default fallbacks.now
+        (length places.old) (memory_from base memory.old) (memory_from base memory.new) end
+        × TellsBoot end result
+        (record {
+          handoff = told.old;
+          places = places.old;
+          refusals = refusals.old;
+          count = count.old;
+        })
+        (record {
+          handoff = told.new;
+          places = places.new;
+          refusals = refusals.new;
+          count = count.new;
+        }) }
+{
+    let room = places.len();
+    let end = boot(
+        alloc, memory, base, machine, regions, given, entries, default, fallbacks, room,
+    );
+    tell_boot(end, told, places, refusals, count)
+}

@@ -1,0 +1,199 @@
+//! Whether regions and an entry are ones that may be given.
+ghost use Rattle.std.specs.Prelude.{◌≡◌};
+ghost use Rattle.bl_abi.specs.Checks as spec;
+
+use crate::given::Given;
+use crate::misuse::Misuse;
+use crate::ranges::are_among;
+use crate::records::{ByteRange, EntryRecord, ModuleRecord, NO_FILE, RegionRecord};
+
+/// Whether a number is that of a kind of memory.
+fn is_kind(kind: u32) -> bool
+    ensures { result ≡ spec.is_kind kind }
+{
+    1 <= kind && kind <= 5
+}
+
+/// Whether each region is of a kind.
+pub(crate) fn are_kinds(regions: &[RegionRecord]) -> bool
+    ensures { result ≡ spec.are_kinds regions.now }
+{
+    regions.iter().all(|region| is_kind(region.kind))
+}
+
+/// Whether a number is that of a protocol.
+fn is_protocol(protocol: u32) -> bool
+    ensures { result ≡ spec.is_protocol protocol }
+{
+    1 <= protocol && protocol <= 3
+}
+
+impl Given<'_> {
+    ghost use Rattle.std.specs.Prelude.{◌≡◌, if◌then◌else◌, true};
+    ghost use Rattle.std.specs.List.{list_all};
+    ghost use Rattle.bl_abi.specs.Checks as spec;
+    ghost use Rattle.bl_abi.specs.Given.{modules_given, initrd_given};
+
+    /// Whether an entry's modules are among those given.
+    fn has_modules(&self, entry: &EntryRecord) -> bool
+        ensures { result ≡ spec.has_modules self.now entry.now }
+    {
+        if entry.protocol != 1 {
+            return true;
+        }
+        let first = entry.first_module as u64;
+        are_among(first, entry.module_count as u64, self.modules.len() as u64)
+    }
+
+    fn is_text(&self, range: ByteRange) -> bool
+        ensures { result ≡ spec.is_text self.now range }
+    {
+        are_among(range.offset, range.length, self.text.len() as u64)
+    }
+
+    fn are_texts(&self, modules: &[ModuleRecord]) -> bool
+        ensures { result ≡ list_all (λ m. spec.is_text self.now m.line) modules.now }
+    {
+        modules.iter().all(|m| self.is_text(m.line))
+    }
+
+    fn has_module_texts(&self, entry: &EntryRecord) -> bool
+        ensures { result ≡ spec.has_module_texts self.now entry.now }
+    {
+        let modules = self.modules_of(entry);
+        if !self.are_texts(modules) {
+            return false;
+        }
+        if !self.is_text(entry.rsdp_old) {
+            return false;
+        }
+        self.is_text(entry.rsdp_new)
+    }
+
+    fn has_texts(&self, entry: &EntryRecord) -> bool
+        ensures { result ≡ spec.has_texts self.now entry.now }
+    {
+        if !self.is_text(entry.line) {
+            return false;
+        }
+        if entry.protocol != 1 {
+            return true;
+        }
+        self.has_module_texts(entry)
+    }
+
+    fn is_file(&self, index: u32) -> bool
+        ensures { result ≡ spec.is_file self.now index }
+    {
+        (index as usize) < self.files.len()
+    }
+
+    fn are_files(&self, modules: &[ModuleRecord]) -> bool
+        ensures { result ≡ list_all (λ m. spec.is_file self.now m.file) modules.now }
+    {
+        modules.iter().all(|m| self.is_file(m.file))
+    }
+
+    fn has_files(&self, entry: &EntryRecord) -> bool
+        ensures { result ≡ spec.all_files (spec.is_file self.now) self.now entry.now }
+    {
+        if !self.is_file(entry.kernel) {
+            return false;
+        }
+        if entry.protocol == 1 {
+            let modules = self.modules_of(entry);
+            return self.are_files(modules);
+        }
+        if entry.initrd == NO_FILE {
+            return true;
+        }
+        self.is_file(entry.initrd)
+    }
+
+    /// Whether a range lies in the contents.
+    pub(crate) fn is_within(&self, range: ByteRange) -> bool
+        ensures { result ≡ spec.is_within self.now range }
+    {
+        are_among(range.offset, range.length, self.contents.len() as u64)
+    }
+
+    fn is_data(&self, index: u32) -> bool
+        ensures { result ≡ spec.is_data self.now index }
+    {
+        match self.files.get(index as usize) {
+            Some(range) => self.is_within(*range),
+            None => false,
+        }
+    }
+
+    fn are_data(&self, modules: &[ModuleRecord]) -> bool
+        ensures { result ≡ list_all (λ m. spec.is_data self.now m.file) modules.now }
+    {
+        modules.iter().all(|m| self.is_data(m.file))
+    }
+
+    fn has_data(&self, entry: &EntryRecord) -> bool
+        ensures { result ≡ spec.all_files (spec.is_data self.now) self.now entry.now }
+    {
+        if !self.is_data(entry.kernel) {
+            return false;
+        }
+        if entry.protocol == 1 {
+            let modules = self.modules_of(entry);
+            return self.are_data(modules);
+        }
+        if entry.initrd == NO_FILE {
+            return true;
+        }
+        self.is_data(entry.initrd)
+    }
+}
+
+impl Given<'_> {
+    ghost use Rattle.std.specs.Prelude.{◌≡◌, Some, None, MatchResult, ◌&&◌, nat_le};
+    ghost use Rattle.bl_abi.specs.Checks as spec;
+
+    /// Checks what an entry names: the first misuse.
+    #[tactic(auto, unfolding(crate::specs::Checks::entry_misuse))]
+    pub(crate) fn check_entry(&self, entry: &EntryRecord) -> Result<(), Misuse>
+        ensures { MatchResult result
+            (λ _. spec.entry_misuse self.now entry.now ≡ None)
+            (λ misuse. spec.entry_misuse self.now entry.now ≡ Some misuse) }
+    {
+        if !is_protocol(entry.protocol) {
+            return Err(Misuse::BadProtocol);
+        }
+        if !self.has_modules(entry) {
+            return Err(Misuse::BadModules);
+        }
+        if !self.has_texts(entry) {
+            return Err(Misuse::BadText);
+        }
+        if !self.has_files(entry) {
+            return Err(Misuse::BadFile);
+        }
+        Ok(())
+    }
+
+    #[tactic(auto, unfolding(crate::specs::Checks::contents_misuse))]
+    fn check_contents(&self, entry: &EntryRecord) -> Result<(), Misuse>
+        ensures { MatchResult result
+            (λ _. spec.contents_misuse self.now entry.now ≡ None)
+            (λ misuse. spec.contents_misuse self.now entry.now ≡ Some misuse) }
+    {
+        if !self.has_data(entry) {
+            return Err(Misuse::BadContents);
+        }
+        Ok(())
+    }
+
+    /// Checks what an entry names, and where its files lie: the first misuse.
+    pub(crate) fn check_load(&self, entry: &EntryRecord) -> Result<(), Misuse>
+        ensures { MatchResult result
+            (λ _. spec.load_misuse self.now entry.now ≡ None)
+            (λ misuse. spec.load_misuse self.now entry.now ≡ Some misuse) }
+    {
+        self.check_entry(entry)?;
+        self.check_contents(entry)
+    }
+}

@@ -1,0 +1,36 @@
+//! What C gives and is told, in records and arrays, and what the libraries make of it.
+#![tactic(auto)]
+
+mod boot_telling;
+mod booting;
+mod checks;
+mod entries;
+mod fault;
+mod given;
+mod given_fault;
+mod loading;
+mod machines;
+mod misuse;
+mod ranges;
+mod records;
+mod refusals;
+mod registers;
+mod stored;
+mod telling;
+mod told;
+mod views;
+mod walked;
+mod walking;
+
+pub use booting::boot_told;
+pub use fault::LoadFault;
+pub use given::Given;
+pub use given_fault::GivenFault;
+pub use loading::{MOST_PLACES, load_told};
+pub use misuse::Misuse;
+pub use records::{
+    ByteRange, EntryRecord, MISSING, MachineRecord, ModuleRecord, NO_FILE, RegionRecord,
+};
+pub use told::{HandoffRecord, PlaceRecord, RefusalRecord, RegistersRecord};
+pub use walked::{SeenRecord, WalkStop};
+pub use walking::walk_told;

@@ -1,0 +1,185 @@
+//! One entry comes into memory of the caller's own.
+ghost use Rattle.std.specs.Prelude.{◌≡◌, ◌+◌, ◌≤◌, [], IfOk, IfErr, OnOk, Result, All};
+ghost use Rattle.std.specs.Prelude.{length, map};
+ghost use Rattle.bl_mem.specs.Memory.{memory_from};
+ghost use Rattle.bl_load.specs.Handover.{written};
+ghost use Rattle.bl_load.specs.Parts.{IsHandover, IsPrepFault};
+ghost use Rattle.bl_load.specs.PlanFacts.{handover_in};
+ghost use Rattle.bl_load.specs.Value.{value_of, file_count, IsWithinLimits};
+ghost use Rattle.bl_load.specs.HandoffFacts.{HandoffFacts};
+ghost use Rattle.bl_abi.specs.Given.{entry_given, files_given};
+ghost use Rattle.bl_abi.specs.Load.{IsHandedIn, IsEntryGivenFault, IsEntryFault, IsLoadEnd};
+ghost use Rattle.bl_abi.specs.Load.{of_given, of_prepared};
+ghost use Rattle.bl_abi.specs.Told.{TellsEnd};
+ghost use Rattle.bl_abi.specs.declared.fault.LoadFault.{LoadFault};
+
+use crate::entries::entry_of;
+use crate::fault::LoadFault;
+use crate::given::Given;
+use crate::given_fault::GivenFault;
+use crate::machines::machine_of;
+use crate::misuse::Misuse;
+use crate::records::{EntryRecord, MachineRecord, RegionRecord};
+use crate::telling::tell_end;
+use crate::told::{HandoffRecord, PlaceRecord, RefusalRecord};
+use crate::views::views_of;
+use bl_load::{Entry, Handoff, PrepFault, load_entry};
+use bl_map::Machine;
+use bl_mem::{SliceMemory, SliceView};
+use std::alloc::Allocator;
+
+/// So many places there are at most.
+pub const MOST_PLACES: usize = 256;
+
+/// `load_entry` into memory that begins at a base.
+fn load_typed<A: Allocator + Copy>(
+    alloc: A,
+    machine: &Machine<A>,
+    memory: &mut [u8],
+    base: u32,
+    entry: &Entry<A>,
+    files: &[SliceView<'_>],
+) -> Result<Handoff<A>, PrepFault>
+    requires size { machine.now.size ≤ base + length memory.old }
+    requires files { length files.now ≡ file_count entry.now }
+    requires limits { IsWithinLimits entry.now }
+    ensures handover { IfOk result (λ handoff. IsHandover machine.now
+        (value_of (map (λ file. file.bytes.now) files.now) entry.now)
+        (handover_in (memory_from base memory.new)
+        handoff.protocol handoff.registers handoff.places)) }
+    ensures after { IfOk result (λ handoff. memory_from base memory.new ≡ written
+        (handover_in (memory_from base memory.new)
+        handoff.protocol handoff.registers handoff.places).parts
+        (memory_from base memory.old)) }
+    ensures inside { IfOk result (λ handoff.
+        All (λ place. place.address + place.length ≤ machine.now.size) handoff.places) }
+    ensures fault { IfErr result (λ fault. IsPrepFault machine.now
+        (value_of (map (λ file. file.bytes.now) files.now) entry.now) fault) }
+    ensures unchanged { IfErr result (λ _. memory_from base memory.new
+        ≡ memory_from base memory.old) }
+{
+    let mut own = SliceMemory::from_base(base, memory);
+    load_entry(alloc, machine, &mut own, entry, files)
+}
+
+/// The entry that is given, if it may be.
+fn take_entry<A: Allocator + Copy>(
+    alloc: A,
+    given: &Given,
+    row: &EntryRecord,
+) -> Result<Entry<A>, GivenFault>
+    ensures value { IfOk result (λ entry. value_of [] entry ≡ entry_given given.now row.now) }
+    ensures count { IfOk result
+        (λ entry. file_count entry ≡ length (files_given given.now row.now)) }
+    ensures limits { IfOk result IsWithinLimits }
+    ensures fault { IfErr result (IsEntryGivenFault given.now row.now) }
+{
+    given.check_load(row)?;
+    let entry = entry_of(alloc, given, row)?;
+    if !entry.is_within_limits() {
+        return Err(GivenFault::Misused(Misuse::TooMany));
+    }
+    Ok(entry)
+}
+
+fn load_fault(fault: PrepFault) -> LoadFault
+    ensures { result ≡ of_prepared fault }
+{
+    match fault {
+        PrepFault::Refused(refusal) => LoadFault::Refused(refusal),
+        PrepFault::NoMemory => LoadFault::NoMemory,
+    }
+}
+
+fn given_fault(fault: GivenFault) -> LoadFault
+    ensures { result ≡ of_given fault }
+{
+    match fault {
+        GivenFault::Misused(misuse) => LoadFault::Misused(misuse),
+        GivenFault::NoMemory => LoadFault::NoMemory,
+    }
+}
+
+/// Loads an entry on a machine.
+fn load_given<A: Allocator + Copy>(
+    alloc: A,
+    machine: &Machine<A>,
+    memory: &mut [u8],
+    base: u32,
+    given: &Given,
+    row: &EntryRecord,
+) -> Result<Handoff<A>, LoadFault>
+    requires { machine.now.size ≤ base + length memory.old }
+    ensures handed { IfOk result (λ handoff. IsHandedIn machine.now given.now row.now
+        (memory_from base memory.old) (memory_from base memory.new) handoff) }
+    ensures fault { IfErr result (IsEntryFault machine.now given.now row.now) }
+    ensures unchanged { IfErr result (λ _. memory_from base memory.new
+        ≡ memory_from base memory.old) }
+{
+    let entry = match take_entry(alloc, given, row) {
+        Ok(entry) => entry,
+        Err(fault) => return Err(given_fault(fault)),
+    };
+    let Ok(views) = views_of(alloc, given, row) else {
+        return Err(LoadFault::NoMemory);
+    };
+    match load_typed(alloc, machine, memory, base, &entry, &views) {
+        Ok(handoff) => Ok(handoff),
+        Err(fault) => Err(load_fault(fault)),
+    }
+}
+
+/// Loads an entry into memory that begins at a base, with room for so many places.
+pub(crate) fn load<A: Allocator + Copy>(
+    alloc: A,
+    memory: &mut [u8],
+    base: u32,
+    machine: &MachineRecord,
+    regions: &[RegionRecord],
+    given: &Given,
+    entry: &EntryRecord,
+    room: usize,
+) -> Result<Handoff<A>, LoadFault>
+    ensures end { IsLoadEnd machine.now regions.now given.now entry.now room
+        (memory_from base memory.old) (memory_from base memory.new) result }
+    ensures room { OnOk result (MOST_PLACES ≤ room) }
+{
+    if room < MOST_PLACES {
+        return Err(LoadFault::Misused(Misuse::FewPlaces));
+    }
+    let made = match machine_of(alloc, machine, regions) {
+        Ok(made) => made,
+        Err(fault) => return Err(given_fault(fault)),
+    };
+    let end = base as u64 + memory.len() as u64;
+    if end < made.size() {
+        return Err(LoadFault::Misused(Misuse::BadMemory));
+    }
+    match load_given(alloc, &made, memory, base, given, entry) {
+        Ok(handoff) => Ok(handoff),
+        Err(fault) => Err(fault),
+    }
+}
+
+/// Loads an entry, and tells what comes of it.
+pub fn load_told<A: Allocator + Copy>(
+    alloc: A,
+    memory: &mut [u8],
+    base: u32,
+    machine: &MachineRecord,
+    regions: &[RegionRecord],
+    given: &Given,
+    entry: &EntryRecord,
+    told: &mut HandoffRecord,
+    places: &mut [PlaceRecord],
+    refusal: &mut RefusalRecord,
+) -> u32
+    ensures { (end : Result HandoffFacts LoadFault)
+        × IsLoadEnd machine.now regions.now given.now entry.now (length places.old)
+        (memory_from base memory.old) (memory_from base memory.new) end
+        × TellsEnd end result told.old told.new places.old places.new refusal.old refusal.new }
+{
+    let room = places.len();
+    let end = load(alloc, memory, base, machine, regions, given, entry, room);
+    tell_end(end, told, places, refusal)
+}

@@ -1,0 +1,87 @@
+-- How an explanation ends, by what its steps answer.
+use Rattle.std.proofs.Common.{◌≡◌, ◌++◌, ℕ, List, Some, Result, Ok, Err, map, refl, inr}
+use Rattle.bl_map.specs.MachineFacts.{MachineFacts}
+use Rattle.bl_session.specs.declared.fetched.Fetched.{Fetched}
+use Rattle.bl_session.specs.Outcome.{File, size_of}
+use Rattle.bl_session.specs.Phases.{boot_facts}
+use Rattle.bl_session.specs.Stores.{file_of, stored_files}
+use Rattle.bl_desc.specs.declared.desc.Description.{Description}
+use Rattle.bl_desc.specs.Described.{described}
+use Rattle.bl_desc.specs.Views.{view}
+use Rattle.bl_boot.specs.declared.description_boot.boot_end.End.{End}
+use Rattle.bl_boot.specs.declared.description_boot.boot_end.End.TheVariants.{Booted, NoEntryLeft}
+use Rattle.bl_boot.specs.declared.explanation.blame.Blame.TheVariants.{NotUtf8, NotToml, BadKey}
+use Rattle.bl_boot.specs.declared.explanation.blame.Blame.TheVariants.{BadMachine}
+use Rattle.bl_boot.specs.declared.explanation.fault.ExplainFault.{ExplainFault}
+use Rattle.bl_boot.specs.declared.explanation.fault.ExplainFault.TheVariants.{Blamed, NoMemory}
+use Rattle.bl_boot.specs.Attempted.{menu_of, names_in}
+use Rattle.bl_boot.specs.Ends.{BootCase, IsMachineOf}
+use Rattle.bl_boot.specs.ExplainKept.{ExplainAsks, ExplainEnds, FoundExplains, IsMachineBlame}
+use Rattle.bl_boot.specs.ExplainKept.{IsReadBlame}
+use Rattle.bl_boot.specs.Found.{AreFound}
+use Rattle.bl_boot.specs.Told.{sought_in}
+use Rattle.bl_boot.proofs.EndLemmas.{all_asked}
+
+-- files of a type F
+module _ {F : Type 0} (answers : F → List ℕ → File → Type 0) (faults : F → ℕ) (desc : List ℕ)
+  where
+    -- the bytes are not read
+    pub unread : (files : F) (said : List ℕ) (fault : ExplainFault) → IsReadBlame desc fault
+        → ExplainEnds answers faults desc files files said said (Err fault)
+    unread files said (Blamed blame) is = (is.0, is.1, refl, refl)
+    unread files said NoMemory is = refl
+
+    module _ {A : Type 0} (d : Description A) (is : described desc ≡ Some (view d)) where
+      -- there is no such machine
+      pub unmade : (files : F) (said : List ℕ) (fault : ExplainFault)
+          → IsMachineBlame (view d) fault
+          → ExplainEnds answers faults desc files files said said (Err fault)
+      unmade files said (Blamed NotUtf8) m = absurd m
+      unmade files said (Blamed (NotToml place)) m = absurd m
+      unmade files said (Blamed BadKey) m = absurd m
+      unmade files said (Blamed (BadMachine fault)) m = (
+        inr (view d, is, record { fault = fault; named = m.0; first = m.1 }),
+        record { description = view d; is_described = is; named = m.0; first = m.1 },
+        refl,
+        refl,
+      )
+      unmade files said NoMemory m = refl
+
+      -- the boot of what was found is explained
+      module _ (facts : MachineFacts) (machine : IsMachineOf (view d) facts) (before after : F)
+          {B : Type 0} (files : List (Fetched B))
+          (found : AreFound answers faults (view d).files (names_in (view d)) before after
+          (map file_of files)) where
+        abbrev case_of : BootCase answers faults desc before after
+        case_of = record {
+          description = view d;
+          facts = facts;
+          files = map file_of files;
+          is_described = is;
+          machine = machine;
+          found = found;
+        }
+
+        pub explained_by : (old new : List ℕ) (ended : Result End ExplainFault)
+            → FoundExplains (view d)
+            (boot_facts facts (menu_of (view d)) (map size_of (stored_files files)))
+            (stored_files files) (sought_in (view d) (map file_of files)) old new ended
+            → ExplainEnds answers faults desc before after old new ended
+        explained_by old new (Ok Booted) (entry, earlier, handover, came, said) = record {
+          entry = entry;
+          earlier = earlier;
+          handover = handover;
+          explained = record { case = case_of; outcome = came; said = said };
+        }
+        explained_by old new (Ok NoEntryLeft) (refused, came, said) = record {
+          refused = refused;
+          explained = record { case = case_of; outcome = came; said = said };
+        }
+        explained_by old new (Err (Blamed blame)) never = absurd never
+        explained_by old new (Err NoMemory) kept = kept
+
+-- each name was asked for, whatever came of the boot
+pub explain_asked : (ended : Result End ExplainFault) (names before after : List (List ℕ))
+    → after ≡ before ++ names → ExplainAsks names before after ended
+explain_asked (Ok end) names before after all = all
+explain_asked (Err fault) names before after all = all_asked names before after all

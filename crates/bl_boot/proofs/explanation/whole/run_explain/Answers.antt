@@ -1,0 +1,232 @@
+use Rattle.std.proofs.Common.{◌≡◌, ◌∙◌, length, map, refl, ap, arith}
+use Rattle.std.proofs.lemmas.List.{length-replicate, length-map}
+use Rattle.std.proofs.lemmas.Result.{err_from_is_err_and}
+use Rattle.bl_desc.specs.Described.{described}
+use Rattle.bl_desc.specs.Views.{view}
+use Rattle.bl_session.specs.Stores.{file_of}
+use Rattle.bl_boot.specs.Ends.{names_fetched, names_sought}
+use Rattle.bl_boot.specs.Attempted.{most_names, names_in}
+use Rattle.bl_boot.proofs.EndLemmas.{all_asked, fetched, inline_in, none_asked, none_missing}
+use Rattle.bl_boot.proofs.EndLemmas.{sought}
+use Rattle.bl_boot.proofs.ExplainEnds.{explain_asked, explained_by, unmade, unread}
+use Rattle.bl_boot.proofs.NameLemmas.{as_many}
+use Rattle.bl_boot.proofs.explanation.whole.run_explain.Goals as goal
+
+pub returns-in_err-description : goal.returns-in_err-description
+returns-in_err-description g c =
+    let p =
+    err_from_is_err_and c.from_residual.result
+    c.from_residual.ensures.1 in
+    rw (p.1, p.2)
+    (record {
+      ends = unread g.F.Files.answers g.F.Files.faults c.args.desc.now c.args.files.now
+          c.args.say.now.items _ c.in_err-description.ensures.fault;
+      asked = none_asked (names_fetched (described c.args.desc.now))
+          (g.F.Files.asked c.args.files.now);
+      inline = λ _. refl;
+      same_files = λ file answer told. told;
+      missing = none_missing (g.F.Files.faults c.args.files.now)
+          (length (names_sought (described c.args.desc.now)));
+      few = (none_missing (g.F.Files.faults c.args.files.now) most_names).1;
+    })
+
+pub returns-in_err-machine : goal.returns-in_err-machine
+returns-in_err-machine g c =
+    let p =
+    err_from_is_err_and c.from_residual-in_err-machine.result
+    c.from_residual-in_err-machine.ensures.1 in
+    rw (p.1, p.2)
+    (record {
+      ends = unmade g.F.Files.answers g.F.Files.faults c.args.desc.now
+          c.in_ok-description.description c.in_ok-description.ensures.given c.args.files.now
+          c.args.say.now.items _ c.in_err-machine.ensures.fault;
+      asked = none_asked (names_fetched (described c.args.desc.now))
+          (g.F.Files.asked c.args.files.now);
+      inline = λ _. refl;
+      same_files = λ file answer told. told;
+      missing = none_missing (g.F.Files.faults c.args.files.now)
+          (length (names_sought (described c.args.desc.now)));
+      few = (none_missing (g.F.Files.faults c.args.files.now) most_names).1;
+    })
+
+pub returns-in_err-names : goal.returns-in_err-names
+returns-in_err-names g c =
+    let p =
+    err_from_is_err_and c.from_residual-in_err-names.result
+    c.from_residual-in_err-names.ensures.1 in
+    rw (p.1, p.2)
+    (record {
+      ends = refl;
+      asked = none_asked (names_fetched (described c.args.desc.now))
+          (g.F.Files.asked c.args.files.now);
+      inline = λ _. refl;
+      same_files = λ file answer told. told;
+      missing = none_missing (g.F.Files.faults c.args.files.now)
+          (length (names_sought (described c.args.desc.now)));
+      few = (none_missing (g.F.Files.faults c.args.files.now) most_names).1;
+    })
+
+pub returns-in_err-menu : goal.returns-in_err-menu
+returns-in_err-menu g c =
+    let p =
+    err_from_is_err_and c.from_residual-in_err-menu.result
+    c.from_residual-in_err-menu.ensures.1 in
+    rw (p.1, p.2)
+    (record {
+      ends = refl;
+      asked = none_asked (names_fetched (described c.args.desc.now))
+          (g.F.Files.asked c.args.files.now);
+      inline = λ _. refl;
+      same_files = λ file answer told. told;
+      missing = none_missing (g.F.Files.faults c.args.files.now)
+          (length (names_sought (described c.args.desc.now)));
+      few = (none_missing (g.F.Files.faults c.args.files.now) most_names).1;
+    })
+
+pub returns-in_err-memory : goal.returns-in_err-memory
+returns-in_err-memory g c =
+    let p =
+    err_from_is_err_and c.from_residual-in_err-memory.result
+    c.from_residual-in_err-memory.ensures.1 in
+    rw (p.1, p.2)
+    (record {
+      ends = refl;
+      asked = none_asked (names_fetched (described c.args.desc.now))
+          (g.F.Files.asked c.args.files.now);
+      inline = λ _. refl;
+      same_files = λ file answer told. told;
+      missing = none_missing (g.F.Files.faults c.args.files.now)
+          (length (names_sought (described c.args.desc.now)));
+      few = (none_missing (g.F.Files.faults c.args.files.now) most_names).1;
+    })
+
+pub returns-in_err-found-clause-inline : goal.returns-in_err-found-clause-inline
+returns-in_err-found-clause-inline g c = λ has. c.in_err-found.ensures.inline
+    (rw (c.deref-2.ensures.value, c.in_ok-names.ensures.names)
+    (inline_in c.args.desc.now c.in_ok-description.description c.in_ok-description.ensures.given
+    has))
+
+pub returns-in_err-found-clause-missing : goal.returns-in_err-found-clause-missing
+returns-in_err-found-clause-missing g c =
+    let missing = c.in_err-found.ensures.missing in
+    let count : length c.deref-2.result.now
+    ≡ length (names_in (view c.in_ok-description.description)) =
+    ap length c.deref-2.ensures.value
+    ∙ as_many c.in_ok-names.names.items _ c.in_ok-names.ensures.names in (
+      missing.0,
+      rw (sought c.args.desc.now c.in_ok-description.description
+          c.in_ok-description.ensures.given) (omega (arith, missing.1, count)),
+    )
+
+pub returns-in_err-found-clause-few : goal.returns-in_err-found-clause-few
+returns-in_err-found-clause-few g c =
+    let missing = c.in_err-found.ensures.missing in
+    let count : length c.deref-2.result.now ≡ length c.in_ok-names.names.items =
+    ap length c.deref-2.ensures.value in
+    omega (arith, missing.1, count, c.in_ok-names.ensures.few)
+
+pub returns-in_err-sizes-clause-inline : goal.returns-in_err-sizes-clause-inline
+returns-in_err-sizes-clause-inline g c = λ has. c.in_ok-found.ensures.inline
+    (rw (c.deref-2.ensures.value, c.in_ok-names.ensures.names)
+    (inline_in c.args.desc.now c.in_ok-description.description c.in_ok-description.ensures.given
+    has))
+
+pub returns-in_err-sizes-clause-missing : goal.returns-in_err-sizes-clause-missing
+returns-in_err-sizes-clause-missing g c =
+    let missing = c.in_ok-found.ensures.missing in
+    let count : length c.deref-2.result.now
+    ≡ length (names_in (view c.in_ok-description.description)) =
+    ap length c.deref-2.ensures.value
+    ∙ as_many c.in_ok-names.names.items _ c.in_ok-names.ensures.names in (
+      missing.0,
+      rw (sought c.args.desc.now c.in_ok-description.description
+          c.in_ok-description.ensures.given) (omega (arith, missing.1, count)),
+    )
+
+pub returns-in_err-sizes-clause-few : goal.returns-in_err-sizes-clause-few
+returns-in_err-sizes-clause-few g c =
+    let missing = c.in_ok-found.ensures.missing in
+    let count : length c.deref-2.result.now ≡ length c.in_ok-names.names.items =
+    ap length c.deref-2.ensures.value in
+    omega (arith, missing.1, count, c.in_ok-names.ensures.few)
+
+pub returns-in_err-found-clause-asked : goal.returns-in_err-found-clause-asked
+returns-in_err-found-clause-asked g c =
+    let p =
+    err_from_is_err_and c.from_residual-in_err-found.result c.from_residual-in_err-found.ensures.1
+    in
+    rw (
+      p.1,
+      fetched c.args.desc.now c.in_ok-description.description
+          c.in_ok-description.ensures.given,
+    )
+    (rw (c.deref-2.ensures.value, c.in_ok-names.ensures.names)
+    at c.in_err-found.ensures.asked_first)
+
+pub returns-in_err-sizes-clause-asked : goal.returns-in_err-sizes-clause-asked
+returns-in_err-sizes-clause-asked g c =
+    let p =
+    err_from_is_err_and c.from_residual-in_err-sizes.result c.from_residual-in_err-sizes.ensures.1
+    in
+    rw p.1
+    (all_asked (names_fetched (described c.args.desc.now))
+    (g.F.Files.asked c.args.files.now) _
+    (rw (fetched c.args.desc.now c.in_ok-description.description
+    c.in_ok-description.ensures.given)
+    (rw (c.deref-2.ensures.value, c.in_ok-names.ensures.names) at c.in_ok-found.ensures.asked)))
+
+pub returns-clause-asked : goal.returns-clause-asked
+returns-clause-asked g c =
+    explain_asked c.explain_found.result (names_fetched (described c.args.desc.now))
+    (g.F.Files.asked c.args.files.now) _
+    (rw (fetched c.args.desc.now c.in_ok-description.description
+    c.in_ok-description.ensures.given)
+    (rw (c.deref-2.ensures.value, c.in_ok-names.ensures.names) at c.in_ok-found.ensures.asked))
+
+pub returns-clause-inline : goal.returns-clause-inline
+returns-clause-inline g c = λ has. c.in_ok-found.ensures.inline
+    (rw (c.deref-2.ensures.value, c.in_ok-names.ensures.names)
+    (inline_in c.args.desc.now c.in_ok-description.description c.in_ok-description.ensures.given
+    has))
+
+pub returns-clause-missing : goal.returns-clause-missing
+returns-clause-missing g c =
+    let missing = c.in_ok-found.ensures.missing in
+    let count : length c.deref-2.result.now
+    ≡ length (names_in (view c.in_ok-description.description)) =
+    ap length c.deref-2.ensures.value
+    ∙ as_many c.in_ok-names.names.items _ c.in_ok-names.ensures.names in (
+      missing.0,
+      rw (sought c.args.desc.now c.in_ok-description.description
+          c.in_ok-description.ensures.given) (omega (arith, missing.1, count)),
+    )
+
+pub returns-clause-few : goal.returns-clause-few
+returns-clause-few g c =
+    let missing = c.in_ok-found.ensures.missing in
+    let count : length c.deref-2.result.now ≡ length c.in_ok-names.names.items =
+    ap length c.deref-2.ensures.value in
+    omega (arith, missing.1, count, c.in_ok-names.ensures.few)
+
+pub explain_found-requires-clause-size : goal.explain_found-requires-clause-size
+explain_found-requires-clause-size g c =
+    ap length c.in_ok-memory.ensures.exact
+    ∙ length-replicate c.size.result c.in_ok-description.description.fill ∙ c.size.ensures.size
+
+pub returns-clause-ends : goal.returns-clause-ends
+returns-clause-ends g c =
+    explained_by g.F.Files.answers g.F.Files.faults c.args.desc.now
+    c.in_ok-description.description c.in_ok-description.ensures.given
+    c.in_ok-machine.machine c.in_ok-machine.ensures.machine _ _ c.in_ok-found.found.items
+    (rw (c.deref-2.ensures.value, c.in_ok-names.ensures.names) at c.in_ok-found.ensures.found)
+    _ _ c.explain_found.result
+    (rw (
+      c.new-store.ensures,
+      c.in_ok-menu.ensures.menu,
+      c.new-sought.ensures,
+      c.deref-4.ensures.value,
+      c.in_ok-names.ensures.names,
+      c.deref-5.ensures.value,
+      c.in_ok-sizes.ensures,
+      c.deref-3.ensures.value,
+    ) at c.explain_found.ensures)

@@ -1,0 +1,107 @@
+-- Why a description is a bad one, told for a person. Own.
+use Rattle.std.specs.Prelude.{◌≡◌, ◌≢◌, ◌+◌, ◌≤◌, ◌==◌, ◌&&◌, ℕ, true, false, nat_le, nat_lt, List}
+use Rattle.std.specs.Prelude.{[], ◌∷◌, ◌++◌, if◌then◌else◌, length, take, Some, None, codes}
+use Rattle.std.specs.Prelude.{decimal}
+use Rattle.std.specs.Str.{is_utf8}
+use Rattle.toml.specs.Data.{Members}
+use Rattle.toml.specs.Parse.{parse_document}
+use Rattle.bl_map.specs.Faults.{HasFirstMapFault, map_fault_number}
+use Rattle.bl_map.specs.declared.fault.MapFault.{MapFault}
+use Rattle.bl_map.specs.declared.fault.MapFault.TheVariants.{BadSize, BadRegion, TooManyRegions}
+use Rattle.bl_map.specs.declared.fault.MapFault.TheVariants.{BadPool, NoMemory}
+use Rattle.bl_desc.specs.Described.{Described, described, described_in}
+use Rattle.bl_boot.specs.declared.explanation.blame.TextPlace.{TextPlace}
+use Rattle.bl_boot.specs.declared.explanation.blame.Blame.{Blame}
+use Rattle.bl_boot.specs.declared.explanation.blame.Blame.TheVariants.{NotUtf8, NotToml, BadKey}
+use Rattle.bl_boot.specs.declared.explanation.blame.Blame.TheVariants.{BadMachine}
+use Rattle.bl_boot.specs.RefusalWords.{number_told}
+
+-- ---- places in a text
+
+-- the place behind a byte: a line feed ends a line; a character is one column, and begins with any
+-- byte but 0x80 to 0xBF
+abbrev pub after_byte : TextPlace → ℕ → TextPlace
+after_byte place b =
+    if b == 10 then record { line = place.line + 1; column = 1 } else
+    if nat_le 0x80 b && nat_lt b 0xC0 then place else
+    record { line = place.line; column = place.column + 1 }
+
+abbrev pub after_bytes : TextPlace → List ℕ → TextPlace
+after_bytes place [] = place
+after_bytes place (b ∷ bytes) = after_bytes (after_byte place b) bytes
+
+-- the place behind a text; lines and columns count from 1
+abbrev pub text_place : List ℕ → TextPlace
+text_place before = after_bytes (record { line = 1; column = 1 }) before
+
+-- ---- what stands
+
+-- the text is not TOML, which is seen at this place of it
+pub record IsNotToml (desc : List ℕ) (place : TextPlace) : Type 0 where
+  pub text : is_utf8 desc ≡ true
+  pub refused : parse_document desc ≡ None
+  pub at : ℕ
+  pub within : at ≤ length desc
+  pub told : place ≡ text_place (take at desc)
+
+-- it is TOML, but one of its keys or values is not as it must be
+pub record HasBadKey (desc : List ℕ) : Type 0 where
+  pub text : is_utf8 desc ≡ true
+  pub members : Members
+  pub read : parse_document desc ≡ Some members
+  pub refused : described_in members ≡ None
+
+-- it describes a machine that breaks a rule; this fault is the first
+pub record HasBadMachine (desc : List ℕ) (fault : MapFault) : Type 0 where
+  pub description : Described
+  pub is_described : described desc ≡ Some description
+  pub named : fault ≢ NoMemory
+  pub first : HasFirstMapFault description.size description.regions description.pool fault
+
+abbrev pub HasBlame : List ℕ → Blame → Type 0
+HasBlame desc NotUtf8 = is_utf8 desc ≡ false
+HasBlame desc (NotToml place) = IsNotToml desc place
+HasBlame desc BadKey = HasBadKey desc
+HasBlame desc (BadMachine fault) = HasBadMachine desc fault
+
+-- ---- the line
+
+abbrev pub map_fault_name : MapFault → List ℕ
+map_fault_name BadSize = codes "BadSize"
+map_fault_name (BadRegion i) = codes "BadRegion"
+map_fault_name TooManyRegions = codes "TooManyRegions"
+map_fault_name BadPool = codes "BadPool"
+map_fault_name NoMemory = codes "NoMemory"
+
+abbrev pub map_fault_meaning : MapFault → List ℕ
+map_fault_meaning BadSize = codes "a bad size: not 1 MiB to 4 GiB in whole frames"
+map_fault_meaning (BadRegion i) = codes "the region with this index ends above 2^52"
+map_fault_meaning TooManyRegions = codes "more than 128 regions"
+map_fault_meaning BadPool =
+    codes "a bad pool: not whole frames, or with a byte that is not usable"
+map_fault_meaning NoMemory = codes "out of memory while a machine was made"
+
+-- the index of a region, in brackets
+abbrev pub map_fault_told : MapFault → List ℕ
+map_fault_told (BadRegion i) = number_told i
+map_fault_told _ = []
+
+-- a machine's fault: its number, its name with what it tells, its meaning
+abbrev pub map_fault_words : MapFault → List ℕ
+map_fault_words fault =
+    decimal (map_fault_number fault) ++ codes " " ++ map_fault_name fault ++ map_fault_told fault
+    ++ codes ": " ++ map_fault_meaning fault
+
+abbrev pub place_words : TextPlace → List ℕ
+place_words place =
+    codes "it is not TOML, at line " ++ decimal place.line ++ codes ", column "
+    ++ decimal place.column
+
+abbrev pub blame_words : Blame → List ℕ
+blame_words NotUtf8 = codes "it is not UTF-8"
+blame_words (NotToml place) = place_words place
+blame_words BadKey = codes "a key is unknown or missing, or its value is not allowed"
+blame_words (BadMachine fault) = codes "machine " ++ map_fault_words fault
+
+abbrev pub blame_line : Blame → List ℕ
+blame_line blame = codes "bad description: " ++ blame_words blame ++ codes "\n"

@@ -1,0 +1,87 @@
+-- The lines that tell a boot for a person. Own.
+use Rattle.std.specs.Prelude.{ℕ, ◌==◌, ◌||◌, Bool, if◌then◌else◌, List, [], ◌++◌, length, codes}
+use Rattle.std.specs.Prelude.{decimal, Option, Some, None, map, slice_get}
+use Rattle.std.specs.List.{flat_map, list_any, range_with_len}
+use Rattle.bl_session.specs.declared.words.RefusedEntry.{RefusedEntry}
+use Rattle.bl_session.specs.Boot.{State, unstarted, running, handed_over, none_left, out_of_memory}
+use Rattle.bl_session.specs.Outcome.{File, size_of}
+use Rattle.bl_desc.specs.Described.{Described}
+use Rattle.bl_desc.specs.Entries.{Entry}
+use Rattle.bl_boot.specs.Attempted.{entry_of, file_names, names_in}
+use Rattle.bl_boot.specs.HandedLines.{handover_lines}
+use Rattle.bl_boot.specs.RefusalWords.{refusal_line}
+use Rattle.bl_boot.specs.Says.{booted_line, no_entry_line}
+use Rattle.bl_boot.specs.Sought.{SoughtFacts, sought_lines}
+
+-- ---- attempts
+
+-- an entry by its index in the menu, and its title
+abbrev pub attempt_line : ℕ → List ℕ → List ℕ
+attempt_line entry title = codes "entry " ++ decimal entry ++ codes " " ++ title ++ codes "\n"
+
+-- an entry of a menu, and its files
+abbrev pub row_lines : SoughtFacts → ℕ → Entry → List ℕ
+row_lines sought index entry =
+    attempt_line index entry.title ++ sought_lines sought 0 (file_names entry)
+
+abbrev pub row_lines_if : SoughtFacts → ℕ → Option Entry → List ℕ
+row_lines_if sought index None = []
+row_lines_if sought index (Some entry) = row_lines sought index entry
+
+abbrev pub attempt_lines : List Entry → SoughtFacts → ℕ → List ℕ
+attempt_lines entries sought index = row_lines_if sought index (slice_get entries index)
+
+-- an attempt that was refused
+abbrev pub refused_attempt_lines : List Entry → SoughtFacts → RefusedEntry → List ℕ
+refused_attempt_lines entries sought refused =
+    attempt_lines entries sought refused.entry ++ refusal_line refused.refusal
+
+-- ---- hints
+
+-- the default or a fallback is this entry
+abbrev pub is_named : Described → ℕ → Bool
+is_named description index =
+    (description.default == index) || list_any (λ f. f == index) description.fallbacks
+
+abbrev pub hint_line : ℕ → List ℕ
+hint_line index =
+    codes "hint: entry " ++ decimal index
+    ++ codes " is not attempted: neither default nor fallback names it\n"
+
+abbrev pub hint_at : Described → ℕ → List ℕ
+hint_at description index = if is_named description index then [] else hint_line index
+
+-- each entry that is never attempted
+abbrev pub hint_lines : Described → List ℕ
+hint_lines description =
+    flat_map (hint_at description) (range_with_len 0 (length description.entries))
+
+-- ---- the boot
+
+-- what is told of a description's files, where these were found for the names that are looked for
+abbrev pub sought_in : Described → List File → SoughtFacts
+sought_in description files =
+    record { names = names_in description; sizes = map size_of files }
+
+-- each entry that was attempted was refused
+abbrev pub none_left_lines : Described → SoughtFacts → List RefusedEntry → List ℕ
+none_left_lines description sought refused =
+    flat_map (refused_attempt_lines description.entries sought) refused
+    ++ no_entry_line ++ hint_lines description
+
+-- an entry is handed over after these refusals, with these lines of what is handed over
+abbrev pub booted_lines : Described → SoughtFacts → ℕ → List RefusedEntry → (handed : List ℕ)
+    → List ℕ
+booted_lines description sought entry earlier handed =
+    flat_map (refused_attempt_lines description.entries sought) earlier
+    ++ attempt_lines description.entries sought entry
+    ++ booted_line entry (entry_of description entry).title ++ handed ++ hint_lines description
+
+-- what a boot came to
+abbrev pub told_lines : Described → SoughtFacts → State → List ℕ
+told_lines description sought unstarted = []
+told_lines description sought (running entry rest earlier pieces) = []
+told_lines description sought (handed_over entry earlier handover) =
+    booted_lines description sought entry earlier (handover_lines handover)
+told_lines description sought (none_left refused) = none_left_lines description sought refused
+told_lines description sought out_of_memory = []

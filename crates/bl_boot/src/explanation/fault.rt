@@ -1,0 +1,29 @@
+//! Why a boot is not explained to its end.
+ghost use Rattle.std.specs.Prelude.{◌≡◌};
+ghost use Rattle.bl_boot.specs.declared.explanation.fault.ExplainFault.TheVariants.{NoMemory};
+
+use crate::explanation::blame::Blame;
+use std::alloc::{AllocError, AllocFailed};
+
+/// Why a boot is not explained to its end: its description is a bad one, or memory ran out.
+#[derive(Clone, Copy, Debug, PartialEq, Eq)]
+pub enum ExplainFault {
+    Blamed(Blame),
+    NoMemory,
+}
+
+impl From<AllocError> for ExplainFault {
+    ghost from_gives = { λ _ fault. fault ≡ NoMemory };
+
+    fn from(_: AllocError) -> ExplainFault {
+        ExplainFault::NoMemory
+    }
+}
+
+impl<T: Drop> From<AllocFailed<T>> for ExplainFault {
+    ghost from_gives = { λ _ fault. fault ≡ NoMemory };
+
+    fn from(_: AllocFailed<T>) -> ExplainFault {
+        ExplainFault::NoMemory
+    }
+}

@@ -1,0 +1,3 @@
+pub mod HandleSteps
+pub mod LooseSteps
+pub mod ToldLemmas

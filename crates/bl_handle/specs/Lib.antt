@@ -1,0 +1,4 @@
+pub mod Faults
+pub mod Handles
+pub mod Told
+pub mod Turned

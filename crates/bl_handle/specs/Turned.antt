@@ -1,0 +1,48 @@
+-- What a call leaves that may change a session through its handle. Own.
+use Rattle.std.specs.Prelude.{◌≡◌, ◌≢◌, ℕ, List, Option, MatchBool, OnErr, OnOk, IfErr, IfOk}
+use Rattle.std.specs.Prelude.{Result, length}
+use Rattle.bl_mem.specs.Memory.{memory_from}
+use Rattle.bl_session.specs.declared.words.Progress.{Progress}
+use Rattle.bl_session.specs.Boot.{EventFacts, StepsOrFails, StartsOrFails, is_taken, attempt_of}
+use Rattle.bl_session.specs.Boot as steps
+use Rattle.bl_session.specs.Memory.{IsMemoryIn}
+use Rattle.bl_session.specs.Phases.{SessionFacts, state_at, not_started}
+use Rattle.bl_handle.specs.declared.handle_fault.HandleFault.{HandleFault}
+use Rattle.bl_handle.specs.Faults.{IsHandleFault}
+use Rattle.bl_handle.specs.Handles.{Between}
+
+-- the start of what a handle keeps, over memory from `base` on that held `before` and holds `after`
+pub record IsStarted (old new : Option SessionFacts) (base : ℕ) (before after : List ℕ)
+    (told : Result Progress HandleFault) : Type 0 where
+  pub err : IfErr told (IsHandleFault old base (length before))
+  pub unchanged : OnErr told ((new ≡ old) × (after ≡ before))
+  pub boot : OnOk told (Between old new ⊥ (λ one other. other.boot ≡ one.boot))
+  pub step : OnOk told (Between old new ⊥ (λ one other. StartsOrFails one.boot
+      (state_at (memory_from base before) one.phase)
+      (state_at (memory_from base after) other.phase)))
+  pub progress : IfOk told (λ progress. Between old new ⊥ (λ one other. progress
+      ≡ steps.progress (attempt_of (state_at (memory_from base before) one.phase))
+      (state_at (memory_from base after) other.phase)))
+  pub memory : OnOk told (Between old new ⊥ (λ one other. one.phase ≡ not_started
+      → IsMemoryIn one.boot.machine.pool (state_at (memory_from base after) other.phase)
+      (memory_from base before) (memory_from base after)))
+  pub same : OnOk told (Between old new ⊥ (λ one other. one.phase ≢ not_started
+      → memory_from base after ≡ memory_from base before))
+
+-- an event of what a handle keeps
+pub record IsTold (old new : Option SessionFacts) (base : ℕ) (before after : List ℕ)
+    (event : EventFacts) (told : Result Progress HandleFault) : Type 0 where
+  pub err : IfErr told (IsHandleFault old base (length before))
+  pub unchanged : OnErr told ((new ≡ old) × (after ≡ before))
+  pub boot : OnOk told (Between old new ⊥ (λ one other. other.boot ≡ one.boot))
+  pub step : OnOk told (Between old new ⊥ (λ one other. StepsOrFails one.boot
+      (state_at (memory_from base before) one.phase) event
+      (state_at (memory_from base after) other.phase)))
+  pub progress : IfOk told (λ progress. Between old new ⊥ (λ one other. progress
+      ≡ steps.progress (attempt_of (state_at (memory_from base before) one.phase))
+      (state_at (memory_from base after) other.phase)))
+  pub memory : OnOk told (Between old new ⊥ (λ one other. MatchBool
+      (is_taken (state_at (memory_from base before) one.phase) event)
+      (IsMemoryIn one.boot.machine.pool (state_at (memory_from base after) other.phase)
+      (memory_from base before) (memory_from base after))
+      (memory_from base after ≡ memory_from base before)))

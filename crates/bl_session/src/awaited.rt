@@ -1,0 +1,98 @@
+//! What a boot awaits where it stands at a phase, and what it asks a store for.
+ghost use Rattle.std.specs.Prelude.{◌≡◌, ◌++◌, ℕ, List, Some, true, OnOk, OnErr};
+ghost use Rattle.bl_session.specs.History.{Item};
+ghost use Rattle.bl_session.specs.Orders.{orders};
+ghost use Rattle.bl_session.specs.Phases.{phase_facts, is_waiting};
+ghost use Rattle.bl_session.specs.PhasesKept.{IsPhaseKept, facts_of_boot, state_in};
+ghost use Rattle.bl_session.specs.Requests.{first_request, request_after};
+ghost use Rattle.bl_session.specs.Turns.{IsAsked, missing_in};
+
+use crate::boot::Boot;
+use crate::orders::submit_files;
+use crate::phase::Phase;
+use crate::pieces::{first_missing, missing_piece, next_missing, request_of};
+use crate::store::Store;
+use crate::words::{Request, Ticket};
+use std::alloc::{AllocError, Allocator};
+
+impl<'a, A: Allocator + Copy> Boot<'a, A> {
+    /// Asks for each piece of the attempt that waits.
+    pub fn submit<S: Store>(&self, phase: &Phase<A>, store: &mut S) -> Result<(), AllocError>
+        requires standing { IsPhaseKept self.now.machine.now self.now.menu.now phase.now }
+        requires waiting { is_waiting (phase_facts self.now.menu.now.attempts phase.now) ≡ true }
+        ensures ok { OnOk result ((bytes : List ℕ) → S.given store.new
+            ≡ S.given store.old ++ orders (facts_of_boot self.now)
+            (state_in self.now bytes phase.now)) }
+        ensures err { OnErr result ((bytes : List ℕ) → (rest : List Item) × IsAsked
+            (orders (facts_of_boot self.now) (state_in self.now bytes phase.now)) rest
+            (S.given store.old) (S.given store.new)) }
+        ensures files { S.files store.new ≡ S.files store.old }
+    {
+        match phase {
+            Phase::Waits(waiting) => {
+                // what this ensures says that the number is small
+                self.menu.attempts();
+                let entry = self.menu.entry(waiting.entry);
+                submit_files(store, waiting.earlier.len() as u32, entry, &waiting.stage)
+            }
+            _ => unreachable!(),
+        }
+    }
+
+    /// The first piece that the attempt awaits. None if no attempt waits for pieces.
+    pub fn missing(&self, phase: &Phase<A>) -> Option<Request>
+        requires { IsPhaseKept self.now.machine.now self.now.menu.now phase.now }
+        ensures { (bytes : List ℕ)
+            → result ≡ first_request (facts_of_boot self.now) (state_in self.now bytes phase.now) }
+    {
+        match phase {
+            Phase::Waits(waiting) => {
+                // what these ensure says that the numbers are small
+                self.menu.attempts();
+                let entry = self.menu.entry(waiting.entry);
+                let found = first_missing(waiting.earlier.len() as u32, &waiting.stage);
+                request_of(entry, &waiting.stage, found)
+            }
+            Phase::Unstarted => None,
+            Phase::HandedOver(_) => None,
+            Phase::Failed(_) => None,
+        }
+    }
+
+    /// The first piece that the attempt awaits after that of a ticket, of whatever attempt.
+    pub fn missing_after(&self, phase: &Phase<A>, ticket: Ticket) -> Option<Request>
+        requires { IsPhaseKept self.now.machine.now self.now.menu.now phase.now }
+        ensures { (bytes : List ℕ) → result
+            ≡ request_after (facts_of_boot self.now) (state_in self.now bytes phase.now) ticket }
+    {
+        match phase {
+            Phase::Waits(waiting) => {
+                // what these ensure says that the numbers are small
+                self.menu.attempts();
+                let entry = self.menu.entry(waiting.entry);
+                let found = next_missing(waiting.earlier.len() as u32, &waiting.stage, ticket);
+                request_of(entry, &waiting.stage, found)
+            }
+            Phase::Unstarted => None,
+            Phase::HandedOver(_) => None,
+            Phase::Failed(_) => None,
+        }
+    }
+
+    /// The ticket of the first piece that the attempt awaits.
+    pub fn lost_ticket(&self, phase: &Phase<A>) -> Ticket
+        requires standing { IsPhaseKept self.now.machine.now self.now.menu.now phase.now }
+        requires waiting { is_waiting (phase_facts self.now.menu.now.attempts phase.now) ≡ true }
+        ensures { (bytes : List ℕ) → missing_in (state_in self.now bytes phase.now) ≡ Some result }
+    {
+        match phase {
+            Phase::Waits(waiting) => {
+                // what these ensure says that the numbers are small
+                self.menu.attempts();
+                self.menu.entry(waiting.entry);
+                missing_piece(waiting.earlier.len() as u32, &waiting.stage)
+            }
+            _ => unreachable!(),
+        }
+    }
+}

@@ -1,0 +1,133 @@
+//! The core for C: a static library. `include/bootcore.h` says what its callers keep.
+#![tactic(auto)]
+
+ghost use Rattle.std.specs.Prelude.{◌≡◌, length, Result};
+ghost use Rattle.bl_mem.specs.Memory.{memory_from};
+ghost use Rattle.bl_load.specs.HandoffFacts.{HandoffFacts};
+ghost use Rattle.bl_session.specs.Phases.{PhaseFacts};
+ghost use Rattle.bl_abi.specs.Boot.{IsBootEnd};
+ghost use Rattle.bl_abi.specs.BootTold.{TellsBoot};
+ghost use Rattle.bl_abi.specs.Load.{IsLoadEnd};
+ghost use Rattle.bl_abi.specs.Told.{TellsEnd};
+ghost use Rattle.bl_abi.specs.Walk.{IsWalkEnd, TellsWalk};
+ghost use Rattle.bl_abi.specs.declared.walked.SeenRecord.{SeenRecord};
+ghost use Rattle.bl_abi.specs.declared.walked.WalkStop.{WalkStop};
+ghost use Rattle.bl_abi.specs.declared.fault.LoadFault.{LoadFault};
+ghost use Rattle.bl_abi.specs.declared.given_fault.GivenFault.{GivenFault};
+
+use bl_abi::{
+    ByteRange, EntryRecord, Given, HandoffRecord, MachineRecord, ModuleRecord, PlaceRecord,
+    RefusalRecord, RegionRecord, SeenRecord, boot_told, load_told, walk_told,
+};
+use std::alloc::Global;
+
+/// One entry comes into memory that begins at a base.
+#[unsafe(no_mangle)]
+pub extern "C" fn bootcore_load_arrays(
+    alloc: Global,
+    memory: &mut [u8],
+    base: u32,
+    machine: &MachineRecord,
+    regions: &[RegionRecord],
+    entry: &EntryRecord,
+    modules: &[ModuleRecord],
+    text: &[u8],
+    files: &[ByteRange],
+    contents: &[u8],
+    told: &mut HandoffRecord,
+    places: &mut [PlaceRecord],
+    refusal: &mut RefusalRecord,
+) -> u32
+    ensures { (end : Result HandoffFacts LoadFault)
+        × IsLoadEnd machine.now regions.now
+        (record {
+          modules = modules.now;
+          text = text.now;
+          files = files.now;
+          contents = contents.now;
+        })
+        entry.now (length places.old)
+        (memory_from base memory.old) (memory_from base memory.new) end
+        × TellsEnd end result told.old told.new places.old places.new refusal.old refusal.new }
+{
+    let given = Given {
+        modules,
+        text,
+        files,
+        contents,
+    };
+    load_told(
+        alloc, memory, base, machine, regions, &given, entry, told, places, refusal,
+    )
+}
+
+/// A menu is booted in memory that begins at a base.
+#[unsafe(no_mangle)]
+pub extern "C" fn bootcore_boot_arrays(
+    alloc: Global,
+    memory: &mut [u8],
+    base: u32,
+    machine: &MachineRecord,
+    regions: &[RegionRecord],
+    entries: &[EntryRecord],
+    default: u32,
+    fallbacks: &[u32],
+    modules: &[ModuleRecord],
+    text: &[u8],
+    files: &[ByteRange],
+    contents: &[u8],
+    told: &mut HandoffRecord,
+    places: &mut [PlaceRecord],
+    refusals: &mut [RefusalRecord],
+    count: &mut u64,
+) -> u32
+    ensures { (end : Result PhaseFacts GivenFault)
+        × IsBootEnd machine.now regions.now
+        (record {
+          modules = modules.now;
+          text = text.now;
+          files = files.now;
+          contents = contents.now;
+        })
+        entries.now default fallbacks.now (length places.old)
+        (memory_from base memory.old) (memory_from base memory.new) end
+        × TellsBoot end result
+        (record {
+          handoff = told.old;
+          places = places.old;
+          refusals = refusals.old;
+          count = count.old;
+        })
+        (record {
+          handoff = told.new;
+          places = places.new;
+          refusals = refusals.new;
+          count = count.new;
+        }) }
+{
+    let given = Given {
+        modules,
+        text,
+        files,
+        contents,
+    };
+    boot_told(
+        alloc, memory, base, machine, regions, &given, entries, default, fallbacks, told, places,
+        refusals, count,
+    )
+}
+
+/// An image in memory is walked.
+#[unsafe(no_mangle)]
+pub extern "C" fn bootcore_walk_array(
+    alloc: Global,
+    image: &[u8],
+    told: &mut SeenRecord,
+    fault: &mut RefusalRecord,
+) -> u32
+    ensures { (end : Result SeenRecord WalkStop)
+        × IsWalkEnd image.now end
+        × TellsWalk end result told.old told.new fault.old fault.new }
+{
+    walk_told(alloc, image, told, fault)
+}

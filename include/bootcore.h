@@ -1,0 +1,382 @@
+/*
+ * bootcore: what a boot loader does with memory, for C.
+ *
+ * Link libbootcore_c.a. It wants memmove, memset and memcpy, and the allocator's malloc, realloc and
+ * free by way of three small functions that the toolchain's heap object has; examples/c/build shows
+ * the line. Nothing else is wanted: no file, no clock, no thread, no text.
+ *
+ * Units. Addresses and lengths are in bytes, and addresses are those of the machine that is booted.
+ * An index counts from 0.
+ *
+ * Ownership. All memory is the caller's, before, while and after a call. What a call takes for
+ * itself it gives back before it returns. No pointer is kept, and none is handed out.
+ *
+ * Threads. None is started, and two calls at once know nothing of each other, if they share nothing
+ * that either may change. Call from no signal handler.
+ *
+ * What the caller keeps; no call can test it:
+ * - a pointer that is not null points to as many elements as are told, of the type that is told,
+ *   aligned as it is there, that nobody else changes during the call;
+ * - what a call may change (memory, results) overlaps nothing else that it is given, so that a file
+ *   that lies in the machine's memory is first moved out of it.
+ * An array without elements may be null. All else that can be wrong has a status, and no call
+ * with any values does more than to answer one.
+ *
+ * The names of this file hold in C99 and in C++.
+ */
+#ifndef BOOTCORE_H
+#define BOOTCORE_H
+
+#include <stddef.h>
+#include <stdint.h>
+
+#ifdef __cplusplus
+extern "C" {
+#endif
+
+/* What a call answers. Of several misuses the first in the order of these lines is told; before one
+ * nothing was changed. */
+enum {
+    BOOTCORE_DONE = 0,
+    BOOTCORE_REFUSED = 1,           /* the entry is refused; no entry is left */
+    BOOTCORE_NO_MEMORY = 4,         /* malloc or realloc gave none; may come in place of any other */
+
+    BOOTCORE_NULL = 15,             /* a null pointer to one element or more */
+    BOOTCORE_FEW_PLACES = 16,       /* room for fewer than BOOTCORE_MOST_PLACES places */
+    BOOTCORE_BAD_KIND = 18,         /* a region's kind is none of BOOTCORE_USABLE and so on */
+    BOOTCORE_BAD_SIZE = 19,         /* the size is not 1 MiB to 4 GiB in frames of 4096 bytes */
+    BOOTCORE_TOO_MANY_REGIONS = 20, /* more than 128 */
+    BOOTCORE_BAD_REGION = 21,       /* a region ends above 2^52 */
+    BOOTCORE_BAD_POOL = 22,         /* the pool is not of whole frames, or not all of it is usable */
+    BOOTCORE_BAD_MEMORY = 23,       /* memory ends below the machine's size; of a boot: not at it */
+    BOOTCORE_BAD_PROTOCOL = 24,     /* an entry's protocol is none of BOOTCORE_MULTIBOOT2 and so on */
+    BOOTCORE_BAD_MODULES = 25,      /* an entry's modules are not among the modules */
+    BOOTCORE_BAD_TEXT = 26,         /* a line or a copy of an RSDP is no range of the text */
+    BOOTCORE_BAD_FILE = 27,         /* the index of a file is not below their number */
+    BOOTCORE_BAD_CONTENTS = 28,     /* a file is no range of the contents, and is not missing */
+    BOOTCORE_TOO_MANY = 29,         /* more than 32 entries, 64 modules, or 256 bytes of a copy */
+    BOOTCORE_BAD_INDEX = 30         /* the default or a fallback names no entry */
+};
+
+enum {
+    BOOTCORE_MOST_PLACES = 256,
+    BOOTCORE_MOST_REFUSALS = 32 /* a boot refuses no more entries */
+};
+
+/* Kinds of memory: the numbers of an e820 entry. Where regions overlap, the greatest counts. */
+enum {
+    BOOTCORE_USABLE = 1,
+    BOOTCORE_RESERVED = 2,
+    BOOTCORE_ACPI = 3,
+    BOOTCORE_NVS = 4,
+    BOOTCORE_BAD = 5
+};
+
+/* How a kernel is entered. */
+enum {
+    BOOTCORE_MULTIBOOT2 = 1,
+    BOOTCORE_LINUX = 2,   /* the 32-bit entry of the Linux boot protocol */
+    BOOTCORE_LINUX64 = 3  /* its 64-bit entry */
+};
+
+/* What a part in memory is. */
+enum {
+    BOOTCORE_KERNEL = 1,
+    BOOTCORE_MODULE = 2,
+    BOOTCORE_INFORMATION = 3,
+    BOOTCORE_BOOT_PARAMS = 4,
+    BOOTCORE_COMMAND_LINE = 5,
+    BOOTCORE_GDT = 6,
+    BOOTCORE_INITRD = 7,
+    BOOTCORE_PAGE_TABLES = 8
+};
+
+#define BOOTCORE_NO_FILE UINT32_MAX /* the index of no file */
+#define BOOTCORE_MISSING UINT64_MAX /* a boot: the offset of a file that can't be read */
+
+/* Bytes of an array. */
+typedef struct bootcore_range {
+    uint64_t offset;
+    uint64_t length;
+} bootcore_range;
+
+typedef struct bootcore_region {
+    uint64_t base;
+    uint64_t length;
+    uint32_t kind;
+    uint32_t reserved; /* not looked at */
+} bootcore_region;
+
+/* The machine beside its regions. A load needs no pool: its length may be 0. */
+typedef struct bootcore_machine {
+    uint64_t size;
+    uint64_t pool_base;
+    uint64_t pool_length;
+} bootcore_machine;
+
+typedef struct bootcore_module {
+    uint32_t file;
+    uint32_t reserved;   /* not looked at */
+    bootcore_range line; /* of the text */
+} bootcore_module;
+
+/* An entry. What its protocol has no use for is not looked at. */
+typedef struct bootcore_entry {
+    uint32_t protocol;
+    uint32_t kernel;         /* the index of its file */
+    uint32_t first_module;   /* Multiboot2: its modules, by their index among those given */
+    uint32_t module_count;
+    uint32_t initrd;         /* Linux: the index of its file, or BOOTCORE_NO_FILE */
+    uint32_t reserved;       /* not looked at */
+    bootcore_range line;     /* of the text, without a zero byte */
+    bootcore_range rsdp_old; /* Multiboot2: a copy of the RSDP of ACPI 1.0, of the text; none if */
+    bootcore_range rsdp_new; /* its length is 0; and one of that of ACPI 2.0 or later */
+} bootcore_entry;
+
+/* What a boot is made from. The text has the bytes of all lines and copies, the contents those of
+ * all files; one byte may serve many. */
+typedef struct bootcore_given {
+    bootcore_machine machine;
+    const bootcore_region *regions;
+    size_t region_count;
+    const bootcore_module *modules;
+    size_t module_count;
+    const uint8_t *text;
+    size_t text_length;
+    const bootcore_range *files; /* of the contents */
+    size_t file_count;
+    const uint8_t *contents;
+    size_t contents_length;
+} bootcore_given;
+
+/* The registers as the kernel begins. With 32 bits rip is what eip is to hold, rax what eax is, and
+ * so on, and what a processor has with 64 bits alone is 0. A segment register's number is its
+ * selector. A20 is 1 where the gate is to be open. */
+typedef struct bootcore_registers {
+    uint64_t bits; /* 32 or 64 */
+    uint64_t rip, rax, rbx, rcx, rdx, rsi, rdi, rbp, rsp;
+    uint64_t r8, r9, r10, r11, r12, r13, r14, r15;
+    uint64_t rflags, cr0, cr3, cr4, efer;
+    uint64_t cs, ds, es, fs, gs, ss;
+    uint64_t gdt_base, gdt_limit, a20;
+} bootcore_registers;
+
+/* A part in memory. */
+typedef struct bootcore_place {
+    uint32_t role;
+    uint32_t index; /* among the parts of its role */
+    uint64_t address;
+    uint64_t length;
+} bootcore_place;
+
+/* Why an entry is refused: its index, the refusal's number as docs/REFUSALS.md has it, and what that
+ * refusal carries (a file's place in the entry, an offset, a type, one segment or two), else 0. */
+typedef struct bootcore_refusal {
+    uint32_t entry;
+    uint32_t number;
+    uint64_t first;
+    uint64_t second;
+} bootcore_refusal;
+
+typedef struct bootcore_handoff {
+    uint32_t entry;    /* the index of the entry that is handed over */
+    uint32_t protocol; /* how it is entered */
+    uint32_t places;   /* how many places are told */
+    uint32_t reserved; /* 0 */
+    bootcore_registers registers;
+} bootcore_handoff;
+
+/* What a kernel sees in an image. */
+typedef struct bootcore_seen {
+    uint32_t protocol;
+    uint32_t reserved;      /* 0 */
+    uint64_t kernel_parts;  /* how many parts the kernel has */
+    uint64_t modules;       /* how many modules it is told of */
+    uint64_t runs;          /* how many runs of memory it is told of */
+    uint64_t entry;         /* where it is entered */
+    uint64_t line_length;
+    uint64_t initrd;        /* where its initial ramdisk lies */
+    uint64_t initrd_length; /* 0: there is none */
+} bootcore_seen;
+
+#if defined(__cplusplus)
+#define BOOTCORE_ASSERT(test, text) static_assert(test, text)
+#elif defined(__STDC_VERSION__) && __STDC_VERSION__ >= 201112L
+#define BOOTCORE_ASSERT(test, text) _Static_assert(test, text)
+#else
+#define BOOTCORE_PASTE(a, b) a##b
+#define BOOTCORE_NAME(line) BOOTCORE_PASTE(bootcore_assert_, line)
+#define BOOTCORE_ASSERT(test, text) typedef char BOOTCORE_NAME(__LINE__)[(test) ? 1 : -1]
+#endif
+
+BOOTCORE_ASSERT(sizeof(size_t) == 8, "bootcore is built for 64 bits");
+BOOTCORE_ASSERT(sizeof(bootcore_range) == 16, "bootcore_range");
+BOOTCORE_ASSERT(sizeof(bootcore_region) == 24, "bootcore_region");
+BOOTCORE_ASSERT(offsetof(bootcore_region, kind) == 16, "bootcore_region.kind");
+BOOTCORE_ASSERT(sizeof(bootcore_machine) == 24, "bootcore_machine");
+BOOTCORE_ASSERT(sizeof(bootcore_module) == 24, "bootcore_module");
+BOOTCORE_ASSERT(offsetof(bootcore_module, line) == 8, "bootcore_module.line");
+BOOTCORE_ASSERT(sizeof(bootcore_entry) == 72, "bootcore_entry");
+BOOTCORE_ASSERT(offsetof(bootcore_entry, line) == 24, "bootcore_entry.line");
+BOOTCORE_ASSERT(sizeof(bootcore_registers) == 256, "bootcore_registers");
+BOOTCORE_ASSERT(offsetof(bootcore_registers, a20) == 248, "bootcore_registers.a20");
+BOOTCORE_ASSERT(sizeof(bootcore_place) == 24, "bootcore_place");
+BOOTCORE_ASSERT(offsetof(bootcore_place, address) == 8, "bootcore_place.address");
+BOOTCORE_ASSERT(sizeof(bootcore_refusal) == 24, "bootcore_refusal");
+BOOTCORE_ASSERT(offsetof(bootcore_refusal, first) == 8, "bootcore_refusal.first");
+BOOTCORE_ASSERT(sizeof(bootcore_handoff) == 272, "bootcore_handoff");
+BOOTCORE_ASSERT(offsetof(bootcore_handoff, registers) == 16, "bootcore_handoff.registers");
+BOOTCORE_ASSERT(sizeof(bootcore_seen) == 64, "bootcore_seen");
+BOOTCORE_ASSERT(offsetof(bootcore_seen, kernel_parts) == 8, "bootcore_seen.kernel_parts");
+
+/* As bootcore_load, for arrays that are not null. */
+uint32_t bootcore_load_arrays(uint8_t *memory, size_t memory_length, uint32_t base,
+                              const bootcore_machine *machine, const bootcore_region *regions,
+                              size_t region_count, const bootcore_entry *entry,
+                              const bootcore_module *modules, size_t module_count,
+                              const uint8_t *text, size_t text_length, const bootcore_range *files,
+                              size_t file_count, const uint8_t *contents, size_t contents_length,
+                              bootcore_handoff *handoff, bootcore_place *places,
+                              size_t place_count, bootcore_refusal *refusal);
+
+/* As bootcore_boot, for arrays that are not null. */
+uint32_t bootcore_boot_arrays(uint8_t *memory, size_t memory_length, uint32_t base,
+                              const bootcore_machine *machine, const bootcore_region *regions,
+                              size_t region_count, const bootcore_entry *entries,
+                              size_t entry_count, uint32_t first, const uint32_t *fallbacks,
+                              size_t fallback_count, const bootcore_module *modules,
+                              size_t module_count, const uint8_t *text, size_t text_length,
+                              const bootcore_range *files, size_t file_count,
+                              const uint8_t *contents, size_t contents_length,
+                              bootcore_handoff *handoff, bootcore_place *places,
+                              size_t place_count, bootcore_refusal *refusals,
+                              size_t refusal_room, uint64_t *refused);
+
+/* As bootcore_walk, for an image that is not null. */
+uint32_t bootcore_walk_array(const uint8_t *image, size_t image_length, bootcore_seen *seen,
+                             bootcore_refusal *fault);
+
+/* What stands for an array without elements. */
+static inline const void *bootcore_array(const void *array) {
+    static const uint64_t nothing = 0;
+    return array ? array : &nothing;
+}
+
+/* An array that is null with one element or more. */
+static inline int bootcore_is_null(const void *array, size_t count) {
+    return !array && count;
+}
+
+static inline int bootcore_has_null(const bootcore_given *given) {
+    return bootcore_is_null(given->regions, given->region_count) ||
+           bootcore_is_null(given->modules, given->module_count) ||
+           bootcore_is_null(given->text, given->text_length) ||
+           bootcore_is_null(given->files, given->file_count) ||
+           bootcore_is_null(given->contents, given->contents_length);
+}
+
+/*
+ * Loads one entry into memory, and tells how its kernel is entered: what a hypervisor does before it
+ * enters its guest. There is no menu and no pool.
+ *
+ * `memory` has the bytes of the machine from the address `base` on, a multiple of 4096, and reaches
+ * to its size at least; no usable region may lie below `base`. A part that would lie there is
+ * answered by BOOTCORE_NO_MEMORY.
+ *
+ * - BOOTCORE_DONE: memory holds each part at its place, and each other byte as before; *handoff is
+ *   told (with entry 0), and in the first records of `places` the places, in ascending
+ *   order. The others, and *refusal, are as before.
+ * - BOOTCORE_REFUSED: *refusal is told (with entry 0); all else is as before.
+ * - Any other: all is as before.
+ */
+static inline uint32_t bootcore_load(uint8_t *memory, size_t memory_length, uint32_t base,
+                                     const bootcore_given *given, const bootcore_entry *entry,
+                                     bootcore_handoff *handoff, bootcore_place *places,
+                                     size_t place_count, bootcore_refusal *refusal) {
+    if (!memory || !given || !entry || !handoff || !places || !refusal ||
+        bootcore_has_null(given)) {
+        return BOOTCORE_NULL;
+    }
+    return bootcore_load_arrays(
+        memory, memory_length, base, &given->machine,
+        (const bootcore_region *)bootcore_array(given->regions), given->region_count, entry,
+        (const bootcore_module *)bootcore_array(given->modules), given->module_count,
+        (const uint8_t *)bootcore_array(given->text), given->text_length,
+        (const bootcore_range *)bootcore_array(given->files), given->file_count,
+        (const uint8_t *)bootcore_array(given->contents), given->contents_length, handoff, places,
+        place_count, refusal);
+}
+
+/* The entries of a menu, and the order in which they are attempted: `first`, then the fallbacks, one
+ * that was named before left out. */
+typedef struct bootcore_menu {
+    const bootcore_entry *entries;
+    size_t entry_count;
+    uint32_t first;
+    const uint32_t *fallbacks;
+    size_t fallback_count;
+} bootcore_menu;
+
+/*
+ * Boots the first entry of a menu that is not refused. Its files come into the machine's pool, a piece
+ * at a time, and from there to their places, as when a disk gives them; a file whose offset is
+ * BOOTCORE_MISSING can't be read, and refuses its entry.
+ *
+ * `memory` has the bytes of the machine from the address `base` on, a multiple of 4096, up to its size
+ * exactly; no usable region may lie below `base`.
+ *
+ * - BOOTCORE_DONE: memory holds each part at its place, 0 elsewhere in the pool, and each other byte
+ *   as before; *handoff and the places are told as by bootcore_load.
+ * - BOOTCORE_REFUSED: no entry is left. Memory holds 0 in the pool, and each other byte as before.
+ * - BOOTCORE_NO_MEMORY: bytes of the pool may have changed, and no other.
+ * - Any other: all is as before.
+ *
+ * After the first two the refusals are told in order, as many as there is room for, and in *refused
+ * how many there were.
+ */
+static inline uint32_t bootcore_boot(uint8_t *memory, size_t memory_length, uint32_t base,
+                                     const bootcore_given *given, const bootcore_menu *menu,
+                                     bootcore_handoff *handoff, bootcore_place *places,
+                                     size_t place_count, bootcore_refusal *refusals,
+                                     size_t refusal_room, uint64_t *refused) {
+    bootcore_refusal none;
+    if (!memory || !given || !menu || !handoff || !places || !refused ||
+        bootcore_is_null(refusals, refusal_room) || bootcore_has_null(given) ||
+        bootcore_is_null(menu->entries, menu->entry_count) ||
+        bootcore_is_null(menu->fallbacks, menu->fallback_count)) {
+        return BOOTCORE_NULL;
+    }
+    return bootcore_boot_arrays(
+        memory, memory_length, base, &given->machine,
+        (const bootcore_region *)bootcore_array(given->regions), given->region_count,
+        (const bootcore_entry *)bootcore_array(menu->entries), menu->entry_count, menu->first,
+        (const uint32_t *)bootcore_array(menu->fallbacks), menu->fallback_count,
+        (const bootcore_module *)bootcore_array(given->modules), given->module_count,
+        (const uint8_t *)bootcore_array(given->text), given->text_length,
+        (const bootcore_range *)bootcore_array(given->files), given->file_count,
+        (const uint8_t *)bootcore_array(given->contents), given->contents_length, handoff, places,
+        place_count, refusals ? refusals : &none, refusal_room, refused);
+}
+
+/*
+ * Walks an image in memory, as a measured boot does before it trusts what an image hands over: reads
+ * it, and follows the addresses in its registers as its kernel would. The image is copied on the way.
+ *
+ * - BOOTCORE_DONE: the bytes are an image, a kernel can be entered with it, and *seen is told.
+ * - BOOTCORE_REFUSED: fault->number is 71 to 76 if the bytes are no image (first: with 74 the number of
+ *   the part), 81 to 83 if no kernel can be entered with it; docs/REFUSALS.md says which is which.
+ * - BOOTCORE_NO_MEMORY: fault->number is 77 or 84.
+ */
+static inline uint32_t bootcore_walk(const uint8_t *image, size_t image_length,
+                                     bootcore_seen *seen, bootcore_refusal *fault) {
+    if (!seen || !fault || bootcore_is_null(image, image_length)) {
+        return BOOTCORE_NULL;
+    }
+    return bootcore_walk_array((const uint8_t *)bootcore_array(image), image_length, seen, fault);
+}
+
+#ifdef __cplusplus
+}
+#endif
+
+#endif

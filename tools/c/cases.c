@@ -1,0 +1,204 @@
+/*
+ * A case by way of C. tools/c/cases runs it on each.
+ *
+ *     cases load ENTRY IMAGE <CASE       loads this entry by bootcore_load
+ *     cases boot MOST IMAGE <CASE        boots the menu by bootcore_boot
+ *
+ * CASE has twelve numbers of 64 bits, as written below, and then the arrays as they lie in memory: regions, modules, ranges of
+ * files, entries, text, contents, fallbacks. So each case is a test of the layouts too. It prints `refused ENTRY NUMBER FIRST SECOND`
+ * for each entry that is refused, and then `done ENTRY`, `no entry left` or `status NUMBER`. If an entry is handed over, its image
+ * is written.
+ *
+ * Before that, if memory is small, the same call is made with each of its requests to malloc and realloc refused in turn, and all
+ * after it; of a boot the first MOST. The answer must be BOOTCORE_NO_MEMORY, and memory as before, of a boot outside the pool. The
+ * linker is told to wrap the two.
+ */
+#include "bootcore.h"
+
+#include <inttypes.h>
+#include <stdio.h>
+#include <stdlib.h>
+#include <string.h>
+
+enum { SIZE, POOL_BASE, POOL_LENGTH, FILL, REGIONS, MODULES, FILES, ENTRIES, TEXT, CONTENTS, DEFAULT, FALLBACKS, NUMBERS };
+
+static uint64_t numbers[NUMBERS];
+static bootcore_given given;
+static bootcore_menu menu;
+static uint8_t *memory;
+static bootcore_place places[BOOTCORE_MOST_PLACES];
+static bootcore_handoff handoff;
+static bootcore_refusal refusals[BOOTCORE_MOST_REFUSALS];
+static uint64_t refused;
+
+/* How many requests are still granted. */
+static size_t granted = SIZE_MAX;
+
+void *__real_malloc(size_t size);
+void *__wrap_malloc(size_t size);
+void *__real_realloc(void *old, size_t size);
+void *__wrap_realloc(void *old, size_t size);
+
+static int is_granted(void) {
+    if (granted == 0) {
+        return 0;
+    }
+    granted--;
+    return 1;
+}
+
+void *__wrap_malloc(size_t size) {
+    return is_granted() ? __real_malloc(size) : NULL;
+}
+
+void *__wrap_realloc(void *old, size_t size) {
+    return is_granted() ? __real_realloc(old, size) : NULL;
+}
+
+/* So many elements of the input, or null for none. */
+static void *read_array(uint64_t count, size_t size) {
+    void *array;
+    if (count == 0) {
+        return NULL;
+    }
+    array = malloc(count * size);
+    if (!array || fread(array, size, count, stdin) != count) {
+        exit(2);
+    }
+    return array;
+}
+
+/* An image of version 2, as docs/FORMATS.md has it: the registers and the records lie in the structs in its order. */
+static void write_image(const char *path) {
+    static const uint64_t magic = 0x004547414D494C42; /* BLIMAGE and a zero byte */
+    const uint32_t head[] = {2, handoff.protocol}, counts[] = {handoff.places, 0};
+    FILE *image = fopen(path, "wb");
+    uint32_t i;
+    if (!image) {
+        exit(2);
+    }
+    fwrite(&magic, 8, 1, image);
+    fwrite(head, 4, 2, image);
+    fwrite(&handoff.registers.rip, 8, 31, image);
+    fwrite(counts, 4, 2, image);
+    fwrite(places, sizeof *places, handoff.places, image);
+    for (i = 0; i < handoff.places; i++) {
+        fwrite(memory + places[i].address, 1, places[i].length, image);
+    }
+    if (fclose(image)) {
+        exit(2);
+    }
+}
+
+/* Makes the call over memory that was just filled, with so many requests granted: a load of this entry, or a boot if it is
+ * null. */
+static uint32_t call(const bootcore_entry *entry, size_t grants) {
+    uint32_t status;
+    memset(memory, (int)numbers[FILL], numbers[SIZE]);
+    refused = 0;
+    granted = grants;
+    if (entry) {
+        status = bootcore_load(memory, numbers[SIZE], 0, &given, entry, &handoff, places, BOOTCORE_MOST_PLACES, refusals);
+    } else {
+        status = bootcore_boot(memory, numbers[SIZE], 0, &given, &menu, &handoff, places, BOOTCORE_MOST_PLACES, refusals,
+                               BOOTCORE_MOST_REFUSALS, &refused);
+    }
+    granted = SIZE_MAX;
+    return status;
+}
+
+/* Each byte of a range is the fill: the first one is, and each is as the one before it. */
+static int is_fill(uint64_t start, uint64_t end) {
+    return start == end || (memory[start] == numbers[FILL] && !memcmp(memory + start, memory + start + 1, end - start - 1));
+}
+
+static int is_as_before(int is_load) {
+    uint64_t pool = numbers[POOL_BASE], end = pool + numbers[POOL_LENGTH];
+    if (is_load || numbers[POOL_LENGTH] == 0) {
+        return is_fill(0, numbers[SIZE]);
+    }
+    return is_fill(0, pool) && is_fill(end, numbers[SIZE]);
+}
+
+static void read_case(void) {
+    if (fread(numbers, 8, NUMBERS, stdin) != NUMBERS) {
+        exit(2);
+    }
+    given.machine.size = numbers[SIZE];
+    given.machine.pool_base = numbers[POOL_BASE];
+    given.machine.pool_length = numbers[POOL_LENGTH];
+    given.region_count = numbers[REGIONS];
+    given.regions = read_array(numbers[REGIONS], sizeof(bootcore_region));
+    given.module_count = numbers[MODULES];
+    given.modules = read_array(numbers[MODULES], sizeof(bootcore_module));
+    given.file_count = numbers[FILES];
+    given.files = read_array(numbers[FILES], sizeof(bootcore_range));
+    menu.entry_count = numbers[ENTRIES];
+    menu.entries = read_array(numbers[ENTRIES], sizeof(bootcore_entry));
+    given.text_length = numbers[TEXT];
+    given.text = read_array(numbers[TEXT], 1);
+    given.contents_length = numbers[CONTENTS];
+    given.contents = read_array(numbers[CONTENTS], 1);
+    menu.first = (uint32_t)numbers[DEFAULT];
+    menu.fallback_count = numbers[FALLBACKS];
+    menu.fallbacks = read_array(numbers[FALLBACKS], sizeof(uint32_t));
+}
+
+/* What came of the call. */
+static void tell(uint32_t status, const char *image) {
+    uint64_t i;
+    if (status != BOOTCORE_DONE && status != BOOTCORE_REFUSED) {
+        printf("status %" PRIu32 "\n", status);
+        return;
+    }
+    for (i = 0; i < refused; i++) {
+        printf("refused %" PRIu32 " %" PRIu32 " %" PRIu64 " %" PRIu64 "\n", refusals[i].entry, refusals[i].number,
+               refusals[i].first, refusals[i].second);
+    }
+    if (status == BOOTCORE_DONE) {
+        printf("done %" PRIu32 "\n", handoff.entry);
+        write_image(image);
+    } else {
+        printf("no entry left\n");
+    }
+}
+
+int main(int argc, char **argv) {
+    const bootcore_entry *entry = NULL;
+    size_t number, grants;
+    uint32_t status;
+    int is_load;
+    if (argc != 4) {
+        return 2;
+    }
+    is_load = !strcmp(argv[1], "load");
+    number = strtoul(argv[2], NULL, 10);
+    read_case();
+    memory = malloc(numbers[SIZE]);
+    if (!memory) {
+        return 2;
+    }
+    if (is_load) {
+        if (number >= menu.entry_count) {
+            return 2;
+        }
+        entry = &menu.entries[number];
+    }
+    for (grants = 0; numbers[SIZE] <= 0x400000 && (is_load || grants < number); grants++) {
+        if (call(entry, grants) != BOOTCORE_NO_MEMORY) {
+            break;
+        }
+        if (!is_as_before(is_load)) {
+            printf("memory changed, though request %zu was refused\n", grants);
+            return 0;
+        }
+    }
+    status = call(entry, SIZE_MAX);
+    if (is_load) {
+        handoff.entry = (uint32_t)number; /* a load tells 0 for its one entry */
+        refusals[0].entry = (uint32_t)number;
+        refused = status == BOOTCORE_REFUSED;
+    }
+    tell(status, argv[3]);
+    return 0;
+}
