@@ -29,7 +29,7 @@ static size_t add_file(const char *path)
 
 int main(int argc, char **argv)
 {
-    static bootcore_place places[BOOTCORE_MOST_PLACES];
+    static bootcore_place places[BOOTCORE_MAX_PARTS];
     const bootcore_region regions[] = {{0, 0x9F000, BOOTCORE_USABLE, 0}, {0x100000, SIZE - 0x100000, BOOTCORE_USABLE, 0}};
     bootcore_range files[2] = {{0, 0}, {0, 0}};
     bootcore_entry entry = {0};
@@ -55,7 +55,7 @@ int main(int argc, char **argv)
     given.contents = contents;
     given.contents_length = contents_length;
     for (round = 0; round < rounds; round++) {
-        uint32_t status = bootcore_load(memory, SIZE, 0, &given, &entry, &handoff, places, BOOTCORE_MOST_PLACES, &refusal);
+        uint32_t status = bootcore_load(memory, SIZE, 0, &given, &entry, &handoff, places, BOOTCORE_MAX_PARTS, &refusal);
         if (status != BOOTCORE_DONE) {
             fprintf(stderr, "status %u, refusal %u\n", (unsigned)status, (unsigned)refusal.number);
             return 1;

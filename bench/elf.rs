@@ -4,7 +4,7 @@ use crate::words::{ends_within, holds, u16_at, u32_at, u64_at};
 
 const MAGIC: u32 = 0x464C_457F;
 const PT_LOAD: u32 = 1;
-const MOST_PROGRAM_HEADERS: u16 = 128;
+const MAX_PROGRAM_HEADERS: u16 = 128;
 const ADDRESS_END: u64 = 1 << 32;
 
 #[derive(Clone, Copy, Debug, PartialEq, Eq)]
@@ -93,7 +93,7 @@ impl Header {
         if self.e_machine != if self.is_64 { 62 } else { 3 } {
             return Err(ElfFault::BadElf);
         }
-        if self.e_version != 1 || self.e_phnum > MOST_PROGRAM_HEADERS || !self.has_table(size) {
+        if self.e_version != 1 || self.e_phnum > MAX_PROGRAM_HEADERS || !self.has_table(size) {
             return Err(ElfFault::BadElf);
         }
         Ok(())

@@ -11,7 +11,7 @@ use std::ops::Range;
 const PROTOCOL: u32 = 2;
 const HIGH_START: u64 = 0x10_0000;
 const LINE_END: u64 = 0xA_0000;
-const MOST_RUNS: usize = 128;
+const MAX_RUNS: usize = 128;
 const FRAME_SIZE: u64 = FRAME as u64;
 const DESCRIPTORS: [u64; 4] = [0, 0, 0x00CF_9A00_0000_FFFF, 0x00CF_9200_0000_FFFF];
 
@@ -80,7 +80,7 @@ fn boot_params(setup: &Setup, words: [(usize, u64); 4], regions: &[Region]) -> V
 
 fn read_kernel(machine: &Machine, line: &str, file: &[u8]) -> Result<Setup, String> {
     let setup = read_setup(file).map_err(|fault| format!("{fault:?}"))?;
-    if line.len() > setup.cmdline_size as usize || machine.regions.len() > MOST_RUNS {
+    if line.len() > setup.cmdline_size as usize || machine.regions.len() > MAX_RUNS {
         return Err("the line or the memory map is too long".into());
     }
     Ok(setup)

@@ -8,7 +8,7 @@ const LOADED_HIGH: u8 = 1;
 const SECTOR: u64 = 512;
 pub const HEADER_START: usize = 0x1F1;
 const LEAST_HEADER_END: usize = 0x264;
-const MOST_HEADER_END: usize = 0x290;
+const MAX_HEADER_END: usize = 0x290;
 const PREFERRED: std::ops::RangeInclusive<u64> = 0x10_0000..=0xFFFF_FFFF;
 
 #[derive(Clone, Copy, Debug, PartialEq, Eq)]
@@ -31,14 +31,14 @@ pub struct Setup {
     pub cmdline_size: u32,
     pub pref_address: u64,
     pub init_size: u32,
-    pub header: [u8; MOST_HEADER_END - HEADER_START],
+    pub header: [u8; MAX_HEADER_END - HEADER_START],
     pub header_size: usize,
     pub payload_offset: u64,
     pub payload_size: u64,
 }
 
-fn header_of(file: &[u8], end: usize) -> [u8; MOST_HEADER_END - HEADER_START] {
-    let mut header = [0; MOST_HEADER_END - HEADER_START];
+fn header_of(file: &[u8], end: usize) -> [u8; MAX_HEADER_END - HEADER_START] {
+    let mut header = [0; MAX_HEADER_END - HEADER_START];
     header[..end - HEADER_START].copy_from_slice(&file[HEADER_START..end]);
     header
 }
@@ -61,7 +61,7 @@ pub fn read_setup(file: &[u8]) -> Result<Setup, SetupFault> {
     }
     let sectors = if file[0x1F1] == 0 { 4 } else { file[0x1F1] };
     let payload_offset = (sectors as u64 + 1) * SECTOR;
-    let end = (0x202 + file[0x201] as usize).min(MOST_HEADER_END);
+    let end = (0x202 + file[0x201] as usize).min(MAX_HEADER_END);
     if end < LEAST_HEADER_END || file.len() as u64 <= payload_offset {
         return Err(SetupFault::SetupCut);
     }

@@ -42,7 +42,7 @@ enum {
     BOOTCORE_NO_MEMORY = 4,         /* malloc or realloc gave none; may come in place of any other */
 
     BOOTCORE_NULL = 15,             /* a null pointer to one element or more */
-    BOOTCORE_FEW_PLACES = 16,       /* room for fewer than BOOTCORE_MOST_PLACES places */
+    BOOTCORE_FEW_PLACES = 16,       /* room for fewer than BOOTCORE_MAX_PARTS places */
     BOOTCORE_BAD_KIND = 18,         /* a region's kind is none of BOOTCORE_USABLE and so on */
     BOOTCORE_BAD_SIZE = 19,         /* the size is not 1 MiB to 4 GiB in frames of 4096 bytes */
     BOOTCORE_TOO_MANY_REGIONS = 20, /* more than 128 */
@@ -59,8 +59,8 @@ enum {
 };
 
 enum {
-    BOOTCORE_MOST_PLACES = 256,
-    BOOTCORE_MOST_REFUSALS = 32 /* a boot refuses no more entries */
+    BOOTCORE_MAX_PARTS = 256,
+    BOOTCORE_MAX_REFUSALS = 32 /* a boot refuses no more entries */
 };
 
 /* Kinds of memory: the numbers of an e820 entry. Where regions overlap, the greatest counts. */

@@ -16,13 +16,13 @@
 #include <string.h>
 #include <sys/mman.h>
 
-enum { MOST_FILES = 64 };
+enum { MAX_FILES = 64 };
 
 static const uint64_t guest_size = 0x20000000; /* 512 MiB */
 
 static uint8_t *contents; /* the files, one after the other */
 static size_t contents_length;
-static bootcore_range files[MOST_FILES];
+static bootcore_range files[MAX_FILES];
 static size_t file_count;
 
 /* Appends a file to the contents; 0 where it can't be read. */
@@ -68,12 +68,12 @@ static void print_handoff(const bootcore_handoff *handoff, const bootcore_place 
 }
 
 int main(int argc, char **argv) {
-    if (argc < 4 || argc - 3 > MOST_FILES) {
+    if (argc < 4 || argc - 3 > MAX_FILES) {
         fputs("guest multiboot2|linux|linux64 KERNEL LINE [FILE..]\n", stderr);
         return 2;
     }
     bootcore_entry entry = {.protocol = protocol_named(argv[1]), .initrd = BOOTCORE_NO_FILE};
-    bootcore_module modules[MOST_FILES] = {{0}};
+    bootcore_module modules[MAX_FILES] = {{0}};
     char text[4096] = "";
     size_t text_length = strlen(argv[3]);
     if (text_length > sizeof text || !add_file(argv[2])) {
@@ -108,10 +108,10 @@ int main(int argc, char **argv) {
         return 2;
     }
     bootcore_handoff handoff;
-    bootcore_place places[BOOTCORE_MOST_PLACES];
+    bootcore_place places[BOOTCORE_MAX_PARTS];
     bootcore_refusal refusal;
     uint32_t status = bootcore_load(memory, guest_size, 0, &given, &entry, &handoff, places,
-                                    BOOTCORE_MOST_PLACES, &refusal);
+                                    BOOTCORE_MAX_PARTS, &refusal);
     if (status == BOOTCORE_DONE) {
         print_handoff(&handoff, places);
     } else if (status == BOOTCORE_REFUSED) {

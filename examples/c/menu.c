@@ -72,7 +72,7 @@ static call right(void) {
     c.menu.fallbacks = second;
     c.menu.fallback_count = 2;
     c.memory_length = SIZE;
-    c.refusal_room = BOOTCORE_MOST_REFUSALS;
+    c.refusal_room = BOOTCORE_MAX_REFUSALS;
     return c;
 }
 
@@ -80,8 +80,8 @@ static int tried, wrong;
 
 static void expect(const char *name, call c, ending wanted) {
     uint8_t *memory = malloc(SIZE);
-    bootcore_place places[BOOTCORE_MOST_PLACES];
-    bootcore_refusal refusals[BOOTCORE_MOST_REFUSALS];
+    bootcore_place places[BOOTCORE_MAX_PARTS];
+    bootcore_refusal refusals[BOOTCORE_MAX_REFUSALS];
     bootcore_handoff handoff;
     ending got = {0, 0, 0, 0};
     if (!memory) {
@@ -93,7 +93,7 @@ static void expect(const char *name, call c, ending wanted) {
     c.given.files = c.files;
     c.menu.entries = c.menu.entry_count ? c.entries : NULL;
     got.status = bootcore_boot(memory, c.memory_length, 0, &c.given, &c.menu, &handoff, places,
-                               BOOTCORE_MOST_PLACES, refusals, c.refusal_room, &got.refused);
+                               BOOTCORE_MAX_PARTS, refusals, c.refusal_room, &got.refused);
     got.entry = handoff.entry;
     got.number = refusals[0].number;
     /* each byte of the pool is 0 once a boot ended, and else as it was */

@@ -46,7 +46,7 @@ static call right(void) {
     c.entry.protocol = BOOTCORE_MULTIBOOT2;
     c.entry.line.length = 4;
     c.memory_length = SIZE;
-    c.place_count = BOOTCORE_MOST_PLACES;
+    c.place_count = BOOTCORE_MAX_PARTS;
     return c;
 }
 
@@ -54,7 +54,7 @@ static int tried, wrong;
 
 static void expect(const char *name, call c, uint32_t wanted) {
     uint8_t *memory = malloc(SIZE);
-    bootcore_place *places = malloc(BOOTCORE_MOST_PLACES * sizeof *places);
+    bootcore_place *places = malloc(BOOTCORE_MAX_PARTS * sizeof *places);
     bootcore_handoff handoff;
     bootcore_refusal refusal;
     if (!memory || !places) {
@@ -91,7 +91,7 @@ int main(void) {
     CHANGED(BOOTCORE_REFUSED, (void)c);
     CHANGED(BOOTCORE_NULL, c.given.text = NULL);
     CHANGED(BOOTCORE_NULL, c.given.contents = NULL);
-    CHANGED(BOOTCORE_FEW_PLACES, c.place_count = BOOTCORE_MOST_PLACES - 1);
+    CHANGED(BOOTCORE_FEW_PLACES, c.place_count = BOOTCORE_MAX_PARTS - 1);
     CHANGED(BOOTCORE_BAD_KIND, c.given.regions = no_kind);
     CHANGED(BOOTCORE_BAD_SIZE, c.given.machine.size = SIZE + 1);
     CHANGED(BOOTCORE_BAD_SIZE, c.given.machine.size = UINT64_MAX);

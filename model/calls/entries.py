@@ -13,7 +13,7 @@ from .answers import Open
 from .kernels import refusal_text
 from .machines import last_machine
 
-MOST_MODULES = 64
+MAX_MODULES = 64
 ROLES = {1: "kernel", 2: "module", 3: "information", 4: "boot_params", 5: "command_line", 6: "gdt",
          7: "initrd", 8: "page_tables"}
 PROTOCOLS = {name: protocol for protocol, name in PROTOCOL_NAMES.items()}
@@ -30,7 +30,7 @@ def read_entry(table, words: List[str], kernel: bytes) -> entries.Entry:
         only(named, "line", "module", "rsdp_old", "rsdp_new")
         modules = [read_module(table, word) for word in named.get("module", [])]
         copies = [read_copy(table, perhaps(named, name)) for name in ("rsdp_old", "rsdp_new")]
-        demand(len(modules) <= MOST_MODULES and all(entries.is_copy(copy) for copy in copies))
+        demand(len(modules) <= MAX_MODULES and all(entries.is_copy(copy) for copy in copies))
         return entries.Multiboot2Entry(kernel, text, modules, *copies)
     only(named, "line", "initrd")
     initrd = table.names.one(single(named, "initrd")) if "initrd" in named else None

@@ -9,8 +9,8 @@ from . import ALL_BYTES, BYTES_OF, Call
 from .kernels import fault_text
 from .machines import run_word
 
-MOST_TEXT = 512
-MOST_MODULES = 2
+MAX_TEXT = 512
+MAX_MODULES = 2
 # The machine that the facts of a row are told of, of 636 and 3072 KiB.
 RUNS = [Run(0, 0x9f000, USABLE), Run(0xf0000, 0x100000, RESERVED), Run(0x100000, 0x400000, USABLE)]
 
@@ -37,7 +37,7 @@ def read_info(table, line):
 def text_of(table, word: str) -> bytes:
     """A line: short, and without a zero byte."""
     text = table.names.one(word)
-    demand(len(text) <= MOST_TEXT and b"\0" not in text)
+    demand(len(text) <= MAX_TEXT and b"\0" not in text)
     return text
 
 
@@ -53,7 +53,7 @@ def optional(table, named, name: str):
     values = named.get(name, [])
     demand(len(values) <= 1)
     data = table.names.one(values[0]) if values else None
-    demand(data is None or len(data) <= MOST_TEXT)
+    demand(data is None or len(data) <= MAX_TEXT)
     return data
 
 
@@ -62,7 +62,7 @@ def write_info(table, line):
     only(named, "line", "module", "old", "new", "base")
     demand(not bare and len(named.get("line", [])) == 1 and len(named.get("base", [])) <= 1)
     modules = [read_module(table, word) for word in named.get("module", [])]
-    demand(len(modules) <= MOST_MODULES)
+    demand(len(modules) <= MAX_MODULES)
     base = number(named["base"][0], 32) if "base" in named else None
     written = information.spell(information.Information(
         text_of(table, named["line"][0]), modules, 636, 3072, RUNS, base,

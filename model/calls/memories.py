@@ -3,7 +3,7 @@
 from typing import Callable, List
 
 from language import demand, fields, number, numbers, only, pair, single, spell as spelled, steps
-from rules.memory import MOST_BLOCK, Memory, bytes_of, number_of
+from rules.memory import MAX_BLOCK, Memory, bytes_of, number_of
 
 from . import Call
 from .answers import Steps, is_right, one_of
@@ -77,7 +77,7 @@ def memory_in(line) -> Memory:
 def flat(table, line):
     """Memory in one block, which is one request."""
     made, memory = read_steps(table, line.words[2:], True), memory_in(line)
-    if memory.size > MOST_BLOCK:
+    if memory.size > MAX_BLOCK:
         return "no memory, unasked"
     return "; ".join(step(memory) for step in made)
 

@@ -3,7 +3,7 @@
 from random import Random
 from typing import List
 
-from rules.machine import MOST_REGIONS, Machine, Region, usable_ranges
+from rules.machine import MAX_REGIONS, Machine, Region, usable_ranges
 from rules.numbers import FRAME, round_down, round_up
 
 from .chances import chance, number
@@ -64,7 +64,7 @@ def draw_hole(rng: Random, size: int) -> Region:
 
 def comb(rng: Random) -> List[Region]:
     """Many regions that do not adjoin: near the most runs for Linux, or the most regions."""
-    count = rng.choice([40, 61, 62, 63, 64, 120, MOST_REGIONS - 2])
+    count = rng.choice([40, 61, 62, 63, 64, 120, MAX_REGIONS - 2])
     return [Region(0x200000 + 0x2000 * i, 0x1000, 2) for i in range(count)]
 
 
@@ -94,7 +94,7 @@ def broken(rng: Random, machine: Machine) -> Machine:
         far = Region(number(rng, 62), number(rng, 62), rng.randrange(1, 6))
         return machine._replace(regions=[*machine.regions, far])
     if what == 2:
-        more = MOST_REGIONS + rng.randrange(2) - len(machine.regions)
+        more = MAX_REGIONS + rng.randrange(2) - len(machine.regions)
         return machine._replace(regions=machine.regions + [Region(0, 0, 1)] * more)
     start, end = machine.pool
     if what == 3:

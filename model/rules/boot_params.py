@@ -9,7 +9,7 @@ from .refusals import refuse
 
 LENGTH = 4096
 E820_ENTRIES, E820_TABLE, E820_SIZE = 0x1E8, 0x2D0, 20
-MOST_ENTRIES = 128
+MAX_ENTRIES = 128
 
 
 class Params(NamedTuple):
@@ -57,7 +57,7 @@ def read(data: bytes) -> Params:
 def header_breaks(data: bytes) -> List[int]:
     """The offsets at which the number of entries and the header's fields break the form."""
     rules = [
-        (E820_ENTRIES, data[E820_ENTRIES] <= MOST_ENTRIES),
+        (E820_ENTRIES, data[E820_ENTRIES] <= MAX_ENTRIES),
         (0x1FA, u16(data, 0x1FA) == 0xFFFF),
         (0x1FE, u16(data, 0x1FE) == 0xAA55),
         (0x201, header_end(data) >= LEAST_HEADER_END),
@@ -76,7 +76,7 @@ def run_of(data: bytes, i: int) -> Run:
 
 def entry_breaks(data: bytes) -> List[int]:
     breaks = []
-    for i in range(min(data[E820_ENTRIES], MOST_ENTRIES)):
+    for i in range(min(data[E820_ENTRIES], MAX_ENTRIES)):
         at, run = E820_TABLE + i * E820_SIZE, run_of(data, i)
         if run.end > REGION_LIMIT:
             breaks.append(at)
@@ -88,7 +88,7 @@ def entry_breaks(data: bytes) -> List[int]:
 def zero_breaks(data: bytes) -> List[int]:
     """The first byte that should be 0 and is not: those before the header, between it and the
     entries, and after the entries, but for the number of entries."""
-    entries_end = E820_TABLE + min(data[E820_ENTRIES], MOST_ENTRIES) * E820_SIZE
+    entries_end = E820_TABLE + min(data[E820_ENTRIES], MAX_ENTRIES) * E820_SIZE
     for start, end in [(0, E820_ENTRIES), (E820_ENTRIES + 1, HEADER_START),
                        (header_end(data), E820_TABLE), (entries_end, LENGTH)]:
         zeros = data[start:end].lstrip(b"\0")

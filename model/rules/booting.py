@@ -4,7 +4,7 @@ import os
 from typing import Callable, List, NamedTuple, Optional, Tuple, Union
 
 from . import description, image, walking
-from .description import MOST_ENTRIES, MOST_MODULES, BadDescription, MenuEntry
+from .description import MAX_ENTRIES, MAX_MODULES, BadDescription, MenuEntry
 from .entry import Entry, LinuxEntry, Multiboot2Entry, hand_over, is_copy
 from .handover import MULTIBOOT2, Handover
 from .machine import KIND_NAMES, Machine, high_kib, low_kib, normal_map
@@ -39,7 +39,7 @@ def check_menu(module_counts: List[int], copies: List[Optional[bytes]], default:
                fallbacks: List[int]) -> None:
     """Refused with 52 or 51; module_counts has the number of modules of each entry, copies has
     those of the RSDP of all entries."""
-    if len(module_counts) > MOST_ENTRIES or any(n > MOST_MODULES for n in module_counts):
+    if len(module_counts) > MAX_ENTRIES or any(n > MAX_MODULES for n in module_counts):
         refuse(52)
     if not all(is_copy(copy) for copy in copies):
         refuse(52)

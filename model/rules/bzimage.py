@@ -6,7 +6,7 @@ from .numbers import u16, u32, u64
 from .refusals import refuse
 
 HEADER_START = 0x1F1
-MOST_HEADER_END = 0x290
+MAX_HEADER_END = 0x290
 LEAST_HEADER_END = 0x264
 
 
@@ -31,7 +31,7 @@ class Setup(NamedTuple):
 
 def header_end(data: bytes) -> int:
     """0x202 and the byte at 0x201, at most 0x290; of a file, or of boot parameters."""
-    return min(0x202 + data[0x201], MOST_HEADER_END)
+    return min(0x202 + data[0x201], MAX_HEADER_END)
 
 
 def read(file: bytes) -> Setup:

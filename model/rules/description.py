@@ -14,7 +14,7 @@ except ImportError:  # before Python 3.11
     tomllib = None
 
 NUMBER_LIMIT = 1 << 63
-MOST_ENTRIES, MOST_MODULES = 32, 64
+MAX_ENTRIES, MAX_MODULES = 32, 64
 
 
 class BadDescription(Exception):
@@ -82,7 +82,7 @@ def describe(tree: dict) -> Description:
     if len(files) != len(named):
         bad("two files of one name")
     entries = [entry_in(table) for table in tables(required(tree, "entry"))]
-    if not 1 <= len(entries) <= MOST_ENTRIES:
+    if not 1 <= len(entries) <= MAX_ENTRIES:
         bad("number of entries")
     default = number(tree.get("default", 0))
     fallbacks = [number(value) for value in array(tree.get("fallback", []))]
@@ -114,7 +114,7 @@ def entry_in(table: dict) -> MenuEntry:
     if not re.fullmatch("[ -~]{1,64}", title):
         bad("title")
     modules = [module_in(module) for module in tables(table.get("module", []))]
-    if len(modules) > MOST_MODULES:
+    if len(modules) > MAX_MODULES:
         bad("number of modules")
     return MenuEntry(
         title=title,

@@ -7,8 +7,8 @@ from .numbers import u16, u32, u64
 from .refusals import refuse
 
 PT_LOAD = 1
-MOST_PROGRAMS = 128
-MOST_ADDRESS = 1 << 32
+MAX_PROGRAMS = 128
+MAX_ADDRESS = 1 << 32
 
 # The header of each class: its size, its machine, where its fields stand, how wide an address is.
 CLASSES = {
@@ -90,7 +90,7 @@ def check_header(file: bytes) -> dict:
         refuse(12)
     phnum = u16(file, kind["phnum"])
     phentsize = u16(file, kind["phentsize"])
-    if phnum > MOST_PROGRAMS:
+    if phnum > MAX_PROGRAMS:
         refuse(12)
     if phnum > 0 and phentsize < kind["least_phentsize"]:
         refuse(12)
@@ -118,7 +118,7 @@ def check_program(program: Program, file_length: int) -> None:
         refuse(12)
     if program.filesz > 0 and program.offset + program.filesz > file_length:
         refuse(13, program.index)
-    if program.paddr + program.memsz > MOST_ADDRESS:
+    if program.paddr + program.memsz > MAX_ADDRESS:
         refuse(14, program.index)
 
 

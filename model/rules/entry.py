@@ -9,8 +9,8 @@ from .numbers import frames
 from .places import undisturbed_frames
 from .refusals import refuse
 
-MOST_LINE = 4095
-MOST_COPY = 256
+MAX_LINE = 4095
+MAX_COPY = 256
 
 
 class Multiboot2Entry(NamedTuple):
@@ -33,7 +33,7 @@ Entry = Union[Multiboot2Entry, LinuxEntry]
 
 def is_copy(copy: Optional[bytes]) -> bool:
     """Whether an entry may have this copy of an RSDP, or none."""
-    return copy is None or 1 <= len(copy) <= MOST_COPY
+    return copy is None or 1 <= len(copy) <= MAX_COPY
 
 
 def prepare(machine: Machine, entry: Entry) -> Handover:
@@ -76,5 +76,5 @@ def check_lines(entry: Entry) -> None:
     for line in lines:
         if b"\0" in line:
             refuse(28)
-        if len(line) > MOST_LINE:
+        if len(line) > MAX_LINE:
             refuse(27)

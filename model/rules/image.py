@@ -10,9 +10,9 @@ from .refusals import refuse
 MAGIC = b"BLIMAGE\0"
 OLD, WRITTEN = 1, 2  # the versions that are read; the second one is written
 RECORD_SIZE = 24
-MOST_PARTS = 256
-MOST_ADDRESS = 1 << 32
-MOST_NARROW = 1 << 32
+MAX_PARTS = 256
+MAX_ADDRESS = 1 << 32
+MAX_NARROW = 1 << 32
 CHUNK = 1 << 20
 
 # The registers of each version in its order, and the bytes of each. Of version 2 those without a
@@ -130,7 +130,7 @@ def read(data: bytes) -> Image:
         refuse(73)
     registers = read_registers(reader, version, protocol)
     count = reader.u32()
-    if count > MOST_PARTS:
+    if count > MAX_PARTS:
         refuse(73)
     if reader.u32() != 0:
         refuse(73)
@@ -152,7 +152,7 @@ def read_registers(reader: Reader, version: int, protocol: int) -> Dict[str, int
     registers = {}
     for name in FIELDS[version]:
         value = reader.u64()
-        if value >= (1 if name is ABSENT else MOST_NARROW):
+        if value >= (1 if name is ABSENT else MAX_NARROW):
             refuse(73)
         if name is not ABSENT:
             registers[name] = value
@@ -173,7 +173,7 @@ def read_records(reader: Reader, count: int, most_role: int) -> List[Tuple[int, 
             refuse(74, i)
         length = reader.u64()
         end = address + length
-        if length == 0 or end > MOST_ADDRESS:
+        if length == 0 or end > MAX_ADDRESS:
             refuse(74, i)
         records.append((role, index, address, length))
     return records

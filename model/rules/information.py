@@ -8,7 +8,7 @@ from .refusals import refuse
 
 LINE, LOADER, MODULE, MEMORY, MAP, OLD_RSDP, NEW_RSDP, LOAD_BASE = 1, 2, 3, 4, 6, 14, 15, 21
 END = 0
-MOST_LOW_KIB = 640
+MAX_LOW_KIB = 640
 
 
 class Module(NamedTuple):
@@ -136,7 +136,7 @@ def module_of(at: int, body: bytes) -> Module:
 
 
 def memory_of(at: int, body: bytes) -> Tuple[int, int]:
-    if len(body) != 8 or u32(body, 0) > MOST_LOW_KIB:
+    if len(body) != 8 or u32(body, 0) > MAX_LOW_KIB:
         refuse(63, at)
     return u32(body, 0), u32(body, 4)
 

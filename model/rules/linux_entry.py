@@ -23,7 +23,7 @@ def prepare(machine: Machine, kernel_file: bytes, line: bytes, initrd: Optional[
     runs = normal_map(machine.regions)
     if setup.cmdline_size < len(line):
         refuse(27)
-    if len(runs) > boot_params.MOST_ENTRIES:
+    if len(runs) > boot_params.MAX_ENTRIES:
         refuse(29)
     planner = Planner(machine)
     payload = kernel_file[setup.payload_at:]

@@ -9,8 +9,8 @@ USABLE, RESERVED, ACPI, NVS, BAD = 1, 2, 3, 4, 5
 KINDS = {"usable": 1, "reserved": 2, "acpi": 3, "nvs": 4, "bad": 5}
 KIND_NAMES = {number: name for name, number in KINDS.items()}
 
-LEAST_SIZE, MOST_SIZE = 1 << 20, 1 << 32
-MOST_REGIONS = 128
+LEAST_SIZE, MAX_SIZE = 1 << 20, 1 << 32
+MAX_REGIONS = 128
 REGION_LIMIT = 1 << 52
 FIRST_USABLE = 4096
 USABLE_LIMIT = 0xFFFFF000
@@ -39,9 +39,9 @@ class Machine(NamedTuple):
 
 def check(machine: Machine) -> Machine:
     """The machine, or the first of its faults: refused with 1, 3, 2 and i, or 4, in this order."""
-    if not (LEAST_SIZE <= machine.size <= MOST_SIZE and machine.size % FRAME == 0):
+    if not (LEAST_SIZE <= machine.size <= MAX_SIZE and machine.size % FRAME == 0):
         refuse(1)
-    if len(machine.regions) > MOST_REGIONS:
+    if len(machine.regions) > MAX_REGIONS:
         refuse(3)
     for i, region in enumerate(machine.regions):
         if region.base + region.length > REGION_LIMIT:

@@ -5,7 +5,7 @@ from typing import Dict
 
 CHUNK = 65536
 # A block of 2^63 bytes or more is never asked for.
-MOST_BLOCK = (1 << 63) - 1
+MAX_BLOCK = (1 << 63) - 1
 
 
 class Memory:

@@ -26,9 +26,9 @@ static uint64_t numbers[NUMBERS];
 static bootcore_given given;
 static bootcore_menu menu;
 static uint8_t *memory;
-static bootcore_place places[BOOTCORE_MOST_PLACES];
+static bootcore_place places[BOOTCORE_MAX_PARTS];
 static bootcore_handoff handoff;
-static bootcore_refusal refusals[BOOTCORE_MOST_REFUSALS];
+static bootcore_refusal refusals[BOOTCORE_MAX_REFUSALS];
 static uint64_t refused;
 
 /* How many requests are still granted. */
@@ -98,10 +98,10 @@ static uint32_t call(const bootcore_entry *entry, size_t grants) {
     refused = 0;
     granted = grants;
     if (entry) {
-        status = bootcore_load(memory, numbers[SIZE], 0, &given, entry, &handoff, places, BOOTCORE_MOST_PLACES, refusals);
+        status = bootcore_load(memory, numbers[SIZE], 0, &given, entry, &handoff, places, BOOTCORE_MAX_PARTS, refusals);
     } else {
-        status = bootcore_boot(memory, numbers[SIZE], 0, &given, &menu, &handoff, places, BOOTCORE_MOST_PLACES, refusals,
-                               BOOTCORE_MOST_REFUSALS, &refused);
+        status = bootcore_boot(memory, numbers[SIZE], 0, &given, &menu, &handoff, places, BOOTCORE_MAX_PARTS, refusals,
+                               BOOTCORE_MAX_REFUSALS, &refused);
     }
     granted = SIZE_MAX;
     return status;

@@ -17,7 +17,6 @@ ghost use Rattle.bl_abi.specs.declared.given_fault.GivenFault.{GivenFault};
 use crate::boot_telling::tell_boot;
 use crate::given::Given;
 use crate::given_fault::GivenFault;
-use crate::loading::MOST_PLACES;
 use crate::machines::machine_of;
 use crate::misuse::Misuse;
 use crate::records::{EntryRecord, MachineRecord, RegionRecord};
@@ -25,6 +24,7 @@ use crate::stored::{check_menu, entries_of, stored_files};
 use crate::told::{HandoffRecord, PlaceRecord, RefusalRecord};
 use bl_map::Machine;
 use bl_mem::SliceMemory;
+use bl_plan::MAX_PARTS;
 use bl_session::{BootFault, Menu, MenuFault, Order, Outcome, SliceStore, run};
 use std::alloc::Allocator;
 
@@ -123,9 +123,9 @@ pub(crate) fn boot<A: Allocator + Copy>(
 ) -> Result<Result<Outcome<A>, BootFault<A>>, GivenFault>
     ensures end { IsBootEnd machine.now regions.now given.now entries.now default fallbacks.now
         room (memory_from base memory.old) (memory_from base memory.new) (typed_end result) }
-    ensures room { OnOk result (MOST_PLACES ≤ room) }
+    ensures room { OnOk result (MAX_PARTS ≤ room) }
 {
-    if room < MOST_PLACES {
+    if room < MAX_PARTS {
         return Err(GivenFault::Misused(Misuse::FewPlaces));
     }
     let made = match machine_of(alloc, machine, regions) {

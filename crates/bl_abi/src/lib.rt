@@ -26,7 +26,7 @@ pub use booting::boot_told;
 pub use fault::LoadFault;
 pub use given::Given;
 pub use given_fault::GivenFault;
-pub use loading::{MOST_PLACES, load_told};
+pub use loading::load_told;
 pub use misuse::Misuse;
 pub use records::{
     ByteRange, EntryRecord, MISSING, MachineRecord, ModuleRecord, NO_FILE, RegionRecord,

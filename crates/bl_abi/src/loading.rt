@@ -26,10 +26,8 @@ use crate::views::views_of;
 use bl_load::{Entry, Handoff, PrepFault, load_entry};
 use bl_map::Machine;
 use bl_mem::{SliceMemory, SliceView};
+use bl_plan::MAX_PARTS;
 use std::alloc::Allocator;
-
-/// So many places there are at most.
-pub const MOST_PLACES: usize = 256;
 
 /// `load_entry` into memory that begins at a base.
 fn load_typed<A: Allocator + Copy>(
@@ -142,9 +140,9 @@ pub(crate) fn load<A: Allocator + Copy>(
 ) -> Result<Handoff<A>, LoadFault>
     ensures end { IsLoadEnd machine.now regions.now given.now entry.now room
         (memory_from base memory.old) (memory_from base memory.new) result }
-    ensures room { OnOk result (MOST_PLACES ≤ room) }
+    ensures room { OnOk result (MAX_PARTS ≤ room) }
 {
-    if room < MOST_PLACES {
+    if room < MAX_PARTS {
         return Err(LoadFault::Misused(Misuse::FewPlaces));
     }
     let made = match machine_of(alloc, machine, regions) {

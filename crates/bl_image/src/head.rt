@@ -15,13 +15,10 @@ use crate::sink::{DeviceFault, Sink, write_all};
 use crate::version::Version;
 use bl_load::{Protocol, Registers};
 use bl_mem::{write_u32s, write_u64s};
-use bl_plan::Place;
+use bl_plan::{MAX_PARTS, Place};
 
 /// What an image begins with.
 pub(crate) const MAGIC: [u8; 8] = *b"BLIMAGE\0";
-
-/// How many parts an image has at most.
-pub(crate) const MOST_PARTS: u32 = 256;
 
 /// Where the version stands in the head that is written, with the protocol behind it.
 const VERSION_AT: usize = 8;
@@ -41,7 +38,7 @@ pub(crate) const RECORD: usize = 24;
 const ADDRESS_AT: usize = 8;
 
 /// How many bytes stand at most before those of the parts.
-pub(crate) const MOST_FRONT: usize = HEAD + RECORD * MOST_PARTS as usize;
+pub(crate) const MAX_FRONT: usize = HEAD + RECORD * MAX_PARTS;
 
 /// The record of a part.
 fn record_bytes(place: &Place) -> [u8; RECORD]
@@ -92,7 +89,7 @@ fn put_front<P: Places>(
     registers: &Registers,
     places: &P,
 ) -> usize
-    requires room { MOST_FRONT ≤ length buffer.old }
+    requires room { MAX_FRONT ≤ length buffer.old }
     requires kept { AreHandoffFacts (record {
       protocol = protocol;
       registers = registers.now;
@@ -123,7 +120,7 @@ pub(crate) fn write_front<S: Sink, P: Places>(
     places: &P,
     buffer: &mut [u8],
 ) -> Result<(), DeviceFault>
-    requires room { MOST_FRONT ≤ length buffer.old }
+    requires room { MAX_FRONT ≤ length buffer.old }
     requires kept { AreHandoffFacts (record {
       protocol = protocol;
       registers = registers.now;

@@ -13,11 +13,12 @@ ghost use Rattle.bl_image.specs.Versions.{version_number, most_protocol, HasProt
 
 use crate::fault::ImageFault;
 use crate::fields::{read_exact, read_u32};
-use crate::head::{MAGIC, MOST_PARTS};
+use crate::head::MAGIC;
 use crate::register_reader::read_registers;
 use crate::source::Source;
 use crate::version::Version;
 use bl_load::{Protocol, Registers};
+use bl_plan::MAX_PARTS;
 
 /// What the head of an image says.
 #[derive(Clone, Copy)]
@@ -105,7 +106,7 @@ fn read_count<S: Source>(source: &mut S) -> Result<u32, ImageFault>
     ensures faults { S.faults source.new ≡ S.faults source.old + faults_met result }
 {
     let count = read_u32(source)?;
-    if count > MOST_PARTS {
+    if count > MAX_PARTS as u32 {
         return Err(ImageFault::BadHeader);
     }
     Ok(count)

@@ -19,7 +19,7 @@ use std::alloc::Allocator;
 const SMALL_READ: usize = 4096;
 
 /// How many bytes are read at once at most.
-const MOST_READ: u64 = 65536;
+const MAX_READ: u64 = 65536;
 
 /// Reads so many bytes to the end of the vector, by way of a buffer: memory is taken once they
 /// came.
@@ -92,7 +92,7 @@ fn next_read(came: u64, left: u64) -> u64
     ensures some { 1 ≤ left → 1 ≤ result }
     ensures few { result ≤ 65536 }
 {
-    left.min(came.max(SMALL_READ as u64).min(MOST_READ))
+    left.min(came.max(SMALL_READ as u64).min(MAX_READ))
 }
 
 /// Reads so many bytes, in pieces: memory is taken for what came and for as much again at most, not

@@ -13,7 +13,7 @@ use std::alloc::Allocator;
 
 /// How many bytes memory is asked to lend at once at most: as many as its blocks have if it keeps
 /// blocks, so that it lends each.
-const MOST_LENT: u64 = 65536;
+const MAX_LENT: u64 = 65536;
 
 /// Writes what stands in memory from `at` on, as much as the buffer holds, by way of the buffer.
 fn write_copy<M: PhysMem, S: Sink>(
@@ -92,7 +92,7 @@ fn write_part<M: PhysMem, S: Sink>(
     let mut done = 0u64;
     while done < place.length {
         let at = place.address + done;
-        let next = (place.length - done).min(MOST_LENT - at % MOST_LENT);
+        let next = (place.length - done).min(MAX_LENT - at % MAX_LENT);
         let count = write_piece(memory, sink, at, next as usize, buffer)?;
         done += count as u64;
     }

@@ -19,7 +19,7 @@ use bl_plan::{Place, Role};
 use std::alloc::Allocator;
 
 /// Where a part ends at most: 4 GiB.
-const MOST_END: u64 = 0x1_0000_0000;
+const MAX_END: u64 = 0x1_0000_0000;
 
 fn role_of(number: u32, wide: bool) -> Option<Role>
     ensures may { IfSome result (MayStand wide) }
@@ -106,10 +106,10 @@ fn may_have(address: u64, count: u64) -> bool
     if count == 0 {
         return false;
     }
-    if address > MOST_END {
+    if address > MAX_END {
         return false;
     }
-    count <= MOST_END - address
+    count <= MAX_END - address
 }
 
 /// Reads a record; the part before ends at `before`.

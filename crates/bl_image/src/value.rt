@@ -7,7 +7,7 @@ ghost use Rattle.bl_image.specs.ImageParts.{IsKeptByImages};
 ghost use Rattle.bl_image.specs.Versions.{written_version};
 
 use crate::fault::ImageFault;
-use crate::head::{MOST_FRONT, write_front};
+use crate::head::{MAX_FRONT, write_front};
 use crate::image::{Image, ImagePart};
 use crate::sink::{DeviceFault, Sink, write_all};
 use std::alloc::Allocator;
@@ -48,7 +48,7 @@ pub fn write_value<S: Sink, A: Allocator>(image: &Image<A>, sink: &mut S) -> Res
     ensures kept { IsKeptByImages image.now }
 {
     let parts = image.parts();
-    let mut buffer = [0u8; MOST_FRONT];
+    let mut buffer = [0u8; MAX_FRONT];
     write_front(
         sink,
         image.protocol(),

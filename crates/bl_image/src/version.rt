@@ -4,7 +4,7 @@ ghost use Rattle.bl_image.specs.Versions.{version_number};
 
 /// A version of the format of images. An image tells its own by its number; version 2 is the one
 /// that is written, and both are read.
-#[derive(Clone, Copy)]
+#[derive(Clone, Copy, Debug, PartialEq, Eq)]
 pub enum Version {
     /// Version 1, with 20 registers of 32 bits.
     One,

@@ -7,7 +7,7 @@ ghost use Rattle.bl_image.specs.ImageParts.{IsKeptByImages};
 ghost use Rattle.bl_image.specs.Versions.{written_version};
 
 use crate::fault::ImageFault;
-use crate::head::{MOST_FRONT, write_front};
+use crate::head::{MAX_FRONT, write_front};
 use crate::parts::write_parts;
 use crate::sink::Sink;
 use bl_load::Handoff;
@@ -42,7 +42,7 @@ pub fn write_image<M: PhysMem, S: Sink, A: Allocator>(
 {
     // What a handoff keeps is told with its length.
     let _len = handoff.len();
-    let mut buffer = [0u8; MOST_FRONT];
+    let mut buffer = [0u8; MAX_FRONT];
     write_front(
         sink,
         handoff.protocol(),

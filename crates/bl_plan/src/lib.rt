@@ -18,7 +18,7 @@ pub use fault::PlanFault;
 pub use laws::{
     places_are_determined, places_are_legal, places_are_of_rows, rows_have_places_or_a_fault,
 };
-pub use limits::{MAX_COPY, MAX_ENTRIES, MAX_LINE, MAX_MODULES};
+pub use limits::{MAX_COPY, MAX_ENTRIES, MAX_LINE, MAX_MODULES, MAX_PARTS};
 pub use order::{Addressed, in_order};
 pub use part::{Choice, Place, Role, Row, Side};
 pub use placing::place_rows;

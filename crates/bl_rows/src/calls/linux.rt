@@ -81,12 +81,12 @@ fn say_pieces(row: &mut Row<'_>, bytes: &[u8]) {
 }
 
 /// The greatest end of a run.
-const MOST_END: u64 = 1 << 52;
+const MAX_END: u64 = 1 << 52;
 
 fn are_low(runs: &[Region]) -> bool
     ensures { IsTrue result → All (λ run. region_end run ≤ 2 ^ 52) runs.now }
 {
-    runs.iter().all(|run| run.base <= MOST_END && run.length <= MOST_END - run.base)
+    runs.iter().all(|run| run.base <= MAX_END && run.length <= MAX_END - run.base)
 }
 
 fn read_runs(row: &mut Row<'_>) -> Vec<Region> {

@@ -3,8 +3,8 @@ use Rattle.std.proofs.lemmas.List.{length-append, length-replicate}
 use Rattle.bl_abi.specs.Boot.{few_places, bad_machine, bad_memory, bad_menu}
 use Rattle.bl_abi.proofs.booting.boot.Goals as goal
 
-pub returns-then-room-lt-MOST_PLACES-clause-end : goal.returns-then-room-lt-MOST_PLACES-clause-end
-returns-then-room-lt-MOST_PLACES-clause-end g c = (few_places (omega arith), refl)
+pub returns-then-room-lt-MAX_PARTS-clause-end : goal.returns-then-room-lt-MAX_PARTS-clause-end
+returns-then-room-lt-MAX_PARTS-clause-end g c = (few_places (omega arith), refl)
 
 pub returns-in-Err-clause-end : goal.returns-in-Err-clause-end
 returns-in-Err-clause-end g c = (bad_machine c.in-Err.fault c.in-Err.ensures.fault, refl)

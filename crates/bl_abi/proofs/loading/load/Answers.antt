@@ -6,8 +6,8 @@ use Rattle.bl_abi.specs.Load.{few_places, bad_machine, bad_memory, bad_entry}
 use Rattle.bl_abi.specs.Load.{IsNotLoaded}
 use Rattle.bl_abi.proofs.loading.load.Goals as goal
 
-pub returns-then-room-lt-MOST_PLACES-clause-end : goal.returns-then-room-lt-MOST_PLACES-clause-end
-returns-then-room-lt-MOST_PLACES-clause-end g c = (few_places (omega arith), refl)
+pub returns-then-room-lt-MAX_PARTS-clause-end : goal.returns-then-room-lt-MAX_PARTS-clause-end
+returns-then-room-lt-MAX_PARTS-clause-end g c = (few_places (omega arith), refl)
 
 pub returns-in-Err-clause-end : goal.returns-in-Err-clause-end
 returns-in-Err-clause-end g c =
