@@ -4,7 +4,6 @@
 mod attempt;
 mod attempts;
 mod awaited;
-mod boot;
 mod ends;
 mod events;
 mod fetched;
