@@ -11,9 +11,7 @@ use Rattle.bl_session.specs.declared.submission.Submission.{Submission}
 use Rattle.bl_session.specs.Boot.{EventFacts}
 use Rattle.bl_session.specs.Outcome.{File}
 use Rattle.bl_session.specs.History.{Item}
-use Rattle.bl_session.specs.declared.order.Order.{Order}
 use Rattle.bl_session.specs.Stores.{event_of, answer_to, item_of_event, item_of_told, without}
-use Rattle.bl_session.specs.Stores.{FileStoreFacts, next_place, after_answer}
 use Rattle.bl_session.specs.StoresKept.{item_of, AreKept}
 use Rattle.bl_session.specs.Ledger.{LedgerFacts, answer_at, ledger_answered}
 use Rattle.bl_session.proofs.StoreLemmas.{kept_answer, kept_nothing}
@@ -89,24 +87,3 @@ ledger_tells old new place (Err fault) within is ok unchanged = record {
     ap (λ (l : LedgerFacts). length l.pending) unchanged,
   );
 }
-
--- ---- a store that answers in an order
-
-abbrev store_of : Order → LedgerFacts → FileStoreFacts
-store_of order ledger = record {
-  files = ledger.files;
-  order = order;
-  pending = ledger.pending;
-  given = ledger.given;
-}
-
-pub ledger_answers : {A E : Type 0} (order : Order) (old new : LedgerFacts)
-    (result : Result (Option (Completion A)) E)
-    → IfOk result (λ answer.
-    option_map event_of answer ≡ answer_at old (next_place order old.pending))
-    → OnOk result (new ≡ ledger_answered old (next_place order old.pending))
-    → IfOk result (λ answer.
-    store_of order new ≡ after_answer (store_of order old) (option_map event_of answer))
-ledger_answers order old new (Ok answer) is ok =
-    ap (store_of order) ok ∙ ap (after_answer (store_of order old)) (sym is)
-ledger_answers order old new (Err fault) is ok = tt

@@ -1,15 +1,11 @@
 -- A store's history and the submissions that are still to be answered, as it answers.
 use Rattle.std.proofs.Common.{◌≡◌, ℕ, ◌*◌, ◌<◌, ◌≤◌, nat_lt, Bool, true, false, if◌then◌else◌, List}
-use Rattle.std.proofs.Common.{[], ◌∷◌, ◌++◌, length, take, drop, Option, None, Some, suc, get_or}
-use Rattle.std.proofs.Common.{refl, sym, ap, subst, ◌∙◌, arith}
-use Rattle.std.proofs.lemmas.Option.{slice_get-get_or}
-use Rattle.std.proofs.Math.Seq.{split_at}
-use Rattle.std.proofs.Math.Numerals.{add-one}
+use Rattle.std.proofs.Common.{[], ◌∷◌, ◌++◌, length, Option, None}
+use Rattle.std.proofs.Common.{refl, sym, subst, arith}
 use Rattle.std.proofs.lemmas.Bool.Decides.{Decides-ltb, not_from_Decides}
-use Rattle.std.specs.Prelude.{slice_get, slice_index_or, option_map}
+use Rattle.std.specs.Prelude.{slice_index_or}
 use Rattle.bl_stage.specs.PieceStates.{piece_of}
 use Rattle.bl_session.specs.declared.words.Ticket.{Ticket}
-use Rattle.bl_session.specs.declared.store.Completion.{Completion}
 use Rattle.bl_session.specs.declared.submission.Submission.{Submission}
 use Rattle.bl_session.specs.declared.order.Order.{Order}
 use Rattle.bl_session.specs.declared.order.Order.TheVariants.{Forward, Reverse}
@@ -17,9 +13,8 @@ use Rattle.bl_session.specs.Boot.{EventFacts, piece, fault}
 use Rattle.bl_session.specs.Outcome.{File, missing, file_bytes}
 use Rattle.bl_session.specs.History.{Item, failed, nothing, is_same, file_under, IsPieceOf}
 use Rattle.bl_session.specs.Faithful.{asked, answered, HasPiece, IsFaithfulItem}
-use Rattle.bl_session.specs.Stores.{item_of_event, item_of_told, event_of, answer_to, next_place}
-use Rattle.bl_session.specs.Stores.{without}
-use Rattle.bl_session.specs.StoresKept.{item_of, count_of, WasAsked, AreAskedFor, AreKept}
+use Rattle.bl_session.specs.Stores.{item_of_event, answer_to, next_place}
+use Rattle.bl_session.specs.StoresKept.{count_of, WasAsked, AreAskedFor, AreKept}
 use Rattle.bl_session.proofs.TicketLemmas.{is_same_self, asked_both, answered_both, file_both}
 use Rattle.bl_session.proofs.SubmissionLemmas.{marks, faithful_more, count_append, asked_append}
 use Rattle.bl_session.proofs.SubmissionLemmas.{asked_apart}
