@@ -47,11 +47,11 @@ long_told : (part : Role) (i : ℕ) (choice : Choice) (told count : ℕ) (which 
     → max_size < told → max_size < count → IsToldAs (row_of part i choice told) which
     → IsToldAs (row_of part i choice count) which
 long_told part i choice told count which long_told long as = record {
-  role = as.role;
-  index = as.index;
-  choice = as.choice;
-  length = elim as.length [
-    | inl same ↦ inr (omega (arith, same), long)
+  role = kind.role;
+  index = kind.index;
+  choice = kind.choice;
+  length = elim kind.length [
+    | inl same ↦ inr (omega (arith, same, told_long), long)
     | inr both ↦ inr (both.0, long)
   ];
 }
@@ -66,18 +66,18 @@ module _ (facts : MachineFacts) (which : Row) where
       → IsFirstUnplaced facts taken (told_rows files k lines ++ rest) which
       → IsFirstUnplaced facts taken (module_rows files k lines ++ rest) which
   told_unplaced files rest k [] taken has = has
-  told_unplaced files rest k (line ∷ lines) taken (inl (as, fault, here)) =
+  told_unplaced files rest k (line ∷ lines) taken (inl (kind, fault, here)) =
       let size = length (module_file files k) in
       let choice = Lowest 4096 0x100000 max_size in
       elim (modules.alike_lengths size) [
         | inl same ↦ inl (
-          subst (λ (n : ℕ). IsToldAs (row_of Module k choice n) which) same as,
+          subst (λ (n : ℕ). IsToldAs (row_of Module k choice n) which) same kind,
           fault,
           subst (λ (n : ℕ). HasChoiceFault facts taken n choice fault) same here,
         )
         | inr long ↦ inl (
           long_told Module k choice (told_length size) (whole_frames (max size 1)) which long.0
-              long.1 as,
+              long.1 kind,
           fault,
           modules.no_room facts taken 4096 0x100000 (whole_frames (max size 1)) (told_length size)
               fault long.1 here,
@@ -107,18 +107,18 @@ module _ (facts : MachineFacts) (which : Row) where
       → IsFirstUnplaced facts taken (told_initrd_rows setup initrd) which
       → IsFirstUnplaced facts taken (initrd_rows setup initrd) which
   told_initrd_unplaced protocol setup [] taken has = has
-  told_initrd_unplaced protocol setup (byte ∷ bytes) taken (inl (as, fault, here)) =
+  told_initrd_unplaced protocol setup (byte ∷ bytes) taken (inl (kind, fault, here)) =
       let size = length (byte ∷ bytes) in
       let high = setup.initrd_addr_max + 1 in
       let choice = Highest 4096 4096 high in
       elim (initrds.alike size (omega arith)) [
         | inl same ↦ inl (
-          subst (λ (n : ℕ). IsToldAs (row_of Initrd 0 choice n) which) same as,
+          subst (λ (n : ℕ). IsToldAs (row_of Initrd 0 choice n) which) same kind,
           fault,
           subst (λ (n : ℕ). HasChoiceFault facts taken n choice fault) same here,
         )
         | inr long ↦ inl (
-          long_told Initrd 0 choice (told_length size) (whole_frames size) which long.0 long.1 as,
+          long_told Initrd 0 choice (told_length size) (whole_frames size) which long.0 long.1 kind,
           fault,
           initrds.no_room facts protocol setup taken 4096 4096 high (whole_frames size)
               (told_length size) fault long.1 here,

@@ -109,7 +109,7 @@ pub fn prepare<A: Allocator + Copy, V: ByteView>(
 
 /// The first part that has no place of a Linux entry of this line, whose kernel is entered by this
 /// protocol, or none; or what refuses it before.
-pub fn unplaced<A: Allocator + Copy, V: ByteView>(
+pub(crate) fn unplaced<A: Allocator + Copy, V: ByteView>(
     alloc: A,
     machine: &Machine<A>,
     protocol: Protocol,

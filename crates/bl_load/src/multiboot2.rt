@@ -118,7 +118,7 @@ pub fn prepare<A: Allocator + Copy, V: ByteView>(
 
 /// The first part that has no place of a Multiboot2 entry of this line, these modules and these
 /// copies of the RSDP, or none; or what refuses it before.
-pub fn unplaced<A: Allocator + Copy, V: ByteView>(
+pub(crate) fn unplaced<A: Allocator + Copy, V: ByteView>(
     alloc: A,
     machine: &Machine<A>,
     line: &[u8],
