@@ -1,6 +1,7 @@
 -- Rows of files that no machine can hold may be told shorter, where one of them has no place.
 use Rattle.std.proofs.Common.{◌≡◌, ◌≤◌, ◌<◌, ◌+◌, ℕ, suc, List, [], ◌∷◌, ◌++◌, length, arith, subst}
-use Rattle.std.proofs.Common.{refl, sym, inl, inr, Option, Some, None, ◌⊎◌, true}
+use Rattle.std.proofs.Common.{refl, sym, inl, inr, Option, Some, None, ◌⊎◌, true, get_or, drop}
+use Rattle.std.proofs.Math.Seq.{drop-cons}
 use Rattle.std.specs.Prelude.{max}
 use Rattle.std.specs.declared.ops.Range.{Range}
 use Rattle.bl_bzimage.specs.declared.setup.Setup.{Setup}
@@ -46,7 +47,7 @@ row_of part i choice count = record { role = part; index = i; length = count; ch
 long_told : (part : Role) (i : ℕ) (choice : Choice) (told count : ℕ) (which : Row)
     → max_size < told → max_size < count → IsToldAs (row_of part i choice told) which
     → IsToldAs (row_of part i choice count) which
-long_told part i choice told count which long_told long as = record {
+long_told part i choice told count which told_long long kind = record {
   role = kind.role;
   index = kind.index;
   choice = kind.choice;
@@ -201,3 +202,45 @@ pub unplaced_read : (facts : MachineFacts) (value : EntryValue)
     → IsUnplaced facts value which
 unplaced_read facts value sound reading which is has =
     record { reading = reading; lines = sound; read = is; is = has }
+
+-- the rows from i on, of which the first is placed at an address
+module _ (facts : MachineFacts) (taken : List (Range ℕ)) (all : List Row) (i : ℕ) (d : Row)
+    (within : i < length all) where
+  pub placed_step : (more : List (Range ℕ)) (a : ℕ)
+      → IsChosen facts taken (get_or all i d).length (get_or all i d).choice a
+      → more ≡ put_in (place_range (place_at (get_or all i d) a)) taken
+      → (((places : List Place) × ArePlaced facts taken (drop i all) places)
+      → ((places : List Place) × ArePlaced facts [] all places))
+      → ((places : List Place) × ArePlaced facts more (drop (suc i) all) places)
+      → ((places : List Place) × ArePlaced facts [] all places)
+  placed_step more a chosen is so_far rest =
+      let here = place_at (get_or all i d) a in
+      so_far
+      (here ∷ rest.0,
+      subst (λ (rs : List Row). ArePlaced facts taken rs (here ∷ rest.0))
+      (sym (drop-cons all i d within))
+      (chosen, refl,
+      subst (λ (t : List (Range ℕ)). ArePlaced facts t (drop (suc i) all) rest.0) is rest.1))
+
+  pub unplaced_step : (more : List (Range ℕ)) (a : ℕ)
+      → IsChosen facts taken (get_or all i d).length (get_or all i d).choice a
+      → more ≡ put_in (place_range (place_at (get_or all i d) a)) taken
+      → (which : Row)
+      → (IsFirstUnplaced facts taken (drop i all) which → IsFirstUnplaced facts [] all which)
+      → IsFirstUnplaced facts more (drop (suc i) all) which → IsFirstUnplaced facts [] all which
+  unplaced_step more a chosen is which so_far later =
+      so_far
+      (subst (λ (rs : List Row). IsFirstUnplaced facts taken rs which)
+      (sym (drop-cons all i d within))
+      (inr (a, chosen,
+      subst (λ (t : List (Range ℕ)). IsFirstUnplaced facts t (drop (suc i) all) which) is later)))
+
+  pub unplaced_here : (fault : PlanFault)
+      → HasChoiceFault facts taken (get_or all i d).length (get_or all i d).choice fault
+      → (IsFirstUnplaced facts taken (drop i all) (get_or all i d)
+      → IsFirstUnplaced facts [] all (get_or all i d))
+      → IsFirstUnplaced facts [] all (get_or all i d)
+  unplaced_here fault has so_far =
+      so_far
+      (subst (λ (rs : List Row). IsFirstUnplaced facts taken rs (get_or all i d))
+      (sym (drop-cons all i d within)) (inl (itself_told (get_or all i d), fault, has)))
