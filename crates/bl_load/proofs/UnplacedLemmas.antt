@@ -67,21 +67,20 @@ module _ (facts : MachineFacts) (which : Row) where
       → IsFirstUnplaced facts taken (told_rows files k lines ++ rest) which
       → IsFirstUnplaced facts taken (module_rows files k lines ++ rest) which
   told_unplaced files rest k [] taken has = has
-  told_unplaced files rest k (line ∷ lines) taken (inl (kind, fault, here)) =
+  told_unplaced files rest k (line ∷ lines) taken (inl (kind, (fault, here))) =
       let size = length (module_file files k) in
       let choice = Lowest 4096 0x100000 max_size in
       elim (modules.alike_lengths size) [
         | inl same ↦ inl (
           subst (λ (n : ℕ). IsToldAs (row_of Module k choice n) which) same kind,
-          fault,
-          subst (λ (n : ℕ). HasChoiceFault facts taken n choice fault) same here,
+          (fault, subst (λ (n : ℕ). HasChoiceFault facts taken n choice fault) same here),
         )
         | inr long ↦ inl (
           long_told Module k choice (told_length size) (whole_frames (max size 1)) which long.0
               long.1 kind,
-          fault,
+          (fault,
           modules.no_room facts taken 4096 0x100000 (whole_frames (max size 1)) (told_length size)
-              fault long.1 here,
+          fault long.1 here),
         )
       ]
   told_unplaced files rest k (line ∷ lines) taken (inr (a, chosen, later)) =
@@ -108,21 +107,20 @@ module _ (facts : MachineFacts) (which : Row) where
       → IsFirstUnplaced facts taken (told_initrd_rows setup initrd) which
       → IsFirstUnplaced facts taken (initrd_rows setup initrd) which
   told_initrd_unplaced protocol setup [] taken has = has
-  told_initrd_unplaced protocol setup (byte ∷ bytes) taken (inl (kind, fault, here)) =
+  told_initrd_unplaced protocol setup (byte ∷ bytes) taken (inl (kind, (fault, here))) =
       let size = length (byte ∷ bytes) in
       let high = setup.initrd_addr_max + 1 in
       let choice = Highest 4096 4096 high in
       elim (initrds.alike size (omega arith)) [
         | inl same ↦ inl (
           subst (λ (n : ℕ). IsToldAs (row_of Initrd 0 choice n) which) same kind,
-          fault,
-          subst (λ (n : ℕ). HasChoiceFault facts taken n choice fault) same here,
+          (fault, subst (λ (n : ℕ). HasChoiceFault facts taken n choice fault) same here),
         )
         | inr long ↦ inl (
           long_told Initrd 0 choice (told_length size) (whole_frames size) which long.0 long.1 kind,
-          fault,
+          (fault,
           initrds.no_room facts protocol setup taken 4096 4096 high (whole_frames size)
-              (told_length size) fault long.1 here,
+          (told_length size) fault long.1 here),
         )
       ]
   told_initrd_unplaced protocol setup (byte ∷ bytes) taken (inr (a, chosen, later)) = absurd later
@@ -206,34 +204,39 @@ unplaced_read facts value sound reading which is has =
 -- the rows from i on, of which the first is placed at an address
 module _ (facts : MachineFacts) (taken : List (Range ℕ)) (all : List Row) (i : ℕ) (d : Row)
     (within : i < length all) where
+  next : drop i all ≡ get_or all i d ∷ drop (i + 1) all
+  next =
+      let e : i + 1 ≡ suc i = omega arith in
+      subst (λ (n : ℕ). drop i all ≡ get_or all i d ∷ drop n all) (sym e) (drop-cons all i d within)
+
   pub placed_step : (more : List (Range ℕ)) (a : ℕ)
       → IsChosen facts taken (get_or all i d).length (get_or all i d).choice a
       → more ≡ put_in (place_range (place_at (get_or all i d) a)) taken
       → (((places : List Place) × ArePlaced facts taken (drop i all) places)
       → ((places : List Place) × ArePlaced facts [] all places))
-      → ((places : List Place) × ArePlaced facts more (drop (suc i) all) places)
+      → ((places : List Place) × ArePlaced facts more (drop (i + 1) all) places)
       → ((places : List Place) × ArePlaced facts [] all places)
   placed_step more a chosen is so_far rest =
       let here = place_at (get_or all i d) a in
       so_far
       (here ∷ rest.0,
       subst (λ (rs : List Row). ArePlaced facts taken rs (here ∷ rest.0))
-      (sym (drop-cons all i d within))
+      (sym next)
       (chosen, refl,
-      subst (λ (t : List (Range ℕ)). ArePlaced facts t (drop (suc i) all) rest.0) is rest.1))
+      subst (λ (t : List (Range ℕ)). ArePlaced facts t (drop (i + 1) all) rest.0) is rest.1))
 
   pub unplaced_step : (more : List (Range ℕ)) (a : ℕ)
       → IsChosen facts taken (get_or all i d).length (get_or all i d).choice a
       → more ≡ put_in (place_range (place_at (get_or all i d) a)) taken
       → (which : Row)
       → (IsFirstUnplaced facts taken (drop i all) which → IsFirstUnplaced facts [] all which)
-      → IsFirstUnplaced facts more (drop (suc i) all) which → IsFirstUnplaced facts [] all which
+      → IsFirstUnplaced facts more (drop (i + 1) all) which → IsFirstUnplaced facts [] all which
   unplaced_step more a chosen is which so_far later =
       so_far
       (subst (λ (rs : List Row). IsFirstUnplaced facts taken rs which)
-      (sym (drop-cons all i d within))
+      (sym next)
       (inr (a, chosen,
-      subst (λ (t : List (Range ℕ)). IsFirstUnplaced facts t (drop (suc i) all) which) is later)))
+      subst (λ (t : List (Range ℕ)). IsFirstUnplaced facts t (drop (i + 1) all) which) is later)))
 
   pub unplaced_here : (fault : PlanFault)
       → HasChoiceFault facts taken (get_or all i d).length (get_or all i d).choice fault
@@ -243,4 +246,4 @@ module _ (facts : MachineFacts) (taken : List (Range ℕ)) (all : List Row) (i :
   unplaced_here fault has so_far =
       so_far
       (subst (λ (rs : List Row). IsFirstUnplaced facts taken rs (get_or all i d))
-      (sym (drop-cons all i d within)) (inl (itself_told (get_or all i d), fault, has)))
+      (sym next) (inl (itself_told (get_or all i d), (fault, has))))

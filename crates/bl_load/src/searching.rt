@@ -67,7 +67,9 @@ fn first_unplaced<A: Allocator + Copy>(
         match take_row(&mut planner, row) {
             Ok(_) => {}
             Err(PlanFault::NoMemory) => return Err(PrepFault::NoMemory),
-            Err(_) => return Ok(Some(*row)),
+            Err(PlanFault::NotUsable) => return Ok(Some(*row)),
+            Err(PlanFault::Overlap) => return Ok(Some(*row)),
+            Err(PlanFault::NoRoom) => return Ok(Some(*row)),
         }
     }
     Ok(None)
