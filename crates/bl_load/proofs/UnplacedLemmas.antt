@@ -160,16 +160,6 @@ as_unplaced_of facts value reading None has =
     (has.0, told_placed facts value reading has.0 has.1)
 as_unplaced_of facts value reading (Some which) has = as_unplaced facts which value reading has
 
--- a fault of a choice that is no want of memory
-pub choice_fault : (facts : MachineFacts) (taken : List (Range ℕ)) (count : ℕ) (choice : Choice)
-    (fault : PlanFault) → (fault ≡ NoMemory → ⊥)
-    → OrNoMemory (HasChoiceFault facts taken count choice) fault
-    → HasChoiceFault facts taken count choice fault
-choice_fault facts taken count choice NotUsable other has = has
-choice_fault facts taken count choice Overlap other has = has
-choice_fault facts taken count choice NoRoom other has = has
-choice_fault facts taken count choice NoMemory other has = absurd (other refl)
-
 -- what its kernel's file refuses, where its lines have no fault
 pub reading_multiboot2 : (facts : MachineFacts) (texts : List (List ℕ)) (line : List ℕ)
     (lines : List (List ℕ)) (old new : Option (List ℕ)) → lines_fault (line ∷ lines) ≡ None
@@ -209,15 +199,18 @@ module _ (facts : MachineFacts) (taken : List (Range ℕ)) (all : List Row) (i :
       let e : i + 1 ≡ suc i = omega arith in
       subst (λ (n : ℕ). drop i all ≡ get_or all i d ∷ drop n all) (sym e) (drop-cons all i d within)
 
-  pub placed_step : (more : List (Range ℕ)) (a : ℕ)
-      → IsChosen facts taken (get_or all i d).length (get_or all i d).choice a
+  pub placed_step : (m : MachineFacts) → m ≡ facts → (more : List (Range ℕ)) (a : ℕ)
+      → IsChosen m taken (get_or all i d).length (get_or all i d).choice a
       → more ≡ put_in (place_range (place_at (get_or all i d) a)) taken
       → (((places : List Place) × ArePlaced facts taken (drop i all) places)
       → ((places : List Place) × ArePlaced facts [] all places))
       → ((places : List Place) × ArePlaced facts more (drop (i + 1) all) places)
       → ((places : List Place) × ArePlaced facts [] all places)
-  placed_step more a chosen is so_far rest =
+  placed_step m same more a has is so_far rest =
       let here = place_at (get_or all i d) a in
+      let chosen =
+      subst (λ (n : MachineFacts).
+      IsChosen n taken (get_or all i d).length (get_or all i d).choice a) same has in
       so_far
       (here ∷ rest.0,
       subst (λ (rs : List Row). ArePlaced facts taken rs (here ∷ rest.0))
@@ -225,25 +218,38 @@ module _ (facts : MachineFacts) (taken : List (Range ℕ)) (all : List Row) (i :
       (chosen, refl,
       subst (λ (t : List (Range ℕ)). ArePlaced facts t (drop (i + 1) all) rest.0) is rest.1))
 
-  pub unplaced_step : (more : List (Range ℕ)) (a : ℕ)
-      → IsChosen facts taken (get_or all i d).length (get_or all i d).choice a
+  pub unplaced_step : (m : MachineFacts) → m ≡ facts → (more : List (Range ℕ)) (a : ℕ)
+      → IsChosen m taken (get_or all i d).length (get_or all i d).choice a
       → more ≡ put_in (place_range (place_at (get_or all i d) a)) taken
       → (which : Row)
       → (IsFirstUnplaced facts taken (drop i all) which → IsFirstUnplaced facts [] all which)
       → IsFirstUnplaced facts more (drop (i + 1) all) which → IsFirstUnplaced facts [] all which
-  unplaced_step more a chosen is which so_far later =
+  unplaced_step m same more a has is which so_far later =
+      let chosen =
+      subst (λ (n : MachineFacts).
+      IsChosen n taken (get_or all i d).length (get_or all i d).choice a) same has in
       so_far
       (subst (λ (rs : List Row). IsFirstUnplaced facts taken rs which)
       (sym next)
       (inr (a, chosen,
       subst (λ (t : List (Range ℕ)). IsFirstUnplaced facts t (drop (i + 1) all) which) is later)))
 
-  pub unplaced_here : (fault : PlanFault)
-      → HasChoiceFault facts taken (get_or all i d).length (get_or all i d).choice fault
+  pub unplaced_here : (m : MachineFacts) → m ≡ facts → (told fault : PlanFault) → told ≡ fault
+      → OrNoMemory (HasChoiceFault m taken (get_or all i d).length (get_or all i d).choice) told
+      → (OrNoMemory (HasChoiceFault m taken (get_or all i d).length (get_or all i d).choice) fault
+      → HasChoiceFault m taken (get_or all i d).length (get_or all i d).choice fault)
       → (IsFirstUnplaced facts taken (drop i all) (get_or all i d)
       → IsFirstUnplaced facts [] all (get_or all i d))
       → IsFirstUnplaced facts [] all (get_or all i d)
-  unplaced_here fault has so_far =
+  unplaced_here m same told fault is refused known so_far =
+      let at_fault =
+      known
+      (subst
+      (OrNoMemory (HasChoiceFault m taken (get_or all i d).length (get_or all i d).choice))
+      is refused) in
+      let has =
+      subst (λ (n : MachineFacts).
+      HasChoiceFault n taken (get_or all i d).length (get_or all i d).choice fault) same at_fault in
       so_far
       (subst (λ (rs : List Row). IsFirstUnplaced facts taken rs (get_or all i d))
       (sym next) (inl (itself_told (get_or all i d), (fault, has))))
