@@ -78,9 +78,11 @@ module _ (facts : MachineFacts) (which : Row) where
         | inr long ↦ inl (
           long_told Module k choice (told_length size) (whole_frames (max size 1)) which long.0
               long.1 kind,
-          (fault,
-          modules.no_room facts taken 4096 0x100000 (whole_frames (max size 1)) (told_length size)
-          fault long.1 here),
+          (
+            fault,
+            modules.no_room facts taken 4096 0x100000 (whole_frames (max size 1)) (told_length size)
+                fault long.1 here,
+          ),
         )
       ]
   told_unplaced files rest k (line ∷ lines) taken (inr (a, chosen, later)) =
@@ -118,9 +120,11 @@ module _ (facts : MachineFacts) (which : Row) where
         )
         | inr long ↦ inl (
           long_told Initrd 0 choice (told_length size) (whole_frames size) which long.0 long.1 kind,
-          (fault,
-          initrds.no_room facts protocol setup taken 4096 4096 high (whole_frames size)
-          (told_length size) fault long.1 here),
+          (
+            fault,
+            initrds.no_room facts protocol setup taken 4096 4096 high (whole_frames size)
+                (told_length size) fault long.1 here,
+          ),
         )
       ]
   told_initrd_unplaced protocol setup (byte ∷ bytes) taken (inr (a, chosen, later)) = absurd later
@@ -211,12 +215,15 @@ module _ (facts : MachineFacts) (taken : List (Range ℕ)) (all : List Row) (i :
       let chosen =
       subst (λ (n : MachineFacts).
       IsChosen n taken (get_or all i d).length (get_or all i d).choice a) same has in
-      so_far
-      (here ∷ rest.0,
-      subst (λ (rs : List Row). ArePlaced facts taken rs (here ∷ rest.0))
-      (sym next)
-      (chosen, refl,
-      subst (λ (t : List (Range ℕ)). ArePlaced facts t (drop (i + 1) all) rest.0) is rest.1))
+      so_far (
+        here ∷ rest.0,
+        subst (λ (rs : List Row). ArePlaced facts taken rs (here ∷ rest.0))
+            (sym next) (
+              chosen,
+              refl,
+              subst (λ (t : List (Range ℕ)). ArePlaced facts t (drop (i + 1) all) rest.0) is rest.1,
+            ),
+      )
 
   pub unplaced_step : (m : MachineFacts) → m ≡ facts → (more : List (Range ℕ)) (a : ℕ)
       → IsChosen m taken (get_or all i d).length (get_or all i d).choice a
@@ -231,8 +238,11 @@ module _ (facts : MachineFacts) (taken : List (Range ℕ)) (all : List Row) (i :
       so_far
       (subst (λ (rs : List Row). IsFirstUnplaced facts taken rs which)
       (sym next)
-      (inr (a, chosen,
-      subst (λ (t : List (Range ℕ)). IsFirstUnplaced facts t (drop (i + 1) all) which) is later)))
+      (inr (
+        a,
+        chosen,
+        subst (λ (t : List (Range ℕ)). IsFirstUnplaced facts t (drop (i + 1) all) which) is later,
+      )))
 
   pub unplaced_here : (m : MachineFacts) → m ≡ facts → (told fault : PlanFault) → told ≡ fault
       → OrNoMemory (HasChoiceFault m taken (get_or all i d).length (get_or all i d).choice) told
