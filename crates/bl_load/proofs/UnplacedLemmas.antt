@@ -1,6 +1,6 @@
 -- Rows of files that no machine can hold may be told shorter, where one of them has no place.
-use Rattle.std.proofs.Common.{◌≡◌, ◌≤◌, ◌<◌, ◌+◌, ℕ, suc, List, [], ◌∷◌, ◌++◌, length, arith, subst}
-use Rattle.std.proofs.Common.{refl, sym, inl, inr, Option, Some, None, ◌⊎◌, true, get_or, drop}
+use Rattle.std.proofs.Common.{◌≡◌, ◌<◌, ◌+◌, ℕ, suc, List, [], ◌∷◌, ◌++◌, length, arith, subst}
+use Rattle.std.proofs.Common.{refl, sym, inl, inr, Option, Some, None, true, get_or, drop}
 use Rattle.std.proofs.Math.Seq.{drop-cons}
 use Rattle.std.specs.Prelude.{max}
 use Rattle.std.specs.declared.ops.Range.{Range}
@@ -12,7 +12,6 @@ use Rattle.bl_plan.specs.Permitted.{OrNoMemory}
 use Rattle.bl_plan.specs.Placed.{ArePlaced, IsChosen, HasChoiceFault, place_at, place_range}
 use Rattle.bl_plan.specs.Planned.{put_in}
 use Rattle.bl_plan.specs.declared.fault.PlanFault.{PlanFault}
-use Rattle.bl_plan.specs.declared.fault.PlanFault.TheVariants.{NotUsable, Overlap, NoRoom, NoMemory}
 use Rattle.bl_plan.specs.declared.part.Choice.{Choice}
 use Rattle.bl_plan.specs.declared.part.Choice.TheVariants.{Lowest, Highest}
 use Rattle.bl_plan.specs.declared.part.Place.{Place}
@@ -20,10 +19,10 @@ use Rattle.bl_plan.specs.declared.part.Role.{Role}
 use Rattle.bl_plan.specs.declared.part.Role.TheVariants.{Module, Initrd}
 use Rattle.bl_plan.specs.declared.part.Row.{Row}
 use Rattle.bl_plan.specs.declared.protocol.Protocol.{Protocol}
-use Rattle.bl_load.specs.LinuxRows.{front_rows, initrd_rows, linux_rows}
-use Rattle.bl_load.specs.PlacingKept.{told_length, told_rows, told_rows_of, told_initrd_rows}
-use Rattle.bl_load.specs.PlacingKept.{told_linux_rows, told_rows_by}
-use Rattle.bl_load.specs.Reading.{Reading, multiboot2, linux, IsRead, HasReadFault}
+use Rattle.bl_load.specs.LinuxRows.{front_rows, initrd_rows}
+use Rattle.bl_load.specs.PlacingKept.{told_length, told_rows, told_initrd_rows}
+use Rattle.bl_load.specs.PlacingKept.{told_rows_by}
+use Rattle.bl_load.specs.Reading.{Reading, multiboot2, linux, IsRead}
 use Rattle.bl_load.specs.Rows.{module_rows, kernel_rows, information_row, rows_of}
 use Rattle.bl_load.specs.Unplaced.{IsToldAs, IsFirstUnplaced, IsUnplacedOf, IsUnplaced}
 use Rattle.bl_load.specs.Unplaced.{IsReadingFault}

@@ -1,4 +1,4 @@
-use Rattle.std.proofs.Common.{◌≡◌, [], All, List, Option, subst, sym, ◌∙◌}
+use Rattle.std.proofs.Common.{◌≡◌, [], All, List, subst, sym, ◌∙◌}
 use Rattle.std.proofs.lemmas.Result.{IfOk-weaker}
 use Rattle.bl_plan.specs.declared.part.Row.{Row}
 use Rattle.bl_plan.specs.Placed.{IsRow}
