@@ -1,0 +1,202 @@
+-- The arrays of a description whose items all pass can be read.
+use Rattle.std.proofs.Common.{◌≡◌, ℕ, Bool, true, false, ◌&&◌, ◌||◌, Option, Some, None, List, []}
+use Rattle.std.proofs.Common.{◌∷◌, map, refl, ap, arith}
+use Rattle.std.specs.Prelude.{IsSome, is_some, codes, nat_le}
+use Rattle.std.specs.Str.{bytes_eq}
+use Rattle.std.specs.declared.ops.Range.{Range}
+use Rattle.std.proofs.lemmas.Bool.{and_parts}
+use Rattle.std.proofs.lemmas.Bool.Decides.{nat_tests}
+use Rattle.toml.specs.Data.{Data, string, integer, float, boolean, datetime, array, table, Items}
+use Rattle.toml.specs.Data.{no_items, item, Members, get_member}
+use Rattle.toml.specs.View.{view, items_view}
+use Rattle.toml.specs.declared.value.Value.{Value}
+use Rattle.bl_map.specs.declared.region.Region.{Region}
+use Rattle.bl_plan.specs.Limits.{max_modules}
+use Rattle.bl_desc.specs.Values.{◌>>=◌, required, optional, toml_number, toml_text, toml_bytes}
+use Rattle.bl_desc.specs.Values.{toml_range, toml_index, toml_indices, each_item, in_table}
+use Rattle.bl_desc.specs.Described.{InlineFile, file_in, has_file, names_differ}
+use Rattle.bl_desc.specs.Described.{region_in, toml_files, toml_regions}
+use Rattle.bl_desc.specs.Entries.{Module, module_in, toml_modules}
+use Rattle.bl_desc.specs.Allowed.{allows, count_within, item_count}
+use Rattle.bl_desc.specs.BadKeysKept.{all_items, array_items, item_passes, passes_at, table_passes}
+use Rattle.bl_desc.specs.WholeKept.{name_value, named_file, text_or_none, value_or}
+use Rattle.bl_desc.specs.declared.bad_key.Allowed.TheVariants.{Number, IndexBelow, TwoNumbers}
+use Rattle.bl_desc.specs.declared.bad_key.Allowed.TheVariants.{Indices, Tables, ModuleTables}
+use Rattle.bl_desc.specs.declared.bad_key.Allowed.TheVariants.{AnyText, HexText}
+use Rattle.bl_desc.specs.declared.bad_key.KeySet.TheVariants as keys
+use Rattle.bl_desc.proofs.DescribesLemmas.{each_reads, module_reads, region_reads, required_reads}
+use Rattle.bl_desc.proofs.DescribesLemmas.{some_of}
+
+-- ---- files
+
+name_reads : (o : Option Data) (d : Data) → passes_at true AnyText o ≡ true
+    → required toml_text o ≡ Some (text_or_none (value_or d o))
+name_reads None d h = absurd (cc h)
+name_reads (Some (string s)) d h = refl
+name_reads (Some (integer z)) d h = absurd (cc h)
+name_reads (Some (float x)) d h = absurd (cc h)
+name_reads (Some (boolean b)) d h = absurd (cc h)
+name_reads (Some (datetime dt)) d h = absurd (cc h)
+name_reads (Some (array ds)) d h = absurd (cc h)
+name_reads (Some (table ms)) d h = absurd (cc h)
+
+file_of : Data → List ℕ → InlineFile
+file_of d bytes = record { name = text_or_none (name_value d); bytes = bytes }
+
+table_file_reads : (ms : Members) → table_passes keys.File ms ≡ true
+    → (bytes : List ℕ) × (file_in ms ≡ Some (file_of (table ms) bytes))
+unfolding file_in file_of
+table_file_reads ms h =
+    let (known, rules) = and_parts _ _ h in
+    let (name, after_name) = and_parts _ _ rules in
+    let (hex, end) = and_parts _ _ after_name in
+    let n = name_reads (get_member (codes "name") ms) (table ms) name in
+    let b =
+    required_reads HexText toml_bytes (get_member (codes "hex") ms) (λ d can. can) hex in
+    (b.0, rw (known, n, b.1) refl)
+
+file_reads : (d : Data) → item_passes keys.File d ≡ true
+    → (bytes : List ℕ) × (in_table file_in d ≡ Some (file_of d bytes))
+file_reads (table ms) h = table_file_reads ms h
+file_reads (string s) h = absurd (cc h)
+file_reads (integer z) h = absurd (cc h)
+file_reads (float x) h = absurd (cc h)
+file_reads (boolean b) h = absurd (cc h)
+file_reads (datetime dt) h = absurd (cc h)
+file_reads (array ds) h = absurd (cc h)
+
+-- these files can be read, and have these names
+record FilesRead (vs : List Value) : Type 0 where
+  files : List InlineFile
+  read : each_item (in_table file_in) (items_view vs) ≡ Some files
+  same : names_differ files ≡ names_differ (map named_file vs)
+  has : (name : List ℕ) → has_file name files ≡ has_file name (map named_file vs)
+
+files_read : (vs : List Value) → all_items (item_passes keys.File) (items_view vs) ≡ true
+    → FilesRead vs
+unfolding file_of
+files_read [] h = record { files = []; read = refl; same = refl; has = λ name. refl }
+files_read (v ∷ vs) h =
+    let (here, more) =
+    and_parts (item_passes keys.File (view v)) (all_items (item_passes keys.File) (items_view vs))
+    h in
+    let f = file_reads (view v) here in
+    let rest = files_read vs more in
+    record {
+      files = file_of (view v) f.0 ∷ rest.files;
+      read = rw (f.1, rest.read) refl;
+      same = rw (rest.has (text_or_none (name_value (view v))), rest.same) refl;
+      has = λ name.
+          ap (λ (b : Bool). bytes_eq (text_or_none (name_value (view v))) name || b) (rest.has name);
+    }
+
+pub files_given : (o : Option Data) (vs : List Value) → passes_at false Tables o ≡ true
+    → all_items (item_passes keys.File) (array_items o) ≡ true
+    → items_view vs ≡ array_items o → names_differ (map named_file vs) ≡ true
+    → (files : List InlineFile) × (optional toml_files [] o ≡ Some files)
+unfolding toml_files
+files_given None vs h items same differ = ([], refl)
+files_given (Some (array ds)) vs h items same differ =
+    let all : all_items (item_passes keys.File) (items_view vs) ≡ true = rw same items in
+    let r = files_read vs all in
+    (r.files, rw (← same, r.read, r.same, differ) refl)
+files_given (Some (string s)) vs h items same differ = absurd (cc h)
+files_given (Some (integer z)) vs h items same differ = absurd (cc h)
+files_given (Some (float x)) vs h items same differ = absurd (cc h)
+files_given (Some (boolean b)) vs h items same differ = absurd (cc h)
+files_given (Some (datetime dt)) vs h items same differ = absurd (cc h)
+files_given (Some (table ms)) vs h items same differ = absurd (cc h)
+
+-- ---- regions, modules, indices, the pool
+
+region_item : (d : Data) → item_passes keys.Region d ≡ true → IsSome (in_table region_in d)
+region_item (table ms) h = region_reads ms h
+region_item (string s) h = absurd (cc h)
+region_item (integer z) h = absurd (cc h)
+region_item (float x) h = absurd (cc h)
+region_item (boolean b) h = absurd (cc h)
+region_item (datetime dt) h = absurd (cc h)
+region_item (array ds) h = absurd (cc h)
+
+module_item : (d : Data) → item_passes keys.Module d ≡ true → IsSome (in_table module_in d)
+module_item (table ms) h = module_reads ms h
+module_item (string s) h = absurd (cc h)
+module_item (integer z) h = absurd (cc h)
+module_item (float x) h = absurd (cc h)
+module_item (boolean b) h = absurd (cc h)
+module_item (datetime dt) h = absurd (cc h)
+module_item (array ds) h = absurd (cc h)
+
+pub regions_given : (o : Option Data) → passes_at false Tables o ≡ true
+    → all_items (item_passes keys.Region) (array_items o) ≡ true
+    → (regions : List Region) × (optional toml_regions [] o ≡ Some regions)
+unfolding toml_regions
+regions_given None h items = ([], refl)
+regions_given (Some (array ds)) h items =
+    let r = each_reads (item_passes keys.Region) (in_table region_in) ds region_item items in
+    (r.0, r.1)
+regions_given (Some (string s)) h items = absurd (cc h)
+regions_given (Some (integer z)) h items = absurd (cc h)
+regions_given (Some (float x)) h items = absurd (cc h)
+regions_given (Some (boolean b)) h items = absurd (cc h)
+regions_given (Some (datetime dt)) h items = absurd (cc h)
+regions_given (Some (table ms)) h items = absurd (cc h)
+
+pub modules_given : (o : Option Data) → passes_at false ModuleTables o ≡ true
+    → all_items (item_passes keys.Module) (array_items o) ≡ true
+    → (modules : List Module) × (optional toml_modules [] o ≡ Some modules)
+unfolding toml_modules
+modules_given None h items = ([], refl)
+modules_given (Some (array ds)) h items =
+    let r = each_reads (item_passes keys.Module) (in_table module_in) ds module_item items in
+    let few = (and_parts (nat_le 0 (item_count ds)) (nat_le (item_count ds) max_modules) h).1 in
+    (r.0, rw (r.1, r.2, few) refl)
+modules_given (Some (string s)) h items = absurd (cc h)
+modules_given (Some (integer z)) h items = absurd (cc h)
+modules_given (Some (float x)) h items = absurd (cc h)
+modules_given (Some (boolean b)) h items = absurd (cc h)
+modules_given (Some (datetime dt)) h items = absurd (cc h)
+modules_given (Some (table ms)) h items = absurd (cc h)
+
+pub fallbacks_given : (count : ℕ) (o : Option Data) → passes_at false Indices o ≡ true
+    → all_items (allows (IndexBelow count)) (array_items o) ≡ true
+    → (indices : List ℕ) × (optional (toml_indices count) [] o ≡ Some indices)
+fallbacks_given count None h items = ([], refl)
+fallbacks_given count (Some (array ds)) h items =
+    let r = each_reads (allows (IndexBelow count)) (toml_index count) ds (λ d can. can) items in
+    (r.0, r.1)
+fallbacks_given count (Some (string s)) h items = absurd (cc h)
+fallbacks_given count (Some (integer z)) h items = absurd (cc h)
+fallbacks_given count (Some (float x)) h items = absurd (cc h)
+fallbacks_given count (Some (boolean b)) h items = absurd (cc h)
+fallbacks_given count (Some (datetime dt)) h items = absurd (cc h)
+fallbacks_given count (Some (table ms)) h items = absurd (cc h)
+
+two_numbers : (ds : Items) → count_within 2 2 (Some ds) ≡ true
+    → all_items (allows Number) ds ≡ true
+    → (range : Range ℕ) × (toml_range (array ds) ≡ Some range)
+unfolding toml_range
+two_numbers no_items h items = absurd (cc h)
+two_numbers (item a no_items) h items = absurd (cc h)
+two_numbers (item a (item b no_items)) h items =
+    let (first, more) = and_parts (is_some (toml_number a)) _ items in
+    let (second, end) = and_parts (is_some (toml_number b)) true more in
+    let x = some_of (toml_number a) first in
+    let y = some_of (toml_number b) second in
+    (record { start = x.0; end = y.0 }, rw (x.1, y.1) refl)
+two_numbers (item a (item b (item c ds))) h items =
+    let long : nat_le (item_count (item a (item b (item c ds)))) 2 ≡ true =
+    (and_parts _ _ h).1 in
+    absurd (grind (arith, nat_tests))
+
+pub pool_given : (o : Option Data) → passes_at true TwoNumbers o ≡ true
+    → all_items (allows Number) (array_items o) ≡ true
+    → (range : Range ℕ) × (required toml_range o ≡ Some range)
+pool_given None h items = absurd (cc h)
+pool_given (Some (array ds)) h items = two_numbers ds h items
+pool_given (Some (string s)) h items = absurd (cc h)
+pool_given (Some (integer z)) h items = absurd (cc h)
+pool_given (Some (float x)) h items = absurd (cc h)
+pool_given (Some (boolean b)) h items = absurd (cc h)
+pool_given (Some (datetime dt)) h items = absurd (cc h)
+pool_given (Some (table ms)) h items = absurd (cc h)
