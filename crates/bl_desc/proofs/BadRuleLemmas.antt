@@ -30,6 +30,9 @@ pub answer_in : {X : Type 0} (o : Option X) {P Q : Type 0} {R S : X → Type 0}
 answer_in None none some h = none h
 answer_in (Some x) none some h = some x h
 
+pub both : (a b : Bool) → a ≡ true → b ≡ true → (a && b) ≡ true
+both a b p q = rw (p, q) refl
+
 -- no rule of a key is broken by an unknown key, or by a value that is no table
 pub no_rule-Unknown : (rules : List KeyRule) (ms : Members) (key : Bor (List ℕ)) (set : KeySet)
     → BreaksOne rules ms (Unknown key set) → ⊥

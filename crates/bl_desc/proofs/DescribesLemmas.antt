@@ -1,23 +1,19 @@
 -- A table whose keys all pass describes something.
 use Rattle.std.proofs.Common.{◌≡◌, ℕ, Bool, true, false, not, ◌&&◌, Option, Some, None, List, [], ◌∷◌}
-use Rattle.std.proofs.Common.{length, map, refl, ap, sym, ◌∙◌, inl, inr}
-use Rattle.std.specs.Prelude.{IsSome, is_some, codes}
+use Rattle.std.proofs.Common.{length, refl, ap, suc, zero}
+use Rattle.std.specs.Prelude.{IsSome, is_some, codes, slice_get}
 use Rattle.std.proofs.lemmas.Bool.{and_parts}
-use Rattle.toml.specs.Data.{Data, string, integer, float, boolean, datetime, array, table, Items}
-use Rattle.toml.specs.Data.{no_items, item, Members, get_member}
-use Rattle.toml.specs.View.{view, items_view}
-use Rattle.toml.specs.declared.value.Value.{Value}
+use Rattle.toml.specs.Data.{Data, Items, no_items, item, Members, get_member}
 use Rattle.bl_map.specs.Kinds.{kind_named}
-use Rattle.bl_map.specs.declared.region.Region.{Region}
-use Rattle.bl_desc.specs.Values.{◌>>=◌, required, optional, if_given, at_key, at_key_or, at_key_if}
-use Rattle.bl_desc.specs.Values.{toml_number, toml_byte, toml_text, toml_bytes, each_item, in_array}
-use Rattle.bl_desc.specs.Values.{in_table}
-use Rattle.bl_desc.specs.Described.{InlineFile, region_in, file_in}
+use Rattle.bl_desc.specs.Values.{◌>>=◌, required, optional, if_given, toml_number, toml_text}
+use Rattle.bl_desc.specs.Values.{each_item, has_only}
+use Rattle.bl_desc.specs.Described.{region_in}
 use Rattle.bl_desc.specs.Entries.{module_in}
-use Rattle.bl_desc.specs.Allowed.{allows, item_count}
-use Rattle.bl_desc.specs.BadKeysKept.{all_items, array_items, item_passes, passes_at, table_passes}
+use Rattle.bl_desc.specs.Allowed.{KeyRule, allows, item_count, key_rules, keys_of_set, may, must}
+use Rattle.bl_desc.specs.BadKeysKept.{all_items, all_pass, passes, passes_at, table_passes}
 use Rattle.bl_desc.specs.declared.bad_key.Allowed.{Allowed}
-use Rattle.bl_desc.specs.declared.bad_key.Allowed.TheVariants.{Number, KindName, AnyText, HexText}
+use Rattle.bl_desc.specs.declared.bad_key.Allowed.TheVariants.{Number, KindName, AnyText}
+use Rattle.bl_desc.specs.declared.bad_key.KeySet.{KeySet}
 use Rattle.bl_desc.specs.declared.bad_key.KeySet.TheVariants as keys
 
 -- what is given
@@ -46,12 +42,32 @@ pub optional_reads : {A : Type 0} (allowed : Allowed) (read : Data → Option A)
 optional_reads allowed read x None can h = (x, refl)
 optional_reads allowed read x (Some d) can h = some_of (read d) (can d h)
 
+given_by : {A : Type 0} (read : Data → Option A) (d : Data) (x : A) → read d ≡ Some x
+    → if_given read (Some d) ≡ Some (Some x)
+given_by read d x is = rw is refl
+
 pub given_reads : {A : Type 0} (allowed : Allowed) (read : Data → Option A) (o : Option Data)
     → CanRead allowed read → passes_at false allowed o ≡ true
     → (y : Option A) × (if_given read o ≡ Some y)
 given_reads allowed read None can h = (None, refl)
 given_reads allowed read (Some d) can h =
-    let one = some_of (read d) (can d h) in (Some one.0, rw one.1 refl)
+    let one = some_of (read d) (can d h) in (Some one.0, given_by read d one.0 one.1)
+
+-- each of the rules is kept
+pub rule_passes : (rules : List KeyRule) (ms : Members) (i : ℕ) (rule : KeyRule)
+    → all_pass rules ms ≡ true → slice_get rules i ≡ Some rule → passes rule ms ≡ true
+rule_passes [] ms i rule all at_i = absurd (cc at_i)
+rule_passes (r ∷ rules) ms zero rule all at_i =
+    let same : r ≡ rule = cc at_i in
+    rw (← same) (and_parts (passes r ms) (all_pass rules ms) all).0
+rule_passes (r ∷ rules) ms (suc i) rule all at_i =
+    rule_passes rules ms i rule (and_parts (passes r ms) (all_pass rules ms) all).1 at_i
+
+-- a table has only its keys, and keeps their rules
+pub table_parts : (set : KeySet) (ms : Members) → table_passes set ms ≡ true
+    → (has_only (keys_of_set set) ms ≡ true) × (all_pass (key_rules 0 set) ms ≡ true)
+table_parts set ms h =
+    and_parts (has_only (keys_of_set set) ms) (all_pass (key_rules 0 set) ms) h
 
 -- the two steps of what is read
 pub two_steps : {A B : Type 0} (o : Option A) (f : A → Option B) → IsSome (o >>= f)
@@ -69,10 +85,14 @@ kind_reads (Some d) h = h
 pub region_reads : (ms : Members) → table_passes keys.Region ms ≡ true → IsSome (region_in ms)
 unfolding region_in
 region_reads ms h =
-    let (known, rules) = and_parts _ _ h in
-    let (base, after_base) = and_parts _ _ rules in
-    let (len, after_len) = and_parts _ _ after_base in
-    let (kind, end) = and_parts _ _ after_len in
+    let t = table_parts keys.Region ms h in
+    let all = t.1 in
+    let base =
+    rule_passes (key_rules 0 keys.Region) ms 0 (must (codes "base") Number) all refl in
+    let len =
+    rule_passes (key_rules 0 keys.Region) ms 1 (must (codes "length") Number) all refl in
+    let kind =
+    rule_passes (key_rules 0 keys.Region) ms 2 (must (codes "kind") KindName) all refl in
     let b =
     required_reads Number toml_number (get_member (codes "base") ms) (λ d can. can) base in
     let l =
@@ -80,28 +100,35 @@ region_reads ms h =
     let k =
     two_steps (required toml_text (get_member (codes "kind") ms)) kind_named
     (kind_reads (get_member (codes "kind") ms) kind) in
-    rw (known, b.1, l.1, k.1, k.2.1) refl
+    rw (t.0, b.1, l.1, k.1, k.2.1) refl
 
 pub module_reads : (ms : Members) → table_passes keys.Module ms ≡ true → IsSome (module_in ms)
 unfolding module_in
 module_reads ms h =
-    let (known, rules) = and_parts _ _ h in
-    let (file, after_file) = and_parts _ _ rules in
-    let (line, end) = and_parts _ _ after_file in
+    let t = table_parts keys.Module ms h in
+    let file =
+    rule_passes (key_rules 0 keys.Module) ms 0 (must (codes "file") AnyText) t.1 refl in
+    let line =
+    rule_passes (key_rules 0 keys.Module) ms 1 (may (codes "line") AnyText) t.1 refl in
     let f =
     required_reads AnyText toml_text (get_member (codes "file") ms) (λ d can. can) file in
     let l =
     optional_reads AnyText toml_text [] (get_member (codes "line") ms) (λ d can. can) line in
-    rw (known, f.1, l.1) refl
+    rw (t.0, f.1, l.1) refl
 
 -- ---- arrays
+
+each_by : {A : Type 0} (read : Data → Option A) (d : Data) (ds : Items) (x : A) (xs : List A)
+    → read d ≡ Some x → each_item read ds ≡ Some xs
+    → each_item read (item d ds) ≡ Some (x ∷ xs)
+each_by read d ds x xs one more = rw (one, more) refl
 
 pub each_reads : {A : Type 0} (test : Data → Bool) (read : Data → Option A) (ds : Items)
     → ((d : Data) → test d ≡ true → IsSome (read d)) → all_items test ds ≡ true
     → (xs : List A) × (each_item read ds ≡ Some xs) × (length xs ≡ item_count ds)
 each_reads test read no_items can h = ([], refl, refl)
 each_reads test read (item d ds) can h =
-    let (here, more) = and_parts (test d) (all_items test ds) h in
-    let x = some_of (read d) (can d here) in
-    let xs = each_reads test read ds can more in
-    (x.0 ∷ xs.0, rw (x.1, xs.1) refl, rw xs.2 refl)
+    let parts = and_parts (test d) (all_items test ds) h in
+    let x = some_of (read d) (can d parts.0) in
+    let xs = each_reads test read ds can parts.1 in
+    (x.0 ∷ xs.0, each_by read d ds x.0 xs.0 x.1 xs.1, ap suc xs.2)

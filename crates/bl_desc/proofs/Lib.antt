@@ -5,4 +5,9 @@ pub mod KeyLemmas
 pub mod DescribedLemmas
 pub mod BadValueLemmas
 pub mod BadRuleLemmas
+pub mod BadItemLemmas
 pub mod DescribesLemmas
+pub mod ArrayLemmas
+pub mod WholeLemmas
+pub mod PlaceLemmas
+pub mod SameNameLemmas

@@ -1,7 +1,8 @@
 -- Faults of one table, as faults of the whole description.
 use Rattle.std.proofs.Common.{◌≡◌, ◌≢◌, ℕ, ◌<◌, Bool, true, false, Option, Some, None, List, [], ◌∷◌}
 use Rattle.std.proofs.Common.{◌⊎◌, length, map, take, get_or, refl, ap, sym, ◌∙◌, inl, inr, arith, Bor}
-use Rattle.std.specs.Prelude.{IsSome, is_some, codes}
+use Rattle.std.specs.Prelude.{codes, MatchOption}
+use Rattle.bl_plan.specs.declared.protocol.Protocol.{Protocol}
 use Rattle.std.specs.Option.{IsSomeAnd}
 use Rattle.toml.specs.Data.{Data, string, integer, float, boolean, datetime, array, table, Items}
 use Rattle.toml.specs.Data.{no_items, item, Members, get_member, get, get_item, at, as_array}
@@ -12,12 +13,14 @@ use Rattle.bl_desc.specs.Values.{◌>>=◌}
 use Rattle.bl_desc.specs.Allowed.{KeyRule, item_count, key_rules, keys_of_set, may, must}
 use Rattle.bl_desc.specs.Allowed.{with_items}
 use Rattle.bl_desc.specs.BadKeys.{BreaksOne, BreaksRule, IsBadKey, IsFaultAt, IsItemFault}
-use Rattle.bl_desc.specs.BadKeys.{IsKeyFault, count_at, count_or_none, item_at}
+use Rattle.bl_desc.specs.BadKeys.{IsKeyFault, count_at, count_or_none, item_at, set_of_protocol}
 use Rattle.bl_desc.specs.BadKeysKept.{IsItemBad, IsListedBad, array_items, place_in, set_in}
 use Rattle.bl_desc.specs.WholeKept.{IsEntryBad, IsEntryBadAt, IsEntryItemBad, IsEntryItemBadAt}
 use Rattle.bl_desc.specs.WholeKept.{IsFrontFault, IsMenuBad, IsModulesBad, IsModulesBadAt}
 use Rattle.bl_desc.specs.WholeKept.{copy_rules, entry_set_in, front_rules, initrd_rules}
-use Rattle.bl_desc.specs.WholeKept.{module_rules, protocol_rules}
+use Rattle.bl_desc.specs.WholeKept.{entry_passes, passes_by, protocol_in}
+use Rattle.bl_desc.specs.WholeKept.{module_rules, protocol_rules, machine_rules, fill_rules}
+use Rattle.bl_desc.specs.WholeKept.{region_rules, file_rules, entry_rules, index_rules}
 use Rattle.bl_desc.specs.declared.bad_key.Allowed.TheVariants.{Number, Byte, IndexBelow}
 use Rattle.bl_desc.specs.declared.bad_key.Allowed.TheVariants.{TwoNumbers, Indices, Tables}
 use Rattle.bl_desc.specs.declared.bad_key.Allowed.TheVariants.{EntryTables}
@@ -45,7 +48,7 @@ item_of (Some (datetime dt)) i = refl
 item_of (Some (array ds)) i = refl
 item_of (Some (table ms)) i = refl
 
-count_of : (o : Option Data) → item_count (array_items o) ≡ count_or_none (o >>= as_array)
+pub count_of : (o : Option Data) → item_count (array_items o) ≡ count_or_none (o >>= as_array)
 count_of None = refl
 count_of (Some (string s)) = refl
 count_of (Some (integer z)) = refl
@@ -86,7 +89,7 @@ module-Multiboot2 ms fault h = rule_fault 0 keys.Multiboot2Entry ms fault (among
   where
     among : BreaksOne module_rules ms fault
         → BreaksOne (key_rules 0 keys.Multiboot2Entry) ms fault
-    among (inl module) = inr (inr (inr (inr (inl module))))
+    among (inl modules) = inr (inr (inr (inr (inl modules))))
     among (inr none) = absurd none
 
 pub copies-Multiboot2 : AreAmong copy_rules keys.Multiboot2Entry
@@ -175,31 +178,31 @@ AreAmongWhole count rules =
     → IsKeyFault count keys.Description ms fault
 
 pub front_whole : (count : ℕ)
-    → AreAmongWhole count (must (codes "size") Number ∷ must (codes "pool") TwoNumbers ∷ [])
+    → AreAmongWhole count machine_rules
 front_whole count ms fault h = rule_fault count keys.Description ms fault (among h)
   where
-    among : BreaksOne (must (codes "size") Number ∷ must (codes "pool") TwoNumbers ∷ []) ms fault
+    among : BreaksOne machine_rules ms fault
         → BreaksOne (key_rules count keys.Description) ms fault
     among (inl size) = inl size
     among (inr (inl pool)) =
         inr (inl (with_items-broken (must (codes "pool") TwoNumbers) Number ms fault refl pool))
     among (inr (inr none)) = absurd none
 
-pub fill_whole : (count : ℕ) → AreAmongWhole count (may (codes "fill") Byte ∷ [])
+pub fill_whole : (count : ℕ) → AreAmongWhole count fill_rules
 fill_whole count ms fault h = rule_fault count keys.Description ms fault (among h)
   where
-    among : BreaksOne (may (codes "fill") Byte ∷ []) ms fault
+    among : BreaksOne fill_rules ms fault
         → BreaksOne (key_rules count keys.Description) ms fault
     among (inl fill) = inr (inr (inl fill))
     among (inr none) = absurd none
 
 pub indices_whole : (count : ℕ)
     → AreAmongWhole count
-    (may (codes "default") (IndexBelow count) ∷ may (codes "fallback") Indices ∷ [])
+    (index_rules count)
 indices_whole count ms fault h = rule_fault count keys.Description ms fault (among h)
   where
     among : BreaksOne
-        (may (codes "default") (IndexBelow count) ∷ may (codes "fallback") Indices ∷ []) ms fault
+        (index_rules count) ms fault
         → BreaksOne (key_rules count keys.Description) ms fault
     among (inl default) = inr (inr (inr (inl default)))
     among (inr (inl fallback)) =
@@ -207,26 +210,26 @@ indices_whole count ms fault h = rule_fault count keys.Description ms fault (amo
         (IndexBelow count) ms fault refl fallback)))))
     among (inr (inr none)) = absurd none
 
-pub region_whole : (count : ℕ) → AreAmongWhole count (may (codes "region") Tables ∷ [])
+pub region_whole : (count : ℕ) → AreAmongWhole count region_rules
 region_whole count ms fault h = rule_fault count keys.Description ms fault (among h)
   where
-    among : BreaksOne (may (codes "region") Tables ∷ []) ms fault
+    among : BreaksOne region_rules ms fault
         → BreaksOne (key_rules count keys.Description) ms fault
     among (inl region) = inr (inr (inr (inr (inr (inl region)))))
     among (inr none) = absurd none
 
-pub file_whole : (count : ℕ) → AreAmongWhole count (may (codes "file") Tables ∷ [])
+pub file_whole : (count : ℕ) → AreAmongWhole count file_rules
 file_whole count ms fault h = rule_fault count keys.Description ms fault (among h)
   where
-    among : BreaksOne (may (codes "file") Tables ∷ []) ms fault
+    among : BreaksOne file_rules ms fault
         → BreaksOne (key_rules count keys.Description) ms fault
     among (inl file) = inr (inr (inr (inr (inr (inr (inl file))))))
     among (inr none) = absurd none
 
-pub entry_whole : (count : ℕ) → AreAmongWhole count (must (codes "entry") EntryTables ∷ [])
+pub entry_whole : (count : ℕ) → AreAmongWhole count entry_rules
 entry_whole count ms fault h = rule_fault count keys.Description ms fault (among h)
   where
-    among : BreaksOne (must (codes "entry") EntryTables ∷ []) ms fault
+    among : BreaksOne entry_rules ms fault
         → BreaksOne (key_rules count keys.Description) ms fault
     among (inl entry) = inr (inr (inr (inr (inr (inr (inr (inl entry)))))))
     among (inr none) = absurd none
@@ -241,7 +244,7 @@ pool_item ms (Missing key allowed) h = absurd h
 pool_item ms (BadValue key value allowed) h = absurd h
 pool_item ms (SameName value) h = absurd h
 pool_item ms (BadItem key index value told) h =
-    inr (inl (h.0, ap Some (sym h.1), sym (item_of (get_member (codes "pool") ms) index) ∙ h.2, h.3))
+    inr (inl (h.0, ap Some (sym h.1), sym (item_of (get_member (codes "pool") ms) index) ∙ h.2, rw h.1 h.3))
 
 pub fallback_item : (count : ℕ) (ms : Members) (fault : KeyFault)
     → IsItemBad (codes "fallback") (IndexBelow count)
@@ -257,7 +260,7 @@ fallback_item count ms (BadItem key index value told) h =
       h.0,
       ap Some (sym h.1),
       sym (item_of (get_member (codes "fallback") ms) index) ∙ h.2,
-      h.3,
+      rw h.1 h.3,
     )))))
 
 -- a bad key at the place of the whole
@@ -297,3 +300,28 @@ pub at_file : (ms : Members) (bad : BadKey)
 at_file ms bad h =
     rw h.1
     (at_file_item ms h.0 bad.fault (rw (← item_of (get_member (codes "file") ms) h.0) h.2))
+
+-- a bad entry, or a module of one
+menu_at : (ms : Members) (i : ℕ) (place : TablePlace) (fault : KeyFault) (o : Option Data)
+    → item_at (codes "entry") i ms ≡ o → IsSomeAnd o (λ d. IsEntryItemBadAt i d place fault)
+    → IsFaultAt ms place fault
+menu_at ms i place fault None is h = absurd h
+menu_at ms i places.Description fault (Some d) is h = absurd h
+menu_at ms i (places.Region k) fault (Some d) is h = absurd h
+menu_at ms i (places.File k) fault (Some d) is h = absurd h
+menu_at ms i (places.Entry k) fault (Some d) is h = rw (h.0, is) h.1
+menu_at ms i (places.Module k j) fault (Some d) is h = rw (h.0, is) h.1
+
+pub at_menu : (ms : Members) (bad : BadKey)
+    → IsMenuBad (array_items (get_member (codes "entry") ms)) bad → IsBadKey ms bad
+at_menu ms bad h =
+    menu_at ms h.0 bad.table bad.fault (item_at (codes "entry") h.0 ms) refl
+    (rw (← item_of (get_member (codes "entry") ms) h.0) h.1)
+
+-- what is known of an entry of this protocol
+pub as_protocol : (ms : Members) (i : ℕ) (found : Option BadKey) (protocol : Option Protocol)
+    → protocol_in ms ≡ protocol
+    → MatchOption found (passes_by protocol ms ≡ true)
+    (IsEntryBad (set_of_protocol protocol) i ms)
+    → MatchOption found (entry_passes ms ≡ true) (IsEntryBad (entry_set_in ms) i ms)
+as_protocol ms i found protocol is h = rw is h

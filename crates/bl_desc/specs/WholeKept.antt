@@ -152,31 +152,49 @@ IsEachFileNamed ms =
 
 -- ---- the whole
 
+abbrev pub machine_rules : List KeyRule
+machine_rules = must (codes "size") Number ∷ must (codes "pool") TwoNumbers ∷ []
+
+abbrev pub fill_rules : List KeyRule
+fill_rules = may (codes "fill") Byte ∷ []
+
+abbrev pub region_rules : List KeyRule
+region_rules = may (codes "region") Tables ∷ []
+
+abbrev pub file_rules : List KeyRule
+file_rules = may (codes "file") Tables ∷ []
+
+abbrev pub entry_rules : List KeyRule
+entry_rules = must (codes "entry") EntryTables ∷ []
+
+abbrev pub index_rules : ℕ → List KeyRule
+index_rules count = may (codes "default") (IndexBelow count) ∷ may (codes "fallback") Indices ∷ []
+
 abbrev pub machine_passes : Members → Bool
 machine_passes ms =
     has_only (keys_of_set keys.Description) ms
-    && (all_pass (must (codes "size") Number ∷ must (codes "pool") TwoNumbers ∷ []) ms
+    && (all_pass machine_rules ms
     && (all_items (allows Number) (array_items (get_member (codes "pool") ms))
-    && all_pass (may (codes "fill") Byte ∷ []) ms))
+    && all_pass fill_rules ms))
 
 abbrev pub regions_pass : Members → Bool
 regions_pass ms =
-    all_pass (may (codes "region") Tables ∷ []) ms
+    all_pass region_rules ms
     && all_items (item_passes keys.Region) (array_items (get_member (codes "region") ms))
 
 abbrev pub files_pass : Members → Bool
 files_pass ms =
-    all_pass (may (codes "file") Tables ∷ []) ms
+    all_pass file_rules ms
     && all_items (item_passes keys.File) (array_items (get_member (codes "file") ms))
 
 abbrev pub menu_passes : Members → Bool
 menu_passes ms =
-    all_pass (must (codes "entry") EntryTables ∷ []) ms
+    all_pass entry_rules ms
     && all_items entry_item_passes (array_items (get_member (codes "entry") ms))
 
 abbrev pub indices_pass_below : ℕ → Members → Bool
 indices_pass_below count ms =
-    all_pass (may (codes "default") (IndexBelow count) ∷ may (codes "fallback") Indices ∷ []) ms
+    all_pass (index_rules count) ms
     && all_items (allows (IndexBelow count)) (array_items (get_member (codes "fallback") ms))
 
 abbrev pub indices_pass : Members → Bool

@@ -25,6 +25,19 @@ fn protocol_of(table: &Table) -> Option<Protocol>
     }
 }
 
+/// The title, the kernel, the line.
+fn bad_texts<'a>(table: &'a Table, place: TablePlace) -> Option<BadKey<'a>>
+    ensures { MatchOption result
+        (tests.all_pass kept.front_rules (table_view table.now) ≡ true)
+        (λ bad. (bad.table ≡ place)
+        × BreaksOne kept.front_rules (table_view table.now) bad.fault) }
+{
+    let title = must("title", Allowed::Title);
+    let kernel = must("kernel", Allowed::AnyText);
+    let line = may("line", Allowed::AnyText);
+    broken_rules(table, place, &[title, kernel, line])
+}
+
 /// A key that an entry with these keys may not have, or one that each entry has.
 fn bad_front<'a>(table: &'a Table, place: TablePlace, set: KeySet) -> Option<BadKey<'a>>
     ensures { MatchOption result
@@ -34,13 +47,21 @@ fn bad_front<'a>(table: &'a Table, place: TablePlace, set: KeySet) -> Option<Bad
 {
     match unknown_key(table, place, set) {
         Some(bad) => Some(bad),
-        None => {
-            let title = must("title", Allowed::Title);
-            let kernel = must("kernel", Allowed::AnyText);
-            let line = may("line", Allowed::AnyText);
-            broken_rules(table, place, &[title, kernel, line])
-        }
+        None => bad_texts(table, place),
     }
+}
+
+fn bad_module_key<'a>(table: &'a Table, i: usize) -> Option<BadKey<'a>>
+    ensures { MatchOption result
+        (tests.all_pass kept.module_rules (table_view table.now) ≡ true)
+        (λ bad. (bad.table ≡ TablePlace.Entry i)
+        × BreaksOne kept.module_rules (table_view table.now) bad.fault) }
+{
+    broken_rules(
+        table,
+        TablePlace::Entry(i),
+        &[may("module", Allowed::ModuleTables)],
+    )
 }
 
 /// The first bad module of the entry of this index, or its key `module` itself.
@@ -49,8 +70,7 @@ fn bad_modules<'a>(table: &'a Table, i: usize) -> Option<BadKey<'a>>
         (kept.modules_pass (table_view table.now) ≡ true)
         (kept.IsModulesBad i (table_view table.now)) }
 {
-    let module = may("module", Allowed::ModuleTables);
-    match broken_rules(table, TablePlace::Entry(i), &[module]) {
+    match bad_module_key(table, i) {
         Some(bad) => Some(bad),
         None => bad_among(items_at(table, "module"), Listed::Modules(i)),
     }
@@ -82,6 +102,19 @@ fn bad_multiboot2<'a>(table: &'a Table, i: usize) -> Option<BadKey<'a>>
     }
 }
 
+fn bad_initrd<'a>(table: &'a Table, i: usize) -> Option<BadKey<'a>>
+    ensures { MatchOption result
+        (tests.all_pass kept.initrd_rules (table_view table.now) ≡ true)
+        (λ bad. (bad.table ≡ TablePlace.Entry i)
+        × BreaksOne kept.initrd_rules (table_view table.now) bad.fault) }
+{
+    broken_rules(
+        table,
+        TablePlace::Entry(i),
+        &[may("initrd", Allowed::AnyText)],
+    )
+}
+
 /// The first bad key of an entry of `linux` or `linux64`.
 fn bad_linux<'a>(table: &'a Table, i: usize) -> Option<BadKey<'a>>
     ensures { MatchOption result
@@ -90,10 +123,7 @@ fn bad_linux<'a>(table: &'a Table, i: usize) -> Option<BadKey<'a>>
 {
     match bad_front(table, TablePlace::Entry(i), KeySet::LinuxEntry) {
         Some(bad) => Some(bad),
-        None => {
-            let initrd = may("initrd", Allowed::AnyText);
-            broken_rules(table, TablePlace::Entry(i), &[initrd])
-        }
+        None => bad_initrd(table, i),
     }
 }
 
@@ -101,7 +131,8 @@ fn bad_linux<'a>(table: &'a Table, i: usize) -> Option<BadKey<'a>>
 fn bad_protocol<'a>(table: &'a Table, i: usize) -> Option<BadKey<'a>>
     ensures { MatchOption result
         (tests.all_pass kept.protocol_rules (table_view table.now) ≡ true)
-        (kept.IsEntryBad KeySet.Entry i (table_view table.now)) }
+        (λ bad. (bad.table ≡ TablePlace.Entry i)
+        × BreaksOne kept.protocol_rules (table_view table.now) bad.fault) }
 {
     let protocol = must("protocol", Allowed::ProtocolName);
     broken_rules(table, TablePlace::Entry(i), &[protocol])

@@ -1,5 +1,6 @@
 //! What the keys of a description may hold.
-ghost use Rattle.std.specs.Prelude.{◌≡◌, is_some};
+ghost use Rattle.std.specs.Prelude.{◌≡◌, ◌&&◌, is_some, nat_le};
+ghost use Rattle.std.specs.List.{list_all};
 ghost use Rattle.hex.specs.Hex.{decode_of, is_hex_digit};
 ghost use Rattle.toml.specs.Data.{as_str};
 ghost use Rattle.toml.specs.View.{view};
@@ -27,6 +28,12 @@ fn is_digit(c: u8) -> bool
     }
 }
 
+fn has_digits(text: &str) -> bool
+    ensures { result ≡ list_all is_hex_digit text.now }
+{
+    text.as_bytes().iter().all(|c| is_digit(*c))
+}
+
 /// Whether a text is an even number of hexadecimal digits.
 fn is_hex(text: &str) -> bool
     ensures { result ≡ is_some (bytes_from (decode_of text.now)) }
@@ -34,14 +41,20 @@ fn is_hex(text: &str) -> bool
     if text.len() % 2 == 1 {
         return false;
     }
-    text.as_bytes().iter().all(|c| is_digit(*c))
+    has_digits(text)
+}
+
+fn is_within(n: usize, least: usize, most: usize) -> bool
+    ensures { result ≡ (nat_le least n && nat_le n most) }
+{
+    least <= n && n <= most
 }
 
 /// Whether a text stands for 1 to 256 bytes.
 fn is_copy_text(text: &str) -> bool
     ensures { result ≡ kept.text_allowed Allowed.CopyText text.now }
 {
-    if text.len() < 2 || text.len() > 2 * MAX_COPY {
+    if !is_within(text.len(), 2, 2 * MAX_COPY) {
         return false;
     }
     is_hex(text)
@@ -77,7 +90,7 @@ fn has_count(value: &Value, least: usize, most: usize) -> bool
     ensures { result ≡ spec.has_count least most (view value.now) }
 {
     match value.as_array() {
-        Some(items) => least <= items.len() && items.len() <= most,
+        Some(items) => is_within(items.len(), least, most),
         None => false,
     }
 }

@@ -15,25 +15,86 @@ use crate::bad_keys::same_names::{name_value, same_name};
 use std::alloc::{AllocError, Global};
 use toml::{Table, Value};
 
+/// The keys `size` and `pool`.
+fn bad_size<'a>(table: &'a Table) -> Option<BadKey<'a>>
+    ensures { MatchOption result
+        (tests.all_pass kept.machine_rules (table_view table.now) ≡ true)
+        (λ bad. (bad.table ≡ TablePlace.Description)
+        × BreaksOne kept.machine_rules (table_view table.now) bad.fault) }
+{
+    let size = must("size", Allowed::Number);
+    let pool = must("pool", Allowed::TwoNumbers);
+    broken_rules(table, TablePlace::Description, &[size, pool])
+}
+
+fn bad_fill<'a>(table: &'a Table) -> Option<BadKey<'a>>
+    ensures { MatchOption result
+        (tests.all_pass kept.fill_rules (table_view table.now) ≡ true)
+        (λ bad. (bad.table ≡ TablePlace.Description)
+        × BreaksOne kept.fill_rules (table_view table.now) bad.fault) }
+{
+    let rule = may("fill", Allowed::Byte);
+    broken_rules(table, TablePlace::Description, &[rule])
+}
+
+fn bad_region_key<'a>(table: &'a Table) -> Option<BadKey<'a>>
+    ensures { MatchOption result
+        (tests.all_pass kept.region_rules (table_view table.now) ≡ true)
+        (λ bad. (bad.table ≡ TablePlace.Description)
+        × BreaksOne kept.region_rules (table_view table.now) bad.fault) }
+{
+    let rule = may("region", Allowed::Tables);
+    broken_rules(table, TablePlace::Description, &[rule])
+}
+
+fn bad_file_key<'a>(table: &'a Table) -> Option<BadKey<'a>>
+    ensures { MatchOption result
+        (tests.all_pass kept.file_rules (table_view table.now) ≡ true)
+        (λ bad. (bad.table ≡ TablePlace.Description)
+        × BreaksOne kept.file_rules (table_view table.now) bad.fault) }
+{
+    let rule = may("file", Allowed::Tables);
+    broken_rules(table, TablePlace::Description, &[rule])
+}
+
+fn bad_entry_key<'a>(table: &'a Table) -> Option<BadKey<'a>>
+    ensures { MatchOption result
+        (tests.all_pass kept.entry_rules (table_view table.now) ≡ true)
+        (λ bad. (bad.table ≡ TablePlace.Description)
+        × BreaksOne kept.entry_rules (table_view table.now) bad.fault) }
+{
+    let rule = must("entry", Allowed::EntryTables);
+    broken_rules(table, TablePlace::Description, &[rule])
+}
+
+/// The keys `default` and `fallback`, where there are so many entries.
+fn bad_index_keys<'a>(table: &'a Table, count: u64) -> Option<BadKey<'a>>
+    ensures { MatchOption result
+        (tests.all_pass (kept.index_rules count) (table_view table.now) ≡ true)
+        (λ bad. (bad.table ≡ TablePlace.Description)
+        × BreaksOne (kept.index_rules count) (table_view table.now) bad.fault) }
+{
+    let default = may("default", Allowed::IndexBelow(count));
+    let fallback = may("fallback", Allowed::Indices);
+    broken_rules(table, TablePlace::Description, &[default, fallback])
+}
+
 /// The keys `size`, `pool` and `fill`, and those that the table may not have.
 fn bad_machine<'a>(table: &'a Table) -> Option<BadKey<'a>>
     ensures { MatchOption result
         (kept.machine_passes (table_view table.now) ≡ true)
         (IsBadKey (table_view table.now)) }
 {
-    let place = TablePlace::Description;
-    if let Some(bad) = unknown_key(table, place, KeySet::Description) {
+    if let Some(bad) = unknown_key(table, TablePlace::Description, KeySet::Description) {
         return Some(bad);
     }
-    let size = must("size", Allowed::Number);
-    let pool = must("pool", Allowed::TwoNumbers);
-    if let Some(bad) = broken_rules(table, place, &[size, pool]) {
+    if let Some(bad) = bad_size(table) {
         return Some(bad);
     }
     if let Some(bad) = bad_number(items_at(table, "pool"), "pool", Allowed::Number) {
         return Some(bad);
     }
-    broken_rules(table, place, &[may("fill", Allowed::Byte)])
+    bad_fill(table)
 }
 
 fn bad_regions<'a>(table: &'a Table) -> Option<BadKey<'a>>
@@ -41,8 +102,7 @@ fn bad_regions<'a>(table: &'a Table) -> Option<BadKey<'a>>
         (kept.regions_pass (table_view table.now) ≡ true)
         (IsBadKey (table_view table.now)) }
 {
-    let region = may("region", Allowed::Tables);
-    match broken_rules(table, TablePlace::Description, &[region]) {
+    match bad_region_key(table) {
         Some(bad) => Some(bad),
         None => bad_among(items_at(table, "region"), Listed::Regions),
     }
@@ -53,8 +113,7 @@ fn bad_files<'a>(table: &'a Table) -> Option<BadKey<'a>>
         (kept.files_pass (table_view table.now) ≡ true)
         (IsBadKey (table_view table.now)) }
 {
-    let file = may("file", Allowed::Tables);
-    match broken_rules(table, TablePlace::Description, &[file]) {
+    match bad_file_key(table) {
         Some(bad) => Some(bad),
         None => bad_among(items_at(table, "file"), Listed::Files),
     }
@@ -82,8 +141,7 @@ fn bad_menu<'a>(table: &'a Table) -> Option<BadKey<'a>>
         (kept.menu_passes (table_view table.now) ≡ true)
         (IsBadKey (table_view table.now)) }
 {
-    let entry = must("entry", Allowed::EntryTables);
-    match broken_rules(table, TablePlace::Description, &[entry]) {
+    match bad_entry_key(table) {
         Some(bad) => Some(bad),
         None => bad_among_entries(items_at(table, "entry")),
     }
@@ -95,12 +153,14 @@ fn bad_indices<'a>(table: &'a Table) -> Option<BadKey<'a>>
         (kept.indices_pass (table_view table.now) ≡ true)
         (IsBadKey (table_view table.now)) }
 {
-    let index = Allowed::IndexBelow(items_at(table, "entry").len() as u64);
-    let default = may("default", index);
-    let fallback = may("fallback", Allowed::Indices);
-    match broken_rules(table, TablePlace::Description, &[default, fallback]) {
+    let count = items_at(table, "entry").len() as u64;
+    match bad_index_keys(table, count) {
         Some(bad) => Some(bad),
-        None => bad_number(items_at(table, "fallback"), "fallback", index),
+        None => bad_number(
+            items_at(table, "fallback"),
+            "fallback",
+            Allowed::IndexBelow(count),
+        ),
     }
 }
 
