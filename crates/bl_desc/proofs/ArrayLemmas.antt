@@ -12,7 +12,7 @@ use Rattle.toml.specs.View.{view, items_view}
 use Rattle.toml.specs.declared.value.Value.{Value}
 use Rattle.bl_map.specs.declared.region.Region.{Region}
 use Rattle.bl_plan.specs.Limits.{max_modules}
-use Rattle.bl_desc.specs.Values.{◌>>=◌, required, optional, toml_number, toml_text, toml_bytes}
+use Rattle.bl_desc.specs.Values.{required, optional, toml_number, toml_text, toml_bytes}
 use Rattle.bl_desc.specs.Values.{toml_range, toml_index, toml_indices, each_item, in_table, has_only}
 use Rattle.bl_desc.specs.Described.{InlineFile, file_in, has_file, names_differ}
 use Rattle.bl_desc.specs.Described.{region_in, toml_files, toml_regions}

@@ -1,8 +1,8 @@
 -- Looking for an item that does not pass, one after the other.
-use Rattle.std.proofs.Common.{◌≡◌, ℕ, ◌+◌, ◌<◌, ◌≤◌, Bool, true, ◌&&◌, Option, Some, List, []}
-use Rattle.std.proofs.Common.{length, drop, get_or, refl, sym, ap, ◌∙◌}
+use Rattle.std.proofs.Common.{◌≡◌, ℕ, ◌+◌, ◌<◌, ◌≤◌, Bool, true, Some, List, []}
+use Rattle.std.proofs.Common.{length, drop, get_or, sym, ap, ◌∙◌}
 use Rattle.std.proofs.lemmas.List.{drop_all}
-use Rattle.toml.specs.Data.{Data, item, Items, get_item}
+use Rattle.toml.specs.Data.{Data, item, get_item}
 use Rattle.toml.specs.View.{view, items_view}
 use Rattle.toml.specs.declared.value.Value.{Value}
 use Rattle.toml.proofs.Views.{get_item_within, items_view-drop}

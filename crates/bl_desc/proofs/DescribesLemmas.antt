@@ -1,7 +1,7 @@
 -- A table whose keys all pass describes something.
-use Rattle.std.proofs.Common.{◌≡◌, ℕ, Bool, true, false, not, ◌&&◌, Option, Some, None, List, [], ◌∷◌}
+use Rattle.std.proofs.Common.{◌≡◌, ℕ, Bool, true, false, Option, Some, None, List, [], ◌∷◌}
 use Rattle.std.proofs.Common.{length, refl, ap, suc, zero}
-use Rattle.std.specs.Prelude.{IsSome, is_some, codes, slice_get}
+use Rattle.std.specs.Prelude.{IsSome, codes, slice_get}
 use Rattle.std.proofs.lemmas.Bool.{and_parts}
 use Rattle.toml.specs.Data.{Data, Items, no_items, item, Members, get_member}
 use Rattle.bl_map.specs.Kinds.{kind_named}

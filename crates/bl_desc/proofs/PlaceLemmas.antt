@@ -1,29 +1,25 @@
 -- Faults of one table, as faults of the whole description.
-use Rattle.std.proofs.Common.{◌≡◌, ◌≢◌, ℕ, ◌<◌, Bool, true, false, Option, Some, None, List, [], ◌∷◌}
-use Rattle.std.proofs.Common.{◌⊎◌, length, map, take, get_or, refl, ap, sym, ◌∙◌, inl, inr, arith, Bor}
+use Rattle.std.proofs.Common.{◌≡◌, ℕ, true, Option, Some, None, List}
+use Rattle.std.proofs.Common.{refl, ap, sym, ◌∙◌, inl, inr}
 use Rattle.std.specs.Prelude.{codes, MatchOption}
 use Rattle.bl_plan.specs.declared.protocol.Protocol.{Protocol}
 use Rattle.std.specs.Option.{IsSomeAnd}
-use Rattle.toml.specs.Data.{Data, string, integer, float, boolean, datetime, array, table, Items}
-use Rattle.toml.specs.Data.{no_items, item, Members, get_member, get, get_item, at, as_array}
+use Rattle.toml.specs.Data.{Data, string, integer, float, boolean, datetime, array, table}
+use Rattle.toml.specs.Data.{Members, get_member, get_item, at, as_array}
 use Rattle.toml.specs.Data.{as_table}
-use Rattle.toml.specs.View.{view, items_view}
-use Rattle.toml.specs.declared.value.Value.{Value}
 use Rattle.bl_desc.specs.Values.{◌>>=◌}
-use Rattle.bl_desc.specs.Allowed.{KeyRule, item_count, key_rules, keys_of_set, may, must}
-use Rattle.bl_desc.specs.Allowed.{with_items}
-use Rattle.bl_desc.specs.BadKeys.{BreaksOne, BreaksRule, IsBadKey, IsFaultAt, IsItemFault}
+use Rattle.bl_desc.specs.Allowed.{KeyRule, item_count, key_rules, may, must}
+use Rattle.bl_desc.specs.BadKeys.{BreaksOne, IsBadKey, IsFaultAt, IsItemFault}
 use Rattle.bl_desc.specs.BadKeys.{IsKeyFault, count_at, count_or_none, item_at, set_of_protocol}
-use Rattle.bl_desc.specs.BadKeysKept.{IsItemBad, IsListedBad, array_items, place_in, set_in}
-use Rattle.bl_desc.specs.WholeKept.{IsEntryBad, IsEntryBadAt, IsEntryItemBad, IsEntryItemBadAt}
+use Rattle.bl_desc.specs.BadKeysKept.{IsItemBad, IsListedBad, array_items}
+use Rattle.bl_desc.specs.WholeKept.{IsEntryBad, IsEntryBadAt, IsEntryItemBadAt}
 use Rattle.bl_desc.specs.WholeKept.{IsFrontFault, IsMenuBad, IsModulesBad, IsModulesBadAt}
 use Rattle.bl_desc.specs.WholeKept.{copy_rules, entry_set_in, front_rules, initrd_rules}
 use Rattle.bl_desc.specs.WholeKept.{entry_passes, passes_by, protocol_in}
 use Rattle.bl_desc.specs.WholeKept.{module_rules, protocol_rules, machine_rules, fill_rules}
 use Rattle.bl_desc.specs.WholeKept.{region_rules, file_rules, entry_rules, index_rules}
-use Rattle.bl_desc.specs.declared.bad_key.Allowed.TheVariants.{Number, Byte, IndexBelow}
-use Rattle.bl_desc.specs.declared.bad_key.Allowed.TheVariants.{TwoNumbers, Indices, Tables}
-use Rattle.bl_desc.specs.declared.bad_key.Allowed.TheVariants.{EntryTables}
+use Rattle.bl_desc.specs.declared.bad_key.Allowed.TheVariants.{Number, IndexBelow}
+use Rattle.bl_desc.specs.declared.bad_key.Allowed.TheVariants.{TwoNumbers, Indices}
 use Rattle.bl_desc.specs.declared.bad_key.BadKey.{BadKey}
 use Rattle.bl_desc.specs.declared.bad_key.KeyFault.{KeyFault}
 use Rattle.bl_desc.specs.declared.bad_key.KeyFault.TheVariants.{NoTable, Unknown, Missing, BadValue}
@@ -32,7 +28,6 @@ use Rattle.bl_desc.specs.declared.bad_key.KeySet.{KeySet}
 use Rattle.bl_desc.specs.declared.bad_key.KeySet.TheVariants as keys
 use Rattle.bl_desc.specs.declared.bad_key.TablePlace.{TablePlace}
 use Rattle.bl_desc.specs.declared.bad_key.TablePlace.TheVariants as places
-use Rattle.bl_desc.specs.declared.bad_keys.items.Listed.{Listed}
 use Rattle.bl_desc.specs.declared.bad_keys.items.Listed.TheVariants.{Regions, Files, Modules}
 use Rattle.bl_desc.proofs.BadRuleLemmas.{rule_fault, table_fault, with_items-broken}
 
@@ -290,6 +285,7 @@ at_file_item ms i (SameName value) h = absurd (no_item (item_at (codes "file") i
     no_table (Some ms) (inl h) = h
     no_table (Some ms) (inr (inl h)) = h
     no_table (Some ms) (inr (inr h)) = h
+
     no_item : (o : Option Data)
         → IsSomeAnd o (λ d. IsItemFault keys.File d (SameName value)) → ⊥
     no_item None h = h

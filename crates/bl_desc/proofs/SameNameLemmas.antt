@@ -1,5 +1,5 @@
 -- Files of one name, among the values that stand for files.
-use Rattle.std.proofs.Common.{◌≡◌, ◌≢◌, ℕ, suc, zero, ◌+◌, ◌<◌, Bool, true, false, ◌&&◌, ◌||◌, Option}
+use Rattle.std.proofs.Common.{◌≡◌, ◌≢◌, ℕ, suc, zero, ◌+◌, ◌<◌, Bool, true, Option}
 use Rattle.std.proofs.Common.{Some, None, List, [], ◌∷◌, ◌++◌, length, map, take, get_or, refl, ap}
 use Rattle.std.proofs.Common.{sym, ◌∙◌, inl, inr, arith}
 use Rattle.std.specs.Prelude.{codes, slice_get}
@@ -7,15 +7,13 @@ use Rattle.std.specs.Str.{bytes_eq}
 use Rattle.std.proofs.lemmas.Bool.{and_parts, cases_Bool}
 use Rattle.std.proofs.lemmas.List.{take_more, map-append}
 use Rattle.std.proofs.lemmas.Slice.Eq.{bytes_eq-Decides}
-use Rattle.toml.specs.Data.{Data, string, integer, float, boolean, datetime, array, table, Items}
+use Rattle.toml.specs.Data.{Data, string, integer, float, boolean, datetime, array, table}
 use Rattle.toml.specs.Data.{Members, get_member, get, get_item}
 use Rattle.toml.specs.View.{view, items_view}
 use Rattle.toml.specs.declared.value.Value.{Value}
-use Rattle.bl_desc.specs.Values.{◌>>=◌, toml_text}
-use Rattle.bl_desc.specs.Described.{has_file, names_differ}
+use Rattle.bl_desc.specs.Described.{has_file}
 use Rattle.bl_desc.specs.BadKeys.{file_name_at, item_at}
 use Rattle.bl_desc.specs.BadKeysKept.{all_items, all_pass, array_items, item_passes, passes_at}
-use Rattle.bl_desc.specs.BadKeysKept.{table_passes}
 use Rattle.bl_desc.specs.WholeKept.{IsSameName, file_rules, files_pass, name_value, named_file}
 use Rattle.bl_desc.specs.WholeKept.{text_or_none, value_or}
 use Rattle.bl_desc.specs.declared.bad_key.Allowed.TheVariants.{AnyText}

@@ -1,5 +1,5 @@
 -- A description whose keys all pass describes something.
-use Rattle.std.proofs.Common.{◌≡◌, ℕ, Bool, true, false, ◌&&◌, Option, Some, None, List, [], ◌∷◌}
+use Rattle.std.proofs.Common.{◌≡◌, ℕ, true, ◌&&◌, Option, Some, None, List, []}
 use Rattle.std.proofs.Common.{length, refl, sym, ◌∙◌}
 use Rattle.std.specs.Prelude.{IsSome, codes}
 use Rattle.std.specs.declared.ops.Range.{Range}

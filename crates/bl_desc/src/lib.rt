@@ -19,9 +19,9 @@ mod regions;
 mod text;
 mod values;
 
-pub use bl_plan::{MAX_ENTRIES, MAX_MODULES};
 pub use bad_key::{Allowed, BadKey, KeyFault, KeySet, TablePlace};
 pub use bad_keys::first_bad_key;
+pub use bl_plan::{MAX_ENTRIES, MAX_MODULES};
 pub use desc::{Description, FileRow, file_named};
 pub use document::read_description;
 pub use entry_row::EntryRow;

@@ -123,11 +123,7 @@ pub fn bad_among<'a>(items: &'a [Value], listed: Listed) -> Option<BadKey<'a>>
 }
 
 /// The first item that is not allowed, of an array at this key of the description.
-pub fn bad_number<'a>(
-    items: &'a [Value],
-    key: &'static str,
-    allowed: Allowed,
-) -> Option<BadKey<'a>>
+pub fn bad_number<'a>(items: &'a [Value], key: &'static str, allowed: Allowed) -> Option<BadKey<'a>>
     ensures { MatchOption result
         (kept.all_items (allowed_of allowed) (items_view items.now) ≡ true)
         (λ bad. (bad.table ≡ TablePlace.Description)

@@ -68,9 +68,7 @@ fn is_key(set: KeySet, key: &str) -> bool
             ];
             is_among(key, &known)
         }
-        KeySet::LinuxEntry => {
-            is_among(key, &["title", "protocol", "kernel", "line", "initrd"])
-        }
+        KeySet::LinuxEntry => { is_among(key, &["title", "protocol", "kernel", "line", "initrd"]) }
         KeySet::Module => is_among(key, &["file", "line"]),
     }
 }
@@ -120,11 +118,7 @@ fn broken_rule<'a>(table: &'a Table, place: TablePlace, rule: &Rule) -> Option<B
 }
 
 /// The first of these rules that the table at this place breaks.
-pub fn broken_rules<'a>(
-    table: &'a Table,
-    place: TablePlace,
-    rules: &[Rule],
-) -> Option<BadKey<'a>>
+pub fn broken_rules<'a>(table: &'a Table, place: TablePlace, rules: &[Rule]) -> Option<BadKey<'a>>
     ensures { MatchOption result
         (all_pass (map rule_view rules.now) (table_view table.now) ≡ true)
         (λ bad. (bad.table ≡ place)

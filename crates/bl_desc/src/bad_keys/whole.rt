@@ -169,10 +169,7 @@ fn bad_indices<'a>(table: &'a Table) -> Option<BadKey<'a>>
 /// by one, arrays item by item.
 ///
 /// `global` is what the names of the files are kept in meanwhile; nothing else takes memory.
-pub fn first_bad_key<'a>(
-    global: Global,
-    table: &'a Table,
-) -> Result<Option<BadKey<'a>>, AllocError>
+pub fn first_bad_key<'a>(global: Global, table: &'a Table) -> Result<Option<BadKey<'a>>, AllocError>
     ensures { IfOk result (λ found. MatchOption found
         (IsSome (described_in (table_view table.now)))
         (IsBadKey (table_view table.now))) }

@@ -1,5 +1,5 @@
-use Rattle.std.proofs.Common.{◌≡◌, ◌%◌, ◌∙◌, sym, length, arith}
-use Rattle.bl_desc.proofs.BadValueLemmas.{hex_even, hex_odd}
+use Rattle.std.proofs.Common.{◌≡◌, ◌%◌, ◌∙◌, length, arith}
+use Rattle.bl_desc.proofs.BadValueLemmas.{hex_even}
 use Rattle.bl_desc.proofs.bad_keys.values.is_hex.Goals as goal
 
 pub returns : goal.returns

@@ -1,7 +1,7 @@
-use Rattle.std.proofs.Common.{◌≡◌, ◌∙◌, ℕ, length, sym}
+use Rattle.std.proofs.Common.{◌≡◌, ◌∙◌, length, sym}
 use Rattle.std.specs.Prelude.{codes}
 use Rattle.toml.specs.Data.{get_member}
-use Rattle.toml.specs.View.{items_view, table_view}
+use Rattle.toml.specs.View.{table_view}
 use Rattle.bl_desc.specs.Allowed.{item_count}
 use Rattle.bl_desc.specs.BadKeys.{count_at}
 use Rattle.bl_desc.specs.BadKeysKept.{array_items}
