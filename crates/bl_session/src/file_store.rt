@@ -54,6 +54,13 @@ impl<A: Allocator + Copy> FileStore<A> {
     {
         self.ledger.faithful()
     }
+
+    /// The files, by their index in the menu.
+    pub fn fetched(&self) -> &[Fetched<A>]
+        ensures { stored_files result.now ≡ self.now.files }
+    {
+        self.ledger.files()
+    }
 }
 
 impl<A: Allocator + Copy> Store for FileStore<A> {

@@ -87,6 +87,13 @@ impl<F: StoredFiles, A: Allocator + Copy> Ledger<F, A> {
         }
     }
 
+    /// The files.
+    pub fn files(&self) -> &F
+        ensures { F.files result.now ≡ self.now.files }
+    {
+        &self.files
+    }
+
     /// A file's length in bytes; `None` is a missing file.
     pub fn size(&self, file: u32) -> Option<u64>
         ensures { result ≡ size_of (slice_index_or self.now.files file missing) }
