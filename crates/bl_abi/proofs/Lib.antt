@@ -2,3 +2,4 @@ mod TellLemmas
 mod ValueLemmas
 mod LoadLemmas
 mod BootLemmas
+mod PrepareLemmas

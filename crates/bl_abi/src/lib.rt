@@ -11,6 +11,7 @@ mod given_fault;
 mod loading;
 mod machines;
 mod misuse;
+mod preparing;
 mod ranges;
 mod records;
 mod refusals;
@@ -28,6 +29,7 @@ pub use given::Given;
 pub use given_fault::GivenFault;
 pub use loading::load_told;
 pub use misuse::Misuse;
+pub use preparing::prepare_told;
 pub use records::{
     ByteRange, EntryRecord, MISSING, MachineRecord, ModuleRecord, NO_FILE, RegionRecord,
 };

@@ -61,7 +61,7 @@ fn load_typed<A: Allocator + Copy>(
 }
 
 /// The entry that is given, if it may be.
-fn take_entry<A: Allocator + Copy>(
+pub(crate) fn take_entry<A: Allocator + Copy>(
     alloc: A,
     given: &Given,
     row: &EntryRecord,
@@ -80,7 +80,7 @@ fn take_entry<A: Allocator + Copy>(
     Ok(entry)
 }
 
-fn load_fault(fault: PrepFault) -> LoadFault
+pub(crate) fn load_fault(fault: PrepFault) -> LoadFault
     ensures { result ≡ of_prepared fault }
 {
     match fault {
@@ -89,7 +89,7 @@ fn load_fault(fault: PrepFault) -> LoadFault
     }
 }
 
-fn given_fault(fault: GivenFault) -> LoadFault
+pub(crate) fn given_fault(fault: GivenFault) -> LoadFault
     ensures { result ≡ of_given fault }
 {
     match fault {
