@@ -16,15 +16,15 @@ plan_says texts size plan loadable =
     let parts = plan.parts.items in
     let same : map planned_place parts ≡ map part_place (map (part_by texts) parts) =
     map_same planned_place (λ part. part_place (part_by texts part)) parts (λ k d within.
-        let part = get_or parts k d in
-        let place : ℕ → Place =
-        λ n. record {
-          role = part.place.role;
-          index = part.place.index;
-          address = part.place.address;
-          length = n;
-        } in
-        ap place (sym (length-bytes_by texts part (loadable.backed k d within))))
+    let part = get_or parts k d in
+    let place : ℕ → Place =
+    λ n. record {
+      role = part.place.role;
+      index = part.place.index;
+      address = part.place.address;
+      length = n;
+    } in
+    ap place (sym (length-bytes_by texts part (loadable.backed k d within))))
     ∙ sym (map-map part_place (part_by texts) parts) in
     ap
     (λ (places : List Place).
