@@ -3,3 +3,4 @@ mod ValueLemmas
 mod LoadLemmas
 mod BootLemmas
 mod PrepareLemmas
+mod PrepareLaws

@@ -1,5 +1,5 @@
 //! What a load of an entry would hand over is told, and no memory is asked for.
-ghost use Rattle.std.specs.Prelude.{◌≡◌, ◌×◌, ◌≤◌, length, IfOk, IfErr, OnOk, Result};
+ghost use Rattle.std.specs.Prelude.{◌≡◌, ◌≤◌, length, IfOk, IfErr, OnOk, Result};
 ghost use Rattle.bl_load.specs.HandoffFacts.{HandoffFacts};
 ghost use Rattle.bl_load.specs.PlanFacts.{handoff_by};
 ghost use Rattle.bl_abi.specs.Load.{IsEntryFault, IsNotLoaded};
