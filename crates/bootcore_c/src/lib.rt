@@ -94,7 +94,9 @@ pub extern "C" fn bootcore_prepare_arrays(
         files,
         contents,
     };
-    prepare_told(alloc, machine, regions, &given, entry, told, places, refusal)
+    prepare_told(
+        alloc, machine, regions, &given, entry, told, places, refusal,
+    )
 }
 
 /// A menu is booted in memory that begins at a base.
