@@ -3,7 +3,7 @@ ghost use Rattle.std.specs.Prelude.{◌≡◌, ◌≤◌, length, IfOk, IfErr, O
 ghost use Rattle.bl_load.specs.HandoffFacts.{HandoffFacts};
 ghost use Rattle.bl_load.specs.PlanFacts.{handoff_by};
 ghost use Rattle.bl_abi.specs.Load.{IsEntryFault, IsNotLoaded};
-ghost use Rattle.bl_abi.specs.Prepare.{IsHandoffOf, IsPrepared, IsPrepareEnd};
+ghost use Rattle.bl_abi.specs.Prepare.{IsEntrySound, IsHandoffOf, IsPrepared, IsPrepareEnd};
 ghost use Rattle.bl_abi.specs.Told.{TellsEnd};
 ghost use Rattle.bl_abi.specs.declared.fault.LoadFault.{LoadFault};
 
@@ -30,6 +30,7 @@ fn prepare_given<A: Allocator + Copy>(
 ) -> Result<Plan<A>, LoadFault>
     ensures handed { IfOk result
         (λ plan. IsHandoffOf machine.now given.now row.now (handoff_by plan)) }
+    ensures sound { OnOk result (IsEntrySound given.now row.now) }
     ensures few { IfOk result (λ plan. length plan.parts.items ≤ 256) }
     ensures fault { IfErr result (IsEntryFault machine.now given.now row.now) }
 {

@@ -5,7 +5,7 @@ use Rattle.bl_load.specs.PlanFacts.{handover_by}
 use Rattle.bl_load.specs.Value.{EntryValue}
 use Rattle.bl_abi.specs.Load.{IsEntryFault}
 use Rattle.bl_abi.proofs.LoadLemmas.{given_value, of_prepared_is}
-use Rattle.bl_abi.proofs.PrepareLemmas.{plan_says}
+use Rattle.bl_abi.proofs.PrepareLemmas.{plan_says, entry_sound}
 use Rattle.bl_abi.proofs.preparing.prepare_given.Goals as goal
 
 pub returns-in-Ok-prepare-clause-handed : goal.returns-in-Ok-prepare-clause-handed
@@ -26,6 +26,11 @@ returns-in-Ok-prepare-clause-handed g c =
       handoff_is =
           plan_says texts c.args.machine.now.size plan c.in-Ok-prepare.ensures.loadable;
     }
+
+pub returns-in-Ok-prepare-clause-sound : goal.returns-in-Ok-prepare-clause-sound
+returns-in-Ok-prepare-clause-sound g c =
+    entry_sound c.args.given.now c.args.row.now c.in-Ok.entry c.in-Ok.ensures.value
+    c.in-Ok.ensures.sound c.in-Ok.ensures.limits
 
 pub returns-clause-fault : goal.returns-clause-fault
 returns-clause-fault g c =
