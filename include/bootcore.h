@@ -239,6 +239,16 @@ uint32_t bootcore_load_arrays(uint8_t *memory, size_t memory_length, uint32_t ba
                               bootcore_handoff *handoff, bootcore_place *places,
                               size_t place_count, bootcore_refusal *refusal);
 
+/* As bootcore_prepare, for arrays that are not null. */
+uint32_t bootcore_prepare_arrays(const bootcore_machine *machine, const bootcore_region *regions,
+                                 size_t region_count, const bootcore_entry *entry,
+                                 const bootcore_module *modules, size_t module_count,
+                                 const uint8_t *text, size_t text_length,
+                                 const bootcore_range *files, size_t file_count,
+                                 const uint8_t *contents, size_t contents_length,
+                                 bootcore_handoff *handoff, bootcore_place *places,
+                                 size_t place_count, bootcore_refusal *refusal);
+
 /* As bootcore_boot, for arrays that are not null. */
 uint32_t bootcore_boot_arrays(uint8_t *memory, size_t memory_length, uint32_t base,
                               const bootcore_machine *machine, const bootcore_region *regions,
@@ -302,6 +312,34 @@ static inline uint32_t bootcore_load(uint8_t *memory, size_t memory_length, uint
         (const bootcore_region *)bootcore_array(given->regions), given->region_count, entry,
         (const bootcore_module *)bootcore_array(given->modules), given->module_count,
         (const uint8_t *)bootcore_array(given->text), given->text_length,
+        (const bootcore_range *)bootcore_array(given->files), given->file_count,
+        (const uint8_t *)bootcore_array(given->contents), given->contents_length, handoff, places,
+        place_count, refusal);
+}
+
+/*
+ * Tells what bootcore_load would hand over of an entry, or why it would not, and asks for no memory of
+ * the machine: before a firmware is left, or to reckon what a machine should have been handed.
+ *
+ * - BOOTCORE_DONE: *handoff and the places are told as by bootcore_load.
+ * - BOOTCORE_REFUSED: *refusal is told as by bootcore_load.
+ * - Any other: the status that bootcore_load would answer, but BOOTCORE_BAD_MEMORY.
+ * What is not told is as before.
+ *
+ * After BOOTCORE_DONE a bootcore_load that is given equal arrays, and memory that is large enough, tells
+ * the same handoff and the same places, unless memory runs out. After BOOTCORE_REFUSED it is refused too,
+ * and tells the same refusal, unless memory runs out.
+ */
+static inline uint32_t bootcore_prepare(const bootcore_given *given, const bootcore_entry *entry,
+                                        bootcore_handoff *handoff, bootcore_place *places,
+                                        size_t place_count, bootcore_refusal *refusal) {
+    if (!given || !entry || !handoff || !places || !refusal || bootcore_has_null(given)) {
+        return BOOTCORE_NULL;
+    }
+    return bootcore_prepare_arrays(
+        &given->machine, (const bootcore_region *)bootcore_array(given->regions),
+        given->region_count, entry, (const bootcore_module *)bootcore_array(given->modules),
+        given->module_count, (const uint8_t *)bootcore_array(given->text), given->text_length,
         (const bootcore_range *)bootcore_array(given->files), given->file_count,
         (const uint8_t *)bootcore_array(given->contents), given->contents_length, handoff, places,
         place_count, refusal);

@@ -2,6 +2,7 @@ pub mod Given
 pub mod Checks
 pub mod Machines
 pub mod Load
+pub mod Prepare
 pub mod Refused
 pub mod Status
 pub mod Told

@@ -8,9 +8,11 @@ mod entries;
 mod fault;
 mod given;
 mod given_fault;
+mod laws;
 mod loading;
 mod machines;
 mod misuse;
+mod preparing;
 mod ranges;
 mod records;
 mod refusals;
@@ -26,8 +28,10 @@ pub use booting::boot_told;
 pub use fault::LoadFault;
 pub use given::Given;
 pub use given_fault::GivenFault;
+pub use laws::loads_end_as_prepared;
 pub use loading::load_told;
 pub use misuse::Misuse;
+pub use preparing::prepare_told;
 pub use records::{
     ByteRange, EntryRecord, MISSING, MachineRecord, ModuleRecord, NO_FILE, RegionRecord,
 };
