@@ -2,3 +2,5 @@ mod TellLemmas
 mod ValueLemmas
 mod LoadLemmas
 mod BootLemmas
+mod SessionLemmas
+mod SizeLemmas

@@ -10,11 +10,14 @@ mod given;
 mod given_fault;
 mod loading;
 mod machines;
+mod menus;
 mod misuse;
 mod ranges;
 mod records;
 mod refusals;
 mod registers;
+mod session_laws;
+mod sessions;
 mod stored;
 mod telling;
 mod told;
@@ -22,6 +25,7 @@ mod views;
 mod walked;
 mod walking;
 
+pub use boot_telling::given_status;
 pub use booting::boot_told;
 pub use fault::LoadFault;
 pub use given::Given;
@@ -31,6 +35,8 @@ pub use misuse::Misuse;
 pub use records::{
     ByteRange, EntryRecord, MISSING, MachineRecord, ModuleRecord, NO_FILE, RegionRecord,
 };
+pub use session_laws::sessions_have_the_sizes_of_boots;
+pub use sessions::{outcome_told, session_given};
 pub use told::{HandoffRecord, PlaceRecord, RefusalRecord, RegistersRecord};
 pub use walked::{SeenRecord, WalkStop};
 pub use walking::walk_told;
