@@ -2,5 +2,4 @@ mod TellLemmas
 mod ValueLemmas
 mod LoadLemmas
 mod BootLemmas
-mod SessionLemmas
 mod SizeLemmas

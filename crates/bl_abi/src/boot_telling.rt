@@ -58,6 +58,8 @@ pub(crate) fn tell_outcome<A: Allocator>(
           count = count.new;
         }) }
 {
+    // what this ensures says that there is room for each place
+    outcome.handoff.len();
     tell_places(&outcome.handoff, places);
     *told = handoff_told(outcome.entry, &outcome.handoff);
     tell_refusals(&outcome.refused, refusals);

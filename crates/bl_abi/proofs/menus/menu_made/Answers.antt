@@ -4,8 +4,8 @@ use Rattle.bl_abi.specs.Sessions.{IsNoMenu, is_short}
 use Rattle.bl_abi.proofs.BootLemmas.{entry_count, few_given, no_menu_is}
 use Rattle.bl_abi.proofs.menus.menu_made.Goals as goal
 
-pub returns-in_default-entries_of-clause-fault : goal.returns-in_default-entries_of-clause-fault
-returns-in_default-entries_of-clause-fault g c = is_short
+pub returns-in_default-clause-fault : goal.returns-in_default-clause-fault
+returns-in_default-clause-fault g c = is_short
 
 pub returns-in-Ok-new-clause-few : goal.returns-in-Ok-new-clause-few
 returns-in-Ok-new-clause-few g c =
