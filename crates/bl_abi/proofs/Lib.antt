@@ -4,3 +4,4 @@ mod LoadLemmas
 mod BootLemmas
 mod PrepareLemmas
 mod PrepareLaws
+mod SizeLemmas

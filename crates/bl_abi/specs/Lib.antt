@@ -8,4 +8,5 @@ pub mod Status
 pub mod Told
 pub mod Boot
 pub mod BootTold
+pub mod Sessions
 pub mod Walk

@@ -11,12 +11,15 @@ mod given_fault;
 mod laws;
 mod loading;
 mod machines;
+mod menus;
 mod misuse;
 mod preparing;
 mod ranges;
 mod records;
 mod refusals;
 mod registers;
+mod session_laws;
+mod sessions;
 mod stored;
 mod telling;
 mod told;
@@ -24,6 +27,7 @@ mod views;
 mod walked;
 mod walking;
 
+pub use boot_telling::given_status;
 pub use booting::boot_told;
 pub use fault::LoadFault;
 pub use given::Given;
@@ -35,6 +39,8 @@ pub use preparing::prepare_told;
 pub use records::{
     ByteRange, EntryRecord, MISSING, MachineRecord, ModuleRecord, NO_FILE, RegionRecord,
 };
+pub use session_laws::sessions_have_the_sizes_of_boots;
+pub use sessions::{outcome_told, session_given};
 pub use told::{HandoffRecord, PlaceRecord, RefusalRecord, RegistersRecord};
 pub use walked::{SeenRecord, WalkStop};
 pub use walking::walk_told;

@@ -16,6 +16,8 @@ ghost use Rattle.bl_abi.specs.declared.walked.WalkStop.{WalkStop};
 ghost use Rattle.bl_abi.specs.declared.fault.LoadFault.{LoadFault};
 ghost use Rattle.bl_abi.specs.declared.given_fault.GivenFault.{GivenFault};
 
+mod sessions;
+
 use bl_abi::{
     ByteRange, EntryRecord, Given, HandoffRecord, MachineRecord, ModuleRecord, PlaceRecord,
     RefusalRecord, RegionRecord, SeenRecord, boot_told, load_told, prepare_told, walk_told,
