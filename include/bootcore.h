@@ -332,9 +332,10 @@ static inline uint32_t bootcore_load(uint8_t *memory, size_t memory_length, uint
  * - Any other: the status that bootcore_load would answer, but BOOTCORE_BAD_MEMORY.
  * What is not told is as before.
  *
- * After BOOTCORE_DONE a bootcore_load that is given equal arrays, and memory that is large enough, tells
- * the same handoff and the same places, unless memory runs out. After BOOTCORE_REFUSED it is refused too,
- * and tells the same refusal, unless memory runs out.
+ * After BOOTCORE_DONE a bootcore_load of equal arrays, with room for as many places and memory that
+ * reaches to the machine's size, answers BOOTCORE_DONE and tells the same handoff and places, or
+ * BOOTCORE_NO_MEMORY. After BOOTCORE_REFUSED none answers BOOTCORE_DONE, and one that answers
+ * BOOTCORE_REFUSED tells the same refusal.
  */
 static inline uint32_t bootcore_prepare(const bootcore_given *given, const bootcore_entry *entry,
                                         bootcore_handoff *handoff, bootcore_place *places,

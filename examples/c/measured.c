@@ -15,14 +15,15 @@
 #include <stdlib.h>
 #include <string.h>
 
-enum { MAX_FILES = 66, MAX_REGIONS = 128 };
+enum { MAX_FILES = 66, MAX_REGIONS = 128, ROOM = 0x20000000 };
 
-static uint8_t *contents; /* the bytes of all lines and files, the image's last */
+static uint8_t contents[ROOM]; /* the bytes of all lines and files, the image's last */
 static size_t length;
 static bootcore_range files[MAX_FILES];
 static bootcore_module modules[MAX_FILES];
 static bootcore_region regions[MAX_REGIONS];
-static bootcore_given given = {.regions = regions, .modules = modules, .files = files};
+static bootcore_given given = {
+    .regions = regions, .modules = modules, .files = files, .text = contents, .contents = contents};
 static const uint8_t *image; /* what of the image is not compared yet */
 static uint64_t left;
 
@@ -31,28 +32,23 @@ static void give_up(const char *why) {
     exit(2);
 }
 
-static bootcore_range add(const void *bytes, size_t count) {
-    bootcore_range range = {length, count};
-    contents = realloc(contents, length + count + 1);
-    if (!contents) {
-        give_up("out of memory");
+static bootcore_range add_file(const char *path) {
+    FILE *file = fopen(path, "rb");
+    bootcore_range range = {length, file ? fread(contents + length, 1, ROOM - length, file) : 0};
+    length += range.length;
+    if (!file || fclose(file) || length == ROOM) {
+        give_up(path);
     }
-    memcpy(contents + length, bytes, count);
-    length += count;
     return range;
 }
 
-static bootcore_range add_file(const char *path) {
-    static uint8_t chunk[1 << 20];
-    bootcore_range range = {length, 0};
-    FILE *file = fopen(path, "rb");
-    for (size_t came = 1; file && came; range.length += came) {
-        came = fread(chunk, 1, sizeof chunk, file);
-        add(chunk, came);
+static bootcore_range add_line(const char *line) {
+    bootcore_range range = {length, strlen(line)};
+    if (range.length >= ROOM - length) {
+        give_up(line);
     }
-    if (!file || fclose(file)) {
-        give_up(path);
-    }
+    memcpy(contents + length, line, range.length);
+    length += range.length;
     return range;
 }
 
@@ -98,9 +94,9 @@ static int is_image(const bootcore_handoff *h, const bootcore_place *places,
         same = goes_on("memory", at, memory + at, places[i].length);
     }
     if (same) {
-        printf("equal: %" PRIu32 " parts, %" PRIu64 " bytes behind them\n", h->places, left);
+        printf(left ? "differs: more bytes behind the parts\n" : "equal\n");
     }
-    return same && left == 0;
+    return same && !left;
 }
 
 int main(int argc, char **argv) {
@@ -118,17 +114,15 @@ int main(int argc, char **argv) {
         entry.protocol = argv[4][5] ? BOOTCORE_LINUX64 : BOOTCORE_LINUX;
         entry.initrd = argc > 7 ? 1 : BOOTCORE_NO_FILE;
     }
-    entry.line = add(argv[5], strlen(argv[5]));
+    entry.line = add_line(argv[5]);
     files[given.file_count++] = add_file(argv[6]);
     for (int i = 7; i < argc; i += 2) {
-        const char *line = i + 1 < argc ? argv[i + 1] : "";
-        modules[entry.module_count++] =
-            (bootcore_module){(uint32_t)given.file_count, 0, add(line, strlen(line))};
+        bootcore_range line = add_line(i + 1 < argc ? argv[i + 1] : "");
+        modules[entry.module_count++] = (bootcore_module){(uint32_t)given.file_count, 0, line};
         files[given.file_count++] = add_file(argv[i]);
     }
     bootcore_range whole = add_file(argv[3]);
     given.module_count = entry.module_count;
-    given.text = given.contents = contents;
     given.text_length = given.contents_length = length;
     image = contents + whole.offset;
     left = whole.length;
@@ -140,6 +134,7 @@ int main(int argc, char **argv) {
         return 2;
     }
     int same = is_image(&handoff, places, memory);
+    free(memory);
     if (bootcore_walk(contents + whole.offset, whole.length, &seen, &refusal) == BOOTCORE_DONE) {
         printf("a kernel sees: entry %" PRIx64 ", line of %" PRIu64 " bytes, %" PRIu64 " modules, %"
                PRIu64 " runs\n", seen.entry, seen.line_length, seen.modules, seen.runs);

@@ -73,7 +73,8 @@ int write_file(const char *path, const bootcore_range *ranges, uint32_t count);
 typedef struct {
     bootcore_machine core;
     bootcore_region regions[max_regions];
-    uint32_t region_count;
+    bootcore_range free[max_regions]; /* what may be loaded into */
+    uint32_t region_count, free_count;
     uint64_t firmware; /* bytes that boot services keep, and no kernel gets */
     UINTN key;         /* of the map, for ExitBootServices */
 } machine_map;

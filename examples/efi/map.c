@@ -74,6 +74,7 @@ static void measure_machine(machine_map *map) {
         uint64_t end = region->base + region->length;
         if (end > lowest_own) end = lowest_own;
         if (region->kind != BOOTCORE_USABLE || start >= end) continue;
+        map->free[map->free_count++] = (bootcore_range){start, end - start};
         if (end - start > map->core.pool_length)
             map->core = (bootcore_machine){end, start, end - start};
         map->core.size = end;

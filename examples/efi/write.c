@@ -68,24 +68,21 @@ static int write_image(void) {
     return write_file("bootcore/handover.image", ranges, 2 + head.count);
 }
 
-/* The pages of a part without those of the part before, as the application's own or given back. */
-static int take_pages(uint32_t i, int is_taken) {
-    const bootcore_place *place = &boot.places[i];
-    uint64_t before = i ? (place[-1].address + place[-1].length - 1) / page + 1 : 0;
-    uint64_t first = place->address / page < before ? before : place->address / page;
-    uint64_t pages = (place->address + place->length - 1) / page + 1 - first;
-    EFI_PHYSICAL_ADDRESS at = first * page;
-    if (!is_taken && pages) BS->FreePages(at, pages);
-    return !is_taken || !pages ||
-           !EFI_ERROR(BS->AllocatePages(AllocateAddress, EfiLoaderData, pages, &at));
+/* A free range as the application's own, or given back. Only whole ranges: else the firmware takes
+   memory for its map, and the map is no longer the one that is described. */
+static int take_free(uint32_t i, int is_taken) {
+    EFI_PHYSICAL_ADDRESS at = boot.map.free[i].offset;
+    UINTN pages = boot.map.free[i].length / page;
+    if (!is_taken) return !EFI_ERROR(BS->FreePages(at, pages));
+    return !EFI_ERROR(BS->AllocatePages(AllocateAddress, EfiLoaderData, pages, &at));
 }
 
 /* Loads the entry while the firmware serves, into memory that the firmware gave for it. */
 const char *write_handover(void) {
     uint32_t taken = 0;
-    while (taken < boot.handoff.places && take_pages(taken, 1)) taken++;
-    int good = taken == boot.handoff.places && write_description() &&
+    while (taken < boot.map.free_count && take_free(taken, 1)) taken++;
+    int good = taken == boot.map.free_count && write_description() &&
                load_entry() == BOOTCORE_DONE && write_image();
-    while (taken > 0) take_pages(--taken, 0);
+    while (taken > 0) take_free(--taken, 0);
     return good ? "The handover was written to bootcore/." : "The handover can't be written.";
 }
