@@ -150,10 +150,10 @@ static void try_null(void) {
 /* A session, call after call, whose one entry is refused in the end. */
 static void try_boot(void) {
     right();
-    given.machine.pool_base = 0;
+    given.machine.pool_base = 4096;
     given.machine.pool_length = POOL;
     EXPECT(BOOTCORE_DONE, MAKE());
-    EXPECT(BOOTCORE_LOW_POOL, START(SIZE - 4096, 4096));
+    EXPECT(BOOTCORE_LOW_POOL, START(SIZE - 8192, 8192));
     right();
     EXPECT(BOOTCORE_DONE, MAKE());
     EXPECT(BOOTCORE_WAITING, PIECE(memory, 9));
