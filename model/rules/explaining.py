@@ -14,7 +14,7 @@ from .handover import PROTOCOL_NAMES
 from .machine import check, is_size
 from .numbers import frames
 from .refusals import MACHINE_NAMES, NAMES, Refused
-from .telling import frames_told, handover_lines, hints, sizes_of, unplaced_lines
+from .telling import handover_lines, hints, sizes_of
 
 PAGE = os.path.join(os.path.dirname(__file__), "..", "..", "docs", "REFUSALS.md")
 OFFSETS = (7,)  # the refusals whose number is an offset, told in hexadecimal digits
@@ -96,32 +96,20 @@ def attempt_lines(boot: Boot, index: int) -> List[str]:
     return lines
 
 
-def refused_lines(boot: Boot, index: int, refusal: Refused) -> List[str]:
-    """The refusal, and what stands behind it."""
-    machine, entry = boot.described.machine, boot.described.entries[index]
-    lines = ["refused " + told(refusal.number, refusal.data, NAMES, "Of an entry")]
-    lines += unplaced_lines(machine, refusal)
-    if refusal.number == 21:
-        wanted, left = frames_told(machine, entry, boot.file_named)
-        lines.append(f"frames: {wanted} wanted, {left} open")
-    return lines
-
-
 def booted_lines(boot: Boot) -> List[str]:
     index = boot.outcome.entry
-    machine, entry = boot.described.machine, boot.described.entries[index]
-    lines = attempt_lines(boot, index) + [f"booted {index} {entry.title}",
-                                          "protocol " + PROTOCOL_NAMES[entry.protocol]]
-    lines += handover_lines(boot.outcome.handover, entry, boot.file_named)
-    wanted, left = frames_told(machine, entry, boot.file_named)
-    start, end = machine.pool
-    return lines + [f"frames {wanted} wanted, {left} open, {frames(end - start)} in all"]
+    entry = boot.described.entries[index]
+    files = [boot.file_named(name) for name in booting.file_names(entry)]
+    lines = [f"booted {index} {entry.title}", "protocol " + PROTOCOL_NAMES[entry.protocol]]
+    return attempt_lines(boot, index) + lines + handover_lines(
+        boot.described.machine, boot.outcome.handover, entry, files)
 
 
 def boot_lines(boot: Boot) -> List[str]:
     lines = []
     for index, refusal in boot.outcome.refused:
-        lines += attempt_lines(boot, index) + refused_lines(boot, index, refusal)
+        lines += attempt_lines(boot, index)
+        lines.append("refused " + told(refusal.number, refusal.data, NAMES, "Of an entry"))
     lines += ["no entry left"] if boot.outcome.entry is None else booted_lines(boot)
     return lines + hints(boot.described, boot.outcome.refused, boot.file_named)
 

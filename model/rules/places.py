@@ -1,33 +1,12 @@
 """Places: where a part may stand, and which address is chosen. BOOT-RULES.md "Places"."""
 
-from typing import List, NamedTuple, Optional, Tuple
+from typing import List, Optional
 
 from .machine import Machine, Range, covers, meets, usable_ranges
 from .numbers import FRAME, frames, round_down, round_up
-from .refusals import Refused, refuse
+from .refusals import refuse
 
 MIB, GIB4 = 0x100000, 1 << 32
-
-
-class Row(NamedTuple):
-    """A part that wants a place, and how it is chosen: at an address alone, or the lowest or the
-    highest of an alignment between two limits, perhaps after an address that is preferred."""
-    role: int
-    index: int
-    length: int
-    at: Optional[int] = None
-    order: str = ""  # lowest or highest, empty if the address alone will do
-    align: int = 1
-    low: int = 0
-    high: int = 0
-
-
-class Unplaced(Refused):
-    """A refusal with 19 or 20, and the row that finds no place."""
-
-    def __init__(self, number: int, row: Row):
-        super().__init__(number)
-        self.row = row
 
 
 class Planner:
@@ -36,12 +15,6 @@ class Planner:
     def __init__(self, machine: Machine):
         self.usable = usable_ranges(machine)
         self.taken: List[Range] = []
-        self.part: Tuple[int, int] = (0, 0)  # role and index of the part that is placed
-
-    def placing(self, role: int, index: int = 0) -> "Planner":
-        """The same, for this part."""
-        self.part = role, index
-        return self
 
     def gaps(self) -> List[Range]:
         """The usable bytes that no part has, as ascending ranges with something between them."""
@@ -88,32 +61,29 @@ class Planner:
         return at
 
     def lowest(self, length: int, align: int, low: int, high: int) -> int:
-        row = Row(*self.part, length, None, "lowest", align, low, high)
-        return self._chosen(self.least(length, align, low, high), row)
+        return self._chosen(self.least(length, align, low, high), length)
 
     def highest(self, length: int, align: int, low: int, high: int) -> int:
-        row = Row(*self.part, length, None, "highest", align, low, high)
-        return self._chosen(self.greatest(length, align, low, high), row)
+        return self._chosen(self.greatest(length, align, low, high), length)
 
     def preferred(self, asked: int, length: int, align: int, low: int, high: int) -> int:
         """The address asked for if it is permitted, else the lowest."""
         if self.is_permitted(asked, length, align, low, high):
             return self.take(asked, length)
-        row = Row(*self.part, length, asked, "lowest", align, low, high)
-        return self._chosen(self.least(length, align, low, high), row)
+        return self.lowest(length, align, low, high)
 
     def fixed(self, start: int, end: int) -> int:
         """A part at its own address: each byte is usable (19), none is in an earlier part (15)."""
         if not covers(self.usable, start, end):
-            raise Unplaced(19, Row(*self.part, end - start, start))
+            refuse(19)
         if any(meets((start, end), part) for part in self.taken):
             refuse(15)
         return self.take(start, end - start)
 
-    def _chosen(self, at: Optional[int], row: Row) -> int:
+    def _chosen(self, at: Optional[int], length: int) -> int:
         if at is None:
-            raise Unplaced(20, row)
-        return self.take(at, row.length)
+            refuse(20)
+        return self.take(at, length)
 
 
 def undisturbed_frames(machine: Machine, parts: List[Range]) -> int:
