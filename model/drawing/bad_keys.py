@@ -6,8 +6,8 @@ from typing import Any, Iterator, NamedTuple, Tuple
 TABLES = ("region", "file", "entry", "module")
 
 # A value of each kind. A number with a point is a float, a text behind ! stands as it is.
-KINDS = ["a text", "~" * 65, -1, 7, True, False, 1.5, "!2026-01-31", "!07:32:00", [], [0, "a"], [[]],
-         {}, {"a": 1}]
+KINDS = ["a text", "~" * 65, -1, 7, True, False, 1.5, "!2026-01-31", "!07:32:00", [], [0, "a"],
+         [[]], {}, {"a": 1}]
 EDGES = [-(1 << 63), -1, 0, 1, 255, 256, 4095, 4096, (1 << 20) - 1, 1 << 20, 10000000, 20000000,
          (1 << 32) - 1, 1 << 32, (1 << 32) + 4096, (1 << 52) - 1, 1 << 52, (1 << 63) - 4096,
          (1 << 63) - 1, 1 << 63]

@@ -54,8 +54,10 @@ TWO_NUMBERS = Allowed("an array of two numbers", lambda v: is_array(v) and len(v
 BYTE = Allowed("a number from 0 to 255", lambda v: is_number(v) and v <= 255)
 NUMBERS = Allowed("an array of numbers", is_array)
 TABLES = Allowed("an array of tables", is_array)
-ENTRIES = Allowed("an array of 1 to 32 tables", lambda v: is_array(v) and 1 <= len(v) <= MAX_ENTRIES)
-MODULES = Allowed("an array of at most 64 tables", lambda v: is_array(v) and len(v) <= MAX_MODULES)
+ENTRIES = Allowed("an array of 1 to 32 tables",
+                  lambda v: is_array(v) and 1 <= len(v) <= MAX_ENTRIES)
+MODULES = Allowed("an array of at most 64 tables",
+                  lambda v: is_array(v) and len(v) <= MAX_MODULES)
 TABLE = Allowed("a table", lambda v: isinstance(v, dict))
 TEXT = Allowed("a text", is_text)
 TITLE = Allowed("a text of 1 to 64 printable characters of ASCII",
