@@ -3,3 +3,7 @@ pub mod Entries
 pub mod Described
 pub mod Forms
 pub mod Views
+pub mod Allowed
+pub mod BadKeys
+pub mod BadKeysKept
+pub mod WholeKept

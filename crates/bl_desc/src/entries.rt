@@ -25,7 +25,7 @@ fn is_printable(text: &str) -> bool
 }
 
 /// Whether a text can be a title.
-fn is_title(text: &str) -> bool
+pub fn is_title(text: &str) -> bool
     ensures { result ≡ spec.is_title text.now }
 {
     if text.is_empty() || text.len() > 64 {

@@ -66,7 +66,7 @@ pub fn text_if<'a>(table: &'a Table, key: &str) -> Result<Option<&'a str>, DescF
 }
 
 /// Whether a key is one of these.
-fn is_among(key: &str, known: &[&str]) -> bool
+pub fn is_among(key: &str, known: &[&str]) -> bool
     ensures { result ≡ list_any (λ k. bytes_eq k.now key.now) known.now }
 {
     known.iter().any(|k| *k == key)

@@ -1,6 +1,8 @@
 //! The description of a boot: TOML to records.
 #![tactic(auto)]
 
+mod bad_key;
+mod bad_keys;
 mod copies;
 mod desc;
 mod document;
@@ -17,6 +19,8 @@ mod regions;
 mod text;
 mod values;
 
+pub use bad_key::{Allowed, BadKey, KeyFault, KeySet, TablePlace};
+pub use bad_keys::first_bad_key;
 pub use bl_plan::{MAX_ENTRIES, MAX_MODULES};
 pub use desc::{Description, FileRow, file_named};
 pub use document::read_description;

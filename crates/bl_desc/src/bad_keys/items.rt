@@ -1,0 +1,141 @@
+//! The items of arrays: regions, files, modules, numbers.
+ghost use Rattle.std.specs.Prelude.{◌≡◌, true, codes, MatchOption};
+ghost use Rattle.toml.specs.Data.{get_member};
+ghost use Rattle.toml.specs.View.{view, table_view, items_view};
+ghost use Rattle.bl_desc.specs.Allowed.{allows as allowed_of, key_rules};
+ghost use Rattle.bl_desc.specs.BadKeys.{BreaksOne, IsItemFault, IsKeyFault};
+ghost use Rattle.bl_desc.specs.BadKeysKept as kept;
+
+use crate::bad_key::{Allowed, BadKey, KeyFault, KeySet, TablePlace};
+use crate::bad_keys::rules::{broken_rules, may, must, unknown_key};
+use crate::bad_keys::values::allows;
+use crate::keys::at_key;
+use toml::{Table, Value};
+
+/// An array of tables; that of modules is one of the entry of this index.
+#[derive(Clone, Copy)]
+pub enum Listed {
+    Regions,
+    Files,
+    Modules(usize),
+}
+
+fn place_in(listed: Listed, index: usize) -> TablePlace
+    ensures { result ≡ kept.place_in listed index }
+{
+    match listed {
+        Listed::Regions => TablePlace::Region(index),
+        Listed::Files => TablePlace::File(index),
+        Listed::Modules(entry) => TablePlace::Module(entry, index),
+    }
+}
+
+fn set_in(listed: Listed) -> KeySet
+    ensures { result ≡ kept.set_in listed }
+{
+    match listed {
+        Listed::Regions => KeySet::Region,
+        Listed::Files => KeySet::File,
+        Listed::Modules(_) => KeySet::Module,
+    }
+}
+
+/// The items of the array at a key, none if there is none.
+pub fn items_at<'a>(table: &'a Table, key: &str) -> &'a [Value]
+    ensures { items_view result.now
+        ≡ kept.array_items (get_member key.now (table_view table.now)) }
+{
+    match at_key(table, key) {
+        Some(value) => match value.as_array() {
+            Some(items) => items.as_slice(),
+            None => &[],
+        },
+        None => &[],
+    }
+}
+
+/// A key with a value that is not allowed, or that is missing.
+fn broken_in<'a>(table: &'a Table, place: TablePlace, listed: Listed) -> Option<BadKey<'a>>
+    ensures { MatchOption result
+        (kept.all_pass (key_rules 0 (kept.set_in listed)) (table_view table.now) ≡ true)
+        (λ bad. (bad.table ≡ place)
+        × BreaksOne (key_rules 0 (kept.set_in listed)) (table_view table.now) bad.fault) }
+{
+    match listed {
+        Listed::Regions => {
+            let base = must("base", Allowed::Number);
+            let length = must("length", Allowed::Number);
+            let kind = must("kind", Allowed::KindName);
+            broken_rules(table, place, &[base, length, kind])
+        }
+        Listed::Files => {
+            let name = must("name", Allowed::AnyText);
+            let hex = must("hex", Allowed::HexText);
+            broken_rules(table, place, &[name, hex])
+        }
+        Listed::Modules(_) => {
+            let file = must("file", Allowed::AnyText);
+            let line = may("line", Allowed::AnyText);
+            broken_rules(table, place, &[file, line])
+        }
+    }
+}
+
+fn bad_in<'a>(table: &'a Table, place: TablePlace, listed: Listed) -> Option<BadKey<'a>>
+    ensures { MatchOption result
+        (kept.table_passes (kept.set_in listed) (table_view table.now) ≡ true)
+        (λ bad. (bad.table ≡ place)
+        × IsKeyFault 0 (kept.set_in listed) (table_view table.now) bad.fault) }
+{
+    match unknown_key(table, place, set_in(listed)) {
+        Some(bad) => Some(bad),
+        None => broken_in(table, place, listed),
+    }
+}
+
+fn bad_item<'a>(value: &'a Value, place: TablePlace, listed: Listed) -> Option<BadKey<'a>>
+    ensures { MatchOption result
+        (kept.item_passes (kept.set_in listed) (view value.now) ≡ true)
+        (λ bad. (bad.table ≡ place)
+        × IsItemFault (kept.set_in listed) (view value.now) bad.fault) }
+{
+    match value.as_table() {
+        Some(table) => bad_in(table, place, listed),
+        None => Some(BadKey {
+            table: place,
+            fault: KeyFault::NoTable(value),
+        }),
+    }
+}
+
+/// The first bad key of the tables of an array.
+pub fn bad_among<'a>(items: &'a [Value], listed: Listed) -> Option<BadKey<'a>>
+    ensures { MatchOption result
+        (kept.all_items (kept.item_passes (kept.set_in listed)) (items_view items.now) ≡ true)
+        (kept.IsListedBad listed (items_view items.now)) }
+{
+    for (i, item) in items.iter().enumerate() {
+        if let Some(bad) = bad_item(item, place_in(listed, i), listed) {
+            return Some(bad);
+        }
+    }
+    None
+}
+
+/// The first item that is not allowed, of an array at this key of the description.
+pub fn bad_number<'a>(items: &'a [Value], key: &'static str, allowed: Allowed) -> Option<BadKey<'a>>
+    ensures { MatchOption result
+        (kept.all_items (allowed_of allowed) (items_view items.now) ≡ true)
+        (λ bad. (bad.table ≡ TablePlace.Description)
+        × kept.IsItemBad key.now allowed (items_view items.now) bad.fault) }
+{
+    for (i, item) in items.iter().enumerate() {
+        if !allows(allowed, item) {
+            return Some(BadKey {
+                table: TablePlace::Description,
+                fault: KeyFault::BadItem(key, i, item, allowed),
+            });
+        }
+    }
+    None
+}
