@@ -9,7 +9,8 @@
  * An index counts from 0.
  *
  * Ownership. All memory is the caller's, before, while and after a call. What a call takes for
- * itself it gives back before it returns. No pointer is kept, and none is handed out.
+ * itself it gives back before it returns. No pointer is kept, and none is handed out, but for the
+ * memory of a session, which the library takes and the caller has freed.
  *
  * Threads. None is started, and two calls at once know nothing of each other, if they share nothing
  * that either may change. Call from no signal handler.
@@ -27,6 +28,7 @@
 #ifndef BOOTCORE_H
 #define BOOTCORE_H
 
+#include <stdbool.h>
 #include <stddef.h>
 #include <stdint.h>
 
@@ -239,6 +241,16 @@ uint32_t bootcore_load_arrays(uint8_t *memory, size_t memory_length, uint32_t ba
                               bootcore_handoff *handoff, bootcore_place *places,
                               size_t place_count, bootcore_refusal *refusal);
 
+/* As bootcore_prepare, for arrays that are not null. */
+uint32_t bootcore_prepare_arrays(const bootcore_machine *machine, const bootcore_region *regions,
+                                 size_t region_count, const bootcore_entry *entry,
+                                 const bootcore_module *modules, size_t module_count,
+                                 const uint8_t *text, size_t text_length,
+                                 const bootcore_range *files, size_t file_count,
+                                 const uint8_t *contents, size_t contents_length,
+                                 bootcore_handoff *handoff, bootcore_place *places,
+                                 size_t place_count, bootcore_refusal *refusal);
+
 /* As bootcore_boot, for arrays that are not null. */
 uint32_t bootcore_boot_arrays(uint8_t *memory, size_t memory_length, uint32_t base,
                               const bootcore_machine *machine, const bootcore_region *regions,
@@ -267,11 +279,15 @@ static inline int bootcore_is_null(const void *array, size_t count) {
     return !array && count;
 }
 
-static inline int bootcore_has_null(const bootcore_given *given) {
+static inline int bootcore_has_null_beside_contents(const bootcore_given *given) {
     return bootcore_is_null(given->regions, given->region_count) ||
            bootcore_is_null(given->modules, given->module_count) ||
            bootcore_is_null(given->text, given->text_length) ||
-           bootcore_is_null(given->files, given->file_count) ||
+           bootcore_is_null(given->files, given->file_count);
+}
+
+static inline int bootcore_has_null(const bootcore_given *given) {
+    return bootcore_has_null_beside_contents(given) ||
            bootcore_is_null(given->contents, given->contents_length);
 }
 
@@ -302,6 +318,35 @@ static inline uint32_t bootcore_load(uint8_t *memory, size_t memory_length, uint
         (const bootcore_region *)bootcore_array(given->regions), given->region_count, entry,
         (const bootcore_module *)bootcore_array(given->modules), given->module_count,
         (const uint8_t *)bootcore_array(given->text), given->text_length,
+        (const bootcore_range *)bootcore_array(given->files), given->file_count,
+        (const uint8_t *)bootcore_array(given->contents), given->contents_length, handoff, places,
+        place_count, refusal);
+}
+
+/*
+ * Tells what bootcore_load would hand over of an entry, or why it would not, and asks for no memory of
+ * the machine: before a firmware is left, or to reckon what a machine should have been handed.
+ *
+ * - BOOTCORE_DONE: *handoff and the places are told as by bootcore_load.
+ * - BOOTCORE_REFUSED: *refusal is told as by bootcore_load.
+ * - Any other: the status that bootcore_load would answer, but BOOTCORE_BAD_MEMORY.
+ * What is not told is as before.
+ *
+ * After BOOTCORE_DONE a bootcore_load of equal arrays, with room for as many places and memory that
+ * reaches to the machine's size, answers BOOTCORE_DONE and tells the same handoff and places, or
+ * BOOTCORE_NO_MEMORY. After BOOTCORE_REFUSED none answers BOOTCORE_DONE, and one that answers
+ * BOOTCORE_REFUSED tells the same refusal.
+ */
+static inline uint32_t bootcore_prepare(const bootcore_given *given, const bootcore_entry *entry,
+                                        bootcore_handoff *handoff, bootcore_place *places,
+                                        size_t place_count, bootcore_refusal *refusal) {
+    if (!given || !entry || !handoff || !places || !refusal || bootcore_has_null(given)) {
+        return BOOTCORE_NULL;
+    }
+    return bootcore_prepare_arrays(
+        &given->machine, (const bootcore_region *)bootcore_array(given->regions),
+        given->region_count, entry, (const bootcore_module *)bootcore_array(given->modules),
+        given->module_count, (const uint8_t *)bootcore_array(given->text), given->text_length,
         (const bootcore_range *)bootcore_array(given->files), given->file_count,
         (const uint8_t *)bootcore_array(given->contents), given->contents_length, handoff, places,
         place_count, refusal);
@@ -373,6 +418,198 @@ static inline uint32_t bootcore_walk(const uint8_t *image, size_t image_length,
         return BOOTCORE_NULL;
     }
     return bootcore_walk_array((const uint8_t *)bootcore_array(image), image_length, seen, fault);
+}
+
+/* ---- a boot piece by piece */
+
+/* What the calls of a session answer beside the statuses above. BOOTCORE_NO_SESSION comes before any
+ * other misuse but BOOTCORE_NULL, and BOOTCORE_LOW_POOL after all. */
+enum {
+    BOOTCORE_WAITING = 2,     /* pieces are awaited, or the session was not started */
+    BOOTCORE_NEXT = 3,        /* an entry or more was refused, and pieces of another are awaited */
+    BOOTCORE_FAILED = 5,      /* no entry is left, or memory ran out: the outcome says which */
+
+    BOOTCORE_NO_SESSION = 31, /* none is kept: it was not made, or it was freed */
+    BOOTCORE_LOW_POOL = 32    /* the pool begins below the memory's base */
+};
+
+enum {
+    BOOTCORE_PIECE = 4096 /* how long each piece of a file is, but for the last one */
+};
+
+/* A session: a boot that is told the pieces of its files as they come. `kept` is null at first, which
+ * keeps no session, and from then on only these calls write it. The struct may be moved, but no copy
+ * of it is used. What it keeps is on the heap, until bootcore_session_free: free it before it is
+ * forgotten, however the boot ends.
+ *
+ * One call at a time has a session, on whichever thread. Two sessions know nothing of each other. */
+typedef struct bootcore_session {
+    void *kept;
+} bootcore_session;
+
+/* A piece that is awaited: `length` bytes of a file, from the offset piece * BOOTCORE_PIECE on. */
+typedef struct bootcore_request {
+    uint32_t file;    /* the index of its file among those given */
+    uint32_t attempt; /* these three name the piece: the number of the attempt, */
+    uint32_t place;   /* the file's place in its entry, of which the kernel's is 0, */
+    uint32_t piece;   /* and the piece's index in the file */
+    uint32_t length;  /* 1 to BOOTCORE_PIECE */
+} bootcore_request;
+
+BOOTCORE_ASSERT(sizeof(bootcore_session) == 8, "bootcore_session");
+BOOTCORE_ASSERT(sizeof(bootcore_request) == 20, "bootcore_request");
+BOOTCORE_ASSERT(offsetof(bootcore_request, length) == 16, "bootcore_request.length");
+BOOTCORE_ASSERT(sizeof(bool) == 1, "bool");
+
+/* As the calls of the same names without their last word, for pointers that are not null. */
+uint32_t bootcore_session_make_arrays(bootcore_session *session, const bootcore_machine *machine,
+                                      const bootcore_region *regions, size_t region_count,
+                                      const bootcore_entry *entries, size_t entry_count,
+                                      uint32_t first, const uint32_t *fallbacks,
+                                      size_t fallback_count, const bootcore_module *modules,
+                                      size_t module_count, const uint8_t *text,
+                                      size_t text_length, const bootcore_range *files,
+                                      size_t file_count);
+uint32_t bootcore_session_start_array(bootcore_session *session, uint8_t *memory,
+                                      size_t memory_length, uint32_t base);
+uint32_t bootcore_session_piece_arrays(bootcore_session *session, uint8_t *memory,
+                                       size_t memory_length, uint32_t base,
+                                       const bootcore_request *request, const uint8_t *bytes,
+                                       size_t length);
+uint32_t bootcore_session_fault_array(bootcore_session *session, uint8_t *memory,
+                                      size_t memory_length, uint32_t base,
+                                      const bootcore_request *request);
+bool bootcore_session_missing_record(bootcore_session *session, bootcore_request *request);
+bool bootcore_session_missing_after_record(bootcore_session *session, bootcore_request *request);
+uint32_t bootcore_session_outcome_arrays(bootcore_session *session, bootcore_handoff *handoff,
+                                         bootcore_place *places, size_t place_count,
+                                         bootcore_refusal *refusals, size_t refusal_room,
+                                         uint64_t *refused);
+void bootcore_session_free_kept(bootcore_session *session);
+
+/*
+ * Makes a session of a menu, and keeps it; one that was kept before is freed then. It is not started.
+ *
+ * Of each file its length is looked at, and whether its offset is BOOTCORE_MISSING; its bytes come
+ * later, so that its offset may be any other, and `contents` may be too. The arrays are read during
+ * this call alone.
+ *
+ * - BOOTCORE_DONE: the session is kept.
+ * - Any other: what was kept is kept still. BOOTCORE_BAD_CONTENTS and BOOTCORE_BAD_MEMORY don't come.
+ */
+static inline uint32_t bootcore_session_make(bootcore_session *session,
+                                             const bootcore_given *given,
+                                             const bootcore_menu *menu) {
+    if (!session || !given || !menu || bootcore_has_null_beside_contents(given) ||
+        bootcore_is_null(menu->entries, menu->entry_count) ||
+        bootcore_is_null(menu->fallbacks, menu->fallback_count)) {
+        return BOOTCORE_NULL;
+    }
+    return bootcore_session_make_arrays(
+        session, &given->machine, (const bootcore_region *)bootcore_array(given->regions),
+        given->region_count, (const bootcore_entry *)bootcore_array(menu->entries),
+        menu->entry_count, menu->first, (const uint32_t *)bootcore_array(menu->fallbacks),
+        menu->fallback_count, (const bootcore_module *)bootcore_array(given->modules),
+        given->module_count, (const uint8_t *)bootcore_array(given->text), given->text_length,
+        (const bootcore_range *)bootcore_array(given->files), given->file_count);
+}
+
+/*
+ * Starts a session: the first attempt begins. A session that was started before stays as it is.
+ *
+ * `memory` has the bytes of the machine from the address `base` on, a multiple of 4096, up to its size
+ * exactly; no usable region may lie below `base`. The pieces that came lie in its pool: hand the same
+ * memory to each call of a session, and write to its pool between two calls only once the boot ended.
+ *
+ * What this call and the next two answer:
+ * - BOOTCORE_WAITING: pieces are awaited. No byte outside the pool changed.
+ * - BOOTCORE_NEXT: the same, after one refusal or more. Ask again what is missing.
+ * - BOOTCORE_DONE: an entry is handed over. Memory holds each part at its place, 0 elsewhere in the
+ *   pool, and each other byte as before the start.
+ * - BOOTCORE_FAILED: no entry is left, and the pool is 0, or memory ran out. No byte outside the pool
+ *   changed.
+ * - BOOTCORE_NO_SESSION, BOOTCORE_BAD_MEMORY (memory does not end at the machine's size),
+ *   BOOTCORE_LOW_POOL: all is as before.
+ * After the end each further call answers BOOTCORE_DONE or BOOTCORE_FAILED again, and changes nothing.
+ */
+static inline uint32_t bootcore_session_start(bootcore_session *session, uint8_t *memory,
+                                              size_t memory_length, uint32_t base) {
+    if (!session || !memory) {
+        return BOOTCORE_NULL;
+    }
+    return bootcore_session_start_array(session, memory, memory_length, base);
+}
+
+/*
+ * Tells a session that a piece came: the bytes of a request. They are copied. The request's file and
+ * length are not looked at. In whatever order pieces come, the boot ends in the same way; one that is
+ * not awaited, since it came before, is of an earlier attempt or has another length, changes nothing.
+ */
+static inline uint32_t bootcore_session_piece(bootcore_session *session, uint8_t *memory,
+                                              size_t memory_length, uint32_t base,
+                                              const bootcore_request *request,
+                                              const uint8_t *bytes, size_t length) {
+    if (!session || !memory || !request || bootcore_is_null(bytes, length)) {
+        return BOOTCORE_NULL;
+    }
+    return bootcore_session_piece_arrays(session, memory, memory_length, base, request,
+                                         (const uint8_t *)bootcore_array(bytes), length);
+}
+
+/* Tells a session that a piece can't be read: its entry is refused, and the next attempt begins. A
+ * fault of a piece that is not awaited changes nothing. */
+static inline uint32_t bootcore_session_fault(bootcore_session *session, uint8_t *memory,
+                                              size_t memory_length, uint32_t base,
+                                              const bootcore_request *request) {
+    if (!session || !memory || !request) {
+        return BOOTCORE_NULL;
+    }
+    return bootcore_session_fault_array(session, memory, memory_length, base, request);
+}
+
+/* Tells the first piece that the running attempt awaits, files and pieces ascending, and whether
+ * there is one. If there is none, *request is as before; so it is without a session. */
+static inline bool bootcore_session_missing(bootcore_session *session,
+                                            bootcore_request *request) {
+    return session && request && bootcore_session_missing_record(session, request);
+}
+
+/* Tells the first one after *request in this order, so that all are told one after the other. */
+static inline bool bootcore_session_missing_after(bootcore_session *session,
+                                                  bootcore_request *request) {
+    return session && request && bootcore_session_missing_after_record(session, request);
+}
+
+/*
+ * Tells how a session ended. It stays as it is, and may be asked again.
+ *
+ * - BOOTCORE_DONE: *handoff and the places are told as by bootcore_boot.
+ * - BOOTCORE_REFUSED: no entry is left.
+ * - BOOTCORE_WAITING: it has not ended. BOOTCORE_NO_MEMORY: memory ran out on the way.
+ * - BOOTCORE_NO_SESSION, BOOTCORE_FEW_PLACES.
+ *
+ * After the first two the refusals are told in order, as many as there is room for, and in *refused
+ * how many there were. What is not told is as before.
+ */
+static inline uint32_t bootcore_session_outcome(bootcore_session *session,
+                                                bootcore_handoff *handoff,
+                                                bootcore_place *places, size_t place_count,
+                                                bootcore_refusal *refusals, size_t refusal_room,
+                                                uint64_t *refused) {
+    bootcore_refusal none;
+    if (!session || !handoff || !places || !refused ||
+        bootcore_is_null(refusals, refusal_room)) {
+        return BOOTCORE_NULL;
+    }
+    return bootcore_session_outcome_arrays(session, handoff, places, place_count,
+                                           refusals ? refusals : &none, refusal_room, refused);
+}
+
+/* Frees what a session keeps, if it keeps something: then it keeps none, and may be made again. */
+static inline void bootcore_session_free(bootcore_session *session) {
+    if (session) {
+        bootcore_session_free_kept(session);
+    }
 }
 
 #ifdef __cplusplus

@@ -102,16 +102,23 @@ int main(int argc, char **argv) {
                             .text = (const uint8_t *)text, .text_length = text_length,
                             .files = files, .file_count = file_count,
                             .contents = contents, .contents_length = contents_length};
-    uint8_t *memory = mmap(NULL, guest_size, PROT_READ | PROT_WRITE,
-                           MAP_PRIVATE | MAP_ANONYMOUS | MAP_NORESERVE, -1, 0);
-    if (memory == MAP_FAILED) {
-        return 2;
-    }
-    bootcore_handoff handoff;
+    bootcore_handoff prepared, handoff;
     bootcore_place places[BOOTCORE_MAX_PARTS];
     bootcore_refusal refusal;
-    uint32_t status = bootcore_load(memory, guest_size, 0, &given, &entry, &handoff, places,
-                                    BOOTCORE_MAX_PARTS, &refusal);
+    uint32_t status = bootcore_prepare(&given, &entry, &prepared, places, BOOTCORE_MAX_PARTS,
+                                       &refusal);
+    if (status == BOOTCORE_DONE) { /* what is refused needs no memory */
+        uint8_t *memory = mmap(NULL, guest_size, PROT_READ | PROT_WRITE,
+                               MAP_PRIVATE | MAP_ANONYMOUS | MAP_NORESERVE, -1, 0);
+        if (memory == MAP_FAILED) {
+            return 2;
+        }
+        status = bootcore_load(memory, guest_size, 0, &given, &entry, &handoff, places,
+                               BOOTCORE_MAX_PARTS, &refusal);
+        if (status == BOOTCORE_DONE && memcmp(&prepared, &handoff, sizeof handoff)) {
+            return 3; /* the header promises that this does not happen */
+        }
+    }
     if (status == BOOTCORE_DONE) {
         print_handoff(&handoff, places);
     } else if (status == BOOTCORE_REFUSED) {

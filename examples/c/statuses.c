@@ -1,6 +1,7 @@
 /*
- * Each status of bootcore_load: a call that is right, and that call with one thing changed. Prints the
- * name of each change whose status is another than it should be, and then how many were tried.
+ * Each status of bootcore_load and bootcore_prepare: a call that is right, and that call with one thing
+ * changed. Prints the name of each change whose status is another than it should be, and then how many
+ * were tried.
  */
 #include "bootcore.h"
 
@@ -52,11 +53,19 @@ static call right(void) {
 
 static int tried, wrong;
 
+static void count(const char *call_name, const char *name, uint32_t status, uint32_t wanted) {
+    if (status != wanted) {
+        printf("%s, %s: %" PRIu32 ", not %" PRIu32 "\n", call_name, name, status, wanted);
+        wrong++;
+    }
+    tried++;
+}
+
 static void expect(const char *name, call c, uint32_t wanted) {
     uint8_t *memory = malloc(SIZE);
     bootcore_place *places = malloc(BOOTCORE_MAX_PARTS * sizeof *places);
     bootcore_handoff handoff;
-    bootcore_refusal refusal;
+    bootcore_refusal refusal = {0, 0, 0, 0}, prepared = {0, 0, 0, 0};
     if (!memory || !places) {
         exit(2);
     }
@@ -67,11 +76,12 @@ static void expect(const char *name, call c, uint32_t wanted) {
     for (size_t i = 0; i < SIZE; i++) {
         same = same && memory[i] == 0xA5;
     }
-    if (status != wanted || !same) {
-        printf("%s: %" PRIu32 ", not %" PRIu32 "\n", name, status, wanted);
-        wrong++;
-    }
-    tried++;
+    count("load", name, same ? status : UINT32_MAX, wanted);
+    /* a preparation has no memory that may be too short, and is refused as a load is */
+    status = bootcore_prepare(&c.given, &c.entry, &handoff, places, c.place_count, &prepared);
+    same = wanted == BOOTCORE_BAD_MEMORY || !memcmp(&prepared, &refusal, sizeof refusal);
+    count("prepare", name, same ? status : UINT32_MAX,
+          wanted == BOOTCORE_BAD_MEMORY ? BOOTCORE_REFUSED : wanted);
     free(memory);
     free(places);
 }

@@ -7,29 +7,20 @@
 enum { head = 16 };
 
 static uint8_t *arena, *arena_end, *last, *top, *peak;
-static int refused;
 
-void use_arena(void *start, uint64_t length) {
-    arena = start;
+int take_arena(uint64_t length) {
+    arena = take_own(length / page + 1, EfiLoaderData);
     arena_end = arena + length;
-    empty_arena();
+    return arena != NULL;
 }
 
-void empty_arena(void) {
-    last = top = peak = arena;
-    refused = 0;
-}
-
+void empty_arena(void) { last = top = peak = arena; }
 uint64_t arena_peak(void) { return (uint64_t)(peak - arena); }
-int arena_refused(void) { return refused; }
 
 /* The block at this place, as the last one, or NULL. */
 static void *end_with(uint8_t *block, size_t length) {
     uint64_t room = (uint64_t)(arena_end - block), size = head + ((length + 15) & ~(uint64_t)15);
-    if (length > room || size > room) {
-        refused = 1;
-        return NULL;
-    }
+    if (length > room || size > room) return NULL;
     last = block;
     top = block + size;
     if (top > peak) peak = top;

@@ -1,9 +1,19 @@
 /* The menu file: a line is a word and what it is about. docs/EFI.md has the words. */
 #include "app.h"
 
-menu_file menu;
+struct menu_file menu;
+const char *const protocols[4] = {"", "multiboot2", "linux", "linux64"};
+
+static const char *wrong; /* the first thing that is wrong with the menu, NULL so far */
+
+static int check(int is_good, const char *what) {
+    if (!is_good && wrong == NULL) wrong = what;
+    return is_good;
+}
 
 /* ---- words */
+
+static int is_blank(char letter) { return letter == ' ' || letter == '\t' || letter == '\r'; }
 
 static int is_word(const char *word, const char *wanted) {
     return strlen(word) == strlen(wanted) && memcmp(word, wanted, strlen(word)) == 0;
@@ -11,168 +21,130 @@ static int is_word(const char *word, const char *wanted) {
 
 /* Cuts a line at its first blank: the word before, and the rest without blanks around it. */
 static char *cut_word(char *line) {
-    while (*line && *line != ' ' && *line != '\t') line++;
-    while (*line == ' ' || *line == '\t') *line++ = 0;
+    while (*line && !is_blank(*line)) line++;
+    while (is_blank(*line)) *line++ = 0;
     char *end = line + strlen(line);
-    while (end > line && (end[-1] == ' ' || end[-1] == '\t')) *--end = 0;
+    while (end > line && is_blank(end[-1])) *--end = 0;
     return line;
 }
 
-/* The number in front of a text, and the text behind it; NULL if there is none, or it is too great. */
-static char *cut_number(char *text, uint32_t *number) {
-    if (*text < '0' || *text > '9') return NULL;
-    for (*number = 0; *text >= '0' && *text <= '9'; text++) {
-        if (*number > 99999999) return NULL;
-        *number = *number * 10 + (uint32_t)(*text - '0');
-    }
-    while (*text == ' ' || *text == '\t') text++;
-    return text;
-}
-
-static const char *take_number(char *text, uint32_t *number) {
-    text = cut_number(text, number);
-    return text != NULL && *text == 0 ? NULL : "a number is wanted";
+static uint32_t take_number(const char *text) {
+    uint32_t number = 0;
+    check(*text != 0 && strlen(text) <= 9, "a number of at most nine digits is wanted");
+    for (; *text >= '0' && *text <= '9'; text++) number = number * 10 + (uint32_t)(*text - '0');
+    check(*text == 0, "a number is wanted");
+    return number;
 }
 
 /* ---- what an entry is made of */
 
 /* The index of a file, each path once. */
-static const char *take_file(char *path, uint32_t *index) {
+static uint32_t take_file(char *path) {
+    uint32_t index = 0;
     while (*path == '/') path++;
-    if (*path == 0) return "a file is wanted";
-    for (*index = 0; *index < menu.path_count; ++*index)
-        if (is_word(menu.paths[*index], path)) return NULL;
-    if (menu.path_count == max_files) return "too many files";
-    menu.paths[menu.path_count++] = path;
-    return NULL;
+    check(*path != 0, "a file is wanted");
+    while (index < menu.path_count && !is_word(menu.paths[index], path)) index++;
+    if (index == menu.path_count && check(index < max_files, "too many files"))
+        menu.paths[menu.path_count++] = path;
+    return index;
 }
 
-static const char *take_bytes(const void *bytes, uint64_t length, bootcore_range *range) {
-    if (length > max_text - menu.text_length) return "too much text";
+static bootcore_range take_bytes(const void *bytes, uint64_t length) {
+    bootcore_range range = {menu.text_length, 0};
+    if (!check(length <= max_text - menu.text_length, "too much text")) return range;
     memcpy(menu.text + menu.text_length, bytes, length);
-    range->offset = menu.text_length;
-    range->length = length;
     menu.text_length += length;
-    return NULL;
+    range.length = length;
+    return range;
 }
+
+static EFI_GUID old_acpi = ACPI_TABLE_GUID, new_acpi = ACPI_20_TABLE_GUID;
 
 /* The firmware's RSDP of this version, or NULL. */
-static const uint8_t *find_rsdp(int is_new) {
-    static EFI_GUID old = ACPI_TABLE_GUID, new = ACPI_20_TABLE_GUID;
+static const uint8_t *find_rsdp(const EFI_GUID *version) {
     for (UINTN i = 0; i < ST->NumberOfTableEntries; i++)
-        if (memcmp(&ST->ConfigurationTable[i].VendorGuid, is_new ? &new : &old, sizeof old) == 0)
+        if (memcmp(&ST->ConfigurationTable[i].VendorGuid, version, sizeof *version) == 0)
             return ST->ConfigurationTable[i].VendorTable;
     return NULL;
 }
 
 /* A line for a kernel. `@rsdp@` in it stands for the address of the firmware's RSDP. */
-static const char *take_line(const char *line, bootcore_range *range) {
-    static char made[8192];
+static bootcore_range take_line(const char *line) {
     static const char mark[] = "@rsdp@";
-    uint64_t length = 0;
+    bootcore_range range = {menu.text_length, 0};
+    const uint8_t *rsdp = find_rsdp(&new_acpi) ? find_rsdp(&new_acpi) : find_rsdp(&old_acpi);
     while (*line) {
-        if (length + 32 > sizeof made) return "the line is too long";
-        if (strlen(line) >= sizeof mark - 1 && memcmp(line, mark, sizeof mark - 1) == 0) {
-            const uint8_t *rsdp = find_rsdp(1) ? find_rsdp(1) : find_rsdp(0);
-            uint64_t number = (uint64_t)(UINTN)rsdp;
-            made[length++] = '0';
-            made[length++] = 'x';
-            for (int shift = 60; shift >= 0; shift -= 4)
-                made[length++] = "0123456789abcdef"[number >> shift & 15];
-            line += sizeof mark - 1;
-        } else {
-            made[length++] = *line++;
+        if (strlen(line) < strlen(mark) || memcmp(line, mark, strlen(mark)) != 0) {
+            take_bytes(line++, 1);
+            continue;
         }
+        take_bytes("0x", 2);
+        for (int shift = 60; shift >= 0; shift -= 4)
+            take_bytes(&"0123456789abcdef"[(uint64_t)(UINTN)rsdp >> shift & 15], 1);
+        line += strlen(mark);
     }
-    return take_bytes(made, length, range);
+    range.length = menu.text_length - range.offset;
+    return range;
 }
 
-/* Copies of the RSDP, in the tags 14 and 15 of Multiboot2's information. */
-static const char *take_rsdps(bootcore_entry *entry) {
-    const uint8_t *old = find_rsdp(0), *new = find_rsdp(1);
-    const char *wrong = NULL;
-    if (old != NULL) wrong = take_bytes(old, 20, &entry->rsdp_old);
-    if (wrong == NULL && new != NULL) {
-        uint32_t length = *(const uint32_t *)(new + 20); /* the table's own field */
-        if (length >= 36 && length <= 256) wrong = take_bytes(new, length, &entry->rsdp_new);
-    }
-    return wrong;
+/* A Multiboot2 kernel is given copies of the RSDPs, in the tags 14 and 15 of its information. */
+static void take_protocol(const char *word, bootcore_entry *entry) {
+    const uint8_t *old = find_rsdp(&old_acpi), *new = find_rsdp(&new_acpi);
+    uint32_t length = new ? *(const uint32_t *)(new + 20) : 0; /* the table's own field */
+    for (uint32_t i = BOOTCORE_MULTIBOOT2; i <= BOOTCORE_LINUX64; i++)
+        if (is_word(word, protocols[i])) entry->protocol = i;
+    check(is_word(word, protocols[entry->protocol]), "no such protocol");
+    if (entry->protocol != BOOTCORE_MULTIBOOT2) return;
+    if (old) entry->rsdp_old = take_bytes(old, 20);
+    if (length >= 36 && length <= 256) entry->rsdp_new = take_bytes(new, length);
 }
 
-static const char *take_module(char *text, bootcore_entry *entry) {
-    if (entry->protocol != 1) return "only a multiboot2 kernel has modules";
-    if (entry->module_count == max_modules || menu.module_count == max_all_modules)
-        return "too many modules";
+static void take_module(char *text, bootcore_entry *entry) {
+    check(entry->protocol == BOOTCORE_MULTIBOOT2, "only a multiboot2 kernel has modules");
+    check(entry->module_count < max_modules, "too many modules of an entry");
+    check(menu.module_count < max_all_modules, "too many modules");
+    if (wrong != NULL) return;
+    if (entry->module_count++ == 0) entry->first_module = menu.module_count;
     bootcore_module *module = &menu.modules[menu.module_count++];
-    if (entry->module_count++ == 0) entry->first_module = menu.module_count - 1;
-    char *line = cut_word(text);
-    const char *wrong = take_file(text, &module->file);
-    return wrong != NULL ? wrong : take_line(line, &module->line);
-}
-
-static const char *take_protocol(const char *word, bootcore_entry *entry) {
-    static const char *const names[] = {"multiboot2", "linux", "linux64"};
-    for (uint32_t i = 0; i < 3; i++)
-        if (is_word(word, names[i])) {
-            entry->protocol = i + 1;
-            return i == 0 ? take_rsdps(entry) : NULL;
-        }
-    return "no such protocol";
-}
-
-static const char *begin_entry(const char *title) {
-    if (menu.entry_count == max_entries) return "too many entries";
-    menu_entry *made = &menu.entries[menu.entry_count++];
-    made->title = title;
-    made->core.kernel = made->core.initrd = BOOTCORE_NO_FILE;
-    return *title ? NULL : "a title is wanted";
+    module->line = take_line(cut_word(text));
+    module->file = take_file(text);
 }
 
 /* ---- lines */
 
-static const char *take_fallbacks(char *text) {
-    while (*text) {
-        if (menu.fallback_count == max_entries) return "too many fallbacks";
-        text = cut_number(text, &menu.fallbacks[menu.fallback_count++]);
-        if (text == NULL) return "numbers are wanted";
+static void take_fallbacks(char *text) {
+    while (*text && check(menu.fallback_count < max_entries, "too many fallbacks")) {
+        char *rest = cut_word(text);
+        menu.fallbacks[menu.fallback_count++] = take_number(text);
+        text = rest;
     }
-    return NULL;
 }
 
-static const char *take_kib(char *text, uint64_t *bytes) {
-    uint32_t kib = 0;
-    const char *wrong = take_number(text, &kib);
-    *bytes = (uint64_t)kib * 1024;
-    return wrong;
+static void begin_entry(const char *title) {
+    if (!check(menu.entry_count < max_entries, "too many entries")) return;
+    check(*title != 0, "a title is wanted");
+    menu.titles[menu.entry_count] = title;
+    bootcore_entry *entry = &menu.entries[menu.entry_count++];
+    entry->kernel = entry->initrd = BOOTCORE_NO_FILE;
 }
 
-static const char *take(const char *word, char *rest) {
-    if (is_word(word, "timeout")) return take_number(rest, &menu.seconds);
-    if (is_word(word, "default")) return take_number(rest, &menu.chosen);
-    if (is_word(word, "fallback")) return take_fallbacks(rest);
-    if (is_word(word, "arena")) return take_kib(rest, &menu.arena);
-    if (is_word(word, "write")) return menu.writes = 1, NULL;
-    if (is_word(word, "title")) return begin_entry(rest);
-    if (menu.entry_count == 0) return "an entry begins with its title";
-    bootcore_entry *entry = &menu.entries[menu.entry_count - 1].core;
-    if (is_word(word, "protocol")) return take_protocol(rest, entry);
-    if (entry->protocol == 0) return "the protocol comes behind the title";
-    if (is_word(word, "kernel")) return take_file(rest, &entry->kernel);
-    if (is_word(word, "line")) return take_line(rest, &entry->line);
-    if (is_word(word, "module")) return take_module(rest, entry);
-    if (!is_word(word, "ramdisk")) return "no such word";
-    if (entry->protocol == 1) return "a multiboot2 kernel has modules instead";
-    return take_file(rest, &entry->initrd);
-}
-
-static const char *check_menu(void) {
-    if (menu.entry_count == 0) return "there is no entry";
-    if (menu.chosen >= menu.entry_count) return "the default is no entry";
-    for (uint32_t i = 0; i < menu.fallback_count; i++)
-        if (menu.fallbacks[i] >= menu.entry_count) return "a fallback is no entry";
-    for (uint32_t i = 0; i < menu.entry_count; i++)
-        if (menu.entries[i].core.kernel == BOOTCORE_NO_FILE) return "an entry has no kernel";
-    return NULL;
+static void take(const char *word, char *rest) {
+    bootcore_entry *entry = &menu.entries[menu.entry_count ? menu.entry_count - 1 : 0];
+    if (is_word(word, "timeout")) menu.seconds = take_number(rest);
+    else if (is_word(word, "default")) menu.chosen = take_number(rest);
+    else if (is_word(word, "fallback")) take_fallbacks(rest);
+    else if (is_word(word, "arena")) menu.arena = (uint64_t)take_number(rest) * 1024;
+    else if (is_word(word, "write")) menu.writes = 1;
+    else if (is_word(word, "title")) begin_entry(rest);
+    else if (!check(menu.entry_count != 0, "an entry begins with its title")) return;
+    else if (is_word(word, "protocol")) take_protocol(rest, entry);
+    else if (!check(entry->protocol != 0, "the protocol comes behind the title")) return;
+    else if (is_word(word, "kernel")) entry->kernel = take_file(rest);
+    else if (is_word(word, "line")) entry->line = take_line(rest);
+    else if (is_word(word, "module")) take_module(rest, entry);
+    else if (!check(is_word(word, "ramdisk"), "no such word")) return;
+    else if (check(entry->protocol != BOOTCORE_MULTIBOOT2, "a multiboot2 kernel has modules"))
+        entry->initrd = take_file(rest);
 }
 
 const char *read_menu(char *text, uint32_t *line) {
@@ -182,24 +154,35 @@ const char *read_menu(char *text, uint32_t *line) {
         char *next = text;
         while (*next && *next != '\n') next++;
         if (*next) *next++ = 0;
-        char *end = text + strlen(text);
-        if (end > text && end[-1] == '\r') end[-1] = 0;
-        while (*text == ' ' || *text == '\t') text++;
+        while (is_blank(*text)) text++;
         char *rest = cut_word(text);
-        if (*text && *text != '#') {
-            const char *wrong = take(text, rest);
-            if (wrong != NULL) return wrong;
-        }
+        if (*text && *text != '#') take(text, rest);
+        if (wrong != NULL) return wrong;
         text = next;
     }
-    return check_menu();
+    check(menu.entry_count != 0, "there is no entry");
+    check(menu.chosen < menu.entry_count, "the default is no entry");
+    for (uint32_t i = 0; i < menu.fallback_count; i++)
+        check(menu.fallbacks[i] < menu.entry_count, "a fallback is no entry");
+    for (uint32_t i = 0; i < menu.entry_count; i++)
+        check(menu.entries[i].kernel != BOOTCORE_NO_FILE, "an entry has no kernel");
+    return wrong;
 }
 
-uint32_t list_attempts(uint32_t attempts[max_entries]) {
-    uint32_t count = 0, seen[max_entries] = {0};
+/* ---- the menu, once it is read */
+
+void list_attempts(void) {
+    uint32_t seen[max_entries] = {0};
+    menu.attempt_count = 0;
     for (uint32_t i = 0; i <= menu.fallback_count; i++) {
         uint32_t entry = i == 0 ? menu.chosen : menu.fallbacks[i - 1];
-        if (!seen[entry]++) attempts[count++] = entry;
+        if (!seen[entry]++) menu.attempts[menu.attempt_count++] = entry;
     }
-    return count;
+}
+
+uint32_t file_at(const bootcore_entry *entry, uint32_t position) {
+    if (position == 0) return entry->kernel;
+    if (position <= entry->module_count)
+        return menu.modules[entry->first_module + position - 1].file;
+    return position == 1 ? entry->initrd : BOOTCORE_NO_FILE;
 }

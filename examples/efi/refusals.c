@@ -1,11 +1,11 @@
 /* Why an entry is not booted, in words. docs/REFUSALS.md says more of each number. */
 #include "app.h"
 
-/* `%u` is the first number that a refusal carries, `%v` the second, `%f` the file it speaks of. */
-static const char *const words[] = {
-    [1] = "%f can't be read",
-    [2] = "%f ends early, or its disk has a fault",
-    [3] = "%f is longer than 1 GiB",
+/* Each is told the numbers that the refusal carries, the first three the name of its file. */
+static const char *const words[31] = {
+    [1] = "%s can't be read",
+    [2] = "%s ends early, or its disk has a fault",
+    [3] = "%s is longer than 1 GiB",
     [4] = "the kernel has no Multiboot2 header in its first 32768 bytes",
     [5] = "the kernel's header is cut",
     [6] = "the kernel is for another architecture than i386",
@@ -17,7 +17,7 @@ static const char *const words[] = {
     [12] = "the kernel is a bad ELF file",
     [13] = "the kernel's segment %u passes the file's end",
     [14] = "the kernel's segment %u ends above 4 GiB",
-    [15] = "the kernel's segments %u and %v overlap",
+    [15] = "the kernel's segments %u and %u overlap",
     [16] = "the kernel names no entry",
     [17] = "the kernel's entry lies outside of it",
     [18] = "the kernel's alignment is no power of two",
@@ -35,24 +35,13 @@ static const char *const words[] = {
     [30] = "the kernel has no 64-bit entry",
 };
 
-static const char *file_at(const bootcore_refusal *refusal) {
-    const bootcore_entry *entry = &menu.entries[refusal->entry].core;
-    if (refusal->first == 0) return menu.paths[entry->kernel];
-    if (entry->protocol != 1) return menu.paths[entry->initrd];
-    return menu.paths[menu.modules[entry->first_module + refusal->first - 1].file];
-}
-
 void say_refusal(const bootcore_refusal *refusal) {
-    const char *form = "refused";
-    if (refusal->number < sizeof words / sizeof words[0] && words[refusal->number] != NULL)
-        form = words[refusal->number];
-    print("    %s: ", menu.entries[refusal->entry].title);
-    for (; *form; form++) {
-        if (form[0] != '%') print("%c", *form);
-        else if (*++form == 'f') print("%s", file_at(refusal));
-        else print("%u", *form == 'u' ? refusal->first : refusal->second);
-    }
-    print(" (%u)\n", (uint64_t)refusal->number);
+    const bootcore_entry *entry = &menu.entries[refusal->entry];
+    uint32_t number = refusal->number;
+    print("    %s: ", menu.titles[refusal->entry]);
+    if (number <= 3) print(words[number], menu.paths[file_at(entry, (uint32_t)refusal->first)]);
+    else print(number <= 30 ? words[number] : "refused", refusal->first, refusal->second);
+    print(" (%u)\n", (uint64_t)number);
 }
 
 const char *status_words(uint32_t status) {

@@ -7,7 +7,7 @@ from rules import booting, description, explaining
 from rules.image import spell as image_of
 
 from . import BYTES_OF, Call
-from .answers import Sweep
+from .answers import Sweep, one_of
 
 TOO_LONG = booting.FILE_LIMIT + 1
 
@@ -97,9 +97,11 @@ def map_is_refused(table, line, text):
 
 
 def explain(table, line):
+    """Of several bad keys any may be told."""
     given = Given(table, line)
-    run = explaining.explain(line.data, given.path_named)
-    return "%s, missing %d" % (said_text(given, run.status, run.said), given.missing(line.data))
+    missing = given.missing(line.data)
+    return one_of("%s, missing %d" % (said_text(given, run.status, run.said), missing)
+                  for run in explaining.explain(line.data, given.path_named))
 
 
 def explain_is_refused(table, line, text):

@@ -61,9 +61,21 @@ def toml_tree(text: bytes) -> dict:
     if tomllib is None:
         raise SystemExit("tomllib is not at hand: descriptions need Python 3.11")
     try:
-        return tomllib.loads(text.decode("utf-8"))
+        tree = tomllib.loads(text.decode("utf-8"))
     except (ValueError, RecursionError) as error:  # not UTF-8, not TOML
         bad(str(error))
+    if not fits(tree):
+        bad("an integer beyond 64 bits")  # which a reader of TOML must refuse
+    return tree
+
+
+def fits(value) -> bool:
+    """Whether each integer in it has 64 bits with its sign."""
+    if isinstance(value, dict):
+        return all(fits(item) for item in value.values())
+    if isinstance(value, list):
+        return all(fits(item) for item in value)
+    return not isinstance(value, int) or -NUMBER_LIMIT <= value < NUMBER_LIMIT
 
 
 # ---- tables

@@ -4,21 +4,22 @@ REFUSALS.md has the meanings."""
 import os
 import re
 from functools import lru_cache
-from typing import Callable, Dict, List, Tuple
+from typing import Callable, Dict, List, NamedTuple, Tuple
 
-from . import booting, description
-from .booting import File, Run
+from . import bad_keys, booting, description
+from .bad_keys import shown
+from .booting import File, Outcome, Run
 from .description import BadDescription, Description
-from .handover import PROTOCOL_NAMES, Handover, names_of
-from .machine import check
+from .handover import PROTOCOL_NAMES
+from .machine import check, is_size
 from .numbers import frames
 from .refusals import MACHINE_NAMES, NAMES, Refused
+from .telling import handover_lines, hints, sizes_of
 
 PAGE = os.path.join(os.path.dirname(__file__), "..", "..", "docs", "REFUSALS.md")
-ROLES = ["kernel", "module", "information", "boot-params", "command-line", "gdt", "initrd",
-         "page-tables"]
 OFFSETS = (7,)  # the refusals whose number is an offset, told in hexadecimal digits
 ROW = re.compile(r"\| (\d+) \| (\w+)[^|]*\| ([^|]*) \|")
+NOT_TOML = "it is not TOML, at "
 
 
 @lru_cache(None)
@@ -36,11 +37,6 @@ def told(number: int, data: Tuple[int, ...], names: Dict[int, str], title: str) 
     return "%d %s%s: %s" % (number, names[number], beside, meanings(title)[number])
 
 
-def shown(name: str) -> str:
-    """A file's name within a line."""
-    return re.sub(r"[\x00-\x1f\x7f\\]", lambda c: "\\x%02x" % ord(c[0]), name)
-
-
 # ---- a description that is refused
 
 
@@ -50,79 +46,85 @@ def position_of(error: Exception) -> str:
     return "line %s, column %s" % (place[1], place[2]) if place else "its end"
 
 
-def blame(text: bytes) -> str:
-    """Why a description is refused; that it is so is known."""
+def blames(text: bytes) -> List[List[str]]:
+    """Why a description is refused, that it is so being known: the lines of each answer that is
+    right. Of bad keys any that stands may be told."""
+    def alone(why: str) -> List[List[str]]:
+        return [["bad description: " + why]]
+
     try:
         text.decode("utf-8")
     except ValueError:
-        return "it is not UTF-8"
+        return alone("it is not UTF-8")
     try:
         tree = description.toml_tree(text)
     except BadDescription as error:
-        return "it is not TOML, at " + position_of(error)
-    try:
-        machine = description.describe(tree).machine
-    except BadDescription:
-        return "a key is unknown or missing, or its value is not allowed"
+        return alone(NOT_TOML + position_of(error))
+    faults = bad_keys.faults(tree)
+    if faults:
+        return [["bad description: " + fault] for fault in faults]
+    machine = description.describe(tree).machine
     try:
         check(machine)
     except Refused as refused:
-        return "machine " + told(refused.number, refused.data, MACHINE_NAMES, "Of a machine")
+        lines = alone("machine " + told(refused.number, refused.data, MACHINE_NAMES,
+                                        "Of a machine"))
+        if refused.number == 1 and is_size(int(str(machine.size), 16)):
+            lines[0].append(f"hint: is 0x{machine.size} meant?")
+        return lines
     raise AssertionError("no fault")
 
 
 # ---- a boot
 
 
-def attempt_lines(described: Description, index: int, file_named: Callable[[str], File]
-                  ) -> List[str]:
-    entry = described.entries[index]
+class Boot(NamedTuple):
+    described: Description
+    file_named: Callable[[str], File]
+    outcome: Outcome
+
+
+def attempt_lines(boot: Boot, index: int) -> List[str]:
+    entry = boot.described.entries[index]
     lines = [f"entry {index} {entry.title}"]
     for place, name in enumerate(booting.file_names(entry)):
-        file = file_named(name)
-        if file is None:
+        size = sizes_of([boot.file_named(name)])[0]
+        if size is None:
             lines.append(f"no file {place} {shown(name)}")
         else:
-            size = len(file) if isinstance(file, bytes) else file
             lines.append(f"file {place} {size} {frames(size)} {shown(name)}")
     return lines
 
 
-def handover_lines(handover: Handover) -> List[str]:
-    lines = ["protocol " + PROTOCOL_NAMES[handover.protocol]]
-    for part in handover.parts:
-        lines.append(f"part {ROLES[part.role - 1]} {part.index} {part.address:08x} {part.length}")
-    for name in names_of(handover.protocol):
-        value = handover.registers[name]
-        lines.append(f"register {name.lower().replace(' ', '_')} {value:016x}")
-    return lines
+def booted_lines(boot: Boot) -> List[str]:
+    index = boot.outcome.entry
+    entry = boot.described.entries[index]
+    files = [boot.file_named(name) for name in booting.file_names(entry)]
+    lines = [f"booted {index} {entry.title}", "protocol " + PROTOCOL_NAMES[entry.protocol]]
+    return attempt_lines(boot, index) + lines + handover_lines(
+        boot.described.machine, boot.outcome.handover, entry, files)
 
 
-def explain(text: bytes, path_named: Callable[[str], File]) -> Run:
-    """`bootcore explain`; path_named tells what is at a path."""
+def boot_lines(boot: Boot) -> List[str]:
+    lines = []
+    for index, refusal in boot.outcome.refused:
+        lines += attempt_lines(boot, index)
+        lines.append("refused " + told(refusal.number, refusal.data, NAMES, "Of an entry"))
+    lines += ["no entry left"] if boot.outcome.entry is None else booted_lines(boot)
+    return lines + hints(boot.described, boot.outcome.refused, boot.file_named)
+
+
+def explain(text: bytes, path_named: Callable[[str], File]) -> List[Run]:
+    """`bootcore explain`: each end that is right; path_named tells what is at a path."""
     try:
         described = description.read(text)
     except BadDescription:
-        return Run(2, ["bad description: " + blame(text)], ["bad description"])
+        return [Run(2, lines, ["bad description"]) for lines in blames(text)]
 
     def file_named(name: str) -> File:
         return described.files[name] if name in described.files else path_named(name)
 
     outcome = booting.boot_menu(described.machine, described.entries, described.default,
                                 described.fallbacks, file_named)
-    lines = []
-    for index, refusal in outcome.refused:
-        lines += attempt_lines(described, index, file_named)
-        lines.append("refused " + told(refusal.number, refusal.data, NAMES, "Of an entry"))
-    if outcome.entry is None:
-        lines.append("no entry left")
-    else:
-        lines += attempt_lines(described, outcome.entry, file_named)
-        lines.append(f"booted {outcome.entry} {described.entries[outcome.entry].title}")
-        lines += handover_lines(outcome.handover)
-    attempted = booting.attempts(described.default, described.fallbacks)
-    for index in range(len(described.entries)):
-        if index not in attempted:
-            lines.append(f"hint: entry {index} is not attempted: "
-                         "neither default nor fallback names it")
-    return Run(1 if outcome.entry is None else 0, lines, [])
+    lines = boot_lines(Boot(described, file_named, outcome))
+    return [Run(1 if outcome.entry is None else 0, lines, [])]

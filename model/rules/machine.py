@@ -37,9 +37,13 @@ class Machine(NamedTuple):
     pool: Range
 
 
+def is_size(size: int) -> bool:
+    return LEAST_SIZE <= size <= MAX_SIZE and size % FRAME == 0
+
+
 def check(machine: Machine) -> Machine:
     """The machine, or the first of its faults: refused with 1, 3, 2 and i, or 4, in this order."""
-    if not (LEAST_SIZE <= machine.size <= MAX_SIZE and machine.size % FRAME == 0):
+    if not is_size(machine.size):
         refuse(1)
     if len(machine.regions) > MAX_REGIONS:
         refuse(3)

@@ -3,6 +3,7 @@ use Rattle.std.proofs.Common.{◌≡◌, ◌∙◌, ◌+◌, ◌<◌, ℕ, List,
 use Rattle.std.proofs.Common.{arith, drop, get_or, Option, None}
 use Rattle.std.specs.Option.{option_or}
 use Rattle.std.proofs.lemmas.List.{length-map, get_or-map, drop_more}
+use Rattle.std.proofs.lemmas.List.Elements.{All-map}
 use Rattle.bl_load.specs.declared.entry.Entry.{Entry}
 use Rattle.bl_load.specs.Value.{HasLimits, IsWithinLimits}
 use Rattle.bl_session.specs.Attempts.{IsSmall, NameEntries, HasMenuFault}
@@ -15,6 +16,8 @@ use Rattle.bl_abi.specs.Checks.{entry_misuse}
 use Rattle.bl_abi.specs.Given.{GivenFacts}
 use Rattle.bl_abi.specs.Boot.{entries_misuse, facts_given, menu_fault, AreFewGiven, IsMenuFault}
 use Rattle.bl_abi.specs.Boot.{too_many, bad_index, no_memory}
+use Rattle.bl_abi.specs.Sessions.{IsNoMenu, are_many, names_none, is_short}
+use Rattle.bl_abi.specs.declared.given_fault.GivenFault.{GivenFault}
 
 -- as many entries as are given
 pub entry_count : {A : Type 0} (given : GivenFacts) (rows : List EntryRecord)
@@ -37,19 +40,38 @@ few_typed given rows typed is few =
           (all k (facts_of d) (omega (arith, h, length-map typed facts_of))),
     )
 
--- a fault of the menu of these entries
-pub menu_fault_is : {A : Type 0} (given : GivenFacts) (rows : List EntryRecord) (default : ℕ)
+-- the other way round
+pub few_given : {A : Type 0} (given : GivenFacts) (rows : List EntryRecord)
+    (typed : List (Entry A)) → map facts_of typed ≡ map (facts_given given) rows → IsSmall typed
+    → AreFewGiven given rows
+unfolding IsWithinLimits
+few_given given rows typed is small =
+    let count = entry_count given rows typed is in
+    let P : EntryFacts → Type 0 = λ f. HasLimits f.blank in
+    let most = small.0 in
+    (omega (arith, count, most), subst (All P) is (All-map P facts_of typed small.1))
+
+-- why these entries make no menu
+pub no_menu_is : {A : Type 0} (given : GivenFacts) (rows : List EntryRecord) (default : ℕ)
     (fallbacks : List ℕ) (typed : List (Entry A)) (fault : MenuFault)
     → map facts_of typed ≡ map (facts_given given) rows
     → HasMenuFault typed default fallbacks fault
-    → IsMenuFault given rows default fallbacks (menu_fault fault)
-menu_fault_is given rows default fallbacks typed menu_faults.TooMany is has =
-    too_many (λ few. has (few_typed given rows typed is few))
-menu_fault_is given rows default fallbacks typed menu_faults.BadIndex is has =
-    bad_index (λ named.
-    has.1 (subst (λ n. NameEntries n default fallbacks)
+    → IsNoMenu given rows default fallbacks (menu_fault fault)
+no_menu_is given rows default fallbacks typed menu_faults.TooMany is has =
+    are_many (λ few. has (few_typed given rows typed is few))
+no_menu_is given rows default fallbacks typed menu_faults.BadIndex is has =
+    names_none (few_given given rows typed is has.0)
+    (λ named. has.1 (subst (λ n. NameEntries n default fallbacks)
     (sym (entry_count given rows typed is)) named))
-menu_fault_is given rows default fallbacks typed menu_faults.NoMemory is has = no_memory
+no_menu_is given rows default fallbacks typed menu_faults.NoMemory is has = is_short
+
+-- that they make none is a fault of the menu
+pub menu_fault_of : (given : GivenFacts) (rows : List EntryRecord) (default : ℕ)
+    (fallbacks : List ℕ) (fault : GivenFault) → IsNoMenu given rows default fallbacks fault
+    → IsMenuFault given rows default fallbacks fault
+menu_fault_of given rows default fallbacks fault (are_many not) = too_many not
+menu_fault_of given rows default fallbacks fault (names_none few not) = bad_index not
+menu_fault_of given rows default fallbacks fault is_short = no_memory
 
 -- where an entry has no misuse, that of the entries from it on is that of those behind it
 pub sound_left : (given : GivenFacts) (entries : List EntryRecord) (i : ℕ) (d : EntryRecord)

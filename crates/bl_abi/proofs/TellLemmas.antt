@@ -2,7 +2,8 @@
 use Rattle.std.proofs.Common.{◌≡◌, ◌∙◌, ◌+◌, ◌<◌, ℕ, zero, suc, List, [], ◌∷◌, ◌++◌, get_or}
 use Rattle.std.proofs.Common.{length, map, min, take, drop, set, ap, refl, arith, add-one, inl, inr}
 use Rattle.std.proofs.lemmas.Bool.{cases_lt}
-use Rattle.std.proofs.lemmas.List.{take_all, drop_all}
+use Rattle.std.proofs.lemmas.List.{take_all, drop_all, length-map}
+use Rattle.std.proofs.lemmas.Simd.{map-map}
 
 tell_next : {X Y : Type 0} (f : X → Y) (xs : List X) (ys : List Y) (i : ℕ) (x : X)
     → i < length xs → i < length ys → x ≡ get_or xs i x
@@ -52,3 +53,11 @@ told_all {X = X} {Y = Y} f xs ys n is =
             drop_all (length xs) ys (omega arith),
           ) refl
     ]
+
+-- all are told, of what each element has
+pub told_under : {X Y Z : Type 0} (f : X → Y) (h : Y → Z) (xs : List X) (ys : List Z) (n : ℕ)
+    → n ≡ length xs
+    → map (λ x. h (f x)) (take n xs) ++ drop n ys
+    ≡ map h (map f xs) ++ drop (length (map f xs)) ys
+told_under f h xs ys n is =
+    rw (is, take_all (length xs) xs (omega arith), map-map h f xs, length-map xs f) refl

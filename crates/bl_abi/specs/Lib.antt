@@ -2,9 +2,11 @@ pub mod Given
 pub mod Checks
 pub mod Machines
 pub mod Load
+pub mod Prepare
 pub mod Refused
 pub mod Status
 pub mod Told
 pub mod Boot
 pub mod BootTold
+pub mod Sessions
 pub mod Walk

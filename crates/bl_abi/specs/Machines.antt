@@ -1,9 +1,9 @@
 -- The machine that C gives, or what refuses it. Own.
-use Rattle.std.specs.Prelude.{◌≡◌, ◌⊎◌, ℕ, ◌+◌, ◌-◌, ◌^◌, false, List, map, min}
+use Rattle.std.specs.Prelude.{◌≡◌, ◌⊎◌, ℕ, ◌+◌, ◌-◌, ◌^◌, true, false, List, map, min}
 use Rattle.std.specs.declared.ops.Range.{Range}
 use Rattle.bl_map.specs.declared.fault.MapFault.{MapFault}
 use Rattle.bl_map.specs.declared.fault.MapFault.TheVariants as map_fault
-use Rattle.bl_map.specs.Faults.{HasFirstMapFault}
+use Rattle.bl_map.specs.Faults.{HasFirstMapFault, IsAccepted}
 use Rattle.bl_map.specs.Kinds.{IsNormalMap}
 use Rattle.bl_map.specs.MachineFacts.{MachineFacts}
 use Rattle.bl_abi.specs.declared.records.RegionRecord.{RegionRecord}
@@ -28,6 +28,11 @@ pub record IsMachineGiven (machine : MachineRecord) (regions : List RegionRecord
   pub size : facts.size ≡ machine.size
   pub runs : IsNormalMap (map region_given regions) facts.runs
   pub pool : facts.pool ≡ pool_given machine
+
+-- no fault of the machine stands
+pub record IsMachineSound (machine : MachineRecord) (regions : List RegionRecord) : Type 0 where
+  pub kinds : are_kinds regions ≡ true
+  pub accepted : IsAccepted machine.size (map region_given regions) (pool_given machine)
 
 -- a fault of a machine's parts as a misuse
 abbrev pub machine_fault : MapFault → GivenFault

@@ -18,14 +18,15 @@ use crate::boot_telling::tell_boot;
 use crate::given::Given;
 use crate::given_fault::GivenFault;
 use crate::machines::machine_of;
+use crate::menus::menu_made;
 use crate::misuse::Misuse;
 use crate::records::{EntryRecord, MachineRecord, RegionRecord};
-use crate::stored::{check_menu, entries_of, stored_files};
+use crate::stored::{check_menu, stored_files};
 use crate::told::{HandoffRecord, PlaceRecord, RefusalRecord};
 use bl_map::Machine;
 use bl_mem::SliceMemory;
 use bl_plan::MAX_PARTS;
-use bl_session::{BootFault, Menu, MenuFault, Order, Outcome, SliceStore, run};
+use bl_session::{BootFault, Menu, Order, Outcome, SliceStore, run};
 use std::alloc::Allocator;
 
 /// Boots a menu from files in slices, in memory that begins at a base.
@@ -74,16 +75,6 @@ fn boot_given<A: Allocator + Copy>(
     boot_files(alloc, memory, base, &files, machine, menu)
 }
 
-fn menu_fault(fault: MenuFault) -> GivenFault
-    ensures { result ≡ spec.menu_fault fault }
-{
-    match fault {
-        MenuFault::TooMany => GivenFault::Misused(Misuse::TooMany),
-        MenuFault::BadIndex => GivenFault::Misused(Misuse::BadIndex),
-        MenuFault::NoMemory => GivenFault::NoMemory,
-    }
-}
-
 /// The menu that is given, if it may be.
 fn menu_of<A: Allocator + Copy>(
     alloc: A,
@@ -99,12 +90,9 @@ fn menu_of<A: Allocator + Copy>(
     if let Err(misuse) = check_menu(given, entries) {
         return Err(GivenFault::Misused(misuse));
     }
-    let Ok(typed) = entries_of(alloc, given, entries) else {
-        return Err(GivenFault::NoMemory);
-    };
-    match Menu::new(alloc, typed, default, fallbacks) {
+    match menu_made(alloc, given, entries, default, fallbacks) {
         Ok(menu) => Ok(menu),
-        Err(fault) => Err(menu_fault(fault)),
+        Err(fault) => Err(fault),
     }
 }
 

@@ -1,5 +1,5 @@
 //! One entry comes into memory of the caller's own.
-ghost use Rattle.std.specs.Prelude.{◌≡◌, ◌+◌, ◌≤◌, [], IfOk, IfErr, OnOk, Result, All};
+ghost use Rattle.std.specs.Prelude.{◌≡◌, ◌+◌, ◌≤◌, [], IfOk, IfErr, OnOk, Result, All, None};
 ghost use Rattle.std.specs.Prelude.{length, map};
 ghost use Rattle.bl_mem.specs.Memory.{memory_from};
 ghost use Rattle.bl_load.specs.Handover.{written};
@@ -7,6 +7,7 @@ ghost use Rattle.bl_load.specs.Parts.{IsHandover, IsPrepFault};
 ghost use Rattle.bl_load.specs.PlanFacts.{handover_in};
 ghost use Rattle.bl_load.specs.Value.{value_of, file_count, IsWithinLimits};
 ghost use Rattle.bl_load.specs.HandoffFacts.{HandoffFacts};
+ghost use Rattle.bl_abi.specs.Checks.{load_misuse};
 ghost use Rattle.bl_abi.specs.Given.{entry_given, files_given};
 ghost use Rattle.bl_abi.specs.Load.{IsHandedIn, IsEntryGivenFault, IsEntryFault, IsLoadEnd};
 ghost use Rattle.bl_abi.specs.Load.{of_given, of_prepared};
@@ -61,7 +62,7 @@ fn load_typed<A: Allocator + Copy>(
 }
 
 /// The entry that is given, if it may be.
-fn take_entry<A: Allocator + Copy>(
+pub(crate) fn take_entry<A: Allocator + Copy>(
     alloc: A,
     given: &Given,
     row: &EntryRecord,
@@ -70,6 +71,7 @@ fn take_entry<A: Allocator + Copy>(
     ensures count { IfOk result
         (λ entry. file_count entry ≡ length (files_given given.now row.now)) }
     ensures limits { IfOk result IsWithinLimits }
+    ensures sound { OnOk result (load_misuse given.now row.now ≡ None) }
     ensures fault { IfErr result (IsEntryGivenFault given.now row.now) }
 {
     given.check_load(row)?;
@@ -80,7 +82,7 @@ fn take_entry<A: Allocator + Copy>(
     Ok(entry)
 }
 
-fn load_fault(fault: PrepFault) -> LoadFault
+pub(crate) fn load_fault(fault: PrepFault) -> LoadFault
     ensures { result ≡ of_prepared fault }
 {
     match fault {
@@ -89,7 +91,7 @@ fn load_fault(fault: PrepFault) -> LoadFault
     }
 }
 
-fn given_fault(fault: GivenFault) -> LoadFault
+pub(crate) fn given_fault(fault: GivenFault) -> LoadFault
     ensures { result ≡ of_given fault }
 {
     match fault {

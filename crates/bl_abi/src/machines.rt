@@ -1,5 +1,5 @@
 //! Machines as the libraries take them.
-ghost use Rattle.std.specs.Prelude.{◌≡◌, ◌+◌, ◌-◌, ◌^◌, IfOk, IfErr, map, min};
+ghost use Rattle.std.specs.Prelude.{◌≡◌, ◌+◌, ◌-◌, ◌^◌, IfOk, IfErr, OnOk, map, min};
 ghost use Rattle.bl_abi.specs.Given as spec;
 ghost use Rattle.bl_abi.specs.Machines as machines;
 
@@ -58,6 +58,7 @@ pub(crate) fn machine_of<A: Allocator + Copy>(
     regions: &[RegionRecord],
 ) -> Result<Machine<A>, GivenFault>
     ensures machine { IfOk result (machines.IsMachineGiven machine.now regions.now) }
+    ensures sound { OnOk result (machines.IsMachineSound machine.now regions.now) }
     ensures fault { IfErr result (machines.HasMachineFault machine.now regions.now) }
 {
     if !are_kinds(regions) {

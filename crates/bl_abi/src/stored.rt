@@ -53,8 +53,8 @@ pub(crate) fn entries_of<A: Allocator + Copy>(
     Ok(entries)
 }
 
-/// Checks entries, one after the other.
-fn check_entries(given: &Given, entries: &[EntryRecord]) -> Result<(), Misuse>
+/// Checks entries, one after the other: the first misuse.
+pub(crate) fn check_entries(given: &Given, entries: &[EntryRecord]) -> Result<(), Misuse>
     ensures { MatchResult result
         (λ _. spec.entries_misuse given.now entries.now ≡ None)
         (λ misuse. spec.entries_misuse given.now entries.now ≡ Some misuse) }

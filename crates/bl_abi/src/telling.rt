@@ -1,5 +1,7 @@
 //! What C is told of the end of a load.
-ghost use Rattle.std.specs.Prelude.{◌≡◌, ◌≤◌, length, OnOk};
+ghost use Rattle.std.specs.Prelude.{◌≡◌, ◌≤◌, length, map, OnOk};
+ghost use Rattle.bl_load.specs.Place.{planned_place};
+ghost use Rattle.bl_load.specs.PlanFacts.{handoff_by, places_of};
 ghost use Rattle.bl_abi.specs.Status.{fault_status};
 ghost use Rattle.bl_abi.specs.Told as spec;
 
@@ -7,7 +9,7 @@ use crate::fault::LoadFault;
 use crate::refusals::refusal_record;
 use crate::registers::registers_told;
 use crate::told::{HandoffRecord, PlaceRecord, RefusalRecord};
-use bl_load::{Handoff, Place};
+use bl_load::{Handoff, Place, Plan, PlannedPart};
 use std::alloc::Allocator;
 
 fn place_told(place: Place) -> PlaceRecord
@@ -21,14 +23,22 @@ fn place_told(place: Place) -> PlaceRecord
     }
 }
 
+/// Tells the places of parts in the first records.
+fn tell_parts<A: Allocator>(parts: &[PlannedPart<A>], places: &mut [PlaceRecord])
+    requires { length parts.now ≤ length places.old }
+    ensures { places.new ≡ spec.places_told (map planned_place parts.now) places.old }
+{
+    for index in 0..parts.len() {
+        places[index] = place_told(parts[index].place);
+    }
+}
+
 /// Tells the places of a handoff in the first records.
 pub(crate) fn tell_places<A: Allocator>(handoff: &Handoff<A>, places: &mut [PlaceRecord])
     requires { length handoff.now.places ≤ length places.old }
     ensures { places.new ≡ spec.places_told handoff.now.places places.old }
 {
-    for index in 0..handoff.len() {
-        places[index] = place_told(handoff.place(index));
-    }
+    tell_parts(handoff.parts(), places);
 }
 
 /// What is handed over of the entry with this index.
@@ -44,8 +54,29 @@ pub(crate) fn handoff_told<A: Allocator>(entry: u32, handoff: &Handoff<A>) -> Ha
     }
 }
 
+/// Tells what a plan would hand over.
+pub(crate) fn tell_plan<A: Allocator>(
+    plan: &Plan<A>,
+    told: &mut HandoffRecord,
+    places: &mut [PlaceRecord],
+)
+    requires few { length plan.now.parts.items ≤ 256 }
+    requires room { 256 ≤ length places.old }
+    ensures handoff { told.new ≡ spec.handoff_told 0 (handoff_by plan.now) }
+    ensures places { places.new ≡ spec.places_told (places_of plan.now) places.old }
+{
+    tell_parts(plan.parts.as_slice(), places);
+    *told = HandoffRecord {
+        entry: 0,
+        protocol: plan.protocol.number(),
+        places: plan.parts.len() as u32,
+        reserved: 0,
+        registers: registers_told(&plan.registers),
+    };
+}
+
 /// Tells a fault, with its status.
-fn tell_fault(fault: LoadFault, refusal: &mut RefusalRecord) -> u32
+pub(crate) fn tell_fault(fault: LoadFault, refusal: &mut RefusalRecord) -> u32
     ensures status { result ≡ fault_status fault }
     ensures refusal { refusal.new ≡ spec.after_fault fault refusal.old }
 {

@@ -12,12 +12,12 @@ use Rattle.bl_handle.specs.declared.records.RequestRecord.{RequestRecord}
 -- the number of what `start` and `event` answer
 abbrev pub progress_status : Result Progress HandleFault → ℕ
 progress_status (Ok Done) = 0
-progress_status (Ok Failed) = 1
+progress_status (Ok Failed) = 5
 progress_status (Ok Waiting) = 2
 progress_status (Ok (Next attempt)) = 3
 progress_status (Err NoSession) = 31
-progress_status (Err WrongSize) = 32
-progress_status (Err BelowBase) = 33
+progress_status (Err WrongSize) = 23
+progress_status (Err BelowBase) = 32
 
 -- a piece that is awaited, as a record
 abbrev pub request_record : Request → RequestRecord

@@ -12,12 +12,12 @@ pub fn status_of(told: Result<Progress, HandleFault>) -> u32
 {
     match told {
         Ok(Progress::Done) => 0,
-        Ok(Progress::Failed) => 1,
+        Ok(Progress::Failed) => 5,
         Ok(Progress::Waiting) => 2,
         Ok(Progress::Next(_)) => 3,
         Err(HandleFault::NoSession) => 31,
-        Err(HandleFault::WrongSize) => 32,
-        Err(HandleFault::BelowBase) => 33,
+        Err(HandleFault::WrongSize) => 23,
+        Err(HandleFault::BelowBase) => 32,
     }
 }
 

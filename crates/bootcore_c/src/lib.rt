@@ -8,6 +8,7 @@ ghost use Rattle.bl_session.specs.Phases.{PhaseFacts};
 ghost use Rattle.bl_abi.specs.Boot.{IsBootEnd};
 ghost use Rattle.bl_abi.specs.BootTold.{TellsBoot};
 ghost use Rattle.bl_abi.specs.Load.{IsLoadEnd};
+ghost use Rattle.bl_abi.specs.Prepare.{IsPrepareEnd};
 ghost use Rattle.bl_abi.specs.Told.{TellsEnd};
 ghost use Rattle.bl_abi.specs.Walk.{IsWalkEnd, TellsWalk};
 ghost use Rattle.bl_abi.specs.declared.walked.SeenRecord.{SeenRecord};
@@ -15,9 +16,11 @@ ghost use Rattle.bl_abi.specs.declared.walked.WalkStop.{WalkStop};
 ghost use Rattle.bl_abi.specs.declared.fault.LoadFault.{LoadFault};
 ghost use Rattle.bl_abi.specs.declared.given_fault.GivenFault.{GivenFault};
 
+mod sessions;
+
 use bl_abi::{
     ByteRange, EntryRecord, Given, HandoffRecord, MachineRecord, ModuleRecord, PlaceRecord,
-    RefusalRecord, RegionRecord, SeenRecord, boot_told, load_told, walk_told,
+    RefusalRecord, RegionRecord, SeenRecord, boot_told, load_told, prepare_told, walk_told,
 };
 use std::alloc::Global;
 
@@ -58,6 +61,43 @@ pub extern "C" fn bootcore_load_arrays(
     };
     load_told(
         alloc, memory, base, machine, regions, &given, entry, told, places, refusal,
+    )
+}
+
+/// What a load of an entry would hand over is told.
+#[unsafe(no_mangle)]
+pub extern "C" fn bootcore_prepare_arrays(
+    alloc: Global,
+    machine: &MachineRecord,
+    regions: &[RegionRecord],
+    entry: &EntryRecord,
+    modules: &[ModuleRecord],
+    text: &[u8],
+    files: &[ByteRange],
+    contents: &[u8],
+    told: &mut HandoffRecord,
+    places: &mut [PlaceRecord],
+    refusal: &mut RefusalRecord,
+) -> u32
+    ensures { (end : Result HandoffFacts LoadFault)
+        × IsPrepareEnd machine.now regions.now
+        (record {
+          modules = modules.now;
+          text = text.now;
+          files = files.now;
+          contents = contents.now;
+        })
+        entry.now (length places.old) end
+        × TellsEnd end result told.old told.new places.old places.new refusal.old refusal.new }
+{
+    let given = Given {
+        modules,
+        text,
+        files,
+        contents,
+    };
+    prepare_told(
+        alloc, machine, regions, &given, entry, told, places, refusal,
     )
 }
 

@@ -1,0 +1,53 @@
+-- The sizes of a session's files, and of a boot's.
+use Rattle.std.proofs.Common.{◌≡◌, ◌+◌, ℕ, Bool, true, false, ◌&&◌, ◌||◌, List, [], ◌∷◌, length, map}
+use Rattle.std.proofs.Common.{Option, None, Some, if◌then◌else◌, slice_range, refl, ap, sym, subst}
+use Rattle.std.proofs.Common.{◌∙◌, arith, leb-true}
+use Rattle.std.specs.List.{list_all}
+use Rattle.std.proofs.lemmas.List.{length-take, length-drop}
+use Rattle.bl_session.specs.Outcome.{missing, whole, size_of}
+use Rattle.bl_abi.specs.declared.records.ByteRange.{ByteRange}
+use Rattle.bl_abi.specs.Given.{GivenFacts, are_among, range_bytes}
+use Rattle.bl_abi.specs.Checks.{is_within}
+use Rattle.bl_abi.specs.Boot.{is_unread, is_stored, are_stored, stored_given}
+use Rattle.bl_abi.specs.Sessions.{size_given}
+
+length_within : (bytes : List ℕ) (range : ByteRange)
+    → are_among range.offset range.length (length bytes) ≡ true
+    → length (range_bytes bytes range) ≡ range.length
+length_within bytes range within =
+    let fits = leb-true (range.offset + range.length) (length bytes) within in
+    subst
+    (λ (b : Bool). length
+    (if b then slice_range bytes range.offset (range.offset + range.length) else [])
+    ≡ range.length)
+    (sym within) (omega (arith, length-take {A = ℕ}, length-drop {A = ℕ}, fits))
+
+-- of a file that is missing or lies in the contents
+size_as_stored : (given : GivenFacts) (range : ByteRange) → is_stored given range ≡ true
+    → size_given range ≡ size_of (stored_given given range)
+size_as_stored given range =
+    elim (is_unread range) as (λ b. (b || is_within given range) ≡ true
+    → (if b then None else Some range.length)
+    ≡ size_of (if b then missing else whole (range_bytes given.contents range))) [
+      | true ↦ λ stored. refl
+      | false ↦ λ stored. ap Some (sym (length_within given.contents range stored))
+    ]
+
+first_of : (a b : Bool) → (a && b) ≡ true → a ≡ true
+first_of true b is = refl
+first_of false b is = is
+
+rest_of : (a b : Bool) → (a && b) ≡ true → b ≡ true
+rest_of true b is = is
+rest_of false b is = cc
+
+pub sizes_as_stored : (given : GivenFacts) (files : List ByteRange) → are_stored given files ≡ true
+    → map size_given files ≡ map size_of (map (stored_given given) files)
+sizes_as_stored given [] stored = refl
+sizes_as_stored given (file ∷ files) stored =
+    let test = is_stored given file in
+    let others = are_stored given files in
+    let first = size_as_stored given file (first_of test others stored) in
+    let rest = sizes_as_stored given files (rest_of test others stored) in
+    ap (λ size. size ∷ map size_given files) first
+    ∙ ap (λ sizes. size_of (stored_given given file) ∷ sizes) rest

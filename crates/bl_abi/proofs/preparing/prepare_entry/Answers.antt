@@ -1,0 +1,23 @@
+use Rattle.std.proofs.Common.{arith, subst, sym}
+use Rattle.bl_abi.specs.declared.fault.LoadFault.{LoadFault}
+use Rattle.bl_abi.specs.Load.{few_places, bad_machine, bad_entry, IsNotLoaded}
+use Rattle.bl_abi.proofs.preparing.prepare_entry.Goals as goal
+
+pub returns-then-room-lt-MAX_PARTS-clause-fault : goal.returns-then-room-lt-MAX_PARTS-clause-fault
+returns-then-room-lt-MAX_PARTS-clause-fault g c = few_places (omega arith)
+
+pub returns-in-Err-clause-fault : goal.returns-in-Err-clause-fault
+returns-in-Err-clause-fault g c =
+    subst
+    (λ (f : LoadFault).
+    IsNotLoaded c.args.machine.now c.args.regions.now c.args.given.now c.args.entry.now
+    c.args.room c.args.machine.now.size f)
+    (sym c.given_fault.ensures) (bad_machine c.in-Err.fault c.in-Err.ensures.fault)
+
+pub returns-clause-fault : goal.returns-clause-fault
+returns-clause-fault g c =
+    bad_entry c.in-Err-prepare_given.fault record {
+      facts = c.in-Ok.made;
+      machine_is = c.in-Ok.ensures.machine;
+      is = c.in-Err-prepare_given.ensures.fault;
+    }

@@ -1,0 +1,45 @@
+use Rattle.std.proofs.Common.{ap, ◌∙◌, map, subst, sym}
+use Rattle.bl_mem.specs.declared.view.SliceView.{SliceView}
+use Rattle.bl_load.specs.Parts.{IsHandover}
+use Rattle.bl_load.specs.PlanFacts.{handover_by}
+use Rattle.bl_load.specs.Value.{EntryValue}
+use Rattle.bl_abi.specs.Load.{IsEntryFault}
+use Rattle.bl_abi.proofs.LoadLemmas.{given_value, of_prepared_is}
+use Rattle.bl_abi.proofs.PrepareLemmas.{plan_says, entry_sound}
+use Rattle.bl_abi.proofs.preparing.prepare_given.Goals as goal
+
+pub returns-in-Ok-prepare-clause-handed : goal.returns-in-Ok-prepare-clause-handed
+returns-in-Ok-prepare-clause-handed g c =
+    let given = c.args.given.now in
+    let row = c.args.row.now in
+    let plan = c.in-Ok-prepare.plan in
+    let texts = map (λ (v : SliceView). v.bytes.now) c.deref.result.now in
+    let files =
+    ap (map (λ (v : SliceView). v.bytes.now)) c.deref.ensures.value ∙ c.in-Ok-views_of.ensures in
+    let value = given_value given row c.in-Ok.entry texts c.in-Ok.ensures.value files in
+    record {
+      handover = handover_by texts plan;
+      handover_is =
+          subst
+          (λ (v : EntryValue). IsHandover c.args.machine.now v (handover_by texts plan))
+          value c.in-Ok-prepare.ensures.handover;
+      handoff_is =
+          plan_says texts c.args.machine.now.size plan c.in-Ok-prepare.ensures.loadable;
+    }
+
+pub returns-in-Ok-prepare-clause-sound : goal.returns-in-Ok-prepare-clause-sound
+returns-in-Ok-prepare-clause-sound g c =
+    entry_sound c.args.given.now c.args.row.now c.in-Ok.entry c.in-Ok.ensures.value
+    c.in-Ok.ensures.sound c.in-Ok.ensures.limits
+
+pub returns-clause-fault : goal.returns-clause-fault
+returns-clause-fault g c =
+    let given = c.args.given.now in
+    let row = c.args.row.now in
+    let texts = map (λ (v : SliceView). v.bytes.now) c.deref.result.now in
+    let files =
+    ap (map (λ (v : SliceView). v.bytes.now)) c.deref.ensures.value ∙ c.in-Ok-views_of.ensures in
+    let value = given_value given row c.in-Ok.entry texts c.in-Ok.ensures.value files in
+    subst (IsEntryFault c.args.machine.now given row) (sym c.load_fault.ensures)
+    (of_prepared_is c.args.machine.now given row _ c.in-Err-prepare.fault value
+    c.in-Err-prepare.ensures.fault)

@@ -1,0 +1,117 @@
+-- What comes of a session that C gives, and what C is told of it. Own.
+use Rattle.std.specs.Prelude.{◌≡◌, ℕ, Bool, MatchBool, nat_lt, List, length, map, Option, None, Some}
+use Rattle.std.specs.Prelude.{Result, Ok, Err, if◌then◌else◌}
+use Rattle.bl_map.specs.MachineFacts.{MachineFacts}
+use Rattle.bl_load.specs.HandoffFacts.{most_parts}
+use Rattle.bl_session.specs.Attempts.{NameEntries}
+use Rattle.bl_session.specs.Phases.{PhaseFacts, SessionFacts, boot_facts, end_facts, not_started}
+use Rattle.bl_abi.specs.declared.records.ByteRange.{ByteRange}
+use Rattle.bl_abi.specs.declared.records.RegionRecord.{RegionRecord}
+use Rattle.bl_abi.specs.declared.records.MachineRecord.{MachineRecord}
+use Rattle.bl_abi.specs.declared.records.EntryRecord.{EntryRecord}
+use Rattle.bl_abi.specs.declared.misuse.Misuse.{Misuse}
+use Rattle.bl_abi.specs.declared.misuse.Misuse.TheVariants.{FewPlaces, TooMany, BadIndex}
+use Rattle.bl_abi.specs.declared.given_fault.GivenFault.{GivenFault}
+use Rattle.bl_abi.specs.declared.given_fault.GivenFault.TheVariants.{Misused, NoMemory}
+use Rattle.bl_abi.specs.Given.{GivenFacts}
+use Rattle.bl_abi.specs.Machines.{IsMachineGiven, HasMachineFault}
+use Rattle.bl_abi.specs.Load.{of_given}
+use Rattle.bl_abi.specs.Boot.{is_unread, menu_given, entries_misuse, AreFewGiven}
+use Rattle.bl_abi.specs.BootTold.{Telling, end_status, end_told}
+use Rattle.bl_abi.specs.Status.{done, fault_status, misuse_status}
+
+-- ---- the session
+
+-- how long a file is, none of one that can't be read: its bytes come later
+abbrev pub size_given : ByteRange → Option ℕ
+size_given range = if is_unread range then None else Some range.length
+
+abbrev pub sizes_given : GivenFacts → List (Option ℕ)
+sizes_given given = map size_given given.files
+
+-- the menu may be given: no entry has a misuse, they are few, and each index names one
+pub record IsMenuAllowed (given : GivenFacts) (entries : List EntryRecord) (default : ℕ)
+    (fallbacks : List ℕ) : Type 0 where
+  pub sound : entries_misuse given entries ≡ None
+  pub few : AreFewGiven given entries
+  pub named : NameEntries (length entries) default fallbacks
+
+-- a boot of the menu that is given, on the machine that is given, which has not begun
+pub record IsSessionGiven (machine : MachineRecord) (regions : List RegionRecord)
+    (given : GivenFacts) (entries : List EntryRecord) (default : ℕ) (fallbacks : List ℕ)
+    (session : SessionFacts) : Type 0 where
+  pub facts : MachineFacts
+  pub machine_is : IsMachineGiven machine regions facts
+  pub allowed : IsMenuAllowed given entries default fallbacks
+  pub session_is : session ≡ record {
+    boot = boot_facts facts (menu_given given entries default fallbacks) (sizes_given given);
+    phase = not_started;
+  }
+
+-- ---- or why there is none
+
+-- entries without a misuse make no menu: the first of these; memory may run out
+pub data IsNoMenu (given : GivenFacts) (entries : List EntryRecord) (default : ℕ)
+    (fallbacks : List ℕ) : GivenFault → Type 0 where
+  are_many : ¬ AreFewGiven given entries
+      → IsNoMenu given entries default fallbacks (Misused TooMany)
+  names_none : AreFewGiven given entries → ¬ NameEntries (length entries) default fallbacks
+      → IsNoMenu given entries default fallbacks (Misused BadIndex)
+  is_short : IsNoMenu given entries default fallbacks NoMemory
+
+-- the first misuse of the entries, or else why they make no menu
+pub data IsMenuRefused (given : GivenFacts) (entries : List EntryRecord) (default : ℕ)
+    (fallbacks : List ℕ) : GivenFault → Type 0 where
+  has_misuse : (misuse : Misuse) → entries_misuse given entries ≡ Some misuse
+      → IsMenuRefused given entries default fallbacks (Misused misuse)
+  is_sound : entries_misuse given entries ≡ None → (fault : GivenFault)
+      → IsNoMenu given entries default fallbacks fault
+      → IsMenuRefused given entries default fallbacks fault
+
+-- the first that stands: a fault of the machine, or else one of the menu; memory may run out
+pub data IsSessionFault (machine : MachineRecord) (regions : List RegionRecord)
+    (given : GivenFacts) (entries : List EntryRecord) (default : ℕ) (fallbacks : List ℕ) :
+    GivenFault → Type 0 where
+  of_machine : (fault : GivenFault) → HasMachineFault machine regions fault
+      → IsSessionFault machine regions given entries default fallbacks fault
+  of_menu : (facts : MachineFacts) → IsMachineGiven machine regions facts → (fault : GivenFault)
+      → IsMenuRefused given entries default fallbacks fault
+      → IsSessionFault machine regions given entries default fallbacks fault
+
+-- the session that is made of what is given, or why there is none
+abbrev pub IsSessionMade : MachineRecord → List RegionRecord → GivenFacts → List EntryRecord → ℕ
+    → List ℕ → Result SessionFacts GivenFault → Type 0
+IsSessionMade machine regions given entries default fallbacks (Ok session) =
+    IsSessionGiven machine regions given entries default fallbacks session
+IsSessionMade machine regions given entries default fallbacks (Err fault) =
+    IsSessionFault machine regions given entries default fallbacks fault
+
+-- a status, and which session is kept: the one that is made, or after a fault the one that was
+abbrev pub TellsSession : Result SessionFacts GivenFault → ℕ → (old new : Option SessionFacts)
+    → Type 0
+TellsSession (Ok session) status old new = (status ≡ done) × (new ≡ Some session)
+TellsSession (Err fault) status old new = (status ≡ fault_status (of_given fault)) × (new ≡ old)
+
+-- ---- its outcome
+
+-- a session has not ended
+abbrev pub still_waits : ℕ
+still_waits = 2
+
+-- the status of an end, if there is one
+abbrev pub outcome_status : Option PhaseFacts → ℕ
+outcome_status None = still_waits
+outcome_status (Some end) = end_status end
+
+-- what is told beside it
+abbrev pub after_outcome : Option PhaseFacts → Telling → Telling
+after_outcome None old = old
+after_outcome (Some end) old = end_told end old
+
+-- a status and what is told of the outcome of a session that stands so: nothing if there is room
+-- for fewer places than there may be
+abbrev pub TellsOutcome : PhaseFacts → ℕ → (old new : Telling) → Type 0
+TellsOutcome phase status old new =
+    MatchBool (nat_lt (length old.places) most_parts)
+    ((status ≡ misuse_status FewPlaces) × (new ≡ old))
+    ((status ≡ outcome_status (end_facts phase)) × (new ≡ after_outcome (end_facts phase) old))

@@ -1,0 +1,47 @@
+//! A menu as the libraries take it.
+ghost use Rattle.std.specs.Prelude.{◌≡◌, IfOk, IfErr, OnOk, length};
+ghost use Rattle.bl_session.specs.Attempts.{NameEntries};
+ghost use Rattle.bl_abi.specs.Boot.{AreFewGiven, menu_given};
+ghost use Rattle.bl_abi.specs.Boot as spec;
+ghost use Rattle.bl_abi.specs.Sessions.{IsNoMenu};
+
+use crate::given::Given;
+use crate::given_fault::GivenFault;
+use crate::misuse::Misuse;
+use crate::records::EntryRecord;
+use crate::stored::entries_of;
+use bl_session::{Menu, MenuFault};
+use std::alloc::Allocator;
+
+fn menu_fault(fault: MenuFault) -> GivenFault
+    ensures { result ≡ spec.menu_fault fault }
+{
+    match fault {
+        MenuFault::TooMany => GivenFault::Misused(Misuse::TooMany),
+        MenuFault::BadIndex => GivenFault::Misused(Misuse::BadIndex),
+        MenuFault::NoMemory => GivenFault::NoMemory,
+    }
+}
+
+/// The menu of entries that have no misuse.
+pub(crate) fn menu_made<A: Allocator + Copy>(
+    alloc: A,
+    given: &Given,
+    entries: &[EntryRecord],
+    default: u32,
+    fallbacks: &[u32],
+) -> Result<Menu<A>, GivenFault>
+    ensures menu { IfOk result (λ menu.
+        menu ≡ menu_given given.now entries.now default fallbacks.now) }
+    ensures few { OnOk result (AreFewGiven given.now entries.now) }
+    ensures named { OnOk result (NameEntries (length entries.now) default fallbacks.now) }
+    ensures fault { IfErr result (IsNoMenu given.now entries.now default fallbacks.now) }
+{
+    let Ok(typed) = entries_of(alloc, given, entries) else {
+        return Err(GivenFault::NoMemory);
+    };
+    match Menu::new(alloc, typed, default, fallbacks) {
+        Ok(menu) => Ok(menu),
+        Err(fault) => Err(menu_fault(fault)),
+    }
+}

@@ -1,0 +1,189 @@
+//! A session for C: a boot that is told its pieces as they come.
+ghost use Rattle.std.specs.Prelude.{◌≡◌, ℕ, List, [], None, Err, Result};
+ghost use Rattle.std.specs.Option.{MatchOption};
+ghost use Rattle.bl_session.specs.declared.words.Progress.{Progress};
+ghost use Rattle.bl_session.specs.Boot.{piece, fault};
+ghost use Rattle.bl_session.specs.Phases.{SessionFacts, state_at};
+ghost use Rattle.bl_session.specs.Requests.{first_request, request_after};
+ghost use Rattle.bl_abi.specs.BootTold.{Telling};
+ghost use Rattle.bl_abi.specs.Sessions.{IsSessionMade, TellsSession, TellsOutcome};
+ghost use Rattle.bl_abi.specs.declared.given_fault.GivenFault.{GivenFault};
+ghost use Rattle.bl_handle.specs.declared.handle_fault.HandleFault.{HandleFault};
+ghost use Rattle.bl_handle.specs.declared.handle_fault.HandleFault.TheVariants.{NoSession};
+ghost use Rattle.bl_handle.specs.Told.{TellsRequest, progress_status, record_ticket};
+ghost use Rattle.bl_handle.specs.Turned.{IsStarted, IsTold};
+
+use bl_abi::{
+    ByteRange, EntryRecord, Given, GivenFault, HandoffRecord, MachineRecord, ModuleRecord,
+    PlaceRecord, RefusalRecord, RegionRecord, given_status, outcome_told, session_given,
+};
+use bl_handle::{Handle, HandleFault, RequestRecord, status_of};
+use std::alloc::Global;
+
+/// A session is made, and kept; one that was kept before is freed then.
+#[unsafe(no_mangle)]
+pub extern "C" fn bootcore_session_make_arrays(
+    alloc: Global,
+    session: &mut Handle,
+    machine: &MachineRecord,
+    regions: &[RegionRecord],
+    entries: &[EntryRecord],
+    default: u32,
+    fallbacks: &[u32],
+    modules: &[ModuleRecord],
+    text: &[u8],
+    files: &[ByteRange],
+) -> u32
+    ensures { (made : Result SessionFacts GivenFault)
+        × IsSessionMade machine.now regions.now
+        (record {
+          modules = modules.now;
+          text = text.now;
+          files = files.now;
+          contents = [];
+        })
+        entries.now default fallbacks.now made
+        × TellsSession made result session.old.kept session.new.kept }
+{
+    let given = Given {
+        modules,
+        text,
+        files,
+        contents: &[],
+    };
+    match session_given(alloc, machine, regions, &given, entries, default, fallbacks) {
+        Ok(made) => match session.make(alloc, made) {
+            Ok(()) => 0,
+            Err(_) => given_status(GivenFault::NoMemory),
+        },
+        Err(fault) => given_status(fault),
+    }
+}
+
+/// The session that is kept starts, over memory that begins at a base.
+#[unsafe(no_mangle)]
+pub extern "C" fn bootcore_session_start_array(
+    alloc: Global,
+    session: &mut Handle,
+    memory: &mut [u8],
+    base: u32,
+) -> u32
+    ensures { (told : Result Progress HandleFault)
+        × IsStarted session.old.kept session.new.kept base memory.old memory.new told
+        × (result ≡ progress_status told) }
+{
+    session.start_told(alloc, base, memory)
+}
+
+/// A piece came.
+#[unsafe(no_mangle)]
+pub extern "C" fn bootcore_session_piece_arrays(
+    alloc: Global,
+    session: &mut Handle,
+    memory: &mut [u8],
+    base: u32,
+    request: &RequestRecord,
+    bytes: &[u8],
+) -> u32
+    ensures { (told : Result Progress HandleFault)
+        × IsTold session.old.kept session.new.kept base memory.old memory.new
+        (piece (record_ticket request.now) bytes.now) told
+        × (result ≡ progress_status told) }
+{
+    session.piece_told(alloc, base, memory, request, bytes)
+}
+
+/// A fault came in place of a piece.
+#[unsafe(no_mangle)]
+pub extern "C" fn bootcore_session_fault_array(
+    alloc: Global,
+    session: &mut Handle,
+    memory: &mut [u8],
+    base: u32,
+    request: &RequestRecord,
+) -> u32
+    ensures { (told : Result Progress HandleFault)
+        × IsTold session.old.kept session.new.kept base memory.old memory.new
+        (fault (record_ticket request.now)) told
+        × (result ≡ progress_status told) }
+{
+    session.fault_told(alloc, base, memory, request)
+}
+
+/// The first piece that is awaited, and whether there is one.
+#[unsafe(no_mangle)]
+pub extern "C" fn bootcore_session_missing_record(
+    alloc: Global,
+    session: &mut Handle,
+    request: &mut RequestRecord,
+) -> bool
+    ensures kept { session.new.kept ≡ session.old.kept }
+    ensures told { (bytes : List ℕ) → MatchOption session.old.kept
+        (TellsRequest None result request.old request.new)
+        (λ session. TellsRequest
+        (first_request session.boot (state_at bytes session.phase))
+        result request.old request.new) }
+{
+    session.missing_told(alloc, request)
+}
+
+/// The first piece that is awaited after that of a record, which it then is, and whether there is
+/// one.
+#[unsafe(no_mangle)]
+pub extern "C" fn bootcore_session_missing_after_record(
+    alloc: Global,
+    session: &mut Handle,
+    request: &mut RequestRecord,
+) -> bool
+    ensures kept { session.new.kept ≡ session.old.kept }
+    ensures told { (bytes : List ℕ) → MatchOption session.old.kept
+        (TellsRequest None result request.old request.new)
+        (λ session. TellsRequest
+        (request_after session.boot (state_at bytes session.phase) (record_ticket request.old))
+        result request.old request.new) }
+{
+    session.missing_after_told(alloc, request)
+}
+
+/// The outcome of the session that is kept.
+#[unsafe(no_mangle)]
+pub extern "C" fn bootcore_session_outcome_arrays(
+    alloc: Global,
+    session: &mut Handle,
+    told: &mut HandoffRecord,
+    places: &mut [PlaceRecord],
+    refusals: &mut [RefusalRecord],
+    count: &mut u64,
+) -> u32
+    ensures kept { session.new.kept ≡ session.old.kept }
+    ensures told { let before : Telling = record {
+      handoff = told.old;
+      places = places.old;
+      refusals = refusals.old;
+      count = count.old;
+    } in let after : Telling = record {
+      handoff = told.new;
+      places = places.new;
+      refusals = refusals.new;
+      count = count.new;
+    } in MatchOption session.old.kept
+        ((result ≡ progress_status (Err NoSession)) × (after ≡ before))
+        (λ session. TellsOutcome session.phase result before after) }
+{
+    match session.take(alloc) {
+        Some(kept) => {
+            let status = outcome_told(&*kept, told, places, refusals, count);
+            session.keep(kept);
+            status
+        }
+        None => status_of(Err(HandleFault::NoSession)),
+    }
+}
+
+/// The session that is kept is freed.
+#[unsafe(no_mangle)]
+pub extern "C" fn bootcore_session_free_kept(alloc: Global, session: &mut Handle)
+    ensures { session.new.kept ≡ None }
+{
+    session.free(alloc)
+}

@@ -1,0 +1,206 @@
+"""The keys of a description that are bad, each told by its path. FORMATS.md "What the program
+says": the tables of PATH, HELD and ALLOWED."""
+
+import re
+from typing import Any, Callable, Iterator, List, NamedTuple, Optional
+
+from .description import (MAX_ENTRIES, MAX_MODULES, NUMBER_LIMIT, BadDescription, bytes_of,
+                          protocol_named)
+from .entry import is_copy
+from .handover import MULTIBOOT2
+from .machine import KINDS
+
+MAX_TOLD = 64  # bytes of a text that is told itself
+
+
+class Allowed(NamedTuple):
+    """What a value must be, and whether one is; of an array, but for its items."""
+    told: str
+    holds: Callable[[Any], bool]
+
+
+class Key(NamedTuple):
+    name: str
+    is_required: bool
+    allowed: Allowed
+    items: Optional[Allowed] = None  # what each item of an array must be that is no table
+
+
+# ---- what a value must be
+
+
+def is_number(value) -> bool:
+    return type(value) is int and 0 <= value < NUMBER_LIMIT
+
+
+def is_text(value) -> bool:
+    return isinstance(value, str)
+
+
+def is_array(value) -> bool:
+    return isinstance(value, list)
+
+
+def is_hex(value) -> bool:
+    try:
+        bytes_of(value)
+        return True
+    except BadDescription:
+        return False
+
+
+NUMBER = Allowed("a number of 0 or more", is_number)
+TWO_NUMBERS = Allowed("an array of two numbers", lambda v: is_array(v) and len(v) == 2)
+BYTE = Allowed("a number from 0 to 255", lambda v: is_number(v) and v <= 255)
+NUMBERS = Allowed("an array of numbers", is_array)
+TABLES = Allowed("an array of tables", is_array)
+ENTRIES = Allowed("an array of 1 to 32 tables",
+                  lambda v: is_array(v) and 1 <= len(v) <= MAX_ENTRIES)
+MODULES = Allowed("an array of at most 64 tables",
+                  lambda v: is_array(v) and len(v) <= MAX_MODULES)
+TABLE = Allowed("a table", lambda v: isinstance(v, dict))
+TEXT = Allowed("a text", is_text)
+TITLE = Allowed("a text of 1 to 64 printable characters of ASCII",
+                lambda v: is_text(v) and re.fullmatch("[ -~]{1,64}", v) is not None)
+KIND = Allowed('"usable", "reserved", "acpi", "nvs" or "bad"', lambda v: is_text(v) and v in KINDS)
+PROTOCOL = Allowed('"multiboot2", "linux" or "linux64"', lambda v: protocol_of(v) is not None)
+HEX = Allowed("a text of hexadecimal digits, an even number", is_hex)
+COPY = Allowed("a text of hexadecimal digits, for 1 to 256 bytes",
+               lambda v: is_hex(v) and is_copy(bytes_of(v)))
+ANOTHER_NAME = "another name than that of each other file"
+
+
+def index_below(count: int) -> Allowed:
+    return Allowed(f"the index of an entry, below {count}", lambda v: is_number(v) and v < count)
+
+
+# ---- the keys of each table
+
+
+def root_keys(count: int) -> List[Key]:
+    """Of a description that has so many entries."""
+    return [Key("size", True, NUMBER), Key("pool", True, TWO_NUMBERS, NUMBER),
+            Key("fill", False, BYTE), Key("default", False, index_below(count)),
+            Key("fallback", False, NUMBERS, index_below(count)), Key("region", False, TABLES),
+            Key("file", False, TABLES), Key("entry", True, ENTRIES)]
+
+
+REGION_KEYS = [Key("base", True, NUMBER), Key("length", True, NUMBER), Key("kind", True, KIND)]
+FILE_KEYS = [Key("name", True, TEXT), Key("hex", True, HEX)]
+ENTRY_KEYS = [Key("title", True, TITLE), Key("protocol", True, PROTOCOL),
+              Key("kernel", True, TEXT), Key("line", False, TEXT)]
+MULTIBOOT2_KEYS = ENTRY_KEYS + [Key("module", False, MODULES), Key("rsdp_old", False, COPY),
+                                Key("rsdp_new", False, COPY)]
+LINUX_KEYS = ENTRY_KEYS + [Key("initrd", False, TEXT)]
+MODULE_KEYS = [Key("file", True, TEXT), Key("line", False, TEXT)]
+
+
+def protocol_of(value) -> Optional[int]:
+    try:
+        return protocol_named(value)
+    except BadDescription:
+        return None
+
+
+# ---- as they are told
+
+
+def shown(name: str) -> str:
+    """A file's name, or a key, within a line."""
+    return re.sub(r"[\x00-\x1f\x7f\\]", lambda c: "\\x%02x" % ord(c[0]), name)
+
+
+def held(value) -> str:
+    if isinstance(value, str):
+        size = len(value.encode("utf-8"))
+        return f'"{shown(value)}"' if size <= MAX_TOLD else f"a text of {size} bytes"
+    if isinstance(value, bool):
+        return "true" if value else "false"
+    if isinstance(value, int):
+        return str(value)
+    if isinstance(value, float):
+        return "a float"
+    if isinstance(value, list):
+        return f"an array of {len(value)}"
+    return "a table" if isinstance(value, dict) else "a date or a time"
+
+
+def is_held(path: str, value, told: str) -> str:
+    return f"{path} is {held(value)}; it must be {told}"
+
+
+def missing(path: str, allowed: Allowed) -> str:
+    return f"{path} is missing; it must be {allowed.told}"
+
+
+# ---- the faults that stand
+
+
+def faults(tree: dict) -> List[str]:
+    """Each of a whole description; which of them is told is no rule."""
+    count = len(tree["entry"]) if is_array(tree.get("entry")) else 0
+    found = [*in_table("", tree, root_keys(count)),
+             *in_items("region", tree, lambda path, table: in_table(path, table, REGION_KEYS)),
+             *in_items("file", tree, lambda path, table: in_table(path, table, FILE_KEYS)),
+             *twice_named(tree), *in_items("entry", tree, in_entry)]
+    return list(dict.fromkeys(found))
+
+
+def in_table(path: str, table: dict, keys: List[Key]) -> Iterator[str]:
+    before = path + "." if path else ""
+    known = [key.name for key in keys]
+    for name in table:
+        if name not in known:
+            yield f"{before}{shown(name)} is no key; the keys are {', '.join(known)}"
+    for key in keys:
+        if key.name not in table:
+            if key.is_required:
+                yield missing(before + key.name, key.allowed)
+            continue
+        yield from in_value(before + key.name, table[key.name], key)
+
+
+def in_value(path: str, value, key: Key) -> Iterator[str]:
+    if not key.allowed.holds(value):
+        yield is_held(path, value, key.allowed.told)
+    if key.items is not None and is_array(value):
+        for i, item in enumerate(value):
+            if not key.items.holds(item):
+                yield is_held(f"{path}[{i}]", item, key.items.told)
+
+
+def in_items(name: str, table: dict, in_one: Callable[[str, dict], Iterator[str]],
+             before: str = "") -> Iterator[str]:
+    """Of the tables of an array."""
+    value = table.get(name)
+    for i, item in enumerate(value if is_array(value) else []):
+        path = f"{before}{name}[{i}]"
+        if TABLE.holds(item):
+            yield from in_one(path, item)
+        else:
+            yield is_held(path, item, TABLE.told)
+
+
+def twice_named(tree: dict) -> Iterator[str]:
+    files = tree.get("file")
+    names = [table.get("name") if isinstance(table, dict) else None
+             for table in (files if is_array(files) else [])]
+    for i, name in enumerate(names):
+        if is_text(name) and names.count(name) > 1:
+            yield is_held(f"file[{i}].name", name, ANOTHER_NAME)
+
+
+def in_entry(path: str, table: dict) -> Iterator[str]:
+    """If the protocol is bad, its other keys can't be judged."""
+    if "protocol" not in table:
+        yield missing(path + ".protocol", PROTOCOL)
+        return
+    protocol = protocol_of(table["protocol"])
+    if protocol is None:
+        yield is_held(path + ".protocol", table["protocol"], PROTOCOL.told)
+    elif protocol == MULTIBOOT2:
+        yield from in_table(path, table, MULTIBOOT2_KEYS)
+        yield from in_items("module", table,
+                            lambda at, module: in_table(at, module, MODULE_KEYS), path + ".")
+    else:
+        yield from in_table(path, table, LINUX_KEYS)
