@@ -124,6 +124,8 @@ int main(int argc, char **argv) {
     bootcore_session_free(&session);
     if (status != BOOTCORE_DONE) {
         printf("status %" PRIu32 "\n", status);
+        free(memory);
+        free(other);
         return 1;
     }
     print_outcome(&handoff, places, refusals, refused);

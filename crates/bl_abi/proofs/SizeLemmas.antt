@@ -1,8 +1,7 @@
 -- The sizes of a session's files, and of a boot's.
 use Rattle.std.proofs.Common.{◌≡◌, ◌+◌, ℕ, Bool, true, false, ◌&&◌, ◌||◌, List, [], ◌∷◌, length, map}
-use Rattle.std.proofs.Common.{Option, None, Some, if◌then◌else◌, slice_range, refl, ap, sym, subst}
+use Rattle.std.proofs.Common.{None, Some, if◌then◌else◌, slice_range, refl, ap, sym, subst}
 use Rattle.std.proofs.Common.{◌∙◌, arith, leb-true}
-use Rattle.std.specs.List.{list_all}
 use Rattle.std.proofs.lemmas.List.{length-take, length-drop}
 use Rattle.bl_session.specs.Outcome.{missing, whole, size_of}
 use Rattle.bl_abi.specs.declared.records.ByteRange.{ByteRange}

@@ -1,5 +1,5 @@
 -- What comes of a session that C gives, and what C is told of it. Own.
-use Rattle.std.specs.Prelude.{◌≡◌, ℕ, Bool, MatchBool, nat_lt, List, length, map, Option, None, Some}
+use Rattle.std.specs.Prelude.{◌≡◌, ℕ, MatchBool, nat_lt, List, length, map, Option, None, Some}
 use Rattle.std.specs.Prelude.{Result, Ok, Err, if◌then◌else◌}
 use Rattle.bl_map.specs.MachineFacts.{MachineFacts}
 use Rattle.bl_load.specs.HandoffFacts.{most_parts}
