@@ -11,6 +11,9 @@
  * Ownership. All memory is the caller's, before, while and after a call. What a call takes for
  * itself it gives back before it returns. No pointer is kept, and none is handed out.
  *
+ * Stack. The library keeps values in the 128 bytes below the stack's pointer (the red zone of the System V
+ * convention): where interrupts use the same stack, as in a firmware, call with interrupts off.
+ *
  * Threads. None is started, and two calls at once know nothing of each other, if they share nothing
  * that either may change. Call from no signal handler.
  *
