@@ -12,6 +12,9 @@
  * itself it gives back before it returns. No pointer is kept, and none is handed out, but for the
  * memory of a session, which the library takes and the caller has freed.
  *
+ * Stack. The library keeps values in the 128 bytes below the stack's pointer (the red zone of the System V
+ * convention): where interrupts use the same stack, as in a firmware, call with interrupts off.
+ *
  * Threads. None is started, and two calls at once know nothing of each other, if they share nothing
  * that either may change. Call from no signal handler.
  *

@@ -14,8 +14,10 @@ static const bootcore_given *given(void) {
 }
 
 /* Into the machine's own memory. Each byte that is lent lies below all that is the application's:
-   its code and data, the files, the arena, the stack. */
+   its code and data, the files, the arena, the stack. Interrupts are off from here on: the core is
+   compiled with a red zone, 128 bytes below the stack's end that an interrupt would write over. */
 uint32_t load_entry(void) {
+    __asm__ volatile("cli");
     return bootcore_load((uint8_t *)base_address, boot.map.core.size - base_address, base_address,
                          given(), &menu.entries[boot.entry], &boot.handoff, boot.places,
                          BOOTCORE_MAX_PARTS, &boot.refusals[boot.refusal_count]);
@@ -33,8 +35,10 @@ static uint32_t prepare_entry(uint32_t index, bootcore_refusal *refusal) {
             *refusal = (bootcore_refusal){index, files.faults[file], i, 0};
             return BOOTCORE_REFUSED;
         }
+    __asm__ volatile("cli"); /* as in load_entry */
     uint32_t status = bootcore_prepare(given(), entry, &boot.handoff, boot.places,
                                        BOOTCORE_MAX_PARTS, refusal);
+    __asm__ volatile("sti");
     refusal->entry = index;
     return status;
 }
@@ -68,7 +72,6 @@ int leave_firmware(EFI_HANDLE image) {
 /* From here on nothing is asked of the firmware, and nobody can be told. By the core's promises the
    load can't end otherwise than the preparation said; if it does, the machine starts anew. */
 void boot_alone(void) {
-    __asm__ volatile("cli");
     if (load_entry() == BOOTCORE_DONE) enter_kernel(&boot.handoff.registers);
     ST->RuntimeServices->ResetSystem(EfiResetCold, EFI_SUCCESS, 0, NULL);
     for (;;) __asm__ volatile("hlt");

@@ -30,10 +30,8 @@ static int begin(EFI_HANDLE image) {
     char *text = read_text("bootcore/menu.txt");
     if (text == NULL) return say("There is no bootcore/menu.txt.");
     const char *wrong = read_menu(text, &line);
-    if (wrong != NULL) {
-        print("\n    bootcore/menu.txt, line %u: %s\n", (uint64_t)line, wrong);
-        return 0;
-    }
+    if (wrong != NULL)
+        return print("\n    bootcore/menu.txt, line %u: %s\n", (uint64_t)line, wrong), 0;
     stack = take_own(stack_pages, EfiLoaderData);
     entry_page = take_own(1, EfiLoaderCode);
     if (stack == NULL || entry_page == NULL || !take_arena(menu.arena))

@@ -82,7 +82,9 @@ const char *write_handover(void) {
     uint32_t taken = 0;
     while (taken < boot.map.free_count && take_free(taken, 1)) taken++;
     int good = taken == boot.map.free_count && write_description() &&
-               load_entry() == BOOTCORE_DONE && write_image();
+               load_entry() == BOOTCORE_DONE;
+    __asm__ volatile("sti"); /* which load_entry ended */
+    good = good && write_image();
     while (taken > 0) take_free(--taken, 0);
     return good ? "The handover was written to bootcore/." : "The handover can't be written.";
 }

@@ -75,7 +75,8 @@ sound_machine machine regions misuse sound (inr (inr part)) =
     let e : given_fault.Misused misuse ≡ given_fault.NoMemory = part.is ∙ ap machine_fault none in
     absurd cc
 
-sound_entry : (given : GivenFacts) (entry : EntryRecord) (misuse : Misuse) → IsEntrySound given entry
+sound_entry : (given : GivenFacts) (entry : EntryRecord) (misuse : Misuse)
+    → IsEntrySound given entry
     → IsEntryMisuse given entry misuse → ⊥
 sound_entry given entry misuse sound (inl is) =
     let e : Some misuse ≡ None = sym is ∙ sound.names in absurd cc
@@ -138,11 +139,13 @@ module _ (machine : MachineRecord) (regions : List RegionRecord) (given : GivenF
       → machine.size ≤ end → most_parts ≤ room
       → IsPrepared machine regions given entry prepared
       → IsNotLoaded machine regions given entry room end fault → fault ≡ NoMemory
-  else_no_memory room end prepared fault large many p (few_places few) = absurd (omega (arith, few, many))
-  else_no_memory room end prepared fault large many p (bad_machine (given_fault.Misused misuse) has) =
-      absurd (sound_machine machine regions misuse p.machine_sound has)
+  else_no_memory room end prepared fault large many p (few_places few) =
+      absurd (omega (arith, few, many))
+  else_no_memory room end prepared fault large many p (bad_machine (given_fault.Misused m) has) =
+      absurd (sound_machine machine regions m p.machine_sound has)
   else_no_memory room end prepared fault large many p (bad_machine given_fault.NoMemory has) = refl
-  else_no_memory room end prepared fault large many p (bad_memory low) = absurd (omega (arith, low, large))
+  else_no_memory room end prepared fault large many p (bad_memory low) =
+      absurd (omega (arith, low, large))
   else_no_memory room end prepared fault large many p (bad_entry (Misused misuse) has) =
       absurd (sound_entry given entry misuse p.entry_sound has.is)
   else_no_memory room end prepared fault large many p (bad_entry (Refused r) has) =

@@ -17,7 +17,8 @@ use Rattle.bl_abi.specs.Given.{GivenFacts, entry_given}
 use Rattle.bl_abi.specs.Prepare.{IsEntrySound}
 
 pub plan_says : {A : Type 0} (texts : List (List ℕ)) (size : ℕ) (plan : Plan A)
-    → IsLoadable (lengths_of texts) size plan → handoff_by plan ≡ handoff_of (handover_by texts plan)
+    → IsLoadable (lengths_of texts) size plan
+    → handoff_by plan ≡ handoff_of (handover_by texts plan)
 plan_says texts size plan loadable =
     let parts = plan.parts.items in
     let same : map planned_place parts ≡ map part_place (map (part_by texts) parts) =

@@ -3,7 +3,8 @@ use Rattle.bl_abi.proofs.PrepareLaws.{one_handoff, else_no_memory, one_refusal, 
 use Rattle.bl_abi.proofs.laws.loads_end_as_prepared.Goals as goal
 
 pub returns-clause-one_handoff : goal.returns-clause-one_handoff
-returns-clause-one_handoff c = λ machine regions given entry room space old new prepared loaded large p l.
+returns-clause-one_handoff c =
+    λ machine regions given entry room space old new prepared loaded large p l.
     one_handoff machine regions given entry old new prepared loaded large p l
 
 pub returns-clause-else_no_memory : goal.returns-clause-else_no_memory
