@@ -10,4 +10,6 @@ pub mod SaidLemmas
 pub mod ShownLaws
 pub mod ConvertLaws
 pub mod ExplainLemmas
+pub mod FrameLemmas
+pub mod HeldLemmas
 pub mod ExplainEnds

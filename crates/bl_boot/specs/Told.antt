@@ -2,13 +2,19 @@
 use Rattle.std.specs.Prelude.{ℕ, ◌==◌, ◌||◌, Bool, if◌then◌else◌, List, [], ◌++◌, length, codes}
 use Rattle.std.specs.Prelude.{decimal, Option, Some, None, map, slice_get}
 use Rattle.std.specs.List.{flat_map, list_any, range_with_len}
+use Rattle.bl_map.specs.MachineFacts.{MachineFacts}
+use Rattle.bl_plan.specs.Placed.{place_range}
+use Rattle.bl_load.specs.HandoffFacts.{HandoffFacts}
+use Rattle.bl_load.specs.Handover.{Handover}
 use Rattle.bl_session.specs.declared.words.RefusedEntry.{RefusedEntry}
+use Rattle.bl_session.specs.AttemptResult.{part_range}
 use Rattle.bl_session.specs.Boot.{State, unstarted, running, handed_over, none_left, out_of_memory}
-use Rattle.bl_session.specs.Outcome.{File, size_of}
+use Rattle.bl_session.specs.Outcome.{File}
 use Rattle.bl_desc.specs.Described.{Described}
 use Rattle.bl_desc.specs.Entries.{Entry}
 use Rattle.bl_boot.specs.Attempted.{entry_of, file_names, names_in}
-use Rattle.bl_boot.specs.HandedLines.{handover_lines}
+use Rattle.bl_boot.specs.Frames.{names_at, room_line}
+use Rattle.bl_boot.specs.HandedLines.{handoff_lines, handover_lines}
 use Rattle.bl_boot.specs.RefusalWords.{refusal_line}
 use Rattle.bl_boot.specs.Says.{booted_line, no_entry_line}
 use Rattle.bl_boot.specs.Sought.{SoughtFacts, sought_lines}
@@ -61,7 +67,21 @@ hint_lines description =
 -- what is told of a description's files, where these were found for the names that are looked for
 abbrev pub sought_in : Described → List File → SoughtFacts
 sought_in description files =
-    record { names = names_in description; sizes = map size_of files }
+    record { names = names_in description; files = files }
+
+-- what an entry hands over, and the frames that its files take
+abbrev pub handover_told : Described → MachineFacts → SoughtFacts → ℕ → Handover → List ℕ
+handover_told description facts sought entry handover =
+    handover_lines handover
+    ++ room_line sought (names_at description.entries entry) facts.pool
+    (map part_range handover.parts)
+
+-- by the places that parts of a handoff have
+abbrev pub handoff_told : Described → MachineFacts → SoughtFacts → ℕ → HandoffFacts → List ℕ
+handoff_told description facts sought entry handoff =
+    handoff_lines handoff
+    ++ room_line sought (names_at description.entries entry) facts.pool
+    (map place_range handoff.places)
 
 -- each entry that was attempted was refused
 abbrev pub none_left_lines : Described → SoughtFacts → List RefusedEntry → List ℕ
@@ -77,11 +97,13 @@ booted_lines description sought entry earlier handed =
     ++ attempt_lines description.entries sought entry
     ++ booted_line entry (entry_of description entry).title ++ handed ++ hint_lines description
 
--- what a boot came to
-abbrev pub told_lines : Described → SoughtFacts → State → List ℕ
-told_lines description sought unstarted = []
-told_lines description sought (running entry rest earlier pieces) = []
-told_lines description sought (handed_over entry earlier handover) =
-    booted_lines description sought entry earlier (handover_lines handover)
-told_lines description sought (none_left refused) = none_left_lines description sought refused
-told_lines description sought out_of_memory = []
+-- what a boot on a machine of these facts came to
+abbrev pub told_lines : Described → MachineFacts → SoughtFacts → State → List ℕ
+told_lines description facts sought unstarted = []
+told_lines description facts sought (running entry rest earlier pieces) = []
+told_lines description facts sought (handed_over entry earlier handover) =
+    booted_lines description sought entry earlier
+    (handover_told description facts sought entry handover)
+told_lines description facts sought (none_left refused) =
+    none_left_lines description sought refused
+told_lines description facts sought out_of_memory = []

@@ -2,6 +2,7 @@
 
 mod attempts;
 mod blame;
+mod frames;
 mod handed;
 mod hints;
 mod map;
@@ -14,6 +15,7 @@ mod walk;
 
 pub use attempts::{say_attempt, say_refused_attempts};
 pub use blame::say_blame;
+pub use frames::{frames_at, say_room};
 pub use handed::say_handoff;
 pub use hints::say_hints;
 pub use map::say_map;

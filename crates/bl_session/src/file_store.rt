@@ -65,6 +65,13 @@ impl<A: Allocator + Copy> FileStore<A> {
         let _ = &self.files;
     }
 
+    /// The files, by their index in the menu.
+    pub fn fetched(&self) -> &[Fetched<A>]
+        ensures { stored_files result.now ≡ self.now.files }
+    {
+        &self.files
+    }
+
     /// The answer to the submission that is next.
     fn answer_next(&self) -> Result<Option<Completion<A>>, AllocError>
         ensures { IfOk result (λ answer. option_map event_of answer ≡ next_event self.now) }

@@ -4,7 +4,7 @@ use Rattle.bl_session.specs.Boot.{handed_over}
 use Rattle.bl_session.specs.Phases.{boot_facts, handover_held}
 use Rattle.bl_boot.specs.ExplainKept.{FoundExplains}
 use Rattle.bl_desc.specs.Views.{view}
-use Rattle.bl_boot.proofs.ExplainLemmas.{told_booted}
+use Rattle.bl_boot.proofs.HeldLemmas.{told_booted}
 use Rattle.bl_boot.proofs.explanation.found.explain_found.Goals as goal
 
 pub returns-in-Ok : goal.returns-in-Ok
@@ -17,8 +17,8 @@ returns-in-Ok g c =
       outcome.refused.items,
       handover_held bytes outcome.handoff,
       search rules,
-      told_booted (view c.args.boot.now.description.now) c.args.sought.now outcome.entry
-          outcome.refused.items bytes outcome.handoff c.args.say.now.items
+      told_booted (view c.args.boot.now.description.now) c.args.boot.now.machine.now
+          c.new-sought.result outcome.entry outcome.refused.items bytes outcome.handoff c.args.say.now.items
           c.tell_booted.new.say.items c.args.boot.now.machine.now.size whole c.in-Ok.ensures.inside
           (search rules),
     )

@@ -1,0 +1,113 @@
+//! The frames of the pool that an entry's files take, in a line.
+ghost use Rattle.std.specs.Prelude.{◌≡◌, ◌+◌, ◌*◌, ◌≤◌, ◌^◌, ◌++◌, OnOk, length, map};
+ghost use Rattle.bl_map.specs.Room as room;
+ghost use Rattle.bl_plan.specs.Placed.{place_range};
+ghost use Rattle.bl_boot.specs.Attempted.{file_names, names_beside};
+ghost use Rattle.bl_boot.specs.Frames.{frames_line, frames_wanted, length_sought, names_at};
+ghost use Rattle.bl_desc.specs.Views.{entry_view, form_view, module_view};
+
+use crate::explanation::Sought;
+use bl_desc::{EntryForm, EntryRow, ModuleRow};
+use bl_load::Handoff;
+use bl_map::{Machine, frames_in, frames_of, open_frames};
+use std::alloc::{AllocError, Allocator};
+
+/// How many frames the file of this name takes.
+fn frames_of_name<A: Allocator>(sought: &Sought<'_, A>, name: &str) -> u64
+    ensures frames { result ≡ room.frames_of (length_sought sought.now name.now) }
+    ensures most { result ≤ 2 ^ 52 }
+{
+    match sought.size(name) {
+        Some(size) => frames_of(size),
+        None => 0,
+    }
+}
+
+/// How many frames the files of modules take.
+fn frames_of_modules<A: Allocator, B: Allocator>(
+    sought: &Sought<'_, A>,
+    modules: &[ModuleRow<B>],
+) -> u64
+    requires { length modules.now ≤ 64 }
+    ensures frames { result ≡ frames_wanted sought.now
+        (map (λ m. m.file) (map module_view modules.now)) }
+    ensures most { result ≤ 2 ^ 52 * length modules.now }
+{
+    match modules {
+        [] => 0,
+        [first, rest @ ..] => {
+            frames_of_name(sought, first.file.as_str()) + frames_of_modules(sought, rest)
+        }
+    }
+}
+
+/// How many frames the files beside the kernel take.
+fn frames_beside<A: Allocator, B: Allocator>(sought: &Sought<'_, A>, form: &EntryForm<B>) -> u64
+    ensures frames { result ≡ frames_wanted sought.now (names_beside (form_view form.now)) }
+    ensures most { result ≤ 2 ^ 58 }
+{
+    match form {
+        EntryForm::Multiboot2 { modules, .. } => frames_of_modules(sought, &modules.rows),
+        EntryForm::Linux {
+            initrd: Some(file),
+            ..
+        } => frames_of_name(sought, file.as_str()),
+        EntryForm::Linux { initrd: None, .. } => 0,
+    }
+}
+
+/// How many frames an entry's files take.
+fn frames_of_entry<A: Allocator, B: Allocator>(
+    sought: &Sought<'_, A>,
+    entry: &EntryRow<B>,
+) -> u64
+    ensures { result ≡ frames_wanted sought.now (file_names (entry_view entry.now)) }
+{
+    frames_of_name(sought, entry.kernel.as_str()) + frames_beside(sought, &entry.form)
+}
+
+/// How many frames the files of an entry of the menu take, by its index.
+pub fn frames_at<A: Allocator, B: Allocator>(
+    entries: &[EntryRow<B>],
+    sought: &Sought<'_, A>,
+    index: u32,
+) -> u64
+    ensures { result
+        ≡ frames_wanted sought.now (names_at (map entry_view entries.now) index) }
+{
+    match entries.get(index as usize) {
+        Some(entry) => frames_of_entry(sought, entry),
+        None => 0,
+    }
+}
+
+fn say_frames<A: Allocator + Copy>(
+    out: &mut Vec<u8, A>,
+    wanted: u64,
+    open: u64,
+    all: u64,
+) -> Result<(), AllocError>
+    ensures { OnOk result (out.new.items ≡ out.old.items ++ frames_line wanted open all) }
+{
+    let alloc = *out.allocator();
+    let line = format!(in alloc; "frames {wanted} wanted, {open} open, {all} in all\n")?;
+    out.extend_from_slice(line.as_bytes())
+}
+
+/// Appends the line of the frames of an entry that is handed over: so many are wanted, and those
+/// of the machine's pool are counted.
+pub fn say_room<A: Allocator + Copy, B: Allocator, C: Allocator>(
+    out: &mut Vec<u8, A>,
+    wanted: u64,
+    machine: &Machine<B>,
+    handoff: &Handoff<C>,
+) -> Result<(), AllocError>
+    ensures { OnOk result (out.new.items ≡ out.old.items ++ frames_line wanted
+        (room.open_frames machine.now.pool (map place_range handoff.now.places))
+        (room.frames_in machine.now.pool)) }
+{
+    let pool = machine.pool();
+    handoff.len();
+    let open = open_frames(&pool, handoff.ranges());
+    say_frames(out, wanted, open, frames_in(&pool))
+}
