@@ -11,6 +11,7 @@ pub mod WalkKept
 pub mod Converted
 pub mod Sought
 pub mod Frames
+pub mod Hints
 pub mod RefusalWords
 pub mod HandedLines
 pub mod Told

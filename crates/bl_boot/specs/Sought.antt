@@ -16,6 +16,10 @@ pub record SoughtFacts : Type 0 where
 abbrev pub file_sought : SoughtFacts → List ℕ → File
 file_sought sought name = slice_index_or sought.files (index_of sought.names name) missing
 
+-- its bytes; what is missing or too long has none
+abbrev pub bytes_sought : SoughtFacts → List ℕ → List ℕ
+bytes_sought sought name = file_bytes (file_sought sought name)
+
 -- its length in bytes, None if there is no such file
 abbrev pub size_sought : SoughtFacts → List ℕ → Option ℕ
 size_sought sought name = size_of (file_sought sought name)

@@ -6,7 +6,8 @@ ghost use Rattle.bl_boot.specs.ExplainKept.{FoundExplains};
 ghost use Rattle.std.specs.List.{flat_map};
 ghost use Rattle.bl_boot.specs.Attempted.{entry_of};
 ghost use Rattle.bl_boot.specs.Says.{booted_line};
-ghost use Rattle.bl_boot.specs.Told.{attempt_lines, refused_attempt_lines, hint_lines};
+ghost use Rattle.bl_boot.specs.Hints.{hint_lines};
+ghost use Rattle.bl_boot.specs.Told.{attempt_lines, refused_attempt_lines};
 ghost use Rattle.bl_boot.specs.Told.{booted_lines, handoff_told, none_left_lines};
 ghost use Rattle.bl_desc.specs.Views.{entry_view, view};
 
@@ -39,7 +40,7 @@ fn tell_none_left<A: Allocator + Copy, B: Allocator>(
     let mut lines = Vec::new(alloc);
     say_refused_attempts(&mut lines, &description.entries, sought, refused)?;
     say_no_entry_left(&mut lines)?;
-    say_hints(&mut lines, description)?;
+    say_hints(&mut lines, description, sought, refused)?;
     say.extend_from_slice(&lines)
 }
 
@@ -105,12 +106,12 @@ fn say_outcome<A: Allocator + Copy>(
         (entry_of (view boot.now.description.now) outcome.now.entry).title
         ++ handoff_told (view boot.now.description.now) boot.now.machine.now sought.now
         outcome.now.entry outcome.now.handoff
-        ++ hint_lines (view boot.now.description.now)) }
+        ++ hint_lines (view boot.now.description.now) sought.now outcome.now.refused.items) }
 {
     let entry = outcome.entry;
     say_booted(out, entry as u64, title_of(boot.description, entry))?;
     say_handed(out, boot, sought, outcome)?;
-    say_hints(out, boot.description)
+    say_hints(out, boot.description, sought, &outcome.refused)
 }
 
 /// Appends the lines of a boot in which an entry is handed over. An error leaves the text as it

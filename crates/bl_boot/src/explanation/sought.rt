@@ -29,7 +29,7 @@ impl<'a, A: Allocator> Model for Sought<'a, A> {
 impl<'a, A: Allocator> Sought<'a, A> {
     ghost use Rattle.std.specs.Prelude.{◌≡◌, map};
     ghost use Rattle.bl_session.specs.Stores.{stored_files};
-    ghost use Rattle.bl_boot.specs.Sought.{size_sought};
+    ghost use Rattle.bl_boot.specs.Sought.{bytes_sought, size_sought};
 
     /// These names, for which these files were found.
     pub fn new(names: &'a [&'a str], files: &'a [Fetched<A>]) -> Sought<'a, A>
@@ -48,6 +48,16 @@ impl<'a, A: Allocator> Sought<'a, A> {
         match self.files.get(index_of(self.names, name)) {
             Some(file) => file.size(),
             None => None,
+        }
+    }
+
+    /// The bytes of what was found for a name, none if there is no such file or it is too long.
+    pub fn bytes(&self, name: &str) -> &[u8]
+        ensures { result.now ≡ bytes_sought self.now name.now }
+    {
+        match self.files.get(index_of(self.names, name)) {
+            Some(Fetched::Bytes(bytes)) => bytes.as_slice(),
+            _ => &[],
         }
     }
 }
