@@ -16,8 +16,9 @@ use Rattle.bl_session.specs.AttemptResult.{part_range}
 use Rattle.bl_session.specs.Boot.{handed_over}
 use Rattle.bl_session.specs.Phases.{handover_held}
 use Rattle.bl_desc.specs.Described.{Described}
-use Rattle.bl_boot.specs.HandedLines.{handoff_lines, part_line, place_line}
+use Rattle.bl_boot.specs.HandedLines.{SourceWords, handoff_lines, part_line, place_line}
 use Rattle.bl_boot.specs.Sought.{SoughtFacts}
+use Rattle.bl_boot.specs.Sources.{source_at}
 use Rattle.bl_boot.specs.Told.{booted_lines, handoff_told, handover_told, told_lines}
 
 -- ---- part by part
@@ -26,16 +27,17 @@ use Rattle.bl_boot.specs.Told.{booted_lines, handoff_told, handover_told, told_l
 abbrev with_length : Place → ℕ → Place
 with_length p n = record { role = p.role; index = p.index; address = p.address; length = n }
 
-parts_in : (bytes : List ℕ) (ps : List Place) → All (EndsIn bytes) ps
-    → flat_map part_line (map (part_in bytes) ps) ≡ flat_map place_line ps
-parts_in bytes [] h = refl
-parts_in bytes (p ∷ ps) h =
-    flat_map-cons part_line (part_in bytes p) (map (part_in bytes) ps)
-    ∙ ap (λ (n : ℕ). place_line (with_length p n)
-    ++ flat_map part_line (map (part_in bytes) ps))
+parts_in : (source : SourceWords) (bytes : List ℕ) (ps : List Place) → All (EndsIn bytes) ps
+    → flat_map (part_line source) (map (part_in bytes) ps) ≡ flat_map (place_line source) ps
+parts_in source bytes [] h = refl
+parts_in source bytes (p ∷ ps) h =
+    flat_map-cons (part_line source) (part_in bytes p) (map (part_in bytes) ps)
+    ∙ ap (λ (n : ℕ). place_line source (with_length p n)
+    ++ flat_map (part_line source) (map (part_in bytes) ps))
     (length-place_bytes bytes p (h 0 p (omega arith)))
-    ∙ ap (λ (l : List ℕ). place_line p ++ l) (parts_in bytes ps (All-tail (EndsIn bytes) p ps h))
-    ∙ sym (flat_map-cons place_line p ps)
+    ∙ ap (λ (l : List ℕ). place_line source p ++ l)
+    (parts_in source bytes ps (All-tail (EndsIn bytes) p ps h))
+    ∙ sym (flat_map-cons (place_line source) p ps)
 
 ranges_in : (bytes : List ℕ) (ps : List Place) → All (EndsIn bytes) ps
     → map part_range (map (part_in bytes) ps) ≡ map place_range ps
@@ -54,7 +56,10 @@ held_told : (description : Described) (facts : MachineFacts) (sought : SoughtFac
     ≡ handoff_told description facts sought entry handoff
 unfolding handoff_lines
 held_told description facts sought entry bytes handoff h =
-    rw (parts_in bytes handoff.places h, ranges_in bytes handoff.places h) refl
+    rw (
+      parts_in (source_at description.entries sought entry) bytes handoff.places h,
+      ranges_in bytes handoff.places h,
+    ) refl
 
 -- an entry that memory hands over is told
 pub told_booted : (description : Described) (facts : MachineFacts) (sought : SoughtFacts)

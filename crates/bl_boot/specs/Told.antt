@@ -18,6 +18,7 @@ use Rattle.bl_boot.specs.Hints.{hint_lines}
 use Rattle.bl_boot.specs.RefusalWords.{refusal_line}
 use Rattle.bl_boot.specs.Says.{booted_line, no_entry_line}
 use Rattle.bl_boot.specs.Sought.{SoughtFacts, sought_lines}
+use Rattle.bl_boot.specs.Sources.{source_at}
 
 -- ---- attempts
 
@@ -52,14 +53,14 @@ sought_in description files =
 -- what an entry hands over, and the frames that its files take
 abbrev pub handover_told : Described → MachineFacts → SoughtFacts → ℕ → Handover → List ℕ
 handover_told description facts sought entry handover =
-    handover_lines handover
+    handover_lines (source_at description.entries sought entry) handover
     ++ room_line sought (names_at description.entries entry) facts.pool
     (map part_range handover.parts)
 
 -- by the places that parts of a handoff have
 abbrev pub handoff_told : Described → MachineFacts → SoughtFacts → ℕ → HandoffFacts → List ℕ
 handoff_told description facts sought entry handoff =
-    handoff_lines handoff
+    handoff_lines (source_at description.entries sought entry) handoff
     ++ room_line sought (names_at description.entries entry) facts.pool
     (map place_range handoff.places)
 

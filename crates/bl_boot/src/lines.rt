@@ -13,6 +13,7 @@ mod refusal_words;
 mod region_hints;
 mod registers;
 mod sought;
+mod sources;
 mod walk;
 
 pub use attempts::{say_attempt, say_refused_attempts};

@@ -88,8 +88,9 @@ fn say_handed<A: Allocator + Copy>(
         ++ handoff_told (view boot.now.description.now) boot.now.machine.now sought.now
         outcome.now.entry outcome.now.handoff) }
 {
-    say_handoff(out, &outcome.handoff)?;
-    let wanted = frames_at(&boot.description.entries, sought, outcome.entry);
+    let entries = boot.description.entries.as_slice();
+    say_handoff(out, entries, sought, outcome.entry, &outcome.handoff)?;
+    let wanted = frames_at(entries, sought, outcome.entry);
     say_room(out, wanted, boot.machine, &outcome.handoff)
 }
 

@@ -29,6 +29,7 @@ impl<'a, A: Allocator> Model for Sought<'a, A> {
 impl<'a, A: Allocator> Sought<'a, A> {
     ghost use Rattle.std.specs.Prelude.{◌≡◌, map};
     ghost use Rattle.bl_session.specs.Stores.{stored_files};
+    ghost use Rattle.bl_boot.specs.Frames.{length_sought};
     ghost use Rattle.bl_boot.specs.Sought.{bytes_sought, size_sought};
 
     /// These names, for which these files were found.
@@ -48,6 +49,16 @@ impl<'a, A: Allocator> Sought<'a, A> {
         match self.files.get(index_of(self.names, name)) {
             Some(file) => file.size(),
             None => None,
+        }
+    }
+
+    /// The length of what was found for a name, 0 if there is no such file.
+    pub fn length(&self, name: &str) -> u64
+        ensures { result ≡ length_sought self.now name.now }
+    {
+        match self.size(name) {
+            Some(size) => size,
+            None => 0,
         }
     }
 
