@@ -19,7 +19,7 @@ use Rattle.bl_desc.specs.Described.{Described}
 use Rattle.bl_boot.specs.HandedLines.{SourceWords, handoff_lines, part_line, place_line}
 use Rattle.bl_boot.specs.Sought.{SoughtFacts}
 use Rattle.bl_boot.specs.Sources.{source_at}
-use Rattle.bl_boot.specs.Told.{booted_lines, handoff_told, handover_told, told_lines}
+use Rattle.bl_boot.specs.Told.{booted_lines, entry_handoff_lines, entry_handover_lines, told_lines}
 
 -- ---- part by part
 
@@ -52,8 +52,8 @@ ranges_in bytes (p ∷ ps) h =
 
 held_told : (description : Described) (facts : MachineFacts) (sought : SoughtFacts) (entry : ℕ)
     (bytes : List ℕ) (handoff : HandoffFacts) → All (EndsIn bytes) handoff.places
-    → handover_told description facts sought entry (handover_held bytes handoff)
-    ≡ handoff_told description facts sought entry handoff
+    → entry_handover_lines description facts sought entry (handover_held bytes handoff)
+    ≡ entry_handoff_lines description facts sought entry handoff
 unfolding handoff_lines
 held_told description facts sought entry bytes handoff h =
     rw (
@@ -67,7 +67,7 @@ pub told_booted : (description : Described) (facts : MachineFacts) (sought : Sou
     (old new : List ℕ) (size : ℕ) → length bytes ≡ size
     → All (λ place. place.address + place.length ≤ size) handoff.places
     → new ≡ old ++ booted_lines description sought entry earlier
-    (handoff_told description facts sought entry handoff)
+    (entry_handoff_lines description facts sought entry handoff)
     → new ≡ old ++ told_lines description facts sought
     (handed_over entry earlier (handover_held bytes handoff))
 told_booted description facts sought entry earlier bytes handoff old new size whole inside said =

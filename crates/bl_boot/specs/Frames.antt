@@ -24,9 +24,9 @@ abbrev pub frames_wanted : SoughtFacts → List (List ℕ) → ℕ
 frames_wanted sought names = frames_for (map (length_sought sought) names)
 
 -- frames that files take, frames of the pool beside the parts, all of the pool's frames
-abbrev pub frames_line : (wanted open all : ℕ) → List ℕ
-frames_line wanted open all =
-    codes "frames " ++ decimal wanted ++ codes " wanted, " ++ decimal open ++ codes " open, "
+abbrev pub frames_line : (wanted beside all : ℕ) → List ℕ
+frames_line wanted beside all =
+    codes "frames " ++ decimal wanted ++ codes " wanted, " ++ decimal beside ++ codes " open, "
     ++ decimal all ++ codes " in all\n"
 
 -- of files of these names in this pool, where the parts lie in these ranges

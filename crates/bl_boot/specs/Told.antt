@@ -51,15 +51,15 @@ sought_in description files =
     record { names = names_in description; files = files }
 
 -- what an entry hands over, and the frames that its files take
-abbrev pub handover_told : Described → MachineFacts → SoughtFacts → ℕ → Handover → List ℕ
-handover_told description facts sought entry handover =
+abbrev pub entry_handover_lines : Described → MachineFacts → SoughtFacts → ℕ → Handover → List ℕ
+entry_handover_lines description facts sought entry handover =
     handover_lines (source_at description.entries sought entry) handover
     ++ room_line sought (names_at description.entries entry) facts.pool
     (map part_range handover.parts)
 
 -- by the places that parts of a handoff have
-abbrev pub handoff_told : Described → MachineFacts → SoughtFacts → ℕ → HandoffFacts → List ℕ
-handoff_told description facts sought entry handoff =
+abbrev pub entry_handoff_lines : Described → MachineFacts → SoughtFacts → ℕ → HandoffFacts → List ℕ
+entry_handoff_lines description facts sought entry handoff =
     handoff_lines (source_at description.entries sought entry) handoff
     ++ room_line sought (names_at description.entries entry) facts.pool
     (map place_range handoff.places)
@@ -85,7 +85,7 @@ told_lines description facts sought unstarted = []
 told_lines description facts sought (running entry rest earlier pieces) = []
 told_lines description facts sought (handed_over entry earlier handover) =
     booted_lines description sought entry earlier
-    (handover_told description facts sought entry handover)
+    (entry_handover_lines description facts sought entry handover)
 told_lines description facts sought (none_left refused) =
     none_left_lines description sought refused
 told_lines description facts sought out_of_memory = []

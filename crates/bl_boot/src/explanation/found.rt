@@ -8,7 +8,7 @@ ghost use Rattle.bl_boot.specs.Attempted.{entry_of};
 ghost use Rattle.bl_boot.specs.Says.{booted_line};
 ghost use Rattle.bl_boot.specs.Hints.{hint_lines};
 ghost use Rattle.bl_boot.specs.Told.{attempt_lines, refused_attempt_lines};
-ghost use Rattle.bl_boot.specs.Told.{booted_lines, handoff_told, none_left_lines};
+ghost use Rattle.bl_boot.specs.Told.{booted_lines, entry_handoff_lines, none_left_lines};
 ghost use Rattle.bl_desc.specs.Views.{entry_view, view};
 
 use crate::description_boot::{DescribedBoot, End, title_of};
@@ -85,7 +85,7 @@ fn say_handed<A: Allocator + Copy>(
     outcome: &Outcome<A>,
 ) -> Result<(), AllocError>
     ensures { OnOk result (out.new.items ≡ out.old.items
-        ++ handoff_told (view boot.now.description.now) boot.now.machine.now sought.now
+        ++ entry_handoff_lines (view boot.now.description.now) boot.now.machine.now sought.now
         outcome.now.entry outcome.now.handoff) }
 {
     let entries = boot.description.entries.as_slice();
@@ -105,7 +105,7 @@ fn say_outcome<A: Allocator + Copy>(
     ensures { OnOk result (out.new.items ≡ out.old.items
         ++ booted_line outcome.now.entry
         (entry_of (view boot.now.description.now) outcome.now.entry).title
-        ++ handoff_told (view boot.now.description.now) boot.now.machine.now sought.now
+        ++ entry_handoff_lines (view boot.now.description.now) boot.now.machine.now sought.now
         outcome.now.entry outcome.now.handoff
         ++ hint_lines (view boot.now.description.now) sought.now outcome.now.refused.items) }
 {
@@ -127,7 +127,7 @@ fn tell_booted<A: Allocator + Copy, B: Allocator>(
     requires { length boot.now.description.now.entries.items ≤ 32 }
     ensures ok { OnOk result (say.new.items ≡ say.old.items
         ++ booted_lines (view boot.now.description.now) sought.now outcome.now.entry
-        outcome.now.refused.items (handoff_told (view boot.now.description.now)
+        outcome.now.refused.items (entry_handoff_lines (view boot.now.description.now)
         boot.now.machine.now sought.now outcome.now.entry outcome.now.handoff)) }
     ensures err { OnErr result (say.new.items ≡ say.old.items) }
 {

@@ -57,10 +57,7 @@ fn frames_beside<A: Allocator, B: Allocator>(sought: &Sought<'_, A>, form: &Entr
 }
 
 /// How many frames an entry's files take.
-fn frames_of_entry<A: Allocator, B: Allocator>(
-    sought: &Sought<'_, A>,
-    entry: &EntryRow<B>,
-) -> u64
+fn frames_of_entry<A: Allocator, B: Allocator>(sought: &Sought<'_, A>, entry: &EntryRow<B>) -> u64
     ensures { result ≡ frames_wanted sought.now (file_names (entry_view entry.now)) }
 {
     frames_of_name(sought, entry.kernel.as_str()) + frames_beside(sought, &entry.form)
@@ -84,13 +81,13 @@ pub fn frames_at<A: Allocator, B: Allocator>(
 fn say_frames<A: Allocator + Copy>(
     out: &mut Vec<u8, A>,
     wanted: u64,
-    open: u64,
+    beside: u64,
     all: u64,
 ) -> Result<(), AllocError>
-    ensures { OnOk result (out.new.items ≡ out.old.items ++ frames_line wanted open all) }
+    ensures { OnOk result (out.new.items ≡ out.old.items ++ frames_line wanted beside all) }
 {
     let alloc = *out.allocator();
-    let line = format!(in alloc; "frames {wanted} wanted, {open} open, {all} in all\n")?;
+    let line = format!(in alloc; "frames {wanted} wanted, {beside} open, {all} in all\n")?;
     out.extend_from_slice(line.as_bytes())
 }
 
@@ -108,6 +105,6 @@ pub fn say_room<A: Allocator + Copy, B: Allocator, C: Allocator>(
 {
     let pool = machine.pool();
     handoff.len();
-    let open = open_frames(&pool, handoff.ranges());
-    say_frames(out, wanted, open, frames_in(&pool))
+    let beside = open_frames(&pool, handoff.ranges());
+    say_frames(out, wanted, beside, frames_in(&pool))
 }

@@ -40,7 +40,9 @@ fn say_bz<A: Allocator + Copy>(out: &mut Vec<u8, A>, entry: u64) -> Result<(), A
     ensures { OnOk result (out.new.items ≡ out.old.items ++ hints.bz_line entry) }
 {
     let alloc = *out.allocator();
-    let line = format!(in alloc; "hint: the kernel of entry {entry} is a bzImage: protocol linux\n")?;
+    let line = format!(in alloc;
+        "hint: the kernel of entry {entry} is a bzImage: protocol linux\n"
+    )?;
     out.extend_from_slice(line.as_bytes())
 }
 

@@ -127,11 +127,8 @@ fn say_entry_source<A: Allocator + Copy, B: Allocator>(
             say_whole(out, sought, index as u64 + 1, name)
         }
         Role::Initrd => say_whole(out, sought, 1, initrd_name(&entry.form)),
-        Role::Information
-        | Role::BootParams
-        | Role::CommandLine
-        | Role::Gdt
-        | Role::PageTables => out.extend_from_slice(b"here"),
+        Role::Information | Role::BootParams | Role::CommandLine | Role::Gdt | Role::PageTables =>
+            out.extend_from_slice(b"here"),
     }
 }
 
