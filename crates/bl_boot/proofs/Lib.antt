@@ -11,5 +11,6 @@ pub mod ShownLaws
 pub mod ConvertLaws
 pub mod ExplainLemmas
 pub mod FrameLemmas
+pub mod HintLemmas
 pub mod HeldLemmas
 pub mod ExplainEnds

@@ -1,8 +1,8 @@
 -- The frames of the pool that an entry's files take, told in a line. Own.
-use Rattle.std.specs.Prelude.{ℕ, List, [], ◌++◌, map, codes, decimal, slice_get, unwrap_or, Option}
-use Rattle.std.specs.Prelude.{Some, None}
+use Rattle.std.specs.Prelude.{ℕ, ◌+◌, List, [], ◌∷◌, ◌++◌, codes, decimal, slice_get, unwrap_or}
+use Rattle.std.specs.Prelude.{Option, Some, None}
 use Rattle.std.specs.declared.ops.Range.{Range}
-use Rattle.bl_map.specs.Room.{frames_for, frames_in, open_frames}
+use Rattle.bl_map.specs.Room.{frames_in, frames_of, open_frames}
 use Rattle.bl_desc.specs.Entries.{Entry}
 use Rattle.bl_boot.specs.Attempted.{file_names}
 use Rattle.bl_boot.specs.Sought.{SoughtFacts, size_sought}
@@ -21,7 +21,9 @@ length_sought sought name = unwrap_or (size_sought sought name) 0
 
 -- how many frames the files of these names take, each in frames of its own
 abbrev pub frames_wanted : SoughtFacts → List (List ℕ) → ℕ
-frames_wanted sought names = frames_for (map (length_sought sought) names)
+frames_wanted sought [] = 0
+frames_wanted sought (name ∷ names) =
+    frames_of (length_sought sought name) + frames_wanted sought names
 
 -- frames that files take, frames of the pool beside the parts, all of the pool's frames
 abbrev pub frames_line : (wanted beside all : ℕ) → List ℕ

@@ -3,6 +3,7 @@ ghost use Rattle.std.specs.Prelude.{◌≡◌, ◌++◌, OnOk, map};
 ghost use Rattle.std.specs.List.{flat_map};
 ghost use Rattle.bl_boot.specs.Hints as hints;
 ghost use Rattle.bl_boot.specs.Hints.{kernel_hint, kernel_hint_of};
+ghost use Rattle.bl_boot.specs.Sought.{bytes_sought};
 ghost use Rattle.bl_desc.specs.Views.{entry_view};
 
 use crate::explanation::Sought;
@@ -83,6 +84,19 @@ fn say_kernel_hint<A: Allocator + Copy>(
     }
 }
 
+fn say_row_hint<A: Allocator + Copy, B: Allocator>(
+    out: &mut Vec<u8, A>,
+    sought: &Sought<'_, A>,
+    refused: &RefusedEntry,
+    entry: &EntryRow<B>,
+) -> Result<(), AllocError>
+    ensures { OnOk result (out.new.items ≡ out.old.items ++ kernel_hint refused.now.entry
+        refused.now.refusal (bytes_sought sought.now (entry_view entry.now).kernel)) }
+{
+    let bytes = sought.bytes(entry.kernel.as_str());
+    say_kernel_hint(out, refused.entry as u64, refused.refusal, bytes)
+}
+
 fn say_hint_of<A: Allocator + Copy, B: Allocator>(
     out: &mut Vec<u8, A>,
     entries: &[EntryRow<B>],
@@ -93,10 +107,7 @@ fn say_hint_of<A: Allocator + Copy, B: Allocator>(
         ++ kernel_hint_of (map entry_view entries.now) sought.now refused.now) }
 {
     match entries.get(refused.entry as usize) {
-        Some(entry) => {
-            let bytes = sought.bytes(entry.kernel.as_str());
-            say_kernel_hint(out, refused.entry as u64, refused.refusal, bytes)
-        }
+        Some(entry) => say_row_hint(out, sought, refused, entry),
         None => Ok(()),
     }
 }

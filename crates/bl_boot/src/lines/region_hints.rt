@@ -15,6 +15,7 @@ fn begins_in_frame(region: &Region) -> bool
 }
 
 /// Whether the region ends within a frame.
+#[tactic(auto, using(crate::proofs::FrameLemmas::frame_sum))]
 fn ends_in_frame(region: &Region) -> bool
     ensures { result ≡ hints.is_in_frame (region_end region.now) }
 {
