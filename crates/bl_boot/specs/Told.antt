@@ -1,6 +1,7 @@
 -- The lines that tell a boot for a person. Own.
 use Rattle.std.specs.Prelude.{ℕ, List, [], ◌++◌, codes, decimal, Option, Some, None, map, slice_get}
 use Rattle.std.specs.List.{flat_map}
+use Rattle.std.specs.declared.ops.Range.{Range}
 use Rattle.bl_map.specs.MachineFacts.{MachineFacts}
 use Rattle.bl_plan.specs.Placed.{place_range}
 use Rattle.bl_load.specs.HandoffFacts.{HandoffFacts}
@@ -50,19 +51,19 @@ abbrev pub sought_in : Described → List File → SoughtFacts
 sought_in description files =
     record { names = names_in description; files = files }
 
--- what an entry hands over, and the frames that its files take
-abbrev pub entry_handover_lines : Described → MachineFacts → SoughtFacts → ℕ → Handover → List ℕ
-entry_handover_lines description facts sought entry handover =
-    handover_lines (source_at description.entries sought entry) handover
-    ++ room_line sought (names_at description.entries entry) facts.pool
-    (map part_range handover.parts)
+-- what one of these entries hands over, by its index, and the frames that its files take of a pool
+abbrev pub entry_handover_lines :
+    List Entry → SoughtFacts → (pool : Range ℕ) → ℕ → Handover → List ℕ
+entry_handover_lines entries sought pool entry handover =
+    handover_lines (source_at entries sought entry) handover
+    ++ room_line sought (names_at entries entry) pool (map part_range handover.parts)
 
 -- by the places that parts of a handoff have
-abbrev pub entry_handoff_lines : Described → MachineFacts → SoughtFacts → ℕ → HandoffFacts → List ℕ
-entry_handoff_lines description facts sought entry handoff =
-    handoff_lines (source_at description.entries sought entry) handoff
-    ++ room_line sought (names_at description.entries entry) facts.pool
-    (map place_range handoff.places)
+abbrev pub entry_handoff_lines :
+    List Entry → SoughtFacts → (pool : Range ℕ) → ℕ → HandoffFacts → List ℕ
+entry_handoff_lines entries sought pool entry handoff =
+    handoff_lines (source_at entries sought entry) handoff
+    ++ room_line sought (names_at entries entry) pool (map place_range handoff.places)
 
 -- each entry that was attempted was refused
 abbrev pub none_left_lines : Described → SoughtFacts → List RefusedEntry → List ℕ
@@ -85,7 +86,7 @@ told_lines description facts sought unstarted = []
 told_lines description facts sought (running entry rest earlier pieces) = []
 told_lines description facts sought (handed_over entry earlier handover) =
     booted_lines description sought entry earlier
-    (entry_handover_lines description facts sought entry handover)
+    (entry_handover_lines description.entries sought facts.pool entry handover)
 told_lines description facts sought (none_left refused) =
     none_left_lines description sought refused
 told_lines description facts sought out_of_memory = []

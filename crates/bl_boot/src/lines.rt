@@ -18,7 +18,7 @@ mod walk;
 
 pub use attempts::{say_attempt, say_refused_attempts};
 pub use blame::say_blame;
-pub use frames::{frames_at, say_room};
+pub use frames::say_room;
 pub use handed::say_handoff;
 pub use hints::say_hints;
 pub use map::say_map;

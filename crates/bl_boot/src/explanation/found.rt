@@ -15,10 +15,11 @@ use crate::description_boot::{DescribedBoot, End, title_of};
 use crate::explanation::fault::ExplainFault;
 use crate::explanation::sought::Sought;
 use crate::lines::{
-    frames_at, say_attempt, say_booted, say_handoff, say_hints, say_no_entry_left,
-    say_refused_attempts, say_room,
+    say_attempt, say_booted, say_handoff, say_hints, say_no_entry_left, say_refused_attempts,
+    say_room,
 };
 use bl_desc::{Description, EntryRow};
+use bl_map::Machine;
 use bl_mem::PhysMem;
 use bl_session::{BootFault, FileStore, Outcome, RefusedEntry, run};
 use std::alloc::{AllocError, Allocator};
@@ -77,21 +78,41 @@ fn say_attempts_of<A: Allocator + Copy>(
     Ok(())
 }
 
-/// Appends the lines of what an entry hands over, and of the frames that its files take.
+/// Appends the lines of what one of these entries hands over, and of the frames of the pool.
 fn say_handed<A: Allocator + Copy>(
+    out: &mut Vec<u8, A>,
+    entries: &[EntryRow<A>],
+    sought: &Sought<'_, A>,
+    machine: &Machine<A>,
+    outcome: &Outcome<A>,
+) -> Result<(), AllocError>
+    ensures { OnOk result (out.new.items ≡ out.old.items
+        ++ entry_handoff_lines (map entry_view entries.now) sought.now machine.now.pool
+        outcome.now.entry outcome.now.handoff) }
+{
+    say_handoff(out, entries, sought, outcome.entry, &outcome.handoff)?;
+    say_room(out, entries, sought, machine, outcome)
+}
+
+/// The same of what is booted.
+fn say_handed_of<A: Allocator + Copy>(
     out: &mut Vec<u8, A>,
     boot: &DescribedBoot<'_, A>,
     sought: &Sought<'_, A>,
     outcome: &Outcome<A>,
 ) -> Result<(), AllocError>
     ensures { OnOk result (out.new.items ≡ out.old.items
-        ++ entry_handoff_lines (view boot.now.description.now) boot.now.machine.now sought.now
-        outcome.now.entry outcome.now.handoff) }
+        ++ entry_handoff_lines (view boot.now.description.now).entries sought.now
+        boot.now.machine.now.pool outcome.now.entry outcome.now.handoff) }
 {
-    let entries = boot.description.entries.as_slice();
-    say_handoff(out, entries, sought, outcome.entry, &outcome.handoff)?;
-    let wanted = frames_at(entries, sought, outcome.entry);
-    say_room(out, wanted, boot.machine, &outcome.handoff)
+    say_handed(
+        out,
+        &boot.description.entries,
+        sought,
+        boot.machine,
+        outcome,
+    )?;
+    Ok(())
 }
 
 /// Appends the lines of the entry that is handed over, and the hints.
@@ -105,13 +126,13 @@ fn say_outcome<A: Allocator + Copy>(
     ensures { OnOk result (out.new.items ≡ out.old.items
         ++ booted_line outcome.now.entry
         (entry_of (view boot.now.description.now) outcome.now.entry).title
-        ++ entry_handoff_lines (view boot.now.description.now) boot.now.machine.now sought.now
-        outcome.now.entry outcome.now.handoff
+        ++ entry_handoff_lines (view boot.now.description.now).entries sought.now
+        boot.now.machine.now.pool outcome.now.entry outcome.now.handoff
         ++ hint_lines (view boot.now.description.now) sought.now outcome.now.refused.items) }
 {
     let entry = outcome.entry;
     say_booted(out, entry as u64, title_of(boot.description, entry))?;
-    say_handed(out, boot, sought, outcome)?;
+    say_handed_of(out, boot, sought, outcome)?;
     say_hints(out, boot.description, sought, &outcome.refused)
 }
 
@@ -127,8 +148,8 @@ fn tell_booted<A: Allocator + Copy, B: Allocator>(
     requires { length boot.now.description.now.entries.items ≤ 32 }
     ensures ok { OnOk result (say.new.items ≡ say.old.items
         ++ booted_lines (view boot.now.description.now) sought.now outcome.now.entry
-        outcome.now.refused.items (entry_handoff_lines (view boot.now.description.now)
-        boot.now.machine.now sought.now outcome.now.entry outcome.now.handoff)) }
+        outcome.now.refused.items (entry_handoff_lines (view boot.now.description.now).entries
+        sought.now boot.now.machine.now.pool outcome.now.entry outcome.now.handoff)) }
     ensures err { OnErr result (say.new.items ≡ say.old.items) }
 {
     let mut lines = Vec::new(alloc);

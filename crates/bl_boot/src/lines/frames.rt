@@ -4,12 +4,13 @@ ghost use Rattle.bl_map.specs.Room as room;
 ghost use Rattle.bl_plan.specs.Placed.{place_range};
 ghost use Rattle.bl_boot.specs.Attempted.{file_names, names_beside};
 ghost use Rattle.bl_boot.specs.Frames.{frames_line, frames_wanted, length_sought, names_at};
+ghost use Rattle.bl_boot.specs.Frames.{room_line};
 ghost use Rattle.bl_desc.specs.Views.{entry_view, form_view, module_view};
 
 use crate::explanation::Sought;
 use bl_desc::{EntryForm, EntryRow, ModuleRow};
-use bl_load::Handoff;
 use bl_map::{Machine, frames_in, frames_of, open_frames};
+use bl_session::Outcome;
 use std::alloc::{AllocError, Allocator};
 
 /// How many frames the file of this name takes.
@@ -64,7 +65,7 @@ fn frames_of_entry<A: Allocator, B: Allocator>(sought: &Sought<'_, A>, entry: &E
 }
 
 /// How many frames the files of an entry of the menu take, by its index.
-pub fn frames_at<A: Allocator, B: Allocator>(
+fn frames_at<A: Allocator, B: Allocator>(
     entries: &[EntryRow<B>],
     sought: &Sought<'_, A>,
     index: u32,
@@ -91,20 +92,21 @@ fn say_frames<A: Allocator + Copy>(
     out.extend_from_slice(line.as_bytes())
 }
 
-/// Appends the line of the frames of an entry that is handed over: so many are wanted, and those
-/// of the machine's pool are counted.
-pub fn say_room<A: Allocator + Copy, B: Allocator, C: Allocator>(
+/// Appends the line of the frames of an entry that is handed over.
+pub fn say_room<A: Allocator + Copy, B: Allocator>(
     out: &mut Vec<u8, A>,
-    wanted: u64,
+    entries: &[EntryRow<B>],
+    sought: &Sought<'_, A>,
     machine: &Machine<B>,
-    handoff: &Handoff<C>,
+    outcome: &Outcome<B>,
 ) -> Result<(), AllocError>
-    ensures { OnOk result (out.new.items ≡ out.old.items ++ frames_line wanted
-        (room.open_frames machine.now.pool (map place_range handoff.now.places))
-        (room.frames_in machine.now.pool)) }
+    ensures { OnOk result (out.new.items ≡ out.old.items
+        ++ room_line sought.now (names_at (map entry_view entries.now) outcome.now.entry)
+        machine.now.pool (map place_range outcome.now.handoff.places)) }
 {
+    let wanted = frames_at(entries, sought, outcome.entry);
     let pool = machine.pool();
-    handoff.len();
-    let beside = open_frames(&pool, handoff.ranges());
+    outcome.handoff.len();
+    let beside = open_frames(&pool, outcome.handoff.ranges());
     say_frames(out, wanted, beside, frames_in(&pool))
 }
