@@ -1,5 +1,5 @@
 //! The frames of the pool that an entry's files take, in a line.
-ghost use Rattle.std.specs.Prelude.{◌≡◌, ◌+◌, ◌*◌, ◌≤◌, ◌^◌, ◌++◌, OnOk, length, map};
+ghost use Rattle.std.specs.Prelude.{◌≡◌, ◌*◌, ◌≤◌, ◌^◌, ◌++◌, OnOk, length, map};
 ghost use Rattle.bl_map.specs.Room as room;
 ghost use Rattle.bl_plan.specs.Placed.{place_range};
 ghost use Rattle.bl_boot.specs.Attempted.{file_names, names_beside};
