@@ -18,6 +18,7 @@ returns-in-Ok g c =
       outcome.entry,
       outcome.refused.items,
       handover_held bytes outcome.handoff,
-      search rules,
+      c.in-Ok.ensures.faithful c.requires.store
+          (rw c.in-Ok.ensures.files at c.faithful.ensures) tt,
       rw (c.new-sought.ensures, c.fetched.ensures, c.in-Ok.ensures.files) at told,
     )
