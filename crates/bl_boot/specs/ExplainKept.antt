@@ -42,10 +42,11 @@ abbrev pub FoundExplains : Described → BootFacts → List File → SoughtFacts
 FoundExplains description facts files sought old new (Ok Booted) =
     (entry : ℕ) × (earlier : List RefusedEntry) × (handover : Handover)
     × IsOutcome facts files no_fault (handed_over entry earlier handover)
-    × (new ≡ old ++ told_lines description sought (handed_over entry earlier handover))
+    × (new ≡ old
+    ++ told_lines description facts.machine sought (handed_over entry earlier handover))
 FoundExplains description facts files sought old new (Ok NoEntryLeft) =
     (refused : List RefusedEntry) × IsOutcome facts files no_fault (none_left refused)
-    × (new ≡ old ++ told_lines description sought (none_left refused))
+    × (new ≡ old ++ told_lines description facts.machine sought (none_left refused))
 FoundExplains description facts files sought old new (Err (Blamed blame)) = ⊥
 FoundExplains description facts files sought old new (Err NoMemory) = new ≡ old
 

@@ -10,6 +10,9 @@ pub mod Walked
 pub mod WalkKept
 pub mod Converted
 pub mod Sought
+pub mod Frames
+pub mod Hints
+pub mod Sources
 pub mod RefusalWords
 pub mod HandedLines
 pub mod Told

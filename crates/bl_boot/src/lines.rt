@@ -2,18 +2,23 @@
 
 mod attempts;
 mod blame;
+mod frames;
 mod handed;
 mod hints;
+mod kernel_hints;
 mod map;
 mod outcome;
 mod refusal;
 mod refusal_words;
+mod region_hints;
 mod registers;
 mod sought;
+mod sources;
 mod walk;
 
 pub use attempts::{say_attempt, say_refused_attempts};
 pub use blame::say_blame;
+pub use frames::say_room;
 pub use handed::say_handoff;
 pub use hints::say_hints;
 pub use map::say_map;

@@ -12,7 +12,6 @@ use crate::description_boot::{DescribedBoot, End, find_files, menu_of, names_in,
 use crate::explanation::fault::ExplainFault;
 use crate::explanation::found::explain_found;
 use crate::explanation::reading::{machine_blamed, read_blamed};
-use crate::explanation::sought::{Sought, sizes_of};
 use crate::file_source::Files;
 use crate::lines::say_blame;
 use bl_line::Order;
@@ -47,15 +46,13 @@ fn run_explain<A: Allocator + Copy, F: Files, B: Allocator>(
     let menu = menu_of(alloc, &names, &description)?;
     let mut memory = Sparse::new(alloc, machine.size(), description.fill)?;
     let found = find_files(alloc, &description, &names, files)?;
-    let sizes = sizes_of(alloc, &found)?;
     let store = FileStore::new(alloc, found, order_of(order));
     let boot = DescribedBoot {
         description: &description,
         machine: &machine,
         menu: &menu,
     };
-    let sought = Sought::new(&names, &sizes);
-    explain_found(alloc, &mut memory, store, &boot, &sought, say)
+    explain_found(alloc, &mut memory, store, &boot, &names, say)
 }
 
 /// Tells the boot of a description for a person, line by line, in `say`: each entry that is
