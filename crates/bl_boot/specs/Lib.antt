@@ -13,6 +13,7 @@ pub mod Sought
 pub mod RefusalWords
 pub mod HandedLines
 pub mod Told
+pub mod KeyWords
 pub mod Blames
 pub mod Explained
 pub mod ExplainKept

@@ -1,9 +1,11 @@
 //! The lines that the program says on standard output.
 
 mod attempts;
+mod bad_key;
 mod blame;
 mod handed;
 mod hints;
+mod key_values;
 mod map;
 mod outcome;
 mod refusal;
