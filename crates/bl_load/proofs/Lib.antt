@@ -27,6 +27,7 @@ pub mod FrameLemmas
 pub mod ReadingLemmas
 pub mod PlacingLemmas
 pub mod PrepareLemmas
+pub mod UnplacedLemmas
 pub mod OneKernelLaws
 pub mod OneReadingLaws
 pub mod HandoverLaws

@@ -28,7 +28,7 @@ use Rattle.bl_load.proofs.RowLemmas.{some_frames}
 
 -- ---- the initrd's row as the code tells it
 
-alike : (size : ℕ) → 1 ≤ size → Alike (told_length size) (whole_frames size)
+pub alike : (size : ℕ) → 1 ≤ size → Alike (told_length size) (whole_frames size)
 alike size some =
     let same : max size 1 ≡ size = omega arith in
     subst (λ (n : ℕ). Alike (told_length size) (whole_frames n)) same (alike_lengths size)
@@ -49,7 +49,7 @@ module _ (facts : MachineFacts) (protocol : Protocol) (setup : Setup) where
   no_chosen taken align low high count a long chosen =
       none_permitted taken align low high count a long chosen.holds
 
-  no_room : (taken : List (Range ℕ)) (align low high count other : ℕ) (fault : PlanFault)
+  pub no_room : (taken : List (Range ℕ)) (align low high count other : ℕ) (fault : PlanFault)
       → max_size < count
       → HasChoiceFault facts taken other (Highest align low high) fault
       → HasChoiceFault facts taken count (Highest align low high) fault

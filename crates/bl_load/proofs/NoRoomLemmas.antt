@@ -38,11 +38,11 @@ alike_lengths size =
     ]
 
 module _ (facts : MachineFacts) where
-  no_chosen : (taken : List (Range ℕ)) (align low count a : ℕ) → max_size < count
+  pub no_chosen : (taken : List (Range ℕ)) (align low count a : ℕ) → max_size < count
       → IsChosen facts taken count (Lowest align low max_size) a → ⊥
   no_chosen taken align low count a long chosen = let below = chosen.holds.below in omega arith
 
-  no_room : (taken : List (Range ℕ)) (align low count other : ℕ) (fault : PlanFault)
+  pub no_room : (taken : List (Range ℕ)) (align low count other : ℕ) (fault : PlanFault)
       → max_size < count
       → HasChoiceFault facts taken other (Lowest align low max_size) fault
       → HasChoiceFault facts taken count (Lowest align low max_size) fault

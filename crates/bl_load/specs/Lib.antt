@@ -23,5 +23,6 @@ pub mod Parts
 pub mod PlacingKept
 pub mod ReadKept
 pub mod EntryFilesKept
+pub mod Unplaced
 pub mod Legal
 pub mod After

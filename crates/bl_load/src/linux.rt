@@ -6,6 +6,7 @@ ghost use Rattle.bl_load.specs.Protocols.{has_params};
 ghost use Rattle.bl_load.specs.Parts.{IsHandover, IsPrepFault};
 ghost use Rattle.bl_load.specs.PlanFacts.{handover_by};
 ghost use Rattle.bl_load.specs.Loadable.{lengths_of, IsLoadable, IsLean};
+ghost use Rattle.bl_load.specs.Unplaced.{IsUnplaced, IsReadingFault};
 
 use crate::addresses::address_of;
 use crate::entry_files::EntryFiles;
@@ -19,6 +20,7 @@ use crate::reading::ReadKernel;
 use crate::refusal::PrepFault;
 use crate::registers::{Registers, linux_registers};
 use crate::registers64::linux64_registers;
+use crate::searching::unplaced_part;
 use bl_bzimage::Setup;
 use bl_map::Machine;
 use bl_mem::ByteView;
@@ -103,4 +105,34 @@ pub fn prepare<A: Allocator + Copy, V: ByteView>(
         files,
     };
     plan_parts(alloc, &entry, &setup)
+}
+
+/// The first part that has no place of a Linux entry of this line, whose kernel is entered by this
+/// protocol, or none; or what refuses it before.
+pub(crate) fn unplaced<A: Allocator + Copy, V: ByteView>(
+    alloc: A,
+    machine: &Machine<A>,
+    protocol: Protocol,
+    line: &[u8],
+    files: &[V],
+) -> Result<Option<Row>, PrepFault>
+    requires params { has_params protocol ≡ true }
+    requires files { 1 ≤ length files.now }
+    ensures which { IfOk result (IsUnplaced machine.now
+        (linux_value protocol (map V.bytes files.now) line.now)) }
+    ensures fault { IfErr result (IsReadingFault machine.now
+        (linux_value protocol (map V.bytes files.now) line.now)) }
+{
+    check_line(line)?;
+    let setup = read_linux(protocol, &files[0], line, machine.normal())?;
+    let entry = EntryFiles {
+        protocol,
+        machine,
+        line,
+        modules: &[],
+        rsdp_old: &None,
+        rsdp_new: &None,
+        files,
+    };
+    unplaced_part(alloc, &entry, &setup)
 }

@@ -9,6 +9,7 @@ ghost use Rattle.bl_load.specs.Parts.{IsHandover, IsPrepFault};
 ghost use Rattle.bl_load.specs.PlanFacts.{handover_by};
 ghost use Rattle.bl_load.specs.Kept.{lines_by};
 ghost use Rattle.bl_load.specs.Loadable.{lengths_of, IsLoadable, IsLean};
+ghost use Rattle.bl_load.specs.Unplaced.{IsUnplaced, IsReadingFault};
 ghost use Rattle.bl_plan.specs.Limits.{max_modules};
 
 use crate::addresses::address_of;
@@ -23,6 +24,7 @@ use crate::plan::{Content, Plan};
 use crate::reading::ReadKernel;
 use crate::refusal::PrepFault;
 use crate::registers::{Registers, multiboot2_registers};
+use crate::searching::unplaced_part;
 use bl_map::Machine;
 use bl_mem::ByteView;
 use bl_plan::{Place, Protocol, Role, Row};
@@ -112,4 +114,39 @@ pub fn prepare<A: Allocator + Copy, V: ByteView>(
         files,
     };
     plan_parts(alloc, &entry, &kernel)
+}
+
+/// The first part that has no place of a Multiboot2 entry of this line, these modules and these
+/// copies of the RSDP, or none; or what refuses it before.
+pub(crate) fn unplaced<A: Allocator + Copy, V: ByteView>(
+    alloc: A,
+    machine: &Machine<A>,
+    line: &[u8],
+    modules: &[Module<A>],
+    rsdps: &Rsdps<'_, A>,
+    files: &[V],
+) -> Result<Option<Row>, PrepFault>
+    requires files { length files.now ≡ 1 + length modules.now }
+    requires few { length modules.now ≤ max_modules }
+    requires old { IfSome rsdps.now.old.now IsCopy }
+    requires new { IfSome rsdps.now.new.now IsCopy }
+    ensures which { IfOk result (IsUnplaced machine.now
+        (multiboot2_value (map V.bytes files.now) line.now (lines_by modules.now) rsdps.now.old.now
+        rsdps.now.new.now)) }
+    ensures fault { IfErr result (IsReadingFault machine.now
+        (multiboot2_value (map V.bytes files.now) line.now (lines_by modules.now) rsdps.now.old.now
+        rsdps.now.new.now)) }
+{
+    check_lines(line, modules)?;
+    let kernel = read_kernel(alloc, &files[0])?;
+    let entry = EntryFiles {
+        protocol: Protocol::Multiboot2,
+        machine,
+        line,
+        modules,
+        rsdp_old: rsdps.old,
+        rsdp_new: rsdps.new,
+        files,
+    };
+    unplaced_part(alloc, &entry, &kernel)
 }

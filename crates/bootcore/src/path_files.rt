@@ -5,7 +5,7 @@ ghost use Rattle.bl_boot.specs.Files.{IsReadWhole};
 use bl_boot::{AskedNames, FILE_LIMIT, Fetched, Files};
 use bl_mem::Bytes;
 use std::alloc::{AllocError, Allocator};
-use std::io::Read;
+use std::io::{Eprint, Read};
 use std::marker::Model;
 use std::{fs, io, rt};
 
@@ -24,7 +24,7 @@ pub fn read_file<R: rt::Files, A: Allocator>(
 {
     let metadata = fs::metadata(rt, path)?;
     if !metadata.is_file() {
-        return Err(io::Error::from(io::ErrorKind::InvalidInput));
+        return Err(io::Error::new(io::ErrorKind::InvalidInput, "no regular file"));
     }
     let length = metadata.len();
     if length > limit {
@@ -40,18 +40,25 @@ pub fn read_file<R: rt::Files, A: Allocator>(
     Ok(Fetched::Bytes(Bytes::from(bytes)))
 }
 
+/// Says on standard error which file can't be read, and what the system says of it.
+pub fn tell_fault<R: Eprint>(rt: &R, path: &str, error: &io::Error) {
+    let _ = eprintln!(rt; "file fault: {path}: {error}");
+}
+
 /// Files by their paths, as the operating system reads them relative to the current folder. Each
-/// one that can't be read, and each path at which no regular file stands, is a fault.
+/// one that can't be read, and each path at which no regular file stands, is a fault; it is told
+/// where the files were asked to tell.
 ///
 /// What a real file holds is not claimed: anything may be answered for a path.
 #[derive(Drop)]
-pub struct PathFiles<'a, R: rt::Files> {
+pub struct PathFiles<'a, R: rt::Files + Eprint> {
     rt: &'a R,
+    tells: bool,
     faults: u64,
     asked: AskedNames,
 }
 
-impl<'a, R: rt::Files> Model for PathFiles<'a, R> {
+impl<'a, R: rt::Files + Eprint> Model for PathFiles<'a, R> {
     ghost use Rattle.bootcore.specs.PathFilesFacts.{PathFilesFacts};
 
     ghost Value = { PathFilesFacts };
@@ -59,7 +66,7 @@ impl<'a, R: rt::Files> Model for PathFiles<'a, R> {
     ghost view = { λ f. record { faults = f.faults; asked = f.asked.names } };
 }
 
-impl<'a, R: rt::Files> PathFiles<'a, R> {
+impl<'a, R: rt::Files + Eprint> PathFiles<'a, R> {
     ghost use Rattle.std.specs.Prelude.{◌≡◌, []};
 
     /// The files that this runtime reaches, of which none was missing or asked for yet.
@@ -68,13 +75,26 @@ impl<'a, R: rt::Files> PathFiles<'a, R> {
     {
         PathFiles {
             rt,
+            tells: false,
+            faults: 0,
+            asked: AskedNames::new(),
+        }
+    }
+
+    /// The same, but each fault is told on standard error, with what the system says.
+    pub fn telling(rt: &'a R) -> PathFiles<'a, R>
+        ensures { result ≡ record { faults = 0; asked = [] } }
+    {
+        PathFiles {
+            rt,
+            tells: true,
             faults: 0,
             asked: AskedNames::new(),
         }
     }
 }
 
-impl<R: rt::Files> Files for PathFiles<'_, R> {
+impl<R: rt::Files + Eprint> Files for PathFiles<'_, R> {
     ghost answers = { λ _ _ _. Unit {0} };
 
     ghost faults = { λ f. f.faults };
@@ -86,8 +106,11 @@ impl<R: rt::Files> Files for PathFiles<'_, R> {
         match read_file(self.rt, alloc, name, FILE_LIMIT) {
             Ok(file) => Ok(file),
             Err(error) if error.kind() == io::ErrorKind::OutOfMemory => Err(AllocError),
-            Err(_) => {
+            Err(error) => {
                 self.faults += 1;
+                if self.tells {
+                    tell_fault(self.rt, name, &error);
+                }
                 Ok(Fetched::Missing)
             }
         }

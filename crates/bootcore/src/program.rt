@@ -4,7 +4,7 @@ ghost use Rattle.bootcore.specs.Statuses as statuses;
 
 use crate::image_file::ImageFile;
 use crate::image_jobs::{convert_path, walk_path};
-use crate::path_files::{PathFiles, read_file};
+use crate::path_files::{PathFiles, read_file, tell_fault};
 use bl_boot::{Fetched, boot, explain_to, map_to};
 use bl_line::{Job, LineFault, Order, read_line};
 use bl_mem::Bytes;
@@ -86,15 +86,30 @@ fn boot_path(rt: &HostRuntime, path: &str, image: &str, order: Order) -> u8
     status
 }
 
-/// Tells the boot of the description at a path for a person.
+/// The description at a path, or the status where it can't be read, and then why is told.
+fn read_desc_or_tell(rt: &HostRuntime, path: &str) -> Result<Bytes<Global>, u8>
+    ensures { IfErr result (λ status. (status ≡ 3) ⊎ (status ≡ 4)) }
+{
+    match read_file(rt, rt.alloc(), path, u64::MAX) {
+        Ok(Fetched::Bytes(desc)) => Ok(desc),
+        Ok(_) => Err(tell_status(rt, 3)),
+        Err(error) if error.kind() == io::ErrorKind::OutOfMemory => Err(tell_status(rt, 4)),
+        Err(error) => {
+            tell_fault(rt, path, &error);
+            Err(3)
+        }
+    }
+}
+
+/// Tells the boot of the description at a path for a person, and which files can't be read.
 fn explain_path(rt: &HostRuntime, path: &str, order: Order) -> u8
     ensures { result ≤ 4 }
 {
-    let desc = match read_desc(rt, path) {
+    let desc = match read_desc_or_tell(rt, path) {
         Ok(desc) => desc,
         Err(status) => return status,
     };
-    let mut files = PathFiles::new(rt);
+    let mut files = PathFiles::telling(rt);
     let mut say = Vec::new(rt.alloc());
     let status = explain_to(
         rt.alloc(),
@@ -105,7 +120,7 @@ fn explain_path(rt: &HostRuntime, path: &str, order: Order) -> u8
         &mut say,
     );
     tell(rt, &say);
-    status
+    tell_status(rt, status)
 }
 
 /// Says the map of the description at a path.
@@ -137,9 +152,7 @@ pub fn run_line(rt: &HostRuntime, words: &[&str]) -> u8
         Ok(Job::Map { description }) => tell_status(rt, map_path(rt, description)),
         Ok(Job::Walk { image }) => walk_path(rt, image),
         Ok(Job::Convert { image, new }) => convert_path(rt, image, new),
-        Ok(Job::Explain { description, order }) => {
-            tell_status(rt, explain_path(rt, description, order))
-        }
+        Ok(Job::Explain { description, order }) => explain_path(rt, description, order),
         Err(LineFault::Help) => {
             tell(rt, USAGE.as_bytes());
             0

@@ -1,0 +1,66 @@
+use Rattle.std.proofs.Common.{ℕ, List, map, arith, subst}
+use Rattle.std.proofs.lemmas.List.{length-map}
+use Rattle.std.proofs.lemmas.Result.{IfOk-weaker, IfErr-weaker}
+use Rattle.bl_load.specs.Linux.{IsLinuxKernel}
+use Rattle.bl_load.specs.Reading.{linux}
+use Rattle.bl_load.specs.Value.{linux_value}
+use Rattle.bl_load.proofs.LineLemmas.{sound_short, one_sound}
+use Rattle.bl_load.proofs.PrepareLemmas.{first_text}
+use Rattle.bl_load.proofs.UnplacedLemmas.{reading_no_memory, unplaced_read}
+use Rattle.bl_load.proofs.linux.unplaced.Goals as goal
+
+pub invariant_of-entry : goal.invariant_of-entry
+invariant_of-entry g c = record {
+  sound = c.in_ok-check_line.ensures;
+  short = sound_short c.args.line.now c.in_ok-check_line.ensures;
+  sound_modules = λ k d within. absurd (omega arith);
+  few = omega arith;
+  old = tt;
+  new = tt;
+}
+
+pub unplaced_part-requires : goal.unplaced_part-requires
+unplaced_part-requires g c =
+    let facts = c.args.machine.now in
+    let protocol = c.args.protocol in
+    let line = c.args.line.now in
+    let file =
+    first_text g.V.ByteView.bytes c.args.files.now c.index-files-0.result c.requires.files
+    c.index-files-0.is in
+    let setup = c.in_ok-setup.setup in
+    let is =
+    subst (λ (f : List ℕ). IsLinuxKernel protocol facts.runs line f setup) file
+    (subst (λ rs. IsLinuxKernel protocol rs line (g.V.ByteView.bytes c.index-files-0.result) setup)
+    c.normal.ensures.runs c.in_ok-setup.ensures.kernel) in
+    record {
+      read = (c.requires.params, is);
+      files = omega (arith, c.requires.files, length-map c.args.files.now g.V.ByteView.bytes);
+    }
+
+pub returns-clause-which : goal.returns-clause-which
+returns-clause-which g c =
+    let facts = c.args.machine.now in
+    let protocol = c.args.protocol in
+    let texts = map g.V.ByteView.bytes c.args.files.now in
+    let line = c.args.line.now in
+    let file =
+    first_text g.V.ByteView.bytes c.args.files.now c.index-files-0.result c.requires.files
+    c.index-files-0.is in
+    let setup = c.in_ok-setup.setup in
+    let is =
+    subst (λ (f : List ℕ). IsLinuxKernel protocol facts.runs line f setup) file
+    (subst (λ rs. IsLinuxKernel protocol rs line (g.V.ByteView.bytes c.index-files-0.result) setup)
+    c.normal.ensures.runs c.in_ok-setup.ensures.kernel) in
+    IfOk-weaker c.unplaced_part.result
+    _ _ (λ which h.
+    unplaced_read facts (linux_value protocol texts line)
+    (one_sound line c.in_ok-check_line.ensures) (linux setup) which (c.requires.params, is) h)
+    c.unplaced_part.ensures.which
+
+pub returns-clause-fault : goal.returns-clause-fault
+returns-clause-fault g c =
+    let texts = map g.V.ByteView.bytes c.args.files.now in
+    IfErr-weaker c.unplaced_part.result
+    _ _ (λ fault h.
+    reading_no_memory c.args.machine.now (linux_value c.args.protocol texts c.args.line.now) fault
+    h) c.unplaced_part.ensures.fault
