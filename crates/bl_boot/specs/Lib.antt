@@ -16,6 +16,7 @@ pub mod Sources
 pub mod RefusalWords
 pub mod HandedLines
 pub mod Told
+pub mod KeyWords
 pub mod Blames
 pub mod Explained
 pub mod ExplainKept

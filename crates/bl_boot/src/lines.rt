@@ -1,11 +1,13 @@
 //! The lines that the program says on standard output.
 
 mod attempts;
+mod bad_key;
 mod blame;
 mod frames;
 mod handed;
 mod hints;
 mod kernel_hints;
+mod key_values;
 mod map;
 mod outcome;
 mod refusal;

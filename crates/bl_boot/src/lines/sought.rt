@@ -24,7 +24,7 @@ fn say_byte<A: Allocator + Copy>(out: &mut Vec<u8, A>, byte: u8) -> Result<(), A
     out.extend_from_slice(&[byte])
 }
 
-fn say_name<A: Allocator + Copy>(out: &mut Vec<u8, A>, name: &[u8]) -> Result<(), AllocError>
+pub fn say_name<A: Allocator + Copy>(out: &mut Vec<u8, A>, name: &[u8]) -> Result<(), AllocError>
     ensures { OnOk result (out.new.items ≡ out.old.items ++ sought_files.shown_name name.now) }
 {
     for byte in name {

@@ -20,7 +20,7 @@ returns-in_err-description g c =
     rw (p.1, p.2)
     (record {
       ends = unread g.F.Files.answers g.F.Files.faults c.args.desc.now c.args.files.now
-          c.args.say.now.items _ c.in_err-description.ensures.fault;
+          c.args.say.now.items _ _ c.in_err-description.ensures.fault;
       asked = none_asked (names_fetched (described c.args.desc.now))
           (g.F.Files.asked c.args.files.now);
       inline = λ _. refl;
@@ -39,7 +39,8 @@ returns-in_err-machine g c =
     (record {
       ends = unmade g.F.Files.answers g.F.Files.faults c.args.desc.now
           c.in_ok-description.description c.in_ok-description.ensures.given c.args.files.now
-          c.args.say.now.items _ c.in_err-machine.ensures.fault;
+          c.args.say.now.items _ _ (rw c.in_ok-description.ensures.kept
+          at c.in_err-machine.ensures.fault);
       asked = none_asked (names_fetched (described c.args.desc.now))
           (g.F.Files.asked c.args.files.now);
       inline = λ _. refl;
