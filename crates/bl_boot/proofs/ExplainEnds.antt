@@ -10,42 +10,52 @@ use Rattle.bl_desc.specs.Described.{described}
 use Rattle.bl_desc.specs.Views.{view}
 use Rattle.bl_boot.specs.declared.description_boot.boot_end.End.{End}
 use Rattle.bl_boot.specs.declared.description_boot.boot_end.End.TheVariants.{Booted, NoEntryLeft}
-use Rattle.bl_boot.specs.declared.explanation.blame.Blame.TheVariants.{NotUtf8, NotToml, BadKey}
+use Rattle.bl_boot.specs.declared.explanation.blame.Blame.{Blame}
 use Rattle.bl_boot.specs.declared.explanation.blame.Blame.TheVariants.{BadMachine}
 use Rattle.bl_boot.specs.declared.explanation.fault.ExplainFault.{ExplainFault}
 use Rattle.bl_boot.specs.declared.explanation.fault.ExplainFault.TheVariants.{Blamed, NoMemory}
 use Rattle.bl_boot.specs.Attempted.{menu_of, names_in}
-use Rattle.bl_boot.specs.Ends.{BootCase, IsMachineOf}
+use Rattle.bl_boot.specs.Blames.{HasBlame}
+use Rattle.bl_boot.specs.Ends.{BootCase, IsBadDescription, IsMachineOf}
 use Rattle.bl_boot.specs.ExplainKept.{ExplainAsks, ExplainEnds, FoundExplains, IsMachineBlame}
-use Rattle.bl_boot.specs.ExplainKept.{IsReadBlame}
+use Rattle.bl_boot.specs.ExplainKept.{IsReadBlame, SaysBlame}
 use Rattle.bl_boot.specs.Found.{AreFound}
 use Rattle.bl_boot.specs.Told.{sought_in}
 use Rattle.bl_boot.proofs.EndLemmas.{all_asked}
+
+-- a blame that stands is said
+pub blamed_for : (desc : List ℕ) (blame : Blame) (old new : List ℕ) (fault : ExplainFault)
+    → IsBadDescription desc → HasBlame desc blame → SaysBlame blame old new fault
+    → IsReadBlame desc old new fault
+blamed_for desc blame old new Blamed bad stands said =
+    record { bad = bad; blame = blame; stands = stands; said = said }
+blamed_for desc blame old new NoMemory bad stands said = said
 
 -- files of a type F
 module _ {F : Type 0} (answers : F → List ℕ → File → Type 0) (faults : F → ℕ) (desc : List ℕ)
   where
     -- the bytes are not read
-    pub unread : (files : F) (said : List ℕ) (fault : ExplainFault) → IsReadBlame desc fault
-        → ExplainEnds answers faults desc files files said said (Err fault)
-    unread files said (Blamed blame) is = (is.0, is.1, refl, refl)
-    unread files said NoMemory is = refl
+    pub unread : (files : F) (old new : List ℕ) (fault : ExplainFault)
+        → IsReadBlame desc old new fault
+        → ExplainEnds answers faults desc files files old new (Err fault)
+    unread files old new Blamed is = (is, refl)
+    unread files old new NoMemory is = is
 
     module _ {A : Type 0} (d : Description A) (is : described desc ≡ Some (view d)) where
       -- there is no such machine
-      pub unmade : (files : F) (said : List ℕ) (fault : ExplainFault)
-          → IsMachineBlame (view d) fault
-          → ExplainEnds answers faults desc files files said said (Err fault)
-      unmade files said (Blamed NotUtf8) m = absurd m
-      unmade files said (Blamed (NotToml place)) m = absurd m
-      unmade files said (Blamed BadKey) m = absurd m
-      unmade files said (Blamed (BadMachine fault)) m = (
-        inr (view d, is, record { fault = fault; named = m.0; first = m.1 }),
-        record { description = view d; is_described = is; named = m.0; first = m.1 },
-        refl,
+      pub unmade : (files : F) (old new : List ℕ) (fault : ExplainFault)
+          → IsMachineBlame (view d) old new fault
+          → ExplainEnds answers faults desc files files old new (Err fault)
+      unmade files old new Blamed m = (
+        record {
+          bad = inr (view d, is, record { fault = m.0; named = m.1; first = m.2 });
+          blame = BadMachine m.0;
+          stands = record { description = view d; is_described = is; named = m.1; first = m.2 };
+          said = m.3;
+        },
         refl,
       )
-      unmade files said NoMemory m = refl
+      unmade files old new NoMemory m = m
 
       -- the boot of what was found is explained
       module _ (facts : MachineFacts) (machine : IsMachineOf (view d) facts) (before after : F)
@@ -77,7 +87,7 @@ module _ {F : Type 0} (answers : F → List ℕ → File → Type 0) (faults : F
           refused = refused;
           explained = record { case = case_of; outcome = came; said = said };
         }
-        explained_by old new (Err (Blamed blame)) never = absurd never
+        explained_by old new (Err Blamed) never = absurd never
         explained_by old new (Err NoMemory) kept = kept
 
 -- each name was asked for, whatever came of the boot

@@ -1,35 +1,25 @@
 -- How explanations end.
 use Rattle.std.proofs.Common.{◌≡◌, ◌∙◌, ◌+◌, ◌<◌, ◌≤◌, ◌++◌, ◌==◌, ◌&&◌, ℕ, nat_le, nat_lt, true}
-use Rattle.std.proofs.Common.{false, List, [], ◌∷◌, All, Some, None, length, map, get_or, refl, sym}
-use Rattle.std.proofs.Common.{ap, arith, inl, inr}
+use Rattle.std.proofs.Common.{false, List, [], ◌∷◌, Some, None, length, map, get_or, refl, sym, ap}
+use Rattle.std.proofs.Common.{arith, inl, inr}
 use Rattle.std.specs.Prelude.{IsUtf8}
-use Rattle.std.specs.Prelude.{option_map}
+use Rattle.std.specs.Prelude.{option_map, slice_get}
 use Rattle.std.specs.Str.{is_utf8}
 use Rattle.std.specs.List.{flat_map, range_with_len}
 use Rattle.std.proofs.lemmas.Bool.{cases_Bool}
 use Rattle.std.proofs.lemmas.List.{flat_map_more, map-id}
-use Rattle.std.proofs.lemmas.List.Concat.{flat_map-cons}
-use Rattle.std.proofs.lemmas.List.Elements.{All-tail}
 use Rattle.std.proofs.lemmas.List.FromFn.{map-range_with_len_more}
 use Rattle.std.proofs.lemmas.Option.{slice_get-map, slice_get_past, slice_get_read}
 use Rattle.std.proofs.lemmas.Str.{IsUtf8-from_is_utf8}
 use Rattle.toml.specs.Data.{Members}
 use Rattle.toml.specs.Parse.{parse_document}
-use Rattle.bl_plan.specs.declared.part.Place.{Place}
-use Rattle.bl_load.specs.HandoffFacts.{HandoffFacts}
-use Rattle.bl_load.specs.PlanFacts.{part_in}
-use Rattle.bl_image.proofs.Spelled.{EndsIn, length-place_bytes}
 use Rattle.bl_session.specs.declared.words.RefusedEntry.{RefusedEntry}
-use Rattle.bl_session.specs.Boot.{handed_over}
-use Rattle.bl_session.specs.Phases.{handover_held}
 use Rattle.bl_desc.specs.declared.entry_row.EntryRow.{EntryRow}
-use Rattle.bl_desc.specs.Described.{Described, described, described_in}
+use Rattle.bl_desc.specs.Described.{described, described_in}
 use Rattle.bl_desc.specs.Views.{entry_view}
 use Rattle.bl_boot.specs.Blames.{after_byte, after_bytes}
-use Rattle.bl_boot.specs.HandedLines.{handoff_lines, handover_lines, part_line, place_line}
 use Rattle.bl_boot.specs.Sought.{SoughtFacts}
-use Rattle.bl_boot.specs.Told.{attempt_lines, booted_lines, refused_attempt_lines, row_lines}
-use Rattle.bl_boot.specs.Told.{row_lines_if, told_lines}
+use Rattle.bl_boot.specs.Told.{attempt_lines, refused_attempt_lines, row_lines, row_lines_if}
 use Rattle.bl_boot.specs.declared.explanation.blame.TextPlace.{TextPlace}
 
 -- ---- places in a text
@@ -65,44 +55,6 @@ no_text desc not =
       | inl text ↦ absurd (not (IsUtf8-from_is_utf8 desc text))
       | inr none ↦ none
     ]
-
--- ---- what is handed over
-
-parts_in : (bytes : List ℕ) (ps : List Place) → All (EndsIn bytes) ps
-    → flat_map part_line (map (part_in bytes) ps) ≡ flat_map place_line ps
-parts_in bytes [] h = refl
-parts_in bytes (p ∷ ps) h =
-    flat_map-cons part_line (part_in bytes p) (map (part_in bytes) ps)
-    ∙ ap (λ (n : ℕ). place_line record {
-      role = p.role;
-      index = p.index;
-      address = p.address;
-      length = n;
-    } ++ flat_map part_line (map (part_in bytes) ps))
-    (length-place_bytes bytes p (h 0 p (omega arith)))
-    ∙ ap (λ (l : List ℕ). place_line p ++ l) (parts_in bytes ps (All-tail (EndsIn bytes) p ps h))
-    ∙ sym (flat_map-cons place_line p ps)
-
--- what memory hands over is told by the handoff alone
-pub held_lines : (bytes : List ℕ) (handoff : HandoffFacts) → All (EndsIn bytes) handoff.places
-    → handover_lines (handover_held bytes handoff) ≡ handoff_lines handoff
-unfolding handoff_lines
-held_lines bytes handoff h = rw (parts_in bytes handoff.places h) refl
-
--- an entry that memory hands over is told
-pub told_booted : (description : Described) (sought : SoughtFacts) (entry : ℕ)
-    (earlier : List RefusedEntry) (bytes : List ℕ) (handoff : HandoffFacts) (old new : List ℕ)
-    (size : ℕ) → length bytes ≡ size
-    → All (λ place. place.address + place.length ≤ size) handoff.places
-    → new ≡ old ++ booted_lines description sought entry earlier (handoff_lines handoff)
-    → new ≡ old ++ told_lines description sought
-    (handed_over entry earlier (handover_held bytes handoff))
-told_booted description sought entry earlier bytes handoff old new size whole inside said =
-    said
-    ∙ ap (λ (handed : List ℕ). old ++ booted_lines description sought entry earlier handed)
-    (sym (held_lines bytes handoff (λ i place at.
-    let within = inside i place at in
-    omega (arith, whole, within))))
 
 -- what is said of rows is said of the rows that they are
 pub attempted_of : {A : Type 0} (rows items : List (EntryRow A)) (sought : SoughtFacts)
@@ -140,18 +92,27 @@ one_more_counted line n start so_far after so one =
 -- ---- an entry of a menu
 
 -- there is no entry at an index past the last
+pub no_row : {A : Type 0} (rows : List (EntryRow A)) (index : ℕ) → length rows ≤ index
+    → slice_get (map entry_view rows) index ≡ None
+no_row rows index past =
+    slice_get-map entry_view rows index ∙ ap (option_map entry_view)
+    (slice_get_past rows index past)
+
 pub no_attempt : {A : Type 0} (rows : List (EntryRow A)) (sought : SoughtFacts) (index : ℕ)
     → length rows ≤ index → attempt_lines (map entry_view rows) sought index ≡ []
-no_attempt rows sought index past =
-    ap (row_lines_if sought index)
-    (slice_get-map entry_view rows index ∙ ap (option_map entry_view)
-    (slice_get_past rows index past))
+no_attempt rows sought index past = ap (row_lines_if sought index) (no_row rows index past)
 
--- the entry at an index is told
+-- the entry at an index
+pub one_row : {A : Type 0} (rows : List (EntryRow A)) (index : ℕ) (row : EntryRow A)
+    → index < length rows → row ≡ get_or rows index row
+    → slice_get (map entry_view rows) index ≡ Some (entry_view row)
+one_row rows index row within at =
+    slice_get-map entry_view rows index ∙ ap (option_map entry_view)
+    (slice_get_read rows (length rows) index row refl within at)
+
+-- it is told
 pub one_attempt : {A : Type 0} (rows : List (EntryRow A)) (sought : SoughtFacts) (index : ℕ)
     (row : EntryRow A) → index < length rows → row ≡ get_or rows index row
     → attempt_lines (map entry_view rows) sought index ≡ row_lines sought index (entry_view row)
 one_attempt rows sought index row within at =
-    ap (row_lines_if sought index)
-    (slice_get-map entry_view rows index ∙ ap (option_map entry_view)
-    (slice_get_read rows (length rows) index row refl within at))
+    ap (row_lines_if sought index) (one_row rows index row within at)

@@ -10,10 +10,14 @@ use Rattle.bl_map.specs.declared.fault.MapFault.{MapFault}
 use Rattle.bl_map.specs.declared.fault.MapFault.TheVariants.{BadSize, BadRegion, TooManyRegions}
 use Rattle.bl_map.specs.declared.fault.MapFault.TheVariants.{BadPool, NoMemory}
 use Rattle.bl_desc.specs.Described.{Described, described, described_in}
+use Rattle.bl_desc.specs.BadKeys.{IsBadKey}
+use Rattle.bl_desc.specs.declared.bad_key.BadKey.{BadKey}
 use Rattle.bl_boot.specs.declared.explanation.blame.TextPlace.{TextPlace}
 use Rattle.bl_boot.specs.declared.explanation.blame.Blame.{Blame}
-use Rattle.bl_boot.specs.declared.explanation.blame.Blame.TheVariants.{NotUtf8, NotToml, BadKey}
+use Rattle.bl_boot.specs.declared.explanation.blame.Blame.TheVariants as blames
+use Rattle.bl_boot.specs.declared.explanation.blame.Blame.TheVariants.{NotUtf8, NotToml}
 use Rattle.bl_boot.specs.declared.explanation.blame.Blame.TheVariants.{BadMachine}
+use Rattle.bl_boot.specs.KeyWords.{bad_key_words}
 use Rattle.bl_boot.specs.RefusalWords.{number_told}
 
 -- ---- places in a text
@@ -44,12 +48,13 @@ pub record IsNotToml (desc : List ℕ) (place : TextPlace) : Type 0 where
   pub within : at ≤ length desc
   pub told : place ≡ text_place (take at desc)
 
--- it is TOML, but one of its keys or values is not as it must be
-pub record HasBadKey (desc : List ℕ) : Type 0 where
+-- it is TOML, but this key of it is not as it must be
+pub record HasBadKey (desc : List ℕ) (bad : BadKey) : Type 0 where
   pub text : is_utf8 desc ≡ true
   pub members : Members
   pub read : parse_document desc ≡ Some members
   pub refused : described_in members ≡ None
+  pub stands : IsBadKey members bad
 
 -- it describes a machine that breaks a rule; this fault is the first
 pub record HasBadMachine (desc : List ℕ) (fault : MapFault) : Type 0 where
@@ -61,7 +66,7 @@ pub record HasBadMachine (desc : List ℕ) (fault : MapFault) : Type 0 where
 abbrev pub HasBlame : List ℕ → Blame → Type 0
 HasBlame desc NotUtf8 = is_utf8 desc ≡ false
 HasBlame desc (NotToml place) = IsNotToml desc place
-HasBlame desc BadKey = HasBadKey desc
+HasBlame desc (blames.BadKey bad) = HasBadKey desc bad
 HasBlame desc (BadMachine fault) = HasBadMachine desc fault
 
 -- ---- the line
@@ -100,7 +105,7 @@ place_words place =
 abbrev pub blame_words : Blame → List ℕ
 blame_words NotUtf8 = codes "it is not UTF-8"
 blame_words (NotToml place) = place_words place
-blame_words BadKey = codes "a key is unknown or missing, or its value is not allowed"
+blame_words (blames.BadKey bad) = bad_key_words bad
 blame_words (BadMachine fault) = codes "machine " ++ map_fault_words fault
 
 abbrev pub blame_line : Blame → List ℕ

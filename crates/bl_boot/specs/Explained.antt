@@ -17,7 +17,8 @@ module _ {F : Type 0} (answers : F → List ℕ → File → Type 0) (faults : F
     pub case : BootCase answers faults desc before after
     pub outcome : ComesTo answers faults case state
     pub said : new
-        ≡ old ++ told_lines case.description (sought_in case.description case.files) state
+        ≡ old ++ told_lines case.description case.facts
+        (sought_in case.description case.files) state
 
   -- an entry would be handed over
   pub record ExplainsBoot (desc : List ℕ) (before after : F) (old new : List ℕ) : Type 0 where

@@ -27,13 +27,20 @@ role_name Initrd = codes "initrd"
 role_name PageTables = codes "page-tables"
 
 -- what a part is, which one of its role, its address, its length
-abbrev pub place_line : Place → List ℕ
-place_line place =
+abbrev pub part_front : Place → List ℕ
+part_front place =
     codes "part " ++ role_name place.role ++ codes " " ++ decimal place.index ++ codes " "
-    ++ hex8 place.address ++ codes " " ++ decimal place.length ++ codes "\n"
+    ++ hex8 place.address ++ codes " " ++ decimal place.length ++ codes " from "
 
-abbrev pub part_line : Part → List ℕ
-part_line part = place_line record {
+-- where the bytes of a part come from, by its role and its index
+abbrev pub SourceWords : Type 0
+SourceWords = Role → ℕ → List ℕ
+
+abbrev pub place_line : SourceWords → Place → List ℕ
+place_line source place = part_front place ++ source place.role place.index ++ codes "\n"
+
+abbrev pub part_line : SourceWords → Part → List ℕ
+part_line source part = place_line source record {
   role = part.role;
   index = part.index;
   address = part.address;
@@ -107,12 +114,12 @@ registers_lines (Bits64 r) =
 -- ---- the whole
 
 -- by the places that parts of a handoff have
-unfoldable pub handoff_lines : HandoffFacts → List ℕ
-handoff_lines handoff =
-    protocol_line handoff.protocol ++ flat_map place_line handoff.places
+unfoldable pub handoff_lines : SourceWords → HandoffFacts → List ℕ
+handoff_lines source handoff =
+    protocol_line handoff.protocol ++ flat_map (place_line source) handoff.places
     ++ registers_lines handoff.registers
 
-abbrev pub handover_lines : Handover → List ℕ
-handover_lines handover =
-    protocol_line handover.protocol ++ flat_map part_line handover.parts
+abbrev pub handover_lines : SourceWords → Handover → List ℕ
+handover_lines source handover =
+    protocol_line handover.protocol ++ flat_map (part_line source) handover.parts
     ++ registers_lines handover.registers

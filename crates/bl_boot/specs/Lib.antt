@@ -10,9 +10,13 @@ pub mod Walked
 pub mod WalkKept
 pub mod Converted
 pub mod Sought
+pub mod Frames
+pub mod Hints
+pub mod Sources
 pub mod RefusalWords
 pub mod HandedLines
 pub mod Told
+pub mod KeyWords
 pub mod Blames
 pub mod Explained
 pub mod ExplainKept

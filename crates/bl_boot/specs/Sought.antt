@@ -4,17 +4,25 @@ use Rattle.std.specs.Prelude.{decimal, slice_index_or, Option, Some, None}
 use Rattle.std.specs.List.{flat_map}
 use Rattle.hex.specs.Hex.{encode_lower}
 use Rattle.bl_map.specs.Room.{frames_of}
+use Rattle.bl_session.specs.Outcome.{File, missing, size_of, file_bytes}
 use Rattle.bl_boot.specs.Attempted.{index_of}
 
--- the names that were looked for, and for each of them the length in bytes of what was found, None
--- if there is no such file
+-- the names that were looked for, and what was found for each of them
 pub record SoughtFacts : Type 0 where
   pub names : List (List ℕ)
-  pub sizes : List (Option ℕ)
+  pub files : List File
 
--- the length of what was found for a name
+-- what was found for a name
+abbrev pub file_sought : SoughtFacts → List ℕ → File
+file_sought sought name = slice_index_or sought.files (index_of sought.names name) missing
+
+-- its bytes; what is missing or too long has none
+abbrev pub bytes_sought : SoughtFacts → List ℕ → List ℕ
+bytes_sought sought name = file_bytes (file_sought sought name)
+
+-- its length in bytes, None if there is no such file
 abbrev pub size_sought : SoughtFacts → List ℕ → Option ℕ
-size_sought sought name = slice_index_or sought.sizes (index_of sought.names name) None
+size_sought sought name = size_of (file_sought sought name)
 
 -- a byte of a name: a control character or a backslash is told by its number, so that a name stays
 -- within its line

@@ -1,17 +1,25 @@
 -- The lines that tell a boot for a person. Own.
-use Rattle.std.specs.Prelude.{ℕ, ◌==◌, ◌||◌, Bool, if◌then◌else◌, List, [], ◌++◌, length, codes}
-use Rattle.std.specs.Prelude.{decimal, Option, Some, None, map, slice_get}
-use Rattle.std.specs.List.{flat_map, list_any, range_with_len}
+use Rattle.std.specs.Prelude.{ℕ, List, [], ◌++◌, codes, decimal, Option, Some, None, map, slice_get}
+use Rattle.std.specs.List.{flat_map}
+use Rattle.std.specs.declared.ops.Range.{Range}
+use Rattle.bl_map.specs.MachineFacts.{MachineFacts}
+use Rattle.bl_plan.specs.Placed.{place_range}
+use Rattle.bl_load.specs.HandoffFacts.{HandoffFacts}
+use Rattle.bl_load.specs.Handover.{Handover}
 use Rattle.bl_session.specs.declared.words.RefusedEntry.{RefusedEntry}
+use Rattle.bl_session.specs.AttemptResult.{part_range}
 use Rattle.bl_session.specs.Boot.{State, unstarted, running, handed_over, none_left, out_of_memory}
-use Rattle.bl_session.specs.Outcome.{File, size_of}
+use Rattle.bl_session.specs.Outcome.{File}
 use Rattle.bl_desc.specs.Described.{Described}
 use Rattle.bl_desc.specs.Entries.{Entry}
 use Rattle.bl_boot.specs.Attempted.{entry_of, file_names, names_in}
-use Rattle.bl_boot.specs.HandedLines.{handover_lines}
+use Rattle.bl_boot.specs.Frames.{names_at, room_line}
+use Rattle.bl_boot.specs.HandedLines.{handoff_lines, handover_lines}
+use Rattle.bl_boot.specs.Hints.{hint_lines}
 use Rattle.bl_boot.specs.RefusalWords.{refusal_line}
 use Rattle.bl_boot.specs.Says.{booted_line, no_entry_line}
 use Rattle.bl_boot.specs.Sought.{SoughtFacts, sought_lines}
+use Rattle.bl_boot.specs.Sources.{source_at}
 
 -- ---- attempts
 
@@ -36,38 +44,32 @@ abbrev pub refused_attempt_lines : List Entry → SoughtFacts → RefusedEntry �
 refused_attempt_lines entries sought refused =
     attempt_lines entries sought refused.entry ++ refusal_line refused.refusal
 
--- ---- hints
-
--- the default or a fallback is this entry
-abbrev pub is_named : Described → ℕ → Bool
-is_named description index =
-    (description.default == index) || list_any (λ f. f == index) description.fallbacks
-
-abbrev pub hint_line : ℕ → List ℕ
-hint_line index =
-    codes "hint: entry " ++ decimal index
-    ++ codes " is not attempted: neither default nor fallback names it\n"
-
-abbrev pub hint_at : Described → ℕ → List ℕ
-hint_at description index = if is_named description index then [] else hint_line index
-
--- each entry that is never attempted
-abbrev pub hint_lines : Described → List ℕ
-hint_lines description =
-    flat_map (hint_at description) (range_with_len 0 (length description.entries))
-
 -- ---- the boot
 
 -- what is told of a description's files, where these were found for the names that are looked for
 abbrev pub sought_in : Described → List File → SoughtFacts
 sought_in description files =
-    record { names = names_in description; sizes = map size_of files }
+    record { names = names_in description; files = files }
+
+-- what one of these entries hands over, by its index, and the frames that its files take of a pool
+abbrev pub entry_handover_lines :
+    List Entry → SoughtFacts → (pool : Range ℕ) → ℕ → Handover → List ℕ
+entry_handover_lines entries sought pool entry handover =
+    handover_lines (source_at entries sought entry) handover
+    ++ room_line sought (names_at entries entry) pool (map part_range handover.parts)
+
+-- by the places that parts of a handoff have
+abbrev pub entry_handoff_lines :
+    List Entry → SoughtFacts → (pool : Range ℕ) → ℕ → HandoffFacts → List ℕ
+entry_handoff_lines entries sought pool entry handoff =
+    handoff_lines (source_at entries sought entry) handoff
+    ++ room_line sought (names_at entries entry) pool (map place_range handoff.places)
 
 -- each entry that was attempted was refused
 abbrev pub none_left_lines : Described → SoughtFacts → List RefusedEntry → List ℕ
 none_left_lines description sought refused =
     flat_map (refused_attempt_lines description.entries sought) refused
-    ++ no_entry_line ++ hint_lines description
+    ++ no_entry_line ++ hint_lines description sought refused
 
 -- an entry is handed over after these refusals, with these lines of what is handed over
 abbrev pub booted_lines : Described → SoughtFacts → ℕ → List RefusedEntry → (handed : List ℕ)
@@ -75,13 +77,16 @@ abbrev pub booted_lines : Described → SoughtFacts → ℕ → List RefusedEntr
 booted_lines description sought entry earlier handed =
     flat_map (refused_attempt_lines description.entries sought) earlier
     ++ attempt_lines description.entries sought entry
-    ++ booted_line entry (entry_of description entry).title ++ handed ++ hint_lines description
+    ++ booted_line entry (entry_of description entry).title ++ handed
+    ++ hint_lines description sought earlier
 
--- what a boot came to
-abbrev pub told_lines : Described → SoughtFacts → State → List ℕ
-told_lines description sought unstarted = []
-told_lines description sought (running entry rest earlier pieces) = []
-told_lines description sought (handed_over entry earlier handover) =
-    booted_lines description sought entry earlier (handover_lines handover)
-told_lines description sought (none_left refused) = none_left_lines description sought refused
-told_lines description sought out_of_memory = []
+-- what a boot on a machine of these facts came to
+abbrev pub told_lines : Described → MachineFacts → SoughtFacts → State → List ℕ
+told_lines description facts sought unstarted = []
+told_lines description facts sought (running entry rest earlier pieces) = []
+told_lines description facts sought (handed_over entry earlier handover) =
+    booted_lines description sought entry earlier
+    (entry_handover_lines description.entries sought facts.pool entry handover)
+told_lines description facts sought (none_left refused) =
+    none_left_lines description sought refused
+told_lines description facts sought out_of_memory = []

@@ -1,19 +1,26 @@
 //! The lines that the program says on standard output.
 
 mod attempts;
+mod bad_key;
 mod blame;
+mod frames;
 mod handed;
 mod hints;
+mod kernel_hints;
+mod key_values;
 mod map;
 mod outcome;
 mod refusal;
 mod refusal_words;
+mod region_hints;
 mod registers;
 mod sought;
+mod sources;
 mod walk;
 
 pub use attempts::{say_attempt, say_refused_attempts};
 pub use blame::say_blame;
+pub use frames::say_room;
 pub use handed::say_handoff;
 pub use hints::say_hints;
 pub use map::say_map;

@@ -1,4 +1,5 @@
 //! Why a description is a bad one.
+use bl_desc::BadKey;
 use bl_map::MapFault;
 
 /// A place in a text, by its line and its column, which is a character's. Both count from 1.
@@ -9,16 +10,16 @@ pub struct TextPlace {
 }
 
 /// Why a description is a bad one.
-#[derive(Clone, Copy, Debug, PartialEq, Eq)]
-pub enum Blame {
+#[derive(Clone, Copy, Debug)]
+pub enum Blame<'a> {
     /// It is not UTF-8.
     NotUtf8,
 
     /// It is not TOML, which is seen at this place.
     NotToml(TextPlace),
 
-    /// A key is unknown or missing, or its value is not allowed.
-    BadKey,
+    /// This key is unknown or missing, or its value is not allowed.
+    BadKey(BadKey<'a>),
 
     /// Its machine breaks a rule.
     BadMachine(MapFault),

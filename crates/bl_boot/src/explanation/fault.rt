@@ -2,13 +2,13 @@
 ghost use Rattle.std.specs.Prelude.{◌≡◌};
 ghost use Rattle.bl_boot.specs.declared.explanation.fault.ExplainFault.TheVariants.{NoMemory};
 
-use crate::explanation::blame::Blame;
 use std::alloc::{AllocError, AllocFailed};
 
-/// Why a boot is not explained to its end: its description is a bad one, or memory ran out.
+/// Why a boot is not explained to its end: its description is a bad one, for what was said, or
+/// memory ran out.
 #[derive(Clone, Copy, Debug, PartialEq, Eq)]
 pub enum ExplainFault {
-    Blamed(Blame),
+    Blamed,
     NoMemory,
 }
 

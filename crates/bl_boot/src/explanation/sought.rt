@@ -1,65 +1,74 @@
 //! What was found for the names that are looked for.
-ghost use Rattle.std.specs.Prelude.{◌≡◌, map, IfOk};
-ghost use Rattle.bl_session.specs.Outcome.{size_of};
-ghost use Rattle.bl_session.specs.Stores.{file_of};
 
 use crate::description_boot::index_of;
 use bl_session::Fetched;
-use std::alloc::{AllocError, Allocator};
+use std::alloc::Allocator;
 use std::marker::Model;
 
-/// The names that are looked for, and for each the length of what was found, none if there is no
-/// such file. Contracts see it as these two lists.
+/// The names that are looked for, and what was found for each. Contracts see it as these two
+/// lists.
 #[derive(Drop)]
-pub struct Sought<'a> {
+pub struct Sought<'a, A: Allocator> {
     names: &'a [&'a str],
-    sizes: &'a [Option<u64>],
+    files: &'a [Fetched<A>],
 }
 
-impl<'a> Model for Sought<'a> {
+impl<'a, A: Allocator> Model for Sought<'a, A> {
     ghost use Rattle.std.specs.Prelude.{map};
+    ghost use Rattle.bl_session.specs.Stores.{stored_files};
     ghost use Rattle.bl_boot.specs.Sought.{SoughtFacts};
 
     ghost Value = { SoughtFacts };
 
-    ghost view = { λ s. record { names = map (λ n. n.now) s.names.now; sizes = s.sizes.now } };
+    ghost view = { λ s. record {
+      names = map (λ n. n.now) s.names.now;
+      files = stored_files s.files.now;
+    } };
 }
 
-impl<'a> Sought<'a> {
+impl<'a, A: Allocator> Sought<'a, A> {
     ghost use Rattle.std.specs.Prelude.{◌≡◌, map};
-    ghost use Rattle.bl_boot.specs.Sought.{size_sought};
+    ghost use Rattle.bl_session.specs.Stores.{stored_files};
+    ghost use Rattle.bl_boot.specs.Frames.{length_sought};
+    ghost use Rattle.bl_boot.specs.Sought.{bytes_sought, size_sought};
 
-    /// These names, with these lengths.
-    pub fn new(names: &'a [&'a str], sizes: &'a [Option<u64>]) -> Sought<'a>
+    /// These names, for which these files were found.
+    pub fn new(names: &'a [&'a str], files: &'a [Fetched<A>]) -> Sought<'a, A>
         ensures { result ≡ record {
           names = map (λ n. n.now) names.entry.now;
-          sizes = sizes.entry.now;
+          files = stored_files files.entry.now;
         } }
     {
-        Sought { names, sizes }
+        Sought { names, files }
     }
 
-    /// The length of what was found for a name.
+    /// The length of what was found for a name, none if there is no such file.
     pub fn size(&self, name: &str) -> Option<u64>
         ensures { result ≡ size_sought self.now name.now }
     {
-        match self.sizes.get(index_of(self.names, name)) {
-            Some(size) => *size,
+        match self.files.get(index_of(self.names, name)) {
+            Some(file) => file.size(),
             None => None,
         }
     }
-}
 
-/// The lengths of what was found.
-pub fn sizes_of<A: Allocator + Copy>(
-    alloc: A,
-    found: &[Fetched<A>],
-) -> Result<Vec<Option<u64>, A>, AllocError>
-    ensures { IfOk result (λ sizes. sizes.items ≡ map size_of (map file_of found.now)) }
-{
-    let mut sizes = Vec::new(alloc);
-    for file in found {
-        sizes.push(file.size())?;
+    /// The length of what was found for a name, 0 if there is no such file.
+    pub fn length(&self, name: &str) -> u64
+        ensures { result ≡ length_sought self.now name.now }
+    {
+        match self.size(name) {
+            Some(size) => size,
+            None => 0,
+        }
     }
-    Ok(sizes)
+
+    /// The bytes of what was found for a name, none if there is no such file or it is too long.
+    pub fn bytes(&self, name: &str) -> &[u8]
+        ensures { result.now ≡ bytes_sought self.now name.now }
+    {
+        match self.files.get(index_of(self.names, name)) {
+            Some(Fetched::Bytes(bytes)) => bytes.as_slice(),
+            _ => &[],
+        }
+    }
 }

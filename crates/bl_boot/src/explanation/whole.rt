@@ -12,15 +12,13 @@ use crate::description_boot::{DescribedBoot, End, find_files, menu_of, names_in,
 use crate::explanation::fault::ExplainFault;
 use crate::explanation::found::explain_found;
 use crate::explanation::reading::{machine_blamed, read_blamed};
-use crate::explanation::sought::{Sought, sizes_of};
 use crate::file_source::Files;
-use crate::lines::say_blame;
 use bl_line::Order;
 use bl_mem::Sparse;
 use bl_session::FileStore;
 use std::alloc::{Allocator, Global};
 
-/// The same as `explain_to`, with its end in place of the status; a blame is not said yet.
+/// The same as `explain_to`, with its end in place of the status.
 fn run_explain<A: Allocator + Copy, F: Files, B: Allocator>(
     alloc: A,
     global: Global,
@@ -41,21 +39,19 @@ fn run_explain<A: Allocator + Copy, F: Files, B: Allocator>(
         × (F.faults files.new ≤ F.faults files.old + length (names_sought (described desc.now))) }
     ensures few { F.faults files.new ≤ F.faults files.old + most_names }
 {
-    let description = read_blamed(alloc, global, desc)?;
-    let machine = machine_blamed(alloc, &description)?;
+    let description = read_blamed(alloc, global, desc, say)?;
+    let machine = machine_blamed(alloc, &description, say)?;
     let names = names_in(alloc, &description)?;
     let menu = menu_of(alloc, &names, &description)?;
     let mut memory = Sparse::new(alloc, machine.size(), description.fill)?;
     let found = find_files(alloc, &description, &names, files)?;
-    let sizes = sizes_of(alloc, &found)?;
     let store = FileStore::new(alloc, found, order_of(order));
     let boot = DescribedBoot {
         description: &description,
         machine: &machine,
         menu: &menu,
     };
-    let sought = Sought::new(&names, &sizes);
-    explain_found(alloc, &mut memory, store, &boot, &sought, say)
+    explain_found(alloc, &mut memory, store, &boot, &names, say)
 }
 
 /// Tells the boot of a description for a person, line by line, in `say`: each entry that is
@@ -102,10 +98,7 @@ pub fn explain_to<A: Allocator + Copy, F: Files, B: Allocator>(
     match run_explain(alloc, global, desc, files, order, say) {
         Ok(End::Booted) => 0,
         Ok(End::NoEntryLeft) => 1,
-        Err(ExplainFault::Blamed(blame)) => match say_blame(alloc, &blame, say) {
-            Ok(()) => 2,
-            Err(_) => 4,
-        },
+        Err(ExplainFault::Blamed) => 2,
         Err(ExplainFault::NoMemory) => 4,
     }
 }

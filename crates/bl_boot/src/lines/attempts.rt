@@ -26,7 +26,7 @@ fn say_title<A: Allocator + Copy>(
 
 fn say_row<A: Allocator + Copy, B: Allocator>(
     out: &mut Vec<u8, A>,
-    sought: &Sought<'_>,
+    sought: &Sought<'_, A>,
     index: u64,
     entry: &EntryRow<B>,
 ) -> Result<(), AllocError>
@@ -41,7 +41,7 @@ fn say_row<A: Allocator + Copy, B: Allocator>(
 pub fn say_attempt<A: Allocator + Copy, B: Allocator>(
     out: &mut Vec<u8, A>,
     entries: &[EntryRow<B>],
-    sought: &Sought<'_>,
+    sought: &Sought<'_, A>,
     index: u32,
 ) -> Result<(), AllocError>
     ensures { OnOk result (out.new.items ≡ out.old.items
@@ -56,7 +56,7 @@ pub fn say_attempt<A: Allocator + Copy, B: Allocator>(
 fn say_refused_attempt<A: Allocator + Copy, B: Allocator>(
     out: &mut Vec<u8, A>,
     entries: &[EntryRow<B>],
-    sought: &Sought<'_>,
+    sought: &Sought<'_, A>,
     refused: &RefusedEntry,
 ) -> Result<(), AllocError>
     ensures { OnOk result (out.new.items ≡ out.old.items
@@ -70,7 +70,7 @@ fn say_refused_attempt<A: Allocator + Copy, B: Allocator>(
 pub fn say_refused_attempts<A: Allocator + Copy, B: Allocator>(
     out: &mut Vec<u8, A>,
     entries: &[EntryRow<B>],
-    sought: &Sought<'_>,
+    sought: &Sought<'_, A>,
     refused: &[RefusedEntry],
 ) -> Result<(), AllocError>
     ensures { OnOk result (out.new.items ≡ out.old.items

@@ -3,6 +3,7 @@ ghost use Rattle.std.specs.Prelude.{◌≡◌, ◌++◌, OnOk, OnErr};
 ghost use Rattle.bl_boot.specs.Blames as blames;
 
 use crate::explanation::{Blame, TextPlace};
+use crate::lines::bad_key::say_bad_key;
 use crate::lines::refusal::say_number;
 use bl_map::MapFault;
 use std::alloc::{AllocError, Allocator};
@@ -71,15 +72,16 @@ fn say_place<A: Allocator + Copy>(out: &mut Vec<u8, A>, place: &TextPlace) -> Re
     out.extend_from_slice(words.as_bytes())
 }
 
-fn say_words<A: Allocator + Copy>(out: &mut Vec<u8, A>, blame: &Blame) -> Result<(), AllocError>
+fn say_words<A: Allocator + Copy>(
+    out: &mut Vec<u8, A>,
+    blame: &Blame<'_>,
+) -> Result<(), AllocError>
     ensures { OnOk result (out.new.items ≡ out.old.items ++ blames.blame_words blame.now) }
 {
     match blame {
         Blame::NotUtf8 => out.extend_from_slice(b"it is not UTF-8"),
         Blame::NotToml(place) => say_place(out, place),
-        Blame::BadKey => {
-            out.extend_from_slice(b"a key is unknown or missing, or its value is not allowed")
-        }
+        Blame::BadKey(bad) => say_bad_key(out, bad),
         Blame::BadMachine(fault) => {
             out.extend_from_slice(b"machine ")?;
             say_map_fault(out, *fault)
@@ -91,7 +93,7 @@ fn say_words<A: Allocator + Copy>(out: &mut Vec<u8, A>, blame: &Blame) -> Result
 /// that an error leaves the text as it was.
 pub fn say_blame<A: Allocator + Copy, B: Allocator>(
     alloc: A,
-    blame: &Blame,
+    blame: &Blame<'_>,
     out: &mut Vec<u8, B>,
 ) -> Result<(), AllocError>
     ensures ok { OnOk result (out.new.items ≡ out.old.items ++ blames.blame_line blame.now) }

@@ -1,11 +1,16 @@
 //! What a kernel is handed, line by line.
-ghost use Rattle.std.specs.Prelude.{◌≡◌, ◌++◌, OnOk};
+ghost use Rattle.std.specs.Prelude.{◌≡◌, ◌++◌, OnOk, map};
 ghost use Rattle.std.specs.List.{flat_map};
 ghost use Rattle.bl_boot.specs.HandedLines as handed;
 ghost use Rattle.bl_boot.specs.HandedLines.{place_line};
+ghost use Rattle.bl_boot.specs.Sources.{source_at};
+ghost use Rattle.bl_desc.specs.Views.{entry_view};
 
+use crate::explanation::Sought;
 use crate::lines::registers::say_registers;
+use crate::lines::sources::say_source;
 use crate::lines::walk::say_protocol;
+use bl_desc::EntryRow;
 use bl_load::{Handoff, Place, Role};
 use std::alloc::{AllocError, Allocator};
 
@@ -25,42 +30,68 @@ fn role_name(role: Role) -> &'static str
     }
 }
 
-fn say_part<A: Allocator + Copy>(out: &mut Vec<u8, A>, place: &Place) -> Result<(), AllocError>
-    ensures { OnOk result (out.new.items ≡ out.old.items ++ handed.place_line place.now) }
+/// Appends what a part is, which one of its role, its address, its length.
+fn say_part_front<A: Allocator + Copy>(
+    out: &mut Vec<u8, A>,
+    place: &Place,
+) -> Result<(), AllocError>
+    ensures { OnOk result (out.new.items ≡ out.old.items ++ handed.part_front place.now) }
 {
     let alloc = *out.allocator();
     let role = role_name(place.role);
     let index = place.index;
     let address = place.address;
     let length = place.length;
-    let line = format!(in alloc; "part {role} {index} {address:08x} {length}\n")?;
+    let line = format!(in alloc; "part {role} {index} {address:08x} {length} from ")?;
     out.extend_from_slice(line.as_bytes())
 }
 
-fn say_parts<A: Allocator + Copy, B: Allocator>(
+fn say_part<A: Allocator + Copy, B: Allocator>(
     out: &mut Vec<u8, A>,
-    handoff: &Handoff<B>,
+    entries: &[EntryRow<B>],
+    sought: &Sought<'_, A>,
+    entry: u32,
+    place: &Place,
 ) -> Result<(), AllocError>
-    ensures { OnOk result
-        (out.new.items ≡ out.old.items ++ flat_map place_line handoff.now.places) }
+    ensures { OnOk result (out.new.items ≡ out.old.items
+        ++ place_line (source_at (map entry_view entries.now) sought.now entry) place.now) }
+{
+    say_part_front(out, place)?;
+    say_source(out, entries, sought, entry, place)?;
+    out.extend_from_slice(b"\n")
+}
+
+fn say_parts<A: Allocator + Copy, B: Allocator, C: Allocator>(
+    out: &mut Vec<u8, A>,
+    entries: &[EntryRow<B>],
+    sought: &Sought<'_, A>,
+    entry: u32,
+    handoff: &Handoff<C>,
+) -> Result<(), AllocError>
+    ensures { OnOk result (out.new.items ≡ out.old.items
+        ++ flat_map (place_line (source_at (map entry_view entries.now) sought.now entry))
+        handoff.now.places) }
 {
     for index in 0..handoff.len() {
-        say_part(out, &handoff.place(index))?;
+        say_part(out, entries, sought, entry, &handoff.place(index))?;
     }
     Ok(())
 }
 
-/// Appends the lines of what a kernel is handed: the protocol, the parts in address order, the
-/// registers.
+/// Appends the lines of what a kernel is handed, that of the entry of this index: the protocol,
+/// the parts in address order with the sources of their bytes, the registers.
 #[tactic(auto, unfolding(crate::specs::HandedLines::handoff_lines))]
-pub fn say_handoff<A: Allocator + Copy, B: Allocator>(
+pub fn say_handoff<A: Allocator + Copy, B: Allocator, C: Allocator>(
     out: &mut Vec<u8, A>,
-    handoff: &Handoff<B>,
+    entries: &[EntryRow<B>],
+    sought: &Sought<'_, A>,
+    entry: u32,
+    handoff: &Handoff<C>,
 ) -> Result<(), AllocError>
-    ensures { OnOk result
-        (out.new.items ≡ out.old.items ++ handed.handoff_lines handoff.now) }
+    ensures { OnOk result (out.new.items ≡ out.old.items ++ handed.handoff_lines
+        (source_at (map entry_view entries.now) sought.now entry) handoff.now) }
 {
     say_protocol(out, handoff.protocol())?;
-    say_parts(out, handoff)?;
+    say_parts(out, entries, sought, entry, handoff)?;
     say_registers(out, &handoff.registers())
 }

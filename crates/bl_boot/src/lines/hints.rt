@@ -1,10 +1,14 @@
 //! Hints on a menu, line by line.
 ghost use Rattle.std.specs.Prelude.{◌≡◌, ◌≤◌, ◌++◌, OnOk, ◌==◌, length};
 ghost use Rattle.std.specs.List.{list_any};
-ghost use Rattle.bl_boot.specs.Told as told;
+ghost use Rattle.bl_boot.specs.Hints as hints;
 ghost use Rattle.bl_desc.specs.Views.{view};
 
+use crate::explanation::Sought;
+use crate::lines::kernel_hints::say_kernel_hints;
+use crate::lines::region_hints::say_region_hints;
 use bl_desc::Description;
+use bl_session::RefusedEntry;
 use std::alloc::{AllocError, Allocator};
 
 /// Whether an entry is one of these.
@@ -16,7 +20,7 @@ fn is_among(index: u32, indices: &[u32]) -> bool
 
 /// Whether the default or a fallback is this entry.
 fn is_named<A: Allocator>(description: &Description<A>, index: u32) -> bool
-    ensures { result ≡ told.is_named (view description.now) index }
+    ensures { result ≡ hints.is_named (view description.now) index }
 {
     if description.default == index {
         return true;
@@ -25,7 +29,7 @@ fn is_named<A: Allocator>(description: &Description<A>, index: u32) -> bool
 }
 
 fn say_hint<A: Allocator + Copy>(out: &mut Vec<u8, A>, index: u64) -> Result<(), AllocError>
-    ensures { OnOk result (out.new.items ≡ out.old.items ++ told.hint_line index) }
+    ensures { OnOk result (out.new.items ≡ out.old.items ++ hints.hint_line index) }
 {
     let alloc = *out.allocator();
     let line = format!(in alloc;
@@ -41,7 +45,7 @@ fn say_hint_at<A: Allocator + Copy, B: Allocator>(
     index: u32,
 ) -> Result<(), AllocError>
     ensures { OnOk result
-        (out.new.items ≡ out.old.items ++ told.hint_at (view description.now) index) }
+        (out.new.items ≡ out.old.items ++ hints.hint_at (view description.now) index) }
 {
     if is_named(description, index) {
         return Ok(());
@@ -50,16 +54,33 @@ fn say_hint_at<A: Allocator + Copy, B: Allocator>(
 }
 
 /// Appends a line for each entry that is never attempted.
-pub fn say_hints<A: Allocator + Copy, B: Allocator>(
+fn say_unattempted<A: Allocator + Copy, B: Allocator>(
     out: &mut Vec<u8, A>,
     description: &Description<B>,
 ) -> Result<(), AllocError>
     requires { length description.now.entries.items ≤ 32 }
     ensures { OnOk result
-        (out.new.items ≡ out.old.items ++ told.hint_lines (view description.now)) }
+        (out.new.items ≡ out.old.items ++ hints.unattempted_hints (view description.now)) }
 {
     for index in 0..description.entries.len() {
         say_hint_at(out, description, index as u32)?;
     }
     Ok(())
+}
+
+/// Appends the hints on a boot with these refusals: on kernels of another protocol, on regions
+/// that are not made of whole frames, and on entries that are never attempted.
+pub fn say_hints<A: Allocator + Copy, B: Allocator>(
+    out: &mut Vec<u8, A>,
+    description: &Description<B>,
+    sought: &Sought<'_, A>,
+    refused: &[RefusedEntry],
+) -> Result<(), AllocError>
+    requires { length description.now.entries.items ≤ 32 }
+    ensures { OnOk result (out.new.items ≡ out.old.items
+        ++ hints.hint_lines (view description.now) sought.now refused.now) }
+{
+    say_kernel_hints(out, &description.entries, sought, refused)?;
+    say_region_hints(out, &description.regions)?;
+    say_unattempted(out, description)
 }

@@ -24,7 +24,7 @@ fn say_byte<A: Allocator + Copy>(out: &mut Vec<u8, A>, byte: u8) -> Result<(), A
     out.extend_from_slice(&[byte])
 }
 
-fn say_name<A: Allocator + Copy>(out: &mut Vec<u8, A>, name: &[u8]) -> Result<(), AllocError>
+pub fn say_name<A: Allocator + Copy>(out: &mut Vec<u8, A>, name: &[u8]) -> Result<(), AllocError>
     ensures { OnOk result (out.new.items ≡ out.old.items ++ sought_files.shown_name name.now) }
 {
     for byte in name {
@@ -56,7 +56,7 @@ fn say_front<A: Allocator + Copy>(
 /// Appends the line of a file by its name, at this place of the entry.
 fn say_sought<A: Allocator + Copy>(
     out: &mut Vec<u8, A>,
-    sought: &Sought<'_>,
+    sought: &Sought<'_, A>,
     place: u64,
     name: &str,
 ) -> Result<(), AllocError>
@@ -71,7 +71,7 @@ fn say_sought<A: Allocator + Copy>(
 /// Appends the lines of the files of modules, from this place of the entry on.
 fn say_modules<A: Allocator + Copy, B: Allocator>(
     out: &mut Vec<u8, A>,
-    sought: &Sought<'_>,
+    sought: &Sought<'_, A>,
     place: u64,
     modules: &[ModuleRow<B>],
 ) -> Result<(), AllocError>
@@ -91,7 +91,7 @@ fn say_modules<A: Allocator + Copy, B: Allocator>(
 /// Appends the lines of an entry's files, the kernel's first.
 pub fn say_entry_files<A: Allocator + Copy, B: Allocator>(
     out: &mut Vec<u8, A>,
-    sought: &Sought<'_>,
+    sought: &Sought<'_, A>,
     entry: &EntryRow<B>,
 ) -> Result<(), AllocError>
     ensures { OnOk result (out.new.items ≡ out.old.items

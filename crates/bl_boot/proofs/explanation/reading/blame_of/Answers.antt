@@ -1,11 +1,15 @@
 use Rattle.std.proofs.Common.{inl}
 use Rattle.std.proofs.lemmas.Str.{is_utf8-from_IsUtf8}
+use Rattle.bl_boot.specs.declared.explanation.blame.Blame.TheVariants as blames
+use Rattle.bl_boot.proofs.ExplainEnds.{blamed_for}
 use Rattle.bl_boot.proofs.ExplainLemmas.{no_text}
 use Rattle.bl_boot.proofs.explanation.reading.blame_of.Goals as goal
 
 pub blame_of_text-requires-clause-text : goal.blame_of_text-requires-clause-text
-blame_of_text-requires-clause-text c =
+blame_of_text-requires-clause-text g c =
     rw c.in-Ok.ensures.cases.0 (is_utf8-from_IsUtf8 c.args.desc.now c.in-Ok.ensures.cases.1)
 
 pub returns-in-Err : goal.returns-in-Err
-returns-in-Err c = (inl c.requires, no_text c.args.desc.now c.in-Err.ensures.cases.0)
+returns-in-Err g c =
+    blamed_for c.args.desc.now blames.NotUtf8 _ _ c.blamed.result (inl c.requires)
+    (no_text c.args.desc.now c.in-Err.ensures.cases.0) c.blamed.ensures

@@ -20,7 +20,7 @@ returns-in_err-description g c =
     rw (p.1, p.2)
     (record {
       ends = unread g.F.Files.answers g.F.Files.faults c.args.desc.now c.args.files.now
-          c.args.say.now.items _ c.in_err-description.ensures.fault;
+          c.args.say.now.items _ _ c.in_err-description.ensures.fault;
       asked = none_asked (names_fetched (described c.args.desc.now))
           (g.F.Files.asked c.args.files.now);
       inline = λ _. refl;
@@ -39,7 +39,8 @@ returns-in_err-machine g c =
     (record {
       ends = unmade g.F.Files.answers g.F.Files.faults c.args.desc.now
           c.in_ok-description.description c.in_ok-description.ensures.given c.args.files.now
-          c.args.say.now.items _ c.in_err-machine.ensures.fault;
+          c.args.say.now.items _ _ (rw c.in_ok-description.ensures.kept
+          at c.in_err-machine.ensures.fault);
       asked = none_asked (names_fetched (described c.args.desc.now))
           (g.F.Files.asked c.args.files.now);
       inline = λ _. refl;
@@ -125,31 +126,6 @@ returns-in_err-found-clause-few g c =
     ap length c.deref-2.ensures.value in
     omega (arith, missing.1, count, c.in_ok-names.ensures.few)
 
-pub returns-in_err-sizes-clause-inline : goal.returns-in_err-sizes-clause-inline
-returns-in_err-sizes-clause-inline g c = λ has. c.in_ok-found.ensures.inline
-    (rw (c.deref-2.ensures.value, c.in_ok-names.ensures.names)
-    (inline_in c.args.desc.now c.in_ok-description.description c.in_ok-description.ensures.given
-    has))
-
-pub returns-in_err-sizes-clause-missing : goal.returns-in_err-sizes-clause-missing
-returns-in_err-sizes-clause-missing g c =
-    let missing = c.in_ok-found.ensures.missing in
-    let count : length c.deref-2.result.now
-    ≡ length (names_in (view c.in_ok-description.description)) =
-    ap length c.deref-2.ensures.value
-    ∙ as_many c.in_ok-names.names.items _ c.in_ok-names.ensures.names in (
-      missing.0,
-      rw (sought c.args.desc.now c.in_ok-description.description
-          c.in_ok-description.ensures.given) (omega (arith, missing.1, count)),
-    )
-
-pub returns-in_err-sizes-clause-few : goal.returns-in_err-sizes-clause-few
-returns-in_err-sizes-clause-few g c =
-    let missing = c.in_ok-found.ensures.missing in
-    let count : length c.deref-2.result.now ≡ length c.in_ok-names.names.items =
-    ap length c.deref-2.ensures.value in
-    omega (arith, missing.1, count, c.in_ok-names.ensures.few)
-
 pub returns-in_err-found-clause-asked : goal.returns-in_err-found-clause-asked
 returns-in_err-found-clause-asked g c =
     let p =
@@ -162,18 +138,6 @@ returns-in_err-found-clause-asked g c =
     )
     (rw (c.deref-2.ensures.value, c.in_ok-names.ensures.names)
     at c.in_err-found.ensures.asked_first)
-
-pub returns-in_err-sizes-clause-asked : goal.returns-in_err-sizes-clause-asked
-returns-in_err-sizes-clause-asked g c =
-    let p =
-    err_from_is_err_and c.from_residual-in_err-sizes.result c.from_residual-in_err-sizes.ensures.1
-    in
-    rw p.1
-    (all_asked (names_fetched (described c.args.desc.now))
-    (g.F.Files.asked c.args.files.now) _
-    (rw (fetched c.args.desc.now c.in_ok-description.description
-    c.in_ok-description.ensures.given)
-    (rw (c.deref-2.ensures.value, c.in_ok-names.ensures.names) at c.in_ok-found.ensures.asked)))
 
 pub returns-clause-asked : goal.returns-clause-asked
 returns-clause-asked g c =
@@ -223,10 +187,6 @@ returns-clause-ends g c =
     (rw (
       c.new-store.ensures,
       c.in_ok-menu.ensures.menu,
-      c.new-sought.ensures,
-      c.deref-4.ensures.value,
-      c.in_ok-names.ensures.names,
-      c.deref-5.ensures.value,
-      c.in_ok-sizes.ensures,
       c.deref-3.ensures.value,
+      c.in_ok-names.ensures.names,
     ) at c.explain_found.ensures)

@@ -1,18 +1,31 @@
-use Rattle.std.proofs.Common.{rules, arith, ◌≡◌, ◌++◌, ◌^◌, ◌-◌}
-use Rattle.std.specs.Prelude.{codes, decimal}
-use Rattle.std.proofs.lemmas.Grind.{common_steps}
-use Rattle.bl_boot.proofs.HexLemmas.{hex8_hole, hex8_is}
-use Rattle.bl_boot.specs.HandedLines.{place_line, role_name}
+use Rattle.std.proofs.Common.{rules, ◌≡◌, ◌++◌, ◌∙◌, List, ℕ, OnOk, map, ap, append_assoc}
+use Rattle.std.specs.Prelude.{codes}
+use Rattle.std.proofs.lemmas.Result.{on_ok_weaker}
+use Rattle.bl_desc.specs.Views.{entry_view}
+use Rattle.bl_boot.specs.HandedLines.{part_front}
+use Rattle.bl_boot.specs.Sources.{source_at}
 use Rattle.bl_boot.proofs.lines.handed.say_part.Goals as goal
+
+-- three texts, one after the other
+three_said : (out front source end first second third : List ℕ) → first ≡ out ++ front
+    → second ≡ first ++ source → third ≡ second ++ end
+    → third ≡ out ++ (front ++ (source ++ end))
+three_said out front source end first second third one two three =
+    three
+    ∙ ap (λ (l : List ℕ). l ++ end) (two ∙ ap (λ (l : List ℕ). l ++ source) one)
+    ∙ append_assoc (out ++ front) source end
+    ∙ append_assoc out front (source ++ end)
 
 pub returns : goal.returns
 returns g c =
     let place = c.args.place.now in
-    let limit = 2 ^ 64 - 1 in
-    let holes : c.as_bytes.result.now
-    ≡ codes "part " ++ role_name place.role ++ codes " " ++ decimal place.index ++ codes " "
-    ++ hex8_hole limit place.address ++ codes " " ++ decimal place.length ++ codes "\n" =
-    grind (arith, common_steps) in
-    let line : c.as_bytes.result.now ≡ place_line place =
-    rw (← hex8_is limit place.address) holes in
-    search rules
+    let said : OnOk c.extend_from_slice.result
+    (c.extend_from_slice.new.self.items ≡ c.say_source.new.out.items ++ codes "\n") =
+    search rules in
+    on_ok_weaker c.extend_from_slice.result
+    (three_said c.args.out.now.items (part_front place)
+    (source_at (map entry_view c.args.entries.now) c.args.sought.now c.args.entry place.role
+    place.index)
+    (codes "\n") c.say_part_front.new.out.items c.say_source.new.out.items
+    c.extend_from_slice.new.self.items c.in_ok-say_part_front.ensures c.in_ok-say_source.ensures)
+    said

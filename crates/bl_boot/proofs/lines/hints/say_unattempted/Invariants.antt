@@ -1,8 +1,8 @@
 use Rattle.std.proofs.Common.{◌≡◌, ◌++◌}
 use Rattle.std.specs.List.{flat_map, range_with_len}
 use Rattle.bl_desc.specs.Views.{view}
-use Rattle.bl_boot.specs.Told.{hint_at}
-use Rattle.bl_boot.proofs.lines.hints.say_hints.Given as goal
+use Rattle.bl_boot.specs.Hints.{hint_at}
+use Rattle.bl_boot.proofs.lines.hints.say_unattempted.Given as goal
 
 abbrev pub invariant-loop-index : goal.invariant-loop-index
 invariant-loop-index g l =

@@ -1,7 +1,7 @@
 use Rattle.bl_desc.specs.Views.{view}
-use Rattle.bl_boot.specs.Told.{hint_at}
+use Rattle.bl_boot.specs.Hints.{hint_at}
 use Rattle.bl_boot.proofs.ExplainLemmas.{one_more_counted}
-use Rattle.bl_boot.proofs.lines.hints.say_hints.Goals as goal
+use Rattle.bl_boot.proofs.lines.hints.say_unattempted.Goals as goal
 
 pub loop-index-preserved : goal.loop-index-preserved
 loop-index-preserved g c =

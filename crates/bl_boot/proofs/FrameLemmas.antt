@@ -1,0 +1,20 @@
+-- The ranges of parts, and sums within a frame.
+use Rattle.std.proofs.Common.{◌≡◌, ◌+◌, ◌≤◌, ◌%◌, ℕ, map, arith}
+use Rattle.std.proofs.lemmas.List.Elements.{All-map}
+use Rattle.bl_map.specs.Room.{AreAscending}
+use Rattle.bl_plan.specs.Placed.{place_range}
+use Rattle.bl_load.specs.HandoffFacts.{HandoffFacts, AreHandoffFacts}
+use Rattle.bl_load.proofs.HeldLemmas.{AllPairs-map}
+
+-- parts ascend
+pub ascending_parts : (handoff : HandoffFacts) → AreHandoffFacts handoff
+    → AreAscending (map place_range handoff.places)
+ascending_parts handoff h = record {
+  forward = All-map (λ range. range.start ≤ range.end) place_range handoff.places
+      (λ k d within. omega arith);
+  in_order = AllPairs-map (λ p q. p.end ≤ q.start) place_range handoff.places h.ascending;
+}
+
+-- the place of a sum in its frame
+pub frame_sum : (a b : ℕ) → (a % 4096 + b % 4096) % 4096 ≡ (a + b) % 4096
+frame_sum a b = omega arith
