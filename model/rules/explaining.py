@@ -11,7 +11,7 @@ from .bad_keys import shown
 from .booting import File, Outcome, Run
 from .description import BadDescription, Description
 from .handover import PROTOCOL_NAMES
-from .machine import check, is_size
+from .machine import check
 from .numbers import frames
 from .refusals import MACHINE_NAMES, NAMES, Refused
 from .telling import handover_lines, hints, sizes_of
@@ -69,8 +69,6 @@ def blames(text: bytes) -> List[List[str]]:
     except Refused as refused:
         lines = alone("machine " + told(refused.number, refused.data, MACHINE_NAMES,
                                         "Of a machine"))
-        if refused.number == 1 and is_size(int(str(machine.size), 16)):
-            lines[0].append(f"hint: is 0x{machine.size} meant?")
         return lines
     raise AssertionError("no fault")
 
