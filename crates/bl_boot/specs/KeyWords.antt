@@ -42,7 +42,7 @@ dot_words _ = codes "."
 
 -- a key, by its path
 abbrev pub path_words : TablePlace → List ℕ → List ℕ
-path_words table key = table_words table ++ dot_words table ++ shown_name key
+path_words at key = table_words at ++ dot_words at ++ shown_name key
 
 -- ---- what is held
 

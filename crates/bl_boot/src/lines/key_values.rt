@@ -36,9 +36,8 @@ fn say_array<A: Allocator + Copy>(out: &mut Vec<u8, A>, count: usize) -> Result<
     ensures { OnOk result
         (out.new.items ≡ out.old.items ++ codes "an array of " ++ decimal count) }
 {
-    let alloc = *out.allocator();
-    let told = format!(in alloc; "an array of {count}")?;
-    out.extend_from_slice(told.as_bytes())
+    out.extend_from_slice(b"an array of ")?;
+    say_number_of(out, count as u64)
 }
 
 /// Appends what a value is.
