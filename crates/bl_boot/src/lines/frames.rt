@@ -1,5 +1,5 @@
 //! The frames of the pool that an entry's files take, in a line.
-ghost use Rattle.std.specs.Prelude.{◌≡◌, ◌*◌, ◌≤◌, ◌^◌, ◌++◌, OnOk, length, map};
+ghost use Rattle.std.specs.Prelude.{◌≡◌, ◌*◌, ◌≤◌, ◌^◌, ◌++◌, OnOk, decimal, length, map};
 ghost use Rattle.bl_map.specs.Room as room;
 ghost use Rattle.bl_plan.specs.Placed.{place_range};
 ghost use Rattle.bl_boot.specs.Attempted.{file_names, names_beside};
@@ -79,6 +79,21 @@ fn frames_at<A: Allocator, B: Allocator>(
     }
 }
 
+/// Appends a number between two texts.
+fn say_counted<A: Allocator + Copy>(
+    out: &mut Vec<u8, A>,
+    before: &str,
+    count: u64,
+    behind: &str,
+) -> Result<(), AllocError>
+    ensures { OnOk result (out.new.items ≡ out.old.items
+        ++ (before.now ++ (decimal count ++ behind.now))) }
+{
+    let alloc = *out.allocator();
+    let words = format!(in alloc; "{before}{count}{behind}")?;
+    out.extend_from_slice(words.as_bytes())
+}
+
 fn say_frames<A: Allocator + Copy>(
     out: &mut Vec<u8, A>,
     wanted: u64,
@@ -87,9 +102,10 @@ fn say_frames<A: Allocator + Copy>(
 ) -> Result<(), AllocError>
     ensures { OnOk result (out.new.items ≡ out.old.items ++ frames_line wanted beside all) }
 {
-    let alloc = *out.allocator();
-    let line = format!(in alloc; "frames {wanted} wanted, {beside} open, {all} in all\n")?;
-    out.extend_from_slice(line.as_bytes())
+    say_counted(out, "frames ", wanted, " wanted, ")?;
+    say_counted(out, "", beside, " open, ")?;
+    say_counted(out, "", all, " in all\n")?;
+    Ok(())
 }
 
 /// Appends the line of the frames of an entry that is handed over.

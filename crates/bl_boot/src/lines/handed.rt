@@ -1,5 +1,5 @@
 //! What a kernel is handed, line by line.
-ghost use Rattle.std.specs.Prelude.{◌≡◌, ◌++◌, OnOk, map};
+ghost use Rattle.std.specs.Prelude.{◌≡◌, ◌++◌, OnOk, codes, map};
 ghost use Rattle.std.specs.List.{flat_map};
 ghost use Rattle.bl_boot.specs.HandedLines as handed;
 ghost use Rattle.bl_boot.specs.HandedLines.{place_line};
@@ -46,6 +46,12 @@ fn say_part_front<A: Allocator + Copy>(
     out.extend_from_slice(line.as_bytes())
 }
 
+fn say_line_end<A: Allocator>(out: &mut Vec<u8, A>) -> Result<(), AllocError>
+    ensures { OnOk result (out.new.items ≡ out.old.items ++ codes "\n") }
+{
+    out.extend_from_slice(b"\n")
+}
+
 fn say_part<A: Allocator + Copy, B: Allocator>(
     out: &mut Vec<u8, A>,
     entries: &[EntryRow<B>],
@@ -58,7 +64,8 @@ fn say_part<A: Allocator + Copy, B: Allocator>(
 {
     say_part_front(out, place)?;
     say_source(out, entries, sought, entry, place)?;
-    out.extend_from_slice(b"\n")
+    say_line_end(out)?;
+    Ok(())
 }
 
 fn say_parts<A: Allocator + Copy, B: Allocator, C: Allocator>(

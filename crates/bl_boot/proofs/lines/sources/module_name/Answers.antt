@@ -8,10 +8,10 @@ use Rattle.bl_boot.specs.Sources.{module_name}
 use Rattle.bl_boot.proofs.lines.sources.module_name.Goals as goal
 
 -- the name of the file of a module that stands at an index
-one_module : {A : Type 0} (rows : List (ModuleRow A)) (index : ℕ) (row : ModuleRow A)
-    → index < length rows → row ≡ get_or rows index row
-    → row.file ≡ slice_index_or (map (λ m. m.file) (map module_view rows)) index []
-one_module {A = A} rows index row within at =
+one_module : {A : Type 0} (rows items : List (ModuleRow A)) (index : ℕ) (row : ModuleRow A)
+    → rows ≡ items → index < length rows → row ≡ get_or rows index row
+    → row.file ≡ slice_index_or (map (λ m. m.file) (map module_view items)) index []
+one_module {A = A} rows items index row same within at =
     let count : length (map module_view rows) ≡ length rows = length-map rows module_view in
     sym
     (get_or-map (λ (m : Module). m.file) (map module_view rows) index (module_view row) []
@@ -19,6 +19,8 @@ one_module {A = A} rows index row within at =
     ∙ ap (λ (m : Module). m.file)
     (get_or-map module_view rows index row (module_view row) within)
     ∙ ap (λ (r : ModuleRow A). (module_view r).file) (sym at))
+    ∙ ap (λ (kept : List (ModuleRow A)).
+    slice_index_or (map (λ (m : Module). m.file) (map module_view kept)) index []) same
 
 pub returns-in-Some : goal.returns-in-Some
 returns-in-Some g c =
@@ -28,4 +30,6 @@ returns-in-Some g c =
     let at : row ≡ get_or rows c.args.index row = search rules in
     subst (λ form. c.as_str.result.now ≡ module_name (form_view form) c.args.index)
     (sym c.in-Multiboot2.is)
-    (c.as_str.ensures ∙ (rw c.deref.ensures.value at one_module rows c.args.index row within at))
+    (c.as_str.ensures
+    ∙ one_module rows c.in-Multiboot2.modules.rows.items c.args.index row c.deref.ensures.value
+    within at)
