@@ -50,10 +50,10 @@ def segment_text(handover: Handover, name: str) -> str:
 
 
 def parts(entry: entries.Entry, handover: Handover) -> str:
-    """Each part with where its bytes come from, and how long the image is."""
+    """How long the image is, and each part with where its bytes come from."""
     told = ["%s %s" % (place_text(part, part.length), source_text(entry, part))
             for part in handover.parts]
-    return ", ".join(told + ["image %x" % len(image.spell(handover))])
+    return ", ".join(["image %x" % len(image.spell(handover))] + told)
 
 
 def source_text(entry: entries.Entry, part: Part) -> str:

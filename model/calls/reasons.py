@@ -23,7 +23,6 @@ def first_unusable(machine: Machine, start: int, end: int) -> Optional[int]:
 
 def unusable(table, line):
     """`A..B ..`: of each range."""
-    demand(bool(line.words))
     told = []
     for word in line.words:
         start, end = pair(word, "..")
