@@ -53,7 +53,8 @@ def parts(entry: entries.Entry, handover: Handover) -> str:
     """How long the image is, and each part with where its bytes come from."""
     told = ["%s %s" % (place_text(part, part.length), source_text(entry, part))
             for part in handover.parts]
-    return ", ".join(["image %x" % len(image.spell(handover))] + told)
+    length = sum(len(chunk) for chunk in image.chunks(handover))
+    return ", ".join(["image %x" % length] + told)
 
 
 def source_text(entry: entries.Entry, part: Part) -> str:

@@ -2,7 +2,7 @@
 //! with where the bytes of each come from.
 
 use crate::handoff::say_place;
-use crate::prepared::handed;
+use crate::loaded::handed;
 use bl_image::image_len;
 use bl_load::Content;
 use bl_mem::Segment;
@@ -37,11 +37,11 @@ fn say_content(row: &mut Row<'_>, content: &Content<&Refusing>) {
 
 /// The image's length, and each part.
 pub fn answer(row: &mut Row<'_>) {
-    let Some(loaded) = handed(row) else {
+    let Some(handoff) = handed(row) else {
         return;
     };
-    row.say_number("image ", image_len(&loaded.handoff));
-    for part in loaded.handoff.parts() {
+    row.say_number("image ", image_len(&handoff));
+    for part in handoff.parts() {
         say_place(row, &part.place);
         say_content(row, &part.content);
     }

@@ -160,12 +160,3 @@ pub fn load_entry<'h>(
         requests: heap.asked().saturating_sub(before),
     })
 }
-
-/// What is handed over of the entry of the words that are left. Where that is nothing, why is the
-/// answer.
-pub fn handed<'a>(row: &mut Row<'a>) -> Option<LoadedEntry<'a>> {
-    let heap = row.heap;
-    let read = read_entry(row);
-    let machine = row.machine_over(heap)?;
-    load_entry(row, heap, &machine, 0, &read)
-}

@@ -1,7 +1,7 @@
 //! `registers ENTRY of KERNEL` and `segments ENTRY of KERNEL`, on the last machine: the registers
 //! of a handoff by their names, and the segment registers whole.
 
-use crate::prepared::handed;
+use crate::loaded::handed;
 use bl_load::{Registers, SegmentName, SegmentRegister};
 use bl_rows::row::Row;
 
@@ -19,10 +19,10 @@ fn say_named(row: &mut Row<'_>, registers: Registers, index: usize) {
 
 /// How many registers, all in one line, and each by its number, up to one that is none.
 pub fn answer(row: &mut Row<'_>) {
-    let Some(loaded) = handed(row) else {
+    let Some(handoff) = handed(row) else {
         return;
     };
-    let registers = loaded.handoff.registers();
+    let registers = handoff.registers();
     row.say_number("", registers.count() as u64);
     row.say(" ");
     row.say_shown(registers);
@@ -62,10 +62,10 @@ fn say_segment(row: &mut Row<'_>, name: &str, segment: &SegmentRegister) {
 
 /// Each segment register whole, with its name.
 pub fn answer_segments(row: &mut Row<'_>) {
-    let Some(loaded) = handed(row) else {
+    let Some(handoff) = handed(row) else {
         return;
     };
-    let registers = loaded.handoff.registers();
+    let registers = handoff.registers();
     let names = [
         ("cs", SegmentName::Cs),
         (", ds", SegmentName::Ds),
