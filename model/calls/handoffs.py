@@ -10,11 +10,12 @@ from rules.refusals import Refused
 from rules.segments import NAMES, segment
 
 from . import BYTES_OF, Call
+from .answers import Open
 from .entries import place_text, read_entry, refusal
 from .kernels import refusal_text, segment_word
 from .machines import last_machine
 
-NO_MEMORY = "41 no memory"
+NO_MEMORY = "no memory, number 41"
 
 
 def of_entry(tell: Callable[[entries.Entry, Handover], str]):
@@ -84,8 +85,17 @@ def bytes_text(file: int, offset: int, count: int) -> str:
 
 
 def prep_fault(table, line):
-    """As the refusal that it is; or want of memory, which has the number of a boot's."""
-    return NO_MEMORY if line.words == ["NoMemory"] else refusal(table, line)
+    """What the refusal that it is prints, and its number; or want of memory, which has the number of
+    a boot's."""
+    if line.words == ["NoMemory"]:
+        return NO_MEMORY
+    own = refusal(table, line)
+
+    def is_right(text: str) -> bool:
+        words, mark, number = text.rpartition(", number ")
+        return bool(mark) and own.is_right("%s %s" % (number, words))
+    number, _, words = own.text.partition(" ")
+    return Open("%s, number %s" % (words, number), is_right)
 
 
 CALLS = {

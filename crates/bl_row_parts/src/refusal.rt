@@ -114,14 +114,13 @@ fn fault_of(row: &mut Row<'_>, name: &str) -> Option<PrepFault> {
     }
 }
 
-/// `prep_fault NAME DATA ..`: the number of what is answered for an entry that is not prepared, and
-/// what it prints.
+/// `prep_fault NAME DATA ..`: what is printed of what is answered for an entry that is not prepared,
+/// and its number.
 pub fn answer_fault(row: &mut Row<'_>) {
     let name = row.word();
     let Some(fault) = fault_of(row, name) else {
         return row.refuse();
     };
-    row.say_decimal("", fault.number() as u64);
-    row.say(" ");
     row.say_shown(fault);
+    row.say_decimal(", number ", fault.number() as u64);
 }
