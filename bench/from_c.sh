@@ -8,11 +8,9 @@
 # once or eleven times; the difference is ten loads, without what reading costs. The programs take turns, and the best of all
 # rounds counts. Peak memory is that of one load. Needs bash 5, coreutils, awk, cc, and the static library that
 # examples/c/build makes.
-# shellcheck source-path=SCRIPTDIR source=measure.sh
-source "$(dirname "${BASH_SOURCE[0]}")/measure.sh"
+# shellcheck source-path=SCRIPTDIR source=loads.sh
+source "$(dirname "${BASH_SOURCE[0]}")/loads.sh"
 
-rounds=15
-goal=1.15
 archive=$here/../crates/bootcore_c/out/libbootcore_c.a
 [ -e "$archive" ] || fail "$archive is not built: examples/c/build builds it"
 type -P cc > /dev/null || fail "cc is not at hand"
@@ -21,25 +19,6 @@ cc -std=c99 -O2 -o "$work/plain_guest" "$here/plain_guest.c" || fail "plain_gues
 cc -std=c99 -O2 -I"$here/../include" -o "$work/core_guest" "$here/core_guest.c" "$archive" "$heap" ||
     fail "core_guest.c does not build"
 cd "$work"
-"$here/make_bzimage.sh" vmlinuz $((10 << 20))
-{ seq 10000000 99999999 || true; } | head -c $((200 << 20)) > initrd.img
-
-declare -A best
-for ((round = 0; round < rounds; round++)); do
-    for times in 1 11; do
-        for program in ./plain_guest ./core_guest; do
-            time_command "$program" vmlinuz initrd.img "$times"
-            name="$program $times"
-            if [ "$micros" -lt "${best[$name]:-999999999}" ]; then best[$name]=$micros; fi
-        done
-    done
-done
-for program in ./plain_guest ./core_guest; do
-    weigh_command "$program" vmlinuz initrd.img 1
-    ten=$((${best["$program 11"]} - ${best["$program 1"]}))
-    printf '%-14s %8s seconds a load, %s MiB\n' "${program##*/}" \
-        "$(awk -v a="$ten" 'BEGIN { printf "%.4f", a / 1e7 }')" "$((kib >> 10))"
-    if [ "$program" = ./plain_guest ]; then plain=$ten; fi
-done
-echo "ratio $(ratio "$ten" "$plain"), the goal is $goal"
+make_files
+compare_loads ./plain_guest ./core_guest
 printf 'the library: %s bytes of code and data\n' "$(size -t "$work/core_guest" | tail -n 1 | awk '{ print $1 + $2 }')"

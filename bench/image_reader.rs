@@ -5,6 +5,7 @@
 #![allow(dead_code)]
 
 use std::io::{self, ErrorKind, Read};
+use std::process::ExitCode;
 
 const STEP: usize = 1 << 16;
 
@@ -23,6 +24,17 @@ pub struct Image {
 
 pub fn bad(what: &str) -> io::Error {
     io::Error::new(ErrorKind::InvalidData, what.to_string())
+}
+
+/// The status of a program that ended so; an error is said.
+pub fn ended(result: io::Result<()>) -> ExitCode {
+    match result {
+        Ok(()) => ExitCode::SUCCESS,
+        Err(error) => {
+            eprintln!("{error}");
+            ExitCode::FAILURE
+        }
+    }
 }
 
 fn u32_of(source: &mut impl Read) -> io::Result<u32> {

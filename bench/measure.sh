@@ -42,6 +42,12 @@ call() {
     "$@" > said 2> errors || fail "status $? of $*: $(cat said errors)"
 }
 
+# So many bytes of numbers, so that no two pieces are the same: one that is misplaced shows in the image.
+numbers() {
+    # head ends seq by a signal
+    { seq 10000000 999999999 || true; } | head -c "$1"
+}
+
 # Runs a command and sets `micros`.
 time_command() {
     local start=${EPOCHREALTIME/./}

@@ -62,7 +62,7 @@ alone=$least
 
 printf '%-17s %9s %9s %11s   %s\n' order pieces seconds 'us / piece' 'memory / files'
 for pieces in "${counts[@]}"; do
-    { seq 10000000 999999999 || true; } | head -c $((4096 * pieces)) > module
+    numbers $((4096 * pieces)) > module
     describe 0x60000000 $((pieces + 32)) > beside.toml
     # the kernel ends at 0x310000, and the module stands behind it
     describe 0x310000 $((2 * pieces + 32)) > over.toml

@@ -5,7 +5,7 @@
 #[path = "image_reader.rs"]
 mod image_reader;
 
-use image_reader::{Image, bad, read_image};
+use image_reader::{Image, bad, ended, read_image};
 use std::env;
 use std::fs::File;
 use std::io::{self, Write};
@@ -44,11 +44,5 @@ fn run() -> io::Result<()> {
 }
 
 fn main() -> ExitCode {
-    match run() {
-        Ok(()) => ExitCode::SUCCESS,
-        Err(error) => {
-            eprintln!("{error}");
-            ExitCode::FAILURE
-        }
-    }
+    ended(run())
 }

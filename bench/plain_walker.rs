@@ -11,7 +11,7 @@ use std::process::ExitCode;
 #[path = "image_reader.rs"]
 mod image_reader;
 
-use image_reader::{Image, bad, read_image};
+use image_reader::{Image, bad, ended, read_image};
 
 impl Image {
     /// The bytes from an address to the end of its part.
@@ -69,11 +69,5 @@ fn run() -> io::Result<()> {
 }
 
 fn main() -> ExitCode {
-    match run() {
-        Ok(()) => ExitCode::SUCCESS,
-        Err(error) => {
-            eprintln!("{error}");
-            ExitCode::FAILURE
-        }
-    }
+    ended(run())
 }

@@ -45,12 +45,6 @@ if [ "$#" -lt 2 ]; then
 fi
 cd "$work"
 
-# Numbers, so that no two pieces are the same: one that is misplaced shows in the image.
-numbers() {
-    # head ends seq by a signal
-    { seq 10000000 99999999 || true; } | head -c "$1"
-}
-
 # Makes an entry's files, the kernel first, and sets what its machine is: all of it usable but for the first frame.
 make_kernel() {
     protocol=multiboot2 size=0x10000000 pool_start=0x8000000 pool_end=0xF000000

@@ -20,7 +20,7 @@ build plain_walker
 build plain_converter
 
 "$here/make_bzimage.sh" vmlinuz $((10 << 20))
-{ seq 10000000 99999999 || true; } | head -c $(((200 << 20) + 1)) > initrd.img
+numbers $(((200 << 20) + 1)) > initrd.img
 cat > linux.toml << 'TOML'
 size = 0x20000000
 pool = [0x2400000, 0x10000000]

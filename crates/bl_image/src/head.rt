@@ -20,6 +20,9 @@ use bl_plan::{MAX_PARTS, Place};
 /// What an image begins with.
 pub(crate) const MAGIC: [u8; 8] = *b"BLIMAGE\0";
 
+/// The most parts, as a head counts them.
+pub(crate) const MAX_COUNT: u32 = MAX_PARTS as u32;
+
 /// Where the version stands in the head that is written, with the protocol behind it.
 const VERSION_AT: usize = 8;
 

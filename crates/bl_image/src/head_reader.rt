@@ -13,12 +13,11 @@ ghost use Rattle.bl_image.specs.Versions.{version_number, most_protocol, HasProt
 
 use crate::fault::ImageFault;
 use crate::fields::{read_exact, read_u32};
-use crate::head::MAGIC;
+use crate::head::{MAGIC, MAX_COUNT};
 use crate::register_reader::read_registers;
 use crate::source::Source;
 use crate::version::Version;
 use bl_load::{Protocol, Registers};
-use bl_plan::MAX_PARTS;
 
 /// What the head of an image says.
 #[derive(Clone, Copy)]
@@ -106,7 +105,7 @@ fn read_count<S: Source>(source: &mut S) -> Result<u32, ImageFault>
     ensures faults { S.faults source.new ≡ S.faults source.old + faults_met result }
 {
     let count = read_u32(source)?;
-    if count > MAX_PARTS as u32 {
+    if count > MAX_COUNT {
         return Err(ImageFault::BadHeader);
     }
     Ok(count)

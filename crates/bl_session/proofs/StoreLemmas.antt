@@ -1,25 +1,20 @@
 -- A store's history and the submissions that are still to be answered, as it answers.
 use Rattle.std.proofs.Common.{◌≡◌, ℕ, ◌*◌, ◌<◌, ◌≤◌, nat_lt, Bool, true, false, if◌then◌else◌, List}
-use Rattle.std.proofs.Common.{[], ◌∷◌, ◌++◌, length, take, drop, Option, None, Some, suc, get_or}
-use Rattle.std.proofs.Common.{refl, sym, ap, subst, ◌∙◌, arith}
-use Rattle.std.proofs.lemmas.Option.{slice_get-get_or}
-use Rattle.std.proofs.Math.Seq.{split_at}
-use Rattle.std.proofs.Math.Numerals.{add-one}
+use Rattle.std.proofs.Common.{[], ◌∷◌, ◌++◌, length, Option, None}
+use Rattle.std.proofs.Common.{refl, sym, subst, arith}
 use Rattle.std.proofs.lemmas.Bool.Decides.{Decides-ltb, not_from_Decides}
-use Rattle.std.specs.Prelude.{slice_get, slice_index_or, option_map}
+use Rattle.std.specs.Prelude.{slice_index_or}
 use Rattle.bl_stage.specs.PieceStates.{piece_of}
 use Rattle.bl_session.specs.declared.words.Ticket.{Ticket}
-use Rattle.bl_session.specs.declared.store.Completion.{Completion}
 use Rattle.bl_session.specs.declared.submission.Submission.{Submission}
-use Rattle.bl_session.specs.declared.queue.Order.{Order}
-use Rattle.bl_session.specs.declared.queue.Order.TheVariants.{Forward, Reverse}
+use Rattle.bl_session.specs.declared.order.Order.{Order}
+use Rattle.bl_session.specs.declared.order.Order.TheVariants.{Forward, Reverse}
 use Rattle.bl_session.specs.Boot.{EventFacts, piece, fault}
 use Rattle.bl_session.specs.Outcome.{File, missing, file_bytes}
 use Rattle.bl_session.specs.History.{Item, failed, nothing, is_same, file_under, IsPieceOf}
 use Rattle.bl_session.specs.Faithful.{asked, answered, HasPiece, IsFaithfulItem}
-use Rattle.bl_session.specs.Stores.{item_of_event, item_of_told, event_of, answer_to, next_place}
-use Rattle.bl_session.specs.Stores.{without}
-use Rattle.bl_session.specs.StoresKept.{item_of, count_of, WasAsked, AreAskedFor, AreKept}
+use Rattle.bl_session.specs.Stores.{item_of_event, answer_to, next_place}
+use Rattle.bl_session.specs.StoresKept.{count_of, WasAsked, AreAskedFor, AreKept}
 use Rattle.bl_session.proofs.TicketLemmas.{is_same_self, asked_both, answered_both, file_both}
 use Rattle.bl_session.proofs.SubmissionLemmas.{marks, faithful_more, count_append, asked_append}
 use Rattle.bl_session.proofs.SubmissionLemmas.{asked_apart}
@@ -152,46 +147,3 @@ pub place_within : (order : Order) (first : Submission) (others : List Submissio
     → next_place order (first ∷ others) < length (first ∷ others)
 place_within Forward first others = omega arith
 place_within Reverse first others = omega arith
-
-kept_told : (files : List File) (order : Order) (pending : List Submission) (given : List Item)
-    (told : Option EventFacts)
-    → told ≡ option_map (answer_to files) (slice_get pending (next_place order pending))
-    → AreKept files pending given
-    → AreKept files (without pending (next_place order pending))
-    (given ++ item_of_told files given told ∷ [])
-kept_told files Forward [] given told is kept =
-    subst (λ (t : Option EventFacts). AreKept files [] (given ++ item_of_told files given t ∷ []))
-    (sym is) (kept_nothing files given kept)
-kept_told files Reverse [] given told is kept =
-    subst (λ (t : Option EventFacts). AreKept files [] (given ++ item_of_told files given t ∷ []))
-    (sym is) (kept_nothing files given kept)
-kept_told files order (first ∷ others) given told is kept =
-    let pending : List Submission = first ∷ others in
-    let place : ℕ = next_place order (first ∷ others) in
-    let within : place < length pending = place_within order first others in
-    let submission : Submission = get_or pending place first in
-    let e : told ≡ Some (answer_to files submission) =
-    is ∙ ap (option_map (answer_to files)) (slice_get-get_or pending place first within) in
-    let at : AreKept files (take place pending ++ submission ∷ drop (suc place) pending) given =
-    subst (λ (p : List Submission). AreKept files p given) (split_at pending place first within)
-    kept in
-    subst
-    (λ (t : Option EventFacts).
-    AreKept files (without pending place) (given ++ item_of_told files given t ∷ []))
-    (sym e)
-    (subst
-    (λ (n : ℕ).
-    AreKept files (take place pending ++ drop n pending)
-    (given ++ item_of_event files given (answer_to files submission) ∷ []))
-    (sym (add-one place))
-    (kept_answer files (take place pending) (drop (suc place) pending) given submission at))
-
-pub kept_next : {A : Type 0} (files : List File) (order : Order) (pending : List Submission)
-    (given : List Item) (answer : Option (Completion A))
-    → option_map event_of answer
-    ≡ option_map (answer_to files) (slice_get pending (next_place order pending))
-    → AreKept files pending given
-    → AreKept files (without pending (next_place order pending))
-    (given ++ item_of files given answer ∷ [])
-kept_next files order pending given answer is kept =
-    kept_told files order pending given (option_map event_of answer) is kept

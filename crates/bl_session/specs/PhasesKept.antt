@@ -4,7 +4,7 @@ use Rattle.bl_map.specs.MachineFacts.{MachineFacts}
 use Rattle.bl_load.specs.declared.refusal.PrepFault.{PrepFault}
 use Rattle.bl_load.specs.declared.refusal.PrepFault.TheVariants as prep_fault
 use Rattle.bl_stage.specs.Staged.{Staging, AllCame, empty_stage}
-use Rattle.bl_session.specs.declared.boot.Boot.{Boot}
+use Rattle.bl_session.specs.declared.phase.Boot.{Boot}
 use Rattle.bl_session.specs.declared.phase.Running.{Running}
 use Rattle.bl_session.specs.declared.phase.Phase.{Phase}
 use Rattle.bl_session.specs.declared.phase.Phase.TheVariants.{Unstarted, Waits, HandedOver, Failed}

@@ -9,8 +9,8 @@ use Rattle.bl_session.specs.declared.store.Completion.TheVariants.{Piece, Fault}
 use Rattle.bl_session.specs.declared.fetched.Fetched.{Fetched}
 use Rattle.bl_session.specs.declared.fetched.Fetched.TheVariants.{Missing, TooLong, Bytes}
 use Rattle.bl_session.specs.declared.submission.Submission.{Submission}
-use Rattle.bl_session.specs.declared.queue.Order.{Order}
-use Rattle.bl_session.specs.declared.queue.Order.TheVariants.{Forward, Reverse}
+use Rattle.bl_session.specs.declared.order.Order.{Order}
+use Rattle.bl_session.specs.declared.order.Order.TheVariants.{Forward, Reverse}
 use Rattle.bl_session.specs.AttemptResult.{file_limit}
 use Rattle.bl_session.specs.Boot.{EventFacts, piece, fault}
 use Rattle.bl_session.specs.Outcome.{File, missing, too_long, whole, file_bytes}

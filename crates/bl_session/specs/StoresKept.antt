@@ -1,4 +1,4 @@
--- What a `FileStore` keeps of the submissions that are still to be answered, and of its history.
+-- What a `Ledger` keeps of the submissions that are still to be answered, and of its history.
 use Rattle.std.specs.Prelude.{◌≡◌, ℕ, ◌+◌, ◌≤◌, List, [], ◌∷◌, Some, if◌then◌else◌, Option}
 use Rattle.std.specs.Prelude.{option_map}
 use Rattle.bl_session.specs.declared.words.Ticket.{Ticket}

@@ -7,9 +7,8 @@ ghost use Rattle.bl_session.specs.PhasesKept.{IsPhaseKept, facts_of_boot, state_
 ghost use Rattle.bl_session.specs.Requests.{first_request, request_after};
 ghost use Rattle.bl_session.specs.Turns.{IsAsked, missing_in};
 
-use crate::boot::Boot;
 use crate::orders::submit_files;
-use crate::phase::Phase;
+use crate::phase::{Boot, Phase};
 use crate::pieces::{first_missing, missing_piece, next_missing, request_of};
 use crate::store::Store;
 use crate::words::{Request, Ticket};

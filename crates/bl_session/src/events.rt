@@ -10,8 +10,7 @@ ghost use Rattle.bl_session.specs.PhasesKept.{facts_of_boot, running_in, state_i
 ghost use Rattle.bl_session.specs.PhasesKept.{IsPhaseKept, IsWaiting, LacksPiece};
 
 use crate::attempts::{refuse, settle};
-use crate::boot::Boot;
-use crate::phase::{Phase, Running};
+use crate::phase::{Boot, Phase, Running};
 use crate::words::{Event, Ticket};
 use bl_load::Refusal;
 use bl_mem::PhysMem;

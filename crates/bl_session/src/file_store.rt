@@ -1,9 +1,8 @@
 //! A store over files that were fetched before the boot.
-use crate::fetched::{Fetched, size_in};
-use crate::history::History;
-use crate::queue::{Order, Queue};
+use crate::fetched::Fetched;
+use crate::ledger::Ledger;
+use crate::order::{Order, place_in};
 use crate::store::{Completion, Store};
-use crate::submission::{Submission, answer};
 use crate::words::Ticket;
 use std::alloc::{AllocError, Allocator};
 use std::marker::Model;
@@ -12,33 +11,27 @@ use std::marker::Model;
 /// fault, if the file is missing, too long or has no such piece.
 #[derive(Drop)]
 pub struct FileStore<A: Allocator + Copy> {
-    alloc: A,
-    files: Vec<Fetched<A>, A>,
+    ledger: Ledger<Vec<Fetched<A>, A>, A>,
     order: Order,
-    queue: Queue<A>,
-    history: History,
 }
 
 impl<A: Allocator + Copy> Model for FileStore<A> {
-    ghost use Rattle.bl_session.specs.Stores.{FileStoreFacts, stored_files};
-    ghost use Rattle.bl_session.specs.StoresKept.{AreKept};
+    ghost use Rattle.bl_session.specs.Stores.{FileStoreFacts};
 
     ghost Value = { FileStoreFacts };
 
     ghost view = { λ s. record {
-      files = stored_files s.files.items;
+      files = s.ledger.files;
       order = s.order;
-      pending = s.queue;
-      given = s.history.items;
+      pending = s.ledger.pending;
+      given = s.ledger.given;
     } };
-
-    ghost invariant = { λ s. AreKept (stored_files s.files.items) s.queue s.history.items };
 }
 
 impl<A: Allocator + Copy> FileStore<A> {
-    ghost use Rattle.std.specs.Prelude.{◌≡◌, [], IfOk, option_map};
+    ghost use Rattle.std.specs.Prelude.{◌≡◌, []};
     ghost use Rattle.bl_session.specs.Faithful.{IsFaithful};
-    ghost use Rattle.bl_session.specs.Stores.{stored_files, event_of, next_event};
+    ghost use Rattle.bl_session.specs.Stores.{stored_files};
 
     /// A store of these files, by their index in the menu. Nothing was asked for yet.
     pub fn new(alloc: A, files: Vec<Fetched<A>, A>, order: Order) -> FileStore<A>
@@ -50,11 +43,8 @@ impl<A: Allocator + Copy> FileStore<A> {
         } }
     {
         FileStore {
-            alloc,
-            files,
+            ledger: Ledger::new(alloc, files),
             order,
-            queue: Queue::new(alloc),
-            history: History::new(),
         }
     }
 
@@ -62,17 +52,7 @@ impl<A: Allocator + Copy> FileStore<A> {
     pub fn faithful(&self)
         ensures { IsFaithful self.now.files self.now.given }
     {
-        let _ = &self.files;
-    }
-
-    /// The answer to the submission that is next.
-    fn answer_next(&self) -> Result<Option<Completion<A>>, AllocError>
-        ensures { IfOk result (λ answer. option_map event_of answer ≡ next_event self.now) }
-    {
-        match self.queue.next(self.order) {
-            Some(submission) => Ok(Some(answer(self.alloc, &self.files, &submission)?)),
-            None => Ok(None),
-        }
+        self.ledger.faithful()
     }
 }
 
@@ -89,11 +69,11 @@ impl<A: Allocator + Copy> Store for FileStore<A> {
     ghost left = { λ s. length s.pending };
 
     fn size(&self, file: u32) -> Result<Option<u64>, AllocError> {
-        Ok(size_in(&self.files, file))
+        Ok(self.ledger.size(file))
     }
 
     fn left(&self) -> u64 {
-        self.queue.len() as u64
+        self.ledger.len() as u64
     }
 
     fn submit(&mut self, file: u32, ticket: Ticket) -> Result<(), AllocError>
@@ -103,10 +83,7 @@ impl<A: Allocator + Copy> Store for FileStore<A> {
         })) }
         ensures err { OnErr result (self.new ≡ self.old) }
     {
-        let submission = Submission { file, ticket };
-        self.queue.push(submission)?;
-        self.history = self.history.and_submission(&submission);
-        Ok(())
+        self.ledger.submit(file, ticket)
     }
 
     fn next(&mut self) -> Result<Option<Completion<A>>, AllocError>
@@ -116,9 +93,7 @@ impl<A: Allocator + Copy> Store for FileStore<A> {
             self.new ≡ after_answer self.old (option_map event_of answer)) }
         ensures err { OnErr result (self.new ≡ self.old) }
     {
-        let answer = self.answer_next()?;
-        self.queue.remove_next(self.order);
-        self.history = self.history.and_answer(&self.files, &answer);
-        Ok(answer)
+        let place = place_in(self.order, &self.ledger);
+        self.ledger.answer(place)
     }
 }

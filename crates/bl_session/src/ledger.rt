@@ -3,7 +3,7 @@ use crate::history::History;
 use crate::pending::Pending;
 use crate::store::Completion;
 use crate::stored_files::StoredFiles;
-use crate::submission::{Submission, answer_from};
+use crate::submission::{Submission, answer};
 use crate::words::Ticket;
 use std::alloc::{AllocError, Allocator};
 use std::marker::Model;
@@ -184,7 +184,7 @@ impl<F: StoredFiles, A: Allocator + Copy> Ledger<F, A> {
         ensures { IfOk result (λ answer. option_map event_of answer ≡ answer_at self.now at) }
     {
         match self.pending.at(at) {
-            Some(submission) => Ok(Some(answer_from(self.alloc, &self.files, &submission)?)),
+            Some(submission) => Ok(Some(answer(self.alloc, &self.files, &submission)?)),
             None => Ok(None),
         }
     }

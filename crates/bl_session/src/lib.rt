@@ -4,7 +4,6 @@
 mod attempt;
 mod attempts;
 mod awaited;
-mod boot;
 mod ends;
 mod events;
 mod fetched;
@@ -15,13 +14,13 @@ mod history;
 mod laws;
 mod ledger;
 mod menu;
+mod order;
 mod orders;
 mod owned_session;
 mod pending;
 mod phase;
 mod picks;
 mod pieces;
-mod queue;
 mod reply;
 mod requests;
 mod run_laws;
@@ -49,8 +48,8 @@ pub use laws::{
 };
 pub use ledger::Ledger;
 pub use menu::{Menu, MenuFault, order_attempts};
+pub use order::Order;
 pub use owned_session::OwnedSession;
-pub use queue::Order;
 pub use run_laws::{
     faithful_stores_boot_by_their_files, marked_histories_are_genuine,
     runs_end_with_the_first_entry_not_refused,

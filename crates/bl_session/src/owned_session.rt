@@ -10,10 +10,9 @@ ghost use Rattle.bl_session.specs.Phases.{end_facts, told, not_started, LiesWith
 ghost use Rattle.bl_session.specs.Requests.{first_request, request_after};
 ghost use Rattle.bl_session.specs.Run.{boot_end};
 
-use crate::boot::Boot;
 use crate::ends::{end_of, into_end};
 use crate::menu::Menu;
-use crate::phase::{Phase, awaits_pieces};
+use crate::phase::{Boot, Phase, awaits_pieces};
 use crate::steps::{advance, begin_first};
 use crate::words::{BootFault, Event, Outcome, Progress, Request, Ticket};
 use bl_map::Machine;

@@ -1,4 +1,4 @@
-//! Where a session stands.
+//! Where a session stands, and what its calls share.
 ghost use Rattle.std.specs.Prelude.{◌≡◌, ℕ, List};
 ghost use Rattle.bl_session.specs.Boot.{attempt_of};
 ghost use Rattle.bl_session.specs.Boot as boot;
@@ -10,6 +10,16 @@ use crate::words::{BootFault, Outcome, Progress, RefusedEntry};
 use bl_map::Machine;
 use bl_stage::Stage;
 use std::alloc::Allocator;
+
+/// A boot for one call: its machine, its menu, the sizes of the menu's files, and where its lists
+/// are allocated.
+#[derive(Drop)]
+pub struct Boot<'a, A: Allocator + Copy> {
+    pub alloc: A,
+    pub machine: &'a Machine<A>,
+    pub menu: &'a Menu<A>,
+    pub sizes: &'a [Option<u64>],
+}
 
 /// An attempt that waits for pieces: its entry, the number of the next attempt, the refusals so
 /// far, its files.

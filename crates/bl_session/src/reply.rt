@@ -1,11 +1,11 @@
 //! What a script store is still to answer.
 ghost use Rattle.std.specs.Prelude.{◌≡◌, ◌++◌, ℕ, List, map, IfOk, OnOk, OnErr};
 ghost use Rattle.std.specs.Int.Bits.{bit_xor};
-ghost use Rattle.bl_session.specs.Stores.{stored_files, event_of};
+ghost use Rattle.bl_session.specs.Stores.{event_of};
 ghost use Rattle.bl_session.specs.Scripts.{altered, event_by, replies_to};
 
-use crate::fetched::Fetched;
 use crate::store::Completion;
+use crate::stored_files::StoredFiles;
 use crate::submission::{Submission, answer};
 use crate::words::Ticket;
 use std::alloc::{AllocError, Allocator};
@@ -26,13 +26,13 @@ fn alter<A: Allocator>(alloc: A, bytes: &[u8]) -> Result<Vec<u8, A>, AllocError>
 }
 
 /// What comes, as a completion.
-pub(crate) fn completion_of<A: Allocator + Copy>(
+pub(crate) fn completion_of<F: StoredFiles, A: Allocator + Copy>(
     alloc: A,
-    files: &[Fetched<A>],
+    files: &F,
     reply: &Reply,
 ) -> Result<Completion<A>, AllocError>
     ensures { IfOk result (λ completion.
-        event_of completion ≡ event_by (stored_files files.now) reply.now) }
+        event_of completion ≡ event_by (F.files files.now) reply.now) }
 {
     match reply {
         Reply::Answer(submission) => Ok(answer(alloc, files, submission)?),

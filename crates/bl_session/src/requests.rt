@@ -6,8 +6,7 @@ ghost use Rattle.bl_session.specs.Phases.{state_at, is_waiting};
 ghost use Rattle.bl_session.specs.Requests.{first_request, request_after};
 ghost use Rattle.bl_session.specs.Turns.{IsAsked, missing_in};
 
-use crate::boot::Boot;
-use crate::phase::awaits_pieces;
+use crate::phase::{Boot, awaits_pieces};
 use crate::session::Session;
 use crate::store::Store;
 use crate::words::{Request, Ticket};

@@ -8,10 +8,9 @@ ghost use Rattle.bl_session.specs.Phases.{boot_facts, event_facts, state_at, is_
 ghost use Rattle.bl_session.specs.Phases.{phase_facts, end_facts, told, not_started, LiesWithin};
 ghost use Rattle.bl_session.specs.Run.{boot_end};
 
-use crate::boot::Boot;
 use crate::ends::{end_of, into_end};
 use crate::menu::Menu;
-use crate::phase::Phase;
+use crate::phase::{Boot, Phase};
 use crate::steps::{advance, begin_first};
 use crate::words::{BootFault, Event, Outcome, Progress};
 use bl_map::Machine;

@@ -1,6 +1,6 @@
 //! A store over slices, which the caller keeps.
 use crate::ledger::Ledger;
-use crate::queue::Order;
+use crate::order::{Order, place_in};
 use crate::store::{Completion, Store};
 use crate::stored_files::SliceFiles;
 use crate::words::Ticket;
@@ -18,7 +18,6 @@ pub struct SliceStore<'a, A: Allocator + Copy> {
 impl<'a, A: Allocator + Copy> SliceStore<'a, A> {
     ghost use Rattle.std.specs.Prelude.{◌≡◌, [], map, option_copied};
     ghost use Rattle.bl_session.specs.Faithful.{IsFaithful};
-    ghost use Rattle.bl_session.specs.Stores.{next_place};
     ghost use Rattle.bl_session.specs.Ledger.{sliced_file};
 
     /// A store of these files, by their index in the menu; `None` is a missing file. Nothing was
@@ -44,16 +43,6 @@ impl<'a, A: Allocator + Copy> SliceStore<'a, A> {
         ensures { IsFaithful self.now.ledger.files self.now.ledger.given }
     {
         self.ledger.faithful()
-    }
-
-    /// The place of the submission that is answered next.
-    fn place(&self) -> usize
-        ensures { result ≡ next_place self.now.order self.now.ledger.pending }
-    {
-        match self.order {
-            Order::Forward => 0,
-            Order::Reverse => self.ledger.len().saturating_sub(1),
-        }
     }
 }
 
@@ -118,7 +107,7 @@ impl<'a, A: Allocator + Copy> Store for SliceStore<'a, A> {
         ensures as_many { IfOk result (λ answer. IsNone answer
             → length self.new.ledger.pending ≡ length self.old.ledger.pending) }
     {
-        let place = self.place();
+        let place = place_in(self.order, &self.ledger);
         self.ledger.answer(place)
     }
 }

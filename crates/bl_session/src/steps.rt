@@ -10,9 +10,8 @@ ghost use Rattle.bl_session.specs.Phases.{is_waiting, not_started};
 ghost use Rattle.bl_session.specs.PhasesKept.{facts_of_boot, state_in, IsPhaseKept};
 
 use crate::attempts::begin;
-use crate::boot::Boot;
 use crate::events::take;
-use crate::phase::{Phase, number_of, progress_of};
+use crate::phase::{Boot, Phase, number_of, progress_of};
 use crate::words::{BootFault, Event, Progress};
 use bl_map::Machine;
 use bl_mem::PhysMem;

@@ -1,8 +1,7 @@
 //! What a store was asked for, and the answer to it.
 ghost use Rattle.std.specs.Prelude.{◌≡◌, ℕ, List, IfOk};
-ghost use Rattle.bl_session.specs.Stores.{stored_files, answer_to, event_of};
+ghost use Rattle.bl_session.specs.Stores.{answer_to, event_of};
 
-use crate::fetched::{Fetched, piece_in};
 use crate::store::Completion;
 use crate::stored_files::StoredFiles;
 use crate::words::Ticket;
@@ -16,23 +15,7 @@ pub struct Submission {
 }
 
 /// The answer to a submission: a copy of the piece, or a fault, if there is no such file or piece.
-pub(crate) fn answer<A: Allocator + Copy>(
-    alloc: A,
-    files: &[Fetched<A>],
-    submission: &Submission,
-) -> Result<Completion<A>, AllocError>
-    ensures { IfOk result (λ completion.
-        event_of completion ≡ answer_to (stored_files files.now) submission.now) }
-{
-    let Submission { file, ticket } = *submission;
-    match piece_in(files, file, ticket.piece) {
-        Some(piece) => Ok(Completion::Piece(ticket, Vec::from_slice(alloc, piece)?)),
-        None => Ok(Completion::Fault(ticket)),
-    }
-}
-
-/// The same for a submission to whatever keeps the files.
-pub(crate) fn answer_from<F: StoredFiles, A: Allocator + Copy>(
+pub(crate) fn answer<F: StoredFiles, A: Allocator + Copy>(
     alloc: A,
     files: &F,
     submission: &Submission,

@@ -15,11 +15,11 @@ returns-in_err-count-clause-field g c =
     let p = err_from_is_err_and c.from_residual.result c.from_residual.ensures.1 in
     rw (p.1, p.2) (λ fields. field_cut count_field fields _ _ _ c.in_err-count.ensures.cut)
 
-pub returns-then-count-gt-MAX_PARTS-clause-field : goal.returns-then-count-gt-MAX_PARTS-clause-field
+pub returns-then-count-gt-MAX_COUNT-clause-field : goal.returns-then-count-gt-MAX_COUNT-clause-field
 unfolding count_field
-returns-then-count-gt-MAX_PARTS-clause-field g c =
+returns-then-count-gt-MAX_COUNT-clause-field g c =
     let n = c.in_ok-count.count in
-    let many : 256 < n = c.if-count-gt-MAX_PARTS.true in
+    let many : 256 < n = c.if-count-gt-MAX_COUNT.true in
     let fails =
     word_tells (λ k. nat_le k 256) BadHeader n false c.in_ok-count.ensures.fits
     (grind (arith, nat_tests)) in

@@ -6,7 +6,7 @@ use Rattle.bl_session.specs.Menu.{EntryFacts, files_of}
 use Rattle.bl_session.specs.Phases.{phase_facts}
 use Rattle.bl_session.specs.PhasesKept.{facts_of_boot}
 use Rattle.bl_session.proofs.AskFileLemmas.{asked_in}
-use Rattle.bl_session.proofs.boot.Boot.submit.Goals as goal
+use Rattle.bl_session.proofs.phase.Boot.submit.Goals as goal
 
 pub returns-clause-err : goal.returns-clause-err
 returns-clause-err g c =

@@ -4,11 +4,11 @@ use Rattle.bl_session.specs.Menu.{EntryFacts, files_of}
 use Rattle.bl_session.specs.Phases.{phase_facts}
 use Rattle.bl_session.specs.PhasesKept.{facts_of_boot}
 use Rattle.bl_session.proofs.MenuLemmas.{few_files}
-use Rattle.bl_session.proofs.RequestLemmas.{request_after_is}
-use Rattle.bl_session.proofs.boot.Boot.missing_after.Goals as goal
+use Rattle.bl_session.proofs.RequestLemmas.{first_request_is}
+use Rattle.bl_session.proofs.phase.Boot.missing.Goals as goal
 
-pub next_missing-found-requires-clause-few : goal.next_missing-found-requires-clause-few
-next_missing-found-requires-clause-few g c =
+pub first_missing-found-requires-clause-few : goal.first_missing-found-requires-clause-few
+first_missing-found-requires-clause-few g c =
     let few = few_files c.entry-entry.result.now c.entry-entry.ensures.limits in
     grind (arith, common_steps, few)
 
@@ -17,10 +17,10 @@ returns-in-Waits g c = λ bytes.
     let w = c.in-Waits.waiting in
     let attempts = c.args.self.now.menu.now.attempts in
     let number : c.len.result ≡ length w.earlier.items = search rules in
-    request_after_is (facts_of_boot c.args.self.now)
+    first_request_is (facts_of_boot c.args.self.now)
     (phase_facts attempts c.args.phase.now) w.entry (drop w.next attempts)
     w.earlier.items w.stage c.len.result (files_of c.entry-entry.result.now)
-    c.next_missing-found.result c.request_of.result c.args.ticket bytes
+    c.first_missing-found.result c.request_of.result bytes
     (ap (phase_facts attempts) c.in-Waits.is) number
     (ap (λ (e : EntryFacts). e.files) c.entry-entry.ensures.entry)
-    (c.next_missing-found.ensures.first bytes) (c.request_of.ensures bytes)
+    (c.first_missing-found.ensures.first bytes) (c.request_of.ensures bytes)
