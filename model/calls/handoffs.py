@@ -85,8 +85,8 @@ def bytes_text(file: int, offset: int, count: int) -> str:
 
 
 def prep_fault(table, line):
-    """What the refusal that it is prints, and its number; or want of memory, which has the number of
-    a boot's."""
+    """What the refusal that it is prints, and its number; or want of memory, which has that of a
+    boot."""
     if line.words == ["NoMemory"]:
         return NO_MEMORY
     own = refusal(table, line)
