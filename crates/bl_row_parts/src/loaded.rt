@@ -1,5 +1,5 @@
-//! Entries that `load_entry` loads: `load_entry fill=VV ENTRY of KERNEL`, on the last machine, where
-//! the entry comes into a slice; and what is handed over of one.
+//! Entries that `load_entry` loads, on the last machine: into a slice, for
+//! `load_entry fill=VV ENTRY of KERNEL`; and into memory with holes, for what is handed over.
 
 use crate::handoff::say_handoff;
 use crate::prepared::{entry_of, read_entry};

@@ -1,5 +1,5 @@
-//! `unusable START..END ..`, on the last machine, and `frames_for SIZE SIZE*COUNT ..`: what a caller
-//! asks for why a machine or an entry was refused.
+//! `unusable START..END ..`, on the last machine, and `frames_for SIZE SIZE*COUNT ..`: what a
+//! caller asks for why a machine or an entry was refused.
 
 use bl_map::Machine;
 use bl_plan::first_unusable;

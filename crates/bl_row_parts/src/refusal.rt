@@ -114,8 +114,8 @@ fn fault_of(row: &mut Row<'_>, name: &str) -> Option<PrepFault> {
     }
 }
 
-/// `prep_fault NAME DATA ..`: what is printed of what is answered for an entry that is not prepared,
-/// and its number.
+/// `prep_fault NAME DATA ..`: what is answered for an entry that is not prepared, as it prints, and
+/// its number.
 pub fn answer_fault(row: &mut Row<'_>) {
     let name = row.word();
     let Some(fault) = fault_of(row, name) else {
