@@ -28,10 +28,11 @@ class Call(NamedTuple):
 
 
 def all_calls() -> Dict[str, Call]:
-    from . import (boots, conversions, descriptions, entries, images, information, kernels, lines,
-                   machines, memories, menus, plans, sessions, sinks, stages, walks)
-    modules = (boots, conversions, descriptions, entries, images, information, kernels, lines,
-               machines, memories, menus, plans, sessions, sinks, stages, walks)
+    from . import (boots, conversions, descriptions, entries, handoffs, images, information,
+                   kernels, lines, machines, memories, menus, plans, reasons, sessions, sinks,
+                   stages, walks)
+    modules = (boots, conversions, descriptions, entries, handoffs, images, information, kernels,
+               lines, machines, memories, menus, plans, reasons, sessions, sinks, stages, walks)
     calls: Dict[str, Call] = {}
     for module in modules:
         calls.update(module.CALLS)

@@ -122,6 +122,10 @@ def menu(table, line):
         attempts = read.check()
     except Refused as refused:
         return fault_text(refused)
+    return menu_text(read, attempts)
+
+
+def menu_text(read: Menu, attempts: List[int]) -> str:
     told = " ".join("%x" % index for index in attempts)
     return "attempts %s, files %x" % (told, read.file_count())
 

@@ -15,7 +15,8 @@ from .headers import MIB
 def draw(rng: Random, count: int) -> List[str]:
     """So many rows; each few are on a machine of their own."""
     drawers = [elf, header, setup, info, info, params, params, image, image, walk, rewrite,
-               convert, prepare, prepare, prepare, plan, facts, describe, menu]
+               convert, prepare, prepare, prepare, plan, facts, describe, menu, handoff, unusable,
+               frames_for]
     rows = []
     while len(rows) < count:
         rows.append(machine(rng))
@@ -115,6 +116,12 @@ def prepare(rng: Random) -> str:
     return f"prepare {protocol} line={told}{disk} of {digits(file)}"
 
 
+def handoff(rng: Random) -> str:
+    """What is asked of a handoff, of an entry as it is prepared."""
+    entry = prepare(rng).partition(" ")[2]
+    return rng.choice(["registers ", "segments ", "parts ", "parts "]) + entry
+
+
 def menu(rng: Random) -> str:
     """Of a few entries, some with copies; each kernel is the file 0."""
     words = []
@@ -163,6 +170,24 @@ def facts(rng: Random) -> str:
         start = rng.choice([0x1000, MIB, number(rng, 33)])
         words.append(f"{start:x}..{start + rng.choice([0, 1, 0x1000, MIB]):x}")
     return "facts " + " ".join(words)
+
+
+def unusable(rng: Random) -> str:
+    words = []
+    for _ in range(rng.randrange(1, 6)):
+        start = rng.choice([0, 0xFFF, 0x1000, MIB, number(rng, 33), number(rng, 64)])
+        end = start + rng.choice([0, 1, 0x1000, MIB, number(rng, 33)])
+        words.append(f"{start:x}..{min(end, (1 << 64) - 1):x}")
+    return "unusable " + " ".join(words)
+
+
+def frames_for(rng: Random) -> str:
+    """Of a few files, or of so many that they may have 2^64 frames."""
+    words = []
+    for _ in range(rng.randrange(5)):
+        size = rng.choice([0, 1, 0x1000, 0x1001, (1 << 64) - 1, number(rng, 64)])
+        words.append(f"{size:x}" + rng.choice(["", "", "*3", "*800", "*1000"]))
+    return " ".join(["frames_for", *words])
 
 
 def describe(rng: Random) -> str:

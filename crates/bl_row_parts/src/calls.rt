@@ -2,8 +2,8 @@
 
 use crate::attempts::{menu, run, steps};
 use crate::{
-    describe, handoff, image, line, loaded, read_image, read_info, refusal, rewrite, sink, walk,
-    write_info,
+    describe, handoff, image, line, loaded, parts, read_image, read_info, reasons, refusal,
+    registers, rewrite, sink, walk, write_info,
 };
 use bl_rows::row::Row;
 
@@ -20,11 +20,15 @@ pub fn takes_bytes(name: &str) -> bool {
 pub fn make_plain(row: &mut Row<'_>, name: &str) -> bool {
     match name {
         "refusal" => refusal::answer(row),
+        "prep_fault" => refusal::answer_fault(row),
+        "unusable" => reasons::answer_unusable(row),
+        "frames_for" => reasons::answer_frames(row),
         "sink" => sink::answer(row),
         "line" => line::answer(row),
         "menu" => menu::answer(row),
         "run" => run::answer(row),
         "session" => steps::answer(row),
+        "owned_session" => steps::answer_owned(row),
         _ => return false,
     }
     true
@@ -39,6 +43,9 @@ pub fn make_over(row: &mut Row<'_>, name: &str) -> bool {
         "prepare" => handoff::answer_prepare(row),
         "load" => handoff::answer_load(row),
         "load_entry" => loaded::answer(row),
+        "registers" => registers::answer(row),
+        "segments" => registers::answer_segments(row),
+        "parts" => parts::answer(row),
         "image" => image::answer(row),
         "images" => image::answer_each(row),
         "image_of" => image::answer_held(row),

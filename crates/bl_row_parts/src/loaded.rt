@@ -1,10 +1,12 @@
-//! `load_entry fill=VV ENTRY of KERNEL`, on the last machine: the entry comes into a slice.
+//! Entries that `load_entry` loads, on the last machine: into a slice, for
+//! `load_entry fill=VV ENTRY of KERNEL`; and into memory with holes, for what is handed over.
 
 use crate::handoff::say_handoff;
 use crate::prepared::{entry_of, read_entry};
 use crate::refusal::say_fault;
-use bl_load::load_entry;
-use bl_mem::SliceMemory;
+use bl_load::{Handoff, load_entry};
+use bl_mem::{PhysMem, SliceMemory, Sparse};
+use bl_refusing::Refusing;
 use bl_rows::row::Row;
 
 /// Loads the entry over the heap into a slice as large as the machine, and tells the handoff or the
@@ -29,4 +31,26 @@ pub fn answer(row: &mut Row<'_>) {
         Err(fault) => say_fault(row, fault),
     }
     row.say_bytes(", memory ", held.as_slice());
+}
+
+/// What is handed over of the entry of the words that are left, on the last machine. Where that is
+/// nothing, why is the answer.
+pub fn handed<'a>(row: &mut Row<'a>) -> Option<Handoff<&'a Refusing>> {
+    let heap = row.heap;
+    let read = read_entry(row);
+    let files = read.views(row);
+    let machine = row.machine_over(heap)?;
+    let entry = entry_of(row, heap, &read, files.len())?;
+    let mut memory = Sparse::new(heap, machine.size(), 0).ok()?;
+    if memory.size() != machine.size() {
+        row.refuse();
+        return None;
+    }
+    match load_entry(heap, &machine, &mut memory, &entry, files.as_slice()) {
+        Ok(handoff) => Some(handoff),
+        Err(fault) => {
+            say_fault(row, fault);
+            None
+        }
+    }
 }

@@ -83,8 +83,8 @@ fn telling_refusal(row: &mut Row<'_>, name: &str) -> Option<Refusal> {
     }
 }
 
-fn read_refusal(row: &mut Row<'_>) -> Option<Refusal> {
-    let name = row.word();
+/// The refusal of this name, with the numbers that are left.
+fn read_refusal(row: &mut Row<'_>, name: &str) -> Option<Refusal> {
     let plain = plain_refusal(name);
     if plain.is_some() {
         return plain;
@@ -97,10 +97,30 @@ fn read_refusal(row: &mut Row<'_>) -> Option<Refusal> {
 
 /// `refusal NAME DATA ..`: the refusal's number and what it prints.
 pub fn answer(row: &mut Row<'_>) {
-    let Some(refusal) = read_refusal(row) else {
+    let name = row.word();
+    let Some(refusal) = read_refusal(row, name) else {
         return row.refuse();
     };
     row.say_decimal("", refusal.number() as u64);
     row.say(" ");
     row.say_shown(refusal);
+}
+
+/// That of a refusal, or want of memory.
+fn fault_of(row: &mut Row<'_>, name: &str) -> Option<PrepFault> {
+    match name {
+        "NoMemory" => Some(PrepFault::NoMemory),
+        _ => Some(PrepFault::Refused(read_refusal(row, name)?)),
+    }
+}
+
+/// `prep_fault NAME DATA ..`: what is answered for an entry that is not prepared, as it prints, and
+/// its number.
+pub fn answer_fault(row: &mut Row<'_>) {
+    let name = row.word();
+    let Some(fault) = fault_of(row, name) else {
+        return row.refuse();
+    };
+    row.say_shown(fault);
+    row.say_decimal(", number ", fault.number() as u64);
 }

@@ -5,7 +5,8 @@ use bl_refusing::Refusing;
 use bl_rows::row::Row;
 use bl_session::{Menu, MenuFault};
 
-fn say_menu(row: &mut Row<'_>, menu: &Menu<&Refusing>) {
+/// The order of a menu's attempts, and how many files it names.
+pub fn say_menu(row: &mut Row<'_>, menu: &Menu<&Refusing>) {
     row.say("attempts");
     for attempt in 0..menu.attempts() {
         row.say_number(" ", menu.entry_of(attempt) as u64);

@@ -1,35 +1,41 @@
-//! A session with its machine and memory.
+//! A session with its memory.
 ghost use Rattle.std.specs.Prelude.{IsTrue};
 ghost use Rattle.bl_mem.specs.Memory.{HasRoom};
 
+use crate::attempts::answers::{say_progress, say_request};
+use crate::attempts::building::Plan;
+use crate::attempts::either_session::EitherSession;
 use crate::attempts::end::{parts_of, say_end};
 use crate::attempts::memory::{FILL, say_outside};
-use bl_map::Machine;
+use crate::attempts::menu::say_menu;
 use bl_mem::{PhysMem, Sparse};
 use bl_refusing::Refusing;
 use bl_rows::calls::memory::give_room;
 use bl_rows::row::Row;
-use bl_session::{Event, Menu, Progress, Request, Session, Ticket};
+use bl_session::{Event, OwnedSession, Session, Ticket};
 use std::marker::Model;
 use std::ops::Range;
 
-/// A session, its machine, and its memory.
+/// A session, its machine's size and pool, and its memory.
 #[derive(Drop)]
 pub struct Rig<'a, 'h> {
-    machine: &'a Machine<&'h Refusing>,
-    session: Session<'a, &'h Refusing>,
+    size: u64,
+    pool: Range<u64>,
+    session: EitherSession<'a, 'h>,
     memory: Sparse<&'h Refusing>,
 }
 
 impl<'a, 'h> Model for Rig<'a, 'h> {
     ghost use Rattle.std.specs.Prelude.{◌≡◌};
     ghost use Rattle.bl_session.specs.Phases.{SessionFacts};
+    ghost use Rattle.bl_row_parts.specs.EitherSession.{either_facts};
 
     ghost Value = { SessionFacts };
 
-    ghost view = { λ rig. rig.session };
+    ghost view = { λ rig. either_facts rig.session };
 
-    ghost invariant = { λ rig. rig.session.boot.machine ≡ rig.machine.now };
+    ghost invariant = { λ rig. (rig.size ≡ (either_facts rig.session).boot.machine.size)
+        × (rig.pool ≡ (either_facts rig.session).boot.machine.pool) };
 }
 
 /// Gives room to the pool, as an event asks, and says whether memory sufficed. Where it did not,
@@ -40,45 +46,47 @@ fn give_pool<M: PhysMem>(row: &mut Row<'_>, memory: &mut M, pool: &Range<u64>) -
     pool.start >= pool.end || give_room(row, memory, pool)
 }
 
-fn say_progress(row: &mut Row<'_>, progress: Progress) {
-    match progress {
-        Progress::Waiting => row.say("waiting"),
-        Progress::Next(attempt) => row.say_number("next ", attempt as u64),
-        Progress::Done => row.say("done"),
-        Progress::Failed => row.say("failed"),
-    }
-}
-
-/// A piece that is awaited: its file's index in the menu, its ticket, its length.
-fn say_request(row: &mut Row<'_>, request: &Request) {
-    row.say_number("file ", request.file as u64);
-    row.say_number(" ticket ", request.ticket.attempt as u64);
-    row.say_number(".", request.ticket.file as u64);
-    row.say_number(".", request.ticket.piece as u64);
-    row.say_number(" length ", request.len as u64);
-}
-
 impl<'a, 'h> Rig<'a, 'h> {
     /// A session that is not started, over memory that reads as a5 everywhere; none if memory ran
     /// out.
     pub fn new(
         heap: &'h Refusing,
-        machine: &'a Machine<&'h Refusing>,
-        menu: &'a Menu<&'h Refusing>,
+        plan: &'a Plan<'h>,
         sizes: &[Option<u64>],
     ) -> Option<Rig<'a, 'h>> {
-        let session = Session::new(heap, machine, menu, sizes).ok()?;
-        let memory = Sparse::new(heap, machine.size(), FILL).ok()?;
+        let session = Session::new(heap, &plan.machine, &plan.menu, sizes).ok()?;
+        let memory = Sparse::new(heap, plan.machine.size(), FILL).ok()?;
         Some(Rig {
-            machine,
-            session,
+            size: plan.machine.size(),
+            pool: plan.machine.pool(),
+            session: EitherSession::Borrowing(session),
+            memory,
+        })
+    }
+
+    /// The same of a session that owns its machine and its menu.
+    pub fn owning(
+        heap: &'h Refusing,
+        plan: Plan<'h>,
+        sizes: &[Option<u64>],
+    ) -> Option<Rig<'a, 'h>> {
+        let Plan { machine, menu } = plan;
+        let sizes = Vec::from_slice(heap, sizes).ok()?;
+        let size = machine.size();
+        let pool = machine.pool();
+        let memory = Sparse::new(heap, size, FILL).ok()?;
+        let session = OwnedSession::new(heap, machine, menu, sizes);
+        Some(Rig {
+            size,
+            pool,
+            session: EitherSession::Owning(session),
             memory,
         })
     }
 
     /// Starts the session.
     pub fn start(&mut self, row: &mut Row<'_>) {
-        if self.memory.size() != self.machine.size() {
+        if self.memory.size() != self.size {
             return row.refuse();
         }
         say_progress(row, self.session.start(&mut self.memory));
@@ -86,11 +94,10 @@ impl<'a, 'h> Rig<'a, 'h> {
 
     /// Takes an event.
     pub fn event(&mut self, row: &mut Row<'_>, event: Event<'_>) {
-        let pool = self.machine.pool();
-        if !give_pool(row, &mut self.memory, &pool) {
+        if !give_pool(row, &mut self.memory, &self.pool) {
             return;
         }
-        if self.memory.size() != self.machine.size() {
+        if self.memory.size() != self.size {
             return row.refuse();
         }
         say_progress(row, self.session.event(&mut self.memory, event));
@@ -98,10 +105,44 @@ impl<'a, 'h> Rig<'a, 'h> {
 
     /// What it ended in, or `none`.
     pub fn say_end(&self, row: &mut Row<'_>) {
-        let pool = self.machine.pool();
         match self.session.outcome() {
-            Some(end) => say_end(row, &self.memory, &pool, end),
+            Some(end) => say_end(row, &self.memory, &self.pool, end),
             None => row.say("none"),
+        }
+    }
+
+    /// What it ended in, or `none`, taken for good.
+    pub fn finish(self, row: &mut Row<'_>) {
+        let Rig {
+            pool,
+            session,
+            memory,
+            ..
+        } = self;
+        match session.into_outcome() {
+            Some(end) => say_end(row, &memory, &pool, end.as_ref()),
+            None => row.say("none"),
+        }
+    }
+
+    /// The size and the pool of the machine that the session owns.
+    pub fn say_machine(&self, row: &mut Row<'_>) {
+        let Some(session) = self.session.owned() else {
+            return row.refuse();
+        };
+        let pool = session.machine().pool();
+        row.say_numbers(&[
+            ("size ", session.machine().size()),
+            (" pool ", pool.start),
+            ("..", pool.end),
+        ]);
+    }
+
+    /// The menu that it owns.
+    pub fn say_menu(&self, row: &mut Row<'_>) {
+        match self.session.owned() {
+            Some(session) => say_menu(row, session.menu()),
+            None => row.refuse(),
         }
     }
 
@@ -128,12 +169,11 @@ impl<'a, 'h> Rig<'a, 'h> {
 
     /// Whether memory outside the pool, and after a handover outside the parts, is as it was.
     pub fn say_outside(&self, row: &mut Row<'_>) {
-        let pool = self.machine.pool();
         let parts = match self.session.outcome() {
             Some(end) => parts_of(end),
             None => &[],
         };
-        say_outside(row, &self.memory, &pool, parts);
+        say_outside(row, &self.memory, &self.pool, parts);
     }
 
     /// Its memory.

@@ -1,0 +1,23 @@
+//! What a session answers, as text.
+
+use bl_rows::row::Row;
+use bl_session::{Progress, Request};
+
+/// Where a session stands after a call.
+pub fn say_progress(row: &mut Row<'_>, progress: Progress) {
+    match progress {
+        Progress::Waiting => row.say("waiting"),
+        Progress::Next(attempt) => row.say_number("next ", attempt as u64),
+        Progress::Done => row.say("done"),
+        Progress::Failed => row.say("failed"),
+    }
+}
+
+/// A piece that is awaited: its file's index in the menu, its ticket, its length.
+pub fn say_request(row: &mut Row<'_>, request: &Request) {
+    row.say_number("file ", request.file as u64);
+    row.say_number(" ticket ", request.ticket.attempt as u64);
+    row.say_number(".", request.ticket.file as u64);
+    row.say_number(".", request.ticket.piece as u64);
+    row.say_number(" length ", request.len as u64);
+}
