@@ -10,7 +10,6 @@ pub mod SaidLemmas
 pub mod ShownLaws
 pub mod ConvertLaws
 pub mod ExplainLemmas
-pub mod KeyLemmas
 pub mod FrameLemmas
 pub mod HintLemmas
 pub mod HeldLemmas
