@@ -25,11 +25,15 @@ frames_wanted sought [] = 0
 frames_wanted sought (name ∷ names) =
     frames_of (length_sought sought name) + frames_wanted sought names
 
+-- a number between two texts
+unfoldable pub counted : (before : List ℕ) → ℕ → (behind : List ℕ) → List ℕ
+counted before count behind = before ++ decimal count ++ behind
+
 -- frames that files take, frames of the pool beside the parts, all of the pool's frames
 abbrev pub frames_line : (wanted beside all : ℕ) → List ℕ
 frames_line wanted beside all =
-    codes "frames " ++ decimal wanted ++ codes " wanted, " ++ decimal beside ++ codes " open, "
-    ++ decimal all ++ codes " in all\n"
+    counted (codes "frames ") wanted (codes " wanted, ")
+    ++ counted (codes "") beside (codes " open, ") ++ counted (codes "") all (codes " in all\n")
 
 -- of files of these names in this pool, where the parts lie in these ranges
 abbrev pub room_line : SoughtFacts → List (List ℕ) → (pool : Range ℕ) → List (Range ℕ) → List ℕ

@@ -1,10 +1,10 @@
 //! The frames of the pool that an entry's files take, in a line.
-ghost use Rattle.std.specs.Prelude.{◌≡◌, ◌*◌, ◌≤◌, ◌^◌, ◌++◌, OnOk, decimal, length, map};
+ghost use Rattle.std.specs.Prelude.{◌≡◌, ◌*◌, ◌≤◌, ◌^◌, ◌++◌, OnOk, length, map};
 ghost use Rattle.bl_map.specs.Room as room;
 ghost use Rattle.bl_plan.specs.Placed.{place_range};
 ghost use Rattle.bl_boot.specs.Attempted.{file_names, names_beside};
-ghost use Rattle.bl_boot.specs.Frames.{frames_line, frames_wanted, length_sought, names_at};
-ghost use Rattle.bl_boot.specs.Frames.{room_line};
+ghost use Rattle.bl_boot.specs.Frames.{counted, frames_line, frames_wanted, length_sought};
+ghost use Rattle.bl_boot.specs.Frames.{names_at, room_line};
 ghost use Rattle.bl_desc.specs.Views.{entry_view, form_view, module_view};
 
 use crate::explanation::Sought;
@@ -80,14 +80,15 @@ fn frames_at<A: Allocator, B: Allocator>(
 }
 
 /// Appends a number between two texts.
+#[tactic(auto, unfolding(crate::specs::Frames::counted))]
 fn say_counted<A: Allocator + Copy>(
     out: &mut Vec<u8, A>,
     before: &str,
     count: u64,
     behind: &str,
 ) -> Result<(), AllocError>
-    ensures { OnOk result (out.new.items ≡ out.old.items
-        ++ (before.now ++ (decimal count ++ behind.now))) }
+    ensures { OnOk result
+        (out.new.items ≡ out.old.items ++ counted before.now count behind.now) }
 {
     let alloc = *out.allocator();
     let words = format!(in alloc; "{before}{count}{behind}")?;
@@ -104,8 +105,7 @@ fn say_frames<A: Allocator + Copy>(
 {
     say_counted(out, "frames ", wanted, " wanted, ")?;
     say_counted(out, "", beside, " open, ")?;
-    say_counted(out, "", all, " in all\n")?;
-    Ok(())
+    say_counted(out, "", all, " in all\n")
 }
 
 /// Appends the line of the frames of an entry that is handed over.

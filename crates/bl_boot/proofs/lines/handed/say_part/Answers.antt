@@ -1,29 +1,9 @@
 use Rattle.std.proofs.Common.{◌≡◌, ◌++◌, ◌∙◌, List, ℕ, map, ap, append_assoc}
-use Rattle.std.specs.Prelude.{codes, decimal}
+use Rattle.std.specs.Prelude.{codes}
 use Rattle.bl_desc.specs.Views.{entry_view}
-use Rattle.bl_boot.specs.HandedLines.{part_front, role_name}
+use Rattle.bl_boot.specs.HandedLines.{part_front}
 use Rattle.bl_boot.specs.Sources.{source_at}
-use Rattle.bl_boot.specs.WalkSays.{hex8}
 use Rattle.bl_boot.proofs.lines.handed.say_part.Goals as goal
-
--- what stands before a text, word by word
-front_flat : (p r s i h l t x : List ℕ)
-    → (p ++ (r ++ (s ++ (i ++ (s ++ (h ++ (s ++ (l ++ t)))))))) ++ x
-    ≡ p ++ (r ++ (s ++ (i ++ (s ++ (h ++ (s ++ (l ++ (t ++ x))))))))
-front_flat p r s i h l t x =
-    append_assoc p (r ++ (s ++ (i ++ (s ++ (h ++ (s ++ (l ++ t))))))) x
-    ∙ ap (λ (y : List ℕ). p ++ y)
-    (append_assoc r (s ++ (i ++ (s ++ (h ++ (s ++ (l ++ t)))))) x
-    ∙ ap (λ (y : List ℕ). r ++ y)
-    (append_assoc s (i ++ (s ++ (h ++ (s ++ (l ++ t))))) x
-    ∙ ap (λ (y : List ℕ). s ++ y)
-    (append_assoc i (s ++ (h ++ (s ++ (l ++ t)))) x
-    ∙ ap (λ (y : List ℕ). i ++ y)
-    (append_assoc s (h ++ (s ++ (l ++ t))) x
-    ∙ ap (λ (y : List ℕ). s ++ y)
-    (append_assoc h (s ++ (l ++ t)) x
-    ∙ ap (λ (y : List ℕ). h ++ y)
-    (append_assoc s (l ++ t) x ∙ ap (λ (y : List ℕ). s ++ y) (append_assoc l t x)))))))
 
 -- three texts, one after the other
 three_said : (out front source end first second third : List ℕ) → first ≡ out ++ front
@@ -44,6 +24,3 @@ returns g c =
     three_said c.args.out.now.items (part_front place) source (codes "\n")
     c.say_part_front.new.out.items c.say_source.new.out.items c.say_line_end.new.out.items
     c.in_ok-say_part_front.ensures c.in_ok-say_source.ensures c.in_ok-say_line_end.ensures
-    ∙ ap (λ (y : List ℕ). c.args.out.now.items ++ y)
-    (front_flat (codes "part ") (role_name place.role) (codes " ") (decimal place.index)
-    (hex8 place.address) (decimal place.length) (codes " from ") (source ++ codes "\n"))
