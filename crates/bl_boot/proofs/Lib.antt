@@ -10,6 +10,7 @@ pub mod SaidLemmas
 pub mod ShownLaws
 pub mod ConvertLaws
 pub mod ExplainLemmas
+pub mod KeyLemmas
 pub mod FrameLemmas
 pub mod HintLemmas
 pub mod HeldLemmas

@@ -27,7 +27,7 @@ role_name Initrd = codes "initrd"
 role_name PageTables = codes "page-tables"
 
 -- what a part is, which one of its role, its address, its length
-abbrev pub part_front : Place → List ℕ
+unfoldable pub part_front : Place → List ℕ
 part_front place =
     codes "part " ++ role_name place.role ++ codes " " ++ decimal place.index ++ codes " "
     ++ hex8 place.address ++ codes " " ++ decimal place.length ++ codes " from "

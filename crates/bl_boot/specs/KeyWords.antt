@@ -41,13 +41,13 @@ dot_words Description = []
 dot_words _ = codes "."
 
 -- a key, by its path
-abbrev pub path_words : TablePlace → List ℕ → List ℕ
+unfoldable pub path_words : TablePlace → List ℕ → List ℕ
 path_words at key = table_words at ++ dot_words at ++ shown_name key
 
 -- ---- what is held
 
 -- a text of at most 64 bytes is told itself, a longer one by its length
-abbrev pub text_words : List ℕ → List ℕ
+unfoldable pub text_words : List ℕ → List ℕ
 text_words s =
     if nat_le (length s) 64 then codes "\"" ++ shown_name s ++ codes "\""
     else codes "a text of " ++ decimal (length s) ++ codes " bytes"
@@ -94,17 +94,29 @@ listed_words (name ∷ more ∷ names) = name ++ codes ", " ++ listed_words (mor
 -- ---- the whole
 
 -- what a path holds, and what is allowed there
+unfoldable pub is_words : Data → List ℕ
+is_words held = codes " is " ++ held_words held
+
+unfoldable pub must_words : List ℕ → List ℕ
+must_words allowed = codes "; it must be " ++ allowed
+
 abbrev pub instead_words : Data → (allowed : List ℕ) → List ℕ
-instead_words held allowed =
-    codes " is " ++ held_words held ++ codes "; it must be " ++ allowed
+instead_words held allowed = is_words held ++ must_words allowed
+
+-- that a key may not be there, and which may; that one is not there, and what must be
+unfoldable pub unknown_words : KeySet → List ℕ
+unknown_words known = codes " is no key; the keys are " ++ listed_words (keys_of_set known)
+
+unfoldable pub missing_words : Allowed → List ℕ
+missing_words allowed = codes " is missing; it must be " ++ allowed_words allowed
 
 abbrev pub key_fault_words : TablePlace → KeyFault → List ℕ
 key_fault_words at (NoTable value) =
     table_words at ++ instead_words (view value.now) (codes "a table")
 key_fault_words at (Unknown key known) =
-    path_words at key.now ++ codes " is no key; the keys are " ++ listed_words (keys_of_set known)
+    path_words at key.now ++ unknown_words known
 key_fault_words at (Missing key allowed) =
-    path_words at key.now ++ codes " is missing; it must be " ++ allowed_words allowed
+    path_words at key.now ++ missing_words allowed
 key_fault_words at (BadValue key value allowed) =
     path_words at key.now ++ instead_words (view value.now) (allowed_words allowed)
 key_fault_words at (BadItem key index value allowed) =

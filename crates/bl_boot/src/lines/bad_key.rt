@@ -3,7 +3,7 @@ ghost use Rattle.std.specs.Prelude.{◌≡◌, ◌++◌, OnOk};
 ghost use Rattle.bl_desc.specs.Allowed.{keys_of_set};
 ghost use Rattle.bl_boot.specs.KeyWords as words;
 
-use crate::lines::key_values::{say_allowed, say_bad_value, say_instead};
+use crate::lines::key_values::{say_bad_value, say_instead, say_missing};
 use crate::lines::sought::say_name;
 use bl_desc::{BadKey, KeyFault, KeySet, TablePlace};
 use std::alloc::{AllocError, Allocator};
@@ -61,6 +61,7 @@ fn dot_words(table: TablePlace) -> &'static str
 }
 
 /// Appends a key's path.
+#[tactic(auto, unfolding(crate::specs::KeyWords::path_words))]
 fn say_path<A: Allocator + Copy>(
     out: &mut Vec<u8, A>,
     table: TablePlace,
@@ -90,6 +91,15 @@ fn keys_listed(keys: KeySet) -> &'static str
     }
 }
 
+/// Appends that a key may not be there, and which may.
+fn say_unknown<A: Allocator + Copy>(out: &mut Vec<u8, A>, known: KeySet) -> Result<(), AllocError>
+    ensures { OnOk result (out.new.items ≡ out.old.items ++ words.unknown_words known) }
+{
+    out.extend_from_slice(b" is no key; the keys are ")?;
+    out.extend_from_slice(keys_listed(known).as_bytes())?;
+    Ok(())
+}
+
 /// Appends a bad key: its path, what it holds, what is allowed there.
 pub fn say_bad_key<A: Allocator + Copy>(
     out: &mut Vec<u8, A>,
@@ -105,13 +115,11 @@ pub fn say_bad_key<A: Allocator + Copy>(
         }
         KeyFault::Unknown(key, known) => {
             say_path(out, table, key)?;
-            out.extend_from_slice(b" is no key; the keys are ")?;
-            out.extend_from_slice(keys_listed(known).as_bytes())
+            say_unknown(out, known)
         }
         KeyFault::Missing(key, allowed) => {
             say_path(out, table, key)?;
-            out.extend_from_slice(b" is missing; it must be ")?;
-            say_allowed(out, allowed)
+            say_missing(out, allowed)
         }
         KeyFault::BadValue(key, value, allowed) => {
             say_path(out, table, key)?;

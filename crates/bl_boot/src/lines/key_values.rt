@@ -10,6 +10,7 @@ use std::alloc::{AllocError, Allocator};
 use toml::Value;
 
 /// Appends a text, or how long it is.
+#[tactic(auto, unfolding(crate::specs::KeyWords::text_words))]
 fn say_text<A: Allocator + Copy>(out: &mut Vec<u8, A>, text: &str) -> Result<(), AllocError>
     ensures { OnOk result (out.new.items ≡ out.old.items ++ words.text_words text.now) }
 {
@@ -101,6 +102,45 @@ pub fn say_allowed<A: Allocator + Copy>(
     }
 }
 
+#[tactic(auto, unfolding(crate::specs::KeyWords::is_words))]
+fn say_is<A: Allocator + Copy>(out: &mut Vec<u8, A>, value: &Value) -> Result<(), AllocError>
+    ensures { OnOk result (out.new.items ≡ out.old.items ++ words.is_words (view value.now)) }
+{
+    out.extend_from_slice(b" is ")?;
+    say_held(out, value)
+}
+
+fn say_must<A: Allocator + Copy>(out: &mut Vec<u8, A>, allowed: &str) -> Result<(), AllocError>
+    ensures { OnOk result (out.new.items ≡ out.old.items ++ words.must_words allowed.now) }
+{
+    out.extend_from_slice(b"; it must be ")?;
+    out.extend_from_slice(allowed.as_bytes())?;
+    Ok(())
+}
+
+#[tactic(auto, unfolding(crate::specs::KeyWords::must_words))]
+fn say_must_be<A: Allocator + Copy>(
+    out: &mut Vec<u8, A>,
+    allowed: Allowed,
+) -> Result<(), AllocError>
+    ensures { OnOk result
+        (out.new.items ≡ out.old.items ++ words.must_words (words.allowed_words allowed)) }
+{
+    out.extend_from_slice(b"; it must be ")?;
+    say_allowed(out, allowed)
+}
+
+/// Appends that a key is missing, and what must stand there.
+pub fn say_missing<A: Allocator + Copy>(
+    out: &mut Vec<u8, A>,
+    allowed: Allowed,
+) -> Result<(), AllocError>
+    ensures { OnOk result (out.new.items ≡ out.old.items ++ words.missing_words allowed) }
+{
+    out.extend_from_slice(b" is missing; it must be ")?;
+    say_allowed(out, allowed)
+}
+
 /// Appends what a value is, and what must stand in its place.
 pub fn say_instead<A: Allocator + Copy>(
     out: &mut Vec<u8, A>,
@@ -110,10 +150,8 @@ pub fn say_instead<A: Allocator + Copy>(
     ensures { OnOk result (out.new.items
         ≡ out.old.items ++ words.instead_words (view value.now) allowed.now) }
 {
-    out.extend_from_slice(b" is ")?;
-    say_held(out, value)?;
-    out.extend_from_slice(b"; it must be ")?;
-    out.extend_from_slice(allowed.as_bytes())
+    say_is(out, value)?;
+    say_must(out, allowed)
 }
 
 /// Appends what a key's value is, and what is allowed there.
@@ -125,8 +163,6 @@ pub fn say_bad_value<A: Allocator + Copy>(
     ensures { OnOk result (out.new.items
         ≡ out.old.items ++ words.instead_words (view value.now) (words.allowed_words allowed)) }
 {
-    out.extend_from_slice(b" is ")?;
-    say_held(out, value)?;
-    out.extend_from_slice(b"; it must be ")?;
-    say_allowed(out, allowed)
+    say_is(out, value)?;
+    say_must_be(out, allowed)
 }

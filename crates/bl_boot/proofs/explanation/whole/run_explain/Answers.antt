@@ -57,7 +57,7 @@ returns-in_err-names g c =
     c.from_residual-in_err-names.ensures.1 in
     rw (p.1, p.2)
     (record {
-      ends = refl;
+      ends = c.in_ok-machine.ensures.kept ∙ c.in_ok-description.ensures.kept;
       asked = none_asked (names_fetched (described c.args.desc.now))
           (g.F.Files.asked c.args.files.now);
       inline = λ _. refl;
@@ -74,7 +74,7 @@ returns-in_err-menu g c =
     c.from_residual-in_err-menu.ensures.1 in
     rw (p.1, p.2)
     (record {
-      ends = refl;
+      ends = c.in_ok-machine.ensures.kept ∙ c.in_ok-description.ensures.kept;
       asked = none_asked (names_fetched (described c.args.desc.now))
           (g.F.Files.asked c.args.files.now);
       inline = λ _. refl;
@@ -91,7 +91,7 @@ returns-in_err-memory g c =
     c.from_residual-in_err-memory.ensures.1 in
     rw (p.1, p.2)
     (record {
-      ends = refl;
+      ends = c.in_ok-machine.ensures.kept ∙ c.in_ok-description.ensures.kept;
       asked = none_asked (names_fetched (described c.args.desc.now))
           (g.F.Files.asked c.args.files.now);
       inline = λ _. refl;
@@ -100,6 +100,13 @@ returns-in_err-memory g c =
           (length (names_sought (described c.args.desc.now)));
       few = (none_missing (g.F.Files.faults c.args.files.now) most_names).1;
     })
+
+pub returns-in_err-found-clause-ends : goal.returns-in_err-found-clause-ends
+returns-in_err-found-clause-ends g c =
+    let p =
+    err_from_is_err_and c.from_residual-in_err-found.result c.from_residual-in_err-found.ensures.1
+    in
+    rw (p.1, p.2) (c.in_ok-machine.ensures.kept ∙ c.in_ok-description.ensures.kept)
 
 pub returns-in_err-found-clause-inline : goal.returns-in_err-found-clause-inline
 returns-in_err-found-clause-inline g c = λ has. c.in_err-found.ensures.inline
@@ -189,4 +196,6 @@ returns-clause-ends g c =
       c.in_ok-menu.ensures.menu,
       c.deref-3.ensures.value,
       c.in_ok-names.ensures.names,
+      c.in_ok-machine.ensures.kept,
+      c.in_ok-description.ensures.kept,
     ) at c.explain_found.ensures)

@@ -6,6 +6,7 @@ use Rattle.bl_boot.specs.HandedLines.{part_front, role_name}
 use Rattle.bl_boot.proofs.lines.handed.say_part_front.Goals as goal
 
 pub returns : goal.returns
+unfolding part_front
 returns g c =
     let place = c.args.place.now in
     let limit = 2 ^ 64 - 1 in
