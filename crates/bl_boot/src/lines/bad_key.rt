@@ -18,10 +18,7 @@ fn say_index<A: Allocator + Copy>(out: &mut Vec<u8, A>, index: usize) -> Result<
 }
 
 /// Appends a table's path; that of the whole is empty.
-fn say_table<A: Allocator + Copy>(
-    out: &mut Vec<u8, A>,
-    table: TablePlace,
-) -> Result<(), AllocError>
+fn say_table<A: Allocator + Copy>(out: &mut Vec<u8, A>, table: TablePlace) -> Result<(), AllocError>
     ensures { OnOk result (out.new.items ≡ out.old.items ++ words.table_words table) }
 {
     match table {
@@ -82,9 +79,7 @@ fn keys_listed(keys: KeySet) -> &'static str
         KeySet::Description => "size, pool, fill, default, fallback, region, file, entry",
         KeySet::Region => "base, length, kind",
         KeySet::File => "name, hex",
-        KeySet::Entry => {
-            "title, protocol, kernel, line, module, rsdp_old, rsdp_new, initrd"
-        }
+        KeySet::Entry => { "title, protocol, kernel, line, module, rsdp_old, rsdp_new, initrd" }
         KeySet::Multiboot2Entry => "title, protocol, kernel, line, module, rsdp_old, rsdp_new",
         KeySet::LinuxEntry => "title, protocol, kernel, line, initrd",
         KeySet::Module => "file, line",

@@ -72,10 +72,7 @@ fn say_place<A: Allocator + Copy>(out: &mut Vec<u8, A>, place: &TextPlace) -> Re
     out.extend_from_slice(words.as_bytes())
 }
 
-fn say_words<A: Allocator + Copy>(
-    out: &mut Vec<u8, A>,
-    blame: &Blame<'_>,
-) -> Result<(), AllocError>
+fn say_words<A: Allocator + Copy>(out: &mut Vec<u8, A>, blame: &Blame<'_>) -> Result<(), AllocError>
     ensures { OnOk result (out.new.items ≡ out.old.items ++ blames.blame_words blame.now) }
 {
     match blame {

@@ -1,4 +1,4 @@
-use Rattle.std.proofs.Common.{◌≡◌, ◌+◌, ◌++◌, ◌∷◌, ◌∙◌, [], List, ℕ, ap, sym, get_or, take}
+use Rattle.std.proofs.Common.{◌≡◌, ◌+◌, ◌∙◌, ap, sym, get_or, take}
 use Rattle.std.proofs.lemmas.List.{take_more}
 use Rattle.bl_boot.specs.Blames.{after_byte, text_place}
 use Rattle.bl_boot.specs.declared.explanation.blame.TextPlace.{TextPlace}

@@ -1,12 +1,11 @@
-use Rattle.std.proofs.Common.{◌≡◌, ◌∙◌, length, map, refl, ap, arith}
-use Rattle.std.proofs.lemmas.List.{length-replicate, length-map}
+use Rattle.std.proofs.Common.{◌≡◌, ◌∙◌, length, refl, ap, arith}
+use Rattle.std.proofs.lemmas.List.{length-replicate}
 use Rattle.std.proofs.lemmas.Result.{err_from_is_err_and}
 use Rattle.bl_desc.specs.Described.{described}
 use Rattle.bl_desc.specs.Views.{view}
-use Rattle.bl_session.specs.Stores.{file_of}
 use Rattle.bl_boot.specs.Ends.{names_fetched, names_sought}
 use Rattle.bl_boot.specs.Attempted.{most_names, names_in}
-use Rattle.bl_boot.proofs.EndLemmas.{all_asked, fetched, inline_in, none_asked, none_missing}
+use Rattle.bl_boot.proofs.EndLemmas.{fetched, inline_in, none_asked, none_missing}
 use Rattle.bl_boot.proofs.EndLemmas.{sought}
 use Rattle.bl_boot.proofs.ExplainEnds.{explain_asked, explained_by, unmade, unread}
 use Rattle.bl_boot.proofs.NameLemmas.{as_many}
