@@ -146,8 +146,7 @@ IsSameName vs i =
 -- the names of these files differ, whatever they hold
 abbrev pub IsEachFileNamed : Members → Type 0
 IsEachFileNamed ms =
-    (vs : List Value)
-    × (items_view vs ≡ array_items (get_member (codes "file") ms))
+    (vs : List Value) × (items_view vs ≡ array_items (get_member (codes "file") ms))
     × (names_differ (map named_file vs) ≡ true)
 
 -- ---- the whole
