@@ -14,6 +14,7 @@ mod header;
 mod image;
 mod information;
 mod linux;
+mod loading;
 mod machine;
 mod multiboot2;
 mod places;
@@ -22,37 +23,15 @@ mod staging;
 mod words;
 
 use image::write_image;
+use loading::load_parts;
 use machine::{Machine, Region};
-use places::{check_room, Content, Part};
-use staging::{Source, Staged};
+use places::check_room;
+use staging::Staged;
 use std::fs::{self, File};
 use std::io::{self, Read, Write};
 use std::{env, process};
 
 type Answer<T> = Result<T, String>;
-
-/// Writes what a part holds, and zeros behind it.
-fn load<S: Source + ?Sized>(memory: &mut [u8], source: &S, part: &Part) {
-    let range = part.range();
-    let out = &mut memory[range.start as usize..range.end as usize];
-    let count = match &part.content {
-        Content::Own(bytes) => {
-            out[..bytes.len()].copy_from_slice(bytes);
-            bytes.len()
-        }
-        Content::File { file, offset, count } => {
-            source.read(*file, *offset as usize, &mut out[..*count as usize]);
-            *count as usize
-        }
-    };
-    out[count..].fill(0);
-}
-
-fn load_parts<S: Source + ?Sized>(memory: &mut [u8], source: &S, parts: &[Part]) {
-    for part in parts {
-        load(memory, source, part);
-    }
-}
 
 /// What is booted: a protocol, its line and the paths of its files.
 struct Entry<'a> {

@@ -1,4 +1,4 @@
-"""prepare, load, load_entry, refusal: the calls of bl_load."""
+"""prepare, unplaced, load, load_entry, refusal: the calls of bl_load."""
 
 from typing import List, Optional
 
@@ -7,6 +7,7 @@ from rules import entry as entries
 from rules.handover import MULTIBOOT2, PROTOCOL_NAMES, Handover, names_of, part_bytes
 from rules.memory import Memory
 from rules.refusals import NAMES, Refused
+from rules.unplaced import unplaced as first_unplaced
 
 from . import BYTES_OF, Call
 from .answers import Open
@@ -70,6 +71,22 @@ def prepare(table, line):
         return "refused " + refusal_text(refused)
 
 
+def row_text(row) -> str:
+    """A row of the table of parts, with the fields that a row of `places` has."""
+    limits = ["align=%x low=%x high=%x" % row.limits] if row.limits is not None else []
+    chosen = row.choice if isinstance(row.choice, str) else "at=%x" % row.choice
+    return " ".join(["%s %x len=%x" % (ROLES[row.role], row.index, row.length)] + limits + [chosen])
+
+
+def unplaced(table, line):
+    """The row of the first part that has no place."""
+    try:
+        row = first_unplaced(last_machine(table), read_entry(table, line.words, line.data))
+    except Refused as refused:
+        return "refused " + refusal_text(refused)
+    return "none" if row is None else row_text(row)
+
+
 def memory_after(machine, handover: Handover, fill: int) -> bytes:
     """All of memory: each part's bytes, and the others as before."""
     memory = Memory(machine.size, fill)
@@ -131,6 +148,7 @@ def refusal(table, line):
 
 CALLS = {
     "prepare": Call(prepare, BYTES_OF),
+    "unplaced": Call(unplaced, BYTES_OF),
     "load": Call(load, BYTES_OF),
     "load_entry": Call(load_entry, BYTES_OF, load_entry_is_refused),
     "refusal": Call(refusal),

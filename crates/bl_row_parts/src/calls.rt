@@ -3,7 +3,7 @@
 use crate::attempts::{menu, run, steps};
 use crate::{
     describe, handoff, image, line, loaded, parts, read_image, read_info, reasons, refusal,
-    registers, rewrite, sink, walk, write_info,
+    registers, rewrite, sink, unplaced, walk, write_info,
 };
 use bl_rows::row::Row;
 
@@ -41,6 +41,7 @@ pub fn make_over(row: &mut Row<'_>, name: &str) -> bool {
         "read_info" => read_info::answer(row),
         "write_info" => write_info::answer(row),
         "prepare" => handoff::answer_prepare(row),
+        "unplaced" => unplaced::answer(row),
         "load" => handoff::answer_load(row),
         "load_entry" => loaded::answer(row),
         "registers" => registers::answer(row),

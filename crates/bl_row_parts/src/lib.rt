@@ -22,5 +22,6 @@ mod rewrite;
 mod sink;
 pub mod sinks;
 pub mod source;
+mod unplaced;
 mod walk;
 mod write_info;

@@ -1,0 +1,73 @@
+/*
+ * Boots a Linux kernel and an initial ramdisk by bootcore_boot, by way of a pool, in 512 MiB of memory, as often as is told.
+ *
+ *     core_boot KERNEL INITRD ROUNDS
+ */
+#include "bootcore.h"
+
+#include <stdio.h>
+#include <stdlib.h>
+
+enum { SIZE = 0x20000000, POOL = 0x2400000, POOL_END = 0x10000000 };
+
+static unsigned char *contents; /* both files, one after the other */
+static size_t contents_length;
+
+static size_t add_file(const char *path)
+{
+    FILE *file = fopen(path, "rb");
+    size_t length;
+    if (file == NULL || fseek(file, 0, SEEK_END) != 0) exit(1);
+    length = (size_t)ftell(file);
+    rewind(file);
+    contents = realloc(contents, contents_length + length);
+    if (contents == NULL || fread(contents + contents_length, 1, length, file) != length) exit(1);
+    fclose(file);
+    contents_length += length;
+    return length;
+}
+
+int main(int argc, char **argv)
+{
+    static bootcore_place places[BOOTCORE_MAX_PARTS];
+    const bootcore_region regions[] = {{0, 0x9F000, BOOTCORE_USABLE, 0}, {0x100000, SIZE - 0x100000, BOOTCORE_USABLE, 0}};
+    bootcore_range files[2] = {{0, 0}, {0, 0}};
+    bootcore_entry entry = {0};
+    bootcore_given given = {0};
+    bootcore_handoff handoff;
+    bootcore_refusal refusals[1];
+    bootcore_menu menu = {0};
+    uint64_t refused;
+    unsigned char *memory;
+    long rounds, round;
+    if (argc != 4) return 1;
+    files[0].length = add_file(argv[1]);
+    files[1].offset = files[0].length;
+    files[1].length = add_file(argv[2]);
+    rounds = strtol(argv[3], NULL, 10);
+    memory = calloc(SIZE, 1);
+    if (memory == NULL) return 1;
+    entry.protocol = BOOTCORE_LINUX;
+    entry.initrd = 1;
+    menu.entries = &entry;
+    menu.entry_count = 1;
+    given.machine.size = SIZE;
+    given.machine.pool_base = POOL;
+    given.machine.pool_length = POOL_END - POOL;
+    given.regions = regions;
+    given.region_count = 2;
+    given.files = files;
+    given.file_count = 2;
+    given.contents = contents;
+    given.contents_length = contents_length;
+    for (round = 0; round < rounds; round++) {
+        uint32_t status = bootcore_boot(memory, SIZE, 0, &given, &menu, &handoff, places, BOOTCORE_MAX_PARTS, refusals, 1,
+                                        &refused);
+        if (status != BOOTCORE_DONE) {
+            fprintf(stderr, "status %u, refusal %u\n", (unsigned)status, (unsigned)refusals[0].number);
+            return 1;
+        }
+        printf("%ld %d\n", round, memory[places[handoff.places - 1].address + (size_t)round]);
+    }
+    return 0;
+}
