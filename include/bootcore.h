@@ -40,14 +40,15 @@ extern "C" {
 #endif
 
 /* What a call answers. Of several misuses the first in the order of these lines is told; before one
- * nothing was changed. */
+ * nothing was changed, but for what bootcore_walk_all says. */
 enum {
     BOOTCORE_DONE = 0,
     BOOTCORE_REFUSED = 1,           /* the entry is refused; no entry is left */
     BOOTCORE_NO_MEMORY = 4,         /* malloc or realloc gave none; may come in place of any other */
 
     BOOTCORE_NULL = 15,             /* a null pointer to one element or more */
-    BOOTCORE_FEW_PLACES = 16,       /* room for fewer than BOOTCORE_MAX_PARTS places */
+    BOOTCORE_FEW_PLACES = 16,       /* room for fewer than BOOTCORE_MAX_PARTS places; of a walk, for
+                                     * less than it tells */
     BOOTCORE_BAD_KIND = 18,         /* a region's kind is none of BOOTCORE_USABLE and so on */
     BOOTCORE_BAD_SIZE = 19,         /* the size is not 1 MiB to 4 GiB in frames of 4096 bytes */
     BOOTCORE_TOO_MANY_REGIONS = 20, /* more than 128 */
@@ -97,7 +98,8 @@ enum {
 };
 
 #define BOOTCORE_NO_FILE UINT32_MAX /* the index of no file */
-#define BOOTCORE_MISSING UINT64_MAX /* a boot: the offset of a file that can't be read */
+#define BOOTCORE_MISSING UINT64_MAX /* a boot: the offset of a file that can't be read; a walk: that
+                                     * of a copy of an RSDP that is not there */
 
 /* Bytes of an array. */
 typedef struct bootcore_range {
@@ -191,18 +193,48 @@ typedef struct bootcore_handoff {
     bootcore_registers registers;
 } bootcore_handoff;
 
-/* What a kernel sees in an image. */
+/* What a kernel sees in an image. Its text is its line, the modules' lines in order, the old copy of
+ * the RSDP and the new one, one after the other. */
 typedef struct bootcore_seen {
     uint32_t protocol;
-    uint32_t reserved;      /* 0 */
-    uint64_t kernel_parts;  /* how many parts the kernel has */
-    uint64_t modules;       /* how many modules it is told of */
-    uint64_t runs;          /* how many runs of memory it is told of */
-    uint64_t entry;         /* where it is entered */
+    uint32_t reserved;       /* 0 */
+    uint64_t kernel_parts;   /* how many parts the kernel has */
+    uint64_t modules;        /* how many modules it is told of */
+    uint64_t runs;           /* how many runs of memory it is told of */
+    uint64_t entry;          /* where it is entered */
     uint64_t line_length;
-    uint64_t initrd;        /* where its initial ramdisk lies */
-    uint64_t initrd_length; /* 0: there is none */
+    uint64_t initrd;         /* where its initial ramdisk lies */
+    uint64_t initrd_length;  /* 0: there is none */
+    uint64_t text_length;
+    bootcore_range rsdp_old; /* of the text; its offset is BOOTCORE_MISSING if there is none */
+    bootcore_range rsdp_new;
 } bootcore_seen;
+
+/* A part of the kernel that is seen. */
+typedef struct bootcore_seen_part {
+    uint64_t address;
+    uint64_t length;
+} bootcore_seen_part;
+
+/* A module that is seen. */
+typedef struct bootcore_seen_module {
+    uint64_t address;
+    uint64_t length;
+    bootcore_range line; /* of the text, without a zero byte */
+} bootcore_seen_module;
+
+/* Where a walk tells all that is seen: arrays of the caller's, and for how many elements each has
+ * room. A run of memory is told as a region. */
+typedef struct bootcore_seen_arrays {
+    bootcore_seen_part *kernel_parts; /* ascending by their addresses */
+    size_t kernel_part_room;
+    bootcore_seen_module *modules; /* in the order in which the kernel is told of them */
+    size_t module_room;
+    bootcore_region *runs; /* of the memory map, in its order */
+    size_t run_room;
+    uint8_t *text;
+    size_t text_room;
+} bootcore_seen_arrays;
 
 #if defined(__cplusplus)
 #define BOOTCORE_ASSERT(test, text) static_assert(test, text)
@@ -231,8 +263,12 @@ BOOTCORE_ASSERT(sizeof(bootcore_refusal) == 24, "bootcore_refusal");
 BOOTCORE_ASSERT(offsetof(bootcore_refusal, first) == 8, "bootcore_refusal.first");
 BOOTCORE_ASSERT(sizeof(bootcore_handoff) == 272, "bootcore_handoff");
 BOOTCORE_ASSERT(offsetof(bootcore_handoff, registers) == 16, "bootcore_handoff.registers");
-BOOTCORE_ASSERT(sizeof(bootcore_seen) == 64, "bootcore_seen");
+BOOTCORE_ASSERT(sizeof(bootcore_seen) == 104, "bootcore_seen");
 BOOTCORE_ASSERT(offsetof(bootcore_seen, kernel_parts) == 8, "bootcore_seen.kernel_parts");
+BOOTCORE_ASSERT(offsetof(bootcore_seen, rsdp_new) == 88, "bootcore_seen.rsdp_new");
+BOOTCORE_ASSERT(sizeof(bootcore_seen_part) == 16, "bootcore_seen_part");
+BOOTCORE_ASSERT(sizeof(bootcore_seen_module) == 32, "bootcore_seen_module");
+BOOTCORE_ASSERT(offsetof(bootcore_seen_module, line) == 16, "bootcore_seen_module.line");
 
 /* As bootcore_load, for arrays that are not null. */
 uint32_t bootcore_load_arrays(uint8_t *memory, size_t memory_length, uint32_t base,
@@ -270,6 +306,13 @@ uint32_t bootcore_boot_arrays(uint8_t *memory, size_t memory_length, uint32_t ba
 /* As bootcore_walk, for an image that is not null. */
 uint32_t bootcore_walk_array(const uint8_t *image, size_t image_length, bootcore_seen *seen,
                              bootcore_refusal *fault);
+
+/* As bootcore_walk_all, for an image and arrays that are not null. */
+uint32_t bootcore_walk_all_arrays(const uint8_t *image, size_t image_length, bootcore_seen *seen,
+                                  bootcore_seen_part *kernel_parts, size_t kernel_part_room,
+                                  bootcore_seen_module *modules, size_t module_room,
+                                  bootcore_region *runs, size_t run_room, uint8_t *text,
+                                  size_t text_room, bootcore_refusal *fault);
 
 /* What stands for an array without elements. */
 static inline const void *bootcore_array(const void *array) {
@@ -408,7 +451,7 @@ static inline uint32_t bootcore_boot(uint8_t *memory, size_t memory_length, uint
 
 /*
  * Walks an image in memory, as a measured boot does before it trusts what an image hands over: reads
- * it, and follows the addresses in its registers as its kernel would. The image is copied on the way.
+ * it, and follows the addresses in its registers as its kernel would. Its parts are copied on the way.
  *
  * - BOOTCORE_DONE: the bytes are an image, a kernel can be entered with it, and *seen is told.
  * - BOOTCORE_REFUSED: fault->number is 71 to 76 if the bytes are no image (first: with 74 the number of
@@ -421,6 +464,40 @@ static inline uint32_t bootcore_walk(const uint8_t *image, size_t image_length,
         return BOOTCORE_NULL;
     }
     return bootcore_walk_array((const uint8_t *)bootcore_array(image), image_length, seen, fault);
+}
+
+/*
+ * Walks an image in memory as bootcore_walk does, and tells all that its kernel sees.
+ *
+ * - BOOTCORE_DONE: as bootcore_walk, and besides the first elements of the arrays are told, as many as
+ *   *seen says. The others are as before.
+ * - BOOTCORE_FEW_PLACES: *seen is told, and says how many elements there are. An array has room for
+ *   fewer, and all arrays are as before. So a call without any room asks how much is wanted.
+ * - BOOTCORE_REFUSED, BOOTCORE_NO_MEMORY: as bootcore_walk. The arrays are as before.
+ *
+ * The bytes of modules and of an initial ramdisk are not copied. They lie in the image, in the part
+ * that has their address.
+ */
+static inline uint32_t bootcore_walk_all(const uint8_t *image, size_t image_length,
+                                         bootcore_seen *seen, const bootcore_seen_arrays *arrays,
+                                         bootcore_refusal *fault) {
+    bootcore_seen_part no_part;
+    bootcore_seen_module no_module;
+    bootcore_region no_run;
+    uint8_t no_text;
+    if (!seen || !arrays || !fault || bootcore_is_null(image, image_length) ||
+        bootcore_is_null(arrays->kernel_parts, arrays->kernel_part_room) ||
+        bootcore_is_null(arrays->modules, arrays->module_room) ||
+        bootcore_is_null(arrays->runs, arrays->run_room) ||
+        bootcore_is_null(arrays->text, arrays->text_room)) {
+        return BOOTCORE_NULL;
+    }
+    return bootcore_walk_all_arrays(
+        (const uint8_t *)bootcore_array(image), image_length, seen,
+        arrays->kernel_parts ? arrays->kernel_parts : &no_part, arrays->kernel_part_room,
+        arrays->modules ? arrays->modules : &no_module, arrays->module_room,
+        arrays->runs ? arrays->runs : &no_run, arrays->run_room,
+        arrays->text ? arrays->text : &no_text, arrays->text_room, fault);
 }
 
 /* ---- a boot piece by piece */

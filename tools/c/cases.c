@@ -7,11 +7,11 @@
  * CASE has twelve numbers of 64 bits, as written below, and then the arrays as they lie in memory: regions, modules, ranges of
  * files, entries, text, contents, fallbacks. So each case is a test of the layouts too. It prints `refused ENTRY NUMBER FIRST SECOND`
  * for each entry that is refused, and then `done ENTRY`, `no entry left` or `status NUMBER`. If an entry is handed over, its image
- * is written.
+ * is written, and walked by bootcore_walk_all: a walk that does not see the handoff is one line more.
  *
  * Before that, if memory is small, the same call is made with each of its requests to malloc and realloc refused in turn, and all
- * after it; of a boot the first MOST. The answer must be BOOTCORE_NO_MEMORY, and memory as before, of a boot outside the pool. The
- * linker is told to wrap the two.
+ * after it; of a boot the first MOST. The answer must be BOOTCORE_NO_MEMORY, and memory as before, of a boot outside the pool. So
+ * is the walk of an image. The linker is told to wrap the two.
  */
 #include "bootcore.h"
 
@@ -144,6 +144,55 @@ static void read_case(void) {
     menu.fallbacks = read_array(numbers[FALLBACKS], sizeof(uint32_t));
 }
 
+/* What a walk tells, but for the text, which lies behind it: room for all that an entry may have. */
+static struct {
+    bootcore_seen seen;
+    bootcore_seen_part parts[BOOTCORE_MAX_PARTS];
+    bootcore_seen_module modules[64];
+    bootcore_region runs[512];
+} told, before;
+static uint8_t text[0x50000];
+
+/* Walks an image, with so many requests granted. */
+static uint32_t walk(const uint8_t *image, size_t length, size_t grants) {
+    const bootcore_seen_arrays arrays = {told.parts, BOOTCORE_MAX_PARTS, told.modules, 64, told.runs, 512, text, sizeof text};
+    bootcore_refusal fault;
+    uint32_t status;
+    memset(&told, 0xA5, sizeof told);
+    text[0] = 0xA5;
+    granted = grants;
+    status = bootcore_walk_all(image, length, &told.seen, &arrays, &fault);
+    granted = SIZE_MAX;
+    return status;
+}
+
+/* Whether a walk sees the handoff in its image, and tells nothing if a request was refused. */
+static int is_walked(const char *path) {
+    FILE *file = fopen(path, "rb");
+    uint8_t *image;
+    size_t length, grants;
+    int is_told;
+    if (!file || fseek(file, 0, SEEK_END)) {
+        return 0;
+    }
+    length = (size_t)ftell(file);
+    rewind(file);
+    image = malloc(length);
+    if (!image || fread(image, 1, length, file) != length || fclose(file)) {
+        return 0;
+    }
+    memset(&before, 0xA5, sizeof before);
+    for (grants = 0; length <= 0x40000 && walk(image, length, grants) == BOOTCORE_NO_MEMORY; grants++) {
+        if (memcmp(&told, &before, sizeof told) || text[0] != 0xA5) {
+            return 0;
+        }
+    }
+    is_told = walk(image, length, SIZE_MAX) == BOOTCORE_DONE && told.seen.protocol == handoff.protocol &&
+              told.seen.entry == handoff.registers.rip && told.parts[0].length > 0;
+    free(image);
+    return is_told;
+}
+
 /* What came of the call. */
 static void tell(uint32_t status, const char *image) {
     uint64_t i;
@@ -158,6 +207,9 @@ static void tell(uint32_t status, const char *image) {
     if (status == BOOTCORE_DONE) {
         printf("done %" PRIu32 "\n", handoff.entry);
         write_image(image);
+        if (!is_walked(image)) {
+            printf("the walk tells otherwise\n");
+        }
     } else {
         printf("no entry left\n");
     }

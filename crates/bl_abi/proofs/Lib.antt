@@ -5,3 +5,5 @@ mod BootLemmas
 mod PrepareLemmas
 mod PrepareLaws
 mod SizeLemmas
+mod SeenLemmas
+mod TextLaws

@@ -9,4 +9,6 @@ pub mod Told
 pub mod Boot
 pub mod BootTold
 pub mod Sessions
+pub mod SeenTold
 pub mod Walk
+pub mod WalkTold

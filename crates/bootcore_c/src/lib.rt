@@ -10,17 +10,15 @@ ghost use Rattle.bl_abi.specs.BootTold.{TellsBoot};
 ghost use Rattle.bl_abi.specs.Load.{IsLoadEnd};
 ghost use Rattle.bl_abi.specs.Prepare.{IsPrepareEnd};
 ghost use Rattle.bl_abi.specs.Told.{TellsEnd};
-ghost use Rattle.bl_abi.specs.Walk.{IsWalkEnd, TellsWalk};
-ghost use Rattle.bl_abi.specs.declared.walked.SeenRecord.{SeenRecord};
-ghost use Rattle.bl_abi.specs.declared.walked.WalkStop.{WalkStop};
 ghost use Rattle.bl_abi.specs.declared.fault.LoadFault.{LoadFault};
 ghost use Rattle.bl_abi.specs.declared.given_fault.GivenFault.{GivenFault};
 
 mod sessions;
+mod walks;
 
 use bl_abi::{
     ByteRange, EntryRecord, Given, HandoffRecord, MachineRecord, ModuleRecord, PlaceRecord,
-    RefusalRecord, RegionRecord, SeenRecord, boot_told, load_told, prepare_told, walk_told,
+    RefusalRecord, RegionRecord, boot_told, load_told, prepare_told,
 };
 use std::alloc::Global;
 
@@ -155,19 +153,4 @@ pub extern "C" fn bootcore_boot_arrays(
         alloc, memory, base, machine, regions, &given, entries, default, fallbacks, told, places,
         refusals, count,
     )
-}
-
-/// An image in memory is walked.
-#[unsafe(no_mangle)]
-pub extern "C" fn bootcore_walk_array(
-    alloc: Global,
-    image: &[u8],
-    told: &mut SeenRecord,
-    fault: &mut RefusalRecord,
-) -> u32
-    ensures { (end : Result SeenRecord WalkStop)
-        × IsWalkEnd image.now end
-        × TellsWalk end result told.old told.new fault.old fault.new }
-{
-    walk_told(alloc, image, told, fault)
 }

@@ -1,0 +1,28 @@
+//! The sizes of the records: those that `include/bootcore.h` asserts.
+use crate::records::{ByteRange, EntryRecord, MachineRecord, ModuleRecord, RegionRecord};
+use crate::told::{HandoffRecord, PlaceRecord, RefusalRecord, RegistersRecord};
+use crate::walked::{SeenModuleRecord, SeenPartRecord, SeenRecord};
+
+const _: () = prove!(size_of::<ByteRange>() == 16);
+
+const _: () = prove!(size_of::<RegionRecord>() == 24);
+
+const _: () = prove!(size_of::<MachineRecord>() == 24);
+
+const _: () = prove!(size_of::<ModuleRecord>() == 24);
+
+const _: () = prove!(size_of::<EntryRecord>() == 72);
+
+const _: () = prove!(size_of::<RegistersRecord>() == 256);
+
+const _: () = prove!(size_of::<PlaceRecord>() == 24);
+
+const _: () = prove!(size_of::<RefusalRecord>() == 24);
+
+const _: () = prove!(size_of::<HandoffRecord>() == 272);
+
+const _: () = prove!(size_of::<SeenRecord>() == 104);
+
+const _: () = prove!(size_of::<SeenPartRecord>() == 16);
+
+const _: () = prove!(size_of::<SeenModuleRecord>() == 32);

@@ -1,0 +1,123 @@
+/*
+ * What a kernel sees in an image, line by line, as `bootcore walk` says it.
+ *
+ *     walked IMAGE
+ *
+ * It asks twice: without any room how much there is to tell, and then for all. The status is that of
+ * `bootcore walk`: 2 if the image is refused, 3 if it can't be read, 4 if memory ran out.
+ */
+#include "bootcore.h"
+
+#include <inttypes.h>
+#include <stdio.h>
+#include <stdlib.h>
+
+static const char *const protocols[] = {"none", "multiboot2", "linux", "linux64"};
+
+/* The bytes of a file, and how many they are; null if it can't be read. */
+static uint8_t *read_file(const char *path, size_t *length) {
+    FILE *file = fopen(path, "rb");
+    if (!file || fseek(file, 0, SEEK_END)) {
+        return NULL;
+    }
+    *length = (size_t)ftell(file);
+    rewind(file);
+    uint8_t *bytes = malloc(*length + 1);
+    int whole = bytes && fread(bytes, 1, *length, file) == *length;
+    fclose(file);
+    return whole ? bytes : NULL;
+}
+
+/* Arrays with room for all that is seen; one that there is no memory for stays null. */
+static bootcore_seen_arrays arrays_for(const bootcore_seen *seen) {
+    bootcore_seen_arrays arrays;
+    arrays.kernel_parts = calloc(seen->kernel_parts, sizeof *arrays.kernel_parts);
+    arrays.kernel_part_room = seen->kernel_parts;
+    arrays.modules = calloc(seen->modules, sizeof *arrays.modules);
+    arrays.module_room = seen->modules;
+    arrays.runs = calloc(seen->runs, sizeof *arrays.runs);
+    arrays.run_room = seen->runs;
+    arrays.text = calloc(seen->text_length, 1);
+    arrays.text_room = seen->text_length;
+    return arrays;
+}
+
+/* How many bytes a text has, and the bytes in hexadecimal digits. */
+static void print_text(const uint8_t *text, bootcore_range range) {
+    printf(range.length ? "%" PRIu64 " " : "%" PRIu64, range.length);
+    for (uint64_t i = 0; i < range.length; i++) {
+        printf("%02x", text[range.offset + i]);
+    }
+    printf("\n");
+}
+
+static void print_copy(const char *name, const uint8_t *text, bootcore_range range) {
+    if (range.offset != BOOTCORE_MISSING) {
+        printf("%s ", name);
+        print_text(text, range);
+    }
+}
+
+static void print_seen(const bootcore_seen *seen, const bootcore_seen_arrays *arrays) {
+    bootcore_range line = {0, seen->line_length};
+    printf("protocol %s\nentry %08" PRIx64 "\nline ", protocols[seen->protocol], seen->entry);
+    print_text(arrays->text, line);
+    for (uint64_t i = 0; i < seen->kernel_parts; i++) {
+        const bootcore_seen_part *part = &arrays->kernel_parts[i];
+        printf("kernel %08" PRIx64 " %" PRIu64 "\n", part->address, part->length);
+    }
+    for (uint64_t i = 0; i < seen->modules; i++) {
+        const bootcore_seen_module *module = &arrays->modules[i];
+        printf("module %08" PRIx64 " %" PRIu64 " ", module->address, module->length);
+        print_text(arrays->text, module->line);
+    }
+    if (seen->initrd_length) {
+        printf("initrd %08" PRIx64 " %" PRIu64 "\n", seen->initrd, seen->initrd_length);
+    }
+    for (uint64_t i = 0; i < seen->runs; i++) {
+        const bootcore_region *run = &arrays->runs[i];
+        printf("map %016" PRIx64 " %016" PRIx64 " %" PRIu32 "\n", run->base,
+               run->base + run->length, run->kind);
+    }
+    print_copy("rsdp-old", arrays->text, seen->rsdp_old);
+    print_copy("rsdp-new", arrays->text, seen->rsdp_new);
+}
+
+/* Prints what is seen, or why nothing is; the status that the program ends with. */
+static int tell(uint32_t status, const bootcore_seen *seen, const bootcore_seen_arrays *arrays,
+                const bootcore_refusal *fault) {
+    if (status == BOOTCORE_DONE) {
+        print_seen(seen, arrays);
+        return 0;
+    }
+    if (status == BOOTCORE_REFUSED) {
+        fprintf(stderr, "bad image %" PRIu32 "\n", fault->number);
+        return 2;
+    }
+    fprintf(stderr, "no memory\n");
+    return 4;
+}
+
+int main(int argc, char **argv) {
+    bootcore_seen_arrays arrays = {NULL, 0, NULL, 0, NULL, 0, NULL, 0};
+    bootcore_seen seen;
+    bootcore_refusal fault;
+    size_t length;
+    uint8_t *image = argc == 2 ? read_file(argv[1], &length) : NULL;
+    if (!image) {
+        fprintf(stderr, "file fault\n");
+        return 3;
+    }
+    uint32_t status = bootcore_walk_all(image, length, &seen, &arrays, &fault);
+    if (status == BOOTCORE_FEW_PLACES) {
+        arrays = arrays_for(&seen);
+        status = bootcore_walk_all(image, length, &seen, &arrays, &fault);
+    }
+    int answer = tell(status, &seen, &arrays, &fault);
+    free(arrays.kernel_parts);
+    free(arrays.modules);
+    free(arrays.runs);
+    free(arrays.text);
+    free(image);
+    return answer;
+}
