@@ -13,8 +13,9 @@ EDGES = [-(1 << 63), -1, 0, 1, 255, 256, 4095, 4096, (1 << 20) - 1, 1 << 20, 100
          (1 << 63) - 1, 1 << 63]
 # Texts at their edges in bytes, and a character of each size: 1 to 4 bytes.
 TEXTS = ["", "~", "~" * 64, "00", "0", "0g", "00" * 256, "00" * 257, "\x7f", "é", "€", "😀", "\t\\",
-         "é" * 32, "é" * 32 + "~", "usable", "linux", "multiboot2"]
-NAMES = ["extra", "", "a\tb", "é", "a.b", "size", "title"]  # of keys that a table may not have
+         "é" * 32, "é" * 32 + "~", "usable", "linux", "multiboot2", "usabel", "linux6"]
+# Of keys that a table may not have.
+NAMES = ["extra", "", "a\tb", "é", "a.b", "size", "title", "sizes", "titel"]
 
 
 class Table(list):

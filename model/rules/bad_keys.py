@@ -2,7 +2,7 @@
 says": the tables of PATH, HELD and ALLOWED."""
 
 import re
-from typing import Any, Callable, Iterator, List, NamedTuple, Optional
+from typing import Any, Callable, Iterator, List, NamedTuple, Optional, Sequence, Tuple
 
 from .description import (MAX_ENTRIES, MAX_MODULES, NUMBER_LIMIT, BadDescription, bytes_of,
                           protocol_named)
@@ -17,6 +17,13 @@ class Allowed(NamedTuple):
     """What a value must be, and whether one is; of an array, but for its items."""
     told: str
     holds: Callable[[Any], bool]
+    words: Tuple[str, ...] = ()  # if it must be one of these, in the order of the page
+
+
+class Fault(NamedTuple):
+    """What is told of a bad key, and the hints behind it."""
+    told: str
+    hints: Tuple[str, ...] = ()
 
 
 class Key(NamedTuple):
@@ -62,8 +69,10 @@ TABLE = Allowed("a table", lambda v: isinstance(v, dict))
 TEXT = Allowed("a text", is_text)
 TITLE = Allowed("a text of 1 to 64 printable characters of ASCII",
                 lambda v: is_text(v) and re.fullmatch("[ -~]{1,64}", v) is not None)
-KIND = Allowed('"usable", "reserved", "acpi", "nvs" or "bad"', lambda v: is_text(v) and v in KINDS)
-PROTOCOL = Allowed('"multiboot2", "linux" or "linux64"', lambda v: protocol_of(v) is not None)
+KIND = Allowed('"usable", "reserved", "acpi", "nvs" or "bad"', lambda v: is_text(v) and v in KINDS,
+               ("usable", "reserved", "acpi", "nvs", "bad"))
+PROTOCOL = Allowed('"multiboot2", "linux" or "linux64"', lambda v: protocol_of(v) is not None,
+                   ("multiboot2", "linux", "linux64"))
 HEX = Allowed("a text of hexadecimal digits, an even number", is_hex)
 COPY = Allowed("a text of hexadecimal digits, for 1 to 256 bytes",
                lambda v: is_hex(v) and is_copy(bytes_of(v)))
@@ -125,18 +134,49 @@ def held(value) -> str:
     return "a table" if isinstance(value, dict) else "a date or a time"
 
 
-def is_held(path: str, value, told: str) -> str:
-    return f"{path} is {held(value)}; it must be {told}"
+def is_held(path: str, value, told: str) -> Fault:
+    return Fault(f"{path} is {held(value)}; it must be {told}")
 
 
-def missing(path: str, allowed: Allowed) -> str:
-    return f"{path} is missing; it must be {allowed.told}"
+def is_not_allowed(path: str, value, allowed: Allowed) -> Fault:
+    hints = hint(value, allowed.words) if is_text(value) else ()
+    return is_held(path, value, allowed.told)._replace(hints=hints)
+
+
+def missing(path: str, allowed: Allowed) -> Fault:
+    return Fault(f"{path} is missing; it must be {allowed.told}")
+
+
+# ---- words that are misspelt
+
+
+def hint(held_word: str, words: Sequence[str]) -> Tuple[str, ...]:
+    """On the first of the words that is one edit away, if one is."""
+    near = [word for word in words if is_near(held_word.encode("utf-8"), word.encode("utf-8"))]
+    return tuple(f"is {word} meant?" for word in near[:1])
+
+
+def is_near(word: bytes, other: bytes) -> bool:
+    """Whether a byte more, a byte less, another byte or two neighbours swapped make it the other
+    one."""
+    if len(word) != len(other):
+        return is_one_fewer(word, other) or is_one_fewer(other, word)
+    differing = [i for i in range(len(word)) if word[i] != other[i]]
+    if len(differing) != 2:
+        return len(differing) == 1
+    first, second = differing
+    return second == first + 1 and (word[first], word[second]) == (other[second], other[first])
+
+
+def is_one_fewer(word: bytes, other: bytes) -> bool:
+    return len(word) + 1 == len(other) and any(
+        word == other[:i] + other[i + 1:] for i in range(len(other)))
 
 
 # ---- the faults that stand
 
 
-def faults(tree: dict) -> List[str]:
+def faults(tree: dict) -> List[Fault]:
     """Each of a whole description; which of them is told is no rule."""
     count = len(tree["entry"]) if is_array(tree.get("entry")) else 0
     found = [*in_table("", tree, root_keys(count)),
@@ -146,12 +186,13 @@ def faults(tree: dict) -> List[str]:
     return list(dict.fromkeys(found))
 
 
-def in_table(path: str, table: dict, keys: List[Key]) -> Iterator[str]:
+def in_table(path: str, table: dict, keys: List[Key]) -> Iterator[Fault]:
     before = path + "." if path else ""
     known = [key.name for key in keys]
     for name in table:
         if name not in known:
-            yield f"{before}{shown(name)} is no key; the keys are {', '.join(known)}"
+            yield Fault(f"{before}{shown(name)} is no key; the keys are {', '.join(known)}",
+                        hint(name, known))
     for key in keys:
         if key.name not in table:
             if key.is_required:
@@ -160,17 +201,17 @@ def in_table(path: str, table: dict, keys: List[Key]) -> Iterator[str]:
         yield from in_value(before + key.name, table[key.name], key)
 
 
-def in_value(path: str, value, key: Key) -> Iterator[str]:
+def in_value(path: str, value, key: Key) -> Iterator[Fault]:
     if not key.allowed.holds(value):
-        yield is_held(path, value, key.allowed.told)
+        yield is_not_allowed(path, value, key.allowed)
     if key.items is not None and is_array(value):
         for i, item in enumerate(value):
             if not key.items.holds(item):
                 yield is_held(f"{path}[{i}]", item, key.items.told)
 
 
-def in_items(name: str, table: dict, in_one: Callable[[str, dict], Iterator[str]],
-             before: str = "") -> Iterator[str]:
+def in_items(name: str, table: dict, in_one: Callable[[str, dict], Iterator[Fault]],
+             before: str = "") -> Iterator[Fault]:
     """Of the tables of an array."""
     value = table.get(name)
     for i, item in enumerate(value if is_array(value) else []):
@@ -181,7 +222,7 @@ def in_items(name: str, table: dict, in_one: Callable[[str, dict], Iterator[str]
             yield is_held(path, item, TABLE.told)
 
 
-def twice_named(tree: dict) -> Iterator[str]:
+def twice_named(tree: dict) -> Iterator[Fault]:
     files = tree.get("file")
     names = [table.get("name") if isinstance(table, dict) else None
              for table in (files if is_array(files) else [])]
@@ -190,14 +231,14 @@ def twice_named(tree: dict) -> Iterator[str]:
             yield is_held(f"file[{i}].name", name, ANOTHER_NAME)
 
 
-def in_entry(path: str, table: dict) -> Iterator[str]:
+def in_entry(path: str, table: dict) -> Iterator[Fault]:
     """If the protocol is bad, its other keys can't be judged."""
     if "protocol" not in table:
         yield missing(path + ".protocol", PROTOCOL)
         return
     protocol = protocol_of(table["protocol"])
     if protocol is None:
-        yield is_held(path + ".protocol", table["protocol"], PROTOCOL.told)
+        yield is_not_allowed(path + ".protocol", table["protocol"], PROTOCOL)
     elif protocol == MULTIBOOT2:
         yield from in_table(path, table, MULTIBOOT2_KEYS)
         yield from in_items("module", table,

@@ -11,15 +11,17 @@ from .bad_keys import shown
 from .booting import File, Outcome, Run
 from .description import BadDescription, Description
 from .handover import PROTOCOL_NAMES
-from .machine import check
-from .numbers import frames
+from .machine import (FIRST_USABLE, KIND_NAMES, USABLE, Machine, check, first_unusable,
+                      is_size, kind_at)
+from .numbers import FRAME, frames
 from .refusals import MACHINE_NAMES, NAMES, Refused
-from .telling import handover_lines, hints, sizes_of
+from .telling import handover_lines, hints, region_hints, sizes_of
 
 PAGE = os.path.join(os.path.dirname(__file__), "..", "..", "docs", "REFUSALS.md")
 OFFSETS = (7,)  # the refusals whose number is an offset, told in hexadecimal digits
 ROW = re.compile(r"\| (\d+) \| (\w+)[^|]*\| ([^|]*) \|")
 NOT_TOML = "it is not TOML, at "
+BAD_SIZE, BAD_POOL = 1, 4  # numbers of faults of a machine
 
 
 @lru_cache(None)
@@ -62,15 +64,60 @@ def blames(text: bytes) -> List[List[str]]:
         return alone(NOT_TOML + position_of(error))
     faults = bad_keys.faults(tree)
     if faults:
-        return [["bad description: " + fault] for fault in faults]
+        return [["bad description: " + fault.told, *("hint: " + hint for hint in fault.hints)]
+                for fault in faults]
     machine = description.describe(tree).machine
     try:
         check(machine)
     except Refused as refused:
         lines = alone("machine " + told(refused.number, refused.data, MACHINE_NAMES,
                                         "Of a machine"))
-        return lines
+        return [lines[0] + machine_lines(machine, refused.number)]
     raise AssertionError("no fault")
+
+
+# ---- what is told of a bad machine
+
+
+def machine_lines(machine: Machine, number: int) -> List[str]:
+    """Behind the number of its fault."""
+    if number == BAD_SIZE:
+        return without_0x(machine.size, is_size)
+    return unusable_lines(machine) + pool_hints(machine) if number == BAD_POOL else []
+
+
+def unusable_lines(machine: Machine) -> List[str]:
+    address = first_unusable(machine, *machine.pool)
+    if address is None:
+        return []
+    return [f"not usable {address:08x} {what(machine, address)}",
+            *("hint: " + hint for hint in region_hints(machine.regions))]
+
+
+def what(machine: Machine, address: int) -> str:
+    """Of an address that is not usable."""
+    kind = kind_at(machine.regions, address)
+    if kind == 0:
+        return "in no region"
+    if kind != USABLE:
+        return KIND_NAMES[kind]
+    if address < FIRST_USABLE:
+        return "in the first frame"
+    return "at or above the size" if address >= machine.size else "in the last frame below 4 GiB"
+
+
+def pool_hints(machine: Machine) -> List[str]:
+    def is_good(reading: int) -> bool:
+        return reading % FRAME == 0 and reading <= machine.size
+
+    return [hint for number in machine.pool if number % FRAME != 0
+            for hint in without_0x(number, is_good)]
+
+
+def without_0x(number: int, is_good: Callable[[int], bool]) -> List[str]:
+    """The hint that a number was written without 0x."""
+    reading = int(str(number), 16)
+    return [f"hint: is 0x{number} meant?"] if is_good(reading) else []
 
 
 # ---- a boot

@@ -1,6 +1,6 @@
 """The machine: its size, its regions, its pool. BOOT-RULES.md "The machine"."""
 
-from typing import List, NamedTuple, Tuple
+from typing import List, NamedTuple, Optional, Tuple
 
 from .numbers import FRAME
 from .refusals import refuse
@@ -98,6 +98,14 @@ def covers(ranges: List[Range], start: int, end: int) -> bool:
 def is_usable(machine: Machine, start: int, end: int) -> bool:
     """Whether each byte from start up to end is usable."""
     return covers(usable_ranges(machine), start, end)
+
+
+def first_unusable(machine: Machine, start: int, end: int) -> Optional[int]:
+    """The first address from start up to end that is not usable, if there is one."""
+    for low, high in usable_ranges(machine):
+        if low <= start < high:
+            start = high
+    return start if start < end else None
 
 
 def usable_end(regions: List[Region], address: int) -> int:

@@ -7,7 +7,7 @@ from . import booting, bzimage
 from .booting import File
 from .description import Description, MenuEntry
 from .handover import INITRD, KERNEL, MODULE, MULTIBOOT2, Handover, Part, names_of
-from .machine import USABLE, Machine
+from .machine import USABLE, Machine, Region
 from .numbers import FRAME, frames, u16
 from .places import undisturbed_frames
 from .refusals import Refused
@@ -66,16 +66,22 @@ def hints(described: Description, refused: List[Tuple[int, Refused]], file_named
     found = []
     for index, refusal in refused:
         found += kernel_hint(index, described.entries[index], refusal, file_named)
-    for index, region in enumerate(described.machine.regions):
-        if region.kind == USABLE and region.base % FRAME != 0:
-            found.append(f"region {index} begins within a frame")
-        if region.kind == USABLE and (region.base + region.length) % FRAME != 0:
-            found.append(f"region {index} ends within a frame")
+    found += region_hints(described.machine.regions)
     attempted = booting.attempts(described.default, described.fallbacks)
     for index in range(len(described.entries)):
         if index not in attempted:
             found.append(f"entry {index} is not attempted: neither default nor fallback names it")
     return ["hint: " + hint for hint in found]
+
+
+def region_hints(regions: List[Region]) -> List[str]:
+    found = []
+    for index, region in enumerate(regions):
+        if region.kind == USABLE and region.base % FRAME != 0:
+            found.append(f"region {index} begins within a frame")
+        if region.kind == USABLE and (region.base + region.length) % FRAME != 0:
+            found.append(f"region {index} ends within a frame")
+    return found
 
 
 def kernel_hint(index: int, entry: MenuEntry, refusal: Refused, file_named: FileNamed) -> List[str]:

@@ -1,5 +1,6 @@
 -- How an explanation ends, by what its steps answer.
-use Rattle.std.proofs.Common.{◌≡◌, ◌++◌, ℕ, List, Some, Result, Ok, Err, map, refl, inr}
+use Rattle.std.proofs.Common.{◌≡◌, ◌++◌, ℕ, List, Some, None, Result, Ok, Err, map, refl}
+use Rattle.std.proofs.Common.{inl, inr}
 use Rattle.bl_map.specs.MachineFacts.{MachineFacts}
 use Rattle.bl_session.specs.declared.fetched.Fetched.{Fetched}
 use Rattle.bl_session.specs.Outcome.{File, size_of}
@@ -15,21 +16,22 @@ use Rattle.bl_boot.specs.declared.explanation.blame.Blame.TheVariants.{BadMachin
 use Rattle.bl_boot.specs.declared.explanation.fault.ExplainFault.{ExplainFault}
 use Rattle.bl_boot.specs.declared.explanation.fault.ExplainFault.TheVariants.{Blamed, NoMemory}
 use Rattle.bl_boot.specs.Attempted.{menu_of, names_in}
+use Rattle.bl_boot.specs.BlameHints.{blame_lines}
 use Rattle.bl_boot.specs.Blames.{HasBlame}
-use Rattle.bl_boot.specs.Ends.{BootCase, IsBadDescription, IsMachineOf}
+use Rattle.bl_boot.specs.Ends.{BootCase, IsMachineOf}
 use Rattle.bl_boot.specs.ExplainKept.{ExplainAsks, ExplainEnds, FoundExplains, IsMachineBlame}
-use Rattle.bl_boot.specs.ExplainKept.{IsReadBlame, SaysBlame}
+use Rattle.bl_boot.specs.ExplainKept.{IsReadBlame, SaysLines}
 use Rattle.bl_boot.specs.Found.{AreFound}
 use Rattle.bl_boot.specs.Told.{sought_in}
 use Rattle.bl_boot.proofs.EndLemmas.{all_asked}
 
--- a blame that stands is said
+-- a blame that stands of what describes nothing is said
 pub blamed_for : (desc : List ℕ) (blame : Blame) (old new : List ℕ) (fault : ExplainFault)
-    → IsBadDescription desc → HasBlame desc blame → SaysBlame blame old new fault
-    → IsReadBlame desc old new fault
-blamed_for desc blame old new Blamed bad stands said =
-    record { bad = bad; blame = blame; stands = stands; said = said }
-blamed_for desc blame old new NoMemory bad stands said = said
+    → described desc ≡ None → HasBlame desc blame
+    → SaysLines (blame_lines blame None) old new fault → IsReadBlame desc old new fault
+blamed_for desc blame old new Blamed none stands said =
+    record { bad = inl none; blame = blame; stands = stands; said = rw none said }
+blamed_for desc blame old new NoMemory none stands said = said
 
 -- files of a type F
 module _ {F : Type 0} (answers : F → List ℕ → File → Type 0) (faults : F → ℕ) (desc : List ℕ)
@@ -51,7 +53,7 @@ module _ {F : Type 0} (answers : F → List ℕ → File → Type 0) (faults : F
           bad = inr (view d, is, record { fault = m.0; named = m.1; first = m.2 });
           blame = BadMachine m.0;
           stands = record { description = view d; is_described = is; named = m.1; first = m.2 };
-          said = m.3;
+          said = rw is m.3;
         },
         refl,
       )

@@ -13,5 +13,7 @@ pub mod ExplainLemmas
 pub mod KeyLemmas
 pub mod FrameLemmas
 pub mod HintLemmas
+pub mod PoolLemmas
+pub mod HexHintLemmas
 pub mod HeldLemmas
 pub mod ExplainEnds

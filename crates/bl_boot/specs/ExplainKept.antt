@@ -1,5 +1,5 @@
 -- What the code keeps of how an explanation ends, by its result. Own.
-use Rattle.std.specs.Prelude.{◌≡◌, ◌≢◌, ℕ, ◌++◌, List, Result, Ok, Err}
+use Rattle.std.specs.Prelude.{◌≡◌, ◌≢◌, ℕ, ◌++◌, List, Some, Result, Ok, Err}
 use Rattle.bl_map.specs.Faults.{HasFirstMapFault}
 use Rattle.bl_map.specs.declared.fault.MapFault.{MapFault}
 use Rattle.bl_map.specs.declared.fault.MapFault.TheVariants as map_fault
@@ -10,11 +10,10 @@ use Rattle.bl_session.specs.Outcome.{File, IsOutcome, no_fault}
 use Rattle.bl_desc.specs.Described.{Described}
 use Rattle.bl_boot.specs.declared.description_boot.boot_end.End.{End}
 use Rattle.bl_boot.specs.declared.description_boot.boot_end.End.TheVariants.{Booted, NoEntryLeft}
-use Rattle.bl_boot.specs.declared.explanation.blame.Blame.{Blame}
 use Rattle.bl_boot.specs.declared.explanation.blame.Blame.TheVariants.{BadMachine}
 use Rattle.bl_boot.specs.declared.explanation.fault.ExplainFault.{ExplainFault}
 use Rattle.bl_boot.specs.declared.explanation.fault.ExplainFault.TheVariants.{Blamed, NoMemory}
-use Rattle.bl_boot.specs.Blames.{blame_line}
+use Rattle.bl_boot.specs.BlameHints.{blame_lines}
 use Rattle.bl_boot.specs.Explained.{ExplainsBlame, ExplainsBoot, ExplainsRefusals}
 use Rattle.bl_boot.specs.Found.{AsksFirst}
 use Rattle.bl_boot.specs.Sought.{SoughtFacts}
@@ -25,17 +24,17 @@ abbrev pub IsReadBlame : (desc old new : List ℕ) → ExplainFault → Type 0
 IsReadBlame desc old new Blamed = ExplainsBlame desc old new
 IsReadBlame desc old new NoMemory = new ≡ old
 
--- a blame was said, or memory ran out
-abbrev pub SaysBlame : Blame → (old new : List ℕ) → ExplainFault → Type 0
-SaysBlame blame old new Blamed = new ≡ old ++ blame_line blame
-SaysBlame blame old new NoMemory = new ≡ old
+-- these lines were said, or memory ran out
+abbrev pub SaysLines : (lines old new : List ℕ) → ExplainFault → Type 0
+SaysLines lines old new Blamed = new ≡ old ++ lines
+SaysLines lines old new NoMemory = new ≡ old
 
 -- why there is no such machine: a rule is broken, for what is said, or memory ran out
 abbrev pub IsMachineBlame : Described → (old new : List ℕ) → ExplainFault → Type 0
 IsMachineBlame description old new Blamed =
     (fault : MapFault) × (fault ≢ map_fault.NoMemory)
     × HasFirstMapFault description.size description.regions description.pool fault
-    × (new ≡ old ++ blame_line (BadMachine fault))
+    × (new ≡ old ++ blame_lines (BadMachine fault) (Some description))
 IsMachineBlame description old new NoMemory = new ≡ old
 
 -- the boot of what was found for a description is explained so: what it came to, of these files,

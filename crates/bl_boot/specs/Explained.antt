@@ -4,8 +4,10 @@ use Rattle.bl_load.specs.Handover.{Handover}
 use Rattle.bl_session.specs.declared.words.RefusedEntry.{RefusedEntry}
 use Rattle.bl_session.specs.Boot.{State, handed_over, none_left}
 use Rattle.bl_session.specs.Outcome.{File}
+use Rattle.bl_desc.specs.Described.{described}
 use Rattle.bl_boot.specs.declared.explanation.blame.Blame.{Blame}
-use Rattle.bl_boot.specs.Blames.{HasBlame, blame_line}
+use Rattle.bl_boot.specs.Blames.{HasBlame}
+use Rattle.bl_boot.specs.BlameHints.{blame_lines}
 use Rattle.bl_boot.specs.Ends.{BootCase, ComesTo, IsBadDescription}
 use Rattle.bl_boot.specs.Told.{sought_in, told_lines}
 
@@ -38,4 +40,4 @@ pub record ExplainsBlame (desc old new : List ℕ) : Type 0 where
   pub bad : IsBadDescription desc
   pub blame : Blame
   pub stands : HasBlame desc blame
-  pub said : new ≡ old ++ blame_line blame
+  pub said : new ≡ old ++ blame_lines blame (described desc)

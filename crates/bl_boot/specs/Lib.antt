@@ -18,5 +18,11 @@ pub mod HandedLines
 pub mod Told
 pub mod KeyWords
 pub mod Blames
+pub mod Near
+pub mod WordHints
+pub mod UnusableWords
+pub mod PoolLines
+pub mod HexHints
+pub mod BlameHints
 pub mod Explained
 pub mod ExplainKept

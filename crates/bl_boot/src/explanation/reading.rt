@@ -5,24 +5,27 @@ ghost use Rattle.toml.specs.Errors.{IsMemory, IsWithin};
 ghost use Rattle.toml.specs.Parse.{parse_document};
 ghost use Rattle.bl_desc.specs.Described.{described};
 ghost use Rattle.bl_desc.specs.Views.{HasMenu, view};
+ghost use Rattle.bl_boot.specs.declared.explanation.blame.Blame.TheVariants.{BadMachine};
+ghost use Rattle.bl_boot.specs.BlameHints.{blame_lines};
 ghost use Rattle.bl_boot.specs.Ends.{IsMachineOf};
-ghost use Rattle.bl_boot.specs.ExplainKept.{IsMachineBlame, IsReadBlame, SaysBlame};
+ghost use Rattle.bl_boot.specs.ExplainKept.{IsMachineBlame, IsReadBlame, SaysLines};
 
 use crate::explanation::blame::Blame;
 use crate::explanation::fault::ExplainFault;
 use crate::explanation::text_place::text_place;
-use crate::lines::say_blame;
+use crate::lines::{say_blame, say_machine_blame};
 use bl_desc::{DescFault, Description, first_bad_key, read_description};
 use bl_map::{Machine, MapFault};
 use std::alloc::{Allocator, Global};
 
-/// Says a blame, in `alloc` first, so that an error leaves what was said as it was.
+/// Says why nothing is described, in `alloc` first, so that an error leaves what was said as it
+/// was.
 fn blamed<A: Allocator + Copy, B: Allocator>(
     alloc: A,
     blame: &Blame<'_>,
     say: &mut Vec<u8, B>,
 ) -> ExplainFault
-    ensures { SaysBlame blame.now say.old.items say.new.items result }
+    ensures { SaysLines (blame_lines blame.now None) say.old.items say.new.items result }
 {
     match say_blame(alloc, blame, say) {
         Ok(()) => ExplainFault::Blamed,
@@ -109,6 +112,22 @@ pub fn read_blamed<A: Allocator + Copy, B: Allocator>(
     }
 }
 
+/// Says why what is described is no machine, likewise.
+fn machine_fault<A: Allocator + Copy, B: Allocator>(
+    alloc: A,
+    fault: MapFault,
+    description: &Description<A>,
+    say: &mut Vec<u8, B>,
+) -> ExplainFault
+    ensures { SaysLines (blame_lines (BadMachine fault) (Some (view description.now)))
+        say.old.items say.new.items result }
+{
+    match say_machine_blame(alloc, fault, description, say) {
+        Ok(()) => ExplainFault::Blamed,
+        Err(_) => ExplainFault::NoMemory,
+    }
+}
+
 /// The machine that is described, or why there is none, which is said.
 pub fn machine_blamed<A: Allocator + Copy, B: Allocator>(
     alloc: A,
@@ -125,6 +144,6 @@ pub fn machine_blamed<A: Allocator + Copy, B: Allocator>(
     match Machine::new(alloc, description.size, regions, pool) {
         Ok(machine) => Ok(machine),
         Err(MapFault::NoMemory) => Err(ExplainFault::NoMemory),
-        Err(fault) => Err(blamed(alloc, &Blame::BadMachine(fault), say)),
+        Err(fault) => Err(machine_fault(alloc, fault, description, say)),
     }
 }

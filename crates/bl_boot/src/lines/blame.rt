@@ -1,10 +1,17 @@
-//! Why a description is a bad one, in a line.
-ghost use Rattle.std.specs.Prelude.{◌≡◌, ◌++◌, OnOk, OnErr};
+//! Why a description is a bad one, line by line.
+ghost use Rattle.std.specs.Prelude.{◌≡◌, ◌++◌, None, OnErr, OnOk, Some};
+ghost use Rattle.bl_desc.specs.Views.{view};
+ghost use Rattle.bl_boot.specs.declared.explanation.blame.Blame.TheVariants.{BadMachine};
+ghost use Rattle.bl_boot.specs.BlameHints as hints;
 ghost use Rattle.bl_boot.specs.Blames as blames;
 
 use crate::explanation::{Blame, TextPlace};
 use crate::lines::bad_key::say_bad_key;
+use crate::lines::hex_hints::{say_pool_hints, say_size_hint};
+use crate::lines::pool_lines::say_pool_lines;
 use crate::lines::refusal::say_number;
+use crate::lines::word_hints::say_key_hint;
+use bl_desc::Description;
 use bl_map::MapFault;
 use std::alloc::{AllocError, Allocator};
 
@@ -86,19 +93,73 @@ fn say_words<A: Allocator + Copy>(out: &mut Vec<u8, A>, blame: &Blame<'_>) -> Re
     }
 }
 
-/// Appends the line that tells why a description is a bad one. It is formed in `alloc` first, so
-/// that an error leaves the text as it was.
+/// Appends the line that tells why a description is a bad one.
+fn say_line<A: Allocator + Copy>(out: &mut Vec<u8, A>, blame: &Blame<'_>) -> Result<(), AllocError>
+    ensures { OnOk result (out.new.items ≡ out.old.items ++ blames.blame_line blame.now) }
+{
+    out.extend_from_slice(b"bad description: ")?;
+    say_words(out, blame)?;
+    out.extend_from_slice(b"\n")
+}
+
+/// Appends the hint behind it, where nothing is described.
+fn say_hint<A: Allocator + Copy>(out: &mut Vec<u8, A>, blame: &Blame<'_>) -> Result<(), AllocError>
+    ensures { OnOk result (out.new.items ≡ out.old.items ++ hints.lines_behind blame.now None) }
+{
+    match blame {
+        Blame::BadKey(bad) => say_key_hint(out, &bad.fault),
+        _ => Ok(()),
+    }
+}
+
+/// Appends what is told of a machine, behind its fault.
+fn say_machine<A: Allocator + Copy, B: Allocator>(
+    out: &mut Vec<u8, A>,
+    fault: MapFault,
+    description: &Description<B>,
+) -> Result<(), AllocError>
+    ensures { OnOk result
+        (out.new.items ≡ out.old.items ++ hints.machine_lines fault (view description.now)) }
+{
+    match fault {
+        MapFault::BadSize => say_size_hint(out, description.size),
+        MapFault::BadPool => {
+            say_pool_lines(out, description)?;
+            say_pool_hints(out, description.size, &description.pool)
+        }
+        _ => Ok(()),
+    }
+}
+
+/// Appends the lines that tell why nothing is described. They are formed in `alloc` first, so that
+/// an error leaves the text as it was.
 pub fn say_blame<A: Allocator + Copy, B: Allocator>(
     alloc: A,
     blame: &Blame<'_>,
     out: &mut Vec<u8, B>,
 ) -> Result<(), AllocError>
-    ensures ok { OnOk result (out.new.items ≡ out.old.items ++ blames.blame_line blame.now) }
+    ensures ok { OnOk result (out.new.items ≡ out.old.items ++ hints.blame_lines blame.now None) }
     ensures err { OnErr result (out.new.items ≡ out.old.items) }
 {
-    let mut line = Vec::new(alloc);
-    line.extend_from_slice(b"bad description: ")?;
-    say_words(&mut line, blame)?;
-    line.extend_from_slice(b"\n")?;
-    out.extend_from_slice(&line)
+    let mut lines = Vec::new(alloc);
+    say_line(&mut lines, blame)?;
+    say_hint(&mut lines, blame)?;
+    out.extend_from_slice(&lines)
+}
+
+/// Appends the lines that tell why what is described is no machine, likewise.
+pub fn say_machine_blame<A: Allocator + Copy, B: Allocator>(
+    alloc: A,
+    fault: MapFault,
+    description: &Description<A>,
+    out: &mut Vec<u8, B>,
+) -> Result<(), AllocError>
+    ensures ok { OnOk result (out.new.items ≡ out.old.items
+        ++ hints.blame_lines (BadMachine fault) (Some (view description.now))) }
+    ensures err { OnErr result (out.new.items ≡ out.old.items) }
+{
+    let mut lines = Vec::new(alloc);
+    say_line(&mut lines, &Blame::BadMachine(fault))?;
+    say_machine(&mut lines, fault, description)?;
+    out.extend_from_slice(&lines)
 }

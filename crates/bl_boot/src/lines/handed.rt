@@ -46,7 +46,7 @@ fn say_part_front<A: Allocator + Copy>(
     out.extend_from_slice(line.as_bytes())
 }
 
-fn say_line_end<A: Allocator>(out: &mut Vec<u8, A>) -> Result<(), AllocError>
+pub fn say_line_end<A: Allocator>(out: &mut Vec<u8, A>) -> Result<(), AllocError>
     ensures { OnOk result (out.new.items ≡ out.old.items ++ codes "\n") }
 {
     out.extend_from_slice(b"\n")

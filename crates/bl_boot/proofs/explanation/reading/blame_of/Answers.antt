@@ -1,4 +1,3 @@
-use Rattle.std.proofs.Common.{inl}
 use Rattle.std.proofs.lemmas.Str.{is_utf8-from_IsUtf8}
 use Rattle.bl_boot.specs.declared.explanation.blame.Blame.TheVariants as blames
 use Rattle.bl_boot.proofs.ExplainEnds.{blamed_for}
@@ -11,5 +10,5 @@ blame_of_text-requires-clause-text g c =
 
 pub returns-in-Err : goal.returns-in-Err
 returns-in-Err g c =
-    blamed_for c.args.desc.now blames.NotUtf8 _ _ c.blamed.result (inl c.requires)
+    blamed_for c.args.desc.now blames.NotUtf8 _ _ c.blamed.result c.requires
     (no_text c.args.desc.now c.in-Err.ensures.cases.0) c.blamed.ensures

@@ -1,4 +1,3 @@
-use Rattle.std.proofs.Common.{inl}
 use Rattle.bl_boot.specs.declared.explanation.blame.Blame.TheVariants.{BadKey}
 use Rattle.bl_boot.proofs.ExplainEnds.{blamed_for}
 use Rattle.bl_boot.proofs.ExplainLemmas.{undescribed}
@@ -7,7 +6,7 @@ use Rattle.bl_boot.proofs.explanation.reading.blame_of_text.Goals as goal
 pub returns-in-Ok-Some : goal.returns-in-Ok-Some
 returns-in-Ok-Some g c =
     blamed_for c.args.text.now (BadKey c.in-Ok-Some.bad) c.args.say.now.items
-    c.blamed.new.say.items c.blamed.result (inl c.requires.bad)
+    c.blamed.new.say.items c.blamed.result c.requires.bad
     (record {
       text = c.requires.text;
       members = _;

@@ -1,4 +1,4 @@
-use Rattle.std.proofs.Common.{rules, inl}
+use Rattle.std.proofs.Common.{rules}
 use Rattle.bl_boot.specs.Blames.{HasBlame}
 use Rattle.bl_boot.specs.declared.explanation.blame.Blame.TheVariants.{NotToml}
 use Rattle.bl_boot.proofs.ExplainEnds.{blamed_for}
@@ -8,4 +8,4 @@ pub returns-in-Some : goal.returns-in-Some
 returns-in-Some g c =
     let stands : HasBlame c.args.text.now (NotToml c.text_place.result) = search rules in
     blamed_for c.args.text.now (NotToml c.text_place.result) c.args.say.now.items
-    c.blamed.new.say.items c.blamed.result (inl c.requires.bad) stands c.blamed.ensures
+    c.blamed.new.say.items c.blamed.result c.requires.bad stands c.blamed.ensures
