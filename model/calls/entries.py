@@ -7,7 +7,6 @@ from rules import entry as entries
 from rules.handover import MULTIBOOT2, PROTOCOL_NAMES, Handover, names_of, part_bytes
 from rules.memory import Memory
 from rules.refusals import NAMES, Refused
-from rules.unplaced import unplaced as first_unplaced
 
 from . import BYTES_OF, Call
 from .answers import Open
@@ -71,20 +70,24 @@ def prepare(table, line):
         return "refused " + refusal_text(refused)
 
 
-def row_text(row) -> str:
-    """A row of the table of parts, with the fields that a row of `places` has."""
-    limits = ["align=%x low=%x high=%x" % row.limits] if row.limits is not None else []
-    chosen = row.choice if isinstance(row.choice, str) else "at=%x" % row.choice
-    return " ".join(["%s %x len=%x" % (ROLES[row.role], row.index, row.length)] + limits + [chosen])
+def row_text(wanted) -> str:
+    """A part that has no place, with the fields that a row of `places` has."""
+    words = ["%s %x len=%x" % (ROLES[wanted.role], wanted.index, wanted.length)]
+    if wanted.choice != "fixed":
+        words.append("align=%x low=%x high=%x" % (wanted.align, wanted.low, wanted.high))
+    has_address = wanted.choice in ("fixed", "preferred")
+    return " ".join(words + ["at=%x" % wanted.at if has_address else wanted.choice])
 
 
 def unplaced(table, line):
     """The row of the first part that has no place."""
     try:
-        row = first_unplaced(last_machine(table), read_entry(table, line.words, line.data))
+        entries.prepare(last_machine(table), read_entry(table, line.words, line.data))
     except Refused as refused:
+        if refused.wanted is not None:
+            return row_text(refused.wanted)
         return "refused " + refusal_text(refused)
-    return "none" if row is None else row_text(row)
+    return "none"
 
 
 def memory_after(machine, handover: Handover, fill: int) -> bytes:

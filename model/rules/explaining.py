@@ -11,11 +11,11 @@ from .bad_keys import shown
 from .booting import File, Outcome, Run
 from .description import BadDescription, Description
 from .handover import PROTOCOL_NAMES
-from .machine import (FIRST_USABLE, KIND_NAMES, USABLE, Machine, check, first_unusable,
-                      is_size, kind_at)
+from .machine import Machine, check, first_unusable, is_size
 from .numbers import FRAME, frames
 from .refusals import MACHINE_NAMES, NAMES, Refused
-from .telling import handover_lines, hints, region_hints, sizes_of
+from .telling import (detail_lines, handover_lines, hints, region_hints, sizes_of,
+                      unusable_line)
 
 PAGE = os.path.join(os.path.dirname(__file__), "..", "..", "docs", "REFUSALS.md")
 OFFSETS = (7,)  # the refusals whose number is an offset, told in hexadecimal digits
@@ -90,20 +90,8 @@ def unusable_lines(machine: Machine) -> List[str]:
     address = first_unusable(machine, *machine.pool)
     if address is None:
         return []
-    return [f"not usable {address:08x} {what(machine, address)}",
+    return [unusable_line(machine, address),
             *("hint: " + hint for hint in region_hints(machine.regions))]
-
-
-def what(machine: Machine, address: int) -> str:
-    """Of an address that is not usable."""
-    kind = kind_at(machine.regions, address)
-    if kind == 0:
-        return "in no region"
-    if kind != USABLE:
-        return KIND_NAMES[kind]
-    if address < FIRST_USABLE:
-        return "in the first frame"
-    return "at or above the size" if address >= machine.size else "in the last frame below 4 GiB"
 
 
 def pool_hints(machine: Machine) -> List[str]:
@@ -155,6 +143,9 @@ def boot_lines(boot: Boot) -> List[str]:
     for index, refusal in boot.outcome.refused:
         lines += attempt_lines(boot, index)
         lines.append("refused " + told(refusal.number, refusal.data, NAMES, "Of an entry"))
+        entry = boot.described.entries[index]
+        files = [boot.file_named(name) for name in booting.file_names(entry)]
+        lines += detail_lines(boot.described.machine, entry, refusal, files)
     lines += ["no entry left"] if boot.outcome.entry is None else booted_lines(boot)
     return lines + hints(boot.described, boot.outcome.refused, boot.file_named)
 

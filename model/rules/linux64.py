@@ -23,7 +23,7 @@ def check_entry(setup: Setup) -> None:
 
 
 def page_tables(planner: Planner) -> Part:
-    at = planner.lowest(paging.LENGTH, paging.FRAME, 0x1000, GIB4)
+    at = planner.part(PAGE_TABLES).lowest(paging.LENGTH, paging.FRAME, 0x1000, GIB4)
     return Part(PAGE_TABLES, 0, at, paging.LENGTH, [(0, paging.tables(at))])
 
 

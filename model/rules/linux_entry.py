@@ -28,14 +28,15 @@ def prepare(machine: Machine, kernel_file: bytes, line: bytes, initrd: Optional[
     planner = Planner(machine)
     payload = kernel_file[setup.payload_at:]
     kernel = linux_kernel(planner, setup, payload)
-    params_at = planner.lowest(FRAME, FRAME, 0x1000, GIB4)
-    line_at = planner.lowest(FRAME, FRAME, 0x1000, LINE_LIMIT)
-    gdt_at = planner.lowest(FRAME, FRAME, 0x1000, GIB4)
+    params_at = planner.part(BOOT_PARAMETERS).lowest(FRAME, FRAME, 0x1000, GIB4)
+    line_at = planner.part(COMMAND_LINE).lowest(FRAME, FRAME, 0x1000, LINE_LIMIT)
+    gdt_at = planner.part(GDT).lowest(FRAME, FRAME, 0x1000, GIB4)
     tables = linux64.page_tables(planner) if is_wide else None
     disk = initrd or b""
     disk_at, disk_length = 0, frames(len(disk)) * FRAME
     if disk:
-        disk_at = planner.highest(disk_length, FRAME, 0x1000, setup.initrd_addr_max + 1)
+        disk_at = planner.part(INITRD).highest(disk_length, FRAME, 0x1000,
+                                               setup.initrd_addr_max + 1)
     params = boot_params.spell(setup.header, boot_params.Params(
         kernel.address, disk_at, len(disk), line_at, runs))
     parts = [
@@ -56,6 +57,7 @@ def prepare(machine: Machine, kernel_file: bytes, line: bytes, initrd: Optional[
 
 
 def linux_kernel(planner: Planner, setup: bzimage.Setup, payload: bytes) -> Part:
+    planner.part(KERNEL)
     if setup.is_relocatable:
         length = max(len(payload), setup.init_size)
         at = planner.lowest(length, setup.kernel_alignment, max(MIB, setup.pref_address), GIB4)

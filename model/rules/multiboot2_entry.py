@@ -44,14 +44,14 @@ def prepare(machine: Machine, kernel: bytes, line: bytes,
     told_modules = []
     for i, (file, module_line) in enumerate(modules):
         length = max(frames(len(file)), 1) * FRAME
-        at = planner.lowest(length, FRAME, MIB, GIB4)
+        at = planner.part(MODULE, i).lowest(length, FRAME, MIB, GIB4)
         parts.append(Part(MODULE, i, at, length, [(0, file)]))
         told_modules.append(information.Module(at, at + len(file), module_line))
     told = information.spell(information.Information(
         line, told_modules, low_kib(machine.regions), high_kib(machine.regions),
         normal_map(machine.regions), load_base, rsdp_old, rsdp_new))
     length = frames(len(told)) * FRAME
-    at = planner.lowest(length, FRAME, 0x1000, GIB4)
+    at = planner.part(INFORMATION).lowest(length, FRAME, 0x1000, GIB4)
     parts.append(Part(INFORMATION, 0, at, length, [(0, told)]))
     registers = {**registers_of(MULTIBOOT2), "EIP": entered + moved_by, "EBX": at}
     return Handover(MULTIBOOT2, registers, in_order(parts))
@@ -62,7 +62,7 @@ def contents(segment: Segment, file: bytes) -> bytes:
 
 
 def fixed_segment(planner: Planner, index: int, segment: Segment, file: bytes) -> Part:
-    at = planner.fixed(segment.address, segment.end)
+    at = planner.part(KERNEL, index).fixed(segment.address, segment.end)
     return Part(KERNEL, index, at, segment.memsz, [(0, contents(segment, file))])
 
 
@@ -72,6 +72,7 @@ def moved_block(planner: Planner, relocation: multiboot2.Relocation, segments: L
     linked = min(s.address for s in segments)
     length = max(s.end for s in segments) - linked
     limits = (length, relocation.align or 1, relocation.min_addr, relocation.max_addr)
+    planner.part(KERNEL)
     if relocation.preference == 1:
         at = planner.lowest(*limits)
     elif relocation.preference == 2:

@@ -1,20 +1,39 @@
 """Places: where a part may stand, and which address is chosen. BOOT-RULES.md "Places"."""
 
-from typing import List, Optional
+from typing import List, NamedTuple, NoReturn, Optional
 
 from .machine import Machine, Range, covers, meets, usable_ranges
 from .numbers import FRAME, frames, round_down, round_up
-from .refusals import refuse
+from .refusals import Refused
 
 MIB, GIB4 = 0x100000, 1 << 32
 
 
+class Wanted(NamedTuple):
+    """A part that finds no place: what it is, which one of its role, its length, how its address is
+    chosen, and by which limits; `at` is an address of its own, or one that is preferred."""
+    role: int
+    index: int
+    length: int
+    choice: str  # fixed, lowest, highest, preferred
+    at: int = 0
+    align: int = 0
+    low: int = 0
+    high: int = 0
+
+
 class Planner:
-    """The usable bytes of a machine, and the ranges that parts have taken so far."""
+    """The usable bytes of a machine, and the ranges that parts have taken so far. Who asks which
+    part finds no place says by `part` what is placed next."""
 
     def __init__(self, machine: Machine):
         self.usable = usable_ranges(machine)
         self.taken: List[Range] = []
+        self.role, self.index = 0, 0
+
+    def part(self, role: int, index: int = 0) -> "Planner":
+        self.role, self.index = role, index
+        return self
 
     def gaps(self) -> List[Range]:
         """The usable bytes that no part has, as ascending ranges with something between them."""
@@ -54,36 +73,45 @@ class Planner:
                 return at
         return None
 
-    # What follows takes the range that it chose.
+    # What follows takes the range that it chose, or refuses and tells which part it was for.
 
     def take(self, at: int, length: int) -> int:
         self.taken.append((at, at + length))
         return at
 
     def lowest(self, length: int, align: int, low: int, high: int) -> int:
-        return self._chosen(self.least(length, align, low, high), length)
+        at = self.least(length, align, low, high)
+        if at is None:
+            self._refuse(20, length, "lowest", 0, align, low, high)
+        return self.take(at, length)
 
     def highest(self, length: int, align: int, low: int, high: int) -> int:
-        return self._chosen(self.greatest(length, align, low, high), length)
+        at = self.greatest(length, align, low, high)
+        if at is None:
+            self._refuse(20, length, "highest", 0, align, low, high)
+        return self.take(at, length)
 
     def preferred(self, asked: int, length: int, align: int, low: int, high: int) -> int:
         """The address asked for if it is permitted, else the lowest."""
         if self.is_permitted(asked, length, align, low, high):
             return self.take(asked, length)
-        return self.lowest(length, align, low, high)
+        at = self.least(length, align, low, high)
+        if at is None:
+            self._refuse(20, length, "preferred", asked, align, low, high)
+        return self.take(at, length)
 
     def fixed(self, start: int, end: int) -> int:
         """A part at its own address: each byte is usable (19), none is in an earlier part (15)."""
         if not covers(self.usable, start, end):
-            refuse(19)
+            self._refuse(19, end - start, "fixed", start)
         if any(meets((start, end), part) for part in self.taken):
-            refuse(15)
+            self._refuse(15, end - start, "fixed", start)
         return self.take(start, end - start)
 
-    def _chosen(self, at: Optional[int], length: int) -> int:
-        if at is None:
-            refuse(20)
-        return self.take(at, length)
+    def _refuse(self, number: int, length: int, *asked) -> NoReturn:
+        refused = Refused(number)
+        refused.wanted = Wanted(self.role, self.index, length, *asked)
+        raise refused
 
 
 def undisturbed_frames(machine: Machine, parts: List[Range]) -> int:

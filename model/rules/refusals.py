@@ -23,12 +23,14 @@ MACHINE_NAMES = {1: "BadSize", 2: "BadRegion", 3: "TooManyRegions", 4: "BadPool"
 
 
 class Refused(Exception):
-    """Ends a reading: `number`, and `data`, the numbers told with it, such as an offset."""
+    """Ends a reading: `number`, and `data`, the numbers told with it, such as an offset. Of a part
+    that finds no place `wanted` is what was wanted for it."""
 
     def __init__(self, number: int, *data: int):
         super().__init__(number, *data)
         self.number = number
         self.data = data
+        self.wanted = None
 
     def __eq__(self, other):
         return isinstance(other, Refused) and self.args == other.args

@@ -1,15 +1,16 @@
-"""What `explain` tells of a handover, frames and where bytes come from, and hints. FORMATS.md "What
-the program says"."""
+"""What `explain` tells of a handover, frames and where bytes come from, of a refusal beside its
+number, and hints. FORMATS.md "What the program says"."""
 
 from typing import Callable, List, Optional, Tuple
 
-from . import booting, bzimage
+from . import booting, bzimage, entry as entries
 from .booting import File
 from .description import Description, MenuEntry
 from .handover import INITRD, KERNEL, MODULE, MULTIBOOT2, Handover, Part, names_of
-from .machine import USABLE, Machine, Region
+from .machine import (FIRST_USABLE, KIND_NAMES, USABLE, Machine, Region, kind_at,
+                      usable_ranges)
 from .numbers import FRAME, frames, u16
-from .places import undisturbed_frames
+from .places import Wanted, undisturbed_frames
 from .refusals import Refused
 
 ROLES = ["kernel", "module", "information", "boot-params", "command-line", "gdt", "initrd",
@@ -24,13 +25,16 @@ def sizes_of(files: List[File]) -> List[Optional[int]]:
     return [len(file) if isinstance(file, bytes) else file for file in files]
 
 
-def frames_line(machine: Machine, handover: Handover, files: List[File]) -> str:
-    """The frames that the files take, those of the pool that meet no part, all of the pool's."""
+def frames_line(machine: Machine, handover: Optional[Handover], files: List[File]) -> str:
+    """The frames that the files take, those of the pool that meet no part, all of the pool's; none
+    of the second if there are no parts."""
     wanted = sum(frames(size) for size in sizes_of(files))
-    ranges = [(part.address, part.address + part.length) for part in handover.parts]
     start, end = machine.pool
-    return "frames %d wanted, %d open, %d in all" % (
-        wanted, undisturbed_frames(machine, ranges), (end - start) // FRAME)
+    beside = ""
+    if handover is not None:
+        ranges = [(part.address, part.address + part.length) for part in handover.parts]
+        beside = " %d open," % undisturbed_frames(machine, ranges)
+    return "frames %d wanted,%s %d in all" % (wanted, beside, (end - start) // FRAME)
 
 
 # ---- a handover
@@ -56,6 +60,59 @@ def handover_lines(machine: Machine, handover: Handover, entry: MenuEntry, files
         value = handover.registers[name]
         lines.append(f"register {name.lower().replace(' ', '_')} {value:016x}")
     return lines + [frames_line(machine, handover, files)]
+
+
+# ---- a refusal
+
+
+def detail_lines(machine: Machine, entry: MenuEntry, refusal: Refused, files: List[File]
+                 ) -> List[str]:
+    """What is told of the refusal of an entry beside its number; the files are all there if it is
+    one of these."""
+    if refusal.number == 21:
+        return [frames_line(machine, handover_of(machine, entry, files), files)]
+    if refusal.wanted is None:
+        return []
+    lines = [no_place_line(refusal.wanted)]
+    if refusal.wanted.choice == "fixed":
+        lines.append(unusable_line(machine, refusal.wanted.at))
+    return lines
+
+
+def handover_of(machine: Machine, entry: MenuEntry, files: List[File]) -> Optional[Handover]:
+    """What the entry would hand over, had the pool room for its files; None if it is refused."""
+    try:
+        return entries.prepare(machine, booting.entry_with(entry, files))
+    except Refused:
+        return None
+
+
+def no_place_line(wanted: Wanted) -> str:
+    within = f"from {wanted.low:08x} to {wanted.high:08x}, alignment {wanted.align}"
+    choice = {"fixed": f"at {wanted.at:08x}",
+              "lowest": "lowest " + within,
+              "highest": "highest " + within,
+              "preferred": f"preferred {wanted.at:08x}, lowest " + within}[wanted.choice]
+    return f"no place {ROLES[wanted.role - 1]} {wanted.index} {wanted.length} {choice}"
+
+
+def unusable_line(machine: Machine, at: int) -> str:
+    """The first byte from an address on that no part may have, and why not."""
+    for start, end in usable_ranges(machine):
+        if start <= at < end:
+            at = end
+    kind = kind_at(machine.regions, at)
+    if kind == 0:
+        why = "in no region"
+    elif kind != USABLE:
+        why = KIND_NAMES[kind]
+    elif at < FIRST_USABLE:
+        why = "in the first frame"
+    elif at >= machine.size:
+        why = "at or above the size"
+    else:
+        why = "in the last frame below 4 GiB"
+    return f"not usable {at:08x} {why}"
 
 
 # ---- hints

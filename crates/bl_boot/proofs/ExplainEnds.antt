@@ -79,15 +79,27 @@ module _ {F : Type 0} (answers : F → List ℕ → File → Type 0) (faults : F
             (boot_facts facts (menu_of (view d)) (map size_of (stored_files files)))
             (stored_files files) (sought_in (view d) (map file_of files)) old new ended
             → ExplainEnds answers faults desc before after old new ended
-        explained_by old new (Ok Booted) (entry, earlier, handover, came, said) = record {
+        explained_by old new (Ok Booted) (entry, earlier, handover, came, told, are, said) = record {
           entry = entry;
           earlier = earlier;
           handover = handover;
-          explained = record { case = case_of; outcome = came; said = said };
+          explained = record {
+            case = case_of;
+            outcome = came;
+            told = told;
+            are_told = are;
+            said = said;
+          };
         }
-        explained_by old new (Ok NoEntryLeft) (refused, came, said) = record {
+        explained_by old new (Ok NoEntryLeft) (refused, came, told, are, said) = record {
           refused = refused;
-          explained = record { case = case_of; outcome = came; said = said };
+          explained = record {
+            case = case_of;
+            outcome = came;
+            told = told;
+            are_told = are;
+            said = said;
+          };
         }
         explained_by old new (Err Blamed) never = absurd never
         explained_by old new (Err NoMemory) kept = kept

@@ -1,7 +1,7 @@
 -- How explanations end.
 use Rattle.std.proofs.Common.{◌≡◌, ◌∙◌, ◌+◌, ◌<◌, ◌≤◌, ◌++◌, ◌==◌, ◌&&◌, ℕ, nat_le, nat_lt, true}
 use Rattle.std.proofs.Common.{false, List, [], ◌∷◌, Some, None, length, map, get_or, refl, sym, ap}
-use Rattle.std.proofs.Common.{arith, inl, inr}
+use Rattle.std.proofs.Common.{arith, inl, inr, subst}
 use Rattle.std.specs.Prelude.{IsUtf8}
 use Rattle.std.specs.Prelude.{option_map, slice_get}
 use Rattle.std.specs.Str.{is_utf8}
@@ -17,10 +17,13 @@ use Rattle.bl_session.specs.declared.words.RefusedEntry.{RefusedEntry}
 use Rattle.bl_desc.specs.declared.entry_row.EntryRow.{EntryRow}
 use Rattle.bl_desc.specs.Described.{described, described_in}
 use Rattle.bl_desc.specs.Views.{entry_view}
+use Rattle.bl_map.specs.MachineFacts.{MachineFacts}
 use Rattle.bl_boot.specs.Blames.{after_byte, after_bytes}
+use Rattle.bl_boot.specs.Details.{AreToldRefusals}
 use Rattle.bl_boot.specs.Sought.{SoughtFacts}
 use Rattle.bl_boot.specs.Told.{attempt_lines, refused_attempt_lines, row_lines, row_lines_if}
 use Rattle.bl_boot.specs.declared.explanation.blame.TextPlace.{TextPlace}
+use Rattle.bl_boot.specs.declared.explanation.detail.ToldRefusal.{ToldRefusal}
 
 -- ---- places in a text
 
@@ -57,21 +60,31 @@ no_text desc not =
     ]
 
 -- what is said of rows is said of the rows that they are
-pub attempted_of : {A : Type 0} (rows items : List (EntryRow A)) (sought : SoughtFacts)
-    (refused earlier : List RefusedEntry) (entry : ℕ) (start new : List ℕ)
-    → rows ≡ items → refused ≡ earlier
-    → new ≡ start ++ flat_map (refused_attempt_lines (map entry_view rows) sought) refused
-    ++ attempt_lines (map entry_view rows) sought entry
-    → new ≡ start ++ flat_map (refused_attempt_lines (map entry_view items) sought) earlier
-    ++ attempt_lines (map entry_view items) sought entry
-attempted_of {A = A} rows items sought refused earlier entry start new same alike said =
+pub refusals_of : {A : Type 0} (rows items : List (EntryRow A)) (facts : MachineFacts)
+    (sought : SoughtFacts) (told : List ToldRefusal) (start new : List ℕ) → rows ≡ items
+    → new ≡ start ++ flat_map (refused_attempt_lines (map entry_view rows) facts sought) told
+    → new ≡ start ++ flat_map (refused_attempt_lines (map entry_view items) facts sought) told
+refusals_of {A = A} rows items facts sought told start new same said =
     said
     ∙ ap (λ (kept : List (EntryRow A)). start
-    ++ flat_map (refused_attempt_lines (map entry_view kept) sought) refused
+    ++ flat_map (refused_attempt_lines (map entry_view kept) facts sought) told) same
+
+pub attempt_of : {A : Type 0} (rows items : List (EntryRow A)) (sought : SoughtFacts) (entry : ℕ)
+    (start new : List ℕ) → rows ≡ items
+    → new ≡ start ++ attempt_lines (map entry_view rows) sought entry
+    → new ≡ start ++ attempt_lines (map entry_view items) sought entry
+attempt_of {A = A} rows items sought entry start new same said =
+    said
+    ∙ ap (λ (kept : List (EntryRow A)). start
     ++ attempt_lines (map entry_view kept) sought entry) same
-    ∙ ap (λ (kept : List RefusedEntry). start
-    ++ flat_map (refused_attempt_lines (map entry_view items) sought) kept
-    ++ attempt_lines (map entry_view items) sought entry) alike
+
+pub details_of : {A : Type 0} (rows items : List (EntryRow A)) (facts : MachineFacts)
+    (sought : SoughtFacts) (refused : List RefusedEntry) (told : List ToldRefusal) → rows ≡ items
+    → AreToldRefusals facts (map entry_view rows) sought refused told
+    → AreToldRefusals facts (map entry_view items) sought refused told
+details_of {A = A} rows items facts sought refused told same are =
+    subst (λ (kept : List (EntryRow A)). AreToldRefusals facts (map entry_view kept) sought refused told)
+    same are
 
 -- ---- what is said of numbers, one after the other
 

@@ -23,6 +23,7 @@ use Rattle.bl_boot.specs.HandedLines.{SourceWords, handoff_lines, part_line, pla
 use Rattle.bl_boot.specs.Sought.{SoughtFacts}
 use Rattle.bl_boot.specs.Sources.{source_at}
 use Rattle.bl_boot.specs.Told.{booted_lines, entry_handoff_lines, entry_handover_lines, told_lines}
+use Rattle.bl_boot.specs.declared.explanation.detail.ToldRefusal.{ToldRefusal}
 
 -- ---- part by part
 
@@ -66,16 +67,18 @@ held_told entries sought pool entry bytes handoff h =
 
 -- an entry that memory hands over is told
 pub told_booted : (description : Described) (facts : MachineFacts) (sought : SoughtFacts)
-    (entry : ℕ) (earlier : List RefusedEntry) (bytes : List ℕ) (handoff : HandoffFacts)
-    (old new : List ℕ) (size : ℕ) → length bytes ≡ size
+    (entry : ℕ) (told : List ToldRefusal) (earlier : List RefusedEntry) (bytes : List ℕ)
+    (handoff : HandoffFacts) (old new : List ℕ) (size : ℕ) → length bytes ≡ size
     → All (λ place. place.address + place.length ≤ size) handoff.places
-    → new ≡ old ++ booted_lines description sought entry earlier
+    → new ≡ old ++ booted_lines description facts sought entry told earlier
     (entry_handoff_lines description.entries sought facts.pool entry handoff)
-    → new ≡ old ++ told_lines description facts sought
+    → new ≡ old ++ told_lines description facts sought told
     (handed_over entry earlier (handover_held bytes handoff))
-told_booted description facts sought entry earlier bytes handoff old new size whole inside said =
+told_booted description facts sought entry told earlier bytes handoff old new size whole inside
+    said =
     said
-    ∙ ap (λ (handed : List ℕ). old ++ booted_lines description sought entry earlier handed)
+    ∙ ap (λ (handed : List ℕ). old
+    ++ booted_lines description facts sought entry told earlier handed)
     (sym (held_told description.entries sought facts.pool entry bytes handoff (λ i place at.
     let within = inside i place at in
     omega (arith, whole, within))))

@@ -13,6 +13,9 @@ pub mod ExplainLemmas
 pub mod KeyLemmas
 pub mod FrameLemmas
 pub mod HintLemmas
+pub mod DetailLemmas
+pub mod NoPlaceLemmas
+pub mod RefusedLemmas
 pub mod PoolLemmas
 pub mod HexHintLemmas
 pub mod HeldLemmas

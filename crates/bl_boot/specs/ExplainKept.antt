@@ -1,13 +1,20 @@
 -- What the code keeps of how an explanation ends, by its result. Own.
-use Rattle.std.specs.Prelude.{◌≡◌, ◌≢◌, ℕ, ◌++◌, List, Some, Result, Ok, Err}
+use Rattle.std.specs.Prelude.{◌≡◌, ◌≢◌, ◌⊎◌, ℕ, ◌++◌, List, Result, Ok, Err, Bool, true, false}
+use Rattle.std.specs.Prelude.{Some, slice_get}
 use Rattle.bl_map.specs.Faults.{HasFirstMapFault}
+use Rattle.bl_map.specs.MachineFacts.{MachineFacts}
 use Rattle.bl_map.specs.declared.fault.MapFault.{MapFault}
 use Rattle.bl_map.specs.declared.fault.MapFault.TheVariants as map_fault
 use Rattle.bl_load.specs.Handover.{Handover}
+use Rattle.bl_load.specs.Parts.{IsRefusal}
+use Rattle.bl_load.specs.Value.{EntryValue}
+use Rattle.bl_load.specs.declared.refusal.Refusal.{Refusal}
+use Rattle.bl_load.specs.declared.refusal.Refusal.TheVariants.{NotUsable, NoRoom}
 use Rattle.bl_session.specs.declared.words.RefusedEntry.{RefusedEntry}
 use Rattle.bl_session.specs.Boot.{BootFacts, handed_over, none_left}
 use Rattle.bl_session.specs.Outcome.{File, IsOutcome, no_fault}
 use Rattle.bl_desc.specs.Described.{Described}
+use Rattle.bl_desc.specs.Entries.{Entry}
 use Rattle.bl_boot.specs.declared.description_boot.boot_end.End.{End}
 use Rattle.bl_boot.specs.declared.description_boot.boot_end.End.TheVariants.{Booted, NoEntryLeft}
 use Rattle.bl_boot.specs.declared.explanation.blame.Blame.TheVariants.{BadMachine}
@@ -17,7 +24,9 @@ use Rattle.bl_boot.specs.BlameHints.{blame_lines}
 use Rattle.bl_boot.specs.Explained.{ExplainsBlame, ExplainsBoot, ExplainsRefusals}
 use Rattle.bl_boot.specs.Found.{AsksFirst}
 use Rattle.bl_boot.specs.Sought.{SoughtFacts}
+use Rattle.bl_boot.specs.Details.{AreToldRefusals, value_sought}
 use Rattle.bl_boot.specs.Told.{told_lines}
+use Rattle.bl_boot.specs.declared.explanation.detail.ToldRefusal.{ToldRefusal}
 
 -- why the bytes are not read: they are a bad description, for what is said, or memory ran out
 abbrev pub IsReadBlame : (desc old new : List ℕ) → ExplainFault → Type 0
@@ -37,6 +46,24 @@ IsMachineBlame description old new Blamed =
     × (new ≡ old ++ blame_lines (BadMachine fault) (Some description))
 IsMachineBlame description old new NoMemory = new ≡ old
 
+-- 19 and 20, by which an entry is refused where one of its parts finds no place
+abbrev pub is_placing : Refusal → Bool
+is_placing NotUsable = true
+is_placing NoRoom = true
+is_placing _ = false
+
+-- one of them refuses an entry of this value
+abbrev pub HasNoPlace : MachineFacts → EntryValue → Type 0
+HasNoPlace facts value = IsRefusal facts value NotUsable ⊎ IsRefusal facts value NoRoom
+
+-- such a refusal of an entry of a menu is the first one of its value, with what was found for the
+-- names of its files
+abbrev pub HasPlaceRefusal : MachineFacts → List Entry → SoughtFacts → RefusedEntry → Type 0
+HasPlaceRefusal facts entries sought refused =
+    (entry : Entry) → slice_get entries refused.entry ≡ Some entry
+    → is_placing refused.refusal ≡ true
+    → IsRefusal facts (value_sought sought entry) refused.refusal
+
 -- the boot of what was found for a description is explained so: what it came to, of these files,
 -- and what is said
 abbrev pub FoundExplains : Described → BootFacts → List File → SoughtFacts → (old new : List ℕ)
@@ -44,11 +71,13 @@ abbrev pub FoundExplains : Described → BootFacts → List File → SoughtFacts
 FoundExplains description facts files sought old new (Ok Booted) =
     (entry : ℕ) × (earlier : List RefusedEntry) × (handover : Handover)
     × IsOutcome facts files no_fault (handed_over entry earlier handover)
+    × (told : List ToldRefusal) × AreToldRefusals facts.machine description.entries sought earlier told
     × (new ≡ old
-    ++ told_lines description facts.machine sought (handed_over entry earlier handover))
+    ++ told_lines description facts.machine sought told (handed_over entry earlier handover))
 FoundExplains description facts files sought old new (Ok NoEntryLeft) =
     (refused : List RefusedEntry) × IsOutcome facts files no_fault (none_left refused)
-    × (new ≡ old ++ told_lines description facts.machine sought (none_left refused))
+    × (told : List ToldRefusal) × AreToldRefusals facts.machine description.entries sought refused told
+    × (new ≡ old ++ told_lines description facts.machine sought told (none_left refused))
 FoundExplains description facts files sought old new (Err Blamed) = ⊥
 FoundExplains description facts files sought old new (Err NoMemory) = new ≡ old
 

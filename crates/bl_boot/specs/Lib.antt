@@ -15,12 +15,14 @@ pub mod Hints
 pub mod Sources
 pub mod RefusalWords
 pub mod HandedLines
+pub mod Details
+pub mod UnusableWords
+pub mod DetailLines
 pub mod Told
 pub mod KeyWords
 pub mod Blames
 pub mod Near
 pub mod WordHints
-pub mod UnusableWords
 pub mod PoolLines
 pub mod HexHints
 pub mod BlameHints

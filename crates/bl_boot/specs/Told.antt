@@ -13,6 +13,7 @@ use Rattle.bl_session.specs.Outcome.{File}
 use Rattle.bl_desc.specs.Described.{Described}
 use Rattle.bl_desc.specs.Entries.{Entry}
 use Rattle.bl_boot.specs.Attempted.{entry_of, file_names, names_in}
+use Rattle.bl_boot.specs.DetailLines.{detail_lines}
 use Rattle.bl_boot.specs.Frames.{names_at, room_line}
 use Rattle.bl_boot.specs.HandedLines.{handoff_lines, handover_lines}
 use Rattle.bl_boot.specs.Hints.{hint_lines}
@@ -20,6 +21,7 @@ use Rattle.bl_boot.specs.RefusalWords.{refusal_line}
 use Rattle.bl_boot.specs.Says.{booted_line, no_entry_line}
 use Rattle.bl_boot.specs.Sought.{SoughtFacts, sought_lines}
 use Rattle.bl_boot.specs.Sources.{source_at}
+use Rattle.bl_boot.specs.declared.explanation.detail.ToldRefusal.{ToldRefusal}
 
 -- ---- attempts
 
@@ -39,10 +41,18 @@ row_lines_if sought index (Some entry) = row_lines sought index entry
 abbrev pub attempt_lines : List Entry → SoughtFacts → ℕ → List ℕ
 attempt_lines entries sought index = row_lines_if sought index (slice_get entries index)
 
+-- a refusal, and what is told beside it
+abbrev pub told_refusal_lines : List Entry → MachineFacts → SoughtFacts → ToldRefusal → List ℕ
+told_refusal_lines entries facts sought told =
+    refusal_line told.refused.refusal
+    ++ detail_lines entries facts sought told.refused.entry told.detail
+
 -- an attempt that was refused
-abbrev pub refused_attempt_lines : List Entry → SoughtFacts → RefusedEntry → List ℕ
-refused_attempt_lines entries sought refused =
-    attempt_lines entries sought refused.entry ++ refusal_line refused.refusal
+abbrev pub refused_attempt_lines :
+    List Entry → MachineFacts → SoughtFacts → ToldRefusal → List ℕ
+refused_attempt_lines entries facts sought told =
+    attempt_lines entries sought told.refused.entry
+    ++ told_refusal_lines entries facts sought told
 
 -- ---- the boot
 
@@ -65,28 +75,39 @@ entry_handoff_lines entries sought pool entry handoff =
     handoff_lines (source_at entries sought entry) handoff
     ++ room_line sought (names_at entries entry) pool (map place_range handoff.places)
 
--- each entry that was attempted was refused
-abbrev pub none_left_lines : Described → SoughtFacts → List RefusedEntry → List ℕ
-none_left_lines description sought refused =
-    flat_map (refused_attempt_lines description.entries sought) refused
+-- each entry that was attempted was refused, and this is told of the refusals
+abbrev pub none_left_lines :
+    Described → MachineFacts → SoughtFacts → List ToldRefusal → List RefusedEntry → List ℕ
+none_left_lines description facts sought told refused =
+    flat_map (refused_attempt_lines description.entries facts sought) told
     ++ no_entry_line ++ hint_lines description sought refused
 
 -- an entry is handed over after these refusals, with these lines of what is handed over
-abbrev pub booted_lines : Described → SoughtFacts → ℕ → List RefusedEntry → (handed : List ℕ)
-    → List ℕ
-booted_lines description sought entry earlier handed =
-    flat_map (refused_attempt_lines description.entries sought) earlier
+abbrev pub booted_lines :
+    Described → MachineFacts → SoughtFacts → ℕ → List ToldRefusal → List RefusedEntry
+    → (handed : List ℕ) → List ℕ
+booted_lines description facts sought entry told earlier handed =
+    flat_map (refused_attempt_lines description.entries facts sought) told
     ++ attempt_lines description.entries sought entry
     ++ booted_line entry (entry_of description entry).title ++ handed
     ++ hint_lines description sought earlier
 
--- what a boot on a machine of these facts came to
-abbrev pub told_lines : Described → MachineFacts → SoughtFacts → State → List ℕ
-told_lines description facts sought unstarted = []
-told_lines description facts sought (running entry rest earlier pieces) = []
-told_lines description facts sought (handed_over entry earlier handover) =
-    booted_lines description sought entry earlier
+-- the refusals of what a boot came to
+abbrev pub refused_in : State → List RefusedEntry
+refused_in unstarted = []
+refused_in (running entry rest earlier pieces) = []
+refused_in (handed_over entry earlier handover) = earlier
+refused_in (none_left refused) = refused
+refused_in out_of_memory = []
+
+-- what a boot on a machine of these facts came to, where this is told of its refusals
+abbrev pub told_lines :
+    Described → MachineFacts → SoughtFacts → List ToldRefusal → State → List ℕ
+told_lines description facts sought told unstarted = []
+told_lines description facts sought told (running entry rest earlier pieces) = []
+told_lines description facts sought told (handed_over entry earlier handover) =
+    booted_lines description facts sought entry told earlier
     (entry_handover_lines description.entries sought facts.pool entry handover)
-told_lines description facts sought (none_left refused) =
-    none_left_lines description sought refused
-told_lines description facts sought out_of_memory = []
+told_lines description facts sought told (none_left refused) =
+    none_left_lines description facts sought told refused
+told_lines description facts sought told out_of_memory = []

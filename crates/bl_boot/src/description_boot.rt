@@ -15,6 +15,6 @@ pub use described_boot::DescribedBoot;
 pub use found_boot::title_of;
 pub use found_files::find_files;
 pub use machine::machine_of;
-pub use menu::menu_of;
+pub use menu::{entry_of, menu_of};
 pub use names::{index_of, names_in};
 pub use whole_boot::{boot, order_of};

@@ -3,6 +3,7 @@
 mod attempts;
 mod bad_key;
 mod blame;
+mod detail;
 mod frames;
 mod handed;
 mod hex_hints;

@@ -37,30 +37,34 @@ pub fn say_fault(row: &mut Row<'_>, fault: PrepFault) {
 
 /// The refusal of a name that tells no number.
 fn plain_refusal(name: &str) -> Option<Refusal> {
-    match name {
-        "NoHeader" => Some(Refusal::NoHeader),
-        "HeaderCut" => Some(Refusal::HeaderCut),
-        "BadArchitecture" => Some(Refusal::BadArchitecture),
-        "NoConsole" => Some(Refusal::NoConsole),
-        "NotElf" => Some(Refusal::NotElf),
-        "BadElf" => Some(Refusal::BadElf),
-        "NoEntry" => Some(Refusal::NoEntry),
-        "EntryOutside" => Some(Refusal::EntryOutside),
-        "BadAlign" => Some(Refusal::BadAlign),
-        "NotUsable" => Some(Refusal::NotUsable),
-        "NoRoom" => Some(Refusal::NoRoom),
-        "NoPool" => Some(Refusal::NoPool),
-        "NotBzImage" => Some(Refusal::NotBzImage),
-        "OldProtocol" => Some(Refusal::OldProtocol),
-        "NotHigh" => Some(Refusal::NotHigh),
-        "SetupCut" => Some(Refusal::SetupCut),
-        "BadPreferred" => Some(Refusal::BadPreferred),
-        "LineTooLong" => Some(Refusal::LineTooLong),
-        "LineHasNul" => Some(Refusal::LineHasNul),
-        "MapTooLong" => Some(Refusal::MapTooLong),
-        "No64Entry" => Some(Refusal::No64Entry),
-        _ => None,
+    for (known, refusal) in [
+        ("NoHeader", Refusal::NoHeader),
+        ("HeaderCut", Refusal::HeaderCut),
+        ("BadArchitecture", Refusal::BadArchitecture),
+        ("NoConsole", Refusal::NoConsole),
+        ("NotElf", Refusal::NotElf),
+        ("BadElf", Refusal::BadElf),
+        ("NoEntry", Refusal::NoEntry),
+        ("EntryOutside", Refusal::EntryOutside),
+        ("BadAlign", Refusal::BadAlign),
+        ("NotUsable", Refusal::NotUsable),
+        ("NoRoom", Refusal::NoRoom),
+        ("NoPool", Refusal::NoPool),
+        ("NotBzImage", Refusal::NotBzImage),
+        ("OldProtocol", Refusal::OldProtocol),
+        ("NotHigh", Refusal::NotHigh),
+        ("SetupCut", Refusal::SetupCut),
+        ("BadPreferred", Refusal::BadPreferred),
+        ("LineTooLong", Refusal::LineTooLong),
+        ("LineHasNul", Refusal::LineHasNul),
+        ("MapTooLong", Refusal::MapTooLong),
+        ("No64Entry", Refusal::No64Entry),
+    ] {
+        if known == name {
+            return Some(refusal);
+        }
     }
+    None
 }
 
 /// The refusal of a name that tells numbers of 32 bits or fewer.

@@ -54,7 +54,7 @@ fn copy_of<A: Allocator + Copy>(
 
 /// The entry of a row, whose files go by their places among the names.
 #[tactic(auto, unfolding(bl_load::specs::Value::IsWithinLimits))]
-fn entry_of<A: Allocator + Copy>(
+pub fn entry_of<A: Allocator + Copy>(
     alloc: A,
     names: &[&str],
     row: &EntryRow<A>,

@@ -1,139 +1,93 @@
 //! The boot of what was found for a description, explained.
-ghost use Rattle.std.specs.Prelude.{◌≡◌, [], ◌≤◌, ◌++◌, OnOk, OnErr, length, map};
+ghost use Rattle.std.specs.Prelude.{◌≡◌, [], ◌≤◌, ◌++◌, All, IfOk, OnOk, OnErr, length, map};
+ghost use Rattle.std.specs.List.{flat_map};
 ghost use Rattle.bl_session.specs.Outcome.{size_of};
 ghost use Rattle.bl_session.specs.Phases.{boot_facts};
-ghost use Rattle.bl_boot.specs.ExplainKept.{FoundExplains};
-ghost use Rattle.std.specs.List.{flat_map};
-ghost use Rattle.bl_boot.specs.Attempted.{entry_of};
-ghost use Rattle.bl_boot.specs.Says.{booted_line};
-ghost use Rattle.bl_boot.specs.Hints.{hint_lines};
+ghost use Rattle.bl_boot.specs.Attempted.{menu_of, names_in};
+ghost use Rattle.bl_boot.specs.Details.{AreToldRefusals};
+ghost use Rattle.bl_boot.specs.ExplainKept.{FoundExplains, HasPlaceRefusal};
 ghost use Rattle.bl_boot.specs.Told.{attempt_lines, refused_attempt_lines};
 ghost use Rattle.bl_boot.specs.Told.{booted_lines, entry_handoff_lines, none_left_lines};
-ghost use Rattle.bl_desc.specs.Views.{entry_view, view};
+ghost use Rattle.bl_desc.specs.Views.{view};
 
-use crate::description_boot::{DescribedBoot, End, title_of};
+use crate::description_boot::{DescribedBoot, End};
+use crate::explanation::detail::ToldRefusal;
+use crate::explanation::details::find_details;
 use crate::explanation::fault::ExplainFault;
+use crate::explanation::handed::say_outcome;
 use crate::explanation::sought::Sought;
-use crate::lines::{
-    say_attempt, say_booted, say_handoff, say_hints, say_no_entry_left, say_refused_attempts,
-    say_room,
-};
-use bl_desc::{Description, EntryRow};
-use bl_map::Machine;
+use crate::lines::{say_attempt, say_hints, say_no_entry_left, say_refused_attempts};
 use bl_mem::PhysMem;
 use bl_session::{BootFault, FileStore, Outcome, RefusedEntry, run};
 use std::alloc::{AllocError, Allocator};
+
+/// What is told of the refusals of a boot beside their numbers and names.
+fn details_of<A: Allocator + Copy>(
+    alloc: A,
+    boot: &DescribedBoot<'_, A>,
+    sought: &Sought<'_, A>,
+    refused: &[RefusedEntry],
+) -> Result<Vec<ToldRefusal, A>, AllocError>
+    requires { All (HasPlaceRefusal boot.now.machine.now (view boot.now.description.now).entries
+        sought.now) refused.now }
+    ensures { IfOk result (λ told. AreToldRefusals boot.now.machine.now
+        (view boot.now.description.now).entries sought.now refused.now told.items) }
+{
+    let entries = &boot.description.entries;
+    find_details(alloc, boot.machine, entries, sought, refused)
+}
+
+/// Appends the lines of the attempts that were refused.
+fn say_refusals_of<A: Allocator + Copy>(
+    out: &mut Vec<u8, A>,
+    boot: &DescribedBoot<'_, A>,
+    sought: &Sought<'_, A>,
+    told: &[ToldRefusal],
+) -> Result<(), AllocError>
+    ensures { OnOk result (out.new.items ≡ out.old.items
+        ++ flat_map (refused_attempt_lines (view boot.now.description.now).entries
+        boot.now.machine.now sought.now) told.now) }
+{
+    let entries = &boot.description.entries;
+    say_refused_attempts(out, boot.machine, entries, sought, told)?;
+    Ok(())
+}
+
+/// Appends the lines of the attempt that was not refused.
+fn say_attempt_of<A: Allocator + Copy>(
+    out: &mut Vec<u8, A>,
+    boot: &DescribedBoot<'_, A>,
+    sought: &Sought<'_, A>,
+    entry: u32,
+) -> Result<(), AllocError>
+    ensures { OnOk result (out.new.items ≡ out.old.items
+        ++ attempt_lines (view boot.now.description.now).entries sought.now entry) }
+{
+    say_attempt(out, &boot.description.entries, sought, entry)?;
+    Ok(())
+}
 
 /// Appends the lines of a boot in which each entry that was attempted was refused. An error leaves
 /// the text as it was.
 fn tell_none_left<A: Allocator + Copy, B: Allocator>(
     alloc: A,
-    description: &Description<A>,
+    boot: &DescribedBoot<'_, A>,
     sought: &Sought<'_, A>,
+    told: &[ToldRefusal],
     refused: &[RefusedEntry],
     say: &mut Vec<u8, B>,
 ) -> Result<(), AllocError>
-    requires { length description.now.entries.items ≤ 32 }
+    requires { length boot.now.description.now.entries.items ≤ 32 }
     ensures ok { OnOk result (say.new.items ≡ say.old.items
-        ++ none_left_lines (view description.now) sought.now refused.now) }
+        ++ none_left_lines (view boot.now.description.now) boot.now.machine.now sought.now
+        told.now refused.now) }
     ensures err { OnErr result (say.new.items ≡ say.old.items) }
 {
     let mut lines = Vec::new(alloc);
-    say_refused_attempts(&mut lines, &description.entries, sought, refused)?;
+    say_refusals_of(&mut lines, boot, sought, told)?;
     say_no_entry_left(&mut lines)?;
-    say_hints(&mut lines, description, sought, refused)?;
+    say_hints(&mut lines, boot.description, sought, refused)?;
     say.extend_from_slice(&lines)
-}
-
-/// Appends the lines of what was attempted: each entry that was refused, and the one that was not.
-fn say_attempted<A: Allocator + Copy, B: Allocator>(
-    out: &mut Vec<u8, A>,
-    entries: &[EntryRow<B>],
-    sought: &Sought<'_, A>,
-    refused: &[RefusedEntry],
-    entry: u32,
-) -> Result<(), AllocError>
-    ensures { OnOk result (out.new.items ≡ out.old.items
-        ++ flat_map (refused_attempt_lines (map entry_view entries.now) sought.now) refused.now
-        ++ attempt_lines (map entry_view entries.now) sought.now entry) }
-{
-    say_refused_attempts(out, entries, sought, refused)?;
-    say_attempt(out, entries, sought, entry)
-}
-
-/// The same of a description and an outcome.
-fn say_attempts_of<A: Allocator + Copy>(
-    out: &mut Vec<u8, A>,
-    description: &Description<A>,
-    sought: &Sought<'_, A>,
-    outcome: &Outcome<A>,
-) -> Result<(), AllocError>
-    ensures { OnOk result (out.new.items ≡ out.old.items
-        ++ flat_map (refused_attempt_lines (view description.now).entries sought.now)
-        outcome.now.refused.items
-        ++ attempt_lines (view description.now).entries sought.now outcome.now.entry) }
-{
-    let entries = &description.entries;
-    say_attempted(out, entries, sought, &outcome.refused, outcome.entry)?;
-    Ok(())
-}
-
-/// Appends the lines of what one of these entries hands over, and of the frames of the pool.
-fn say_handed<A: Allocator + Copy>(
-    out: &mut Vec<u8, A>,
-    entries: &[EntryRow<A>],
-    sought: &Sought<'_, A>,
-    machine: &Machine<A>,
-    outcome: &Outcome<A>,
-) -> Result<(), AllocError>
-    ensures { OnOk result (out.new.items ≡ out.old.items
-        ++ entry_handoff_lines (map entry_view entries.now) sought.now machine.now.pool
-        outcome.now.entry outcome.now.handoff) }
-{
-    say_handoff(out, entries, sought, outcome.entry, &outcome.handoff)?;
-    say_room(out, entries, sought, machine, outcome)
-}
-
-/// The same of what is booted.
-fn say_handed_of<A: Allocator + Copy>(
-    out: &mut Vec<u8, A>,
-    boot: &DescribedBoot<'_, A>,
-    sought: &Sought<'_, A>,
-    outcome: &Outcome<A>,
-) -> Result<(), AllocError>
-    ensures { OnOk result (out.new.items ≡ out.old.items
-        ++ entry_handoff_lines (view boot.now.description.now).entries sought.now
-        boot.now.machine.now.pool outcome.now.entry outcome.now.handoff) }
-{
-    say_handed(
-        out,
-        &boot.description.entries,
-        sought,
-        boot.machine,
-        outcome,
-    )?;
-    Ok(())
-}
-
-/// Appends the lines of the entry that is handed over, and the hints.
-fn say_outcome<A: Allocator + Copy>(
-    out: &mut Vec<u8, A>,
-    boot: &DescribedBoot<'_, A>,
-    sought: &Sought<'_, A>,
-    outcome: &Outcome<A>,
-) -> Result<(), AllocError>
-    requires { length boot.now.description.now.entries.items ≤ 32 }
-    ensures { OnOk result (out.new.items ≡ out.old.items
-        ++ booted_line outcome.now.entry
-        (entry_of (view boot.now.description.now) outcome.now.entry).title
-        ++ entry_handoff_lines (view boot.now.description.now).entries sought.now
-        boot.now.machine.now.pool outcome.now.entry outcome.now.handoff
-        ++ hint_lines (view boot.now.description.now) sought.now outcome.now.refused.items) }
-{
-    let entry = outcome.entry;
-    say_booted(out, entry as u64, title_of(boot.description, entry))?;
-    say_handed_of(out, boot, sought, outcome)?;
-    say_hints(out, boot.description, sought, &outcome.refused)
 }
 
 /// Appends the lines of a boot in which an entry is handed over. An error leaves the text as it
@@ -142,18 +96,21 @@ fn tell_booted<A: Allocator + Copy, B: Allocator>(
     alloc: A,
     boot: &DescribedBoot<'_, A>,
     sought: &Sought<'_, A>,
+    told: &[ToldRefusal],
     outcome: &Outcome<A>,
     say: &mut Vec<u8, B>,
 ) -> Result<(), AllocError>
     requires { length boot.now.description.now.entries.items ≤ 32 }
     ensures ok { OnOk result (say.new.items ≡ say.old.items
-        ++ booted_lines (view boot.now.description.now) sought.now outcome.now.entry
-        outcome.now.refused.items (entry_handoff_lines (view boot.now.description.now).entries
-        sought.now boot.now.machine.now.pool outcome.now.entry outcome.now.handoff)) }
+        ++ booted_lines (view boot.now.description.now) boot.now.machine.now sought.now
+        outcome.now.entry told.now outcome.now.refused.items
+        (entry_handoff_lines (view boot.now.description.now).entries sought.now
+        boot.now.machine.now.pool outcome.now.entry outcome.now.handoff)) }
     ensures err { OnErr result (say.new.items ≡ say.old.items) }
 {
     let mut lines = Vec::new(alloc);
-    say_attempts_of(&mut lines, boot.description, sought, outcome)?;
+    say_refusals_of(&mut lines, boot, sought, told)?;
+    say_attempt_of(&mut lines, boot, sought, outcome.entry)?;
     say_outcome(&mut lines, boot, sought, outcome)?;
     say.extend_from_slice(&lines)
 }
@@ -171,6 +128,8 @@ pub fn explain_found<A: Allocator + Copy, M: PhysMem, B: Allocator>(
     requires size { length (M.bytes memory.old) ≡ boot.now.machine.now.size }
     requires store { store.given ≡ [] }
     requires few { length boot.now.description.now.entries.items ≤ 32 }
+    requires menu { boot.now.menu.now ≡ menu_of (view boot.now.description.now) }
+    requires names { map (λ n. n.now) names.now ≡ names_in (view boot.now.description.now) }
     ensures { FoundExplains (view boot.now.description.now)
         (boot_facts boot.now.machine.now boot.now.menu.now (map size_of store.files)) store.files
         (record { names = map (λ n. n.now) names.now; files = store.files })
@@ -181,11 +140,13 @@ pub fn explain_found<A: Allocator + Copy, M: PhysMem, B: Allocator>(
     let sought = Sought::new(names, store.fetched());
     match ended {
         Ok(outcome) => {
-            tell_booted(alloc, boot, &sought, &outcome, say)?;
+            let told = details_of(alloc, boot, &sought, &outcome.refused)?;
+            tell_booted(alloc, boot, &sought, &told, &outcome, say)?;
             Ok(End::Booted)
         }
         Err(BootFault::NoEntryLeft(refused)) => {
-            tell_none_left(alloc, boot.description, &sought, &refused, say)?;
+            let told = details_of(alloc, boot, &sought, &refused)?;
+            tell_none_left(alloc, boot, &sought, &told, &refused, say)?;
             Ok(End::NoEntryLeft)
         }
         Err(BootFault::NoMemory) => Err(ExplainFault::NoMemory),

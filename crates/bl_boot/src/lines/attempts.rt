@@ -1,15 +1,17 @@
 //! The entries that are attempted, line by line.
 ghost use Rattle.std.specs.Prelude.{◌≡◌, ◌++◌, OnOk, map};
 ghost use Rattle.std.specs.List.{flat_map};
-ghost use Rattle.bl_boot.specs.Told as told;
+ghost use Rattle.bl_boot.specs.Told as told_words;
 ghost use Rattle.bl_boot.specs.Told.{attempt_lines, refused_attempt_lines, row_lines};
+ghost use Rattle.bl_boot.specs.Told.{told_refusal_lines};
 ghost use Rattle.bl_desc.specs.Views.{entry_view};
 
-use crate::explanation::Sought;
+use crate::explanation::{Sought, ToldRefusal};
+use crate::lines::detail::say_detail;
 use crate::lines::refusal::say_refusal;
 use crate::lines::sought::say_entry_files;
 use bl_desc::EntryRow;
-use bl_session::RefusedEntry;
+use bl_map::Machine;
 use std::alloc::{AllocError, Allocator};
 
 fn say_title<A: Allocator + Copy>(
@@ -17,7 +19,7 @@ fn say_title<A: Allocator + Copy>(
     entry: u64,
     title: &str,
 ) -> Result<(), AllocError>
-    ensures { OnOk result (out.new.items ≡ out.old.items ++ told.attempt_line entry title.now) }
+    ensures { OnOk result (out.new.items ≡ out.old.items ++ told_words.attempt_line entry title.now) }
 {
     let alloc = *out.allocator();
     let line = format!(in alloc; "entry {entry} {title}\n")?;
@@ -53,31 +55,50 @@ pub fn say_attempt<A: Allocator + Copy, B: Allocator>(
     }
 }
 
-fn say_refused_attempt<A: Allocator + Copy, B: Allocator>(
+/// Appends the line of a refusal, and what is told beside it.
+fn say_told<A: Allocator + Copy, B: Allocator>(
     out: &mut Vec<u8, A>,
+    machine: &Machine<B>,
     entries: &[EntryRow<B>],
     sought: &Sought<'_, A>,
-    refused: &RefusedEntry,
+    told: &ToldRefusal,
 ) -> Result<(), AllocError>
-    ensures { OnOk result (out.new.items ≡ out.old.items
-        ++ refused_attempt_lines (map entry_view entries.now) sought.now refused.now) }
+    ensures { OnOk result (out.new.items ≡ out.old.items ++ told_refusal_lines
+        (map entry_view entries.now) machine.now sought.now told.now) }
 {
-    say_attempt(out, entries, sought, refused.entry)?;
-    say_refusal(out, refused.refusal)
+    let entry = told.refused.entry;
+    say_refusal(out, told.refused.refusal)?;
+    say_detail(out, machine, entries, sought, entry, told.detail)
 }
 
-/// Appends the lines of the attempts that were refused, each with its refusal, in order.
-pub fn say_refused_attempts<A: Allocator + Copy, B: Allocator>(
+fn say_refused_attempt<A: Allocator + Copy, B: Allocator>(
     out: &mut Vec<u8, A>,
+    machine: &Machine<B>,
     entries: &[EntryRow<B>],
     sought: &Sought<'_, A>,
-    refused: &[RefusedEntry],
+    told: &ToldRefusal,
 ) -> Result<(), AllocError>
-    ensures { OnOk result (out.new.items ≡ out.old.items
-        ++ flat_map (refused_attempt_lines (map entry_view entries.now) sought.now) refused.now) }
+    ensures { OnOk result (out.new.items ≡ out.old.items ++ refused_attempt_lines
+        (map entry_view entries.now) machine.now sought.now told.now) }
 {
-    for attempt in refused {
-        say_refused_attempt(out, entries, sought, attempt)?;
+    say_attempt(out, entries, sought, told.refused.entry)?;
+    say_told(out, machine, entries, sought, told)
+}
+
+/// Appends the lines of the attempts that were refused, each with its refusal and what is told
+/// beside it, in order.
+pub fn say_refused_attempts<A: Allocator + Copy, B: Allocator>(
+    out: &mut Vec<u8, A>,
+    machine: &Machine<B>,
+    entries: &[EntryRow<B>],
+    sought: &Sought<'_, A>,
+    told: &[ToldRefusal],
+) -> Result<(), AllocError>
+    ensures { OnOk result (out.new.items ≡ out.old.items ++ flat_map (refused_attempt_lines
+        (map entry_view entries.now) machine.now sought.now) told.now) }
+{
+    for attempt in told {
+        say_refused_attempt(out, machine, entries, sought, attempt)?;
     }
     Ok(())
 }

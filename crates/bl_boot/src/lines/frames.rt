@@ -65,7 +65,7 @@ fn frames_of_entry<A: Allocator, B: Allocator>(sought: &Sought<'_, A>, entry: &E
 }
 
 /// How many frames the files of an entry of the menu take, by its index.
-fn frames_at<A: Allocator, B: Allocator>(
+pub fn frames_at<A: Allocator, B: Allocator>(
     entries: &[EntryRow<B>],
     sought: &Sought<'_, A>,
     index: u32,
@@ -81,7 +81,7 @@ fn frames_at<A: Allocator, B: Allocator>(
 
 /// Appends a number between two texts.
 #[tactic(auto, unfolding(crate::specs::Frames::counted))]
-fn say_counted<A: Allocator + Copy>(
+pub fn say_counted<A: Allocator + Copy>(
     out: &mut Vec<u8, A>,
     before: &str,
     count: u64,
@@ -95,7 +95,7 @@ fn say_counted<A: Allocator + Copy>(
     out.extend_from_slice(words.as_bytes())
 }
 
-fn say_frames<A: Allocator + Copy>(
+pub fn say_frames<A: Allocator + Copy>(
     out: &mut Vec<u8, A>,
     wanted: u64,
     beside: u64,

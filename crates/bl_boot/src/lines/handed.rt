@@ -15,7 +15,7 @@ use bl_load::{Handoff, Place, Role};
 use std::alloc::{AllocError, Allocator};
 
 /// The role's name in a line.
-fn role_name(role: Role) -> &'static str
+pub fn role_name(role: Role) -> &'static str
     ensures { result.now ≡ handed.role_name role }
 {
     match role {

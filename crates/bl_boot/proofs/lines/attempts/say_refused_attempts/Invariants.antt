@@ -8,5 +8,5 @@ abbrev pub invariant-loop-attempt : goal.invariant-loop-attempt
 invariant-loop-attempt g l =
     l.out.items
     ≡ l.initial.out.items
-    ++ flat_map (refused_attempt_lines (map entry_view l.entries) l.sought)
-    (take l.attempt-index l.refused)
+    ++ flat_map (refused_attempt_lines (map entry_view l.entries) l.machine l.sought)
+    (take l.attempt-index l.told)

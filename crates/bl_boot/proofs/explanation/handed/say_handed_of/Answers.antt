@@ -1,5 +1,5 @@
 use Rattle.bl_boot.proofs.HeldLemmas.{handed_of}
-use Rattle.bl_boot.proofs.explanation.found.say_handed_of.Goals as goal
+use Rattle.bl_boot.proofs.explanation.handed.say_handed_of.Goals as goal
 
 pub returns : goal.returns
 returns g c =
