@@ -71,12 +71,14 @@ abbrev pub FoundExplains : Described → BootFacts → List File → SoughtFacts
 FoundExplains description facts files sought old new (Ok Booted) =
     (entry : ℕ) × (earlier : List RefusedEntry) × (handover : Handover)
     × IsOutcome facts files no_fault (handed_over entry earlier handover)
-    × (told : List ToldRefusal) × AreToldRefusals facts.machine description.entries sought earlier told
+    × (told : List ToldRefusal)
+    × AreToldRefusals facts.machine description.entries sought earlier told
     × (new ≡ old
     ++ told_lines description facts.machine sought told (handed_over entry earlier handover))
 FoundExplains description facts files sought old new (Ok NoEntryLeft) =
     (refused : List RefusedEntry) × IsOutcome facts files no_fault (none_left refused)
-    × (told : List ToldRefusal) × AreToldRefusals facts.machine description.entries sought refused told
+    × (told : List ToldRefusal)
+    × AreToldRefusals facts.machine description.entries sought refused told
     × (new ≡ old ++ told_lines description facts.machine sought told (none_left refused))
 FoundExplains description facts files sought old new (Err Blamed) = ⊥
 FoundExplains description facts files sought old new (Err NoMemory) = new ≡ old

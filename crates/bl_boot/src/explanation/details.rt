@@ -118,8 +118,8 @@ pub fn find_details<A: Allocator + Copy>(
 ) -> Result<Vec<ToldRefusal, A>, AllocError>
     requires { All (HasPlaceRefusal machine.now (map entry_view entries.now) sought.now)
         refused.now }
-    ensures { IfOk result (λ told.
-        AreToldRefusals machine.now (map entry_view entries.now) sought.now refused.now told.items) }
+    ensures { IfOk result (λ told. AreToldRefusals machine.now (map entry_view entries.now)
+        sought.now refused.now told.items) }
 {
     let mut told = Vec::new(alloc);
     for attempt in refused {

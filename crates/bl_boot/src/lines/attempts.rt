@@ -19,7 +19,8 @@ fn say_title<A: Allocator + Copy>(
     entry: u64,
     title: &str,
 ) -> Result<(), AllocError>
-    ensures { OnOk result (out.new.items ≡ out.old.items ++ told_words.attempt_line entry title.now) }
+    ensures { OnOk result (out.new.items ≡ out.old.items
+        ++ told_words.attempt_line entry title.now) }
 {
     let alloc = *out.allocator();
     let line = format!(in alloc; "entry {entry} {title}\n")?;
