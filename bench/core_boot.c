@@ -5,27 +5,9 @@
  */
 #include "bootcore.h"
 
-#include <stdio.h>
-#include <stdlib.h>
+#include "files.h"
 
 enum { SIZE = 0x20000000, POOL = 0x2400000, POOL_END = 0x10000000 };
-
-static unsigned char *contents; /* both files, one after the other */
-static size_t contents_length;
-
-static size_t add_file(const char *path)
-{
-    FILE *file = fopen(path, "rb");
-    size_t length;
-    if (file == NULL || fseek(file, 0, SEEK_END) != 0) exit(1);
-    length = (size_t)ftell(file);
-    rewind(file);
-    contents = realloc(contents, contents_length + length);
-    if (contents == NULL || fread(contents + contents_length, 1, length, file) != length) exit(1);
-    fclose(file);
-    contents_length += length;
-    return length;
-}
 
 int main(int argc, char **argv)
 {
