@@ -8,12 +8,12 @@
  * Units. Addresses and lengths are in bytes, and addresses are those of the machine that is booted.
  * An index counts from 0.
  *
- * Ownership. All memory is the caller's, before, while and after a call. What a call takes for
+ * Ownership. All memory is the caller's before, during and after a call. What a call takes for
  * itself it gives back before it returns. No pointer is kept, and none is handed out, but for the
- * memory of a session, which the library takes and the caller has freed.
+ * memory of a session: the library takes it, and bootcore_session_free gives it back.
  *
- * Stack. The library keeps values in the 128 bytes below the stack's pointer (the red zone of the System V
- * convention): where interrupts use the same stack, as in a firmware, call with interrupts off.
+ * Stack. The library keeps values in the 128 bytes below the stack pointer (the red zone of the
+ * System V convention): if interrupts use the same stack, as in a firmware, call with interrupts off.
  *
  * Threads. None is started, and two calls at once know nothing of each other, if they share nothing
  * that either may change. Call from no signal handler.
@@ -21,10 +21,11 @@
  * What the caller keeps; no call can test it:
  * - a pointer that is not null points to as many elements as are told, of the type that is told,
  *   aligned as it is there, that nobody else changes during the call;
- * - what a call may change (memory, results) overlaps nothing else that it is given, so that a file
- *   that lies in the machine's memory is first moved out of it.
- * An array without elements may be null. All else that can be wrong has a status, and no call
- * with any values does more than to answer one.
+ * - what a call may change (memory, results) overlaps nothing else that it is given: a file that
+ *   lies in the machine's memory must first be moved out of it;
+ * - a session's struct and pool, between two calls: see bootcore_session and bootcore_session_start.
+ * An array without elements may be null. Whatever else the values are, a call ends, and what is wrong
+ * with them has a status.
  *
  * The names of this file hold in C99 and in C++.
  */
@@ -39,15 +40,19 @@
 extern "C" {
 #endif
 
-/* What a call answers. Of several misuses the first in the order of these lines is told; before one
- * nothing was changed, but for what bootcore_walk_all says. */
+/* What a call answers. Of several misuses the first in the order of these lines is told, with one
+ * exception: BOOTCORE_BAD_PROTOCOL to BOOTCORE_BAD_FILE are looked for entry by entry, so those of a
+ * menu's earlier entry come first. After a misuse all is as before, but for what bootcore_walk_all
+ * says. */
 enum {
     BOOTCORE_DONE = 0,
-    BOOTCORE_REFUSED = 1,           /* the entry is refused; no entry is left */
-    BOOTCORE_NO_MEMORY = 4,         /* malloc or realloc gave none; may come in place of any other */
+    BOOTCORE_REFUSED = 1,           /* the entry is refused; of a boot: no entry is left; of a walk:
+                                     * the image is refused */
+    BOOTCORE_NO_MEMORY = 4,         /* malloc or realloc gave none, or a part lies below the memory's
+                                     * base; may come in place of any other but BOOTCORE_NULL */
 
     BOOTCORE_NULL = 15,             /* a null pointer to one element or more */
-    BOOTCORE_FEW_PLACES = 16,       /* room for fewer than BOOTCORE_MAX_PARTS places; of a walk, for
+    BOOTCORE_FEW_PLACES = 16,       /* room for fewer than BOOTCORE_MAX_PARTS places; of a walk: for
                                      * less than it tells */
     BOOTCORE_BAD_KIND = 18,         /* a region's kind is none of BOOTCORE_USABLE and so on */
     BOOTCORE_BAD_SIZE = 19,         /* the size is not 1 MiB to 4 GiB in frames of 4096 bytes */
@@ -59,9 +64,10 @@ enum {
     BOOTCORE_BAD_MODULES = 25,      /* an entry's modules are not among the modules */
     BOOTCORE_BAD_TEXT = 26,         /* a line or a copy of an RSDP is no range of the text */
     BOOTCORE_BAD_FILE = 27,         /* the index of a file is not below their number */
-    BOOTCORE_BAD_CONTENTS = 28,     /* a file is no range of the contents, and is not missing */
+    BOOTCORE_BAD_CONTENTS = 28,     /* of a load: a file of the entry is no range of the contents; of
+                                     * a boot: any file is none, and is not missing */
     BOOTCORE_TOO_MANY = 29,         /* more than 32 entries, 64 modules, or 256 bytes of a copy */
-    BOOTCORE_BAD_INDEX = 30         /* the default or a fallback names no entry */
+    BOOTCORE_BAD_INDEX = 30         /* a menu's first entry or a fallback is no entry */
 };
 
 enum {
@@ -98,8 +104,8 @@ enum {
 };
 
 #define BOOTCORE_NO_FILE UINT32_MAX /* the index of no file */
-#define BOOTCORE_MISSING UINT64_MAX /* a boot: the offset of a file that can't be read; a walk: that
-                                     * of a copy of an RSDP that is not there */
+#define BOOTCORE_MISSING UINT64_MAX /* a boot or a session: the offset of a file that can't be read;
+                                     * a walk: that of a copy of an RSDP that is not there */
 
 /* Bytes of an array. */
 typedef struct bootcore_range {
@@ -136,8 +142,8 @@ typedef struct bootcore_entry {
     uint32_t initrd;         /* Linux: the index of its file, or BOOTCORE_NO_FILE */
     uint32_t reserved;       /* not looked at */
     bootcore_range line;     /* of the text, without a zero byte */
-    bootcore_range rsdp_old; /* Multiboot2: a copy of the RSDP of ACPI 1.0, of the text; none if */
-    bootcore_range rsdp_new; /* its length is 0; and one of that of ACPI 2.0 or later */
+    bootcore_range rsdp_old; /* Multiboot2: a copy of the RSDP of ACPI 1.0, of the text */
+    bootcore_range rsdp_new; /* and of that of ACPI 2.0 or later; a length of 0 stands for none */
 } bootcore_entry;
 
 /* What a boot is made from. The text has the bytes of all lines and copies, the contents those of
@@ -156,9 +162,9 @@ typedef struct bootcore_given {
     size_t contents_length;
 } bootcore_given;
 
-/* The registers as the kernel begins. With 32 bits rip is what eip is to hold, rax what eax is, and
- * so on, and what a processor has with 64 bits alone is 0. A segment register's number is its
- * selector. A20 is 1 where the gate is to be open. */
+/* The registers as the kernel begins. With 32 bits rip is what eip is to hold, rax what eax is to
+ * hold, and so on; r8 to r15, cr3, cr4 and efer are 0 then, and no rule gives them. A segment
+ * register's number is its selector. A20 is 1 if the gate is to be open. */
 typedef struct bootcore_registers {
     uint64_t bits; /* 32 or 64 */
     uint64_t rip, rax, rbx, rcx, rdx, rsi, rdi, rbp, rsp;
@@ -177,7 +183,8 @@ typedef struct bootcore_place {
 } bootcore_place;
 
 /* Why an entry is refused: its index, the refusal's number as docs/REFUSALS.md has it, and what that
- * refusal carries (a file's place in the entry, an offset, a type, one segment or two), else 0. */
+ * refusal carries (a file's place in the entry, an offset, a type, one segment or two), else 0. Of a
+ * walk: the fault of the image, with entry 0. */
 typedef struct bootcore_refusal {
     uint32_t entry;
     uint32_t number;
@@ -187,7 +194,7 @@ typedef struct bootcore_refusal {
 
 typedef struct bootcore_handoff {
     uint32_t entry;    /* the index of the entry that is handed over */
-    uint32_t protocol; /* how it is entered */
+    uint32_t protocol; /* how its kernel is entered */
     uint32_t places;   /* how many places are told */
     uint32_t reserved; /* 0 */
     bootcore_registers registers;
@@ -223,8 +230,8 @@ typedef struct bootcore_seen_module {
     bootcore_range line; /* of the text, without a zero byte */
 } bootcore_seen_module;
 
-/* Where a walk tells all that is seen: arrays of the caller's, and for how many elements each has
- * room. A run of memory is told as a region. */
+/* Where a walk tells all that is seen: the caller's arrays, each with the number of elements that it
+ * has room for. A run of memory is told as a region. */
 typedef struct bootcore_seen_arrays {
     bootcore_seen_part *kernel_parts; /* ascending by their addresses */
     size_t kernel_part_room;
@@ -341,13 +348,13 @@ static inline int bootcore_has_null(const bootcore_given *given) {
  * Loads one entry into memory, and tells how its kernel is entered: what a hypervisor does before it
  * enters its guest. There is no menu and no pool.
  *
- * `memory` has the bytes of the machine from the address `base` on, a multiple of 4096, and reaches
- * to its size at least; no usable region may lie below `base`. A part that would lie there is
- * answered by BOOTCORE_NO_MEMORY.
+ * `memory` has the bytes of the machine from the address `base` on, and reaches at least to its
+ * size. Let no usable region lie below `base`: a part whose place begins there ends the load by
+ * BOOTCORE_NO_MEMORY.
  *
  * - BOOTCORE_DONE: memory holds each part at its place, and each other byte as before; *handoff is
- *   told (with entry 0), and in the first records of `places` the places, in ascending
- *   order. The others, and *refusal, are as before.
+ *   told (with entry 0), and in the first records of `places` the places, by ascending address. The
+ *   other records, and *refusal, are as before.
  * - BOOTCORE_REFUSED: *refusal is told (with entry 0); all else is as before.
  * - Any other: all is as before.
  */
@@ -370,12 +377,13 @@ static inline uint32_t bootcore_load(uint8_t *memory, size_t memory_length, uint
 }
 
 /*
- * Tells what bootcore_load would hand over of an entry, or why it would not, and asks for no memory of
- * the machine: before a firmware is left, or to reckon what a machine should have been handed.
+ * Tells what bootcore_load would hand over of an entry, or why it would not, without the machine's
+ * memory: before a firmware is left, or to compute what a machine should have been handed.
  *
  * - BOOTCORE_DONE: *handoff and the places are told as by bootcore_load.
  * - BOOTCORE_REFUSED: *refusal is told as by bootcore_load.
- * - Any other: the status that bootcore_load would answer, but BOOTCORE_BAD_MEMORY.
+ * - Any other: the status that bootcore_load would answer for memory that reaches to the machine's
+ *   size, or BOOTCORE_NO_MEMORY.
  * What is not told is as before.
  *
  * After BOOTCORE_DONE a bootcore_load of equal arrays, with room for as many places and memory that
@@ -398,8 +406,8 @@ static inline uint32_t bootcore_prepare(const bootcore_given *given, const bootc
         place_count, refusal);
 }
 
-/* The entries of a menu, and the order in which they are attempted: `first`, then the fallbacks, one
- * that was named before left out. */
+/* The entries of a menu, and the order in which they are attempted: `first`, then the fallbacks, each
+ * entry once. */
 typedef struct bootcore_menu {
     const bootcore_entry *entries;
     size_t entry_count;
@@ -410,11 +418,12 @@ typedef struct bootcore_menu {
 
 /*
  * Boots the first entry of a menu that is not refused. Its files come into the machine's pool, a piece
- * at a time, and from there to their places, as when a disk gives them; a file whose offset is
- * BOOTCORE_MISSING can't be read, and refuses its entry.
+ * at a time, and from there to their places, as if a disk gave them. A file whose offset is
+ * BOOTCORE_MISSING can't be read: an entry with it is refused.
  *
- * `memory` has the bytes of the machine from the address `base` on, a multiple of 4096, up to its size
- * exactly; no usable region may lie below `base`.
+ * `memory` has the bytes of the machine from the address `base` on, up to its size exactly. Let no
+ * usable region lie below `base`: a part or a pool that begins there ends the boot by
+ * BOOTCORE_NO_MEMORY.
  *
  * - BOOTCORE_DONE: memory holds each part at its place, 0 elsewhere in the pool, and each other byte
  *   as before; *handoff and the places are told as by bootcore_load.
@@ -423,7 +432,7 @@ typedef struct bootcore_menu {
  * - Any other: all is as before.
  *
  * After the first two the refusals are told in order, as many as there is room for, and in *refused
- * how many there were.
+ * how many there were. What is not told is as before.
  */
 static inline uint32_t bootcore_boot(uint8_t *memory, size_t memory_length, uint32_t base,
                                      const bootcore_given *given, const bootcore_menu *menu,
@@ -454,9 +463,11 @@ static inline uint32_t bootcore_boot(uint8_t *memory, size_t memory_length, uint
  * it, and follows the addresses in its registers as its kernel would. Its parts are copied on the way.
  *
  * - BOOTCORE_DONE: the bytes are an image, a kernel can be entered with it, and *seen is told.
- * - BOOTCORE_REFUSED: fault->number is 71 to 76 if the bytes are no image (first: with 74 the number of
- *   the part), 81 to 83 if no kernel can be entered with it; docs/REFUSALS.md says which is which.
+ * - BOOTCORE_REFUSED: fault->number is 71 to 75 if the bytes are no image (with 74 `first` is the index
+ *   of the part), 81 to 83 if no kernel can be entered with it; docs/REFUSALS.md says which is which.
+ *   (76, a source that can't be read, does not come: memory can be.)
  * - BOOTCORE_NO_MEMORY: fault->number is 77 or 84.
+ * What is not told is as before.
  */
 static inline uint32_t bootcore_walk(const uint8_t *image, size_t image_length,
                                      bootcore_seen *seen, bootcore_refusal *fault) {
@@ -469,13 +480,13 @@ static inline uint32_t bootcore_walk(const uint8_t *image, size_t image_length,
 /*
  * Walks an image in memory as bootcore_walk does, and tells all that its kernel sees.
  *
- * - BOOTCORE_DONE: as bootcore_walk, and besides the first elements of the arrays are told, as many as
+ * - BOOTCORE_DONE: as bootcore_walk; besides, the first elements of the arrays are told, as many as
  *   *seen says. The others are as before.
- * - BOOTCORE_FEW_PLACES: *seen is told, and says how many elements there are. An array has room for
- *   fewer, and all arrays are as before. So a call without any room asks how much is wanted.
+ * - BOOTCORE_FEW_PLACES: an array has room for fewer elements than there are. *seen is told, and says
+ *   how many there are; all arrays are as before. So a call without any room asks how much is wanted.
  * - BOOTCORE_REFUSED, BOOTCORE_NO_MEMORY: as bootcore_walk. The arrays are as before.
  *
- * The bytes of modules and of an initial ramdisk are not copied. They lie in the image, in the part
+ * The bytes of modules and of an initial ramdisk are not told. They lie in the image, in the part
  * that has their address.
  */
 static inline uint32_t bootcore_walk_all(const uint8_t *image, size_t image_length,
@@ -503,7 +514,7 @@ static inline uint32_t bootcore_walk_all(const uint8_t *image, size_t image_leng
 /* ---- a boot piece by piece */
 
 /* What the calls of a session answer beside the statuses above. BOOTCORE_NO_SESSION comes before any
- * other misuse but BOOTCORE_NULL, and BOOTCORE_LOW_POOL after all. */
+ * other misuse but BOOTCORE_NULL, and BOOTCORE_LOW_POOL after all others. */
 enum {
     BOOTCORE_WAITING = 2,     /* pieces are awaited, or the session was not started */
     BOOTCORE_NEXT = 3,        /* an entry or more was refused, and pieces of another are awaited */
@@ -517,12 +528,12 @@ enum {
     BOOTCORE_PIECE = 4096 /* how long each piece of a file is, but for the last one */
 };
 
-/* A session: a boot that is told the pieces of its files as they come. `kept` is null at first, which
- * keeps no session, and from then on only these calls write it. The struct may be moved, but no copy
- * of it is used. What it keeps is on the heap, until bootcore_session_free: free it before it is
- * forgotten, however the boot ends.
+/* A session: a boot that is told the pieces of its files as they come. Set `kept` to null at first: no
+ * session is kept then. After that only these calls write it. The struct may be moved, but use no copy
+ * of it. What it keeps is on the heap until bootcore_session_free: call that in the end, however the
+ * boot ended.
  *
- * One call at a time has a session, on whichever thread. Two sessions know nothing of each other. */
+ * Make one call at a time on a session, on whichever thread. Two sessions know nothing of each other. */
 typedef struct bootcore_session {
     void *kept;
 } bootcore_session;
@@ -530,7 +541,7 @@ typedef struct bootcore_session {
 /* A piece that is awaited: `length` bytes of a file, from the offset piece * BOOTCORE_PIECE on. */
 typedef struct bootcore_request {
     uint32_t file;    /* the index of its file among those given */
-    uint32_t attempt; /* these three name the piece: the number of the attempt, */
+    uint32_t attempt; /* these three name the piece: the number of the attempt, from 0 on, */
     uint32_t place;   /* the file's place in its entry, of which the kernel's is 0, */
     uint32_t piece;   /* and the piece's index in the file */
     uint32_t length;  /* 1 to BOOTCORE_PIECE */
@@ -541,7 +552,7 @@ BOOTCORE_ASSERT(sizeof(bootcore_request) == 20, "bootcore_request");
 BOOTCORE_ASSERT(offsetof(bootcore_request, length) == 16, "bootcore_request.length");
 BOOTCORE_ASSERT(sizeof(bool) == 1, "bool");
 
-/* As the calls of the same names without their last word, for pointers that are not null. */
+/* As the calls of these names without the last word, for pointers that are not null. */
 uint32_t bootcore_session_make_arrays(bootcore_session *session, const bootcore_machine *machine,
                                       const bootcore_region *regions, size_t region_count,
                                       const bootcore_entry *entries, size_t entry_count,
@@ -568,14 +579,15 @@ uint32_t bootcore_session_outcome_arrays(bootcore_session *session, bootcore_han
 void bootcore_session_free_kept(bootcore_session *session);
 
 /*
- * Makes a session of a menu, and keeps it; one that was kept before is freed then. It is not started.
+ * Makes a session of a menu, and keeps it; one that was kept before is freed then. It is not yet
+ * started.
  *
- * Of each file its length is looked at, and whether its offset is BOOTCORE_MISSING; its bytes come
- * later, so that its offset may be any other, and `contents` may be too. The arrays are read during
- * this call alone.
+ * Of each file its length is looked at, and whether its offset is BOOTCORE_MISSING. Its bytes come
+ * later, so any other offset, and any `contents`, will do. The arrays are read during this call alone.
  *
  * - BOOTCORE_DONE: the session is kept.
- * - Any other: what was kept is kept still. BOOTCORE_BAD_CONTENTS and BOOTCORE_BAD_MEMORY don't come.
+ * - Any other: what was kept before is still kept. BOOTCORE_FEW_PLACES, BOOTCORE_BAD_MEMORY and
+ *   BOOTCORE_BAD_CONTENTS don't come.
  */
 static inline uint32_t bootcore_session_make(bootcore_session *session,
                                              const bootcore_given *given,
@@ -597,20 +609,22 @@ static inline uint32_t bootcore_session_make(bootcore_session *session,
 /*
  * Starts a session: the first attempt begins. A session that was started before stays as it is.
  *
- * `memory` has the bytes of the machine from the address `base` on, a multiple of 4096, up to its size
- * exactly; no usable region may lie below `base`. The pieces that came lie in its pool: hand the same
- * memory to each call of a session, and write to its pool between two calls only once the boot ended.
+ * `memory` has the bytes of the machine from the address `base` on, up to its size exactly. Let no
+ * usable region lie below `base`: a part whose place begins there ends the boot as if memory ran out.
+ * The pieces that came lie in the pool: hand the same memory to each call of a session, and don't
+ * write to its pool before the boot ended.
  *
  * What this call and the next two answer:
  * - BOOTCORE_WAITING: pieces are awaited. No byte outside the pool changed.
  * - BOOTCORE_NEXT: the same, after one refusal or more. Ask again what is missing.
  * - BOOTCORE_DONE: an entry is handed over. Memory holds each part at its place, 0 elsewhere in the
  *   pool, and each other byte as before the start.
- * - BOOTCORE_FAILED: no entry is left, and the pool is 0, or memory ran out. No byte outside the pool
+ * - BOOTCORE_FAILED: no entry is left, and the pool is 0; or memory ran out. No byte outside the pool
  *   changed.
  * - BOOTCORE_NO_SESSION, BOOTCORE_BAD_MEMORY (memory does not end at the machine's size),
  *   BOOTCORE_LOW_POOL: all is as before.
- * After the end each further call answers BOOTCORE_DONE or BOOTCORE_FAILED again, and changes nothing.
+ * After the end each further call without a misuse answers BOOTCORE_DONE or BOOTCORE_FAILED again, and
+ * changes nothing. A piece or a fault before the start answers BOOTCORE_WAITING, and changes nothing.
  */
 static inline uint32_t bootcore_session_start(bootcore_session *session, uint8_t *memory,
                                               size_t memory_length, uint32_t base) {
@@ -622,8 +636,9 @@ static inline uint32_t bootcore_session_start(bootcore_session *session, uint8_t
 
 /*
  * Tells a session that a piece came: the bytes of a request. They are copied. The request's file and
- * length are not looked at. In whatever order pieces come, the boot ends in the same way; one that is
- * not awaited, since it came before, is of an earlier attempt or has another length, changes nothing.
+ * length are not looked at. In whatever order pieces come, the boot ends in the same way, unless memory
+ * runs out. A piece that is not awaited changes nothing: one that came before, one of an earlier
+ * attempt, or one of another length.
  */
 static inline uint32_t bootcore_session_piece(bootcore_session *session, uint8_t *memory,
                                               size_t memory_length, uint32_t base,
@@ -636,8 +651,8 @@ static inline uint32_t bootcore_session_piece(bootcore_session *session, uint8_t
                                          (const uint8_t *)bootcore_array(bytes), length);
 }
 
-/* Tells a session that a piece can't be read: its entry is refused, and the next attempt begins. A
- * fault of a piece that is not awaited changes nothing. */
+/* Tells a session that a piece can't be read: its entry is refused, and the next attempt begins, if
+ * there is one. A fault of a piece that is not awaited changes nothing. */
 static inline uint32_t bootcore_session_fault(bootcore_session *session, uint8_t *memory,
                                               size_t memory_length, uint32_t base,
                                               const bootcore_request *request) {
@@ -648,20 +663,20 @@ static inline uint32_t bootcore_session_fault(bootcore_session *session, uint8_t
 }
 
 /* Tells the first piece that the running attempt awaits, files and pieces ascending, and whether
- * there is one. If there is none, *request is as before; so it is without a session. */
+ * there is one. If there is none, or no session, *request is as before. */
 static inline bool bootcore_session_missing(bootcore_session *session,
                                             bootcore_request *request) {
     return session && request && bootcore_session_missing_record(session, request);
 }
 
-/* Tells the first one after *request in this order, so that all are told one after the other. */
+/* Tells the first one after *request in this order, so that repeated calls tell all of them. */
 static inline bool bootcore_session_missing_after(bootcore_session *session,
                                                   bootcore_request *request) {
     return session && request && bootcore_session_missing_after_record(session, request);
 }
 
 /*
- * Tells how a session ended. It stays as it is, and may be asked again.
+ * Tells how a session ended. The session stays as it is, and may be asked again.
  *
  * - BOOTCORE_DONE: *handoff and the places are told as by bootcore_boot.
  * - BOOTCORE_REFUSED: no entry is left.
@@ -685,7 +700,8 @@ static inline uint32_t bootcore_session_outcome(bootcore_session *session,
                                            refusals ? refusals : &none, refusal_room, refused);
 }
 
-/* Frees what a session keeps, if it keeps something: then it keeps none, and may be made again. */
+/* Frees what a session keeps, if there is something. After that none is kept, and one may be made
+ * again. */
 static inline void bootcore_session_free(bootcore_session *session) {
     if (session) {
         bootcore_session_free_kept(session);

@@ -3,7 +3,7 @@ number, and hints. FORMATS.md "What the program says"."""
 
 from typing import Callable, List, Optional, Tuple
 
-from . import booting, bzimage, entry as entries
+from . import booting, bzimage, entry as entries, multiboot2_entry
 from .booting import File
 from .description import Description, MenuEntry
 from .handover import INITRD, KERNEL, MODULE, MULTIBOOT2, Handover, Part, names_of
@@ -40,9 +40,17 @@ def frames_line(machine: Machine, handover: Optional[Handover], files: List[File
 # ---- a handover
 
 
+def kernel_source(file: bytes, index: int) -> str:
+    """Of a Multiboot2 kernel's part: the range of its segment; of a moved one those of all."""
+    header, segments, _ = multiboot2_entry.read_kernel(file)
+    if header.relocation is None:
+        segments = [segments[index]]
+    return "file 0 " + ", ".join(f"at {s.offset}, {s.filesz} bytes" for s in segments)
+
+
 def source_of(part: Part, entry: MenuEntry, files: List[bytes]) -> str:
     if part.role == KERNEL and entry.protocol == MULTIBOOT2:
-        return "file 0"
+        return kernel_source(files[0], part.index)
     if part.role == KERNEL:
         at = bzimage.read(files[0]).payload_at
         return f"file 0 at {at}, {len(files[0]) - at} bytes"

@@ -1,6 +1,6 @@
 -- Why there is no menu, by what was made of its entries.
 use Rattle.std.proofs.Common.{◌≡◌, ◌∙◌, ◌+◌, ◌<◌, ℕ, List, All, length, map, ap, sym, subst}
-use Rattle.std.proofs.Common.{arith, drop, get_or, Option, None}
+use Rattle.std.proofs.Common.{arith, drop, get_or, Option, None, Some, refl}
 use Rattle.std.specs.Option.{option_or}
 use Rattle.std.proofs.lemmas.List.{length-map, get_or-map, drop_more}
 use Rattle.std.proofs.lemmas.List.Elements.{All-map}
@@ -14,10 +14,8 @@ use Rattle.bl_abi.specs.declared.misuse.Misuse.{Misuse}
 use Rattle.bl_abi.specs.declared.records.EntryRecord.{EntryRecord}
 use Rattle.bl_abi.specs.Checks.{entry_misuse}
 use Rattle.bl_abi.specs.Given.{GivenFacts}
-use Rattle.bl_abi.specs.Boot.{entries_misuse, facts_given, menu_fault, AreFewGiven, IsMenuFault}
-use Rattle.bl_abi.specs.Boot.{too_many, bad_index, no_memory}
-use Rattle.bl_abi.specs.Sessions.{IsNoMenu, are_many, names_none, is_short}
-use Rattle.bl_abi.specs.declared.given_fault.GivenFault.{GivenFault}
+use Rattle.bl_abi.specs.Boot.{entries_misuse, facts_given, menu_fault, AreFewGiven, IsNoMenu}
+use Rattle.bl_abi.specs.Boot.{are_many, names_none, is_short}
 
 -- as many entries as are given
 pub entry_count : {A : Type 0} (given : GivenFacts) (rows : List EntryRecord)
@@ -65,13 +63,14 @@ no_menu_is given rows default fallbacks typed menu_faults.BadIndex is has =
     (sym (entry_count given rows typed is)) named))
 no_menu_is given rows default fallbacks typed menu_faults.NoMemory is has = is_short
 
--- that they make none is a fault of the menu
-pub menu_fault_of : (given : GivenFacts) (rows : List EntryRecord) (default : ℕ)
-    (fallbacks : List ℕ) (fault : GivenFault) → IsNoMenu given rows default fallbacks fault
-    → IsMenuFault given rows default fallbacks fault
-menu_fault_of given rows default fallbacks fault (are_many not) = too_many not
-menu_fault_of given rows default fallbacks fault (names_none few not) = bad_index not
-menu_fault_of given rows default fallbacks fault is_short = no_memory
+-- of two misuses that don't stand neither stands
+pub none_first : (first other : Option Misuse) → option_or first other ≡ None → first ≡ None
+none_first None other is = refl
+none_first (Some misuse) other is = absurd cc
+
+pub none_other : (first other : Option Misuse) → option_or first other ≡ None → other ≡ None
+none_other None other is = is
+none_other (Some misuse) other is = absurd cc
 
 -- where an entry has no misuse, that of the entries from it on is that of those behind it
 pub sound_left : (given : GivenFacts) (entries : List EntryRecord) (i : ℕ) (d : EntryRecord)

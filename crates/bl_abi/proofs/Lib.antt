@@ -3,6 +3,8 @@ mod ValueLemmas
 mod LoadLemmas
 mod BootLemmas
 mod PrepareLemmas
+mod MachineLaws
+mod FaultLaws
 mod PrepareLaws
 mod SizeLemmas
 mod SeenLemmas

@@ -1,5 +1,5 @@
 -- How a load of an entry ends, by what was made of it.
-use Rattle.std.proofs.Common.{◌≡◌, ℕ, List, [], length, map, subst, sym, refl}
+use Rattle.std.proofs.Common.{◌≡◌, ℕ, List, [], None, length, map, subst, sym, refl}
 use Rattle.std.proofs.Common.{inr, ap, ◌∙◌}
 use Rattle.std.proofs.lemmas.List.{length-map}
 use Rattle.bl_map.specs.MachineFacts.{MachineFacts}
@@ -12,8 +12,10 @@ use Rattle.bl_abi.specs.declared.records.EntryRecord.{EntryRecord}
 use Rattle.bl_abi.specs.declared.misuse.Misuse.TheVariants.{TooMany}
 use Rattle.bl_abi.specs.declared.given_fault.GivenFault.{GivenFault}
 use Rattle.bl_abi.specs.declared.given_fault.GivenFault.TheVariants as given_fault
+use Rattle.bl_abi.specs.Checks.{load_misuse}
 use Rattle.bl_abi.specs.Given.{GivenFacts, entry_given, files_given, file_given, value_given}
-use Rattle.bl_abi.specs.Load.{IsEntryMisuse, IsEntryGivenFault, IsEntryFault, of_given, of_prepared}
+use Rattle.bl_abi.specs.Load.{IsEntrySound, IsEntryMisuse, IsEntryGivenFault, IsEntryFault}
+use Rattle.bl_abi.specs.Load.{of_given, of_prepared}
 use Rattle.bl_abi.proofs.ValueLemmas.{value_is}
 
 -- an entry's value is the one that is given
@@ -35,11 +37,19 @@ given_count bytes given r views is =
 
 -- an entry that has not its limits is misused
 pub too_many : {A : Type 0} (given : GivenFacts) (r : EntryRecord) (entry : Entry A)
-    → value_of [] entry ≡ entry_given given r → ¬ IsWithinLimits entry
-    → IsEntryMisuse given r TooMany
+    → value_of [] entry ≡ entry_given given r → load_misuse given r ≡ None
+    → ¬ IsWithinLimits entry → IsEntryMisuse given r TooMany
 unfolding IsWithinLimits
-too_many given r entry is not =
-    inr (refl, λ limits. not (subst HasLimits (sym is) limits))
+too_many given r entry is names not =
+    inr (refl, names, λ limits. not (subst HasLimits (sym is) limits))
+
+-- an entry within its limits has no misuse
+pub entry_sound : {A : Type 0} (given : GivenFacts) (r : EntryRecord) (entry : Entry A)
+    → value_of [] entry ≡ entry_given given r → load_misuse given r ≡ None → IsWithinLimits entry
+    → IsEntrySound given r
+unfolding IsWithinLimits
+entry_sound given r entry is names within =
+    record { names = names; limits = subst HasLimits is within }
 
 -- what is not taken is not loaded
 pub of_given_is : (facts : MachineFacts) (given : GivenFacts) (r : EntryRecord)
@@ -49,8 +59,8 @@ of_given_is facts given r (given_fault.Misused misuse) is = is
 of_given_is facts given r given_fault.NoMemory is = tt
 
 pub of_prepared_is : (facts : MachineFacts) (given : GivenFacts) (r : EntryRecord)
-    (value : EntryValue) (fault : PrepFault) → value ≡ value_given given r
+    (value : EntryValue) (fault : PrepFault) → IsEntrySound given r → value ≡ value_given given r
     → IsPrepFault facts value fault → IsEntryFault facts given r (of_prepared fault)
-of_prepared_is facts given r value (prep_fault.Refused refused) same is =
-    subst (λ (v : EntryValue). IsRefusal facts v refused) same is
-of_prepared_is facts given r value prep_fault.NoMemory same is = tt
+of_prepared_is facts given r value (prep_fault.Refused refused) sound same is =
+    (sound, subst (λ (v : EntryValue). IsRefusal facts v refused) same is)
+of_prepared_is facts given r value prep_fault.NoMemory sound same is = tt

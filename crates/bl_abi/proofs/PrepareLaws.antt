@@ -1,16 +1,9 @@
 -- A load ends as its preparation did.
-use Rattle.std.proofs.Common.{◌≡◌, ◌≤◌, ◌∙◌, ◌+◌, ℕ, suc, List, [], ◌∷◌, All, length, map, ap, sym}
-use Rattle.std.proofs.Common.{subst, refl, arith, inl, inr, true, false, Option, Some, None}
-use Rattle.std.specs.Prelude.{IfSome}
-use Rattle.std.proofs.lemmas.Option.{slice_get-get_or}
-use Rattle.std.specs.declared.ops.Range.{Range}
-use Rattle.bl_map.specs.declared.region.Region.{Region}
-use Rattle.bl_map.specs.declared.kind.Kind.TheVariants.{Usable}
-use Rattle.bl_map.specs.declared.fault.MapFault.{MapFault}
-use Rattle.bl_map.specs.declared.fault.MapFault.TheVariants as map_fault
-use Rattle.bl_map.specs.Faults.{HasFirstMapFault, IsAccepted, IsLowRegion}
+use Rattle.std.proofs.Common.{◌≡◌, ◌≤◌, ◌+◌, ◌∙◌, ℕ, suc, List, [], ◌∷◌, All, length, map, ap, sym}
+use Rattle.std.proofs.Common.{subst, refl, arith}
+use Rattle.std.proofs.lemmas.List.{length-take, length-drop}
+use Rattle.std.proofs.lemmas.List.Elements.{All-map}
 use Rattle.bl_map.specs.MachineFacts.{MachineFacts}
-use Rattle.bl_map.proofs.MapLaws.{one_normal_map}
 use Rattle.bl_plan.specs.declared.part.Place.{Place}
 use Rattle.bl_load.specs.declared.refusal.Refusal.{Refusal}
 use Rattle.bl_load.specs.HandoffFacts.{HandoffFacts, most_parts}
@@ -18,69 +11,22 @@ use Rattle.bl_load.specs.Handover.{Handover}
 use Rattle.bl_load.specs.Parts.{IsHandover, IsRefusal}
 use Rattle.bl_load.specs.PlanFacts.{part_in, handover_in}
 use Rattle.bl_load.proofs.HandoverLaws as handovers
+use Rattle.bl_load.proofs.WrittenLemmas.{EndsWithin, length-written}
 use Rattle.bl_image.specs.ImageParts.{part_place, handoff_of}
 use Rattle.bl_image.proofs.Spelled.{EndsIn, length-place_bytes}
 use Rattle.bl_abi.specs.declared.fault.LoadFault.{LoadFault}
 use Rattle.bl_abi.specs.declared.fault.LoadFault.TheVariants.{Misused, Refused, NoMemory}
-use Rattle.bl_abi.specs.declared.misuse.Misuse.{Misuse}
 use Rattle.bl_abi.specs.declared.given_fault.GivenFault.TheVariants as given_fault
 use Rattle.bl_abi.specs.declared.records.EntryRecord.{EntryRecord}
 use Rattle.bl_abi.specs.declared.records.MachineRecord.{MachineRecord}
 use Rattle.bl_abi.specs.declared.records.RegionRecord.{RegionRecord}
-use Rattle.bl_abi.specs.Given.{GivenFacts, region_given, value_given}
-use Rattle.bl_abi.specs.Load.{IsEntryFault, IsEntryMisuse, IsLoaded, IsNotLoaded}
+use Rattle.bl_abi.specs.Given.{GivenFacts, value_given}
+use Rattle.bl_abi.specs.Load.{IsEntryFault, IsEntrySound, IsLoaded, IsNotLoaded}
 use Rattle.bl_abi.specs.Load.{few_places, bad_machine, bad_memory, bad_entry}
-use Rattle.bl_abi.specs.Machines.{IsMachineGiven, IsMachineSound, HasMachineFault}
-use Rattle.bl_abi.specs.Machines.{machine_fault, pool_given}
-use Rattle.bl_abi.specs.Prepare.{IsEntrySound, IsPrepared}
-
-module _ (machine : MachineRecord) (regions : List RegionRecord) where
-  one_machine : (f g : MachineFacts) → IsMachineGiven machine regions f
-      → IsMachineGiven machine regions g → f ≡ g
-  one_machine f g a b =
-      let given = map region_given regions in
-      let facts : ℕ → List Region → Range ℕ → MachineFacts =
-      λ size runs pool. record { size = size; runs = runs; pool = pool } in
-      ap (λ (n : ℕ). facts n f.runs f.pool) (a.size ∙ sym b.size)
-      ∙ ap (λ (rs : List Region). facts g.size rs f.pool)
-      (one_normal_map given given f.runs g.runs (λ k. refl) a.runs b.runs)
-      ∙ ap (λ (p : Range ℕ). facts g.size g.runs p) (a.pool ∙ sym b.pool)
-
--- where no fault of the machine stands, no misuse of it is told
-no_part_fault : (size : ℕ) (regions : List Region) (pool : Range ℕ) (found : MapFault)
-    → IsAccepted size regions pool → HasFirstMapFault size regions pool found
-    → found ≡ map_fault.NoMemory
-no_part_fault size regions pool map_fault.BadSize sound has = absurd (has sound.size_is)
-no_part_fault size regions pool map_fault.TooManyRegions sound has =
-    let few = sound.few in let many = has.1 in absurd (omega (arith, few, many))
-no_part_fault size regions pool (map_fault.BadRegion i) sound has =
-    let none : Region = record { base = 0; length = 0; kind = Usable } in
-    let high =
-    subst (λ (x : Option Region). IfSome x (λ region. ¬ IsLowRegion region))
-    (slice_get-get_or regions i none has.2) has.4 in
-    absurd (high (sound.low i none has.2))
-no_part_fault size regions pool map_fault.BadPool sound has = absurd (has.3 sound.pool_is)
-no_part_fault size regions pool map_fault.NoMemory sound has = refl
-
-sound_machine : (machine : MachineRecord) (regions : List RegionRecord) (misuse : Misuse)
-    → IsMachineSound machine regions → HasMachineFault machine regions (given_fault.Misused misuse)
-    → ⊥
-sound_machine machine regions misuse sound (inl (bad, is)) =
-    let e : true ≡ false = sym sound.kinds ∙ bad in absurd cc
-sound_machine machine regions misuse sound (inr (inl is)) = absurd cc
-sound_machine machine regions misuse sound (inr (inr part)) =
-    let none =
-    no_part_fault machine.size (map region_given regions) (pool_given machine) part.found
-    sound.accepted part.first in
-    let e : given_fault.Misused misuse ≡ given_fault.NoMemory = part.is ∙ ap machine_fault none in
-    absurd cc
-
-sound_entry : (given : GivenFacts) (entry : EntryRecord) (misuse : Misuse)
-    → IsEntrySound given entry
-    → IsEntryMisuse given entry misuse → ⊥
-sound_entry given entry misuse sound (inl is) =
-    let e : Some misuse ≡ None = sym is ∙ sound.names in absurd cc
-sound_entry given entry misuse sound (inr (is, not)) = not sound.limits
+use Rattle.bl_abi.specs.Machines.{IsMachineGiven, IsMachineSound}
+use Rattle.bl_abi.specs.Prepare.{IsPrepared}
+use Rattle.bl_abi.proofs.MachineLaws.{one_machine, sound_machine}
+use Rattle.bl_abi.proofs.FaultLaws.{sound_entry}
 
 places_in : (bytes : List ℕ) (ps : List Place) → All (EndsIn bytes) ps
     → map part_place (map (part_in bytes) ps) ≡ ps
@@ -91,6 +37,14 @@ places_in bytes (p ∷ ps) h =
     λ n. record { role = p.role; index = p.index; address = p.address; length = n } in
     ap (λ (q : Place). q ∷ map part_place (map (part_in bytes) ps)) (ap made size)
     ∙ ap (λ (l : List Place). p ∷ l) (places_in bytes ps (λ k d within. h (suc k) d (omega arith)))
+
+-- what memory holds at a place is at most as long
+ends_within : (bytes : List ℕ) (size : ℕ) (ps : List Place)
+    → All (λ place. place.address + place.length ≤ size) ps
+    → All (EndsWithin size) (map (part_in bytes) ps)
+ends_within bytes size ps inside = All-map (EndsWithin size) (part_in bytes) ps (λ k d within.
+    let end = inside k d within in
+    omega (arith, length-take {A = ℕ}, length-drop {A = ℕ}, end))
 
 module _ (machine : MachineRecord) (regions : List RegionRecord) (given : GivenFacts)
     (entry : EntryRecord) where
@@ -103,19 +57,29 @@ module _ (machine : MachineRecord) (regions : List RegionRecord) (given : GivenF
   refused_on : (room end : ℕ) (r : Refusal) (fault : LoadFault) → fault ≡ Refused r
       → IsNotLoaded machine regions given entry room end fault → IsRefusedOn r
   refused_on room end r fault same (few_places few) = absurd cc
-  refused_on room end r fault same (bad_machine (given_fault.Misused misuse) has) = absurd cc
-  refused_on room end r fault same (bad_machine given_fault.NoMemory has) = absurd cc
-  refused_on room end r fault same (bad_memory low) = absurd cc
-  refused_on room end r fault same (bad_entry found has) = record {
-    facts = has.facts;
-    machine_is = has.machine_is;
-    is = subst (IsEntryFault has.facts given entry) same has.is;
-  }
+  refused_on room end r fault same (bad_machine many (given_fault.Misused misuse) has) = absurd cc
+  refused_on room end r fault same (bad_machine many given_fault.NoMemory has) = absurd cc
+  refused_on room end r fault same (bad_memory many sound low) = absurd cc
+  refused_on room end r fault same (bad_entry many sound reaches found has) =
+      let moved : IsEntryFault has.facts given entry (Refused r) =
+      subst (IsEntryFault has.facts given entry) same has.is in
+      record { facts = has.facts; machine_is = has.machine_is; is = moved.1 }
 
-  pub one_handoff : (old new : List ℕ) (prepared loaded : HandoffFacts) → machine.size ≤ length new
-      → IsPrepared machine regions given entry prepared
-      → IsLoaded machine regions given entry old new loaded → loaded ≡ prepared
-  one_handoff old new prepared loaded large p l =
+  -- a load leaves memory as long as it was
+  length_loaded : (room : ℕ) (old new : List ℕ) (loaded : HandoffFacts)
+      → IsLoaded machine regions given entry room old new loaded → length new ≡ length old
+  length_loaded room old new loaded l =
+      let size = l.machine_is.size in
+      let reaches = l.has_memory in
+      ap length l.handed.after
+      ∙ length-written (length old) (map (part_in new) loaded.places) old refl
+      (ends_within new (length old) loaded.places (λ k d within.
+      let inside = l.handed.inside k d within in omega (arith, inside, size, reaches)))
+
+  pub one_handoff : (room space : ℕ) (old new : List ℕ) (prepared loaded : HandoffFacts)
+      → IsPrepared machine regions given entry room prepared
+      → IsLoaded machine regions given entry space old new loaded → loaded ≡ prepared
+  one_handoff room space old new prepared loaded p l =
       let value = value_given given entry in
       let held = handover_in new loaded.protocol loaded.registers loaded.places in
       let moved : IsHandover p.facts value held =
@@ -125,9 +89,11 @@ module _ (machine : MachineRecord) (regions : List RegionRecord) (given : GivenF
       let one : held ≡ p.handed.handover =
       handovers.one_handover p.facts value held p.handed.handover moved p.handed.handover_is in
       let size = l.machine_is.size in
+      let reaches = l.has_memory in
+      let kept = length_loaded space old new loaded l in
       let read : map part_place (map (part_in new) loaded.places) ≡ loaded.places =
       places_in new loaded.places (λ k d within.
-      let inside = l.handed.inside k d within in omega (arith, inside, size, large)) in
+      let inside = l.handed.inside k d within in omega (arith, inside, size, reaches, kept)) in
       ap
       (λ (ps : List Place).
       let h : HandoffFacts =
@@ -135,25 +101,32 @@ module _ (machine : MachineRecord) (regions : List RegionRecord) (given : GivenF
       (sym read)
       ∙ ap handoff_of one ∙ sym p.handed.handoff_is
 
-  pub else_no_memory : (room end : ℕ) (prepared : HandoffFacts) (fault : LoadFault)
-      → machine.size ≤ end → most_parts ≤ room
-      → IsPrepared machine regions given entry prepared
+  -- where no misuse stands and something is handed over, only memory can run out
+  pub only_memory : (facts : MachineFacts) (handover : Handover)
+      → IsMachineGiven machine regions facts → IsMachineSound machine regions
+      → IsEntrySound given entry → IsHandover facts (value_given given entry) handover
+      → (room end : ℕ) (fault : LoadFault) → machine.size ≤ end → most_parts ≤ room
       → IsNotLoaded machine regions given entry room end fault → fault ≡ NoMemory
-  else_no_memory room end prepared fault large many p (few_places few) =
+  only_memory facts h is sound names handed room end fault large many (few_places few) =
       absurd (omega (arith, few, many))
-  else_no_memory room end prepared fault large many p (bad_machine (given_fault.Misused m) has) =
-      absurd (sound_machine machine regions m p.machine_sound has)
-  else_no_memory room end prepared fault large many p (bad_machine given_fault.NoMemory has) = refl
-  else_no_memory room end prepared fault large many p (bad_memory low) =
+  only_memory facts h is sound names handed room end fault large many
+      (bad_machine roomy (given_fault.Misused m) has) =
+      absurd (sound_machine machine regions m sound has)
+  only_memory facts h is sound names handed room end fault large many
+      (bad_machine roomy given_fault.NoMemory has) = refl
+  only_memory facts h is sound names handed room end fault large many (bad_memory roomy whole low) =
       absurd (omega (arith, low, large))
-  else_no_memory room end prepared fault large many p (bad_entry (Misused misuse) has) =
-      absurd (sound_entry given entry misuse p.entry_sound has.is)
-  else_no_memory room end prepared fault large many p (bad_entry (Refused r) has) =
+  only_memory facts h is sound names handed room end fault large many
+      (bad_entry roomy whole reaches (Misused misuse) has) =
+      absurd (sound_entry given entry misuse names has.is)
+  only_memory facts h is sound names handed room end fault large many
+      (bad_entry roomy whole reaches (Refused r) has) =
       absurd
-      (handovers.not_both p.facts (value_given given entry) p.handed.handover r p.handed.handover_is
+      (handovers.not_both facts (value_given given entry) h r handed
       (subst (λ (f : MachineFacts). IsRefusal f (value_given given entry) r)
-      (one_machine machine regions has.facts p.facts has.machine_is p.machine_is) has.is))
-  else_no_memory room end prepared fault large many p (bad_entry NoMemory has) = refl
+      (one_machine machine regions has.facts facts has.machine_is is) has.is.1))
+  only_memory facts h is sound names handed room end fault large many
+      (bad_entry roomy whole reaches NoMemory has) = refl
 
   pub one_refusal : (room end space last : ℕ) (r s : Refusal)
       → IsNotLoaded machine regions given entry room end (Refused r)
@@ -166,10 +139,10 @@ module _ (machine : MachineRecord) (regions : List RegionRecord) (given : GivenF
       (one_machine machine regions by.facts on.facts by.machine_is on.machine_is) by.is)
       on.is
 
-  pub never_loaded : (room end : ℕ) (old new : List ℕ) (r : Refusal) (loaded : HandoffFacts)
+  pub never_loaded : (room end space : ℕ) (old new : List ℕ) (r : Refusal) (loaded : HandoffFacts)
       → IsNotLoaded machine regions given entry room end (Refused r)
-      → IsLoaded machine regions given entry old new loaded → ⊥
-  never_loaded room end old new r loaded not l =
+      → IsLoaded machine regions given entry space old new loaded → ⊥
+  never_loaded room end space old new r loaded not l =
       let on = refused_on room end r (Refused r) refl not in
       let held = handover_in new loaded.protocol loaded.registers loaded.places in
       handovers.not_both l.facts (value_given given entry) held r l.handed.handover

@@ -1,20 +1,14 @@
 -- What a plan says is what a load of it hands over.
-use Rattle.std.proofs.Common.{◌≡◌, ◌∙◌, ℕ, List, [], None, All, map, get_or, ap, subst, sym}
+use Rattle.std.proofs.Common.{◌≡◌, ◌∙◌, ℕ, List, map, get_or, ap, sym}
 use Rattle.std.proofs.lemmas.Simd.{map-map}
 use Rattle.bl_plan.specs.declared.part.Place.{Place}
-use Rattle.bl_load.specs.declared.entry.Entry.{Entry}
 use Rattle.bl_load.specs.declared.plan.Plan.{Plan}
 use Rattle.bl_load.specs.HandoffFacts.{HandoffFacts}
 use Rattle.bl_load.specs.Loadable.{lengths_of, IsLoadable}
 use Rattle.bl_load.specs.Place.{planned_place}
 use Rattle.bl_load.specs.PlanFacts.{part_by, handover_by, handoff_by}
-use Rattle.bl_load.specs.Value.{HasLimits, IsWithinLimits, value_of}
 use Rattle.bl_load.proofs.HeldLemmas.{map_same, length-bytes_by}
 use Rattle.bl_image.specs.ImageParts.{part_place, handoff_of}
-use Rattle.bl_abi.specs.declared.records.EntryRecord.{EntryRecord}
-use Rattle.bl_abi.specs.Checks.{load_misuse}
-use Rattle.bl_abi.specs.Given.{GivenFacts, entry_given}
-use Rattle.bl_abi.specs.Prepare.{IsEntrySound}
 
 pub plan_says : {A : Type 0} (texts : List (List ℕ)) (size : ℕ) (plan : Plan A)
     → IsLoadable (lengths_of texts) size plan
@@ -37,11 +31,3 @@ plan_says texts size plan loadable =
     (λ (places : List Place).
     let h : HandoffFacts =
     record { protocol = plan.protocol; registers = plan.registers; places = places } in h) same
-
--- an entry within its limits has no misuse
-pub entry_sound : {A : Type 0} (given : GivenFacts) (r : EntryRecord) (entry : Entry A)
-    → value_of [] entry ≡ entry_given given r → load_misuse given r ≡ None → IsWithinLimits entry
-    → IsEntrySound given r
-unfolding IsWithinLimits
-entry_sound given r entry is names within =
-    record { names = names; limits = subst HasLimits is within }

@@ -6,8 +6,8 @@ use Rattle.std.proofs.lemmas.List.{length-take, length-drop}
 use Rattle.bl_session.specs.Outcome.{missing, whole, size_of}
 use Rattle.bl_abi.specs.declared.records.ByteRange.{ByteRange}
 use Rattle.bl_abi.specs.Given.{GivenFacts, are_among, range_bytes}
-use Rattle.bl_abi.specs.Checks.{is_within}
-use Rattle.bl_abi.specs.Boot.{is_unread, is_stored, are_stored, stored_given}
+use Rattle.bl_abi.specs.Checks.{is_in_contents}
+use Rattle.bl_abi.specs.Boot.{is_unread, is_missing_or_within, are_missing_or_within, stored_given}
 use Rattle.bl_abi.specs.Sessions.{size_given}
 
 length_within : (bytes : List ℕ) (range : ByteRange)
@@ -22,10 +22,10 @@ length_within bytes range within =
     (sym within) (omega (arith, length-take {A = ℕ}, length-drop {A = ℕ}, fits))
 
 -- of a file that is missing or lies in the contents
-size_as_stored : (given : GivenFacts) (range : ByteRange) → is_stored given range ≡ true
+size_as_stored : (given : GivenFacts) (range : ByteRange) → is_missing_or_within given range ≡ true
     → size_given range ≡ size_of (stored_given given range)
 size_as_stored given range =
-    elim (is_unread range) as (λ b. (b || is_within given range) ≡ true
+    elim (is_unread range) as (λ b. (b || is_in_contents given range) ≡ true
     → (if b then None else Some range.length)
     ≡ size_of (if b then missing else whole (range_bytes given.contents range))) [
       | true ↦ λ stored. refl
@@ -40,12 +40,12 @@ rest_of : (a b : Bool) → (a && b) ≡ true → b ≡ true
 rest_of true b is = is
 rest_of false b is = cc
 
-pub sizes_as_stored : (given : GivenFacts) (files : List ByteRange) → are_stored given files ≡ true
+pub sizes_as_stored : (given : GivenFacts) (files : List ByteRange) → are_missing_or_within given files ≡ true
     → map size_given files ≡ map size_of (map (stored_given given) files)
 sizes_as_stored given [] stored = refl
 sizes_as_stored given (file ∷ files) stored =
-    let test = is_stored given file in
-    let others = are_stored given files in
+    let test = is_missing_or_within given file in
+    let others = are_missing_or_within given files in
     let first = size_as_stored given file (first_of test others stored) in
     let rest = sizes_as_stored given files (rest_of test others stored) in
     ap (λ size. size ∷ map size_given files) first

@@ -28,8 +28,8 @@ use Rattle.bl_abi.specs.declared.misuse.Misuse.TheVariants.{TooMany, BadIndex}
 use Rattle.bl_abi.specs.declared.given_fault.GivenFault.{GivenFault}
 use Rattle.bl_abi.specs.declared.given_fault.GivenFault.TheVariants.{Misused, NoMemory}
 use Rattle.bl_abi.specs.Given.{GivenFacts, range_bytes, files_given, entry_given}
-use Rattle.bl_abi.specs.Checks.{entry_misuse, is_within}
-use Rattle.bl_abi.specs.Machines.{IsMachineGiven, HasMachineFault}
+use Rattle.bl_abi.specs.Checks.{entry_misuse, is_in_contents}
+use Rattle.bl_abi.specs.Machines.{IsMachineGiven, IsMachineSound, HasMachineFault}
 
 -- ---- the menu and its files
 
@@ -64,18 +64,42 @@ entries_misuse given (entry ∷ entries) =
     option_or (entry_misuse given entry) (entries_misuse given entries)
 
 -- a file is missing or lies in the contents
-abbrev pub is_stored : GivenFacts → ByteRange → Bool
-is_stored given range = is_unread range || is_within given range
+abbrev pub is_missing_or_within : GivenFacts → ByteRange → Bool
+is_missing_or_within given range = is_unread range || is_in_contents given range
 
-abbrev pub are_stored : GivenFacts → List ByteRange → Bool
-are_stored given files = list_all (is_stored given) files
+abbrev pub are_missing_or_within : GivenFacts → List ByteRange → Bool
+are_missing_or_within given files = list_all (is_missing_or_within given) files
 
 unfoldable pub stored_misuse : GivenFacts → Option Misuse
-stored_misuse given = if not (are_stored given given.files) then Some BadContents else None
+stored_misuse given =
+    if not (are_missing_or_within given given.files) then Some BadContents else None
 
--- that of a menu's entries and files
+-- that of a menu: of its entries, or else of its files
 abbrev pub menu_misuse : GivenFacts → List EntryRecord → Option Misuse
 menu_misuse given entries = option_or (entries_misuse given entries) (stored_misuse given)
+
+-- few entries, each within its limits
+abbrev pub AreFewGiven : GivenFacts → List EntryRecord → Type 0
+AreFewGiven given entries =
+    (length entries ≤ max_entries)
+    × All (λ facts. HasLimits facts.blank) (map (facts_given given) entries)
+
+-- the menu may be given, whatever its files are: no entry has a misuse, they are few, and each
+-- index names one
+pub record IsMenuAllowed (given : GivenFacts) (entries : List EntryRecord) (default : ℕ)
+    (fallbacks : List ℕ) : Type 0 where
+  pub sound : entries_misuse given entries ≡ None
+  pub few : AreFewGiven given entries
+  pub named : NameEntries (length entries) default fallbacks
+
+-- entries without a misuse make no menu: the first of these; memory may run out
+pub data IsNoMenu (given : GivenFacts) (entries : List EntryRecord) (default : ℕ)
+    (fallbacks : List ℕ) : GivenFault → Type 0 where
+  are_many : ¬ AreFewGiven given entries
+      → IsNoMenu given entries default fallbacks (Misused TooMany)
+  names_none : AreFewGiven given entries → ¬ NameEntries (length entries) default fallbacks
+      → IsNoMenu given entries default fallbacks (Misused BadIndex)
+  is_short : IsNoMenu given entries default fallbacks NoMemory
 
 -- ---- the end
 
@@ -87,49 +111,51 @@ pub record HasBooted (facts : MachineFacts) (menu : MenuFacts) (files : List Fil
       → IsOutcome (boot_facts facts menu (map size_of files)) files (λ _. None) (state_at new end)
   pub memory : IsMemoryIn facts.pool (state_at new end) old new
 
--- a boot on the machine that is given ended so
+-- a boot on the machine that is given ended so, where no misuse stands: there is room for the
+-- places, memory ends with the machine's, and the machine, the menu and its files have none
 pub record IsBooted (machine : MachineRecord) (regions : List RegionRecord) (given : GivenFacts)
-    (menu : MenuFacts) (old new : List ℕ) (end : PhaseFacts) : Type 0 where
+    (entries : List EntryRecord) (default : ℕ) (fallbacks : List ℕ) (room : ℕ) (old new : List ℕ)
+    (end : PhaseFacts) : Type 0 where
+  pub has_room : most_parts ≤ room
   pub facts : MachineFacts
   pub machine_is : IsMachineGiven machine regions facts
-  pub booted : HasBooted facts menu (given_files given) old new end
+  pub machine_sound : IsMachineSound machine regions
+  pub has_memory : length old ≡ machine.size
+  pub allowed : IsMenuAllowed given entries default fallbacks
+  pub stored : stored_misuse given ≡ None
+  pub booted :
+      HasBooted facts (menu_given given entries default fallbacks) (given_files given) old new end
 
--- few entries, each within its limits
-abbrev pub AreFewGiven : GivenFacts → List EntryRecord → Type 0
-AreFewGiven given entries =
-    (length entries ≤ max_entries)
-    × All (λ facts. HasLimits facts.blank) (map (facts_given given) entries)
-
--- why there is no menu: a misuse of its entries and files, and then of their number, or of an index
-pub data IsMenuFault (given : GivenFacts) (entries : List EntryRecord) (default : ℕ)
+-- why there is no menu: the first misuse of its entries and files, or else why these make none
+pub data IsBootMenuFault (given : GivenFacts) (entries : List EntryRecord) (default : ℕ)
     (fallbacks : List ℕ) : GivenFault → Type 0 where
   misused : (misuse : Misuse) → menu_misuse given entries ≡ Some misuse
-      → IsMenuFault given entries default fallbacks (Misused misuse)
-  too_many : ¬ AreFewGiven given entries
-      → IsMenuFault given entries default fallbacks (Misused TooMany)
-  bad_index : ¬ NameEntries (length entries) default fallbacks
-      → IsMenuFault given entries default fallbacks (Misused BadIndex)
-  no_memory : IsMenuFault given entries default fallbacks NoMemory
+      → IsBootMenuFault given entries default fallbacks (Misused misuse)
+  no_menu : menu_misuse given entries ≡ None → (fault : GivenFault)
+      → IsNoMenu given entries default fallbacks fault
+      → IsBootMenuFault given entries default fallbacks fault
 
 abbrev pub menu_fault : MenuFault → GivenFault
 menu_fault menu_faults.TooMany = Misused TooMany
 menu_fault menu_faults.BadIndex = Misused BadIndex
 menu_fault menu_faults.NoMemory = NoMemory
 
--- the first that stands: too little room for places, a fault of the machine, a memory that does not
--- end with the machine's, a fault of the menu; memory may run out
+-- the first that stands: too little room for places, the machine's first fault, a memory that does
+-- not end with the machine's, the menu's first fault. Each is told only where none before it
+-- stands; memory may run out at the machine and at the menu
 pub data IsBootGivenFault (machine : MachineRecord) (regions : List RegionRecord)
     (given : GivenFacts) (entries : List EntryRecord) (default : ℕ) (fallbacks : List ℕ)
     (room end : ℕ) : GivenFault → Type 0 where
   few_places : room < most_parts
       → IsBootGivenFault machine regions given entries default fallbacks room end
       (Misused FewPlaces)
-  bad_machine : (fault : GivenFault) → HasMachineFault machine regions fault
+  bad_machine : most_parts ≤ room → (fault : GivenFault) → HasMachineFault machine regions fault
       → IsBootGivenFault machine regions given entries default fallbacks room end fault
-  bad_memory : end ≢ machine.size
+  bad_memory : most_parts ≤ room → IsMachineSound machine regions → end ≢ machine.size
       → IsBootGivenFault machine regions given entries default fallbacks room end
       (Misused BadMemory)
-  bad_menu : (fault : GivenFault) → IsMenuFault given entries default fallbacks fault
+  bad_menu : most_parts ≤ room → IsMachineSound machine regions → end ≡ machine.size
+      → (fault : GivenFault) → IsBootMenuFault given entries default fallbacks fault
       → IsBootGivenFault machine regions given entries default fallbacks room end fault
 
 -- how a call ends that has room for so many places, with memory that held the old bytes from
@@ -137,7 +163,7 @@ pub data IsBootGivenFault (machine : MachineRecord) (regions : List RegionRecord
 abbrev pub IsBootEnd : MachineRecord → List RegionRecord → GivenFacts → List EntryRecord → ℕ
     → List ℕ → ℕ → (old new : List ℕ) → Result PhaseFacts GivenFault → Type 0
 IsBootEnd machine regions given entries default fallbacks room old new (Ok end) =
-    IsBooted machine regions given (menu_given given entries default fallbacks) old new end
+    IsBooted machine regions given entries default fallbacks room old new end
 IsBootEnd machine regions given entries default fallbacks room old new (Err fault) =
     IsBootGivenFault machine regions given entries default fallbacks room (length old) fault
     × (new ≡ old)

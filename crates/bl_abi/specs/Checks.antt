@@ -16,8 +16,8 @@ abbrev pub is_kind : ℕ → Bool
 is_kind kind = nat_le 1 kind && nat_le kind 5
 
 -- each region is of a kind
-abbrev pub are_kinds : List RegionRecord → Bool
-are_kinds regions = list_all (λ region. is_kind region.kind) regions
+abbrev pub have_kinds : List RegionRecord → Bool
+have_kinds regions = list_all (λ region. is_kind region.kind) regions
 
 -- the number of a protocol
 abbrev pub is_protocol : ℕ → Bool
@@ -34,18 +34,18 @@ has_modules given entry =
     else true
 
 -- the range lies in the text
-abbrev pub is_text : GivenFacts → ByteRange → Bool
-is_text given range = are_among range.offset range.length (length given.text)
+abbrev pub is_in_text : GivenFacts → ByteRange → Bool
+is_in_text given range = are_among range.offset range.length (length given.text)
 
 -- the lines of its modules do, and its copies
 abbrev pub has_module_texts : GivenFacts → EntryRecord → Bool
 has_module_texts given entry =
-    list_all (λ m. is_text given m.line) (modules_given given entry)
-    && is_text given entry.rsdp_old && is_text given entry.rsdp_new
+    list_all (λ m. is_in_text given m.line) (modules_given given entry)
+    && is_in_text given entry.rsdp_old && is_in_text given entry.rsdp_new
 
 abbrev pub has_texts : GivenFacts → EntryRecord → Bool
 has_texts given entry =
-    is_text given entry.line
+    is_in_text given entry.line
     && (if is_multiboot2 entry then has_module_texts given entry else true)
 
 -- each of an entry's files is so: its kernel's, and those of its modules or of its initial ramdisk
@@ -61,11 +61,11 @@ abbrev pub is_file : GivenFacts → ℕ → Bool
 is_file given index = nat_lt index (length given.files)
 
 -- it lies in the contents
-abbrev pub is_within : GivenFacts → ByteRange → Bool
-is_within given range = are_among range.offset range.length (length given.contents)
+abbrev pub is_in_contents : GivenFacts → ByteRange → Bool
+is_in_contents given range = are_among range.offset range.length (length given.contents)
 
-abbrev pub is_data : GivenFacts → ℕ → Bool
-is_data given index = is_within given (slice_index_or given.files index no_range)
+abbrev pub has_contents : GivenFacts → ℕ → Bool
+has_contents given index = is_in_contents given (slice_index_or given.files index no_range)
 
 -- the first misuse of an entry, whatever its files are
 unfoldable pub entry_misuse : GivenFacts → EntryRecord → Option Misuse
@@ -79,7 +79,7 @@ entry_misuse given entry =
 -- each of its files lies in the contents
 unfoldable pub contents_misuse : GivenFacts → EntryRecord → Option Misuse
 contents_misuse given entry =
-    if not (all_files (is_data given) given entry) then Some BadContents else None
+    if not (all_files (has_contents given) given entry) then Some BadContents else None
 
 -- the first misuse of an entry that is loaded alone
 abbrev pub load_misuse : GivenFacts → EntryRecord → Option Misuse

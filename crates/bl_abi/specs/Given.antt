@@ -35,12 +35,12 @@ range_bytes bytes range =
     else []
 
 -- the bytes of a line or of a copy
-abbrev pub line_given : GivenFacts → ByteRange → List ℕ
-line_given given range = range_bytes given.text range
+abbrev pub text_given : GivenFacts → ByteRange → List ℕ
+text_given given range = range_bytes given.text range
 
 -- a copy without bytes is none
 abbrev pub copy_given : GivenFacts → ByteRange → Option (List ℕ)
-copy_given given range = if range.length == 0 then None else Some (line_given given range)
+copy_given given range = if range.length == 0 then None else Some (text_given given range)
 
 -- ---- files
 
@@ -79,14 +79,14 @@ files_given given entry = entry.kernel ∷ files_beside given entry
 -- the value of an entry of protocol 1, with no files yet
 abbrev pub multiboot2_given : GivenFacts → EntryRecord → EntryValue
 multiboot2_given given entry =
-    multiboot2_value [] (line_given given entry.line)
-    (map (λ m. line_given given m.line) (modules_given given entry))
+    multiboot2_value [] (text_given given entry.line)
+    (map (λ m. text_given given m.line) (modules_given given entry))
     (copy_given given entry.rsdp_old) (copy_given given entry.rsdp_new)
 
 -- that of an entry of another protocol: the Linux boot protocol, by its 64-bit entry if it is 3
 abbrev pub linux_given : GivenFacts → EntryRecord → EntryValue
 linux_given given entry =
-    linux_value (of_linux (entry.protocol == 3)) [] (line_given given entry.line)
+    linux_value (of_linux (entry.protocol == 3)) [] (text_given given entry.line)
 
 -- the value of an entry with no files yet
 abbrev pub entry_given : GivenFacts → EntryRecord → EntryValue

@@ -1,6 +1,6 @@
 -- What comes of an entry that C has loaded. Own.
 use Rattle.std.specs.Prelude.{◌≡◌, ◌⊎◌, ℕ, ◌+◌, ◌≤◌, ◌<◌, List, length, All}
-use Rattle.std.specs.Prelude.{Some, Result, Ok, Err}
+use Rattle.std.specs.Prelude.{None, Some, Result, Ok, Err}
 use Rattle.bl_map.specs.MachineFacts.{MachineFacts}
 use Rattle.bl_load.specs.declared.refusal.PrepFault.{PrepFault}
 use Rattle.bl_load.specs.declared.refusal.PrepFault.TheVariants as prep_fault
@@ -20,7 +20,7 @@ use Rattle.bl_abi.specs.declared.fault.LoadFault.{LoadFault}
 use Rattle.bl_abi.specs.declared.fault.LoadFault.TheVariants.{Misused, Refused, NoMemory}
 use Rattle.bl_abi.specs.Given.{GivenFacts, entry_given, value_given}
 use Rattle.bl_abi.specs.Checks.{load_misuse}
-use Rattle.bl_abi.specs.Machines.{IsMachineGiven, HasMachineFault}
+use Rattle.bl_abi.specs.Machines.{IsMachineGiven, IsMachineSound, HasMachineFault}
 
 abbrev pub of_prepared : PrepFault → LoadFault
 of_prepared (prep_fault.Refused refusal) = Refused refusal
@@ -32,21 +32,28 @@ of_given given_fault.NoMemory = NoMemory
 
 -- ---- on a machine of these facts
 
--- the first misuse of an entry: of what its record names, and then of its size
+-- no misuse of an entry stands
+pub record IsEntrySound (given : GivenFacts) (entry : EntryRecord) : Type 0 where
+  pub names : load_misuse given entry ≡ None
+  pub limits : HasLimits (entry_given given entry)
+
+-- its first misuse: of what its record names, or else of its size
 abbrev pub IsEntryMisuse : GivenFacts → EntryRecord → Misuse → Type 0
 IsEntryMisuse given entry misuse =
     (load_misuse given entry ≡ Some misuse)
-    ⊎ ((misuse ≡ TooMany) × (¬ HasLimits (entry_given given entry)))
+    ⊎ ((misuse ≡ TooMany) × (load_misuse given entry ≡ None)
+    × (¬ HasLimits (entry_given given entry)))
 
 -- why it is not taken
 abbrev pub IsEntryGivenFault : GivenFacts → EntryRecord → GivenFault → Type 0
 IsEntryGivenFault given entry (given_fault.Misused misuse) = IsEntryMisuse given entry misuse
 IsEntryGivenFault given entry given_fault.NoMemory = Unit {0}
 
--- why it is not loaded
+-- why it is not loaded: its first misuse, or else its refusal; memory may run out
 abbrev pub IsEntryFault : MachineFacts → GivenFacts → EntryRecord → LoadFault → Type 0
 IsEntryFault facts given entry (Misused misuse) = IsEntryMisuse given entry misuse
-IsEntryFault facts given entry (Refused refused) = IsRefusal facts (value_given given entry) refused
+IsEntryFault facts given entry (Refused refused) =
+    IsEntrySound given entry × IsRefusal facts (value_given given entry) refused
 IsEntryFault facts given entry NoMemory = Unit {0}
 
 -- memory holds what is handed over, and is what it was with those parts written into it: each byte
@@ -61,10 +68,16 @@ pub record IsHandedIn (facts : MachineFacts) (given : GivenFacts) (entry : Entry
 
 -- ---- on the machine that is given
 
+-- no fault stands: there is room for the places, the machine and the entry have no misuse, and
+-- memory reaches to the machine's end
 pub record IsLoaded (machine : MachineRecord) (regions : List RegionRecord) (given : GivenFacts)
-    (entry : EntryRecord) (old new : List ℕ) (handoff : HandoffFacts) : Type 0 where
+    (entry : EntryRecord) (room : ℕ) (old new : List ℕ) (handoff : HandoffFacts) : Type 0 where
+  pub has_room : most_parts ≤ room
   pub facts : MachineFacts
   pub machine_is : IsMachineGiven machine regions facts
+  pub machine_sound : IsMachineSound machine regions
+  pub has_memory : machine.size ≤ length old
+  pub entry_sound : IsEntrySound given entry
   pub handed : IsHandedIn facts given entry old new handoff
 
 -- there is such a machine, and its entry has this fault
@@ -74,17 +87,19 @@ pub record HasEntryFault (machine : MachineRecord) (regions : List RegionRecord)
   pub machine_is : IsMachineGiven machine regions facts
   pub is : IsEntryFault facts given entry fault
 
--- the first that stands: too little room for places, a fault of the machine, a memory that ends
--- below the machine's, a fault of the entry; memory may run out
+-- the first that stands: too little room for places, the machine's first fault, a memory that ends
+-- below the machine's, the entry's first fault. Each is told only where none before it stands;
+-- memory may run out at the machine and at the entry
 pub data IsNotLoaded (machine : MachineRecord) (regions : List RegionRecord) (given : GivenFacts)
     (entry : EntryRecord) (room end : ℕ) : LoadFault → Type 0 where
   few_places : room < most_parts
       → IsNotLoaded machine regions given entry room end (Misused FewPlaces)
-  bad_machine : (fault : GivenFault) → HasMachineFault machine regions fault
+  bad_machine : most_parts ≤ room → (fault : GivenFault) → HasMachineFault machine regions fault
       → IsNotLoaded machine regions given entry room end (of_given fault)
-  bad_memory : end < machine.size
+  bad_memory : most_parts ≤ room → IsMachineSound machine regions → end < machine.size
       → IsNotLoaded machine regions given entry room end (Misused BadMemory)
-  bad_entry : (fault : LoadFault) → HasEntryFault machine regions given entry fault
+  bad_entry : most_parts ≤ room → IsMachineSound machine regions → machine.size ≤ end
+      → (fault : LoadFault) → HasEntryFault machine regions given entry fault
       → IsNotLoaded machine regions given entry room end fault
 
 -- how a call ends that has room for so many places, with memory that held the old bytes from
@@ -92,6 +107,6 @@ pub data IsNotLoaded (machine : MachineRecord) (regions : List RegionRecord) (gi
 abbrev pub IsLoadEnd : MachineRecord → List RegionRecord → GivenFacts → EntryRecord → ℕ
     → (old new : List ℕ) → Result HandoffFacts LoadFault → Type 0
 IsLoadEnd machine regions given entry room old new (Ok handoff) =
-    IsLoaded machine regions given entry old new handoff
+    IsLoaded machine regions given entry room old new handoff
 IsLoadEnd machine regions given entry room old new (Err fault) =
     IsNotLoaded machine regions given entry room (length old) fault × (new ≡ old)

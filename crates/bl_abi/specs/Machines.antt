@@ -13,7 +13,7 @@ use Rattle.bl_abi.specs.declared.misuse.Misuse.TheVariants.{BadRegion, BadPool}
 use Rattle.bl_abi.specs.declared.given_fault.GivenFault.{GivenFault}
 use Rattle.bl_abi.specs.declared.given_fault.GivenFault.TheVariants.{Misused, NoMemory}
 use Rattle.bl_abi.specs.Given.{region_given}
-use Rattle.bl_abi.specs.Checks.{are_kinds}
+use Rattle.bl_abi.specs.Checks.{have_kinds}
 
 -- the addresses of the pool; one that ends at 2^64 or above ends at 2^64 - 1, which is no frame's
 abbrev pub pool_given : MachineRecord → Range ℕ
@@ -31,7 +31,7 @@ pub record IsMachineGiven (machine : MachineRecord) (regions : List RegionRecord
 
 -- no fault of the machine stands
 pub record IsMachineSound (machine : MachineRecord) (regions : List RegionRecord) : Type 0 where
-  pub kinds : are_kinds regions ≡ true
+  pub kinds : have_kinds regions ≡ true
   pub accepted : IsAccepted machine.size (map region_given regions) (pool_given machine)
 
 -- a fault of a machine's parts as a misuse
@@ -42,15 +42,17 @@ machine_fault map_fault.TooManyRegions = Misused TooManyRegions
 machine_fault map_fault.BadPool = Misused BadPool
 machine_fault map_fault.NoMemory = NoMemory
 
--- the machine that is given has this fault of its parts
+-- the machine that is given, whose regions are each of a kind, has this first fault of its parts
 pub record HasPartFault (machine : MachineRecord) (regions : List RegionRecord)
     (fault : GivenFault) : Type 0 where
+  pub kinds : have_kinds regions ≡ true
   pub found : MapFault
   pub first : HasFirstMapFault machine.size (map region_given regions) (pool_given machine) found
   pub is : fault ≡ machine_fault found
 
--- its first fault: a kind of a region that is none, and then one of its parts; memory may run out
+-- its first fault: a kind of a region that is none, or else the first of its parts; memory may run
+-- out
 abbrev pub HasMachineFault : MachineRecord → List RegionRecord → GivenFault → Type 0
 HasMachineFault machine regions fault =
-    ((are_kinds regions ≡ false) × (fault ≡ Misused BadKind))
+    ((have_kinds regions ≡ false) × (fault ≡ Misused BadKind))
     ⊎ (fault ≡ NoMemory) ⊎ HasPartFault machine regions fault

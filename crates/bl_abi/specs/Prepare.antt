@@ -1,19 +1,17 @@
 -- What comes of an entry that C has prepared: what a load of it hands over, or why it is not
 -- loaded. Nothing is said of memory. Own.
-use Rattle.std.specs.Prelude.{◌≡◌, ℕ, List, None, Result, Ok, Err}
+use Rattle.std.specs.Prelude.{◌≡◌, ◌≤◌, ℕ, List, Result, Ok, Err}
 use Rattle.bl_map.specs.MachineFacts.{MachineFacts}
-use Rattle.bl_load.specs.HandoffFacts.{HandoffFacts}
+use Rattle.bl_load.specs.HandoffFacts.{HandoffFacts, most_parts}
 use Rattle.bl_load.specs.Handover.{Handover}
 use Rattle.bl_load.specs.Parts.{IsHandover}
-use Rattle.bl_load.specs.Value.{HasLimits}
 use Rattle.bl_image.specs.ImageParts.{handoff_of}
 use Rattle.bl_abi.specs.declared.records.RegionRecord.{RegionRecord}
 use Rattle.bl_abi.specs.declared.records.MachineRecord.{MachineRecord}
 use Rattle.bl_abi.specs.declared.records.EntryRecord.{EntryRecord}
 use Rattle.bl_abi.specs.declared.fault.LoadFault.{LoadFault}
-use Rattle.bl_abi.specs.Checks.{load_misuse}
-use Rattle.bl_abi.specs.Given.{GivenFacts, entry_given, value_given}
-use Rattle.bl_abi.specs.Load.{IsNotLoaded}
+use Rattle.bl_abi.specs.Given.{GivenFacts, value_given}
+use Rattle.bl_abi.specs.Load.{IsEntrySound, IsNotLoaded}
 use Rattle.bl_abi.specs.Machines.{IsMachineGiven, IsMachineSound}
 
 -- on a machine of these facts the entry hands over what this handoff says
@@ -23,14 +21,11 @@ pub record IsHandoffOf (facts : MachineFacts) (given : GivenFacts) (entry : Entr
   pub handover_is : IsHandover facts (value_given given entry) handover
   pub handoff_is : handoff ≡ handoff_of handover
 
--- no misuse of the entry stands
-pub record IsEntrySound (given : GivenFacts) (entry : EntryRecord) : Type 0 where
-  pub names : load_misuse given entry ≡ None
-  pub limits : HasLimits (entry_given given entry)
-
--- on the machine that is given, where no misuse stands
+-- on the machine that is given, where no misuse stands: there is room for the places, and the
+-- machine and the entry have none
 pub record IsPrepared (machine : MachineRecord) (regions : List RegionRecord) (given : GivenFacts)
-    (entry : EntryRecord) (handoff : HandoffFacts) : Type 0 where
+    (entry : EntryRecord) (room : ℕ) (handoff : HandoffFacts) : Type 0 where
+  pub has_room : most_parts ≤ room
   pub facts : MachineFacts
   pub machine_is : IsMachineGiven machine regions facts
   pub machine_sound : IsMachineSound machine regions
@@ -42,6 +37,6 @@ pub record IsPrepared (machine : MachineRecord) (regions : List RegionRecord) (g
 abbrev pub IsPrepareEnd : MachineRecord → List RegionRecord → GivenFacts → EntryRecord → ℕ
     → Result HandoffFacts LoadFault → Type 0
 IsPrepareEnd machine regions given entry room (Ok handoff) =
-    IsPrepared machine regions given entry handoff
+    IsPrepared machine regions given entry room handoff
 IsPrepareEnd machine regions given entry room (Err fault) =
     IsNotLoaded machine regions given entry room machine.size fault

@@ -3,20 +3,19 @@ use Rattle.std.specs.Prelude.{◌≡◌, ℕ, MatchBool, nat_lt, List, length, m
 use Rattle.std.specs.Prelude.{Result, Ok, Err, if◌then◌else◌}
 use Rattle.bl_map.specs.MachineFacts.{MachineFacts}
 use Rattle.bl_load.specs.HandoffFacts.{most_parts}
-use Rattle.bl_session.specs.Attempts.{NameEntries}
 use Rattle.bl_session.specs.Phases.{PhaseFacts, SessionFacts, boot_facts, end_facts, not_started}
 use Rattle.bl_abi.specs.declared.records.ByteRange.{ByteRange}
 use Rattle.bl_abi.specs.declared.records.RegionRecord.{RegionRecord}
 use Rattle.bl_abi.specs.declared.records.MachineRecord.{MachineRecord}
 use Rattle.bl_abi.specs.declared.records.EntryRecord.{EntryRecord}
 use Rattle.bl_abi.specs.declared.misuse.Misuse.{Misuse}
-use Rattle.bl_abi.specs.declared.misuse.Misuse.TheVariants.{FewPlaces, TooMany, BadIndex}
+use Rattle.bl_abi.specs.declared.misuse.Misuse.TheVariants.{FewPlaces}
 use Rattle.bl_abi.specs.declared.given_fault.GivenFault.{GivenFault}
-use Rattle.bl_abi.specs.declared.given_fault.GivenFault.TheVariants.{Misused, NoMemory}
+use Rattle.bl_abi.specs.declared.given_fault.GivenFault.TheVariants.{Misused}
 use Rattle.bl_abi.specs.Given.{GivenFacts}
-use Rattle.bl_abi.specs.Machines.{IsMachineGiven, HasMachineFault}
+use Rattle.bl_abi.specs.Machines.{IsMachineGiven, IsMachineSound, HasMachineFault}
 use Rattle.bl_abi.specs.Load.{of_given}
-use Rattle.bl_abi.specs.Boot.{is_unread, menu_given, entries_misuse, AreFewGiven}
+use Rattle.bl_abi.specs.Boot.{is_unread, menu_given, entries_misuse, IsMenuAllowed, IsNoMenu}
 use Rattle.bl_abi.specs.BootTold.{Telling, end_status, end_told}
 use Rattle.bl_abi.specs.Status.{done, fault_status, misuse_status}
 
@@ -29,19 +28,14 @@ size_given range = if is_unread range then None else Some range.length
 abbrev pub sizes_given : GivenFacts → List (Option ℕ)
 sizes_given given = map size_given given.files
 
--- the menu may be given: no entry has a misuse, they are few, and each index names one
-pub record IsMenuAllowed (given : GivenFacts) (entries : List EntryRecord) (default : ℕ)
-    (fallbacks : List ℕ) : Type 0 where
-  pub sound : entries_misuse given entries ≡ None
-  pub few : AreFewGiven given entries
-  pub named : NameEntries (length entries) default fallbacks
-
--- a boot of the menu that is given, on the machine that is given, which has not begun
+-- a boot of the menu that is given, on the machine that is given, which has not begun; neither of
+-- the two has a misuse
 pub record IsSessionGiven (machine : MachineRecord) (regions : List RegionRecord)
     (given : GivenFacts) (entries : List EntryRecord) (default : ℕ) (fallbacks : List ℕ)
     (session : SessionFacts) : Type 0 where
   pub facts : MachineFacts
   pub machine_is : IsMachineGiven machine regions facts
+  pub machine_sound : IsMachineSound machine regions
   pub allowed : IsMenuAllowed given entries default fallbacks
   pub session_is : session ≡ record {
     boot = boot_facts facts (menu_given given entries default fallbacks) (sizes_given given);
@@ -50,32 +44,24 @@ pub record IsSessionGiven (machine : MachineRecord) (regions : List RegionRecord
 
 -- ---- or why there is none
 
--- entries without a misuse make no menu: the first of these; memory may run out
-pub data IsNoMenu (given : GivenFacts) (entries : List EntryRecord) (default : ℕ)
-    (fallbacks : List ℕ) : GivenFault → Type 0 where
-  are_many : ¬ AreFewGiven given entries
-      → IsNoMenu given entries default fallbacks (Misused TooMany)
-  names_none : AreFewGiven given entries → ¬ NameEntries (length entries) default fallbacks
-      → IsNoMenu given entries default fallbacks (Misused BadIndex)
-  is_short : IsNoMenu given entries default fallbacks NoMemory
-
 -- the first misuse of the entries, or else why they make no menu
-pub data IsMenuRefused (given : GivenFacts) (entries : List EntryRecord) (default : ℕ)
+pub data IsSessionMenuFault (given : GivenFacts) (entries : List EntryRecord) (default : ℕ)
     (fallbacks : List ℕ) : GivenFault → Type 0 where
   has_misuse : (misuse : Misuse) → entries_misuse given entries ≡ Some misuse
-      → IsMenuRefused given entries default fallbacks (Misused misuse)
+      → IsSessionMenuFault given entries default fallbacks (Misused misuse)
   is_sound : entries_misuse given entries ≡ None → (fault : GivenFault)
       → IsNoMenu given entries default fallbacks fault
-      → IsMenuRefused given entries default fallbacks fault
+      → IsSessionMenuFault given entries default fallbacks fault
 
--- the first that stands: a fault of the machine, or else one of the menu; memory may run out
+-- the first that stands: the machine's first fault, or else the menu's; memory may run out
 pub data IsSessionFault (machine : MachineRecord) (regions : List RegionRecord)
     (given : GivenFacts) (entries : List EntryRecord) (default : ℕ) (fallbacks : List ℕ) :
     GivenFault → Type 0 where
   of_machine : (fault : GivenFault) → HasMachineFault machine regions fault
       → IsSessionFault machine regions given entries default fallbacks fault
-  of_menu : (facts : MachineFacts) → IsMachineGiven machine regions facts → (fault : GivenFault)
-      → IsMenuRefused given entries default fallbacks fault
+  of_menu : (facts : MachineFacts) → IsMachineGiven machine regions facts
+      → IsMachineSound machine regions → (fault : GivenFault)
+      → IsSessionMenuFault given entries default fallbacks fault
       → IsSessionFault machine regions given entries default fallbacks fault
 
 -- the session that is made of what is given, or why there is none

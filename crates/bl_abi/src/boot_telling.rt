@@ -9,8 +9,8 @@ ghost use Rattle.bl_abi.specs.declared.told.HandoffRecord.{HandoffRecord};
 ghost use Rattle.bl_abi.specs.declared.told.PlaceRecord.{PlaceRecord};
 
 use crate::given_fault::GivenFault;
-use crate::refusals::refusal_record;
-use crate::telling::{handoff_told, tell_places};
+use crate::load_telling::{handoff_told, tell_places};
+use crate::refusal_telling::refusal_record;
 use crate::told::{HandoffRecord, PlaceRecord, RefusalRecord};
 use bl_session::{BootFault, Outcome, RefusedEntry};
 use std::alloc::Allocator;

@@ -1,15 +1,12 @@
 //! A menu is booted in memory of the caller's own.
 ghost use Rattle.std.specs.Prelude.{◌≡◌, ◌+◌, ◌≤◌, None, IfOk, IfErr, OnOk, Result, map, length};
 ghost use Rattle.std.specs.Prelude.{option_copied};
-ghost use Rattle.bl_mem.specs.Memory.{memory_from};
+ghost use Rattle.bl_mem.specs.Memory.{KeepsMemory, memory_from};
 ghost use Rattle.bl_session.specs.Ledger.{sliced_file};
-ghost use Rattle.bl_session.specs.Memory.{IsMemoryIn};
-ghost use Rattle.bl_session.specs.Outcome.{IsOutcome, HasEnded};
-ghost use Rattle.bl_session.specs.Outcome as outcome;
-ghost use Rattle.bl_session.specs.Phases.{boot_facts, state_at};
 ghost use Rattle.bl_session.specs.Run.{boot_end};
 ghost use Rattle.bl_session.specs.Phases.{PhaseFacts};
-ghost use Rattle.bl_abi.specs.Boot.{HasBooted, IsBootEnd, IsMenuFault, typed_end, menu_given};
+ghost use Rattle.bl_abi.specs.Boot.{HasBooted, IsBootEnd, IsBootMenuFault, IsMenuAllowed};
+ghost use Rattle.bl_abi.specs.Boot.{stored_misuse, typed_end, menu_given};
 ghost use Rattle.bl_abi.specs.Boot as spec;
 ghost use Rattle.bl_abi.specs.BootTold.{TellsBoot};
 ghost use Rattle.bl_abi.specs.declared.given_fault.GivenFault.{GivenFault};
@@ -24,12 +21,32 @@ use crate::records::{EntryRecord, MachineRecord, RegionRecord};
 use crate::stored::{check_menu, stored_files};
 use crate::told::{HandoffRecord, PlaceRecord, RefusalRecord};
 use bl_map::Machine;
-use bl_mem::SliceMemory;
+use bl_mem::{PhysMem, SliceMemory};
 use bl_plan::MAX_PARTS;
 use bl_session::{BootFault, Menu, Order, Outcome, SliceStore, run};
 use std::alloc::Allocator;
 
-/// Boots a menu from files in slices, in memory that begins at a base.
+/// Boots a menu from files in slices.
+fn boot_slices<M: PhysMem, A: Allocator + Copy>(
+    alloc: A,
+    memory: &mut M,
+    files: &[Option<&[u8]>],
+    machine: &Machine<A>,
+    menu: &Menu<A>,
+) -> Result<Outcome<A>, BootFault<A>>
+    requires { length (M.bytes memory.old) ≡ machine.now.size }
+    ensures booted { HasBooted machine.now menu.now
+        (map (λ file. sliced_file (option_copied file)) files.now)
+        (M.bytes memory.old) (M.bytes memory.new) (boot_end result) }
+    ensures kept { KeepsMemory M.lender M.bytes M.room memory.old memory.new }
+{
+    let mut store = SliceStore::new(alloc, files, Order::Forward);
+    let end = run(alloc, memory, &mut store, machine, menu);
+    store.faithful();
+    end
+}
+
+/// The same in memory that begins at a base.
 fn boot_files<A: Allocator + Copy>(
     alloc: A,
     memory: &mut [u8],
@@ -39,21 +56,12 @@ fn boot_files<A: Allocator + Copy>(
     menu: &Menu<A>,
 ) -> Result<Outcome<A>, BootFault<A>>
     requires { base + length memory.old ≡ machine.now.size }
-    ensures outcome { HasEnded (state_at (memory_from base memory.new) (boot_end result))
-        → IsOutcome
-        (boot_facts machine.now menu.now
-        (map outcome.size_of (map (λ file. sliced_file (option_copied file)) files.now)))
-        (map (λ file. sliced_file (option_copied file)) files.now) (λ _. None)
-        (state_at (memory_from base memory.new) (boot_end result)) }
-    ensures memory { IsMemoryIn machine.now.pool
-        (state_at (memory_from base memory.new) (boot_end result))
-        (memory_from base memory.old) (memory_from base memory.new) }
+    ensures { HasBooted machine.now menu.now
+        (map (λ file. sliced_file (option_copied file)) files.now)
+        (memory_from base memory.old) (memory_from base memory.new) (boot_end result) }
 {
-    let mut store = SliceStore::new(alloc, files, Order::Forward);
     let mut own = SliceMemory::from_base(base, memory);
-    let end = run(alloc, &mut own, &mut store, machine, menu);
-    store.faithful();
-    end
+    boot_slices(alloc, &mut own, files, machine, menu)
 }
 
 /// Boots a menu from the files that are given.
@@ -85,7 +93,10 @@ fn menu_of<A: Allocator + Copy>(
 ) -> Result<Menu<A>, GivenFault>
     ensures menu { IfOk result (λ menu.
         menu ≡ menu_given given.now entries.now default fallbacks.now) }
-    ensures fault { IfErr result (IsMenuFault given.now entries.now default fallbacks.now) }
+    ensures allowed { OnOk result
+        (IsMenuAllowed given.now entries.now default fallbacks.now) }
+    ensures stored { OnOk result (stored_misuse given.now ≡ None) }
+    ensures fault { IfErr result (IsBootMenuFault given.now entries.now default fallbacks.now) }
 {
     if let Err(misuse) = check_menu(given, entries) {
         return Err(GivenFault::Misused(misuse));

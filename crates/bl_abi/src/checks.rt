@@ -15,8 +15,8 @@ fn is_kind(kind: u32) -> bool
 }
 
 /// Whether each region is of a kind.
-pub(crate) fn are_kinds(regions: &[RegionRecord]) -> bool
-    ensures { result ≡ spec.are_kinds regions.now }
+pub(crate) fn have_kinds(regions: &[RegionRecord]) -> bool
+    ensures { result ≡ spec.have_kinds regions.now }
 {
     regions.iter().all(|region| is_kind(region.kind))
 }
@@ -29,10 +29,9 @@ fn is_protocol(protocol: u32) -> bool
 }
 
 impl Given<'_> {
-    ghost use Rattle.std.specs.Prelude.{◌≡◌, if◌then◌else◌, true};
+    ghost use Rattle.std.specs.Prelude.{◌≡◌, true};
     ghost use Rattle.std.specs.List.{list_all};
     ghost use Rattle.bl_abi.specs.Checks as spec;
-    ghost use Rattle.bl_abi.specs.Given.{modules_given, initrd_given};
 
     /// Whether an entry's modules are among those given.
     fn has_modules(&self, entry: &EntryRecord) -> bool
@@ -45,16 +44,16 @@ impl Given<'_> {
         are_among(first, entry.module_count as u64, self.modules.len() as u64)
     }
 
-    fn is_text(&self, range: ByteRange) -> bool
-        ensures { result ≡ spec.is_text self.now range }
+    fn is_in_text(&self, range: ByteRange) -> bool
+        ensures { result ≡ spec.is_in_text self.now range }
     {
         are_among(range.offset, range.length, self.text.len() as u64)
     }
 
     fn are_texts(&self, modules: &[ModuleRecord]) -> bool
-        ensures { result ≡ list_all (λ m. spec.is_text self.now m.line) modules.now }
+        ensures { result ≡ list_all (λ m. spec.is_in_text self.now m.line) modules.now }
     {
-        modules.iter().all(|m| self.is_text(m.line))
+        modules.iter().all(|m| self.is_in_text(m.line))
     }
 
     fn has_module_texts(&self, entry: &EntryRecord) -> bool
@@ -64,16 +63,16 @@ impl Given<'_> {
         if !self.are_texts(modules) {
             return false;
         }
-        if !self.is_text(entry.rsdp_old) {
+        if !self.is_in_text(entry.rsdp_old) {
             return false;
         }
-        self.is_text(entry.rsdp_new)
+        self.is_in_text(entry.rsdp_new)
     }
 
     fn has_texts(&self, entry: &EntryRecord) -> bool
         ensures { result ≡ spec.has_texts self.now entry.now }
     {
-        if !self.is_text(entry.line) {
+        if !self.is_in_text(entry.line) {
             return false;
         }
         if entry.protocol != 1 {
@@ -111,31 +110,31 @@ impl Given<'_> {
     }
 
     /// Whether a range lies in the contents.
-    pub(crate) fn is_within(&self, range: ByteRange) -> bool
-        ensures { result ≡ spec.is_within self.now range }
+    pub(crate) fn is_in_contents(&self, range: ByteRange) -> bool
+        ensures { result ≡ spec.is_in_contents self.now range }
     {
         are_among(range.offset, range.length, self.contents.len() as u64)
     }
 
-    fn is_data(&self, index: u32) -> bool
-        ensures { result ≡ spec.is_data self.now index }
+    fn has_contents(&self, index: u32) -> bool
+        ensures { result ≡ spec.has_contents self.now index }
     {
         match self.files.get(index as usize) {
-            Some(range) => self.is_within(*range),
+            Some(range) => self.is_in_contents(*range),
             None => false,
         }
     }
 
     fn are_data(&self, modules: &[ModuleRecord]) -> bool
-        ensures { result ≡ list_all (λ m. spec.is_data self.now m.file) modules.now }
+        ensures { result ≡ list_all (λ m. spec.has_contents self.now m.file) modules.now }
     {
-        modules.iter().all(|m| self.is_data(m.file))
+        modules.iter().all(|m| self.has_contents(m.file))
     }
 
     fn has_data(&self, entry: &EntryRecord) -> bool
-        ensures { result ≡ spec.all_files (spec.is_data self.now) self.now entry.now }
+        ensures { result ≡ spec.all_files (spec.has_contents self.now) self.now entry.now }
     {
-        if !self.is_data(entry.kernel) {
+        if !self.has_contents(entry.kernel) {
             return false;
         }
         if entry.protocol == 1 {
@@ -145,12 +144,12 @@ impl Given<'_> {
         if entry.initrd == NO_FILE {
             return true;
         }
-        self.is_data(entry.initrd)
+        self.has_contents(entry.initrd)
     }
 }
 
 impl Given<'_> {
-    ghost use Rattle.std.specs.Prelude.{◌≡◌, Some, None, MatchResult, ◌&&◌, nat_le};
+    ghost use Rattle.std.specs.Prelude.{◌≡◌, Some, None, MatchResult, ◌&&◌};
     ghost use Rattle.bl_abi.specs.Checks as spec;
 
     /// Checks what an entry names: the first misuse.

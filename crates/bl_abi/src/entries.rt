@@ -1,11 +1,16 @@
 //! Entries as the libraries take them.
-ghost use Rattle.std.specs.Prelude.{◌≡◌, [], IfOk, length, map, option_to_list};
-ghost use Rattle.bl_load.specs.Value.{file_count, value_of};
+ghost use Rattle.std.specs.Prelude.{◌≡◌, [], None, Some, IfOk, IfErr, OnOk, MatchResult};
+ghost use Rattle.std.specs.Prelude.{length, map, option_to_list};
+ghost use Rattle.bl_load.specs.Value.{file_count, value_of, IsWithinLimits};
 ghost use Rattle.bl_session.specs.Menu.{facts_of};
-ghost use Rattle.bl_abi.specs.Boot.{facts_given};
+ghost use Rattle.bl_abi.specs.Boot.{facts_given, entries_misuse};
+ghost use Rattle.bl_abi.specs.Checks.{load_misuse};
 ghost use Rattle.bl_abi.specs.Given as spec;
+ghost use Rattle.bl_abi.specs.Load.{IsEntryGivenFault};
 
 use crate::given::Given;
+use crate::given_fault::GivenFault;
+use crate::misuse::Misuse;
 use crate::records::{ByteRange, EntryRecord, NO_FILE};
 use bl_load::{Entry, Module};
 use bl_mem::Bytes;
@@ -20,7 +25,7 @@ fn modules_of<A: Allocator + Copy>(
     ensures files { IfOk result (λ modules. map (λ m. m.file) modules.items
         ≡ map (λ m. m.file) (spec.modules_given given.now entry.now)) }
     ensures lines { IfOk result (λ modules. map (λ m. m.line) modules.items
-        ≡ map (λ m. spec.line_given given.now m.line) (spec.modules_given given.now entry.now)) }
+        ≡ map (λ m. spec.text_given given.now m.line) (spec.modules_given given.now entry.now)) }
 {
     let records = given.modules_of(entry);
     let mut modules = Vec::new(alloc);
@@ -82,4 +87,53 @@ pub(crate) fn entry_of<A: Allocator + Copy>(
         initrd: initrd_of(entry),
         wide: entry.protocol == 3,
     })
+}
+
+/// The entry that is given, if it may be.
+pub(crate) fn take_entry<A: Allocator + Copy>(
+    alloc: A,
+    given: &Given,
+    row: &EntryRecord,
+) -> Result<Entry<A>, GivenFault>
+    ensures value { IfOk result (λ entry. value_of [] entry ≡ spec.entry_given given.now row.now) }
+    ensures count { IfOk result
+        (λ entry. file_count entry ≡ length (spec.files_given given.now row.now)) }
+    ensures limits { IfOk result IsWithinLimits }
+    ensures sound { OnOk result (load_misuse given.now row.now ≡ None) }
+    ensures fault { IfErr result (IsEntryGivenFault given.now row.now) }
+{
+    given.check_load(row)?;
+    let entry = entry_of(alloc, given, row)?;
+    if !entry.is_within_limits() {
+        return Err(GivenFault::Misused(Misuse::TooMany));
+    }
+    Ok(entry)
+}
+
+/// Entries.
+pub(crate) fn entries_of<A: Allocator + Copy>(
+    alloc: A,
+    given: &Given,
+    records: &[EntryRecord],
+) -> Result<Vec<Entry<A>, A>, AllocError>
+    ensures { IfOk result (λ entries. map facts_of entries.items
+        ≡ map (facts_given given.now) records.now) }
+{
+    let mut entries = Vec::new(alloc);
+    for record in records {
+        entries.push(entry_of(alloc, given, record)?)?;
+    }
+    Ok(entries)
+}
+
+/// Checks entries, one after the other: the first misuse.
+pub(crate) fn check_entries(given: &Given, entries: &[EntryRecord]) -> Result<(), Misuse>
+    ensures { MatchResult result
+        (λ _. entries_misuse given.now entries.now ≡ None)
+        (λ misuse. entries_misuse given.now entries.now ≡ Some misuse) }
+{
+    for entry in entries {
+        given.check_entry(entry)?;
+    }
+    Ok(())
 }

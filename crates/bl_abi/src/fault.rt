@@ -41,10 +41,7 @@ impl From<GivenFault> for LoadFault {
     ghost from_gives = { λ given fault. fault ≡ of_given given };
 
     fn from(given: GivenFault) -> LoadFault {
-        match given {
-            GivenFault::Misused(misuse) => LoadFault::Misused(misuse),
-            GivenFault::NoMemory => LoadFault::NoMemory,
-        }
+        given_fault(given)
     }
 }
 
@@ -52,9 +49,26 @@ impl From<PrepFault> for LoadFault {
     ghost from_gives = { λ prepared fault. fault ≡ of_prepared prepared };
 
     fn from(prepared: PrepFault) -> LoadFault {
-        match prepared {
-            PrepFault::Refused(refusal) => LoadFault::Refused(refusal),
-            PrepFault::NoMemory => LoadFault::NoMemory,
-        }
+        load_fault(prepared)
+    }
+}
+
+/// The fault of a preparation, as one of a load.
+pub(crate) fn load_fault(fault: PrepFault) -> LoadFault
+    ensures { result ≡ of_prepared fault }
+{
+    match fault {
+        PrepFault::Refused(refusal) => LoadFault::Refused(refusal),
+        PrepFault::NoMemory => LoadFault::NoMemory,
+    }
+}
+
+/// The fault of what is given, as one of a load.
+pub(crate) fn given_fault(fault: GivenFault) -> LoadFault
+    ensures { result ≡ of_given fault }
+{
+    match fault {
+        GivenFault::Misused(misuse) => LoadFault::Misused(misuse),
+        GivenFault::NoMemory => LoadFault::NoMemory,
     }
 }

@@ -1,5 +1,6 @@
-//! The arrays that records are read with.
-use crate::records::{ByteRange, ModuleRecord};
+//! The arrays that records are read with, and what ranges of them hold.
+use crate::ranges::{are_among, range_bytes};
+use crate::records::{ByteRange, EntryRecord, ModuleRecord};
 use std::marker::Model;
 
 /// The arrays that C gives beside the records: modules, the text of all lines and copies, and files
@@ -23,4 +24,38 @@ impl<'a> Model for Given<'a> {
       files = g.files.now;
       contents = g.contents.now;
     } };
+}
+
+impl<'a> Given<'a> {
+    ghost use Rattle.std.specs.Prelude.{◌≡◌};
+    ghost use Rattle.bl_abi.specs.Given as spec;
+
+    /// The bytes of a line.
+    pub(crate) fn line(&self, range: ByteRange) -> &'a [u8]
+        ensures { result.now ≡ spec.text_given self.now range }
+    {
+        range_bytes(self.text, range)
+    }
+
+    /// The bytes of a file, by its index.
+    pub(crate) fn file(&self, index: u32) -> &'a [u8]
+        ensures { result.now ≡ spec.file_given self.now index }
+    {
+        match self.files.get(index as usize) {
+            Some(range) => range_bytes(self.contents, *range),
+            None => &[],
+        }
+    }
+
+    /// The modules of an entry.
+    pub(crate) fn modules_of(&self, entry: &EntryRecord) -> &'a [ModuleRecord]
+        ensures { result.now ≡ spec.modules_given self.now entry.now }
+    {
+        let first = entry.first_module as u64;
+        let count = entry.module_count as u64;
+        if !are_among(first, count, self.modules.len() as u64) {
+            return &[];
+        }
+        &self.modules[first as usize..(first + count) as usize]
+    }
 }

@@ -1,5 +1,5 @@
 //! One entry comes into memory of the caller's own.
-ghost use Rattle.std.specs.Prelude.{◌≡◌, ◌+◌, ◌≤◌, [], IfOk, IfErr, OnOk, Result, All, None};
+ghost use Rattle.std.specs.Prelude.{◌≡◌, ◌+◌, ◌≤◌, IfOk, IfErr, OnOk, Result, All};
 ghost use Rattle.std.specs.Prelude.{length, map};
 ghost use Rattle.bl_mem.specs.Memory.{memory_from};
 ghost use Rattle.bl_load.specs.Handover.{written};
@@ -7,21 +7,17 @@ ghost use Rattle.bl_load.specs.Parts.{IsHandover, IsPrepFault};
 ghost use Rattle.bl_load.specs.PlanFacts.{handover_in};
 ghost use Rattle.bl_load.specs.Value.{value_of, file_count, IsWithinLimits};
 ghost use Rattle.bl_load.specs.HandoffFacts.{HandoffFacts};
-ghost use Rattle.bl_abi.specs.Checks.{load_misuse};
-ghost use Rattle.bl_abi.specs.Given.{entry_given, files_given};
-ghost use Rattle.bl_abi.specs.Load.{IsHandedIn, IsEntryGivenFault, IsEntryFault, IsLoadEnd};
-ghost use Rattle.bl_abi.specs.Load.{of_given, of_prepared};
+ghost use Rattle.bl_abi.specs.Load.{IsHandedIn, IsEntryFault, IsEntrySound, IsLoadEnd};
 ghost use Rattle.bl_abi.specs.Told.{TellsEnd};
 ghost use Rattle.bl_abi.specs.declared.fault.LoadFault.{LoadFault};
 
-use crate::entries::entry_of;
-use crate::fault::LoadFault;
+use crate::entries::take_entry;
+use crate::fault::{LoadFault, given_fault, load_fault};
 use crate::given::Given;
-use crate::given_fault::GivenFault;
+use crate::load_telling::tell_end;
 use crate::machines::machine_of;
 use crate::misuse::Misuse;
 use crate::records::{EntryRecord, MachineRecord, RegionRecord};
-use crate::telling::tell_end;
 use crate::told::{HandoffRecord, PlaceRecord, RefusalRecord};
 use crate::views::views_of;
 use bl_load::{Entry, Handoff, PrepFault, load_entry};
@@ -61,45 +57,6 @@ fn load_typed<A: Allocator + Copy>(
     load_entry(alloc, machine, &mut own, entry, files)
 }
 
-/// The entry that is given, if it may be.
-pub(crate) fn take_entry<A: Allocator + Copy>(
-    alloc: A,
-    given: &Given,
-    row: &EntryRecord,
-) -> Result<Entry<A>, GivenFault>
-    ensures value { IfOk result (λ entry. value_of [] entry ≡ entry_given given.now row.now) }
-    ensures count { IfOk result
-        (λ entry. file_count entry ≡ length (files_given given.now row.now)) }
-    ensures limits { IfOk result IsWithinLimits }
-    ensures sound { OnOk result (load_misuse given.now row.now ≡ None) }
-    ensures fault { IfErr result (IsEntryGivenFault given.now row.now) }
-{
-    given.check_load(row)?;
-    let entry = entry_of(alloc, given, row)?;
-    if !entry.is_within_limits() {
-        return Err(GivenFault::Misused(Misuse::TooMany));
-    }
-    Ok(entry)
-}
-
-pub(crate) fn load_fault(fault: PrepFault) -> LoadFault
-    ensures { result ≡ of_prepared fault }
-{
-    match fault {
-        PrepFault::Refused(refusal) => LoadFault::Refused(refusal),
-        PrepFault::NoMemory => LoadFault::NoMemory,
-    }
-}
-
-pub(crate) fn given_fault(fault: GivenFault) -> LoadFault
-    ensures { result ≡ of_given fault }
-{
-    match fault {
-        GivenFault::Misused(misuse) => LoadFault::Misused(misuse),
-        GivenFault::NoMemory => LoadFault::NoMemory,
-    }
-}
-
 /// Loads an entry on a machine.
 fn load_given<A: Allocator + Copy>(
     alloc: A,
@@ -112,6 +69,7 @@ fn load_given<A: Allocator + Copy>(
     requires { machine.now.size ≤ base + length memory.old }
     ensures handed { IfOk result (λ handoff. IsHandedIn machine.now given.now row.now
         (memory_from base memory.old) (memory_from base memory.new) handoff) }
+    ensures sound { OnOk result (IsEntrySound given.now row.now) }
     ensures fault { IfErr result (IsEntryFault machine.now given.now row.now) }
     ensures unchanged { IfErr result (λ _. memory_from base memory.new
         ≡ memory_from base memory.old) }

@@ -1,9 +1,9 @@
 //! Machines as the libraries take them.
-ghost use Rattle.std.specs.Prelude.{◌≡◌, ◌+◌, ◌-◌, ◌^◌, IfOk, IfErr, OnOk, map, min};
+ghost use Rattle.std.specs.Prelude.{◌≡◌, ◌+◌, ◌-◌, IfOk, IfErr, OnOk, map};
 ghost use Rattle.bl_abi.specs.Given as spec;
 ghost use Rattle.bl_abi.specs.Machines as machines;
 
-use crate::checks::are_kinds;
+use crate::checks::have_kinds;
 use crate::given_fault::GivenFault;
 use crate::misuse::Misuse;
 use crate::records::{MachineRecord, RegionRecord};
@@ -61,7 +61,7 @@ pub(crate) fn machine_of<A: Allocator + Copy>(
     ensures sound { OnOk result (machines.IsMachineSound machine.now regions.now) }
     ensures fault { IfErr result (machines.HasMachineFault machine.now regions.now) }
 {
-    if !are_kinds(regions) {
+    if !have_kinds(regions) {
         return Err(GivenFault::Misused(Misuse::BadKind));
     }
     let typed = regions_of(alloc, regions)?;

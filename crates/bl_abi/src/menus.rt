@@ -1,15 +1,14 @@
 //! A menu as the libraries take it.
 ghost use Rattle.std.specs.Prelude.{◌≡◌, IfOk, IfErr, OnOk, length};
 ghost use Rattle.bl_session.specs.Attempts.{NameEntries};
-ghost use Rattle.bl_abi.specs.Boot.{AreFewGiven, menu_given};
+ghost use Rattle.bl_abi.specs.Boot.{AreFewGiven, IsNoMenu, menu_given};
 ghost use Rattle.bl_abi.specs.Boot as spec;
-ghost use Rattle.bl_abi.specs.Sessions.{IsNoMenu};
 
+use crate::entries::entries_of;
 use crate::given::Given;
 use crate::given_fault::GivenFault;
 use crate::misuse::Misuse;
 use crate::records::EntryRecord;
-use crate::stored::entries_of;
 use bl_session::{Menu, MenuFault};
 use std::alloc::Allocator;
 

@@ -1,19 +1,19 @@
 //! What a load of an entry would hand over is told, and no memory is asked for.
-ghost use Rattle.std.specs.Prelude.{◌≡◌, ◌≤◌, length, IfOk, IfErr, OnOk, Result};
+ghost use Rattle.std.specs.Prelude.{◌≤◌, length, IfOk, IfErr, OnOk, Result};
 ghost use Rattle.bl_load.specs.HandoffFacts.{HandoffFacts};
 ghost use Rattle.bl_load.specs.PlanFacts.{handoff_by};
-ghost use Rattle.bl_abi.specs.Load.{IsEntryFault, IsNotLoaded};
-ghost use Rattle.bl_abi.specs.Prepare.{IsEntrySound, IsHandoffOf, IsPrepared, IsPrepareEnd};
+ghost use Rattle.bl_abi.specs.Load.{IsEntryFault, IsEntrySound, IsNotLoaded};
+ghost use Rattle.bl_abi.specs.Prepare.{IsHandoffOf, IsPrepared, IsPrepareEnd};
 ghost use Rattle.bl_abi.specs.Told.{TellsEnd};
 ghost use Rattle.bl_abi.specs.declared.fault.LoadFault.{LoadFault};
 
-use crate::fault::LoadFault;
+use crate::entries::take_entry;
+use crate::fault::{LoadFault, given_fault, load_fault};
 use crate::given::Given;
-use crate::loading::{given_fault, load_fault, take_entry};
+use crate::load_telling::{tell_fault, tell_plan};
 use crate::machines::machine_of;
 use crate::misuse::Misuse;
 use crate::records::{EntryRecord, MachineRecord, RegionRecord};
-use crate::telling::{tell_fault, tell_plan};
 use crate::told::{HandoffRecord, PlaceRecord, RefusalRecord};
 use crate::views::views_of;
 use bl_load::{Plan, prepare};
@@ -57,7 +57,7 @@ fn prepare_entry<A: Allocator + Copy>(
     room: usize,
 ) -> Result<Plan<A>, LoadFault>
     ensures prepared { IfOk result
-        (λ plan. IsPrepared machine.now regions.now given.now entry.now (handoff_by plan)) }
+        (λ plan. IsPrepared machine.now regions.now given.now entry.now room (handoff_by plan)) }
     ensures few { IfOk result (λ plan. length plan.parts.items ≤ 256) }
     ensures room { OnOk result (MAX_PARTS ≤ room) }
     ensures fault { IfErr result

@@ -1,18 +1,17 @@
 //! A session of what C gives, and what C is told of its outcome.
 ghost use Rattle.std.specs.Prelude.{◌≡◌, IfOk, IfErr, OnOk, map};
-ghost use Rattle.bl_abi.specs.Boot.{menu_given};
-ghost use Rattle.bl_abi.specs.Sessions.{IsMenuAllowed, IsMenuRefused, IsSessionMade};
-ghost use Rattle.bl_abi.specs.Sessions.{TellsOutcome};
+ghost use Rattle.bl_abi.specs.Boot.{IsMenuAllowed, menu_given};
+ghost use Rattle.bl_abi.specs.Sessions.{IsSessionMenuFault, IsSessionMade, TellsOutcome};
 ghost use Rattle.bl_abi.specs.Sessions as spec;
 
 use crate::boot_telling::{tell_boot_fault, tell_outcome};
+use crate::entries::check_entries;
 use crate::given::Given;
 use crate::given_fault::GivenFault;
 use crate::machines::machine_of;
 use crate::menus::menu_made;
 use crate::misuse::Misuse;
 use crate::records::{ByteRange, EntryRecord, MISSING, MachineRecord, RegionRecord};
-use crate::stored::check_entries;
 use crate::told::{HandoffRecord, PlaceRecord, RefusalRecord};
 use bl_plan::MAX_PARTS;
 use bl_session::{Menu, OwnedSession};
@@ -47,7 +46,7 @@ fn menu_without_files<A: Allocator + Copy>(
         menu ≡ menu_given given.now entries.now default fallbacks.now) }
     ensures allowed { OnOk result
         (IsMenuAllowed given.now entries.now default fallbacks.now) }
-    ensures fault { IfErr result (IsMenuRefused given.now entries.now default fallbacks.now) }
+    ensures fault { IfErr result (IsSessionMenuFault given.now entries.now default fallbacks.now) }
 {
     if let Err(misuse) = check_entries(given, entries) {
         return Err(GivenFault::Misused(misuse));

@@ -1,15 +1,13 @@
-//! The entries and the files of a menu.
+//! The files of a menu.
 ghost use Rattle.std.specs.Prelude.{◌≡◌, None, Some, IfOk, MatchResult, map, option_copied};
 ghost use Rattle.bl_session.specs.Ledger.{sliced_file};
-ghost use Rattle.bl_session.specs.Menu.{facts_of};
 ghost use Rattle.bl_abi.specs.Boot as spec;
 
-use crate::entries::entry_of;
+use crate::entries::check_entries;
 use crate::given::Given;
 use crate::misuse::Misuse;
 use crate::ranges::range_bytes;
 use crate::records::{ByteRange, EntryRecord, MISSING};
-use bl_load::Entry;
 use std::alloc::{AllocError, Allocator};
 
 /// A file; none if it can't be read.
@@ -37,48 +35,22 @@ pub(crate) fn stored_files<'a, A: Allocator>(
     Ok(files)
 }
 
-/// Entries.
-pub(crate) fn entries_of<A: Allocator + Copy>(
-    alloc: A,
-    given: &Given,
-    records: &[EntryRecord],
-) -> Result<Vec<Entry<A>, A>, AllocError>
-    ensures { IfOk result (λ entries. map facts_of entries.items
-        ≡ map (spec.facts_given given.now) records.now) }
-{
-    let mut entries = Vec::new(alloc);
-    for record in records {
-        entries.push(entry_of(alloc, given, record)?)?;
-    }
-    Ok(entries)
-}
-
-/// Checks entries, one after the other: the first misuse.
-pub(crate) fn check_entries(given: &Given, entries: &[EntryRecord]) -> Result<(), Misuse>
-    ensures { MatchResult result
-        (λ _. spec.entries_misuse given.now entries.now ≡ None)
-        (λ misuse. spec.entries_misuse given.now entries.now ≡ Some misuse) }
-{
-    for entry in entries {
-        given.check_entry(entry)?;
-    }
-    Ok(())
-}
-
 /// Whether a file is missing or lies in the contents.
-fn is_stored(given: &Given, range: ByteRange) -> bool
-    ensures { result ≡ spec.is_stored given.now range }
+fn is_missing_or_within(given: &Given, range: ByteRange) -> bool
+    ensures { result ≡ spec.is_missing_or_within given.now range }
 {
     if range.offset == MISSING {
         return true;
     }
-    given.is_within(range)
+    given.is_in_contents(range)
 }
 
-fn are_stored(given: &Given, files: &[ByteRange]) -> bool
-    ensures { result ≡ spec.are_stored given.now files.now }
+fn are_missing_or_within(given: &Given, files: &[ByteRange]) -> bool
+    ensures { result ≡ spec.are_missing_or_within given.now files.now }
 {
-    files.iter().all(|range| is_stored(given, *range))
+    files
+        .iter()
+        .all(|range| is_missing_or_within(given, *range))
 }
 
 #[tactic(auto, unfolding(crate::specs::Boot::stored_misuse))]
@@ -87,7 +59,7 @@ fn check_stored(given: &Given) -> Result<(), Misuse>
         (λ _. spec.stored_misuse given.now ≡ None)
         (λ misuse. spec.stored_misuse given.now ≡ Some misuse) }
 {
-    if !are_stored(given, given.files) {
+    if !are_missing_or_within(given, given.files) {
         return Err(Misuse::BadContents);
     }
     Ok(())

@@ -22,6 +22,7 @@ use Rattle.bl_boot.specs.Ends.{BootCase, IsMachineOf}
 use Rattle.bl_boot.specs.ExplainKept.{ExplainAsks, ExplainEnds, FoundExplains, IsMachineBlame}
 use Rattle.bl_boot.specs.ExplainKept.{IsReadBlame, SaysLines}
 use Rattle.bl_boot.specs.Found.{AreFound}
+use Rattle.bl_boot.specs.KernelSegments.{no_segments}
 use Rattle.bl_boot.specs.Told.{sought_in}
 use Rattle.bl_boot.proofs.EndLemmas.{all_asked}
 
@@ -79,18 +80,21 @@ module _ {F : Type 0} (answers : F → List ℕ → File → Type 0) (faults : F
             (boot_facts facts (menu_of (view d)) (map size_of (stored_files files)))
             (stored_files files) (sought_in (view d) (map file_of files)) old new ended
             → ExplainEnds answers faults desc before after old new ended
-        explained_by old new (Ok Booted) (entry, earlier, handover, came, told, are, said) = record {
-          entry = entry;
-          earlier = earlier;
-          handover = handover;
-          explained = record {
-            case = case_of;
-            outcome = came;
-            told = told;
-            are_told = are;
-            said = said;
-          };
-        }
+        explained_by old new (Ok Booted)
+            (entry, earlier, handover, came, told, are, kernel, are_segments, said) = record {
+              entry = entry;
+              earlier = earlier;
+              handover = handover;
+              explained = record {
+                case = case_of;
+                outcome = came;
+                told = told;
+                are_told = are;
+                kernel = kernel;
+                are_segments = are_segments;
+                said = said;
+              };
+            }
         explained_by old new (Ok NoEntryLeft) (refused, came, told, are, said) = record {
           refused = refused;
           explained = record {
@@ -98,6 +102,8 @@ module _ {F : Type 0} (answers : F → List ℕ → File → Type 0) (faults : F
             outcome = came;
             told = told;
             are_told = are;
+            kernel = no_segments;
+            are_segments = refl;
             said = said;
           };
         }

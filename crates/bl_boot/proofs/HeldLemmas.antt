@@ -20,6 +20,7 @@ use Rattle.bl_desc.specs.Described.{Described}
 use Rattle.bl_desc.specs.Entries.{Entry}
 use Rattle.bl_desc.specs.Views.{entry_view}
 use Rattle.bl_boot.specs.HandedLines.{SourceWords, handoff_lines, part_line, place_line}
+use Rattle.bl_boot.specs.KernelSegments.{KernelSegmentsFacts}
 use Rattle.bl_boot.specs.Sought.{SoughtFacts}
 use Rattle.bl_boot.specs.Sources.{source_at}
 use Rattle.bl_boot.specs.Told.{booted_lines, entry_handoff_lines, entry_handover_lines, told_lines}
@@ -54,41 +55,44 @@ ranges_in bytes (p ∷ ps) h =
 
 -- ---- the whole
 
-held_told : (entries : List Entry) (sought : SoughtFacts) (pool : Range ℕ) (entry : ℕ)
-    (bytes : List ℕ) (handoff : HandoffFacts) → All (EndsIn bytes) handoff.places
-    → entry_handover_lines entries sought pool entry (handover_held bytes handoff)
-    ≡ entry_handoff_lines entries sought pool entry handoff
+held_told : (entries : List Entry) (sought : SoughtFacts) (kernel : KernelSegmentsFacts)
+    (pool : Range ℕ) (entry : ℕ) (bytes : List ℕ) (handoff : HandoffFacts)
+    → All (EndsIn bytes) handoff.places
+    → entry_handover_lines entries sought kernel pool entry (handover_held bytes handoff)
+    ≡ entry_handoff_lines entries sought kernel pool entry handoff
 unfolding handoff_lines
-held_told entries sought pool entry bytes handoff h =
+held_told entries sought kernel pool entry bytes handoff h =
     rw (
-      parts_in (source_at entries sought entry) bytes handoff.places h,
+      parts_in (source_at entries sought kernel entry) bytes handoff.places h,
       ranges_in bytes handoff.places h,
     ) refl
 
 -- an entry that memory hands over is told
 pub told_booted : (description : Described) (facts : MachineFacts) (sought : SoughtFacts)
-    (entry : ℕ) (told : List ToldRefusal) (earlier : List RefusedEntry) (bytes : List ℕ)
+    (kernel : KernelSegmentsFacts) (entry : ℕ) (told : List ToldRefusal)
+    (earlier : List RefusedEntry) (bytes : List ℕ)
     (handoff : HandoffFacts) (old new : List ℕ) (size : ℕ) → length bytes ≡ size
     → All (λ place. place.address + place.length ≤ size) handoff.places
     → new ≡ old ++ booted_lines description facts sought entry told earlier
-    (entry_handoff_lines description.entries sought facts.pool entry handoff)
-    → new ≡ old ++ told_lines description facts sought told
+    (entry_handoff_lines description.entries sought kernel facts.pool entry handoff)
+    → new ≡ old ++ told_lines description facts sought told kernel
     (handed_over entry earlier (handover_held bytes handoff))
-told_booted description facts sought entry told earlier bytes handoff old new size whole inside
-    said =
+told_booted description facts sought kernel entry told earlier bytes handoff old new size whole
+    inside said =
     said
     ∙ ap (λ (handed : List ℕ). old
     ++ booted_lines description facts sought entry told earlier handed)
-    (sym (held_told description.entries sought facts.pool entry bytes handoff (λ i place at.
+    (sym (held_told description.entries sought kernel facts.pool entry bytes handoff (λ i place at.
     let within = inside i place at in
     omega (arith, whole, within))))
 
 -- what is said of rows is said of the rows that they are
 pub handed_of : {A : Type 0} (rows items : List (EntryRow A)) (sought : SoughtFacts)
-    (pool : Range ℕ) (entry : ℕ) (handoff : HandoffFacts) (start new : List ℕ) → rows ≡ items
-    → new ≡ start ++ entry_handoff_lines (map entry_view rows) sought pool entry handoff
-    → new ≡ start ++ entry_handoff_lines (map entry_view items) sought pool entry handoff
-handed_of {A = A} rows items sought pool entry handoff start new same said =
+    (kernel : KernelSegmentsFacts) (pool : Range ℕ) (entry : ℕ) (handoff : HandoffFacts)
+    (start new : List ℕ) → rows ≡ items
+    → new ≡ start ++ entry_handoff_lines (map entry_view rows) sought kernel pool entry handoff
+    → new ≡ start ++ entry_handoff_lines (map entry_view items) sought kernel pool entry handoff
+handed_of {A = A} rows items sought kernel pool entry handoff start new same said =
     said
     ∙ ap (λ (kept : List (EntryRow A)). start
-    ++ entry_handoff_lines (map entry_view kept) sought pool entry handoff) same
+    ++ entry_handoff_lines (map entry_view kept) sought kernel pool entry handoff) same

@@ -9,7 +9,7 @@ use Rattle.std.specs.Str.Parse.{without_leading_plus}
 use Rattle.std.proofs.lemmas.Bool.{cases_lt, le-ltb, lt-ltb}
 use Rattle.std.proofs.lemmas.Fmt.{decimal_is_IsNumeral}
 use Rattle.std.proofs.lemmas.Str.Parse.{without_leading_plus_none}
-use Rattle.bl_boot.specs.HexHints.{hex_reading}
+use Rattle.bl_boot.specs.HexHints.{digits_as_hex}
 
 -- decimal digits are hexadecimal ones
 wider : (ds : List ℕ) → AllDigits 10 ds → AllDigits 16 ds
@@ -24,17 +24,17 @@ no_plus (c ∷ cs) some (first, rest) is =
     absurd (omega (arith, low))
 
 fitting : (n : ℕ) → digits_value 16 (decimal n) < 2 ^ 64
-    → Some (digits_value 16 (decimal n)) ≡ hex_reading n
-unfolding hex_reading
+    → Some (digits_value 16 (decimal n)) ≡ digits_as_hex n
+unfolding digits_as_hex
 fitting n small = rw (lt-ltb (digits_value 16 (decimal n)) (2 ^ 64) small) refl
 
-too_large : (n : ℕ) → 2 ^ 64 ≤ digits_value 16 (decimal n) → None ≡ hex_reading n
-unfolding hex_reading
+too_large : (n : ℕ) → 2 ^ 64 ≤ digits_value 16 (decimal n) → None ≡ digits_as_hex n
+unfolding digits_as_hex
 too_large n large = rw (le-ltb (digits_value 16 (decimal n)) (2 ^ 64) large) refl
 
 by_result : {E : Type 0} (n : ℕ) (read : Result ℕ E) → IsNumeral 16 (decimal n)
     → OkIff read (IsNumeral 16 (decimal n) × (digits_value 16 (decimal n) < 2 ^ 64))
-    (digits_value 16 (decimal n)) → result_ok read ≡ hex_reading n
+    (digits_value 16 (decimal n)) → result_ok read ≡ digits_as_hex n
 by_result n (Ok v) numeral (fits, is) = ap (λ (x : ℕ). Some x) is ∙ fitting n fits.1
 by_result n (Err e) numeral refused =
     elim (cases_lt (digits_value 16 (decimal n)) (2 ^ 64)) [
@@ -43,7 +43,7 @@ by_result n (Err e) numeral refused =
     ]
 
 pub hex_parsed : {E : Type 0} (n : ℕ) (text : List ℕ) (read : Result ℕ E) → n < 2 ^ 64
-    → text ≡ decimal n → ParsesUnsigned 64 16 text read → result_ok read ≡ hex_reading n
+    → text ≡ decimal n → ParsesUnsigned 64 16 text read → result_ok read ≡ digits_as_hex n
 hex_parsed n text read small same parsed =
     let numeral = (decimal_is_IsNumeral n small).0 in
     let plain : without_leading_plus (decimal n) ≡ decimal n =

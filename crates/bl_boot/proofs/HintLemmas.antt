@@ -8,6 +8,7 @@ use Rattle.bl_desc.specs.declared.entry_row.EntryRow.{EntryRow}
 use Rattle.bl_desc.specs.Views.{entry_view}
 use Rattle.bl_boot.specs.Hints.{kernel_hint, kernel_hint_if, kernel_hint_of}
 use Rattle.bl_boot.specs.Hints.{region_hint, region_hint_at, region_hint_if}
+use Rattle.bl_boot.specs.KernelSegments.{KernelSegmentsFacts}
 use Rattle.bl_boot.specs.Sought.{SoughtFacts, bytes_sought}
 use Rattle.bl_boot.specs.Sources.{source_at, source_if, source_words}
 use Rattle.bl_boot.proofs.ExplainLemmas.{no_row, one_row}
@@ -26,18 +27,19 @@ pub one_kernel_hint : {A : Type 0} (rows : List (EntryRow A)) (sought : SoughtFa
 one_kernel_hint rows sought refused row within at =
     ap (kernel_hint_if sought refused) (one_row rows refused.entry row within at)
 
-pub no_source : {A : Type 0} (rows : List (EntryRow A)) (sought : SoughtFacts) (index : ℕ)
-    (role : Role) (i : ℕ) → length rows ≤ index
-    → source_at (map entry_view rows) sought index role i ≡ []
-no_source rows sought index role i past =
-    ap (λ entry. source_if sought entry role i) (no_row rows index past)
+pub no_source : {A : Type 0} (rows : List (EntryRow A)) (sought : SoughtFacts)
+    (kernel : KernelSegmentsFacts) (index : ℕ) (role : Role) (i : ℕ) → length rows ≤ index
+    → source_at (map entry_view rows) sought kernel index role i ≡ []
+no_source rows sought kernel index role i past =
+    ap (λ entry. source_if sought kernel entry role i) (no_row rows index past)
 
-pub one_source : {A : Type 0} (rows : List (EntryRow A)) (sought : SoughtFacts) (index : ℕ)
-    (role : Role) (i : ℕ) (row : EntryRow A) → index < length rows → row ≡ get_or rows index row
-    → source_at (map entry_view rows) sought index role i
-    ≡ source_words sought (entry_view row) role i
-one_source rows sought index role i row within at =
-    ap (λ entry. source_if sought entry role i) (one_row rows index row within at)
+pub one_source : {A : Type 0} (rows : List (EntryRow A)) (sought : SoughtFacts)
+    (kernel : KernelSegmentsFacts) (index : ℕ) (role : Role) (i : ℕ) (row : EntryRow A)
+    → index < length rows → row ≡ get_or rows index row
+    → source_at (map entry_view rows) sought kernel index role i
+    ≡ source_words sought kernel (entry_view row) role i
+one_source rows sought kernel index role i row within at =
+    ap (λ entry. source_if sought kernel entry role i) (one_row rows index row within at)
 
 pub no_region : (regions : List Region) (index : ℕ) → length regions ≤ index
     → region_hint_at regions index ≡ []

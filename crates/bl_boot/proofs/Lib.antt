@@ -19,4 +19,5 @@ pub mod RefusedLemmas
 pub mod PoolLemmas
 pub mod HexHintLemmas
 pub mod HeldLemmas
+pub mod SegmentLemmas
 pub mod ExplainEnds

@@ -14,7 +14,7 @@ use Rattle.bl_desc.specs.declared.form.EntryForm.{EntryForm}
 use Rattle.bl_desc.specs.declared.form.EntryForm.TheVariants.{Multiboot2, Linux}
 use Rattle.bl_desc.specs.declared.form.ModuleRow.{ModuleRow}
 use Rattle.bl_desc.specs.Views.{HasMenu, entry_view, form_view, module_view, view}
-use Rattle.bl_session.specs.Attempts.{once_by}
+use Rattle.bl_session.specs.Attempts.{without_repeats_by}
 use Rattle.bl_boot.specs.Attempted.{entry_of, file_names, names_beside, names_in}
 use Rattle.bl_boot.specs.Attempted.{absent_entry}
 use Rattle.bl_boot.specs.Kept.{names_with}
@@ -109,11 +109,11 @@ few_if : (b : Bool) (name : List ℕ) (rest kept names : List (List ℕ)) → le
 few_if true name rest kept names r k = omega (arith, r)
 few_if false name rest kept names r k = omega (arith, k)
 
-few_once : (earlier names : List (List ℕ)) → length (once_by bytes_eq earlier names) ≤ length names
+few_once : (earlier names : List (List ℕ)) → length (without_repeats_by bytes_eq earlier names) ≤ length names
 few_once earlier [] = omega arith
 few_once earlier (name ∷ names) =
-    few_if (list_any (λ n. bytes_eq n name) earlier) name (once_by bytes_eq earlier names)
-    (once_by bytes_eq (earlier ++ name ∷ []) names) names
+    few_if (list_any (λ n. bytes_eq n name) earlier) name (without_repeats_by bytes_eq earlier names)
+    (without_repeats_by bytes_eq (earlier ++ name ∷ []) names) names
     (few_once earlier names) (few_once (earlier ++ name ∷ []) names)
 
 pub few_names : {A : Type 0} (d : Description A) → HasMenu d → length (names_in (view d)) ≤ 32 * 65

@@ -105,7 +105,7 @@ refused_results facts files (entry ∷ rest) earlier state all (refused r, ends,
 -- ---- by what was found
 
 -- the value of an entry of a description
-value_of_entry : (d : Described) (facts : MachineFacts) (files : List File) (index : ℕ) (e : Entry)
+pub value_of_entry : (d : Described) (facts : MachineFacts) (files : List File) (index : ℕ) (e : Entry)
     → slice_get d.entries index ≡ Some e
     → value_in (boot_of d facts files) files index ≡ value_sought (sought_in d files) e
 value_of_entry d facts files index e here =

@@ -7,7 +7,7 @@ use Rattle.bl_map.specs.MachineFacts.{MachineFacts}
 use Rattle.bl_plan.specs.declared.protocol.Protocol.TheVariants.{Multiboot2}
 use Rattle.bl_load.specs.Value.{EntryValue}
 use Rattle.bl_session.specs.Menu.{EntryFacts, MenuFacts}
-use Rattle.bl_session.specs.Attempts.{once_by, attempts_of}
+use Rattle.bl_session.specs.Attempts.{without_repeats_by, attempts_of}
 use Rattle.bl_session.specs.Boot.{BootFacts}
 use Rattle.bl_session.specs.Outcome.{File, size_of}
 use Rattle.bl_desc.specs.Described.{Described}
@@ -53,7 +53,8 @@ entry_of description index = slice_index_or description.entries index absent_ent
 -- out
 abbrev pub names_of_entries : Described → List ℕ → List (List ℕ)
 names_of_entries description indices =
-    once_by bytes_eq [] (flat_map (λ index. file_names (entry_of description index)) indices)
+    without_repeats_by bytes_eq []
+    (flat_map (λ index. file_names (entry_of description index)) indices)
 
 -- the names that are looked for: those of the entries that are attempted
 abbrev pub names_in : Described → List (List ℕ)

@@ -7,7 +7,7 @@ use Rattle.bl_plan.specs.declared.part.Choice.{Choice}
 use Rattle.bl_plan.specs.declared.part.Choice.TheVariants.{Fixed, Lowest, Highest, Preferred}
 use Rattle.bl_plan.specs.declared.part.Row.{Row}
 use Rattle.bl_desc.specs.Entries.{Entry}
-use Rattle.bl_boot.specs.Frames.{counted, frames_line, frames_wanted, names_at}
+use Rattle.bl_boot.specs.Frames.{number_between, frames_line, frames_wanted, names_at}
 use Rattle.bl_boot.specs.HandedLines.{role_name}
 use Rattle.bl_boot.specs.Sought.{SoughtFacts}
 use Rattle.bl_boot.specs.UnusableWords.{address_words, unusable_line}
@@ -21,7 +21,7 @@ use Rattle.bl_boot.specs.declared.explanation.detail.Detail.TheVariants.{Nothing
 abbrev pub window_words : (align low high : ℕ) → List ℕ
 window_words align low high =
     address_words (codes "from ") low (codes " to ") ++ address_words (codes "") high (codes "")
-    ++ counted (codes ", alignment ") align (codes "")
+    ++ number_between (codes ", alignment ") align (codes "")
 
 -- how its address is chosen
 abbrev pub choice_words : Choice → List ℕ
@@ -52,8 +52,8 @@ unusable_lines facts (Some a) = unusable_line facts.size a (kind_of (kind_at fac
 abbrev pub pool_frames_line : (wanted all : ℕ) → Option ℕ → List ℕ
 pool_frames_line wanted all (Some beside) = frames_line wanted beside all
 pool_frames_line wanted all None =
-    counted (codes "frames ") wanted (codes " wanted, ")
-    ++ counted (codes "") all (codes " in all\n")
+    number_between (codes "frames ") wanted (codes " wanted, ")
+    ++ number_between (codes "") all (codes " in all\n")
 
 -- ---- a refusal of an entry, by its index in a menu
 

@@ -5,7 +5,9 @@ use Rattle.bl_map.specs.Faults.{HasFirstMapFault}
 use Rattle.bl_map.specs.MachineFacts.{MachineFacts}
 use Rattle.bl_map.specs.declared.fault.MapFault.{MapFault}
 use Rattle.bl_map.specs.declared.fault.MapFault.TheVariants as map_fault
+use Rattle.bl_plan.specs.declared.protocol.Protocol.TheVariants.{Multiboot2}
 use Rattle.bl_load.specs.Handover.{Handover}
+use Rattle.bl_load.specs.Kernel.{KernelFacts, IsKernel}
 use Rattle.bl_load.specs.Parts.{IsRefusal}
 use Rattle.bl_load.specs.Value.{EntryValue}
 use Rattle.bl_load.specs.declared.refusal.Refusal.{Refusal}
@@ -23,8 +25,9 @@ use Rattle.bl_boot.specs.declared.explanation.fault.ExplainFault.TheVariants.{Bl
 use Rattle.bl_boot.specs.BlameHints.{blame_lines}
 use Rattle.bl_boot.specs.Explained.{ExplainsBlame, ExplainsBoot, ExplainsRefusals}
 use Rattle.bl_boot.specs.Found.{AsksFirst}
-use Rattle.bl_boot.specs.Sought.{SoughtFacts}
+use Rattle.bl_boot.specs.Sought.{SoughtFacts, bytes_sought}
 use Rattle.bl_boot.specs.Details.{AreToldRefusals, value_sought}
+use Rattle.bl_boot.specs.KernelSegments.{KernelSegmentsFacts, AreSegmentsAt, no_segments}
 use Rattle.bl_boot.specs.Told.{told_lines}
 use Rattle.bl_boot.specs.declared.explanation.detail.ToldRefusal.{ToldRefusal}
 
@@ -64,6 +67,17 @@ HasPlaceRefusal facts entries sought refused =
     → is_placing refused.refusal ≡ true
     → IsRefusal facts (value_sought sought entry) refused.refusal
 
+-- an entry's kernel, as it was found, is one where its protocol is that of Multiboot2
+abbrev pub HasKernel : SoughtFacts → Entry → Type 0
+HasKernel sought entry =
+    entry.form.protocol ≡ Multiboot2
+    → (kernel : KernelFacts) × IsKernel (bytes_sought sought entry.kernel) kernel
+
+-- so is that of the entry of a menu that has this index, if there is one
+abbrev pub HasKernelAt : List Entry → SoughtFacts → ℕ → Type 0
+HasKernelAt entries sought index =
+    (entry : Entry) → slice_get entries index ≡ Some entry → HasKernel sought entry
+
 -- the boot of what was found for a description is explained so: what it came to, of these files,
 -- and what is said
 abbrev pub FoundExplains : Described → BootFacts → List File → SoughtFacts → (old new : List ℕ)
@@ -73,13 +87,16 @@ FoundExplains description facts files sought old new (Ok Booted) =
     × IsOutcome facts files no_fault (handed_over entry earlier handover)
     × (told : List ToldRefusal)
     × AreToldRefusals facts.machine description.entries sought earlier told
+    × (kernel : KernelSegmentsFacts) × AreSegmentsAt description.entries sought entry kernel
     × (new ≡ old
-    ++ told_lines description facts.machine sought told (handed_over entry earlier handover))
+    ++ told_lines description facts.machine sought told kernel
+    (handed_over entry earlier handover))
 FoundExplains description facts files sought old new (Ok NoEntryLeft) =
     (refused : List RefusedEntry) × IsOutcome facts files no_fault (none_left refused)
     × (told : List ToldRefusal)
     × AreToldRefusals facts.machine description.entries sought refused told
-    × (new ≡ old ++ told_lines description facts.machine sought told (none_left refused))
+    × (new ≡ old
+    ++ told_lines description facts.machine sought told no_segments (none_left refused))
 FoundExplains description facts files sought old new (Err Blamed) = ⊥
 FoundExplains description facts files sought old new (Err NoMemory) = new ≡ old
 

@@ -10,13 +10,14 @@ use Rattle.bl_boot.specs.Blames.{HasBlame}
 use Rattle.bl_boot.specs.BlameHints.{blame_lines}
 use Rattle.bl_boot.specs.Ends.{BootCase, ComesTo, IsBadDescription}
 use Rattle.bl_boot.specs.Details.{AreToldRefusals}
+use Rattle.bl_boot.specs.KernelSegments.{KernelSegmentsFacts, AreToldSegments}
 use Rattle.bl_boot.specs.Told.{refused_in, sought_in, told_lines}
 use Rattle.bl_boot.specs.declared.explanation.detail.ToldRefusal.{ToldRefusal}
 
 -- with files of a type F: what they may answer for a name, and how many faults they had
 module _ {F : Type 0} (answers : F → List ℕ → File → Type 0) (faults : F → ℕ) where
   -- the boot that is described comes to this, and what is said tells it, with what is told beside
-  -- each refusal
+  -- each refusal, and the segments of the kernel that is handed over
   pub record IsExplained (desc : List ℕ) (before after : F) (old new : List ℕ)
       (state : State) : Type 0 where
     pub case : BootCase answers faults desc before after
@@ -24,9 +25,12 @@ module _ {F : Type 0} (answers : F → List ℕ → File → Type 0) (faults : F
     pub told : List ToldRefusal
     pub are_told : AreToldRefusals case.facts case.description.entries
         (sought_in case.description case.files) (refused_in state) told
+    pub kernel : KernelSegmentsFacts
+    pub are_segments : AreToldSegments case.description.entries
+        (sought_in case.description case.files) state kernel
     pub said : new
         ≡ old ++ told_lines case.description case.facts
-        (sought_in case.description case.files) told state
+        (sought_in case.description case.files) told kernel state
 
   -- an entry would be handed over
   pub record ExplainsBoot (desc : List ℕ) (before after : F) (old new : List ℕ) : Type 0 where

@@ -26,14 +26,15 @@ frames_wanted sought (name ∷ names) =
     frames_of (length_sought sought name) + frames_wanted sought names
 
 -- a number between two texts
-unfoldable pub counted : (before : List ℕ) → ℕ → (behind : List ℕ) → List ℕ
-counted before count behind = before ++ decimal count ++ behind
+unfoldable pub number_between : (before : List ℕ) → ℕ → (behind : List ℕ) → List ℕ
+number_between before count behind = before ++ decimal count ++ behind
 
 -- frames that files take, frames of the pool beside the parts, all of the pool's frames
 abbrev pub frames_line : (wanted beside all : ℕ) → List ℕ
 frames_line wanted beside all =
-    counted (codes "frames ") wanted (codes " wanted, ")
-    ++ counted (codes "") beside (codes " open, ") ++ counted (codes "") all (codes " in all\n")
+    number_between (codes "frames ") wanted (codes " wanted, ")
+    ++ number_between (codes "") beside (codes " open, ")
+    ++ number_between (codes "") all (codes " in all\n")
 
 -- of files of these names in this pool, where the parts lie in these ranges
 abbrev pub room_line : SoughtFacts → List (List ℕ) → (pool : Range ℕ) → List (Range ℕ) → List ℕ

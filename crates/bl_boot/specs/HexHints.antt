@@ -7,8 +7,8 @@ use Rattle.bl_map.specs.Limits.{frame_size, max_size, min_size}
 use Rattle.bl_boot.specs.Hints.{is_in_frame}
 
 -- the number that the decimal digits of a number write as hexadecimal ones, below 2^64
-unfoldable pub hex_reading : ℕ → Option ℕ
-hex_reading n =
+unfoldable pub digits_as_hex : ℕ → Option ℕ
+digits_as_hex n =
     if nat_lt (digits_value 16 (decimal n)) (2 ^ 64)
     then Some (digits_value 16 (decimal n))
     else None
@@ -22,7 +22,7 @@ hex_hint_if test n None = []
 hex_hint_if test n (Some reading) = if test reading then hex_line n else []
 
 abbrev pub hex_hint : (ℕ → Bool) → ℕ → List ℕ
-hex_hint test n = hex_hint_if test n (hex_reading n)
+hex_hint test n = hex_hint_if test n (digits_as_hex n)
 
 -- `IsSize` as a test
 abbrev pub is_size : ℕ → Bool

@@ -12,7 +12,7 @@ use Rattle.bl_load.specs.Handover.{Handover}
 use Rattle.bl_session.specs.declared.words.RefusedEntry.{RefusedEntry}
 use Rattle.bl_session.specs.Boot.{BootFacts, handed_over, none_left}
 use Rattle.bl_session.specs.Outcome.{File, IsOutcome, no_fault}
-use Rattle.bl_session.specs.Attempts.{once_by}
+use Rattle.bl_session.specs.Attempts.{without_repeats_by}
 use Rattle.bl_boot.specs.Attempted.{entry_of}
 use Rattle.bl_boot.specs.Found.{AsksFirst}
 use Rattle.bl_boot.specs.Says.{booted_line, refused_lines, no_entry_line}
@@ -33,7 +33,7 @@ end_of_desc_fault desc_fault.NoMemory = NoMemory
 
 -- the names so far, and after them what these add: each one that is not there yet
 abbrev pub names_with : List (List ℕ) → List (List ℕ) → List (List ℕ)
-names_with earlier names = earlier ++ once_by bytes_eq earlier names
+names_with earlier names = earlier ++ without_repeats_by bytes_eq earlier names
 
 -- why there is no such machine: a rule is broken, or memory ran out
 abbrev pub IsMachineFault : Described → EndFault → Type 0

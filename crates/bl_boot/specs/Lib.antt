@@ -12,6 +12,7 @@ pub mod Converted
 pub mod Sought
 pub mod Frames
 pub mod Hints
+pub mod KernelSegments
 pub mod Sources
 pub mod RefusalWords
 pub mod HandedLines

@@ -17,6 +17,7 @@ use Rattle.bl_boot.specs.DetailLines.{detail_lines}
 use Rattle.bl_boot.specs.Frames.{names_at, room_line}
 use Rattle.bl_boot.specs.HandedLines.{handoff_lines, handover_lines}
 use Rattle.bl_boot.specs.Hints.{hint_lines}
+use Rattle.bl_boot.specs.KernelSegments.{KernelSegmentsFacts}
 use Rattle.bl_boot.specs.RefusalWords.{refusal_line}
 use Rattle.bl_boot.specs.Says.{booted_line, no_entry_line}
 use Rattle.bl_boot.specs.Sought.{SoughtFacts, sought_lines}
@@ -61,18 +62,19 @@ abbrev pub sought_in : Described → List File → SoughtFacts
 sought_in description files =
     record { names = names_in description; files = files }
 
--- what one of these entries hands over, by its index, and the frames that its files take of a pool
+-- what one of these entries hands over, by its index, its kernel having these segments, and the
+-- frames that its files take of a pool
 abbrev pub entry_handover_lines :
-    List Entry → SoughtFacts → (pool : Range ℕ) → ℕ → Handover → List ℕ
-entry_handover_lines entries sought pool entry handover =
-    handover_lines (source_at entries sought entry) handover
+    List Entry → SoughtFacts → KernelSegmentsFacts → (pool : Range ℕ) → ℕ → Handover → List ℕ
+entry_handover_lines entries sought kernel pool entry handover =
+    handover_lines (source_at entries sought kernel entry) handover
     ++ room_line sought (names_at entries entry) pool (map part_range handover.parts)
 
 -- by the places that parts of a handoff have
 abbrev pub entry_handoff_lines :
-    List Entry → SoughtFacts → (pool : Range ℕ) → ℕ → HandoffFacts → List ℕ
-entry_handoff_lines entries sought pool entry handoff =
-    handoff_lines (source_at entries sought entry) handoff
+    List Entry → SoughtFacts → KernelSegmentsFacts → (pool : Range ℕ) → ℕ → HandoffFacts → List ℕ
+entry_handoff_lines entries sought kernel pool entry handoff =
+    handoff_lines (source_at entries sought kernel entry) handoff
     ++ room_line sought (names_at entries entry) pool (map place_range handoff.places)
 
 -- each entry that was attempted was refused, and this is told of the refusals
@@ -100,14 +102,16 @@ refused_in (handed_over entry earlier handover) = earlier
 refused_in (none_left refused) = refused
 refused_in out_of_memory = []
 
--- what a boot on a machine of these facts came to, where this is told of its refusals
+-- what a boot on a machine of these facts came to, where this is told of its refusals, and these
+-- segments of the kernel that is handed over
 abbrev pub told_lines :
-    Described → MachineFacts → SoughtFacts → List ToldRefusal → State → List ℕ
-told_lines description facts sought told unstarted = []
-told_lines description facts sought told (running entry rest earlier pieces) = []
-told_lines description facts sought told (handed_over entry earlier handover) =
+    Described → MachineFacts → SoughtFacts → List ToldRefusal → KernelSegmentsFacts → State
+    → List ℕ
+told_lines description facts sought told kernel unstarted = []
+told_lines description facts sought told kernel (running entry rest earlier pieces) = []
+told_lines description facts sought told kernel (handed_over entry earlier handover) =
     booted_lines description facts sought entry told earlier
-    (entry_handover_lines description.entries sought facts.pool entry handover)
-told_lines description facts sought told (none_left refused) =
+    (entry_handover_lines description.entries sought kernel facts.pool entry handover)
+told_lines description facts sought told kernel (none_left refused) =
     none_left_lines description facts sought told refused
-told_lines description facts sought told out_of_memory = []
+told_lines description facts sought told kernel out_of_memory = []

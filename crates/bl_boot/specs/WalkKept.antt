@@ -8,8 +8,9 @@ use Rattle.bl_walk.specs.Faults.{walk_fault_number}
 use Rattle.bl_walk.specs.declared.fault.WalkFault.{WalkFault}
 use Rattle.bl_walk.specs.declared.fault.WalkFault.TheVariants as walking
 use Rattle.bl_boot.specs.Walked.{IsWalked, IsBadImage}
-use Rattle.bl_boot.specs.declared.image_walk.fault.WalkEnd.{WalkEnd}
-use Rattle.bl_boot.specs.declared.image_walk.fault.WalkEnd.TheVariants.{BadImage, Device, NoMemory}
+use Rattle.bl_boot.specs.declared.image_walk.walk_end.WalkEnd.{WalkEnd}
+use Rattle.bl_boot.specs.declared.image_walk.walk_end.WalkEnd.TheVariants.{BadImage, Device}
+use Rattle.bl_boot.specs.declared.image_walk.walk_end.WalkEnd.TheVariants.{NoMemory}
 
 -- a fault of reading
 abbrev pub end_of_image_fault : ImageFault → WalkEnd

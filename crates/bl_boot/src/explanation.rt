@@ -3,11 +3,12 @@
 mod blame;
 mod detail;
 mod details;
-mod entry_details;
 mod entry_texts;
 mod fault;
 mod found;
 mod handed;
+mod kernel_segments;
+mod placing_details;
 mod reading;
 mod sought;
 mod text_place;
@@ -15,5 +16,6 @@ mod whole;
 
 pub use blame::{Blame, TextPlace};
 pub use detail::{Detail, ToldRefusal};
+pub use kernel_segments::KernelSegments;
 pub use sought::Sought;
 pub use whole::explain_to;

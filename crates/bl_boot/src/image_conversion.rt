@@ -2,7 +2,7 @@
 ghost use Rattle.std.specs.Prelude.{◌≡◌, ◌⊎◌, ◌<◌, ◌^◌};
 ghost use Rattle.bl_boot.specs.Converted.{IsConverted, IsUnreadable, IsTorn, ConvertStops};
 
-use crate::image_walk::say_bad_image;
+use crate::lines::say_bad_image;
 use bl_image::{ImageFault, Sink, Source, read_image, write_value};
 use std::alloc::Allocator;
 

@@ -1,15 +1,15 @@
 //! The walk of an image: what a kernel sees in it, as it is said.
-ghost use Rattle.std.specs.Prelude.{◌≡◌, ◌⊎◌, ◌+◌, ◌<◌, ◌^◌, ◌++◌, OnOk, OnErr};
-ghost use Rattle.bl_boot.specs.Walked.{IsWalked, IsBlamed, bad_image_line};
+ghost use Rattle.std.specs.Prelude.{◌≡◌, ◌⊎◌, ◌+◌, ◌<◌, ◌^◌};
+ghost use Rattle.bl_boot.specs.Walked.{IsWalked, IsBlamed};
 ghost use Rattle.bl_boot.specs.WalkKept.{WalkEnds, source_faults};
 
-use crate::image_walk::fault::WalkEnd;
-use crate::lines::say_walk;
+use crate::image_walk::walk_end::WalkEnd;
+use crate::lines::{say_bad_image, say_walk};
 use bl_image::{Source, read_image};
 use bl_walk::walk;
-use std::alloc::{AllocError, Allocator};
+use std::alloc::Allocator;
 
-mod fault;
+mod walk_end;
 
 /// The same as `walk_to`, with its end in place of the status.
 fn run_walk<A: Allocator + Copy, R: Source, B: Allocator>(
@@ -26,20 +26,6 @@ fn run_walk<A: Allocator + Copy, R: Source, B: Allocator>(
     let seen = walk(alloc, &image)?;
     say_walk(alloc, &seen, say)?;
     Ok(())
-}
-
-/// Appends the line of an image that is refused with this number. An error leaves the text as it
-/// was.
-pub(crate) fn say_bad_image<A: Allocator + Copy, B: Allocator>(
-    alloc: A,
-    blame: &mut Vec<u8, B>,
-    number: u32,
-) -> Result<(), AllocError>
-    ensures ok { OnOk result (blame.new.items ≡ blame.old.items ++ bad_image_line number) }
-    ensures err { OnErr result (blame.new.items ≡ blame.old.items) }
-{
-    let line = format!(in alloc; "bad image {number}\n")?;
-    blame.extend_from_slice(line.as_bytes())
 }
 
 /// Reads an image to the end of a source, and appends the lines of what a kernel sees in it to

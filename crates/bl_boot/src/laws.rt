@@ -17,7 +17,7 @@ ghost use Rattle.bl_desc.specs.Described.{Described};
 ghost use Rattle.bl_boot.specs.Ends.{BootCase, IsBooted, IsMachineOf, Surroundings};
 ghost use Rattle.bl_boot.specs.Ends.{value_at, sizes_at, EndsAt};
 
-use crate::file_source::Files;
+use crate::files::Files;
 
 /// Two boots are two calls of `boot` with no more in common than this: their machines have equal
 /// facts (size, map and pool), and the entries that they hand over have equal values (protocol,

@@ -3,7 +3,7 @@
 
 mod description_boot;
 mod explanation;
-mod file_source;
+mod files;
 mod image_conversion;
 mod image_walk;
 mod laws;
@@ -13,7 +13,7 @@ mod machine_map;
 pub use bl_session::{FILE_LIMIT, Fetched};
 pub use description_boot::boot;
 pub use explanation::explain_to;
-pub use file_source::{AskedNames, Files, MemFiles};
+pub use files::{AskedNames, Files, MemFiles};
 pub use image_conversion::convert;
 pub use image_walk::walk_to;
 pub use laws::{booted_images_show_their_entries, converted_images_are_walked_alike, two_boots};

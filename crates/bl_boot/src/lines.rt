@@ -1,6 +1,7 @@
 //! The lines that the program says on standard output.
 
 mod attempts;
+mod bad_image;
 mod bad_key;
 mod blame;
 mod detail;
@@ -14,6 +15,7 @@ mod map;
 mod near;
 mod outcome;
 mod pool_lines;
+mod ranges;
 mod refusal;
 mod refusal_words;
 mod region_hints;
@@ -25,6 +27,7 @@ mod walk;
 mod word_hints;
 
 pub use attempts::{say_attempt, say_refused_attempts};
+pub use bad_image::say_bad_image;
 pub use blame::{say_blame, say_machine_blame};
 pub use frames::say_room;
 pub use handed::say_handoff;

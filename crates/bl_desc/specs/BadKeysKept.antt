@@ -30,14 +30,14 @@ use Rattle.bl_desc.specs.declared.bad_keys.items.Listed.TheVariants.{Regions, Fi
 -- ---- texts
 
 -- a text is allowed by a rule for texts
-abbrev pub text_allowed : Allowed → List ℕ → Bool
-text_allowed AnyText s = true
-text_allowed Title s = is_some (passing is_title s)
-text_allowed KindName s = is_some (kind_named s)
-text_allowed ProtocolName s = is_some (protocol_named s)
-text_allowed HexText s = is_some (bytes_from (decode_of s))
-text_allowed CopyText s = is_some (bytes_from (decode_of s) >>= passing is_copy)
-text_allowed _ s = false
+abbrev pub allows_text : Allowed → List ℕ → Bool
+allows_text AnyText s = true
+allows_text Title s = is_some (passing is_title s)
+allows_text KindName s = is_some (kind_named s)
+allows_text ProtocolName s = is_some (protocol_named s)
+allows_text HexText s = is_some (bytes_from (decode_of s))
+allows_text CopyText s = is_some (bytes_from (decode_of s) >>= passing is_copy)
+allows_text _ s = false
 
 abbrev pub text_test : (List ℕ → Bool) → Option (List ℕ) → Bool
 text_test test None = false

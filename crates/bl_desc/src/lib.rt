@@ -4,6 +4,7 @@
 mod bad_key;
 mod bad_keys;
 mod copies;
+mod default_and_fallbacks;
 mod desc;
 mod document;
 mod entries;
@@ -11,7 +12,6 @@ mod entry_row;
 mod fault;
 mod files;
 mod form;
-mod indices;
 mod keys;
 mod modules;
 mod protocols;

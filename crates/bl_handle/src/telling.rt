@@ -1,5 +1,5 @@
 //! The calls of a session through its handle, with the numbers and records of C.
-ghost use Rattle.std.specs.Prelude.{◌≡◌, ℕ, List, None, Result, false};
+ghost use Rattle.std.specs.Prelude.{◌≡◌, ℕ, List, None, Result};
 ghost use Rattle.std.specs.Option.{MatchOption};
 ghost use Rattle.bl_session.specs.declared.words.Progress.{Progress as Progressed};
 ghost use Rattle.bl_session.specs.Boot.{piece, fault};

@@ -19,8 +19,8 @@ use Rattle.bl_image.specs.declared.fault.ImageFault.TheVariants.{WrongLength}
 use Rattle.bl_image.specs.declared.version.Version.{Version}
 use Rattle.bl_image.specs.declared.version.Version.TheVariants.{One, Two}
 use Rattle.bl_image.specs.Fields.{Field, fields_fault, register_field, wide_field}
-use Rattle.bl_image.specs.Image.{register_numbers, wide_numbers, spelled_registers}
-use Rattle.bl_image.specs.Layouts.{layout, registers_1, registers_3}
+use Rattle.bl_image.specs.Image.{narrow_values, wide_values, spelled_registers}
+use Rattle.bl_image.specs.Layouts.{layout, registers_1, registers_2_wide}
 use Rattle.bl_image.specs.Source.{Input}
 use Rattle.bl_image.specs.SourceKept.{PassAll}
 use Rattle.bl_image.specs.Spellable.{FitsRegisters}
@@ -101,15 +101,15 @@ any_none field (suc n) others bytes none =
 pub narrow_pass : (r : Registers32) → Leaves registers_1 (spelled_registers One (Bits32 r))
 unfolding registers_1 register_field
 narrow_pass r others x =
-    any_pass register_field register_any 20 others (flat_map u32_bytes (register_numbers r)) x
-    (length-u32s (register_numbers r))
+    any_pass register_field register_any 20 others (flat_map u32_bytes (narrow_values r)) x
+    (length-u32s (narrow_values r))
 
 -- and those of 64 bits the fields of version 2 under such a protocol
-pub full_pass : (r : Registers64) → Leaves registers_3 (spelled_registers Two (Bits64 r))
-unfolding registers_3 wide_field
+pub full_pass : (r : Registers64) → Leaves registers_2_wide (spelled_registers Two (Bits64 r))
+unfolding registers_2_wide wide_field
 full_pass r others x =
-    any_pass wide_field wide_any 31 others (flat_map u64_bytes (wide_numbers (Bits64 r))) x
-    (length-u64s (wide_numbers (Bits64 r)))
+    any_pass wide_field wide_any 31 others (flat_map u64_bytes (wide_values (Bits64 r))) x
+    (length-u64s (wide_values (Bits64 r)))
 
 -- the registers of an image pass their fields
 pub registers_pass : (v : Version) (p : Protocol) (r : Registers) → HasProtocol v p

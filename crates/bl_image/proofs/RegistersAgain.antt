@@ -9,7 +9,7 @@ use Rattle.bl_load.specs.declared.registers64.Registers64.{Registers64}
 use Rattle.bl_load.specs.Registers.{are_wide}
 use Rattle.bl_image.specs.declared.version.Version.{Version}
 use Rattle.bl_image.specs.declared.version.Version.TheVariants.{One, Two}
-use Rattle.bl_image.specs.Image.{wide_numbers, register_numbers, spelled_registers}
+use Rattle.bl_image.specs.Image.{wide_values, narrow_values, spelled_registers}
 use Rattle.bl_image.specs.Spellable.{AreFit}
 use Rattle.bl_image.proofs.WideLemmas.{narrow_same, wide_fit}
 use Rattle.bl_image.proofs.NumberLemmas.{front_same, back_same, length-u32s, length-u64s}
@@ -18,13 +18,13 @@ use Rattle.bl_image.proofs.RegistersBy.{registers_same, wide_registers_same}
 
 -- the same registers by their numbers of 64 bits, and what follows
 wides_alike : (r s : Registers) → are_wide r ≡ are_wide s → AreFit r → AreFit s → (x y : List ℕ)
-    → flat_map u64_bytes (wide_numbers r) ++ x ≡ flat_map u64_bytes (wide_numbers s) ++ y
+    → flat_map u64_bytes (wide_values r) ++ x ≡ flat_map u64_bytes (wide_values s) ++ y
     → (r ≡ s) × (x ≡ y)
 wides_alike (Bits32 r) (Bits64 s) width hr hs x y e = cc
 wides_alike (Bits64 r) (Bits32 s) width hr hs x y e = cc
 wides_alike (Bits32 r) (Bits32 s) width hr hs x y e =
-    let ms : List ℕ = wide_numbers (Bits32 r) in
-    let ns : List ℕ = wide_numbers (Bits32 s) in
+    let ms : List ℕ = wide_values (Bits32 r) in
+    let ns : List ℕ = wide_values (Bits32 s) in
     let wide : length (flat_map u64_bytes ms) ≡ length (flat_map u64_bytes ns) =
     length-u64s ms ∙ sym (length-u64s ns) in (
       ap (λ (q : Registers32). Bits32 q)
@@ -34,8 +34,8 @@ wides_alike (Bits32 r) (Bits32 s) width hr hs x y e =
       back_same _ _ _ _ wide e,
     )
 wides_alike (Bits64 r) (Bits64 s) width hr hs x y e =
-    let ms : List ℕ = wide_numbers (Bits64 r) in
-    let ns : List ℕ = wide_numbers (Bits64 s) in
+    let ms : List ℕ = wide_values (Bits64 r) in
+    let ns : List ℕ = wide_values (Bits64 s) in
     let wide : length (flat_map u64_bytes ms) ≡ length (flat_map u64_bytes ns) =
     length-u64s ms ∙ sym (length-u64s ns) in (
       ap (λ (q : Registers64). Bits64 q)
@@ -50,12 +50,12 @@ pub registers_alike : (v : Version) (r s : Registers) → are_wide r ≡ are_wid
 registers_alike One (Bits32 r) (Bits64 s) width hr hs x y e = cc
 registers_alike One (Bits64 r) (Bits32 s) width hr hs x y e = cc
 registers_alike One (Bits32 r) (Bits32 s) width hr hs x y e =
-    let wide : length (flat_map u32_bytes (register_numbers r))
-    ≡ length (flat_map u32_bytes (register_numbers s)) =
-    length-u32s (register_numbers r) ∙ sym (length-u32s (register_numbers s)) in (
+    let wide : length (flat_map u32_bytes (narrow_values r))
+    ≡ length (flat_map u32_bytes (narrow_values s)) =
+    length-u32s (narrow_values r) ∙ sym (length-u32s (narrow_values s)) in (
       ap (λ (q : Registers32). Bits32 q)
           (registers_same r s
-          (u32s_same (register_numbers r) (register_numbers s) hr hs refl
+          (u32s_same (narrow_values r) (narrow_values s) hr hs refl
           (front_same _ _ _ _ wide e))),
       back_same _ _ _ _ wide e,
     )

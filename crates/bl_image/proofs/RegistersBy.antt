@@ -3,7 +3,7 @@ use Rattle.std.proofs.Common.{◌≡◌, ℕ, List, length, get_or, refl, sym, a
 use Rattle.bl_load.specs.declared.registers.Registers32.{Registers32}
 use Rattle.bl_load.specs.declared.registers64.Registers64.{Registers64}
 use Rattle.bl_load.specs.declared.registers.Registers.TheVariants.{Bits64}
-use Rattle.bl_image.specs.Image.{register_numbers, wide_numbers}
+use Rattle.bl_image.specs.Image.{narrow_values, wide_values}
 use Rattle.bl_image.proofs.Listed.{elements_are}
 
 -- the registers of 32 bits that have these numbers
@@ -32,16 +32,16 @@ registers_by l = record {
 }
 
 -- and they have these numbers
-pub registers_are : (l : List ℕ) → length l ≡ 20 → register_numbers (registers_by l) ≡ l
+pub registers_are : (l : List ℕ) → length l ≡ 20 → narrow_values (registers_by l) ≡ l
 unfolding registers_by
 registers_are l size = elements_are 20 0 l size
 
-registers_again : (r : Registers32) → r ≡ registers_by (register_numbers r)
+registers_again : (r : Registers32) → r ≡ registers_by (narrow_values r)
 unfolding registers_by
 registers_again r = refl
 
 -- registers of 32 bits are told by their numbers
-pub registers_same : (r s : Registers32) → register_numbers r ≡ register_numbers s → r ≡ s
+pub registers_same : (r s : Registers32) → narrow_values r ≡ narrow_values s → r ≡ s
 registers_same r s e = registers_again r ∙ ap registers_by e ∙ sym (registers_again s)
 
 -- the registers of 64 bits that have these numbers
@@ -82,16 +82,16 @@ wide_registers_by l = record {
 
 -- and they have these numbers
 pub wide_registers_are : (l : List ℕ) → length l ≡ 31
-    → wide_numbers (Bits64 (wide_registers_by l)) ≡ l
+    → wide_values (Bits64 (wide_registers_by l)) ≡ l
 unfolding wide_registers_by
 wide_registers_are l size = elements_are 31 0 l size
 
-wide_registers_again : (r : Registers64) → r ≡ wide_registers_by (wide_numbers (Bits64 r))
+wide_registers_again : (r : Registers64) → r ≡ wide_registers_by (wide_values (Bits64 r))
 unfolding wide_registers_by
 wide_registers_again r = refl
 
 -- registers of 64 bits are told by their numbers
-pub wide_registers_same : (r s : Registers64) → wide_numbers (Bits64 r) ≡ wide_numbers (Bits64 s)
+pub wide_registers_same : (r s : Registers64) → wide_values (Bits64 r) ≡ wide_values (Bits64 s)
     → r ≡ s
 wide_registers_same r s e =
     wide_registers_again r ∙ ap wide_registers_by e ∙ sym (wide_registers_again s)

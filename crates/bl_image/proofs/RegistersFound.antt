@@ -14,8 +14,8 @@ use Rattle.bl_load.specs.declared.registers.Registers.{Registers}
 use Rattle.bl_load.specs.declared.registers.Registers.TheVariants.{Bits32, Bits64}
 use Rattle.bl_load.specs.Protocols.{is_wide}
 use Rattle.bl_image.specs.Fields.{Field, fields_fault, register_field, narrow_field, absent_field}
-use Rattle.bl_image.specs.Image.{register_numbers, wide_numbers, spelled_registers}
-use Rattle.bl_image.specs.Layouts.{layout, registers_1, registers_2, registers_3}
+use Rattle.bl_image.specs.Image.{narrow_values, wide_values, spelled_registers}
+use Rattle.bl_image.specs.Layouts.{layout, registers_1, registers_2_narrow, registers_2_wide}
 use Rattle.bl_image.specs.Spellable.{FitsRegisters}
 use Rattle.bl_image.specs.Versions.{version_number, HasProtocol}
 use Rattle.bl_image.specs.declared.version.Version.{Version}
@@ -47,7 +47,7 @@ found_1 protocol others bytes narrow small none =
     let ws =
     words_split 20 (take 80 bytes) (small_take 80 bytes small)
     (length-take-le 80 bytes found.0) in
-    let numbers : register_numbers (registers_by ws.words) ≡ ws.words =
+    let numbers : narrow_values (registers_by ws.words) ≡ ws.words =
     registers_are ws.words ws.size in
     let fits : ℕ → Type 0 = λ k. k < 2 ^ 32 in
     record {
@@ -71,8 +71,8 @@ regroup_fields a b c d e others = simp append_assoc
 
 found_2 : (protocol : Protocol) (others : List Field) (bytes : List ℕ)
     → is_wide protocol ≡ false → IsSmall bytes
-    → fields_fault (registers_2 ++ others) bytes ≡ None → RegistersFound Two protocol others bytes
-unfolding registers_2
+    → fields_fault (registers_2_narrow ++ others) bytes ≡ None → RegistersFound Two protocol others bytes
+unfolding registers_2_narrow
 found_2 protocol others bytes is_narrow small none =
     let fits : ℕ → Type 0 = λ k. k < 2 ^ 32 in
     let narrow : ℕ → List Field = λ n. replicate n narrow_field in
@@ -95,7 +95,7 @@ found_2 protocol others bytes is_narrow small none =
     let b = length-append third.numbers fifth.numbers in
     omega (arith, a, b, first.size, third.size, fifth.size) in
     let r = registers_by all in
-    let numbers : register_numbers r ≡ all = registers_are all size in
+    let numbers : narrow_values r ≡ all = registers_are all size in
     let wide =
     wide_by r first.numbers third.numbers fifth.numbers first.size third.size numbers in
     let a = flat_map u64_bytes first.numbers in
@@ -129,12 +129,12 @@ found_2 protocol others bytes is_narrow small none =
 
 found_3 : (protocol : Protocol) (others : List Field) (bytes : List ℕ)
     → is_wide protocol ≡ true → IsSmall bytes
-    → fields_fault (registers_3 ++ others) bytes ≡ None → RegistersFound Two protocol others bytes
-unfolding registers_3
+    → fields_fault (registers_2_wide ++ others) bytes ≡ None → RegistersFound Two protocol others bytes
+unfolding registers_2_wide
 found_3 protocol others bytes wide small none =
     let found = wides_found 31 others bytes small none in
     let r = wide_registers_by found.numbers in
-    let numbers : wide_numbers (Bits64 r) ≡ found.numbers =
+    let numbers : wide_values (Bits64 r) ≡ found.numbers =
     wide_registers_are found.numbers found.size in
     let fits : ℕ → Type 0 = λ k. k < 2 ^ 64 in
     record {

@@ -17,8 +17,8 @@ use Rattle.bl_load.specs.declared.registers.Registers32.{Registers32}
 use Rattle.bl_load.specs.declared.registers.Registers.TheVariants.{Bits32}
 use Rattle.bl_image.specs.declared.fault.ImageFault.TheVariants.{BadHeader}
 use Rattle.bl_image.specs.Fields.{Field, fields_fault, narrow_field, absent_field}
-use Rattle.bl_image.specs.Image.{register_numbers, wide_numbers}
-use Rattle.bl_image.specs.Layouts.{registers_2}
+use Rattle.bl_image.specs.Image.{narrow_values, wide_values}
+use Rattle.bl_image.specs.Layouts.{registers_2_narrow}
 use Rattle.bl_image.proofs.FieldLemmas.{field_passes, long_tells}
 use Rattle.bl_image.proofs.FieldRows.{Leaves, leaves_both, replicate_more}
 
@@ -94,13 +94,13 @@ spelled_wide first flags last =
 split_numbers : List ℕ → List ℕ
 split_numbers ns = widened (take 9 ns) (take 2 (drop 9 ns)) (drop 11 ns)
 
-wide_split : (r : Registers32) → wide_numbers (Bits32 r) ≡ split_numbers (register_numbers r)
+wide_split : (r : Registers32) → wide_values (Bits32 r) ≡ split_numbers (narrow_values r)
 unfolding split_numbers
 wide_split r = refl
 
 pub wide_by : (r : Registers32) (first flags last : List ℕ) → length first ≡ 9 → length flags ≡ 2
-    → register_numbers r ≡ first ++ (flags ++ last)
-    → wide_numbers (Bits32 r) ≡ widened first flags last
+    → narrow_values r ≡ first ++ (flags ++ last)
+    → wide_values (Bits32 r) ≡ widened first flags last
 unfolding split_numbers
 wide_by r first flags last nine two is =
     let front = take_at first (flags ++ last) 9 nine in
@@ -112,12 +112,12 @@ wide_by r first flags last nine two is =
     wide_split r ∙ ap split_numbers is ∙ rw (front, behind, middle, end) refl
 
 -- registers whose numbers fit pass
-pub wide_pass : (r : Registers32) → All (λ n. n < 2 ^ 32) (register_numbers r)
-    → Leaves registers_2 (flat_map u64_bytes (wide_numbers (Bits32 r)))
-unfolding registers_2 split_numbers
+pub wide_pass : (r : Registers32) → All (λ n. n < 2 ^ 32) (narrow_values r)
+    → Leaves registers_2_narrow (flat_map u64_bytes (wide_values (Bits32 r)))
+unfolding registers_2_narrow split_numbers
 wide_pass r fit others more =
     let fits : ℕ → Type 0 = λ k. k < 2 ^ 32 in
-    let ns = register_numbers r in
+    let ns = narrow_values r in
     let first = take 9 ns in
     let flags = take 2 (drop 9 ns) in
     let last = drop 11 ns in
@@ -126,12 +126,12 @@ wide_pass r fit others more =
     let of_first = narrow_leaves first (All-take fits 9 ns fit) in
     let of_flags = narrow_leaves flags (All-take fits 2 (drop 9 ns) (All-drop fits 9 ns fit)) in
     let of_last = narrow_leaves last (All-drop fits 11 ns fit) in
-    let all : Leaves registers_2 (wide_spelling first flags last) =
+    let all : Leaves registers_2_narrow (wide_spelling first flags last) =
     leaves_both (narrow 9) (absent 8 ++ (narrow 2 ++ (absent 3 ++ narrow 9))) _ _ of_first
     (leaves_both (absent 8) (narrow 2 ++ (absent 3 ++ narrow 9)) _ _ (absent_leaves 8)
     (leaves_both (narrow 2) (absent 3 ++ narrow 9) _ _ of_flags
     (leaves_both (absent 3) (narrow 9) _ _ (absent_leaves 3) of_last))) in
-    ap (λ (l : List ℕ). fields_fault (registers_2 ++ others) (l ++ more))
+    ap (λ (l : List ℕ). fields_fault (registers_2_narrow ++ others) (l ++ more))
     (ap (flat_map u64_bytes) (wide_split r) ∙ spelled_wide first flags last)
     ∙ all others more
 
@@ -139,22 +139,22 @@ wide_pass r fit others more =
 narrowed : List ℕ → List ℕ
 narrowed ns = take 9 ns ++ (take 2 (drop 17 ns) ++ drop 22 ns)
 
-narrow_again : (r : Registers32) → register_numbers r ≡ narrowed (wide_numbers (Bits32 r))
+narrow_again : (r : Registers32) → narrow_values r ≡ narrowed (wide_values (Bits32 r))
 unfolding narrowed
 narrow_again r = refl
 
-pub narrow_same : (r s : Registers32) → wide_numbers (Bits32 r) ≡ wide_numbers (Bits32 s)
-    → register_numbers r ≡ register_numbers s
+pub narrow_same : (r s : Registers32) → wide_values (Bits32 r) ≡ wide_values (Bits32 s)
+    → narrow_values r ≡ narrow_values s
 narrow_same r s e = narrow_again r ∙ ap narrowed e ∙ sym (narrow_again s)
 
 -- and they fit
-pub wide_fit : (r : Registers32) → All (λ n. n < 2 ^ 32) (register_numbers r)
-    → All (λ n. n < 2 ^ 64) (wide_numbers (Bits32 r))
+pub wide_fit : (r : Registers32) → All (λ n. n < 2 ^ 32) (narrow_values r)
+    → All (λ n. n < 2 ^ 64) (wide_values (Bits32 r))
 unfolding split_numbers
 wide_fit r fit =
     let fits : ℕ → Type 0 = λ k. k < 2 ^ 32 in
     let wide : ℕ → Type 0 = λ k. k < 2 ^ 64 in
-    let ns = register_numbers r in
+    let ns = narrow_values r in
     let weaker : (l : List ℕ) → All fits l → All wide l =
     λ l h k d within. let below = h k d within in omega (arith, below) in
     let zeros : (n : ℕ) → All wide (replicate n 0) = λ n. All-replicate wide n 0 (omega arith) in

@@ -19,20 +19,20 @@ abbrev pub magic : List ℕ
 magic = codes "BLIMAGE" ++ 0 ∷ []
 
 -- the registers of 32 bits in their order
-abbrev pub register_numbers : Registers32 → List ℕ
-register_numbers r =
+abbrev pub narrow_values : Registers32 → List ℕ
+narrow_values r =
     r.eip ∷ r.eax ∷ r.ebx ∷ r.ecx ∷ r.edx ∷ r.esi ∷ r.edi ∷ r.ebp ∷ r.esp ∷ r.eflags
     ∷ r.cr0 ∷ r.cs ∷ r.ds ∷ r.es ∷ r.fs ∷ r.gs ∷ r.ss ∷ r.gdt_base ∷ r.gdt_limit ∷ r.a20 ∷ []
 
 -- the registers of a processor of 64 bits in their order: RIP, RAX, RBX, RCX, RDX, RSI, RDI, RBP,
 -- RSP, R8 to R15, RFLAGS, CR0, CR3, CR4, EFER, CS, DS, ES, FS, GS, SS, GDT base, GDT limit, A20;
 -- those that an entry of 32 bits does not give are 0
-abbrev pub wide_numbers : Registers → List ℕ
-wide_numbers (Bits32 r) =
+abbrev pub wide_values : Registers → List ℕ
+wide_values (Bits32 r) =
     r.eip ∷ r.eax ∷ r.ebx ∷ r.ecx ∷ r.edx ∷ r.esi ∷ r.edi ∷ r.ebp ∷ r.esp
     ∷ 0 ∷ 0 ∷ 0 ∷ 0 ∷ 0 ∷ 0 ∷ 0 ∷ 0 ∷ r.eflags ∷ r.cr0 ∷ 0 ∷ 0 ∷ 0
     ∷ r.cs ∷ r.ds ∷ r.es ∷ r.fs ∷ r.gs ∷ r.ss ∷ r.gdt_base ∷ r.gdt_limit ∷ r.a20 ∷ []
-wide_numbers (Bits64 r) =
+wide_values (Bits64 r) =
     r.rip ∷ r.rax ∷ r.rbx ∷ r.rcx ∷ r.rdx ∷ r.rsi ∷ r.rdi ∷ r.rbp ∷ r.rsp
     ∷ r.r8 ∷ r.r9 ∷ r.r10 ∷ r.r11 ∷ r.r12 ∷ r.r13 ∷ r.r14 ∷ r.r15
     ∷ r.rflags ∷ r.cr0 ∷ r.cr3 ∷ r.cr4 ∷ r.efer
@@ -41,9 +41,9 @@ wide_numbers (Bits64 r) =
 -- the registers: in version 1 each number of those of 32 bits in 32, in version 2 each in 64; no
 -- image of version 1 has those of 64 bits
 abbrev pub spelled_registers : Version → Registers → List ℕ
-spelled_registers One (Bits32 r) = flat_map u32_bytes (register_numbers r)
-spelled_registers One (Bits64 r) = flat_map u64_bytes (wide_numbers (Bits64 r))
-spelled_registers Two registers = flat_map u64_bytes (wide_numbers registers)
+spelled_registers One (Bits32 r) = flat_map u32_bytes (narrow_values r)
+spelled_registers One (Bits64 r) = flat_map u64_bytes (wide_values (Bits64 r))
+spelled_registers Two registers = flat_map u64_bytes (wide_values registers)
 
 -- the magic; version and protocol; the registers; the number of parts, a zero word: what is no
 -- register in 32 bits

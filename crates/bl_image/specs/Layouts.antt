@@ -37,27 +37,37 @@ layout_1 = record { registers = registers_1; count_at = 96; records_at = 104; mo
 
 -- version 2: 31 registers of 64 bits; under Multiboot2 and Linux's 32-bit entry R8 to R15, and CR3,
 -- CR4 and EFER, are not given
-unfoldable pub registers_2 : List Field
-registers_2 =
+unfoldable pub registers_2_narrow : List Field
+registers_2_narrow =
     replicate 9 narrow_field ++ (replicate 8 absent_field
     ++ (replicate 2 narrow_field ++ (replicate 3 absent_field ++ replicate 9 narrow_field)))
 
-abbrev pub layout_2 : Layout
-layout_2 = record { registers = registers_2; count_at = 264; records_at = 272; most_role = 7 }
+abbrev pub layout_2_narrow : Layout
+layout_2_narrow = record {
+  registers = registers_2_narrow;
+  count_at = 264;
+  records_at = 272;
+  most_role = 7;
+}
 
 -- under the 64-bit entry of Linux each may be anything, and page tables are a part
-unfoldable pub registers_3 : List Field
-registers_3 = replicate 31 wide_field
+unfoldable pub registers_2_wide : List Field
+registers_2_wide = replicate 31 wide_field
 
-abbrev pub layout_3 : Layout
-layout_3 = record { registers = registers_3; count_at = 264; records_at = 272; most_role = 8 }
+abbrev pub layout_2_wide : Layout
+layout_2_wide = record {
+  registers = registers_2_wide;
+  count_at = 264;
+  records_at = 272;
+  most_role = 8;
+}
 
 -- the layout of an image with this number of its version, and this one of its protocol
 abbrev pub layout : ℕ → ℕ → Layout
 layout version protocol =
     if version == 1 then layout_1 else
-    if protocol == 3 then layout_3 else
-    layout_2
+    if protocol == 3 then layout_2_wide else
+    layout_2_narrow
 
 -- the one of these bytes
 abbrev pub layout_of : List ℕ → Layout

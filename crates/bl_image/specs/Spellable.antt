@@ -6,7 +6,7 @@ use Rattle.bl_load.specs.declared.registers.Registers.{Registers}
 use Rattle.bl_load.specs.declared.registers.Registers.TheVariants.{Bits32, Bits64}
 use Rattle.bl_load.specs.Protocols.{is_wide}
 use Rattle.bl_load.specs.Registers.{are_wide}
-use Rattle.bl_image.specs.Image.{register_numbers, wide_numbers}
+use Rattle.bl_image.specs.Image.{narrow_values, wide_values}
 
 -- the numbers of a part fit its record
 pub record FitsRecord (part : Part) : Type 0 where
@@ -16,8 +16,8 @@ pub record FitsRecord (part : Part) : Type 0 where
 
 -- the numbers of registers fit 32 bits or 64
 abbrev pub AreFit : Registers → Type 0
-AreFit (Bits32 r) = All (λ n. n < 2 ^ 32) (register_numbers r)
-AreFit (Bits64 r) = All (λ n. n < 2 ^ 64) (wide_numbers (Bits64 r))
+AreFit (Bits32 r) = All (λ n. n < 2 ^ 32) (narrow_values r)
+AreFit (Bits64 r) = All (λ n. n < 2 ^ 64) (wide_values (Bits64 r))
 
 -- the registers are those of the protocol, and their numbers fit
 abbrev pub FitsRegisters : Protocol → Registers → Type 0

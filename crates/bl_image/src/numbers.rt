@@ -1,7 +1,7 @@
 //! The numbers of registers, and the registers of numbers.
 ghost use Rattle.std.specs.Prelude.{◌≡◌, ◌<◌, ◌^◌, ◌++◌, length, All};
 ghost use Rattle.bl_load.specs.declared.registers.Registers.TheVariants.{Bits32, Bits64};
-ghost use Rattle.bl_image.specs.Image.{register_numbers};
+ghost use Rattle.bl_image.specs.Image.{narrow_values};
 ghost use Rattle.bl_image.specs.Image as image;
 ghost use Rattle.bl_image.specs.Spellable.{AreFit};
 
@@ -13,8 +13,8 @@ pub(crate) const WIDE: usize = 31;
 /// The numbers of the registers of 32 bits, in the order of those of 64; what they do not give is
 /// 0.
 fn narrow_numbers(r: &Registers32) -> [u64; WIDE]
-    ensures wide { result ≡ image.wide_numbers (Bits32 r.now) }
-    ensures fit { All (λ n. n < 2 ^ 32) (register_numbers r.now) }
+    ensures wide { result ≡ image.wide_values (Bits32 r.now) }
+    ensures fit { All (λ n. n < 2 ^ 32) (narrow_values r.now) }
 {
     [
         r.eip as u64,
@@ -52,9 +52,9 @@ fn narrow_numbers(r: &Registers32) -> [u64; WIDE]
 }
 
 /// The numbers of the registers of 64 bits, in their order.
-fn wide_numbers(r: Registers64) -> [u64; WIDE]
-    ensures wide { result ≡ image.wide_numbers (Bits64 r) }
-    ensures fit { All (λ n. n < 2 ^ 64) (image.wide_numbers (Bits64 r)) }
+fn wide_values(r: Registers64) -> [u64; WIDE]
+    ensures wide { result ≡ image.wide_values (Bits64 r) }
+    ensures fit { All (λ n. n < 2 ^ 64) (image.wide_values (Bits64 r)) }
 {
     [
         r.rip,
@@ -93,12 +93,12 @@ fn wide_numbers(r: Registers64) -> [u64; WIDE]
 
 /// The numbers of registers, in their order.
 pub(crate) fn numbers_of(r: &Registers) -> [u64; WIDE]
-    ensures wide { result ≡ image.wide_numbers r.now }
+    ensures wide { result ≡ image.wide_values r.now }
     ensures fit { AreFit r.now }
 {
     match r {
         Registers::Bits32(r) => narrow_numbers(r),
-        Registers::Bits64(r) => wide_numbers(*r),
+        Registers::Bits64(r) => wide_values(*r),
     }
 }
 
@@ -108,7 +108,7 @@ pub(crate) fn registers_of(first: &[u32], flags: &[u32], last: &[u32]) -> Regist
     requires first { length first.now ≡ 9 }
     requires flags { length flags.now ≡ 2 }
     requires last { length last.now ≡ 9 }
-    ensures { register_numbers result ≡ first.now ++ (flags.now ++ last.now) }
+    ensures { narrow_values result ≡ first.now ++ (flags.now ++ last.now) }
 {
     Registers32 {
         eip: first[0],
@@ -137,7 +137,7 @@ pub(crate) fn registers_of(first: &[u32], flags: &[u32], last: &[u32]) -> Regist
 /// The registers of 64 bits that have these numbers, in their order.
 pub(crate) fn wide_registers_of(numbers: &[u64]) -> Registers64
     requires { length numbers.now ≡ 31 }
-    ensures { image.wide_numbers (Bits64 result) ≡ numbers.now }
+    ensures { image.wide_values (Bits64 result) ≡ numbers.now }
 {
     Registers64 {
         rip: numbers[0],

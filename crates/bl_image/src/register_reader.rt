@@ -5,9 +5,9 @@ ghost use Rattle.std.specs.List.{flat_map};
 ghost use Rattle.bl_mem.specs.Words.{u64_bytes};
 ghost use Rattle.bl_plan.specs.Protocols as protocols;
 ghost use Rattle.bl_load.specs.declared.registers.Registers.TheVariants.{Bits32, Bits64};
-ghost use Rattle.bl_image.specs.Image.{register_numbers, spelled_registers, wide_numbers};
+ghost use Rattle.bl_image.specs.Image.{narrow_values, spelled_registers, wide_values};
 ghost use Rattle.bl_image.specs.Fields as fields;
-ghost use Rattle.bl_image.specs.Layouts.{layout, layout_1, layout_2, layout_3};
+ghost use Rattle.bl_image.specs.Layouts.{layout, layout_1, layout_2_narrow, layout_2_wide};
 ghost use Rattle.bl_image.specs.Source.{faults_met};
 ghost use Rattle.bl_image.specs.SourceKept.{ReadsField, ReadsFields};
 ghost use Rattle.bl_image.specs.Spellable.{FitsRegisters};
@@ -44,7 +44,7 @@ fn read_any_registers<S: Source>(source: &mut S) -> Result<Registers32, ImageFau
     ensures fields { ReadsFields layout_1.registers (S.input source.old) (S.input source.new)
         (λ r. spelled_registers version.One (Bits32 r)) result }
     ensures fit { IfOk result
-        (λ registers. All (λ n. n < 2 ^ 32) (register_numbers registers)) }
+        (λ registers. All (λ n. n < 2 ^ 32) (narrow_values registers)) }
     ensures faults { S.faults source.new ≡ S.faults source.old + faults_met result }
 {
     let mut numbers = [0u32; REGISTERS];
@@ -115,10 +115,10 @@ fn read_absents<S: Source>(source: &mut S, count: usize) -> Result<(), ImageFaul
 /// Reads the registers of version 2 under a protocol of 32 bits.
 fn read_narrow_registers<S: Source>(source: &mut S) -> Result<Registers32, ImageFault>
     requires { S.faults source.old < 2 ^ 63 }
-    ensures fields { ReadsFields layout_2.registers (S.input source.old) (S.input source.new)
+    ensures fields { ReadsFields layout_2_narrow.registers (S.input source.old) (S.input source.new)
         (λ r. spelled_registers version.Two (Bits32 r)) result }
     ensures fit { IfOk result
-        (λ registers. All (λ n. n < 2 ^ 32) (register_numbers registers)) }
+        (λ registers. All (λ n. n < 2 ^ 32) (narrow_values registers)) }
     ensures faults { S.faults source.new ≡ S.faults source.old + faults_met result }
 {
     let mut first = [0u32; LOW];
@@ -135,9 +135,9 @@ fn read_narrow_registers<S: Source>(source: &mut S) -> Result<Registers32, Image
 /// Reads the registers of version 2 under a protocol of 64 bits, of which each may be anything.
 fn read_wide_registers<S: Source>(source: &mut S) -> Result<Registers64, ImageFault>
     requires { S.faults source.old < 2 ^ 63 }
-    ensures fields { ReadsFields layout_3.registers (S.input source.old) (S.input source.new)
+    ensures fields { ReadsFields layout_2_wide.registers (S.input source.old) (S.input source.new)
         (λ r. spelled_registers version.Two (Bits64 r)) result }
-    ensures fit { IfOk result (λ r. All (λ n. n < 2 ^ 64) (wide_numbers (Bits64 r))) }
+    ensures fit { IfOk result (λ r. All (λ n. n < 2 ^ 64) (wide_values (Bits64 r))) }
     ensures faults { S.faults source.new ≡ S.faults source.old + faults_met result }
 {
     let mut numbers = [0u64; WIDE];

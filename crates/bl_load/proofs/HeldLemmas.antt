@@ -9,7 +9,7 @@ use Rattle.std.proofs.lemmas.List.Elements.{All-map}
 use Rattle.std.proofs.lemmas.Bool.{cases_lt}
 use Rattle.std.proofs.lemmas.Simd.{map-map}
 use Rattle.std.specs.declared.ops.Range.{Range}
-use Rattle.bl_mem.specs.Files.{AllBeside, IsBeside, text_at}
+use Rattle.bl_mem.specs.Files.{AllBeside, IsBeside, text_of_file}
 use Rattle.bl_mem.specs.Memory.{AllHaveRoom, HasRoom}
 use Rattle.bl_plan.specs.declared.part.Place.{Place}
 use Rattle.bl_plan.specs.Placed.{Covers, place_range}
@@ -60,7 +60,7 @@ AllPairs-map R f (x ∷ xs) h i j d ij within =
 
 -- a file's length, by the list of lengths
 pub length_at : (texts : List (List ℕ)) (file : ℕ)
-    → slice_index (lengths_of texts) file ≡ length (text_at texts file)
+    → slice_index (lengths_of texts) file ≡ length (text_of_file texts file)
 length_at texts file = get_or-map (λ (text : List ℕ). length text) texts file []
 
 -- a file of the list of lengths is one of the texts
@@ -81,7 +81,7 @@ length-content_by texts (File file offset count) there =
       | inr none ↦ search (rules, places)
     ]
 length-content_by texts (Block file segments) there =
-    length-block_of (text_at texts file) segments.items
+    length-block_of (text_of_file texts file) segments.items
 
 -- a part has as many bytes as its place
 pub length-bytes_by : {A : Type 0} (texts : List (List ℕ)) (part : PlannedPart A)

@@ -13,5 +13,5 @@ pub record IsOffered (value : EntryValue) : Type 0 where
   pub rsdp_new : IfSome value.rsdp_new AreBytes
 
 -- an entry is, whatever its files hold
-unfoldable pub IsOffer : {A : Type 0} → Entry A → Type 0
-IsOffer entry = IsOffered (value_of [] entry)
+unfoldable pub IsOfferedEntry : {A : Type 0} → Entry A → Type 0
+IsOfferedEntry entry = IsOffered (value_of [] entry)

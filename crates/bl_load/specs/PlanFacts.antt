@@ -1,6 +1,6 @@
 -- What a plan holds, where the files hold these texts.
 use Rattle.std.specs.Prelude.{ℕ, ◌+◌, List, map, slice_range}
-use Rattle.bl_mem.specs.Files.{text_at}
+use Rattle.bl_mem.specs.Files.{text_of_file}
 use Rattle.bl_plan.specs.declared.part.Place.{Place}
 use Rattle.bl_load.specs.declared.plan.Content.{Content}
 use Rattle.bl_load.specs.declared.plan.Content.TheVariants.{Own, File, Block}
@@ -16,8 +16,8 @@ use Rattle.bl_load.specs.Handover.{Part, Handover, part_at, filled}
 abbrev pub content_by : {A : Type 0} → List (List ℕ) → Content A → List ℕ
 content_by texts (Own bytes) = bytes
 content_by texts (File file offset count) =
-    slice_range (text_at texts file) offset (offset + count)
-content_by texts (Block file segments) = block_of (text_at texts file) segments.items
+    slice_range (text_of_file texts file) offset (offset + count)
+content_by texts (Block file segments) = block_of (text_of_file texts file) segments.items
 
 abbrev pub bytes_by : {A : Type 0} → List (List ℕ) → PlannedPart A → List ℕ
 bytes_by texts part = filled part.place.length (content_by texts part.content)

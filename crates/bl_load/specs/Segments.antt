@@ -11,19 +11,19 @@ use Rattle.bl_load.specs.declared.segments.SegmentRegister.{SegmentRegister}
 use Rattle.bl_load.specs.Registers.{are_wide}
 
 -- the number that the registers hold under this name
-abbrev pub segment_number : Registers → SegmentName → ℕ
-segment_number (Bits32 r) Cs = r.cs
-segment_number (Bits32 r) Ds = r.ds
-segment_number (Bits32 r) Es = r.es
-segment_number (Bits32 r) Fs = r.fs
-segment_number (Bits32 r) Gs = r.gs
-segment_number (Bits32 r) Ss = r.ss
-segment_number (Bits64 r) Cs = r.cs
-segment_number (Bits64 r) Ds = r.ds
-segment_number (Bits64 r) Es = r.es
-segment_number (Bits64 r) Fs = r.fs
-segment_number (Bits64 r) Gs = r.gs
-segment_number (Bits64 r) Ss = r.ss
+abbrev pub segment_value : Registers → SegmentName → ℕ
+segment_value (Bits32 r) Cs = r.cs
+segment_value (Bits32 r) Ds = r.ds
+segment_value (Bits32 r) Es = r.es
+segment_value (Bits32 r) Fs = r.fs
+segment_value (Bits32 r) Gs = r.gs
+segment_value (Bits32 r) Ss = r.ss
+segment_value (Bits64 r) Cs = r.cs
+segment_value (Bits64 r) Ds = r.ds
+segment_value (Bits64 r) Es = r.es
+segment_value (Bits64 r) Fs = r.fs
+segment_value (Bits64 r) Gs = r.gs
+segment_value (Bits64 r) Ss = r.ss
 
 -- a selector has 16 bits: that of a number is its lowest 16
 abbrev pub selector_of : ℕ → ℕ
@@ -57,8 +57,8 @@ flat_data selector = flat selector 3 false true
 -- state"; Linux/x86 Boot Protocol, "32-bit Boot Protocol" and "64-bit Boot Protocol")
 abbrev pub segment_in : Registers → SegmentName → SegmentRegister
 segment_in registers Cs =
-    flat_code (are_wide registers) (selector_of (segment_number registers Cs))
-segment_in registers name = flat_data (selector_of (segment_number registers name))
+    flat_code (are_wide registers) (selector_of (segment_value registers Cs))
+segment_in registers name = flat_data (selector_of (segment_value registers name))
 
 -- ---- the descriptor that a segment register is loaded from
 

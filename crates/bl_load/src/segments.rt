@@ -76,7 +76,7 @@ fn flat(selector: u16, segment_type: u8, l: bool, db: bool) -> SegmentRegister
 
 /// The number that the registers hold under this name.
 fn number(registers: Registers, name: SegmentName) -> u64
-    ensures { result ≡ spec.segment_number registers name }
+    ensures { result ≡ spec.segment_value registers name }
 {
     match registers {
         Registers::Bits32(r) => match name {

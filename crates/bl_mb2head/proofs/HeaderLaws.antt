@@ -17,7 +17,7 @@ use Rattle.bl_mb2head.specs.declared.tag.Tag.{Tag}
 use Rattle.bl_mb2head.specs.Address.{address_fault, address_segment}
 use Rattle.bl_mb2head.specs.Place.{IsHeaderAt}
 use Rattle.bl_mb2head.specs.Tags.{AreAllTags, IsFirstTagFault, last_of}
-use Rattle.bl_mb2head.specs.Header.{tags_end, is_cut, architecture_at, tag_entry, relocation_of}
+use Rattle.bl_mb2head.specs.Header.{tags_end, is_cut, architecture_at, entry_address_of, relocation_of}
 use Rattle.bl_mb2head.specs.Header.{BeginsAt, IsAddressFault, IsHeader, HasFirstHeadFault}
 use Rattle.bl_mb2head.proofs.TagLaws as tags
 
@@ -153,6 +153,6 @@ one_header bytes a b is_a is_b =
     (is_a.segment ∙ ap (λ (h : ℕ). address_segment bytes h (last_of 2 is_a.tags)) place
     ∙ ap (λ (ts : List Tag). address_segment bytes b.place (last_of 2 ts)) same
     ∙ sym is_b.segment)
-    (is_a.entry ∙ ap (λ (ts : List Tag). tag_entry bytes (last_of 3 ts)) same ∙ sym is_b.entry)
+    (is_a.entry ∙ ap (λ (ts : List Tag). entry_address_of bytes (last_of 3 ts)) same ∙ sym is_b.entry)
     (is_a.relocation ∙ ap (λ (ts : List Tag). relocation_of bytes (last_of 10 ts)) same
     ∙ sym is_b.relocation)

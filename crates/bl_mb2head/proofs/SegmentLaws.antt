@@ -13,7 +13,7 @@ use Rattle.bl_mb2head.specs.declared.header.Header.{Header}
 use Rattle.bl_mb2head.specs.declared.tag.Tag.{Tag}
 use Rattle.bl_mb2head.specs.Address.{address_tag_at, segment_by_tag, is_bad_address, address_fault}
 use Rattle.bl_mb2head.specs.Address.{address_segment}
-use Rattle.bl_mb2head.specs.Header.{FitsFile, IsHeader, tag_entry}
+use Rattle.bl_mb2head.specs.Header.{FitsFile, IsHeader, entry_address_of}
 use Rattle.bl_mb2head.specs.Tags.{last_of}
 
 -- what an address tag with no fault gives
@@ -52,7 +52,7 @@ header_segment_fits bytes header small is =
     (address_fits bytes header.place (last_of 2 is.tags) small (omega arith) is.sound)
 
 entry_fits : (bytes : List ℕ) (tag : Option Tag) → ((k : ℕ) → slice_index bytes k < 256)
-    → IfSome (tag_entry bytes tag) (λ entry. entry < 2 ^ 32)
+    → IfSome (entry_address_of bytes tag) (λ entry. entry < 2 ^ 32)
 entry_fits bytes None small = tt
 entry_fits bytes (Some t) small = u32_at-lt bytes (t.place + 8) small
 

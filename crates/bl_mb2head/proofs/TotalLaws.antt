@@ -12,7 +12,7 @@ use Rattle.bl_mb2head.specs.declared.tag.Tag.{Tag}
 use Rattle.bl_mb2head.specs.Address.{address_fault, address_segment}
 use Rattle.bl_mb2head.specs.Place.{IsHeaderAt, sum_at}
 use Rattle.bl_mb2head.specs.Tags.{AreAllTags, last_of}
-use Rattle.bl_mb2head.specs.Header.{tags_end, is_cut, architecture_at, tag_entry, relocation_of}
+use Rattle.bl_mb2head.specs.Header.{tags_end, is_cut, architecture_at, entry_address_of, relocation_of}
 use Rattle.bl_mb2head.specs.Header.{BeginsAt, IsHeader, HasFirstHeadFault}
 use Rattle.bl_mb2head.proofs.FaultLemmas.{tag_fault_first, address_fault_first}
 use Rattle.bl_mb2head.proofs.TagTotalLaws.{some_or_none, tags_or_fault}
@@ -74,7 +74,7 @@ judged_tags bytes h begins ts all =
         record {
           place = h;
           segment = address_segment bytes h (last_of 2 ts);
-          entry = tag_entry bytes (last_of 3 ts);
+          entry = entry_address_of bytes (last_of 3 ts);
           relocation = relocation_of bytes (last_of 10 ts);
         },
         record {

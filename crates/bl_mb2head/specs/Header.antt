@@ -39,9 +39,9 @@ abbrev pub architecture_at : List ℕ → ℕ → ℕ
 architecture_at bytes h = u32_at bytes (h + 4)
 
 -- the entry address that a tag gives (3.1.6)
-abbrev pub tag_entry : List ℕ → Option Tag → Option ℕ
-tag_entry bytes None = None
-tag_entry bytes (Some t) = Some (u32_at bytes (t.place + 8))
+abbrev pub entry_address_of : List ℕ → Option Tag → Option ℕ
+entry_address_of bytes None = None
+entry_address_of bytes (Some t) = Some (u32_at bytes (t.place + 8))
 
 -- where the image may be moved to, as a tag gives it (3.1.13)
 abbrev pub relocation_of : List ℕ → Option Tag → Option Relocation
@@ -72,7 +72,7 @@ pub record IsHeader (bytes : List ℕ) (header : Header) : Type 0 where
   pub all : AreAllTags bytes (tags_end bytes header.place) (header.place + 16) tags
   pub sound : address_fault bytes header.place (last_of address_type tags) ≡ None
   pub segment : header.segment ≡ address_segment bytes header.place (last_of address_type tags)
-  pub entry : header.entry ≡ tag_entry bytes (last_of entry_type tags)
+  pub entry : header.entry ≡ entry_address_of bytes (last_of entry_type tags)
   pub relocation : header.relocation ≡ relocation_of bytes (last_of relocatable_type tags)
 
 -- the file's first fault, in the order of these lines. The tags are judged one after the other, and

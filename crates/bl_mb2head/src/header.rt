@@ -58,10 +58,10 @@ fn checked_place<V: ByteView>(view: &V) -> Result<u64, HeadFault>
 }
 
 /// The address of the entry address tag that counts.
-fn tag_entry<V: ByteView>(view: &V, tag: Option<Tag>) -> Option<u64>
+fn entry_address_of<V: ByteView>(view: &V, tag: Option<Tag>) -> Option<u64>
     requires in_file { IfSome tag (λ t. t.place + ENTRY_SIZE ≤ length (V.bytes view.now)) }
     requires in_front { IfSome tag (λ t. t.place + ENTRY_SIZE ≤ SEARCH_END) }
-    ensures exact { result ≡ header.tag_entry (V.bytes view.now) tag }
+    ensures exact { result ≡ header.entry_address_of (V.bytes view.now) tag }
     ensures below { IfSome result (λ entry. entry < 2 ^ 32) }
 {
     let tag = tag?;
@@ -99,7 +99,7 @@ pub fn find_header<V: ByteView>(view: &V) -> Result<Header, HeadFault>
     Ok(Header {
         place,
         segment: address_segment(view, place, last.address)?,
-        entry: tag_entry(view, last.entry),
+        entry: entry_address_of(view, last.entry),
         relocation: relocation_of(view, last.relocation),
     })
 }

@@ -4,8 +4,8 @@ ghost use Rattle.bl_mbi.specs.Kept.{left_in};
 ghost use Rattle.bl_mbi.specs.ReadGroups as spec;
 
 use crate::fault::InfoFault;
-use crate::format::{TAG_ACPI_NEW, TAG_ACPI_OLD, TAG_BOOT_LOADER_NAME, TAG_COMMAND_LINE};
 use crate::module::Module;
+use crate::numbers::{TAG_ACPI_NEW, TAG_ACPI_OLD, TAG_BOOT_LOADER_NAME, TAG_COMMAND_LINE};
 use crate::read::{copy_at, end_at, load_base_at, map_at, memory_at, modules_at, text_tag_at};
 use crate::rest::Rest;
 use bl_map::Region;

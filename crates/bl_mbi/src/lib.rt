@@ -6,15 +6,15 @@
 //! contracts see it as the record `InfoFacts`, which is a name and the facts.
 #![tactic(auto)]
 
-mod bodies;
+mod body_reader;
 mod facts;
 mod fault;
-mod format;
 mod groups;
 mod info;
 mod laws;
 mod module;
 mod module_facts;
+mod numbers;
 mod read;
 mod reader;
 mod rest;
@@ -24,11 +24,11 @@ mod write;
 
 pub use facts::Facts;
 pub use fault::InfoFault;
-pub use format::MIN_INFO_SIZE;
 pub use info::Info;
 pub use laws::{read_is_spelled, spelled_is_read};
 pub use module::Module;
 pub use module_facts::ModuleFacts;
+pub use numbers::MIN_INFO_SIZE;
 pub use reader::read_info;
 pub use size::{module_size, size_by_lengths};
 pub use write::{info_size, write_info};

@@ -5,10 +5,10 @@ ghost use Rattle.bl_mbi.specs.Kept.{left_in};
 ghost use Rattle.bl_mbi.specs.Fields as fields;
 ghost use Rattle.bl_mbi.specs.Reading as spec;
 
-use crate::bodies::{are_zeros, load_base_of, map_of, memory_of, module_of, text_of, word};
+use crate::body_reader::{are_zeros, load_base_of, map_of, memory_of, module_of, text_of, word};
 use crate::fault::InfoFault;
-use crate::format::{TAG_BASIC_MEMORY, TAG_END, TAG_LOAD_BASE, TAG_MEMORY_MAP, TAG_MODULE};
 use crate::module::Module;
+use crate::numbers::{TAG_BASIC_MEMORY, TAG_END, TAG_LOAD_BASE, TAG_MEMORY_MAP, TAG_MODULE};
 use crate::rest::{Rest, behind, first};
 use bl_map::Region;
 use bl_mem::Bytes;

@@ -7,11 +7,11 @@ ghost use Rattle.bl_mbi.specs.Fields.{MatchesReading};
 ghost use Rattle.bl_mbi.specs.Kept.{left_in};
 ghost use Rattle.bl_mbi.specs.Reading as spec;
 
-use crate::bodies::word;
+use crate::body_reader::word;
 use crate::fault::InfoFault;
-use crate::format::MIN_INFO_SIZE;
 use crate::groups::{last_at, map_tags_at, texts_at};
 use crate::info::Info;
+use crate::numbers::MIN_INFO_SIZE;
 use crate::rest::Rest;
 use std::alloc::Allocator;
 

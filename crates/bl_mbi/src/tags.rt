@@ -8,10 +8,10 @@ ghost use Rattle.bl_mbi.specs.Tags.{padding, tag, text_body, module_tag, memory_
 ghost use Rattle.bl_mbi.specs.Tags.{map_body};
 ghost use Rattle.bl_mbi.specs.Tags.{copy_tag, load_base_tag};
 
-use crate::format::{
+use crate::module_facts::ModuleFacts;
+use crate::numbers::{
     ENTRY_SIZE, TAG_BASIC_MEMORY, TAG_END, TAG_LOAD_BASE, TAG_MEMORY_MAP, TAG_MODULE,
 };
-use crate::module_facts::ModuleFacts;
 use bl_map::Region;
 use bl_mem::{put_bytes, put_u32, put_u64};
 use std::alloc::Allocator;

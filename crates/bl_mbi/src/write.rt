@@ -11,10 +11,10 @@ ghost use Rattle.bl_mbi.specs.Tags.{load_base_tag};
 ghost use Rattle.bl_mbi.specs.Groups.{texts_size, map_size, last_size};
 
 use crate::facts::Facts;
-use crate::format::{
+use crate::module_facts::ModuleFacts;
+use crate::numbers::{
     ENTRY_SIZE, TAG_ACPI_NEW, TAG_ACPI_OLD, TAG_BOOT_LOADER_NAME, TAG_COMMAND_LINE,
 };
-use crate::module_facts::ModuleFacts;
 use crate::size::tag_len;
 use crate::tags::{put_copy, put_end, put_load_base, put_map, put_memory, put_modules, put_text};
 use bl_mem::put_u32;

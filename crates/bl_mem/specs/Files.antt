@@ -3,8 +3,8 @@ use Rattle.std.specs.Prelude.{◌≡◌, ℕ, ◌<◌, ◌≤◌, List, [], slic
 use Rattle.std.specs.declared.ops.Range.{Range}
 
 -- the bytes of a file of a list
-abbrev pub text_at : List (List ℕ) → ℕ → List ℕ
-text_at texts file = slice_index_or texts file []
+abbrev pub text_of_file : List (List ℕ) → ℕ → List ℕ
+text_of_file texts file = slice_index_or texts file []
 
 -- memory of this size has each of these addresses
 abbrev pub AreBelow : (ℕ → Type 0) → ℕ → Type 0

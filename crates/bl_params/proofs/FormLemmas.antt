@@ -6,7 +6,7 @@ use Rattle.std.proofs.lemmas.Bool.{cases_lt}
 use Rattle.std.proofs.lemmas.Bool.Decides.{nat_tests}
 use Rattle.bl_mem.specs.Words.{u32_at, u64_at}
 use Rattle.bl_bzimage.specs.Setup.{header_end}
-use Rattle.bl_params.specs.Form.{breaks, breaks_header, breaks_entry, is_filled, entries_in}
+use Rattle.bl_params.specs.Form.{breaks, breaks_header, breaks_entry, is_nonzero_at, entries_in}
 use Rattle.bl_params.specs.Form.{e820_entry_at}
 use Rattle.bl_params.specs.Kept.{IsSoundUpto, IsQuiet}
 
@@ -23,7 +23,7 @@ pub or_false : (x : Bool) → (x || false) ≡ x
 or_false true = refl
 or_false false = refl
 
-pub front_is : (bytes : List ℕ) (k : ℕ) → k < 0x1E8 → breaks bytes k ≡ is_filled bytes k
+pub front_is : (bytes : List ℕ) (k : ℕ) → k < 0x1E8 → breaks bytes k ≡ is_nonzero_at bytes k
 unfolding breaks
 front_is bytes k below = rw (lt_yes k 0x1E8 below) refl
 
@@ -31,7 +31,7 @@ pub count_is : (bytes : List ℕ) → breaks bytes 0x1E8 ≡ nat_lt 128 (entries
 unfolding breaks
 count_is bytes = refl
 
-pub gap_is : (bytes : List ℕ) (k : ℕ) → 0x1E9 ≤ k → k < 0x1F1 → breaks bytes k ≡ is_filled bytes k
+pub gap_is : (bytes : List ℕ) (k : ℕ) → 0x1E9 ≤ k → k < 0x1F1 → breaks bytes k ≡ is_nonzero_at bytes k
 unfolding breaks
 gap_is bytes k from below =
     rw (lt_no k 0x1E8 (omega arith), eq_no k 0x1E8 (omega arith), lt_yes k 0x1F1 below) refl
@@ -48,7 +48,7 @@ header_is bytes k from below =
     ) refl
 
 pub behind_is : (bytes : List ℕ) (k : ℕ) → header_end bytes ≤ k → k < 0x2D0
-    → breaks bytes k ≡ is_filled bytes k
+    → breaks bytes k ≡ is_nonzero_at bytes k
 unfolding breaks
 behind_is bytes k from below =
     rw (
@@ -73,7 +73,7 @@ entries_are bytes k from below =
     ) refl
 
 pub end_is : (bytes : List ℕ) (k : ℕ) → 0x2D0 ≤ k → e820_entry_at (entries_in bytes) ≤ k
-    → breaks bytes k ≡ is_filled bytes k
+    → breaks bytes k ≡ is_nonzero_at bytes k
 unfolding breaks
 end_is bytes k from above =
     rw (

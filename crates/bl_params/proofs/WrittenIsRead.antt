@@ -10,9 +10,9 @@ use Rattle.bl_bzimage.proofs.SetupLaws.{IsSoundFile, setup_sound, fields_are, he
 use Rattle.bl_bzimage.proofs.SetupLaws.{header_high, header_same}
 use Rattle.bl_params.specs.BootParamsFacts.{BootParamsFacts, AreTold}
 use Rattle.bl_params.specs.BootParams.{boot_params}
-use Rattle.bl_params.specs.Form.{breaks, breaks_header, is_filled, entries_in}
+use Rattle.bl_params.specs.Form.{breaks, breaks_header, is_nonzero_at, entries_in}
 use Rattle.bl_params.specs.Reading.{IsParams}
-use Rattle.bl_params.specs.Told.{params_of, AreWords}
+use Rattle.bl_params.specs.Told.{params_of, FitFields}
 use Rattle.bl_params.proofs.Lengths.{length-boot_params}
 use Rattle.bl_params.proofs.FormLemmas.{lt_no, front_is, count_is, gap_is, header_is, behind_is}
 use Rattle.bl_params.proofs.FormLemmas.{entries_are, end_is}
@@ -28,7 +28,7 @@ module _ (file header : List ℕ) (end : ℕ) (facts : BootParamsFacts)
     (same : (k : ℕ) → 0x1F1 ≤ k → k < end → slice_index header (k - 0x1F1) ≡ slice_index file k)
     (told : AreTold facts.runs) where
   unfilled : (k : ℕ) → slice_index (params header facts) k ≡ 0
-      → is_filled (params header facts) k ≡ false
+      → is_nonzero_at (params header facts) k ≡ false
   unfilled k zero_there = rw zero_there refl
 
   -- the fields of the header break nothing
@@ -116,7 +116,7 @@ module _ (file header : List ℕ) (end : ℕ) (facts : BootParamsFacts)
       (cases_lt k 0x1E8)
 
 pub written_is_read : (file : List ℕ) (setup : Setup) (facts : BootParamsFacts) → IsSetup file setup
-    → AreTold facts.runs → AreWords facts
+    → AreTold facts.runs → FitFields facts
     → IsParams (boot_params setup.header facts) (params_of setup facts)
 written_is_read file setup facts is told words =
     let sound = setup_sound file is.sound in

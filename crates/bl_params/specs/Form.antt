@@ -18,8 +18,8 @@ abbrev pub e820_entry_at : ℕ → ℕ
 e820_entry_at i = e820_table_at + e820_entry_size * i
 
 -- a byte of no field must be 0
-abbrev pub is_filled : List ℕ → ℕ → Bool
-is_filled bytes k = not (slice_index bytes k == 0)
+abbrev pub is_nonzero_at : List ℕ → ℕ → Bool
+is_nonzero_at bytes k = not (slice_index bytes k == 0)
 
 -- the fields of the header, each by the offset at which it counts
 abbrev pub breaks_header : List ℕ → ℕ → Bool
@@ -41,11 +41,11 @@ breaks_entry bytes place k =
 -- whether what stands at an offset breaks the form
 unfoldable pub breaks : List ℕ → ℕ → Bool
 breaks bytes k =
-    if nat_lt k e820_entries_at then is_filled bytes k else
+    if nat_lt k e820_entries_at then is_nonzero_at bytes k else
     if k == e820_entries_at then nat_lt max_e820_entries (entries_in bytes) else
-    if nat_lt k header_at then is_filled bytes k else
+    if nat_lt k header_at then is_nonzero_at bytes k else
     if nat_lt k (header_end bytes) then breaks_header bytes k else
-    if nat_lt k e820_table_at then is_filled bytes k else
+    if nat_lt k e820_table_at then is_nonzero_at bytes k else
     if nat_lt k (e820_entry_at (entries_in bytes)) then
     breaks_entry bytes ((k - e820_table_at) % e820_entry_size) k else
-    is_filled bytes k
+    is_nonzero_at bytes k

@@ -24,7 +24,7 @@ params_of setup facts = record {
 }
 
 -- addresses and lengths that fit their fields
-pub record AreWords (facts : BootParamsFacts) : Type 0 where
+pub record FitFields (facts : BootParamsFacts) : Type 0 where
   pub code32_start : facts.code32_start < 2 ^ 32
   pub ramdisk_image : facts.ramdisk_image < 2 ^ 32
   pub ramdisk_size : facts.ramdisk_size < 2 ^ 32

@@ -2,7 +2,7 @@
 ghost use Rattle.std.specs.Prelude.{◌≡◌, ◌≤◌, ◌<◌, ◌+◌, ◌==◌, ℕ, not, true, false, length};
 ghost use Rattle.std.specs.Prelude.{slice_index, MatchResult};
 ghost use Rattle.bl_bzimage.specs.Setup.{header_end};
-ghost use Rattle.bl_params.specs.Form.{breaks, is_filled, entries_in};
+ghost use Rattle.bl_params.specs.Form.{breaks, is_nonzero_at, entries_in};
 ghost use Rattle.bl_params.specs.Reading.{HasFirstParamFault};
 ghost use Rattle.bl_params.specs.BootParamsFacts.{max_e820_entries};
 ghost use Rattle.bl_params.specs.Kept.{IsSoundUpto, IsQuiet};
@@ -40,7 +40,7 @@ pub fn pass_zeros(bytes: &[u8], start: usize, end: usize) -> Result<(), ParamFau
     requires forward { start ≤ end }
     requires upto { IsSoundUpto bytes.now start }
     requires plain { (k : ℕ) → start ≤ k → k < end
-        → breaks bytes.now k ≡ is_filled bytes.now k }
+        → breaks bytes.now k ≡ is_nonzero_at bytes.now k }
     ensures { MatchResult result (λ _. IsSoundUpto bytes.now end) (HasFirstParamFault bytes.now) }
 {
     for at in start..end {

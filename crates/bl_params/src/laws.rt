@@ -13,7 +13,7 @@ ghost use Rattle.bl_params.specs.Reading.{IsParams, HasFirstParamFault};
 ghost use Rattle.bl_params.specs.ParamsFacts.{ParamsFacts};
 ghost use Rattle.bl_params.specs.declared.fault.ParamFault.{ParamFault};
 ghost use Rattle.bl_params.specs.declared.fault.ParamFault.TheVariants.{NoMemory};
-ghost use Rattle.bl_params.specs.Told.{AreWords, params_of};
+ghost use Rattle.bl_params.specs.Told.{FitFields, params_of};
 ghost use Rattle.bl_params.specs.Numbers.{tables_size};
 ghost use Rattle.bl_map.specs.Limits.{frame_size};
 
@@ -21,7 +21,7 @@ ghost use Rattle.bl_map.specs.Limits.{frame_size};
 /// made of.
 pub fn written_is_read()
     ensures { (file : List ℕ) (setup : Setup) (facts : BootParamsFacts) → IsSetup file setup
-        → AreTold facts.runs → AreWords facts
+        → AreTold facts.runs → FitFields facts
         → IsParams (boot_params setup.header facts) (params_of setup facts) }
 {}
 

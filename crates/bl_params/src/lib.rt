@@ -4,11 +4,11 @@
 mod checks;
 mod descriptors;
 mod descriptors64;
-mod entries;
 mod facts;
 mod fault;
 mod fields;
 mod laws;
+mod map_reader;
 mod numbers;
 mod paging;
 mod params;

@@ -3,13 +3,13 @@ ghost use Rattle.std.specs.Prelude.{◌≡◌, ◌≤◌, ◌+◌, ◌*◌, leng
 ghost use Rattle.bl_params.specs.Reading.{IsParams, HasFirstParamFault};
 
 use crate::checks::{end_of_header, pass_front, pass_header, pass_zeros};
-use crate::entries::entries;
 use crate::fault::ParamFault;
 use crate::fields::{
     CMD_LINE_PTR, CMDLINE_SIZE, CODE32_START, E820_ENTRIES, E820_TABLE, ENTRY_SIZE, INIT_SIZE,
     INITRD_ADDR_MAX, KERNEL_ALIGNMENT, LOADFLAGS, PARAMS_SIZE, PREF_ADDRESS, RAMDISK_IMAGE,
     RAMDISK_SIZE, RELOCATABLE_KERNEL, VERSION, XLOADFLAGS,
 };
+use crate::map_reader::entries;
 use crate::numbers::{u16_in, u32_in, u64_in};
 use crate::params::Params;
 use std::alloc::Allocator;

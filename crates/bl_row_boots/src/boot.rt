@@ -88,8 +88,7 @@ fn boot_each(row: &mut Row<'_>, beside: &Beside, limits: Range<u64>) -> Option<S
 
 /// Boots the description over the heap for sinks of each limit.
 pub fn answer_boots(row: &mut Row<'_>) {
-    let limits = row.field("limits");
-    let limits = row.range_of(limits);
+    let limits = row.range_field("limits");
     let beside = read_beside(row);
     if let Some(series) = boot_each(row, &beside, limits) {
         series.say(row);

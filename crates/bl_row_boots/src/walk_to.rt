@@ -35,18 +35,15 @@ fn say_walked(row: &mut Row<'_>, said: &[u8], blamed: &[u8], fields: SourceField
 
 /// Says the walk of an image over the heap.
 pub fn answer(row: &mut Row<'_>) {
-    let said = row.field("said");
-    let blamed = row.field("blamed");
-    let said = row.bytes_of(said);
-    let blamed = row.bytes_of(blamed);
+    let said = row.bytes_field("said");
+    let blamed = row.bytes_field("blamed");
     let fields = read_source(row);
     say_walked(row, said.as_slice(), blamed.as_slice(), fields);
 }
 
 /// Says the walk of an image over the heap, where each read in turn is a fault of the source.
 pub fn answer_each(row: &mut Row<'_>) {
-    let fails = row.field("fails");
-    let fails = row.range_of(fails);
+    let fails = row.range_field("fails");
     let fields = read_source(row);
     let mut runs = Runs::new(row.alloc, true);
     for fail in fails {

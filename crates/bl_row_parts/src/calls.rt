@@ -5,14 +5,15 @@ use crate::{
     describe, handoff, image, line, loaded, parts, read_image, read_info, reasons, refusal,
     registers, rewrite, sink, unplaced, walk, write_info,
 };
+use bl_rows::calls::is_one_of;
 use bl_rows::row::Row;
 
 /// Whether the words after this name are bytes, and nothing else.
 pub fn takes_bytes(name: &str) -> bool {
-    match name {
-        "describe" | "read_info" | "read_image" | "image_fault" | "walk" => true,
-        _ => false,
-    }
+    is_one_of(
+        name,
+        &["describe", "read_info", "read_image", "image_fault", "walk"],
+    )
 }
 
 /// Makes a call of this name, whose words are left in the row, if it is one of these; and answers

@@ -41,9 +41,11 @@ fn say_entry(row: &mut Row<'_>, entry: &EntryRow<&Refusing>) {
 
 /// The size, the pool, the fill, and the regions as ` region BASE+LENGTH:KIND`.
 fn say_machine(row: &mut Row<'_>, description: &Description<&Refusing>) {
-    row.say_number("size ", description.size);
-    row.say_number(" pool ", description.pool.start);
-    row.say_number("..", description.pool.end);
+    row.say_numbers(&[
+        ("size ", description.size),
+        (" pool ", description.pool.start),
+        ("..", description.pool.end),
+    ]);
     row.say(" fill ");
     row.say_byte(description.fill);
     for region in &description.regions {

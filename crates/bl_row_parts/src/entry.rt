@@ -29,15 +29,12 @@ pub struct EntryField {
 
 /// The protocol of this name.
 pub fn protocol_of(row: &mut Row<'_>, name: &str) -> Protocol {
-    match name {
-        "multiboot2" => Protocol::Multiboot2,
-        "linux" => Protocol::Linux,
-        "linux64" => Protocol::Linux64,
-        _ => {
-            row.refuse();
-            Protocol::Linux
-        }
-    }
+    let protocols = [
+        ("multiboot2", Protocol::Multiboot2),
+        ("linux", Protocol::Linux),
+        ("linux64", Protocol::Linux64),
+    ];
+    row.pick(&protocols, name, Protocol::Linux)
 }
 
 /// A copy of an RSDP, over a heap, if there is one.

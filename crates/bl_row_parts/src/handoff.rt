@@ -1,88 +1,20 @@
 //! `prepare ENTRY of KERNEL` and `load fill=VV ENTRY of KERNEL`, on the last machine.
 
 use crate::prepared::{LoadedEntry, load_entry, prepare_entry, read_entry};
-use bl_load::{Handoff, Plan, Registers, Registers32, Registers64};
+use bl_load::{Handoff, Plan, Registers};
 use bl_mem::PhysMem;
 use bl_plan::{Place, Role};
 use bl_refusing::Refusing;
 use bl_rows::calls::memory::read;
 use bl_rows::row::Row;
 
-/// The registers of 32 bits in the order of an image.
-fn numbers_of(r: &Registers32) -> [u64; 20] {
-    [
-        r.eip as u64,
-        r.eax as u64,
-        r.ebx as u64,
-        r.ecx as u64,
-        r.edx as u64,
-        r.esi as u64,
-        r.edi as u64,
-        r.ebp as u64,
-        r.esp as u64,
-        r.eflags as u64,
-        r.cr0 as u64,
-        r.cs as u64,
-        r.ds as u64,
-        r.es as u64,
-        r.fs as u64,
-        r.gs as u64,
-        r.ss as u64,
-        r.gdt_base as u64,
-        r.gdt_limit as u64,
-        r.a20 as u64,
-    ]
-}
-
-/// Those of 64 bits.
-fn wide_numbers_of(r: &Registers64) -> [u64; 31] {
-    [
-        r.rip,
-        r.rax,
-        r.rbx,
-        r.rcx,
-        r.rdx,
-        r.rsi,
-        r.rdi,
-        r.rbp,
-        r.rsp,
-        r.r8,
-        r.r9,
-        r.r10,
-        r.r11,
-        r.r12,
-        r.r13,
-        r.r14,
-        r.r15,
-        r.rflags,
-        r.cr0,
-        r.cr3,
-        r.cr4,
-        r.efer,
-        r.cs,
-        r.ds,
-        r.es,
-        r.fs,
-        r.gs,
-        r.ss,
-        r.gdt_base,
-        r.gdt_limit,
-        r.a20,
-    ]
-}
-
-fn say_numbers(row: &mut Row<'_>, numbers: &[u64]) {
+/// The registers in the order of an image, which is that of their names.
+pub fn say_registers(row: &mut Row<'_>, registers: &Registers) {
     row.say(" registers");
-    for number in numbers {
-        row.say_number(" ", *number);
-    }
-}
-
-/// The registers in the order of an image.
-pub fn say_registers(row: &mut Row<'_>, r: &Registers) {
-    match r {
-        Registers::Bits32(r) => say_numbers(row, &numbers_of(r)),
-        Registers::Bits64(r) => say_numbers(row, &wide_numbers_of(r)),
+    for index in 0..registers.count() {
+        if let Some(register) = registers.named(index) {
+            row.say_number(" ", register.value);
+        }
     }
 }
 
@@ -102,11 +34,12 @@ pub fn role_name(role: Role) -> &'static str {
 
 /// A place as `, ROLE INDEX ADDRESS+LENGTH`.
 pub fn say_place(row: &mut Row<'_>, place: &Place) {
-    row.say(", ");
-    row.say(role_name(place.role));
-    row.say_number(" ", place.index as u64);
-    row.say_number(" ", place.address);
-    row.say_number("+", place.length);
+    row.say_text(", ", role_name(place.role));
+    row.say_numbers(&[
+        (" ", place.index as u64),
+        (" ", place.address),
+        ("+", place.length),
+    ]);
 }
 
 fn say_plan(row: &mut Row<'_>, plan: &Plan<&Refusing>) {

@@ -79,8 +79,7 @@ pub fn answer(row: &mut Row<'_>) {
 /// The same for sinks of each limit. Where memory runs out that is the answer.
 pub fn answer_each(row: &mut Row<'_>) {
     let heap = row.heap;
-    let limits = row.field("limits");
-    let limits = row.range_of(limits);
+    let limits = row.range_field("limits");
     let step = row.number_field("step");
     let Some(loaded) = loaded_entry(row) else {
         return;

@@ -17,29 +17,18 @@ fn say_job(row: &mut Row<'_>, job: Job<'_>) {
             image,
             order,
         } => {
-            row.say("boot ");
-            row.say(description);
-            row.say(" to ");
-            row.say(image);
+            row.say_text("boot ", description);
+            row.say_text(" to ", image);
             say_order(row, order);
         }
-        Job::Map { description } => {
-            row.say("map ");
-            row.say(description);
-        }
-        Job::Walk { image } => {
-            row.say("walk ");
-            row.say(image);
-        }
+        Job::Map { description } => row.say_text("map ", description),
+        Job::Walk { image } => row.say_text("walk ", image),
         Job::Convert { image, new } => {
-            row.say("convert ");
-            row.say(image);
-            row.say(" to ");
-            row.say(new);
+            row.say_text("convert ", image);
+            row.say_text(" to ", new);
         }
         Job::Explain { description, order } => {
-            row.say("explain ");
-            row.say(description);
+            row.say_text("explain ", description);
             say_order(row, order);
         }
     }

@@ -33,14 +33,11 @@ impl Write for Pairs {
 
 /// What comes after the writes that go well, by its name.
 pub fn error_named(row: &mut Row<'_>, name: &str) -> Option<ErrorKind> {
-    match name {
-        "nothing" => None,
-        "storage_full" => Some(ErrorKind::StorageFull),
-        "broken_pipe" => Some(ErrorKind::BrokenPipe),
-        "interrupted" => Some(ErrorKind::Interrupted),
-        _ => {
-            row.refuse();
-            None
-        }
-    }
+    let errors = [
+        ("nothing", None),
+        ("storage_full", Some(ErrorKind::StorageFull)),
+        ("broken_pipe", Some(ErrorKind::BrokenPipe)),
+        ("interrupted", Some(ErrorKind::Interrupted)),
+    ];
+    row.pick(&errors, name, None)
 }

@@ -52,8 +52,7 @@ impl RowEntry {
 pub fn read_entry(row: &mut Row<'_>) -> RowEntry {
     let protocol = row.word();
     let protocol = protocol_of(row, protocol);
-    let line = row.field("line");
-    let line = row.bytes_of(line);
+    let line = row.bytes_field("line");
     let mut read = RowEntry {
         entry: EntryField::new(row, protocol, 0, line),
         files: Vec::new(row.alloc),

@@ -2,9 +2,10 @@
 //! `read_images fails=A..B FIELD .. of BYTES` (where each read from A to B - 1 is a fault).
 ghost use Rattle.std.specs.Prelude.{◌≡◌};
 
-use crate::handoff::{role_name, say_registers};
+use crate::handoff::{say_place, say_registers};
 use crate::source::{SourceFields, read_source};
 use bl_image::{Image, ImageFault, ImagePart, Source, read_image};
+use bl_plan::Place;
 use bl_refusing::Refusing;
 use bl_rows::row::Row;
 use bl_rows::runs::Runs;
@@ -21,12 +22,17 @@ fn say_image_fault(row: &mut Row<'_>, fault: ImageFault) {
 }
 
 fn say_part(row: &mut Row<'_>, part: &ImagePart<&Refusing>) {
-    row.say(", ");
-    row.say(role_name(part.role()));
-    row.say_number(" ", part.index() as u64);
-    row.say_number(" ", part.address());
-    row.say_number("+", part.bytes().len() as u64);
-    row.say_bytes(" ", part.bytes());
+    let bytes = part.bytes();
+    say_place(
+        row,
+        &Place {
+            role: part.role(),
+            index: part.index(),
+            address: part.address(),
+            length: bytes.len() as u64,
+        },
+    );
+    row.say_bytes(" ", bytes);
 }
 
 /// What an image says, each part as `, ROLE INDEX ADDRESS+LENGTH BYTES`.
@@ -79,8 +85,7 @@ pub fn answer_fault(row: &mut Row<'_>) {
 
 /// The fault of an image, read over the heap, where each read in turn is a fault of the source.
 pub fn answer_each(row: &mut Row<'_>) {
-    let fails = row.field("fails");
-    let fails = row.range_of(fails);
+    let fails = row.range_field("fails");
     let fields = read_source(row);
     let mut runs = Runs::new(row.alloc, true);
     for fail in fails {

@@ -9,18 +9,17 @@ use bl_rows::row::Row;
 fn say_copy(row: &mut Row<'_>, before: &str, copy: &Option<Bytes<&Refusing>>) {
     match copy {
         Some(bytes) => row.say_bytes(before, bytes.as_slice()),
-        None => {
-            row.say(before);
-            row.say("none");
-        }
+        None => row.say_text(before, "none"),
     }
 }
 
 /// The modules, each as ` module=START..END:LINE`.
 fn say_modules(row: &mut Row<'_>, info: &Info<&Refusing>) {
     for module in &info.modules {
-        row.say_number(" module=", module.mod_start as u64);
-        row.say_number("..", module.mod_end as u64);
+        row.say_numbers(&[
+            (" module=", module.mod_start as u64),
+            ("..", module.mod_end as u64),
+        ]);
         row.say_bytes(":", module.line.as_slice());
     }
 }
@@ -29,8 +28,10 @@ fn say_info(row: &mut Row<'_>, info: &Info<&Refusing>) {
     row.say_bytes("name=", info.name.as_slice());
     row.say_bytes(" line=", info.line.as_slice());
     say_modules(row, info);
-    row.say_number(" lower=", info.mem_lower as u64);
-    row.say_number(" upper=", info.mem_upper as u64);
+    row.say_numbers(&[
+        (" lower=", info.mem_lower as u64),
+        (" upper=", info.mem_upper as u64),
+    ]);
     for run in &info.runs {
         row.say_region(" run=", run);
     }

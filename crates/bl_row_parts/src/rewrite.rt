@@ -59,8 +59,7 @@ pub fn answer(row: &mut Row<'_>) {
 /// answer.
 pub fn answer_each(row: &mut Row<'_>) {
     let heap = row.heap;
-    let limits = row.field("limits");
-    let limits = row.range_of(limits);
+    let limits = row.range_field("limits");
     let step = row.number_field("step");
     let Some(image) = read_row_image(row) else {
         return;

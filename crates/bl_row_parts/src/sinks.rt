@@ -37,8 +37,7 @@ pub fn say_written(row: &mut Row<'_>, ended: Result<(), ImageFault>, faults: u64
         Ok(()) => row.say("ok"),
         Err(fault) => row.say_decimal("fault ", fault.number() as u64),
     }
-    row.say_number(", faults ", faults);
-    row.say_number(", asked ", asked);
+    row.say_numbers(&[(", faults ", faults), (", asked ", asked)]);
 }
 
 /// Whether a sink took the first bytes of an image, as many as it has room for.

@@ -33,13 +33,29 @@ pub trait Calls {
     fn make_over(&self, row: &mut Row<'_>);
 }
 
+/// Whether a name is one of these.
+pub fn is_one_of(name: &str, names: &[&str]) -> bool {
+    for known in names {
+        if *known == name {
+            return true;
+        }
+    }
+    false
+}
+
 /// Whether the words after this name are bytes, and nothing else.
 pub fn takes_bytes(name: &str) -> bool {
-    match name {
-        "elf" | "header" | "own" => true,
-        "read_setup" | "setup_fault" | "read_params" => true,
-        _ => false,
-    }
+    is_one_of(
+        name,
+        &[
+            "elf",
+            "header",
+            "own",
+            "read_setup",
+            "setup_fault",
+            "read_params",
+        ],
+    )
 }
 
 /// Makes a call of bl_params or on values of bl_mem.

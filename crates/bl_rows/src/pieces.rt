@@ -4,10 +4,23 @@ ghost use Rattle.std.specs.Prelude.{◌≤◌};
 use crate::line::split_or;
 use crate::session::Session;
 use hex::FromHexError;
-use std::collections::BTreeMap;
 
-/// The bytes that have a name.
-pub type Names = BTreeMap<String, Vec<u8>>;
+/// Bytes that have a name.
+#[derive(Drop)]
+pub struct Named {
+    pub name: String,
+    pub bytes: Vec<u8>,
+}
+
+/// The bytes that got this name last.
+fn bytes_named<'n>(names: &'n [Named], name: &str) -> Option<&'n [u8]> {
+    for named in names.iter().rev() {
+        if named.name.as_str() == name {
+            return Some(named.bytes.as_slice());
+        }
+    }
+    None
+}
 
 /// Bytes that are read. Words that are no pieces, and want of memory, are kept until the end.
 #[derive(Drop)]
@@ -83,8 +96,8 @@ impl<'a> Pieces<'a> {
 
     /// Appends a piece: a name's bytes, or others.
     fn push_piece(&mut self, piece: &str) {
-        match self.session.names.get(piece) {
-            Some(named) => self.push(named.as_slice()),
+        match bytes_named(self.session.names.as_slice(), piece) {
+            Some(bytes) => self.push(bytes),
             None => self.push_unnamed(piece),
         }
     }

@@ -16,6 +16,17 @@ impl<'a> Row<'a> {
         }
     }
 
+    /// The value of this name in a table; where it is not there, another one.
+    pub fn pick<T: Copy>(&mut self, table: &[(&str, T)], name: &str, otherwise: T) -> T {
+        for (known, value) in table {
+            if *known == name {
+                return *value;
+            }
+        }
+        self.refuse();
+        otherwise
+    }
+
     /// The number of these hexadecimal digits.
     pub fn number_of(&mut self, digits: &str) -> u64 {
         match u64::from_str_radix(digits, 16) {
@@ -93,6 +104,18 @@ impl<'a> Row<'a> {
         start..self.number_of(end)
     }
 
+    /// The range that is the next word.
+    pub fn range(&mut self) -> Range<u64> {
+        let word = self.word();
+        self.range_of(word)
+    }
+
+    /// The range that stands after `NAME=` in the next word.
+    pub fn range_field(&mut self, name: &str) -> Range<u64> {
+        let word = self.field(name);
+        self.range_of(word)
+    }
+
     /// The ranges that all words are that are left.
     pub fn rest_ranges(&mut self) -> Vec<Range<u64>> {
         let mut ranges = Vec::new(self.alloc);
@@ -143,6 +166,12 @@ impl<'a> Row<'a> {
             self.run_short();
         }
         pieces.bytes
+    }
+
+    /// The bytes that stand after `NAME=` in the next word.
+    pub fn bytes_field(&mut self, name: &str) -> Vec<u8> {
+        let words = self.field(name);
+        self.bytes_of(words)
     }
 
     /// The bytes of all words that are left.

@@ -2,43 +2,11 @@
 
 use crate::row::Row;
 use crate::runs::Runs;
-use std::alloc::{AllocError, Global};
+use std::alloc::AllocError;
 use std::fmt::{Debug, Display};
 
 /// How many equal bytes in a row, or more, are told by their count.
 const MANY: u64 = 16;
-
-/// Appends a byte that stands so many times in a row: as pieces of a row.
-fn push_run(text: &mut String, byte: u8, count: u64) -> Result<(), AllocError> {
-    if count < MANY {
-        for _ in 0..count {
-            write!(text, "{byte:02x}")?;
-        }
-        return Ok(());
-    }
-    if !text.is_empty() && !text.ends_with(" ") {
-        text.push_str(" ")?;
-    }
-    write!(text, "{count:x}*{byte:02x} ")
-}
-
-/// Bytes as pieces of a row: digits, and `COUNT*DIGITS` where one byte stands sixteen times in a
-/// row or more.
-fn pieces_of(alloc: Global, bytes: &[u8]) -> Result<String, AllocError> {
-    let mut text = String::new(alloc);
-    let mut last = 0;
-    let mut count: u64 = 0;
-    for byte in bytes {
-        if *byte != last {
-            push_run(&mut text, last, count)?;
-            last = *byte;
-            count = 0;
-        }
-        count = count.saturating_add(1);
-    }
-    push_run(&mut text, last, count)?;
-    Ok(text)
-}
 
 impl Row<'_> {
     /// Appends a text.
@@ -48,11 +16,23 @@ impl Row<'_> {
         }
     }
 
-    /// Appends a text and a number, hexadecimal.
-    pub fn say_number(&mut self, before: &str, number: u64) {
-        if write!(self.text, "{before}{number:x}").is_err() {
+    /// Appends a text, and another one.
+    pub fn say_text(&mut self, before: &str, text: &str) {
+        self.say(before);
+        self.say(text);
+    }
+
+    /// Appends a number, hexadecimal, of so many digits at least.
+    fn say_hex(&mut self, number: u64, digits: usize) {
+        if write!(self.text, "{number:0digits$x}").is_err() {
             self.run_short();
         }
+    }
+
+    /// Appends a text and a number, hexadecimal.
+    pub fn say_number(&mut self, before: &str, number: u64) {
+        self.say(before);
+        self.say_hex(number, 1);
     }
 
     /// Appends texts and numbers, each text before its number.
@@ -64,23 +44,18 @@ impl Row<'_> {
 
     /// Appends a text and a number, decimal.
     pub fn say_decimal(&mut self, before: &str, number: u64) {
-        if write!(self.text, "{before}{number}").is_err() {
-            self.run_short();
-        }
+        self.say(before);
+        self.say_shown(number);
     }
 
     /// Appends a number of sixteen digits.
     pub fn say_sum(&mut self, sum: u64) {
-        if write!(self.text, "{sum:016x}").is_err() {
-            self.run_short();
-        }
+        self.say_hex(sum, 16);
     }
 
     /// Appends two digits.
     pub fn say_byte(&mut self, byte: u8) {
-        if write!(self.text, "{byte:02x}").is_err() {
-            self.run_short();
-        }
+        self.say_hex(byte as u64, 2);
     }
 
     /// Appends a value as it shows itself.
@@ -92,7 +67,8 @@ impl Row<'_> {
 
     /// Appends a text, and a value as its name, or in quotes.
     pub fn say_quoted<T: Debug + Drop>(&mut self, before: &str, value: T) {
-        if write!(self.text, "{before}{value:?}").is_err() {
+        self.say(before);
+        if write!(self.text, "{value:?}").is_err() {
             self.run_short();
         }
     }
@@ -103,23 +79,54 @@ impl Row<'_> {
         let _words = self.rest();
     }
 
+    /// Appends a byte that stands so many times in a row: digits, or a piece with a blank around
+    /// it.
+    fn say_run(&mut self, byte: u8, count: u64) {
+        if count < MANY {
+            for _ in 0..count {
+                self.say_byte(byte);
+            }
+            return;
+        }
+        if !self.text.is_empty() && !self.text.ends_with(" ") {
+            self.say(" ");
+        }
+        if write!(self.text, "{count:x}*{byte:02x} ").is_err() {
+            self.run_short();
+        }
+    }
+
+    /// Appends bytes as pieces of a row: digits, and `COUNT*DIGITS ` where one byte stands sixteen
+    /// times in a row or more.
+    fn say_pieces(&mut self, bytes: &[u8]) {
+        let mut last = 0;
+        let mut count: u64 = 0;
+        for byte in bytes {
+            if *byte != last {
+                self.say_run(last, count);
+                last = *byte;
+                count = 0;
+            }
+            count = count.saturating_add(1);
+        }
+        self.say_run(last, count);
+    }
+
     /// Appends a text, and bytes as pieces of a row.
     pub fn say_bytes(&mut self, before: &str, bytes: &[u8]) {
+        let said = self.take_text();
+        self.say_pieces(bytes);
+        let pieces = std::mem::replace(&mut self.text, said);
         self.say(before);
-        match pieces_of(self.alloc, bytes) {
-            Ok(pieces) => self.say(pieces.trim_end()),
-            Err(AllocError) => self.run_short(),
-        }
+        self.say(pieces.trim_end());
     }
 
     /// Appends bytes as digits, in brackets.
     pub fn say_digits(&mut self, before: &str, bytes: &[u8]) {
         match hex::encode(self.alloc, bytes) {
             Ok(digits) => {
-                self.say(before);
-                self.say("[");
-                self.say(digits.as_str());
-                self.say("]");
+                self.say_text(before, "[");
+                self.say_text(digits.as_str(), "]");
             }
             Err(AllocError) => self.run_short(),
         }

@@ -2,12 +2,11 @@
 
 use crate::calls::Calls;
 use crate::line::{Line, read_line, split_word};
-use crate::pieces::{Names, Pieces};
+use crate::pieces::{Named, Pieces};
 use crate::sweep::Sweep;
 use crate::way::read_way;
 use bl_refusing::Refusing;
 use std::alloc::{AllocError, Global};
-use std::collections::BTreeMap;
 
 /// What earlier lines leave.
 #[derive(Drop)]
@@ -15,8 +14,8 @@ pub struct Session {
     pub alloc: Global,
     /// A heap that refuses nothing.
     pub beside: Refusing,
-    /// The bytes that have names.
-    pub names: Names,
+    /// The bytes that have names, the newest last.
+    pub names: Vec<Named>,
     /// The words of the last machine that was accepted, or none.
     pub machine: String,
 
@@ -30,7 +29,7 @@ impl Session {
         Session {
             alloc,
             beside: Refusing::new(alloc, 0),
-            names: BTreeMap::new(alloc),
+            names: Vec::new(alloc),
             machine: String::new(alloc),
             text: String::new(alloc),
         }
@@ -47,7 +46,7 @@ impl Session {
         }
         let bytes = pieces.bytes;
         let name = String::from_str(self.alloc, name)?;
-        self.names.insert(name, bytes)?;
+        self.names.push(Named { name, bytes })?;
         Ok(true)
     }
 
@@ -59,12 +58,14 @@ impl Session {
 
     /// Appends a line, and its line feed, to the text that was begun last. Whether one was.
     fn add_line(&mut self, line: &str) -> Result<bool, AllocError> {
-        let Some(bytes) = self.names.get_mut(self.text.as_str()) else {
-            return Ok(false);
-        };
-        bytes.extend_from_slice(line.as_bytes())?;
-        bytes.push(b'\n')?;
-        Ok(true)
+        for named in self.names.iter_mut().rev() {
+            if named.name.as_str() == self.text.as_str() {
+                named.bytes.extend_from_slice(line.as_bytes())?;
+                named.bytes.push(b'\n')?;
+                return Ok(true);
+            }
+        }
+        Ok(false)
     }
 
     /// What a row's call answers.

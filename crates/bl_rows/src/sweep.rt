@@ -125,9 +125,9 @@ impl<'s, 'c> Sweep<'s, 'c> {
         for i in 0..2usize {
             let at = at.saturating_add(i);
             let by = by.saturating_add(i);
-            let first = self.exchange(at, 0);
-            let second = self.exchange(by, first);
-            let _zero = self.exchange(at, second);
+            if at < self.bytes.len() && by < self.bytes.len() {
+                self.bytes.as_mut_slice().swap(at, by);
+            }
         }
     }
 

@@ -20,7 +20,7 @@ pub enum Way {
 }
 
 fn refusal_of(digits: &str) -> Way {
-    match digits.parse::<u64>() {
+    match u64::from_str_radix(digits, 10) {
         Ok(nth) => Way::Once(nth),
         Err(_) => Way::Bad,
     }

@@ -17,7 +17,7 @@ use Rattle.bl_session.specs.Boot.{TextsHaveResult, Continuation, AfterAttempt, C
 use Rattle.bl_session.specs.Boot.{BeginsUnless, Begins, is_wanted, Takes, Steps, StepsOrFails}
 use Rattle.bl_session.specs.Boot.{Starts, StartsOrFails, attempt_of}
 use Rattle.bl_session.specs.History.{Item}
-use Rattle.bl_session.specs.Orders.{file_orders, orders, orders_after}
+use Rattle.bl_session.specs.Asked.{orders_of_files, orders, orders_after}
 
 -- equal machines and menus, and equal sizes wherever an entry looks
 pub record AreAlike (f g : BootFacts) : Type 0 where
@@ -31,7 +31,7 @@ pub orders_alike : (f g : BootFacts) → AreAlike f g → (state : State)
     → orders f state ≡ orders g state
 orders_alike f g alike unstarted = refl
 orders_alike f g alike (running entry rest earlier files) =
-    ap (λ (m : MenuFacts). file_orders (length earlier) 0 (entry_at m entry).files files) alike.menu
+    ap (λ (m : MenuFacts). orders_of_files (length earlier) 0 (entry_at m entry).files files) alike.menu
 orders_alike f g alike (handed_over entry earlier handover) = refl
 orders_alike f g alike (none_left earlier) = refl
 orders_alike f g alike out_of_memory = refl

@@ -9,7 +9,7 @@ use Rattle.bl_session.specs.Attempts.{count_to, files_named}
 use Rattle.bl_session.specs.Boot.{BootFacts, State, unstarted}
 use Rattle.bl_session.specs.Outcome.{File, missing, size_of}
 use Rattle.bl_session.specs.History.{Item}
-use Rattle.bl_session.specs.Run.{World, world_of, Delivers, Reads, IsRun}
+use Rattle.bl_session.specs.Run.{RunState, run_state_of, Delivers, Reads, IsRun}
 use Rattle.bl_session.specs.Phases.{boot_facts}
 use Rattle.bl_session.proofs.EntryEndLemmas.{size_at}
 use Rattle.bl_session.proofs.AlikeLemmas.{AreAlike, orders_alike, orders_after_alike, step_alike}
@@ -19,7 +19,7 @@ use Rattle.bl_session.proofs.AlikeLemmas.{start_alike}
 
 hears_alike : (f g : BootFacts) → AreAlike f g
     → (files : List File) (given : List Item) (state : State) (owed : List Item) (item : Item)
-    (next : World) → Delivers f files given state owed item next
+    (next : RunState) → Delivers f files given state owed item next
     → Delivers g files given state owed item next
 hears_alike f g alike files given state (order ∷ owed) item next hears = hears
 hears_alike f g alike files given state [] item next (event, is, steps, left) = (
@@ -30,7 +30,7 @@ hears_alike f g alike files given state [] item next (event, is, steps, left) = 
 )
 
 reads_alike : (f g : BootFacts) → AreAlike f g
-    → (files : List File) (items given : List Item) (old : World) (new : State)
+    → (files : List File) (items given : List Item) (old : RunState) (new : State)
     → Reads f files given old items new → Reads g files given old items new
 reads_alike f g alike files [] given old new reads = reads
 reads_alike f g alike files (item ∷ items) given old new (next, hears, reads) = (
@@ -44,7 +44,7 @@ pub run_alike : (f g : BootFacts) → AreAlike f g
     → (files : List File) (old new : List Item) (end : State) → IsRun f files old new end
     → IsRun g files old new end
 run_alike f g alike files old new end run =
-    let world : world_of f run.begun ≡ world_of g run.begun =
+    let run_state : run_state_of f run.begun ≡ run_state_of g run.begun =
     ap (λ (owed : List Item). record { state = run.begun; owed = owed })
     (orders_alike f g alike run.begun) in
     record {
@@ -53,8 +53,8 @@ run_alike f g alike files old new end run =
       begun = run.begun;
       begins = start_alike f g alike unstarted run.begun run.begins;
       reads =
-          subst (λ (w : World). Reads g files old w run.gained end) world
-          (reads_alike f g alike files run.gained old (world_of f run.begun) end run.reads);
+          subst (λ (w : RunState). Reads g files old w run.gained end) run_state
+          (reads_alike f g alike files run.gained old (run_state_of f run.begun) end run.reads);
     }
 
 -- ---- the sizes of the files that a menu names, and those of all files

@@ -11,12 +11,12 @@ use Rattle.bl_session.specs.Boot.{BootFacts, piece, fault, State, StepsOrFails, 
 use Rattle.bl_session.specs.Boot.{is_running, progress}
 use Rattle.bl_session.specs.Outcome.{File}
 use Rattle.bl_session.specs.History.{Item, came, failed, nothing, file_under, IsPieceOf}
-use Rattle.bl_session.specs.Orders.{orders, orders_after}
+use Rattle.bl_session.specs.Asked.{orders, orders_after}
 use Rattle.bl_session.specs.Memory.{IsMemoryIn}
 use Rattle.bl_session.specs.Phases.{PhaseFacts, not_started, waits, hands_over, has_none}
 use Rattle.bl_session.specs.Phases.{lacks_memory, state_at, is_waiting}
-use Rattle.bl_session.specs.Run.{World, world_of, IsAnswer, IsEventOf}
-use Rattle.bl_session.specs.Turns.{IsHeard, missing_in}
+use Rattle.bl_session.specs.Run.{RunState, run_state_of, IsAnswer, IsEventOf}
+use Rattle.bl_session.specs.TurnsKept.{IsHeard, missing_in}
 use Rattle.bl_session.proofs.NextLemmas.{lost_ends}
 use Rattle.bl_session.proofs.TurnLemmas.{heard_on, owed_same, owed_next}
 
@@ -94,11 +94,11 @@ waiting_memory pool lacks_memory bytes old new w memory = absurd cc
 
 -- ---- one answer more
 
-abbrev pub at : State → World
+abbrev pub at : State → RunState
 at state = record { state = state; owed = [] }
 
 pub heard_more : (facts now : BootFacts) (files those : List File) (first mid last : List Item)
-    (start : World) (old new : State) → now ≡ facts → those ≡ files
+    (start : RunState) (old new : State) → now ≡ facts → those ≡ files
     → IsHeard facts files first mid start (at old)
     → IsHeard now those mid last (at old) (record { state = new; owed = orders_after now old new })
     → IsHeard facts files first last start
@@ -115,7 +115,7 @@ heard_more facts now files those first mid last start old new e f so_far more =
     IsHeard now fs mid last (at old)
     (record { state = new; owed = orders_after now old new })) f more))
 
-owing : (facts : BootFacts) (files : List File) (first last : List Item) (start : World)
+owing : (facts : BootFacts) (files : List File) (first last : List Item) (start : RunState)
     (new : State) (a b : List Item) → a ≡ b
     → IsHeard facts files first last start (record { state = new; owed = a })
     → IsHeard facts files first last start (record { state = new; owed = b })
@@ -125,7 +125,7 @@ owing facts files first last start new a b e heard =
     e heard
 
 -- after which the attempt waits
-pub heard_waiting : (facts : BootFacts) (files : List File) (first last : List Item) (start : World)
+pub heard_waiting : (facts : BootFacts) (files : List File) (first last : List Item) (start : RunState)
     (old new : State) (p : Progress) → p ≡ progress (attempt_of old) new → p ≡ Waiting
     → IsHeard facts files first last start
     (record { state = new; owed = orders_after facts old new })
@@ -135,11 +135,11 @@ heard_waiting facts files first last start old new p told is heard =
     (owed_same facts old new (sym told ∙ is)) heard
 
 -- after which it has ended
-pub heard_ended : (facts : BootFacts) (files : List File) (first last : List Item) (start : World)
+pub heard_ended : (facts : BootFacts) (files : List File) (first last : List Item) (start : RunState)
     (old new : State) (p : Progress) → p ≡ progress (attempt_of old) new → p ≢ Waiting
     → IsHeard facts files first last start
     (record { state = new; owed = orders_after facts old new })
-    → IsHeard facts files first last start (world_of facts new)
+    → IsHeard facts files first last start (run_state_of facts new)
 heard_ended facts files first last start old new p told is heard =
     owing facts files first last start new (orders_after facts old new) (orders facts new)
     (owed_next facts old new (λ e. is (told ∙ e))) heard

@@ -10,9 +10,9 @@ use Rattle.bl_session.specs.History.{Item}
 use Rattle.bl_session.specs.declared.words.RefusedEntry.{RefusedEntry}
 use Rattle.bl_session.specs.Boot.{BootFacts}
 use Rattle.bl_session.specs.Menu.{entry_at}
-use Rattle.bl_session.specs.Orders.{piece_orders, file_orders, orders}
+use Rattle.bl_session.specs.Asked.{piece_orders, orders_of_files, orders}
 use Rattle.bl_session.specs.Phases.{PhaseFacts, waits, state_at}
-use Rattle.bl_session.specs.Turns.{IsAsked}
+use Rattle.bl_session.specs.TurnsKept.{IsAsked}
 use Rattle.bl_session.proofs.PieceStateLemmas.{length-piece_states_of}
 use Rattle.bl_session.proofs.AskLemmas.{asked_on, asked_part, asked_all}
 
@@ -27,7 +27,7 @@ sized_orders attempt place (file ∷ files) (size ∷ sizes) =
 
 sized_by : (S : ℕ → List PieceState) (attempt place start : ℕ) (files sizes : List ℕ)
     → ((k : ℕ) → k < length sizes → length (S (start + k)) ≡ frames_of (get_or sizes k 0))
-    → file_orders attempt place files (map S (range_with_len start (length sizes)))
+    → orders_of_files attempt place files (map S (range_with_len start (length sizes)))
     ≡ sized_orders attempt place files sizes
 sized_by S attempt place start [] sizes h = refl
 sized_by S attempt place start (file ∷ files) [] h = refl
@@ -41,12 +41,12 @@ sized_by S attempt place start (file ∷ files) (size ∷ sizes) h =
     ap (λ n. length (S n)) next ∙ h (suc k) (omega arith)) in
     ap (λ n.
     piece_orders attempt place file n
-    ++ file_orders attempt (place + 1) files
+    ++ orders_of_files attempt (place + 1) files
     (map S (range_with_len (start + 1) (length sizes)))) here
     ∙ ap (λ (l : List Item). piece_orders attempt place file (frames_of size) ++ l) more
 
 pub orders_sized : (bytes : List ℕ) (stage : Staging) (attempt : ℕ) (files : List ℕ)
-    → file_orders attempt 0 files (piece_states bytes stage)
+    → orders_of_files attempt 0 files (piece_states bytes stage)
     ≡ sized_orders attempt 0 files stage.sizes
 orders_sized bytes stage attempt files =
     sized_by (λ file. piece_states_of bytes stage file) attempt 0 0 files stage.sizes
@@ -107,7 +107,7 @@ pub asked_files : (bytes : List ℕ) (stage : Staging) (attempt place : ℕ) (fi
     (old new : List Item) → length files ≤ place
     → IsAsked (sized_orders attempt 0 files stage.sizes)
     (sized_orders attempt place (drop place files) (drop place stage.sizes)) old new
-    → new ≡ old ++ file_orders attempt 0 files (piece_states bytes stage)
+    → new ≡ old ++ orders_of_files attempt 0 files (piece_states bytes stage)
 asked_files bytes stage attempt place files old new h a =
     let none : sized_orders attempt place (drop place files) (drop place stage.sizes) ≡ [] =
     ap (λ (fs : List ℕ). sized_orders attempt place fs (drop place stage.sizes))
@@ -119,7 +119,7 @@ asked_files bytes stage attempt place files old new h a =
 pub asked_sized : (bytes : List ℕ) (stage : Staging) (attempt : ℕ) (files : List ℕ)
     (old new : List Item)
     → (rest : List Item) × IsAsked (sized_orders attempt 0 files stage.sizes) rest old new
-    → (rest : List Item) × IsAsked (file_orders attempt 0 files (piece_states bytes stage)) rest old
+    → (rest : List Item) × IsAsked (orders_of_files attempt 0 files (piece_states bytes stage)) rest old
     new
 asked_sized bytes stage attempt files old new a = (
   a.0,
@@ -136,7 +136,7 @@ pub asked_in : {T E : Type 0} (result : Result T E) (facts : BootFacts) (phase :
     → OnErr result
     ((bytes : List ℕ)
     → (left : List Item)
-    × IsAsked (file_orders number 0 files (piece_states bytes stage)) left old new)
+    × IsAsked (orders_of_files number 0 files (piece_states bytes stage)) left old new)
     → OnErr result
     ((bytes : List ℕ)
     → (left : List Item) × IsAsked (orders facts (state_at bytes phase)) left old new)
@@ -145,9 +145,9 @@ asked_in (Ok x) facts phase entry rest earlier stage number files old new is num
 asked_in (Err e) facts phase entry rest earlier stage number files old new is number_is files_is
     asked = λ bytes.
     let one = asked bytes in
-    let same : file_orders number 0 files (piece_states bytes stage)
+    let same : orders_of_files number 0 files (piece_states bytes stage)
     ≡ orders facts (state_at bytes phase) =
-    ap (λ n. file_orders n 0 files (piece_states bytes stage)) number_is
-    ∙ ap (λ (fs : List ℕ). file_orders (length earlier) 0 fs (piece_states bytes stage)) files_is
+    ap (λ n. orders_of_files n 0 files (piece_states bytes stage)) number_is
+    ∙ ap (λ (fs : List ℕ). orders_of_files (length earlier) 0 fs (piece_states bytes stage)) files_is
     ∙ sym (ap (λ (p : PhaseFacts). orders facts (state_at bytes p)) is) in
     (one.0, subst (λ (l : List Item). IsAsked l one.0 old new) same one.1)

@@ -4,8 +4,8 @@ use Rattle.std.proofs.Common.{ap, subst, ◌∙◌, arith, append_assoc}
 use Rattle.std.proofs.lemmas.List.{append-nil, drop_more, drop_all}
 use Rattle.std.proofs.lemmas.List.FromFn.{length-map-range_with_len, get_or-map-range_with_len}
 use Rattle.bl_session.specs.History.{Item, submitted, nothing}
-use Rattle.bl_session.specs.Orders.{ticket_of, piece_orders, orders}
-use Rattle.bl_session.specs.Turns.{IsAsked}
+use Rattle.bl_session.specs.Asked.{ticket_of, piece_orders, orders}
+use Rattle.bl_session.specs.TurnsKept.{IsAsked}
 
 -- ---- one part of the orders after the other
 

@@ -12,7 +12,7 @@ use Rattle.bl_session.specs.Pieces.{with_piece}
 use Rattle.bl_session.specs.Boot.{BootFacts, EventFacts, State, unstarted, running, handed_over}
 use Rattle.bl_session.specs.Boot.{none_left, out_of_memory, Steps, attempt_of}
 use Rattle.bl_session.specs.History.{Item, file_under}
-use Rattle.bl_session.specs.Orders.{ticket_of, orders, orders_after}
+use Rattle.bl_session.specs.Asked.{ticket_of, orders, orders_after}
 use Rattle.bl_session.proofs.TicketLemmas.{file_both}
 use Rattle.bl_session.proofs.OrderLemmas.{found_files}
 use Rattle.bl_session.proofs.AwaitedLemmas.{as_many_files, as_many_pieces}

@@ -13,7 +13,7 @@ use Rattle.bl_session.specs.AttemptResult.{AttemptResult, HasResult, size_refusa
 use Rattle.bl_session.specs.Menu.{EntryFacts, facts_of, value_with}
 use Rattle.bl_session.specs.Pieces.{are_whole, awaited}
 use Rattle.bl_session.specs.PhasesKept.{IsFresh}
-use Rattle.bl_session.specs.Attempt.{IsAttempt, IsAttemptBegun, IsRefusedFor}
+use Rattle.bl_session.specs.AttemptKept.{IsAttempt, IsAttemptBegun, IsRefusedFor}
 use Rattle.bl_session.specs.declared.attempt.Attempt.{Attempt}
 use Rattle.bl_session.proofs.WholeLemmas.{first_awaited, whole_came, whole_texts}
 

@@ -11,7 +11,7 @@ use Rattle.bl_session.specs.Boot.{BootFacts, EventFacts, piece, fault, running, 
 use Rattle.bl_session.specs.History.{Item, submitted, came, failed, nothing, is_same, file_under}
 use Rattle.bl_session.specs.History.{IsPieceOf}
 use Rattle.bl_session.specs.Outcome.{File, size_of, AreToldFaults}
-use Rattle.bl_session.specs.Orders.{first_ticket}
+use Rattle.bl_session.specs.Asked.{first_ticket}
 use Rattle.bl_session.specs.Run.{IsAnswer, IsMarked}
 use Rattle.bl_session.specs.Faithful.{asked, answered, HasPiece, IsFaithfulItem}
 use Rattle.bl_session.proofs.TicketLemmas.{both, IsAskedOnce, same_ticket, other_ticket}

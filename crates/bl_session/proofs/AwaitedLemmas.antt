@@ -8,7 +8,7 @@ use Rattle.std.proofs.lemmas.List.FromFn.{get_or-map-range_with_len, length-map-
 use Rattle.bl_map.specs.Room.{frames_of}
 use Rattle.bl_stage.specs.PieceStates.{PieceState, waits, has, waiting_pieces}
 use Rattle.bl_session.specs.declared.words.Ticket.{Ticket}
-use Rattle.bl_session.specs.Orders.{ticket_of, first_awaited_piece, first_ticket, ticket_or}
+use Rattle.bl_session.specs.Asked.{ticket_of, first_awaited_piece, first_ticket, ticket_or}
 use Rattle.bl_session.specs.Pieces.{is_awaited, awaits, piece_state_of, with_piece, awaited}
 
 -- ---- a new attempt's

@@ -6,8 +6,8 @@ use Rattle.bl_session.specs.Boot.{BootFacts, EventFacts, State, unstarted, runni
 use Rattle.bl_session.specs.Boot.{none_left, out_of_memory, StepsOrFails, StartsOrFails}
 use Rattle.bl_session.specs.History.{Item}
 use Rattle.bl_session.specs.Outcome.{File, size_of}
-use Rattle.bl_session.specs.Orders.{orders, orders_after}
-use Rattle.bl_session.specs.Run.{World, IsEventOf, IsGenuineItem, IsGenuineRun, AllAnswers}
+use Rattle.bl_session.specs.Asked.{orders, orders_after}
+use Rattle.bl_session.specs.Run.{RunState, IsEventOf, IsGenuineItem, IsGenuineRun, EachAnswerIs}
 use Rattle.bl_session.specs.Faithful.{IsFaithfulItem, IsFaithfulAfter, IsFaithful}
 use Rattle.bl_session.proofs.SteadyLemmas.{Steady, steady_new}
 use Rattle.bl_session.proofs.WentLemmas.{new_begins}
@@ -43,7 +43,7 @@ module _ (facts : BootFacts) (files : List File) (known : facts.sizes ≡ map si
 
   genuine_all : (items given : List Item) (state : State) (owed : List Item)
       → Steady facts (given ++ owed) state → IsFaithfulAfter files given items
-      → AllAnswers facts files (IsGenuineItem (λ attempt. None)) given
+      → EachAnswerIs facts files (IsGenuineItem (λ attempt. None)) given
       (record { state = state; owed = owed }) items
   genuine_all [] given state owed steady faithful = tt
   genuine_all (item ∷ items) given state (order ∷ owed) steady (one, more) = (
@@ -52,8 +52,8 @@ module _ (facts : BootFacts) (files : List File) (known : facts.sizes ≡ map si
         let all : (given ++ item ∷ []) ++ owed ≡ given ++ order ∷ owed =
         append_assoc given (item ∷ []) owed ∙ ap (λ (x : Item). given ++ x ∷ owed) same in
         let holds : Steady facts ((given ++ item ∷ []) ++ owed) state = rw all steady in
-        subst (λ (w : World).
-        AllAnswers facts files (IsGenuineItem (λ attempt. None)) (given ++ item ∷ []) w items)
+        subst (λ (w : RunState).
+        EachAnswerIs facts files (IsGenuineItem (λ attempt. None)) (given ++ item ∷ []) w items)
         (sym at) (genuine_all items (given ++ item ∷ []) state owed holds more),
   )
   genuine_all (item ∷ items) given state [] steady (one, more) =

@@ -7,8 +7,8 @@ use Rattle.bl_session.specs.Boot.{BootFacts, EventFacts, State, unstarted, runni
 use Rattle.bl_session.specs.Boot.{none_left, out_of_memory, is_wanted, Takes, Steps}
 use Rattle.bl_session.specs.Outcome.{File, Faults, AreToldFaults}
 use Rattle.bl_session.specs.History.{Item}
-use Rattle.bl_session.specs.Orders.{orders_after}
-use Rattle.bl_session.specs.Run.{IsAnswer, World, Delivers, IsMarked, IsGenuineItem, AllAnswers}
+use Rattle.bl_session.specs.Asked.{orders_after}
+use Rattle.bl_session.specs.Run.{IsAnswer, RunState, Delivers, IsMarked, IsGenuineItem, EachAnswerIs}
 use Rattle.bl_session.proofs.BootLaws.{one_step}
 use Rattle.bl_session.proofs.WentLemmas.{IsNewFrom}
 use Rattle.bl_session.proofs.LostLemmas.{LacksMemory, lost_step, hears_nothing}
@@ -36,20 +36,20 @@ module _ (facts : BootFacts) (files : List File) where
   from_new count number out_of_memory n is from = absurd from
 
   -- some faults, which count only from the attempt that runs, make these items genuine
-  abbrev pub Fits : List Item → World → List Item → Type 0
-  Fits given world items =
+  abbrev pub Fits : List Item → RunState → List Item → Type 0
+  Fits given run_state items =
       (faults : Faults)
-      × ((others : Faults) → ((n : ℕ) → IsFrom world.state n → others n ≡ faults n)
-      → AllAnswers facts files (IsGenuineItem others) given world items)
+      × ((others : Faults) → ((n : ℕ) → IsFrom run_state.state n → others n ≡ faults n)
+      → EachAnswerIs facts files (IsGenuineItem others) given run_state items)
 
   -- ---- want of memory
 
-  pub lost_genuine : (others : Faults) (items given : List Item) (world : World) → LacksMemory world
-      → AllAnswers facts files (IsGenuineItem others) given world items
-  lost_genuine others [] given world lost = tt
-  lost_genuine others (item ∷ items) given world lost = (
+  pub lost_genuine : (others : Faults) (items given : List Item) (run_state : RunState) → LacksMemory run_state
+      → EachAnswerIs facts files (IsGenuineItem others) given run_state items
+  lost_genuine others [] given run_state lost = tt
+  lost_genuine others (item ∷ items) given run_state lost = (
     λ event e is. subst (λ (s : State). IsGenuineItem others s item event) (sym lost.0) tt,
-    λ next hears. absurd (hears_nothing facts files given world item next lost hears),
+    λ next hears. absurd (hears_nothing facts files given run_state item next lost hears),
   )
 
   -- ---- one answer of an attempt that runs
@@ -81,48 +81,48 @@ module _ (facts : BootFacts) (files : List File) where
           (are_told others earlier piece_states event is),
     )
 
-    -- each other world that is reached is the same, or lacks memory
-    other_world : (others : Faults) (event : EventFacts) (next world : World) (items : List Item)
+    -- each other state of the run that is reached is the same, or lacks memory
+    other_world : (others : Faults) (event : EventFacts) (next run_state : RunState) (items : List Item)
         → IsAnswer files given earlier piece_states item event → Steps facts here event next.state
         → next.owed ≡ orders_after facts here next.state
-        → Delivers facts files given here [] item world
-        → AllAnswers facts files (IsGenuineItem others) (given ++ item ∷ []) next items
-        → AllAnswers facts files (IsGenuineItem others) (given ++ item ∷ []) world items
-    other_world others event next world items p goes left (other, q, inr (lost, ends), owed)
+        → Delivers facts files given here [] item run_state
+        → EachAnswerIs facts files (IsGenuineItem others) (given ++ item ∷ []) next items
+        → EachAnswerIs facts files (IsGenuineItem others) (given ++ item ∷ []) run_state items
+    other_world others event next run_state items p goes left (other, q, inr (lost, ends), owed)
         genuine =
-        lost_genuine others items (given ++ item ∷ []) world (lost_step facts here world lost owed)
-    other_world others event next world items p goes left (other, q, inl steps, owed) genuine =
-        let state : next.state ≡ world.state =
+        lost_genuine others items (given ++ item ∷ []) run_state (lost_step facts here run_state lost owed)
+    other_world others event next run_state items p goes left (other, q, inl steps, owed) genuine =
+        let state : next.state ≡ run_state.state =
         same_state (is_wanted earlier piece_states other) (is_wanted earlier piece_states event)
         refl refl
         steps goes in
-        let same : next ≡ world =
+        let same : next ≡ run_state =
         ap (λ (s : State). record { state = s; owed = next.owed }) state
-        ∙ ap (λ (o : List Item). record { state = world.state; owed = o })
+        ∙ ap (λ (o : List Item). record { state = run_state.state; owed = o })
         (left ∙ ap (orders_after facts here) state ∙ sym owed) in
-        subst (λ (w : World).
-        AllAnswers facts files (IsGenuineItem others) (given ++ item ∷ []) w items) same
+        subst (λ (w : RunState).
+        EachAnswerIs facts files (IsGenuineItem others) (given ++ item ∷ []) w items) same
         genuine
       where
         same_state : (a b : Bool) → is_wanted earlier piece_states other ≡ a
             → is_wanted earlier piece_states event ≡ b
-            → MatchBool a (Takes facts entry rest earlier piece_states other world.state)
-            (world.state ≡ here)
+            → MatchBool a (Takes facts entry rest earlier piece_states other run_state.state)
+            (run_state.state ≡ here)
             → MatchBool b (Takes facts entry rest earlier piece_states event next.state)
             (next.state ≡ here)
-            → next.state ≡ world.state
+            → next.state ≡ run_state.state
         same_state true b e f takes other_takes =
-            one_step facts here event next.state world.state goes
-            (subst (λ (x : EventFacts). Steps facts here x world.state)
+            one_step facts here event next.state run_state.state goes
+            (subst (λ (x : EventFacts). Steps facts here x run_state.state)
             (is_event other event q e p) steps)
         same_state false true e f takes other_takes =
-            one_step facts here event next.state world.state goes
-            (subst (λ (x : EventFacts). Steps facts here x world.state)
+            one_step facts here event next.state run_state.state goes
+            (subst (λ (x : EventFacts). Steps facts here x run_state.state)
             (sym (is_event event other p f q)) steps)
         same_state false false e f stays other_stays = other_stays ∙ sym stays
 
     -- the faults after it, and that of this attempt if it ended
-    pub taken : (event : EventFacts) (next : World) (items : List Item)
+    pub taken : (event : EventFacts) (next : RunState) (items : List Item)
         → IsAnswer files given earlier piece_states item event → Steps facts here event next.state
         → next.owed ≡ orders_after facts here next.state
         → Fits (given ++ item ∷ []) next items
@@ -134,7 +134,7 @@ module _ (facts : BootFacts) (files : List File) where
             → (is_last piece_states event ≡ true → is_wanted earlier piece_states event ≡ true
             → others (length earlier) ≡ told event)
             → ((n : ℕ) → IsFrom next.state n → others n ≡ faults n)
-            → AllAnswers facts files (IsGenuineItem others) given
+            → EachAnswerIs facts files (IsGenuineItem others) given
             (record { state = here; owed = [] })
             (item ∷ items)
         whole others is same = (
@@ -144,8 +144,8 @@ module _ (facts : BootFacts) (files : List File) where
               is last
               (ap (is_wanted earlier piece_states) (sym (is_event other event q is_it p))
               ∙ is_it)) q is_it,
-          λ world hears.
-              other_world others event next world items p goes left hears (more others same),
+          λ run_state hears.
+              other_world others event next run_state items p goes left hears (more others same),
         )
 
         ended : (last : Bool) → is_last piece_states event ≡ last
@@ -193,6 +193,6 @@ module _ (facts : BootFacts) (files : List File) where
       λ others same. (
         λ other none q is_it.
             told_right others event other p (λ last. same (length earlier) (omega arith)) q is_it,
-        λ world hears. tt,
+        λ run_state hears. tt,
       ),
     )

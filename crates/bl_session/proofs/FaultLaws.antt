@@ -4,9 +4,9 @@ use Rattle.bl_session.specs.Boot.{BootFacts, EventFacts, State, unstarted, runni
 use Rattle.bl_session.specs.Boot.{none_left, out_of_memory, StartsOrFails}
 use Rattle.bl_session.specs.Outcome.{File, Faults}
 use Rattle.bl_session.specs.History.{Item}
-use Rattle.bl_session.specs.Orders.{orders}
-use Rattle.bl_session.specs.Run.{IsEventOf, World, world_of, Delivers, Reads, IsRun, IsGenuineRun}
-use Rattle.bl_session.specs.Run.{AllAnswers, IsMarkedItem, IsMarkedRun, IsGenuineItem}
+use Rattle.bl_session.specs.Asked.{orders}
+use Rattle.bl_session.specs.Run.{IsEventOf, RunState, run_state_of, Delivers, Reads, IsRun, IsGenuineRun}
+use Rattle.bl_session.specs.Run.{EachAnswerIs, IsMarkedItem, IsMarkedRun, IsGenuineItem}
 use Rattle.bl_session.proofs.BootLaws.{one_start}
 use Rattle.bl_session.proofs.LostLemmas.{lost_step, reads_nothing}
 use Rattle.bl_session.proofs.FaultEventLemmas.{IsFrom, Fits, lost_genuine, taken, lost_last}
@@ -15,7 +15,7 @@ module _ (facts : BootFacts) (files : List File) where
   -- ---- the whole history
 
   one_item : (items : List Item) (item : Item) (given : List Item) (state : State)
-      (owed : List Item) (next : World) (end : State)
+      (owed : List Item) (next : RunState) (end : State)
       → ((event : EventFacts) → owed ≡ [] → IsEventOf files given state item event
       → IsMarkedItem state item event)
       → Delivers facts files given state owed item next
@@ -26,12 +26,12 @@ module _ (facts : BootFacts) (files : List File) where
     faults,
     λ others agree. (
       λ event none p. absurd (let clash : order ∷ owed ≡ [] = none in cc),
-      λ world (is_too, same_too).
-          subst (λ (w : World).
-          AllAnswers facts files (IsGenuineItem others) (given ++ item ∷ []) w items)
+      λ run_state (is_too, same_too).
+          subst (λ (w : RunState).
+          EachAnswerIs facts files (IsGenuineItem others) (given ++ item ∷ []) w items)
           (same ∙ sym same_too)
           (more others
-          (λ n from. agree n (subst (λ (w : World). IsFrom facts files w.state n) same from))),
+          (λ n from. agree n (subst (λ (w : RunState). IsFrom facts files w.state n) same from))),
     ),
   )
   one_item items item given unstarted [] next end marked (event, is, goes, left) reads more =
@@ -61,13 +61,13 @@ module _ (facts : BootFacts) (files : List File) where
   one_item items item given out_of_memory [] next end marked (event, is, goes, left) reads more =
       absurd is
 
-  fits : (items given : List Item) (world : World) (end : State)
-      → AllAnswers facts files IsMarkedItem given world items
-      → Reads facts files given world items end
-      → Fits facts files given world items
-  fits [] given world end marked reads = (λ n. None, λ others same. tt)
-  fits (item ∷ items) given world end marked (next, hears, reads) =
-      one_item items item given world.state world.owed next end marked.0 hears reads
+  fits : (items given : List Item) (run_state : RunState) (end : State)
+      → EachAnswerIs facts files IsMarkedItem given run_state items
+      → Reads facts files given run_state items end
+      → Fits facts files given run_state items
+  fits [] given run_state end marked reads = (λ n. None, λ others same. tt)
+  fits (item ∷ items) given run_state end marked (next, hears, reads) =
+      one_item items item given run_state.state run_state.owed next end marked.0 hears reads
       (fits items (given ++ item ∷ []) next end (marked.1 next hears) reads)
 
   -- ---- a run
@@ -78,23 +78,23 @@ module _ (facts : BootFacts) (files : List File) where
 
   -- a boot that began so, as it is told, or one that lacks memory from the first
   begun_alike : (old gained : List Item) (a b : State) (end : State)
-      → StartsOrFails facts unstarted a → Reads facts files old (world_of facts a) gained end
+      → StartsOrFails facts unstarted a → Reads facts files old (run_state_of facts a) gained end
       → (faults : Faults)
-      → AllAnswers facts files (IsGenuineItem faults) old (world_of facts a) gained
+      → EachAnswerIs facts files (IsGenuineItem faults) old (run_state_of facts a) gained
       → StartsOrFails facts unstarted b
-      → AllAnswers facts files (IsGenuineItem faults) old (world_of facts b) gained
+      → EachAnswerIs facts files (IsGenuineItem faults) old (run_state_of facts b) gained
   begun_alike old gained a b end (inl p) reads faults genuine (inl q) =
       subst (λ (s : State).
-      AllAnswers facts files (IsGenuineItem faults) old (world_of facts s) gained)
+      EachAnswerIs facts files (IsGenuineItem faults) old (run_state_of facts s) gained)
       (one_start facts unstarted a b p q) genuine
   begun_alike old gained a b end p reads faults genuine (inr (lost, is)) =
-      lost_genuine facts files faults gained old (world_of facts b) (lost, ap (orders facts) lost)
+      lost_genuine facts files faults gained old (run_state_of facts b) (lost, ap (orders facts) lost)
   begun_alike old gained a b end (inr (lost, is)) reads faults genuine (inl q) =
       let none =
-      reads_nothing facts files old (world_of facts a) gained end (lost, ap (orders facts) lost)
+      reads_nothing facts files old (run_state_of facts a) gained end (lost, ap (orders facts) lost)
       reads in
       subst (λ (items : List Item).
-      AllAnswers facts files (IsGenuineItem faults) old (world_of facts b) items)
+      EachAnswerIs facts files (IsGenuineItem faults) old (run_state_of facts b) items)
       (sym none) tt
 
   pub some_faults : (old new : List Item) (end : State) → IsRun facts files old new end
@@ -102,7 +102,7 @@ module _ (facts : BootFacts) (files : List File) where
       → (faults : Faults) × IsGenuineRun facts files faults old new
   some_faults old new end run marked =
       let found =
-      fits run.gained old (world_of facts run.begun) end
+      fits run.gained old (run_state_of facts run.begun) end
       (marked run.gained run.begun run.given run.begins) run.reads in (
         found.0,
         λ gained begun given begins.
@@ -110,7 +110,7 @@ module _ (facts : BootFacts) (files : List File) where
             same_rest old run.gained gained (sym run.given ∙ given) in
             subst
             (λ (items : List Item).
-            AllAnswers facts files (IsGenuineItem found.0) old (world_of facts begun) items) same
+            EachAnswerIs facts files (IsGenuineItem found.0) old (run_state_of facts begun) items) same
             (begun_alike old run.gained run.begun begun end run.begins run.reads found.0
             (found.1 found.0 (λ n from. refl)) begins),
       )

@@ -11,7 +11,7 @@ use Rattle.bl_session.specs.Boot.{attempt_of, progress}
 use Rattle.bl_session.specs.Memory.{IsMemoryIn}
 use Rattle.bl_session.specs.Phases.{PhaseFacts, not_started, waits, hands_over, has_none}
 use Rattle.bl_session.specs.Phases.{lacks_memory, state_at, is_waiting}
-use Rattle.bl_session.specs.Turns.{attempts_in}
+use Rattle.bl_session.specs.TurnsKept.{attempts_in}
 use Rattle.bl_session.proofs.NextLemmas.{IsNext, next_step, still_runs, has_ended, fewer_left}
 use Rattle.bl_session.proofs.NextLemmas.{memory_step}
 

@@ -11,7 +11,7 @@ use Rattle.bl_session.specs.Boot.{BootFacts, EventFacts, piece, fault, State, un
 use Rattle.bl_session.specs.Boot.{handed_over, none_left, out_of_memory, Steps, StepsOrFails}
 use Rattle.bl_session.specs.History.{Item, submitted, came, failed, nothing, file_under, IsPieceOf}
 use Rattle.bl_session.specs.Outcome.{File, size_of}
-use Rattle.bl_session.specs.Orders.{orders, orders_after}
+use Rattle.bl_session.specs.Asked.{orders, orders_after}
 use Rattle.bl_session.specs.Run.{IsAnswer}
 use Rattle.bl_session.specs.Faithful.{IsFaithfulItem}
 use Rattle.bl_session.proofs.TicketLemmas.{IsUntouched, same_ticket, other_ticket, untouched_both}

@@ -30,6 +30,9 @@ pub mod RequestLemmas
 pub mod StoreLemmas
 pub mod ToldLemmas
 pub mod LedgerLemmas
+pub mod SubmissionRunLemmas
+pub mod ListedLemmas
+pub mod PendingLemmas
 pub mod AskLemmas
 pub mod AskFileLemmas
 pub mod MissingLemmas

@@ -5,7 +5,7 @@ use Rattle.std.specs.Bool.{IsTrue}
 use Rattle.std.proofs.lemmas.List.{take_all, length-map}
 use Rattle.std.proofs.lemmas.List.Elements.{All-map, All-cons, All-tail}
 use Rattle.bl_load.specs.declared.entry.Entry.{Entry}
-use Rattle.bl_load.specs.Offered.{IsOffer, IsOffered}
+use Rattle.bl_load.specs.Offered.{IsOfferedEntry, IsOffered}
 use Rattle.bl_load.specs.declared.entry.Entry.TheVariants.{Multiboot2, Linux}
 use Rattle.bl_load.specs.declared.entry.Module.{Module}
 use Rattle.bl_load.specs.Value.{IsWithinLimits, file_count, lines_of}
@@ -16,8 +16,8 @@ use Rattle.bl_session.specs.Outcome.{File, value_in}
 -- ---- entries as contracts see them
 
 pub offered_entries : {A : Type 0} (entries : List (Entry A))
-    → All IsOffer entries → All (λ (e : EntryFacts). IsOffered e.blank) (map facts_of entries)
-unfolding IsOffer
+    → All IsOfferedEntry entries → All (λ (e : EntryFacts). IsOffered e.blank) (map facts_of entries)
+unfolding IsOfferedEntry
 offered_entries entries all = All-map (λ (e : EntryFacts). IsOffered e.blank) facts_of entries all
 
 -- an entry has few files

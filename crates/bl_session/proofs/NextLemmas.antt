@@ -15,9 +15,9 @@ use Rattle.bl_session.specs.Pieces.{with_piece}
 use Rattle.bl_session.specs.Boot.{BootFacts, EventFacts, fault, State, unstarted, running}
 use Rattle.bl_session.specs.Boot.{handed_over, none_left, out_of_memory, is_wanted, is_taken, Takes}
 use Rattle.bl_session.specs.Boot.{StepsOrFails, progress}
-use Rattle.bl_session.specs.Orders.{first_ticket}
+use Rattle.bl_session.specs.Asked.{first_ticket}
 use Rattle.bl_session.specs.Memory.{IsMemoryIn}
-use Rattle.bl_session.specs.Turns.{attempts_in}
+use Rattle.bl_session.specs.TurnsKept.{attempts_in}
 use Rattle.bl_session.proofs.MissingLemmas.{first_wanted}
 use Rattle.bl_session.proofs.StepFaultLemmas.{ends_taken}
 use Rattle.bl_session.proofs.WentLemmas.{IsNewFrom, new_goes, new_begins, step_went}

@@ -8,11 +8,11 @@ use Rattle.std.proofs.lemmas.List.Folds.{list_any-append}
 use Rattle.std.proofs.lemmas.Map.Steps.{length-le_from_distinct_below}
 use Rattle.std.specs.List.{IsDistinct, AllByRecursion}
 use Rattle.std.specs.Prelude.{eqb}
-use Rattle.bl_session.specs.Attempts.{once_by, attempts_of}
+use Rattle.bl_session.specs.Attempts.{without_repeats_by, attempts_of}
 
 -- each index that is not among the earlier ones, once
 abbrev once : List ℕ → List ℕ → List ℕ
-once earlier xs = once_by (λ i j. i == j) earlier xs
+once earlier xs = without_repeats_by (λ i j. i == j) earlier xs
 
 -- ---- each is one that was named
 

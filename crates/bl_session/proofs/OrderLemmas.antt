@@ -7,7 +7,7 @@ use Rattle.std.proofs.lemmas.List.{get_or_past}
 use Rattle.bl_stage.specs.PieceStates.{PieceState}
 use Rattle.bl_session.specs.declared.words.Ticket.{Ticket}
 use Rattle.bl_session.specs.History.{Item, submitted, came, failed, is_same, file_after}
-use Rattle.bl_session.specs.Orders.{ticket_of, piece_orders, file_orders}
+use Rattle.bl_session.specs.Asked.{ticket_of, piece_orders, orders_of_files}
 use Rattle.bl_session.proofs.TicketLemmas.{same_fields, is_same_self, other_ticket, IsUntouched}
 use Rattle.bl_session.proofs.TicketLemmas.{IsAskedOnce, untouched_both, once_first, once_last}
 
@@ -85,12 +85,12 @@ once_pieces attempt place file start (suc count) t a f low high =
 pub untouched_files : (attempt place : ℕ) (indices : List ℕ) (files : List (List PieceState))
     (t : Ticket)
     → ¬ ((t.attempt ≡ attempt) × (place ≤ t.file))
-    → IsUntouched (file_orders attempt place indices files) t
+    → IsUntouched (orders_of_files attempt place indices files) t
 untouched_files attempt place [] files t differs = (refl, refl, λ found. refl)
 untouched_files attempt place (index ∷ indices) [] t differs = (refl, refl, λ found. refl)
 untouched_files attempt place (index ∷ indices) (piece_states ∷ files) t differs =
     untouched_both (piece_orders attempt place index (length piece_states))
-    (file_orders attempt (place + 1) indices files) t
+    (orders_of_files attempt (place + 1) indices files) t
     (untouched_pieces attempt place index 0 (length piece_states) t
     (λ piece l (a, f, p). differs (a, omega arith)))
     (untouched_files attempt (place + 1) indices files t (λ (a, l). differs (a, omega arith)))
@@ -99,18 +99,18 @@ untouched_files attempt place (index ∷ indices) (piece_states ∷ files) t dif
 pub once_files : (attempt place : ℕ) (indices : List ℕ) (files : List (List PieceState)) (i : ℕ)
     (t : Ticket) → t.attempt ≡ attempt → t.file ≡ place + i → i < length indices → i < length files
     → t.piece < length (get_or files i [])
-    → IsAskedOnce (get_or indices i 0) (file_orders attempt place indices files) t
+    → IsAskedOnce (get_or indices i 0) (orders_of_files attempt place indices files) t
 once_files attempt place [] files i t a f h k p = absurd (omega arith)
 once_files attempt place (index ∷ indices) [] i t a f h k p = absurd (omega arith)
 once_files attempt place (index ∷ indices) (piece_states ∷ files) zero t a f h k p =
     once_first index (piece_orders attempt place index (length piece_states))
-    (file_orders attempt (place + 1) indices files) t
+    (orders_of_files attempt (place + 1) indices files) t
     (once_pieces attempt place index 0 (length piece_states) t a (omega arith) (omega arith)
     (omega arith))
     (untouched_files attempt (place + 1) indices files t (λ (x, l). omega arith))
 once_files attempt place (index ∷ indices) (piece_states ∷ files) (suc i) t a f h k p =
     once_last (get_or indices i 0) (piece_orders attempt place index (length piece_states))
-    (file_orders attempt (place + 1) indices files) t
+    (orders_of_files attempt (place + 1) indices files) t
     (untouched_pieces attempt place index 0 (length piece_states) t
     (λ piece l (x, y, z). omega arith))
     (once_files attempt (place + 1) indices files i t a (omega arith) (omega arith) (omega arith) p)
@@ -119,7 +119,7 @@ once_files attempt place (index ∷ indices) (piece_states ∷ files) (suc i) t 
 pub found_files : (found : Option ℕ) (attempt : ℕ) (indices : List ℕ)
     (files : List (List PieceState))
     (place piece : ℕ) → length files ≡ length indices → piece < length (get_or files place [])
-    → file_after found (file_orders attempt 0 indices files) (ticket_of attempt place piece)
+    → file_after found (orders_of_files attempt 0 indices files) (ticket_of attempt place piece)
     ≡ Some (get_or indices place 0)
 found_files found attempt indices files place piece same h =
     elim (cases_lt place (length files)) [

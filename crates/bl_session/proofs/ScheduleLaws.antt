@@ -6,9 +6,9 @@ use Rattle.bl_session.specs.Boot.{BootFacts, EventFacts, State, unstarted, runni
 use Rattle.bl_session.specs.Boot.{none_left, out_of_memory, Begins, Steps, StartsOrFails, LeadsTo}
 use Rattle.bl_session.specs.Outcome.{File, size_of, IsGenuineAt, IsGenuine, IsOutcome, HasEnded}
 use Rattle.bl_session.specs.History.{Item}
-use Rattle.bl_session.specs.Orders.{orders}
-use Rattle.bl_session.specs.Run.{IsEventOf, World, world_of, Delivers, Reads, IsRun, IsGenuineItem}
-use Rattle.bl_session.specs.Run.{IsGenuineRun, AllAnswers}
+use Rattle.bl_session.specs.Asked.{orders}
+use Rattle.bl_session.specs.Run.{IsEventOf, RunState, run_state_of, Delivers, Reads, IsRun, IsGenuineItem}
+use Rattle.bl_session.specs.Run.{IsGenuineRun, EachAnswerIs}
 use Rattle.bl_session.proofs.BootLaws.{one_step}
 use Rattle.bl_session.proofs.FirstEndLaws.{first_ended}
 use Rattle.bl_session.proofs.OutcomeLaws.{one_outcome}
@@ -21,21 +21,21 @@ module _ (facts : BootFacts) (files : List File) (faults : ℕ → Option ℕ) w
   -- ---- one item
 
   -- an item is asked for, and the state stays; or it is an event of the schedule
-  abbrev Heard : List Item → State → World → Type 0
+  abbrev Heard : List Item → State → RunState → Type 0
   Heard given state next =
       AreAsked facts (given ++ next.owed) next.state
       × ((next.state ≡ state)
       ⊎ ((event : EventFacts) × IsGenuineAt facts files faults state event
       × Steps facts state event next.state))
 
-  heard : (given : List Item) (state : State) (owed : List Item) (item : Item) (next : World)
+  heard : (given : List Item) (state : State) (owed : List Item) (item : Item) (next : RunState)
       → AreAsked facts (given ++ owed) state
       → ((event : EventFacts) → owed ≡ [] → IsEventOf files given state item event
       → IsGenuineItem faults state item event) → Delivers facts files given state owed item next
       → Heard (given ++ item ∷ []) state next ⊎ LacksMemory next
   heard given state (order ∷ owed) item next asked genuine (is, same) =
-      let stays : next.state ≡ state = ap (λ (w : World). w.state) same in
-      let left : next.owed ≡ owed = ap (λ (w : World). w.owed) same in
+      let stays : next.state ≡ state = ap (λ (w : RunState). w.state) same in
+      let left : next.owed ≡ owed = ap (λ (w : RunState). w.owed) same in
       let list : given ++ order ∷ owed ≡ (given ++ item ∷ []) ++ next.owed =
       rw (is, left) (sym (append_assoc given (order ∷ []) owed)) in
       inl (
@@ -79,12 +79,12 @@ module _ (facts : BootFacts) (files : List File) (faults : ℕ → Option ℕ) w
   ended_not end is ended = subst HasEnded is ended
 
   -- a boot does not end after want of memory
-  lost_not : (given : List Item) (world : World) (items : List Item) (end : State)
-      → LacksMemory world → Reads facts files given world items end → HasEnded end → ⊥
-  lost_not given world [] end (is, none) (inl same) ended = ended_not end (same ∙ is) ended
-  lost_not given world [] end (is, none) (inr (lost, runs)) ended = ended_not end lost ended
-  lost_not given world (item ∷ items) end lost (next, hears, reads) ended =
-      hears_nothing facts files given world item next lost hears
+  lost_not : (given : List Item) (run_state : RunState) (items : List Item) (end : State)
+      → LacksMemory run_state → Reads facts files given run_state items end → HasEnded end → ⊥
+  lost_not given run_state [] end (is, none) (inl same) ended = ended_not end (same ∙ is) ended
+  lost_not given run_state [] end (is, none) (inr (lost, runs)) ended = ended_not end lost ended
+  lost_not given run_state (item ∷ items) end lost (next, hears, reads) ended =
+      hears_nothing facts files given run_state item next lost hears
 
   -- a genuine schedule leads from a state to another
   abbrev pub IsScheduled : State → State → Type 0
@@ -106,23 +106,23 @@ module _ (facts : BootFacts) (files : List File) (faults : ℕ → Option ℕ) w
     (next, goes, leads),
   )
 
-  schedule : (items given : List Item) (world : World) (end : State)
-      → AreAsked facts (given ++ world.owed) world.state
-      → AllAnswers facts files (IsGenuineItem faults) given world items
-      → Reads facts files given world items end
+  schedule : (items given : List Item) (run_state : RunState) (end : State)
+      → AreAsked facts (given ++ run_state.owed) run_state.state
+      → EachAnswerIs facts files (IsGenuineItem faults) given run_state items
+      → Reads facts files given run_state items end
       → HasEnded end
-      → IsScheduled world.state end
-  schedule [] given world end asked genuine (inl same) ended = ([], tt, same)
-  schedule [] given world end asked genuine (inr (lost, runs)) ended =
+      → IsScheduled run_state.state end
+  schedule [] given run_state end asked genuine (inl same) ended = ([], tt, same)
+  schedule [] given run_state end asked genuine (inr (lost, runs)) ended =
       absurd (ended_not end lost ended)
-  schedule (item ∷ items) given world end asked genuine (next, hears, reads) ended =
-      elim (heard given world.state world.owed item next asked genuine.0 hears) [
+  schedule (item ∷ items) given run_state end asked genuine (next, hears, reads) ended =
+      elim (heard given run_state.state run_state.owed item next asked genuine.0 hears) [
         | inl (now, inl stays) ↦
             subst (λ (s : State). IsScheduled s end) stays
             (schedule items (given ++ item ∷ []) next end now (genuine.1 next hears) reads
             ended)
         | inl (now, inr (event, holds, goes)) ↦
-            one_more world.state next.state end event holds goes
+            one_more run_state.state next.state end event holds goes
             (schedule items (given ++ item ∷ []) next end now (genuine.1 next hears) reads
             ended)
         | inr lost ↦ absurd (lost_not (given ++ item ∷ []) next items end lost reads ended)
@@ -139,14 +139,14 @@ module _ (facts : BootFacts) (files : List File) (faults : ℕ → Option ℕ) w
       go (inl begins) = (
         run.begun,
         begins,
-        schedule run.gained old (world_of facts run.begun) end
+        schedule run.gained old (run_state_of facts run.begun) end
             (asked_new facts old (length facts.menu.attempts) 0 run.begun
             (new_begins facts facts.menu.attempts [] run.begun begins))
             (genuine run.gained run.begun run.given run.begins) run.reads ended,
       )
       go (inr (lost, is)) =
           absurd
-          (lost_not old (world_of facts run.begun) run.gained end (lost, ap (orders facts) lost)
+          (lost_not old (run_state_of facts run.begun) run.gained end (lost, ap (orders facts) lost)
           run.reads ended)
 
   pub run_ended : facts.sizes ≡ map size_of files → (old new : List Item) (end : State)

@@ -17,6 +17,7 @@ use Rattle.bl_session.specs.Scripts as scripts
 use Rattle.bl_session.specs.Scripts.{ScriptStoreFacts, event_by, picked_place}
 use Rattle.bl_session.proofs.SubmissionLemmas.{item_is}
 use Rattle.bl_session.proofs.StoreLemmas.{place_within}
+use Rattle.bl_session.proofs.ListedLemmas.{length_without}
 
 -- nothing is answered exactly if nothing is still to be answered
 none_left : {A R : Type 0} (event : R → EventFacts) (pending : List R) (place : ℕ)
@@ -33,10 +34,6 @@ none_left event (first ∷ others) place None within is =
     cc
 none_left event (first ∷ others) place (Some completion) within is =
     (λ h. cc, λ h. absurd (omega arith))
-
-length_without : {R : Type 0} (pending : List R) (place : ℕ) → place < length pending
-    → length (without pending place) + 1 ≡ length pending
-length_without pending place within = simp (length-append, length-take, length-drop) (omega arith)
 
 none_taken : {R : Type 0} (pending : List R) (place : ℕ) → length pending ≡ 0
     → length (without pending place) ≡ length pending

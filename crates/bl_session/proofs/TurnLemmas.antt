@@ -8,16 +8,16 @@ use Rattle.bl_session.specs.Boot.{none_left, out_of_memory, is_running, attempt_
 use Rattle.bl_session.specs.Boot.{StepsOrFails}
 use Rattle.bl_session.specs.Outcome.{File}
 use Rattle.bl_session.specs.History.{Item}
-use Rattle.bl_session.specs.Orders.{orders, orders_after}
-use Rattle.bl_session.specs.Run.{World, world_of, Reads, IsEventOf}
-use Rattle.bl_session.specs.Turns.{IsAsked, LeadsOn, IsHeard}
+use Rattle.bl_session.specs.Asked.{orders, orders_after}
+use Rattle.bl_session.specs.Run.{RunState, run_state_of, Reads, IsEventOf}
+use Rattle.bl_session.specs.TurnsKept.{IsAsked, LeadsOn, IsHeard}
 
-pub leads_on : (facts : BootFacts) (files : List File) (given : List Item) (a b c : World)
+pub leads_on : (facts : BootFacts) (files : List File) (given : List Item) (a b c : RunState)
     (xs ys : List Item)
     → LeadsOn facts files given a xs b → LeadsOn facts files (given ++ xs) b ys c
     → LeadsOn facts files given a (xs ++ ys) c
 leads_on facts files given a b c [] ys first later =
-    subst (λ (w : World). LeadsOn facts files given w ys c) first
+    subst (λ (w : RunState). LeadsOn facts files given w ys c) first
     (subst (λ (g : List Item). LeadsOn facts files g b ys c) (append-nil given) later)
 leads_on facts files given a b c (x ∷ xs) ys first later = (
   first.0,
@@ -27,12 +27,12 @@ leads_on facts files given a b c (x ∷ xs) ys first later = (
       (sym (append_assoc given (x ∷ []) xs)) later),
 )
 
-pub heard_none : (facts : BootFacts) (files : List File) (given : List Item) (world : World)
-    → IsHeard facts files given given world world
-heard_none facts files given world =
+pub heard_none : (facts : BootFacts) (files : List File) (given : List Item) (run_state : RunState)
+    → IsHeard facts files given given run_state run_state
+heard_none facts files given run_state =
     record { gained = []; given = sym (append-nil given); leads = refl }
 
-pub heard_on : (facts : BootFacts) (files : List File) (old mid new : List Item) (a b c : World)
+pub heard_on : (facts : BootFacts) (files : List File) (old mid new : List Item) (a b c : RunState)
     → IsHeard facts files old mid a b → IsHeard facts files mid new b c
     → IsHeard facts files old new a c
 heard_on facts files old mid new a b c first later = record {
@@ -74,7 +74,7 @@ heard_asked facts files old new state owed rest a = record {
 
 pub heard_orders : (facts : BootFacts) (files : List File) (old new : List Item) (state : State)
     → new ≡ old ++ orders facts state
-    → IsHeard facts files old new (world_of facts state) (record { state = state; owed = [] })
+    → IsHeard facts files old new (run_state_of facts state) (record { state = state; owed = [] })
 heard_orders facts files old new state e =
     heard_asked facts files old new state (orders facts state) []
     (record {
@@ -102,13 +102,13 @@ heard_answer facts files old new state later item event given is step = record {
 
 -- ---- the end of a reading
 
-pub reads_to : (facts : BootFacts) (files : List File) (given : List Item) (a b : World)
+pub reads_to : (facts : BootFacts) (files : List File) (given : List Item) (a b : RunState)
     (items : List Item) (end : State) → LeadsOn facts files given a items b
     → (end ≡ b.state) ⊎ ((end ≡ out_of_memory) × (is_running b.state ≡ true))
     → Reads facts files given a items end
-reads_to facts files given a b [] end leads (inl is) = inl (is ∙ ap (λ (w : World). w.state) leads)
+reads_to facts files given a b [] end leads (inl is) = inl (is ∙ ap (λ (w : RunState). w.state) leads)
 reads_to facts files given a b [] end leads (inr (lost, runs)) =
-    inr (lost, subst (λ (w : World). is_running w.state ≡ true) leads runs)
+    inr (lost, subst (λ (w : RunState). is_running w.state ≡ true) leads runs)
 reads_to facts files given a b (item ∷ items) end leads is =
     (leads.0, leads.1, reads_to facts files (given ++ item ∷ []) leads.0 b items end leads.2 is)
 

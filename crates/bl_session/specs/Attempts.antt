@@ -10,16 +10,16 @@ use Rattle.bl_session.specs.declared.menu.fault.MenuFault.{MenuFault}
 use Rattle.bl_session.specs.declared.menu.fault.MenuFault.TheVariants.{BadIndex, TooMany, NoMemory}
 
 -- of these each one that is not among the earlier ones, once, where two are the same by this test
-abbrev pub once_by : {X : Type 0} → (X → X → Bool) → List X → List X → List X
-once_by same earlier [] = []
-once_by same earlier (x ∷ xs) =
+abbrev pub without_repeats_by : {X : Type 0} → (X → X → Bool) → List X → List X → List X
+without_repeats_by same earlier [] = []
+without_repeats_by same earlier (x ∷ xs) =
     if list_any (λ y. same y x) earlier
-    then once_by same earlier xs
-    else x ∷ once_by same (earlier ++ x ∷ []) xs
+    then without_repeats_by same earlier xs
+    else x ∷ without_repeats_by same (earlier ++ x ∷ []) xs
 
 -- the default, then the fallbacks; one that was named before is left out
 abbrev pub attempts_of : ℕ → List ℕ → List ℕ
-attempts_of default fallbacks = once_by (λ i j. i == j) [] (default ∷ fallbacks)
+attempts_of default fallbacks = without_repeats_by (λ i j. i == j) [] (default ∷ fallbacks)
 
 -- few entries, each within its limits
 abbrev pub IsSmall : {A : Type 0} → List (Entry A) → Type 0

@@ -11,7 +11,7 @@ use Rattle.bl_session.specs.Boot.{out_of_memory, is_running, is_wanted, StartsOr
 use Rattle.bl_session.specs.Boot.{on_running}
 use Rattle.bl_session.specs.Outcome.{File, Faults, AreToldFaults}
 use Rattle.bl_session.specs.History.{Item, submitted, came, failed, nothing, file_under, IsPieceOf}
-use Rattle.bl_session.specs.Orders.{orders, orders_after, first_ticket}
+use Rattle.bl_session.specs.Asked.{orders, orders_after, first_ticket}
 use Rattle.bl_session.specs.Phases.{PhaseFacts, outcome_facts, fault_facts}
 
 -- ---- answers as events
@@ -37,17 +37,18 @@ IsEventOf files given state item event =
     (λ entry rest earlier piece_states. IsAnswer files given earlier piece_states item event)
 
 -- where a boot stands, and what it is still to ask for
-pub record World : Type 0 where
+pub record RunState : Type 0 where
   pub state : State
   pub owed : List Item
 
 -- one that begins its first attempt
-abbrev pub world_of : BootFacts → State → World
-world_of facts state = record { state = state; owed = orders facts state }
+abbrev pub run_state_of : BootFacts → State → RunState
+run_state_of facts state = record { state = state; owed = orders facts state }
 
 -- one item after this history: the first that is to be asked for; with none it is an answer, the
 -- next event
-abbrev pub Delivers : BootFacts → List File → List Item → State → List Item → Item → World → Type 0
+abbrev pub Delivers : BootFacts → List File → List Item → State → List Item → Item → RunState
+    → Type 0
 Delivers facts files given state (order ∷ owed) item new =
     (item ≡ order) × (new ≡ record { state = state; owed = owed })
 Delivers facts files given state [] item new =
@@ -55,13 +56,13 @@ Delivers facts files given state [] item new =
     × StepsOrFails facts state event new.state
     × (new.owed ≡ orders_after facts state new.state)
 
--- these items, after this history, lead from a world to a state; while an attempt runs, memory may
--- run out after the last
-abbrev pub Reads : BootFacts → List File → List Item → World → List Item → State → Type 0
+-- these items, after this history, lead from a state of a run to a state; while an attempt runs,
+-- memory may run out after the last
+abbrev pub Reads : BootFacts → List File → List Item → RunState → List Item → State → Type 0
 Reads facts files given old [] new =
     (new ≡ old.state) ⊎ ((new ≡ out_of_memory) × (is_running old.state ≡ true))
 Reads facts files given old (item ∷ items) new =
-    (next : World) × Delivers facts files given old.state old.owed item next
+    (next : RunState) × Delivers facts files given old.state old.owed item next
     × Reads facts files (given ++ item ∷ []) next items new
 
 -- a boot that made its store's history grow so came to this state
@@ -71,7 +72,7 @@ pub record IsRun (facts : BootFacts) (files : List File) (old new : List Item)
   pub given : new ≡ old ++ gained
   pub begun : State
   pub begins : StartsOrFails facts unstarted begun
-  pub reads : Reads facts files old (world_of facts begun) gained end
+  pub reads : Reads facts files old (run_state_of facts begun) gained end
 
 -- ---- genuine histories
 
@@ -96,22 +97,22 @@ IsGenuineItem faults state item event =
     → IsMarked item × AreToldFaults faults earlier piece_states event)
 
 -- of these items, after this history, each answer is so where it comes
-abbrev pub AllAnswers :
-    BootFacts → List File → (State → Item → EventFacts → Type 0) → List Item → World → List Item
+abbrev pub EachAnswerIs :
+    BootFacts → List File → (State → Item → EventFacts → Type 0) → List Item → RunState → List Item
     → Type 0
-AllAnswers facts files IsSo given world [] = Unit {0}
-AllAnswers facts files IsSo given world (item ∷ items) =
-    ((event : EventFacts) → world.owed ≡ [] → IsEventOf files given world.state item event
-    → IsSo world.state item event)
-    × ((next : World) → Delivers facts files given world.state world.owed item next
-    → AllAnswers facts files IsSo (given ++ item ∷ []) next items)
+EachAnswerIs facts files IsSo given run_state [] = Unit {0}
+EachAnswerIs facts files IsSo given run_state (item ∷ items) =
+    ((event : EventFacts) → run_state.owed ≡ [] → IsEventOf files given run_state.state item event
+    → IsSo run_state.state item event)
+    × ((next : RunState) → Delivers facts files given run_state.state run_state.owed item next
+    → EachAnswerIs facts files IsSo (given ++ item ∷ []) next items)
 
 -- of what a history gained in a boot each answer is so where it comes
 abbrev pub AllGained :
     BootFacts → List File → (State → Item → EventFacts → Type 0) → (old new : List Item) → Type 0
 AllGained facts files IsSo old new =
     (gained : List Item) (begun : State) → new ≡ old ++ gained → StartsOrFails facts unstarted begun
-    → AllAnswers facts files IsSo old (world_of facts begun) gained
+    → EachAnswerIs facts files IsSo old (run_state_of facts begun) gained
 
 -- the pieces that were wanted are their files', whatever faults came
 abbrev pub IsMarkedRun : BootFacts → List File → (old new : List Item) → Type 0

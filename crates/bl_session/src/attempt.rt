@@ -4,8 +4,8 @@ ghost use Rattle.bl_mem.specs.Memory.{HasRoom, KeepsMemory};
 ghost use Rattle.bl_load.specs.Value.{IsWithinLimits};
 ghost use Rattle.bl_stage.specs.Ranges.{IsSameOutside};
 ghost use Rattle.bl_stage.specs.PieceStates.{piece_states};
-ghost use Rattle.bl_session.specs.Attempt.{IsAttempt, IsAttemptBegun, IsMemoryOf, KeepsAttempt};
-ghost use Rattle.bl_session.specs.Attempt.{attempt_by};
+ghost use Rattle.bl_session.specs.AttemptKept.{IsAttempt, IsAttemptBegun, IsMemoryOf, KeepsAttempt};
+ghost use Rattle.bl_session.specs.AttemptKept.{attempt_with};
 ghost use Rattle.bl_session.specs.Menu.{facts_of, files_of};
 ghost use Rattle.bl_session.specs.PhasesKept.{HasSmallFiles};
 ghost use Rattle.bl_session.specs.Pieces.{are_whole};
@@ -34,7 +34,7 @@ pub enum Attempt<A: Allocator> {
 
 /// An attempt with this stage, unless it has ended.
 fn attempt_with<A: Allocator>(stage: Stage<A>, end: Option<AttemptEnd<A>>) -> Attempt<A>
-    ensures { result ≡ attempt_by stage end }
+    ensures { result ≡ attempt_with stage end }
 {
     match end {
         None => Attempt::Waits(stage),
@@ -58,11 +58,11 @@ pub fn end_attempt<M: PhysMem, A: Allocator + Copy>(
     requires room { HasRoom (M.room memory.old) machine.now.pool.start machine.now.pool.end }
     ensures attempt { IfOk result (λ end. IsAttempt machine.now (facts_of entry.now)
         (piece_states (M.bytes memory.old) stage.old) (M.bytes memory.new)
-        (attempt_by stage.new end)) }
+        (attempt_with stage.new end)) }
     ensures keeps { IfOk result (λ end. KeepsAttempt machine.now (length (files_of entry.now))
-        (attempt_by stage.new end)) }
+        (attempt_with stage.new end)) }
     ensures memory { IfOk result (λ end. IsMemoryOf machine.now.pool
-        (M.bytes memory.old) (M.bytes memory.new) (attempt_by stage.new end)) }
+        (M.bytes memory.old) (M.bytes memory.new) (attempt_with stage.new end)) }
     ensures err { OnErr result
         (IsSameOutside machine.now.pool (M.bytes memory.old) (M.bytes memory.new)) }
     ensures whole { OnErr result (are_whole (piece_states (M.bytes memory.old) stage.old) ≡ true) }

@@ -1,13 +1,13 @@
 //! What a boot awaits where it stands at a phase, and what it asks a store for.
 ghost use Rattle.std.specs.Prelude.{◌≡◌, ◌++◌, ℕ, List, Some, true, OnOk, OnErr};
 ghost use Rattle.bl_session.specs.History.{Item};
-ghost use Rattle.bl_session.specs.Orders.{orders};
+ghost use Rattle.bl_session.specs.Asked.{orders};
 ghost use Rattle.bl_session.specs.Phases.{phase_facts, is_waiting};
 ghost use Rattle.bl_session.specs.PhasesKept.{IsPhaseKept, facts_of_boot, state_in};
 ghost use Rattle.bl_session.specs.Requests.{first_request, request_after};
-ghost use Rattle.bl_session.specs.Turns.{IsAsked, missing_in};
+ghost use Rattle.bl_session.specs.TurnsKept.{IsAsked, missing_in};
 
-use crate::orders::submit_files;
+use crate::asking::submit_files;
 use crate::phase::{Boot, Phase};
 use crate::pieces::{first_missing, missing_piece, next_missing, request_of};
 use crate::store::Store;

@@ -11,6 +11,8 @@ use std::marker::Model;
 /// The books of a store over files: the submissions that are to be answered, from the first to the
 /// last, and its history. It answers each ticket once, with the piece that was asked for, in
 /// whatever order the store chooses; so a store that keeps one is faithful, as `faithful` says.
+/// Pieces of a file that are asked for one after the other take the room of one. Only an answer
+/// between them takes memory beside its copy of the piece.
 ///
 /// A store of one's own keeps one in a field, and passes each call of its `impl Store` on. It needs
 /// no lemma and no proof file, since these calls promise what `Store` does:
@@ -181,7 +183,7 @@ impl<F: StoredFiles, A: Allocator + Copy> Ledger<F, A> {
         ensures unchanged { OnErr result (self.new ≡ self.old) }
     {
         let answer = self.find_answer(at)?;
-        self.pending.remove(at);
+        self.pending.remove(at)?;
         self.history = self.history.and_answer_of(&self.files, &answer);
         Ok(answer)
     }

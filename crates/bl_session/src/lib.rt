@@ -1,6 +1,7 @@
 //! The boot of a menu's first entry that is not refused.
 #![tactic(auto)]
 
+mod asking;
 mod attempt;
 mod attempts;
 mod awaited;
@@ -15,7 +16,6 @@ mod laws;
 mod ledger;
 mod menu;
 mod order;
-mod orders;
 mod owned_session;
 mod pending;
 mod phase;
@@ -33,6 +33,7 @@ mod steps;
 mod store;
 mod stored_files;
 mod submission;
+mod submission_run;
 mod turns;
 mod words;
 

@@ -2,7 +2,7 @@
 ghost use Rattle.std.specs.Prelude.{◌≡◌, ◌∷◌, ◌++◌, ◌==◌, ◌+◌, ◌<◌, ◌≤◌, ◌^◌, ℕ, [], length, map};
 ghost use Rattle.std.specs.Prelude.{All, IfErr, IfOk, OnOk, slice_index_or, if◌then◌else◌};
 ghost use Rattle.std.specs.List.{list_any};
-ghost use Rattle.bl_load.specs.Offered.{IsOffer, IsOffered};
+ghost use Rattle.bl_load.specs.Offered.{IsOfferedEntry, IsOffered};
 ghost use Rattle.bl_load.specs.Value.{IsWithinLimits};
 ghost use Rattle.bl_session.specs.Menu.{facts_of, entry_at};
 ghost use Rattle.bl_session.specs.Attempts.{attempts_of, IsSmall, NameEntries, HasMenuFault};
@@ -30,7 +30,7 @@ pub struct Menu<A: Allocator> {
 
 impl<A: Allocator> Model for Menu<A> {
     ghost use Rattle.std.specs.Prelude.{◌<◌, ◌≤◌, [], length, map, All};
-    ghost use Rattle.bl_load.specs.Offered.{IsOffer};
+    ghost use Rattle.bl_load.specs.Offered.{IsOfferedEntry};
     ghost use Rattle.bl_load.specs.Value.{IsWithinLimits};
     ghost use Rattle.bl_session.specs.Menu.{MenuFacts, facts_of};
     ghost use Rattle.bl_plan.specs.Limits.{max_entries};
@@ -45,7 +45,7 @@ impl<A: Allocator> Model for Menu<A> {
     ghost invariant = { λ menu.
         All (λ entry. entry < length menu.entries.items) menu.attempts.items
         × All IsWithinLimits menu.entries.items
-        × All IsOffer menu.entries.items
+        × All IsOfferedEntry menu.entries.items
         × (length menu.attempts.items ≤ max_entries) };
 }
 
@@ -156,7 +156,7 @@ impl<A: Allocator> Menu<A> {
         requires { index < length self.now.entries }
         ensures entry { facts_of result.now ≡ entry_at self.now index }
         ensures limits { IsWithinLimits result.now }
-        ensures offered { IsOffer result.now }
+        ensures offered { IsOfferedEntry result.now }
     {
         &self.entries[index as usize]
     }

@@ -1,10 +1,10 @@
 //! What a session awaits, and what it asks a store for.
 ghost use Rattle.std.specs.Prelude.{◌≡◌, ◌++◌, ℕ, List, Some, true, OnOk, OnErr};
 ghost use Rattle.bl_session.specs.History.{Item};
-ghost use Rattle.bl_session.specs.Orders.{orders};
+ghost use Rattle.bl_session.specs.Asked.{orders};
 ghost use Rattle.bl_session.specs.Phases.{state_at, is_waiting};
 ghost use Rattle.bl_session.specs.Requests.{first_request, request_after};
-ghost use Rattle.bl_session.specs.Turns.{IsAsked, missing_in};
+ghost use Rattle.bl_session.specs.TurnsKept.{IsAsked, missing_in};
 
 use crate::phase::{Boot, awaits_pieces};
 use crate::session::Session;

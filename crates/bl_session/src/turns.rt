@@ -6,10 +6,10 @@ ghost use Rattle.bl_stage.specs.Ranges.{IsSameOutside};
 ghost use Rattle.bl_session.specs.Boot.{StepsOrFails, attempt_of, is_running};
 ghost use Rattle.bl_session.specs.Boot as boot;
 ghost use Rattle.bl_session.specs.Memory.{IsMemoryIn};
-ghost use Rattle.bl_session.specs.Orders.{orders_after};
+ghost use Rattle.bl_session.specs.Asked.{orders_after};
 ghost use Rattle.bl_session.specs.Phases.{event_facts, state_at, is_waiting, not_started};
-ghost use Rattle.bl_session.specs.Run.{World, world_of};
-ghost use Rattle.bl_session.specs.Turns.{IsHeard, attempts_in};
+ghost use Rattle.bl_session.specs.Run.{RunState, run_state_of};
+ghost use Rattle.bl_session.specs.TurnsKept.{IsHeard, attempts_in};
 
 use crate::session::Session;
 use crate::store::{Completion, Store};
@@ -118,17 +118,17 @@ fn await_end<M: PhysMem, S: Store, A: Allocator + Copy>(
     ensures heard { OnOk result (IsHeard session.old.boot (S.files store.old)
         (S.given store.old) (S.given store.new)
         (record { state = state_at (M.bytes memory.old) session.old.phase; owed = [] })
-        (world_of session.old.boot (state_at (M.bytes memory.new) session.new.phase))) }
+        (run_state_of session.old.boot (state_at (M.bytes memory.new) session.new.phase))) }
     ensures fewer { OnOk result (attempts_in (state_at (M.bytes memory.new) session.new.phase)
         < attempts_in (state_at (M.bytes memory.old) session.old.phase)) }
     ensures started { OnOk result (session.new.phase ≢ not_started) }
     ensures memory { OnOk result (IsMemoryIn session.old.boot.machine.pool
         (state_at (M.bytes memory.new) session.new.phase)
         (M.bytes memory.old) (M.bytes memory.new)) }
-    ensures lacking { OnErr result ((world : World) × IsHeard session.old.boot (S.files store.old)
-        (S.given store.old) (S.given store.new)
-        (record { state = state_at (M.bytes memory.old) session.old.phase; owed = [] }) world
-        × (is_running world.state ≡ true)) }
+    ensures lacking { OnErr result ((run_state : RunState) × IsHeard session.old.boot
+        (S.files store.old) (S.given store.old) (S.given store.new)
+        (record { state = state_at (M.bytes memory.old) session.old.phase; owed = [] }) run_state
+        × (is_running run_state.state ≡ true)) }
     ensures outside { OnErr result (IsSameOutside session.old.boot.machine.pool
         (M.bytes memory.old) (M.bytes memory.new)) }
     ensures files { S.files store.new ≡ S.files store.old }
@@ -156,8 +156,8 @@ pub fn drive<M: PhysMem, S: Store, A: Allocator + Copy>(
     ensures boot { session.new.boot ≡ session.old.boot }
     ensures heard { OnOk result (IsHeard session.old.boot (S.files store.old)
         (S.given store.old) (S.given store.new)
-        (world_of session.old.boot (state_at (M.bytes memory.old) session.old.phase))
-        (world_of session.old.boot (state_at (M.bytes memory.new) session.new.phase))) }
+        (run_state_of session.old.boot (state_at (M.bytes memory.old) session.old.phase))
+        (run_state_of session.old.boot (state_at (M.bytes memory.new) session.new.phase))) }
     ensures ended { OnOk result (is_waiting session.new.phase ≡ false) }
     ensures started { OnOk result (session.new.phase ≢ not_started) }
     ensures memory { OnOk result ((first : List ℕ)
@@ -165,10 +165,10 @@ pub fn drive<M: PhysMem, S: Store, A: Allocator + Copy>(
         (state_at (M.bytes memory.old) session.old.phase) first (M.bytes memory.old)
         → IsMemoryIn session.old.boot.machine.pool
         (state_at (M.bytes memory.new) session.new.phase) first (M.bytes memory.new)) }
-    ensures lacking { OnErr result ((world : World) × IsHeard session.old.boot (S.files store.old)
-        (S.given store.old) (S.given store.new)
-        (world_of session.old.boot (state_at (M.bytes memory.old) session.old.phase)) world
-        × (is_running world.state ≡ true)) }
+    ensures lacking { OnErr result ((run_state : RunState) × IsHeard session.old.boot
+        (S.files store.old) (S.given store.old) (S.given store.new)
+        (run_state_of session.old.boot (state_at (M.bytes memory.old) session.old.phase)) run_state
+        × (is_running run_state.state ≡ true)) }
     ensures outside { OnErr result ((first : List ℕ)
         → IsMemoryIn session.old.boot.machine.pool
         (state_at (M.bytes memory.old) session.old.phase) first (M.bytes memory.old)

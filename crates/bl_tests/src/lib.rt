@@ -3,7 +3,7 @@
 #![tactic(auto)]
 
 #[cfg(test)]
-mod images;
+mod image_writing;
 #[cfg(test)]
 mod refusing;
 #[cfg(test)]

@@ -12,7 +12,7 @@ use Rattle.bl_bzimage.specs.declared.setup.Setup.{Setup}
 use Rattle.bl_params.specs.BootParams.{boot_params}
 use Rattle.bl_params.specs.BootParamsFacts.{BootParamsFacts, AreTold}
 use Rattle.bl_params.specs.ParamsFacts.{ParamsFacts}
-use Rattle.bl_params.specs.Told.{AreWords, params_of}
+use Rattle.bl_params.specs.Told.{FitFields, params_of}
 use Rattle.bl_params.proofs.Lengths.{length-boot_params}
 use Rattle.bl_params.proofs.WrittenIsRead.{written_is_read}
 use Rattle.bl_plan.specs.Placed.{ArePlaced}
@@ -88,7 +88,7 @@ module _ (facts : MachineFacts) (value : EntryValue) (setup : Setup) (places : L
   small : (role : Role) → address_of role 0 places ≤ 0xFFFFF000
   small role = small_address role 0 places 0xFFFFF000 low
 
-  fit : AreWords (told facts value setup places)
+  fit : FitFields (told facts value setup places)
   fit =
       let kernel = small Kernel in
       let ramdisk = small Initrd in

@@ -30,7 +30,8 @@ pub fn read_file<R: rt::Files, A: Allocator>(
     if length > limit {
         return Ok(Fetched::TooLong(length));
     }
-    let mut bytes = Vec::with_capacity(alloc, length as usize)?;
+    // One byte more, so that the end is found with no larger room for it.
+    let mut bytes = Vec::with_capacity(alloc, length.saturating_add(1) as usize)?;
     let file = fs::open(rt, path)?;
     file.take(limit.saturating_add(1)).read_to_end(&mut bytes)?;
     let count = bytes.len() as u64;

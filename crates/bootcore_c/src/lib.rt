@@ -1,7 +1,7 @@
 //! The core for C: a static library. `include/bootcore.h` says what its callers keep.
 #![tactic(auto)]
 
-ghost use Rattle.std.specs.Prelude.{◌≡◌, length, Result};
+ghost use Rattle.std.specs.Prelude.{length, Result};
 ghost use Rattle.bl_mem.specs.Memory.{memory_from};
 ghost use Rattle.bl_load.specs.HandoffFacts.{HandoffFacts};
 ghost use Rattle.bl_session.specs.Phases.{PhaseFacts};

@@ -8,7 +8,7 @@ ghost use Rattle.bl_session.specs.Outcome.{File};
 ghost use Rattle.bl_session.specs.Stores.{file_of};
 ghost use Rattle.bl_boot.specs.Files.{answer_for};
 
-use crate::file_source::Files;
+use crate::files::Files;
 use bl_desc::Description;
 use bl_mem::Bytes;
 use bl_session::{FILE_LIMIT, Fetched};

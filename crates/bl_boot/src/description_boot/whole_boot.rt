@@ -16,7 +16,7 @@ use crate::description_boot::found_files::find_files;
 use crate::description_boot::machine::machine_of;
 use crate::description_boot::menu::menu_of;
 use crate::description_boot::names::names_in;
-use crate::file_source::Files;
+use crate::files::Files;
 use bl_desc::read_description;
 use bl_image::Sink;
 use bl_line::Order;

@@ -5,7 +5,8 @@ ghost use Rattle.bl_session.specs.Outcome.{size_of};
 ghost use Rattle.bl_session.specs.Phases.{boot_facts};
 ghost use Rattle.bl_boot.specs.Attempted.{menu_of, names_in};
 ghost use Rattle.bl_boot.specs.Details.{AreToldRefusals};
-ghost use Rattle.bl_boot.specs.ExplainKept.{FoundExplains, HasPlaceRefusal};
+ghost use Rattle.bl_boot.specs.ExplainKept.{FoundExplains, HasKernelAt, HasPlaceRefusal};
+ghost use Rattle.bl_boot.specs.KernelSegments.{AreSegmentsAt};
 ghost use Rattle.bl_boot.specs.Told.{attempt_lines, refused_attempt_lines};
 ghost use Rattle.bl_boot.specs.Told.{booted_lines, entry_handoff_lines, none_left_lines};
 ghost use Rattle.bl_desc.specs.Views.{view};
@@ -15,6 +16,7 @@ use crate::explanation::detail::ToldRefusal;
 use crate::explanation::details::find_details;
 use crate::explanation::fault::ExplainFault;
 use crate::explanation::handed::say_outcome;
+use crate::explanation::kernel_segments::{KernelSegments, find_segments};
 use crate::explanation::sought::Sought;
 use crate::lines::{say_attempt, say_hints, say_no_entry_left, say_refused_attempts};
 use bl_mem::PhysMem;
@@ -35,6 +37,21 @@ fn details_of<A: Allocator + Copy>(
 {
     let entries = &boot.description.entries;
     find_details(alloc, boot.machine, entries, sought, refused)
+}
+
+/// The segments of the kernel that is handed over.
+fn segments_of<A: Allocator + Copy>(
+    alloc: A,
+    boot: &DescribedBoot<'_, A>,
+    sought: &Sought<'_, A>,
+    entry: u32,
+) -> Result<KernelSegments<A>, AllocError>
+    requires { HasKernelAt (view boot.now.description.now).entries sought.now entry }
+    ensures { IfOk result
+        (AreSegmentsAt (view boot.now.description.now).entries sought.now entry) }
+{
+    let entries = &boot.description.entries;
+    find_segments(alloc, entries, sought, entry)
 }
 
 /// Appends the lines of the attempts that were refused.
@@ -90,13 +107,14 @@ fn tell_none_left<A: Allocator + Copy, B: Allocator>(
     say.extend_from_slice(&lines)
 }
 
-/// Appends the lines of a boot in which an entry is handed over. An error leaves the text as it
-/// was.
+/// Appends the lines of a boot in which an entry is handed over, whose kernel has these segments.
+/// An error leaves the text as it was.
 fn tell_booted<A: Allocator + Copy, B: Allocator>(
     alloc: A,
     boot: &DescribedBoot<'_, A>,
     sought: &Sought<'_, A>,
     told: &[ToldRefusal],
+    kernel: &KernelSegments<A>,
     outcome: &Outcome<A>,
     say: &mut Vec<u8, B>,
 ) -> Result<(), AllocError>
@@ -104,14 +122,14 @@ fn tell_booted<A: Allocator + Copy, B: Allocator>(
     ensures ok { OnOk result (say.new.items ≡ say.old.items
         ++ booted_lines (view boot.now.description.now) boot.now.machine.now sought.now
         outcome.now.entry told.now outcome.now.refused.items
-        (entry_handoff_lines (view boot.now.description.now).entries sought.now
+        (entry_handoff_lines (view boot.now.description.now).entries sought.now kernel.now
         boot.now.machine.now.pool outcome.now.entry outcome.now.handoff)) }
     ensures err { OnErr result (say.new.items ≡ say.old.items) }
 {
     let mut lines = Vec::new(alloc);
     say_refusals_of(&mut lines, boot, sought, told)?;
     say_attempt_of(&mut lines, boot, sought, outcome.entry)?;
-    say_outcome(&mut lines, boot, sought, outcome)?;
+    say_outcome(&mut lines, boot, sought, kernel, outcome)?;
     say.extend_from_slice(&lines)
 }
 
@@ -141,7 +159,8 @@ pub fn explain_found<A: Allocator + Copy, M: PhysMem, B: Allocator>(
     match ended {
         Ok(outcome) => {
             let told = details_of(alloc, boot, &sought, &outcome.refused)?;
-            tell_booted(alloc, boot, &sought, &told, &outcome, say)?;
+            let kernel = segments_of(alloc, boot, &sought, outcome.entry)?;
+            tell_booted(alloc, boot, &sought, &told, &kernel, &outcome, say)?;
             Ok(End::Booted)
         }
         Err(BootFault::NoEntryLeft(refused)) => {

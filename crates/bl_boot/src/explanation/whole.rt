@@ -12,7 +12,7 @@ use crate::description_boot::{DescribedBoot, End, find_files, menu_of, names_in,
 use crate::explanation::fault::ExplainFault;
 use crate::explanation::found::explain_found;
 use crate::explanation::reading::{machine_blamed, read_blamed};
-use crate::file_source::Files;
+use crate::files::Files;
 use bl_line::Order;
 use bl_mem::Sparse;
 use bl_session::FileStore;

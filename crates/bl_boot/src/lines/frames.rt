@@ -3,7 +3,7 @@ ghost use Rattle.std.specs.Prelude.{◌≡◌, ◌*◌, ◌≤◌, ◌^◌, ◌+
 ghost use Rattle.bl_map.specs.Room as room;
 ghost use Rattle.bl_plan.specs.Placed.{place_range};
 ghost use Rattle.bl_boot.specs.Attempted.{file_names, names_beside};
-ghost use Rattle.bl_boot.specs.Frames.{counted, frames_line, frames_wanted, length_sought};
+ghost use Rattle.bl_boot.specs.Frames.{number_between, frames_line, frames_wanted, length_sought};
 ghost use Rattle.bl_boot.specs.Frames.{names_at, room_line};
 ghost use Rattle.bl_desc.specs.Views.{entry_view, form_view, module_view};
 
@@ -80,7 +80,7 @@ pub fn frames_at<A: Allocator, B: Allocator>(
 }
 
 /// Appends a number between two texts.
-#[tactic(auto, unfolding(crate::specs::Frames::counted))]
+#[tactic(auto, unfolding(crate::specs::Frames::number_between))]
 pub fn say_counted<A: Allocator + Copy>(
     out: &mut Vec<u8, A>,
     before: &str,
@@ -88,7 +88,7 @@ pub fn say_counted<A: Allocator + Copy>(
     behind: &str,
 ) -> Result<(), AllocError>
     ensures { OnOk result
-        (out.new.items ≡ out.old.items ++ counted before.now count behind.now) }
+        (out.new.items ≡ out.old.items ++ number_between before.now count behind.now) }
 {
     let alloc = *out.allocator();
     let words = format!(in alloc; "{before}{count}{behind}")?;

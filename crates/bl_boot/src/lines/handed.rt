@@ -6,7 +6,7 @@ ghost use Rattle.bl_boot.specs.HandedLines.{place_line};
 ghost use Rattle.bl_boot.specs.Sources.{source_at};
 ghost use Rattle.bl_desc.specs.Views.{entry_view};
 
-use crate::explanation::Sought;
+use crate::explanation::{KernelSegments, Sought};
 use crate::lines::registers::say_registers;
 use crate::lines::sources::say_source;
 use crate::lines::walk::say_protocol;
@@ -56,14 +56,15 @@ fn say_part<A: Allocator + Copy, B: Allocator>(
     out: &mut Vec<u8, A>,
     entries: &[EntryRow<B>],
     sought: &Sought<'_, A>,
+    kernel: &KernelSegments<A>,
     entry: u32,
     place: &Place,
 ) -> Result<(), AllocError>
-    ensures { OnOk result (out.new.items ≡ out.old.items
-        ++ place_line (source_at (map entry_view entries.now) sought.now entry) place.now) }
+    ensures { OnOk result (out.new.items ≡ out.old.items ++ place_line
+        (source_at (map entry_view entries.now) sought.now kernel.now entry) place.now) }
 {
     say_part_front(out, place)?;
-    say_source(out, entries, sought, entry, place)?;
+    say_source(out, entries, sought, kernel, entry, place)?;
     say_line_end(out)?;
     Ok(())
 }
@@ -72,33 +73,36 @@ fn say_parts<A: Allocator + Copy, B: Allocator, C: Allocator>(
     out: &mut Vec<u8, A>,
     entries: &[EntryRow<B>],
     sought: &Sought<'_, A>,
+    kernel: &KernelSegments<A>,
     entry: u32,
     handoff: &Handoff<C>,
 ) -> Result<(), AllocError>
-    ensures { OnOk result (out.new.items ≡ out.old.items
-        ++ flat_map (place_line (source_at (map entry_view entries.now) sought.now entry))
+    ensures { OnOk result (out.new.items ≡ out.old.items ++ flat_map (place_line
+        (source_at (map entry_view entries.now) sought.now kernel.now entry))
         handoff.now.places) }
 {
     for index in 0..handoff.len() {
-        say_part(out, entries, sought, entry, &handoff.place(index))?;
+        say_part(out, entries, sought, kernel, entry, &handoff.place(index))?;
     }
     Ok(())
 }
 
-/// Appends the lines of what a kernel is handed, that of the entry of this index: the protocol,
-/// the parts in address order with the sources of their bytes, the registers.
+/// Appends the lines of what a kernel is handed, that of the entry of this index, which has these
+/// segments: the protocol, the parts in address order with the sources of their bytes, the
+/// registers.
 #[tactic(auto, unfolding(crate::specs::HandedLines::handoff_lines))]
 pub fn say_handoff<A: Allocator + Copy, B: Allocator, C: Allocator>(
     out: &mut Vec<u8, A>,
     entries: &[EntryRow<B>],
     sought: &Sought<'_, A>,
+    kernel: &KernelSegments<A>,
     entry: u32,
     handoff: &Handoff<C>,
 ) -> Result<(), AllocError>
     ensures { OnOk result (out.new.items ≡ out.old.items ++ handed.handoff_lines
-        (source_at (map entry_view entries.now) sought.now entry) handoff.now) }
+        (source_at (map entry_view entries.now) sought.now kernel.now entry) handoff.now) }
 {
     say_protocol(out, handoff.protocol())?;
-    say_parts(out, entries, sought, entry, handoff)?;
+    say_parts(out, entries, sought, kernel, entry, handoff)?;
     say_registers(out, &handoff.registers())
 }

@@ -9,8 +9,8 @@ use std::ops::Range;
 
 /// The number that the decimal digits of a number write as hexadecimal ones, below 2^64.
 #[tactic(auto, using(crate::proofs::HexHintLemmas::hex_parsed))]
-fn hex_reading<A: Allocator>(alloc: A, n: u64) -> Result<Option<u64>, AllocError>
-    ensures { IfOk result (λ reading. reading ≡ hints.hex_reading n) }
+fn digits_as_hex<A: Allocator>(alloc: A, n: u64) -> Result<Option<u64>, AllocError>
+    ensures { IfOk result (λ reading. reading ≡ hints.digits_as_hex n) }
 {
     let digits = format!(in alloc; "{n}")?;
     Ok(u64::from_str_radix(digits.as_str(), 16).ok())
@@ -56,7 +56,7 @@ pub fn say_size_hint<A: Allocator + Copy>(out: &mut Vec<u8, A>, size: u64) -> Re
     ensures { OnOk result (out.new.items ≡ out.old.items ++ hints.size_hint size) }
 {
     let alloc = *out.allocator();
-    match hex_reading(alloc, size)? {
+    match digits_as_hex(alloc, size)? {
         None => Ok(()),
         Some(reading) => {
             if is_size(reading) {
@@ -79,7 +79,7 @@ fn say_pool_end_hint<A: Allocator + Copy>(
         return Ok(());
     }
     let alloc = *out.allocator();
-    match hex_reading(alloc, n)? {
+    match digits_as_hex(alloc, n)? {
         None => Ok(()),
         Some(reading) => {
             if is_pool_end(size, reading) {

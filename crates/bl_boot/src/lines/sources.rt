@@ -6,7 +6,8 @@ ghost use Rattle.bl_boot.specs.Sources as sources;
 ghost use Rattle.bl_boot.specs.Sources.{source_at, source_words};
 ghost use Rattle.bl_desc.specs.Views.{entry_view, form_view};
 
-use crate::explanation::Sought;
+use crate::explanation::{KernelSegments, Sought};
+use crate::lines::ranges::{say_file, say_segments};
 use bl_desc::{EntryForm, EntryRow};
 use bl_load::{Place, Role};
 use std::alloc::{AllocError, Allocator};
@@ -33,20 +34,6 @@ fn payload_at(bytes: &[u8]) -> u64
     (sectors as u64 + 1) * 512
 }
 
-fn say_file<A: Allocator + Copy>(
-    out: &mut Vec<u8, A>,
-    place: u64,
-    offset: u64,
-    count: u64,
-) -> Result<(), AllocError>
-    ensures { OnOk result
-        (out.new.items ≡ out.old.items ++ sources.file_words place offset count) }
-{
-    let alloc = *out.allocator();
-    let words = format!(in alloc; "file {place} at {offset}, {count} bytes")?;
-    out.extend_from_slice(words.as_bytes())
-}
-
 fn say_whole<A: Allocator + Copy>(
     out: &mut Vec<u8, A>,
     sought: &Sought<'_, A>,
@@ -67,17 +54,19 @@ fn say_payload<A: Allocator + Copy>(out: &mut Vec<u8, A>, bytes: &[u8]) -> Resul
     say_file(out, 0, offset, count)
 }
 
-/// Appends what is loaded of an entry's kernel.
+/// Appends what the part of this index holds of an entry's kernel.
 fn say_kernel_source<A: Allocator + Copy, B: Allocator>(
     out: &mut Vec<u8, A>,
     sought: &Sought<'_, A>,
+    kernel: &KernelSegments<A>,
     entry: &EntryRow<B>,
+    index: u32,
 ) -> Result<(), AllocError>
-    ensures { OnOk result (out.new.items ≡ out.old.items ++ source_words sought.now
-        (entry_view entry.now) roles.Kernel 0) }
+    ensures { OnOk result (out.new.items ≡ out.old.items
+        ++ source_words sought.now kernel.now (entry_view entry.now) roles.Kernel index) }
 {
     match &entry.form {
-        EntryForm::Multiboot2 { .. } => out.extend_from_slice(b"file 0"),
+        EntryForm::Multiboot2 { .. } => say_segments(out, kernel, index),
         EntryForm::Linux { .. } => say_payload(out, sought.bytes(entry.kernel.as_str())),
     }
 }
@@ -113,15 +102,16 @@ fn initrd_name<B: Allocator>(form: &EntryForm<B>) -> &str
 fn say_entry_source<A: Allocator + Copy, B: Allocator>(
     out: &mut Vec<u8, A>,
     sought: &Sought<'_, A>,
+    kernel: &KernelSegments<A>,
     entry: &EntryRow<B>,
     role: Role,
     index: u32,
 ) -> Result<(), AllocError>
     ensures { OnOk result (out.new.items ≡ out.old.items
-        ++ source_words sought.now (entry_view entry.now) role index) }
+        ++ source_words sought.now kernel.now (entry_view entry.now) role index) }
 {
     match role {
-        Role::Kernel => say_kernel_source(out, sought, entry),
+        Role::Kernel => say_kernel_source(out, sought, kernel, entry, index),
         Role::Module => {
             let name = module_name(&entry.form, index);
             say_whole(out, sought, index as u64 + 1, name)
@@ -132,20 +122,22 @@ fn say_entry_source<A: Allocator + Copy, B: Allocator>(
     }
 }
 
-/// Appends where the bytes of a part come from, of the entry of this index.
+/// Appends where the bytes of a part come from, of the entry of this index, whose kernel has these
+/// segments.
 pub fn say_source<A: Allocator + Copy, B: Allocator>(
     out: &mut Vec<u8, A>,
     entries: &[EntryRow<B>],
     sought: &Sought<'_, A>,
+    kernel: &KernelSegments<A>,
     entry: u32,
     place: &Place,
 ) -> Result<(), AllocError>
     ensures { OnOk result (out.new.items ≡ out.old.items
-        ++ source_at (map entry_view entries.now) sought.now entry place.now.role
+        ++ source_at (map entry_view entries.now) sought.now kernel.now entry place.now.role
         place.now.index) }
 {
     match entries.get(entry as usize) {
-        Some(row) => say_entry_source(out, sought, row, place.role, place.index),
+        Some(row) => say_entry_source(out, sought, kernel, row, place.role, place.index),
         None => Ok(()),
     }
 }

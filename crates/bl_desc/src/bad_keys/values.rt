@@ -52,7 +52,7 @@ fn is_within(n: usize, least: usize, most: usize) -> bool
 
 /// Whether a text stands for 1 to 256 bytes.
 fn is_copy_text(text: &str) -> bool
-    ensures { result ≡ kept.text_allowed Allowed.CopyText text.now }
+    ensures { result ≡ kept.allows_text Allowed.CopyText text.now }
 {
     if !is_within(text.len(), 2, 2 * MAX_COPY) {
         return false;
@@ -62,7 +62,7 @@ fn is_copy_text(text: &str) -> bool
 
 /// Whether a text is one that is allowed, by a rule for texts.
 fn allows_text(allowed: Allowed, text: &str) -> bool
-    ensures { result ≡ kept.text_allowed allowed text.now }
+    ensures { result ≡ kept.allows_text allowed text.now }
 {
     match allowed {
         Allowed::AnyText => true,
@@ -77,7 +77,7 @@ fn allows_text(allowed: Allowed, text: &str) -> bool
 
 /// Whether a value is a text that is allowed.
 fn is_allowed_text(allowed: Allowed, value: &Value) -> bool
-    ensures { result ≡ kept.text_test (kept.text_allowed allowed) (as_str (view value.now)) }
+    ensures { result ≡ kept.text_test (kept.allows_text allowed) (as_str (view value.now)) }
 {
     match value.as_str() {
         Some(text) => allows_text(allowed, text),

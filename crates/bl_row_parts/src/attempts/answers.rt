@@ -15,9 +15,11 @@ pub fn say_progress(row: &mut Row<'_>, progress: Progress) {
 
 /// A piece that is awaited: its file's index in the menu, its ticket, its length.
 pub fn say_request(row: &mut Row<'_>, request: &Request) {
-    row.say_number("file ", request.file as u64);
-    row.say_number(" ticket ", request.ticket.attempt as u64);
-    row.say_number(".", request.ticket.file as u64);
-    row.say_number(".", request.ticket.piece as u64);
-    row.say_number(" length ", request.len as u64);
+    row.say_numbers(&[
+        ("file ", request.file as u64),
+        (" ticket ", request.ticket.attempt as u64),
+        (".", request.ticket.file as u64),
+        (".", request.ticket.piece as u64),
+        (" length ", request.len as u64),
+    ]);
 }

@@ -62,15 +62,18 @@ impl StoreFields {
     }
 
     fn set_kind(&mut self, row: &mut Row<'_>, name: &str) {
-        match name {
-            "forward" => self.kind = StoreKind::Forward,
-            "reverse" => self.kind = StoreKind::Reverse,
-            "counting" => self.kind = StoreKind::Counting,
-            "slices" => self.kind = StoreKind::Slices(Order::Forward),
-            "slices_reverse" => self.kind = StoreKind::Slices(Order::Reverse),
-            "script" => self.kind = StoreKind::Script,
-            "silent" => self.answers = 0,
-            _ => row.refuse(),
+        let kinds = [
+            ("forward", StoreKind::Forward),
+            ("reverse", StoreKind::Reverse),
+            ("counting", StoreKind::Counting),
+            ("slices", StoreKind::Slices(Order::Forward)),
+            ("slices_reverse", StoreKind::Slices(Order::Reverse)),
+            ("script", StoreKind::Script),
+        ];
+        if name == "silent" {
+            self.answers = 0;
+        } else {
+            self.kind = row.pick(&kinds, name, self.kind);
         }
     }
 

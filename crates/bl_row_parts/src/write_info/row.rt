@@ -48,9 +48,8 @@ impl InfoRow {
 
 /// What the words that are left tell, the line first.
 pub fn read_row(row: &mut Row<'_>) -> InfoRow {
-    let line = row.field("line");
     let mut read = InfoRow {
-        line: row.bytes_of(line),
+        line: row.bytes_field("line"),
         modules: Vec::new(row.alloc),
         old: None,
         new: None,

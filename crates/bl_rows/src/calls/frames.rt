@@ -27,8 +27,7 @@ fn is_ascending(ranges: &[Range<u64>]) -> bool
 }
 
 fn open_in_words(row: &mut Row<'_>) -> u64 {
-    let word = row.word();
-    let pool = row.range_of(word);
+    let pool = row.range();
     let ranges = row.rest_ranges();
     if pool.end < pool.start || !is_ascending(ranges.as_slice()) {
         row.refuse();
@@ -38,8 +37,7 @@ fn open_in_words(row: &mut Row<'_>) -> u64 {
 }
 
 fn frames_in_word(row: &mut Row<'_>) -> u64 {
-    let word = row.word();
-    let pool = row.range_of(word);
+    let pool = row.range();
     if pool.end < pool.start {
         row.refuse();
         return 0;

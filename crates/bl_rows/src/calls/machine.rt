@@ -21,17 +21,14 @@ pub fn kind_name(kind: Kind) -> &'static str {
 }
 
 fn kind_of(row: &mut Row<'_>, word: &str) -> Kind {
-    match word {
-        "usable" => Kind::Usable,
-        "reserved" => Kind::Reserved,
-        "acpi" => Kind::Acpi,
-        "nvs" => Kind::Nvs,
-        "bad" => Kind::Bad,
-        _ => {
-            row.refuse();
-            Kind::Bad
-        }
-    }
+    let kinds = [
+        ("usable", Kind::Usable),
+        ("reserved", Kind::Reserved),
+        ("acpi", Kind::Acpi),
+        ("nvs", Kind::Nvs),
+        ("bad", Kind::Bad),
+    ];
+    row.pick(&kinds, word, Kind::Bad)
 }
 
 impl Row<'_> {
@@ -83,8 +80,7 @@ pub fn read_machine<'h>(
     heap: &'h Refusing,
 ) -> Result<Machine<&'h Refusing>, MapFault> {
     let size = row.number_field("size");
-    let pool = row.field("pool");
-    let pool = row.range_of(pool);
+    let pool = row.range_field("pool");
     let regions = read_regions(row);
     Machine::new(heap, size, regions.as_slice(), pool)
 }

@@ -86,8 +86,7 @@ fn write<M: PhysMem>(row: &mut Row<'_>, memory: &mut M) {
 }
 
 fn zero<M: PhysMem>(row: &mut Row<'_>, memory: &mut M) {
-    let word = row.word();
-    let range = row.range_of(word);
+    let range = row.range();
     if give_room(row, memory, &range) {
         memory.zero(range);
         row.say("ok");

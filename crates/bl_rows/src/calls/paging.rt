@@ -19,8 +19,7 @@ pub fn answer_gdt64(row: &mut Row<'_>) {
 pub fn answer_tables(row: &mut Row<'_>) {
     let base = row.number_field("base");
     let frame = row.number_field("frame");
-    let range = row.field("bytes");
-    let range = row.range_of(range);
+    let range = row.range_field("bytes");
     if base % 4096 != 0 || base > 0xffff_a000 || frame >= 6 {
         return row.refuse();
     }

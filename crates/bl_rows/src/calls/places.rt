@@ -13,20 +13,18 @@ use bl_refusing::Refusing;
 
 impl Row<'_> {
     fn role(&mut self) -> Role {
-        match self.word() {
-            "Kernel" => Role::Kernel,
-            "Module" => Role::Module,
-            "Information" => Role::Information,
-            "BootParams" => Role::BootParams,
-            "CommandLine" => Role::CommandLine,
-            "Gdt" => Role::Gdt,
-            "Initrd" => Role::Initrd,
-            "PageTables" => Role::PageTables,
-            _ => {
-                self.refuse();
-                Role::Kernel
-            }
-        }
+        let roles = [
+            ("Kernel", Role::Kernel),
+            ("Module", Role::Module),
+            ("Information", Role::Information),
+            ("BootParams", Role::BootParams),
+            ("CommandLine", Role::CommandLine),
+            ("Gdt", Role::Gdt),
+            ("Initrd", Role::Initrd),
+            ("PageTables", Role::PageTables),
+        ];
+        let word = self.word();
+        self.pick(&roles, word, Role::Kernel)
     }
 
     fn choice(&mut self) -> Choice {

@@ -19,8 +19,7 @@ pub fn fault_text(fault: PlanFault) -> &'static str {
 }
 
 fn take(row: &mut Row<'_>, planner: &mut Planner<'_, &Refusing>) {
-    let word = row.word();
-    let range = row.range_of(word);
+    let range = row.range();
     if range.start >= range.end {
         return row.refuse();
     }
@@ -31,14 +30,12 @@ fn take(row: &mut Row<'_>, planner: &mut Planner<'_, &Refusing>) {
 }
 
 fn side_of(row: &mut Row<'_>) -> Side {
-    match row.word() {
-        "lowest" => Side::Lowest,
-        "highest" => Side::Highest,
-        _ => {
-            row.refuse();
-            Side::Lowest
-        }
-    }
+    let word = row.word();
+    row.pick(
+        &[("lowest", Side::Lowest), ("highest", Side::Highest)],
+        word,
+        Side::Lowest,
+    )
 }
 
 /// Places a part, at an address if it may be there.

@@ -1,7 +1,7 @@
 //! The lines of a menu and its copies of the RSDP are bytes, as the types of both have it. Nothing
 //! here is done but to learn this: whoever walks what is booted needs it of each entry.
 ghost use Rattle.std.specs.Prelude.{◌<◌, [], All, IfSome, map};
-ghost use Rattle.bl_load.specs.Offered.{IsOffer};
+ghost use Rattle.bl_load.specs.Offered.{IsOfferedEntry};
 ghost use Rattle.bl_load.specs.Value.{IsWithinLimits};
 
 use bl_load::{Entry, Module};
@@ -29,10 +29,10 @@ fn learn_copy<A: Allocator>(copy: &Option<Bytes<A>>)
     }
 }
 
-#[tactic(auto, unfolding(bl_load::specs::Value::IsWithinLimits, bl_load::specs::Offered::IsOffer))]
+#[tactic(auto, unfolding(bl_load::specs::Offered::IsOfferedEntry))]
 fn learn_entry<A: Allocator>(entry: &Entry<A>)
     requires { IsWithinLimits entry.now }
-    ensures { IsOffer entry.now }
+    ensures { IsOfferedEntry entry.now }
 {
     match entry {
         Entry::Multiboot2 {
@@ -53,7 +53,7 @@ fn learn_entry<A: Allocator>(entry: &Entry<A>)
 
 pub(crate) fn learn_entries<A: Allocator>(entries: &[Entry<A>])
     requires { All IsWithinLimits entries.now }
-    ensures { All IsOffer entries.now }
+    ensures { All IsOfferedEntry entries.now }
 {
     match entries {
         [] => {}

@@ -1,5 +1,5 @@
 use Rattle.std.proofs.Common.{◌≡◌, map, take}
-use Rattle.bl_abi.specs.Given.{line_given}
+use Rattle.bl_abi.specs.Given.{text_given}
 use Rattle.bl_abi.proofs.entries.modules_of.Given as goal
 
 -- the modules so far
@@ -7,4 +7,4 @@ abbrev pub invariant-loop-record : goal.invariant-loop-record
 invariant-loop-record g l =
     (map (λ m. m.file) l.modules.items ≡ map (λ m. m.file) (take l.record-index l.records))
     × (map (λ m. m.line) l.modules.items
-    ≡ map (λ m. line_given l.given m.line) (take l.record-index l.records))
+    ≡ map (λ m. text_given l.given m.line) (take l.record-index l.records))

@@ -5,7 +5,7 @@ use Rattle.bl_load.specs.Parts.{IsHandover}
 use Rattle.bl_load.specs.PlanFacts.{handover_in}
 use Rattle.bl_load.specs.Value.{EntryValue}
 use Rattle.bl_abi.specs.Load.{IsEntryFault}
-use Rattle.bl_abi.proofs.LoadLemmas.{given_value, of_prepared_is}
+use Rattle.bl_abi.proofs.LoadLemmas.{given_value, of_prepared_is, entry_sound}
 use Rattle.bl_abi.proofs.loading.load_given.Goals as goal
 
 pub returns-in-Ok-load_typed-clause-handed : goal.returns-in-Ok-load_typed-clause-handed
@@ -30,6 +30,11 @@ returns-in-Ok-load_typed-clause-handed g c =
       inside = c.in-Ok-load_typed.ensures.inside;
     }
 
+pub returns-in-Ok-load_typed-clause-sound : goal.returns-in-Ok-load_typed-clause-sound
+returns-in-Ok-load_typed-clause-sound g c =
+    entry_sound c.args.given.now c.args.row.now c.in-Ok.entry c.in-Ok.ensures.value
+    c.in-Ok.ensures.sound c.in-Ok.ensures.limits
+
 pub returns-clause-fault : goal.returns-clause-fault
 returns-clause-fault g c =
     let given = c.args.given.now in
@@ -39,6 +44,9 @@ returns-clause-fault g c =
     ap (map (λ (v : SliceView). v.bytes.now)) c.deref.ensures.value ∙ c.in-Ok-views_of.ensures in
     let value = given_value given row c.in-Ok.entry texts
     c.in-Ok.ensures.value files in
+    let sound =
+    entry_sound given row c.in-Ok.entry c.in-Ok.ensures.value c.in-Ok.ensures.sound
+    c.in-Ok.ensures.limits in
     subst (IsEntryFault c.args.machine.now given row) (sym c.load_fault.ensures)
-    (of_prepared_is c.args.machine.now given row _ c.in-Err-load_typed.fault value
+    (of_prepared_is c.args.machine.now given row _ c.in-Err-load_typed.fault sound value
     c.in-Err-load_typed.ensures.fault)

@@ -1,6 +1,6 @@
 use Rattle.std.proofs.Common.{subst, sym}
 use Rattle.bl_session.specs.Attempts.{NameEntries}
-use Rattle.bl_abi.specs.Sessions.{IsNoMenu, is_short}
+use Rattle.bl_abi.specs.Boot.{IsNoMenu, is_short}
 use Rattle.bl_abi.proofs.BootLemmas.{entry_count, few_given, no_menu_is}
 use Rattle.bl_abi.proofs.menus.menu_made.Goals as goal
 

@@ -4,8 +4,8 @@ use Rattle.bl_load.specs.Parts.{IsHandover}
 use Rattle.bl_load.specs.PlanFacts.{handover_by}
 use Rattle.bl_load.specs.Value.{EntryValue}
 use Rattle.bl_abi.specs.Load.{IsEntryFault}
-use Rattle.bl_abi.proofs.LoadLemmas.{given_value, of_prepared_is}
-use Rattle.bl_abi.proofs.PrepareLemmas.{plan_says, entry_sound}
+use Rattle.bl_abi.proofs.LoadLemmas.{given_value, of_prepared_is, entry_sound}
+use Rattle.bl_abi.proofs.PrepareLemmas.{plan_says}
 use Rattle.bl_abi.proofs.preparing.prepare_given.Goals as goal
 
 pub returns-in-Ok-prepare-clause-handed : goal.returns-in-Ok-prepare-clause-handed
@@ -40,6 +40,9 @@ returns-clause-fault g c =
     let files =
     ap (map (λ (v : SliceView). v.bytes.now)) c.deref.ensures.value ∙ c.in-Ok-views_of.ensures in
     let value = given_value given row c.in-Ok.entry texts c.in-Ok.ensures.value files in
+    let sound =
+    entry_sound given row c.in-Ok.entry c.in-Ok.ensures.value c.in-Ok.ensures.sound
+    c.in-Ok.ensures.limits in
     subst (IsEntryFault c.args.machine.now given row) (sym c.load_fault.ensures)
-    (of_prepared_is c.args.machine.now given row _ c.in-Err-prepare.fault value
+    (of_prepared_is c.args.machine.now given row _ c.in-Err-prepare.fault sound value
     c.in-Err-prepare.ensures.fault)

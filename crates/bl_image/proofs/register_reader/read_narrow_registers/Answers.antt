@@ -8,8 +8,8 @@ use Rattle.bl_mem.specs.Words.{u64_bytes}
 use Rattle.bl_load.specs.declared.registers.Registers32.{Registers32}
 use Rattle.bl_load.specs.declared.registers.Registers.TheVariants.{Bits32}
 use Rattle.bl_image.specs.Fields.{Field, narrow_field, absent_field}
-use Rattle.bl_image.specs.Image.{register_numbers, wide_numbers}
-use Rattle.bl_image.specs.Layouts.{registers_2}
+use Rattle.bl_image.specs.Image.{narrow_values, wide_values}
+use Rattle.bl_image.specs.Layouts.{registers_2_narrow}
 use Rattle.bl_image.specs.Source.{Input}
 use Rattle.bl_image.specs.SourceKept.{PassAll}
 use Rattle.bl_image.proofs.FieldRows.{pass_as, pass_both, refused_before, refused_behind}
@@ -40,15 +40,15 @@ sized {old} {new} ns n size passed =
     subst (λ (k : ℕ). PassAll (narrow k) old new (flat_map u64_bytes ns)) size passed
 
 same_bytes : (r : Registers32) (first flags last : List ℕ) → length first ≡ 9 → length flags ≡ 2
-    → register_numbers r ≡ first ++ (flags ++ last)
-    → wide_spelling first flags last ≡ flat_map u64_bytes (wide_numbers (Bits32 r))
+    → narrow_values r ≡ first ++ (flags ++ last)
+    → wide_spelling first flags last ≡ flat_map u64_bytes (wide_values (Bits32 r))
 same_bytes r first flags last nine two numbers =
     sym
     (ap (flat_map u64_bytes) (wide_by r first flags last nine two numbers)
     ∙ spelled_wide first flags last)
 
 pub returns-in_err-read_narrows-clause-fields : goal.returns-in_err-read_narrows-clause-fields
-unfolding registers_2
+unfolding registers_2_narrow
 returns-in_err-read_narrows-clause-fields g c =
     let p = err_from_is_err_and c.from_residual.result c.from_residual.ensures.1 in
     let nine : length c.read_narrows.new.out ≡ 9 = search (rules, places) in
@@ -64,7 +64,7 @@ returns-clause-fit g c =
     (All-append fits _ _ c.in_ok-read_narrows-2.ensures.fit c.in_ok-read_narrows-3.ensures.fit))
 
 pub returns-clause-fields : goal.returns-clause-fields
-unfolding registers_2
+unfolding registers_2_narrow
 returns-clause-fields g c =
     let first = c.read_narrows.new.out in
     let flags = c.read_narrows-2.new.out in
@@ -78,11 +78,11 @@ returns-clause-fields g c =
     (pass_both (narrow 2) after_third _ _ (sized flags 2 two c.in_ok-read_narrows-2.ensures.fields)
     (pass_both (absent 3) (narrow 9) _ _ c.in_ok-read_absents-2.ensures.fields
     (sized last 9 others c.in_ok-read_narrows-3.ensures.fields)))) in
-    pass_as registers_2 _ _
+    pass_as registers_2_narrow _ _
     (same_bytes c.registers_of.result first flags last nine two c.registers_of.ensures) all
 
 pub returns-in_err-read_absents-clause-fields : goal.returns-in_err-read_absents-clause-fields
-unfolding registers_2
+unfolding registers_2_narrow
 returns-in_err-read_absents-clause-fields g c =
     let p =
     err_from_is_err_and c.from_residual-in_err-read_absents.result
@@ -95,7 +95,7 @@ returns-in_err-read_absents-clause-fields g c =
     (refused_before _ (absent 8) after_second _ _ c.in_err-read_absents.ensures.fields))
 
 pub returns-in_err-read_narrows-2-clause-fields : goal.returns-in_err-read_narrows-2-clause-fields
-unfolding registers_2
+unfolding registers_2_narrow
 returns-in_err-read_narrows-2-clause-fields g c =
     let p =
     err_from_is_err_and c.from_residual-in_err-read_narrows-2.result
@@ -111,7 +111,7 @@ returns-in_err-read_narrows-2-clause-fields g c =
     (rw two at c.in_err-read_narrows-2.ensures.fields))))
 
 pub returns-in_err-read_absents-2-clause-fields : goal.returns-in_err-read_absents-2-clause-fields
-unfolding registers_2
+unfolding registers_2_narrow
 returns-in_err-read_absents-2-clause-fields g c =
     let p =
     err_from_is_err_and c.from_residual-in_err-read_absents-2.result
@@ -129,7 +129,7 @@ returns-in_err-read_absents-2-clause-fields g c =
     (refused_before _ (absent 3) (narrow 9) _ _ c.in_err-read_absents-2.ensures.fields))))
 
 pub returns-in_err-read_narrows-3-clause-fields : goal.returns-in_err-read_narrows-3-clause-fields
-unfolding registers_2
+unfolding registers_2_narrow
 returns-in_err-read_narrows-3-clause-fields g c =
     let p =
     err_from_is_err_and c.from_residual-in_err-read_narrows-3.result

@@ -55,13 +55,13 @@ address_segment-requires-clause-in_front g c =
     lies_before _ _ _ _ c.in_ok-last.ensures.fits.address
     (omega (arith, ends_in_front _ _ c.in_ok-place.ensures.begins, c.u32_at.ensures))
 
-pub tag_entry-requires-clause-in_file : goal.tag_entry-requires-clause-in_file
-tag_entry-requires-clause-in_file g c =
+pub entry_address_of-requires-clause-in_file : goal.entry_address_of-requires-clause-in_file
+entry_address_of-requires-clause-in_file g c =
     lies_before _ _ _ _ c.in_ok-last.ensures.fits.entry
     (omega (arith, ends_in_file _ _ c.in_ok-place.ensures.begins, c.u32_at.ensures))
 
-pub tag_entry-requires-clause-in_front : goal.tag_entry-requires-clause-in_front
-tag_entry-requires-clause-in_front g c =
+pub entry_address_of-requires-clause-in_front : goal.entry_address_of-requires-clause-in_front
+entry_address_of-requires-clause-in_front g c =
     lies_before _ _ _ _ c.in_ok-last.ensures.fits.entry
     (omega (arith, ends_in_front _ _ c.in_ok-place.ensures.begins, c.u32_at.ensures))
 

@@ -1,5 +1,5 @@
 use Rattle.std.proofs.Common.{◌≡◌, ◌<◌, length, rules, subst}
-use Rattle.bl_session.specs.Attempt.{IsMemoryOf}
+use Rattle.bl_session.specs.AttemptKept.{IsMemoryOf}
 use Rattle.bl_session.specs.Menu.{facts_of}
 use Rattle.bl_session.specs.Boot.{unstarted, handed_over}
 use Rattle.bl_session.specs.Phases.{handover_held}

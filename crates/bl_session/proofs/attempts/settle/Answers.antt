@@ -1,7 +1,7 @@
 use Rattle.std.proofs.Common.{◌≡◌, List, Some, drop, ap, refl, rules, subst}
 use Rattle.bl_session.specs.Menu.{facts_of}
 use Rattle.bl_session.specs.Boot.{unstarted, handed_over, Begins, Continues}
-use Rattle.bl_session.specs.Attempt.{attempt_by}
+use Rattle.bl_session.specs.AttemptKept.{attempt_with}
 use Rattle.bl_stage.specs.PieceStates.{piece_states}
 use Rattle.bl_session.specs.PhasesKept.{facts_of_boot, state_of, phase_by}
 use Rattle.bl_session.specs.declared.attempt.Attempt.TheVariants.{Waits, Ended}
@@ -23,8 +23,8 @@ returns-in-None-clause-continues g c =
     continues {A = g.row.A.Denot} facts (Begins facts rest) w.entry rest w.earlier.items files bytes
     unstarted (Waits stage)
     (attempt_of_entry facts.machine facts.menu w.entry (facts_of c.entry.result.now) files bytes
-    (attempt_by stage c.in_ok-end_attempt.field-0) (Waits stage) c.entry.ensures.entry
-    c.in_ok-end_attempt.ensures.attempt (ap (attempt_by stage) c.in-None.is)) tt
+    (attempt_with stage c.in_ok-end_attempt.field-0) (Waits stage) c.entry.ensures.entry
+    c.in_ok-end_attempt.ensures.attempt (ap (attempt_with stage) c.in-None.is)) tt
 
 pub returns-in-Some-HandedOver-clause-continues : goal.returns-in-Some-HandedOver-clause-continues
 returns-in-Some-HandedOver-clause-continues g c =
@@ -44,8 +44,8 @@ returns-in-Some-HandedOver-clause-continues g c =
     (handed_over w.entry earlier (handover_held bytes c.in-Some-HandedOver.handoff))) same
     (continues facts (Begins facts rest) w.entry rest w.earlier.items files bytes unstarted one
     (attempt_of_entry facts.machine facts.menu w.entry (facts_of c.entry.result.now) files bytes
-    (attempt_by stage c.in_ok-end_attempt.field-0) one c.entry.ensures.entry
-    c.in_ok-end_attempt.ensures.attempt (ap (attempt_by stage) is)) tt)
+    (attempt_with stage c.in_ok-end_attempt.field-0) one c.entry.ensures.entry
+    c.in_ok-end_attempt.ensures.attempt (ap (attempt_with stage) is)) tt)
 
 pub returns-in-Some-Refused-clause-continues : goal.returns-in-Some-Refused-clause-continues
 returns-in-Some-Refused-clause-continues g c =
@@ -55,14 +55,14 @@ returns-in-Some-Refused-clause-continues g c =
     let files = piece_states (g.M.PhysMem.bytes c.args.memory.now) w.stage in
     let mid = g.M.PhysMem.bytes c.end_attempt.new.memory in
     let new = g.M.PhysMem.bytes c.refuse.new.memory in
-    let one = attempt_by c.end_attempt.new.stage c.in_ok-end_attempt.field-0 in
+    let one = attempt_with c.end_attempt.new.stage c.in_ok-end_attempt.field-0 in
     let is : c.in_ok-end_attempt.field-0 ≡ Some (Refused c.in-Some-Refused.refusal) = cc in
     continues_later facts (Begins facts rest) w.entry rest w.earlier.items files mid one
     c.in-Some-Refused.refusal c.refuse.result
     (λ ended. state_of facts.menu.attempts new (phase_by c.refuse.new.running ended))
     (attempt_of_entry facts.machine facts.menu w.entry (facts_of c.entry.result.now) files mid
     one one c.entry.ensures.entry c.in_ok-end_attempt.ensures.attempt refl)
-    (ap (attempt_by c.end_attempt.new.stage) is) c.refuse.ensures.begun
+    (ap (attempt_with c.end_attempt.new.stage) is) c.refuse.ensures.begun
 
 pub returns-in-Some-Refused-clause-memory : goal.returns-in-Some-Refused-clause-memory
 returns-in-Some-Refused-clause-memory g c =

@@ -6,7 +6,7 @@ use Rattle.bl_session.specs.Boot.{BootFacts, out_of_memory}
 use Rattle.bl_session.specs.Memory.{IsMemoryIn}
 use Rattle.bl_session.specs.Outcome.{missing, size_of}
 use Rattle.bl_session.specs.Phases.{SessionFacts, boot_facts, state_at}
-use Rattle.bl_session.specs.Run.{world_of}
+use Rattle.bl_session.specs.Run.{run_state_of}
 use Rattle.bl_session.proofs.RunLemmas.{unbegun, has_started, run_started}
 use Rattle.bl_session.proofs.runs.run_session.Goals as goal
 
@@ -97,7 +97,7 @@ returns-clause-run g c =
     run_started c.args.machine.now menu files c.deref.result.now c.in_ok-session.session.boot
     c.start.new.self.boot c.in_ok-session.session.phase c.start.new.self.phase
     (bytes c.args.memory.now) (bytes c.start.new.memory)
-    (given c.args.store.now) (given c.drive.new.store) (world_of c.start.new.self.boot end) end
+    (given c.args.store.now) (given c.drive.new.store) (run_state_of c.start.new.self.boot end) end
     sizes
     (ap (λ (s : SessionFacts). s.boot) c.in_ok-session.ensures)
     (ap (λ (s : SessionFacts). s.phase) c.in_ok-session.ensures) c.start.ensures.boot

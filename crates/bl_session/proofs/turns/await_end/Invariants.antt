@@ -2,7 +2,7 @@ use Rattle.std.proofs.Common.{◌≡◌, true}
 use Rattle.bl_mem.specs.Memory.{KeepsMemory}
 use Rattle.bl_stage.specs.Ranges.{IsSameOutside}
 use Rattle.bl_session.specs.Phases.{state_at, is_waiting}
-use Rattle.bl_session.specs.Turns.{IsHeard, attempts_in}
+use Rattle.bl_session.specs.TurnsKept.{IsHeard, attempts_in}
 use Rattle.bl_session.proofs.AnswerLemmas.{at}
 use Rattle.bl_session.proofs.turns.await_end.Given as goal
 

@@ -3,7 +3,7 @@ use Rattle.std.proofs.lemmas.Result.{err_from_is_err_and}
 use Rattle.bl_session.specs.Boot.{BootFacts}
 use Rattle.bl_session.specs.Memory.{IsMemoryIn}
 use Rattle.bl_session.specs.Phases.{state_at}
-use Rattle.bl_session.specs.Run.{world_of}
+use Rattle.bl_session.specs.Run.{run_state_of}
 use Rattle.bl_session.proofs.AnswerLemmas.{running_waiting}
 use Rattle.bl_session.proofs.RunLemmas.{heard_attempt, lacks_orders, lacks_answers, memory_later}
 use Rattle.bl_session.proofs.RunLemmas.{room_on}
@@ -22,7 +22,7 @@ returns-in_err-submit-clause-lacking g c =
     rw p.1
     (lacks_orders facts c.attempts.session.boot (g.S.Store.files c.args.store.now)
     (given c.args.store.now) (given c.attempts.store) (given c.submit.new.store)
-    (world_of facts first) old
+    (run_state_of facts first) old
     so_far.boot so_far.heard (c.in_err-submit.ensures.err (bytes c.attempts.memory))
     (running_waiting (bytes c.attempts.memory) c.attempts.session.phase
     (sym c.is_waiting.ensures ∙ c.attempts-test.true)))
@@ -53,7 +53,7 @@ attempts-preserved g c =
           heard_attempt facts c.attempts.session.boot (files c.args.store.now)
           (files c.attempts.store) (files c.submit.new.store) (given c.args.store.now)
           (given c.attempts.store) (given c.submit.new.store) (given c.await_end.new.store)
-          (world_of facts first) old new so_far.boot so_far.files
+          (run_state_of facts first) old new so_far.boot so_far.files
           (c.submit.ensures.files ∙ so_far.files) so_far.heard
           (c.in_ok-submit.ensures.ok (bytes c.attempts.memory)) told.heard;
       memory =
@@ -84,6 +84,6 @@ returns-in_err-await_end-clause-lacking g c =
     rw p.1
     (lacks_answers facts c.attempts.session.boot (files c.args.store.now)
     (files c.submit.new.store) (given c.args.store.now) (given c.attempts.store)
-    (given c.submit.new.store) (given c.await_end.new.store) (world_of facts first) old
+    (given c.submit.new.store) (given c.await_end.new.store) (run_state_of facts first) old
     so_far.boot (c.submit.ensures.files ∙ so_far.files) so_far.heard
     (c.in_ok-submit.ensures.ok (bytes c.attempts.memory)) c.in_err-await_end.ensures.lacking)

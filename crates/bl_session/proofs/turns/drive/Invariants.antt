@@ -2,8 +2,8 @@ use Rattle.std.proofs.Common.{◌≡◌, ◌≢◌, List, ℕ, true}
 use Rattle.bl_mem.specs.Memory.{HasRoom, KeepsMemory}
 use Rattle.bl_session.specs.Memory.{IsMemoryIn}
 use Rattle.bl_session.specs.Phases.{state_at, is_waiting, not_started}
-use Rattle.bl_session.specs.Run.{world_of}
-use Rattle.bl_session.specs.Turns.{IsHeard, attempts_in}
+use Rattle.bl_session.specs.Run.{run_state_of}
+use Rattle.bl_session.specs.TurnsKept.{IsHeard, attempts_in}
 use Rattle.bl_session.proofs.turns.drive.Given as goal
 
 -- what was asked and heard so far led from where the boot stood
@@ -17,7 +17,7 @@ invariant-attempts g l =
       boot : l.session.boot ≡ facts;
       started : l.session.phase ≢ not_started;
       heard : IsHeard facts (g.S.Store.files l.fn.store) (g.S.Store.given l.fn.store)
-          (g.S.Store.given l.store) (world_of facts old) (world_of facts now);
+          (g.S.Store.given l.store) (run_state_of facts old) (run_state_of facts now);
       memory : (first : List ℕ) → IsMemoryIn facts.machine.pool old first (bytes l.fn.memory)
           → IsMemoryIn facts.machine.pool now first (bytes l.memory);
       room : is_waiting l.session.phase ≡ true

@@ -10,7 +10,9 @@ loop-index-preserved g c =
     let len = c.len-index-end.ensures.len in
     let test = c.loop-index-test.true in
     one_more_said
-    (place_line (source_at (map entry_view c.args.entries.now) c.args.sought.now c.args.entry))
+    (place_line
+    (source_at (map entry_view c.args.entries.now) c.args.sought.now c.args.kernel.now
+    c.args.entry))
     c.args.handoff.now.places c.loop-index.index c.place.result
     c.args.out.now.items c.loop-index.out.items c.say_part.new.out.items (omega (arith, len, test))
     c.place.ensures c.loop-index.invariant c.in_ok-say_part.ensures
@@ -20,6 +22,8 @@ returns g c =
     let len = c.len-index-end.ensures.len in
     let test = c.loop-index-test.false in
     all_said
-    (place_line (source_at (map entry_view c.args.entries.now) c.args.sought.now c.args.entry))
+    (place_line
+    (source_at (map entry_view c.args.entries.now) c.args.sought.now c.args.kernel.now
+    c.args.entry))
     c.args.handoff.now.places c.loop-index.index c.args.out.now.items
     c.loop-index.out.items (omega (arith, len, test)) c.loop-index.invariant

@@ -8,5 +8,5 @@ use Rattle.bl_boot.proofs.lines.handed.say_parts.Given as goal
 abbrev pub invariant-loop-index : goal.invariant-loop-index
 invariant-loop-index g l =
     l.out.items ≡ l.initial.out.items
-    ++ flat_map (place_line (source_at (map entry_view l.entries) l.sought l.entry))
+    ++ flat_map (place_line (source_at (map entry_view l.entries) l.sought l.kernel l.entry))
     (take l.index l.handoff.places)

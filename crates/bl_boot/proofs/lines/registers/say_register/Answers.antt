@@ -13,5 +13,5 @@ returns g c =
     let holes : c.as_bytes.result.now
     ≡ codes "register " ++ name ++ codes " " ++ hex_hole value ++ codes "\n" =
     grind (arith, common_steps) in
-    let line : c.as_bytes.result.now ≡ register_line name value = rw (← hex16_hole value) holes in
+    let line : c.as_bytes.result.now ≡ register_line (name, value) = rw (← hex16_hole value) holes in
     search rules

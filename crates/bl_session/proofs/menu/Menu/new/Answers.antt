@@ -1,5 +1,5 @@
 use Rattle.std.proofs.Common.{◌≡◌, All, List, ◌≤◌, length, refl, sym, subst, arith, rules}
-use Rattle.bl_load.specs.Offered.{IsOffer}
+use Rattle.bl_load.specs.Offered.{IsOfferedEntry}
 use Rattle.bl_load.specs.declared.entry.Entry.{Entry}
 use Rattle.bl_session.specs.Attempts.{NameEntries, IsSmall, attempts_of}
 use Rattle.bl_session.proofs.MenuLemmas.{offered_entries}
@@ -24,14 +24,14 @@ invariant_of-result g c =
       rw c.in_ok-attempts.ensures
           (all_attempts (length entries) c.args.default fallbacks named.0 named.1),
       small.1,
-      subst (λ (es : List (Entry g.row.A.Denot)). All IsOffer es) same c.learn_entries.ensures,
+      subst (λ (es : List (Entry g.row.A.Denot)). All IsOfferedEntry es) same c.learn_entries.ensures,
       rw c.in_ok-attempts.ensures most,
     )
 
 pub returns-clause-offered : goal.returns-clause-offered
 returns-clause-offered g c =
     offered_entries c.args.entries.items
-    (subst (λ (es : List (Entry g.row.A.Denot)). All IsOffer es) c.as_slice-offered.ensures.value
+    (subst (λ (es : List (Entry g.row.A.Denot)). All IsOfferedEntry es) c.as_slice-offered.ensures.value
     c.learn_entries.ensures)
 
 pub returns-then-not-name_entries-clause-first_fault :

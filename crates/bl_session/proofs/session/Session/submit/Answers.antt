@@ -1,9 +1,9 @@
 use Rattle.std.proofs.Common.{ℕ, List, subst}
 use Rattle.std.specs.Prelude.{OnErr}
 use Rattle.bl_session.specs.History.{Item}
-use Rattle.bl_session.specs.Orders.{orders}
+use Rattle.bl_session.specs.Asked.{orders}
 use Rattle.bl_session.specs.Phases.{SessionFacts, state_at}
-use Rattle.bl_session.specs.Turns.{IsAsked}
+use Rattle.bl_session.specs.TurnsKept.{IsAsked}
 use Rattle.bl_session.proofs.session.Session.submit.Goals as goal
 
 pub returns-clause-err : goal.returns-clause-err

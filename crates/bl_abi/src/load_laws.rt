@@ -1,0 +1,52 @@
+//! Laws of the definitions.
+ghost use Rattle.std.specs.Prelude.{◌≡◌, ◌≢◌, ◌≤◌, ℕ, List, length, Ok, Err};
+ghost use Rattle.bl_load.specs.HandoffFacts.{HandoffFacts, most_parts};
+ghost use Rattle.bl_load.specs.declared.refusal.Refusal.{Refusal};
+ghost use Rattle.bl_abi.specs.declared.fault.LoadFault.{LoadFault};
+ghost use Rattle.bl_abi.specs.declared.fault.LoadFault.TheVariants.{Refused, NoMemory};
+ghost use Rattle.bl_abi.specs.declared.records.EntryRecord.{EntryRecord};
+ghost use Rattle.bl_abi.specs.declared.records.MachineRecord.{MachineRecord};
+ghost use Rattle.bl_abi.specs.declared.records.RegionRecord.{RegionRecord};
+ghost use Rattle.bl_abi.specs.Given.{GivenFacts};
+ghost use Rattle.bl_abi.specs.Load.{IsLoadEnd};
+ghost use Rattle.bl_abi.specs.Prepare.{IsPrepareEnd};
+
+/// A load of what was prepared, into memory that reaches to the machine's end and with room for the
+/// places, says the same handoff, or memory runs out; and a preparation of what was loaded succeeds
+/// too, or memory runs out. Of what was refused, a load is refused for the same reason, if it is
+/// refused. A preparation and a load into memory that reaches to the machine's end, with as much
+/// room, tell one fault, if both tell one and neither that memory ran out.
+pub fn loads_end_as_prepared()
+    ensures one_handoff { (machine : MachineRecord) (regions : List RegionRecord)
+        (given : GivenFacts) (entry : EntryRecord) (room space : ℕ) (old new : List ℕ)
+        (prepared loaded : HandoffFacts)
+        → IsPrepareEnd machine regions given entry room (Ok prepared)
+        → IsLoadEnd machine regions given entry space old new (Ok loaded)
+        → loaded ≡ prepared }
+    ensures else_no_memory { (machine : MachineRecord) (regions : List RegionRecord)
+        (given : GivenFacts) (entry : EntryRecord) (room space : ℕ) (old new : List ℕ)
+        (prepared : HandoffFacts) (fault : LoadFault)
+        → machine.size ≤ length old → most_parts ≤ space
+        → IsPrepareEnd machine regions given entry room (Ok prepared)
+        → IsLoadEnd machine regions given entry space old new (Err fault) → fault ≡ NoMemory }
+    ensures prepared_too { (machine : MachineRecord) (regions : List RegionRecord)
+        (given : GivenFacts) (entry : EntryRecord) (room space : ℕ) (old new : List ℕ)
+        (fault : LoadFault) (loaded : HandoffFacts) → most_parts ≤ room
+        → IsPrepareEnd machine regions given entry room (Err fault)
+        → IsLoadEnd machine regions given entry space old new (Ok loaded) → fault ≡ NoMemory }
+    ensures one_refusal { (machine : MachineRecord) (regions : List RegionRecord)
+        (given : GivenFacts) (entry : EntryRecord) (room space : ℕ) (old new : List ℕ)
+        (r s : Refusal)
+        → IsPrepareEnd machine regions given entry room (Err (Refused r))
+        → IsLoadEnd machine regions given entry space old new (Err (Refused s)) → s ≡ r }
+    ensures never_loaded { (machine : MachineRecord) (regions : List RegionRecord)
+        (given : GivenFacts) (entry : EntryRecord) (room space : ℕ) (old new : List ℕ)
+        (r : Refusal) (loaded : HandoffFacts)
+        → IsPrepareEnd machine regions given entry room (Err (Refused r))
+        → IsLoadEnd machine regions given entry space old new (Ok loaded) → ⊥ }
+    ensures one_fault { (machine : MachineRecord) (regions : List RegionRecord)
+        (given : GivenFacts) (entry : EntryRecord) (room : ℕ) (old new : List ℕ)
+        (f g : LoadFault) → machine.size ≤ length old → f ≢ NoMemory → g ≢ NoMemory
+        → IsPrepareEnd machine regions given entry room (Err f)
+        → IsLoadEnd machine regions given entry room old new (Err g) → g ≡ f }
+{}

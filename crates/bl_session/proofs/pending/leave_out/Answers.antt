@@ -1,0 +1,28 @@
+use Rattle.std.proofs.Common.{◌<◌, length, arith}
+use Rattle.bl_session.proofs.PendingLemmas.{first_left_out, last_left_out, inner_left_out}
+use Rattle.bl_session.proofs.pending.leave_out.Goals as goal
+
+pub returns-then-at-eq0-clause-ok : goal.returns-then-at-eq0-clause-ok
+returns-then-at-eq0-clause-ok g c =
+    let runs = c.args.runs.now in
+    let within : c.args.index < length runs.items = omega (arith, c.requires.run, runs.ok) in
+    first_left_out runs.items c.args.index c.args.at c.index-then-at-eq0.result.now
+    c.from.result within c.index-then-at-eq0.ensures c.if-at-eq0.true c.from.ensures
+
+pub returns-then-at-count-clause-ok : goal.returns-then-at-count-clause-ok
+returns-then-at-count-clause-ok g c =
+    let runs = c.args.runs.now in
+    let within : c.args.index < length runs.items = omega (arith, c.requires.run, runs.ok) in
+    last_left_out runs.items c.args.index c.args.at c.len-count.result c.index.result.now
+    c.index_mut-then-at-count.result.now c.truncate.new.self within c.if-at-count.true
+    c.len-count.ensures c.index.ensures c.index_mut-then-at-count.ensures.value
+    c.truncate.ensures
+
+pub returns-clause-ok : goal.returns-clause-ok
+returns-clause-ok g c =
+    let runs = c.args.runs.now in
+    let within : c.args.index < length runs.items = omega (arith, c.requires.run, runs.ok) in
+    rw (c.in_ok-insert.ensures.items)
+    (inner_left_out runs.items c.args.index c.args.at c.index-2.result.now c.from-rest.result
+    c.index_mut-2.result.now c.truncate-2.new.self within c.index-2.ensures c.from-rest.ensures
+    (rw c.in_ok-insert.ensures.items at c.index_mut-2.ensures.value) c.truncate-2.ensures)

@@ -1,0 +1,38 @@
+-- Parts of a run: what a history gained leads from one state of a run to another. Own.
+use Rattle.std.specs.Prelude.{◌≡◌, ℕ, ◌+◌, List, [], ◌∷◌, ◌++◌, length, Option, None}
+use Rattle.bl_session.specs.declared.words.Ticket.{Ticket}
+use Rattle.bl_session.specs.Boot.{BootFacts, State, on_running}
+use Rattle.bl_session.specs.Outcome.{File}
+use Rattle.bl_session.specs.History.{Item}
+use Rattle.bl_session.specs.Asked.{first_ticket}
+use Rattle.bl_session.specs.Run.{RunState, Delivers}
+
+-- of these orders, in order, all but the rest were asked for
+pub record IsAsked (orders rest old new : List Item) : Type 0 where
+  pub asked : List Item
+  pub all : orders ≡ asked ++ rest
+  pub given : new ≡ old ++ asked
+
+-- these items, after this history, lead from one state of a run to another
+abbrev pub LeadsOn :
+    BootFacts → List File → List Item → RunState → List Item → RunState → Type 0
+LeadsOn facts files given old [] new = new ≡ old
+LeadsOn facts files given old (item ∷ items) new =
+    (next : RunState) × Delivers facts files given old.state old.owed item next
+    × LeadsOn facts files (given ++ item ∷ []) next items new
+
+-- a history that grew so leads from one state of a run to another
+pub record IsHeard (facts : BootFacts) (files : List File) (old new : List Item)
+    (start end : RunState) : Type 0 where
+  pub gained : List Item
+  pub given : new ≡ old ++ gained
+  pub leads : LeadsOn facts files old start gained end
+
+-- how many attempts are left, with the one that runs
+abbrev pub attempts_in : State → ℕ
+attempts_in state = on_running state 0 (λ entry rest earlier files. length rest + 1)
+
+-- the ticket of the first piece that the attempt awaits
+abbrev pub missing_in : State → Option Ticket
+missing_in state =
+    on_running state None (λ entry rest earlier files. first_ticket (length earlier) 0 files)
