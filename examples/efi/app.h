@@ -114,13 +114,15 @@ extern struct boot_state {
 /* Sees which entry is booted, and why those before it are refused. The core's status. */
 uint32_t prepare(void);
 uint32_t load_entry(void);
-int leave_firmware(EFI_HANDLE image);
+/* NULL, or why the firmware's services have not ended. */
+const char *leave_firmware(EFI_HANDLE image);
 /* Loads the entry and enters it. It never returns. */
 void boot_alone(void);
 
 /* ---- refusals.c */
 
-void say_refusal(const bootcore_refusal *refusal);
+/* Those of the last preparation. */
+void say_refusals(void);
 const char *status_words(uint32_t status);
 
 /* ---- screen.c */

@@ -55,18 +55,21 @@ uint32_t prepare(void) {
 /* ---- the firmware's end */
 
 /* Ends the firmware's services with the map that the choice was made on. If the map has changed
-   since, the choice is made again on the new one, which may end otherwise. */
-int leave_firmware(EFI_HANDLE image) {
+   since, the choice is made again on the new one, which may end otherwise. After a call of
+   ExitBootServices that failed, what is said is seen only if the firmware still writes. */
+const char *leave_firmware(EFI_HANDLE image) {
     static machine_map now;
     for (int tries = 0; tries < 8; tries++) {
-        if (read_map(&now) != NULL) return 0;
+        const char *wrong = read_map(&now);
+        if (wrong != NULL) return wrong;
         if (memcmp(&now, &boot.map, offsetof(machine_map, firmware)) != 0) {
             boot.map = now;
-            if (prepare() != BOOTCORE_DONE) return 0;
+            uint32_t status = prepare();
+            if (status != BOOTCORE_DONE) return say_refusals(), status_words(status);
         }
-        if (!EFI_ERROR(BS->ExitBootServices(image, now.key))) return 1;
+        if (!EFI_ERROR(BS->ExitBootServices(image, now.key))) return NULL;
     }
-    return 0;
+    return "The firmware does not end its services.";
 }
 
 /* From here on nothing is asked of the firmware, and nobody can be told. By the core's promises the

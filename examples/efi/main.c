@@ -44,8 +44,7 @@ static int prepare_choice(void) {
     const char *wrong = read_map(&boot.map);
     if (wrong != NULL) return say(wrong);
     uint32_t status = prepare();
-    if (boot.refusal_count) print("\n    Refused:\n");
-    for (uint32_t i = 0; i < boot.refusal_count; i++) say_refusal(&boot.refusals[i]);
+    say_refusals();
     return status == BOOTCORE_DONE || say(status_words(status));
 }
 
@@ -57,8 +56,9 @@ static void boot_choice(EFI_HANDLE image) {
         if (menu.writes) say(write_handover());
         print("\n    Booting %s. The firmware keeps %u KiB, the core took %u bytes.\n",
               menu.titles[boot.entry], boot.map.firmware / 1024, arena_peak());
-        if (leave_firmware(image)) on_own_stack(boot_alone, stack + stack_pages * page);
-        say("The firmware does not end its services.");
+        const char *wrong = leave_firmware(image);
+        if (wrong == NULL) on_own_stack(boot_alone, stack + stack_pages * page);
+        say(wrong);
     }
     free_files();
 }

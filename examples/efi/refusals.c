@@ -35,13 +35,18 @@ static const char *const words[31] = {
     [30] = "the kernel has no 64-bit entry",
 };
 
-void say_refusal(const bootcore_refusal *refusal) {
+static void say_refusal(const bootcore_refusal *refusal) {
     const bootcore_entry *entry = &menu.entries[refusal->entry];
     uint32_t number = refusal->number;
     print("    %s: ", menu.titles[refusal->entry]);
     if (number <= 3) print(words[number], menu.paths[file_at(entry, (uint32_t)refusal->first)]);
     else print(number <= 30 ? words[number] : "refused", refusal->first, refusal->second);
     print(" (%u)\n", (uint64_t)number);
+}
+
+void say_refusals(void) {
+    if (boot.refusal_count) print("\n    Refused:\n");
+    for (uint32_t i = 0; i < boot.refusal_count; i++) say_refusal(&boot.refusals[i]);
 }
 
 const char *status_words(uint32_t status) {

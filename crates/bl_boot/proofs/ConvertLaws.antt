@@ -19,7 +19,7 @@ use Rattle.bl_walk.specs.declared.fault.WalkFault.TheVariants as walking
 use Rattle.bl_walk.proofs.SeenLaws.{seen_is_determined}
 use Rattle.bl_boot.specs.Converted.{Converts, Walks, WalkRefuses}
 use Rattle.bl_boot.specs.Walked.{ReadsImage, IsBadImage}
-use Rattle.bl_boot.specs.WalkSays.{walk_lines}
+use Rattle.bl_say.specs.WalkSays.{walk_lines}
 
 -- what was read of bytes that are known is an image of them
 is_image : (before after : Input) (h : Handover) (bytes : List ℕ) → before.rest ≡ Some bytes

@@ -4,11 +4,8 @@ use Rattle.std.proofs.Common.{get_or, Option, Some, None, refl, sym, ap, arith, 
 use Rattle.std.specs.Prelude.{IfOk, Result, Ok, Err, slice_get}
 use Rattle.std.specs.declared.alloc.AllocError.{AllocError}
 use Rattle.std.proofs.lemmas.List.{length-map, map-append, take_more}
-use Rattle.bl_map.specs.Kinds.{kind_of, number_or_none}
 use Rattle.bl_map.specs.MachineFacts.{MachineFacts}
 use Rattle.bl_map.specs.Room.{open_frames}
-use Rattle.bl_map.specs.declared.kind.Kind.{Kind}
-use Rattle.bl_map.specs.declared.kind.Kind.TheVariants.{Usable, Reserved, Acpi, Nvs, Bad}
 use Rattle.bl_plan.specs.Placed.{place_range}
 use Rattle.bl_load.specs.Loadable.{lengths_of, IsLoadable}
 use Rattle.bl_load.specs.Parts.{IsHandover}
@@ -26,29 +23,14 @@ use Rattle.bl_session.proofs.AttemptLemmas.{value_is}
 use Rattle.bl_desc.specs.declared.entry_row.EntryRow.{EntryRow}
 use Rattle.bl_desc.specs.Entries.{Entry}
 use Rattle.bl_desc.specs.Views.{entry_view}
-use Rattle.bl_boot.specs.Attempted.{entry_facts, file_names, index_of}
+use Rattle.bl_boot.specs.Attempted.{entry_facts}
+use Rattle.bl_say.specs.EntryNames.{file_names, index_of}
 use Rattle.bl_boot.specs.Details.{AreFramesBeside, IsDetail, IsDetailIf, value_sought}
-use Rattle.bl_boot.specs.Sought.{SoughtFacts, bytes_sought}
-use Rattle.bl_boot.specs.declared.explanation.detail.Detail.{Detail}
-use Rattle.bl_boot.specs.declared.explanation.detail.Detail.TheVariants.{Nothing}
-use Rattle.bl_boot.specs.declared.explanation.detail.ToldRefusal.{ToldRefusal}
-use Rattle.bl_boot.proofs.ExplainLemmas.{no_row, one_row}
-
--- ---- a byte that is not usable
-
--- the kind of a number of a kind
-kind_back : (kind : Option Kind) → kind_of (number_or_none kind) ≡ kind
-unfolding kind_of
-kind_back None = refl
-kind_back (Some Usable) = refl
-kind_back (Some Reserved) = refl
-kind_back (Some Acpi) = refl
-kind_back (Some Nvs) = refl
-kind_back (Some Bad) = refl
-
-pub kind_told : (kind : Option Kind) (number : ℕ) → number_or_none kind ≡ number
-    → kind_of number ≡ kind
-kind_told kind number same = subst (λ (n : ℕ). kind_of n ≡ kind) same (kind_back kind)
+use Rattle.bl_say.specs.Sought.{SoughtFacts, bytes_sought}
+use Rattle.bl_say.specs.declared.told.detail.Detail.{Detail}
+use Rattle.bl_say.specs.declared.told.detail.Detail.TheVariants.{Nothing}
+use Rattle.bl_say.specs.declared.told.detail.ToldRefusal.{ToldRefusal}
+use Rattle.bl_say.proofs.RowLemmas.{no_row, one_row}
 
 -- ---- an entry of a description
 

@@ -19,12 +19,12 @@ use Rattle.bl_desc.specs.declared.entry_row.EntryRow.{EntryRow}
 use Rattle.bl_desc.specs.Described.{Described}
 use Rattle.bl_desc.specs.Entries.{Entry}
 use Rattle.bl_desc.specs.Views.{entry_view}
-use Rattle.bl_boot.specs.HandedLines.{SourceWords, handoff_lines, part_line, place_line}
-use Rattle.bl_boot.specs.KernelSegments.{KernelSegmentsFacts}
-use Rattle.bl_boot.specs.Sought.{SoughtFacts}
-use Rattle.bl_boot.specs.Sources.{source_at}
+use Rattle.bl_say.specs.HandedLines.{SourceWords, handoff_lines, part_line, place_line}
+use Rattle.bl_say.specs.Segments.{KernelSegmentsFacts}
+use Rattle.bl_say.specs.Sought.{SoughtFacts}
+use Rattle.bl_say.specs.Sources.{source_at}
 use Rattle.bl_boot.specs.Told.{booted_lines, entry_handoff_lines, entry_handover_lines, told_lines}
-use Rattle.bl_boot.specs.declared.explanation.detail.ToldRefusal.{ToldRefusal}
+use Rattle.bl_say.specs.declared.told.detail.ToldRefusal.{ToldRefusal}
 
 -- ---- part by part
 

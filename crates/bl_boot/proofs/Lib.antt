@@ -1,4 +1,3 @@
-pub mod HexLemmas
 pub mod FileLemmas
 pub mod NameLemmas
 pub mod MenuLemmas
@@ -6,18 +5,12 @@ pub mod ValueLemmas
 pub mod EndLemmas
 pub mod EndLaws
 pub mod RunLemmas
-pub mod SaidLemmas
 pub mod ShownLaws
 pub mod ConvertLaws
 pub mod ExplainLemmas
-pub mod KeyLemmas
-pub mod FrameLemmas
-pub mod HintLemmas
 pub mod DetailLemmas
 pub mod NoPlaceLemmas
 pub mod RefusedLemmas
-pub mod PoolLemmas
-pub mod HexHintLemmas
 pub mod HeldLemmas
 pub mod SegmentLemmas
 pub mod ExplainEnds

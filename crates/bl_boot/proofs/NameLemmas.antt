@@ -15,7 +15,8 @@ use Rattle.bl_desc.specs.declared.form.EntryForm.TheVariants.{Multiboot2, Linux}
 use Rattle.bl_desc.specs.declared.form.ModuleRow.{ModuleRow}
 use Rattle.bl_desc.specs.Views.{HasMenu, entry_view, form_view, module_view, view}
 use Rattle.bl_session.specs.Attempts.{without_repeats_by}
-use Rattle.bl_boot.specs.Attempted.{entry_of, file_names, names_beside, names_in}
+use Rattle.bl_boot.specs.Attempted.{entry_of, names_in}
+use Rattle.bl_say.specs.EntryNames.{file_names, names_beside}
 use Rattle.bl_boot.specs.Attempted.{absent_entry}
 use Rattle.bl_boot.specs.Kept.{names_with}
 

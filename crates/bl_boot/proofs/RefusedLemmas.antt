@@ -24,10 +24,11 @@ use Rattle.bl_session.specs.Pieces.{are_whole}
 use Rattle.bl_session.specs.declared.words.RefusedEntry.{RefusedEntry}
 use Rattle.bl_desc.specs.Described.{Described}
 use Rattle.bl_desc.specs.Entries.{Entry}
-use Rattle.bl_boot.specs.Attempted.{boot_of, entry_facts, file_names, index_of, menu_of, names_in}
+use Rattle.bl_boot.specs.Attempted.{boot_of, entry_facts, menu_of, names_in}
+use Rattle.bl_say.specs.EntryNames.{file_names, index_of}
 use Rattle.bl_boot.specs.Details.{value_sought}
 use Rattle.bl_boot.specs.ExplainKept.{HasPlaceRefusal, is_placing}
-use Rattle.bl_boot.specs.Sought.{SoughtFacts}
+use Rattle.bl_say.specs.Sought.{SoughtFacts}
 use Rattle.bl_boot.specs.Told.{refused_in, sought_in}
 use Rattle.bl_boot.proofs.NoPlaceLemmas.{IsOther, no_other, other_if, other_is, other_or}
 

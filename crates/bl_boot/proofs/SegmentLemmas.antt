@@ -35,10 +35,11 @@ use Rattle.bl_boot.specs.Attempted.{boot_of, menu_of}
 use Rattle.bl_boot.specs.Details.{value_sought}
 use Rattle.bl_boot.specs.ExplainKept.{HasKernelAt}
 use Rattle.bl_boot.specs.KernelSegments.{AreEntrySegments, AreSegmentsAt, AreSegmentsIf}
-use Rattle.bl_boot.specs.KernelSegments.{KernelSegmentsFacts, no_segments, told_segments}
-use Rattle.bl_boot.specs.Sought.{SoughtFacts}
+use Rattle.bl_boot.specs.KernelSegments.{told_segments}
+use Rattle.bl_say.specs.Segments.{KernelSegmentsFacts, no_segments}
+use Rattle.bl_say.specs.Sought.{SoughtFacts}
 use Rattle.bl_boot.specs.Told.{sought_in}
-use Rattle.bl_boot.proofs.ExplainLemmas.{no_row, one_row}
+use Rattle.bl_say.proofs.RowLemmas.{no_row, one_row}
 use Rattle.bl_boot.proofs.RefusedLemmas.{value_of_entry}
 
 -- ---- a kernel's file is read once more

@@ -1,6 +1,5 @@
 -- What the menu of a description attempts, and with which files. Own.
-use Rattle.std.specs.Prelude.{ℕ, ◌+◌, ◌*◌, List, [], ◌∷◌, ◌++◌, map, slice_index_or}
-use Rattle.std.specs.Prelude.{option_to_list, if◌then◌else◌}
+use Rattle.std.specs.Prelude.{ℕ, ◌*◌, List, [], map, slice_index_or}
 use Rattle.std.specs.Str.{bytes_eq}
 use Rattle.std.specs.List.{flat_map}
 use Rattle.bl_map.specs.MachineFacts.{MachineFacts}
@@ -11,19 +10,10 @@ use Rattle.bl_session.specs.Attempts.{without_repeats_by, attempts_of}
 use Rattle.bl_session.specs.Boot.{BootFacts}
 use Rattle.bl_session.specs.Outcome.{File, size_of}
 use Rattle.bl_desc.specs.Described.{Described}
-use Rattle.bl_desc.specs.Entries.{Entry, Form, bare_form}
+use Rattle.bl_desc.specs.Entries.{Entry, bare_form}
+use Rattle.bl_say.specs.EntryNames.{file_names, index_of}
 
 -- ---- the files of an entry
-
--- the names of the files beside the kernel, in order: that of the initial ramdisk, or those of the
--- modules
-abbrev pub names_beside : Form → List (List ℕ)
-names_beside form = option_to_list form.initrd ++ map (λ m. m.file) form.modules
-
--- the names of an entry's files, in order: the kernel's, then those beside it; one may be named
--- twice
-abbrev pub file_names : Entry → List (List ℕ)
-file_names entry = entry.kernel ∷ names_beside entry.form
 
 -- the value of an entry whose files hold these texts
 abbrev pub entry_value : Entry → List (List ℕ) → EntryValue
@@ -63,12 +53,6 @@ names_in description = names_of_entries description (attempted description)
 -- at most so many: 32 entries, each with a kernel and 64 modules
 abbrev pub most_names : ℕ
 most_names = 32 * 65
-
--- the index of a file: the place of its name among these. A name that is not looked for, since its
--- entry is not attempted, has the place after the last
-abbrev pub index_of : List (List ℕ) → List ℕ → ℕ
-index_of [] name = 0
-index_of (n ∷ names) name = if bytes_eq n name then 0 else 1 + index_of names name
 
 -- ---- the menu
 

@@ -1,24 +1,20 @@
 -- Why a description is a bad one, told for a person. Own.
 use Rattle.std.specs.Prelude.{◌≡◌, ◌≢◌, ◌+◌, ◌≤◌, ◌==◌, ◌&&◌, ℕ, true, false, nat_le, nat_lt, List}
-use Rattle.std.specs.Prelude.{[], ◌∷◌, ◌++◌, if◌then◌else◌, length, take, Some, None, codes}
-use Rattle.std.specs.Prelude.{decimal}
+use Rattle.std.specs.Prelude.{[], ◌∷◌, if◌then◌else◌, length, take, Some, None}
 use Rattle.std.specs.Str.{is_utf8}
 use Rattle.toml.specs.Data.{Members}
 use Rattle.toml.specs.Parse.{parse_document}
-use Rattle.bl_map.specs.Faults.{HasFirstMapFault, map_fault_number}
+use Rattle.bl_map.specs.Faults.{HasFirstMapFault}
 use Rattle.bl_map.specs.declared.fault.MapFault.{MapFault}
-use Rattle.bl_map.specs.declared.fault.MapFault.TheVariants.{BadSize, BadRegion, TooManyRegions}
-use Rattle.bl_map.specs.declared.fault.MapFault.TheVariants.{BadPool, NoMemory}
+use Rattle.bl_map.specs.declared.fault.MapFault.TheVariants.{NoMemory}
 use Rattle.bl_desc.specs.Described.{Described, described, described_in}
 use Rattle.bl_desc.specs.BadKeys.{IsBadKey}
 use Rattle.bl_desc.specs.declared.bad_key.BadKey.{BadKey}
-use Rattle.bl_boot.specs.declared.explanation.blame.TextPlace.{TextPlace}
-use Rattle.bl_boot.specs.declared.explanation.blame.Blame.{Blame}
-use Rattle.bl_boot.specs.declared.explanation.blame.Blame.TheVariants as blames
-use Rattle.bl_boot.specs.declared.explanation.blame.Blame.TheVariants.{NotUtf8, NotToml}
-use Rattle.bl_boot.specs.declared.explanation.blame.Blame.TheVariants.{BadMachine}
-use Rattle.bl_boot.specs.KeyWords.{bad_key_words}
-use Rattle.bl_boot.specs.RefusalWords.{number_told}
+use Rattle.bl_say.specs.declared.told.blame.TextPlace.{TextPlace}
+use Rattle.bl_say.specs.declared.told.blame.Blame.{Blame}
+use Rattle.bl_say.specs.declared.told.blame.Blame.TheVariants as blames
+use Rattle.bl_say.specs.declared.told.blame.Blame.TheVariants.{NotUtf8, NotToml}
+use Rattle.bl_say.specs.declared.told.blame.Blame.TheVariants.{BadMachine}
 
 -- ---- places in a text
 
@@ -68,45 +64,3 @@ HasBlame desc NotUtf8 = is_utf8 desc ≡ false
 HasBlame desc (NotToml place) = IsNotToml desc place
 HasBlame desc (blames.BadKey bad) = HasBadKey desc bad
 HasBlame desc (BadMachine fault) = HasBadMachine desc fault
-
--- ---- the line
-
-abbrev pub map_fault_name : MapFault → List ℕ
-map_fault_name BadSize = codes "BadSize"
-map_fault_name (BadRegion i) = codes "BadRegion"
-map_fault_name TooManyRegions = codes "TooManyRegions"
-map_fault_name BadPool = codes "BadPool"
-map_fault_name NoMemory = codes "NoMemory"
-
-abbrev pub map_fault_meaning : MapFault → List ℕ
-map_fault_meaning BadSize = codes "a bad size: not 1 MiB to 4 GiB in whole frames"
-map_fault_meaning (BadRegion i) = codes "the region with this index ends above 2^52"
-map_fault_meaning TooManyRegions = codes "more than 128 regions"
-map_fault_meaning BadPool =
-    codes "a bad pool: not whole frames, or with a byte that is not usable"
-map_fault_meaning NoMemory = codes "out of memory while a machine was made"
-
--- the index of a region, in brackets
-abbrev pub map_fault_told : MapFault → List ℕ
-map_fault_told (BadRegion i) = number_told i
-map_fault_told _ = []
-
--- a machine's fault: its number, its name with what it tells, its meaning
-abbrev pub map_fault_words : MapFault → List ℕ
-map_fault_words fault =
-    decimal (map_fault_number fault) ++ codes " " ++ map_fault_name fault ++ map_fault_told fault
-    ++ codes ": " ++ map_fault_meaning fault
-
-abbrev pub place_words : TextPlace → List ℕ
-place_words place =
-    codes "it is not TOML, at line " ++ decimal place.line ++ codes ", column "
-    ++ decimal place.column
-
-abbrev pub blame_words : Blame → List ℕ
-blame_words NotUtf8 = codes "it is not UTF-8"
-blame_words (NotToml place) = place_words place
-blame_words (blames.BadKey bad) = bad_key_words bad
-blame_words (BadMachine fault) = codes "machine " ++ map_fault_words fault
-
-abbrev pub blame_line : Blame → List ℕ
-blame_line blame = codes "bad description: " ++ blame_words blame ++ codes "\n"

@@ -5,7 +5,8 @@ use Rattle.bl_image.specs.Begun.{TookBeginning}
 use Rattle.bl_image.specs.Image.{spelling}
 use Rattle.bl_image.specs.Source.{Input}
 use Rattle.bl_image.specs.Versions.{written_version}
-use Rattle.bl_boot.specs.Walked.{ReadsImage, IsWalked, IsNoImage, IsBadImage, bad_image_line}
+use Rattle.bl_boot.specs.Walked.{ReadsImage, IsWalked, IsNoImage, IsBadImage}
+use Rattle.bl_say.specs.Says.{bad_image_line}
 
 -- the image of a handover came, and the sink took it in the version that is written
 pub record IsConverted (before after : Input) (old new : List ℕ) : Type 0 where

@@ -16,11 +16,12 @@ use Rattle.bl_load.specs.declared.refusal.Refusal.TheVariants.{NotUsable, NoRoom
 use Rattle.bl_session.specs.AttemptResult.{part_range}
 use Rattle.bl_session.specs.declared.words.RefusedEntry.{RefusedEntry}
 use Rattle.bl_desc.specs.Entries.{Entry}
-use Rattle.bl_boot.specs.Attempted.{entry_value, file_names}
-use Rattle.bl_boot.specs.Sought.{SoughtFacts, bytes_sought}
-use Rattle.bl_boot.specs.declared.explanation.detail.Detail.{Detail}
-use Rattle.bl_boot.specs.declared.explanation.detail.Detail.TheVariants.{Nothing, NoPlace, Frames}
-use Rattle.bl_boot.specs.declared.explanation.detail.ToldRefusal.{ToldRefusal}
+use Rattle.bl_boot.specs.Attempted.{entry_value}
+use Rattle.bl_say.specs.EntryNames.{file_names}
+use Rattle.bl_say.specs.Sought.{SoughtFacts, bytes_sought}
+use Rattle.bl_say.specs.declared.told.detail.Detail.{Detail}
+use Rattle.bl_say.specs.declared.told.detail.Detail.TheVariants.{Nothing, NoPlace, Frames}
+use Rattle.bl_say.specs.declared.told.detail.ToldRefusal.{ToldRefusal}
 
 -- the value of an entry with what was found for the names of its files
 abbrev pub value_sought : SoughtFacts → Entry → EntryValue

@@ -20,7 +20,7 @@ use Rattle.bl_session.specs.AttemptResult.{AttemptResult}
 use Rattle.bl_session.specs.Boot.{State, handed_over, none_left, sizes_of}
 use Rattle.bl_session.specs.Outcome.{File, IsOutcome, EntryHasResult, value_in, no_fault}
 use Rattle.bl_boot.specs.Attempted.{entry_of, names_in, boot_of}
-use Rattle.bl_boot.specs.Says.{booted_line, refused_lines, no_entry_line}
+use Rattle.bl_say.specs.Says.{booted_line, refused_lines, no_entry_line}
 
 -- ---- the machine of a description
 

@@ -19,17 +19,18 @@ use Rattle.bl_desc.specs.Described.{Described}
 use Rattle.bl_desc.specs.Entries.{Entry}
 use Rattle.bl_boot.specs.declared.description_boot.boot_end.End.{End}
 use Rattle.bl_boot.specs.declared.description_boot.boot_end.End.TheVariants.{Booted, NoEntryLeft}
-use Rattle.bl_boot.specs.declared.explanation.blame.Blame.TheVariants.{BadMachine}
+use Rattle.bl_say.specs.declared.told.blame.Blame.TheVariants.{BadMachine}
 use Rattle.bl_boot.specs.declared.explanation.fault.ExplainFault.{ExplainFault}
 use Rattle.bl_boot.specs.declared.explanation.fault.ExplainFault.TheVariants.{Blamed, NoMemory}
-use Rattle.bl_boot.specs.BlameHints.{blame_lines}
+use Rattle.bl_say.specs.BlameHints.{blame_lines}
 use Rattle.bl_boot.specs.Explained.{ExplainsBlame, ExplainsBoot, ExplainsRefusals}
 use Rattle.bl_boot.specs.Found.{AsksFirst}
-use Rattle.bl_boot.specs.Sought.{SoughtFacts, bytes_sought}
+use Rattle.bl_say.specs.Sought.{SoughtFacts, bytes_sought}
 use Rattle.bl_boot.specs.Details.{AreToldRefusals, value_sought}
-use Rattle.bl_boot.specs.KernelSegments.{KernelSegmentsFacts, AreSegmentsAt, no_segments}
+use Rattle.bl_boot.specs.KernelSegments.{AreSegmentsAt}
+use Rattle.bl_say.specs.Segments.{KernelSegmentsFacts, no_segments}
 use Rattle.bl_boot.specs.Told.{told_lines}
-use Rattle.bl_boot.specs.declared.explanation.detail.ToldRefusal.{ToldRefusal}
+use Rattle.bl_say.specs.declared.told.detail.ToldRefusal.{ToldRefusal}
 
 -- why the bytes are not read: they are a bad description, for what is said, or memory ran out
 abbrev pub IsReadBlame : (desc old new : List ℕ) → ExplainFault → Type 0

@@ -5,14 +5,15 @@ use Rattle.bl_session.specs.declared.words.RefusedEntry.{RefusedEntry}
 use Rattle.bl_session.specs.Boot.{State, handed_over, none_left}
 use Rattle.bl_session.specs.Outcome.{File}
 use Rattle.bl_desc.specs.Described.{described}
-use Rattle.bl_boot.specs.declared.explanation.blame.Blame.{Blame}
+use Rattle.bl_say.specs.declared.told.blame.Blame.{Blame}
 use Rattle.bl_boot.specs.Blames.{HasBlame}
-use Rattle.bl_boot.specs.BlameHints.{blame_lines}
+use Rattle.bl_say.specs.BlameHints.{blame_lines}
 use Rattle.bl_boot.specs.Ends.{BootCase, ComesTo, IsBadDescription}
 use Rattle.bl_boot.specs.Details.{AreToldRefusals}
-use Rattle.bl_boot.specs.KernelSegments.{KernelSegmentsFacts, AreToldSegments}
+use Rattle.bl_boot.specs.KernelSegments.{AreToldSegments}
+use Rattle.bl_say.specs.Segments.{KernelSegmentsFacts}
 use Rattle.bl_boot.specs.Told.{refused_in, sought_in, told_lines}
-use Rattle.bl_boot.specs.declared.explanation.detail.ToldRefusal.{ToldRefusal}
+use Rattle.bl_say.specs.declared.told.detail.ToldRefusal.{ToldRefusal}
 
 -- with files of a type F: what they may answer for a name, and how many faults they had
 module _ {F : Type 0} (answers : F → List ℕ → File → Type 0) (faults : F → ℕ) where

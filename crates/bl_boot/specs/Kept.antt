@@ -15,7 +15,7 @@ use Rattle.bl_session.specs.Outcome.{File, IsOutcome, no_fault}
 use Rattle.bl_session.specs.Attempts.{without_repeats_by}
 use Rattle.bl_boot.specs.Attempted.{entry_of}
 use Rattle.bl_boot.specs.Found.{AsksFirst}
-use Rattle.bl_boot.specs.Says.{booted_line, refused_lines, no_entry_line}
+use Rattle.bl_say.specs.Says.{booted_line, refused_lines, no_entry_line}
 use Rattle.bl_boot.specs.Ends.{IsBadMachine, IsBadDescription, IsBooted, IsRefused, IsBroken}
 use Rattle.bl_boot.specs.Ends.{Surroundings}
 use Rattle.bl_boot.specs.Mapped.{IsMapped}

@@ -1,21 +1,12 @@
 -- The segments of a Multiboot2 kernel's file that an entry hands over. Own.
-use Rattle.std.specs.Prelude.{◌≡◌, ℕ, Bool, false, List, [], Option, Some, None, is_some, slice_get}
-use Rattle.bl_mem.specs.declared.segment.Segment.{Segment}
+use Rattle.std.specs.Prelude.{◌≡◌, ℕ, List, Option, Some, None, is_some, slice_get}
 use Rattle.bl_plan.specs.declared.protocol.Protocol.{Protocol}
 use Rattle.bl_plan.specs.declared.protocol.Protocol.TheVariants.{Multiboot2, Linux, Linux64}
 use Rattle.bl_load.specs.Kernel.{KernelFacts, IsKernel}
 use Rattle.bl_session.specs.Boot.{State, unstarted, running, handed_over, none_left, out_of_memory}
 use Rattle.bl_desc.specs.Entries.{Entry}
-use Rattle.bl_boot.specs.Sought.{SoughtFacts, bytes_sought}
-
--- the segments in their order, and whether they are handed over as one part, a block, as those of a
--- kernel that may be moved
-pub record KernelSegmentsFacts : Type 0 where
-  pub segments : List Segment
-  pub is_block : Bool
-
-abbrev pub no_segments : KernelSegmentsFacts
-no_segments = record { segments = []; is_block = false }
+use Rattle.bl_say.specs.Sought.{SoughtFacts, bytes_sought}
+use Rattle.bl_say.specs.Segments.{KernelSegmentsFacts, no_segments}
 
 -- those of a kernel; with a relocatable tag they are a block
 abbrev pub told_segments : KernelFacts → KernelSegmentsFacts

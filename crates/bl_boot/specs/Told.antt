@@ -1,5 +1,5 @@
 -- The lines that tell a boot for a person. Own.
-use Rattle.std.specs.Prelude.{ℕ, List, [], ◌++◌, codes, decimal, Option, Some, None, map, slice_get}
+use Rattle.std.specs.Prelude.{ℕ, List, [], ◌++◌, map}
 use Rattle.std.specs.List.{flat_map}
 use Rattle.std.specs.declared.ops.Range.{Range}
 use Rattle.bl_map.specs.MachineFacts.{MachineFacts}
@@ -12,48 +12,16 @@ use Rattle.bl_session.specs.Boot.{State, unstarted, running, handed_over, none_l
 use Rattle.bl_session.specs.Outcome.{File}
 use Rattle.bl_desc.specs.Described.{Described}
 use Rattle.bl_desc.specs.Entries.{Entry}
-use Rattle.bl_boot.specs.Attempted.{entry_of, file_names, names_in}
-use Rattle.bl_boot.specs.DetailLines.{detail_lines}
-use Rattle.bl_boot.specs.Frames.{names_at, room_line}
-use Rattle.bl_boot.specs.HandedLines.{handoff_lines, handover_lines}
-use Rattle.bl_boot.specs.Hints.{hint_lines}
-use Rattle.bl_boot.specs.KernelSegments.{KernelSegmentsFacts}
-use Rattle.bl_boot.specs.RefusalWords.{refusal_line}
-use Rattle.bl_boot.specs.Says.{booted_line, no_entry_line}
-use Rattle.bl_boot.specs.Sought.{SoughtFacts, sought_lines}
-use Rattle.bl_boot.specs.Sources.{source_at}
-use Rattle.bl_boot.specs.declared.explanation.detail.ToldRefusal.{ToldRefusal}
-
--- ---- attempts
-
--- an entry by its index in the menu, and its title
-abbrev pub attempt_line : ℕ → List ℕ → List ℕ
-attempt_line entry title = codes "entry " ++ decimal entry ++ codes " " ++ title ++ codes "\n"
-
--- an entry of a menu, and its files
-abbrev pub row_lines : SoughtFacts → ℕ → Entry → List ℕ
-row_lines sought index entry =
-    attempt_line index entry.title ++ sought_lines sought 0 (file_names entry)
-
-abbrev pub row_lines_if : SoughtFacts → ℕ → Option Entry → List ℕ
-row_lines_if sought index None = []
-row_lines_if sought index (Some entry) = row_lines sought index entry
-
-abbrev pub attempt_lines : List Entry → SoughtFacts → ℕ → List ℕ
-attempt_lines entries sought index = row_lines_if sought index (slice_get entries index)
-
--- a refusal, and what is told beside it
-abbrev pub told_refusal_lines : List Entry → MachineFacts → SoughtFacts → ToldRefusal → List ℕ
-told_refusal_lines entries facts sought told =
-    refusal_line told.refused.refusal
-    ++ detail_lines entries facts sought told.refused.entry told.detail
-
--- an attempt that was refused
-abbrev pub refused_attempt_lines :
-    List Entry → MachineFacts → SoughtFacts → ToldRefusal → List ℕ
-refused_attempt_lines entries facts sought told =
-    attempt_lines entries sought told.refused.entry
-    ++ told_refusal_lines entries facts sought told
+use Rattle.bl_boot.specs.Attempted.{entry_of, names_in}
+use Rattle.bl_say.specs.Frames.{names_at, room_line}
+use Rattle.bl_say.specs.HandedLines.{handoff_lines, handover_lines}
+use Rattle.bl_say.specs.Hints.{hint_lines}
+use Rattle.bl_say.specs.Segments.{KernelSegmentsFacts}
+use Rattle.bl_say.specs.Says.{booted_line, no_entry_line}
+use Rattle.bl_say.specs.Sought.{SoughtFacts}
+use Rattle.bl_say.specs.Sources.{source_at}
+use Rattle.bl_say.specs.declared.told.detail.ToldRefusal.{ToldRefusal}
+use Rattle.bl_say.specs.AttemptLines.{attempt_lines, refused_attempt_lines}
 
 -- ---- the boot
 

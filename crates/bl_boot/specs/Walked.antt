@@ -1,5 +1,5 @@
 -- How a walk of an image ends. Own.
-use Rattle.std.specs.Prelude.{◌≡◌, ◌≢◌, ◌⊎◌, ℕ, List, ◌++◌, codes, decimal}
+use Rattle.std.specs.Prelude.{◌≡◌, ◌≢◌, ◌⊎◌, ℕ, List, ◌++◌}
 use Rattle.bl_load.specs.Handover.{Handover}
 use Rattle.bl_image.specs.declared.version.Version.{Version}
 use Rattle.bl_image.specs.Image.{spelling}
@@ -15,7 +15,8 @@ use Rattle.bl_walk.specs.SeenFacts.{SeenFacts}
 use Rattle.bl_walk.specs.Faults.{HasWalkFault, IsSound, walk_fault_number}
 use Rattle.bl_walk.specs.declared.fault.WalkFault.{WalkFault}
 use Rattle.bl_walk.specs.declared.fault.WalkFault.TheVariants as walking
-use Rattle.bl_boot.specs.WalkSays.{walk_lines}
+use Rattle.bl_say.specs.Says.{bad_image_line}
+use Rattle.bl_say.specs.WalkSays.{walk_lines}
 
 -- the image of a handover, in a version, came from the source, and then its end
 pub record ReadsImage (before after : Input) (handover : Handover) : Type 0 where
@@ -54,10 +55,6 @@ pub record ShowsNothing (before after : Input) (number : ℕ) : Type 0 where
 -- the image is refused with this number
 abbrev pub IsBadImage : Input → Input → ℕ → Type 0
 IsBadImage before after number = IsNoImage before after number ⊎ ShowsNothing before after number
-
--- what is said of such an image, on standard error
-abbrev pub bad_image_line : ℕ → List ℕ
-bad_image_line number = codes "bad image " ++ decimal number ++ codes "\n"
 
 -- the image is refused, and that was said
 pub record IsBlamed (before after : Input) (blamed_before blamed_after : List ℕ) : Type 0 where

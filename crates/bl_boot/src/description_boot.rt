@@ -16,5 +16,5 @@ pub use found_boot::title_of;
 pub use found_files::find_files;
 pub use machine::machine_of;
 pub use menu::{entry_of, menu_of};
-pub use names::{index_of, names_in};
+pub use names::names_in;
 pub use whole_boot::{boot, order_of};

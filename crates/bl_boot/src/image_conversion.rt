@@ -2,8 +2,8 @@
 ghost use Rattle.std.specs.Prelude.{◌≡◌, ◌⊎◌, ◌<◌, ◌^◌};
 ghost use Rattle.bl_boot.specs.Converted.{IsConverted, IsUnreadable, IsTorn, ConvertStops};
 
-use crate::lines::say_bad_image;
 use bl_image::{ImageFault, Sink, Source, read_image, write_value};
+use bl_say::say_bad_image;
 use std::alloc::Allocator;
 
 /// Reads an image to the end of a source, in either version, and writes what it says to `out`, in

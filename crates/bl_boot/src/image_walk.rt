@@ -4,8 +4,8 @@ ghost use Rattle.bl_boot.specs.Walked.{IsWalked, IsBlamed};
 ghost use Rattle.bl_boot.specs.WalkKept.{WalkEnds, source_faults};
 
 use crate::image_walk::walk_end::WalkEnd;
-use crate::lines::{say_bad_image, say_walk};
 use bl_image::{Source, read_image};
+use bl_say::{say_bad_image, say_walk};
 use bl_walk::walk;
 use std::alloc::Allocator;
 

@@ -61,8 +61,8 @@ pub fn booted_images_show_their_entries<F: Files>()
         → IsSound image }
 {}
 
-/// A walk of a converted image says what a walk of its source says, and it is refused where that
-/// one is.
+/// Where a walk of an image and a walk of what it was converted to both say what is seen, they say
+/// the same; and if a walk of one of the two says it, no walk refuses the other.
 pub fn converted_images_are_walked_alike()
     ensures said { (image converted a b : List ℕ) → Converts image converted
         → Walks image a → Walks converted b → a ≡ b }

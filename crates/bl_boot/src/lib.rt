@@ -7,7 +7,6 @@ mod files;
 mod image_conversion;
 mod image_walk;
 mod laws;
-mod lines;
 mod machine_map;
 
 pub use bl_session::{FILE_LIMIT, Fetched};

@@ -1,12 +1,12 @@
 //! The map of a description's machine, as it is said.
-ghost use Rattle.std.specs.Prelude.{◌≡◌, ◌⊎◌, ◌++◌};
+ghost use Rattle.std.specs.Prelude.{◌≡◌, ◌⊎◌};
 ghost use Rattle.bl_boot.specs.Ends.{IsBadDescription};
 ghost use Rattle.bl_boot.specs.Mapped.{IsMapped};
 ghost use Rattle.bl_boot.specs.Kept.{MapEnds};
 
 use crate::description_boot::{EndFault, machine_of};
-use crate::lines::say_map;
 use bl_desc::read_description;
+use bl_say::say_map;
 use std::alloc::{Allocator, Global};
 
 /// The same as `map_to`, with its end in place of the status.

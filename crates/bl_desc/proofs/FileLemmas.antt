@@ -6,7 +6,7 @@ use Rattle.std.proofs.lemmas.List.{at_drop_more}
 use Rattle.std.specs.Str.{bytes_eq}
 use Rattle.bl_desc.specs.Described.{file_named}
 use Rattle.bl_desc.specs.Views.{file_view}
-use Rattle.bl_desc.specs.declared.desc.FileRow.{FileRow}
+use Rattle.bl_desc.specs.declared.file_row.FileRow.{FileRow}
 
 -- what a function says of the files from an index on, by the file at that index
 from_here : {A Y : Type 0} (F : List (FileRow A) → Y) (files : List (FileRow A)) (i : ℕ)

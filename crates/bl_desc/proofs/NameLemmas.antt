@@ -7,7 +7,7 @@ use Rattle.std.proofs.lemmas.List.{take-append-drop, take_more, map-append}
 use Rattle.std.proofs.lemmas.List.Folds.{list_any-append}
 use Rattle.bl_desc.specs.Described.{InlineFile, has_file, names_differ}
 use Rattle.bl_desc.specs.Views.{file_view}
-use Rattle.bl_desc.specs.declared.desc.FileRow.{FileRow}
+use Rattle.bl_desc.specs.declared.file_row.FileRow.{FileRow}
 
 -- the names of the files, and one more
 names_push : (files : List InlineFile) (f : InlineFile)

@@ -11,9 +11,9 @@ use Rattle.bl_desc.specs.Values.{◌>>=◌}
 use Rattle.bl_desc.specs.Allowed.{KeyRule, item_count, key_rules, may, must}
 use Rattle.bl_desc.specs.BadKeys.{BreaksOne, IsBadKey, IsFaultAt, IsItemFault}
 use Rattle.bl_desc.specs.BadKeys.{IsKeyFault, count_at, count_or_none, item_at, set_of_protocol}
-use Rattle.bl_desc.specs.BadKeysKept.{IsItemBad, IsListedBad, array_items}
-use Rattle.bl_desc.specs.WholeKept.{IsEntryBad, IsEntryBadAt, IsEntryItemBadAt}
-use Rattle.bl_desc.specs.WholeKept.{IsFrontFault, IsMenuBad, IsModulesBad, IsModulesBadAt}
+use Rattle.bl_desc.specs.BadKeysKept.{IsListedBad, IsNumberFault, array_items}
+use Rattle.bl_desc.specs.WholeKept.{IsEntryBad, IsEntryFaultAt, IsEntryItemFaultAt}
+use Rattle.bl_desc.specs.WholeKept.{IsFrontFault, IsMenuBad, IsModulesBad, IsModulesFaultAt}
 use Rattle.bl_desc.specs.WholeKept.{copy_rules, entry_set_in, front_rules, initrd_rules}
 use Rattle.bl_desc.specs.WholeKept.{entry_passes, passes_by, protocol_in}
 use Rattle.bl_desc.specs.WholeKept.{module_rules, protocol_rules, machine_rules, fill_rules}
@@ -119,12 +119,12 @@ front_fault set among ms fault (inr h) = among ms fault h
 
 -- what is said of a bad key at an entry's place
 pub at_entry : (set : KeySet) (i : ℕ) (ms : Members) (place : TablePlace) (fault : KeyFault)
-    → place ≡ places.Entry i → IsKeyFault 0 set ms fault → IsEntryBadAt set i ms place fault
+    → place ≡ places.Entry i → IsKeyFault 0 set ms fault → IsEntryFaultAt set i ms place fault
 at_entry set i ms place fault is h = rw is (refl, h)
 
 pub at_modules_key : (i : ℕ) (ms : Members) (place : TablePlace) (fault : KeyFault)
     → place ≡ places.Entry i → BreaksOne module_rules ms fault
-    → IsModulesBadAt i ms place fault
+    → IsModulesFaultAt i ms place fault
 at_modules_key i ms place fault is h = rw is (refl, h)
 
 pub at_module : (i : ℕ) (ms : Members) (bad : BadKey)
@@ -134,7 +134,7 @@ at_module i ms bad h = rw h.1 (refl, h.2)
 
 -- a bad module of an entry of multiboot2
 pub modules_fault : (i : ℕ) (ms : Members) (place : TablePlace) (fault : KeyFault)
-    → IsModulesBadAt i ms place fault → IsEntryBadAt keys.Multiboot2Entry i ms place fault
+    → IsModulesFaultAt i ms place fault → IsEntryFaultAt keys.Multiboot2Entry i ms place fault
 modules_fault i ms places.Description fault h = h
 modules_fault i ms (places.Region k) fault h = h
 modules_fault i ms (places.File k) fault h = h
@@ -143,8 +143,8 @@ modules_fault i ms (places.Module k j) fault h = h
 
 -- an entry's fault is one of the value that it is
 pub entry_fault : (i : ℕ) (d : Data) (ms : Members) (place : TablePlace) (fault : KeyFault)
-    → d ≡ table ms → IsEntryBadAt (entry_set_in ms) i ms place fault
-    → IsEntryItemBadAt i d place fault
+    → d ≡ table ms → IsEntryFaultAt (entry_set_in ms) i ms place fault
+    → IsEntryItemFaultAt i d place fault
 entry_fault i d ms places.Description fault is h = h
 entry_fault i d ms (places.Region k) fault is h = h
 entry_fault i d ms (places.File k) fault is h = h
@@ -231,7 +231,7 @@ entry_whole count ms fault h = rule_fault count keys.Description ms fault (among
 
 -- an item of an array of numbers
 pub pool_item : (ms : Members) (fault : KeyFault)
-    → IsItemBad (codes "pool") Number (array_items (get_member (codes "pool") ms)) fault
+    → IsNumberFault (codes "pool") Number (array_items (get_member (codes "pool") ms)) fault
     → IsFaultAt ms places.Description fault
 pool_item ms (NoTable value) h = absurd h
 pool_item ms (Unknown key known) h = absurd h
@@ -242,7 +242,7 @@ pool_item ms (BadItem key index value told) h =
     inr (inl (h.0, ap Some (sym h.1), sym (item_of (get_member (codes "pool") ms) index) ∙ h.2, rw h.1 h.3))
 
 pub fallback_item : (count : ℕ) (ms : Members) (fault : KeyFault)
-    → IsItemBad (codes "fallback") (IndexBelow count)
+    → IsNumberFault (codes "fallback") (IndexBelow count)
     (array_items (get_member (codes "fallback") ms)) fault
     → IsKeyFault count keys.Description ms fault
 fallback_item count ms (NoTable value) h = absurd h
@@ -299,7 +299,7 @@ at_file ms bad h =
 
 -- a bad entry, or a module of one
 menu_at : (ms : Members) (i : ℕ) (place : TablePlace) (fault : KeyFault) (o : Option Data)
-    → item_at (codes "entry") i ms ≡ o → IsSomeAnd o (λ d. IsEntryItemBadAt i d place fault)
+    → item_at (codes "entry") i ms ≡ o → IsSomeAnd o (λ d. IsEntryItemFaultAt i d place fault)
     → IsFaultAt ms place fault
 menu_at ms i place fault None is h = absurd h
 menu_at ms i places.Description fault (Some d) is h = absurd h

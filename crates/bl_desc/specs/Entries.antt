@@ -17,7 +17,7 @@ pub record Module : Type 0 where
   pub line : List ℕ
 
 -- what an entry has beside its kernel: modules, and perhaps copies of the Root System Description
--- Pointer (RSDP) of ACPI 1.0 and of ACPI 2.0 or later (Multiboot2 3.6.12, 3.6.13), and an initial
+-- Pointer (RSDP) of ACPI 1.0 and of ACPI 2.0 or later (Multiboot2 3.6.16, 3.6.17), and an initial
 -- ramdisk, which is the name of a file; its protocol says which it may have
 pub record Form : Type 0 where
   pub protocol : Protocol

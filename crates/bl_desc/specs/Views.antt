@@ -4,7 +4,7 @@ use Rattle.bl_desc.specs.Described.{InlineFile, Described}
 use Rattle.bl_desc.specs.Entries.{Entry}
 pub use Rattle.bl_desc.specs.Forms.{module_view, form_view}
 use Rattle.bl_plan.specs.Limits.{max_entries}
-use Rattle.bl_desc.specs.declared.desc.FileRow.{FileRow}
+use Rattle.bl_desc.specs.declared.file_row.FileRow.{FileRow}
 use Rattle.bl_desc.specs.declared.entry_row.EntryRow.{EntryRow}
 use Rattle.bl_desc.specs.declared.desc.Description.{Description}
 use Rattle.bl_desc.specs.declared.fault.DescFault.{DescFault}

@@ -81,40 +81,40 @@ abbrev pub entry_item_passes : Data → Bool
 entry_item_passes (table ms) = entry_passes ms
 entry_item_passes _ = false
 
--- a module of the entry of this index is bad so
-abbrev pub IsModuleBad : Members → ℕ → KeyFault → Type 0
-IsModuleBad ms j fault =
+-- the module of this index, of an entry with these keys, has this fault
+abbrev pub IsModuleFault : Members → ℕ → KeyFault → Type 0
+IsModuleFault ms j fault =
     IsSomeAnd (get_item j (array_items (get_member (codes "module") ms)))
     (λ m. IsItemFault keys.Module m fault)
 
 -- its modules, or its key for them
-abbrev pub IsModulesBadAt : ℕ → Members → TablePlace → KeyFault → Type 0
-IsModulesBadAt i ms (places.Entry k) fault = (k ≡ i) × BreaksOne module_rules ms fault
-IsModulesBadAt i ms (places.Module k j) fault = (k ≡ i) × IsModuleBad ms j fault
-IsModulesBadAt i ms _ fault = ⊥
+abbrev pub IsModulesFaultAt : ℕ → Members → TablePlace → KeyFault → Type 0
+IsModulesFaultAt i ms (places.Entry k) fault = (k ≡ i) × BreaksOne module_rules ms fault
+IsModulesFaultAt i ms (places.Module k j) fault = (k ≡ i) × IsModuleFault ms j fault
+IsModulesFaultAt i ms _ fault = ⊥
 
 abbrev pub IsModulesBad : ℕ → Members → BadKey → Type 0
-IsModulesBad i ms bad = IsModulesBadAt i ms bad.table bad.fault
+IsModulesBad i ms bad = IsModulesFaultAt i ms bad.table bad.fault
 
 -- an entry of this index with these keys is bad so, or a module of it
-abbrev pub IsEntryBadAt : KeySet → ℕ → Members → TablePlace → KeyFault → Type 0
-IsEntryBadAt set i ms (places.Entry k) fault = (k ≡ i) × IsKeyFault 0 set ms fault
-IsEntryBadAt set i ms (places.Module k j) fault = (k ≡ i) × IsModuleBad ms j fault
-IsEntryBadAt set i ms _ fault = ⊥
+abbrev pub IsEntryFaultAt : KeySet → ℕ → Members → TablePlace → KeyFault → Type 0
+IsEntryFaultAt set i ms (places.Entry k) fault = (k ≡ i) × IsKeyFault 0 set ms fault
+IsEntryFaultAt set i ms (places.Module k j) fault = (k ≡ i) × IsModuleFault ms j fault
+IsEntryFaultAt set i ms _ fault = ⊥
 
 abbrev pub IsEntryBad : KeySet → ℕ → Members → BadKey → Type 0
-IsEntryBad set i ms bad = IsEntryBadAt set i ms bad.table bad.fault
+IsEntryBad set i ms bad = IsEntryFaultAt set i ms bad.table bad.fault
 
 -- the same of a value that stands for an entry
-abbrev pub IsEntryItemBadAt : ℕ → Data → TablePlace → KeyFault → Type 0
-IsEntryItemBadAt i d (places.Entry k) fault = (k ≡ i) × IsItemFault (entry_set d) d fault
-IsEntryItemBadAt i d (places.Module k j) fault =
+abbrev pub IsEntryItemFaultAt : ℕ → Data → TablePlace → KeyFault → Type 0
+IsEntryItemFaultAt i d (places.Entry k) fault = (k ≡ i) × IsItemFault (entry_set d) d fault
+IsEntryItemFaultAt i d (places.Module k j) fault =
     (k ≡ i)
     × IsSomeAnd (get (codes "module") d >>= at j) (λ m. IsItemFault keys.Module m fault)
-IsEntryItemBadAt i d _ fault = ⊥
+IsEntryItemFaultAt i d _ fault = ⊥
 
 abbrev pub IsEntryItemBad : ℕ → Data → BadKey → Type 0
-IsEntryItemBad i d bad = IsEntryItemBadAt i d bad.table bad.fault
+IsEntryItemBad i d bad = IsEntryItemFaultAt i d bad.table bad.fault
 
 -- one of these entries is bad so
 abbrev pub IsMenuBad : Items → BadKey → Type 0

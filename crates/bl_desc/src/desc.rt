@@ -4,18 +4,10 @@ ghost use Rattle.bl_desc.specs.Described as spec;
 ghost use Rattle.bl_desc.specs.Views.{file_view, view};
 
 use crate::entry_row::EntryRow;
-use crate::text::Text;
+use crate::file_row::FileRow;
 use bl_map::Region;
-use bl_mem::Bytes;
 use std::alloc::Allocator;
 use std::ops::Range;
-
-/// A file that stands in the description, with its bytes.
-#[derive(Drop)]
-pub struct FileRow<A: Allocator> {
-    pub name: Text<A>,
-    pub bytes: Bytes<A>,
-}
 
 /// What a description says: the machine, files and the menu, which has 1 to 32 entries.
 ///

@@ -5,8 +5,8 @@ ghost use Rattle.bl_desc.specs.Values as values;
 ghost use Rattle.bl_desc.specs.Described as spec;
 ghost use Rattle.bl_desc.specs.Views.{AnswersAs, file_view};
 
-use crate::desc::FileRow;
 use crate::fault::DescFault;
+use crate::file_row::FileRow;
 use crate::keys::{at_key, has_only, text_at};
 use crate::text::Text;
 use crate::values::toml_bytes;

@@ -21,7 +21,7 @@ pub struct Modules<A: Allocator> {
 }
 
 /// What an entry has beside its kernel, by its protocol: modules and perhaps copies of the Root
-/// System Description Pointer of ACPI 1.0 and of ACPI 2.0 or later (Multiboot2 3.6.12, 3.6.13), or
+/// System Description Pointer of ACPI 1.0 and of ACPI 2.0 or later (Multiboot2 3.6.16, 3.6.17), or
 /// perhaps an initial ramdisk, which is the name of a file. A `wide` form is that of the 64-bit
 /// entry.
 #[derive(Drop)]

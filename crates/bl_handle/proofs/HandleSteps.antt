@@ -29,12 +29,12 @@ use Rattle.std.specs.contracts.impls.GlobalAllocator.TheImpl.{ghosts}
 use Rattle.std.proofs.GlobalToken.{dealloc_token-Testable}
 use Rattle.std.specs.Box.Ownership.{box_owns}
 use Rattle.std.proofs.ResultValues.{and_tt}
-use Rattle.bl_handle.specs.Handles.{session_row, handle_owns}
+use Rattle.bl_handle.specs.Handles.{session_type, handle_owns}
 use Rattle.bl_handle.specs.contracts.handle.Handle as handle
 use Rattle.bl_handle.proofs.LooseSteps.{two, al}
 
 abbrev pub R : RattleType
-R = session_row
+R = session_type
 
 abbrev pub Z : RattleType
 Z = heap.the_row

@@ -12,18 +12,18 @@ use Rattle.bl_session.specs.contracts.OwnedSession as owned
 use Rattle.bl_session.specs.Phases.{SessionFacts}
 
 -- a session on the heap, as the logic sees its type
-abbrev pub session_row : RattleType
-session_row = owned.the_row heap.the_row ghosts
+abbrev pub session_type : RattleType
+session_type = owned.the_row heap.the_row ghosts
 
 abbrev pub kept_coded : Coded (Option SessionFacts)
-kept_coded = coded_option session_row.coded
+kept_coded = coded_option session_type.coded
 
 -- behind null there is nothing; behind another pointer the session that is kept, and the right to
 -- free its block
 abbrev pub handle_owns : Global → Ptr → Option SessionFacts → Fml
 handle_owns alloc at None = feq Ptr at null_ptr
 handle_owns alloc at (Some session) =
-    box_owns (ghosts.dealloc_token alloc) session_row at session
+    box_owns (ghosts.dealloc_token alloc) session_type at session
 
 -- a session is kept before and after, and the two stand so to each other; or none before and after,
 -- and the other holds

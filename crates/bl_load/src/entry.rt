@@ -29,7 +29,7 @@ impl<A: Allocator> Module<A> {
 /// An entry. Files are named by their index; those of an entry are the kernel, and then the modules
 /// or the initial ramdisk, in this order. A line has no zero byte and at most 4095 bytes, or is
 /// refused. `rsdp_old` and `rsdp_new` are copies of the Root System Description Pointer of ACPI 1.0
-/// and of ACPI 2.0 or later (Multiboot2 3.6.12, 3.6.13), 1 to 256 bytes each; they are handed over
+/// and of ACPI 2.0 or later (Multiboot2 3.6.16, 3.6.17), 1 to 256 bytes each; they are handed over
 /// as they stand. A `wide` entry enters its kernel with 64 bits (Linux/x86 Boot Protocol, "64-bit
 /// Boot Protocol").
 #[derive(Drop)]

@@ -13,7 +13,7 @@ use Rattle.std.proofs.lemmas.List.Elements.{All-map}
 use Rattle.bl_mem.specs.Memory.{IsIn}
 use Rattle.bl_plan.specs.declared.part.Place.{Place}
 use Rattle.bl_plan.specs.Placed.{place_range}
-use Rattle.bl_stage.specs.Ranges.{has, scrubbed, IsSameOutside}
+use Rattle.bl_stage.specs.Ranges.{is_in_ranges, scrubbed, IsSameOutside}
 use Rattle.bl_load.specs.declared.plan.PlannedPart.{PlannedPart}
 use Rattle.bl_load.specs.Handover.{Part, part_at}
 use Rattle.bl_load.specs.Loadable.{lengths_of, IsBacked}
@@ -40,7 +40,7 @@ ranges_are texts (p ∷ parts) backed =
 
 -- an address of one of them is kept
 has_one : (ranges : List (Range ℕ)) (k a : ℕ) (d : Range ℕ) → k < length ranges
-    → (get_or ranges k d).start ≤ a → a < (get_or ranges k d).end → has ranges a ≡ true
+    → (get_or ranges k d).start ≤ a → a < (get_or ranges k d).end → is_in_ranges ranges a ≡ true
 has_one ranges k a d within low high =
     list_any_at (λ r. nat_le r.start a && nat_lt a r.end) ranges k d within
     (grind (arith, nat_tests))
@@ -56,7 +56,8 @@ misses r a out =
     ]
 
 -- one of none is not
-has_none : (ranges : List (Range ℕ)) (a : ℕ) → All (λ r. ¬ IsIn r a) ranges → has ranges a ≡ false
+has_none : (ranges : List (Range ℕ)) (a : ℕ) → All (λ r. ¬ IsIn r a) ranges
+    → is_in_ranges ranges a ≡ false
 has_none ranges a out =
     list_any_none (λ r. nat_le r.start a && nat_lt a r.end) ranges
     (λ k d within. misses (get_or ranges k d) a (out k d within))
@@ -74,18 +75,18 @@ first_fail true false d fails = refl
 first_fail false c d fails = refl
 
 scrubbed_kept : (pool : Range ℕ) (keep : List (Range ℕ)) (bytes : List ℕ) (a : ℕ)
-    → has keep a ≡ true → scrubbed pool keep bytes a ≡ slice_index bytes a
+    → is_in_ranges keep a ≡ true → scrubbed pool keep bytes a ≡ slice_index bytes a
 scrubbed_kept pool keep bytes a kept =
     rw (kept, last_fails (nat_le pool.start a) (nat_lt a pool.end)) refl
 
 scrubbed_away : (pool : Range ℕ) (keep : List (Range ℕ)) (bytes : List ℕ) (a : ℕ) → ¬ IsIn pool a
     → scrubbed pool keep bytes a ≡ slice_index bytes a
 scrubbed_away pool keep bytes a away =
-    rw (first_fail (nat_le pool.start a) (nat_lt a pool.end) (not (has keep a))
+    rw (first_fail (nat_le pool.start a) (nat_lt a pool.end) (not (is_in_ranges keep a))
     (misses pool a away)) refl
 
 scrubbed_cleared : (pool : Range ℕ) (keep : List (Range ℕ)) (bytes : List ℕ) (a : ℕ) → IsIn pool a
-    → has keep a ≡ false → scrubbed pool keep bytes a ≡ 0
+    → is_in_ranges keep a ≡ false → scrubbed pool keep bytes a ≡ 0
 scrubbed_cleared pool keep bytes a here lost =
     let low = here.0 in
     let high = here.1 in
@@ -105,7 +106,7 @@ after_scrub pool parts old loaded new in_parts elsewhere after =
       in_parts = λ k d within a span.
           let this : get_or keep k (part_range d) ≡ part_range (get_or parts k d) =
           get_or-map part_range parts k d in
-          let kept : has keep a ≡ true =
+          let kept : is_in_ranges keep a ≡ true =
           has_one keep k a (part_range d) (rw length-map within) (rw this span.0)
           (rw this span.1) in
           after a ∙ scrubbed_kept pool keep loaded a kept ∙ in_parts k d within a span.0 span.1;
@@ -136,7 +137,7 @@ held_on pool places loaded new size after inside =
     let long : length was ≡ place.length = search (rules, places_) in
     ap (part_at place)
     (same_lists read was (wide ∙ sym long) (λ (j e : ℕ) (below : j < length read).
-    let kept : has keep (place.address + j) ≡ true =
+    let kept : is_in_ranges keep (place.address + j) ≡ true =
     has_one keep k (place.address + j) (place_range d) (rw length-map within)
     (rw this (omega arith)) (rw this (omega arith)) in
     let same =

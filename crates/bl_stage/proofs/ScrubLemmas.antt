@@ -8,7 +8,7 @@ use Rattle.std.proofs.lemmas.List.{get_or-replicate, length-replicate}
 use Rattle.bl_mem.specs.Memory.{overwrite}
 use Rattle.bl_mem.proofs.Overwrites.{get_or-overwrite_in, get_or-overwrite_below}
 use Rattle.bl_mem.proofs.Overwrites.{get_or-overwrite_above}
-use Rattle.bl_stage.specs.Ranges.{has, scrubbed}
+use Rattle.bl_stage.specs.Ranges.{is_in_ranges, scrubbed}
 
 in_pool : (start end a byte : ℕ) (kept : Bool) → start ≤ a → a < end → kept ≡ false
     → 0 ≡ cond (nat_le start a && (nat_lt a end && not kept)) 0 byte
@@ -28,8 +28,8 @@ module _ (pool : Range ℕ) (keep : List (Range ℕ)) (old bytes : List ℕ) (at
       get_or-overwrite_above bytes at (replicate (edge - at) 0) a 0
       (omega (arith, length-replicate {A = ℕ} (edge - at) 0)) fits
 
-  pub done_zeroed : pool.start ≤ at → edge ≤ pool.end → false ≡ has keep at
-      → ((a : ℕ) → at ≤ a → a < edge → has keep a ≡ has keep at)
+  pub done_zeroed : pool.start ≤ at → edge ≤ pool.end → false ≡ is_in_ranges keep at
+      → ((a : ℕ) → at ≤ a → a < edge → is_in_ranges keep a ≡ is_in_ranges keep at)
       → ((a : ℕ) → a < at → get_or bytes a 0 ≡ scrubbed pool keep old a)
       → (a : ℕ) → a < edge → get_or (zeroed bytes at edge) a 0 ≡ scrubbed pool keep old a
   done_zeroed low high free same done a h = elim (cases_lt a at) [
@@ -40,6 +40,6 @@ module _ (pool : Range ℕ) (keep : List (Range ℕ)) (old bytes : List ℕ) (at
         get_or-overwrite_in bytes at (replicate (edge - at) 0) a 0 from
         (omega (arith, length-replicate {A = ℕ} (edge - at) 0)) fits
         ∙ get_or-replicate (edge - at) (a - at) 0 0 (omega arith)
-        ∙ in_pool pool.start pool.end a (get_or old a 0) (has keep a) (omega arith) (omega arith)
-        (same a from h ∙ sym free)
+        ∙ in_pool pool.start pool.end a (get_or old a 0) (is_in_ranges keep a) (omega arith)
+        (omega arith) (same a from h ∙ sym free)
   ]

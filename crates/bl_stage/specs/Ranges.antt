@@ -10,8 +10,8 @@ abbrev pub meets : List (Range ℕ) → ℕ → Bool
 meets ranges frame = not (is_open ranges (4096 * frame))
 
 -- the address lies in one of the ranges
-abbrev pub has : List (Range ℕ) → ℕ → Bool
-has ranges a = list_any (λ range. nat_le range.start a && nat_lt a range.end) ranges
+abbrev pub is_in_ranges : List (Range ℕ) → ℕ → Bool
+is_in_ranges ranges a = list_any (λ range. nat_le range.start a && nat_lt a range.end) ranges
 
 -- each byte outside the pool is as before
 abbrev pub IsSameOutside : Range ℕ → List ℕ → List ℕ → Type 0
@@ -22,6 +22,6 @@ IsSameOutside pool old new =
 -- before
 abbrev pub scrubbed : Range ℕ → List (Range ℕ) → List ℕ → ℕ → ℕ
 scrubbed pool keep bytes a =
-    if nat_le pool.start a && (nat_lt a pool.end && not (has keep a))
+    if nat_le pool.start a && (nat_lt a pool.end && not (is_in_ranges keep a))
     then 0
     else slice_index bytes a

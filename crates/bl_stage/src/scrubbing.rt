@@ -1,7 +1,7 @@
 //! Zeros in the pool.
 ghost use Rattle.std.specs.Prelude.{◌≡◌, ℕ, ◌<◌, ◌≤◌, length, slice_index};
 ghost use Rattle.bl_mem.specs.Memory.{HasRoom, KeepsMemory};
-ghost use Rattle.bl_stage.specs.Ranges.{has, scrubbed};
+ghost use Rattle.bl_stage.specs.Ranges.{is_in_ranges, scrubbed};
 ghost use Rattle.bl_stage.specs.Staged.{HasPool};
 
 use bl_map::Machine;
@@ -11,7 +11,7 @@ use std::ops::Range;
 
 /// Whether one of the ranges has the address.
 fn is_kept(keep: &[Range<u64>], at: u64) -> bool
-    ensures { result ≡ has keep.now at }
+    ensures { result ≡ is_in_ranges keep.now at }
 {
     for range in keep {
         if range.start <= at && at < range.end {
@@ -26,7 +26,8 @@ fn next_edge(keep: &[Range<u64>], at: u64, end: u64) -> u64
     requires { at < end }
     ensures above { at < result }
     ensures within { result ≤ end }
-    ensures same { (a : ℕ) → at ≤ a → a < result → has keep.now a ≡ has keep.now at }
+    ensures same { (a : ℕ) → at ≤ a → a < result
+        → is_in_ranges keep.now a ≡ is_in_ranges keep.now at }
 {
     let mut edge = end;
     for range in keep {

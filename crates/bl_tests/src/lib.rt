@@ -1,5 +1,5 @@
-//! Tests of what no row of bl_probe can say: the allocator that refuses, and images of handovers
-//! that no description leads to yet.
+//! Tests of what no row of bl_probe can say: the allocator that refuses, images of handovers that
+//! no description leads to yet, and texts made of a string of one's own.
 #![tactic(auto)]
 
 #[cfg(test)]

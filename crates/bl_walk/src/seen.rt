@@ -57,7 +57,7 @@ impl<'a> Model for SeenFile<'a> {
 /// What a kernel sees in an image: how and where it is entered, a physical address, its line, its
 /// parts in address order, the modules in order (none under Linux), the initial ramdisk (none under
 /// Multiboot2, nor where it has no byte), the memory map's runs, and the copies of the Root System
-/// Description Pointer (Multiboot2 3.6.12 "ACPI old RSDP", 3.6.13 "ACPI new RSDP"; none under
+/// Description Pointer (Multiboot2 3.6.16 "ACPI old RSDP", 3.6.17 "ACPI new RSDP"; none under
 /// Linux). The bytes of files are those of the image, and are not copied.
 #[derive(Drop)]
 pub struct Seen<'a, A: Allocator> {

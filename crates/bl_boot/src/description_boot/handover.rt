@@ -5,12 +5,12 @@ ghost use Rattle.bl_image.specs.ImageParts.{IsKeptByImages};
 ghost use Rattle.bl_image.specs.Versions.{written_version};
 ghost use Rattle.bl_session.specs.Phases.{handover_held};
 ghost use Rattle.bl_boot.specs.Kept.{IsHandFault};
-ghost use Rattle.bl_boot.specs.Says.{booted_line, refused_lines, no_entry_line};
+ghost use Rattle.bl_say.specs.Says.{booted_line, refused_lines, no_entry_line};
 
 use crate::description_boot::boot_end::EndFault;
-use crate::lines::{say_booted, say_no_entry_left, say_refusals};
 use bl_image::{Sink, write_image};
 use bl_mem::PhysMem;
+use bl_say::{say_booted, say_no_entry_left, say_refusals};
 use bl_session::{Outcome, RefusedEntry};
 use std::alloc::{AllocError, Allocator};
 

@@ -1,5 +1,5 @@
 //! The machine of a description.
-ghost use Rattle.std.specs.Prelude.{◌≡◌, IfOk, IfErr};
+ghost use Rattle.std.specs.Prelude.{IfOk, IfErr};
 ghost use Rattle.bl_desc.specs.Views.{view};
 ghost use Rattle.bl_boot.specs.Ends.{IsMachineOf};
 ghost use Rattle.bl_boot.specs.Kept.{IsMachineFault};

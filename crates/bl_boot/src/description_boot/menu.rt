@@ -6,12 +6,13 @@ ghost use Rattle.bl_session.specs.Menu.{facts_of};
 ghost use Rattle.bl_session.specs.declared.menu.fault.MenuFault.TheVariants as menu_fault;
 ghost use Rattle.bl_boot.specs.Attempted as attempted;
 ghost use Rattle.bl_boot.specs.Attempted.{entry_facts};
+ghost use Rattle.bl_say.specs.EntryNames.{index_of};
 ghost use Rattle.bl_desc.specs.Views.{HasMenu, entry_view, module_view, view};
 
-use crate::description_boot::names::index_of;
 use bl_desc::{Description, EntryForm, EntryRow, ModuleRow};
 use bl_load::{Entry, Module};
 use bl_mem::Bytes;
+use bl_say::index_of;
 use bl_session::{Menu, MenuFault};
 use std::alloc::{AllocError, Allocator};
 
@@ -23,7 +24,7 @@ fn modules_of<A: Allocator + Copy>(
 ) -> Result<Vec<Module<A>, A>, AllocError>
     requires { length names.now < 2 ^ 32 }
     ensures files { IfOk result (λ modules. map (λ m. m.file) modules.items
-        ≡ map (attempted.index_of (map (λ n. n.now) names.now))
+        ≡ map (index_of (map (λ n. n.now) names.now))
         (map (λ m. m.file) (map module_view rows.now))) }
     ensures lines { IfOk result (λ modules. map (λ m. m.line) modules.items
         ≡ map (λ m. m.line) (map module_view rows.now)) }

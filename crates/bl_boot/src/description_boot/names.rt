@@ -4,7 +4,8 @@ ghost use Rattle.std.specs.Prelude.{OnOk};
 ghost use Rattle.std.specs.Str.{bytes_eq};
 ghost use Rattle.std.specs.List.{list_any};
 ghost use Rattle.bl_boot.specs.Attempted as attempted;
-ghost use Rattle.bl_boot.specs.Attempted.{file_names, names_of_entries};
+ghost use Rattle.bl_boot.specs.Attempted.{names_of_entries};
+ghost use Rattle.bl_say.specs.EntryNames.{file_names};
 ghost use Rattle.bl_boot.specs.Kept.{names_with};
 ghost use Rattle.bl_desc.specs.Views.{HasMenu, entry_view, module_view, view};
 
@@ -98,21 +99,4 @@ pub fn names_in<A: Allocator + Copy>(
 {
     let attempts = order_attempts(alloc, description.default, &description.fallbacks)?;
     names_of(alloc, description, &attempts)
-}
-
-/// The place of a name among these, or how many they are if it is not there.
-pub fn index_of(names: &[&str], name: &str) -> usize
-    ensures index { result ≡ attempted.index_of (map (λ n. n.now) names.now) name.now }
-    ensures few { result ≤ length names.now }
-{
-    match names {
-        [] => 0,
-        [first, rest @ ..] => {
-            if *first == name {
-                0
-            } else {
-                1 + index_of(rest, name)
-            }
-        }
-    }
 }

@@ -74,11 +74,11 @@ fn run_boot<A: Allocator + Copy, F: Files, S: Sink, B: Allocator>(
     boot_found(alloc, &mut memory, store, &boot, out, say)
 }
 
-/// Boots the first entry of a description's menu that is not refused, and writes the image of the
-/// handover to `out`. The default is attempted first, then the fallbacks. Each file of these
-/// entries that is not in the description is asked of `files` once, before the boot, and nothing
-/// else is; its pieces come in the order that is named, which changes nothing but the way. What the
-/// boot came to is appended to `say`, line by line.
+/// Boots the first entry of a description's menu, in the order of attempts, that is not refused,
+/// and writes the image of the handover to `out`. The default is attempted first, then the
+/// fallbacks. Each file of these entries that is not in the description is asked of `files` once,
+/// before the boot, and nothing else is; its pieces come in the order that is named, which changes
+/// nothing but the way. What the boot came to is appended to `say`, line by line.
 ///
 /// The status is 0 if an entry was booted, 1 if each one that was attempted was refused, 2 if the
 /// description is bad, 3 if the sink had a fault, and 4 if memory ran out; with 2, 3 and 4 nothing

@@ -7,13 +7,12 @@ ghost use Rattle.bl_boot.specs.ExplainKept.{HasNoPlace, HasPlaceRefusal, is_plac
 ghost use Rattle.bl_desc.specs.Views.{entry_view};
 
 use crate::description_boot::entry_of;
-use crate::explanation::detail::{Detail, ToldRefusal};
 use crate::explanation::entry_texts::entry_texts;
 use crate::explanation::placing_details::{frames_detail, place_detail};
-use crate::explanation::sought::Sought;
 use bl_desc::EntryRow;
 use bl_load::Refusal;
 use bl_map::Machine;
+use bl_say::{Detail, Sought, ToldRefusal};
 use bl_session::RefusedEntry;
 use std::alloc::{AllocError, Allocator};
 

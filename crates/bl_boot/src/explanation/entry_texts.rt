@@ -1,12 +1,12 @@
 //! The bytes of an entry's files, as they were found.
 ghost use Rattle.std.specs.Prelude.{◌≡◌, ◌∷◌, [], ◌++◌, IfOk, OnOk, map};
-ghost use Rattle.bl_boot.specs.Attempted.{file_names, names_beside};
-ghost use Rattle.bl_boot.specs.Sought.{bytes_sought};
+ghost use Rattle.bl_say.specs.EntryNames.{file_names, names_beside};
+ghost use Rattle.bl_say.specs.Sought.{bytes_sought};
 ghost use Rattle.bl_desc.specs.Views.{entry_view, form_view, module_view};
 
-use crate::explanation::sought::Sought;
 use bl_desc::{EntryForm, EntryRow, ModuleRow};
 use bl_mem::SliceView;
+use bl_say::Sought;
 use std::alloc::{AllocError, Allocator};
 
 /// Appends the bytes of the file of this name.

@@ -7,19 +7,20 @@ ghost use Rattle.bl_boot.specs.Attempted.{menu_of, names_in};
 ghost use Rattle.bl_boot.specs.Details.{AreToldRefusals};
 ghost use Rattle.bl_boot.specs.ExplainKept.{FoundExplains, HasKernelAt, HasPlaceRefusal};
 ghost use Rattle.bl_boot.specs.KernelSegments.{AreSegmentsAt};
-ghost use Rattle.bl_boot.specs.Told.{attempt_lines, refused_attempt_lines};
+ghost use Rattle.bl_say.specs.AttemptLines.{attempt_lines, refused_attempt_lines};
 ghost use Rattle.bl_boot.specs.Told.{booted_lines, entry_handoff_lines, none_left_lines};
 ghost use Rattle.bl_desc.specs.Views.{view};
 
 use crate::description_boot::{DescribedBoot, End};
-use crate::explanation::detail::ToldRefusal;
 use crate::explanation::details::find_details;
 use crate::explanation::fault::ExplainFault;
 use crate::explanation::handed::say_outcome;
-use crate::explanation::kernel_segments::{KernelSegments, find_segments};
-use crate::explanation::sought::Sought;
-use crate::lines::{say_attempt, say_hints, say_no_entry_left, say_refused_attempts};
+use crate::explanation::kernel_segments::find_segments;
 use bl_mem::PhysMem;
+use bl_say::{
+    KernelSegments, Sought, ToldRefusal, say_attempt, say_hints, say_no_entry_left,
+    say_refused_attempts,
+};
 use bl_session::{BootFault, FileStore, Outcome, RefusedEntry, run};
 use std::alloc::{AllocError, Allocator};
 

@@ -1,17 +1,15 @@
 //! What an entry hands over, told for a person.
 ghost use Rattle.std.specs.Prelude.{◌≡◌, ◌≤◌, ◌++◌, OnOk, length, map};
 ghost use Rattle.bl_boot.specs.Attempted.{entry_of};
-ghost use Rattle.bl_boot.specs.Says.{booted_line};
-ghost use Rattle.bl_boot.specs.Hints.{hint_lines};
+ghost use Rattle.bl_say.specs.Says.{booted_line};
+ghost use Rattle.bl_say.specs.Hints.{hint_lines};
 ghost use Rattle.bl_boot.specs.Told.{entry_handoff_lines};
 ghost use Rattle.bl_desc.specs.Views.{entry_view, view};
 
 use crate::description_boot::{DescribedBoot, title_of};
-use crate::explanation::kernel_segments::KernelSegments;
-use crate::explanation::sought::Sought;
-use crate::lines::{say_booted, say_handoff, say_hints, say_room};
 use bl_desc::EntryRow;
 use bl_map::Machine;
+use bl_say::{KernelSegments, Sought, say_booted, say_handoff, say_hints, say_room};
 use bl_session::Outcome;
 use std::alloc::{AllocError, Allocator};
 

@@ -7,55 +7,12 @@ ghost use Rattle.bl_boot.specs.ExplainKept.{HasKernel, HasKernelAt};
 ghost use Rattle.bl_boot.specs.KernelSegments.{AreEntrySegments, AreKernelSegments, AreSegmentsAt};
 ghost use Rattle.bl_desc.specs.Views.{entry_view};
 
-use crate::explanation::sought::Sought;
 use bl_desc::{EntryForm, EntryRow};
 use bl_elf::{ElfFault, read_elf};
 use bl_mb2head::find_header;
 use bl_mem::{Segment, SliceView};
+use bl_say::{KernelSegments, Sought};
 use std::alloc::{AllocError, Allocator};
-use std::marker::Model;
-
-/// The segments in their order, and whether they are handed over as one part.
-#[derive(Drop)]
-pub struct KernelSegments<A: Allocator> {
-    segments: Vec<Segment, A>,
-    is_block: bool,
-}
-
-impl<A: Allocator> Model for KernelSegments<A> {
-    ghost use Rattle.bl_boot.specs.KernelSegments.{KernelSegmentsFacts};
-
-    ghost Value = { KernelSegmentsFacts };
-
-    ghost view = { λ s. record { segments = s.segments.items; is_block = s.is_block } };
-}
-
-impl<A: Allocator> KernelSegments<A> {
-    ghost use Rattle.std.specs.Prelude.{◌≡◌};
-    ghost use Rattle.bl_boot.specs.KernelSegments as of_kernel;
-
-    /// Those of a kernel of another protocol, of which none is told.
-    fn none(alloc: A) -> KernelSegments<A>
-        ensures { result ≡ of_kernel.no_segments }
-    {
-        KernelSegments {
-            segments: Vec::new(alloc),
-            is_block: false,
-        }
-    }
-
-    pub fn segments(&self) -> &[Segment]
-        ensures { result.now ≡ self.now.segments }
-    {
-        self.segments.as_slice()
-    }
-
-    pub fn is_block(&self) -> bool
-        ensures { result ≡ self.now.is_block }
-    {
-        self.is_block
-    }
-}
 
 /// Why an executable that was read before is not read once more: memory ran out.
 fn want_of_memory(_fault: ElfFault) -> AllocError
@@ -113,10 +70,10 @@ fn kernel_segments<A: Allocator + Copy>(
 {
     let file = SliceView::new(bytes);
     match find_header(&file) {
-        Ok(header) => Ok(KernelSegments {
-            segments: loaded_segments(alloc, &file, header.segment)?,
-            is_block: header.relocation.is_some(),
-        }),
+        Ok(header) => Ok(KernelSegments::new(
+            loaded_segments(alloc, &file, header.segment)?,
+            header.relocation.is_some(),
+        )),
         Err(_) => unreachable!(),
     }
 }

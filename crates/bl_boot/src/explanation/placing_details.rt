@@ -7,11 +7,11 @@ ghost use Rattle.bl_load.specs.Value.{value_of, file_count, IsWithinLimits};
 ghost use Rattle.bl_boot.specs.Details.{IsFirstUnusable, IsFramesDetail, IsPlaceDetail};
 ghost use Rattle.bl_boot.specs.ExplainKept.{HasNoPlace};
 
-use crate::explanation::detail::Detail;
 use bl_load::{Choice, Entry, PrepFault, Row, prepare, unplaced};
 use bl_map::{Machine, open_frames};
 use bl_mem::SliceView;
 use bl_plan::first_unusable;
+use bl_say::Detail;
 use std::alloc::{AllocError, Allocator};
 
 /// The first of `count` bytes from `at` on that is not usable, if there is one. None from the

@@ -1,6 +1,6 @@
 use Rattle.std.proofs.Common.{◌≡◌, length, map, take}
 use Rattle.bl_desc.specs.Views.{module_view}
-use Rattle.bl_boot.specs.Attempted.{index_of}
+use Rattle.bl_say.specs.EntryNames.{index_of}
 use Rattle.bl_boot.proofs.description_boot.menu.modules_of.Given as goal
 
 abbrev pub invariant-loop-row : goal.invariant-loop-row

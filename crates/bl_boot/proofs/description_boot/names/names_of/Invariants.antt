@@ -1,7 +1,8 @@
 use Rattle.std.proofs.Common.{◌≡◌, drop, map}
 use Rattle.std.specs.List.{flat_map}
 use Rattle.bl_desc.specs.Views.{view}
-use Rattle.bl_boot.specs.Attempted.{entry_of, file_names, names_of_entries}
+use Rattle.bl_boot.specs.Attempted.{entry_of, names_of_entries}
+use Rattle.bl_say.specs.EntryNames.{file_names}
 use Rattle.bl_boot.specs.Kept.{names_with}
 use Rattle.bl_boot.proofs.description_boot.names.names_of.Given as goal
 

@@ -1,7 +1,7 @@
 use Rattle.std.proofs.Common.{◌≡◌, ◌<◌, ◌≤◌, length, get_or, rules}
 use Rattle.bl_desc.specs.Views.{entry_view}
 use Rattle.bl_boot.proofs.DetailLemmas.{no_detail, one_detail_if}
-use Rattle.bl_boot.proofs.ExplainLemmas.{one_row}
+use Rattle.bl_say.proofs.RowLemmas.{one_row}
 use Rattle.bl_boot.proofs.explanation.details.detail_at.Goals as goal
 
 pub detail_of-requires : goal.detail_of-requires

@@ -1,7 +1,7 @@
 use Rattle.std.proofs.Common.{IfOk, subst, sym}
 use Rattle.bl_desc.specs.Views.{form_view}
 use Rattle.bl_boot.specs.KernelSegments.{AreSegmentsBy}
-use Rattle.bl_boot.specs.Sought.{bytes_sought}
+use Rattle.bl_say.specs.Sought.{bytes_sought}
 use Rattle.bl_boot.proofs.explanation.kernel_segments.entry_segments.Goals as goal
 
 pub returns-in-Multiboot2 : goal.returns-in-Multiboot2

@@ -1,6 +1,6 @@
 use Rattle.std.proofs.Common.{◌≡◌, ◌<◌, ◌≤◌, length, get_or, rules}
 use Rattle.bl_desc.specs.Views.{entry_view}
-use Rattle.bl_boot.proofs.ExplainLemmas.{one_row}
+use Rattle.bl_say.proofs.RowLemmas.{one_row}
 use Rattle.bl_boot.proofs.SegmentLemmas.{no_segments_at, segments_at_if}
 use Rattle.bl_boot.proofs.explanation.kernel_segments.find_segments.Goals as goal
 

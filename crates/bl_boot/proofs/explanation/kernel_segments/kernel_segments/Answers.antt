@@ -1,3 +1,4 @@
+use Rattle.std.proofs.Common.{◌∙◌}
 use Rattle.bl_mb2head.specs.Header.{IsHeader}
 use Rattle.bl_mb2head.proofs.HeaderLaws.{not_both}
 use Rattle.bl_boot.proofs.SegmentLemmas.{leads_to, segments_are}
@@ -25,7 +26,8 @@ returns g c =
     let loads = rw c.new-file.ensures at c.in_ok-loaded_segments-in-Ok.ensures in (
       c.requires.0,
       c.requires.1,
-      segments_are bytes c.requires.0 c.requires.1 c.in-Ok.header found
+      c.new.ensures
+          ∙ segments_are bytes c.requires.0 c.requires.1 c.in-Ok.header found
           c.in_ok-loaded_segments-in-Ok.field-0.items c.is_some.result
           (loads c.requires.1.facts
           (leads_to bytes c.requires.0 c.requires.1 c.in-Ok.header found))

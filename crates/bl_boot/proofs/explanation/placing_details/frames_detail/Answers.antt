@@ -2,7 +2,7 @@ use Rattle.std.proofs.Common.{map}
 use Rattle.bl_load.specs.PlanFacts.{handoff_by}
 use Rattle.bl_load.specs.Value.{value_of}
 use Rattle.bl_boot.proofs.DetailLemmas.{beside_plan}
-use Rattle.bl_boot.proofs.FrameLemmas.{ascending_parts}
+use Rattle.bl_say.proofs.FrameLemmas.{ascending_parts}
 use Rattle.bl_boot.proofs.explanation.placing_details.frames_detail.Goals as goal
 
 pub open_frames-requires-clause-ascending : goal.open_frames-requires-clause-ascending

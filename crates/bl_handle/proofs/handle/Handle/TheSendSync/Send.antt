@@ -16,7 +16,7 @@ use Rattle.std.specs.contracts.impls.GlobalAllocator.TheImpl.{ghosts}
 use Rattle.std.specs.declared.alloc.Global.{Global}
 use Rattle.bl_session.proofs.OwnedSession.TheSendSync.{the_send as owned_send}
 use Rattle.bl_session.specs.Phases.{SessionFacts}
-use Rattle.bl_handle.specs.Handles.{session_row, handle_owns}
+use Rattle.bl_handle.specs.Handles.{session_type, handle_owns}
 use Rattle.bl_handle.specs.contracts.handle.Handle.{the_row, the_type}
 
 quiet : {D X : Type 0} (to : D → X) (e : Exit X) → Quiet e → Quiet (hidden (under to e))
@@ -27,14 +27,14 @@ lies : (R : RattleType) → IsSend R → (at : Ptr) (x : R.Denot) → Keyless (l
 lies R s (block_ptr b o) x = part_keyless R s full_share x b o
 lies R s null_ptr x = tt
 
-session : IsSend session_row
+session : IsSend session_type
 session = owned_send heap.the_row ghosts crossing.send crossing.frees
 
 keyless : (alloc : Global) (at : Ptr) (kept : Option SessionFacts)
     → Keyless (handle_owns alloc at kept)
 keyless alloc at None = tt
 keyless alloc at (Some x) =
-    (lies session_row session at x, crossing.frees.frees alloc (raw (lone session_row.mir)) at)
+    (lies session_type session at x, crossing.frees.frees alloc (raw (lone session_type.mir)) at)
 
 pub send : IsSend the_row
 send =

@@ -1,8 +1,0 @@
-use Rattle.std.proofs.Common.{◌≡◌, ◌++◌, take}
-use Rattle.std.specs.List.{flat_map}
-use Rattle.bl_boot.specs.Sources.{next_words}
-use Rattle.bl_boot.proofs.lines.ranges.say_rest.Given as goal
-
-abbrev pub invariant-loop-segment : goal.invariant-loop-segment
-invariant-loop-segment g l =
-    l.out.items ≡ l.initial.out.items ++ flat_map next_words (take l.segment-index l.segments)

@@ -1,0 +1,52 @@
+-- What is said of an entry or a region at an index.
+use Rattle.std.proofs.Common.{◌≡◌, ◌<◌, ◌≤◌, ℕ, List, [], length, map, get_or, refl, ap}
+use Rattle.std.proofs.lemmas.Option.{slice_get_past, slice_get_read}
+use Rattle.bl_map.specs.declared.region.Region.{Region}
+use Rattle.bl_plan.specs.declared.part.Role.{Role}
+use Rattle.bl_session.specs.declared.words.RefusedEntry.{RefusedEntry}
+use Rattle.bl_desc.specs.declared.entry_row.EntryRow.{EntryRow}
+use Rattle.bl_desc.specs.Views.{entry_view}
+use Rattle.bl_say.specs.Hints.{kernel_hint, kernel_hint_if, kernel_hint_of}
+use Rattle.bl_say.specs.Hints.{region_hint, region_hint_at, region_hint_if}
+use Rattle.bl_say.specs.Segments.{KernelSegmentsFacts}
+use Rattle.bl_say.specs.Sought.{SoughtFacts, bytes_sought}
+use Rattle.bl_say.specs.Sources.{source_at, source_if, source_words}
+use Rattle.bl_say.proofs.RowLemmas.{no_row, one_row}
+
+pub no_kernel_hint : {A : Type 0} (rows : List (EntryRow A)) (sought : SoughtFacts)
+    (refused : RefusedEntry) → length rows ≤ refused.entry
+    → kernel_hint_of (map entry_view rows) sought refused ≡ []
+no_kernel_hint rows sought refused past =
+    ap (kernel_hint_if sought refused) (no_row rows refused.entry past)
+
+pub one_kernel_hint : {A : Type 0} (rows : List (EntryRow A)) (sought : SoughtFacts)
+    (refused : RefusedEntry) (row : EntryRow A) → refused.entry < length rows
+    → row ≡ get_or rows refused.entry row
+    → kernel_hint_of (map entry_view rows) sought refused
+    ≡ kernel_hint refused.entry refused.refusal (bytes_sought sought (entry_view row).kernel)
+one_kernel_hint rows sought refused row within at =
+    ap (kernel_hint_if sought refused) (one_row rows refused.entry row within at)
+
+pub no_source : {A : Type 0} (rows : List (EntryRow A)) (sought : SoughtFacts)
+    (kernel : KernelSegmentsFacts) (index : ℕ) (role : Role) (i : ℕ) → length rows ≤ index
+    → source_at (map entry_view rows) sought kernel index role i ≡ []
+no_source rows sought kernel index role i past =
+    ap (λ entry. source_if sought kernel entry role i) (no_row rows index past)
+
+pub one_source : {A : Type 0} (rows : List (EntryRow A)) (sought : SoughtFacts)
+    (kernel : KernelSegmentsFacts) (index : ℕ) (role : Role) (i : ℕ) (row : EntryRow A)
+    → index < length rows → row ≡ get_or rows index row
+    → source_at (map entry_view rows) sought kernel index role i
+    ≡ source_words sought kernel (entry_view row) role i
+one_source rows sought kernel index role i row within at =
+    ap (λ entry. source_if sought kernel entry role i) (one_row rows index row within at)
+
+pub no_region : (regions : List Region) (index : ℕ) → length regions ≤ index
+    → region_hint_at regions index ≡ []
+no_region regions index past = ap (region_hint_if index) (slice_get_past regions index past)
+
+pub one_region : (regions : List Region) (index : ℕ) (region : Region) → index < length regions
+    → region ≡ get_or regions index region
+    → region_hint_at regions index ≡ region_hint index region
+one_region regions index region within at =
+    ap (region_hint_if index) (slice_get_read regions (length regions) index region refl within at)

@@ -1,0 +1,115 @@
+-- Hints on a boot, told for a person. Own.
+use Rattle.std.specs.Prelude.{ℕ, ◌%◌, ◌==◌, ◌&&◌, ◌||◌, Bool, not, nat_le, if◌then◌else◌, List}
+use Rattle.std.specs.Prelude.{[], ◌++◌, length, codes, decimal, Option, Some, None, slice_get}
+use Rattle.std.specs.List.{flat_map, list_any, range_with_len}
+use Rattle.bl_mem.specs.Words.{u16_at, u32_at}
+use Rattle.bl_map.specs.declared.region.Region.{Region}
+use Rattle.bl_map.specs.Kinds.{kind_number, region_end}
+use Rattle.bl_map.specs.Limits.{frame_size}
+use Rattle.bl_load.specs.declared.refusal.Refusal.{Refusal}
+use Rattle.bl_load.specs.declared.refusal.Refusal.TheVariants.{NoHeader, NotBzImage}
+use Rattle.bl_session.specs.declared.words.RefusedEntry.{RefusedEntry}
+use Rattle.bl_desc.specs.Described.{Described}
+use Rattle.bl_desc.specs.Entries.{Entry}
+use Rattle.bl_say.specs.Sought.{SoughtFacts, bytes_sought}
+
+-- ---- kernels of another protocol
+
+-- the two magic numbers of a bzImage (Linux/x86 Boot Protocol, "Details of Header Fields"):
+-- "boot_flag" is 0xAA55, and "header" is the bytes `HdrS`
+abbrev pub has_bz_magic : List ℕ → Bool
+has_bz_magic bytes =
+    nat_le 0x206 (length bytes)
+    && u16_at bytes 0x1FE == 0xAA55
+    && u32_at bytes 0x202 == 0x53726448
+
+-- the bytes 7F 45 4C 46 that an ELF file begins with (System V gABI, "ELF Identification")
+abbrev pub has_elf_magic : List ℕ → Bool
+has_elf_magic bytes = nat_le 4 (length bytes) && u32_at bytes 0 == 0x464C457F
+
+abbrev pub bz_line : ℕ → List ℕ
+bz_line entry =
+    codes "hint: the kernel of entry " ++ decimal entry
+    ++ codes " is a bzImage: protocol linux\n"
+
+abbrev pub elf_line : ℕ → List ℕ
+elf_line entry =
+    codes "hint: the kernel of entry " ++ decimal entry
+    ++ codes " is an ELF file: protocol multiboot2\n"
+
+-- on the bytes of an entry's kernel that was refused: an entry of multiboot2 alone is refused for
+-- want of a Multiboot2 header, one of linux or linux64 alone for a kernel that is no bzImage
+abbrev pub kernel_hint : ℕ → Refusal → List ℕ → List ℕ
+kernel_hint entry NoHeader bytes = if has_bz_magic bytes then bz_line entry else []
+kernel_hint entry NotBzImage bytes = if has_elf_magic bytes then elf_line entry else []
+kernel_hint entry _ bytes = []
+
+abbrev pub kernel_hint_if : SoughtFacts → RefusedEntry → Option Entry → List ℕ
+kernel_hint_if sought refused None = []
+kernel_hint_if sought refused (Some entry) =
+    kernel_hint refused.entry refused.refusal (bytes_sought sought entry.kernel)
+
+abbrev pub kernel_hint_of : List Entry → SoughtFacts → RefusedEntry → List ℕ
+kernel_hint_of entries sought refused =
+    kernel_hint_if sought refused (slice_get entries refused.entry)
+
+-- ---- usable regions that are not made of whole frames
+
+abbrev pub is_in_frame : ℕ → Bool
+is_in_frame a = not (a % frame_size == 0)
+
+abbrev pub begins_line : ℕ → List ℕ
+begins_line index = codes "hint: region " ++ decimal index ++ codes " begins within a frame\n"
+
+abbrev pub ends_line : ℕ → List ℕ
+ends_line index = codes "hint: region " ++ decimal index ++ codes " ends within a frame\n"
+
+abbrev pub begin_hint : ℕ → Region → List ℕ
+begin_hint index region = if is_in_frame region.base then begins_line index else []
+
+abbrev pub end_hint : ℕ → Region → List ℕ
+end_hint index region = if is_in_frame (region_end region) then ends_line index else []
+
+-- of kind usable, which has the number 1
+abbrev pub region_hint : ℕ → Region → List ℕ
+region_hint index region =
+    if kind_number region.kind == 1
+    then begin_hint index region ++ end_hint index region
+    else []
+
+abbrev pub region_hint_if : ℕ → Option Region → List ℕ
+region_hint_if index None = []
+region_hint_if index (Some region) = region_hint index region
+
+abbrev pub region_hint_at : List Region → ℕ → List ℕ
+region_hint_at regions index = region_hint_if index (slice_get regions index)
+
+abbrev pub region_hints : List Region → List ℕ
+region_hints regions = flat_map (region_hint_at regions) (range_with_len 0 (length regions))
+
+-- ---- entries that are never attempted
+
+-- the default or a fallback is this entry
+abbrev pub is_named : Described → ℕ → Bool
+is_named description index =
+    (description.default == index) || list_any (λ f. f == index) description.fallbacks
+
+abbrev pub hint_line : ℕ → List ℕ
+hint_line index =
+    codes "hint: entry " ++ decimal index
+    ++ codes " is not attempted: neither default nor fallback names it\n"
+
+abbrev pub hint_at : Described → ℕ → List ℕ
+hint_at description index = if is_named description index then [] else hint_line index
+
+abbrev pub unattempted_hints : Described → List ℕ
+unattempted_hints description =
+    flat_map (hint_at description) (range_with_len 0 (length description.entries))
+
+-- ---- all of them
+
+-- after a boot with these refusals
+abbrev pub hint_lines : Described → SoughtFacts → List RefusedEntry → List ℕ
+hint_lines description sought refused =
+    flat_map (kernel_hint_of description.entries sought) refused
+    ++ region_hints description.regions ++ unattempted_hints description
