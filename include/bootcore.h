@@ -417,9 +417,9 @@ typedef struct bootcore_menu {
 } bootcore_menu;
 
 /*
- * Boots the first entry of a menu that is not refused. Its files come into the machine's pool, a piece
- * at a time, and from there to their places, as if a disk gave them. A file whose offset is
- * BOOTCORE_MISSING can't be read: an entry with it is refused.
+ * Boots the first entry of a menu, in the order of attempts, that is not refused. Its files come into
+ * the machine's pool, a piece at a time, and from there to their places, as if a disk gave them. A file
+ * whose offset is BOOTCORE_MISSING can't be read: an entry with it is refused.
  *
  * `memory` has the bytes of the machine from the address `base` on, up to its size exactly. Let no
  * usable region lie below `base`: a part or a pool that begins there ends the boot by
