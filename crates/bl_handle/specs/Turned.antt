@@ -30,7 +30,7 @@ pub record IsStarted (old new : Option SessionFacts) (base : ℕ) (before after 
       → memory_from base after ≡ memory_from base before))
 
 -- an event of what a handle keeps
-pub record IsTold (old new : Option SessionFacts) (base : ℕ) (before after : List ℕ)
+pub record IsStepped (old new : Option SessionFacts) (base : ℕ) (before after : List ℕ)
     (event : EventFacts) (told : Result Progress HandleFault) : Type 0 where
   pub err : IfErr told (IsHandleFault old base (length before))
   pub unchanged : OnErr told ((new ≡ old) × (after ≡ before))

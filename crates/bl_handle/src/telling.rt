@@ -7,7 +7,7 @@ ghost use Rattle.bl_session.specs.Phases.{state_at};
 ghost use Rattle.bl_session.specs.Requests.{first_request, request_after};
 ghost use Rattle.bl_handle.specs.declared.handle_fault.HandleFault.{HandleFault as Faulted};
 ghost use Rattle.bl_handle.specs.Told.{TellsRequest, progress_status, record_ticket};
-ghost use Rattle.bl_handle.specs.Turned.{IsStarted, IsTold};
+ghost use Rattle.bl_handle.specs.Turned.{IsStarted, IsStepped};
 
 use crate::handle::Handle;
 use crate::records::RequestRecord;
@@ -46,7 +46,7 @@ impl Handle {
         came: &[u8],
     ) -> u32
         ensures { (told : Result Progressed Faulted)
-            × IsTold self.old.kept self.new.kept base bytes.old bytes.new
+            × IsStepped self.old.kept self.new.kept base bytes.old bytes.new
             (piece (record_ticket request.now) came.now) told
             × (result ≡ progress_status told) }
     {
@@ -63,7 +63,7 @@ impl Handle {
         request: &RequestRecord,
     ) -> u32
         ensures { (told : Result Progressed Faulted)
-            × IsTold self.old.kept self.new.kept base bytes.old bytes.new
+            × IsStepped self.old.kept self.new.kept base bytes.old bytes.new
             (fault (record_ticket request.now)) told
             × (result ≡ progress_status told) }
     {

@@ -70,8 +70,8 @@ elf_refusal (elf_fault.SegmentsOverlap i j) = Some (refusal.SegmentsOverlap i j)
 elf_refusal elf_fault.NoEntry = Some refusal.NoEntry
 elf_refusal elf_fault.NoMemory = None
 
--- the file has a sound header, and what the header leads to has this fault: the ELF file's, and
--- then the entry's
+-- the fault of what a sound header leads to: that of the ELF file, and none where the header's
+-- address tag says what is loaded
 abbrev pub HasLoadFault : List ℕ → Option Segment → Refusal → Type 0
 HasLoadFault file (Some segment) refused = ⊥
 HasLoadFault file None refused =

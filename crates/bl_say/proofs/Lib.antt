@@ -5,4 +5,4 @@ pub mod KeyLemmas
 pub mod FrameLemmas
 pub mod HintLemmas
 pub mod PoolLemmas
-pub mod HexHintLemmas
+pub mod RadixHintLemmas

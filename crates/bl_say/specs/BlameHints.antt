@@ -6,7 +6,7 @@ use Rattle.bl_desc.specs.Described.{Described}
 use Rattle.bl_say.specs.declared.told.blame.Blame.{Blame}
 use Rattle.bl_say.specs.declared.told.blame.Blame.TheVariants as blames
 use Rattle.bl_say.specs.BlameLines.{blame_line}
-use Rattle.bl_say.specs.HexHints.{pool_hints, size_hint}
+use Rattle.bl_say.specs.RadixHints.{pool_hints, size_hint}
 use Rattle.bl_say.specs.PoolLines.{pool_lines}
 use Rattle.bl_say.specs.WordHints.{key_hint}
 

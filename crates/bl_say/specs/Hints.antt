@@ -55,8 +55,9 @@ kernel_hint_of entries sought refused =
 
 -- ---- usable regions that are not made of whole frames
 
-abbrev pub is_in_frame : ℕ → Bool
-is_in_frame a = not (a % frame_size == 0)
+-- an address that is no multiple of a frame's size
+abbrev pub is_unaligned : ℕ → Bool
+is_unaligned a = not (a % frame_size == 0)
 
 abbrev pub begins_line : ℕ → List ℕ
 begins_line index = codes "hint: region " ++ decimal index ++ codes " begins within a frame\n"
@@ -65,10 +66,10 @@ abbrev pub ends_line : ℕ → List ℕ
 ends_line index = codes "hint: region " ++ decimal index ++ codes " ends within a frame\n"
 
 abbrev pub begin_hint : ℕ → Region → List ℕ
-begin_hint index region = if is_in_frame region.base then begins_line index else []
+begin_hint index region = if is_unaligned region.base then begins_line index else []
 
 abbrev pub end_hint : ℕ → Region → List ℕ
-end_hint index region = if is_in_frame (region_end region) then ends_line index else []
+end_hint index region = if is_unaligned (region_end region) then ends_line index else []
 
 -- of kind usable, which has the number 1
 abbrev pub region_hint : ℕ → Region → List ℕ

@@ -16,5 +16,5 @@ pub mod BlameLines
 pub mod Near
 pub mod WordHints
 pub mod PoolLines
-pub mod HexHints
+pub mod RadixHints
 pub mod BlameHints

@@ -11,7 +11,7 @@ ghost use Rattle.bl_abi.specs.declared.given_fault.GivenFault.{GivenFault};
 ghost use Rattle.bl_handle.specs.declared.handle_fault.HandleFault.{HandleFault};
 ghost use Rattle.bl_handle.specs.declared.handle_fault.HandleFault.TheVariants.{NoSession};
 ghost use Rattle.bl_handle.specs.Told.{TellsRequest, progress_status, record_ticket};
-ghost use Rattle.bl_handle.specs.Turned.{IsStarted, IsTold};
+ghost use Rattle.bl_handle.specs.Turned.{IsStarted, IsStepped};
 
 use bl_abi::{
     ByteRange, EntryRecord, Given, GivenFault, HandoffRecord, MachineRecord, ModuleRecord,
@@ -86,7 +86,7 @@ pub extern "C" fn bootcore_session_piece_arrays(
     bytes: &[u8],
 ) -> u32
     ensures { (told : Result Progress HandleFault)
-        × IsTold session.old.kept session.new.kept base memory.old memory.new
+        × IsStepped session.old.kept session.new.kept base memory.old memory.new
         (piece (record_ticket request.now) bytes.now) told
         × (result ≡ progress_status told) }
 {
@@ -103,7 +103,7 @@ pub extern "C" fn bootcore_session_fault_array(
     request: &RequestRecord,
 ) -> u32
     ensures { (told : Result Progress HandleFault)
-        × IsTold session.old.kept session.new.kept base memory.old memory.new
+        × IsStepped session.old.kept session.new.kept base memory.old memory.new
         (fault (record_ticket request.now)) told
         × (result ≡ progress_status told) }
 {

@@ -7,7 +7,7 @@ use std::alloc::{AllocError, Allocator};
 
 /// Appends the line of an entry that was refused: its index in the menu, and the refusal's number.
 /// An error leaves the text as it was.
-pub fn say_refused<A: Allocator + Copy>(
+fn say_refused<A: Allocator + Copy>(
     out: &mut Vec<u8, A>,
     entry: u64,
     number: u64,

@@ -9,7 +9,7 @@ use std::alloc::{AllocError, Allocator};
 
 /// Whether the region begins within a frame.
 fn begins_in_frame(region: &Region) -> bool
-    ensures { result ≡ hints.is_in_frame region.now.base }
+    ensures { result ≡ hints.is_unaligned region.now.base }
 {
     region.base % FRAME != 0
 }
@@ -17,7 +17,7 @@ fn begins_in_frame(region: &Region) -> bool
 /// Whether the region ends within a frame.
 #[tactic(auto, using(crate::proofs::FrameLemmas::frame_sum))]
 fn ends_in_frame(region: &Region) -> bool
-    ensures { result ≡ hints.is_in_frame (region_end region.now) }
+    ensures { result ≡ hints.is_unaligned (region_end region.now) }
 {
     (region.base % FRAME + region.length % FRAME) % FRAME != 0
 }

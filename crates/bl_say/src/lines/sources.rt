@@ -6,7 +6,7 @@ ghost use Rattle.bl_say.specs.Sources as sources;
 ghost use Rattle.bl_say.specs.Sources.{source_at, source_words};
 ghost use Rattle.bl_desc.specs.Views.{entry_view, form_view};
 
-use crate::lines::ranges::{say_file, say_segments};
+use crate::lines::file_ranges::{say_file, say_segments};
 use crate::told::{KernelSegments, Sought};
 use bl_desc::{EntryForm, EntryRow};
 use bl_load::{Place, Role};

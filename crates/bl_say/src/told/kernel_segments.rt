@@ -40,12 +40,14 @@ impl<A: Allocator> KernelSegments<A> {
         }
     }
 
+    /// The segments in their order.
     pub fn segments(&self) -> &[Segment]
         ensures { result.now ≡ self.now.segments }
     {
         self.segments.as_slice()
     }
 
+    /// Whether they are handed over as one part.
     pub fn is_block(&self) -> bool
         ensures { result ≡ self.now.is_block }
     {

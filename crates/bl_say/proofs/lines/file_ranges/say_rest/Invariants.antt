@@ -1,7 +1,7 @@
 use Rattle.std.proofs.Common.{◌≡◌, ◌++◌, take}
 use Rattle.std.specs.List.{flat_map}
 use Rattle.bl_say.specs.Sources.{next_words}
-use Rattle.bl_say.proofs.lines.ranges.say_rest.Given as goal
+use Rattle.bl_say.proofs.lines.file_ranges.say_rest.Given as goal
 
 abbrev pub invariant-loop-segment : goal.invariant-loop-segment
 invariant-loop-segment g l =

@@ -9,7 +9,7 @@ use Rattle.std.specs.Str.Parse.{without_leading_plus}
 use Rattle.std.proofs.lemmas.Bool.{cases_lt, le-ltb, lt-ltb}
 use Rattle.std.proofs.lemmas.Fmt.{decimal_is_IsNumeral}
 use Rattle.std.proofs.lemmas.Str.Parse.{without_leading_plus_none}
-use Rattle.bl_say.specs.HexHints.{digits_as_hex}
+use Rattle.bl_say.specs.RadixHints.{digits_as_hex}
 
 -- decimal digits are hexadecimal ones
 wider : (ds : List ℕ) → AllDigits 10 ds → AllDigits 16 ds

@@ -1,6 +1,6 @@
 //! Hints on numbers of a machine that were written without `0x`, line by line.
 ghost use Rattle.std.specs.Prelude.{◌≡◌, ◌++◌, OnOk, IfOk};
-ghost use Rattle.bl_say.specs.HexHints as hints;
+ghost use Rattle.bl_say.specs.RadixHints as hints;
 ghost use Rattle.bl_say.specs.Hints as lines;
 
 use bl_map::{FRAME, MAX_SIZE, MIN_SIZE};
@@ -8,7 +8,7 @@ use std::alloc::{AllocError, Allocator};
 use std::ops::Range;
 
 /// The number that the decimal digits of a number write as hexadecimal ones, below 2^64.
-#[tactic(auto, using(crate::proofs::HexHintLemmas::hex_parsed))]
+#[tactic(auto, using(crate::proofs::RadixHintLemmas::hex_parsed))]
 fn digits_as_hex<A: Allocator>(alloc: A, n: u64) -> Result<Option<u64>, AllocError>
     ensures { IfOk result (λ reading. reading ≡ hints.digits_as_hex n) }
 {
@@ -36,8 +36,8 @@ fn is_size(n: u64) -> bool
     n % FRAME == 0
 }
 
-fn is_in_frame(n: u64) -> bool
-    ensures { result ≡ lines.is_in_frame n }
+fn is_unaligned(n: u64) -> bool
+    ensures { result ≡ lines.is_unaligned n }
 {
     n % FRAME != 0
 }
@@ -45,7 +45,7 @@ fn is_in_frame(n: u64) -> bool
 fn is_pool_end(size: u64, n: u64) -> bool
     ensures { result ≡ hints.is_pool_end size n }
 {
-    if is_in_frame(n) {
+    if is_unaligned(n) {
         return false;
     }
     n <= size
@@ -75,7 +75,7 @@ fn say_pool_end_hint<A: Allocator + Copy>(
 ) -> Result<(), AllocError>
     ensures { OnOk result (out.new.items ≡ out.old.items ++ hints.pool_end_hint size n) }
 {
-    if !is_in_frame(n) {
+    if !is_unaligned(n) {
         return Ok(());
     }
     let alloc = *out.allocator();

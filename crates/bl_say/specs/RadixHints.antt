@@ -4,7 +4,7 @@ use Rattle.std.specs.Prelude.{List, [], ◌++◌, Option, Some, None, codes, dec
 use Rattle.std.specs.Str.Parse.{digits_value}
 use Rattle.std.specs.declared.ops.Range.{Range}
 use Rattle.bl_map.specs.Limits.{frame_size, max_size, min_size}
-use Rattle.bl_say.specs.Hints.{is_in_frame}
+use Rattle.bl_say.specs.Hints.{is_unaligned}
 
 -- the number that the decimal digits of a number write as hexadecimal ones, below 2^64
 unfoldable pub digits_as_hex : ℕ → Option ℕ
@@ -34,11 +34,11 @@ size_hint size = hex_hint is_size size
 
 -- one that may be the start or the end of a pool in a machine of this size
 abbrev pub is_pool_end : (size n : ℕ) → Bool
-is_pool_end size n = not (is_in_frame n) && nat_le n size
+is_pool_end size n = not (is_unaligned n) && nat_le n size
 
 -- on one of a pool's two numbers that is not in whole frames
 abbrev pub pool_end_hint : (size n : ℕ) → List ℕ
-pool_end_hint size n = if is_in_frame n then hex_hint (is_pool_end size) n else []
+pool_end_hint size n = if is_unaligned n then hex_hint (is_pool_end size) n else []
 
 abbrev pub pool_hints : ℕ → Range ℕ → List ℕ
 pool_hints size pool = pool_end_hint size pool.start ++ pool_end_hint size pool.end
