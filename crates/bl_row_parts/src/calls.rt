@@ -2,7 +2,7 @@
 
 use crate::attempts::{menu, run, steps};
 use crate::{
-    describe, handoff, image, line, loaded, parts, read_image, read_info, reasons, refusal,
+    describe, handoff, image, line, loaded, made, parts, read_image, read_info, reasons, refusal,
     registers, rewrite, sink, unplaced, walk, write_info,
 };
 use bl_rows::calls::is_one_of;
@@ -26,6 +26,9 @@ pub fn make_plain(row: &mut Row<'_>, name: &str) -> bool {
         "frames_for" => reasons::answer_frames(row),
         "sink" => sink::answer(row),
         "line" => line::answer(row),
+        "text" => describe::answer_text(row),
+        "made_image" => made::answer(row),
+        "made_images" => made::answer_each(row),
         "menu" => menu::answer(row),
         "run" => run::answer(row),
         "session" => steps::answer(row),

@@ -1,8 +1,9 @@
 //! `describe BYTES`: what a description says; `named NAME of BYTES`: the bytes that its file of
-//! this name has.
+//! this name has; `text WORD`: a text made of a string of one's own, and the string that it gives
+//! back.
 
 use crate::entry::say_copy;
-use bl_desc::{DescFault, Description, EntryForm, EntryRow, read_description};
+use bl_desc::{DescFault, Description, EntryForm, EntryRow, Text, read_description};
 use bl_refusing::Refusing;
 use bl_rows::row::Row;
 
@@ -90,4 +91,12 @@ pub fn answer_named(row: &mut Row<'_>) {
         Ok(description) => say_named(row, &description),
         Err(_) => row.refuse(),
     }
+}
+
+/// Makes a text of a string.
+pub fn answer_text(row: &mut Row<'_>) {
+    let word = row.word();
+    let text = Text::from(row.text_of(word));
+    row.say_quoted("", text.as_str());
+    row.say_quoted(" ", text.into_string().as_str());
 }

@@ -25,7 +25,7 @@ fn loaded_entry<'a>(row: &mut Row<'a>) -> Option<LoadedEntry<'a>>
 
 /// Writes the image to a sink in memory of this limit and step, and says how it ended. None where
 /// memory ran out for the sink.
-fn written<'h>(
+pub fn written<'h>(
     row: &mut Row<'_>,
     heap: &'h Refusing,
     loaded: &LoadedEntry<'h>,
@@ -44,7 +44,7 @@ fn written<'h>(
 }
 
 /// Writes the image to sinks of each limit. None where memory ran out for one.
-fn written_to_each<'h>(
+pub fn written_to_each<'h>(
     row: &mut Row<'_>,
     heap: &'h Refusing,
     loaded: &LoadedEntry<'h>,

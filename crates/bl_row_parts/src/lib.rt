@@ -10,6 +10,7 @@ mod handoff;
 mod image;
 mod line;
 mod loaded;
+mod made;
 mod pairs;
 mod parts;
 mod prepared;

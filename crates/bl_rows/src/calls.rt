@@ -12,6 +12,7 @@ mod own;
 mod paging;
 mod places;
 mod plan;
+mod refusing;
 mod segments;
 mod spell;
 mod stage;
@@ -67,6 +68,9 @@ fn make_other(row: &mut Row<'_>, name: &str) {
         "gdt" => linux::answer_gdt(row),
         "gdt64" => paging::answer_gdt64(row),
         "page_tables" => paging::answer_tables(row),
+        "refusing" => refusing::answer(row),
+        "refused_vector" => refusing::answer_vector(row),
+        "refused_shrink" => refusing::answer_shrink(row),
         _ => row.refuse(),
     }
 }

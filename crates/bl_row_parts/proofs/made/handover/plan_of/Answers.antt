@@ -2,8 +2,8 @@ use Rattle.std.proofs.Common.{◌≡◌, ◌+◌, [], ◌∷◌, arith, refl}
 use Rattle.std.proofs.lemmas.Grind.{common_steps}
 use Rattle.bl_plan.specs.declared.part.Place.{Place}
 use Rattle.bl_plan.specs.declared.part.Role.TheVariants.{Kernel, Module}
-use Rattle.bl_tests.proofs.PlanLemmas.{part_of, two_loadable}
-use Rattle.bl_tests.proofs.image_writing.loaded.plan_of.Goals as goal
+use Rattle.bl_row_parts.proofs.PlanLemmas.{part_of, two_loadable}
+use Rattle.bl_row_parts.proofs.made.handover.plan_of.Goals as goal
 
 pub returns : goal.returns
 returns g c = λ size low wide some.

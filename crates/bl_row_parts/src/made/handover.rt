@@ -116,7 +116,7 @@ fn loaded_from<A: Allocator + Copy>(
 }
 
 /// Memory with a part of five bytes and one of `long` bytes, and what is handed over with it.
-pub fn loaded<A: Allocator + Copy>(alloc: A, long: u64) -> Result<(Flat<A>, Handoff<A>), AllocError>
+pub fn made<A: Allocator + Copy>(alloc: A, long: u64) -> Result<(Flat<A>, Handoff<A>), AllocError>
     requires low { 95 ≤ long }
     requires high { long ≤ 2 ^ 20 }
     ensures { IfOk result (λ made. All

@@ -1,5 +1,5 @@
 use Rattle.std.proofs.Common.{◌≡◌, vec_len}
-use Rattle.bl_tests.proofs.image_writing.loaded.file_of.Given as goal
+use Rattle.bl_row_parts.proofs.made.handover.file_of.Given as goal
 
 -- a byte for each number so far
 abbrev pub invariant-loop-i : goal.invariant-loop-i

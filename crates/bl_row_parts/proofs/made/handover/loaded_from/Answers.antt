@@ -1,6 +1,6 @@
 use Rattle.std.proofs.Common.{◌+◌, ◌∙◌, arith, ap, length}
 use Rattle.std.proofs.lemmas.List.{length-replicate}
-use Rattle.bl_tests.proofs.image_writing.loaded.loaded_from.Goals as goal
+use Rattle.bl_row_parts.proofs.made.handover.loaded_from.Goals as goal
 
 pub load-handoff-requires-clause-loadable : goal.load-handoff-requires-clause-loadable
 load-handoff-requires-clause-loadable g c =
