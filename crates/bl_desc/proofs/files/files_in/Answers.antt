@@ -28,3 +28,9 @@ returns-in_err-file g c =
     (one_fails (in_table file_in) c.args.items.now c.loop-item.item-index c.item-item.result
     (map file_view c.loop-item.files.items) _ c.loop-item-test.true c.item-item.is
     c.in_err-file.ensures c.loop-item.invariant)
+
+pub returns-in_err-push : goal.returns-in_err-push
+returns-in_err-push g c =
+    let p =
+    err_from_is_err_and c.from_residual-in_err-push.result c.from_residual-in_err-push.ensures.1 in
+    rw (p.1, p.2) tt
