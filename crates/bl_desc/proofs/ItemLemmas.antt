@@ -27,6 +27,11 @@ no_range_long (a ∷ []) h = absurd (omega arith)
 no_range_long (a ∷ b ∷ []) h = absurd (omega arith)
 no_range_long (a ∷ b ∷ c ∷ vs) h = refl
 
+-- before the first item nothing was read
+pub front_none : {Y : Type 0} (rest : Option (List Y)) → with_front [] rest ≡ rest
+front_none None = refl
+front_none (Some ys) = refl
+
 -- an item that was read goes from what is still read to what was read before
 front_grows : {Y : Type 0} (front : List Y) (y : Y) (rest : Option (List Y))
     → with_front (front ++ y ∷ []) rest ≡ with_front front (rest >>= λ ys. Some (y ∷ ys))

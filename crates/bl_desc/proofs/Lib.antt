@@ -1,4 +1,5 @@
 pub mod ItemLemmas
+pub mod TablesLemmas
 pub mod FileLemmas
 pub mod NameLemmas
 pub mod KeyLemmas

@@ -45,6 +45,22 @@ fn title_in(table: &Table) -> Result<&str, DescFault>
     Ok(title)
 }
 
+/// Texts of one's own: a title, a kernel and a line.
+fn own_texts<A: Allocator + Copy>(
+    alloc: A,
+    title: &str,
+    kernel: &str,
+    line: &str,
+) -> Result<(Text<A>, Text<A>, Text<A>), AllocError>
+    ensures { IfOk result (λ own.
+        (own.0 ≡ title.now) × (own.1 ≡ kernel.now) × (own.2 ≡ line.now)) }
+{
+    let title = Text::from_str(alloc, title)?;
+    let kernel = Text::from_str(alloc, kernel)?;
+    let line = Text::from_str(alloc, line)?;
+    Ok((title, kernel, line))
+}
+
 /// An entry with texts of its own.
 fn entry_with<A: Allocator + Copy>(
     alloc: A,
@@ -62,13 +78,11 @@ fn entry_with<A: Allocator + Copy>(
       form = form_view form;
     }) }
 {
-    let title = Text::from_str(alloc, title)?;
-    let kernel = Text::from_str(alloc, kernel)?;
-    let line = Text::from_str(alloc, line)?;
+    let own = own_texts(alloc, title, kernel, line)?;
     Ok(EntryRow {
-        title,
-        kernel,
-        line,
+        title: own.0,
+        kernel: own.1,
+        line: own.2,
         form,
     })
 }

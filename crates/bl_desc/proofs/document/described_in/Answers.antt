@@ -11,6 +11,92 @@ returns-clause-menu g c =
     let fallbacks = rw c.deref-2.ensures.value at c.in_ok-fallbacks.ensures.inside in
     (count.0, count.1, default, fallbacks)
 
+pub returns-then-not-has_only-clause-given : goal.returns-then-not-has_only-clause-given
+unfolding spec.described_in
+returns-then-not-has_only-clause-given g c =
+    let known = sym c.has_only.ensures ∙ c.if-not-has_only.true in
+    rw known refl
+
+pub returns-in_err-size-clause-given : goal.returns-in_err-size-clause-given
+unfolding spec.described_in
+returns-in_err-size-clause-given g c =
+    let known = sym c.has_only.ensures ∙ c.if-not-has_only.false in
+    let p = err_from_is_err_and c.from_residual.result c.from_residual.ensures.1 in
+    rw (p.1, p.2, known) (fails_on _ _ _ c.in_err-size.ensures)
+
+pub returns-in_err-pool-clause-given : goal.returns-in_err-pool-clause-given
+unfolding spec.described_in
+returns-in_err-pool-clause-given g c =
+    let known = sym c.has_only.ensures ∙ c.if-not-has_only.false in
+    let p =
+    err_from_is_err_and c.from_residual-in_err-pool.result c.from_residual-in_err-pool.ensures.1 in
+    rw (p.1, p.2, known, c.in_ok-size.ensures) (fails_on _ _ _ c.in_err-pool.ensures)
+
+pub returns-in_err-fill-clause-given : goal.returns-in_err-fill-clause-given
+unfolding spec.described_in
+returns-in_err-fill-clause-given g c =
+    let known = sym c.has_only.ensures ∙ c.if-not-has_only.false in
+    let p =
+    err_from_is_err_and c.from_residual-in_err-fill.result c.from_residual-in_err-fill.ensures.1 in
+    rw (
+      p.1,
+      p.2,
+      known,
+      c.in_ok-size.ensures,
+      c.in_ok-pool.ensures,
+    ) (fails_on _ _ _ c.in_err-fill.ensures)
+
+pub returns-in_err-regions-clause-given : goal.returns-in_err-regions-clause-given
+unfolding spec.described_in
+returns-in_err-regions-clause-given g c =
+    let known = sym c.has_only.ensures ∙ c.if-not-has_only.false in
+    let p =
+    err_from_is_err_and c.from_residual-in_err-regions.result
+    c.from_residual-in_err-regions.ensures.1 in
+    rw (
+      p.1,
+      p.2,
+      known,
+      c.in_ok-size.ensures,
+      c.in_ok-pool.ensures,
+      c.in_ok-fill.ensures,
+    ) (fails_on _ _ _ c.in_err-regions.ensures)
+
+pub returns-in_err-files-clause-given : goal.returns-in_err-files-clause-given
+unfolding spec.described_in
+returns-in_err-files-clause-given g c =
+    let known = sym c.has_only.ensures ∙ c.if-not-has_only.false in
+    let p =
+    err_from_is_err_and c.from_residual-in_err-files.result
+    c.from_residual-in_err-files.ensures.1 in
+    rw (
+      p.1,
+      p.2,
+      known,
+      c.in_ok-size.ensures,
+      c.in_ok-pool.ensures,
+      c.in_ok-fill.ensures,
+      c.in_ok-regions.ensures,
+    ) (fails_on _ _ _ c.in_err-files.ensures)
+
+pub returns-in_err-entries-clause-given : goal.returns-in_err-entries-clause-given
+unfolding spec.described_in
+returns-in_err-entries-clause-given g c =
+    let known = sym c.has_only.ensures ∙ c.if-not-has_only.false in
+    let p =
+    err_from_is_err_and c.from_residual-in_err-entries.result
+    c.from_residual-in_err-entries.ensures.1 in
+    rw (
+      p.1,
+      p.2,
+      known,
+      c.in_ok-size.ensures,
+      c.in_ok-pool.ensures,
+      c.in_ok-fill.ensures,
+      c.in_ok-regions.ensures,
+      c.in_ok-files.ensures,
+    ) (fails_on _ _ _ c.in_err-entries.ensures.given)
+
 pub returns-in_err-default-clause-given : goal.returns-in_err-default-clause-given
 unfolding spec.described_in
 returns-in_err-default-clause-given g c =
@@ -70,3 +156,55 @@ returns-clause-given g c =
       default,
       fallbacks,
     ) refl
+
+pub returns-in_err-size-clause-menu : goal.returns-in_err-size-clause-menu
+returns-in_err-size-clause-menu g c =
+    let p = err_from_is_err_and c.from_residual.result c.from_residual.ensures.1 in
+    rw p.1 tt
+
+pub returns-in_err-pool-clause-menu : goal.returns-in_err-pool-clause-menu
+returns-in_err-pool-clause-menu g c =
+    let p =
+    err_from_is_err_and c.from_residual-in_err-pool.result c.from_residual-in_err-pool.ensures.1 in
+    rw p.1 tt
+
+pub returns-in_err-fill-clause-menu : goal.returns-in_err-fill-clause-menu
+returns-in_err-fill-clause-menu g c =
+    let p =
+    err_from_is_err_and c.from_residual-in_err-fill.result c.from_residual-in_err-fill.ensures.1 in
+    rw p.1 tt
+
+pub returns-in_err-regions-clause-menu : goal.returns-in_err-regions-clause-menu
+returns-in_err-regions-clause-menu g c =
+    let p =
+    err_from_is_err_and c.from_residual-in_err-regions.result
+    c.from_residual-in_err-regions.ensures.1 in
+    rw p.1 tt
+
+pub returns-in_err-files-clause-menu : goal.returns-in_err-files-clause-menu
+returns-in_err-files-clause-menu g c =
+    let p =
+    err_from_is_err_and c.from_residual-in_err-files.result
+    c.from_residual-in_err-files.ensures.1 in
+    rw p.1 tt
+
+pub returns-in_err-entries-clause-menu : goal.returns-in_err-entries-clause-menu
+returns-in_err-entries-clause-menu g c =
+    let p =
+    err_from_is_err_and c.from_residual-in_err-entries.result
+    c.from_residual-in_err-entries.ensures.1 in
+    rw p.1 tt
+
+pub returns-in_err-default-clause-menu : goal.returns-in_err-default-clause-menu
+returns-in_err-default-clause-menu g c =
+    let p =
+    err_from_is_err_and c.from_residual-in_err-default.result
+    c.from_residual-in_err-default.ensures.1 in
+    rw p.1 tt
+
+pub returns-in_err-fallbacks-clause-menu : goal.returns-in_err-fallbacks-clause-menu
+returns-in_err-fallbacks-clause-menu g c =
+    let p =
+    err_from_is_err_and c.from_residual-in_err-fallbacks.result
+    c.from_residual-in_err-fallbacks.ensures.1 in
+    rw p.1 tt

@@ -1,5 +1,6 @@
 use Rattle.std.proofs.Common.{◌≡◌, ◌+◌, true, false, Some, map, take, rules, sym, ap, ◌∙◌}
 use Rattle.std.specs.Str.{bytes_eq}
+use Rattle.std.proofs.lemmas.Result.{err_from_is_err_and}
 use Rattle.std.proofs.lemmas.Map.Text.{is_eq-slice_cmp}
 use Rattle.bl_desc.specs.Described.{has_file, names_differ}
 use Rattle.bl_desc.specs.Views.{file_view}
@@ -41,3 +42,8 @@ loop-file-preserved g c =
           (is_eq-slice_cmp key.now q.now ∙ ap (λ name. bytes_eq name q.now) c.as_str.ensures)
           ∙ ap (has_file q.now) (sym next);
     }
+
+pub returns-in_err-insert : goal.returns-in_err-insert
+returns-in_err-insert g c =
+    let p = err_from_is_err_and c.from_residual.result c.from_residual.ensures.1 in
+    rw (p.1, p.2) tt

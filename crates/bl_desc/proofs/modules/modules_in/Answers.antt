@@ -1,10 +1,13 @@
-use Rattle.std.proofs.Common.{◌∙◌, map, arith}
+use Rattle.std.proofs.Common.{◌∙◌, map}
 use Rattle.std.proofs.lemmas.Result.{err_from_is_err_and}
 use Rattle.bl_desc.specs.Values.{in_table}
 use Rattle.bl_desc.specs.Entries.{module_in}
 use Rattle.bl_desc.specs.Views.{module_view}
-use Rattle.bl_desc.proofs.ItemLemmas.{one_more, all_read, one_fails}
+use Rattle.bl_desc.proofs.ItemLemmas.{front_none, one_more, all_read, one_fails}
 use Rattle.bl_desc.proofs.modules.modules_in.Goals as goal
+
+pub loop-item-init : goal.loop-item-init
+loop-item-init g c = rw c.new-modules.ensures.items (front_none _)
 
 pub loop-item-preserved : goal.loop-item-preserved
 loop-item-preserved g c =
@@ -19,7 +22,7 @@ pub returns : goal.returns
 returns g c =
     all_read (in_table module_in) c.args.items.now c.loop-item.item-index
     (map module_view c.loop-item.modules.items)
-    (omega (arith, c.loop-item-test.false)) c.loop-item.invariant
+    c.loop-item-test.false c.loop-item.invariant
 
 pub returns-in_err-module : goal.returns-in_err-module
 returns-in_err-module g c =
@@ -28,3 +31,9 @@ returns-in_err-module g c =
     (one_fails (in_table module_in) c.args.items.now c.loop-item.item-index c.item-item.result
     (map module_view c.loop-item.modules.items) _ c.loop-item-test.true c.item-item.is
     c.in_err-module.ensures c.loop-item.invariant)
+
+pub returns-in_err-push : goal.returns-in_err-push
+returns-in_err-push g c =
+    let p =
+    err_from_is_err_and c.from_residual-in_err-push.result c.from_residual-in_err-push.ensures.1 in
+    rw (p.1, p.2) tt

@@ -1,9 +1,12 @@
-use Rattle.std.proofs.Common.{◌∙◌, arith}
+use Rattle.std.proofs.Common.{◌∙◌}
 use Rattle.std.proofs.lemmas.Result.{err_from_is_err_and}
 use Rattle.bl_desc.specs.Values.{in_table}
 use Rattle.bl_desc.specs.Described.{region_in}
-use Rattle.bl_desc.proofs.ItemLemmas.{one_read, all_read, one_fails}
+use Rattle.bl_desc.proofs.ItemLemmas.{front_none, one_read, all_read, one_fails}
 use Rattle.bl_desc.proofs.regions.regions_in.Goals as goal
+
+pub loop-item-init : goal.loop-item-init
+loop-item-init g c = rw c.new-regions.ensures.items (front_none _)
 
 pub loop-item-preserved : goal.loop-item-preserved
 loop-item-preserved g c =
@@ -16,7 +19,7 @@ loop-item-preserved g c =
 pub returns : goal.returns
 returns g c =
     all_read (in_table region_in) c.args.items.now c.loop-item.item-index
-    c.loop-item.regions.items (omega (arith, c.loop-item-test.false)) c.loop-item.invariant
+    c.loop-item.regions.items c.loop-item-test.false c.loop-item.invariant
 
 pub returns-in_err-region : goal.returns-in_err-region
 returns-in_err-region g c =
@@ -25,3 +28,9 @@ returns-in_err-region g c =
     (one_fails (in_table region_in) c.args.items.now c.loop-item.item-index c.item-item.result
     c.loop-item.regions.items _ c.loop-item-test.true c.item-item.is
     c.in_err-region.ensures c.loop-item.invariant)
+
+pub returns-in_err-push : goal.returns-in_err-push
+returns-in_err-push g c =
+    let p =
+    err_from_is_err_and c.from_residual-in_err-push.result c.from_residual-in_err-push.ensures.1 in
+    rw (p.1, p.2) tt
