@@ -1,5 +1,6 @@
 mod TellLemmas
 mod ValueLemmas
+mod ListLemmas
 mod LoadLemmas
 mod BootLemmas
 mod PrepareLemmas

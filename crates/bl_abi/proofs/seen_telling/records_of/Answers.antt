@@ -1,4 +1,5 @@
 use Rattle.std.proofs.Common.{◌∙◌, ℕ, length, ap}
+use Rattle.std.proofs.lemmas.Result.{err_from_is_err_and}
 use Rattle.bl_abi.specs.SeenTold.{copy_range}
 use Rattle.bl_abi.proofs.seen_telling.records_of.Goals as goal
 
@@ -20,3 +21,44 @@ seen_told-requires-clause-new g c =
     rw (← c.seen.view_is)
     (c.in_ok-rsdp_new.ensures.range
     ∙ ap (λ (n : ℕ). copy_range n c.seen.inside.rsdp_new) (ap length upto))
+
+pub returns-in_err-text : goal.returns-in_err-text
+returns-in_err-text g c =
+    let end =
+    err_from_is_err_and c.from_residual.result c.from_residual.ensures.1 in
+    rw end.1 tt
+
+pub returns-in_err-add_modules : goal.returns-in_err-add_modules
+returns-in_err-add_modules g c =
+    let end =
+    err_from_is_err_and c.from_residual-in_err-add_modules.result
+    c.from_residual-in_err-add_modules.ensures.1 in
+    rw end.1 tt
+
+pub returns-in_err-rsdp_old : goal.returns-in_err-rsdp_old
+returns-in_err-rsdp_old g c =
+    let end =
+    err_from_is_err_and c.from_residual-in_err-rsdp_old.result
+    c.from_residual-in_err-rsdp_old.ensures.1 in
+    rw end.1 tt
+
+pub returns-in_err-rsdp_new : goal.returns-in_err-rsdp_new
+returns-in_err-rsdp_new g c =
+    let end =
+    err_from_is_err_and c.from_residual-in_err-rsdp_new.result
+    c.from_residual-in_err-rsdp_new.ensures.1 in
+    rw end.1 tt
+
+pub returns-in_err-parts_told : goal.returns-in_err-parts_told
+returns-in_err-parts_told g c =
+    let end =
+    err_from_is_err_and c.from_residual-in_err-parts_told.result
+    c.from_residual-in_err-parts_told.ensures.1 in
+    rw end.1 tt
+
+pub returns-in_err-runs_told : goal.returns-in_err-runs_told
+returns-in_err-runs_told g c =
+    let end =
+    err_from_is_err_and c.from_residual-in_err-runs_told.result
+    c.from_residual-in_err-runs_told.ensures.1 in
+    rw end.1 tt
