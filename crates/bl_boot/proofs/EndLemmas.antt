@@ -1,6 +1,6 @@
 -- How boots end.
 use Rattle.std.proofs.Common.{◌≡◌, ◌∙◌, ◌+◌, ◌≤◌, ◌++◌, ℕ, List, [], Some, Result, Ok, Err, All}
-use Rattle.std.proofs.Common.{IsSome, map, refl, sym, subst, arith}
+use Rattle.std.proofs.Common.{IsSome, inl, inr, map, refl, sym, subst, arith}
 use Rattle.std.proofs.lemmas.List.{append-nil}
 use Rattle.std.proofs.lemmas.Option.{same_Some}
 use Rattle.bl_map.specs.MachineFacts.{MachineFacts}
@@ -15,7 +15,9 @@ use Rattle.bl_session.specs.Outcome.{File, IsOutcome, no_fault, size_of, value_i
 use Rattle.bl_session.specs.Phases.{boot_facts}
 use Rattle.bl_desc.specs.declared.desc.Description.{Description}
 use Rattle.bl_desc.specs.Described.{Described, described, file_named}
-use Rattle.bl_desc.specs.Views.{view}
+use Rattle.bl_desc.specs.declared.fault.DescFault.{DescFault}
+use Rattle.bl_desc.specs.declared.fault.DescFault.TheVariants as desc_fault
+use Rattle.bl_desc.specs.Views.{AnswersNothing, view}
 use Rattle.bl_boot.specs.declared.description_boot.boot_end.End.{End}
 use Rattle.bl_boot.specs.declared.description_boot.boot_end.End.TheVariants.{Booted, NoEntryLeft}
 use Rattle.bl_boot.specs.declared.description_boot.boot_end.EndFault.{EndFault}
@@ -27,6 +29,7 @@ use Rattle.bl_boot.specs.Found.{AreFound, AsksFirst, names_asked}
 use Rattle.bl_boot.specs.Attempted.{names_in, menu_of, boot_of}
 use Rattle.bl_boot.specs.Ends.{IsMachineOf, BootCase, HasInlineFiles, names_sought, names_fetched}
 use Rattle.bl_boot.specs.Ends.{Surroundings}
+use Rattle.bl_boot.specs.Kept.{end_of_desc_fault}
 use Rattle.bl_boot.specs.Kept.{IsMachineFault, IsHandFault, HasFaults, HasAsked, FoundEnds, BootEnds}
 
 -- the sink has one fault more exactly if it had one while the image was written
@@ -72,6 +75,41 @@ pub asked_without : (description : Described) (names before : List (List ℕ)) (
 asked_without description names before BadDescription is = none_asked names before
 asked_without description names before Device is = absurd is
 asked_without description names before NoMemory is = none_asked names before
+
+-- nothing is described, or memory ran out: the boot ends as it began
+pub undescribed : {F : Type 0} (answers : F → List ℕ → File → Type 0) (faults : F → ℕ)
+    (desc : List ℕ) (around : Surroundings F) (fault : DescFault)
+    → AnswersNothing fault (described desc)
+    → BootEnds answers faults desc around around (Err (end_of_desc_fault fault))
+undescribed answers faults desc around desc_fault.BadDescription none = (inl none, refl)
+undescribed answers faults desc around desc_fault.NoMemory given = (refl, refl)
+
+pub sound_undescribed : (faults : ℕ) (fault : DescFault)
+    → HasFaults faults faults (Err (end_of_desc_fault fault))
+sound_undescribed faults desc_fault.BadDescription = refl
+sound_undescribed faults desc_fault.NoMemory = refl
+
+pub asked_undescribed : (names before : List (List ℕ)) (fault : DescFault)
+    → HasAsked names before before (Err (end_of_desc_fault fault))
+asked_undescribed names before desc_fault.BadDescription = none_asked names before
+asked_undescribed names before desc_fault.NoMemory = none_asked names before
+
+-- so it does where there is no such machine
+pub without_machine : {A F : Type 0} (desc : List ℕ) (d : Description A)
+    → described desc ≡ Some (view d)
+    → (answers : F → List ℕ → File → Type 0) (faults : F → ℕ) (around : Surroundings F)
+    (fault : EndFault) → IsMachineFault (view d) fault
+    → BootEnds answers faults desc around around (Err fault)
+without_machine desc d is answers faults around BadDescription bad =
+    (inr (view d, is, bad), refl)
+without_machine desc d is answers faults around Device never = absurd never
+without_machine desc d is answers faults around NoMemory given = (refl, refl)
+
+pub sound_without : (description : Described) (faults : ℕ) (fault : EndFault)
+    → IsMachineFault description fault → HasFaults faults faults (Err fault)
+sound_without description faults BadDescription bad = refl
+sound_without description faults Device never = absurd never
+sound_without description faults NoMemory given = refl
 
 -- all are, before the boot of what was found
 pub asked_by : (ended : Result End EndFault) (names before after : List (List ℕ))

@@ -1,5 +1,6 @@
 -- The names that are looked for.
-use Rattle.std.proofs.Common.{◌≡◌, ◌∙◌, ◌+◌, ◌*◌, ◌<◌, ◌≤◌, ℕ, zero, suc, List, [], ◌∷◌, ◌++◌, Bor}
+use Rattle.std.proofs.Common.{◌≡◌, ◌∙◌, ◌+◌, ◌*◌, ◌<◌, ◌≤◌, ◌^◌, ℕ, zero, suc, List, [], ◌∷◌, ◌++◌}
+use Rattle.std.proofs.Common.{Bor}
 use Rattle.std.proofs.Common.{Bool, true, false, Result, Ok, Err, IfOk, None, Some, if◌then◌else◌}
 use Rattle.std.proofs.Common.{length, map, drop, get_or, ap, sym, refl, arith, append_assoc}
 use Rattle.std.specs.Str.{bytes_eq}
@@ -133,6 +134,16 @@ pub as_many : (names : List (Bor (List ℕ))) (those : List (List ℕ)) → text
 as_many names those is =
     let kept : length (texts names) ≡ length names = rw length-map refl in
     sym kept ∙ ap length is
+
+-- so few names have places of 32 bits
+pub few_seen : (names seen : List (Bor (List ℕ))) → seen ≡ names → length names ≤ 32 * 65
+    → length seen < 2 ^ 32
+few_seen names seen same few = rw same (omega (arith, few))
+
+-- and the misses of so few are counted
+pub few_missing : (faults : ℕ) (names seen : List (Bor (List ℕ))) → seen ≡ names
+    → length names ≤ 32 * 65 → faults < 2 ^ 63 → faults + length seen < 2 ^ 64
+few_missing faults names seen same few sound = rw same (omega (arith, few, sound))
 
 pub few_kept : {T E : Type 0} (items : T → List (Bor (List ℕ))) (those : List (List ℕ)) (most : ℕ)
     (names : Result T E)

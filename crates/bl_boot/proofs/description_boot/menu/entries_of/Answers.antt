@@ -1,5 +1,5 @@
 use Rattle.std.proofs.Common.{map, arith}
-use Rattle.std.proofs.lemmas.List.{length-append}
+use Rattle.std.proofs.lemmas.List.{length-append, take_all}
 use Rattle.bl_load.specs.Value.{IsWithinLimits}
 use Rattle.bl_boot.proofs.MenuLemmas.{entries_more}
 use Rattle.bl_boot.proofs.ValueLemmas.{all_more}
@@ -19,3 +19,11 @@ loop-row-preserved g c =
       all_more IsWithinLimits entries _ entry c.in_ok-push.ensures.items c.loop-row.invariant.2
           c.in_ok-entry_of.ensures.few,
     )
+
+pub returns-clause-entries : goal.returns-clause-entries
+returns-clause-entries g c =
+    rw (take_all c.loop-row.row-index c.args.rows.now c.loop-row-test.false)
+    at c.loop-row.invariant.0
+
+pub returns-clause-few : goal.returns-clause-few
+returns-clause-few g c = c.loop-row.invariant.2

@@ -12,7 +12,99 @@ use Rattle.bl_boot.specs.Attempted.{boot_of, most_names, names_in}
 use Rattle.bl_boot.proofs.EndLemmas.{inline_in, sought, fetched, ends_by, asked_by, asked_without}
 use Rattle.bl_boot.proofs.EndLemmas.{none_asked, none_missing}
 use Rattle.bl_boot.proofs.NameLemmas.{as_many}
+use Rattle.bl_boot.proofs.EndLemmas.{asked_undescribed, sound_undescribed, sound_without}
+use Rattle.bl_boot.proofs.EndLemmas.{undescribed, without_machine}
+use Rattle.bl_boot.proofs.NameLemmas.{few_missing, few_seen}
 use Rattle.bl_boot.proofs.description_boot.whole_boot.run_boot.Goals as goal
+
+pub names_in-requires : goal.names_in-requires
+names_in-requires g c = c.in_ok-description.ensures.menu
+
+pub menu_of-requires-clause-menu : goal.menu_of-requires-clause-menu
+menu_of-requires-clause-menu g c = c.in_ok-description.ensures.menu
+
+pub menu_of-requires-clause-names : goal.menu_of-requires-clause-names
+menu_of-requires-clause-names g c = rw c.deref.ensures.value c.in_ok-names.ensures.names
+
+pub menu_of-requires-clause-few : goal.menu_of-requires-clause-few
+menu_of-requires-clause-few g c =
+    few_seen c.in_ok-names.names.items c.deref.result.now c.deref.ensures.value
+    c.in_ok-names.ensures.few
+
+pub find_files-requires : goal.find_files-requires
+find_files-requires g c =
+    few_missing (g.F.Files.faults c.args.files.now) c.in_ok-names.names.items
+    c.deref-2.result.now c.deref-2.ensures.value c.in_ok-names.ensures.few c.requires.files
+
+pub returns-in_err-found-clause-same_files : goal.returns-in_err-found-clause-same_files
+returns-in_err-found-clause-same_files g c = c.in_err-found.ensures.same
+
+pub returns-clause-same_files : goal.returns-clause-same_files
+returns-clause-same_files g c = c.in_ok-found.ensures.same
+
+pub boot_found-requires-clause-store : goal.boot_found-requires-clause-store
+boot_found-requires-clause-store g c = rw c.new-store.ensures refl
+
+pub boot_found-requires-clause-sink : goal.boot_found-requires-clause-sink
+boot_found-requires-clause-sink g c = c.requires.sink
+
+pub returns-in_err-description : goal.returns-in_err-description
+returns-in_err-description g c =
+    let p =
+    err_from_is_err_and c.from_residual.result
+    c.from_residual.ensures.1 in
+    rw (p.1, p.2)
+    (record {
+      ends = undescribed g.F.Files.answers g.F.Files.faults c.args.desc.now _ _
+          c.in_err-description.ensures.given;
+      faults = sound_undescribed (g.S.Sink.faults c.args.out.now) _;
+      asked = asked_undescribed (names_fetched (described c.args.desc.now))
+          (g.F.Files.asked c.args.files.now) _;
+      inline = λ _. refl;
+      same_files = λ file answer told. told;
+      missing = none_missing (g.F.Files.faults c.args.files.now)
+          (length (names_sought (described c.args.desc.now)));
+      few = (none_missing (g.F.Files.faults c.args.files.now) most_names).1;
+    })
+
+pub returns-in_err-machine : goal.returns-in_err-machine
+returns-in_err-machine g c =
+    let p =
+    err_from_is_err_and c.from_residual-in_err-machine.result
+    c.from_residual-in_err-machine.ensures.1 in
+    rw (p.1, p.2)
+    (record {
+      ends = without_machine c.args.desc.now c.in_ok-description.description
+          c.in_ok-description.ensures.given g.F.Files.answers g.F.Files.faults _ _
+          c.in_err-machine.ensures.fault;
+      faults = sound_without (view c.in_ok-description.description)
+          (g.S.Sink.faults c.args.out.now) _ c.in_err-machine.ensures.fault;
+      asked = asked_without (view c.in_ok-description.description)
+          (names_fetched (described c.args.desc.now)) (g.F.Files.asked c.args.files.now) _
+          c.in_err-machine.ensures.fault;
+      inline = λ _. refl;
+      same_files = λ file answer told. told;
+      missing = none_missing (g.F.Files.faults c.args.files.now)
+          (length (names_sought (described c.args.desc.now)));
+      few = (none_missing (g.F.Files.faults c.args.files.now) most_names).1;
+    })
+
+pub returns-in_err-found-clause-ends : goal.returns-in_err-found-clause-ends
+returns-in_err-found-clause-ends g c =
+    let p =
+    err_from_is_err_and c.from_residual-in_err-found.result c.from_residual-in_err-found.ensures.1
+    in
+    rw (p.1, p.2) (refl, refl)
+
+pub returns-in_err-found-clause-faults : goal.returns-in_err-found-clause-faults
+returns-in_err-found-clause-faults g c =
+    let p =
+    err_from_is_err_and c.from_residual-in_err-found.result c.from_residual-in_err-found.ensures.1
+    in
+    rw (p.1, p.2) refl
+
+pub returns-clause-faults : goal.returns-clause-faults
+returns-clause-faults g c = c.boot_found.ensures.faults
 
 pub returns-in_err-found-clause-inline : goal.returns-in_err-found-clause-inline
 returns-in_err-found-clause-inline g c = λ has. c.in_err-found.ensures.inline
@@ -78,16 +170,6 @@ returns-clause-few g c =
     let count : length c.deref-2.result.now ≡ length c.in_ok-names.names.items =
     ap length c.deref-2.ensures.value in
     omega (arith, missing.1, count, c.in_ok-names.ensures.few)
-
-pub returns-in_err-machine-clause-asked : goal.returns-in_err-machine-clause-asked
-returns-in_err-machine-clause-asked g c =
-    let p =
-    err_from_is_err_and c.from_residual-in_err-machine.result
-    c.from_residual-in_err-machine.ensures.1 in
-    rw (p.1, p.2)
-    (asked_without (view c.in_ok-description.description)
-    (names_fetched (described c.args.desc.now)) (g.F.Files.asked c.args.files.now) _
-    c.in_err-machine.ensures.fault)
 
 pub returns-in_err-names : goal.returns-in_err-names
 returns-in_err-names g c =

@@ -9,7 +9,45 @@ use Rattle.bl_boot.proofs.EndLemmas.{fetched, inline_in, none_asked, none_missin
 use Rattle.bl_boot.proofs.EndLemmas.{sought}
 use Rattle.bl_boot.proofs.ExplainEnds.{explain_asked, explained_by, unmade, unread}
 use Rattle.bl_boot.proofs.NameLemmas.{as_many}
+use Rattle.bl_boot.proofs.NameLemmas.{few_missing, few_seen}
 use Rattle.bl_boot.proofs.explanation.whole.run_explain.Goals as goal
+
+pub names_in-requires : goal.names_in-requires
+names_in-requires g c = c.in_ok-description.ensures.menu
+
+pub menu_of-requires-clause-menu : goal.menu_of-requires-clause-menu
+menu_of-requires-clause-menu g c = c.in_ok-description.ensures.menu
+
+pub menu_of-requires-clause-names : goal.menu_of-requires-clause-names
+menu_of-requires-clause-names g c = rw c.deref.ensures.value c.in_ok-names.ensures.names
+
+pub menu_of-requires-clause-few : goal.menu_of-requires-clause-few
+menu_of-requires-clause-few g c =
+    few_seen c.in_ok-names.names.items c.deref.result.now c.deref.ensures.value
+    c.in_ok-names.ensures.few
+
+pub find_files-requires : goal.find_files-requires
+find_files-requires g c =
+    few_missing (g.F.Files.faults c.args.files.now) c.in_ok-names.names.items
+    c.deref-2.result.now c.deref-2.ensures.value c.in_ok-names.ensures.few c.requires
+
+pub returns-in_err-found-clause-same_files : goal.returns-in_err-found-clause-same_files
+returns-in_err-found-clause-same_files g c = c.in_err-found.ensures.same
+
+pub returns-clause-same_files : goal.returns-clause-same_files
+returns-clause-same_files g c = c.in_ok-found.ensures.same
+
+pub explain_found-requires-clause-store : goal.explain_found-requires-clause-store
+explain_found-requires-clause-store g c = rw c.new-store.ensures refl
+
+pub explain_found-requires-clause-few : goal.explain_found-requires-clause-few
+explain_found-requires-clause-few g c = c.in_ok-description.ensures.menu.1
+
+pub explain_found-requires-clause-menu : goal.explain_found-requires-clause-menu
+explain_found-requires-clause-menu g c = c.in_ok-menu.ensures.menu
+
+pub explain_found-requires-clause-names : goal.explain_found-requires-clause-names
+explain_found-requires-clause-names g c = rw c.deref-3.ensures.value c.in_ok-names.ensures.names
 
 pub returns-in_err-description : goal.returns-in_err-description
 returns-in_err-description g c =
