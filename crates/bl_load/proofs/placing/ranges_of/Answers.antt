@@ -1,4 +1,5 @@
 use Rattle.std.proofs.Common.{◌+◌, ◌<◌, ◌^◌, arith, ap}
+use Rattle.std.proofs.lemmas.Result.{err_from_is_err_and}
 use Rattle.bl_plan.specs.declared.part.Place.{Place}
 use Rattle.bl_load.specs.declared.plan.PlannedPart.{PlannedPart}
 use Rattle.bl_load.specs.Place.{planned_place}
@@ -18,3 +19,14 @@ overflow_add-part g c =
       ap (λ (p : PlannedPart g.row.A.Denot). p.place.address) is,
       ap (λ (p : PlannedPart g.row.A.Denot). p.place.length) is,
     )
+
+pub returns-in_err-ranges : goal.returns-in_err-ranges
+returns-in_err-ranges g c =
+    let p = err_from_is_err_and c.from_residual.result c.from_residual.ensures.1 in
+    rw p.1 tt
+
+pub returns-in_err-push : goal.returns-in_err-push
+returns-in_err-push g c =
+    let p =
+    err_from_is_err_and c.from_residual-in_err-push.result c.from_residual-in_err-push.ensures.1 in
+    rw p.1 tt
