@@ -1,9 +1,13 @@
-use Rattle.std.proofs.Common.{◌≤◌, ℕ, length, arith, refl}
+use Rattle.std.proofs.Common.{◌≤◌, ℕ, List, length, map, slice_index, arith, refl}
+use Rattle.std.proofs.Common.{ap, ap₂, subst, sym, ◌∙◌}
 use Rattle.std.proofs.lemmas.Result.{err_from_is_err_and}
 use Rattle.std.specs.declared.ops.Range.{Range}
 use Rattle.std.proofs.lemmas.List.Elements.{All-map}
 use Rattle.bl_plan.specs.Placed.{place_range}
+use Rattle.bl_load.specs.Handover.{Handover, written}
+use Rattle.bl_load.specs.Parts.{IsHandover}
 use Rattle.bl_load.specs.PlanFacts.{places_of}
+use Rattle.bl_load.specs.Value.{value_of}
 use Rattle.bl_load.proofs.MemoryLemmas.{keeps_all, keeps_on}
 use Rattle.bl_load.proofs.entry_loading.load_entry.Goals as goal
 
@@ -114,3 +118,34 @@ returns-clause-fault g c = tt
 
 pub returns-clause-unchanged : goal.returns-clause-unchanged
 returns-clause-unchanged g c = tt
+
+pub returns-clause-handover : goal.returns-clause-handover
+returns-clause-handover g c =
+    subst
+    (IsHandover c.args.machine.now
+    (value_of (map g.V.ByteView.bytes c.args.files.now) c.args.entry.now))
+    (sym c.load.ensures.handed) c.in_ok-plan.ensures.handover
+
+pub returns-clause-after : goal.returns-clause-after
+returns-clause-after g c =
+    c.load.ensures.after
+    ∙ ap₂ (λ (handover : Handover) (bytes : List ℕ). written handover.parts bytes)
+    (sym c.load.ensures.handed) c.reserve.ensures.same
+
+pub returns-clause-elsewhere : goal.returns-clause-elsewhere
+returns-clause-elsewhere g c =
+    λ a out. let beside = rw c.load.ensures.places at out in
+    c.load.ensures.elsewhere a beside
+    ∙ ap (λ (bytes : List ℕ). slice_index bytes a) c.reserve.ensures.same
+
+pub returns-clause-inside : goal.returns-clause-inside
+returns-clause-inside g c = rw c.load.ensures.places c.in_ok-plan.ensures.loadable.inside
+
+pub load-requires-clause-loadable : goal.load-requires-clause-loadable
+load-requires-clause-loadable g c = record {
+  backed = c.in_ok-plan.ensures.loadable.backed;
+  inside =
+      λ k d h. let i = c.in_ok-plan.ensures.loadable.inside k d h in
+      omega (arith, i, c.requires.size, c.reserve.ensures.kept.size);
+  kept = c.in_ok-plan.ensures.loadable.kept;
+}

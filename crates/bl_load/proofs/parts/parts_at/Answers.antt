@@ -1,5 +1,5 @@
 use Rattle.std.proofs.Common.{ℕ, List, [], ◌∷◌, ◌++◌, map, take, get_or, sym, ap, ap₂, ◌∙◌}
-use Rattle.std.proofs.lemmas.List.{map-append, take_more}
+use Rattle.std.proofs.lemmas.List.{map-append, take_all, take_more}
 use Rattle.std.proofs.lemmas.List.Elements.{All-push}
 use Rattle.std.proofs.lemmas.Result.{err_from_is_err_and}
 use Rattle.bl_plan.specs.declared.part.Place.{Place}
@@ -148,3 +148,17 @@ returns-clause-backed g c = c.loop-place.invariant.backed
 
 pub returns-clause-lean : goal.returns-clause-lean
 returns-clause-lean g c = c.loop-place.invariant.lean
+
+pub returns-clause-parts : goal.returns-clause-parts
+returns-clause-parts g c =
+    let entry = c.args.entry.now in
+    let from : Place → Part =
+    part_from entry.machine.now (value_of_files entry) (g.K.ReadKernel.reading c.args.kernel.now)
+    c.args.places.now in
+    c.loop-place.invariant.parts
+    ∙ ap (map from) (take_all c.loop-place.place-index c.args.sorted.now c.loop-place-test.false)
+
+pub returns-clause-places : goal.returns-clause-places
+returns-clause-places g c =
+    c.loop-place.invariant.places
+    ∙ take_all c.loop-place.place-index c.args.sorted.now c.loop-place-test.false
