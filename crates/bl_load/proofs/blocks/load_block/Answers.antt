@@ -150,3 +150,13 @@ loop-segment-preserved g c =
           keeps_on (keeps_on c.loop-segment.invariant.kept c.zero.ensures.kept)
           c.load_segment.ensures.kept;
     }
+
+pub load_segment-requires-clause-held : goal.load_segment-requires-clause-held
+load_segment-requires-clause-held g c =
+    rw (c.zero.ensures.kept.size, c.loop-segment.invariant.kept.size) c.requires.held
+
+pub returns-clause-texts : goal.returns-clause-texts
+returns-clause-texts g c = c.loop-segment.invariant.same
+
+pub returns-clause-kept : goal.returns-clause-kept
+returns-clause-kept g c = c.loop-segment.invariant.kept

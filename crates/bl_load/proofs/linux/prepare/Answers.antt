@@ -1,12 +1,13 @@
-use Rattle.std.proofs.Common.{ℕ, List, map, arith, subst}
+use Rattle.std.proofs.Common.{ℕ, List, map, arith, inl, refl, subst}
 use Rattle.std.proofs.lemmas.List.{length-map}
-use Rattle.std.proofs.lemmas.Result.{IfOk-weaker, IfErr-weaker}
+use Rattle.std.proofs.lemmas.Result.{IfOk-weaker, IfErr-weaker, err_from_is_err_and}
 use Rattle.bl_load.specs.Linux.{IsLinuxKernel}
 use Rattle.bl_load.specs.PlanFacts.{handover_by}
+use Rattle.bl_load.specs.ReadKept.{IsLinuxFault}
 use Rattle.bl_load.specs.Reading.{linux}
 use Rattle.bl_load.specs.Value.{linux_value}
 use Rattle.bl_load.proofs.LineLemmas.{sound_short, one_sound}
-use Rattle.bl_load.proofs.PrepareLemmas.{first_text, prepared, refused_places}
+use Rattle.bl_load.proofs.PrepareLemmas.{first_text, prepared, refused_linux, refused_places}
 use Rattle.bl_load.proofs.linux.prepare.Goals as goal
 
 pub invariant_of-entry : goal.invariant_of-entry
@@ -77,3 +78,64 @@ returns-clause-fault g c =
     refused_places facts (linux_value protocol texts line)
     (one_sound line c.in_ok-check_line.ensures) (linux setup) fault (c.requires.params, is) h)
     c.plan_parts.ensures.fault
+
+pub returns-in_err-check_line-clause-handover : goal.returns-in_err-check_line-clause-handover
+returns-in_err-check_line-clause-handover g c =
+    let p = err_from_is_err_and c.from_residual.result c.from_residual.ensures.1 in
+    rw p.1 tt
+
+pub returns-in_err-check_line-clause-loadable : goal.returns-in_err-check_line-clause-loadable
+returns-in_err-check_line-clause-loadable g c =
+    let p = err_from_is_err_and c.from_residual.result c.from_residual.ensures.1 in
+    rw p.1 tt
+
+pub returns-in_err-check_line-clause-lean : goal.returns-in_err-check_line-clause-lean
+returns-in_err-check_line-clause-lean g c =
+    let p = err_from_is_err_and c.from_residual.result c.from_residual.ensures.1 in
+    rw p.1 tt
+
+pub returns-in_err-check_line-clause-fault : goal.returns-in_err-check_line-clause-fault
+returns-in_err-check_line-clause-fault g c =
+    let p = err_from_is_err_and c.from_residual.result c.from_residual.ensures.1 in
+    rw (p.1, p.2) (inl (rw c.in_err-check_line.ensures refl))
+
+pub returns-in_err-setup-clause-handover : goal.returns-in_err-setup-clause-handover
+returns-in_err-setup-clause-handover g c =
+    let p =
+    err_from_is_err_and c.from_residual-in_err-setup.result
+    c.from_residual-in_err-setup.ensures.1 in
+    rw p.1 tt
+
+pub returns-in_err-setup-clause-loadable : goal.returns-in_err-setup-clause-loadable
+returns-in_err-setup-clause-loadable g c =
+    let p =
+    err_from_is_err_and c.from_residual-in_err-setup.result
+    c.from_residual-in_err-setup.ensures.1 in
+    rw p.1 tt
+
+pub returns-in_err-setup-clause-lean : goal.returns-in_err-setup-clause-lean
+returns-in_err-setup-clause-lean g c =
+    let p =
+    err_from_is_err_and c.from_residual-in_err-setup.result
+    c.from_residual-in_err-setup.ensures.1 in
+    rw p.1 tt
+
+pub returns-in_err-setup-clause-fault : goal.returns-in_err-setup-clause-fault
+returns-in_err-setup-clause-fault g c =
+    let p =
+    err_from_is_err_and c.from_residual-in_err-setup.result
+    c.from_residual-in_err-setup.ensures.1 in
+    let facts = c.args.machine.now in
+    let protocol = c.args.protocol in
+    let texts = map g.V.ByteView.bytes c.args.files.now in
+    let line = c.args.line.now in
+    let fault = c.in_err-setup.field-0.0 in
+    let file =
+    first_text g.V.ByteView.bytes c.args.files.now c.index-files-0.result c.requires.files
+    c.index-files-0.is in
+    rw (p.1, p.2)
+    (refused_linux facts protocol texts line c.requires.params
+    (one_sound line c.in_ok-check_line.ensures) fault
+    (subst (λ (f : List ℕ). IsLinuxFault protocol facts.runs line f fault) file
+    (subst (λ rs. IsLinuxFault protocol rs line (g.V.ByteView.bytes c.index-files-0.result) fault)
+    c.normal.ensures.runs c.in_err-setup.ensures.fault)))

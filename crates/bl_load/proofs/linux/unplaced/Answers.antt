@@ -1,12 +1,13 @@
-use Rattle.std.proofs.Common.{ℕ, List, map, arith, subst}
+use Rattle.std.proofs.Common.{ℕ, List, map, arith, inl, refl, subst}
 use Rattle.std.proofs.lemmas.List.{length-map}
-use Rattle.std.proofs.lemmas.Result.{IfOk-weaker, IfErr-weaker}
+use Rattle.std.proofs.lemmas.Result.{IfOk-weaker, IfErr-weaker, err_from_is_err_and}
 use Rattle.bl_load.specs.Linux.{IsLinuxKernel}
+use Rattle.bl_load.specs.ReadKept.{IsLinuxFault}
 use Rattle.bl_load.specs.Reading.{linux}
 use Rattle.bl_load.specs.Value.{linux_value}
 use Rattle.bl_load.proofs.LineLemmas.{sound_short, one_sound}
 use Rattle.bl_load.proofs.PrepareLemmas.{first_text}
-use Rattle.bl_load.proofs.UnplacedLemmas.{reading_no_memory, unplaced_read}
+use Rattle.bl_load.proofs.UnplacedLemmas.{reading_linux, reading_no_memory, unplaced_read}
 use Rattle.bl_load.proofs.linux.unplaced.Goals as goal
 
 pub invariant_of-entry : goal.invariant_of-entry
@@ -64,3 +65,40 @@ returns-clause-fault g c =
     _ _ (λ fault h.
     reading_no_memory c.args.machine.now (linux_value c.args.protocol texts c.args.line.now) fault
     h) c.unplaced_part.ensures.fault
+
+pub returns-in_err-check_line-clause-which : goal.returns-in_err-check_line-clause-which
+returns-in_err-check_line-clause-which g c =
+    let p = err_from_is_err_and c.from_residual.result c.from_residual.ensures.1 in
+    rw p.1 tt
+
+pub returns-in_err-check_line-clause-fault : goal.returns-in_err-check_line-clause-fault
+returns-in_err-check_line-clause-fault g c =
+    let p = err_from_is_err_and c.from_residual.result c.from_residual.ensures.1 in
+    rw (p.1, p.2) (inl (rw c.in_err-check_line.ensures refl))
+
+pub returns-in_err-setup-clause-which : goal.returns-in_err-setup-clause-which
+returns-in_err-setup-clause-which g c =
+    let p =
+    err_from_is_err_and c.from_residual-in_err-setup.result
+    c.from_residual-in_err-setup.ensures.1 in
+    rw p.1 tt
+
+pub returns-in_err-setup-clause-fault : goal.returns-in_err-setup-clause-fault
+returns-in_err-setup-clause-fault g c =
+    let p =
+    err_from_is_err_and c.from_residual-in_err-setup.result
+    c.from_residual-in_err-setup.ensures.1 in
+    let facts = c.args.machine.now in
+    let protocol = c.args.protocol in
+    let texts = map g.V.ByteView.bytes c.args.files.now in
+    let line = c.args.line.now in
+    let fault = c.in_err-setup.field-0.0 in
+    let file =
+    first_text g.V.ByteView.bytes c.args.files.now c.index-files-0.result c.requires.files
+    c.index-files-0.is in
+    rw (p.1, p.2)
+    (reading_linux facts protocol texts line c.requires.params
+    (one_sound line c.in_ok-check_line.ensures) fault
+    (subst (λ (f : List ℕ). IsLinuxFault protocol facts.runs line f fault) file
+    (subst (λ rs. IsLinuxFault protocol rs line (g.V.ByteView.bytes c.index-files-0.result) fault)
+    c.normal.ensures.runs c.in_err-setup.ensures.fault)))

@@ -1,4 +1,4 @@
-use Rattle.std.proofs.Common.{◌≤◌, ℕ, List, length, map, arith, refl, subst}
+use Rattle.std.proofs.Common.{◌≤◌, ℕ, List, length, map, arith, inl, refl, subst}
 use Rattle.std.proofs.lemmas.List.{length-map}
 use Rattle.std.proofs.lemmas.Result.{IfOk-weaker, IfErr-weaker, err_from_is_err_and}
 use Rattle.bl_load.specs.KernelKept.{kernel_by, AreLoadable, IsKernelFault}
@@ -91,3 +91,44 @@ returns-clause-fault g c =
     _ _ (λ fault h.
     refused_places facts value c.in_ok-check_lines.ensures (multiboot2 kernel) fault
     (refl, is) h) c.plan_parts.ensures.fault
+
+pub returns-in_err-check_lines-clause-handover : goal.returns-in_err-check_lines-clause-handover
+returns-in_err-check_lines-clause-handover g c =
+    let p = err_from_is_err_and c.from_residual.result c.from_residual.ensures.1 in
+    rw p.1 tt
+
+pub returns-in_err-check_lines-clause-loadable : goal.returns-in_err-check_lines-clause-loadable
+returns-in_err-check_lines-clause-loadable g c =
+    let p = err_from_is_err_and c.from_residual.result c.from_residual.ensures.1 in
+    rw p.1 tt
+
+pub returns-in_err-check_lines-clause-lean : goal.returns-in_err-check_lines-clause-lean
+returns-in_err-check_lines-clause-lean g c =
+    let p = err_from_is_err_and c.from_residual.result c.from_residual.ensures.1 in
+    rw p.1 tt
+
+pub returns-in_err-check_lines-clause-fault : goal.returns-in_err-check_lines-clause-fault
+returns-in_err-check_lines-clause-fault g c =
+    let p = err_from_is_err_and c.from_residual.result c.from_residual.ensures.1 in
+    rw (p.1, p.2) (inl c.in_err-check_lines.ensures)
+
+pub returns-in_err-kernel-clause-handover : goal.returns-in_err-kernel-clause-handover
+returns-in_err-kernel-clause-handover g c =
+    let p =
+    err_from_is_err_and c.from_residual-in_err-kernel.result
+    c.from_residual-in_err-kernel.ensures.1 in
+    rw p.1 tt
+
+pub returns-in_err-kernel-clause-loadable : goal.returns-in_err-kernel-clause-loadable
+returns-in_err-kernel-clause-loadable g c =
+    let p =
+    err_from_is_err_and c.from_residual-in_err-kernel.result
+    c.from_residual-in_err-kernel.ensures.1 in
+    rw p.1 tt
+
+pub returns-in_err-kernel-clause-lean : goal.returns-in_err-kernel-clause-lean
+returns-in_err-kernel-clause-lean g c =
+    let p =
+    err_from_is_err_and c.from_residual-in_err-kernel.result
+    c.from_residual-in_err-kernel.ensures.1 in
+    rw p.1 tt

@@ -1,4 +1,4 @@
-use Rattle.std.proofs.Common.{◌≤◌, ℕ, List, length, map, arith, refl, subst}
+use Rattle.std.proofs.Common.{◌≤◌, ℕ, List, length, map, arith, inl, refl, subst}
 use Rattle.std.proofs.lemmas.List.{length-map}
 use Rattle.std.proofs.lemmas.Result.{IfOk-weaker, IfErr-weaker, err_from_is_err_and}
 use Rattle.bl_load.specs.KernelKept.{kernel_by, AreLoadable, IsKernelFault}
@@ -83,3 +83,20 @@ returns-clause-fault g c =
     IfErr-weaker c.unplaced_part.result
     _ _ (λ fault h. reading_no_memory c.args.machine.now value fault h)
     c.unplaced_part.ensures.fault
+
+pub returns-in_err-check_lines-clause-which : goal.returns-in_err-check_lines-clause-which
+returns-in_err-check_lines-clause-which g c =
+    let p = err_from_is_err_and c.from_residual.result c.from_residual.ensures.1 in
+    rw p.1 tt
+
+pub returns-in_err-check_lines-clause-fault : goal.returns-in_err-check_lines-clause-fault
+returns-in_err-check_lines-clause-fault g c =
+    let p = err_from_is_err_and c.from_residual.result c.from_residual.ensures.1 in
+    rw (p.1, p.2) (inl c.in_err-check_lines.ensures)
+
+pub returns-in_err-kernel-clause-which : goal.returns-in_err-kernel-clause-which
+returns-in_err-kernel-clause-which g c =
+    let p =
+    err_from_is_err_and c.from_residual-in_err-kernel.result
+    c.from_residual-in_err-kernel.ensures.1 in
+    rw p.1 tt

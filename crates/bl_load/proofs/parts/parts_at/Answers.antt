@@ -1,6 +1,7 @@
 use Rattle.std.proofs.Common.{ℕ, List, [], ◌∷◌, ◌++◌, map, take, get_or, sym, ap, ap₂, ◌∙◌}
-use Rattle.std.proofs.lemmas.List.{map-append, take_more}
+use Rattle.std.proofs.lemmas.List.{map-append, take_all, take_more}
 use Rattle.std.proofs.lemmas.List.Elements.{All-push}
+use Rattle.std.proofs.lemmas.Result.{err_from_is_err_and}
 use Rattle.bl_plan.specs.declared.part.Place.{Place}
 use Rattle.bl_plan.specs.declared.part.Role.TheVariants.{Kernel}
 use Rattle.bl_load.specs.declared.plan.PlannedPart.{PlannedPart}
@@ -60,3 +61,104 @@ loop-place-preserved g c =
           ap (map place_in) items ∙ map-append place_in c.loop-place.parts.items (new ∷ [])
           ∙ ap (λ (xs : List Place). xs ++ place ∷ []) i.places ∙ sym more;
     }
+
+pub returns-in_err-parts-clause-parts : goal.returns-in_err-parts-clause-parts
+returns-in_err-parts-clause-parts g c =
+    let p = err_from_is_err_and c.from_residual.result c.from_residual.ensures.1 in
+    rw p.1 tt
+
+pub returns-in_err-parts-clause-backed : goal.returns-in_err-parts-clause-backed
+returns-in_err-parts-clause-backed g c =
+    let p = err_from_is_err_and c.from_residual.result c.from_residual.ensures.1 in
+    rw p.1 tt
+
+pub returns-in_err-parts-clause-lean : goal.returns-in_err-parts-clause-lean
+returns-in_err-parts-clause-lean g c =
+    let p = err_from_is_err_and c.from_residual.result c.from_residual.ensures.1 in
+    rw p.1 tt
+
+pub returns-in_err-parts-clause-places : goal.returns-in_err-parts-clause-places
+returns-in_err-parts-clause-places g c =
+    let p = err_from_is_err_and c.from_residual.result c.from_residual.ensures.1 in
+    rw p.1 tt
+
+pub returns-in_err-content-clause-parts : goal.returns-in_err-content-clause-parts
+returns-in_err-content-clause-parts g c =
+    let p =
+    err_from_is_err_and c.from_residual-in_err-content.result
+    c.from_residual-in_err-content.ensures.1 in
+    rw p.1 tt
+
+pub returns-in_err-content-clause-backed : goal.returns-in_err-content-clause-backed
+returns-in_err-content-clause-backed g c =
+    let p =
+    err_from_is_err_and c.from_residual-in_err-content.result
+    c.from_residual-in_err-content.ensures.1 in
+    rw p.1 tt
+
+pub returns-in_err-content-clause-lean : goal.returns-in_err-content-clause-lean
+returns-in_err-content-clause-lean g c =
+    let p =
+    err_from_is_err_and c.from_residual-in_err-content.result
+    c.from_residual-in_err-content.ensures.1 in
+    rw p.1 tt
+
+pub returns-in_err-content-clause-places : goal.returns-in_err-content-clause-places
+returns-in_err-content-clause-places g c =
+    let p =
+    err_from_is_err_and c.from_residual-in_err-content.result
+    c.from_residual-in_err-content.ensures.1 in
+    rw p.1 tt
+
+pub returns-in_err-push-clause-parts : goal.returns-in_err-push-clause-parts
+returns-in_err-push-clause-parts g c =
+    let p =
+    err_from_is_err_and c.from_residual-in_err-push.result c.from_residual-in_err-push.ensures.1 in
+    rw p.1 tt
+
+pub returns-in_err-push-clause-backed : goal.returns-in_err-push-clause-backed
+returns-in_err-push-clause-backed g c =
+    let p =
+    err_from_is_err_and c.from_residual-in_err-push.result c.from_residual-in_err-push.ensures.1 in
+    rw p.1 tt
+
+pub returns-in_err-push-clause-lean : goal.returns-in_err-push-clause-lean
+returns-in_err-push-clause-lean g c =
+    let p =
+    err_from_is_err_and c.from_residual-in_err-push.result c.from_residual-in_err-push.ensures.1 in
+    rw p.1 tt
+
+pub returns-in_err-push-clause-places : goal.returns-in_err-push-clause-places
+returns-in_err-push-clause-places g c =
+    let p =
+    err_from_is_err_and c.from_residual-in_err-push.result c.from_residual-in_err-push.ensures.1 in
+    rw p.1 tt
+
+pub content-requires-clause-ready : goal.content-requires-clause-ready
+content-requires-clause-ready g c = c.requires.ready
+
+pub content-requires-clause-fits : goal.content-requires-clause-fits
+content-requires-clause-fits g c = c.requires.fits
+
+pub content-requires-clause-low : goal.content-requires-clause-low
+content-requires-clause-low g c = c.requires.low
+
+pub returns-clause-backed : goal.returns-clause-backed
+returns-clause-backed g c = c.loop-place.invariant.backed
+
+pub returns-clause-lean : goal.returns-clause-lean
+returns-clause-lean g c = c.loop-place.invariant.lean
+
+pub returns-clause-parts : goal.returns-clause-parts
+returns-clause-parts g c =
+    let entry = c.args.entry.now in
+    let from : Place → Part =
+    part_from entry.machine.now (value_of_files entry) (g.K.ReadKernel.reading c.args.kernel.now)
+    c.args.places.now in
+    c.loop-place.invariant.parts
+    ∙ ap (map from) (take_all c.loop-place.place-index c.args.sorted.now c.loop-place-test.false)
+
+pub returns-clause-places : goal.returns-clause-places
+returns-clause-places g c =
+    c.loop-place.invariant.places
+    ∙ take_all c.loop-place.place-index c.args.sorted.now c.loop-place-test.false

@@ -2,15 +2,17 @@ use Rattle.std.proofs.Common.{rules}
 use Rattle.std.proofs.lemmas.List.{length-map}
 use Rattle.std.proofs.Common.{◌≡◌, ◌≤◌, ◌<◌, ◌+◌, ◌^◌, List, [], All, map, arith, ap, subst, sym}
 use Rattle.std.proofs.Common.{◌∙◌}
+use Rattle.std.proofs.lemmas.Result.{err_from_is_err_and}
 use Rattle.bl_plan.specs.declared.part.Place.{Place}
 use Rattle.bl_plan.specs.declared.part.Row.{Row}
-use Rattle.bl_plan.specs.Placed.{ArePlaced, IsRow, IsPlacingFault}
+use Rattle.bl_plan.specs.Placed.{ArePlaced, IsRow, IsPlacingFault, place_range}
 use Rattle.bl_plan.specs.Order.{in_order, place_key}
 use Rattle.bl_plan.proofs.OrderLemmas.{in_order_all}
 use Rattle.bl_load.specs.Place.{planned_place}
 use Rattle.bl_load.specs.HandoffFacts.{AreHandoffFacts}
 use Rattle.bl_load.specs.Parts.{registers_of}
 use Rattle.bl_load.specs.declared.registers.Registers.{Registers}
+use Rattle.bl_load.specs.declared.plan.PlannedPart.{PlannedPart}
 use Rattle.bl_load.specs.PlacingKept.{IsRowed, told_rows_by}
 use Rattle.bl_load.specs.Rows.{rows_of}
 use Rattle.bl_load.specs.ReadKept.{FitsTold, CanEnter}
@@ -208,3 +210,139 @@ returns-clause-handover g c =
       placed = told_placed facts value reading c.in-Ok.places.items told;
       is = search (rules);
     }
+
+pub returns-in_err-rows-clause-handover : goal.returns-in_err-rows-clause-handover
+returns-in_err-rows-clause-handover g c =
+    let p = err_from_is_err_and c.from_residual.result c.from_residual.ensures.1 in
+    rw p.1 tt
+
+pub returns-in_err-rows-clause-loadable : goal.returns-in_err-rows-clause-loadable
+returns-in_err-rows-clause-loadable g c =
+    let p = err_from_is_err_and c.from_residual.result c.from_residual.ensures.1 in
+    rw p.1 tt
+
+pub returns-in_err-rows-clause-lean : goal.returns-in_err-rows-clause-lean
+returns-in_err-rows-clause-lean g c =
+    let p = err_from_is_err_and c.from_residual.result c.from_residual.ensures.1 in
+    rw p.1 tt
+
+pub returns-in_err-rows-clause-fault : goal.returns-in_err-rows-clause-fault
+returns-in_err-rows-clause-fault g c =
+    let p = err_from_is_err_and c.from_residual.result c.from_residual.ensures.1 in
+    rw (p.1, p.2) tt
+
+pub returns-in_err-sorted-clause-handover : goal.returns-in_err-sorted-clause-handover
+returns-in_err-sorted-clause-handover g c =
+    let p =
+    err_from_is_err_and c.from_residual-in_err-sorted.result
+    c.from_residual-in_err-sorted.ensures.1 in
+    rw p.1 tt
+
+pub returns-in_err-sorted-clause-loadable : goal.returns-in_err-sorted-clause-loadable
+returns-in_err-sorted-clause-loadable g c =
+    let p =
+    err_from_is_err_and c.from_residual-in_err-sorted.result
+    c.from_residual-in_err-sorted.ensures.1 in
+    rw p.1 tt
+
+pub returns-in_err-sorted-clause-lean : goal.returns-in_err-sorted-clause-lean
+returns-in_err-sorted-clause-lean g c =
+    let p =
+    err_from_is_err_and c.from_residual-in_err-sorted.result
+    c.from_residual-in_err-sorted.ensures.1 in
+    rw p.1 tt
+
+pub returns-in_err-sorted-clause-fault : goal.returns-in_err-sorted-clause-fault
+returns-in_err-sorted-clause-fault g c =
+    let p =
+    err_from_is_err_and c.from_residual-in_err-sorted.result
+    c.from_residual-in_err-sorted.ensures.1 in
+    rw (p.1, p.2) tt
+
+pub returns-in_err-parts-clause-handover : goal.returns-in_err-parts-clause-handover
+returns-in_err-parts-clause-handover g c =
+    let p =
+    err_from_is_err_and c.from_residual-in_err-parts.result
+    c.from_residual-in_err-parts.ensures.1 in
+    rw p.1 tt
+
+pub returns-in_err-parts-clause-loadable : goal.returns-in_err-parts-clause-loadable
+returns-in_err-parts-clause-loadable g c =
+    let p =
+    err_from_is_err_and c.from_residual-in_err-parts.result
+    c.from_residual-in_err-parts.ensures.1 in
+    rw p.1 tt
+
+pub returns-in_err-parts-clause-lean : goal.returns-in_err-parts-clause-lean
+returns-in_err-parts-clause-lean g c =
+    let p =
+    err_from_is_err_and c.from_residual-in_err-parts.result
+    c.from_residual-in_err-parts.ensures.1 in
+    rw p.1 tt
+
+pub returns-in_err-parts-clause-fault : goal.returns-in_err-parts-clause-fault
+returns-in_err-parts-clause-fault g c =
+    let p =
+    err_from_is_err_and c.from_residual-in_err-parts.result
+    c.from_residual-in_err-parts.ensures.1 in
+    rw (p.1, p.2) tt
+
+pub returns-in_err-ranges-clause-handover : goal.returns-in_err-ranges-clause-handover
+returns-in_err-ranges-clause-handover g c =
+    let p =
+    err_from_is_err_and c.from_residual-in_err-ranges.result
+    c.from_residual-in_err-ranges.ensures.1 in
+    rw p.1 tt
+
+pub returns-in_err-ranges-clause-loadable : goal.returns-in_err-ranges-clause-loadable
+returns-in_err-ranges-clause-loadable g c =
+    let p =
+    err_from_is_err_and c.from_residual-in_err-ranges.result
+    c.from_residual-in_err-ranges.ensures.1 in
+    rw p.1 tt
+
+pub returns-in_err-ranges-clause-lean : goal.returns-in_err-ranges-clause-lean
+returns-in_err-ranges-clause-lean g c =
+    let p =
+    err_from_is_err_and c.from_residual-in_err-ranges.result
+    c.from_residual-in_err-ranges.ensures.1 in
+    rw p.1 tt
+
+pub returns-in_err-ranges-clause-fault : goal.returns-in_err-ranges-clause-fault
+returns-in_err-ranges-clause-fault g c =
+    let p =
+    err_from_is_err_and c.from_residual-in_err-ranges.result
+    c.from_residual-in_err-ranges.ensures.1 in
+    rw (p.1, p.2) tt
+
+pub returns-in-Err-clause-handover : goal.returns-in-Err-clause-handover
+returns-in-Err-clause-handover g c = tt
+
+pub returns-in-Err-clause-loadable : goal.returns-in-Err-clause-loadable
+returns-in-Err-clause-loadable g c = tt
+
+pub returns-in-Err-clause-lean : goal.returns-in-Err-clause-lean
+returns-in-Err-clause-lean g c = tt
+
+pub rows-requires : goal.rows-requires
+rows-requires g c = c.requires
+
+pub parts_at-requires-clause-ready : goal.parts_at-requires-clause-ready
+parts_at-requires-clause-ready g c = c.requires
+
+pub parts_at-requires-clause-low : goal.parts_at-requires-clause-low
+parts_at-requires-clause-low g c = rw c.as_slice-4.ensures.value c.in-Ok.ensures.below
+
+pub invariant_of-result : goal.invariant_of-result
+invariant_of-result g c = record {
+  ranges_are =
+      c.in_ok-ranges.ensures
+      ∙ ap (λ (parts : List (PlannedPart g.row.A.Denot)).
+      map place_range (map planned_place parts)) c.as_slice-6.ensures.value;
+}
+
+pub returns-clause-lean : goal.returns-clause-lean
+returns-clause-lean g c = c.in_ok-parts.ensures.lean
+
+pub returns-clause-fault : goal.returns-clause-fault
+returns-clause-fault g c = tt

@@ -1,4 +1,5 @@
-use Rattle.std.proofs.Common.{arith, ap, ◌∙◌, ◌<◌, length}
+use Rattle.std.proofs.Common.{arith, ap, refl, ◌∙◌, ◌<◌, length}
+use Rattle.std.proofs.lemmas.Result.{err_from_is_err_and}
 use Rattle.bl_plan.specs.Planned.{PlannerFacts}
 use Rattle.bl_plan.specs.declared.fault.PlanFault.TheVariants.{NotUsable, Overlap, NoRoom}
 use Rattle.bl_load.proofs.UnplacedLemmas.{placed_step, unplaced_step, unplaced_here}
@@ -53,3 +54,31 @@ returns-in-Err-NoRoom-clause-which g c =
     c.loop-row.planner.facts c.loop-row.invariant.machine c.in-Err-NoRoom.field-0 NoRoom
     c.in-Err-NoRoom.field-0-is c.in-Err-NoRoom.ensures.fault (λ h. h)
     (c.loop-row.invariant.unplaced _)
+
+pub returns-in_err-planner-clause-which : goal.returns-in_err-planner-clause-which
+returns-in_err-planner-clause-which g c =
+    let p = err_from_is_err_and c.from_residual.result c.from_residual.ensures.1 in
+    rw p.1 tt
+
+pub returns-in_err-planner-clause-fault : goal.returns-in_err-planner-clause-fault
+returns-in_err-planner-clause-fault g c =
+    let p = err_from_is_err_and c.from_residual.result c.from_residual.ensures.1 in
+    rw (p.1, p.2) refl
+
+pub returns-in-Err-NoMemory-clause-which : goal.returns-in-Err-NoMemory-clause-which
+returns-in-Err-NoMemory-clause-which g c = tt
+
+pub returns-in-Err-NoMemory-clause-fault : goal.returns-in-Err-NoMemory-clause-fault
+returns-in-Err-NoMemory-clause-fault g c = refl
+
+pub returns-in-Err-NotUsable-clause-fault : goal.returns-in-Err-NotUsable-clause-fault
+returns-in-Err-NotUsable-clause-fault g c = tt
+
+pub returns-in-Err-Overlap-clause-fault : goal.returns-in-Err-Overlap-clause-fault
+returns-in-Err-Overlap-clause-fault g c = tt
+
+pub returns-in-Err-NoRoom-clause-fault : goal.returns-in-Err-NoRoom-clause-fault
+returns-in-Err-NoRoom-clause-fault g c = tt
+
+pub returns-clause-fault : goal.returns-clause-fault
+returns-clause-fault g c = tt
