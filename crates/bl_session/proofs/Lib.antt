@@ -18,6 +18,7 @@ pub mod StoredLemmas
 pub mod WholeLemmas
 pub mod AttemptLemmas
 pub mod AdvanceLemmas
+pub mod EarlyReturnLemmas
 pub mod KeptMemoryLemmas
 pub mod StageLemmas
 pub mod AfterLemmas

@@ -1,4 +1,4 @@
-use Rattle.std.proofs.Common.{drop, arith, rules, subst, sym}
+use Rattle.std.proofs.Common.{◌∙◌, drop, arith, rules, subst, sym}
 use Rattle.bl_map.proofs.PoolLemmas.{pool_in_memory}
 use Rattle.bl_stage.specs.PieceStates.{piece_states}
 use Rattle.bl_stage.specs.Staged.{Staging}
@@ -10,7 +10,43 @@ use Rattle.bl_session.proofs.StepLemmas.{wanted_not, steps_unchanged, wanted_sto
 use Rattle.bl_session.proofs.StepLemmas.{piece_states_after}
 use Rattle.bl_session.proofs.StepLemmas.{steps_piece, lacks_piece, memory_taken, memory_same}
 use Rattle.bl_session.proofs.StepLemmas.{outside_taken}
+use Rattle.bl_session.proofs.KeptMemoryLemmas.{keeps_on}
+use Rattle.bl_session.proofs.EarlyReturnLemmas.{keeps_same}
 use Rattle.bl_session.proofs.events.take_piece.Goals as goal
+
+pub returns-then-not-is_of-clause-lacking : goal.returns-then-not-is_of-clause-lacking
+returns-then-not-is_of-clause-lacking g c = tt
+
+pub returns-then-not-is_of-clause-err : goal.returns-then-not-is_of-clause-err
+returns-then-not-is_of-clause-err g c = tt
+
+pub returns-then-not-is_of-clause-phase : goal.returns-then-not-is_of-clause-phase
+returns-then-not-is_of-clause-phase g c = (c.requires.waiting, c.requires.missing)
+
+pub returns-then-not-is_of-clause-kept : goal.returns-then-not-is_of-clause-kept
+returns-then-not-is_of-clause-kept g c = keeps_same
+
+pub returns-then-not-is_stored-clause-lacking : goal.returns-then-not-is_stored-clause-lacking
+returns-then-not-is_stored-clause-lacking g c = tt
+
+pub returns-then-not-is_stored-clause-err : goal.returns-then-not-is_stored-clause-err
+returns-then-not-is_stored-clause-err g c = tt
+
+pub returns-then-not-is_stored-clause-kept : goal.returns-then-not-is_stored-clause-kept
+returns-then-not-is_stored-clause-kept g c = c.put-answer.ensures.kept
+
+pub settle-requires-clause-size : goal.settle-requires-clause-size
+settle-requires-clause-size g c = c.put-answer.ensures.kept.size ∙ c.requires.size
+
+pub settle-requires-clause-room : goal.settle-requires-clause-room
+settle-requires-clause-room g c =
+    λ a from to. c.put-answer.ensures.kept.room a (c.requires.room a from to)
+
+pub returns-clause-phase : goal.returns-clause-phase
+returns-clause-phase g c = c.settle.ensures.phase
+
+pub returns-clause-kept : goal.returns-clause-kept
+returns-clause-kept g c = keeps_on c.put-answer.ensures.kept c.settle.ensures.kept
 
 pub returns-then-not-is_stored-clause-step : goal.returns-then-not-is_stored-clause-step
 returns-then-not-is_stored-clause-step g c =

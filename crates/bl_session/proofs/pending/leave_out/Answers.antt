@@ -1,6 +1,46 @@
-use Rattle.std.proofs.Common.{◌<◌, length, arith}
+use Rattle.std.proofs.Common.{◌<◌, length, arith, refl}
 use Rattle.bl_session.proofs.PendingLemmas.{first_left_out, last_left_out, inner_left_out}
+use Rattle.bl_session.proofs.EarlyReturnLemmas.{no_value}
 use Rattle.bl_session.proofs.pending.leave_out.Goals as goal
+
+pub returns-then-count-eq1-clause-err : goal.returns-then-count-eq1-clause-err
+returns-then-count-eq1-clause-err g c = tt
+
+pub returns-then-count-eq1-clause-first : goal.returns-then-count-eq1-clause-first
+returns-then-count-eq1-clause-first g c = λ is. refl
+
+pub returns-then-count-eq1-clause-last : goal.returns-then-count-eq1-clause-last
+returns-then-count-eq1-clause-last g c = λ is. refl
+
+pub returns-then-at-eq0-clause-err : goal.returns-then-at-eq0-clause-err
+returns-then-at-eq0-clause-err g c = tt
+
+pub returns-then-at-eq0-clause-first : goal.returns-then-at-eq0-clause-first
+returns-then-at-eq0-clause-first g c = λ is. refl
+
+pub returns-then-at-eq0-clause-last : goal.returns-then-at-eq0-clause-last
+returns-then-at-eq0-clause-last g c = λ is. refl
+
+pub returns-then-at-count-clause-err : goal.returns-then-at-count-clause-err
+returns-then-at-count-clause-err g c = tt
+
+pub returns-then-at-count-clause-first : goal.returns-then-at-count-clause-first
+returns-then-at-count-clause-first g c = λ is. refl
+
+pub returns-then-at-count-clause-last : goal.returns-then-at-count-clause-last
+returns-then-at-count-clause-last g c = λ is. refl
+
+pub returns-clause-err : goal.returns-clause-err
+returns-clause-err g c = tt
+
+pub returns-clause-first : goal.returns-clause-first
+returns-clause-first g c = λ is. refl
+
+pub returns-clause-last : goal.returns-clause-last
+returns-clause-last g c = λ is. refl
+
+pub returns-in_err-insert-clause-ok : goal.returns-in_err-insert-clause-ok
+returns-in_err-insert-clause-ok g c = no_value _ _ c.from_residual.result c.from_residual.ensures.1
 
 pub returns-then-at-eq0-clause-ok : goal.returns-then-at-eq0-clause-ok
 returns-then-at-eq0-clause-ok g c =

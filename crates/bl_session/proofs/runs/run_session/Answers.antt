@@ -1,5 +1,6 @@
 use Rattle.std.proofs.Common.{◌≡◌, ◌∙◌, map, slice_index_or, refl, ap, sym, subst, inl, inr}
 use Rattle.std.specs.List.{range_with_len}
+use Rattle.bl_mem.specs.Memory.{HasRoom}
 use Rattle.std.proofs.lemmas.Result.{err_from_is_err_and}
 use Rattle.bl_stage.specs.Ranges.{IsSameOutside}
 use Rattle.bl_session.specs.Boot.{BootFacts, out_of_memory}
@@ -8,7 +9,148 @@ use Rattle.bl_session.specs.Outcome.{missing, size_of}
 use Rattle.bl_session.specs.Phases.{SessionFacts, boot_facts, state_at}
 use Rattle.bl_session.specs.Run.{run_state_of}
 use Rattle.bl_session.proofs.RunLemmas.{unbegun, has_started, run_started}
+use Rattle.bl_session.proofs.KeptMemoryLemmas.{keeps_on}
+use Rattle.bl_session.proofs.EarlyReturnLemmas.{no_value, on_error, keeps_same}
 use Rattle.bl_session.proofs.runs.run_session.Goals as goal
+
+pub returns-in_err-sizes-clause-run : goal.returns-in_err-sizes-clause-run
+returns-in_err-sizes-clause-run g c = no_value _ _ c.from_residual.result c.from_residual.ensures.1
+
+pub returns-in_err-sizes-clause-machine : goal.returns-in_err-sizes-clause-machine
+returns-in_err-sizes-clause-machine g c =
+    no_value _ _ c.from_residual.result c.from_residual.ensures.1
+
+pub returns-in_err-sizes-clause-started : goal.returns-in_err-sizes-clause-started
+returns-in_err-sizes-clause-started g c =
+    no_value _ _ c.from_residual.result c.from_residual.ensures.1
+
+pub returns-in_err-sizes-clause-ended : goal.returns-in_err-sizes-clause-ended
+returns-in_err-sizes-clause-ended g c =
+    no_value _ _ c.from_residual.result c.from_residual.ensures.1
+
+pub returns-in_err-sizes-clause-memory : goal.returns-in_err-sizes-clause-memory
+returns-in_err-sizes-clause-memory g c =
+    no_value _ _ c.from_residual.result c.from_residual.ensures.1
+
+pub returns-in_err-sizes-clause-outside : goal.returns-in_err-sizes-clause-outside
+returns-in_err-sizes-clause-outside g c = on_error c.from_residual.result (λ a out. refl)
+
+pub returns-in_err-sizes-clause-files : goal.returns-in_err-sizes-clause-files
+returns-in_err-sizes-clause-files g c = refl
+
+pub returns-in_err-sizes-clause-kept : goal.returns-in_err-sizes-clause-kept
+returns-in_err-sizes-clause-kept g c = keeps_same
+
+pub returns-in_err-session-clause-run : goal.returns-in_err-session-clause-run
+returns-in_err-session-clause-run g c =
+    no_value _ _ c.from_residual-in_err-session.result c.from_residual-in_err-session.ensures.1
+
+pub returns-in_err-session-clause-machine : goal.returns-in_err-session-clause-machine
+returns-in_err-session-clause-machine g c =
+    no_value _ _ c.from_residual-in_err-session.result c.from_residual-in_err-session.ensures.1
+
+pub returns-in_err-session-clause-started : goal.returns-in_err-session-clause-started
+returns-in_err-session-clause-started g c =
+    no_value _ _ c.from_residual-in_err-session.result c.from_residual-in_err-session.ensures.1
+
+pub returns-in_err-session-clause-ended : goal.returns-in_err-session-clause-ended
+returns-in_err-session-clause-ended g c =
+    no_value _ _ c.from_residual-in_err-session.result c.from_residual-in_err-session.ensures.1
+
+pub returns-in_err-session-clause-memory : goal.returns-in_err-session-clause-memory
+returns-in_err-session-clause-memory g c =
+    no_value _ _ c.from_residual-in_err-session.result c.from_residual-in_err-session.ensures.1
+
+pub returns-in_err-session-clause-outside : goal.returns-in_err-session-clause-outside
+returns-in_err-session-clause-outside g c =
+    on_error c.from_residual-in_err-session.result (λ a out. refl)
+
+pub returns-in_err-session-clause-files : goal.returns-in_err-session-clause-files
+returns-in_err-session-clause-files g c = refl
+
+pub returns-in_err-session-clause-kept : goal.returns-in_err-session-clause-kept
+returns-in_err-session-clause-kept g c = keeps_same
+
+pub returns-in_err-drive-clause-run : goal.returns-in_err-drive-clause-run
+returns-in_err-drive-clause-run g c =
+    no_value _ _ c.from_residual-in_err-drive.result c.from_residual-in_err-drive.ensures.1
+
+pub returns-in_err-drive-clause-machine : goal.returns-in_err-drive-clause-machine
+returns-in_err-drive-clause-machine g c =
+    no_value _ _ c.from_residual-in_err-drive.result c.from_residual-in_err-drive.ensures.1
+
+pub returns-in_err-drive-clause-started : goal.returns-in_err-drive-clause-started
+returns-in_err-drive-clause-started g c =
+    no_value _ _ c.from_residual-in_err-drive.result c.from_residual-in_err-drive.ensures.1
+
+pub returns-in_err-drive-clause-ended : goal.returns-in_err-drive-clause-ended
+returns-in_err-drive-clause-ended g c =
+    no_value _ _ c.from_residual-in_err-drive.result c.from_residual-in_err-drive.ensures.1
+
+pub returns-in_err-drive-clause-memory : goal.returns-in_err-drive-clause-memory
+returns-in_err-drive-clause-memory g c =
+    no_value _ _ c.from_residual-in_err-drive.result c.from_residual-in_err-drive.ensures.1
+
+pub returns-in_err-drive-clause-files : goal.returns-in_err-drive-clause-files
+returns-in_err-drive-clause-files g c = c.drive.ensures.files
+
+pub returns-in_err-drive-clause-kept : goal.returns-in_err-drive-clause-kept
+returns-in_err-drive-clause-kept g c = keeps_on c.start.ensures.kept c.drive.ensures.kept
+
+pub drive-requires-clause-size : goal.drive-requires-clause-size
+drive-requires-clause-size g c =
+    c.start.ensures.kept.size ∙ c.requires
+    ∙ sym (ap (λ (s : SessionFacts). s.boot.machine.size) c.in_ok-session.ensures)
+    ∙ sym (ap (λ (b : BootFacts). b.machine.size) c.start.ensures.boot)
+
+pub drive-requires-clause-room : goal.drive-requires-clause-room
+drive-requires-clause-room g c =
+    λ waits.
+    let room = g.M.PhysMem.room c.start.new.memory in
+    subst (λ (b : BootFacts). HasRoom room b.machine.pool.start b.machine.pool.end)
+    (sym c.start.ensures.boot)
+    (c.start.ensures.room (ap (λ (s : SessionFacts). s.phase) c.in_ok-session.ensures) waits)
+
+pub returns-clause-machine : goal.returns-clause-machine
+returns-clause-machine g c =
+    ap (λ (b : BootFacts). b.machine)
+    (c.drive.ensures.boot ∙ c.start.ensures.boot
+    ∙ ap (λ (s : SessionFacts). s.boot) c.in_ok-session.ensures)
+
+pub returns-clause-started : goal.returns-clause-started
+returns-clause-started g c = c.in_ok-drive.ensures.started
+
+pub returns-clause-ended : goal.returns-clause-ended
+returns-clause-ended g c = c.in_ok-drive.ensures.ended
+
+pub returns-clause-memory : goal.returns-clause-memory
+returns-clause-memory g c =
+    let bytes = g.M.PhysMem.bytes in
+    let first = bytes c.args.memory.now in
+    let new = bytes c.drive.new.memory in
+    let begun = state_at (bytes c.start.new.memory) c.start.new.self.phase in
+    let end = state_at new c.drive.new.session.phase in
+    let boot_is : c.start.new.self.boot
+    ≡ boot_facts c.args.machine.now c.args.menu.now c.deref.result.now =
+    c.start.ensures.boot ∙ ap (λ (s : SessionFacts). s.boot) c.in_ok-session.ensures in
+    let memory =
+    c.start.ensures.memory (ap (λ (s : SessionFacts). s.phase) c.in_ok-session.ensures) in
+    subst (λ (b : BootFacts). IsMemoryIn b.machine.pool end first new) boot_is
+    (c.in_ok-drive.ensures.memory first
+    (subst (λ (b : BootFacts). IsMemoryIn b.machine.pool begun first (bytes c.start.new.memory))
+    (sym c.start.ensures.boot) memory))
+
+pub returns-clause-lacking : goal.returns-clause-lacking
+returns-clause-lacking g c = tt
+
+pub returns-clause-outside : goal.returns-clause-outside
+returns-clause-outside g c = tt
+
+pub returns-clause-files : goal.returns-clause-files
+returns-clause-files g c = c.drive.ensures.files
+
+pub returns-clause-kept : goal.returns-clause-kept
+returns-clause-kept g c = keeps_on c.start.ensures.kept c.drive.ensures.kept
 
 pub returns-in_err-sizes-clause-lacking : goal.returns-in_err-sizes-clause-lacking
 returns-in_err-sizes-clause-lacking g c =
