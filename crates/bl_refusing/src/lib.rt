@@ -1,5 +1,5 @@
-//! An allocator for tests (the libraries of rows), which refuses the nth request for memory and each
-//! one after it.
+//! An allocator for tests (the libraries of rows), which refuses the nth request for memory and
+//! each one after it.
 //!
 //! Lent as `&heap`, it is handed to code that takes any `A: Allocator + Copy`. A test calls that
 //! code with `nth` counting up from 1, until a call asks for less than `nth` times: so each request

@@ -1,5 +1,5 @@
-//! The allocator that refuses: `refusing NTH COUNT`, so many requests in turn; `refused_vector NTH`,
-//! a vector that grows until it is refused; `refused_shrink`.
+//! The allocator that refuses: `refusing NTH COUNT`, so many requests in turn; `refused_vector
+//! NTH`, a vector that grows until it is refused; `refused_shrink`.
 
 use crate::row::Row;
 use bl_refusing::Refusing;
