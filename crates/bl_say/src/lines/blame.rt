@@ -6,8 +6,8 @@ ghost use Rattle.bl_say.specs.BlameHints as hints;
 ghost use Rattle.bl_say.specs.BlameLines as blames;
 
 use crate::lines::bad_key::say_bad_key;
-use crate::lines::radix_hints::{say_pool_hints, say_size_hint};
 use crate::lines::pool_lines::say_pool_lines;
+use crate::lines::radix_hints::{say_pool_hints, say_size_hint};
 use crate::lines::refusal::say_number;
 use crate::lines::word_hints::say_key_hint;
 use crate::told::{Blame, TextPlace};

@@ -16,18 +16,17 @@ use Rattle.bl_session.proofs.EarlyReturnLemmas.{keeps_same}
 use Rattle.bl_session.proofs.attempt.end_attempt.Goals as goal
 
 pub returns-then-not-complete-clause-keeps : goal.returns-then-not-complete-clause-keeps
-returns-then-not-complete-clause-keeps g c =
-    (
-      c.requires.pool,
-      c.requires.files,
-      c.requires.small,
-      record {
-        lacks =
-            λ came.
-            absurd
-            (let whole : c.complete.result ≡ true = c.complete.ensures.exact.1 came in cc);
-      },
-    )
+returns-then-not-complete-clause-keeps g c = (
+  c.requires.pool,
+  c.requires.files,
+  c.requires.small,
+  record {
+    lacks =
+        λ came.
+        absurd
+        (let whole : c.complete.result ≡ true = c.complete.ensures.exact.1 came in cc);
+  },
+)
 
 pub returns-then-not-complete-clause-memory : goal.returns-then-not-complete-clause-memory
 returns-then-not-complete-clause-memory g c = λ a out. refl
