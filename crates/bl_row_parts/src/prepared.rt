@@ -97,6 +97,25 @@ pub fn entry_of<'h>(
     Some(entry)
 }
 
+/// What an entry is loaded by: a machine, and the entry.
+#[derive(Drop)]
+pub struct Given<'h> {
+    pub machine: Machine<&'h Refusing>,
+    pub entry: Entry<&'h Refusing>,
+}
+
+/// The last machine and the entry, which has so many files, over the row's heap. Where they can't
+/// be had, why is the answer.
+pub fn read_given<'a>(row: &mut Row<'a>, read: &RowEntry, files: usize) -> Option<Given<'a>>
+    ensures files { IfSome result (λ given. files ≡ file_count given.entry) }
+    ensures limits { IfSome result (λ given. IsWithinLimits given.entry) }
+{
+    let heap = row.heap;
+    let machine = row.machine_over(heap)?;
+    let entry = entry_of(row, heap, read, files)?;
+    Some(Given { machine, entry })
+}
+
 /// What is prepared for an entry. Where that is nothing, why is the answer.
 pub fn prepare_entry<'h>(
     row: &mut Row<'_>,

@@ -1,10 +1,14 @@
 //! `unplaced ENTRY of KERNEL`, on the last machine: which part of the entry finds no place.
+ghost use Rattle.std.specs.Prelude.{◌≡◌, length};
+ghost use Rattle.bl_load.specs.Value.{file_count, IsWithinLimits};
 
 use crate::handoff::role_name;
-use crate::prepared::{entry_of, read_entry};
+use crate::prepared::{Given, RowEntry, read_entry, read_given};
 use crate::refusal::say_fault;
 use bl_load::unplaced;
+use bl_mem::SliceView;
 use bl_plan::{Choice, Row as PartRow};
+use bl_refusing::Refusing;
 use bl_rows::row::Row;
 
 /// Where a part may lie.
@@ -43,20 +47,33 @@ fn say_part(row: &mut Row<'_>, part: &PartRow) {
     say_choice(row, part.choice);
 }
 
-/// Looks for the part over the heap.
-pub fn answer(row: &mut Row<'_>) {
-    let heap = row.heap;
-    let read = read_entry(row);
-    let files = read.views(row);
-    let Some(machine) = row.machine_over(heap) else {
-        return;
-    };
-    let Some(entry) = entry_of(row, heap, &read, files.len()) else {
-        return;
-    };
-    match unplaced(heap, &machine, &entry, files.as_slice()) {
+/// Looks for the part of what is given, over the heap.
+fn say_unplaced<'h>(
+    row: &mut Row<'_>,
+    heap: &'h Refusing,
+    given: &Given<'h>,
+    files: &[SliceView<'_>],
+)
+    requires files { length files.now ≡ file_count given.now.entry }
+    requires limits { IsWithinLimits given.now.entry }
+{
+    match unplaced(heap, &given.machine, &given.entry, files) {
         Ok(Some(part)) => say_part(row, &part),
         Ok(None) => row.say("none"),
         Err(fault) => say_fault(row, fault),
     }
+}
+
+fn answer_read(row: &mut Row<'_>, read: &RowEntry) {
+    let heap = row.heap;
+    let files = read.views(row);
+    if let Some(given) = read_given(row, read, files.len()) {
+        say_unplaced(row, heap, &given, files.as_slice());
+    }
+}
+
+/// Looks for the part over the heap.
+pub fn answer(row: &mut Row<'_>) {
+    let read = read_entry(row);
+    answer_read(row, &read);
 }
