@@ -27,13 +27,14 @@ pub fn answer(row: &mut Row<'_>) {
     }
 }
 
-/// Pushes 0, 1, 2 .. until a push is refused.
-fn fill<A: Allocator>(items: &mut Vec<u64, A>) {
-    for i in 0..10000 {
+/// Pushes 0, 1, 2 .. until a push is refused, and says how many went in.
+fn fill<A: Allocator>(items: &mut Vec<u64, A>) -> u64 {
+    for i in 0..10000u64 {
         if items.push(i).is_err() {
-            return;
+            return i;
         }
     }
+    10000
 }
 
 /// Whether these are 0, 1, 2 ..
@@ -50,8 +51,8 @@ fn count_up(items: &[u64]) -> bool {
 /// there were, and how many blocks are held.
 fn say_vector(row: &mut Row<'_>, heap: &Refusing) {
     let mut items = Vec::new(heap);
-    fill(&mut items);
-    row.say(if count_up(items.as_slice()) {
+    let count = fill(&mut items);
+    row.say(if items.len() as u64 == count && count_up(items.as_slice()) {
         "keeps its items"
     } else {
         "other items"
