@@ -132,10 +132,12 @@ def slice_step(table, words: List[str], memory: Slice) -> str:
     if words[0] == "lend" and number(words[1]) < memory.base:
         demand(memory.holds(number(words[1]), number(words[1]) + number(words[2])))
         return "nothing"
-    starts = {"write": lambda: numbers(words[1]),
-              "zero": lambda: [pair(words[1], "..")[0]],
-              "reserve": lambda: [pair(word, "..")[0] for word in words[1:]]}
-    if words[0] in starts and any(at < memory.base for at in starts[words[0]]()):
+    length = lambda: len(table.names.bytes_of(words[2:]))
+    ranges = {"write": lambda: [(at, at + length()) for at in numbers(words[1])],
+              "zero": lambda: [pair(words[1], "..")],
+              "reserve": lambda: [pair(word, "..") for word in words[1:]]}
+    # an empty range needs no room, wherever it lies
+    if words[0] in ranges and any(start < memory.base and start < end for start, end in ranges[words[0]]()):
         return NO_ROOM
     return made(memory)
 

@@ -35,12 +35,12 @@ pub record IsMachineSound (machine : MachineRecord) (regions : List RegionRecord
   pub accepted : IsAccepted machine.size (map region_given regions) (pool_given machine)
 
 -- a fault of a machine's parts as a misuse
-abbrev pub machine_fault : MapFault → GivenFault
-machine_fault map_fault.BadSize = Misused BadSize
-machine_fault (map_fault.BadRegion index) = Misused BadRegion
-machine_fault map_fault.TooManyRegions = Misused TooManyRegions
-machine_fault map_fault.BadPool = Misused BadPool
-machine_fault map_fault.NoMemory = NoMemory
+abbrev pub of_map : MapFault → GivenFault
+of_map map_fault.BadSize = Misused BadSize
+of_map (map_fault.BadRegion index) = Misused BadRegion
+of_map map_fault.TooManyRegions = Misused TooManyRegions
+of_map map_fault.BadPool = Misused BadPool
+of_map map_fault.NoMemory = NoMemory
 
 -- the machine that is given, whose regions are each of a kind, has this first fault of its parts
 pub record HasPartFault (machine : MachineRecord) (regions : List RegionRecord)
@@ -48,7 +48,7 @@ pub record HasPartFault (machine : MachineRecord) (regions : List RegionRecord)
   pub kinds : have_kinds regions ≡ true
   pub found : MapFault
   pub first : HasFirstMapFault machine.size (map region_given regions) (pool_given machine) found
-  pub is : fault ≡ machine_fault found
+  pub is : fault ≡ of_map found
 
 -- its first fault: a kind of a region that is none, or else the first of its parts; memory may run
 -- out

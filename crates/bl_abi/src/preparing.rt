@@ -1,4 +1,4 @@
-//! What a load of an entry would hand over is told, and no memory is asked for.
+//! What a load of an entry would hand over is told to C, which gives no memory to load into.
 ghost use Rattle.std.specs.Prelude.{◌≤◌, length, IfOk, IfErr, OnOk, Result};
 ghost use Rattle.bl_load.specs.HandoffFacts.{HandoffFacts};
 ghost use Rattle.bl_load.specs.PlanFacts.{handoff_by};

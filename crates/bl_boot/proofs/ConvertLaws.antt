@@ -19,7 +19,7 @@ use Rattle.bl_walk.specs.declared.fault.WalkFault.TheVariants as walking
 use Rattle.bl_walk.proofs.SeenLaws.{seen_is_determined}
 use Rattle.bl_boot.specs.Converted.{Converts, Walks, WalkRefuses}
 use Rattle.bl_boot.specs.Walked.{ReadsImage, IsBadImage}
-use Rattle.bl_say.specs.WalkSays.{walk_lines}
+use Rattle.bl_say.specs.WalkLines.{walk_lines}
 
 -- what was read of bytes that are known is an image of them
 is_image : (before after : Input) (h : Handover) (bytes : List ℕ) → before.rest ≡ Some bytes
@@ -78,6 +78,10 @@ module _ (source converted : List ℕ) (c : Converts source converted) where
     has = tt;
     kept = c.done.read.kept;
   }
+
+  pub one_handover : (version : Version) × (handover : Handover) × IsImage version source handover
+      × IsImage written_version converted handover
+  one_handover = (from.0, h, from.1, to)
 
   -- what a walk of an image of the same sees
   sees : (bytes said : List ℕ) (version : Version) → IsImage version bytes h

@@ -18,7 +18,8 @@ use Rattle.bl_session.proofs.EndLaws.{one_end}
 use Rattle.bl_session.proofs.OutcomeLaws.{same_handover}
 use Rattle.bl_desc.specs.Described.{Described}
 use Rattle.bl_boot.specs.Attempted.{boot_of}
-use Rattle.bl_boot.specs.Ends.{BootCase, EndsAt, IsBooted, IsMachineOf, Surroundings, sizes_at}
+use Rattle.bl_boot.specs.DescribedMachine.{IsMachineOf}
+use Rattle.bl_boot.specs.Ends.{BootCase, HasResultAt, IsBooted, Surroundings, sizes_at}
 use Rattle.bl_boot.specs.Ends.{value_at}
 
 -- two boots
@@ -62,7 +63,7 @@ module _ {F G : Type 0} {answers : F → List ℕ → File → Type 0} {faults :
         (b : BootCase replies wants other began ended)
         → a.facts ≡ b.facts → (entry index : ℕ) → sizes_at a entry ≡ sizes_at b index
         → value_at a entry ≡ value_at b index
-        → (e f : AttemptResult) → EndsAt a entry e → EndsAt b index f → e ≡ f
+        → (e f : AttemptResult) → HasResultAt a entry e → HasResultAt b index f → e ≡ f
     one_end_at a b machine entry index sizes value e f x y =
         let f_a = boot_of a.description a.facts a.files in
         let f_b = boot_of b.description b.facts b.files in

@@ -27,7 +27,8 @@ use Rattle.bl_boot.specs.declared.description_boot.boot_end.EndFault.TheVariants
 use Rattle.bl_session.specs.Stores.{file_of, stored_files}
 use Rattle.bl_boot.specs.Found.{AreFound, AsksFirst, names_asked}
 use Rattle.bl_boot.specs.Attempted.{names_in, menu_of, boot_of}
-use Rattle.bl_boot.specs.Ends.{IsMachineOf, BootCase, HasInlineFiles, names_sought, names_fetched}
+use Rattle.bl_boot.specs.DescribedMachine.{IsMachineOf}
+use Rattle.bl_boot.specs.Ends.{BootCase, HasInlineFiles, names_sought, names_fetched}
 use Rattle.bl_boot.specs.Ends.{Surroundings}
 use Rattle.bl_boot.specs.Kept.{end_of_desc_fault}
 use Rattle.bl_boot.specs.Kept.{IsMachineFault, IsHandFault, HasFaults, HasAsked, FoundEnds, BootEnds}

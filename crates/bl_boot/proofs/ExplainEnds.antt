@@ -18,7 +18,8 @@ use Rattle.bl_boot.specs.declared.explanation.fault.ExplainFault.TheVariants.{Bl
 use Rattle.bl_boot.specs.Attempted.{menu_of, names_in}
 use Rattle.bl_say.specs.BlameHints.{blame_lines}
 use Rattle.bl_boot.specs.Blames.{HasBlame}
-use Rattle.bl_boot.specs.Ends.{BootCase, IsMachineOf}
+use Rattle.bl_boot.specs.DescribedMachine.{IsMachineOf}
+use Rattle.bl_boot.specs.Ends.{BootCase}
 use Rattle.bl_boot.specs.ExplainKept.{ExplainAsks, ExplainEnds, FoundExplains, IsMachineBlame}
 use Rattle.bl_boot.specs.ExplainKept.{IsReadBlame, SaysLines}
 use Rattle.bl_boot.specs.Found.{AreFound}

@@ -12,7 +12,7 @@ use Rattle.bl_load.specs.Parts.{IsRefusal}
 use Rattle.bl_load.specs.Value.{EntryValue}
 use Rattle.bl_load.specs.declared.refusal.Refusal.{Refusal}
 use Rattle.bl_load.specs.declared.refusal.Refusal.TheVariants.{NoFile, FileTooLong, NoPool}
-use Rattle.bl_session.specs.AttemptResult.{AttemptResult, HasResult, OrRefused, handed, refused}
+use Rattle.bl_session.specs.AttemptResult.{AttemptResult, HasResult, UnlessRefused, handed, refused}
 use Rattle.bl_session.specs.AttemptResult.{file_limit, file_refusal, known_lengths, pool_refusal}
 use Rattle.bl_session.specs.AttemptResult.{size_refusal}
 use Rattle.bl_session.specs.Boot.{BootFacts, State, fresh, sizes_of}
@@ -55,7 +55,7 @@ refusal_in (handed h) other = other
 refusal_in (refused r) other = r
 
 behind : (first : Option Refusal) (rest : AttemptResult → Type 0) (r : Refusal)
-    → is_placing r ≡ true → IsOther first → OrRefused first rest (refused r) → rest (refused r)
+    → is_placing r ≡ true → IsOther first → UnlessRefused first rest (refused r) → rest (refused r)
 unfolding refusal_in
 behind None rest r placing other is = is
 behind (Some s) rest r placing other is =

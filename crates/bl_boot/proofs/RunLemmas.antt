@@ -10,7 +10,7 @@ use Rattle.bl_map.proofs.EdgeLemmas.{edges_above, edges_fall, edges_fall_once, e
 use Rattle.bl_map.proofs.KindLemmas.{kind_not_held, none_before, not_held_behind, number_positive}
 use Rattle.bl_map.proofs.MapLaws.{fewer_runs, kind_in, later_runs, same_kind}
 use Rattle.bl_desc.specs.Described.{Described}
-use Rattle.bl_boot.specs.Ends.{IsMachineOf}
+use Rattle.bl_boot.specs.DescribedMachine.{IsMachineOf}
 
 later_bases : (x : Region) (xs : List Region) → AreRuns (x ∷ xs)
     → All (λ r. region_end x ≤ r.base) xs

@@ -11,7 +11,8 @@ use Rattle.bl_walk.specs.Faults.{IsSound}
 use Rattle.bl_walk.specs.Seen.{IsSeen}
 use Rattle.bl_walk.specs.SeenFacts.{SeenFacts}
 use Rattle.bl_walk.specs.Shown.{ShowsEntry}
-use Rattle.bl_walk.proofs.LegalLaws.{images_show, images_are_sound}
+use Rattle.bl_walk.specs.State.{IsEntered}
+use Rattle.bl_walk.proofs.LegalLaws.{images_show, images_are_entered, images_are_sound}
 use Rattle.bl_session.specs.Outcome.{File, no_fault}
 use Rattle.bl_session.proofs.OutcomeLaws.{is_handover}
 use Rattle.bl_boot.specs.Attempted.{boot_of}
@@ -35,6 +36,12 @@ module _ {F : Type 0} {answers : F → List ℕ → File → Type 0} {faults : F
       booted_image_shows version image seen is sees =
           images_show b.case.facts (value_at b.case b.entry) written_version version b.handover
           image seen machine b.offered handed b.kept is sees
+
+      pub booted_image_is_entered : (version : Version) (image : Handover)
+          → IsImage version (spelling written_version b.handover) image → IsEntered image
+      booted_image_is_entered version image is =
+          images_are_entered b.case.facts (value_at b.case b.entry) written_version version
+          b.handover image machine b.offered handed b.kept is
 
       pub booted_image_is_sound : (version : Version) (image : Handover)
           → IsImage version (spelling written_version b.handover) image → IsSound image

@@ -1,11 +1,7 @@
 -- How a boot of the program ends. Own.
-use Rattle.std.specs.Prelude.{◌≡◌, ◌≢◌, ◌⊎◌, ℕ, List, [], ◌++◌, Option, Some, None, IsSome}
+use Rattle.std.specs.Prelude.{◌≡◌, ℕ, List, [], ◌++◌, Option, Some, None, IsSome}
 use Rattle.std.specs.Prelude.{All}
 use Rattle.bl_map.specs.MachineFacts.{MachineFacts}
-use Rattle.bl_map.specs.Faults.{HasFirstMapFault, IsAccepted}
-use Rattle.bl_map.specs.Kinds.{IsNormalMap}
-use Rattle.bl_map.specs.declared.fault.MapFault.{MapFault}
-use Rattle.bl_map.specs.declared.fault.MapFault.TheVariants as map_fault
 use Rattle.bl_load.specs.Offered.{IsOffered}
 use Rattle.bl_load.specs.Handover.{Handover}
 use Rattle.bl_image.specs.Begun.{TookBeginning}
@@ -20,29 +16,8 @@ use Rattle.bl_session.specs.AttemptResult.{AttemptResult}
 use Rattle.bl_session.specs.Boot.{State, handed_over, none_left, sizes_of}
 use Rattle.bl_session.specs.Outcome.{File, IsOutcome, EntryHasResult, value_in, no_fault}
 use Rattle.bl_boot.specs.Attempted.{entry_of, names_in, boot_of}
+use Rattle.bl_boot.specs.DescribedMachine.{IsMachineOf}
 use Rattle.bl_say.specs.Says.{booted_line, refused_lines, no_entry_line}
-
--- ---- the machine of a description
-
--- these are the facts of the machine that is described
-pub record IsMachineOf (description : Described) (facts : MachineFacts) : Type 0 where
-  pub accepted : IsAccepted description.size description.regions description.pool
-  pub size : facts.size ≡ description.size
-  pub runs : IsNormalMap description.regions facts.runs
-  pub pool : facts.pool ≡ description.pool
-
--- a rule of machines is broken, and memory did not just run out
-pub record IsBadMachine (description : Described) : Type 0 where
-  pub fault : MapFault
-  pub named : fault ≢ map_fault.NoMemory
-  pub first : HasFirstMapFault description.size description.regions description.pool fault
-
--- the bytes describe nothing, or no machine
-abbrev pub IsBadDescription : List ℕ → Type 0
-IsBadDescription desc = (described desc ≡ None)
-    ⊎ ((description : Described) × (described desc ≡ Some description) × IsBadMachine description)
-
--- ---- boot
 
 -- what a boot starts from, or what it leaves: the files, what the sink took, and what is said
 pub record Surroundings (F : Type 0) : Type 0 where
@@ -95,7 +70,7 @@ module _ {F : Type 0} (answers : F → List ℕ → File → Type 0) (faults : F
     pub said : after.said ≡ before.said ++ (refused_lines refused ++ no_entry_line)
 
   -- an entry can be handed over, but of its image the sink took a beginning; nothing is said
-  pub record IsBroken (desc : List ℕ) (before after : Surroundings F) : Type 0 where
+  pub record IsCutShort (desc : List ℕ) (before after : Surroundings F) : Type 0 where
     pub case : BootCase desc before.files after.files
     pub entry : ℕ
     pub earlier : List RefusedEntry
@@ -115,7 +90,7 @@ abbrev pub names_sought : Option Described → List (List ℕ)
 names_sought None = []
 names_sought (Some description) = names_in description
 
--- those of them that files are asked for
+-- those of them that no file of the description has, which are asked for
 abbrev pub names_fetched : Option Described → List (List ℕ)
 names_fetched None = []
 names_fetched (Some description) = names_asked description.files (names_in description)
@@ -134,9 +109,9 @@ abbrev pub sizes_at : {F : Type 0} {answers : F → List ℕ → File → Type 0
 sizes_at case entry = sizes_of (boot_of case.description case.facts case.files) entry
 
 -- the result of its attempt
-abbrev pub EndsAt : {F : Type 0} {answers : F → List ℕ → File → Type 0} {faults : F → ℕ}
+abbrev pub HasResultAt : {F : Type 0} {answers : F → List ℕ → File → Type 0} {faults : F → ℕ}
     {desc : List ℕ} {before after : F}
     → BootCase answers faults desc before after → ℕ → AttemptResult → Type 0
-EndsAt case entry result =
+HasResultAt case entry result =
     EntryHasResult (boot_of case.description case.facts case.files) case.files None
     entry result

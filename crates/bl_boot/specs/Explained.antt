@@ -8,7 +8,8 @@ use Rattle.bl_desc.specs.Described.{described}
 use Rattle.bl_say.specs.declared.told.blame.Blame.{Blame}
 use Rattle.bl_boot.specs.Blames.{HasBlame}
 use Rattle.bl_say.specs.BlameHints.{blame_lines}
-use Rattle.bl_boot.specs.Ends.{BootCase, ComesTo, IsBadDescription}
+use Rattle.bl_boot.specs.DescribedMachine.{IsBadDescription}
+use Rattle.bl_boot.specs.Ends.{BootCase, ComesTo}
 use Rattle.bl_boot.specs.Details.{AreToldRefusals}
 use Rattle.bl_boot.specs.KernelSegments.{AreToldSegments}
 use Rattle.bl_say.specs.Segments.{KernelSegmentsFacts}

@@ -16,7 +16,8 @@ use Rattle.bl_session.specs.Attempts.{without_repeats_by}
 use Rattle.bl_boot.specs.Attempted.{entry_of}
 use Rattle.bl_boot.specs.Found.{AsksFirst}
 use Rattle.bl_say.specs.Says.{booted_line, refused_lines, no_entry_line}
-use Rattle.bl_boot.specs.Ends.{IsBadMachine, IsBadDescription, IsBooted, IsRefused, IsBroken}
+use Rattle.bl_boot.specs.DescribedMachine.{IsBadMachine, IsBadDescription}
+use Rattle.bl_boot.specs.Ends.{IsBooted, IsRefused, IsCutShort}
 use Rattle.bl_boot.specs.Ends.{Surroundings}
 use Rattle.bl_boot.specs.Mapped.{IsMapped}
 use Rattle.bl_boot.specs.declared.description_boot.boot_end.EndFault.{EndFault}
@@ -58,7 +59,7 @@ BootEnds answers faults desc before after (Ok NoEntryLeft) =
     IsRefused answers faults desc before after
 BootEnds answers faults desc before after (Err BadDescription) =
     IsBadDescription desc × (after ≡ before)
-BootEnds answers faults desc before after (Err Device) = IsBroken answers faults desc before after
+BootEnds answers faults desc before after (Err Device) = IsCutShort answers faults desc before after
 BootEnds answers faults desc before after (Err NoMemory) =
     (after.sink ≡ before.sink) × (after.said ≡ before.said)
 

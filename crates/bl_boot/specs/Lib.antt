@@ -1,6 +1,7 @@
 pub mod Files
 pub mod Found
 pub mod Attempted
+pub mod DescribedMachine
 pub mod Ends
 pub mod Mapped
 pub mod Kept

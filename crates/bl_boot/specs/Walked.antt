@@ -16,7 +16,7 @@ use Rattle.bl_walk.specs.Faults.{HasWalkFault, IsSound, walk_fault_number}
 use Rattle.bl_walk.specs.declared.fault.WalkFault.{WalkFault}
 use Rattle.bl_walk.specs.declared.fault.WalkFault.TheVariants as walking
 use Rattle.bl_say.specs.Says.{bad_image_line}
-use Rattle.bl_say.specs.WalkSays.{walk_lines}
+use Rattle.bl_say.specs.WalkLines.{walk_lines}
 
 -- the image of a handover, in a version, came from the source, and then its end
 pub record ReadsImage (before after : Input) (handover : Handover) : Type 0 where

@@ -1,4 +1,4 @@
-//! Laws of boots.
+//! Laws of boots: two boots of one entry write one image, which shows the entry.
 ghost use Rattle.std.specs.Prelude.{◌≡◌, ◌++◌, ℕ, List};
 ghost use Rattle.bl_map.specs.MachineFacts.{MachineFacts};
 ghost use Rattle.bl_map.specs.Kinds.{kind_at};
@@ -11,11 +11,13 @@ ghost use Rattle.bl_walk.specs.Faults.{IsSound};
 ghost use Rattle.bl_walk.specs.Seen.{IsSeen};
 ghost use Rattle.bl_walk.specs.SeenFacts.{SeenFacts};
 ghost use Rattle.bl_walk.specs.Shown.{ShowsEntry};
+ghost use Rattle.bl_walk.specs.State.{IsEntered};
 ghost use Rattle.bl_session.specs.AttemptResult.{AttemptResult};
 ghost use Rattle.bl_boot.specs.Converted.{Converts, Walks, WalkRefuses};
 ghost use Rattle.bl_desc.specs.Described.{Described};
-ghost use Rattle.bl_boot.specs.Ends.{BootCase, IsBooted, IsMachineOf, Surroundings};
-ghost use Rattle.bl_boot.specs.Ends.{value_at, sizes_at, EndsAt};
+ghost use Rattle.bl_boot.specs.DescribedMachine.{IsMachineOf};
+ghost use Rattle.bl_boot.specs.Ends.{BootCase, IsBooted, Surroundings};
+ghost use Rattle.bl_boot.specs.Ends.{value_at, sizes_at, HasResultAt};
 
 use crate::files::Files;
 
@@ -38,7 +40,7 @@ pub fn two_boots<F: Files, G: Files>()
         (b : BootCase G.answers G.faults other began ended) → a.facts ≡ b.facts
         → (entry index : ℕ) → sizes_at a entry ≡ sizes_at b index
         → value_at a entry ≡ value_at b index → (e f : AttemptResult)
-        → EndsAt a entry e → EndsAt b index f → e ≡ f }
+        → HasResultAt a entry e → HasResultAt b index f → e ≡ f }
 
     // Machines have equal facts where size and pool are equal and each address has one kind in
     // the two.
@@ -47,23 +49,31 @@ pub fn two_boots<F: Files, G: Files>()
         ((a : ℕ) → kind_at one.regions a ≡ kind_at two.regions a) → f ≡ g }
 {}
 
-/// Whatever is read from the image of an entry that was booted shows that entry and nothing else,
-/// and no fault stands in it.
+/// Whatever is read from the image of an entry that was booted shows that entry and nothing else;
+/// its kernel is entered as its protocol says; and no fault stands in it.
 pub fn booted_images_show_their_entries<F: Files>()
     ensures seen { (desc : List ℕ) (before after : Surroundings F)
         (b : IsBooted F.answers F.faults desc before after) (version : Version)
         (image : Handover) (seen : SeenFacts)
         → IsImage version (spelling written_version b.handover) image → IsSeen image seen
         → ShowsEntry b.case.facts (value_at b.case b.entry) seen }
+    ensures entered { (desc : List ℕ) (before after : Surroundings F)
+        (b : IsBooted F.answers F.faults desc before after) (version : Version)
+        (image : Handover) → IsImage version (spelling written_version b.handover) image
+        → IsEntered image }
     ensures sound { (desc : List ℕ) (before after : Surroundings F)
         (b : IsBooted F.answers F.faults desc before after) (version : Version)
         (image : Handover) → IsImage version (spelling written_version b.handover) image
         → IsSound image }
 {}
 
-/// Where a walk of an image and a walk of what it was converted to both say what is seen, they say
-/// the same; and if a walk of one of the two says it, no walk refuses the other.
+/// An image and what it was converted to are images of one handover, so that one thing is seen in
+/// both. Where a walk of each says what is seen, they say the same; and if a walk of one of the two
+/// says it, no walk refuses the other.
 pub fn converted_images_are_walked_alike()
+    ensures handover { (image converted : List ℕ) → Converts image converted
+        → (version : Version) × (handover : Handover) × IsImage version image handover
+        × IsImage written_version converted handover }
     ensures said { (image converted a b : List ℕ) → Converts image converted
         → Walks image a → Walks converted b → a ≡ b }
     ensures sound { (image converted a : List ℕ) (number : ℕ) → Converts image converted

@@ -1,6 +1,6 @@
 //! The map of a description's machine, as it is said.
 ghost use Rattle.std.specs.Prelude.{◌≡◌, ◌⊎◌};
-ghost use Rattle.bl_boot.specs.Ends.{IsBadDescription};
+ghost use Rattle.bl_boot.specs.DescribedMachine.{IsBadDescription};
 ghost use Rattle.bl_boot.specs.Mapped.{IsMapped};
 ghost use Rattle.bl_boot.specs.Kept.{MapEnds};
 

@@ -1,4 +1,4 @@
-//! Laws of the definitions.
+//! Laws of the definitions: a file has one setup or one first fault.
 ghost use Rattle.std.specs.Prelude.{◌≡◌, ◌⊎◌, ℕ, List, Some};
 ghost use Rattle.bl_bzimage.specs.declared.setup.Setup.{Setup};
 ghost use Rattle.bl_bzimage.specs.declared.fault.SetupFault.{SetupFault};

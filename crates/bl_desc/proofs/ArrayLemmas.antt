@@ -19,7 +19,7 @@ use Rattle.bl_desc.specs.Described.{region_in, toml_files, toml_regions}
 use Rattle.bl_desc.specs.Entries.{Module, module_in, toml_modules}
 use Rattle.bl_desc.specs.Allowed.{allows, count_within, item_count, key_rules, keys_of_set, must}
 use Rattle.bl_desc.specs.BadKeysKept.{all_items, array_items, item_passes, passes_at, table_passes}
-use Rattle.bl_desc.specs.WholeKept.{name_value, named_file, text_or_none, value_or}
+use Rattle.bl_desc.specs.DescriptionKept.{name_value, named_file, text_or_none, value_or}
 use Rattle.bl_desc.specs.declared.bad_key.Allowed.TheVariants.{Number, IndexBelow, TwoNumbers}
 use Rattle.bl_desc.specs.declared.bad_key.Allowed.TheVariants.{Indices, Tables, ModuleTables}
 use Rattle.bl_desc.specs.declared.bad_key.Allowed.TheVariants.{AnyText, HexText}

@@ -12,12 +12,12 @@ use Rattle.bl_desc.specs.Allowed.{KeyRule, item_count, key_rules, may, must}
 use Rattle.bl_desc.specs.BadKeys.{BreaksOne, IsBadKey, IsFaultAt, IsItemFault}
 use Rattle.bl_desc.specs.BadKeys.{IsKeyFault, count_at, count_or_none, item_at, set_of_protocol}
 use Rattle.bl_desc.specs.BadKeysKept.{IsListedBad, IsNumberFault, array_items}
-use Rattle.bl_desc.specs.WholeKept.{IsEntryBad, IsEntryFaultAt, IsEntryItemFaultAt}
-use Rattle.bl_desc.specs.WholeKept.{IsFrontFault, IsMenuBad, IsModulesBad, IsModulesFaultAt}
-use Rattle.bl_desc.specs.WholeKept.{copy_rules, entry_set_in, front_rules, initrd_rules}
-use Rattle.bl_desc.specs.WholeKept.{entry_passes, passes_by, protocol_in}
-use Rattle.bl_desc.specs.WholeKept.{module_rules, protocol_rules, machine_rules, fill_rules}
-use Rattle.bl_desc.specs.WholeKept.{region_rules, file_rules, entry_rules, index_rules}
+use Rattle.bl_desc.specs.DescriptionKept.{IsEntryBad, IsEntryFaultAt, IsEntryItemFaultAt}
+use Rattle.bl_desc.specs.DescriptionKept.{IsFrontFault, IsMenuBad, IsModulesBad, IsModulesFaultAt}
+use Rattle.bl_desc.specs.DescriptionKept.{copy_rules, entry_set_in, common_rules, initrd_rules}
+use Rattle.bl_desc.specs.DescriptionKept.{entry_passes, passes_by, protocol_in}
+use Rattle.bl_desc.specs.DescriptionKept.{module_rules, protocol_rules, machine_rules, fill_rules}
+use Rattle.bl_desc.specs.DescriptionKept.{region_rules, file_rules, entry_rules, index_rules}
 use Rattle.bl_desc.specs.declared.bad_key.Allowed.TheVariants.{Number, IndexBelow}
 use Rattle.bl_desc.specs.declared.bad_key.Allowed.TheVariants.{TwoNumbers, Indices}
 use Rattle.bl_desc.specs.declared.bad_key.BadKey.{BadKey}
@@ -60,20 +60,20 @@ abbrev AreAmong : List KeyRule → KeySet → Type 0
 AreAmong rules set =
     (ms : Members) (fault : KeyFault) → BreaksOne rules ms fault → IsKeyFault 0 set ms fault
 
-pub front-Multiboot2 : AreAmong front_rules keys.Multiboot2Entry
+pub front-Multiboot2 : AreAmong common_rules keys.Multiboot2Entry
 front-Multiboot2 ms fault h = rule_fault 0 keys.Multiboot2Entry ms fault (among h)
   where
-    among : BreaksOne front_rules ms fault
+    among : BreaksOne common_rules ms fault
         → BreaksOne (key_rules 0 keys.Multiboot2Entry) ms fault
     among (inl title) = inl title
     among (inr (inl kernel)) = inr (inr (inl kernel))
     among (inr (inr (inl line))) = inr (inr (inr (inl line)))
     among (inr (inr (inr none))) = absurd none
 
-pub front-Linux : AreAmong front_rules keys.LinuxEntry
+pub front-Linux : AreAmong common_rules keys.LinuxEntry
 front-Linux ms fault h = rule_fault 0 keys.LinuxEntry ms fault (among h)
   where
-    among : BreaksOne front_rules ms fault → BreaksOne (key_rules 0 keys.LinuxEntry) ms fault
+    among : BreaksOne common_rules ms fault → BreaksOne (key_rules 0 keys.LinuxEntry) ms fault
     among (inl title) = inl title
     among (inr (inl kernel)) = inr (inr (inl kernel))
     among (inr (inr (inl line))) = inr (inr (inr (inl line)))
@@ -110,7 +110,7 @@ protocol-Entry ms fault h = rule_fault 0 keys.Entry ms fault (among h)
     among (inr none) = absurd none
 
 -- a fault of a table with these keys, or a broken rule of each entry's
-pub front_fault : (set : KeySet) → AreAmong front_rules set → (ms : Members) (fault : KeyFault)
+pub front_fault : (set : KeySet) → AreAmong common_rules set → (ms : Members) (fault : KeyFault)
     → IsFrontFault set ms fault → IsKeyFault 0 set ms fault
 front_fault set among ms fault (inl h) = h
 front_fault set among ms fault (inr h) = among ms fault h

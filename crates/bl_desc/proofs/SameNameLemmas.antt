@@ -14,8 +14,8 @@ use Rattle.toml.specs.declared.value.Value.{Value}
 use Rattle.bl_desc.specs.Described.{has_file}
 use Rattle.bl_desc.specs.BadKeys.{file_name_at, item_at}
 use Rattle.bl_desc.specs.BadKeysKept.{all_items, all_pass, array_items, item_passes, passes_at}
-use Rattle.bl_desc.specs.WholeKept.{IsSameName, file_rules, files_pass, name_value, named_file}
-use Rattle.bl_desc.specs.WholeKept.{text_or_none, value_or}
+use Rattle.bl_desc.specs.DescriptionKept.{IsSameName, file_rules, files_pass, name_value, named_file}
+use Rattle.bl_desc.specs.DescriptionKept.{text_or_none, value_or}
 use Rattle.bl_desc.specs.declared.bad_key.Allowed.TheVariants.{AnyText}
 use Rattle.bl_desc.specs.declared.bad_key.KeySet.TheVariants as keys
 use Rattle.bl_desc.proofs.DescribesLemmas.{rule_passes, table_parts}

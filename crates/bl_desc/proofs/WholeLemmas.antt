@@ -18,12 +18,12 @@ use Rattle.bl_desc.specs.Entries.{Entry, Module, entry_by, menu_entry_in, toml_c
 use Rattle.bl_desc.specs.Entries.{toml_modules, toml_protocol, toml_title}
 use Rattle.bl_desc.specs.Allowed.{allows, count_within, item_count, keys_of_set, may, must}
 use Rattle.bl_desc.specs.BadKeysKept.{all_items, all_pass, array_items, item_passes, passes_at}
-use Rattle.bl_desc.specs.WholeKept.{IsEachFileNamed, copy_rules, entry_item_passes, entry_rules}
-use Rattle.bl_desc.specs.WholeKept.{file_rules, files_pass, fill_rules, front_passes, front_rules}
-use Rattle.bl_desc.specs.WholeKept.{index_rules, indices_pass, initrd_rules, linux_passes}
-use Rattle.bl_desc.specs.WholeKept.{machine_passes, machine_rules, menu_passes, module_rules}
-use Rattle.bl_desc.specs.WholeKept.{modules_pass, multiboot2_passes, passes_by, protocol_in}
-use Rattle.bl_desc.specs.WholeKept.{protocol_rules, region_rules, regions_pass}
+use Rattle.bl_desc.specs.DescriptionKept.{IsEachFileNamed, copy_rules, entry_item_passes, entry_rules}
+use Rattle.bl_desc.specs.DescriptionKept.{file_rules, files_pass, fill_rules, front_passes, common_rules}
+use Rattle.bl_desc.specs.DescriptionKept.{index_rules, indices_pass, initrd_rules, linux_passes}
+use Rattle.bl_desc.specs.DescriptionKept.{machine_passes, machine_rules, menu_passes, module_rules}
+use Rattle.bl_desc.specs.DescriptionKept.{modules_pass, multiboot2_passes, passes_by, protocol_in}
+use Rattle.bl_desc.specs.DescriptionKept.{protocol_rules, region_rules, regions_pass}
 use Rattle.bl_desc.specs.declared.bad_key.Allowed.TheVariants.{Number, Byte, IndexBelow}
 use Rattle.bl_desc.specs.declared.bad_key.Allowed.TheVariants.{TwoNumbers, Indices, Tables}
 use Rattle.bl_desc.specs.declared.bad_key.Allowed.TheVariants.{EntryTables, ModuleTables, AnyText}
@@ -45,11 +45,11 @@ record Front (ms : Members) : Type 0 where
   kernel_read : required toml_text (get_member (codes "kernel") ms) ≡ Some kernel
   line_read : optional toml_text [] (get_member (codes "line") ms) ≡ Some line
 
-front_reads : (ms : Members) → all_pass front_rules ms ≡ true → Front ms
+front_reads : (ms : Members) → all_pass common_rules ms ≡ true → Front ms
 front_reads ms h =
-    let title = rule_passes front_rules ms 0 (must (codes "title") Title) h refl in
-    let kernel = rule_passes front_rules ms 1 (must (codes "kernel") AnyText) h refl in
-    let line = rule_passes front_rules ms 2 (may (codes "line") AnyText) h refl in
+    let title = rule_passes common_rules ms 0 (must (codes "title") Title) h refl in
+    let kernel = rule_passes common_rules ms 1 (must (codes "kernel") AnyText) h refl in
+    let line = rule_passes common_rules ms 2 (may (codes "line") AnyText) h refl in
     let t =
     required_reads Title toml_title (get_member (codes "title") ms) (λ d can. can) title in
     let k =
@@ -81,7 +81,7 @@ multiboot2_reads ms h =
     and_parts (front_passes keys.Multiboot2Entry ms) (modules_pass ms && all_pass copy_rules ms) h
     in
     let front =
-    and_parts (has_only (keys_of_set keys.Multiboot2Entry) ms) (all_pass front_rules ms) whole.0 in
+    and_parts (has_only (keys_of_set keys.Multiboot2Entry) ms) (all_pass common_rules ms) whole.0 in
     let rest = and_parts (modules_pass ms) (all_pass copy_rules ms) whole.1 in
     let modules =
     and_parts (all_pass module_rules ms)
@@ -109,7 +109,7 @@ linux_reads : (ms : Members) → linux_passes ms ≡ true
 linux_reads ms h =
     let whole = and_parts (front_passes keys.LinuxEntry ms) (all_pass initrd_rules ms) h in
     let front =
-    and_parts (has_only (keys_of_set keys.LinuxEntry) ms) (all_pass front_rules ms) whole.0 in
+    and_parts (has_only (keys_of_set keys.LinuxEntry) ms) (all_pass common_rules ms) whole.0 in
     let initrd = rule_passes initrd_rules ms 0 (may (codes "initrd") AnyText) whole.1 refl in
     let i = given_reads AnyText toml_text (get_member (codes "initrd") ms) (λ d can. can) initrd in
     linux_by ms (front_reads ms front.1) i.0 front.0 i.1

@@ -6,4 +6,4 @@ pub mod Views
 pub mod Allowed
 pub mod BadKeys
 pub mod BadKeysKept
-pub mod WholeKept
+pub mod DescriptionKept

@@ -13,7 +13,7 @@ use Rattle.bl_elf.specs.Header.{header_of, header_fault}
 use Rattle.bl_elf.specs.Program.{program_fault_at, program_header, segment_by_header}
 use Rattle.bl_elf.specs.Elf.{ElfFacts, IsElf, IsIndex, IsFirstFaulty, IsFirstOverlap}
 use Rattle.bl_elf.specs.Elf.{HasFirstElfFault}
-use Rattle.bl_elf.specs.Elf.{IsLoadableSegment, AreApartSegments, IsAddressOf}
+use Rattle.bl_elf.specs.Elf.{IsSoundSegment, AreApartSegments, IsAddressOf}
 use Rattle.bl_elf.proofs.HeaderLemmas.{few_program_headers}
 use Rattle.bl_elf.proofs.SegmentLemmas.{few_segments, all_segments, apart_segments}
 use Rattle.bl_elf.proofs.SegmentLemmas.{loadable_segment, common_address}
@@ -27,10 +27,10 @@ elf_few bytes facts elf =
 
 -- each of them can be loaded
 pub elf_loadable : (bytes : List ℕ) (facts : ElfFacts) → IsElf bytes facts
-    → All (IsLoadableSegment bytes) facts.segments
+    → All (IsSoundSegment bytes) facts.segments
 elf_loadable bytes facts elf =
-    subst (λ (xs : List Segment). All (IsLoadableSegment bytes) xs) (sym elf.segments)
-    (all_segments (IsLoadableSegment bytes) bytes 0 (header_of bytes).e_phnum
+    subst (λ (xs : List Segment). All (IsSoundSegment bytes) xs) (sym elf.segments)
+    (all_segments (IsSoundSegment bytes) bytes 0 (header_of bytes).e_phnum
     (λ k low high loadable.
     loadable_segment bytes k (program_header bytes k) (elf.sound k (omega arith)) loadable))
 

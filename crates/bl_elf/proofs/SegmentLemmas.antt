@@ -10,7 +10,7 @@ use Rattle.bl_elf.specs.declared.program.ProgramHeader.{ProgramHeader}
 use Rattle.bl_elf.specs.Program.{program_header, headers_from, is_loadable, segment_by_header}
 use Rattle.bl_elf.specs.Program.{segments_of}
 use Rattle.bl_elf.specs.Program.{program_fault, share_byte, share_at}
-use Rattle.bl_elf.specs.Elf.{IsLoadableSegment, AreApartSegments, IsAddressOf}
+use Rattle.bl_elf.specs.Elf.{IsSoundSegment, AreApartSegments, IsAddressOf}
 
 -- a loadable program header gives its segment
 loaded : (header : ProgramHeader) (rest : List ProgramHeader) → is_loadable header ≡ true
@@ -99,7 +99,7 @@ apart_segments bytes i (suc n) apart =
 -- the segment of a loadable one without a fault
 pub loadable_segment : (bytes : List ℕ) (i : ℕ) (header : ProgramHeader)
     → program_fault (length bytes) i header ≡ None → is_loadable header ≡ true
-    → IsLoadableSegment bytes (segment_by_header header)
+    → IsSoundSegment bytes (segment_by_header header)
 unfolding program_fault
 loadable_segment bytes i header sound loadable = record {
   filled = grind (arith, nat_tests);

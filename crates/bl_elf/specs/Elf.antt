@@ -82,7 +82,7 @@ HasFirstElfFault bytes NoMemory = Unit {0}
 
 -- a segment as a loader needs it: it takes memory below 2^32, and what it takes of the file is
 -- within the file
-pub record IsLoadableSegment (bytes : List ℕ) (segment : Segment) : Type 0 where
+pub record IsSoundSegment (bytes : List ℕ) (segment : Segment) : Type 0 where
   pub filled : 1 ≤ segment.memsz
   pub fits : segment.filesz ≤ segment.memsz
   pub in_file : 0 < segment.filesz → segment.offset + segment.filesz ≤ length bytes

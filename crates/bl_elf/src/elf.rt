@@ -1,7 +1,7 @@
 //! What is read from a file.
 ghost use Rattle.std.specs.Prelude.{◌≡◌, ◌≤◌, Some, None, length, All, AllPairs, MatchResult, IfOk};
 ghost use Rattle.std.specs.Prelude.{IfErr};
-ghost use Rattle.bl_elf.specs.Elf.{IsElf, HasFirstElfFault, IsLoadableSegment, AreApartSegments};
+ghost use Rattle.bl_elf.specs.Elf.{IsElf, HasFirstElfFault, IsSoundSegment, AreApartSegments};
 ghost use Rattle.bl_elf.specs.declared.fault.ElfFault.TheVariants.{NoEntry};
 
 use crate::entry::find_entry;
@@ -55,7 +55,7 @@ pub fn read_elf<A: Allocator + Copy, V: ByteView>(alloc: A, view: &V) -> Result<
     ensures first_fault { IfErr result (λ fault. HasFirstElfFault (V.bytes view.now) fault) }
 
     // What follows from the first clause alone, for callers that place and copy the segments.
-    ensures segments { IfOk result (λ elf. All (IsLoadableSegment
+    ensures segments { IfOk result (λ elf. All (IsSoundSegment
         (V.bytes view.now)) elf.segments) }
     ensures few { IfOk result (λ elf. length elf.segments ≤ 128) }
     ensures apart { IfOk result (λ elf. AllPairs AreApartSegments elf.segments) }

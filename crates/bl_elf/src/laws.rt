@@ -1,4 +1,4 @@
-//! Laws of the definitions.
+//! Laws of the definitions: a file has one reading or one first fault; what an overlap is.
 ghost use Rattle.std.specs.Prelude.{◌≡◌, ◌⊎◌, ℕ, List};
 ghost use Rattle.bl_elf.specs.declared.fault.ElfFault.{ElfFault};
 ghost use Rattle.bl_elf.specs.declared.fault.ElfFault.TheVariants.{SegmentsOverlap, NoMemory};

@@ -1,4 +1,4 @@
-//! Laws of the definitions.
+//! Laws of the definitions: bytes are one image or have one first fault.
 ghost use Rattle.std.specs.Prelude.{◌≡◌, ◌<◌, ℕ, List, slice_index, None};
 ghost use Rattle.bl_load.specs.Handover.{Handover};
 ghost use Rattle.bl_image.specs.Image.{spelling};

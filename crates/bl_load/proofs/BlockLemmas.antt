@@ -10,7 +10,7 @@ use Rattle.std.proofs.lemmas.Bool.Decides.{nat_tests}
 use Rattle.bl_mem.specs.declared.segment.Segment.{Segment}
 use Rattle.bl_mem.specs.Contents.{contents_of, holds}
 use Rattle.bl_load.specs.Blocks.{low_of, high_of, span_of, block_byte, first_values, block_of}
-use Rattle.bl_load.specs.Loadable.{IsCopied, SegmentsAscend}
+use Rattle.bl_load.specs.Loadable.{IsCopyable, SegmentsAscend}
 
 -- segments from a linked address on, each after the zeros of the gap before it
 abbrev pub block_from : List ℕ → ℕ → List Segment → List ℕ
@@ -20,7 +20,7 @@ block_from text start (s ∷ segments) =
     ++ block_from text (s.address + s.memsz) segments
 
 -- a segment has as many bytes of the file as it says
-pub length-filed : (text : List ℕ) (s : Segment) → IsCopied (length text) s
+pub length-filed : (text : List ℕ) (s : Segment) → IsCopyable (length text) s
     → length (slice_range text s.offset (s.offset + s.filesz)) ≡ s.filesz
 length-filed text s copied =
     elim (cases_lt 0 s.filesz) [
@@ -28,7 +28,7 @@ length-filed text s copied =
       | inr none ↦ search (rules, places)
     ]
 
-pub length-contents_of : (text : List ℕ) (s : Segment) → IsCopied (length text) s
+pub length-contents_of : (text : List ℕ) (s : Segment) → IsCopyable (length text) s
     → length (contents_of text s) ≡ s.memsz
 length-contents_of text s copied =
     let fits = copied.fits in
@@ -79,14 +79,14 @@ length-block_of text segments =
 
 -- segments end after where they begin
 high_above : (text : List ℕ) (start : ℕ) (s : Segment) (segments : List Segment)
-    → All (IsCopied (length text)) (s ∷ segments) → All (λ t. start ≤ t.address) (s ∷ segments)
+    → All (IsCopyable (length text)) (s ∷ segments) → All (λ t. start ≤ t.address) (s ∷ segments)
     → start < high_of (s ∷ segments)
 high_above text start s segments copied above =
     let c = copied 0 s (omega arith) in
     let filled = c.filled in let a = above 0 s (omega arith) in omega arith
 
 pub length-block_from : (text : List ℕ) (start : ℕ) (segments : List Segment)
-    → All (IsCopied (length text)) segments → AllPairs SegmentsAscend segments
+    → All (IsCopyable (length text)) segments → AllPairs SegmentsAscend segments
     → All (λ s. start ≤ s.address) segments
     → start + length (block_from text start segments) ≡ max start (high_of segments)
 length-block_from text start [] copied ascend above = omega arith
@@ -103,7 +103,7 @@ length-block_from text start (s ∷ segments) copied ascend above =
     rw (length-append, length-append, length-replicate, n) (omega arith)
 
 pub get_or-block_from : (text : List ℕ) (start : ℕ) (segments : List Segment) (k d : ℕ)
-    → All (IsCopied (length text)) segments → AllPairs SegmentsAscend segments
+    → All (IsCopyable (length text)) segments → AllPairs SegmentsAscend segments
     → All (λ s. start ≤ s.address) segments
     → k < length (block_from text start segments)
     → get_or (block_from text start segments) k d ≡ block_byte text segments (start + k)

@@ -10,7 +10,7 @@ use Rattle.bl_mem.proofs.Overwrites.{overwrite_more, beside_zeros}
 use Rattle.bl_mem.specs.declared.segment.Segment.{Segment}
 use Rattle.bl_mem.specs.Contents.{contents_of, holds}
 use Rattle.bl_load.specs.Blocks.{low_of, span_of, block_byte, first_values, block_of}
-use Rattle.bl_load.specs.Loadable.{IsCopied, SegmentsAscend}
+use Rattle.bl_load.specs.Loadable.{IsCopyable, SegmentsAscend}
 use Rattle.bl_load.proofs.BlockLemmas.{block_from, length-contents_of, length-first_values}
 use Rattle.bl_load.proofs.BlockLemmas.{get_or-first_values, length-block_from, get_or-block_from}
 
@@ -34,7 +34,7 @@ first_below (s ∷ segments) d ascend =
 
 -- the block is its segments from the first address on
 pub block_from_first : (text : List ℕ) (segments : List Segment) (d : Segment) → 1 ≤ length segments
-    → All (IsCopied (length text)) segments → AllPairs SegmentsAscend segments
+    → All (IsCopyable (length text)) segments → AllPairs SegmentsAscend segments
     → (span_of segments ≡ length (block_from text (get_or segments 0 d).address segments))
     × (block_of text segments ≡ block_from text (get_or segments 0 d).address segments)
 unfolding block_of
@@ -57,7 +57,7 @@ block_from_first text (s ∷ segments) d some copied ascend =
 
 -- a gap and a segment are written
 module _ (text m : List ℕ) (at low done : ℕ) (s : Segment) (rest : List Segment)
-    (copied : IsCopied (length text) s) (above : low + done ≤ s.address)
+    (copied : IsCopyable (length text) s) (above : low + done ≤ s.address)
     (inside : at + (done + length (block_from text (low + done) (s ∷ rest))) ≤ length m) where
   -- what is left then
   pub left_behind : s.address - low + s.memsz

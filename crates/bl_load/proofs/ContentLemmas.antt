@@ -7,7 +7,7 @@ use Rattle.bl_load.specs.Blocks.{low_of, high_of, span_of, block_of}
 use Rattle.bl_load.specs.KernelKept.{AreLoadable}
 use Rattle.bl_plan.specs.Order.{segment_key, ascending}
 use Rattle.bl_load.specs.Parts.{kernel_content}
-use Rattle.bl_load.specs.Loadable.{IsCopied, SegmentsAscend}
+use Rattle.bl_load.specs.Loadable.{IsCopyable, SegmentsAscend}
 use Rattle.bl_load.specs.PlacingKept.{HasKernelLength}
 use Rattle.bl_plan.proofs.OrderLemmas.{in_order_all}
 use Rattle.bl_plan.proofs.OrderCountLemmas.{length-in_order}
@@ -31,7 +31,7 @@ length_as_span segments relocation r i count is h =
 
 -- each of its segments can be copied
 all_copied : (file : List ℕ) (segments : List Segment) → AreLoadable file segments
-    → span_of segments ≤ 2 ^ 32 → All (IsCopied (length file)) segments
+    → span_of segments ≤ 2 ^ 32 → All (IsCopyable (length file)) segments
 all_copied file segments h small k d within =
     let s = get_or segments k d in
     let above : s.address + s.memsz ≤ high_of segments = high_above_all segments k d within in
@@ -48,11 +48,11 @@ pub block_copied : (file : List ℕ) (segments items : List Segment) (relocation
     (r : Relocation) (i count : ℕ) → AreLoadable file segments → items ≡ ascending segments
     → relocation ≡ Some r
     → HasKernelLength segments relocation i count → count ≤ 2 ^ 32
-    → All (IsCopied (length file)) items
+    → All (IsCopyable (length file)) items
 block_copied file segments items relocation r i count h items_are is long small =
     let span = length_as_span segments relocation r i count is long in
-    subst (λ (ss : List Segment). All (IsCopied (length file)) ss) (sym items_are)
-    (in_order_all segment_key (IsCopied (length file)) segments
+    subst (λ (ss : List Segment). All (IsCopyable (length file)) ss) (sym items_are)
+    (in_order_all segment_key (IsCopyable (length file)) segments
     (all_copied file segments h (omega arith)))
 
 pub block_ascends : (file : List ℕ) (segments items : List Segment) → AreLoadable file segments

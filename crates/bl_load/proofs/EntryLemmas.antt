@@ -9,7 +9,7 @@ use Rattle.bl_mem.specs.declared.segment.Segment.{Segment}
 use Rattle.bl_mem.specs.Contents.{holds, holds_at}
 use Rattle.bl_map.specs.MachineFacts.{MachineFacts}
 use Rattle.bl_mb2head.specs.declared.relocation.Relocation.{Relocation}
-use Rattle.bl_plan.specs.Planned.{put_in}
+use Rattle.bl_plan.specs.PlannerFacts.{put_in}
 use Rattle.std.proofs.lemmas.Bool.{cond_both}
 use Rattle.bl_plan.specs.Placed.{ArePlaced, place_at, place_range}
 use Rattle.bl_plan.specs.declared.part.Row.{Row}

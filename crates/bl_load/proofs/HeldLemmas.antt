@@ -22,7 +22,7 @@ use Rattle.bl_load.specs.Place.{planned_place}
 use Rattle.bl_load.specs.PlanFacts.{content_by, bytes_by, part_by, part_in, places_of}
 use Rattle.bl_load.specs.HandoffFacts.{Ascends}
 use Rattle.bl_load.specs.Kept.{CanLoad}
-use Rattle.bl_load.specs.Loadable.{lengths_of, content_length, IsThere, IsBacked, IsLoadable}
+use Rattle.bl_load.specs.Loadable.{lengths_of, content_length, IsInFiles, IsBacked, IsLoadable}
 use Rattle.bl_load.proofs.BlockLemmas.{length-block_of}
 use Rattle.bl_load.proofs.WrittenLemmas.{EndsWithin, IsBefore, Has, length-written, written_in}
 use Rattle.bl_load.proofs.WrittenLemmas.{written_elsewhere}
@@ -71,7 +71,7 @@ within_texts texts file h =
 
 -- a content that is there has as many bytes as it says
 pub length-content_by : {A : Type 0} (texts : List (List ℕ)) (content : Content A)
-    → IsThere (lengths_of texts) content
+    → IsInFiles (lengths_of texts) content
     → length (content_by texts content) ≡ content_length content
 length-content_by texts (Own bytes) there = refl
 length-content_by texts (File file offset count) there =

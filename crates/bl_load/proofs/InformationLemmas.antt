@@ -14,7 +14,7 @@ use Rattle.bl_plan.specs.declared.part.Place.{Place}
 use Rattle.bl_plan.specs.declared.part.Role.TheVariants.{Kernel}
 use Rattle.bl_load.specs.Addresses.{address_of}
 use Rattle.bl_load.specs.Value.{EntryValue, IsCopy}
-use Rattle.bl_map.specs.Room.{whole_frames}
+use Rattle.bl_map.specs.Room.{round_up_to_frames}
 use Rattle.bl_load.specs.Rows.{told_modules, information_of}
 use Rattle.bl_load.specs.PlacingKept.{tags_size}
 
@@ -83,7 +83,7 @@ info_size_is facts value relocation places =
 -- it is no longer than its place
 pub information_short : (facts : MachineFacts) (value : EntryValue) (relocation : Option Relocation)
     (places : List Place) (count : ℕ)
-    → count ≡ whole_frames (info_size (information_of facts value relocation []))
+    → count ≡ round_up_to_frames (info_size (information_of facts value relocation []))
     → length (info_spelling (codes "bootcore") (information_of facts value relocation places))
     ≤ count
 information_short facts value relocation places count is =

@@ -8,7 +8,7 @@ use Rattle.std.proofs.lemmas.List.Elements.{All-nil, All-cons, All-append}
 use Rattle.std.specs.declared.ops.Range.{Range}
 use Rattle.bl_map.specs.Limits.{max_size, high_start}
 use Rattle.bl_map.specs.MachineFacts.{MachineFacts}
-use Rattle.bl_map.specs.Room.{whole_frames}
+use Rattle.bl_map.specs.Room.{round_up_to_frames}
 use Rattle.bl_bzimage.specs.declared.setup.Setup.{Setup}
 use Rattle.bl_bzimage.specs.Setup.{IsSetup}
 use Rattle.bl_bzimage.proofs.CheckLaws.{some_alignment}
@@ -134,7 +134,7 @@ module _ (facts : MachineFacts) (value : EntryValue) (setup : Setup) where
       subst
       (λ (all : List ℕ).
       (1 ≤ length all)
-      × (whole_frames (length (byte ∷ bytes)) ≡ whole_frames (length all))) (sym is)
+      × (round_up_to_frames (length (byte ∷ bytes)) ≡ round_up_to_frames (length all))) (sym is)
       (omega arith, refl))
       (All-nil (Anywhere (IsRowed facts value (linux setup))))
 

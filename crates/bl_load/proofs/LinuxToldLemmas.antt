@@ -7,12 +7,12 @@ use Rattle.std.proofs.lemmas.List.Elements.{All-head, All-tail}
 use Rattle.std.specs.declared.ops.Range.{Range}
 use Rattle.bl_map.specs.MachineFacts.{MachineFacts}
 use Rattle.bl_map.specs.Limits.{max_size}
-use Rattle.bl_map.specs.Room.{whole_frames}
+use Rattle.bl_map.specs.Room.{round_up_to_frames}
 use Rattle.bl_bzimage.specs.declared.setup.Setup.{Setup}
 use Rattle.bl_plan.specs.Permitted.{IsPermitted}
 use Rattle.bl_plan.specs.Placed.{ArePlaced, IsFirstPlaceFault, IsChosen, HasChoiceFault, place_at}
 use Rattle.bl_plan.specs.Placed.{place_range}
-use Rattle.bl_plan.specs.Planned.{put_in}
+use Rattle.bl_plan.specs.PlannerFacts.{put_in}
 use Rattle.bl_plan.specs.declared.part.Choice.{Choice}
 use Rattle.bl_plan.specs.declared.part.Choice.TheVariants.{Highest}
 use Rattle.bl_plan.specs.declared.fault.PlanFault.{PlanFault}
@@ -28,10 +28,10 @@ use Rattle.bl_load.proofs.RowLemmas.{some_frames}
 
 -- ---- the initrd's row as the code tells it
 
-pub alike : (size : ℕ) → 1 ≤ size → Alike (told_length size) (whole_frames size)
+pub alike : (size : ℕ) → 1 ≤ size → Alike (told_length size) (round_up_to_frames size)
 alike size some =
     let same : max size 1 ≡ size = omega arith in
-    subst (λ (n : ℕ). Alike (told_length size) (whole_frames n)) same (alike_lengths size)
+    subst (λ (n : ℕ). Alike (told_length size) (round_up_to_frames n)) same (alike_lengths size)
 
 initrd_choice : Setup → Choice
 initrd_choice setup = Highest 4096 4096 (setup.initrd_addr_max + 1)
@@ -99,7 +99,7 @@ module _ (facts : MachineFacts) (protocol : Protocol) (setup : Setup) where
             (λ (n : ℕ). HasChoiceFault facts taken n (Highest 4096 4096 high) fault) same here)
         | inr long ↦
             inl
-            (no_room taken 4096 4096 high (whole_frames size) (told_length size) fault long.1
+            (no_room taken 4096 4096 high (round_up_to_frames size) (told_length size) fault long.1
             here)
       ]
   told_initrd_fault fault (byte ∷ bytes) taken (inr (a, chosen, later)) = absurd later
@@ -127,7 +127,7 @@ module _ (facts : MachineFacts) (protocol : Protocol) (setup : Setup) where
   initrd_small (byte ∷ bytes) taken [] placed low = absurd placed
   initrd_small (byte ∷ bytes) taken (p ∷ places) placed low =
       let here = All-head EndsLow p places low in
-      let size : p.length ≡ whole_frames (length (byte ∷ bytes)) =
+      let size : p.length ≡ round_up_to_frames (length (byte ∷ bytes)) =
       ap (λ (q : Place). q.length) placed.1 in
       let frames = some_frames (length (byte ∷ bytes)) (omega arith) in
       omega arith

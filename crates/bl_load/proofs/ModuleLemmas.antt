@@ -10,9 +10,9 @@ use Rattle.std.proofs.lemmas.Bool.Decides.{nat_tests}
 use Rattle.std.proofs.lemmas.Grind.{common_steps}
 use Rattle.std.specs.declared.ops.Range.{Range}
 use Rattle.bl_map.specs.MachineFacts.{MachineFacts}
-use Rattle.bl_map.specs.Room.{whole_frames}
+use Rattle.bl_map.specs.Room.{round_up_to_frames}
 use Rattle.bl_plan.specs.Placed.{ArePlaced, place_range}
-use Rattle.bl_plan.specs.Planned.{put_in}
+use Rattle.bl_plan.specs.PlannerFacts.{put_in}
 use Rattle.bl_plan.specs.Roles.{role_number}
 use Rattle.bl_plan.specs.declared.part.Place.{Place}
 use Rattle.bl_plan.specs.declared.part.Role.{Role}
@@ -104,7 +104,7 @@ module_ends facts value kernel i p rowed low role index =
     subst (λ (r : Role). HasLength facts value (multiboot2 kernel) r p.index p.length)
     (is_module p.role role) rowed in
     let file = length (module_file value.files p.index) in
-    let size : p.length ≡ whole_frames (max file 1) = has.1 in
+    let size : p.length ≡ round_up_to_frames (max file 1) = has.1 in
     let same : length (module_file value.files p.index) ≡ length (module_file value.files i) =
     ap (λ (j : ℕ). length (module_file value.files j)) index in
     omega arith

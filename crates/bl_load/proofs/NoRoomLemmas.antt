@@ -6,11 +6,11 @@ use Rattle.std.proofs.lemmas.Bool.{cases_lt}
 use Rattle.std.specs.declared.ops.Range.{Range}
 use Rattle.bl_map.specs.MachineFacts.{MachineFacts}
 use Rattle.bl_map.specs.Limits.{max_size}
-use Rattle.bl_map.specs.Room.{whole_frames}
+use Rattle.bl_map.specs.Room.{round_up_to_frames}
 use Rattle.bl_plan.specs.Placed.{ArePlaced, IsFirstPlaceFault, IsChosen, HasChoiceFault}
 use Rattle.bl_plan.specs.Placed.{IsPlacingFault}
 use Rattle.bl_plan.specs.Placed.{place_at, place_range}
-use Rattle.bl_plan.specs.Planned.{put_in}
+use Rattle.bl_plan.specs.PlannerFacts.{put_in}
 use Rattle.bl_plan.specs.declared.part.Choice.TheVariants.{Lowest}
 use Rattle.bl_plan.specs.declared.fault.PlanFault.{PlanFault}
 use Rattle.bl_plan.specs.declared.fault.PlanFault.TheVariants.{NotUsable, Overlap, NoRoom, NoMemory}
@@ -28,13 +28,13 @@ use Rattle.bl_load.specs.PlacingKept.{most_told, told_length, told_rows, told_ro
 abbrev pub Alike : ℕ → ℕ → Type 0
 Alike told length = (told ≡ length) ⊎ ((max_size < told) × (max_size < length))
 
-pub alike_lengths : (size : ℕ) → Alike (told_length size) (whole_frames (max size 1))
+pub alike_lengths : (size : ℕ) → Alike (told_length size) (round_up_to_frames (max size 1))
 alike_lengths size =
     elim (cases_lt most_told size) [
       | inl above ↦ inr (omega arith, omega arith)
       | inr at_most ↦
           let same : min size most_told ≡ size =
-          omega arith in inl (ap (λ (n : ℕ). whole_frames (max n 1)) same)
+          omega arith in inl (ap (λ (n : ℕ). round_up_to_frames (max n 1)) same)
     ]
 
 module _ (facts : MachineFacts) where
@@ -95,7 +95,7 @@ module _ (facts : MachineFacts) where
             same here)
         | inr long ↦
             inl
-            (no_room taken 4096 0x100000 (whole_frames (max size 1)) (told_length size) fault
+            (no_room taken 4096 0x100000 (round_up_to_frames (max size 1)) (told_length size) fault
             long.1 here)
       ]
   told_fault files rest fault k (line ∷ lines) taken (inr (a, chosen, later)) =

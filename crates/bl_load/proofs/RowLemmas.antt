@@ -22,7 +22,7 @@ use Rattle.bl_load.specs.Reading.{multiboot2}
 use Rattle.bl_load.specs.Kernel.{KernelFacts}
 use Rattle.bl_load.specs.KernelKept.{AreLoadable}
 use Rattle.bl_load.specs.Blocks.{low_of, high_of, span_of}
-use Rattle.bl_map.specs.Room.{whole_frames}
+use Rattle.bl_map.specs.Room.{round_up_to_frames}
 use Rattle.bl_load.specs.Rows.{segment_rows, align_of, block_choice, kernel_rows, information_of}
 use Rattle.bl_load.specs.Rows.{information_row, rows_of, module_rows}
 use Rattle.bl_load.proofs.SortedLemmas.{low_below, high_above_all}
@@ -62,7 +62,7 @@ block_choice_is r linked =
     cond_both (nat_eq r.preference 2) (Highest (align_of r) r.min_addr r.max_addr)
     (Preferred linked (align_of r) r.min_addr r.max_addr) IsSoundChoice (λ _. some) (λ _. some))
 
-pub some_frames : (n : ℕ) → 1 ≤ n → n ≤ whole_frames n
+pub some_frames : (n : ℕ) → 1 ≤ n → n ≤ round_up_to_frames n
 some_frames n some = omega arith
 
 some_info : (info : InformationFacts) → 1 ≤ info_size info

@@ -6,12 +6,12 @@ use Rattle.bl_mem.specs.Words as words
 use Rattle.bl_plan.specs.declared.part.Place.{Place}
 use Rattle.bl_plan.specs.declared.protocol.Protocol.{Protocol}
 use Rattle.bl_plan.specs.declared.protocol.Protocol.TheVariants.{Multiboot2, Linux, Linux64}
-use Rattle.bl_load.specs.declared.segments.SegmentName.{SegmentName}
-use Rattle.bl_load.specs.declared.segments.SegmentName.TheVariants.{Cs, Ds, Es, Fs, Gs, Ss}
+use Rattle.bl_load.specs.declared.segment_registers.SegmentName.{SegmentName}
+use Rattle.bl_load.specs.declared.segment_registers.SegmentName.TheVariants.{Cs, Ds, Es, Fs, Gs, Ss}
 use Rattle.bl_load.specs.Reading.{Reading}
 use Rattle.bl_load.specs.Parts.{registers_of}
 use Rattle.bl_load.specs.Protocols.{descriptors_of}
-use Rattle.bl_load.specs.Segments.{segment_in, descriptor}
+use Rattle.bl_load.specs.SegmentRegisters.{segment_in, descriptor}
 
 -- by each protocol and each register: all is computed
 pub named : (protocol : Protocol) (reading : Reading) (places : List Place) (name : SegmentName)

@@ -7,10 +7,10 @@ use Rattle.std.specs.declared.ops.Range.{Range}
 use Rattle.bl_bzimage.specs.declared.setup.Setup.{Setup}
 use Rattle.bl_map.specs.MachineFacts.{MachineFacts}
 use Rattle.bl_map.specs.Limits.{max_size}
-use Rattle.bl_map.specs.Room.{whole_frames}
+use Rattle.bl_map.specs.Room.{round_up_to_frames}
 use Rattle.bl_plan.specs.Permitted.{OrNoMemory}
 use Rattle.bl_plan.specs.Placed.{ArePlaced, IsChosen, HasChoiceFault, place_at, place_range}
-use Rattle.bl_plan.specs.Planned.{put_in}
+use Rattle.bl_plan.specs.PlannerFacts.{put_in}
 use Rattle.bl_plan.specs.declared.fault.PlanFault.{PlanFault}
 use Rattle.bl_plan.specs.declared.part.Choice.{Choice}
 use Rattle.bl_plan.specs.declared.part.Choice.TheVariants.{Lowest, Highest}
@@ -75,11 +75,11 @@ module _ (facts : MachineFacts) (which : Row) where
           (fault, subst (λ (n : ℕ). HasChoiceFault facts taken n choice fault) same here),
         )
         | inr long ↦ inl (
-          long_told Module k choice (told_length size) (whole_frames (max size 1)) which long.0
+          long_told Module k choice (told_length size) (round_up_to_frames (max size 1)) which long.0
               long.1 kind,
           (
             fault,
-            modules.no_room facts taken 4096 0x100000 (whole_frames (max size 1)) (told_length size)
+            modules.no_room facts taken 4096 0x100000 (round_up_to_frames (max size 1)) (told_length size)
                 fault long.1 here,
           ),
         )
@@ -118,10 +118,10 @@ module _ (facts : MachineFacts) (which : Row) where
           (fault, subst (λ (n : ℕ). HasChoiceFault facts taken n choice fault) same here),
         )
         | inr long ↦ inl (
-          long_told Initrd 0 choice (told_length size) (whole_frames size) which long.0 long.1 kind,
+          long_told Initrd 0 choice (told_length size) (round_up_to_frames size) which long.0 long.1 kind,
           (
             fault,
-            initrds.no_room facts protocol setup taken 4096 4096 high (whole_frames size)
+            initrds.no_room facts protocol setup taken 4096 4096 high (round_up_to_frames size)
                 (told_length size) fault long.1 here,
           ),
         )

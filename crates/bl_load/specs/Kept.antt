@@ -4,12 +4,12 @@ use Rattle.bl_mem.specs.Files.{IsBeside}
 use Rattle.bl_mem.specs.Memory.{HasRoom}
 use Rattle.bl_load.specs.declared.plan.PlannedPart.{PlannedPart}
 use Rattle.bl_load.specs.declared.entry.Module.{Module}
-use Rattle.bl_load.specs.Loadable.{IsThere, content_length}
+use Rattle.bl_load.specs.Loadable.{IsInFiles, content_length}
 
 -- a part can be loaded: it is backed, memory has its place with room, and no file lies there
 pub record CanLoad {A : Type 0} (lengths : List ℕ) (size : ℕ) (room holds : ℕ → Type 0)
     (part : PlannedPart A) : Type 0 where
-  pub there : IsThere lengths part.content
+  pub there : IsInFiles lengths part.content
   pub short : content_length part.content ≤ part.place.length
   pub inside : part.place.address + part.place.length ≤ size
   pub writable : HasRoom room part.place.address (part.place.address + part.place.length)

@@ -17,7 +17,7 @@ pub mod LinuxRows
 pub mod Rows
 pub mod Registers
 pub mod NamedRegisters
-pub mod Segments
+pub mod SegmentRegisters
 pub mod Protocols
 pub mod Parts
 pub mod PlacingKept

@@ -5,7 +5,7 @@ use Rattle.std.specs.Prelude.{ℕ, ◌+◌, ◌-◌, max, if◌then◌else◌, �
 use Rattle.std.specs.Prelude.{Option, Some, None, option_to_list}
 use Rattle.bl_map.specs.MachineFacts.{MachineFacts}
 use Rattle.bl_map.specs.Limits.{frame_size, first_usable, max_size, high_start}
-use Rattle.bl_map.specs.Room.{whole_frames}
+use Rattle.bl_map.specs.Room.{round_up_to_frames}
 use Rattle.bl_bzimage.specs.declared.setup.Setup.{Setup}
 use Rattle.bl_params.specs.BootParamsFacts.{BootParamsFacts}
 use Rattle.bl_params.specs.Numbers.{tables_size}
@@ -85,7 +85,7 @@ initrd_rows setup [] = []
 initrd_rows setup (byte ∷ bytes) = record {
   role = Initrd;
   index = 0;
-  length = whole_frames (length (byte ∷ bytes));
+  length = round_up_to_frames (length (byte ∷ bytes));
   choice = Highest frame_size first_usable (setup.initrd_addr_max + 1);
 } ∷ []
 

@@ -18,7 +18,7 @@ lengths_of texts = map (λ text. length text) texts
 
 -- a segment that can be copied out of a file of this length into a block: its bytes are in the
 -- file, and its addresses are small
-pub record IsCopied (size : ℕ) (s : Segment) : Type 0 where
+pub record IsCopyable (size : ℕ) (s : Segment) : Type 0 where
   pub filled : 1 ≤ s.memsz
   pub fits : s.filesz ≤ s.memsz
   pub inside : 1 ≤ s.filesz → s.offset + s.filesz ≤ size
@@ -29,13 +29,13 @@ abbrev pub SegmentsAscend : Segment → Segment → Type 0
 SegmentsAscend s t = s.address + s.memsz ≤ t.address
 
 -- the content is there, in files of these lengths
-abbrev pub IsThere : {A : Type 0} → List ℕ → Content A → Type 0
-IsThere lengths (Own bytes) = Unit {0}
-IsThere lengths (File file offset count) =
+abbrev pub IsInFiles : {A : Type 0} → List ℕ → Content A → Type 0
+IsInFiles lengths (Own bytes) = Unit {0}
+IsInFiles lengths (File file offset count) =
     (file < length lengths) × (1 ≤ count → offset + count ≤ slice_index lengths file)
-IsThere lengths (Block file segments) =
+IsInFiles lengths (Block file segments) =
     (file < length lengths) × (1 ≤ length segments.items)
-    × All (IsCopied (slice_index lengths file)) segments.items
+    × All (IsCopyable (slice_index lengths file)) segments.items
     × AllPairs SegmentsAscend segments.items
 
 -- how many bytes a content has
@@ -46,7 +46,7 @@ content_length (Block file segments) = span_of segments.items
 
 -- the content is there and no longer than its place
 pub record IsBacked {A : Type 0} (lengths : List ℕ) (part : PlannedPart A) : Type 0 where
-  pub there : IsThere lengths part.content
+  pub there : IsInFiles lengths part.content
   pub short : content_length part.content ≤ part.place.length
 
 -- what a part of this role holds is made by the loader: no file's bytes, but in boot parameters the
@@ -63,15 +63,15 @@ IsMade role.PageTables = Unit {0}
 
 -- a content's bytes stay in the files until it is loaded; only what the loader makes has bytes of
 -- its own
-abbrev pub StaysInFiles : {A : Type 0} → Role → Content A → Type 0
-StaysInFiles r (Own bytes) = IsMade r
-StaysInFiles r (File file offset count) = Unit {0}
-StaysInFiles r (Block file segments) = Unit {0}
+abbrev pub IsLeanContent : {A : Type 0} → Role → Content A → Type 0
+IsLeanContent r (Own bytes) = IsMade r
+IsLeanContent r (File file offset count) = Unit {0}
+IsLeanContent r (Block file segments) = Unit {0}
 
--- a plan holds none of the files' bytes but a Linux kernel's setup header, which has at most 0x9F,
--- so it takes no memory in proportion to what a header claims
+-- a plan holds none of the files' bytes but a Linux kernel's setup header, which has at most 0x9F
+-- bytes, so it takes no memory in proportion to what a header claims
 abbrev pub IsLean : {A : Type 0} → List (PlannedPart A) → Type 0
-IsLean parts = All (λ part. StaysInFiles part.place.role part.content) parts
+IsLean parts = All (λ part. IsLeanContent part.place.role part.content) parts
 
 -- a plan can be loaded out of files of these lengths into memory of this size: its contents are
 -- there, its places are inside it, and it is what a handoff keeps

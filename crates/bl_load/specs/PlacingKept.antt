@@ -3,7 +3,7 @@ use Rattle.std.specs.Prelude.{◌≡◌, ◌+◌, ◌<◌, ◌≤◌, ℕ, true,
 use Rattle.std.specs.Prelude.{length, slice_index_or, Option, Some, None, option_map}
 use Rattle.bl_mem.specs.declared.segment.Segment.{Segment}
 use Rattle.bl_map.specs.MachineFacts.{MachineFacts}
-use Rattle.bl_map.specs.Room.{whole_frames}
+use Rattle.bl_map.specs.Room.{round_up_to_frames}
 use Rattle.bl_mb2head.specs.declared.relocation.Relocation.{Relocation}
 use Rattle.bl_mbi.specs.InformationFacts.{info_size}
 use Rattle.bl_plan.specs.declared.part.Role.{Role}
@@ -48,7 +48,7 @@ abbrev pub HasLength : MachineFacts → EntryValue → Reading → Role → ℕ 
 HasLength facts value (multiboot2 kernel) Kernel i count =
     HasKernelLength kernel.segments kernel.relocation i count
 HasLength facts value (multiboot2 kernel) Information i count =
-    count ≡ whole_frames (info_size (information_of facts value kernel.relocation []))
+    count ≡ round_up_to_frames (info_size (information_of facts value kernel.relocation []))
 HasLength facts value (multiboot2 kernel) Module i count =
     (i < length value.module_lines) × (count ≡ module_length (module_file value.files i))
 HasLength facts value (multiboot2 kernel) BootParams i count = ⊥
@@ -64,7 +64,7 @@ HasLength facts value (linux setup) CommandLine i count = count ≡ frame_size
 HasLength facts value (linux setup) Gdt i count = count ≡ frame_size
 HasLength facts value (linux setup) Initrd i count =
     (1 ≤ length (initrd_file value.files))
-    × (count ≡ whole_frames (length (initrd_file value.files)))
+    × (count ≡ round_up_to_frames (length (initrd_file value.files)))
 HasLength facts value (linux setup) PageTables i count =
     (is_wide value.protocol ≡ true) × (count ≡ tables_size)
 
@@ -96,7 +96,7 @@ abbrev pub most_told : ℕ
 most_told = 2 ^ 40
 
 abbrev pub told_length : ℕ → ℕ
-told_length size = whole_frames (max (min size most_told) 1)
+told_length size = round_up_to_frames (max (min size most_told) 1)
 
 -- the rows of modules as the code tells them
 abbrev pub told_rows : List (List ℕ) → ℕ → List (List ℕ) → List Row

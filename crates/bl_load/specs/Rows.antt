@@ -6,7 +6,7 @@ use Rattle.bl_mem.specs.declared.segment.Segment.{Segment}
 use Rattle.bl_map.specs.MachineFacts.{MachineFacts}
 use Rattle.bl_map.specs.Kinds.{low_kib, high_kib}
 use Rattle.bl_map.specs.Limits.{frame_size, first_usable, max_size, high_start}
-use Rattle.bl_map.specs.Room.{whole_frames}
+use Rattle.bl_map.specs.Room.{round_up_to_frames}
 use Rattle.bl_mb2head.specs.declared.relocation.Relocation.{Relocation}
 use Rattle.bl_mbi.specs.InformationFacts.{ModuleInfo, InformationFacts, info_size}
 use Rattle.bl_plan.specs.declared.part.Row.{Row}
@@ -32,17 +32,17 @@ abbrev pub align_of : Relocation → ℕ
 align_of r = if r.align == 0 then 1 else r.align
 
 -- the preference for the lowest place, and for the highest
-abbrev pub prefer_lowest : ℕ
-prefer_lowest = 1
+abbrev pub load_preference_low : ℕ
+load_preference_low = 1
 
-abbrev pub prefer_highest : ℕ
-prefer_highest = 2
+abbrev pub load_preference_high : ℕ
+load_preference_high = 2
 
 -- any other preference is the linked address, and the lowest place where that is not permitted
 abbrev pub block_choice : Relocation → ℕ → Choice
 block_choice r linked =
-    if r.preference == prefer_lowest then Lowest (align_of r) r.min_addr r.max_addr else
-    if r.preference == prefer_highest then Highest (align_of r) r.min_addr r.max_addr else
+    if r.preference == load_preference_low then Lowest (align_of r) r.min_addr r.max_addr else
+    if r.preference == load_preference_high then Highest (align_of r) r.min_addr r.max_addr else
     Preferred linked (align_of r) r.min_addr r.max_addr
 
 -- each segment at its address; with a relocatable tag one block
@@ -58,7 +58,7 @@ kernel_rows segments (Some r) =
 
 -- a module takes whole frames, and at least one
 abbrev pub module_length : List ℕ → ℕ
-module_length file = whole_frames (max (length file) 1)
+module_length file = round_up_to_frames (max (length file) 1)
 
 -- each module in order, numbered from k on, at the lowest place from 1 MiB on
 abbrev pub module_rows : List (List ℕ) → ℕ → List (List ℕ) → List Row
@@ -101,7 +101,7 @@ abbrev pub information_row : MachineFacts → EntryValue → Option Relocation �
 information_row facts value relocation = record {
   role = Information;
   index = 0;
-  length = whole_frames (info_size (information_of facts value relocation []));
+  length = round_up_to_frames (info_size (information_of facts value relocation []));
   choice = Lowest frame_size first_usable max_size;
 }
 

@@ -7,7 +7,7 @@ use Rattle.bl_plan.specs.declared.fault.PlanFault.{PlanFault}
 use Rattle.bl_plan.specs.declared.part.Row.{Row}
 use Rattle.bl_plan.specs.declared.part.Place.{Place}
 use Rattle.bl_plan.specs.Placed.{ArePlaced, IsChosen, HasChoiceFault, place_at, place_range}
-use Rattle.bl_plan.specs.Planned.{put_in}
+use Rattle.bl_plan.specs.PlannerFacts.{put_in}
 use Rattle.bl_load.specs.declared.refusal.PrepFault.{PrepFault}
 use Rattle.bl_load.specs.declared.refusal.PrepFault.TheVariants as prep_fault
 use Rattle.bl_load.specs.Parts.{Then}

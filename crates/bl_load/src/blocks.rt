@@ -4,7 +4,7 @@ ghost use Rattle.bl_mem.specs.Contents.{contents_of};
 ghost use Rattle.bl_mem.specs.Files.{text_of_file, AreBelow, IsBeside};
 ghost use Rattle.bl_mem.specs.Memory.{overwrite, HasRoom, KeepsMemory};
 ghost use Rattle.bl_load.specs.Blocks.{span_of, block_of};
-ghost use Rattle.bl_load.specs.Loadable.{IsCopied, SegmentsAscend};
+ghost use Rattle.bl_load.specs.Loadable.{IsCopyable, SegmentsAscend};
 
 use crate::copying::copy;
 use bl_mem::{FileSet, PhysMem, Segment};
@@ -19,8 +19,8 @@ fn load_segment<M: PhysMem, F: FileSet>(
 )
     requires held { AreBelow (F.holds files.now) (length (M.bytes memory.old)) }
     requires file { file < length (F.texts files.now (M.bytes memory.old)) }
-    requires copied { IsCopied (length (text_of_file (F.texts files.now (M.bytes memory.old)) file))
-        segment.now }
+    requires copied { IsCopyable
+        (length (text_of_file (F.texts files.now (M.bytes memory.old)) file)) segment.now }
     requires inside { at + segment.now.memsz ≤ length (M.bytes memory.old) }
     requires room { HasRoom (M.room memory.old) at (at + segment.now.memsz) }
     requires beside { IsBeside (F.holds files.now) at (at + segment.now.memsz) }
@@ -49,7 +49,7 @@ pub(crate) fn load_block<M: PhysMem, F: FileSet>(
     requires held { AreBelow (F.holds files.now) (length (M.bytes memory.old)) }
     requires file { file < length (F.texts files.now (M.bytes memory.old)) }
     requires some { 1 ≤ length segments.now }
-    requires copied { All (IsCopied
+    requires copied { All (IsCopyable
         (length (text_of_file (F.texts files.now (M.bytes memory.old)) file))) segments.now }
     requires ascending { AllPairs SegmentsAscend segments.now }
     requires inside { at + span_of segments.now ≤ length (M.bytes memory.old) }

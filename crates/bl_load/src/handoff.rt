@@ -74,7 +74,8 @@ impl<A: Allocator> Handoff<A> {
         self.parts[index].place
     }
 
-    /// The parts in address order: the place of each, and where its bytes came from.
+    /// The parts in address order. The contract speaks of their places alone; where the bytes of
+    /// each came from is as the plan had it.
     pub fn parts(&self) -> &[PlannedPart<A>]
         ensures { map planned_place result.now ≡ self.now.places }
     {

@@ -1,11 +1,15 @@
-//! Laws of the definitions.
-ghost use Rattle.std.specs.Prelude.{◌≡◌, ◌≤◌, ◌⊎◌, length, All, AllPairs};
+//! Laws of the definitions: an entry has one handover or one first refusal; a handover is legal.
+ghost use Rattle.std.specs.Prelude.{◌≡◌, ◌≤◌, ◌⊎◌, ℕ, Bool, length, All, AllPairs};
+ghost use Rattle.std.specs.List.{count_by};
 ghost use Rattle.bl_map.specs.MachineFacts.{MachineFacts, AllUsable};
+ghost use Rattle.bl_plan.specs.declared.part.Role.{Role};
 ghost use Rattle.bl_load.specs.declared.refusal.Refusal.{Refusal};
 ghost use Rattle.bl_load.specs.Value.{EntryValue};
 ghost use Rattle.bl_load.specs.Handover.{Handover, end_of};
 ghost use Rattle.bl_load.specs.Parts.{IsHandover, IsRefusal};
 ghost use Rattle.bl_load.specs.Legal.{IsLegal};
+ghost use Rattle.bl_load.specs.Reading.{Reading, IsRead};
+ghost use Rattle.bl_load.specs.Rows.{rows_of};
 
 /// Equal facts and equal values give one handover, or one first refusal, and never both: nothing
 /// else decides, such as what memory held or where the files lay.
@@ -30,6 +34,16 @@ pub fn each_entry_has_an_answer()
 pub fn handovers_are_legal()
     ensures { (facts : MachineFacts) (value : EntryValue) (handover : Handover)
         → IsHandover facts value handover → IsLegal facts value handover }
+{}
+
+/// The parts of what is handed over are those of the entry's rows, and no other: as many of each
+/// role, index and length, so that each row's part stands once among them.
+pub fn parts_are_of_the_rows()
+    ensures { (facts : MachineFacts) (value : EntryValue) (h : Handover)
+        → IsHandover facts value h → (reading : Reading) × IsRead facts value reading
+        × ((p : Role → ℕ → ℕ → Bool)
+        → count_by (λ part. p part.role part.index (length part.bytes)) h.parts
+        ≡ count_by (λ row. p row.role row.index row.length) (rows_of facts value reading)) }
 {}
 
 /// The parts of what is handed over lie in memory that may be used, beside one another: none is

@@ -2,7 +2,7 @@
 ghost use Rattle.std.specs.Prelude.{◌≡◌};
 ghost use Rattle.bl_load.specs.PlacingKept as kept;
 
-use bl_map::whole_frames;
+use bl_map::round_up_to_frames;
 
 /// How many bytes the part of a module or an initrd takes, by the length of its file. A file that
 /// no machine can hold is told as one of 2^40 bytes, which no machine can hold either, so that no
@@ -10,5 +10,5 @@ use bl_map::whole_frames;
 pub fn told_length(size: u64) -> u64
     ensures { result ≡ kept.told_length size }
 {
-    whole_frames(size.min(1 << 40).max(1))
+    round_up_to_frames(size.min(1 << 40).max(1))
 }

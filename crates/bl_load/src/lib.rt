@@ -27,7 +27,7 @@ mod registers;
 mod registers64;
 mod searching;
 mod segment_laws;
-mod segments;
+mod segment_registers;
 
 pub use bl_plan::{Choice, MAX_COPY, MAX_LINE, Place, Protocol, Role, Row};
 pub use entry::{Entry, Module};
@@ -35,7 +35,7 @@ pub use entry_loading::load_entry;
 pub use handoff::Handoff;
 pub use laws::{
     each_entry_has_an_answer, handovers_are_determined, handovers_are_legal,
-    parts_are_apart_and_usable,
+    parts_are_apart_and_usable, parts_are_of_the_rows,
 };
 pub use loading::load;
 pub use named_register::NamedRegister;
@@ -47,4 +47,4 @@ pub use registers::{Registers, Registers32, linux_registers, multiboot2_register
 pub use registers64::{Registers64, linux64_registers};
 pub use searching::unplaced;
 pub use segment_laws::selectors_name_the_segments;
-pub use segments::{SegmentName, SegmentRegister};
+pub use segment_registers::{SegmentName, SegmentRegister};

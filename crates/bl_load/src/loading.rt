@@ -7,7 +7,7 @@ ghost use Rattle.bl_load.specs.Handover.{written};
 ghost use Rattle.bl_load.specs.PlanFacts.{content_by, bytes_by, part_by, handover_by};
 ghost use Rattle.bl_load.specs.PlanFacts.{handover_in, places_of};
 ghost use Rattle.bl_load.specs.Kept.{CanLoad};
-ghost use Rattle.bl_load.specs.Loadable.{lengths_of, content_length, IsThere, IsLoadable};
+ghost use Rattle.bl_load.specs.Loadable.{lengths_of, content_length, IsInFiles, IsLoadable};
 
 use crate::blocks::load_block;
 use crate::copying::copy;
@@ -24,7 +24,7 @@ fn load_content<M: PhysMem, F: FileSet, A: Allocator>(
     files: &F,
 ) -> u64
     requires held { AreBelow (F.holds files.now) (length (M.bytes memory.old)) }
-    requires there { IsThere (lengths_of (F.texts files.now (M.bytes memory.old))) content.now }
+    requires there { IsInFiles (lengths_of (F.texts files.now (M.bytes memory.old))) content.now }
     requires inside { at + content_length content.now ≤ length (M.bytes memory.old) }
     requires room { HasRoom (M.room memory.old) at (at + content_length content.now) }
     requires beside { IsBeside (F.holds files.now) at (at + content_length content.now) }

@@ -2,7 +2,7 @@
 ghost use Rattle.std.specs.Prelude.{◌≡◌, ◌≤◌, ◌^◌, All, IfOk};
 ghost use Rattle.bl_load.specs.Parts.{content_of, registers_of};
 ghost use Rattle.bl_load.specs.PlanFacts.{content_by};
-ghost use Rattle.bl_load.specs.Loadable.{lengths_of, content_length, IsThere, StaysInFiles};
+ghost use Rattle.bl_load.specs.Loadable.{lengths_of, content_length, IsInFiles, IsLeanContent};
 ghost use Rattle.bl_load.specs.PlacingKept.{IsRowed, EndsLow, told_rows_by};
 ghost use Rattle.bl_load.specs.ReadKept.{EntersBy, CanEnter, FitsTold};
 ghost use Rattle.bl_load.specs.Reading.{Reading};
@@ -48,10 +48,10 @@ pub trait ReadKernel {
         ensures content { IfOk result (λ content. content_by (texts_in entry.now) content
             ≡ content_of entry.now.machine.now (value_of_files entry.now) (reading self.now)
             places.now place.now.role place.now.index) }
-        ensures there { IfOk result (λ content. IsThere (lengths_of (texts_in entry.now))
+        ensures there { IfOk result (λ content. IsInFiles (lengths_of (texts_in entry.now))
             content) }
         ensures short { IfOk result (λ content. content_length content ≤ place.now.length) }
-        ensures lean { IfOk result (StaysInFiles place.now.role) };
+        ensures lean { IfOk result (IsLeanContent place.now.role) };
 
     /// The registers as a kernel begins that is entered by this protocol, where the parts have
     /// these places.

@@ -2,7 +2,7 @@
 ghost use Rattle.std.specs.Prelude.{◌≡◌, ◌+◌, All, [], IfOk, IfErr, length, map};
 ghost use Rattle.bl_plan.specs.Permitted.{OrNoMemory};
 ghost use Rattle.bl_plan.specs.Placed.{IsRow, IsChosen, HasChoiceFault};
-ghost use Rattle.bl_plan.specs.Planned.{with_taken};
+ghost use Rattle.bl_plan.specs.PlannerFacts.{with_taken};
 ghost use Rattle.bl_load.specs.EntryFilesKept.{value_of_files, IsReady};
 ghost use Rattle.bl_load.specs.Rows as table;
 ghost use Rattle.bl_load.specs.Unplaced.{IsUnplacedOf, IsUnplaced, IsReadingFault};

@@ -3,11 +3,11 @@ ghost use Rattle.std.specs.Prelude.{◌≡◌, List, IfSome};
 ghost use Rattle.bl_mem.specs.Words.{u64_at};
 ghost use Rattle.bl_plan.specs.declared.part.Place.{Place};
 ghost use Rattle.bl_plan.specs.declared.protocol.Protocol.{Protocol};
-ghost use Rattle.bl_load.specs.declared.segments.SegmentName.{SegmentName};
+ghost use Rattle.bl_load.specs.declared.segment_registers.SegmentName.{SegmentName};
 ghost use Rattle.bl_load.specs.Reading.{Reading};
 ghost use Rattle.bl_load.specs.Parts.{registers_of};
 ghost use Rattle.bl_load.specs.Protocols.{descriptors_of};
-ghost use Rattle.bl_load.specs.Segments.{segment_in, descriptor};
+ghost use Rattle.bl_load.specs.SegmentRegisters.{segment_in, descriptor};
 
 /// If a kernel is handed descriptors, each segment register is what it would be loaded with from
 /// them: the 8 bytes that its selector names, as a number, are the descriptor of that segment.

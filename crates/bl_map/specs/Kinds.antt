@@ -40,9 +40,9 @@ kind_named name =
     find (λ kind. bytes_eq name (kind_name kind)) (Usable ∷ Reserved ∷ Acpi ∷ Nvs ∷ Bad ∷ [])
 
 -- the number of a kind, 0 for none
-abbrev pub number_or_none : Option Kind → ℕ
-number_or_none None = 0
-number_or_none (Some kind) = kind_number kind
+abbrev pub number_or_zero : Option Kind → ℕ
+number_or_zero None = 0
+number_or_zero (Some kind) = kind_number kind
 
 abbrev pub region_end : Region → ℕ
 region_end region = region.base + region.length

@@ -1,4 +1,5 @@
--- The limits of memory, in bytes, but for the number of regions and of runs. Own.
+-- The limits of memory: in bytes, in KiB where it says so, and how many regions and runs there are.
+-- Own.
 use Rattle.std.specs.Prelude.{ℕ, ◌^◌}
 
 -- a frame: files are staged in these, and a machine's size and its pool are whole ones

@@ -10,8 +10,8 @@ abbrev pub frames_of : ℕ → ℕ
 frames_of length = (length + (frame_size - 1)) / frame_size
 
 -- a length rounded up to whole frames
-abbrev pub whole_frames : ℕ → ℕ
-whole_frames length = frames_of length * frame_size
+abbrev pub round_up_to_frames : ℕ → ℕ
+round_up_to_frames length = frames_of length * frame_size
 
 -- how many frames files of these lengths need, each in frames of its own
 abbrev pub frames_for : List ℕ → ℕ

@@ -1,4 +1,4 @@
-//! Laws of the definitions.
+//! Laws of the definitions: regions have one normal map.
 ghost use Rattle.std.specs.Prelude.{◌≡◌, ℕ, List};
 ghost use Rattle.bl_map.specs.declared.region.Region.{Region};
 ghost use Rattle.bl_map.specs.Kinds.{IsNormalMap, kind_at};

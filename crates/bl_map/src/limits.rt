@@ -2,7 +2,7 @@
 
 /// The length of a frame: files are staged in these, and a machine's size and its pool are whole
 /// ones.
-pub const FRAME: u64 = 4096;
+pub const FRAME_SIZE: u64 = 4096;
 
 /// The least size of a machine: 1 MiB.
 pub const MIN_SIZE: u64 = 0x0010_0000;
@@ -14,10 +14,10 @@ pub const MAX_SIZE: u64 = 0x1_0000_0000;
 pub const MAX_REGIONS: usize = 128;
 
 /// The first byte that can be usable: the first frame never is.
-pub const FIRST_USABLE: u64 = FRAME;
+pub const FIRST_USABLE: u64 = FRAME_SIZE;
 
 /// The end of what can be usable, not included: the last frame below 4 GiB never is.
-pub const USABLE_LIMIT: u64 = MAX_SIZE - FRAME;
+pub const USABLE_LIMIT: u64 = MAX_SIZE - FRAME_SIZE;
 
 /// The highest end that a region may have, not included: 2^52.
 pub const REGION_LIMIT: u64 = 0x0010_0000_0000_0000;

@@ -53,7 +53,7 @@ impl<A: Allocator> Model for Machine<A> {
 
 impl<A: Allocator> Machine<A> {
     ghost use Rattle.std.specs.Prelude.{◌≡◌, ◌^◌, ◌<◌, ◌≤◌, IfErr, IfOk, MatchBool, OnOk};
-    ghost use Rattle.bl_map.specs.Kinds.{IsNormalMap, number_or_none};
+    ghost use Rattle.bl_map.specs.Kinds.{IsNormalMap, number_or_zero};
     ghost use Rattle.bl_map.specs.Kinds as kinds;
     ghost use Rattle.bl_map.specs.MachineFacts.{AllUsable, AreMachineFacts};
     ghost use Rattle.bl_map.specs.Faults.{HasFirstMapFault, IsAccepted};
@@ -111,7 +111,7 @@ impl<A: Allocator> Machine<A> {
 
     /// What an address is for.
     pub fn kind_at(&self, a: u64) -> Option<Kind>
-        ensures kind { number_or_none result ≡ kinds.kind_at self.now.runs a }
+        ensures kind { number_or_zero result ≡ kinds.kind_at self.now.runs a }
         ensures facts { AreMachineFacts self.now }
     {
         greatest_kind(self.runs.as_slice(), a)

@@ -3,22 +3,22 @@ ghost use Rattle.std.specs.Prelude.{◌≡◌, ◌≤◌, ◌<◌, ◌+◌, ◌*
 ghost use Rattle.bl_map.specs.Kept.{AreMet};
 ghost use Rattle.bl_map.specs.Room as room;
 
-use crate::limits::FRAME;
+use crate::limits::FRAME_SIZE;
 use std::ops::Range;
 
 /// How many frames a length of bytes needs.
 pub fn frames_of(length: u64) -> u64
     ensures { result ≡ room.frames_of length }
 {
-    length / FRAME + if length % FRAME == 0 { 0 } else { 1 }
+    length / FRAME_SIZE + if length % FRAME_SIZE == 0 { 0 } else { 1 }
 }
 
 /// A length of bytes, at most 2^64 - 4096, rounded up to whole frames, in bytes.
-pub fn whole_frames(length: u64) -> u64
+pub fn round_up_to_frames(length: u64) -> u64
     requires small { length + 4095 < 2 ^ 64 }
-    ensures { result ≡ room.whole_frames length }
+    ensures { result ≡ room.round_up_to_frames length }
 {
-    frames_of(length) * FRAME
+    frames_of(length) * FRAME_SIZE
 }
 
 /// How many whole frames a pool has.
@@ -26,7 +26,7 @@ pub fn frames_in(pool: &Range<u64>) -> u64
     requires { pool.now.start ≤ pool.now.end }
     ensures { result ≡ room.frames_in pool.now }
 {
-    (pool.end - pool.start) / FRAME
+    (pool.end - pool.start) / FRAME_SIZE
 }
 
 /// The frames of a pool that a range meets, by their numbers from 0 on. A range of no byte meets
@@ -37,7 +37,7 @@ fn frames_met(pool: &Range<u64>, range: &Range<u64>) -> Range<u64>
     ensures { AreMet pool.now range.now result }
 {
     let frames = frames_in(pool);
-    let first = (range.start.saturating_sub(pool.start) / FRAME).min(frames);
+    let first = (range.start.saturating_sub(pool.start) / FRAME_SIZE).min(frames);
     if range.start == range.end {
         return first..first;
     }

@@ -6,7 +6,7 @@ ghost use Rattle.bl_map.specs.Faults.{IsLowRegion};
 ghost use Rattle.bl_map.specs.Kinds as kinds;
 
 use crate::kind::Kind;
-use crate::limits::{FIRST_USABLE, FRAME, MAX_SIZE, MIN_SIZE, USABLE_LIMIT};
+use crate::limits::{FIRST_USABLE, FRAME_SIZE, MAX_SIZE, MIN_SIZE, USABLE_LIMIT};
 use crate::region::Region;
 use crate::sweep::{greatest_kind, run_end};
 use std::ops::Range;
@@ -15,7 +15,7 @@ use std::ops::Range;
 pub fn is_size(size: u64) -> bool
     ensures { MatchBool result (IsSize size) (¬ IsSize size) }
 {
-    MIN_SIZE <= size && size <= MAX_SIZE && size % FRAME == 0
+    MIN_SIZE <= size && size <= MAX_SIZE && size % FRAME_SIZE == 0
 }
 
 /// The first region that ends above 2^52.
@@ -64,7 +64,7 @@ pub fn is_pool(regions: &[Region], size: u64, pool: &Range<u64>) -> bool
         (IsPool regions.now size pool.now)
         (¬ IsPool regions.now size pool.now) }
 {
-    if pool.end < pool.start || pool.start % FRAME != 0 || pool.end % FRAME != 0 {
+    if pool.end < pool.start || pool.start % FRAME_SIZE != 0 || pool.end % FRAME_SIZE != 0 {
         return false;
     }
     is_usable_among(regions, size, pool.start, pool.end)

@@ -1,7 +1,7 @@
 //! The normal map of regions, by a sweep over the addresses where kinds change.
 ghost use Rattle.std.specs.Prelude.{◌≡◌, ◌≢◌, ℕ, ◌*◌, ◌<◌, ◌≤◌, All, length, max, IfOk};
 ghost use Rattle.bl_map.specs.Kinds.{IsNormalMap, region_holds, kind_at, kind_number};
-ghost use Rattle.bl_map.specs.Kinds.{number_or_none};
+ghost use Rattle.bl_map.specs.Kinds.{number_or_zero};
 ghost use Rattle.bl_map.specs.Faults.{IsLowRegion};
 
 use crate::kind::Kind;
@@ -11,7 +11,7 @@ use std::alloc::{AllocError, Allocator};
 
 /// A kind's number, 0 for none.
 fn known_number(kind: Option<Kind>) -> u32
-    ensures { result ≡ number_or_none kind }
+    ensures { result ≡ number_or_zero kind }
 {
     match kind {
         None => 0,
@@ -21,7 +21,7 @@ fn known_number(kind: Option<Kind>) -> u32
 
 /// The one of greater number.
 fn greater(known: Option<Kind>, kind: Kind) -> Option<Kind>
-    ensures { number_or_none result ≡ max (kind_number kind) (number_or_none known) }
+    ensures { number_or_zero result ≡ max (kind_number kind) (number_or_zero known) }
 {
     if kind.number() <= known_number(known) {
         return known;
@@ -31,7 +31,7 @@ fn greater(known: Option<Kind>, kind: Kind) -> Option<Kind>
 
 /// The greatest kind of the regions that hold an address.
 pub fn greatest_kind(regions: &[Region], a: u64) -> Option<Kind>
-    ensures { number_or_none result ≡ kind_at regions.now a }
+    ensures { number_or_zero result ≡ kind_at regions.now a }
 {
     let mut greatest = None;
     for region in regions {

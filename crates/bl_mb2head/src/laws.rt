@@ -1,4 +1,4 @@
-//! Laws of the definitions.
+//! Laws of the definitions: a file has one header or one first fault; its numbers fit.
 
 ghost use Rattle.std.specs.Prelude.{◌≡◌, ◌<◌, ◌^◌, ◌⊎◌, ℕ, List, slice_index, IfSome};
 ghost use Rattle.bl_mb2head.specs.declared.fault.HeadFault.{HeadFault};

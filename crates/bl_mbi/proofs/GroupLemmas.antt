@@ -6,7 +6,7 @@ use Rattle.std.specs.List.{flat_map}
 use Rattle.std.proofs.lemmas.List.Sums.{sum_by-cons}
 use Rattle.bl_mbi.specs.Size.{tag_size}
 use Rattle.bl_mbi.specs.InformationFacts.{InformationFacts, HasSpelling, ModuleInfo, info_size}
-use Rattle.bl_mbi.specs.Groups.{texts_size, map_size, last_size}
+use Rattle.bl_mbi.specs.GroupSizesKept.{texts_size, map_tags_size, last_size}
 use Rattle.bl_mem.specs.Words.{u32_bytes}
 use Rattle.bl_mbi.specs.Tags.{tag, text_body, module_tag, memory_body, map_body, copy_tag}
 use Rattle.bl_mbi.specs.Tags.{load_base_tag}
@@ -27,16 +27,16 @@ sum_lines (m ∷ modules) =
     )
 
 pub info_size_is : (facts : InformationFacts)
-    → info_size facts ≡ 8 + texts_size facts + map_size facts + last_size facts
+    → info_size facts ≡ 8 + texts_size facts + map_tags_size facts + last_size facts
 info_size_is facts = omega (arith, sum_lines facts.modules)
 
 -- what holds of the fields that facts keep
 pub groups_below : (inside facts : InformationFacts) → HasSpelling inside → inside ≡ facts
-    → 8 + texts_size facts + map_size facts + last_size facts < 2 ^ 32
+    → 8 + texts_size facts + map_tags_size facts + last_size facts < 2 ^ 32
 groups_below inside facts is same =
-    let below : 8 + texts_size inside + map_size inside + last_size inside < 2 ^ 32 =
+    let below : 8 + texts_size inside + map_tags_size inside + last_size inside < 2 ^ 32 =
     omega (arith, info_size_is inside, is.small) in
-    subst (λ (f : InformationFacts). 8 + texts_size f + map_size f + last_size f < 2 ^ 32) same
+    subst (λ (f : InformationFacts). 8 + texts_size f + map_tags_size f + last_size f < 2 ^ 32) same
     below
 
 pub modules_small : (facts : InformationFacts) → HasSpelling facts

@@ -10,18 +10,18 @@ use Rattle.bl_mbi.specs.InfoFacts.{InfoFacts, IsSpelling}
 use Rattle.bl_mem.specs.Words.{u32_bytes}
 use Rattle.bl_mbi.specs.Tags.{tag}
 use Rattle.bl_mbi.specs.Spelling.{tags, info_spelling}
-use Rattle.bl_mbi.specs.Fields.{Left, first_u32}
+use Rattle.bl_mbi.specs.Fields.{RestFacts, first_u32}
 use Rattle.bl_mbi.specs.Reading.{text_tag_at, modules_at, memory_at, map_at, copy_at, load_base_at}
 use Rattle.bl_mbi.specs.Reading.{end_at, tags_of, info_of}
 use Rattle.bl_mbi.proofs.Inverse.{passed, made, same_ok}
 use Rattle.bl_mbi.proofs.Sizes.{length-tag}
-use Rattle.bl_mbi.proofs.WordLaws.{word_then}
+use Rattle.bl_mbi.proofs.WordLaws.{word_then, word_small}
 use Rattle.bl_mbi.proofs.TagIs.{IsRead, drop_small}
 use Rattle.bl_mbi.proofs.ReadIs.{both_read, text_tag_at_is, modules_at_are, memory_at_is}
 use Rattle.bl_mbi.proofs.ReadIs.{map_at_is, copy_at_is, load_base_at_is, end_at_is}
 
 -- the tags that were read, one after the other
-record IsInOrder (left : Left) (info : InfoFacts) : Type 0 where
+record IsInOrder (left : RestFacts) (info : InfoFacts) : Type 0 where
   bytes : left.bytes ≡ tags info.name info.facts
   name : IsText info.name
   facts : FitsFields info.facts
@@ -30,7 +30,7 @@ end_stands : 1 ≤ length (tag 0 [])
 end_stands = omega (arith, length-tag 0 [])
 
 -- the end tag stands behind the last of them, so the end cuts none
-in_order : (l0 l1 l2 l3 l4 l5 l6 l7 l8 : Left) (a b c d e f g h : List ℕ) → IsRead l0 a l1
+in_order : (l0 l1 l2 l3 l4 l5 l6 l7 l8 : RestFacts) (a b c d e f g h : List ℕ) → IsRead l0 a l1
     → IsRead l1 b l2 → IsRead l2 c l3 → IsRead l3 d l4 → IsRead l4 e l5 → IsRead l5 f l6
     → IsRead l6 g l7 → IsRead l7 h l8 → l8.bytes ≡ tag 0 []
     → l0.bytes ≡ a ++ (b ++ (c ++ (d ++ (e ++ (f ++ (g ++ (h ++ tag 0 [])))))))
@@ -44,7 +44,7 @@ in_order l0 l1 l2 l3 l4 l5 l6 l7 l8 a b c d e f g h r1 r2 r3 r4 r5 r6 r7 r8 last
     let from_1 = both_read l0 l1 l8 a _ r1 from_2 in
     from_1.bytes (rw last end_stands) ∙ rw last (simp append_assoc)
 
-tags_are : (left : Left) (info : InfoFacts) → AreBytes left.bytes → tags_of left ≡ Ok info
+tags_are : (left : RestFacts) (info : InfoFacts) → AreBytes left.bytes → tags_of left ≡ Ok info
     → IsInOrder left info
 unfolding tags_of
 tags_are left info small h =
@@ -118,6 +118,7 @@ read_is_spelled bytes info small h =
     let second : u32_bytes (first_u32 (drop 4 bytes)) ++ drop 4 (drop 4 bytes) ≡ drop 4 bytes =
     word_then (drop 4 bytes) (drop_small 4 bytes small) (omega (arith, length-drop 4 bytes)) in
     record {
+      short = omega (arith, whole, word_small bytes small);
       exact =
           sym front ∙ ap₂ (λ (n : ℕ) (xs : List ℕ). u32_bytes n ++ xs) (whole ∙ total) (sym second)
           ∙ ap₂

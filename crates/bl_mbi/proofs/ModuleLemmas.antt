@@ -8,36 +8,36 @@ use Rattle.bl_mbi.specs.declared.fault.InfoFault.{InfoFault}
 use Rattle.bl_mbi.specs.declared.fault.InfoFault.TheVariants.{WrongLength, BadReserved, BadTag}
 use Rattle.bl_mbi.specs.declared.fault.InfoFault.TheVariants.{BadOrder, NoMemory}
 use Rattle.bl_mbi.specs.InformationFacts.{ModuleInfo}
-use Rattle.bl_mbi.specs.Fields.{◌>>=◌, MatchesFault, Left, is_next}
+use Rattle.bl_mbi.specs.Fields.{◌>>=◌, MatchesFault, RestFacts, is_next}
 use Rattle.bl_mbi.specs.Reading.{module_at, modules_upto, modules_at}
 
 -- what was read, and after it what is still read
-abbrev pub behind : List ModuleInfo → Result (List ModuleInfo × Left) InfoFault
-    → Result (List ModuleInfo × Left) InfoFault
+abbrev pub behind : List ModuleInfo → Result (List ModuleInfo × RestFacts) InfoFault
+    → Result (List ModuleInfo × RestFacts) InfoFault
 behind done (Ok more) = Ok (done ++ more.0, more.1)
 behind done (Err fault) = Err fault
 
 -- the modules so far, and those that are still to be read, are all of them
-pub record IsOnWay (start left : Left) (done : List ModuleInfo) : Type 0 where
+pub record IsOnWay (start left : RestFacts) (done : List ModuleInfo) : Type 0 where
   pub all : behind done (modules_upto (length start.bytes - length done) left) ≡ modules_at start
   pub room : length left.bytes + length done ≤ length start.bytes
 
-behind_none : (read : Result (List ModuleInfo × Left) InfoFault) → behind [] read ≡ read
+behind_none : (read : Result (List ModuleInfo × RestFacts) InfoFault) → behind [] read ≡ read
 behind_none (Ok more) = refl
 behind_none (Err fault) = refl
 
-pub starts : (start : Left) → IsOnWay start start []
+pub starts : (start : RestFacts) → IsOnWay start start []
 unfolding modules_at
 starts start =
     let whole : length start.bytes - 0 ≡ length start.bytes = omega arith in
     record { all = rw whole (behind_none _); room = omega arith }
 
-pub no_more : (n : ℕ) (left : Left) → is_next 3 left ≡ false → modules_upto n left ≡ Ok ([], left)
+pub no_more : (n : ℕ) (left : RestFacts) → is_next 3 left ≡ false → modules_upto n left ≡ Ok ([], left)
 no_more zero left last = refl
 no_more (suc n) left last = rw last refl
 
 -- no further module is there
-pub ends : (start left : Left) (done : List ModuleInfo) → IsOnWay start left done
+pub ends : (start left : RestFacts) (done : List ModuleInfo) → IsOnWay start left done
     → is_next 3 left ≡ false → modules_at start ≡ Ok (done, left)
 ends start left done way last =
     sym way.all
@@ -45,18 +45,18 @@ ends start left done way last =
     (ap (λ (ms : List ModuleInfo). Ok (ms, left)) (append-nil done))
 
 behind_one : (done : List ModuleInfo) (m : ModuleInfo)
-    (read : Result (List ModuleInfo × Left) InfoFault)
+    (read : Result (List ModuleInfo × RestFacts) InfoFault)
     → behind done (read >>= (λ more. Ok (m ∷ more.0, more.1))) ≡ behind (done ++ m ∷ []) read
 behind_one done m (Ok more) =
     ap (λ (ms : List ModuleInfo). Ok (ms, more.1)) (sym (append_assoc done (m ∷ []) more.0))
 behind_one done m (Err fault) = refl
 
-pub one_more : (n : ℕ) (left after : Left) (m : ModuleInfo) → is_next 3 left ≡ true
+pub one_more : (n : ℕ) (left after : RestFacts) (m : ModuleInfo) → is_next 3 left ≡ true
     → module_at left ≡ Ok (m, after)
     → modules_upto (suc n) left ≡ (modules_upto n after >>= (λ more. Ok (m ∷ more.0, more.1)))
 one_more n left after m next is = rw (next, is) refl
 
-pub reads_on : (start left after : Left) (done : List ModuleInfo) (m : ModuleInfo)
+pub reads_on : (start left after : RestFacts) (done : List ModuleInfo) (m : ModuleInfo)
     → IsOnWay start left done → is_next 3 left ≡ true → module_at left ≡ Ok (m, after)
     → length after.bytes + 8 ≤ length left.bytes → IsOnWay start after (done ++ m ∷ [])
 reads_on start left after done m way next is shorter =
@@ -74,14 +74,14 @@ reads_on start left after done m way next is shorter =
       room = omega arith;
     }
 
-one_fault : (n : ℕ) (left : Left) (fault : InfoFault) → is_next 3 left ≡ true
+one_fault : (n : ℕ) (left : RestFacts) (fault : InfoFault) → is_next 3 left ≡ true
     → module_at left ≡ Err fault → modules_upto (suc n) left ≡ Err fault
 one_fault n left fault next is = rw (next, is) refl
 
-next_long : (kind : ℕ) (left : Left) → is_next kind left ≡ true → 8 ≤ length left.bytes
+next_long : (kind : ℕ) (left : RestFacts) → is_next kind left ≡ true → 8 ≤ length left.bytes
 next_long kind left next = grind (arith, nat_tests)
 
-stops : (start left : Left) (done : List ModuleInfo) (fault : InfoFault) → IsOnWay start left done
+stops : (start left : RestFacts) (done : List ModuleInfo) (fault : InfoFault) → IsOnWay start left done
     → is_next 3 left ≡ true → module_at left ≡ Err fault → modules_at start ≡ Err fault
 stops start left done fault way next is =
     let room = way.room in
@@ -93,7 +93,7 @@ stops start left done fault way next is =
     sym before ∙ ap (behind done) (one_fault _ left fault next is)
 
 -- a module that fails there is where all of them fail
-pub fails : (start left : Left) (done : List ModuleInfo) (fault : InfoFault)
+pub fails : (start left : RestFacts) (done : List ModuleInfo) (fault : InfoFault)
     → IsOnWay start left done → is_next 3 left ≡ true → MatchesFault fault (module_at left)
     → MatchesFault fault (modules_at start)
 fails start left done NoMemory way next is = tt

@@ -4,10 +4,10 @@ use Rattle.bl_map.specs.declared.region.Region.{Region}
 use Rattle.bl_mbi.specs.declared.fault.InfoFault.{InfoFault}
 use Rattle.bl_mbi.specs.InformationFacts.{ModuleInfo}
 use Rattle.bl_mbi.specs.InfoFacts.{InfoFacts}
-use Rattle.bl_mbi.specs.Fields.{◌>>=◌, Left}
+use Rattle.bl_mbi.specs.Fields.{◌>>=◌, RestFacts}
 use Rattle.bl_mbi.specs.Reading.{text_tag_at, modules_at, memory_at, map_at, copy_at, load_base_at}
 use Rattle.bl_mbi.specs.Reading.{end_at, tags_of}
-use Rattle.bl_mbi.specs.ReadGroups.{texts_at, map_tags_at, last_at}
+use Rattle.bl_mbi.specs.GroupsKept.{texts_at, map_tags_at, last_at}
 
 abbrev Texts : Type 0
 Texts = List ℕ × List ℕ × List ModuleInfo
@@ -29,7 +29,7 @@ same_next : {A B : Type 0} (x : Result A InfoFault) (f g : A → Result B InfoFa
 same_next (Ok a) f g same = same a
 same_next (Err e) f g same = refl
 
-texts_then : {B : Type 0} (left : Left) (next : Texts × Left → Result B InfoFault)
+texts_then : {B : Type 0} (left : RestFacts) (next : Texts × RestFacts → Result B InfoFault)
     → (texts_at left >>= next)
     ≡ (text_tag_at 1 left
     >>= (λ line.
@@ -43,7 +43,7 @@ texts_then left next =
     steps (text_tag_at 2 line.1) _ next
     ∙ same_next (text_tag_at 2 line.1) _ _ (λ name. steps (modules_at name.1) _ next))
 
-maps_then : {B : Type 0} (left : Left) (next : Maps × Left → Result B InfoFault)
+maps_then : {B : Type 0} (left : RestFacts) (next : Maps × RestFacts → Result B InfoFault)
     → (map_tags_at left >>= next)
     ≡ (memory_at left
     >>= (λ memory. map_at memory.1 >>= (λ map. next ((memory.0, map.0), map.1))))
@@ -52,7 +52,7 @@ maps_then left next =
     steps (memory_at left) _ next
     ∙ same_next (memory_at left) _ _ (λ memory. steps (map_at memory.1) _ next)
 
-last_then : {B : Type 0} (left : Left) (next : Last → Result B InfoFault)
+last_then : {B : Type 0} (left : RestFacts) (next : Last → Result B InfoFault)
     → (last_at left >>= next)
     ≡ (copy_at 14 left
     >>= (λ old.
@@ -86,7 +86,7 @@ info_with texts maps last = record {
   };
 }
 
-pub tags_by_groups : (left : Left)
+pub tags_by_groups : (left : RestFacts)
     → tags_of left
     ≡ (texts_at left
     >>= (λ texts.

@@ -14,7 +14,7 @@ use Rattle.bl_mbi.specs.InformationFacts.{ModuleInfo, IsModule, IsText, AreBytes
 use Rattle.bl_mem.specs.Words.{u32_bytes}
 use Rattle.bl_mbi.specs.Tags.{tag, text_body, module_body, module_tag, memory_body, map_body}
 use Rattle.bl_mbi.specs.Tags.{copy_tag, load_base_tag}
-use Rattle.bl_mbi.specs.Fields.{Left, is_next, info_tag_at, or_bad}
+use Rattle.bl_mbi.specs.Fields.{RestFacts, is_next, info_tag_at, or_bad}
 use Rattle.bl_mbi.specs.Bodies.{text_of_body, module_of, memory_of, map_of, load_base_of}
 use Rattle.bl_mbi.specs.Reading.{text_tag_at, module_at, modules_upto, modules_at, memory_at}
 use Rattle.bl_mbi.specs.Reading.{map_at, copy_at, load_base_at, end_at}
@@ -24,11 +24,11 @@ use Rattle.bl_mbi.proofs.BodyIs.{text_is, module_is, memory_is, load_base_is}
 use Rattle.bl_mbi.proofs.MapBodyIs.{map_is}
 
 -- nothing was read
-nothing_read : (left : Left) → AreBytes left.bytes → IsRead left [] left
+nothing_read : (left : RestFacts) → AreBytes left.bytes → IsRead left [] left
 nothing_read left small = record { bytes = λ _. refl; small = small }
 
 -- one piece after another
-pub both_read : (l0 l1 l2 : Left) (a b : List ℕ) → IsRead l0 a l1 → IsRead l1 b l2
+pub both_read : (l0 l1 l2 : RestFacts) (a b : List ℕ) → IsRead l0 a l1 → IsRead l1 b l2
     → IsRead l0 (a ++ b) l2
 both_read l0 l1 l2 a b first second =
     record {
@@ -41,11 +41,11 @@ both_read l0 l1 l2 a b first second =
     }
 
 -- a tag whose body is this one
-read_as : (kind : ℕ) (left after : Left) (body piece : List ℕ) → IsRead left (tag kind body) after
+read_as : (kind : ℕ) (left after : RestFacts) (body piece : List ℕ) → IsRead left (tag kind body) after
     → body ≡ piece → IsRead left (tag kind piece) after
 read_as kind left after body piece is e = rw (← e) is
 
-pub text_tag_at_is : (kind : ℕ) (left : Left) (read : List ℕ × Left) → AreBytes left.bytes
+pub text_tag_at_is : (kind : ℕ) (left : RestFacts) (read : List ℕ × RestFacts) → AreBytes left.bytes
     → text_tag_at kind left ≡ Ok read
     → IsRead left (tag kind (text_body read.0)) read.1 × IsText read.0
 unfolding text_tag_at
@@ -58,7 +58,7 @@ text_tag_at_is kind left read small h =
     (read_as kind left s1.0.1 s1.0.0 (text_body s2.0) whole.0 text.0, text.1) in
     rw (← same_ok _ read s2.2) is
 
-module_at_is : (left : Left) (read : ModuleInfo × Left) → AreBytes left.bytes
+module_at_is : (left : RestFacts) (read : ModuleInfo × RestFacts) → AreBytes left.bytes
     → module_at left ≡ Ok read → IsRead left (module_tag read.0) read.1 × IsModule read.0
 unfolding module_at
 module_at_is left read small h =
@@ -71,14 +71,14 @@ module_at_is left read small h =
     rw (← same_ok _ read s2.2) is
 
 -- no modules, and nothing read
-no_modules : (left : Left) (read : List ModuleInfo × Left) → AreBytes left.bytes → ([], left) ≡ read
+no_modules : (left : RestFacts) (read : List ModuleInfo × RestFacts) → AreBytes left.bytes → ([], left) ≡ read
     → IsRead left (flat_map module_tag read.0) read.1 × All IsModule read.0
 no_modules left read small e =
     let is : IsRead left (flat_map module_tag []) left × All IsModule [] =
     (nothing_read left small, All-nil IsModule) in
     rw (← e) is
 
-modules_upto_are : (n : ℕ) (left : Left) (read : List ModuleInfo × Left) → AreBytes left.bytes
+modules_upto_are : (n : ℕ) (left : RestFacts) (read : List ModuleInfo × RestFacts) → AreBytes left.bytes
     → modules_upto n left ≡ Ok read
     → IsRead left (flat_map module_tag read.0) read.1 × All IsModule read.0
 modules_upto_are zero left read small h = no_modules left read small (same_ok _ read h)
@@ -100,13 +100,13 @@ modules_upto_are (suc n) left read small h =
           rw (← same_ok (s1.0.0 ∷ s2.0.0, s2.0.1) read s2.2) is
     ]
 
-pub modules_at_are : (left : Left) (read : List ModuleInfo × Left) → AreBytes left.bytes
+pub modules_at_are : (left : RestFacts) (read : List ModuleInfo × RestFacts) → AreBytes left.bytes
     → modules_at left ≡ Ok read
     → IsRead left (flat_map module_tag read.0) read.1 × All IsModule read.0
 unfolding modules_at
 modules_at_are left read small h = modules_upto_are (length left.bytes) left read small h
 
-pub memory_at_is : (left : Left) (read : (ℕ × ℕ) × Left) → AreBytes left.bytes
+pub memory_at_is : (left : RestFacts) (read : (ℕ × ℕ) × RestFacts) → AreBytes left.bytes
     → memory_at left ≡ Ok read
     → IsRead left (tag 4 (memory_body read.0.0 read.0.1)) read.1 × (read.0.0 ≤ 640)
     × (read.0.1 < 2 ^ 32)
@@ -124,7 +124,7 @@ memory_at_is left read small h =
     ) in
     rw (← same_ok _ read s2.2) is
 
-pub map_at_is : (left : Left) (read : List Region × Left) → AreBytes left.bytes
+pub map_at_is : (left : RestFacts) (read : List Region × RestFacts) → AreBytes left.bytes
     → map_at left ≡ Ok read
     → IsRead left (tag 6 (map_body read.0)) read.1 × All (λ run. region_end run ≤ 2 ^ 52) read.0
 unfolding map_at
@@ -138,7 +138,7 @@ map_at_is left read small h =
     (read_as 6 left s1.0.1 s1.0.0 (map_body s2.0) whole.0 body.0, body.1) in
     rw (← same_ok _ read s2.2) is
 
-pub copy_at_is : (kind : ℕ) (left : Left) (read : Option (List ℕ) × Left) → AreBytes left.bytes
+pub copy_at_is : (kind : ℕ) (left : RestFacts) (read : Option (List ℕ) × RestFacts) → AreBytes left.bytes
     → copy_at kind left ≡ Ok read
     → IsRead left (copy_tag kind read.0) read.1 × IfSome read.0 AreBytes
 unfolding copy_at
@@ -157,7 +157,7 @@ copy_at_is kind left read small h =
           rw (← same_ok (Some s1.0.0, s1.0.1) read s1.2) is
     ]
 
-pub load_base_at_is : (left : Left) (read : Option ℕ × Left) → AreBytes left.bytes
+pub load_base_at_is : (left : RestFacts) (read : Option ℕ × RestFacts) → AreBytes left.bytes
     → load_base_at left ≡ Ok read
     → IsRead left (load_base_tag read.0) read.1 × IfSome read.0 (λ base. base < 2 ^ 32)
 unfolding load_base_at
@@ -179,7 +179,7 @@ load_base_at_is left read small h =
           rw (← same_ok (Some s2.0, s1.0.1) read s2.2) is
     ]
 
-pub end_at_is : (left : Left) → AreBytes left.bytes → end_at left ≡ Ok tt → left.bytes ≡ tag 0 []
+pub end_at_is : (left : RestFacts) → AreBytes left.bytes → end_at left ≡ Ok tt → left.bytes ≡ tag 0 []
 unfolding end_at
 end_at_is left small h =
     let s1 = made (info_tag_at 0 left) _ tt h in

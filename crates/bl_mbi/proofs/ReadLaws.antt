@@ -22,24 +22,22 @@ pub spelling_by : (result : Result InfoFacts InfoFault) (bytes : List ℕ) → A
 spelling_by (Ok info) bytes small gives = read_is_spelled bytes info small gives
 spelling_by (Err fault) bytes small gives = tt
 
-spelling_read : (bytes : List ℕ) (info : InfoFacts) → IsSpelling bytes info → length bytes < 2 ^ 32
-    → info_of bytes ≡ Ok info
-spelling_read bytes info is fits =
+spelling_read : (bytes : List ℕ) (info : InfoFacts) → IsSpelling bytes info → info_of bytes ≡ Ok info
+spelling_read bytes info is =
     let e = is.exact in
-    rw e (spelled_is_read info.name info.facts is.name is.facts (rw (← e) fits))
+    rw e (spelled_is_read info.name info.facts is.name is.facts (rw (← e) is.short))
 
 pub accepted_by : (result : Result InfoFacts InfoFault) (bytes : List ℕ) (info : InfoFacts)
-    → MatchesReading (λ read. read) result (info_of bytes) → IsSpelling bytes info → length bytes
-    < 2 ^ 32
+    → MatchesReading (λ read. read) result (info_of bytes) → IsSpelling bytes info
     → MatchResult result (λ read. read ≡ info) (λ fault. fault ≡ NoMemory)
-accepted_by (Ok read) bytes info gives is fits =
-    same_ok read info (sym gives ∙ spelling_read bytes info is fits)
-accepted_by (Err NoMemory) bytes info gives is fits = refl
-accepted_by (Err WrongLength) bytes info gives is fits =
-    let read = spelling_read bytes info is fits in absurd (cc)
-accepted_by (Err BadReserved) bytes info gives is fits =
-    let read = spelling_read bytes info is fits in absurd (cc)
-accepted_by (Err (BadTag at)) bytes info gives is fits =
-    let read = spelling_read bytes info is fits in absurd (cc)
-accepted_by (Err (BadOrder at)) bytes info gives is fits =
-    let read = spelling_read bytes info is fits in absurd (cc)
+accepted_by (Ok read) bytes info gives is =
+    same_ok read info (sym gives ∙ spelling_read bytes info is)
+accepted_by (Err NoMemory) bytes info gives is = refl
+accepted_by (Err WrongLength) bytes info gives is =
+    let read = spelling_read bytes info is in absurd (cc)
+accepted_by (Err BadReserved) bytes info gives is =
+    let read = spelling_read bytes info is in absurd (cc)
+accepted_by (Err (BadTag at)) bytes info gives is =
+    let read = spelling_read bytes info is in absurd (cc)
+accepted_by (Err (BadOrder at)) bytes info gives is =
+    let read = spelling_read bytes info is in absurd (cc)

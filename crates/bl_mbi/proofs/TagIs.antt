@@ -12,12 +12,12 @@ use Rattle.bl_mbi.specs.Size.{padded}
 use Rattle.bl_mbi.specs.InformationFacts.{AreBytes}
 use Rattle.bl_mem.specs.Words.{u32_bytes}
 use Rattle.bl_mbi.specs.Tags.{padding, tag}
-use Rattle.bl_mbi.specs.Fields.{Left, first_u32, info_tag_at}
+use Rattle.bl_mbi.specs.Fields.{RestFacts, first_u32, info_tag_at}
 use Rattle.bl_mbi.proofs.Inverse.{passed, same_ok}
 use Rattle.bl_mbi.proofs.WordLaws.{word_then}
 
 -- a piece was read, and this is left; where that is nothing, the end may have cut the piece
-pub record IsRead (left : Left) (piece : List ℕ) (after : Left) : Type 0 where
+pub record IsRead (left : RestFacts) (piece : List ℕ) (after : RestFacts) : Type 0 where
   pub bytes : 1 ≤ length after.bytes → left.bytes ≡ piece ++ after.bytes
   pub small : AreBytes after.bytes
 
@@ -35,7 +35,7 @@ all_zero (x ∷ xs) h =
     ap₂ (λ (y : ℕ) (ys : List ℕ). y ∷ ys) zero_here (all_zero xs both.1)
 
 -- what the checks of a tag say together
-record IsPassed (kind : ℕ) (left : Left) (read : List ℕ × Left) : Type 0 where
+record IsPassed (kind : ℕ) (left : RestFacts) (read : List ℕ × RestFacts) : Type 0 where
   long : 8 ≤ length left.bytes
   kind_is : first_u32 left.bytes ≡ kind
   large : 8 ≤ first_u32 (drop 4 left.bytes)
@@ -46,7 +46,7 @@ record IsPassed (kind : ℕ) (left : Left) (read : List ℕ × Left) : Type 0 wh
   body : slice_range left.bytes 8 (first_u32 (drop 4 left.bytes)) ≡ read.0
   rest : drop (padded (first_u32 (drop 4 left.bytes))) left.bytes ≡ read.1.bytes
 
-passes : (kind : ℕ) (left : Left) (read : List ℕ × Left) → info_tag_at kind left ≡ Ok read
+passes : (kind : ℕ) (left : RestFacts) (read : List ℕ × RestFacts) → info_tag_at kind left ≡ Ok read
     → IsPassed kind left read
 unfolding info_tag_at
 passes kind left read h =
@@ -67,12 +67,12 @@ passes kind left read h =
       large = grind (arith, nat_tests, s4.0);
       fits = grind (arith, nat_tests, s5.0);
       zeros = not-false _ s6.0;
-      body = ap (λ (r : List ℕ × Left). r.0) is;
-      rest = ap (λ (r : List ℕ × Left). r.1.bytes) is;
+      body = ap (λ (r : List ℕ × RestFacts). r.0) is;
+      rest = ap (λ (r : List ℕ × RestFacts). r.1.bytes) is;
     }
 
 -- its size counts type and size and the body
-size_is : (kind : ℕ) (left : Left) (read : List ℕ × Left) → IsPassed kind left read
+size_is : (kind : ℕ) (left : RestFacts) (read : List ℕ × RestFacts) → IsPassed kind left read
     → first_u32 (drop 4 left.bytes) ≡ 8 + length read.0
 size_is kind left read p =
     let size = first_u32 (drop 4 left.bytes) in
@@ -82,7 +82,7 @@ size_is kind left read p =
     rw (← p.body) (omega arith)
 
 -- a tag whose padding is all there is spelled so
-whole_tag_is : (kind : ℕ) (left : Left) (read : List ℕ × Left) → AreBytes left.bytes
+whole_tag_is : (kind : ℕ) (left : RestFacts) (read : List ℕ × RestFacts) → AreBytes left.bytes
     → IsPassed kind left read → padded (first_u32 (drop 4 left.bytes)) ≤ length left.bytes
     → left.bytes ≡ tag kind read.0 ++ read.1.bytes
 whole_tag_is kind left read small p enough =
@@ -125,7 +125,7 @@ whole_tag_is kind left read small p enough =
     rw (← p.body, ← p.rest) spelled
 
 -- where something is left after a tag, its padding is all there
-pub tag_is : (kind : ℕ) (left : Left) (read : List ℕ × Left) → AreBytes left.bytes
+pub tag_is : (kind : ℕ) (left : RestFacts) (read : List ℕ × RestFacts) → AreBytes left.bytes
     → info_tag_at kind left ≡ Ok read → IsRead left (tag kind read.0) read.1 × AreBytes read.0
 tag_is kind left read small h =
     let p = passes kind left read h in
@@ -139,7 +139,7 @@ tag_is kind left read small h =
     (is, rw (← p.body) (take_small (size - 8) (drop 8 left.bytes) (drop_small 8 left.bytes small)))
 
 -- a tag with no body has no padding
-pub empty_tag_is : (kind : ℕ) (left : Left) (read : List ℕ × Left) → AreBytes left.bytes
+pub empty_tag_is : (kind : ℕ) (left : RestFacts) (read : List ℕ × RestFacts) → AreBytes left.bytes
     → info_tag_at kind left ≡ Ok read → length read.0 ≡ 0
     → left.bytes ≡ tag kind read.0 ++ read.1.bytes
 empty_tag_is kind left read small h empty =

@@ -9,12 +9,12 @@ use Rattle.std.proofs.lemmas.List.{take_at, drop_at, drop-drop}
 use Rattle.bl_mbi.specs.Size.{padded}
 use Rattle.bl_mem.specs.Words.{u32_bytes}
 use Rattle.bl_mbi.specs.Tags.{padding, tag}
-use Rattle.bl_mbi.specs.Fields.{Left, first_u32, is_next, info_tag_at}
+use Rattle.bl_mbi.specs.Fields.{RestFacts, first_u32, is_next, info_tag_at}
 use Rattle.bl_mbi.proofs.Sizes.{length-padding, length-tag}
 use Rattle.bl_mbi.proofs.WordLaws.{word_front, behind_word}
 
 -- the checks of a tag, each of which is passed
-tag_at_ok : (kind size : ℕ) (left : Left) → 8 ≤ length left.bytes → first_u32 left.bytes ≡ kind
+tag_at_ok : (kind size : ℕ) (left : RestFacts) → 8 ≤ length left.bytes → first_u32 left.bytes ≡ kind
     → first_u32 (drop 4 left.bytes) ≡ size → 8 ≤ size → size ≤ length left.bytes
     → list_all (λ b. b == 0) (slice_range left.bytes size (padded size)) ≡ true
     → info_tag_at kind left
@@ -76,7 +76,7 @@ tag_again kind at body rest kind_fits size_fits =
     let whole : padded size ≡ length (tag kind body) = omega (arith, tag_len) in
     tag_at_ok kind size record { at = at; bytes = bytes } (omega (arith, len, tag_len)) kind_is
     size_is (omega arith) (omega (arith, len, tag_len)) zeros
-    ∙ ap₂ (λ (x : List ℕ) (l : Left). Ok (x, l)) body_is
+    ∙ ap₂ (λ (x : List ℕ) (l : RestFacts). Ok (x, l)) body_is
     (ap₂ (λ (n : ℕ) (bs : List ℕ). record { at = at + n; bytes = bs }) whole rest_is)
 
 -- a tag is next where its type is asked for, and only there

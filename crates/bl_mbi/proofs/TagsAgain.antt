@@ -14,7 +14,7 @@ use Rattle.bl_mbi.specs.InformationFacts.{InformationFacts, ModuleInfo, IsModule
 use Rattle.bl_mem.specs.Words.{u32_bytes}
 use Rattle.bl_mbi.specs.Tags.{tag, text_body, module_body, module_tag, memory_body, map_body}
 use Rattle.bl_mbi.specs.Tags.{copy_tag, load_base_tag}
-use Rattle.bl_mbi.specs.Fields.{◌>>=◌, Left, is_next, info_tag_at}
+use Rattle.bl_mbi.specs.Fields.{◌>>=◌, RestFacts, is_next, info_tag_at}
 use Rattle.bl_mbi.specs.Reading.{text_tag_at, module_at, modules_upto, modules_at, memory_at}
 use Rattle.bl_mbi.specs.Reading.{map_at, copy_at, load_base_at, end_at, tags_of}
 use Rattle.bl_mem.proofs.WordLaws.{length-u32_bytes}
@@ -26,10 +26,10 @@ use Rattle.bl_mbi.proofs.BodyLaws.{text_again, module_again, memory_again, map_a
 use Rattle.bl_mbi.proofs.BodyLaws.{load_base_again}
 
 -- the bytes that are left from an offset on, and what is left after a piece of them
-abbrev pub from : ℕ → List ℕ → Left
+abbrev pub from : ℕ → List ℕ → RestFacts
 from at bytes = record { at = at; bytes = bytes }
 
-abbrev pub past : ℕ → List ℕ → List ℕ → Left
+abbrev pub past : ℕ → List ℕ → List ℕ → RestFacts
 past at piece rest = from (at + length piece) rest
 
 pub text_tag_at_again : (kind at : ℕ) (text rest : List ℕ) → kind < 2 ^ 32
@@ -77,7 +77,7 @@ modules_upto_again (suc n) at (m ∷ ms) rest enough fits are last =
     ap (λ (bytes : List ℕ). modules_upto (suc n) (from at bytes)) all
     ∙ one_more n (from at (module_tag m ++ (more ++ rest))) (from there (more ++ rest)) m next here
     ∙ ap
-    (λ (read : Result (List ModuleInfo × Left) InfoFault).
+    (λ (read : Result (List ModuleInfo × RestFacts) InfoFault).
     read >>= (λ after. Ok (m ∷ after.0, after.1))) rest_of
     ∙ ap (λ (k : ℕ). Ok (m ∷ ms, from k rest)) (omega (arith, len))
 
@@ -183,7 +183,7 @@ no_old at None None = next_end 14 at
 no_old at None (Some base) = next_tag 14 21 at (u32_bytes base) (tag 0 []) (lit< tt)
 
 -- the tags, one after the other
-pub in_order : (l0 l1 l2 l3 l4 l5 l6 l7 l8 : Left) (name : List ℕ) (facts : InformationFacts)
+pub in_order : (l0 l1 l2 l3 l4 l5 l6 l7 l8 : RestFacts) (name : List ℕ) (facts : InformationFacts)
     → text_tag_at 1 l0 ≡ Ok (facts.line, l1) → text_tag_at 2 l1 ≡ Ok (name, l2)
     → modules_at l2 ≡ Ok (facts.modules, l3)
     → memory_at l3 ≡ Ok ((facts.mem_lower, facts.mem_upper), l4) → map_at l4 ≡ Ok (facts.runs, l5)

@@ -33,18 +33,18 @@ abbrev pub first_u64 : List ℕ → ℕ
 first_u64 bytes = u64_at bytes 0
 
 -- the bytes that are left, and the offset at which they stand
-pub record Left : Type 0 where
+pub record RestFacts : Type 0 where
   pub at : ℕ
   pub bytes : List ℕ
 
 -- a tag of this type begins there
-abbrev pub is_next : ℕ → Left → Bool
+abbrev pub is_next : ℕ → RestFacts → Bool
 is_next kind left = nat_le 8 (length left.bytes) && (first_u32 left.bytes == kind)
 
 -- the body of the tag there, which must be of this type, and what is left after it: type and size
 -- take 8 bytes, the size counts them and the body, zeros follow up to a multiple of 8. The end may
 -- cut these zeros, and then nothing is left at that multiple.
-unfoldable pub info_tag_at : ℕ → Left → Result (List ℕ × Left) InfoFault
+unfoldable pub info_tag_at : ℕ → RestFacts → Result (List ℕ × RestFacts) InfoFault
 info_tag_at kind left =
     if length left.bytes == 0 then Err (BadOrder left.at) else
     if nat_lt (length left.bytes) 8 then Err (BadTag left.at) else
@@ -54,7 +54,7 @@ info_tag_at kind left =
     if nat_lt (length left.bytes) size then Err (BadTag left.at) else
     let padding = slice_range left.bytes size (padded size) in
     if not (list_all (λ b. b == 0) padding) then Err (BadTag left.at) else
-    let after : Left =
+    let after : RestFacts =
     record { at = left.at + padded size; bytes = drop (padded size) left.bytes } in
     Ok (slice_range left.bytes 8 size, after)
 

@@ -1,12 +1,12 @@
 pub mod Bodies
 pub mod Faults
 pub mod Fields
-pub mod Groups
+pub mod GroupSizesKept
 pub mod InformationFacts
-pub mod ReadGroups
+pub mod GroupsKept
 pub mod Reading
 pub mod Size
 pub mod Spelling
 pub mod Tags
 pub mod InfoFacts
-pub mod Kept
+pub mod RestKept

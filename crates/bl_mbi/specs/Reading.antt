@@ -7,25 +7,25 @@ use Rattle.bl_mbi.specs.declared.fault.InfoFault.{InfoFault}
 use Rattle.bl_mbi.specs.declared.fault.InfoFault.TheVariants.{WrongLength, BadReserved, BadTag}
 use Rattle.bl_mbi.specs.declared.fault.InfoFault.TheVariants.{BadOrder}
 use Rattle.bl_mbi.specs.InformationFacts.{ModuleInfo}
-use Rattle.bl_mbi.specs.Fields.{◌>>=◌, Left, first_u32, is_next, info_tag_at, or_bad}
+use Rattle.bl_mbi.specs.Fields.{◌>>=◌, RestFacts, first_u32, is_next, info_tag_at, or_bad}
 use Rattle.bl_mbi.specs.Bodies.{text_of_body, module_of, memory_of, map_of, load_base_of}
 use Rattle.bl_mbi.specs.InfoFacts.{InfoFacts}
 use Rattle.bl_mbi.specs.Size.{min_info_size}
 
-unfoldable pub text_tag_at : ℕ → Left → Result (List ℕ × Left) InfoFault
+unfoldable pub text_tag_at : ℕ → RestFacts → Result (List ℕ × RestFacts) InfoFault
 text_tag_at kind left = do
   tag ← info_tag_at kind left
   text ← or_bad left.at (text_of_body tag.0)
   Ok (text, tag.1)
 
-unfoldable pub module_at : Left → Result (ModuleInfo × Left) InfoFault
+unfoldable pub module_at : RestFacts → Result (ModuleInfo × RestFacts) InfoFault
 module_at left = do
   tag ← info_tag_at 3 left
   m ← or_bad left.at (module_of tag.0)
   Ok (m, tag.1)
 
 -- the modules up to the first tag of another type, but no more than so many
-abbrev pub modules_upto : ℕ → Left → Result (List ModuleInfo × Left) InfoFault
+abbrev pub modules_upto : ℕ → RestFacts → Result (List ModuleInfo × RestFacts) InfoFault
 modules_upto zero left = Ok ([], left)
 modules_upto (suc n) left =
     if not (is_next 3 left) then Ok ([], left) else do
@@ -33,30 +33,30 @@ modules_upto (suc n) left =
       more ← modules_upto n first.1
       Ok (first.0 ∷ more.0, more.1)
 
--- all of them, since each takes a byte
-unfoldable pub modules_at : Left → Result (List ModuleInfo × Left) InfoFault
+-- all of them: each takes a byte at least, so that there are never more
+unfoldable pub modules_at : RestFacts → Result (List ModuleInfo × RestFacts) InfoFault
 modules_at left = modules_upto (length left.bytes) left
 
-unfoldable pub memory_at : Left → Result ((ℕ × ℕ) × Left) InfoFault
+unfoldable pub memory_at : RestFacts → Result ((ℕ × ℕ) × RestFacts) InfoFault
 memory_at left = do
   tag ← info_tag_at 4 left
   sizes ← or_bad left.at (memory_of tag.0)
   Ok (sizes, tag.1)
 
-unfoldable pub map_at : Left → Result (List Region × Left) InfoFault
+unfoldable pub map_at : RestFacts → Result (List Region × RestFacts) InfoFault
 map_at left = do
   tag ← info_tag_at 6 left
   runs ← or_bad left.at (map_of tag.0)
   Ok (runs, tag.1)
 
 -- a tag that may be missing: the whole body is the copy
-unfoldable pub copy_at : ℕ → Left → Result (Option (List ℕ) × Left) InfoFault
+unfoldable pub copy_at : ℕ → RestFacts → Result (Option (List ℕ) × RestFacts) InfoFault
 copy_at kind left =
     if not (is_next kind left) then Ok (None, left) else do
       tag ← info_tag_at kind left
       Ok (Some tag.0, tag.1)
 
-unfoldable pub load_base_at : Left → Result (Option ℕ × Left) InfoFault
+unfoldable pub load_base_at : RestFacts → Result (Option ℕ × RestFacts) InfoFault
 load_base_at left =
     if not (is_next 21 left) then Ok (None, left) else do
       tag ← info_tag_at 21 left
@@ -64,14 +64,14 @@ load_base_at left =
       Ok (Some base, tag.1)
 
 -- the tag that ends the information, with nothing after it
-unfoldable pub end_at : Left → Result (Unit {0}) InfoFault
+unfoldable pub end_at : RestFacts → Result (Unit {0}) InfoFault
 end_at left = do
   tag ← info_tag_at 0 left
   if not (length tag.0 == 0) then Err (BadTag left.at) else
       if length tag.1.bytes == 0 then Ok tt else Err (BadOrder tag.1.at)
 
 -- the tags in their order
-unfoldable pub tags_of : Left → Result InfoFacts InfoFault
+unfoldable pub tags_of : RestFacts → Result InfoFacts InfoFault
 tags_of left = do
   line ← text_tag_at 1 left
   name ← text_tag_at 2 line.1

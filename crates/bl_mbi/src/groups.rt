@@ -1,7 +1,7 @@
 //! The groups of tags, each read where it stands.
 ghost use Rattle.bl_mbi.specs.Fields.{MatchesReading};
-ghost use Rattle.bl_mbi.specs.Kept.{left_in};
-ghost use Rattle.bl_mbi.specs.ReadGroups as spec;
+ghost use Rattle.bl_mbi.specs.RestKept.{rest_facts};
+ghost use Rattle.bl_mbi.specs.GroupsKept as spec;
 
 use crate::fault::InfoFault;
 use crate::module::Module;
@@ -13,13 +13,13 @@ use bl_mem::Bytes;
 use std::alloc::Allocator;
 
 /// The texts: the line, the loader's name, the modules.
-#[tactic(auto, unfolding(crate::specs::ReadGroups::texts_at))]
+#[tactic(auto, unfolding(crate::specs::GroupsKept::texts_at))]
 pub(crate) fn texts_at<'a, A: Allocator + Copy>(
     alloc: A,
     rest: Rest<'a>,
 ) -> Result<((Bytes<A>, Bytes<A>, Vec<Module<A>, A>), Rest<'a>), InfoFault>
-    ensures { MatchesReading (λ x. ((x.0.0, x.0.1, x.0.2.items), left_in x.1)) result
-        (spec.texts_at (left_in rest.entry)) }
+    ensures { MatchesReading (λ x. ((x.0.0, x.0.1, x.0.2.items), rest_facts x.1)) result
+        (spec.texts_at (rest_facts rest.entry)) }
 {
     let (line, rest) = text_tag_at(alloc, TAG_COMMAND_LINE, rest)?;
     let (name, rest) = text_tag_at(alloc, TAG_BOOT_LOADER_NAME, rest)?;
@@ -28,13 +28,13 @@ pub(crate) fn texts_at<'a, A: Allocator + Copy>(
 }
 
 /// The tags of memory: its sizes, its map.
-#[tactic(auto, unfolding(crate::specs::ReadGroups::map_tags_at))]
+#[tactic(auto, unfolding(crate::specs::GroupsKept::map_tags_at))]
 pub(crate) fn map_tags_at<'a, A: Allocator>(
     alloc: A,
     rest: Rest<'a>,
 ) -> Result<(((u32, u32), Vec<Region, A>), Rest<'a>), InfoFault>
-    ensures { MatchesReading (λ x. ((x.0.0, x.0.1.items), left_in x.1)) result
-        (spec.map_tags_at (left_in rest.entry)) }
+    ensures { MatchesReading (λ x. ((x.0.0, x.0.1.items), rest_facts x.1)) result
+        (spec.map_tags_at (rest_facts rest.entry)) }
 {
     let (sizes, rest) = memory_at(rest)?;
     let (runs, rest) = map_at(alloc, rest)?;
@@ -42,12 +42,12 @@ pub(crate) fn map_tags_at<'a, A: Allocator>(
 }
 
 /// The tags that do not always stand, and the one that ends the information, with nothing after it.
-#[tactic(auto, unfolding(crate::specs::ReadGroups::last_at))]
+#[tactic(auto, unfolding(crate::specs::GroupsKept::last_at))]
 pub(crate) fn last_at<A: Allocator + Copy>(
     alloc: A,
     rest: Rest,
 ) -> Result<(Option<Bytes<A>>, Option<Bytes<A>>, Option<u32>), InfoFault>
-    ensures { MatchesReading (λ x. (x.0, x.1, x.2)) result (spec.last_at (left_in rest.entry)) }
+    ensures { MatchesReading (λ x. (x.0, x.1, x.2)) result (spec.last_at (rest_facts rest.entry)) }
 {
     let (rsdp_old, rest) = copy_at(alloc, TAG_ACPI_OLD, rest)?;
     let (rsdp_new, rest) = copy_at(alloc, TAG_ACPI_NEW, rest)?;

@@ -1,7 +1,7 @@
 //! Each tag of boot information, read where it stands.
 ghost use Rattle.std.specs.Prelude.{◌≡◌, ◌≤◌, ◌+◌, length, option_map, IfOk};
 ghost use Rattle.bl_mbi.specs.Fields.{MatchesReading};
-ghost use Rattle.bl_mbi.specs.Kept.{left_in};
+ghost use Rattle.bl_mbi.specs.RestKept.{rest_facts};
 ghost use Rattle.bl_mbi.specs.Fields as fields;
 ghost use Rattle.bl_mbi.specs.Reading as spec;
 
@@ -16,7 +16,7 @@ use std::alloc::Allocator;
 
 /// Whether a tag of this type begins there.
 fn is_next(kind: u32, rest: Rest) -> bool
-    ensures { result ≡ fields.is_next kind (left_in rest.entry) }
+    ensures { result ≡ fields.is_next kind (rest_facts rest.entry) }
 {
     rest.bytes.len() >= 8 && word(rest.bytes) == kind
 }
@@ -24,8 +24,8 @@ fn is_next(kind: u32, rest: Rest) -> bool
 /// The body of the tag there, which must be of this type, and what is left after it.
 #[tactic(auto, unfolding(crate::specs::Fields::info_tag_at))]
 fn tag_at<'a>(kind: u32, rest: Rest<'a>) -> Result<(&'a [u8], Rest<'a>), InfoFault>
-    ensures read { MatchesReading (λ x. (x.0.now, left_in x.1)) result
-        (fields.info_tag_at kind (left_in rest.entry)) }
+    ensures read { MatchesReading (λ x. (x.0.now, rest_facts x.1)) result
+        (fields.info_tag_at kind (rest_facts rest.entry)) }
     ensures shorter { IfOk result (λ x. length x.1.bytes.now + 8 ≤ length rest.entry.bytes.now) }
 {
     if rest.bytes.is_empty() {
@@ -62,8 +62,8 @@ pub(crate) fn text_tag_at<'a, A: Allocator>(
     kind: u32,
     rest: Rest<'a>,
 ) -> Result<(Bytes<A>, Rest<'a>), InfoFault>
-    ensures { MatchesReading (λ x. (x.0, left_in x.1)) result (spec.text_tag_at kind
-        (left_in rest.entry)) }
+    ensures { MatchesReading (λ x. (x.0, rest_facts x.1)) result (spec.text_tag_at kind
+        (rest_facts rest.entry)) }
 {
     let (body, after) = tag_at(kind, rest)?;
     let Some(text) = text_of(body) else {
@@ -75,8 +75,8 @@ pub(crate) fn text_tag_at<'a, A: Allocator>(
 /// The module in the tag there.
 #[tactic(auto, unfolding(crate::specs::Reading::module_at))]
 fn module_at<'a, A: Allocator>(alloc: A, rest: Rest<'a>) -> Result<(Module<A>, Rest<'a>), InfoFault>
-    ensures read { MatchesReading (λ x. (x.0, left_in x.1)) result (spec.module_at
-        (left_in rest.entry)) }
+    ensures read { MatchesReading (λ x. (x.0, rest_facts x.1)) result (spec.module_at
+        (rest_facts rest.entry)) }
     ensures shorter { IfOk result (λ x. length x.1.bytes.now + 8 ≤ length rest.entry.bytes.now) }
 {
     let (body, after) = tag_at(TAG_MODULE, rest)?;
@@ -88,8 +88,8 @@ pub(crate) fn modules_at<'a, A: Allocator + Copy>(
     alloc: A,
     rest: Rest<'a>,
 ) -> Result<(Vec<Module<A>, A>, Rest<'a>), InfoFault>
-    ensures { MatchesReading (λ x. (x.0.items, left_in x.1)) result (spec.modules_at
-        (left_in rest.entry)) }
+    ensures { MatchesReading (λ x. (x.0.items, rest_facts x.1)) result (spec.modules_at
+        (rest_facts rest.entry)) }
 {
     let mut modules = Vec::new(alloc);
     let mut left = rest;
@@ -104,8 +104,8 @@ pub(crate) fn modules_at<'a, A: Allocator + Copy>(
 /// The sizes of memory in the tag there.
 #[tactic(auto, unfolding(crate::specs::Reading::memory_at))]
 pub(crate) fn memory_at<'a>(rest: Rest<'a>) -> Result<((u32, u32), Rest<'a>), InfoFault>
-    ensures { MatchesReading (λ x. (x.0, left_in x.1)) result (spec.memory_at
-        (left_in rest.entry)) }
+    ensures { MatchesReading (λ x. (x.0, rest_facts x.1)) result (spec.memory_at
+        (rest_facts rest.entry)) }
 {
     let (body, after) = tag_at(TAG_BASIC_MEMORY, rest)?;
     let Some(sizes) = memory_of(body) else {
@@ -120,8 +120,8 @@ pub(crate) fn map_at<'a, A: Allocator>(
     alloc: A,
     rest: Rest<'a>,
 ) -> Result<(Vec<Region, A>, Rest<'a>), InfoFault>
-    ensures { MatchesReading (λ x. (x.0.items, left_in x.1)) result (spec.map_at
-        (left_in rest.entry)) }
+    ensures { MatchesReading (λ x. (x.0.items, rest_facts x.1)) result (spec.map_at
+        (rest_facts rest.entry)) }
 {
     let (body, after) = tag_at(TAG_MEMORY_MAP, rest)?;
     Ok((map_of(alloc, rest.at, body)?, after))
@@ -134,8 +134,8 @@ pub(crate) fn copy_at<'a, A: Allocator>(
     kind: u32,
     rest: Rest<'a>,
 ) -> Result<(Option<Bytes<A>>, Rest<'a>), InfoFault>
-    ensures { MatchesReading (λ x. (x.0, left_in x.1)) result (spec.copy_at kind
-        (left_in rest.entry)) }
+    ensures { MatchesReading (λ x. (x.0, rest_facts x.1)) result (spec.copy_at kind
+        (rest_facts rest.entry)) }
 {
     if !is_next(kind, rest) {
         return Ok((None, rest));
@@ -147,8 +147,8 @@ pub(crate) fn copy_at<'a, A: Allocator>(
 /// The load base in the tag there, which may be missing.
 #[tactic(auto, unfolding(crate::specs::Reading::load_base_at))]
 pub(crate) fn load_base_at<'a>(rest: Rest<'a>) -> Result<(Option<u32>, Rest<'a>), InfoFault>
-    ensures { MatchesReading (λ x. (x.0, left_in x.1)) result (spec.load_base_at
-        (left_in rest.entry)) }
+    ensures { MatchesReading (λ x. (x.0, rest_facts x.1)) result (spec.load_base_at
+        (rest_facts rest.entry)) }
 {
     if !is_next(TAG_LOAD_BASE, rest) {
         return Ok((None, rest));
@@ -163,7 +163,7 @@ pub(crate) fn load_base_at<'a>(rest: Rest<'a>) -> Result<(Option<u32>, Rest<'a>)
 /// The tag that ends the information, with nothing after it.
 #[tactic(auto, unfolding(crate::specs::Reading::end_at))]
 pub(crate) fn end_at(rest: Rest) -> Result<(), InfoFault>
-    ensures { MatchesReading (λ _. tt) result (spec.end_at (left_in rest.entry)) }
+    ensures { MatchesReading (λ _. tt) result (spec.end_at (rest_facts rest.entry)) }
 {
     let (body, after) = tag_at(TAG_END, rest)?;
     if !body.is_empty() {

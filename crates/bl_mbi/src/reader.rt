@@ -4,7 +4,7 @@ ghost use Rattle.std.specs.Prelude.{MatchResult};
 ghost use Rattle.bl_mbi.specs.InfoFacts.{InfoFacts, IsSpelling};
 ghost use Rattle.bl_mbi.specs.declared.fault.InfoFault.TheVariants.{NoMemory};
 ghost use Rattle.bl_mbi.specs.Fields.{MatchesReading};
-ghost use Rattle.bl_mbi.specs.Kept.{left_in};
+ghost use Rattle.bl_mbi.specs.RestKept.{rest_facts};
 ghost use Rattle.bl_mbi.specs.Reading as spec;
 
 use crate::body_reader::word;
@@ -17,7 +17,7 @@ use std::alloc::Allocator;
 
 /// What the tags tell.
 fn tags_of<A: Allocator + Copy>(alloc: A, rest: Rest) -> Result<Info<A>, InfoFault>
-    ensures { MatchesReading (λ info. info) result (spec.tags_of (left_in rest.entry)) }
+    ensures { MatchesReading (λ info. info) result (spec.tags_of (rest_facts rest.entry)) }
 {
     let ((line, name, modules), rest) = texts_at(alloc, rest)?;
     let (((mem_lower, mem_upper), runs), rest) = map_tags_at(alloc, rest)?;
@@ -38,7 +38,7 @@ fn tags_of<A: Allocator + Copy>(alloc: A, rest: Rest) -> Result<Info<A>, InfoFau
 /// The tags, where the bytes are exactly `total_size` and the reserved word is 0.
 #[tactic(auto, unfolding(crate::specs::Reading::info_of))]
 fn tags_in(bytes: &[u8]) -> Result<Rest, InfoFault>
-    ensures tags { IfOk result (λ rest. spec.info_of bytes.now ≡ spec.tags_of (left_in rest)) }
+    ensures tags { IfOk result (λ rest. spec.info_of bytes.now ≡ spec.tags_of (rest_facts rest)) }
     ensures first_fault { IfErr result (λ fault. spec.info_of bytes.now ≡ Err fault) }
 {
     if bytes.len() < MIN_INFO_SIZE as usize {
@@ -62,7 +62,7 @@ pub fn read_info<A: Allocator + Copy>(alloc: A, bytes: &[u8]) -> Result<Info<A>,
     ensures spelled { IfOk result (IsSpelling bytes.now) }
 
     // Only memory can be wanting where the bytes are a spelling.
-    ensures accepts { (info : InfoFacts) → IsSpelling bytes.now info → length bytes.now < 2 ^ 32
+    ensures accepts { (info : InfoFacts) → IsSpelling bytes.now info
         → MatchResult result (λ read. read ≡ info) (λ fault. fault ≡ NoMemory) }
     ensures first_fault { MatchesReading (λ info. info) result (spec.info_of bytes.now) }
 {

@@ -8,7 +8,7 @@ ghost use Rattle.bl_mbi.specs.InformationFacts.{info_size as size_of_info};
 ghost use Rattle.bl_mbi.specs.Spelling.{info_spelling};
 ghost use Rattle.bl_mbi.specs.Tags.{tag, text_body, module_tag, memory_body, map_body, copy_tag};
 ghost use Rattle.bl_mbi.specs.Tags.{load_base_tag};
-ghost use Rattle.bl_mbi.specs.Groups.{texts_size, map_size, last_size};
+ghost use Rattle.bl_mbi.specs.GroupSizesKept.{texts_size, map_tags_size, last_size};
 
 use crate::facts::Facts;
 use crate::module_facts::ModuleFacts;
@@ -88,11 +88,11 @@ fn put_texts<A: Allocator>(facts: &Facts<'_>, out: &mut Vec<u8, A>)
 
 /// Appends the tags of memory: its sizes, its map.
 fn put_map_tags<A: Allocator>(facts: &Facts<'_>, out: &mut Vec<u8, A>)
-    requires { vec_len out.old + map_size facts.now ≤ vec_capacity out.old }
+    requires { vec_len out.old + map_tags_size facts.now ≤ vec_capacity out.old }
     ensures items { out.new.items ≡ out.old.items
         ++ (tag 4 (memory_body facts.now.mem_lower facts.now.mem_upper)
         ++ tag 6 (map_body facts.now.runs)) }
-    ensures len { vec_len out.new ≡ vec_len out.old + map_size facts.now }
+    ensures len { vec_len out.new ≡ vec_len out.old + map_tags_size facts.now }
     ensures capacity { vec_capacity out.old ≤ vec_capacity out.new }
 {
     put_memory(out, facts.mem_lower, facts.mem_upper);

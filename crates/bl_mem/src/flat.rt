@@ -32,7 +32,7 @@ impl<A: Allocator> Flat<A> {
 }
 
 impl<A: Allocator> PhysMem for Flat<A> {
-    ghost use Rattle.std.specs.Prelude.{◌≡◌, ◌+◌, ◌≤◌, length, slice_range, IfSome, IsSome};
+    ghost use Rattle.std.specs.Prelude.{◌≡◌, ◌+◌, ◌≤◌, length, slice_range, IfSome, IsOk, IsSome};
 
     ghost bytes = { λ flat. flat };
 
@@ -59,7 +59,10 @@ impl<A: Allocator> PhysMem for Flat<A> {
         Some(&held[from..from + count])
     }
 
-    fn reserve(&mut self, _ranges: &[Range<u64>]) -> Result<(), AllocError> {
+    fn reserve(&mut self, _ranges: &[Range<u64>]) -> Result<(), AllocError>
+        ensures same { self.new ≡ self.old }
+        ensures ok { IsOk result }
+    {
         Ok(())
     }
 

@@ -2,8 +2,8 @@
 ghost use Rattle.std.specs.Prelude.{◌≡◌};
 ghost use Rattle.bl_mem.specs.Frame.{has_room, cleared};
 
-/// The bytes of a frame.
-pub const FRAME: u64 = 4096;
+/// How many bytes a frame has.
+pub const FRAME_SIZE: u64 = 4096;
 
 /// A frame: whether it has room, and what it reads as.
 #[derive(Clone, Copy)]
@@ -29,7 +29,7 @@ impl Frame {
         }
     }
 
-    /// The frame after it was cleared, which has room.
+    /// The frame after it was cleared: each of its bytes is 0. One without room stays as it is.
     pub fn cleared(self) -> Frame
         ensures { result ≡ cleared self }
     {

@@ -5,7 +5,7 @@ ghost use Rattle.bl_mem.specs.declared.frame.Frame.TheVariants.{Kept};
 ghost use Rattle.bl_mem.specs.Frames.{frame_numbered, frame_byte, AreBytesAt, IsLent};
 ghost use Rattle.bl_mem.specs.Kept.{AreTogether};
 
-use crate::frame::{FRAME, Frame};
+use crate::frame::{FRAME_SIZE, Frame};
 use std::alloc::Allocator;
 use std::marker::Model;
 
@@ -78,7 +78,7 @@ impl<A: Allocator + Copy> Frames<A> {
         ensures few { length self.now.kept ≤ 2 ^ 44 }
     {
         let _owed = self.owed;
-        WIDTH * slot as usize + (at % FRAME) as usize
+        WIDTH * slot as usize + (at % FRAME_SIZE) as usize
     }
 
     /// Reads bytes of one frame.
@@ -86,7 +86,7 @@ impl<A: Allocator + Copy> Frames<A> {
         requires one { at % 4096 + length out.old ≤ 4096 }
         ensures { AreBytesAt (frame_byte self.now) at out.new }
     {
-        match self.frame(at / FRAME) {
+        match self.frame(at / FRAME_SIZE) {
             Frame::Bare => out.fill(self.fill),
             Frame::Plain(value) => out.fill(value),
             Frame::Kept(slot) => {
@@ -105,7 +105,7 @@ impl<A: Allocator + Copy> Frames<A> {
         ensures { result ≡ true → AreTogether self.now number slot count }
     {
         let mut index = 0;
-        while FRAME * index < count as u64 {
+        while FRAME_SIZE * index < count as u64 {
             match self.frame(number + index) {
                 Frame::Kept(next) => {
                     if next as u64 != slot as u64 + index {
@@ -124,11 +124,11 @@ impl<A: Allocator + Copy> Frames<A> {
         requires { at + count < 2 ^ 64 }
         ensures { IfSome result (λ part. IsLent self.now at count part.now) }
     {
-        let place = (at % FRAME) as usize;
-        if let Frame::Kept(slot) = self.frame(at / FRAME) {
+        let place = (at % FRAME_SIZE) as usize;
+        if let Frame::Kept(slot) = self.frame(at / FRAME_SIZE) {
             let start = self.start(at, slot);
             if count <= self.kept.len() - start
-                && self.are_together(at / FRAME, slot, place + count)
+                && self.are_together(at / FRAME_SIZE, slot, place + count)
             {
                 return Some(&self.kept[start..start + count]);
             }

@@ -114,7 +114,8 @@ impl PhysMem for SliceMemory<'_> {
 
     fn reserve(&mut self, ranges: &[Range<u64>]) -> Result<(), AllocError> {
         for range in ranges {
-            if range.start < self.base as u64 {
+            // an empty range needs no room, wherever it lies
+            if range.start < range.end && range.start < self.base as u64 {
                 return Err(AllocError);
             }
         }

@@ -5,7 +5,7 @@ ghost use Rattle.bl_mem.specs.Memory.{overwrite, HasRoom, KeepsRoom};
 ghost use Rattle.bl_mem.specs.Frames.{IsHeld};
 ghost use Rattle.bl_mem.specs.Sparse.{bytes_of};
 
-use crate::frame::FRAME;
+use crate::frame::FRAME_SIZE;
 use crate::frames::Frames;
 use crate::memory::PhysMem;
 use std::alloc::{AllocError, Allocator};
@@ -59,7 +59,8 @@ impl<A: Allocator + Copy> Sparse<A> {
         ensures made { OnOk result (HasRoom (IsHeld self.new.frames) start end) }
     {
         if start < end {
-            self.frames.hold(start / FRAME, (end - 1) / FRAME + 1)?;
+            self.frames
+                .hold(start / FRAME_SIZE, (end - 1) / FRAME_SIZE + 1)?;
         }
         Ok(())
     }
@@ -118,7 +119,7 @@ impl<A: Allocator + Copy> PhysMem for Sparse<A> {
         let mut done = 0;
         while done < out.len() {
             let here = at + done as u64;
-            let next = (out.len() - done).min((FRAME - here % FRAME) as usize);
+            let next = (out.len() - done).min((FRAME_SIZE - here % FRAME_SIZE) as usize);
             self.read_frame(here, &mut out[done..done + next]);
             done += next;
         }
@@ -141,7 +142,7 @@ impl<A: Allocator + Copy> PhysMem for Sparse<A> {
         let mut done = 0;
         while done < part.len() {
             let here = at + done as u64;
-            let next = (part.len() - done).min((FRAME - here % FRAME) as usize);
+            let next = (part.len() - done).min((FRAME_SIZE - here % FRAME_SIZE) as usize);
             self.write_frame(here, &part[done..done + next]);
             done += next;
         }
@@ -150,7 +151,7 @@ impl<A: Allocator + Copy> PhysMem for Sparse<A> {
     fn zero(&mut self, range: Range<u64>) {
         let mut at = range.start;
         while at < range.end {
-            let next = (range.end - at).min(FRAME - at % FRAME);
+            let next = (range.end - at).min(FRAME_SIZE - at % FRAME_SIZE);
             self.zero_frame(at, next as usize);
             at += next;
         }

@@ -9,6 +9,7 @@ pub mod RegionLemmas
 pub mod WrittenFields
 pub mod WrittenIsRead
 pub mod ParamsLaws
+pub mod TotalLaws
 pub mod Lengths
 pub mod RunLemmas
 pub mod PagingLemmas

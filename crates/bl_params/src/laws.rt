@@ -1,5 +1,5 @@
-//! Laws of the definitions.
-ghost use Rattle.std.specs.Prelude.{◌≡◌, ◌^◌, ◌+◌, ◌<◌, ◌≤◌, ℕ, List, length, take, All};
+//! Laws of the definitions: bytes have one reading or one first fault; page tables.
+ghost use Rattle.std.specs.Prelude.{◌≡◌, ◌⊎◌, ◌^◌, ◌+◌, ◌<◌, ◌≤◌, ℕ, List, length, take, All};
 ghost use Rattle.std.specs.Prelude.{None, Some};
 ghost use Rattle.bl_map.specs.Kinds.{region_end};
 ghost use Rattle.bl_bzimage.specs.declared.setup.Setup.{Setup};
@@ -25,9 +25,11 @@ pub fn written_is_read()
         → IsParams (boot_params setup.header facts) (params_of setup facts) }
 {}
 
-/// Bytes tell one thing or have one first fault, and never both. Want of memory is no fault of the
-/// bytes.
+/// Bytes have exactly one of these: one reading as boot parameters, or one first fault. Want of
+/// memory is no fault of the bytes. This holds for every list of numbers, be they bytes or not.
 pub fn params_are_determined()
+    ensures total { (bytes : List ℕ) → ((params : ParamsFacts) × IsParams bytes params)
+        ⊎ ((fault : ParamFault) × ¬ (fault ≡ NoMemory) × HasFirstParamFault bytes fault) }
     ensures one_reading { (bytes : List ℕ) (p q : ParamsFacts)
         → IsParams bytes p → IsParams bytes q → p ≡ q }
     ensures one_fault { (bytes : List ℕ) (f g : ParamFault) → ¬ (f ≡ NoMemory) → ¬ (g ≡ NoMemory)

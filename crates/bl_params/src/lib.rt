@@ -3,7 +3,6 @@
 
 mod checks;
 mod descriptors;
-mod descriptors64;
 mod facts;
 mod fault;
 mod fields;
@@ -17,8 +16,7 @@ mod reader;
 mod translation;
 mod write;
 
-pub use descriptors::gdt;
-pub use descriptors64::gdt64;
+pub use descriptors::{gdt, gdt64};
 pub use facts::ParamFacts;
 pub use fault::ParamFault;
 pub use fields::{MAX_E820_ENTRIES, PARAMS_SIZE};

@@ -7,7 +7,7 @@ use Rattle.std.specs.declared.ops.Range.{Range}
 use Rattle.bl_mem.specs.Memory.{IsIn}
 use Rattle.bl_plan.specs.Kept.{IsBlocked}
 use Rattle.bl_plan.specs.Permitted.{AllOpen}
-use Rattle.bl_plan.specs.Planned.{AreApartRanges}
+use Rattle.bl_plan.specs.PlannerFacts.{AreApartRanges}
 
 pub ends_ascend : (ranges : List (Range ℕ)) → AreApartRanges ranges
     → IsNonDecreasingBy (λ range. range.end) ranges

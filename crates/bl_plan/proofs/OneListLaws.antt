@@ -5,7 +5,7 @@ use Rattle.std.specs.declared.ops.Range.{Range}
 use Rattle.bl_map.specs.MachineFacts.{MachineFacts, AllUsable}
 use Rattle.bl_mem.specs.Least.{IsLeast, IsGreatest}
 use Rattle.bl_plan.specs.Permitted.{AllOpen, IsPermitted, IsPreferred, HasFixedFault, HasNoRoom}
-use Rattle.bl_plan.specs.Planned.{put_in}
+use Rattle.bl_plan.specs.PlannerFacts.{put_in}
 use Rattle.bl_plan.specs.declared.part.Choice.{Choice}
 use Rattle.bl_plan.specs.declared.part.Choice.TheVariants.{Fixed, Lowest, Highest, Preferred}
 use Rattle.bl_plan.specs.declared.fault.PlanFault.{PlanFault}

@@ -3,7 +3,7 @@ pub mod Protocols
 pub mod Limits
 pub mod Order
 pub mod Permitted
-pub mod Planned
+pub mod PlannerFacts
 pub mod Placed
 pub mod Kept
 pub mod Unusable

@@ -5,7 +5,7 @@ use Rattle.bl_map.specs.MachineFacts.{MachineFacts, AllUsable}
 use Rattle.bl_mem.specs.Least.{IsLeast, IsGreatest}
 use Rattle.bl_plan.specs.Permitted.{AllOpen, IsPermitted, IsPreferred, HasFixedFault, HasNoRoom}
 use Rattle.bl_plan.specs.Permitted.{OrNoMemory}
-use Rattle.bl_plan.specs.Planned.{put_in}
+use Rattle.bl_plan.specs.PlannerFacts.{put_in}
 use Rattle.bl_plan.specs.declared.part.Choice.{Choice}
 use Rattle.bl_plan.specs.declared.part.Choice.TheVariants.{Fixed, Lowest, Highest, Preferred}
 use Rattle.bl_plan.specs.declared.fault.PlanFault.{PlanFault}
@@ -66,7 +66,7 @@ IsSoundChoice (Lowest align low high) = 1 ≤ align
 IsSoundChoice (Highest align low high) = 1 ≤ align
 IsSoundChoice (Preferred at align low high) = 1 ≤ align
 
--- a row of some bytes
+-- a row of some bytes, aligned to one byte at least
 pub record IsRow (row : Row) : Type 0 where
   pub filled : 1 ≤ row.length
   pub choice : IsSoundChoice row.choice

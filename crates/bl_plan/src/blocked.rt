@@ -6,7 +6,7 @@ ghost use Rattle.bl_map.specs.Kinds.{kind_at, AreRuns};
 ghost use Rattle.bl_map.specs.MachineFacts.{AllUsable};
 ghost use Rattle.bl_plan.specs.Kept.{IsBlocked, IsFree};
 ghost use Rattle.bl_plan.specs.Permitted.{AllOpen};
-ghost use Rattle.bl_plan.specs.Planned.{AreApartRanges};
+ghost use Rattle.bl_plan.specs.PlannerFacts.{AreApartRanges};
 
 use bl_map::{FIRST_USABLE, Kind, Machine, Region, USABLE_LIMIT};
 use std::alloc::Allocator;

@@ -17,7 +17,7 @@ pub struct Planner<'m, A: Allocator> {
 }
 
 impl<'m, A: Allocator> Model for Planner<'m, A> {
-    ghost use Rattle.bl_plan.specs.Planned.{PlannerFacts, AreTaken};
+    ghost use Rattle.bl_plan.specs.PlannerFacts.{PlannerFacts, AreTaken};
 
     ghost Value = { PlannerFacts };
 
@@ -27,13 +27,15 @@ impl<'m, A: Allocator> Model for Planner<'m, A> {
 }
 
 impl<'m, A: Allocator> Planner<'m, A> {
-    ghost use Rattle.std.specs.Prelude.{◌≡◌, ◌<◌, [], IfOk, IfErr, OnOk, OnErr};
+    ghost use Rattle.std.specs.Prelude.{◌≡◌, ◌<◌, [], IsOk, IfOk, IfErr, OnOk, OnErr};
     ghost use Rattle.bl_map.specs.MachineFacts.{AllUsable};
     ghost use Rattle.bl_plan.specs.Permitted.{AllOpen, HasFixedFault, OrNoMemory};
-    ghost use Rattle.bl_plan.specs.Planned.{AreTaken, with_taken};
+    ghost use Rattle.bl_plan.specs.PlannerFacts.{AreTaken, with_taken};
 
-    /// A planner of this machine, of which nothing is taken.
+    /// A planner of this machine, of which nothing is taken. It asks for no memory, so it is never
+    /// refused.
     pub fn new(alloc: A, machine: &'m Machine<A>) -> Result<Planner<'m, A>, AllocError>
+        ensures ok { IsOk result }
         ensures new { IfOk result (λ planner.
             planner ≡ record { facts = machine.now; taken = [] }) }
     {

@@ -4,7 +4,7 @@ ghost use Rattle.std.specs.Prelude.{◌≡◌, ℕ, ◌+◌, ◌≤◌, MatchOpt
 ghost use Rattle.bl_mem.specs.Least.{IsLeast, IsGreatest};
 ghost use Rattle.bl_plan.specs.Permitted.{IsAtSide};
 ghost use Rattle.bl_plan.specs.Kept.{IsPermittedIn};
-ghost use Rattle.bl_plan.specs.Planned.{AreApartRanges};
+ghost use Rattle.bl_plan.specs.PlannerFacts.{AreApartRanges};
 
 use crate::blocked::{blocked_stretch, taken_stretch};
 use crate::part::{Side, Window};

@@ -1,6 +1,6 @@
 //! `prepare ENTRY of KERNEL` and `load fill=VV ENTRY of KERNEL`, on the last machine.
 
-use crate::prepared::{LoadedEntry, load_entry, prepare_entry, read_entry};
+use crate::row_entry::{LoadedEntry, load_entry, prepare_entry, read_entry};
 use bl_load::{Handoff, Plan, Registers};
 use bl_mem::PhysMem;
 use bl_plan::{Place, Role};

@@ -3,8 +3,8 @@
 //! fill=VV ENTRY of KERNEL`: what memory holds.
 ghost use Rattle.std.specs.Prelude.{◌+◌, ◌≤◌, length, All, IfSome};
 
-use crate::prepared::{LoadedEntry, load_entry, read_entry};
 use crate::read_image::say_image;
+use crate::row_entry::{LoadedEntry, load_entry, read_entry};
 use crate::sinks::{AMPLE, Series, say_written, sink_over};
 use bl_image::{Image, MemSink, Sink, write_image};
 use bl_refusing::Refusing;

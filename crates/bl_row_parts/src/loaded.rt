@@ -7,14 +7,14 @@ ghost use Rattle.std.specs.Prelude.{◌≡◌, ◌≤◌, length};
 ghost use Rattle.bl_load.specs.Value.{file_count, IsWithinLimits};
 
 use crate::handoff::say_handoff;
-use crate::prepared::{Given, RowEntry, read_entry, read_given};
 use crate::refusal::say_fault;
+use crate::row_entry::{Given, RowEntry, read_entry, read_given};
 use bl_load::{Handoff, load_entry};
 use bl_mem::{PhysMem, SliceMemory, SliceView, Sparse};
 use bl_refusing::Refusing;
 use bl_rows::row::Row;
 
-/// Loads what is given over the heap into memory. Where it is not loaded, why is the answer.
+/// Loads what is given over the heap into memory. If it is refused, the row's answer says why.
 fn load_given<'h, M: PhysMem>(
     row: &mut Row<'_>,
     heap: &'h Refusing,
@@ -99,8 +99,8 @@ fn handed_read<'a>(row: &mut Row<'a>, read: &RowEntry) -> Option<Handoff<&'a Ref
     }
 }
 
-/// What is handed over of the entry of the words that are left, on the last machine. Where that is
-/// nothing, why is the answer.
+/// What is handed over of the entry of the words that are left, on the last machine. If it is
+/// refused, the row's answer says why.
 pub fn handed<'a>(row: &mut Row<'a>) -> Option<Handoff<&'a Refusing>> {
     let read = read_entry(row);
     handed_read(row, &read)

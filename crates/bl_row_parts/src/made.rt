@@ -6,7 +6,7 @@ ghost use Rattle.std.specs.Prelude.{◌≡◌, ◌+◌, ◌≤◌, length, All, 
 mod handover;
 
 use crate::image::{written, written_to_each};
-use crate::prepared::LoadedEntry;
+use crate::row_entry::LoadedEntry;
 use bl_image::Sink;
 use bl_rows::row::Row;
 use handover::made;

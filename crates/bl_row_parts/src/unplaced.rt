@@ -3,8 +3,8 @@ ghost use Rattle.std.specs.Prelude.{◌≡◌, length};
 ghost use Rattle.bl_load.specs.Value.{file_count, IsWithinLimits};
 
 use crate::handoff::role_name;
-use crate::prepared::{Given, RowEntry, read_entry, read_given};
 use crate::refusal::say_fault;
+use crate::row_entry::{Given, RowEntry, read_entry, read_given};
 use bl_load::unplaced;
 use bl_mem::SliceView;
 use bl_plan::{Choice, Row as PartRow};

@@ -6,7 +6,7 @@ use Rattle.std.specs.List.{find, range_with_len}
 use Rattle.std.proofs.lemmas.Bool.{both_ways, cases_Bool, cases_lt, not-false}
 use Rattle.std.proofs.lemmas.Bool.Decides.{nat_tests}
 use Rattle.bl_mem.specs.Least.{IsLeast}
-use Rattle.bl_map.specs.Kinds.{IsNormalMap, kind_at, kind_of, number_or_none}
+use Rattle.bl_map.specs.Kinds.{IsNormalMap, kind_at, kind_of, number_or_zero}
 use Rattle.bl_map.specs.MachineFacts.{AllUsable, IsUsable, IsUsableAmong, MachineFacts}
 use Rattle.bl_map.specs.declared.kind.Kind.{Kind}
 use Rattle.bl_map.specs.declared.kind.Kind.TheVariants.{Usable, Reserved, Acpi, Nvs, Bad}
@@ -135,7 +135,7 @@ none_behind description behind =
 
 -- ---- kinds
 
-of_number : (k : Option Kind) → k ≡ kind_of (number_or_none k)
+of_number : (k : Option Kind) → k ≡ kind_of (number_or_zero k)
 unfolding kind_of
 of_number None = refl
 of_number (Some Usable) = refl
@@ -144,12 +144,12 @@ of_number (Some Acpi) = refl
 of_number (Some Nvs) = refl
 of_number (Some Bad) = refl
 
-pub kind_told : (kind : Option Kind) (number : ℕ) → number_or_none kind ≡ number
+pub kind_told : (kind : Option Kind) (number : ℕ) → number_or_zero kind ≡ number
     → kind_of number ≡ kind
 kind_told kind number same = sym (of_number kind ∙ ap kind_of same)
 
 -- by the runs of a machine and by its regions
 pub kind_is : (kind : Option Kind) (runs regions : List Region) (a : ℕ) → IsNormalMap regions runs
-    → number_or_none kind ≡ kind_at runs a → kind ≡ kind_of (kind_at regions a)
+    → number_or_zero kind ≡ kind_at runs a → kind ≡ kind_of (kind_at regions a)
 kind_is kind runs regions a normal told =
     of_number kind ∙ ap kind_of (told ∙ normal.same_kinds a)

@@ -10,7 +10,7 @@ use Rattle.bl_load.specs.Handover.{Part, Handover}
 use Rattle.bl_load.specs.NamedRegisters.{named_in}
 use Rattle.bl_load.specs.declared.registers.Registers.{Registers}
 use Rattle.bl_say.specs.Says.{hex16}
-use Rattle.bl_say.specs.WalkSays.{hex8, protocol_line}
+use Rattle.bl_say.specs.WalkLines.{hex8, protocol_line}
 
 -- ---- the parts
 
@@ -55,7 +55,7 @@ registers_lines registers = flat_map register_line (named_in registers)
 
 -- ---- the whole
 
--- by the places that parts of a handoff have
+-- of a handoff, which has the places of parts without their bytes
 unfoldable pub handoff_lines : SourceWords → HandoffFacts → List ℕ
 handoff_lines source handoff =
     protocol_line handoff.protocol ++ flat_map (place_line source) handoff.places

@@ -1,5 +1,5 @@
 pub mod Says
-pub mod WalkSays
+pub mod WalkLines
 pub mod EntryNames
 pub mod Sought
 pub mod Segments

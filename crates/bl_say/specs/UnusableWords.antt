@@ -5,7 +5,7 @@ use Rattle.bl_map.specs.Kinds.{kind_name}
 use Rattle.bl_map.specs.Limits.{first_usable}
 use Rattle.bl_map.specs.declared.kind.Kind.{Kind}
 use Rattle.bl_map.specs.declared.kind.Kind.TheVariants.{Usable, Reserved, Acpi, Nvs, Bad}
-use Rattle.bl_say.specs.WalkSays.{hex8}
+use Rattle.bl_say.specs.WalkLines.{hex8}
 
 -- an address between two texts
 unfoldable pub address_words : (before : List ℕ) → ℕ → (behind : List ℕ) → List ℕ

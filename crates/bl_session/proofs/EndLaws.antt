@@ -11,7 +11,7 @@ use Rattle.bl_load.specs.Handover.{Handover}
 use Rattle.bl_load.proofs.HandoverLaws.{one_handover, one_refusal, not_both}
 use Rattle.bl_load.proofs.TotalLaws.{handover_or_refusal}
 use Rattle.bl_session.specs.AttemptResult.{AttemptResult, handed, refused, HasRoomBeside, LacksRoom}
-use Rattle.bl_session.specs.AttemptResult.{HasResult, part_range, OrRefused, AttemptHasResult}
+use Rattle.bl_session.specs.AttemptResult.{HasResult, part_range, UnlessRefused, AttemptHasResult}
 use Rattle.bl_session.specs.AttemptResult.{size_refusal}
 
 -- an entry whose parts leave no room is not handed over
@@ -69,14 +69,14 @@ some_end_in facts value =
 -- a check before one end
 one_behind : (first : Option Refusal) (rest : AttemptResult → Type 0)
     → ((e f : AttemptResult) → rest e → rest f → e ≡ f) → (e f : AttemptResult)
-    → OrRefused first rest e → OrRefused first rest f
+    → UnlessRefused first rest e → UnlessRefused first rest f
     → e ≡ f
 one_behind None rest one e f a b = one e f a b
 one_behind (Some refusal) rest one e f a b = a ∙ sym b
 
 some_behind : (first : Option Refusal) (rest : AttemptResult → Type 0)
     → (end : AttemptResult) × rest end
-    → (end : AttemptResult) × OrRefused first rest end
+    → (end : AttemptResult) × UnlessRefused first rest end
 some_behind None rest some = some
 some_behind (Some refusal) rest some = (refused refusal, refl)
 
@@ -85,12 +85,12 @@ pub one_end : (facts : MachineFacts) (sizes : List (Option ℕ)) (fault : Option
     → AttemptHasResult facts sizes fault value f → e ≡ f
 one_end facts sizes fault value =
     one_behind (size_refusal facts sizes)
-    (OrRefused (option_map FileFault fault) (HasResult facts value))
+    (UnlessRefused (option_map FileFault fault) (HasResult facts value))
     (one_behind (option_map FileFault fault) (HasResult facts value) (one_end_in facts value))
 
 pub some_end : (facts : MachineFacts) (sizes : List (Option ℕ)) (fault : Option ℕ)
     (value : EntryValue) → (end : AttemptResult) × AttemptHasResult facts sizes fault value end
 some_end facts sizes fault value =
     some_behind (size_refusal facts sizes)
-    (OrRefused (option_map FileFault fault) (HasResult facts value))
+    (UnlessRefused (option_map FileFault fault) (HasResult facts value))
     (some_behind (option_map FileFault fault) (HasResult facts value) (some_end_in facts value))

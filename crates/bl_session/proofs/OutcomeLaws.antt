@@ -10,7 +10,7 @@ use Rattle.bl_load.specs.Parts.{IsHandover}
 use Rattle.bl_load.proofs.HandoverLaws.{one_handover}
 use Rattle.bl_session.specs.declared.words.RefusedEntry.{RefusedEntry}
 use Rattle.bl_session.specs.AttemptResult.{AttemptResult, handed, refused, HasResult}
-use Rattle.bl_session.specs.AttemptResult.{AttemptHasResult, OrRefused, size_refusal}
+use Rattle.bl_session.specs.AttemptResult.{AttemptHasResult, UnlessRefused, size_refusal}
 use Rattle.bl_session.specs.Boot.{BootFacts, State, handed_over, sizes_of}
 use Rattle.bl_session.specs.Outcome.{File, value_in, faulty_in, IsFirst, IsOutcome}
 use Rattle.bl_session.proofs.EndLaws.{one_end}
@@ -19,7 +19,7 @@ use Rattle.bl_session.proofs.BootLaws.{one_goes}
 -- ---- what is handed over
 
 handed_behind : (first : Option Refusal) (rest : AttemptResult → Type 0) (h : Handover)
-    → OrRefused first rest (handed h) → rest (handed h)
+    → UnlessRefused first rest (handed h) → rest (handed h)
 handed_behind None rest h is = is
 handed_behind (Some r) rest h is = absurd cc
 
@@ -29,7 +29,7 @@ handed_value : (facts : MachineFacts) (sizes : List (Option ℕ)) (faulty : Opti
 handed_value facts sizes faulty value h is =
     (handed_behind (option_map FileFault faulty) (HasResult facts value) h
     (handed_behind (size_refusal facts sizes)
-    (OrRefused (option_map FileFault faulty) (HasResult facts value)) h is)).0
+    (UnlessRefused (option_map FileFault faulty) (HasResult facts value)) h is)).0
 
 first_handed : (facts : BootFacts) (files : List File) (faults : ℕ → Option ℕ) (attempts : List ℕ)
     (before earlier : List RefusedEntry) (entry : ℕ) (h : Handover)

@@ -69,14 +69,14 @@ HasResult facts value (refused refusal) =
 -- ---- a whole attempt
 
 -- if the check refuses, that is the result; else the rest tells it
-abbrev pub OrRefused : Option Refusal → (AttemptResult → Type 0) → AttemptResult → Type 0
-OrRefused None rest result = rest result
-OrRefused (Some refusal) rest result = result ≡ refused refusal
+abbrev pub UnlessRefused : Option Refusal → (AttemptResult → Type 0) → AttemptResult → Type 0
+UnlessRefused None rest result = rest result
+UnlessRefused (Some refusal) rest result = result ≡ refused refusal
 
 -- the result of an attempt with these sizes of its files, the place of a file of which a fault
 -- came, or None, and this value of its entry
 abbrev pub AttemptHasResult :
     MachineFacts → List (Option ℕ) → Option ℕ → EntryValue → AttemptResult → Type 0
 AttemptHasResult facts sizes faulty value =
-    OrRefused (size_refusal facts sizes)
-    (OrRefused (option_map FileFault faulty) (HasResult facts value))
+    UnlessRefused (size_refusal facts sizes)
+    (UnlessRefused (option_map FileFault faulty) (HasResult facts value))

@@ -1,6 +1,6 @@
 -- Where a session stands, by its fields and by what memory holds.
 use Rattle.std.specs.Prelude.{ℕ, ◌+◌, ◌≤◌, Bool, true, false, List, drop, All, Option, None}
-use Rattle.std.specs.Prelude.{Some, Result, Ok, Err, codes}
+use Rattle.std.specs.Prelude.{Some, Result, Ok, Err}
 use Rattle.std.specs.Borrow.{Bor}
 use Rattle.bl_map.specs.MachineFacts.{MachineFacts}
 use Rattle.bl_load.specs.HandoffFacts.{HandoffFacts}
@@ -24,16 +24,6 @@ use Rattle.bl_session.specs.Boot.{handed_over, none_left, out_of_memory}
 -- what memory of these bytes hands over
 abbrev pub handover_held : List ℕ → HandoffFacts → Handover
 handover_held bytes handoff = handover_in bytes handoff.protocol handoff.registers handoff.places
-
--- the number of why nothing is handed over
-abbrev pub boot_fault_number : {A : Type 0} → BootFault A → ℕ
-boot_fault_number (NoEntryLeft refused) = 40
-boot_fault_number NoMemory = 41
-
--- how it prints
-abbrev pub boot_fault_text : {A : Type 0} → BootFault A → List ℕ
-boot_fault_text (NoEntryLeft refused) = codes "no entry is left"
-boot_fault_text NoMemory = codes "no memory"
 
 -- where a session stands; what memory holds is told beside
 pub data PhaseFacts : Type 0 where

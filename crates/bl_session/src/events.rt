@@ -1,5 +1,6 @@
 //! One event of an attempt that waits.
-ghost use Rattle.std.specs.Prelude.{◌≡◌, ◌≢◌, ◌==◌, ℕ, List, true, IfOk, OnErr, MatchBool, length};
+ghost use Rattle.std.specs.Prelude.{◌≡◌, ◌≢◌, ◌==◌, ℕ, List, true, false, IfOk, OnErr, Ok, None};
+ghost use Rattle.std.specs.Prelude.{MatchBool, length};
 ghost use Rattle.bl_mem.specs.Memory.{HasRoom, KeepsMemory};
 ghost use Rattle.bl_stage.specs.Ranges.{IsSameOutside};
 ghost use Rattle.bl_stage.specs.PieceStates.{piece_states};
@@ -68,6 +69,8 @@ fn take_piece<M: PhysMem, A: Allocator + Copy>(
         (state_in boot.now (M.bytes memory.new) (phase_by running.new ended))
         (M.bytes memory.old) (M.bytes memory.new))
         (M.bytes memory.new ≡ M.bytes memory.old)) }
+    ensures unchanged { is_taken (running_in boot.now (M.bytes memory.old) running.old)
+        (piece ticket bytes.now) ≡ false → (result ≡ Ok None) × (running.new ≡ running.old) }
     ensures phase { IfOk result (λ ended.
         IsPhaseKept boot.now.machine.now boot.now.menu.now (phase_by running.new ended)) }
     ensures err { OnErr result
@@ -109,6 +112,8 @@ fn take_fault<M: PhysMem, A: Allocator + Copy>(
         (state_in boot.now (M.bytes memory.new) (phase_by running.new ended))
         (M.bytes memory.old) (M.bytes memory.new))
         (M.bytes memory.new ≡ M.bytes memory.old)) }
+    ensures unchanged { is_taken (running_in boot.now (M.bytes memory.old) running.old)
+        (fault ticket) ≡ false → (result ≡ Ok None) × (running.new ≡ running.old) }
     ensures phase { IfOk result (λ ended.
         IsPhaseKept boot.now.machine.now boot.now.menu.now (phase_by running.new ended)) }
     ensures err { OnErr result
@@ -146,6 +151,8 @@ pub fn take<M: PhysMem, A: Allocator + Copy>(
         (state_in boot.now (M.bytes memory.new) (phase_by running.new ended))
         (M.bytes memory.old) (M.bytes memory.new))
         (M.bytes memory.new ≡ M.bytes memory.old)) }
+    ensures unchanged { is_taken (running_in boot.now (M.bytes memory.old) running.old)
+        (event_facts event.entry) ≡ false → (result ≡ Ok None) × (running.new ≡ running.old) }
     ensures phase { IfOk result (λ ended.
         IsPhaseKept boot.now.machine.now boot.now.menu.now (phase_by running.new ended)) }
     ensures err { OnErr result

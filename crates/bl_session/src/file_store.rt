@@ -64,7 +64,9 @@ impl<A: Allocator + Copy> FileStore<A> {
 }
 
 impl<A: Allocator + Copy> Store for FileStore<A> {
-    ghost use Rattle.std.specs.Prelude.{◌≡◌, length, IfOk, OnOk, OnErr, option_map};
+    ghost use Rattle.std.specs.Prelude.{◌≡◌, length, Ok, IfOk, OnOk, OnErr, option_map};
+    ghost use Rattle.std.specs.Prelude.{slice_index_or};
+    ghost use Rattle.bl_session.specs.Outcome.{missing, size_of};
     ghost use Rattle.bl_session.specs.Stores.{event_of, next_event, after_submission, after_answer};
 
     type Alloc = A;
@@ -75,7 +77,9 @@ impl<A: Allocator + Copy> Store for FileStore<A> {
 
     ghost left = { λ s. length s.pending };
 
-    fn size(&self, file: u32) -> Result<Option<u64>, AllocError> {
+    fn size(&self, file: u32) -> Result<Option<u64>, AllocError>
+        ensures { result ≡ Ok (size_of (slice_index_or self.now.files file missing)) }
+    {
         Ok(self.ledger.size(file))
     }
 

@@ -1,6 +1,6 @@
 //! A boot that owns its machine and its menu.
-ghost use Rattle.std.specs.Prelude.{◌≡◌, ◌≢◌, ℕ, List, true, IfOk, IfSome, MatchBool, length};
-ghost use Rattle.std.specs.Prelude.{option_map};
+ghost use Rattle.std.specs.Prelude.{◌≡◌, ◌≢◌, ℕ, List, true, false, IfOk, IfSome, MatchBool};
+ghost use Rattle.std.specs.Prelude.{length, option_map};
 ghost use Rattle.bl_mem.specs.Memory.{HasRoom, KeepsMemory};
 ghost use Rattle.bl_session.specs.Boot.{StepsOrFails, StartsOrFails, is_taken, attempt_of};
 ghost use Rattle.bl_session.specs.Boot as boot;
@@ -95,7 +95,8 @@ impl<A: Allocator + Copy> OwnedSession<A> {
         ensures memory { self.old.phase ≡ not_started
             → IsMemoryIn self.old.boot.machine.pool (state_at (M.bytes memory.new) self.new.phase)
             (M.bytes memory.old) (M.bytes memory.new) }
-        ensures same { self.old.phase ≢ not_started → M.bytes memory.new ≡ M.bytes memory.old }
+        ensures unchanged { self.old.phase ≢ not_started
+            → (self.new ≡ self.old) × (M.bytes memory.new ≡ M.bytes memory.old) }
         ensures room { self.old.phase ≡ not_started → is_waiting self.new.phase ≡ true
             → HasRoom (M.room memory.new)
             self.old.boot.machine.pool.start self.old.boot.machine.pool.end }
@@ -127,6 +128,8 @@ impl<A: Allocator + Copy> OwnedSession<A> {
             (IsMemoryIn self.old.boot.machine.pool (state_at (M.bytes memory.new) self.new.phase)
             (M.bytes memory.old) (M.bytes memory.new))
             (M.bytes memory.new ≡ M.bytes memory.old) }
+        ensures unchanged { is_taken (state_at (M.bytes memory.old) self.old.phase)
+            (event_facts event.entry) ≡ false → self.new ≡ self.old }
         ensures room { is_waiting self.new.phase ≡ true → HasRoom (M.room memory.new)
             self.old.boot.machine.pool.start self.old.boot.machine.pool.end }
         ensures kept { KeepsMemory M.lender M.bytes M.room memory.old memory.new }

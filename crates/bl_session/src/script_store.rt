@@ -99,7 +99,9 @@ impl<A: Allocator + Copy> ScriptStore<A> {
 }
 
 impl<A: Allocator + Copy> Store for ScriptStore<A> {
-    ghost use Rattle.std.specs.Prelude.{◌≡◌, length, IfOk, OnOk, OnErr, option_map};
+    ghost use Rattle.std.specs.Prelude.{◌≡◌, length, Ok, IfOk, OnOk, OnErr, option_map};
+    ghost use Rattle.std.specs.Prelude.{slice_index_or};
+    ghost use Rattle.bl_session.specs.Outcome.{missing, size_of};
     ghost use Rattle.bl_session.specs.Stores.{event_of};
     ghost use Rattle.bl_session.specs.Scripts.{script_event, after_script_submission};
     ghost use Rattle.bl_session.specs.Scripts.{after_script_answer};
@@ -112,7 +114,9 @@ impl<A: Allocator + Copy> Store for ScriptStore<A> {
 
     ghost left = { λ s. length s.pending };
 
-    fn size(&self, file: u32) -> Result<Option<u64>, AllocError> {
+    fn size(&self, file: u32) -> Result<Option<u64>, AllocError>
+        ensures { result ≡ Ok (size_of (slice_index_or self.now.files file missing)) }
+    {
         Ok(size_in(&self.files, file))
     }
 

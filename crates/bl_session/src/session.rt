@@ -1,5 +1,6 @@
 //! A boot that takes one event after the other.
-ghost use Rattle.std.specs.Prelude.{◌≡◌, ◌≢◌, true, IfOk, IfSome, MatchBool, length, option_map};
+ghost use Rattle.std.specs.Prelude.{◌≡◌, ◌≢◌, true, false, IfOk, IfSome, MatchBool, length};
+ghost use Rattle.std.specs.Prelude.{option_map};
 ghost use Rattle.bl_mem.specs.Memory.{HasRoom, KeepsMemory};
 ghost use Rattle.bl_session.specs.Boot.{StepsOrFails, StartsOrFails, is_taken, attempt_of};
 ghost use Rattle.bl_session.specs.Boot as boot;
@@ -84,7 +85,8 @@ impl<'a, A: Allocator + Copy> Session<'a, A> {
         ensures memory { self.old.phase ≡ not_started
             → IsMemoryIn self.old.boot.machine.pool (state_at (M.bytes memory.new) self.new.phase)
             (M.bytes memory.old) (M.bytes memory.new) }
-        ensures same { self.old.phase ≢ not_started → M.bytes memory.new ≡ M.bytes memory.old }
+        ensures unchanged { self.old.phase ≢ not_started
+            → (self.new ≡ self.old) × (M.bytes memory.new ≡ M.bytes memory.old) }
         ensures room { self.old.phase ≡ not_started → is_waiting self.new.phase ≡ true
             → HasRoom (M.room memory.new)
             self.old.boot.machine.pool.start self.old.boot.machine.pool.end }
@@ -120,6 +122,8 @@ impl<'a, A: Allocator + Copy> Session<'a, A> {
             (IsMemoryIn self.old.boot.machine.pool (state_at (M.bytes memory.new) self.new.phase)
             (M.bytes memory.old) (M.bytes memory.new))
             (M.bytes memory.new ≡ M.bytes memory.old) }
+        ensures unchanged { is_taken (state_at (M.bytes memory.old) self.old.phase)
+            (event_facts event.entry) ≡ false → self.new ≡ self.old }
         ensures room { is_waiting self.new.phase ≡ true → HasRoom (M.room memory.new)
             self.old.boot.machine.pool.start self.old.boot.machine.pool.end }
         ensures kept { KeepsMemory M.lender M.bytes M.room memory.old memory.new }

@@ -48,8 +48,9 @@ impl<'a, A: Allocator + Copy> SliceStore<'a, A> {
 
 impl<'a, A: Allocator + Copy> Store for SliceStore<'a, A> {
     ghost use Rattle.std.specs.Prelude.{◌≡◌, ◌↔◌, ◌+◌, ◌≤◌, [], ◌∷◌, ◌++◌, length, option_map};
-    ghost use Rattle.std.specs.Prelude.{IfOk, OnOk, OnErr, IfSome, IsNone};
+    ghost use Rattle.std.specs.Prelude.{IsOk, IfOk, OnOk, OnErr, IfSome, IsNone, slice_index_or};
     ghost use Rattle.bl_session.specs.History.{Item, submitted, IsItemOf};
+    ghost use Rattle.bl_session.specs.Outcome.{missing, size_of};
     ghost use Rattle.bl_session.specs.Stores.{event_of, next_place};
     ghost use Rattle.bl_session.specs.Ledger.{answer_at, ledger_asked, ledger_answered};
 
@@ -61,7 +62,11 @@ impl<'a, A: Allocator + Copy> Store for SliceStore<'a, A> {
 
     ghost left = { λ s. length s.ledger.pending };
 
-    fn size(&self, file: u32) -> Result<Option<u64>, AllocError> {
+    fn size(&self, file: u32) -> Result<Option<u64>, AllocError>
+        ensures told { IfOk result (λ size.
+            size ≡ size_of (slice_index_or self.now.ledger.files file missing)) }
+        ensures ok { IsOk result }
+    {
         Ok(self.ledger.size(file))
     }
 

@@ -1,5 +1,6 @@
 //! The phase of a session after its start, and after an event.
-ghost use Rattle.std.specs.Prelude.{◌≡◌, ◌≢◌, [], true, IfOk, OnErr, OnOk, MatchBool, length};
+ghost use Rattle.std.specs.Prelude.{◌≡◌, ◌≢◌, [], true, false, IfOk, OnErr, OnOk, MatchBool};
+ghost use Rattle.std.specs.Prelude.{length};
 ghost use Rattle.bl_mem.specs.Memory.{HasRoom, KeepsMemory};
 ghost use Rattle.bl_stage.specs.Ranges.{IsSameOutside};
 ghost use Rattle.bl_session.specs.Boot.{is_taken, attempt_of, Begins, StepsOrFails, StartsOrFails};
@@ -41,6 +42,8 @@ pub fn advance<M: PhysMem, A: Allocator + Copy>(
         (IsMemoryIn boot.now.machine.now.pool (state_in boot.now (M.bytes memory.new) phase.new)
         (M.bytes memory.old) (M.bytes memory.new))
         (M.bytes memory.new ≡ M.bytes memory.old) }
+    ensures unchanged { is_taken (state_in boot.now (M.bytes memory.old) phase.old)
+        (event_facts event.entry) ≡ false → phase.new ≡ phase.old }
     ensures stands { IsPhaseKept boot.now.machine.now boot.now.menu.now phase.new }
     ensures kept { KeepsMemory M.lender M.bytes M.room memory.old memory.new }
 {
@@ -119,7 +122,7 @@ pub fn begin_first<M: PhysMem, A: Allocator + Copy>(
         → IsMemoryIn boot.now.machine.now.pool (state_in boot.now (M.bytes memory.new) phase.new)
         (M.bytes memory.old) (M.bytes memory.new) }
     ensures same { phase_facts boot.now.menu.now.attempts phase.old ≢ not_started
-        → M.bytes memory.new ≡ M.bytes memory.old }
+        → (phase.new ≡ phase.old) × (M.bytes memory.new ≡ M.bytes memory.old) }
     ensures room { phase_facts boot.now.menu.now.attempts phase.old ≡ not_started
         → is_waiting (phase_facts boot.now.menu.now.attempts phase.new) ≡ true
         → HasRoom (M.room memory.new)

@@ -98,7 +98,7 @@ fn answer<M: PhysMem, S: Store, A: Allocator + Copy>(
         }
         Some(Completion::Fault(ticket)) => Ok(hear(session, memory, Event::Fault(ticket))),
         None => {
-            let ticket = session.lost_ticket();
+            let ticket = session.first_missing_ticket();
             Ok(hear(session, memory, Event::Fault(ticket)))
         }
     }

@@ -1,4 +1,4 @@
-//! Tickets, events, refusals, outcomes.
+//! Tickets, requests, events, progress, refusals, outcomes.
 ghost use Rattle.std.specs.Prelude.{◌≡◌};
 
 use bl_load::{Handoff, Refusal};
@@ -24,7 +24,7 @@ pub struct Request {
     pub len: u32,
 }
 
-/// What happens at once: one piece came, or a fault in its place.
+/// What happens in one step: a piece came, or a fault in its place.
 #[derive(Clone, Copy, Debug)]
 pub enum Event<'a> {
     Piece(Ticket, &'a [u8]),
@@ -88,7 +88,7 @@ pub enum BootFault<A: Allocator> {
 }
 
 impl<A: Allocator> BootFault<A> {
-    ghost use Rattle.bl_session.specs.Phases.{boot_fault_number};
+    ghost use Rattle.bl_session.specs.BootFaults.{boot_fault_number};
 
     /// The fault's number, 40 or 41.
     pub fn number(&self) -> u32
@@ -116,7 +116,7 @@ impl<A: Allocator> fmt::Debug for BootFault<A> {
 /// As `no entry is left` or `no memory`; each refusal prints by itself.
 impl<A: Allocator> fmt::Display for BootFault<A> {
     ghost use Rattle.std.specs.Prelude.{Some};
-    ghost use Rattle.bl_session.specs.Phases.{boot_fault_text};
+    ghost use Rattle.bl_session.specs.BootFaults.{boot_fault_text};
 
     ghost output = { λ fault. Some (boot_fault_text fault) };
 

@@ -28,8 +28,8 @@ no_cell = record { holder = None; shut = false }
 abbrev pub cell_at : List Cell → ℕ → Cell
 cell_at cells place = slice_index_or cells place no_cell
 
--- the cells name each of these frames as the holder's, by its place in their list, and no other
--- frame
+-- the cell of each of these frames has its place in the list as its holder, and no other cell has
+-- a holder
 pub record AreHeld (base : ℕ) (frames : List ℕ) (cells : List Cell) : Type 0 where
   pub low : (k : ℕ) → k < length frames → base ≤ slice_index frames k
   pub high : (k : ℕ) → k < length frames → slice_index frames k < base + length cells
@@ -78,5 +78,5 @@ pub record MadeWay (base count : ℕ) (ranges : List (Range ℕ))
   pub size : length new ≡ length old
 
 -- memory has these frames, if there are any
-abbrev pub HasFrames : List ℕ → ℕ → ℕ → Type 0
-HasFrames bytes base count = 0 < count → 4096 * (base + count) ≤ length bytes
+abbrev pub AreFramesInMemory : List ℕ → ℕ → ℕ → Type 0
+AreFramesInMemory bytes base count = 0 < count → 4096 * (base + count) ≤ length bytes

@@ -6,7 +6,7 @@ ghost use Rattle.bl_stage.specs.Cells.{is_open_cell, cell_at};
 ghost use Rattle.bl_stage.specs.Ranges.{meets};
 
 use crate::cells::Cells;
-use bl_map::FRAME;
+use bl_map::FRAME_SIZE;
 use std::alloc::Allocator;
 use std::ops::Range;
 
@@ -30,8 +30,8 @@ fn shut_range<A: Allocator>(cells: &mut Cells<A>, base: u64, range: &Range<u64>)
         ≡ ((cell_at cells.old j).shut || not (is_beside range.now (4096 * (base + j)))) }
 {
     if range.start < range.end {
-        let first = (range.start / FRAME).max(base) - base;
-        let behind = ((range.end - 1) / FRAME + 1).min(base + cells.len() as u64);
+        let first = (range.start / FRAME_SIZE).max(base) - base;
+        let behind = ((range.end - 1) / FRAME_SIZE + 1).min(base + cells.len() as u64);
         for at in first as usize..(behind.max(base) - base) as usize {
             cells.set_shut(at, true);
         }

@@ -6,13 +6,13 @@ ghost use Rattle.std.specs.Bool.{OnTrue, OnFalse};
 ghost use Rattle.bl_map.specs.Room.{open_among};
 ghost use Rattle.bl_mem.specs.Memory.{overwrite, HasRoom, KeepsMemory};
 ghost use Rattle.bl_stage.specs.Cells.{is_open_cell, is_spare_cell, cell_at, AreHeld, Moved};
-ghost use Rattle.bl_stage.specs.Cells.{MadeWay, HasFrames};
+ghost use Rattle.bl_stage.specs.Cells.{MadeWay, AreFramesInMemory};
 ghost use Rattle.bl_stage.specs.CellGroups.{no_holder};
 
 use crate::cell::Cell;
 use crate::cells::Cells;
 use crate::marks::{count_open, mark};
-use bl_map::FRAME;
+use bl_map::FRAME_SIZE;
 use bl_mem::PhysMem;
 use std::alloc::Allocator;
 use std::ops::Range;
@@ -42,8 +42,8 @@ fn copy_frame<M: PhysMem>(
     to: usize,
     buffer: &mut [u8; 4096],
 )
-    requires from { HasFrames (M.bytes memory.old) base (from + 1) }
-    requires to { HasFrames (M.bytes memory.old) base (to + 1) }
+    requires from { AreFramesInMemory (M.bytes memory.old) base (from + 1) }
+    requires to { AreFramesInMemory (M.bytes memory.old) base (to + 1) }
     requires room { HasRoom (M.room memory.old) (4096 * (base + to)) (4096 * (base + to) + 4096) }
     ensures after { M.bytes memory.new
         ≡ overwrite (M.bytes memory.old) (4096 * (base + to))
@@ -51,8 +51,8 @@ fn copy_frame<M: PhysMem>(
     ensures kept { KeepsMemory M.lender M.bytes M.room memory.old memory.new }
 {
     let _size = memory.size();
-    memory.read(FRAME * (base + from as u64), buffer);
-    memory.write(FRAME * (base + to as u64), buffer);
+    memory.read(FRAME_SIZE * (base + from as u64), buffer);
+    memory.write(FRAME_SIZE * (base + to as u64), buffer);
 }
 
 /// Tells the tables that the frame of a slot stands in the cell `to`, and no more in `from`.
@@ -98,7 +98,7 @@ fn move_out<A: Allocator, M: PhysMem>(
     requires held { AreHeld base frames.old cells.old }
     requires enough { length frames.old ≤ count_by is_open_cell cells.old }
     requires small { 4096 * (base + length cells.old) < 2 ^ 64 }
-    requires inside { HasFrames (M.bytes memory.old) base (length cells.old) }
+    requires inside { AreFramesInMemory (M.bytes memory.old) base (length cells.old) }
     requires room { HasRoom (M.room memory.old) (4096 * base) (4096 * (base + length cells.old)) }
     ensures moved { Moved base (M.bytes memory.old) (M.bytes memory.new) frames.old frames.new
         cells.old cells.new (length cells.old) }
@@ -129,7 +129,7 @@ pub fn make_way<A: Allocator, M: PhysMem>(
 ) -> bool
     requires held { AreHeld base frames.old cells.old }
     requires small { 4096 * (base + length cells.old) < 2 ^ 64 }
-    requires inside { HasFrames (M.bytes memory.old) base (length cells.old) }
+    requires inside { AreFramesInMemory (M.bytes memory.old) base (length cells.old) }
     requires room { HasRoom (M.room memory.old) (4096 * base) (4096 * (base + length cells.old)) }
     ensures exact { IsTrue result
         ↔ (length frames.old ≤ open_among ranges.now (4096 * base) (length cells.old)) }

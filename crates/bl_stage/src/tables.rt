@@ -7,7 +7,7 @@ ghost use Rattle.bl_map.specs.Room.{frames_for};
 
 use crate::cell::Cell;
 use crate::cells::Cells;
-use bl_map::{FRAME, frames_of};
+use bl_map::{FRAME_SIZE, frames_of};
 use std::alloc::{AllocError, Allocator};
 
 /// How many frames these files need, unless more than `most`.
@@ -87,6 +87,6 @@ pub fn numbers_of<A: Allocator>(alloc: A, addresses: &[u64]) -> Result<Vec<u64, 
 {
     addresses
         .iter()
-        .map(|address| *address / FRAME)
+        .map(|address| *address / FRAME_SIZE)
         .collect(alloc)
 }

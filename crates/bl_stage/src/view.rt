@@ -3,7 +3,7 @@ ghost use Rattle.std.specs.Prelude.{◌≡◌, ℕ, ◌+◌, ◌-◌, ◌*◌, �
 ghost use Rattle.std.specs.Prelude.{slice_range, slice_index, IsTrue, ◌↔◌};
 ghost use Rattle.bl_stage.specs.Staged.{staged, AreInside};
 
-use bl_map::FRAME;
+use bl_map::FRAME_SIZE;
 use bl_mem::{ByteView, PhysMem};
 
 /// A file in scattered frames of memory. It borrows the memory, so that none lives across a
@@ -58,8 +58,8 @@ impl<M: PhysMem> FrameView<'_, M> {
             at (at + length out.old) }
     {
         let _size = self.memory.size();
-        let frame = self.frames[(at / FRAME) as usize];
-        self.memory.read(FRAME * frame + at % FRAME, out);
+        let frame = self.frames[(at / FRAME_SIZE) as usize];
+        self.memory.read(FRAME_SIZE * frame + at % FRAME_SIZE, out);
     }
 }
 
@@ -77,9 +77,11 @@ impl<M: PhysMem> ByteView for FrameView<'_, M> {
         while done < out.len() {
             let here = at + done as u64;
             let rest = out.len() - done;
-            let most = rest / FRAME as usize + 2;
-            let frames = adjoining(self.frames, (here / FRAME) as usize, most);
-            let next = rest.min(frames.saturating_mul(FRAME as usize) - (here % FRAME) as usize);
+            let most = rest / FRAME_SIZE as usize + 2;
+            let frames = adjoining(self.frames, (here / FRAME_SIZE) as usize, most);
+            let next = rest.min(
+                frames.saturating_mul(FRAME_SIZE as usize) - (here % FRAME_SIZE) as usize,
+            );
             self.read_stretch(here, &mut out[done..done + next]);
             done += next;
         }

@@ -95,6 +95,7 @@ module _ (facts : MachineFacts) (value : EntryValue) (kernel : KernelFacts) (pla
       information = is_information;
       spelling =
           record {
+            short = size_is facts value kernel places machine offered lines is_kernel placed apart;
             exact = refl;
             name = name_is;
             facts =

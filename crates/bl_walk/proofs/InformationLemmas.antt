@@ -15,7 +15,7 @@ use Rattle.bl_mem.proofs.WordLaws.{length-u32_bytes, u32_again}
 use Rattle.bl_mbi.specs.InformationFacts.{InformationFacts, AreBytes, IsModule}
 use Rattle.bl_mbi.specs.Spelling.{info_spelling, tags}
 use Rattle.bl_plan.specs.Placed.{ArePlaced, place_range}
-use Rattle.bl_plan.specs.Planned.{put_in}
+use Rattle.bl_plan.specs.PlannerFacts.{put_in}
 use Rattle.bl_plan.specs.Roles.{role_number}
 use Rattle.bl_plan.specs.declared.part.Place.{Place}
 use Rattle.bl_plan.specs.declared.part.Role.{Role}

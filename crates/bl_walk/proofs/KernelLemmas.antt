@@ -10,7 +10,7 @@ use Rattle.std.specs.declared.ops.Range.{Range}
 use Rattle.bl_map.specs.MachineFacts.{MachineFacts}
 use Rattle.bl_plan.specs.Order.{put, in_order, in_order_among, place_key}
 use Rattle.bl_plan.specs.Placed.{ArePlaced, place_range}
-use Rattle.bl_plan.specs.Planned.{put_in}
+use Rattle.bl_plan.specs.PlannerFacts.{put_in}
 use Rattle.bl_plan.specs.Roles.{role_number}
 use Rattle.bl_plan.specs.declared.part.Place.{Place}
 use Rattle.bl_plan.specs.declared.part.Role.{Role}

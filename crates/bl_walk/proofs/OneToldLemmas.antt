@@ -53,19 +53,15 @@ same_information h a b p q =
     ∙ ap (bytes_in h.parts (information_in h.registers))
     (same_size h p.size q.size p.total_size q.total_size) ∙ q.whole)
 
-spelling_read : (bytes : List ℕ) (info : InfoFacts) → IsSpelling bytes info → length bytes < 2 ^ 32
-    → info_of bytes ≡ Ok info
-spelling_read bytes info is fits =
+spelling_read : (bytes : List ℕ) (info : InfoFacts) → IsSpelling bytes info → info_of bytes ≡ Ok info
+spelling_read bytes info is =
     let e = is.exact in
-    rw e (spelled_is_read info.name info.facts is.name is.facts (rw (← e) fits))
+    rw e (spelled_is_read info.name info.facts is.name is.facts (rw (← e) is.short))
 
 pub says_read : (h : Handover) (info : InfoFacts) (says : InformationSays h info)
     → info_of says.bytes ≡ Ok info
 says_read h info says =
-    let is = says.information in
-    let small = is.total_size.small in
-    let long = length_in h.parts (information_in h.registers) is.size says.bytes is.whole in
-    spelling_read says.bytes info says.spelling (omega arith)
+    spelling_read says.bytes info says.spelling
 
 pub same_info : (h : Handover) (a b : InfoFacts) → InformationSays h a → InformationSays h b → a ≡ b
 same_info h a b p q =

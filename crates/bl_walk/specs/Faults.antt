@@ -1,4 +1,4 @@
--- Why an image shows a kernel nothing. Own.
+-- Why a walk of an image is refused. Own.
 use Rattle.std.specs.Prelude.{◌≡◌, ◌-◌, ◌*◌, ◌<◌, ◌≤◌, ℕ, List, length, Some, None, Err, true}
 use Rattle.std.specs.Prelude.{false}
 use Rattle.std.specs.List.{Contains}
@@ -82,7 +82,7 @@ pub data HasBadState (h : Handover) : Type 0 where
       ≡ Some (page * page_size))
       → HasBadState h
 
--- a fault stands; want of memory says nothing of the image
+-- this fault stands; want of memory says nothing of the image
 abbrev pub HasWalkFault : Handover → WalkFault → Type 0
 HasWalkFault h OutsideImage = IsOutside h
 HasWalkFault h BadInfo = HasBadInfo h

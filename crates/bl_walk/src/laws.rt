@@ -1,4 +1,4 @@
-//! Laws of the definitions.
+//! Laws of the definitions: what is seen in an image is the entry.
 ghost use Rattle.std.specs.Prelude.{◌≡◌, ◌+◌, ◌<◌, ◌≤◌, ℕ, List, length, AllPairs, Some};
 ghost use Rattle.std.specs.Prelude.{slice_index_or};
 ghost use Rattle.bl_map.specs.MachineFacts.{MachineFacts, AreMachineFacts};

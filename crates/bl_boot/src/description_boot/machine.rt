@@ -1,7 +1,7 @@
 //! The machine of a description.
 ghost use Rattle.std.specs.Prelude.{IfOk, IfErr};
 ghost use Rattle.bl_desc.specs.Views.{view};
-ghost use Rattle.bl_boot.specs.Ends.{IsMachineOf};
+ghost use Rattle.bl_boot.specs.DescribedMachine.{IsMachineOf};
 ghost use Rattle.bl_boot.specs.Kept.{IsMachineFault};
 
 use crate::description_boot::boot_end::EndFault;

@@ -2,7 +2,8 @@
 ghost use Rattle.std.specs.Prelude.{◌≡◌, ◌≢◌, ℕ, List, ◌+◌, ◌<◌, ◌≤◌, ◌^◌, ◌++◌, length};
 ghost use Rattle.bl_boot.specs.Ends.{HasInlineFiles, names_sought, names_fetched};
 ghost use Rattle.bl_boot.specs.Ends.{IsBooted, IsRefused};
-ghost use Rattle.bl_boot.specs.Ends.{IsBadDescription, IsBroken};
+ghost use Rattle.bl_boot.specs.DescribedMachine.{IsBadDescription};
+ghost use Rattle.bl_boot.specs.Ends.{IsCutShort};
 ghost use Rattle.bl_boot.specs.Found.{AsksFirst};
 ghost use Rattle.bl_boot.specs.Kept.{BootEnds, HasFaults, HasAsked};
 ghost use Rattle.bl_boot.specs.Attempted.{most_names};
@@ -105,7 +106,7 @@ pub fn boot<A: Allocator + Copy, F: Files, S: Sink, B: Allocator>(
         (record { files = files.new; sink = S.contents out.new; said = say.new.items }) }
     ensures described { result ≡ 2 → IsBadDescription desc.now × (files.new ≡ files.old)
         × (S.contents out.new ≡ S.contents out.old) × (say.new.items ≡ say.old.items) }
-    ensures device { result ≡ 3 → IsBroken F.answers F.faults desc.now
+    ensures device { result ≡ 3 → IsCutShort F.answers F.faults desc.now
         (record { files = files.old; sink = S.contents out.old; said = say.old.items })
         (record { files = files.new; sink = S.contents out.new; said = say.new.items }) }
     ensures memory { result ≡ 4 →

@@ -7,7 +7,7 @@ ghost use Rattle.bl_desc.specs.Described.{described};
 ghost use Rattle.bl_desc.specs.Views.{HasMenu, view};
 ghost use Rattle.bl_say.specs.declared.told.blame.Blame.TheVariants.{BadMachine};
 ghost use Rattle.bl_say.specs.BlameHints.{blame_lines};
-ghost use Rattle.bl_boot.specs.Ends.{IsMachineOf};
+ghost use Rattle.bl_boot.specs.DescribedMachine.{IsMachineOf};
 ghost use Rattle.bl_boot.specs.ExplainKept.{IsMachineBlame, IsReadBlame, SaysLines};
 
 use crate::explanation::fault::ExplainFault;

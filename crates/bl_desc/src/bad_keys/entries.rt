@@ -3,7 +3,7 @@ ghost use Rattle.std.specs.Prelude.{◌≡◌, true, MatchOption};
 ghost use Rattle.toml.specs.View.{view, table_view, items_view};
 ghost use Rattle.bl_desc.specs.BadKeys.{BreaksOne};
 ghost use Rattle.bl_desc.specs.BadKeysKept as tests;
-ghost use Rattle.bl_desc.specs.WholeKept as kept;
+ghost use Rattle.bl_desc.specs.DescriptionKept as kept;
 
 use crate::bad_key::{Allowed, BadKey, KeyFault, KeySet, TablePlace};
 use crate::bad_keys::items::{Listed, bad_among, items_at};
@@ -28,9 +28,9 @@ fn protocol_of(table: &Table) -> Option<Protocol>
 /// The title, the kernel, the line.
 fn bad_texts<'a>(table: &'a Table, place: TablePlace) -> Option<BadKey<'a>>
     ensures { MatchOption result
-        (tests.all_pass kept.front_rules (table_view table.now) ≡ true)
+        (tests.all_pass kept.common_rules (table_view table.now) ≡ true)
         (λ bad. (bad.table ≡ place)
-        × BreaksOne kept.front_rules (table_view table.now) bad.fault) }
+        × BreaksOne kept.common_rules (table_view table.now) bad.fault) }
 {
     let title = must("title", Allowed::Title);
     let kernel = must("kernel", Allowed::AnyText);

@@ -5,7 +5,7 @@ ghost use Rattle.toml.specs.Data.{get};
 ghost use Rattle.toml.specs.View.{view};
 ghost use Rattle.bl_desc.specs.Described.{has_file, names_differ};
 ghost use Rattle.bl_desc.specs.BadKeysKept as tests;
-ghost use Rattle.bl_desc.specs.WholeKept as kept;
+ghost use Rattle.bl_desc.specs.DescriptionKept as kept;
 
 use crate::keys::at_key;
 use std::alloc::{AllocError, Global};

@@ -5,7 +5,7 @@ ghost use Rattle.toml.specs.Data.{get_member};
 ghost use Rattle.bl_desc.specs.Described.{described_in};
 ghost use Rattle.bl_desc.specs.BadKeys.{BreaksOne, IsBadKey};
 ghost use Rattle.bl_desc.specs.BadKeysKept as tests;
-ghost use Rattle.bl_desc.specs.WholeKept as kept;
+ghost use Rattle.bl_desc.specs.DescriptionKept as kept;
 
 use crate::bad_key::{Allowed, BadKey, KeyFault, KeySet, TablePlace};
 use crate::bad_keys::entries::bad_among_entries;

@@ -12,7 +12,7 @@ ghost use Rattle.bl_load.specs.Parts.{content_of, payload_of};
 ghost use Rattle.bl_bzimage.specs.Setup.{IsSetup};
 ghost use Rattle.bl_load.specs.PlanFacts.{content_by};
 ghost use Rattle.bl_mem.specs.Files.{text_of_file};
-ghost use Rattle.bl_load.specs.Loadable.{lengths_of, content_length, IsThere, StaysInFiles};
+ghost use Rattle.bl_load.specs.Loadable.{lengths_of, content_length, IsInFiles, IsLeanContent};
 ghost use Rattle.bl_load.specs.PlacingKept.{IsRowed, EndsLow};
 ghost use Rattle.bl_load.specs.ReadKept.{TablesFit};
 ghost use Rattle.bl_load.specs.EntryFilesKept.{texts_in, value_of_files};
@@ -24,7 +24,7 @@ use crate::linux::rows::initrd_size;
 use crate::plan::Content;
 use crate::protocols::descriptors_of;
 use bl_bzimage::Setup;
-use bl_map::{FRAME, Machine};
+use bl_map::{FRAME_SIZE, Machine};
 use bl_mem::{ByteView, Bytes};
 use bl_params::{ParamFacts, page_tables, write_params};
 use bl_plan::{Place, Protocol, Role};
@@ -93,7 +93,7 @@ fn page_tables_at<A: Allocator>(alloc: A, places: &[Place]) -> Result<Bytes<A>, 
         ≡ paging (addresses.address_of role.PageTables 0 places.now)) }
 {
     let base = address_of(Role::PageTables, 0, places) as u64;
-    let mut bytes = Vec::with_capacity(alloc, 6 * FRAME as usize)?;
+    let mut bytes = Vec::with_capacity(alloc, 6 * FRAME_SIZE as usize)?;
     let mut frame = [0u8; 4096];
     for index in 0..6 {
         page_tables(base, index, &mut frame);
@@ -107,9 +107,9 @@ fn initrd_content<A: Allocator, V: ByteView>(files: &[V]) -> Content<A>
     requires some { 1 ≤ length (initrd_file (map V.bytes files.now)) }
     ensures content { content_by (map V.bytes files.now) result
         ≡ initrd_file (map V.bytes files.now) }
-    ensures there { IsThere (lengths_of (map V.bytes files.now)) result }
+    ensures there { IsInFiles (lengths_of (map V.bytes files.now)) result }
     ensures length { content_length result ≡ length (initrd_file (map V.bytes files.now)) }
-    ensures lean { StaysInFiles role.Initrd result }
+    ensures lean { IsLeanContent role.Initrd result }
 {
     Content::File {
         file: 1,
@@ -124,9 +124,9 @@ fn payload_content<A: Allocator, V: ByteView>(files: &[V], setup: &Setup) -> Con
     requires setup { IsSetup (text_of_file (map V.bytes files.now) 0) setup.now }
     ensures content { content_by (map V.bytes files.now) result
         ≡ payload_of (text_of_file (map V.bytes files.now) 0) setup.now }
-    ensures there { IsThere (lengths_of (map V.bytes files.now)) result }
+    ensures there { IsInFiles (lengths_of (map V.bytes files.now)) result }
     ensures length { content_length result ≡ setup.now.payload_size }
-    ensures lean { StaysInFiles role.Kernel result }
+    ensures lean { IsLeanContent role.Kernel result }
 {
     Content::File {
         file: 0,
@@ -154,9 +154,9 @@ pub fn linux_content<A: Allocator + Copy, V: ByteView>(
     ensures content { IfOk result (λ content. content_by (texts_in entry.now) content
         ≡ content_of entry.now.machine.now (value_of_files entry.now)
         (linux setup.now) places.now place.now.role place.now.index) }
-    ensures there { IfOk result (λ content. IsThere (lengths_of (texts_in entry.now)) content) }
+    ensures there { IfOk result (λ content. IsInFiles (lengths_of (texts_in entry.now)) content) }
     ensures short { IfOk result (λ content. content_length content ≤ place.now.length) }
-    ensures lean { IfOk result (StaysInFiles place.now.role) }
+    ensures lean { IfOk result (IsLeanContent place.now.role) }
 {
     match place.role {
         Role::Kernel => Ok(payload_content(entry.files, setup)),

@@ -8,7 +8,7 @@ ghost use Rattle.bl_map.specs.Limits.{high_start};
 
 use crate::lengths::told_length;
 use bl_bzimage::Setup;
-use bl_map::{FIRST_USABLE, FRAME, HIGH_START, MAX_SIZE};
+use bl_map::{FIRST_USABLE, FRAME_SIZE, HIGH_START, MAX_SIZE};
 use bl_mem::ByteView;
 use bl_params::TABLES_SIZE;
 use bl_plan::{Choice, Protocol, Role, Row};
@@ -73,9 +73,9 @@ fn frame_row(role: Role, high: u64) -> Row
     Row {
         role,
         index: 0,
-        length: FRAME,
+        length: FRAME_SIZE,
         choice: Choice::Lowest {
-            align: FRAME,
+            align: FRAME_SIZE,
             low: FIRST_USABLE,
             high,
         },
@@ -127,7 +127,7 @@ fn push_initrd_row<A: Allocator>(
             index: 0,
             length: told_length(size),
             choice: Choice::Highest {
-                align: FRAME,
+                align: FRAME_SIZE,
                 low: FIRST_USABLE,
                 high: setup.initrd_addr_max as u64 + 1,
             },

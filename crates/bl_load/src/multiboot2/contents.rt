@@ -9,7 +9,7 @@ ghost use Rattle.bl_load.specs.Parts as parts;
 ghost use Rattle.bl_load.specs.Parts.{content_of};
 ghost use Rattle.bl_load.specs.PlanFacts.{content_by};
 ghost use Rattle.bl_mem.specs.Files.{text_of_file};
-ghost use Rattle.bl_load.specs.Loadable.{lengths_of, content_length, IsThere, StaysInFiles};
+ghost use Rattle.bl_load.specs.Loadable.{lengths_of, content_length, IsInFiles, IsLeanContent};
 ghost use Rattle.bl_load.specs.EntryFilesKept.{texts_in, value_of_files};
 ghost use Rattle.bl_load.specs.PlacingKept.{HasKernelLength, IsRowed, EndsLow, ModulesEndLow};
 
@@ -37,9 +37,10 @@ fn kernel_content<A: Allocator + Copy, B: Allocator, V: ByteView>(
     ensures content { IfOk result (λ content. content_by (map V.bytes files.now) content
         ≡ parts.kernel_content (text_of_file (map V.bytes files.now) 0)
         (kernel_by kernel.now).segments kernel.now.relocation place.now.index) }
-    ensures there { IfOk result (λ content. IsThere (lengths_of (map V.bytes files.now)) content) }
+    ensures there { IfOk result
+        (λ content. IsInFiles (lengths_of (map V.bytes files.now)) content) }
     ensures short { IfOk result (λ content. content_length content ≤ place.now.length) }
-    ensures lean { IfOk result (StaysInFiles Role.Kernel) }
+    ensures lean { IfOk result (IsLeanContent Role.Kernel) }
 {
     let segments = kernel.executable.segments();
     match kernel.relocation {
@@ -65,9 +66,9 @@ fn module_content<A: Allocator, V: ByteView>(files: &[V], place: &Place) -> Cont
         ≡ module_length (module_file (map V.bytes files.now) place.now.index) }
     ensures content { content_by (map V.bytes files.now) result
         ≡ module_file (map V.bytes files.now) place.now.index }
-    ensures there { IsThere (lengths_of (map V.bytes files.now)) result }
+    ensures there { IsInFiles (lengths_of (map V.bytes files.now)) result }
     ensures short { content_length result ≤ place.now.length }
-    ensures lean { StaysInFiles role.Module result }
+    ensures lean { IsLeanContent role.Module result }
 {
     let file = place.index as usize + 1;
     Content::File {
@@ -97,9 +98,9 @@ pub fn multiboot2_content<A: Allocator + Copy, B: Allocator, V: ByteView>(
     ensures content { IfOk result (λ content. content_by (texts_in entry.now) content
         ≡ content_of entry.now.machine.now (value_of_files entry.now)
         (multiboot2 (kernel_by kernel.now)) places.now place.now.role place.now.index) }
-    ensures there { IfOk result (λ content. IsThere (lengths_of (texts_in entry.now)) content) }
+    ensures there { IfOk result (λ content. IsInFiles (lengths_of (texts_in entry.now)) content) }
     ensures short { IfOk result (λ content. content_length content ≤ place.now.length) }
-    ensures lean { IfOk result (StaysInFiles place.now.role) }
+    ensures lean { IfOk result (IsLeanContent place.now.role) }
 {
     match place.role {
         Role::Kernel => kernel_content(alloc, kernel, entry.files, place),

@@ -14,7 +14,7 @@ use crate::entry_files::EntryFiles;
 use crate::lengths::told_length;
 use crate::multiboot2::kernel::Kernel;
 use crate::multiboot2::rows::kernel::push_kernel_rows;
-use bl_map::{FIRST_USABLE, FRAME, HIGH_START, MAX_SIZE, whole_frames};
+use bl_map::{FIRST_USABLE, FRAME_SIZE, HIGH_START, MAX_SIZE, round_up_to_frames};
 use bl_mbi::{module_size, size_by_lengths};
 use bl_mem::{ByteView, Bytes};
 use bl_plan::{Choice, Role, Row};
@@ -41,7 +41,7 @@ fn push_module_rows<A: Allocator, B: Allocator, V: ByteView>(
             index: index as u32,
             length: told_length(files[index + 1].len()),
             choice: Choice::Lowest {
-                align: FRAME,
+                align: FRAME_SIZE,
                 low: HIGH_START,
                 high: MAX_SIZE,
             },
@@ -93,9 +93,9 @@ fn information_row<A: Allocator, B: Allocator, V: ByteView>(
     Row {
         role: Role::Information,
         index: 0,
-        length: whole_frames(length),
+        length: round_up_to_frames(length),
         choice: Choice::Lowest {
-            align: FRAME,
+            align: FRAME_SIZE,
             low: FIRST_USABLE,
             high: MAX_SIZE,
         },

@@ -7,7 +7,7 @@ ghost use Rattle.bl_mem.specs.Frames.{frame_numbered, IsHeld, frame_byte, IsWrit
 ghost use Rattle.bl_mem.specs.Kept.{slot_of, owes, IsKeptIn, IsPutAt};
 
 use super::{Frames, WIDTH};
-use crate::frame::{FRAME, Frame};
+use crate::frame::{FRAME_SIZE, Frame};
 use crate::opening::frame_around;
 use crate::put::{put_at, put_bytes};
 use std::alloc::Allocator;
@@ -60,8 +60,8 @@ impl<A: Allocator + Copy> Frames<A> {
         requires plain { (a : ℕ) → a / 4096 ≡ at / 4096 → frame_byte self.old a ≡ value }
         ensures { IsWritten self.old self.new at part.now }
     {
-        let whole = frame_around(value, (at % FRAME) as usize, part);
-        self.store(at / FRAME, &whole);
+        let whole = frame_around(value, (at % FRAME_SIZE) as usize, part);
+        self.store(at / FRAME_SIZE, &whole);
     }
 
     /// Writes bytes of one frame.
@@ -71,13 +71,18 @@ impl<A: Allocator + Copy> Frames<A> {
         ensures { IsWritten self.old self.new at part.now }
     {
         if part.len() == WIDTH {
-            self.store(at / FRAME, part);
+            self.store(at / FRAME_SIZE, part);
             return;
         }
-        match self.frame(at / FRAME) {
+        match self.frame(at / FRAME_SIZE) {
             Frame::Bare => {}
             Frame::Plain(value) => self.store_around(at, value, part),
-            Frame::Kept(slot) => self.rewrite(at / FRAME, slot, (at % FRAME) as usize, part),
+            Frame::Kept(slot) => self.rewrite(
+                at / FRAME_SIZE,
+                slot,
+                (at % FRAME_SIZE) as usize,
+                part,
+            ),
             Frame::Wiped(_) => self.store_around(at, 0, part),
         }
     }
@@ -98,7 +103,7 @@ impl<A: Allocator + Copy> Frames<A> {
         ensures { IsWritten self.old self.new at (replicate count 0) }
     {
         if count == WIDTH {
-            self.clear(at / FRAME);
+            self.clear(at / FRAME_SIZE);
         } else {
             self.write(at, &[0; WIDTH][..count]);
         }

@@ -3,7 +3,7 @@ ghost use Rattle.std.specs.Prelude.{◌≡◌, ◌+◌, ◌≤◌, IfOk, IfErr, 
 ghost use Rattle.bl_map.specs.Limits.{usable_limit};
 ghost use Rattle.bl_plan.specs.Permitted.{IsPermitted, IsAtSide, IsPreferred, HasNoRoom};
 ghost use Rattle.bl_plan.specs.Permitted.{OrNoMemory};
-ghost use Rattle.bl_plan.specs.Planned.{with_taken};
+ghost use Rattle.bl_plan.specs.PlannerFacts.{with_taken};
 ghost use Rattle.bl_plan.specs.Placed.{IsRow, IsChosen, HasChoiceFault};
 
 use crate::fault::PlanFault;

@@ -4,7 +4,7 @@ ghost use Rattle.std.specs.Prelude.{IsTrue, All, ◌≤◌};
 ghost use Rattle.bl_map.specs.Room.{AreAscending};
 
 use crate::row::Row;
-use bl_map::{frames_in, frames_of, open_frames, whole_frames};
+use bl_map::{frames_in, frames_of, open_frames, round_up_to_frames};
 use std::ops::Range;
 
 /// Whether the range ends where each later one begins, or before.
@@ -51,7 +51,7 @@ fn whole_in_word(row: &mut Row<'_>) -> u64 {
         row.refuse();
         return 0;
     }
-    whole_frames(length)
+    round_up_to_frames(length)
 }
 
 /// The count, hexadecimal.

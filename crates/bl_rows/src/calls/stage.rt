@@ -8,7 +8,7 @@ ghost use Rattle.bl_map.specs.Room.{frames_for};
 
 use crate::calls::staging::{fault_text, make_steps};
 use crate::row::Row;
-use bl_map::{FRAME, Machine, frames_of};
+use bl_map::{FRAME_SIZE, Machine, frames_of};
 use bl_mem::{Flat, PhysMem, Sparse};
 use bl_refusing::Refusing;
 use bl_stage::{Stage, StageFault};
@@ -52,7 +52,7 @@ fn are_frames(pool: &Range<u64>, frames: &[u64]) -> bool
     ensures inside { IsTrue result
         → All (λ frame. (pool.now.start ≤ frame) × (frame < pool.now.end)) frames.now }
 {
-    frames.iter().all(|frame| frame % FRAME == 0 && pool.start <= *frame && *frame < pool.end)
+    frames.iter().all(|frame| frame % FRAME_SIZE == 0 && pool.start <= *frame && *frame < pool.end)
 }
 
 /// The stage over the heap, in frames that the row names.

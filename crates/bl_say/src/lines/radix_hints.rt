@@ -3,7 +3,7 @@ ghost use Rattle.std.specs.Prelude.{◌≡◌, ◌++◌, OnOk, IfOk};
 ghost use Rattle.bl_say.specs.RadixHints as hints;
 ghost use Rattle.bl_say.specs.Hints as lines;
 
-use bl_map::{FRAME, MAX_SIZE, MIN_SIZE};
+use bl_map::{FRAME_SIZE, MAX_SIZE, MIN_SIZE};
 use std::alloc::{AllocError, Allocator};
 use std::ops::Range;
 
@@ -33,13 +33,13 @@ fn is_size(n: u64) -> bool
     if MAX_SIZE < n {
         return false;
     }
-    n % FRAME == 0
+    n % FRAME_SIZE == 0
 }
 
 fn is_unaligned(n: u64) -> bool
     ensures { result ≡ lines.is_unaligned n }
 {
-    n % FRAME != 0
+    n % FRAME_SIZE != 0
 }
 
 fn is_pool_end(size: u64, n: u64) -> bool

@@ -4,14 +4,14 @@ ghost use Rattle.bl_map.specs.Kinds.{region_end};
 ghost use Rattle.bl_say.specs.Hints as hints;
 ghost use Rattle.bl_say.specs.Hints.{region_hint, region_hint_at};
 
-use bl_map::{FRAME, Region};
+use bl_map::{FRAME_SIZE, Region};
 use std::alloc::{AllocError, Allocator};
 
 /// Whether the region begins within a frame.
 fn begins_in_frame(region: &Region) -> bool
     ensures { result ≡ hints.is_unaligned region.now.base }
 {
-    region.base % FRAME != 0
+    region.base % FRAME_SIZE != 0
 }
 
 /// Whether the region ends within a frame.
@@ -19,7 +19,7 @@ fn begins_in_frame(region: &Region) -> bool
 fn ends_in_frame(region: &Region) -> bool
     ensures { result ≡ hints.is_unaligned (region_end region.now) }
 {
-    (region.base % FRAME + region.length % FRAME) % FRAME != 0
+    (region.base % FRAME_SIZE + region.length % FRAME_SIZE) % FRAME_SIZE != 0
 }
 
 fn say_begins<A: Allocator + Copy>(out: &mut Vec<u8, A>, index: u64) -> Result<(), AllocError>

@@ -2,8 +2,8 @@
 ghost use Rattle.std.specs.Prelude.{◌≡◌, ◌++◌, OnOk, OnErr};
 ghost use Rattle.std.specs.List.{flat_map};
 ghost use Rattle.bl_walk.specs.Shown.{RunsEndLow};
-ghost use Rattle.bl_say.specs.WalkSays as says;
-ghost use Rattle.bl_say.specs.WalkSays.{kernel_line, module_line};
+ghost use Rattle.bl_say.specs.WalkLines as says;
+ghost use Rattle.bl_say.specs.WalkLines.{kernel_line, module_line};
 
 use crate::lines::walk::runs::say_runs;
 use bl_load::Protocol;
@@ -15,7 +15,7 @@ mod runs;
 
 /// Appends a text as a line has it: its length, and its bytes in hexadecimal digits if there are
 /// any.
-#[tactic(auto, unfolding(crate::specs::WalkSays::text_word))]
+#[tactic(auto, unfolding(crate::specs::WalkLines::text_word))]
 fn say_text<A: Allocator + Copy>(out: &mut Vec<u8, A>, text: &[u8]) -> Result<(), AllocError>
     ensures { OnOk result (out.new.items ≡ out.old.items ++ says.text_word text.now) }
 {
@@ -120,7 +120,7 @@ fn say_file<A: Allocator + Copy>(
     out: &mut Vec<u8, A>,
     file: &SeenFile<'_>,
 ) -> Result<(), AllocError>
-    ensures { OnOk result (out.new.items ≡ out.old.items ++ says.file_line file.now) }
+    ensures { OnOk result (out.new.items ≡ out.old.items ++ says.ramdisk_line file.now) }
 {
     let alloc = *out.allocator();
     let address = file.address;

@@ -9,7 +9,7 @@ use crate::cells::Cells;
 use crate::fault::StageFault;
 use crate::stage::Stage;
 use crate::tables::{first_frames, frames_within, hold_all, numbers_of, starts_of};
-use bl_map::{FRAME, Machine, frames_in};
+use bl_map::{FRAME_SIZE, Machine, frames_in};
 use std::alloc::Allocator;
 use std::ops::Range;
 
@@ -34,7 +34,7 @@ impl<A: Allocator + Copy> Stage<A> {
         ensures ok { IfOk result (λ stage. stage ≡ empty_stage pool sizes.now frames.items) }
         ensures err { IfErr result (λ fault. fault ≡ StageFault.NoMemory) }
     {
-        let base = pool.start / FRAME;
+        let base = pool.start / FRAME_SIZE;
         let mut cells = Cells::empty(alloc, frames_in(&pool) as usize)?;
         hold_all(&mut cells, base, &frames);
         let waiting = frames.len();
@@ -92,7 +92,7 @@ impl<A: Allocator + Copy> Stage<A> {
         let Some(all) = frames_within(sizes, frames_in(&pool)) else {
             return Err(StageFault::NoPool);
         };
-        let frames = first_frames(alloc, pool.start / FRAME, all)?;
+        let frames = first_frames(alloc, pool.start / FRAME_SIZE, all)?;
         Stage::begin_in(alloc, pool, sizes, frames)
     }
 }

@@ -8,7 +8,7 @@ ghost use Rattle.bl_stage.specs.PieceStates.{piece_states, put_piece_state};
 ghost use Rattle.bl_stage.specs.Ranges.{IsSameOutside};
 
 use crate::stage::Stage;
-use bl_map::{FRAME, frames_of};
+use bl_map::{FRAME_SIZE, frames_of};
 use bl_mem::PhysMem;
 use std::alloc::Allocator;
 
@@ -40,7 +40,7 @@ impl<A: Allocator> Stage<A> {
         if index as u64 >= frames_of(size) {
             return None;
         }
-        if len as u64 != (size - FRAME * index as u64).min(FRAME) {
+        if len as u64 != (size - FRAME_SIZE * index as u64).min(FRAME_SIZE) {
             return None;
         }
         Some((self.starts[file as usize] + index as u64) as usize)
@@ -53,7 +53,7 @@ impl<A: Allocator> Stage<A> {
         ensures low { self.now.pool.start ≤ result }
         ensures high { result + 4096 ≤ self.now.pool.end }
     {
-        FRAME * self.frames[slot]
+        FRAME_SIZE * self.frames[slot]
     }
 
     /// Takes piece `index` of a file, and stores the first of right length that comes. A piece

@@ -1,5 +1,8 @@
-use Rattle.bl_boot.proofs.ConvertLaws.{said_alike, not_refused, not_walked}
+use Rattle.bl_boot.proofs.ConvertLaws.{one_handover, said_alike, not_refused, not_walked}
 use Rattle.bl_boot.proofs.laws.converted_images_are_walked_alike.Goals as goal
+
+pub returns-clause-handover : goal.returns-clause-handover
+returns-clause-handover c = λ image converted done. one_handover image converted done
 
 pub returns-clause-said : goal.returns-clause-said
 returns-clause-said c = λ image converted a b done one two.

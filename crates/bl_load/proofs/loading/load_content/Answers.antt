@@ -3,7 +3,7 @@ use Rattle.std.proofs.Common.{AllPairs}
 use Rattle.bl_mem.specs.Files.{IsBeside}
 use Rattle.bl_mem.proofs.Overwrites.{beside_write}
 use Rattle.bl_load.specs.Blocks.{span_of}
-use Rattle.bl_load.specs.Loadable.{lengths_of, content_length, IsCopied, SegmentsAscend}
+use Rattle.bl_load.specs.Loadable.{lengths_of, content_length, IsCopyable, SegmentsAscend}
 use Rattle.bl_load.proofs.HeldLemmas.{within_texts, length_at}
 use Rattle.bl_load.proofs.loading.load_content.Goals as goal
 
@@ -36,7 +36,7 @@ load_block-requires-clause-file g c =
     let segments = c.in-Block.segments.items in
     let lengths = lengths_of texts in
     let there : (file < length lengths) × (1 ≤ length segments)
-    × All (IsCopied (slice_index lengths file)) segments × AllPairs SegmentsAscend segments =
+    × All (IsCopyable (slice_index lengths file)) segments × AllPairs SegmentsAscend segments =
     rw c.in-Block.is at c.requires.there in
     within_texts texts file there.0
 
@@ -47,10 +47,10 @@ load_block-requires-clause-copied g c =
     let segments = c.in-Block.segments.items in
     let lengths = lengths_of texts in
     let there : (file < length lengths) × (1 ≤ length segments)
-    × All (IsCopied (slice_index lengths file)) segments × AllPairs SegmentsAscend segments =
+    × All (IsCopyable (slice_index lengths file)) segments × AllPairs SegmentsAscend segments =
     rw c.in-Block.is at c.requires.there in
     rw c.as_slice-in-Block.ensures.value
-    (subst (λ (n : ℕ). All (IsCopied n) segments) (length_at texts file) there.2)
+    (subst (λ (n : ℕ). All (IsCopyable n) segments) (length_at texts file) there.2)
 
 -- the block is as long as the content
 block_length : (g : _) (c : goal.After-as_slice-in-Block g)

@@ -9,7 +9,7 @@ use Rattle.bl_load.specs.Handover.{Part, part_at, filled}
 use Rattle.bl_load.specs.Parts.{part_from}
 use Rattle.bl_load.specs.Place.{planned_place}
 use Rattle.bl_load.specs.PlanFacts.{part_by}
-use Rattle.bl_load.specs.Loadable.{lengths_of, IsBacked, StaysInFiles}
+use Rattle.bl_load.specs.Loadable.{lengths_of, IsBacked, IsLeanContent}
 use Rattle.bl_load.specs.EntryFilesKept.{texts_in, value_of_files}
 use Rattle.bl_load.proofs.parts.parts_at.Goals as goal
 
@@ -30,7 +30,7 @@ loop-place-preserved g c =
     c.args.places.now in
     let by : PlannedPart g.row.A.Denot → Part = part_by texts in
     let stays : PlannedPart g.row.A.Denot → Type 0 =
-    λ part. StaysInFiles part.place.role part.content in
+    λ part. IsLeanContent part.place.role part.content in
     let place_in : PlannedPart g.row.A.Denot → Place = planned_place in
     let k = c.loop-place.place-index in
     let all = c.args.sorted.now in

@@ -1,6 +1,6 @@
 use Rattle.std.proofs.Common.{arith, ap, refl, ◌∙◌, ◌<◌, length}
 use Rattle.std.proofs.lemmas.Result.{err_from_is_err_and}
-use Rattle.bl_plan.specs.Planned.{PlannerFacts}
+use Rattle.bl_plan.specs.PlannerFacts.{PlannerFacts}
 use Rattle.bl_plan.specs.declared.fault.PlanFault.TheVariants.{NotUsable, Overlap, NoRoom}
 use Rattle.bl_load.proofs.UnplacedLemmas.{placed_step, unplaced_step, unplaced_here}
 use Rattle.bl_load.proofs.searching.first_unplaced.Goals as goal

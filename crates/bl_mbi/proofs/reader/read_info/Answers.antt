@@ -6,8 +6,8 @@ use Rattle.bl_mbi.proofs.ReadLaws.{are_bytes, spelling_by, accepted_by}
 use Rattle.bl_mbi.proofs.reader.read_info.Goals as goal
 
 pub returns-in_err-rest-clause-accepts : goal.returns-in_err-rest-clause-accepts
-returns-in_err-rest-clause-accepts g c = λ info is fits.
-    accepted_by c.from_residual.result c.args.bytes.now info (search rules) is fits
+returns-in_err-rest-clause-accepts g c = λ info is.
+    accepted_by c.from_residual.result c.args.bytes.now info (search rules) is
 
 pub returns-clause-spelled : goal.returns-clause-spelled
 returns-clause-spelled g c =
@@ -17,7 +17,7 @@ returns-clause-spelled g c =
     (sym c.in_ok-rest.ensures.tags) c.tags_of.ensures)
 
 pub returns-clause-accepts : goal.returns-clause-accepts
-returns-clause-accepts g c = λ info is fits.
+returns-clause-accepts g c = λ info is.
     accepted_by c.tags_of.result c.args.bytes.now info
     (subst (λ (read : Result InfoFacts InfoFault). MatchesReading (λ info. info) c.tags_of.result read)
-    (sym c.in_ok-rest.ensures.tags) c.tags_of.ensures) is fits
+    (sym c.in_ok-rest.ensures.tags) c.tags_of.ensures) is

@@ -4,15 +4,15 @@ ghost use Rattle.std.specs.List.{flat_map};
 ghost use Rattle.bl_map.specs.Kinds.{region_end};
 ghost use Rattle.bl_map.specs.Limits.{region_limit};
 ghost use Rattle.bl_say.specs.Says.{hex16};
-ghost use Rattle.bl_say.specs.WalkSays as says;
-ghost use Rattle.bl_say.specs.WalkSays.{seen_run_line};
+ghost use Rattle.bl_say.specs.WalkLines as says;
+ghost use Rattle.bl_say.specs.WalkLines.{seen_run_line};
 
 use bl_map::Region;
 use std::alloc::{AllocError, Allocator};
 
 /// Appends the start of a run.
 fn say_start<A: Allocator + Copy>(out: &mut Vec<u8, A>, start: u64) -> Result<(), AllocError>
-    ensures { OnOk result (out.new.items ≡ out.old.items ++ says.run_start start) }
+    ensures { OnOk result (out.new.items ≡ out.old.items ++ says.run_front start) }
 {
     let alloc = *out.allocator();
     let line = format!(in alloc; "map {start:016x} ")?;

@@ -155,3 +155,12 @@ returns-clause-err g c =
     let new = g.M.PhysMem.bytes c.settle.new.memory in
     outside_taken c.args.boot.now.machine.now.pool old mid new c.settle.result (search rules)
     c.settle.ensures.err
+
+pub returns-clause-unchanged : goal.returns-clause-unchanged
+returns-clause-unchanged g c = λ not_taken.
+    let w = c.args.running.now in
+    let wanted =
+    wanted_stored (g.M.PhysMem.bytes c.args.memory.now) w.stage w.earlier.items c.args.ticket
+    c.args.bytes.now c.is_of.result c.put-answer.result c.is_of.ensures c.if-not-is_of.false
+    c.put-answer.ensures.answer c.if-not-is_stored.ensures in
+    absurd cc

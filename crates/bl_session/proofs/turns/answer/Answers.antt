@@ -183,6 +183,6 @@ returns-in-None-clause-left g c = λ is.
     let before = bytes c.args.memory.now in
     absurd
     (lost c.args.session.now.boot c.args.session.now.phase c.hear-in-None.new.session.phase
-    before (bytes c.hear-in-None.new.memory) c.lost_ticket-ticket.result c.hear-in-None.result
-    c.requires.waiting (c.lost_ticket-ticket.ensures before) c.hear-in-None.ensures.step
+    before (bytes c.hear-in-None.new.memory) c.first_missing_ticket-ticket.result c.hear-in-None.result
+    c.requires.waiting (c.first_missing_ticket-ticket.ensures before) c.hear-in-None.ensures.step
     c.hear-in-None.ensures.progress is)

@@ -2,7 +2,7 @@ use Rattle.std.proofs.Common.{◌≡◌, ◌∙◌, true, map, take, rules, sym,
 use Rattle.std.specs.Str.{bytes_eq}
 use Rattle.std.proofs.lemmas.Map.Text.{is_eq-slice_cmp}
 use Rattle.bl_desc.specs.Described.{has_file, names_differ}
-use Rattle.bl_desc.specs.WholeKept.{named_file, text_or_none}
+use Rattle.bl_desc.specs.DescriptionKept.{named_file, text_or_none}
 use Rattle.bl_desc.proofs.NameLemmas.{differ_more, has_more}
 use Rattle.bl_desc.proofs.SameNameLemmas.{first_values}
 use Rattle.bl_desc.proofs.bad_keys.same_names.same_name.Goals as goal

@@ -3,7 +3,7 @@ use Rattle.std.specs.BTreeSet as sorted
 use Rattle.std.specs.Cmp.Lexicographic.{slice_cmp}
 use Rattle.std.specs.Ordering.{nat_cmp}
 use Rattle.bl_desc.specs.Described.{has_file, names_differ}
-use Rattle.bl_desc.specs.WholeKept.{named_file}
+use Rattle.bl_desc.specs.DescriptionKept.{named_file}
 use Rattle.bl_desc.proofs.bad_keys.same_names.same_name.Given as goal
 
 -- the set has the names of the files so far, which differ

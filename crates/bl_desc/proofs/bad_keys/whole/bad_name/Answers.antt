@@ -1,5 +1,5 @@
 use Rattle.toml.specs.View.{table_view}
-use Rattle.bl_desc.specs.WholeKept.{IsSameName}
+use Rattle.bl_desc.specs.DescriptionKept.{IsSameName}
 use Rattle.bl_desc.proofs.SameNameLemmas.{same_name_fault}
 use Rattle.bl_desc.proofs.bad_keys.whole.bad_name.Goals as goal
 

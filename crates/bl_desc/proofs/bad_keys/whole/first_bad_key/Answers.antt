@@ -1,5 +1,5 @@
 use Rattle.toml.specs.View.{table_view}
-use Rattle.bl_desc.specs.WholeKept.{IsEachFileNamed}
+use Rattle.bl_desc.specs.DescriptionKept.{IsEachFileNamed}
 use Rattle.bl_desc.proofs.BadRuleLemmas.{answer_in}
 use Rattle.bl_desc.proofs.WholeLemmas.{describes}
 use Rattle.bl_desc.proofs.bad_keys.whole.first_bad_key.Goals as goal

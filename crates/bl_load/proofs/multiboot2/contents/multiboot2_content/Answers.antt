@@ -3,7 +3,7 @@ use Rattle.bl_mbi.specs.InformationFacts.{info_size}
 use Rattle.bl_plan.specs.declared.part.Role.{Role}
 use Rattle.bl_load.specs.Reading.{multiboot2}
 use Rattle.bl_load.specs.KernelKept.{kernel_by}
-use Rattle.bl_map.specs.Room.{whole_frames}
+use Rattle.bl_map.specs.Room.{round_up_to_frames}
 use Rattle.bl_load.specs.Rows.{information_of}
 use Rattle.bl_load.specs.PlacingKept.{HasLength}
 use Rattle.bl_load.specs.EntryFilesKept.{value_of_files}
@@ -18,7 +18,7 @@ returns-in_ok-bytes-in-Information-clause-short g c =
     let place = c.args.place.now in
     let places = c.args.places.now in
     let long : place.length
-    ≡ whole_frames (info_size (information_of facts value kernel.relocation [])) =
+    ≡ round_up_to_frames (info_size (information_of facts value kernel.relocation [])) =
     subst
     (λ (role : Role).
     HasLength facts value (multiboot2 (kernel_by kernel)) role place.index

@@ -1,5 +1,5 @@
 use Rattle.std.proofs.Common.{◌≡◌, ◌<◌, ◌^◌, ℕ, [], length, ap, ◌∙◌, arith}
-use Rattle.bl_map.specs.Room.{whole_frames}
+use Rattle.bl_map.specs.Room.{round_up_to_frames}
 use Rattle.bl_mbi.specs.InformationFacts.{info_size}
 use Rattle.bl_plan.specs.declared.part.Choice.TheVariants.{Lowest}
 use Rattle.bl_plan.specs.declared.part.Role.TheVariants.{Information}
@@ -26,8 +26,8 @@ pub size_by_lengths-length-requires-clause-new : goal.size_by_lengths-length-req
 size_by_lengths-length-requires-clause-new g c =
     rw c.length_of-2.ensures (copy_short _ c.args.entry.now.new)
 
-pub whole_frames-requires : goal.whole_frames-requires
-whole_frames-requires g c =
+pub round_up_to_frames-requires : goal.round_up_to_frames-requires
+round_up_to_frames-requires g c =
     let entry = c.args.entry.now in
     let size : c.size_by_lengths-length.result < 2 ^ 32 =
     rw (
@@ -58,4 +58,4 @@ returns g c =
       ← c.length_of.ensures,
       ← c.length_of-2.ensures,
     ) c.size_by_lengths-length.ensures in
-    ap row_of (c.whole_frames.ensures ∙ ap whole_frames size)
+    ap row_of (c.round_up_to_frames.ensures ∙ ap round_up_to_frames size)

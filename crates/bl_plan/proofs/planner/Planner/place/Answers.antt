@@ -1,7 +1,7 @@
 use Rattle.std.proofs.Common.{◌+◌, ℕ, List, ap, subst, ◌∙◌}
 use Rattle.std.specs.declared.ops.Range.{Range}
 use Rattle.bl_plan.specs.Permitted.{AllOpen}
-use Rattle.bl_plan.specs.Planned.{PlannerFacts}
+use Rattle.bl_plan.specs.PlannerFacts.{PlannerFacts}
 use Rattle.bl_plan.proofs.SearchLemmas.{at_side_permitted}
 use Rattle.bl_plan.proofs.planner.Planner.place.Goals as goal
 

@@ -3,7 +3,7 @@ use Rattle.std.proofs.lemmas.Grind.{common_steps}
 use Rattle.std.proofs.Common.{◌+◌, ℕ, List, ap, subst, ◌∙◌}
 use Rattle.std.specs.declared.ops.Range.{Range}
 use Rattle.bl_plan.specs.Permitted.{AllOpen}
-use Rattle.bl_plan.specs.Planned.{PlannerFacts}
+use Rattle.bl_plan.specs.PlannerFacts.{PlannerFacts}
 use Rattle.bl_plan.proofs.planner.Planner.prefer.Goals as goal
 
 pub take-requires-clause-free : goal.take-requires-clause-free

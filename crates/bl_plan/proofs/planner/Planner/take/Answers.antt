@@ -2,7 +2,7 @@ use Rattle.std.proofs.Common.{ℕ, List, ap, sym, subst, ◌∙◌}
 use Rattle.std.specs.declared.ops.Range.{Range}
 use Rattle.bl_map.specs.MachineFacts.{AllUsable}
 use Rattle.bl_plan.specs.Permitted.{AllOpen}
-use Rattle.bl_plan.specs.Planned.{PlannerFacts, with_taken}
+use Rattle.bl_plan.specs.PlannerFacts.{PlannerFacts, with_taken}
 use Rattle.bl_plan.proofs.PutLemmas.{taken_put_in}
 use Rattle.bl_plan.proofs.planner.Planner.take.Goals as goal
 

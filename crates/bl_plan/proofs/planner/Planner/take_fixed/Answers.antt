@@ -2,7 +2,7 @@ use Rattle.std.proofs.Common.{ℕ, List, ap, subst, ◌∙◌}
 use Rattle.std.specs.declared.ops.Range.{Range}
 use Rattle.bl_map.specs.MachineFacts.{AllUsable}
 use Rattle.bl_plan.specs.Permitted.{AllOpen}
-use Rattle.bl_plan.specs.Planned.{PlannerFacts}
+use Rattle.bl_plan.specs.PlannerFacts.{PlannerFacts}
 use Rattle.bl_plan.proofs.BlockLemmas.{not_all}
 use Rattle.bl_plan.proofs.planner.Planner.take_fixed.Goals as goal
 

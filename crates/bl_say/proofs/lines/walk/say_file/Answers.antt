@@ -2,7 +2,7 @@ use Rattle.std.proofs.Common.{rules, arith, ◌≡◌, ◌++◌, ◌^◌, ◌-�
 use Rattle.std.specs.Prelude.{codes, decimal}
 use Rattle.std.proofs.lemmas.Grind.{common_steps}
 use Rattle.bl_say.proofs.HexLemmas.{hex8_hole, hex8_is}
-use Rattle.bl_say.specs.WalkSays.{file_line}
+use Rattle.bl_say.specs.WalkLines.{ramdisk_line}
 use Rattle.bl_say.proofs.lines.walk.say_file.Goals as goal
 
 pub returns : goal.returns
@@ -12,5 +12,5 @@ returns g c =
     let holes : c.as_bytes.result.now
     ≡ codes "initrd " ++ hex8_hole limit m.address ++ codes " " ++ decimal (length m.bytes)
     ++ codes "\n" = grind (arith, common_steps) in
-    let line : c.as_bytes.result.now ≡ file_line m = rw (← hex8_is limit m.address) holes in
+    let line : c.as_bytes.result.now ≡ ramdisk_line m = rw (← hex8_is limit m.address) holes in
     search rules

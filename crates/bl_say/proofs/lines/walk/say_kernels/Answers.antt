@@ -1,4 +1,4 @@
-use Rattle.bl_say.specs.WalkSays.{kernel_line}
+use Rattle.bl_say.specs.WalkLines.{kernel_line}
 use Rattle.bl_say.proofs.SaidLemmas.{one_more_said_at, all_said}
 use Rattle.bl_say.proofs.lines.walk.say_kernels.Goals as goal
 

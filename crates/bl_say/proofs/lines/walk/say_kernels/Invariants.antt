@@ -1,6 +1,6 @@
 use Rattle.std.proofs.Common.{◌≡◌, ◌++◌, take}
 use Rattle.std.specs.List.{flat_map}
-use Rattle.bl_say.specs.WalkSays.{kernel_line}
+use Rattle.bl_say.specs.WalkLines.{kernel_line}
 use Rattle.bl_say.proofs.lines.walk.say_kernels.Given as goal
 
 abbrev pub invariant-loop-part : goal.invariant-loop-part

@@ -1,4 +1,4 @@
-use Rattle.bl_say.specs.WalkSays.{module_line}
+use Rattle.bl_say.specs.WalkLines.{module_line}
 use Rattle.bl_say.proofs.SaidLemmas.{one_more_said, all_said}
 use Rattle.bl_say.proofs.lines.walk.say_modules.Goals as goal
 

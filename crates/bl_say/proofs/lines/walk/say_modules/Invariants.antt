@@ -1,6 +1,6 @@
 use Rattle.std.proofs.Common.{◌≡◌, ◌++◌, take}
 use Rattle.std.specs.List.{flat_map}
-use Rattle.bl_say.specs.WalkSays.{module_line}
+use Rattle.bl_say.specs.WalkLines.{module_line}
 use Rattle.bl_say.proofs.lines.walk.say_modules.Given as goal
 
 abbrev pub invariant-loop-module : goal.invariant-loop-module

@@ -1,4 +1,4 @@
-use Rattle.bl_say.specs.WalkSays.{seen_run_line}
+use Rattle.bl_say.specs.WalkLines.{seen_run_line}
 use Rattle.bl_say.proofs.SaidLemmas.{one_more_said_at, all_said}
 use Rattle.bl_say.proofs.lines.walk.runs.say_runs.Goals as goal
 

@@ -1,6 +1,6 @@
 use Rattle.std.proofs.Common.{◌≡◌, ◌++◌, take}
 use Rattle.std.specs.List.{flat_map}
-use Rattle.bl_say.specs.WalkSays.{seen_run_line}
+use Rattle.bl_say.specs.WalkLines.{seen_run_line}
 use Rattle.bl_say.proofs.lines.walk.runs.say_runs.Given as goal
 
 abbrev pub invariant-loop-run : goal.invariant-loop-run

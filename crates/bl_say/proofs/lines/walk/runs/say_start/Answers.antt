@@ -1,7 +1,7 @@
 use Rattle.std.proofs.Common.{rules, arith, ◌≡◌, ◌++◌}
 use Rattle.std.specs.Prelude.{codes}
 use Rattle.std.proofs.lemmas.Grind.{common_steps}
-use Rattle.bl_say.specs.WalkSays.{run_start}
+use Rattle.bl_say.specs.WalkLines.{run_front}
 use Rattle.bl_say.proofs.HexLemmas.{hex_hole, hex16_hole}
 use Rattle.bl_say.proofs.lines.walk.runs.say_start.Goals as goal
 
@@ -10,5 +10,5 @@ returns g c =
     let start = c.args.start in
     let holes : c.as_bytes.result.now ≡ codes "map " ++ hex_hole start ++ codes " " =
     grind (arith, common_steps) in
-    let line : c.as_bytes.result.now ≡ run_start start = rw (← hex16_hole start) holes in
+    let line : c.as_bytes.result.now ≡ run_front start = rw (← hex16_hole start) holes in
     search rules

@@ -1,6 +1,6 @@
 //! The segment registers as a kernel begins, as a virtual processor takes them.
 ghost use Rattle.std.specs.Prelude.{◌≡◌};
-ghost use Rattle.bl_load.specs.Segments as spec;
+ghost use Rattle.bl_load.specs.SegmentRegisters as spec;
 
 use crate::registers::Registers;
 
@@ -103,7 +103,7 @@ const SELECTORS: u64 = 0x1_0000;
 
 impl Registers {
     ghost use Rattle.std.specs.Prelude.{◌≡◌};
-    ghost use Rattle.bl_load.specs.Segments.{segment_in};
+    ghost use Rattle.bl_load.specs.SegmentRegisters.{segment_in};
 
     /// A segment register whole (Multiboot2 3.3 "I386 machine state"; Linux/x86 boot protocol,
     /// "32-bit boot protocol", "64-bit boot protocol"): flat code in CS, flat data in each other.

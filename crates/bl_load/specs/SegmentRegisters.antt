@@ -5,9 +5,9 @@ use Rattle.std.specs.Prelude.{ℕ, ◌+◌, ◌-◌, ◌*◌, ◌/◌, ◌%◌, 
 use Rattle.std.specs.Prelude.{if◌then◌else◌}
 use Rattle.bl_load.specs.declared.registers.Registers.{Registers}
 use Rattle.bl_load.specs.declared.registers.Registers.TheVariants.{Bits32, Bits64}
-use Rattle.bl_load.specs.declared.segments.SegmentName.{SegmentName}
-use Rattle.bl_load.specs.declared.segments.SegmentName.TheVariants.{Cs, Ds, Es, Fs, Gs, Ss}
-use Rattle.bl_load.specs.declared.segments.SegmentRegister.{SegmentRegister}
+use Rattle.bl_load.specs.declared.segment_registers.SegmentName.{SegmentName}
+use Rattle.bl_load.specs.declared.segment_registers.SegmentName.TheVariants.{Cs, Ds, Es, Fs, Gs, Ss}
+use Rattle.bl_load.specs.declared.segment_registers.SegmentRegister.{SegmentRegister}
 use Rattle.bl_load.specs.Registers.{are_wide}
 
 -- the number that the registers hold under this name

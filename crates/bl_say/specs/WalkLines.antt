@@ -38,33 +38,34 @@ abbrev pub kernel_line : SeenPart → List ℕ
 kernel_line part =
     codes "kernel " ++ hex8 part.address ++ codes " " ++ decimal part.length ++ codes "\n"
 
--- a module: its address, its length, its line
+-- the front of a module's line: its address, its length
 abbrev pub module_front : SeenModuleFacts → List ℕ
 module_front m =
     codes "module " ++ hex8 m.mod_start ++ codes " " ++ decimal (length m.bytes) ++ codes " "
 
+-- a module: its address, its length, its line
 abbrev pub module_line : SeenModuleFacts → List ℕ
 module_line m = module_front m ++ text_word m.line ++ codes "\n"
 
 -- the initial ramdisk: its address, its length
-abbrev pub file_line : SeenFileFacts → List ℕ
-file_line file =
+abbrev pub ramdisk_line : SeenFileFacts → List ℕ
+ramdisk_line file =
     codes "initrd " ++ hex8 file.address ++ codes " " ++ decimal (length file.bytes) ++ codes "\n"
 
 abbrev pub initrd_line : Option SeenFileFacts → List ℕ
 initrd_line None = []
-initrd_line (Some file) = file_line file
+initrd_line (Some file) = ramdisk_line file
 
--- a run of the memory map: its start, its end, its kind's number
-abbrev pub run_start : ℕ → List ℕ
-run_start start = codes "map " ++ hex16 start ++ codes " "
+-- the front of the line of a run of the memory map: its start
+abbrev pub run_front : ℕ → List ℕ
+run_front start = codes "map " ++ hex16 start ++ codes " "
 
 abbrev pub run_kind : ℕ → List ℕ
 run_kind kind = codes " " ++ decimal kind ++ codes "\n"
 
 abbrev pub seen_run_line : Region → List ℕ
 seen_run_line run =
-    run_start run.base ++ hex16 (region_end run) ++ run_kind (kind_number run.kind)
+    run_front run.base ++ hex16 (region_end run) ++ run_kind (kind_number run.kind)
 
 -- a copy of an RSDP, if there is one
 abbrev pub copy_line : List ℕ → Option (List ℕ) → List ℕ

@@ -4,17 +4,17 @@ use Rattle.bl_mbi.specs.Size.{tag_size, copy_size, load_base_size, map_entry_siz
 use Rattle.bl_mbi.specs.Size.{loader_name_size}
 use Rattle.bl_mbi.specs.InformationFacts.{InformationFacts}
 
--- types 1, 2 and 3, with the loader's name `bootcore`
+-- the command line (type 1), the loader's name (2), which is `bootcore`, and the modules (3)
 abbrev pub texts_size : InformationFacts → ℕ
 texts_size facts =
     tag_size (length facts.line + 1) + loader_name_size
     + sum_by (λ m. tag_size (length m.line + 9)) facts.modules
 
--- types 4 and 6
-abbrev pub map_size : InformationFacts → ℕ
-map_size facts = 32 + map_entry_size * length facts.runs
+-- basic memory information (4), of 16 bytes, and the memory map (6), 16 bytes before its entries
+abbrev pub map_tags_size : InformationFacts → ℕ
+map_tags_size facts = 32 + map_entry_size * length facts.runs
 
--- types 14, 15, 21 and 0
+-- the copies of the RSDP (14, 15), the load base (21) and the end (0)
 abbrev pub last_size : InformationFacts → ℕ
 last_size facts =
     copy_size (option_map length facts.rsdp_old) + copy_size (option_map length facts.rsdp_new)

@@ -1,4 +1,4 @@
-//! What a boot awaits where it stands at a phase, and what it asks a store for.
+//! What a boot awaits at a phase, and what it asks a store for.
 ghost use Rattle.std.specs.Prelude.{◌≡◌, ◌++◌, ℕ, List, Some, true, OnOk, OnErr};
 ghost use Rattle.bl_session.specs.History.{Item};
 ghost use Rattle.bl_session.specs.Asked.{orders};
@@ -29,7 +29,7 @@ impl<'a, A: Allocator + Copy> Boot<'a, A> {
     {
         match phase {
             Phase::Waits(waiting) => {
-                // what this ensures says that the number is small
+                // called for its contract: there are few attempts, so the number fits
                 self.menu.attempts();
                 let entry = self.menu.entry(waiting.entry);
                 submit_files(store, waiting.earlier.len() as u32, entry, &waiting.stage)
@@ -46,7 +46,7 @@ impl<'a, A: Allocator + Copy> Boot<'a, A> {
     {
         match phase {
             Phase::Waits(waiting) => {
-                // what these ensure says that the numbers are small
+                // called for their contracts: there are few attempts and files, so the numbers fit
                 self.menu.attempts();
                 let entry = self.menu.entry(waiting.entry);
                 let found = first_missing(waiting.earlier.len() as u32, &waiting.stage);
@@ -58,7 +58,8 @@ impl<'a, A: Allocator + Copy> Boot<'a, A> {
         }
     }
 
-    /// The first piece that the attempt awaits after that of a ticket, of whatever attempt.
+    /// The first piece that the attempt awaits after that of a ticket, which may be of another
+    /// attempt.
     pub fn missing_after(&self, phase: &Phase<A>, ticket: Ticket) -> Option<Request>
         requires { IsPhaseKept self.now.machine.now self.now.menu.now phase.now }
         ensures { (bytes : List ℕ) → result
@@ -66,7 +67,7 @@ impl<'a, A: Allocator + Copy> Boot<'a, A> {
     {
         match phase {
             Phase::Waits(waiting) => {
-                // what these ensure says that the numbers are small
+                // called for their contracts: there are few attempts and files, so the numbers fit
                 self.menu.attempts();
                 let entry = self.menu.entry(waiting.entry);
                 let found = next_missing(waiting.earlier.len() as u32, &waiting.stage, ticket);
@@ -79,14 +80,14 @@ impl<'a, A: Allocator + Copy> Boot<'a, A> {
     }
 
     /// The ticket of the first piece that the attempt awaits.
-    pub fn lost_ticket(&self, phase: &Phase<A>) -> Ticket
+    pub fn first_missing_ticket(&self, phase: &Phase<A>) -> Ticket
         requires standing { IsPhaseKept self.now.machine.now self.now.menu.now phase.now }
         requires waiting { is_waiting (phase_facts self.now.menu.now.attempts phase.now) ≡ true }
         ensures { (bytes : List ℕ) → missing_in (state_in self.now bytes phase.now) ≡ Some result }
     {
         match phase {
             Phase::Waits(waiting) => {
-                // what these ensure says that the numbers are small
+                // called for their contracts: there are few attempts and files, so the numbers fit
                 self.menu.attempts();
                 self.menu.entry(waiting.entry);
                 missing_piece(waiting.earlier.len() as u32, &waiting.stage)

@@ -69,7 +69,7 @@ impl<'a, A: Allocator + Copy> Session<'a, A> {
     }
 
     /// The ticket of the first piece that the attempt awaits.
-    pub(crate) fn lost_ticket(&self) -> Ticket
+    pub(crate) fn first_missing_ticket(&self) -> Ticket
         requires { is_waiting self.now.phase ≡ true }
         ensures { (bytes : List ℕ) → missing_in (state_at bytes self.now.phase) ≡ Some result }
     {
@@ -79,6 +79,6 @@ impl<'a, A: Allocator + Copy> Session<'a, A> {
             menu: self.menu,
             sizes: &self.sizes,
         };
-        boot.lost_ticket(&self.phase)
+        boot.first_missing_ticket(&self.phase)
     }
 }

@@ -3,28 +3,28 @@ use Rattle.std.specs.Prelude.{ℕ, List, Option, Result, Ok}
 use Rattle.bl_map.specs.declared.region.Region.{Region}
 use Rattle.bl_mbi.specs.declared.fault.InfoFault.{InfoFault}
 use Rattle.bl_mbi.specs.InformationFacts.{ModuleInfo}
-use Rattle.bl_mbi.specs.Fields.{◌>>=◌, Left}
+use Rattle.bl_mbi.specs.Fields.{◌>>=◌, RestFacts}
 use Rattle.bl_mbi.specs.Reading.{text_tag_at, modules_at, memory_at, map_at, copy_at, load_base_at}
 use Rattle.bl_mbi.specs.Reading.{end_at}
 
--- types 1, 2 and 3
-unfoldable pub texts_at : Left
-    → Result ((List ℕ × List ℕ × List ModuleInfo) × Left) InfoFault
+-- the command line (type 1), the loader's name (2) and the modules (3)
+unfoldable pub texts_at : RestFacts
+    → Result ((List ℕ × List ℕ × List ModuleInfo) × RestFacts) InfoFault
 texts_at left = do
   line ← text_tag_at 1 left
   name ← text_tag_at 2 line.1
   modules ← modules_at name.1
   Ok ((line.0, name.0, modules.0), modules.1)
 
--- types 4 and 6
-unfoldable pub map_tags_at : Left → Result (((ℕ × ℕ) × List Region) × Left) InfoFault
+-- basic memory information (4) and the memory map (6)
+unfoldable pub map_tags_at : RestFacts → Result (((ℕ × ℕ) × List Region) × RestFacts) InfoFault
 map_tags_at left = do
   memory ← memory_at left
   map ← map_at memory.1
   Ok ((memory.0, map.0), map.1)
 
--- types 14, 15, 21 and 0
-unfoldable pub last_at : Left
+-- the copies of the RSDP (14, 15), the load base (21) and the end (0)
+unfoldable pub last_at : RestFacts
     → Result (Option (List ℕ) × Option (List ℕ) × Option ℕ) InfoFault
 last_at left = do
   old ← copy_at 14 left

@@ -1,7 +1,7 @@
 use Rattle.std.proofs.Common.{arith}
 use Rattle.std.proofs.lemmas.Grind.{common_steps}
 use Rattle.bl_session.proofs.MenuLemmas.{few_files}
-use Rattle.bl_session.proofs.phase.Boot.lost_ticket.Goals as goal
+use Rattle.bl_session.proofs.phase.Boot.first_missing_ticket.Goals as goal
 
 pub missing_piece-requires-clause-few : goal.missing_piece-requires-clause-few
 missing_piece-requires-clause-few g c =

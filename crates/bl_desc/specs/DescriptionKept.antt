@@ -35,8 +35,8 @@ entry_set_in ms = set_of_protocol (protocol_in ms)
 abbrev pub protocol_rules : List KeyRule
 protocol_rules = must (codes "protocol") ProtocolName ∷ []
 
-abbrev pub front_rules : List KeyRule
-front_rules =
+abbrev pub common_rules : List KeyRule
+common_rules =
     must (codes "title") Title ∷ must (codes "kernel") AnyText ∷ may (codes "line") AnyText ∷ []
 
 abbrev pub copy_rules : List KeyRule
@@ -49,11 +49,11 @@ abbrev pub initrd_rules : List KeyRule
 initrd_rules = may (codes "initrd") AnyText ∷ []
 
 abbrev pub front_passes : KeySet → Members → Bool
-front_passes set ms = has_only (keys_of_set set) ms && all_pass front_rules ms
+front_passes set ms = has_only (keys_of_set set) ms && all_pass common_rules ms
 
 -- the table has a fault, or one of those rules is broken
 abbrev pub IsFrontFault : KeySet → Members → KeyFault → Type 0
-IsFrontFault set ms fault = IsKeyFault 0 set ms fault ⊎ BreaksOne front_rules ms fault
+IsFrontFault set ms fault = IsKeyFault 0 set ms fault ⊎ BreaksOne common_rules ms fault
 
 abbrev pub modules_pass : Members → Bool
 modules_pass ms =
@@ -122,7 +122,7 @@ IsMenuBad ds bad = (i : ℕ) × IsSomeAnd (get_item i ds) (λ d. IsEntryItemBad 
 
 -- ---- names of files
 
--- the name of a file, empty if it has none
+-- a text, empty if it is something else, as is the name of a file without one
 abbrev pub text_or_none : Data → List ℕ
 text_or_none (string s) = s
 text_or_none _ = []
@@ -191,10 +191,10 @@ menu_passes ms =
     all_pass entry_rules ms
     && all_items entry_item_passes (array_items (get_member (codes "entry") ms))
 
-abbrev pub indices_pass_below : ℕ → Members → Bool
-indices_pass_below count ms =
+abbrev pub indices_pass_among : ℕ → Members → Bool
+indices_pass_among count ms =
     all_pass (index_rules count) ms
     && all_items (allows (IndexBelow count)) (array_items (get_member (codes "fallback") ms))
 
 abbrev pub indices_pass : Members → Bool
-indices_pass ms = indices_pass_below (item_count (array_items (get_member (codes "entry") ms))) ms
+indices_pass ms = indices_pass_among (item_count (array_items (get_member (codes "entry") ms))) ms

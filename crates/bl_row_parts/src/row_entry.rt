@@ -76,7 +76,7 @@ impl RowEntry {
     }
 }
 
-/// The entry, which has so many files. Where it can't be had, why is the answer.
+/// The entry, which has so many files. If it can't be made, the row's answer says why.
 pub fn entry_of<'h>(
     row: &mut Row<'_>,
     heap: &'h Refusing,
@@ -104,8 +104,8 @@ pub struct Given<'h> {
     pub entry: Entry<&'h Refusing>,
 }
 
-/// The last machine and the entry, which has so many files, over the row's heap. Where they can't
-/// be had, why is the answer.
+/// The last machine and the entry, which has so many files, over the row's heap. If they can't be
+/// made, the row's answer says why.
 pub fn read_given<'a>(row: &mut Row<'a>, read: &RowEntry, files: usize) -> Option<Given<'a>>
     ensures files { IfSome result (λ given. files ≡ file_count given.entry) }
     ensures limits { IfSome result (λ given. IsWithinLimits given.entry) }
@@ -116,7 +116,7 @@ pub fn read_given<'a>(row: &mut Row<'a>, read: &RowEntry, files: usize) -> Optio
     Some(Given { machine, entry })
 }
 
-/// What is prepared for an entry. Where that is nothing, why is the answer.
+/// What is prepared for an entry. If it is refused, the row's answer says why.
 pub fn prepare_entry<'h>(
     row: &mut Row<'_>,
     heap: &'h Refusing,
@@ -146,8 +146,8 @@ pub struct LoadedEntry<'h> {
     pub requests: u64,
 }
 
-/// An entry's parts in the machine's memory, each byte of which is `fill` before. Where there are
-/// none, why is the answer.
+/// An entry's parts in the machine's memory, each byte of which is `fill` before. If it is refused,
+/// the row's answer says why.
 pub fn load_entry<'h>(
     row: &mut Row<'_>,
     heap: &'h Refusing,
