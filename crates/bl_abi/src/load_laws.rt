@@ -14,8 +14,8 @@ ghost use Rattle.bl_abi.specs.Prepare.{IsPrepareEnd};
 /// A load of what was prepared, into memory that reaches to the machine's end and with room for the
 /// places, says the same handoff, or memory runs out; and a preparation of what was loaded succeeds
 /// too, or memory runs out. What was refused is never loaded, and where a load refuses it too, then
-/// for the same reason. A preparation and a load into memory that reaches to the machine's end, with
-/// as much room, tell one fault, if both tell one and neither that memory ran out.
+/// for the same reason. A preparation and a load into memory that reaches to the machine's end,
+/// with as much room, tell one fault, if both tell one and neither that memory ran out.
 pub fn loads_end_as_prepared()
     ensures one_handoff { (machine : MachineRecord) (regions : List RegionRecord)
         (given : GivenFacts) (entry : EntryRecord) (room space : ℕ) (old new : List ℕ)
