@@ -122,7 +122,7 @@ IsMenuBad ds bad = (i : ℕ) × IsSomeAnd (get_item i ds) (λ d. IsEntryItemBad 
 
 -- ---- names of files
 
--- a text, empty if it is something else, as is the name of a file without one
+-- a text; empty if it is something else
 abbrev pub text_or_none : Data → List ℕ
 text_or_none (string s) = s
 text_or_none _ = []
