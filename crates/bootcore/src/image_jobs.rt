@@ -66,5 +66,7 @@ pub fn convert_path(rt: &HostRuntime, path: &str, new: &str) -> u8
     let mut out = ImageFile::new(rt, new);
     let mut blame = Vec::new(rt.alloc());
     let status = convert(rt.alloc(), &mut source, &mut out, &mut blame);
+    // Closed before anything is told, as the image of a boot is.
+    drop(out);
     tell_blame(rt, status, &blame)
 }

@@ -82,6 +82,9 @@ fn boot_path(rt: &HostRuntime, path: &str, image: &str, order: Order) -> u8
         &mut out,
         &mut say,
     );
+    // The image is closed before anything is told. In a process that began without standard output
+    // the image's file has its number, and the lines would be written behind the image.
+    drop(out);
     tell(rt, &say);
     status
 }
