@@ -3,7 +3,11 @@
  *
  * Link libbootcore_c.a. It wants memmove, memset and memcpy, and the allocator's malloc, realloc and
  * free by way of three small functions that the toolchain's heap object has; examples/c/build shows
- * the line. Nothing else is wanted: no file, no clock, no thread, no text.
+ * the line. Nothing else is wanted: no file, no clock, no thread, no text. The three align as the C
+ * library's, and always return.
+ *
+ * Target. The library is built for x86-64 (x86-64-v2, with SSE enabled) and the System V calling
+ * convention, and so its calls are declared.
  *
  * Units. Addresses and lengths are in bytes, and addresses are those of the machine that is booted.
  * An index counts from 0.
@@ -16,16 +20,17 @@
  * System V convention): if interrupts use the same stack, as in a firmware, call with interrupts off.
  *
  * Threads. None is started, and two calls at once know nothing of each other, if they share nothing
- * that either may change. Call from no signal handler.
+ * that either may change and the allocator bears calls at once. Call from no signal handler.
  *
  * What the caller keeps; no call can test it:
  * - a pointer that is not null points to as many elements as are told, of the type that is told,
  *   aligned as it is there, that nobody else changes during the call;
- * - what a call may change (memory, results) overlaps nothing else that it is given: a file that
- *   lies in the machine's memory must first be moved out of it;
+ * - what a call may change (memory, results) overlaps nothing else that it is given, and nothing of
+ *   the program: its code, data, stack and the allocator's blocks. A file that lies in the machine's
+ *   memory must first be moved out of it;
  * - a session's struct and pool, between two calls: see bootcore_session and bootcore_session_start.
- * An array without elements may be null. Whatever else the values are, a call ends, and what is wrong
- * with them has a status.
+ * An array without elements may be null, but `memory` and `places` may not. Whatever else the values
+ * are, a call ends, and what is wrong with them has a status.
  *
  * The names of this file hold in C99 and in C++.
  */
@@ -49,9 +54,11 @@ enum {
     BOOTCORE_REFUSED = 1,           /* the entry is refused; of a boot: no entry is left; of a walk:
                                      * the image is refused */
     BOOTCORE_NO_MEMORY = 4,         /* malloc or realloc gave none, or a part lies below the memory's
-                                     * base; may come in place of any other but BOOTCORE_NULL */
+                                     * base; may come in place of any other but BOOTCORE_NULL and,
+                                     * where no image is walked, BOOTCORE_FEW_PLACES */
 
-    BOOTCORE_NULL = 15,             /* a null pointer to one element or more */
+    BOOTCORE_NULL = 15,             /* a null pointer to one element or more, or a null `memory`,
+                                     * `places` or struct */
     BOOTCORE_FEW_PLACES = 16,       /* room for fewer than BOOTCORE_MAX_PARTS places; of a walk: for
                                      * less than it tells */
     BOOTCORE_BAD_KIND = 18,         /* a region's kind is none of BOOTCORE_USABLE and so on */
@@ -75,7 +82,9 @@ enum {
     BOOTCORE_MAX_REFUSALS = 32 /* a boot refuses no more entries */
 };
 
-/* Kinds of memory: the numbers of an e820 entry. Where regions overlap, the greatest counts. */
+/* Kinds of memory: the numbers of an e820 entry. Where regions overlap, the greatest counts. An
+ * address is usable if its kind is BOOTCORE_USABLE and it lies from 4096 on, below the machine's size
+ * and below 0xFFFFF000; one in no region is not. */
 enum {
     BOOTCORE_USABLE = 1,
     BOOTCORE_RESERVED = 2,
@@ -107,7 +116,8 @@ enum {
 #define BOOTCORE_MISSING UINT64_MAX /* a boot or a session: the offset of a file that can't be read;
                                      * a walk: that of a copy of an RSDP that is not there */
 
-/* Bytes of an array. */
+/* Bytes of an array. A range without bytes, too, begins within the array or at its end, but where
+ * BOOTCORE_MISSING stands for none. */
 typedef struct bootcore_range {
     uint64_t offset;
     uint64_t length;
@@ -120,7 +130,8 @@ typedef struct bootcore_region {
     uint32_t reserved; /* not looked at */
 } bootcore_region;
 
-/* The machine beside its regions. A load needs no pool: its length may be 0. */
+/* The machine beside its regions. A load needs no pool: its length may be 0, and its base is any
+ * multiple of 4096 then. */
 typedef struct bootcore_machine {
     uint64_t size;
     uint64_t pool_base;
@@ -130,20 +141,21 @@ typedef struct bootcore_machine {
 typedef struct bootcore_module {
     uint32_t file;
     uint32_t reserved;   /* not looked at */
-    bootcore_range line; /* of the text */
+    bootcore_range line; /* of the text, without a zero byte */
 } bootcore_module;
 
 /* An entry. What its protocol has no use for is not looked at. */
 typedef struct bootcore_entry {
     uint32_t protocol;
     uint32_t kernel;         /* the index of its file */
-    uint32_t first_module;   /* Multiboot2: its modules, by their index among those given */
-    uint32_t module_count;
+    uint32_t first_module;   /* Multiboot2: its modules, by their index among those given; at most */
+    uint32_t module_count;   /* their number, where there is none too */
     uint32_t initrd;         /* Linux: the index of its file, or BOOTCORE_NO_FILE */
     uint32_t reserved;       /* not looked at */
     bootcore_range line;     /* of the text, without a zero byte */
     bootcore_range rsdp_old; /* Multiboot2: a copy of the RSDP of ACPI 1.0, of the text */
-    bootcore_range rsdp_new; /* and of that of ACPI 2.0 or later; a length of 0 stands for none */
+    bootcore_range rsdp_new; /* and of that of ACPI 2.0 or later; a length of 0, at an offset within
+                              * the text, stands for none */
 } bootcore_entry;
 
 /* What a boot is made from. The text has the bytes of all lines and copies, the contents those of
@@ -174,7 +186,7 @@ typedef struct bootcore_registers {
     uint64_t gdt_base, gdt_limit, a20;
 } bootcore_registers;
 
-/* A part in memory. */
+/* A part in memory. But for a kernel's it has whole frames: behind its bytes are zeros. */
 typedef struct bootcore_place {
     uint32_t role;
     uint32_t index; /* among the parts of its role */
@@ -349,7 +361,7 @@ static inline int bootcore_has_null(const bootcore_given *given) {
  * enters its guest. There is no menu and no pool.
  *
  * `memory` has the bytes of the machine from the address `base` on, and reaches at least to its
- * size. Let no usable region lie below `base`: a part whose place begins there ends the load by
+ * size. Let no usable byte lie below `base`: a part whose place begins there ends the load by
  * BOOTCORE_NO_MEMORY.
  *
  * - BOOTCORE_DONE: memory holds each part at its place, and each other byte as before; *handoff is
@@ -422,7 +434,7 @@ typedef struct bootcore_menu {
  * whose offset is BOOTCORE_MISSING can't be read: an entry with it is refused.
  *
  * `memory` has the bytes of the machine from the address `base` on, up to its size exactly. Let no
- * usable region lie below `base`: a part or a pool that begins there ends the boot by
+ * usable byte lie below `base`: a part or a pool that begins there ends the boot by
  * BOOTCORE_NO_MEMORY.
  *
  * - BOOTCORE_DONE: memory holds each part at its place, 0 elsewhere in the pool, and each other byte
@@ -610,7 +622,7 @@ static inline uint32_t bootcore_session_make(bootcore_session *session,
  * Starts a session: the first attempt begins. A session that was started before stays as it is.
  *
  * `memory` has the bytes of the machine from the address `base` on, up to its size exactly. Let no
- * usable region lie below `base`: a part whose place begins there ends the boot as if memory ran out.
+ * usable byte lie below `base`: a part whose place begins there ends the boot as if memory ran out.
  * The pieces that came lie in the pool: hand the same memory to each call of a session, and don't
  * write to its pool before the boot ended.
  *
@@ -669,7 +681,9 @@ static inline bool bootcore_session_missing(bootcore_session *session,
     return session && request && bootcore_session_missing_record(session, request);
 }
 
-/* Tells the first one after *request in this order, so that repeated calls tell all of them. */
+/* Tells the first one after *request in this order, so that repeated calls tell all of them; if there
+ * is none, *request is as before. Of *request its place and piece alone are looked at, so begin anew
+ * by bootcore_session_missing after BOOTCORE_NEXT. */
 static inline bool bootcore_session_missing_after(bootcore_session *session,
                                                   bootcore_request *request) {
     return session && request && bootcore_session_missing_after_record(session, request);
@@ -701,7 +715,7 @@ static inline uint32_t bootcore_session_outcome(bootcore_session *session,
 }
 
 /* Frees what a session keeps, if there is something. After that none is kept, and one may be made
- * again. */
+ * again. A session that is freed, or made anew, before its end leaves in the pool what came. */
 static inline void bootcore_session_free(bootcore_session *session) {
     if (session) {
         bootcore_session_free_kept(session);
