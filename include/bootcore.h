@@ -45,6 +45,15 @@
 extern "C" {
 #endif
 
+/* The convention of the library's calls, also where the compiler's own is another, as for UEFI. */
+#if defined(__GNUC__) && defined(__x86_64__)
+#define BOOTCORE_CALL __attribute__((sysv_abi))
+#elif defined(_MSC_VER)
+#error "bootcore's calls have the System V convention, which this compiler does not know"
+#else
+#define BOOTCORE_CALL
+#endif
+
 /* What a call answers. Of several misuses the first in the order of these lines is told, with one
  * exception: BOOTCORE_BAD_PROTOCOL to BOOTCORE_BAD_FILE are looked for entry by entry, so those of a
  * menu's earlier entry come first. After a misuse all is as before, but for what bootcore_walk_all
@@ -290,6 +299,7 @@ BOOTCORE_ASSERT(sizeof(bootcore_seen_module) == 32, "bootcore_seen_module");
 BOOTCORE_ASSERT(offsetof(bootcore_seen_module, line) == 16, "bootcore_seen_module.line");
 
 /* As bootcore_load, for arrays that are not null. */
+BOOTCORE_CALL
 uint32_t bootcore_load_arrays(uint8_t *memory, size_t memory_length, uint32_t base,
                               const bootcore_machine *machine, const bootcore_region *regions,
                               size_t region_count, const bootcore_entry *entry,
@@ -300,6 +310,7 @@ uint32_t bootcore_load_arrays(uint8_t *memory, size_t memory_length, uint32_t ba
                               size_t place_count, bootcore_refusal *refusal);
 
 /* As bootcore_prepare, for arrays that are not null. */
+BOOTCORE_CALL
 uint32_t bootcore_prepare_arrays(const bootcore_machine *machine, const bootcore_region *regions,
                                  size_t region_count, const bootcore_entry *entry,
                                  const bootcore_module *modules, size_t module_count,
@@ -310,6 +321,7 @@ uint32_t bootcore_prepare_arrays(const bootcore_machine *machine, const bootcore
                                  size_t place_count, bootcore_refusal *refusal);
 
 /* As bootcore_boot, for arrays that are not null. */
+BOOTCORE_CALL
 uint32_t bootcore_boot_arrays(uint8_t *memory, size_t memory_length, uint32_t base,
                               const bootcore_machine *machine, const bootcore_region *regions,
                               size_t region_count, const bootcore_entry *entries,
@@ -323,10 +335,12 @@ uint32_t bootcore_boot_arrays(uint8_t *memory, size_t memory_length, uint32_t ba
                               size_t refusal_room, uint64_t *refused);
 
 /* As bootcore_walk, for an image that is not null. */
+BOOTCORE_CALL
 uint32_t bootcore_walk_array(const uint8_t *image, size_t image_length, bootcore_seen *seen,
                              bootcore_refusal *fault);
 
 /* As bootcore_walk_all, for an image and arrays that are not null. */
+BOOTCORE_CALL
 uint32_t bootcore_walk_all_arrays(const uint8_t *image, size_t image_length, bootcore_seen *seen,
                                   bootcore_seen_part *kernel_parts, size_t kernel_part_room,
                                   bootcore_seen_module *modules, size_t module_room,
@@ -565,6 +579,7 @@ BOOTCORE_ASSERT(offsetof(bootcore_request, length) == 16, "bootcore_request.leng
 BOOTCORE_ASSERT(sizeof(bool) == 1, "bool");
 
 /* As the calls of these names without the last word, for pointers that are not null. */
+BOOTCORE_CALL
 uint32_t bootcore_session_make_arrays(bootcore_session *session, const bootcore_machine *machine,
                                       const bootcore_region *regions, size_t region_count,
                                       const bootcore_entry *entries, size_t entry_count,
@@ -573,21 +588,28 @@ uint32_t bootcore_session_make_arrays(bootcore_session *session, const bootcore_
                                       size_t module_count, const uint8_t *text,
                                       size_t text_length, const bootcore_range *files,
                                       size_t file_count);
+BOOTCORE_CALL
 uint32_t bootcore_session_start_array(bootcore_session *session, uint8_t *memory,
                                       size_t memory_length, uint32_t base);
+BOOTCORE_CALL
 uint32_t bootcore_session_piece_arrays(bootcore_session *session, uint8_t *memory,
                                        size_t memory_length, uint32_t base,
                                        const bootcore_request *request, const uint8_t *bytes,
                                        size_t length);
+BOOTCORE_CALL
 uint32_t bootcore_session_fault_array(bootcore_session *session, uint8_t *memory,
                                       size_t memory_length, uint32_t base,
                                       const bootcore_request *request);
+BOOTCORE_CALL
 bool bootcore_session_missing_record(bootcore_session *session, bootcore_request *request);
+BOOTCORE_CALL
 bool bootcore_session_missing_after_record(bootcore_session *session, bootcore_request *request);
+BOOTCORE_CALL
 uint32_t bootcore_session_outcome_arrays(bootcore_session *session, bootcore_handoff *handoff,
                                          bootcore_place *places, size_t place_count,
                                          bootcore_refusal *refusals, size_t refusal_room,
                                          uint64_t *refused);
+BOOTCORE_CALL
 void bootcore_session_free_kept(bootcore_session *session);
 
 /*

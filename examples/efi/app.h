@@ -44,7 +44,8 @@ extern struct menu_file {
 } menu;
 extern const char *const protocols[4]; /* their words, by the core's numbers */
 
-/* Reads the menu out of a text, which it keeps and changes. NULL, or what is wrong in a line. */
+/* Reads the menu out of a text, which it keeps and changes. NULL, or what is wrong: in a line, or
+   with line 0 in the whole. */
 const char *read_menu(char *text, uint32_t *line);
 void list_attempts(void);
 /* The file at a position in an entry, the kernel's being 0; BOOTCORE_NO_FILE behind the last. */
@@ -60,7 +61,7 @@ extern struct file_store {
 } files;
 
 int open_disk(EFI_HANDLE image);
-/* A whole file, with a zero byte behind it, or NULL. */
+/* A whole file, which has no zero byte, with one behind it; or NULL. */
 char *read_text(const char *path);
 /* Reads the files of all attempts into one array. */
 int read_files(void);
@@ -114,8 +115,11 @@ extern struct boot_state {
 /* Sees which entry is booted, and why those before it are refused. The core's status. */
 uint32_t prepare(void);
 uint32_t load_entry(void);
+extern int is_leaving; /* services of the firmware may have ended */
 /* NULL, or why the firmware's services have not ended. */
 const char *leave_firmware(EFI_HANDLE image);
+/* Starts the machine anew. It never returns. */
+void restart(void);
 /* Loads the entry and enters it. It never returns. */
 void boot_alone(void);
 

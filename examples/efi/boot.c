@@ -54,9 +54,11 @@ uint32_t prepare(void) {
 
 /* ---- the firmware's end */
 
+int is_leaving;
+
 /* Ends the firmware's services with the map that the choice was made on. If the map has changed
    since, the choice is made again on the new one, which may end otherwise. After a call of
-   ExitBootServices that failed, what is said is seen only if the firmware still writes. */
+   ExitBootServices that failed, the firmware may have ended in part: it need serve memory alone. */
 const char *leave_firmware(EFI_HANDLE image) {
     static machine_map now;
     for (int tries = 0; tries < 8; tries++) {
@@ -67,15 +69,20 @@ const char *leave_firmware(EFI_HANDLE image) {
             uint32_t status = prepare();
             if (status != BOOTCORE_DONE) return say_refusals(), status_words(status);
         }
+        is_leaving = 1;
         if (!EFI_ERROR(BS->ExitBootServices(image, now.key))) return NULL;
     }
     return "The firmware does not end its services.";
+}
+
+void restart(void) {
+    ST->RuntimeServices->ResetSystem(EfiResetCold, EFI_SUCCESS, 0, NULL);
+    for (;;) __asm__ volatile("hlt");
 }
 
 /* From here on nothing is asked of the firmware, and nobody can be told. By the core's promises the
    load can't end otherwise than the preparation said; if it does, the machine starts anew. */
 void boot_alone(void) {
     if (load_entry() == BOOTCORE_DONE) enter_kernel(&boot.handoff.registers);
-    ST->RuntimeServices->ResetSystem(EfiResetCold, EFI_SUCCESS, 0, NULL);
-    for (;;) __asm__ volatile("hlt");
+    restart();
 }

@@ -62,7 +62,7 @@ char *read_text(const char *path) {
     char *text = measure(path, &length) ? NULL : take_own(length / page + 1, EfiLoaderData);
     if (text == NULL || fill(path, (uint8_t *)text, length)) return NULL;
     text[length] = 0;
-    return text;
+    return strlen(text) == length ? text : NULL;
 }
 
 /* ---- the files of all attempts, in one array: they cross to the core as ranges of it */

@@ -1,6 +1,7 @@
 /* A boot manager on the loader core: reads a menu from the disk, lets one choose, and boots through
    the core. The order is what makes it safe: all that can fail does so while the firmware still
-   serves, and then the menu is shown again. */
+   serves, and then the menu is shown again. Once the firmware was asked to end, a failure starts the
+   machine anew. */
 #include "app.h"
 
 EFI_SYSTEM_TABLE *ST;
@@ -28,10 +29,13 @@ static int begin(EFI_HANDLE image) {
     if (!has_instructions()) return say("This processor is older than x86-64-v2.");
     if (!open_disk(image)) return say("The disk that this was started from can't be read.");
     char *text = read_text("bootcore/menu.txt");
-    if (text == NULL) return say("There is no bootcore/menu.txt.");
+    if (text == NULL) return say("There is no bootcore/menu.txt, or it is no text.");
     const char *wrong = read_menu(text, &line);
-    if (wrong != NULL)
-        return print("\n    bootcore/menu.txt, line %u: %s\n", (uint64_t)line, wrong), 0;
+    if (wrong != NULL) {
+        print("\n    bootcore/menu.txt");
+        if (line) print(", line %u", (uint64_t)line);
+        return print(": %s\n", wrong), 0;
+    }
     stack = take_own(stack_pages, EfiLoaderData);
     entry_page = take_own(1, EfiLoaderCode);
     if (stack == NULL || entry_page == NULL || !take_arena(menu.arena))
@@ -59,6 +63,7 @@ static void boot_choice(EFI_HANDLE image) {
         const char *wrong = leave_firmware(image);
         if (wrong == NULL) on_own_stack(boot_alone, stack + stack_pages * page);
         say(wrong);
+        if (is_leaving) restart();
     }
     free_files();
 }

@@ -37,13 +37,13 @@ static uint32_t kind_of(const EFI_MEMORY_DESCRIPTOR *d) {
 
 static EFI_MEMORY_DESCRIPTOR listed[4096]; /* as the firmware lists them: each step bytes long */
 
-/* The first descriptor from an address on, or NULL. They overlap nowhere, and the firmware may list
-   them in any order. */
+/* The first descriptor from an address on that has a page, or NULL. They overlap nowhere, and the
+   firmware may list them in any order. */
 static const EFI_MEMORY_DESCRIPTOR *first_from(uint64_t start, UINTN size, UINTN step) {
     const EFI_MEMORY_DESCRIPTOR *first = NULL;
     for (UINTN at = 0; at + step <= size; at += step) {
         const EFI_MEMORY_DESCRIPTOR *d = (const void *)((const uint8_t *)listed + at);
-        if (d->PhysicalStart < start) continue;
+        if (d->NumberOfPages == 0 || d->PhysicalStart < start) continue;
         if (first == NULL || d->PhysicalStart < first->PhysicalStart) first = d;
     }
     return first;
@@ -75,9 +75,10 @@ static void measure_machine(machine_map *map) {
         if (end > lowest_own) end = lowest_own;
         if (region->kind != BOOTCORE_USABLE || start >= end) continue;
         map->free[map->free_count++] = (bootcore_range){start, end - start};
-        if (end - start > map->core.pool_length)
-            map->core = (bootcore_machine){end, start, end - start};
-        map->core.size = end;
+        if (end > map->core.size) map->core.size = end;
+        if (end - start <= map->core.pool_length) continue;
+        map->core.pool_base = start;
+        map->core.pool_length = end - start;
     }
 }
 

@@ -91,9 +91,10 @@ static bootcore_range take_line(const char *line) {
 static void take_protocol(const char *word, bootcore_entry *entry) {
     const uint8_t *old = find_rsdp(&old_acpi), *new = find_rsdp(&new_acpi);
     uint32_t length = new ? *(const uint32_t *)(new + 20) : 0; /* the table's own field */
+    if (!check(entry->protocol == 0, "an entry has one protocol")) return;
     for (uint32_t i = BOOTCORE_MULTIBOOT2; i <= BOOTCORE_LINUX64; i++)
         if (is_word(word, protocols[i])) entry->protocol = i;
-    check(is_word(word, protocols[entry->protocol]), "no such protocol");
+    check(entry->protocol != 0, "no such protocol");
     if (entry->protocol != BOOTCORE_MULTIBOOT2) return;
     if (old) entry->rsdp_old = take_bytes(old, 20);
     if (length >= 36 && length <= 256) entry->rsdp_new = take_bytes(new, length);
@@ -120,6 +121,17 @@ static void take_fallbacks(char *text) {
     }
 }
 
+static void take_kernel(char *path, bootcore_entry *entry) {
+    if (check(entry->kernel == BOOTCORE_NO_FILE, "an entry has one kernel"))
+        entry->kernel = take_file(path);
+}
+
+static void take_ramdisk(char *path, bootcore_entry *entry) {
+    check(entry->protocol != BOOTCORE_MULTIBOOT2, "a multiboot2 kernel has modules");
+    if (check(entry->initrd == BOOTCORE_NO_FILE, "an entry has one ramdisk"))
+        entry->initrd = take_file(path);
+}
+
 static void begin_entry(const char *title) {
     if (!check(menu.entry_count < max_entries, "too many entries")) return;
     check(*title != 0, "a title is wanted");
@@ -139,17 +151,17 @@ static void take(const char *word, char *rest) {
     else if (!check(menu.entry_count != 0, "an entry begins with its title")) return;
     else if (is_word(word, "protocol")) take_protocol(rest, entry);
     else if (!check(entry->protocol != 0, "the protocol comes behind the title")) return;
-    else if (is_word(word, "kernel")) entry->kernel = take_file(rest);
-    else if (is_word(word, "line")) entry->line = take_line(rest);
+    else if (is_word(word, "kernel")) take_kernel(rest, entry);
     else if (is_word(word, "module")) take_module(rest, entry);
-    else if (!check(is_word(word, "ramdisk"), "no such word")) return;
-    else if (check(entry->protocol != BOOTCORE_MULTIBOOT2, "a multiboot2 kernel has modules"))
-        entry->initrd = take_file(rest);
+    else if (is_word(word, "ramdisk")) take_ramdisk(rest, entry);
+    else if (!check(is_word(word, "line"), "no such word")) return;
+    else if (check(entry->line.length == 0, "an entry has one line")) entry->line = take_line(rest);
 }
 
 const char *read_menu(char *text, uint32_t *line) {
     menu.seconds = no_limit;
     menu.arena = 4 << 20;
+    if (strlen(text) >= 3 && memcmp(text, "\xef\xbb\xbf", 3) == 0) text += 3; /* a mark of UTF-8 */
     for (*line = 1; *text; ++*line) {
         char *next = text;
         while (*next && *next != '\n') next++;
@@ -160,6 +172,7 @@ const char *read_menu(char *text, uint32_t *line) {
         if (wrong != NULL) return wrong;
         text = next;
     }
+    *line = 0;
     check(menu.entry_count != 0, "there is no entry");
     check(menu.chosen < menu.entry_count, "the default is no entry");
     for (uint32_t i = 0; i < menu.fallback_count; i++)

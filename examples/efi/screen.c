@@ -34,9 +34,10 @@ void print(const char *form, ...) {
 
 /* ---- the menu */
 
+/* In so many columns: a longer text is cut. */
 static void show_wide(const char *text, size_t width) {
-    print("%s", text);
-    for (size_t i = strlen(text); i < width; i++) print(" ");
+    size_t length = strlen(text);
+    for (size_t i = 0; i < width; i++) put(i < length ? text[i] : ' ');
 }
 
 static void show_row(uint32_t index, int is_marked) {
@@ -50,10 +51,20 @@ static void show_row(uint32_t index, int is_marked) {
     print("\n");
 }
 
+/* How many entries are shown at once, so that nothing scrolls: beside them there are seven rows. */
+static uint32_t count_rows(void) {
+    UINTN columns, rows;
+    if (EFI_ERROR(ST->ConOut->QueryMode(ST->ConOut, ST->ConOut->Mode->Mode, &columns, &rows)))
+        rows = 25;
+    return rows > 8 ? (uint32_t)rows - 7 : 1;
+}
+
 static void show_menu(uint32_t marked, uint32_t left) {
+    uint32_t room = count_rows(), first = marked < room ? 0 : marked - room + 1;
     ST->ConOut->SetCursorPosition(ST->ConOut, 0, 0);
     print("\n    bootcore: a boot manager on a proved loader core\n\n");
-    for (uint32_t i = 0; i < menu.entry_count; i++) show_row(i, i == marked);
+    for (uint32_t i = first; i < menu.entry_count && i - first < room; i++)
+        show_row(i, i == marked);
     print("\n    Up and Down choose, Enter boots, Escape leaves to the firmware.\n    ");
     print(left ? "The marked entry is booted in %u seconds.  \n"
                : "                                               \n", (uint64_t)left);
@@ -67,12 +78,16 @@ static EFI_INPUT_KEY key; /* the last one that was pressed */
 static int read_key(void) {
     static EFI_EVENT timer;
     UINTN index;
-    if (timer == NULL && EFI_ERROR(BS->CreateEvent(EVT_TIMER, 0, NULL, NULL, &timer))) return 0;
-    BS->SetTimer(timer, TimerRelative, 10000000); /* in steps of 100 ns */
-    EFI_EVENT events[2] = {ST->ConIn->WaitForKey, timer};
-    BS->WaitForEvent(2, events, &index);
-    key = (EFI_INPUT_KEY){0, 0}; /* a key that can't be read is one too, but no known one */
-    return !EFI_ERROR(ST->ConIn->ReadKeyStroke(ST->ConIn, &key)) || index == 0;
+    if (timer != NULL || !EFI_ERROR(BS->CreateEvent(EVT_TIMER, 0, NULL, NULL, &timer))) {
+        EFI_EVENT events[2] = {ST->ConIn->WaitForKey, timer};
+        BS->SetTimer(timer, TimerRelative, 10000000); /* in steps of 100 ns */
+        BS->WaitForEvent(2, events, &index);
+    } else {
+        timer = NULL;
+        BS->Stall(1000000); /* microseconds */
+    }
+    /* a Shift alone may end the wait, and is no key */
+    return !EFI_ERROR(ST->ConIn->ReadKeyStroke(ST->ConIn, &key));
 }
 
 int choose_entry(void) {

@@ -77,9 +77,11 @@ static int take_free(uint32_t i, int is_taken) {
     return !EFI_ERROR(BS->AllocatePages(AllocateAddress, EfiLoaderData, pages, &at));
 }
 
-/* Loads the entry while the firmware serves, into memory that the firmware gave for it. */
+/* Loads the entry while the firmware serves, into memory that the firmware gave for it. The core
+   runs on the firmware's stack here, which must not lie in what is lent. */
 const char *write_handover(void) {
     uint32_t taken = 0;
+    if ((UINTN)&taken < boot.map.core.size) return "The handover can't be written.";
     while (taken < boot.map.free_count && take_free(taken, 1)) taken++;
     int good = taken == boot.map.free_count && write_description() &&
                load_entry() == BOOTCORE_DONE;
