@@ -6,7 +6,7 @@
 #
 # The files are a Linux kernel of 10 MiB and an initial ramdisk of 200 MiB, in 512 MiB of memory. The programs read the files,
 # and then boot them once or eleven times; the difference is ten boots, without what reading costs. The programs take turns, and
-# the best of all rounds counts. Peak memory is that of one boot. Needs bash 5, coreutils, awk, cc, rustc, and the static library
+# the best of all rounds counts. Peak memory is that of one boot. Needs bash 5, coreutils, awk, cc, rt, rustc, and the static library
 # that examples/c/build makes.
 # shellcheck source-path=SCRIPTDIR source=loads.sh
 source "$(dirname "${BASH_SOURCE[0]}")/loads.sh"

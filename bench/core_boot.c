@@ -17,7 +17,7 @@ int main(int argc, char **argv)
     bootcore_entry entry = {0};
     bootcore_given given = {0};
     bootcore_handoff handoff;
-    bootcore_refusal refusals[1];
+    bootcore_refusal refusals[1] = {{0}};
     bootcore_menu menu = {0};
     uint64_t refused;
     unsigned char *memory;

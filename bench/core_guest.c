@@ -17,7 +17,7 @@ int main(int argc, char **argv)
     bootcore_entry entry = {0};
     bootcore_given given = {0};
     bootcore_handoff handoff;
-    bootcore_refusal refusal;
+    bootcore_refusal refusal = {0};
     unsigned char *memory;
     long rounds, round;
     if (argc != 4) return 1;

@@ -9,8 +9,9 @@ static size_t add_file(const char *path)
 {
     FILE *file = fopen(path, "rb");
     size_t length;
-    if (file == NULL || fseek(file, 0, SEEK_END) != 0) exit(1);
-    length = (size_t)ftell(file);
+    long end;
+    if (file == NULL || fseek(file, 0, SEEK_END) != 0 || (end = ftell(file)) < 0) exit(1);
+    length = (size_t)end;
     rewind(file);
     contents = realloc(contents, contents_length + length);
     if (contents == NULL || fread(contents + contents_length, 1, length, file) != length) exit(1);

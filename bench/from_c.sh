@@ -6,7 +6,7 @@
 #
 # The files are a Linux kernel of 10 MiB and an initial ramdisk of 200 MiB. Both programs read the files, and then load them
 # once or eleven times; the difference is ten loads, without what reading costs. The programs take turns, and the best of all
-# rounds counts. Peak memory is that of one load. Needs bash 5, coreutils, awk, cc, and the static library that
+# rounds counts. Peak memory is that of one load. Needs bash 5, coreutils, awk, binutils, cc, rt, and the static library that
 # examples/c/build makes.
 # shellcheck source-path=SCRIPTDIR source=loads.sh
 source "$(dirname "${BASH_SOURCE[0]}")/loads.sh"
@@ -21,4 +21,4 @@ cc -std=c99 -O2 -I"$here/../include" -o "$work/core_guest" "$here/core_guest.c" 
 cd "$work"
 make_files
 compare_loads ./plain_guest ./core_guest
-printf 'the library: %s bytes of code and data\n' "$(size -t "$work/core_guest" | tail -n 1 | awk '{ print $1 + $2 }')"
+printf 'the program, the core in it: %s bytes of code and data\n' "$(size -t "$work/core_guest" | tail -n 1 | awk '{ print $1 + $2 }')"

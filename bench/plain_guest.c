@@ -15,8 +15,9 @@ static unsigned char *read_file(const char *path, size_t *length)
 {
     FILE *file = fopen(path, "rb");
     unsigned char *bytes;
-    if (file == NULL || fseek(file, 0, SEEK_END) != 0) exit(1);
-    *length = (size_t)ftell(file);
+    long end;
+    if (file == NULL || fseek(file, 0, SEEK_END) != 0 || (end = ftell(file)) < 0) exit(1);
+    *length = (size_t)end;
     rewind(file);
     bytes = malloc(*length);
     if (bytes == NULL || fread(bytes, 1, *length, file) != *length) exit(1);

@@ -3,50 +3,48 @@
 #   . PATH-OF-THIS-REPOSITORY/completions/bootcore.bash
 
 _bootcore() {
-    local word=${COMP_WORDS[COMP_CWORD]} before=${COMP_WORDS[COMP_CWORD - 1]} choices='' option
+    local word=${COMP_WORDS[COMP_CWORD]} options='' left='' given=' ' has_file='' at option
     COMPREPLY=()
     if [ "$COMP_CWORD" = 1 ]; then
-        choices='boot map walk convert explain --help'
-    elif [ "$COMP_CWORD" -gt 2 ]; then
-        case "${COMP_WORDS[1]} $before" in
-            'boot --out') ;;
-            'boot --order') choices='forward reverse' ;;
-            boot\ *)
-                # the options that were not given yet
-                for option in --out --order; do
-                    case " ${COMP_WORDS[*]:2:COMP_CWORD-2} " in
-                        *" $option "*) ;;
-                        *) choices+=" $option" ;;
-                    esac
-                done
-                [ -n "$choices" ] || return 0
+        mapfile -t COMPREPLY < <(compgen -W 'boot map walk convert explain --help' -- "$word")
+        return
+    fi
+    case ${COMP_WORDS[1]} in
+        boot) options='--out --order --help' ;;
+        convert) options='--out --help' ;;
+        explain) options='--order --help' ;;
+        map | walk) options=--help ;;
+        *) return ;;
+    esac
+    # what stands before the word: options, those with a value with it, and the one file
+    for ((at = 2; at < COMP_CWORD; at++)); do
+        case " $options " in
+            *" ${COMP_WORDS[at]} "*)
+                given+="${COMP_WORDS[at]} "
+                if [ "${COMP_WORDS[at]}" != --help ]; then at=$((at + 1)); fi
                 ;;
-            'convert --out') ;;
-            convert\ *)
-                case " ${COMP_WORDS[*]:2:COMP_CWORD-2} " in
-                    *' --out '*) return 0 ;;
-                    *) choices='--out' ;;
-                esac
-                ;;
-            'explain --order') choices='forward reverse' ;;
-            explain\ *)
-                case " ${COMP_WORDS[*]:2:COMP_CWORD-2} " in
-                    *' --order '*) return 0 ;;
-                    *) choices='--order' ;;
-                esac
-                ;;
-            # map and walk take one file
-            *) return 0 ;;
+            *) has_file=yes ;;
         esac
-    fi
-    if [ -n "$choices" ]; then
-        mapfile -t COMPREPLY < <(compgen -W "$choices" -- "$word")
+    done
+    if ((at > COMP_CWORD)); then # the word is the value of an option
+        if [ "${COMP_WORDS[COMP_CWORD - 1]}" = --order ]; then
+            mapfile -t COMPREPLY < <(compgen -W 'forward reverse' -- "$word")
+            return
+        fi
     else
-        # a folder is completed with a slash, so that its files can follow; this works only
-        # if bash itself completes
-        compopt -o filenames 2>/dev/null
-        mapfile -t COMPREPLY < <(compgen -f -- "$word")
+        for option in $options; do
+            if [ "$option" = --help ] && ((COMP_CWORD > 2)); then continue; fi
+            case $given in *" $option "*) ;; *) left+=" $option" ;; esac
+        done
+        if [ -n "$has_file" ] || [[ $word == -* ]]; then
+            mapfile -t COMPREPLY < <(compgen -W "$left" -- "$word")
+            return
+        fi
     fi
+    # a folder is completed with a slash, so that its files can follow; this works only if bash itself
+    # completes
+    compopt -o filenames 2>/dev/null
+    mapfile -t COMPREPLY < <(compgen -f -- "$word")
 }
 
 complete -F _bootcore bootcore

@@ -8,7 +8,8 @@
 # It needs no root. busybox must be linked statically, since the ramdisk has no library: it is the one
 # on the PATH, or the variable BUSYBOX. The same busybox makes the same bytes each time: names are
 # sorted, and no time and no owner of this machine is in them.
-set -u
+set -uo pipefail
+umask 022
 usage="usage: examples/ramdisk.sh
   makes initrd.img in the current folder"
 
@@ -67,4 +68,7 @@ printf '\nLog in as root. The command reboot -f ends the machine.\n' >"$room/etc
 
 find "$room" -exec touch -h -d @0 {} +
 (cd "$room" && find . -print0 | LC_ALL=C sort -z |
-    cpio --null --quiet --reproducible --owner 0:0 -o -H newc) | gzip -n >initrd.img || exit 1
+    cpio --null --quiet --reproducible --owner 0:0 -o -H newc) | gzip -n >initrd.img || {
+    rm -f initrd.img
+    fail "the ramdisk could not be made"
+}

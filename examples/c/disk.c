@@ -83,7 +83,10 @@ int main(int argc, char **argv) {
         contents[i] = (uint8_t)(i * 7 + i / 256);
     }
     files[0].length = fread(contents, 1, 70000, kernel);
-    fclose(kernel);
+    if (ferror(kernel) || fclose(kernel) || files[0].length == 70000) {
+        fputs("disk: the kernel can't be read, or is too long\n", stderr);
+        return 2;
+    }
     memset(memory, 0xA5, SIZE);
     memset(other, 0xA5, SIZE);
 

@@ -28,16 +28,16 @@ static size_t file_count;
 /* Appends a file to the contents; 0 where it can't be read. */
 static int add_file(const char *path) {
     FILE *file = fopen(path, "rb");
-    if (!file || fseek(file, 0, SEEK_END)) {
-        return 0;
-    }
-    long length = ftell(file);
-    rewind(file);
-    uint8_t *grown = realloc(contents, contents_length + (size_t)length + 1);
+    long length = file && !fseek(file, 0, SEEK_END) ? ftell(file) : -1;
+    uint8_t *grown = length < 0 ? NULL : realloc(contents, contents_length + (size_t)length + 1);
     if (!grown) {
+        if (file) {
+            fclose(file);
+        }
         return 0;
     }
     contents = grown;
+    rewind(file);
     files[file_count].offset = contents_length;
     files[file_count].length = (uint64_t)length;
     file_count++;

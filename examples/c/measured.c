@@ -15,13 +15,17 @@
 #include <stdlib.h>
 #include <string.h>
 
-enum { MAX_FILES = 66, MAX_REGIONS = 128, ROOM = 0x20000000 };
+enum {
+    MAX_FILES = 66,
+    MAX_RUNS = 256, /* of a map that is printed; the core refuses more than 128 regions */
+    ROOM = 0x20000000
+};
 
 static uint8_t contents[ROOM]; /* the bytes of all lines and files, the image's last */
 static size_t length;
 static bootcore_range files[MAX_FILES];
 static bootcore_module modules[MAX_FILES];
-static bootcore_region regions[MAX_REGIONS];
+static bootcore_region regions[MAX_RUNS];
 static bootcore_given given = {
     .regions = regions, .modules = modules, .files = files, .text = contents, .contents = contents};
 static const uint8_t *image; /* what of the image is not compared yet */
@@ -36,7 +40,7 @@ static bootcore_range add_file(const char *path) {
     FILE *file = fopen(path, "rb");
     bootcore_range range = {length, file ? fread(contents + length, 1, ROOM - length, file) : 0};
     length += range.length;
-    if (!file || fclose(file) || length == ROOM) {
+    if (!file || ferror(file) || fclose(file) || length == ROOM) {
         give_up(path);
     }
     return range;
@@ -57,7 +61,7 @@ static void read_map(const char *path) {
     FILE *file = fopen(path, "r");
     uint64_t start, end;
     char kind[2];
-    while (file && given.region_count < MAX_REGIONS &&
+    while (file && given.region_count < MAX_RUNS &&
            fscanf(file, "%" SCNx64 " %" SCNx64 " %1s%*[a-z]", &start, &end, kind) == 3) {
         regions[given.region_count++] =
             (bootcore_region){start, end - start, (uint32_t)strcspn(" uranb", kind), 0};
@@ -105,7 +109,7 @@ int main(int argc, char **argv) {
     bootcore_handoff handoff;
     bootcore_refusal refusal;
     bootcore_seen seen;
-    if (argc < 7 || argc > 2 * MAX_FILES) {
+    if (argc < 7 || argc > 7 + 2 * 64) { /* 64 modules */
         give_up("SIZE MAP IMAGE multiboot2|linux|linux64 LINE KERNEL [FILE ..]");
     }
     given.machine.size = strtoull(argv[1], NULL, 0);
@@ -126,7 +130,10 @@ int main(int argc, char **argv) {
     given.text_length = given.contents_length = length;
     image = contents + whole.offset;
     left = whole.length;
-    uint8_t *memory = calloc(given.machine.size, 1);
+    uint8_t *memory = calloc(given.machine.size ? given.machine.size : 1, 1);
+    if (!memory) {
+        give_up("no memory");
+    }
     uint32_t status = bootcore_load(memory, given.machine.size, 0, &given, &entry, &handoff, places,
                                     BOOTCORE_MAX_PARTS, &refusal);
     if (status != BOOTCORE_DONE) {

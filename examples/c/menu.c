@@ -128,7 +128,10 @@ int main(int argc, char **argv) {
         return 2;
     }
     kernel_length = fread(contents + 100, 1, sizeof contents - 100, kernel);
-    fclose(kernel);
+    if (ferror(kernel) || fclose(kernel) || kernel_length == sizeof contents - 100) {
+        fputs("menu: the kernel can't be read, or is too long\n", stderr);
+        return 2;
+    }
     CHANGED(BOOTCORE_DONE, 1, 1, 22, (void)c);
     CHANGED(BOOTCORE_DONE, 1, 1, 0, c.refusal_room = 0);
     CHANGED(BOOTCORE_DONE, 1, 0, 0, c.menu.first = 1);

@@ -13,6 +13,9 @@ enum { SIZE = 0x200000, POOL = 0x100000 };
 
 static const bootcore_region usable[] = {{0, SIZE, BOOTCORE_USABLE, 0}};
 static const bootcore_region no_kind[] = {{0, SIZE, 6, 0}};
+static const bootcore_region high[] = {{0, SIZE, BOOTCORE_USABLE, 0},
+                                       {UINT64_MAX, 1, BOOTCORE_USABLE, 0}};
+static const bootcore_region many_regions[129] = {{0, 1, BOOTCORE_USABLE, 0}};
 static bootcore_module modules[65];
 static const uint8_t text[300] = "line";
 static bootcore_range files[2];
@@ -77,11 +80,11 @@ static void expect(int line, uint32_t status, uint32_t wanted) {
 /* Makes a session with one thing changed; the one that is kept stays so, unless it is made. */
 #define CHANGED(wanted, change)                                                      \
     do {                                                                             \
-        void *kept = session.kept;                                                   \
+        uintptr_t kept = (uintptr_t)session.kept;                                    \
         right();                                                                     \
         change;                                                                      \
         EXPECT(wanted, MAKE());                                                      \
-        EXPECT(1, (session.kept == kept) == ((wanted) != BOOTCORE_DONE));            \
+        EXPECT(1, ((uintptr_t)session.kept == kept) == ((wanted) != BOOTCORE_DONE)); \
     } while (0)
 
 static void try_make(void) {
@@ -94,6 +97,8 @@ static void try_make(void) {
     CHANGED(BOOTCORE_NULL, menu.fallback_count = 1);
     CHANGED(BOOTCORE_BAD_KIND, given.regions = no_kind);
     CHANGED(BOOTCORE_BAD_SIZE, given.machine.size = SIZE + 1);
+    CHANGED(BOOTCORE_TOO_MANY_REGIONS, given.regions = many_regions; given.region_count = 129);
+    CHANGED(BOOTCORE_BAD_REGION, given.regions = high; given.region_count = 2);
     CHANGED(BOOTCORE_BAD_POOL, given.machine.pool_length = 1);
     CHANGED(BOOTCORE_BAD_PROTOCOL, entries[0].protocol = 4);
     CHANGED(BOOTCORE_BAD_MODULES, entries[0].first_module = 65; entries[0].module_count = 1);
@@ -116,7 +121,7 @@ static void try_make(void) {
 static void try_none(void) {
     EXPECT(BOOTCORE_NO_SESSION, START(SIZE, 0));
     EXPECT(BOOTCORE_NO_SESSION, START(0, 0));
-    EXPECT(BOOTCORE_NO_SESSION, PIECE(memory, 1));
+    EXPECT(BOOTCORE_NO_SESSION, PIECE(text, 1));
     EXPECT(BOOTCORE_NO_SESSION, FAULT(SIZE));
     EXPECT(BOOTCORE_NO_SESSION, OUTCOME(BOOTCORE_MAX_PARTS));
     EXPECT(BOOTCORE_NO_SESSION, OUTCOME(0));
@@ -156,7 +161,7 @@ static void try_boot(void) {
     EXPECT(BOOTCORE_LOW_POOL, START(SIZE - 8192, 8192));
     right();
     EXPECT(BOOTCORE_DONE, MAKE());
-    EXPECT(BOOTCORE_WAITING, PIECE(memory, 9));
+    EXPECT(BOOTCORE_WAITING, PIECE(text, 9));
     EXPECT(BOOTCORE_WAITING, OUTCOME(BOOTCORE_MAX_PARTS));
     EXPECT(BOOTCORE_FEW_PLACES, OUTCOME(BOOTCORE_MAX_PARTS - 1));
     EXPECT(false, bootcore_session_missing(&session, &request));

@@ -17,15 +17,20 @@ static const char *const protocols[] = {"none", "multiboot2", "linux", "linux64"
 /* The bytes of a file, and how many they are; null if it can't be read. */
 static uint8_t *read_file(const char *path, size_t *length) {
     FILE *file = fopen(path, "rb");
-    if (!file || fseek(file, 0, SEEK_END)) {
-        return NULL;
+    long end = file && !fseek(file, 0, SEEK_END) ? ftell(file) : -1;
+    uint8_t *bytes = end < 0 ? NULL : malloc((size_t)end + 1);
+    *length = (size_t)end;
+    if (bytes) {
+        rewind(file);
+        if (fread(bytes, 1, *length, file) != *length) {
+            free(bytes);
+            bytes = NULL;
+        }
     }
-    *length = (size_t)ftell(file);
-    rewind(file);
-    uint8_t *bytes = malloc(*length + 1);
-    int whole = bytes && fread(bytes, 1, *length, file) == *length;
-    fclose(file);
-    return whole ? bytes : NULL;
+    if (file) {
+        fclose(file);
+    }
+    return bytes;
 }
 
 /* Arrays with room for all that is seen; one that there is no memory for stays null. */

@@ -84,7 +84,7 @@ static int is_right(void) {
     bootcore_refusal fault;
     if (bootcore_walk(image, length, &seen, &fault) != BOOTCORE_DONE ||
         walk_all(right()) != BOOTCORE_DONE || seen.kernel_parts > ROOM || seen.modules > ROOM ||
-        seen.runs > ROOM || seen.text_length > ROOM) {
+        seen.runs > ROOM || seen.text_length > ROOM || !seen.modules || !seen.text_length) {
         return 0;
     }
     all = told;
@@ -101,7 +101,7 @@ int main(int argc, char **argv) {
     length = file ? fread(image, 1, MOST, file) : 0;
     memset(&before, 0xA5, sizeof before);
     if (!is_right()) {
-        printf("the right call is wrong\n");
+        printf("the right call is wrong: it wants an image with a module and a line\n");
         return 2;
     }
     bootcore_seen seen = all.seen;

@@ -166,16 +166,36 @@ static uint32_t walk(const uint8_t *image, size_t length, size_t grants) {
     return status;
 }
 
+/* Whether the parts of the kernel that are seen are those that were handed over, and as many modules. */
+static int are_seen(void) {
+    const bootcore_entry *entry = &menu.entries[handoff.entry];
+    uint64_t parts = 0;
+    uint32_t i;
+    for (i = 0; i < handoff.places; i++) {
+        if (places[i].role != BOOTCORE_KERNEL) {
+            continue;
+        }
+        if (parts >= told.seen.kernel_parts || told.parts[parts].address != places[i].address ||
+            told.parts[parts].length != places[i].length) {
+            return 0;
+        }
+        parts++;
+    }
+    return parts > 0 && parts == told.seen.kernel_parts &&
+           told.seen.modules == (entry->protocol == BOOTCORE_MULTIBOOT2 ? entry->module_count : 0);
+}
+
 /* Whether a walk sees the handoff in its image, and tells nothing if a request was refused. */
 static int is_walked(const char *path) {
     FILE *file = fopen(path, "rb");
     uint8_t *image;
     size_t length, grants;
+    long end;
     int is_told;
-    if (!file || fseek(file, 0, SEEK_END)) {
+    if (!file || fseek(file, 0, SEEK_END) || (end = ftell(file)) < 0) {
         return 0;
     }
-    length = (size_t)ftell(file);
+    length = (size_t)end;
     rewind(file);
     image = malloc(length);
     if (!image || fread(image, 1, length, file) != length || fclose(file)) {
@@ -188,7 +208,7 @@ static int is_walked(const char *path) {
         }
     }
     is_told = walk(image, length, SIZE_MAX) == BOOTCORE_DONE && told.seen.protocol == handoff.protocol &&
-              told.seen.entry == handoff.registers.rip && told.parts[0].length > 0;
+              told.seen.entry == handoff.registers.rip && are_seen();
     free(image);
     return is_told;
 }
