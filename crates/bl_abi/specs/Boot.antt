@@ -16,8 +16,8 @@ use Rattle.bl_session.specs.Phases.{PhaseFacts, boot_facts, state_at}
 use Rattle.bl_session.specs.Run.{boot_end}
 use Rattle.bl_session.specs.declared.menu.fault.MenuFault.{MenuFault}
 use Rattle.bl_session.specs.declared.menu.fault.MenuFault.TheVariants as menu_faults
-use Rattle.bl_session.specs.declared.words.BootFault.{BootFault}
-use Rattle.bl_session.specs.declared.words.Outcome.{Outcome}
+use Rattle.bl_session.specs.declared.outcome.BootFault.{BootFault}
+use Rattle.bl_session.specs.declared.outcome.Outcome.{Outcome}
 use Rattle.bl_abi.specs.declared.records.ByteRange.{ByteRange}
 use Rattle.bl_abi.specs.declared.records.RegionRecord.{RegionRecord}
 use Rattle.bl_abi.specs.declared.records.MachineRecord.{MachineRecord}

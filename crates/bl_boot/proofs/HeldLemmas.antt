@@ -11,7 +11,7 @@ use Rattle.bl_plan.specs.Placed.{place_range}
 use Rattle.bl_load.specs.HandoffFacts.{HandoffFacts}
 use Rattle.bl_load.specs.PlanFacts.{part_in}
 use Rattle.bl_image.proofs.Spelled.{EndsIn, length-place_bytes}
-use Rattle.bl_session.specs.declared.words.RefusedEntry.{RefusedEntry}
+use Rattle.bl_session.specs.declared.outcome.RefusedEntry.{RefusedEntry}
 use Rattle.bl_session.specs.AttemptResult.{part_range}
 use Rattle.bl_session.specs.Boot.{handed_over}
 use Rattle.bl_session.specs.Phases.{handover_held}

@@ -21,7 +21,7 @@ use Rattle.bl_session.specs.Outcome.{EntryHasResult, File, IsFirst, IsOutcome, f
 use Rattle.bl_session.specs.Outcome.{file_bytes, missing, no_fault, size_of, value_in}
 use Rattle.bl_session.specs.Phases.{boot_facts}
 use Rattle.bl_session.specs.Pieces.{are_whole}
-use Rattle.bl_session.specs.declared.words.RefusedEntry.{RefusedEntry}
+use Rattle.bl_session.specs.declared.outcome.RefusedEntry.{RefusedEntry}
 use Rattle.bl_desc.specs.Described.{Described}
 use Rattle.bl_desc.specs.Entries.{Entry}
 use Rattle.bl_boot.specs.Attempted.{boot_of, entry_facts, menu_of, names_in}

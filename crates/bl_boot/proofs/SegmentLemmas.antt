@@ -25,7 +25,7 @@ use Rattle.bl_session.specs.Boot.{handed_over}
 use Rattle.bl_session.specs.Menu.{MenuFacts}
 use Rattle.bl_session.specs.Outcome.{File, IsOutcome, no_fault, size_of}
 use Rattle.bl_session.specs.Phases.{boot_facts}
-use Rattle.bl_session.specs.declared.words.RefusedEntry.{RefusedEntry}
+use Rattle.bl_session.specs.declared.outcome.RefusedEntry.{RefusedEntry}
 use Rattle.bl_session.proofs.OutcomeLaws.{is_handover}
 use Rattle.bl_desc.specs.declared.entry_row.EntryRow.{EntryRow}
 use Rattle.bl_desc.specs.Described.{Described}

@@ -14,7 +14,7 @@ use Rattle.bl_load.specs.Value.{EntryValue}
 use Rattle.bl_load.specs.declared.refusal.Refusal.{Refusal}
 use Rattle.bl_load.specs.declared.refusal.Refusal.TheVariants.{NotUsable, NoRoom, NoPool}
 use Rattle.bl_session.specs.AttemptResult.{part_range}
-use Rattle.bl_session.specs.declared.words.RefusedEntry.{RefusedEntry}
+use Rattle.bl_session.specs.declared.outcome.RefusedEntry.{RefusedEntry}
 use Rattle.bl_desc.specs.Entries.{Entry}
 use Rattle.bl_boot.specs.Attempted.{entry_value}
 use Rattle.bl_say.specs.EntryNames.{file_names}

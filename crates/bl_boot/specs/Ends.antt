@@ -11,7 +11,7 @@ use Rattle.bl_image.specs.Versions.{written_version}
 use Rattle.bl_desc.specs.Described.{Described, described, file_named}
 use Rattle.bl_boot.specs.Found.{AreFound, names_asked}
 use Rattle.bl_load.specs.Value.{EntryValue}
-use Rattle.bl_session.specs.declared.words.RefusedEntry.{RefusedEntry}
+use Rattle.bl_session.specs.declared.outcome.RefusedEntry.{RefusedEntry}
 use Rattle.bl_session.specs.AttemptResult.{AttemptResult}
 use Rattle.bl_session.specs.Boot.{State, handed_over, none_left, sizes_of}
 use Rattle.bl_session.specs.Outcome.{File, IsOutcome, EntryHasResult, value_in, no_fault}

@@ -1,7 +1,7 @@
 -- How the explanation of a boot ends. Own.
 use Rattle.std.specs.Prelude.{◌≡◌, ℕ, List, ◌++◌}
 use Rattle.bl_load.specs.Handover.{Handover}
-use Rattle.bl_session.specs.declared.words.RefusedEntry.{RefusedEntry}
+use Rattle.bl_session.specs.declared.outcome.RefusedEntry.{RefusedEntry}
 use Rattle.bl_session.specs.Boot.{State, handed_over, none_left}
 use Rattle.bl_session.specs.Outcome.{File}
 use Rattle.bl_desc.specs.Described.{described}

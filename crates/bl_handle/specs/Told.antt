@@ -1,9 +1,9 @@
 -- What a call through a handle answers in C. Own.
 use Rattle.std.specs.Prelude.{◌≡◌, ℕ, Bool, true, false, Option, None, Some, Result, Ok, Err}
-use Rattle.bl_session.specs.declared.words.Progress.{Progress}
-use Rattle.bl_session.specs.declared.words.Progress.TheVariants.{Waiting, Next, Done, Failed}
-use Rattle.bl_session.specs.declared.words.Request.{Request}
-use Rattle.bl_session.specs.declared.words.Ticket.{Ticket}
+use Rattle.bl_session.specs.declared.outcome.Progress.{Progress}
+use Rattle.bl_session.specs.declared.outcome.Progress.TheVariants.{Waiting, Next, Done, Failed}
+use Rattle.bl_session.specs.declared.ticket.Request.{Request}
+use Rattle.bl_session.specs.declared.ticket.Ticket.{Ticket}
 use Rattle.bl_handle.specs.declared.handle_fault.HandleFault.{HandleFault}
 use Rattle.bl_handle.specs.declared.handle_fault.HandleFault.TheVariants.{NoSession, WrongSize}
 use Rattle.bl_handle.specs.declared.handle_fault.HandleFault.TheVariants.{BelowBase}

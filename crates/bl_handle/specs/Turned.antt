@@ -2,7 +2,7 @@
 use Rattle.std.specs.Prelude.{◌≡◌, ◌≢◌, ℕ, List, Option, MatchBool, OnErr, OnOk, IfErr, IfOk}
 use Rattle.std.specs.Prelude.{Result, length}
 use Rattle.bl_mem.specs.Memory.{memory_from}
-use Rattle.bl_session.specs.declared.words.Progress.{Progress}
+use Rattle.bl_session.specs.declared.outcome.Progress.{Progress}
 use Rattle.bl_session.specs.Boot.{EventFacts, StepsOrFails, StartsOrFails, is_taken, attempt_of}
 use Rattle.bl_session.specs.Boot as steps
 use Rattle.bl_session.specs.Memory.{IsMemoryIn}

@@ -1,7 +1,7 @@
 //! The calls of a session through its handle, with the numbers and records of C.
 ghost use Rattle.std.specs.Prelude.{◌≡◌, ℕ, List, None, Result};
 ghost use Rattle.std.specs.Option.{MatchOption};
-ghost use Rattle.bl_session.specs.declared.words.Progress.{Progress as Progressed};
+ghost use Rattle.bl_session.specs.declared.outcome.Progress.{Progress as Progressed};
 ghost use Rattle.bl_session.specs.Boot.{piece, fault};
 ghost use Rattle.bl_session.specs.Phases.{state_at};
 ghost use Rattle.bl_session.specs.Requests.{first_request, request_after};

@@ -8,7 +8,7 @@ use Rattle.bl_map.specs.Kinds.{kind_number, region_end}
 use Rattle.bl_map.specs.Limits.{frame_size}
 use Rattle.bl_load.specs.declared.refusal.Refusal.{Refusal}
 use Rattle.bl_load.specs.declared.refusal.Refusal.TheVariants.{NoHeader, NotBzImage}
-use Rattle.bl_session.specs.declared.words.RefusedEntry.{RefusedEntry}
+use Rattle.bl_session.specs.declared.outcome.RefusedEntry.{RefusedEntry}
 use Rattle.bl_desc.specs.Described.{Described}
 use Rattle.bl_desc.specs.Entries.{Entry}
 use Rattle.bl_say.specs.Sought.{SoughtFacts, bytes_sought}

@@ -9,7 +9,7 @@ use Rattle.bl_stage.specs.PieceStates.{PieceState, piece_states}
 use Rattle.bl_session.specs.declared.attempt.Attempt.{Attempt}
 use Rattle.bl_session.specs.declared.attempt.Attempt.TheVariants as attempt
 use Rattle.bl_session.specs.declared.attempt.AttemptEnd.TheVariants as ended
-use Rattle.bl_session.specs.declared.words.RefusedEntry.{RefusedEntry}
+use Rattle.bl_session.specs.declared.outcome.RefusedEntry.{RefusedEntry}
 use Rattle.bl_session.specs.AttemptResult.{handed, refused, size_refusal}
 use Rattle.bl_session.specs.Menu.{EntryFacts, MenuFacts, entry_at}
 use Rattle.bl_session.specs.Pieces.{are_whole}

@@ -6,7 +6,7 @@ use Rattle.bl_map.specs.MachineFacts.{MachineFacts}
 use Rattle.bl_load.specs.declared.refusal.Refusal.{Refusal}
 use Rattle.bl_load.specs.declared.refusal.Refusal.TheVariants.{FileFault}
 use Rattle.bl_stage.specs.PieceStates.{PieceState, came_bytes}
-use Rattle.bl_session.specs.declared.words.RefusedEntry.{RefusedEntry}
+use Rattle.bl_session.specs.declared.outcome.RefusedEntry.{RefusedEntry}
 use Rattle.bl_session.specs.AttemptResult.{AttemptResult, handed, refused, HasResult, size_refusal}
 use Rattle.bl_session.specs.AttemptResult.{known_lengths}
 use Rattle.bl_session.specs.Menu.{MenuFacts, entry_at, value_with}

@@ -4,9 +4,9 @@ use Rattle.std.proofs.Common.{subst, ◌∙◌}
 use Rattle.std.specs.declared.ops.Range.{Range}
 use Rattle.bl_stage.specs.Ranges.{IsSameOutside}
 use Rattle.bl_stage.specs.PieceStates.{piece_states}
-use Rattle.bl_session.specs.declared.words.Ticket.{Ticket}
-use Rattle.bl_session.specs.declared.words.Progress.{Progress}
-use Rattle.bl_session.specs.declared.words.Progress.TheVariants.{Waiting}
+use Rattle.bl_session.specs.declared.ticket.Ticket.{Ticket}
+use Rattle.bl_session.specs.declared.outcome.Progress.{Progress}
+use Rattle.bl_session.specs.declared.outcome.Progress.TheVariants.{Waiting}
 use Rattle.bl_session.specs.Boot.{BootFacts, piece, fault, State, StepsOrFails, attempt_of}
 use Rattle.bl_session.specs.Boot.{is_running, progress}
 use Rattle.bl_session.specs.Outcome.{File}

@@ -7,7 +7,7 @@ use Rattle.bl_map.specs.Room.{frames_of}
 use Rattle.bl_stage.specs.Staged.{Staging}
 use Rattle.bl_stage.specs.PieceStates.{PieceState, piece_states, piece_states_of}
 use Rattle.bl_session.specs.History.{Item}
-use Rattle.bl_session.specs.declared.words.RefusedEntry.{RefusedEntry}
+use Rattle.bl_session.specs.declared.outcome.RefusedEntry.{RefusedEntry}
 use Rattle.bl_session.specs.Boot.{BootFacts}
 use Rattle.bl_session.specs.Menu.{entry_at}
 use Rattle.bl_session.specs.Asked.{piece_orders, orders_of_files, orders}

@@ -4,8 +4,8 @@ use Rattle.std.proofs.Common.{map, Option, Some, None, refl, sym, ap, subst, ◌
 use Rattle.std.proofs.lemmas.Bool.Decides.{nat_tests}
 use Rattle.bl_stage.specs.PieceStates.{PieceState, waits, piece_of}
 use Rattle.bl_stage.proofs.PieceStateLemmas.{piece_long}
-use Rattle.bl_session.specs.declared.words.Ticket.{Ticket}
-use Rattle.bl_session.specs.declared.words.RefusedEntry.{RefusedEntry}
+use Rattle.bl_session.specs.declared.ticket.Ticket.{Ticket}
+use Rattle.bl_session.specs.declared.outcome.RefusedEntry.{RefusedEntry}
 use Rattle.bl_session.specs.Pieces.{is_awaited, awaits, piece_state_of}
 use Rattle.bl_session.specs.Boot.{BootFacts, EventFacts, piece, fault, running, is_wanted}
 use Rattle.bl_session.specs.History.{Item, submitted, came, failed, nothing, is_same, file_under}

@@ -7,7 +7,7 @@ use Rattle.std.proofs.lemmas.List.{length-set, get_or-map, get_or_past, length-m
 use Rattle.std.proofs.lemmas.List.FromFn.{get_or-map-range_with_len, length-map-range_with_len}
 use Rattle.bl_map.specs.Room.{frames_of}
 use Rattle.bl_stage.specs.PieceStates.{PieceState, waits, has, waiting_pieces}
-use Rattle.bl_session.specs.declared.words.Ticket.{Ticket}
+use Rattle.bl_session.specs.declared.ticket.Ticket.{Ticket}
 use Rattle.bl_session.specs.Asked.{ticket_of, first_awaited_piece, first_ticket, ticket_or}
 use Rattle.bl_session.specs.Pieces.{is_awaited, awaits, piece_state_of, with_piece, awaited}
 

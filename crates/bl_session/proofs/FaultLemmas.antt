@@ -5,7 +5,7 @@ use Rattle.std.proofs.Common.{arith}
 use Rattle.std.proofs.lemmas.Bool.Decides.{nat_tests}
 use Rattle.bl_load.specs.declared.refusal.Refusal.TheVariants.{FileFault}
 use Rattle.bl_stage.specs.PieceStates.{PieceState, came_bytes}
-use Rattle.bl_session.specs.declared.words.RefusedEntry.{RefusedEntry}
+use Rattle.bl_session.specs.declared.outcome.RefusedEntry.{RefusedEntry}
 use Rattle.bl_session.specs.AttemptResult.{AttemptResult, refused}
 use Rattle.bl_session.specs.Pieces.{are_whole, with_piece}
 use Rattle.bl_session.specs.Boot.{BootFacts, EventFacts, piece, fault, State, running}

@@ -4,7 +4,7 @@ use Rattle.std.proofs.Common.{Option, Some, None, sym, ap, subst, ◌∙◌, ref
 use Rattle.bl_load.specs.declared.refusal.Refusal.{Refusal}
 use Rattle.bl_load.specs.declared.refusal.Refusal.TheVariants.{FileFault}
 use Rattle.bl_stage.specs.PieceStates.{PieceState, came_bytes}
-use Rattle.bl_session.specs.declared.words.RefusedEntry.{RefusedEntry}
+use Rattle.bl_session.specs.declared.outcome.RefusedEntry.{RefusedEntry}
 use Rattle.bl_session.specs.AttemptResult.{AttemptResult, handed, refused, HasResult, size_refusal}
 use Rattle.bl_session.specs.Pieces.{are_whole, with_piece}
 use Rattle.bl_session.specs.Boot.{BootFacts, EventFacts, piece, fault, State, unstarted, running}

@@ -3,9 +3,9 @@ use Rattle.std.proofs.Common.{◌≡◌, ◌≢◌, ℕ, ◌+◌, ◌<◌, true,
 use Rattle.std.proofs.Common.{subst, ◌∙◌, inl, inr}
 use Rattle.std.specs.declared.ops.Range.{Range}
 use Rattle.bl_stage.specs.PieceStates.{PieceState, piece_states}
-use Rattle.bl_session.specs.declared.words.Progress.{Progress}
-use Rattle.bl_session.specs.declared.words.Progress.TheVariants.{Waiting}
-use Rattle.bl_session.specs.declared.words.RefusedEntry.{RefusedEntry}
+use Rattle.bl_session.specs.declared.outcome.Progress.{Progress}
+use Rattle.bl_session.specs.declared.outcome.Progress.TheVariants.{Waiting}
+use Rattle.bl_session.specs.declared.outcome.RefusedEntry.{RefusedEntry}
 use Rattle.bl_session.specs.Boot.{BootFacts, EventFacts, unstarted, running, is_taken, StepsOrFails}
 use Rattle.bl_session.specs.Boot.{attempt_of, progress}
 use Rattle.bl_session.specs.Memory.{IsMemoryIn}

@@ -8,8 +8,8 @@ use Rattle.std.proofs.lemmas.Bool.Decides.{nat_tests}
 use Rattle.bl_map.specs.Room.{frames_of}
 use Rattle.bl_stage.specs.Staged.{Staging}
 use Rattle.bl_stage.specs.PieceStates.{PieceState, waits, has, piece_states}
-use Rattle.bl_session.specs.declared.words.Ticket.{Ticket}
-use Rattle.bl_session.specs.declared.words.RefusedEntry.{RefusedEntry}
+use Rattle.bl_session.specs.declared.ticket.Ticket.{Ticket}
+use Rattle.bl_session.specs.declared.outcome.RefusedEntry.{RefusedEntry}
 use Rattle.bl_session.specs.Pieces.{is_awaited, piece_state_of, are_whole}
 use Rattle.bl_session.specs.Boot.{fault, is_wanted}
 use Rattle.bl_session.specs.Asked.{ticket_of, first_awaited_piece, first_ticket, ticket_or}

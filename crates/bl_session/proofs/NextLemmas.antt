@@ -7,9 +7,9 @@ use Rattle.std.specs.declared.ops.Range.{Range}
 use Rattle.bl_load.specs.declared.refusal.Refusal.TheVariants.{FileFault}
 use Rattle.bl_stage.specs.Ranges.{IsSameOutside}
 use Rattle.bl_stage.specs.PieceStates.{PieceState}
-use Rattle.bl_session.specs.declared.words.Ticket.{Ticket}
-use Rattle.bl_session.specs.declared.words.RefusedEntry.{RefusedEntry}
-use Rattle.bl_session.specs.declared.words.Progress.TheVariants.{Waiting, Next}
+use Rattle.bl_session.specs.declared.ticket.Ticket.{Ticket}
+use Rattle.bl_session.specs.declared.outcome.RefusedEntry.{RefusedEntry}
+use Rattle.bl_session.specs.declared.outcome.Progress.TheVariants.{Waiting, Next}
 use Rattle.bl_session.specs.AttemptResult.{refused}
 use Rattle.bl_session.specs.Pieces.{with_piece}
 use Rattle.bl_session.specs.Boot.{BootFacts, EventFacts, fault, State, unstarted, running}

@@ -5,7 +5,7 @@ use Rattle.std.specs.List.{range_with_len}
 use Rattle.std.proofs.lemmas.Bool.{cases_lt}
 use Rattle.std.proofs.lemmas.List.{get_or_past}
 use Rattle.bl_stage.specs.PieceStates.{PieceState}
-use Rattle.bl_session.specs.declared.words.Ticket.{Ticket}
+use Rattle.bl_session.specs.declared.ticket.Ticket.{Ticket}
 use Rattle.bl_session.specs.History.{Item, submitted, came, failed, is_same, file_after}
 use Rattle.bl_session.specs.Asked.{ticket_of, piece_orders, orders_of_files}
 use Rattle.bl_session.proofs.TicketLemmas.{same_fields, is_same_self, other_ticket, IsUntouched}

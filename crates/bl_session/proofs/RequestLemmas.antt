@@ -9,9 +9,9 @@ use Rattle.bl_stage.specs.Staged.{Staging, staged_file}
 use Rattle.bl_stage.specs.Pieces.{is_missing, slot_in}
 use Rattle.bl_stage.specs.PieceStates as stage
 use Rattle.bl_stage.specs.PieceStates.{PieceState, piece_states, piece_of}
-use Rattle.bl_session.specs.declared.words.RefusedEntry.{RefusedEntry}
-use Rattle.bl_session.specs.declared.words.Request.{Request}
-use Rattle.bl_session.specs.declared.words.Ticket.{Ticket}
+use Rattle.bl_session.specs.declared.outcome.RefusedEntry.{RefusedEntry}
+use Rattle.bl_session.specs.declared.ticket.Request.{Request}
+use Rattle.bl_session.specs.declared.ticket.Ticket.{Ticket}
 use Rattle.bl_session.specs.Boot.{BootFacts}
 use Rattle.bl_session.specs.Menu.{entry_at}
 use Rattle.bl_session.specs.Phases.{PhaseFacts, waits, state_at}

@@ -11,8 +11,8 @@ use Rattle.bl_stage.specs.Pieces.{put_answer}
 use Rattle.bl_stage.specs.declared.stage.putting.Put.{Put}
 use Rattle.bl_stage.specs.declared.stage.putting.Put.TheVariants.{Stored, Strange}
 use Rattle.bl_stage.specs.PieceStates.{PieceState, piece_states, put_piece_state}
-use Rattle.bl_session.specs.declared.words.RefusedEntry.{RefusedEntry}
-use Rattle.bl_session.specs.declared.words.Ticket.{Ticket}
+use Rattle.bl_session.specs.declared.outcome.RefusedEntry.{RefusedEntry}
+use Rattle.bl_session.specs.declared.ticket.Ticket.{Ticket}
 use Rattle.bl_session.specs.Pieces.{awaits, piece_state_of, with_piece, are_whole}
 use Rattle.bl_session.specs.Boot.{BootFacts, EventFacts, piece, State, running, Begins, Continues}
 use Rattle.bl_session.specs.Boot.{Steps, is_wanted, ends_attempt}

@@ -7,7 +7,7 @@ use Rattle.std.specs.Bool.{Decides}
 use Rattle.std.proofs.lemmas.Bool.Decides.{Decides-like, Decides-and, Decides-eqb}
 use Rattle.std.specs.Prelude.{slice_index_or}
 use Rattle.bl_stage.specs.PieceStates.{piece_of}
-use Rattle.bl_session.specs.declared.words.Ticket.{Ticket}
+use Rattle.bl_session.specs.declared.ticket.Ticket.{Ticket}
 use Rattle.bl_session.specs.declared.store.Completion.{Completion}
 use Rattle.bl_session.specs.declared.store.Completion.TheVariants.{Piece, Fault}
 use Rattle.bl_session.specs.declared.submission.Submission.{Submission}

@@ -2,7 +2,7 @@
 use Rattle.std.proofs.Common.{◌≡◌, ◌≢◌, ◌⊎◌, ℕ, ◌==◌, Bool, true, false, if◌then◌else◌, List, []}
 use Rattle.std.proofs.Common.{◌∷◌, ◌++◌, length, refl, sym, ap, subst, ◌∙◌, append_assoc, inl, inr}
 use Rattle.std.proofs.lemmas.List.{append-nil}
-use Rattle.bl_session.specs.declared.words.Progress.TheVariants.{Waiting, Next}
+use Rattle.bl_session.specs.declared.outcome.Progress.TheVariants.{Waiting, Next}
 use Rattle.bl_session.specs.Boot.{BootFacts, EventFacts, State, unstarted, running, handed_over}
 use Rattle.bl_session.specs.Boot.{none_left, out_of_memory, is_running, attempt_of, progress}
 use Rattle.bl_session.specs.Boot.{StepsOrFails}

@@ -1,7 +1,7 @@
 -- Why nothing is handed over: numbers and texts. Own.
 use Rattle.std.specs.Prelude.{ℕ, List, codes}
-use Rattle.bl_session.specs.declared.words.BootFault.{BootFault}
-use Rattle.bl_session.specs.declared.words.BootFault.TheVariants.{NoEntryLeft, NoMemory}
+use Rattle.bl_session.specs.declared.outcome.BootFault.{BootFault}
+use Rattle.bl_session.specs.declared.outcome.BootFault.TheVariants.{NoEntryLeft, NoMemory}
 
 abbrev pub boot_fault_number : {A : Type 0} → BootFault A → ℕ
 boot_fault_number (NoEntryLeft refused) = 40

@@ -3,7 +3,7 @@ use Rattle.std.specs.Prelude.{◌≡◌, ℕ, ◌+◌, true, List, [], ◌∷◌
 use Rattle.std.specs.Prelude.{None, Some, if◌then◌else◌}
 use Rattle.bl_load.specs.Value.{EntryValue}
 use Rattle.bl_stage.specs.PieceStates.{PieceState, piece_of}
-use Rattle.bl_session.specs.declared.words.RefusedEntry.{RefusedEntry}
+use Rattle.bl_session.specs.declared.outcome.RefusedEntry.{RefusedEntry}
 use Rattle.bl_session.specs.AttemptResult.{AttemptResult, AttemptHasResult, file_limit}
 use Rattle.bl_session.specs.Menu.{entry_at, value_with}
 use Rattle.bl_session.specs.Pieces.{are_whole, with_piece}

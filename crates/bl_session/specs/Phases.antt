@@ -8,12 +8,12 @@ use Rattle.bl_load.specs.Handover.{Handover}
 use Rattle.bl_load.specs.PlanFacts.{handover_in}
 use Rattle.bl_stage.specs.Staged.{Staging}
 use Rattle.bl_stage.specs.PieceStates.{piece_states}
-use Rattle.bl_session.specs.declared.words.RefusedEntry.{RefusedEntry}
-use Rattle.bl_session.specs.declared.words.BootFault.{BootFault}
-use Rattle.bl_session.specs.declared.words.BootFault.TheVariants.{NoEntryLeft, NoMemory}
-use Rattle.bl_session.specs.declared.words.Outcome.{Outcome}
-use Rattle.bl_session.specs.declared.words.Event.{Event}
-use Rattle.bl_session.specs.declared.words.Event.TheVariants.{Piece, Fault}
+use Rattle.bl_session.specs.declared.outcome.RefusedEntry.{RefusedEntry}
+use Rattle.bl_session.specs.declared.outcome.BootFault.{BootFault}
+use Rattle.bl_session.specs.declared.outcome.BootFault.TheVariants.{NoEntryLeft, NoMemory}
+use Rattle.bl_session.specs.declared.outcome.Outcome.{Outcome}
+use Rattle.bl_session.specs.declared.ticket.Event.{Event}
+use Rattle.bl_session.specs.declared.ticket.Event.TheVariants.{Piece, Fault}
 use Rattle.bl_session.specs.declared.phase.Running.{Running}
 use Rattle.bl_session.specs.declared.phase.Phase.{Phase}
 use Rattle.bl_session.specs.declared.phase.Phase.TheVariants.{Unstarted, Waits, HandedOver, Failed}

@@ -3,8 +3,8 @@
 use Rattle.std.specs.Prelude.{ℕ, ◌+◌, List, [], drop, length, slice_index_or, Option, None}
 use Rattle.std.specs.Prelude.{option_map}
 use Rattle.bl_stage.specs.PieceStates.{PieceState, waits, has}
-use Rattle.bl_session.specs.declared.words.Ticket.{Ticket}
-use Rattle.bl_session.specs.declared.words.Request.{Request}
+use Rattle.bl_session.specs.declared.ticket.Ticket.{Ticket}
+use Rattle.bl_session.specs.declared.ticket.Request.{Request}
 use Rattle.bl_session.specs.Menu.{entry_at}
 use Rattle.bl_session.specs.Pieces.{piece_state_of}
 use Rattle.bl_session.specs.Boot.{BootFacts, State, on_running}

@@ -2,10 +2,10 @@
 use Rattle.std.specs.Prelude.{◌≡◌, ◌⊎◌, ◌↔◌, ℕ, true, List, [], ◌∷◌, ◌++◌, length, Some, Result, Ok}
 use Rattle.std.specs.Prelude.{Err}
 use Rattle.bl_stage.specs.PieceStates.{PieceState}
-use Rattle.bl_session.specs.declared.words.Ticket.{Ticket}
-use Rattle.bl_session.specs.declared.words.RefusedEntry.{RefusedEntry}
-use Rattle.bl_session.specs.declared.words.BootFault.{BootFault}
-use Rattle.bl_session.specs.declared.words.Outcome.{Outcome}
+use Rattle.bl_session.specs.declared.ticket.Ticket.{Ticket}
+use Rattle.bl_session.specs.declared.outcome.RefusedEntry.{RefusedEntry}
+use Rattle.bl_session.specs.declared.outcome.BootFault.{BootFault}
+use Rattle.bl_session.specs.declared.outcome.Outcome.{Outcome}
 use Rattle.bl_session.specs.Boot.{BootFacts, EventFacts, piece, fault, State, unstarted}
 use Rattle.bl_session.specs.Boot.{out_of_memory, is_running, is_wanted, StartsOrFails, StepsOrFails}
 use Rattle.bl_session.specs.Boot.{on_running}

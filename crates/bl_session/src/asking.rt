@@ -10,7 +10,7 @@ ghost use Rattle.bl_session.specs.PhasesKept.{HasSmallFiles};
 ghost use Rattle.bl_session.specs.TurnsKept.{IsAsked};
 
 use crate::store::Store;
-use crate::words::Ticket;
+use crate::ticket::Ticket;
 use bl_load::Entry;
 use bl_map::frames_of;
 use bl_stage::Stage;

@@ -10,8 +10,8 @@ ghost use Rattle.bl_session.specs.PhasesKept.{facts_of_boot, state_in, phase_by}
 ghost use Rattle.bl_session.specs.PhasesKept.{IsPhaseKept, IsWaiting};
 
 use crate::attempt::{Attempt, AttemptEnd, begin_attempt, end_attempt};
+use crate::outcome::{BootFault, Outcome, RefusedEntry};
 use crate::phase::{Boot, Phase, Running};
-use crate::words::{BootFault, Outcome, RefusedEntry};
 use bl_load::Refusal;
 use bl_mem::PhysMem;
 use bl_stage::scrub;

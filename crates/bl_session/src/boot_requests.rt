@@ -11,7 +11,7 @@ use crate::asking::submit_files;
 use crate::phase::{Boot, Phase};
 use crate::pieces::{first_missing, missing_piece, next_missing, request_of};
 use crate::store::Store;
-use crate::words::{Request, Ticket};
+use crate::ticket::{Request, Ticket};
 use std::alloc::{AllocError, Allocator};
 
 impl<'a, A: Allocator + Copy> Boot<'a, A> {

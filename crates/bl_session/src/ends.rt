@@ -6,8 +6,8 @@ ghost use Rattle.bl_session.specs.Phases.{phase_facts, end_facts, told, LiesWith
 ghost use Rattle.bl_session.specs.PhasesKept.{IsPhaseKept};
 ghost use Rattle.bl_session.specs.Run.{boot_end};
 
+use crate::outcome::{BootFault, Outcome};
 use crate::phase::Phase;
-use crate::words::{BootFault, Outcome};
 use std::alloc::Allocator;
 
 /// The end, if a phase is one.

@@ -12,7 +12,7 @@ ghost use Rattle.bl_session.specs.PhasesKept.{IsPhaseKept, IsWaiting, LacksPiece
 
 use crate::attempts::{refuse, settle};
 use crate::phase::{Boot, Phase, Running};
-use crate::words::{Event, Ticket};
+use crate::ticket::{Event, Ticket};
 use bl_load::Refusal;
 use bl_mem::PhysMem;
 use bl_stage::Put;

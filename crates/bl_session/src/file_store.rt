@@ -3,7 +3,7 @@ use crate::fetched::Fetched;
 use crate::ledger::Ledger;
 use crate::order::{Order, place_in};
 use crate::store::{Completion, Store};
-use crate::words::Ticket;
+use crate::ticket::Ticket;
 use std::alloc::{AllocError, Allocator};
 use std::marker::Model;
 

@@ -8,7 +8,7 @@ ghost use Rattle.bl_session.specs.Boot.{BootFacts, EventFacts, State, Starts, St
 ghost use Rattle.bl_session.specs.Boot.{Begins, LeadsTo, handed_over};
 ghost use Rattle.bl_session.specs.Outcome.{File, size_of, value_in, IsGenuine, IsOutcome};
 ghost use Rattle.bl_session.specs.Outcome.{HasEnded};
-ghost use Rattle.bl_session.specs.declared.words.RefusedEntry.{RefusedEntry};
+ghost use Rattle.bl_session.specs.declared.outcome.RefusedEntry.{RefusedEntry};
 ghost use Rattle.bl_load.specs.Handover.{Handover};
 ghost use Rattle.bl_load.specs.Parts.{IsHandover};
 

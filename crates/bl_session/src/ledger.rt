@@ -4,7 +4,7 @@ use crate::pending::Pending;
 use crate::store::Completion;
 use crate::stored_files::StoredFiles;
 use crate::submission::{Submission, answer};
-use crate::words::Ticket;
+use crate::ticket::Ticket;
 use std::alloc::{AllocError, Allocator};
 use std::marker::Model;
 

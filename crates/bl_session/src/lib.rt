@@ -16,6 +16,7 @@ mod laws;
 mod ledger;
 mod menu;
 mod order;
+mod outcome;
 mod owned_session;
 mod pending;
 mod phase;
@@ -34,8 +35,8 @@ mod store;
 mod stored_files;
 mod submission;
 mod submission_run;
+mod ticket;
 mod turns;
-mod words;
 
 pub use bl_plan::{MAX_ENTRIES, MAX_MODULES};
 pub use fetched::Fetched;
@@ -50,6 +51,7 @@ pub use laws::{
 pub use ledger::Ledger;
 pub use menu::{Menu, MenuFault, order_attempts};
 pub use order::Order;
+pub use outcome::{BootFault, Outcome, Progress, RefusedEntry};
 pub use owned_session::OwnedSession;
 pub use run_laws::{
     faithful_stores_boot_by_their_files, marked_histories_are_genuine,
@@ -63,4 +65,4 @@ pub use stage_files::FILE_LIMIT;
 pub use store::{Completion, Store};
 pub use stored_files::{SliceFiles, StoredFiles};
 pub use submission::Submission;
-pub use words::{BootFault, Event, Outcome, Progress, RefusedEntry, Request, Ticket};
+pub use ticket::{Event, Request, Ticket};

@@ -12,9 +12,10 @@ ghost use Rattle.bl_session.specs.Run.{boot_end};
 
 use crate::ends::{end_of, into_end};
 use crate::menu::Menu;
+use crate::outcome::{BootFault, Outcome, Progress};
 use crate::phase::{Boot, Phase, awaits_pieces};
 use crate::steps::{advance, begin_first};
-use crate::words::{BootFault, Event, Outcome, Progress, Request, Ticket};
+use crate::ticket::{Event, Request, Ticket};
 use bl_map::Machine;
 use bl_mem::PhysMem;
 use std::alloc::Allocator;

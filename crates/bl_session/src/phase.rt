@@ -6,7 +6,7 @@ ghost use Rattle.bl_session.specs.Phases.{phase_facts, is_waiting};
 ghost use Rattle.bl_session.specs.PhasesKept.{state_of, IsPhaseKept};
 
 use crate::menu::Menu;
-use crate::words::{BootFault, Outcome, Progress, RefusedEntry};
+use crate::outcome::{BootFault, Outcome, Progress, RefusedEntry};
 use bl_map::Machine;
 use bl_stage::Stage;
 use std::alloc::Allocator;

@@ -10,7 +10,7 @@ ghost use Rattle.bl_session.specs.Pieces.{piece_state_of};
 ghost use Rattle.bl_session.specs.Requests.{length_awaited, request_for, ticket_after};
 
 use crate::asking::{file_at, pieces_of};
-use crate::words::{Request, Ticket};
+use crate::ticket::{Request, Ticket};
 use bl_load::Entry;
 use bl_stage::Stage;
 use std::alloc::Allocator;

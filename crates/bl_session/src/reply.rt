@@ -7,7 +7,7 @@ ghost use Rattle.bl_session.specs.Scripts.{altered, event_by, replies_to};
 use crate::store::Completion;
 use crate::stored_files::StoredFiles;
 use crate::submission::{Submission, answer};
-use crate::words::Ticket;
+use crate::ticket::Ticket;
 use std::alloc::{AllocError, Allocator};
 
 /// What comes of a submission: its answer, the same with each byte altered, or a fault.

@@ -15,10 +15,10 @@ ghost use Rattle.bl_session.specs.Phases.{LiesWithin};
 ghost use Rattle.bl_session.specs.Run.{IsRun, IsGenuineRun, boot_end};
 
 use crate::menu::Menu;
+use crate::outcome::{BootFault, Outcome};
 use crate::session::Session;
 use crate::store::Store;
 use crate::turns::drive;
-use crate::words::{BootFault, Outcome};
 use bl_map::Machine;
 use bl_mem::PhysMem;
 use std::alloc::{AllocError, Allocator};

@@ -5,7 +5,7 @@ use crate::picks::Picks;
 use crate::reply::{Reply, completion_of, push_replies};
 use crate::store::{Completion, Store};
 use crate::submission::Submission;
-use crate::words::Ticket;
+use crate::ticket::Ticket;
 use std::alloc::{AllocError, Allocator};
 use std::marker::Model;
 

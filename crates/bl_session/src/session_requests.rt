@@ -9,7 +9,7 @@ ghost use Rattle.bl_session.specs.TurnsKept.{IsAsked, missing_in};
 use crate::phase::{Boot, awaits_pieces};
 use crate::session::Session;
 use crate::store::Store;
-use crate::words::{Request, Ticket};
+use crate::ticket::{Request, Ticket};
 use std::alloc::{AllocError, Allocator};
 
 impl<'a, A: Allocator + Copy> Session<'a, A> {

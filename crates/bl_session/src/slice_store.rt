@@ -3,7 +3,7 @@ use crate::ledger::Ledger;
 use crate::order::{Order, place_in};
 use crate::store::{Completion, Store};
 use crate::stored_files::SliceFiles;
-use crate::words::Ticket;
+use crate::ticket::Ticket;
 use std::alloc::{AllocError, Allocator};
 
 /// A store over files that lie in slices: it copies a piece as it answers, and never a whole file.

@@ -12,8 +12,9 @@ ghost use Rattle.bl_session.specs.PhasesKept.{facts_of_boot, state_in, IsPhaseKe
 
 use crate::attempts::begin;
 use crate::events::take;
+use crate::outcome::{BootFault, Progress};
 use crate::phase::{Boot, Phase, number_of, progress_of};
-use crate::words::{BootFault, Event, Progress};
+use crate::ticket::Event;
 use bl_map::Machine;
 use bl_mem::PhysMem;
 use std::alloc::{AllocError, Allocator};

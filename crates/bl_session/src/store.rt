@@ -4,7 +4,7 @@ ghost use Rattle.std.specs.Prelude.{IfSome, IsNone, slice_index_or};
 ghost use Rattle.bl_session.specs.History.{Item, submitted, IsItemOf};
 ghost use Rattle.bl_session.specs.Outcome.{File, missing, size_of};
 
-use crate::words::{Event, Ticket};
+use crate::ticket::{Event, Ticket};
 use std::alloc::{AllocError, Allocator};
 
 /// An answer to a ticket: a piece, or a fault in its place.

@@ -4,7 +4,7 @@ ghost use Rattle.bl_session.specs.Stores.{answer_to, event_of};
 
 use crate::store::Completion;
 use crate::stored_files::StoredFiles;
-use crate::words::Ticket;
+use crate::ticket::Ticket;
 use std::alloc::{AllocError, Allocator};
 
 /// A file of the menu, by its index, was asked for under a ticket.

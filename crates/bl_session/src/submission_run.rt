@@ -4,7 +4,7 @@ ghost use Rattle.std.specs.Prelude.{take, drop, slice_get, if◌then◌else◌, 
 ghost use Rattle.bl_session.specs.PendingKept.{of_piece, GoesOn};
 
 use crate::submission::Submission;
-use crate::words::Ticket;
+use crate::ticket::Ticket;
 use std::marker::Model;
 
 /// One or more submissions for a file under an attempt: the first, and one of each piece that

@@ -11,9 +11,10 @@ ghost use Rattle.bl_session.specs.Phases.{event_facts, state_at, is_waiting, not
 ghost use Rattle.bl_session.specs.Run.{RunState, run_state_of};
 ghost use Rattle.bl_session.specs.TurnsKept.{IsHeard, attempts_in};
 
+use crate::outcome::Progress;
 use crate::session::Session;
 use crate::store::{Completion, Store};
-use crate::words::{Event, Progress};
+use crate::ticket::Event;
 use bl_mem::PhysMem;
 use std::alloc::{AllocError, Allocator};
 

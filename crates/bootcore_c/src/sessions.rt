@@ -1,7 +1,7 @@
 //! A session for C: a boot that is told its pieces as they come.
 ghost use Rattle.std.specs.Prelude.{◌≡◌, ℕ, List, [], None, Err, Result};
 ghost use Rattle.std.specs.Option.{MatchOption};
-ghost use Rattle.bl_session.specs.declared.words.Progress.{Progress};
+ghost use Rattle.bl_session.specs.declared.outcome.Progress.{Progress};
 ghost use Rattle.bl_session.specs.Boot.{piece, fault};
 ghost use Rattle.bl_session.specs.Phases.{SessionFacts, state_at};
 ghost use Rattle.bl_session.specs.Requests.{first_request, request_after};

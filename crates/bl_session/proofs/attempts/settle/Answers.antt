@@ -7,7 +7,7 @@ use Rattle.bl_session.specs.PhasesKept.{facts_of_boot, state_of, phase_by}
 use Rattle.bl_session.specs.declared.attempt.Attempt.TheVariants.{Waits, Ended}
 use Rattle.bl_session.specs.declared.attempt.AttemptEnd.TheVariants.{HandedOver, Refused}
 use Rattle.bl_session.specs.Phases.{handover_held}
-use Rattle.bl_session.specs.declared.words.RefusedEntry.{RefusedEntry}
+use Rattle.bl_session.specs.declared.outcome.RefusedEntry.{RefusedEntry}
 use Rattle.bl_session.proofs.AdvanceLemmas.{continues, continues_later, attempt_of_entry}
 use Rattle.bl_session.proofs.KeptMemoryLemmas.{memory_later}
 use Rattle.bl_session.proofs.attempts.settle.Goals as goal

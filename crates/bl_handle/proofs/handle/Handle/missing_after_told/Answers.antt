@@ -1,6 +1,6 @@
 use Rattle.std.proofs.Common.{◌≡◌, None, subst}
 use Rattle.std.specs.Option.{MatchOption}
-use Rattle.bl_session.specs.declared.words.Ticket.{Ticket}
+use Rattle.bl_session.specs.declared.ticket.Ticket.{Ticket}
 use Rattle.bl_session.specs.Phases.{SessionFacts, state_at}
 use Rattle.bl_session.specs.Requests.{request_after}
 use Rattle.bl_handle.specs.Told.{record_ticket}
