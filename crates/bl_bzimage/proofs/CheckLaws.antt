@@ -6,7 +6,7 @@ use Rattle.std.proofs.Common.{◌≡◌, ◌<◌, ◌≤◌, ◌^◌, ℕ, Bool,
 use Rattle.std.proofs.Common.{arith, refl, sym, subst, ◌∙◌, nat_eq}
 use Rattle.std.proofs.lemmas.Nat.{ones_le_self}
 use Rattle.std.proofs.lemmas.Bool.Decides.{nat_tests}
-use Rattle.bl_mem.specs.Words.{u16_at, u64_at}
+use Rattle.bl_mem.specs.LittleEndian.{u16_at, u64_at}
 use Rattle.bl_bzimage.specs.declared.fault.SetupFault.{SetupFault}
 use Rattle.bl_bzimage.specs.declared.fault.SetupFault.TheVariants.{NotBzImage, OldProtocol, NotHigh}
 use Rattle.bl_bzimage.specs.declared.fault.SetupFault.TheVariants.{SetupCut, BadAlign, BadPreferred}

@@ -5,7 +5,7 @@ use Rattle.std.specs.Prelude.{◌≡◌, ◌+◌, ◌-◌, ◌*◌, ℕ, Bool, �
 use Rattle.std.specs.Prelude.{nat_lt, nat_le, min, bit_and, List, length, slice_index, slice_range}
 use Rattle.std.specs.Prelude.{Option, Some, None}
 use Rattle.std.specs.Int.{is_power_of_two}
-use Rattle.bl_mem.specs.Words.{u16_at, u32_at, u64_at}
+use Rattle.bl_mem.specs.LittleEndian.{u16_at, u32_at, u64_at}
 use Rattle.bl_bzimage.specs.declared.setup.Setup.{Setup}
 use Rattle.bl_bzimage.specs.declared.fault.SetupFault.{SetupFault}
 use Rattle.bl_bzimage.specs.declared.fault.SetupFault.TheVariants.{NotBzImage, OldProtocol, NotHigh}

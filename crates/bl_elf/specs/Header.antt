@@ -2,7 +2,7 @@
 -- supplements): its fields at their offsets, and the first fault that it has.
 use Rattle.std.specs.Prelude.{◌+◌, ◌*◌, ℕ, Bool, ◌&&◌, ◌||◌, not, if◌then◌else◌, ◌==◌, nat_lt}
 use Rattle.std.specs.Prelude.{nat_le, List, length, slice_index, Option, Some, None}
-use Rattle.bl_mem.specs.Words.{u16_at, u32_at, u64_at}
+use Rattle.bl_mem.specs.LittleEndian.{u16_at, u32_at, u64_at}
 use Rattle.bl_elf.specs.declared.class.Class.{Class}
 use Rattle.bl_elf.specs.declared.class.Class.TheVariants.{Elf32, Elf64}
 use Rattle.bl_elf.specs.declared.header.Header.{Header}

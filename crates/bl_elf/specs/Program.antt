@@ -3,7 +3,7 @@
 use Rattle.std.specs.Prelude.{◌+◌, ◌*◌, ◌^◌, ℕ, zero, suc, Bool, ◌&&◌, not, if◌then◌else◌, ◌==◌}
 use Rattle.std.specs.Prelude.{nat_lt, nat_le, List, [], ◌∷◌, length, map, filter, Option, Some}
 use Rattle.std.specs.Prelude.{None}
-use Rattle.bl_mem.specs.Words.{u32_at, u64_at}
+use Rattle.bl_mem.specs.LittleEndian.{u32_at, u64_at}
 use Rattle.bl_mem.specs.declared.segment.Segment.{Segment}
 use Rattle.bl_elf.specs.declared.class.Class.{Class}
 use Rattle.bl_elf.specs.declared.class.Class.TheVariants.{Elf32, Elf64}

@@ -6,8 +6,8 @@ use Rattle.std.specs.Prelude.{nat_lt}
 use Rattle.std.proofs.lemmas.List.{append-nil, take_at, drop_at}
 use Rattle.std.proofs.lemmas.Bool.{le-ltb}
 use Rattle.std.proofs.lemmas.Bool.Decides.{nat_tests}
-use Rattle.bl_mem.specs.Words.{u32_at, u64_at, u32_bytes, u64_bytes}
-use Rattle.bl_mem.proofs.WordLaws.{u32_again, u64_again}
+use Rattle.bl_mem.specs.LittleEndian.{u32_at, u64_at, u32_bytes, u64_bytes}
+use Rattle.bl_mem.proofs.LittleEndianLaws.{u32_again, u64_again}
 use Rattle.bl_image.specs.declared.fault.ImageFault.{ImageFault}
 use Rattle.bl_image.specs.declared.fault.ImageFault.TheVariants.{BadMagic, BadVersion, BadHeader}
 use Rattle.bl_image.specs.declared.fault.ImageFault.TheVariants.{BadPart, WrongLength, DeviceFault}

@@ -3,8 +3,8 @@ use Rattle.std.proofs.Common.{◌≡◌, ◌≤◌, ◌<◌, ◌^◌, ℕ, true,
 use Rattle.std.proofs.Common.{refl, sym, ap, ◌∙◌, arith, append_assoc, lit<}
 use Rattle.std.specs.Prelude.{nat_le, ◌==◌}
 use Rattle.std.proofs.lemmas.Bool.Decides.{nat_tests}
-use Rattle.bl_mem.specs.Words.{number_at, u32_at, u32_bytes, u64_bytes}
-use Rattle.bl_mem.proofs.WordLaws.{length-u32_bytes, u32_again}
+use Rattle.bl_mem.specs.LittleEndian.{number_at, u32_at, u32_bytes, u64_bytes}
+use Rattle.bl_mem.proofs.LittleEndianLaws.{length-u32_bytes, u32_again}
 use Rattle.bl_plan.specs.declared.protocol.Protocol.{Protocol}
 use Rattle.bl_plan.specs.declared.protocol.Protocol.TheVariants.{Multiboot2, Linux, Linux64}
 use Rattle.bl_plan.specs.Protocols.{protocol_number}

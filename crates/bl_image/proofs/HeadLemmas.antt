@@ -3,8 +3,8 @@ use Rattle.std.proofs.Common.{◌≡◌, ℕ, true, List, [], ◌∷◌, ◌++�
 use Rattle.std.proofs.Common.{refl, ap, ◌∙◌, append_assoc}
 use Rattle.std.specs.Prelude.{nat_le, ◌&&◌}
 use Rattle.std.proofs.lemmas.List.{drop_at}
-use Rattle.bl_mem.specs.Words.{number_at, u32_at, u32_bytes}
-use Rattle.bl_mem.proofs.WordLaws.{length-u32_bytes, u32_again}
+use Rattle.bl_mem.specs.LittleEndian.{number_at, u32_at, u32_bytes}
+use Rattle.bl_mem.proofs.LittleEndianLaws.{length-u32_bytes, u32_again}
 use Rattle.bl_plan.specs.declared.protocol.Protocol.{Protocol}
 use Rattle.bl_plan.specs.Protocols.{protocol_number}
 use Rattle.bl_image.specs.declared.fault.ImageFault.{ImageFault}

@@ -1,7 +1,7 @@
 -- A head that was put together of its pieces.
 use Rattle.std.proofs.Common.{◌≡◌, ℕ, List, [], ◌++◌, take, ap, ◌∙◌, append_assoc}
 use Rattle.std.proofs.lemmas.List.{append-nil}
-use Rattle.bl_mem.specs.Words.{u32_bytes}
+use Rattle.bl_mem.specs.LittleEndian.{u32_bytes}
 use Rattle.bl_plan.specs.Protocols.{protocol_number}
 use Rattle.bl_plan.specs.declared.protocol.Protocol.{Protocol}
 use Rattle.bl_load.specs.declared.registers.Registers.{Registers}

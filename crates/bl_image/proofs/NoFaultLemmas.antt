@@ -11,8 +11,8 @@ use Rattle.std.proofs.lemmas.List.{take-append-drop, get_or-drop, get_or-take, g
 use Rattle.std.proofs.lemmas.List.{length-take, length-take-le, length-drop, drop_all}
 use Rattle.std.proofs.lemmas.List.Elements.{All-cons, All-nil}
 use Rattle.std.proofs.lemmas.List.Concat.{flat_map-cons}
-use Rattle.bl_mem.proofs.WordLaws.{u32_at-lt}
-use Rattle.bl_mem.specs.Words.{number_at, u32_at, u64_at, u32_bytes, u64_bytes}
+use Rattle.bl_mem.proofs.LittleEndianLaws.{u32_at-lt}
+use Rattle.bl_mem.specs.LittleEndian.{number_at, u32_at, u64_at, u32_bytes, u64_bytes}
 use Rattle.bl_plan.specs.declared.part.Role.{Role}
 use Rattle.bl_plan.specs.declared.part.Role.TheVariants.{Kernel, Module, Information, BootParams}
 use Rattle.bl_plan.specs.declared.part.Role.TheVariants.{CommandLine, Gdt, Initrd, PageTables}

@@ -4,9 +4,9 @@ use Rattle.std.proofs.Common.{refl, sym, ap, ◌∙◌, arith, length-append}
 use Rattle.std.proofs.lemmas.List.{take_at, drop_at}
 use Rattle.std.proofs.lemmas.List.Elements.{All-tail}
 use Rattle.std.specs.List.{flat_map}
-use Rattle.bl_mem.specs.Words.{u32_at, u64_at, u32_bytes, u64_bytes}
-use Rattle.bl_mem.proofs.WordLaws.{length-u32_bytes, length-u64_bytes, u32_again}
-use Rattle.bl_mem.proofs.WordLaws.{u64_again}
+use Rattle.bl_mem.specs.LittleEndian.{u32_at, u64_at, u32_bytes, u64_bytes}
+use Rattle.bl_mem.proofs.LittleEndianLaws.{length-u32_bytes, length-u64_bytes, u32_again}
+use Rattle.bl_mem.proofs.LittleEndianLaws.{u64_again}
 
 -- two lists that begin with as many elements each
 pub front_same : (a b x y : List ℕ) → length a ≡ length b → a ++ x ≡ b ++ y → a ≡ b

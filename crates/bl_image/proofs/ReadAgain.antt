@@ -11,8 +11,8 @@ use Rattle.bl_load.specs.Protocols.{is_wide}
 use Rattle.bl_load.specs.Registers.{are_wide}
 use Rattle.bl_plan.specs.Protocols as protocols
 use Rattle.bl_load.specs.Handover.{Part, Handover}
-use Rattle.bl_mem.specs.Words.{u32_bytes, u64_bytes}
-use Rattle.bl_mem.proofs.WordLaws.{length-u32_bytes, length-u64_bytes}
+use Rattle.bl_mem.specs.LittleEndian.{u32_bytes, u64_bytes}
+use Rattle.bl_mem.proofs.LittleEndianLaws.{length-u32_bytes, length-u64_bytes}
 use Rattle.bl_image.specs.declared.version.Version.{Version}
 use Rattle.bl_image.specs.Image.{magic, spelled_registers, head, part_record, spelling}
 use Rattle.bl_image.specs.Versions.{version_number}

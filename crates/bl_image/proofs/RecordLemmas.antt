@@ -3,8 +3,8 @@ use Rattle.std.proofs.Common.{◌≡◌, ◌+◌, ◌≤◌, ◌<◌, ◌^◌, �
 use Rattle.std.proofs.Common.{drop, Option, Some, None, refl, ap, ◌∙◌, arith, append_assoc}
 use Rattle.std.specs.Prelude.{nat_le, ◌&&◌, Bool}
 use Rattle.std.proofs.lemmas.Bool.Decides.{nat_tests}
-use Rattle.bl_mem.specs.Words.{number_at, u64_at, u32_bytes, u64_bytes}
-use Rattle.bl_mem.proofs.WordLaws.{length-u32_bytes, length-u64_bytes, u64_again}
+use Rattle.bl_mem.specs.LittleEndian.{number_at, u64_at, u32_bytes, u64_bytes}
+use Rattle.bl_mem.proofs.LittleEndianLaws.{length-u32_bytes, length-u64_bytes, u64_again}
 use Rattle.bl_plan.specs.declared.part.Role.{Role}
 use Rattle.bl_plan.specs.declared.part.Place.{Place}
 use Rattle.bl_plan.specs.Roles as roles

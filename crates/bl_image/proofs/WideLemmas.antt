@@ -11,8 +11,8 @@ use Rattle.std.proofs.lemmas.List.Elements.{All-head, All-tail, All-take, All-dr
 use Rattle.std.proofs.lemmas.List.Elements.{All-append, All-replicate}
 use Rattle.std.proofs.lemmas.Bool.Decides.{nat_tests}
 use Rattle.std.proofs.lemmas.Grind.{flat_map-append}
-use Rattle.bl_mem.specs.Words.{u64_bytes}
-use Rattle.bl_mem.proofs.WordLaws.{length-u64_bytes}
+use Rattle.bl_mem.specs.LittleEndian.{u64_bytes}
+use Rattle.bl_mem.proofs.LittleEndianLaws.{length-u64_bytes}
 use Rattle.bl_load.specs.declared.registers.Registers32.{Registers32}
 use Rattle.bl_load.specs.declared.registers.Registers.TheVariants.{Bits32}
 use Rattle.bl_image.specs.declared.fault.ImageFault.TheVariants.{BadHeader}

@@ -2,7 +2,7 @@
 use Rattle.std.specs.Prelude.{ℕ, ◌+◌, ◌^◌, Bool, true, not, ◌&&◌, if◌then◌else◌, ◌==◌}
 use Rattle.std.specs.Prelude.{nat_lt, nat_le, List, [], ◌∷◌, length, take, drop, bytes_eq}
 use Rattle.std.specs.Prelude.{Option, Some, None}
-use Rattle.bl_mem.specs.Words.{u32_at, u64_at}
+use Rattle.bl_mem.specs.LittleEndian.{u32_at, u64_at}
 use Rattle.bl_load.specs.HandoffFacts.{most_parts}
 use Rattle.bl_image.specs.declared.fault.ImageFault.{ImageFault}
 use Rattle.bl_image.specs.declared.fault.ImageFault.TheVariants.{BadMagic, BadVersion, BadHeader}

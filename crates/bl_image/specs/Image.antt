@@ -1,7 +1,7 @@
 -- The image of a handover: its one spelling in each version. All numbers are little-endian. Own.
 use Rattle.std.specs.Prelude.{ℕ, List, [], ◌∷◌, ◌++◌, length, codes}
 use Rattle.std.specs.List.{flat_map}
-use Rattle.bl_mem.specs.Words.{u32_bytes, u64_bytes}
+use Rattle.bl_mem.specs.LittleEndian.{u32_bytes, u64_bytes}
 use Rattle.bl_plan.specs.declared.part.Role.{Role}
 use Rattle.bl_plan.specs.Roles as roles
 use Rattle.bl_plan.specs.declared.protocol.Protocol.{Protocol}

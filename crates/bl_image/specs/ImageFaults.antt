@@ -1,7 +1,7 @@
 -- The first fault of bytes that should be an image, in the order of reading. Own.
 use Rattle.std.specs.Prelude.{ℕ, zero, suc, ◌+◌, if◌then◌else◌, ◌==◌}
 use Rattle.std.specs.Prelude.{List, [], ◌∷◌, length, drop, Option, Some, None}
-use Rattle.bl_mem.specs.Words.{u32_at, u64_at}
+use Rattle.bl_mem.specs.LittleEndian.{u32_at, u64_at}
 use Rattle.bl_image.specs.declared.fault.ImageFault.{ImageFault}
 use Rattle.bl_image.specs.declared.fault.ImageFault.TheVariants.{WrongLength}
 use Rattle.bl_image.specs.Fields.{fields_fault, opening_fields, protocol_field, record_fields}

@@ -1,7 +1,7 @@
 -- How an image goes on after its protocol. Own.
 use Rattle.std.specs.Prelude.{ℕ, Bool, true, false, List, [], ◌∷◌, ◌++◌, ◌==◌, if◌then◌else◌}
 use Rattle.std.specs.Prelude.{replicate}
-use Rattle.bl_mem.specs.Words.{u32_at}
+use Rattle.bl_mem.specs.LittleEndian.{u32_at}
 use Rattle.bl_image.specs.Fields.{Field, register_field, narrow_field, absent_field, wide_field}
 use Rattle.bl_image.specs.Fields.{count_field, zero_field}
 

@@ -1,7 +1,7 @@
 //! Fields of an image, read one after the other.
 ghost use Rattle.std.specs.Prelude.{◌≡◌, ◌+◌, ◌*◌, ◌<◌, ◌^◌, length, All, IfOk, OnOk, IfErr};
 ghost use Rattle.std.specs.List.{flat_map};
-ghost use Rattle.bl_mem.specs.Words.{u32_bytes, u64_bytes};
+ghost use Rattle.bl_mem.specs.LittleEndian.{u32_bytes, u64_bytes};
 ghost use Rattle.bl_image.specs.Source.{Comes, faults_met};
 ghost use Rattle.bl_image.specs.SourceKept.{IsCut};
 
@@ -23,7 +23,7 @@ pub(crate) fn read_exact<S: Source>(source: &mut S, out: &mut [u8]) -> Result<()
 }
 
 /// The number that these bytes spell, the lowest first.
-#[tactic(auto, unfolding(bl_mem::specs::Words::u32_bytes))]
+#[tactic(auto, unfolding(bl_mem::specs::LittleEndian::u32_bytes))]
 fn u32_of(field: [u8; 4]) -> u32
     ensures { u32_bytes result ≡ field }
 {
@@ -31,7 +31,7 @@ fn u32_of(field: [u8; 4]) -> u32
 }
 
 /// The number that these bytes spell, the lowest first.
-#[tactic(auto, unfolding(bl_mem::specs::Words::u64_bytes))]
+#[tactic(auto, unfolding(bl_mem::specs::LittleEndian::u64_bytes))]
 fn u64_of(field: [u8; 8]) -> u64
     ensures { u64_bytes result ≡ field }
 {

@@ -1,6 +1,6 @@
 //! The head of an image, read.
 ghost use Rattle.std.specs.Prelude.{◌≡◌, ◌+◌, ◌≤◌, ◌<◌, ◌^◌, MatchOption, IfOk, IfErr, IfSome};
-ghost use Rattle.bl_mem.specs.Words.{u32_bytes};
+ghost use Rattle.bl_mem.specs.LittleEndian.{u32_bytes};
 ghost use Rattle.bl_plan.specs.Protocols as protocols;
 ghost use Rattle.bl_load.specs.HandoffFacts.{most_parts};
 ghost use Rattle.bl_image.specs.Fields as fields;

@@ -2,7 +2,7 @@
 ghost use Rattle.std.specs.Prelude.{◌≡◌, ◌+◌, ◌≤◌, ◌<◌, ◌^◌, List, ℕ, ◌++◌, length, nat_le};
 ghost use Rattle.std.specs.Prelude.{◌&&◌, All, IfOk, IfErr, IfSome, MatchOption};
 ghost use Rattle.std.specs.List.{flat_map};
-ghost use Rattle.bl_mem.specs.Words.{u32_bytes, u64_bytes};
+ghost use Rattle.bl_mem.specs.LittleEndian.{u32_bytes, u64_bytes};
 ghost use Rattle.bl_plan.specs.Roles as roles;
 ghost use Rattle.bl_load.specs.HandoffFacts.{most_parts, MayStand};
 ghost use Rattle.bl_image.specs.Fields as fields;

@@ -2,7 +2,7 @@
 ghost use Rattle.std.specs.Prelude.{◌≡◌, ◌+◌, ◌<◌, ◌^◌, ◌++◌, ℕ, All, IfOk, OnOk, length};
 ghost use Rattle.std.specs.Prelude.{replicate};
 ghost use Rattle.std.specs.List.{flat_map};
-ghost use Rattle.bl_mem.specs.Words.{u64_bytes};
+ghost use Rattle.bl_mem.specs.LittleEndian.{u64_bytes};
 ghost use Rattle.bl_plan.specs.Protocols as protocols;
 ghost use Rattle.bl_load.specs.declared.registers.Registers.TheVariants.{Bits32, Bits64};
 ghost use Rattle.bl_image.specs.Image.{narrow_values, spelled_registers, wide_values};

@@ -1,8 +1,8 @@
 -- The segment registers are those of the descriptors that a kernel is handed.
 use Rattle.std.proofs.Common.{◌≡◌, List, refl}
 use Rattle.std.specs.Prelude.{IfSome}
-use Rattle.bl_mem.specs.Words.{u64_at}
-use Rattle.bl_mem.specs.Words as words
+use Rattle.bl_mem.specs.LittleEndian.{u64_at}
+use Rattle.bl_mem.specs.LittleEndian as little_endian
 use Rattle.bl_plan.specs.declared.part.Place.{Place}
 use Rattle.bl_plan.specs.declared.protocol.Protocol.{Protocol}
 use Rattle.bl_plan.specs.declared.protocol.Protocol.TheVariants.{Multiboot2, Linux, Linux64}
@@ -18,7 +18,7 @@ pub named : (protocol : Protocol) (reading : Reading) (places : List Place) (nam
     → let segment = segment_in (registers_of protocol reading places) name in
     IfSome (descriptors_of protocol)
     (λ bytes. u64_at bytes segment.selector ≡ descriptor segment)
-unfolding words.number_at
+unfolding little_endian.number_at
 named Multiboot2 reading places name = tt
 named Linux reading places Cs = refl
 named Linux reading places Ds = refl

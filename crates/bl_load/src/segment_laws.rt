@@ -1,6 +1,6 @@
 //! The law of segment registers and descriptors.
 ghost use Rattle.std.specs.Prelude.{◌≡◌, List, IfSome};
-ghost use Rattle.bl_mem.specs.Words.{u64_at};
+ghost use Rattle.bl_mem.specs.LittleEndian.{u64_at};
 ghost use Rattle.bl_plan.specs.declared.part.Place.{Place};
 ghost use Rattle.bl_plan.specs.declared.protocol.Protocol.{Protocol};
 ghost use Rattle.bl_load.specs.declared.segment_registers.SegmentName.{SegmentName};

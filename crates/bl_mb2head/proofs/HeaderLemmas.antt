@@ -1,7 +1,7 @@
 -- Where the fields of a header lie that begins with no fault.
 use Rattle.std.proofs.Common.{◌≤◌, ◌+◌, ℕ, List, Option, Some, None, IfSome, length, arith}
 use Rattle.std.proofs.lemmas.Bool.{ltb-false, or_parts}
-use Rattle.bl_mem.specs.Words.{u32_at}
+use Rattle.bl_mem.specs.LittleEndian.{u32_at}
 use Rattle.bl_mb2head.specs.declared.tag.Tag.{Tag}
 use Rattle.bl_mb2head.specs.Header.{tags_end, BeginsAt}
 

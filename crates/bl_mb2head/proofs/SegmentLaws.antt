@@ -4,7 +4,7 @@ use Rattle.std.proofs.Common.{◌≡◌, ◌≤◌, ◌<◌, ◌+◌, ◌^◌, �
 use Rattle.std.proofs.Common.{Some, None, IfSome, List, length, slice_index, refl, sym, subst}
 use Rattle.std.proofs.Common.{arith}
 use Rattle.std.proofs.lemmas.Bool.Decides.{nat_tests}
-use Rattle.bl_mem.proofs.WordLaws.{u32_at-lt}
+use Rattle.bl_mem.proofs.LittleEndianLaws.{u32_at-lt}
 use Rattle.bl_mem.specs.declared.segment.Segment.{Segment}
 use Rattle.bl_mb2head.specs.declared.address.AddressTag.{AddressTag}
 use Rattle.bl_mb2head.specs.declared.fault.HeadFault.{HeadFault}

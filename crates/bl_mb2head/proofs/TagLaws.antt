@@ -2,7 +2,7 @@
 use Rattle.std.proofs.Common.{◌≡◌, ℕ, false, Some, None, List, [], ◌∷◌, refl, sym, ap, ap₂, subst}
 use Rattle.std.proofs.Common.{◌∙◌, nat_eq}
 use Rattle.std.proofs.lemmas.Option.{same_Some}
-use Rattle.bl_mem.specs.Words.{u16_at}
+use Rattle.bl_mem.specs.LittleEndian.{u16_at}
 use Rattle.bl_mb2head.specs.declared.tag.Tag.{Tag}
 use Rattle.bl_mb2head.specs.declared.fault.HeadFault.{HeadFault}
 use Rattle.bl_mb2head.specs.Tags.{after, tag_fault_at, AreTags, AreAllTags, IsFirstTagFault}

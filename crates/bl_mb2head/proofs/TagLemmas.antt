@@ -3,7 +3,7 @@ use Rattle.std.proofs.Common.{◌≡◌, ◌<◌, ◌+◌, ◌-◌, ◌*◌, ◌
 use Rattle.std.proofs.Common.{List, [], ◌∷◌, ◌++◌, arith, refl, sym, ap, subst, nat_eq}
 use Rattle.std.specs.List.{find}
 use Rattle.std.proofs.lemmas.Bool.Decides.{nat_tests}
-use Rattle.bl_mem.specs.Words.{u32_at}
+use Rattle.bl_mem.specs.LittleEndian.{u32_at}
 use Rattle.bl_mb2head.specs.declared.tag.Tag.{Tag}
 use Rattle.bl_mb2head.specs.Tags.{tag_at, after, words_at, can_be_given, tag_fault_at, AreTags}
 

@@ -3,7 +3,7 @@ use Rattle.std.proofs.Common.{◌≡◌, ◌≤◌, ◌+◌, ◌⊎◌, inl, inr
 use Rattle.std.proofs.Common.{None, List, [], ◌∷◌, nat_eq, refl, arith}
 use Rattle.std.proofs.lemmas.Bool.{cases_Bool}
 use Rattle.std.proofs.lemmas.Bool.Decides.{nat_tests}
-use Rattle.bl_mem.specs.Words.{u16_at, u32_at}
+use Rattle.bl_mem.specs.LittleEndian.{u16_at, u32_at}
 use Rattle.bl_mb2head.specs.declared.fault.HeadFault.{HeadFault}
 use Rattle.bl_mb2head.specs.declared.tag.Tag.{Tag}
 use Rattle.bl_mb2head.specs.Tags.{tag_at, after, is_well_formed, tag_fault_at, AreAllTags}

@@ -2,7 +2,7 @@
 -- header"). h is the header's place in the file, and size is the file's length.
 use Rattle.std.specs.Prelude.{◌+◌, ◌-◌, ℕ, Bool, ◌&&◌, ◌||◌, not, if◌then◌else◌, ◌==◌, nat_lt, List}
 use Rattle.std.specs.Prelude.{length, Option, Some, None}
-use Rattle.bl_mem.specs.Words.{u32_at}
+use Rattle.bl_mem.specs.LittleEndian.{u32_at}
 use Rattle.bl_mem.specs.declared.segment.Segment.{Segment}
 use Rattle.bl_mb2head.specs.declared.address.AddressTag.{AddressTag}
 use Rattle.bl_mb2head.specs.declared.tag.Tag.{Tag}

@@ -3,7 +3,7 @@
 use Rattle.std.specs.Prelude.{◌≡◌, ◌≢◌, ◌≤◌, ◌<◌, ◌+◌, ◌^◌, ◌⊎◌, ℕ, Bool, true, false, ◌||◌, nat_lt}
 use Rattle.std.specs.Prelude.{max, List, length, Option, Some, None}
 use Rattle.bl_mem.specs.Least.{IsLeast}
-use Rattle.bl_mem.specs.Words.{u32_at}
+use Rattle.bl_mem.specs.LittleEndian.{u32_at}
 use Rattle.bl_mem.specs.declared.segment.Segment.{Segment}
 use Rattle.bl_mb2head.specs.Place.{IsHeaderAt, search_end}
 use Rattle.bl_mb2head.specs.Tags.{AreAllTags, IsFirstTagFault, last_of, address_type, entry_type}

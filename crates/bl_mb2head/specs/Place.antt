@@ -1,7 +1,7 @@
 -- Where a Multiboot2 header stands (Multiboot2 2.0, "3.1.1 The layout of Multiboot2 header" and
 -- "3.1.2 The magic fields of Multiboot2 header").
 use Rattle.std.specs.Prelude.{◌≡◌, ◌≤◌, ◌+◌, ◌%◌, ◌^◌, ℕ, List, length}
-use Rattle.bl_mem.specs.Words.{u32_at}
+use Rattle.bl_mem.specs.LittleEndian.{u32_at}
 
 -- where the header ends at the latest
 abbrev pub search_end : ℕ

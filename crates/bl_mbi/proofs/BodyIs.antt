@@ -10,7 +10,7 @@ use Rattle.std.proofs.lemmas.List.{drop-drop, drop_all, take-append-drop, append
 use Rattle.std.proofs.lemmas.List.Elements.{All-nil, All-cons, All-head, All-tail}
 use Rattle.std.proofs.Math.Seq.{drop-cons}
 use Rattle.bl_mbi.specs.InformationFacts.{ModuleInfo, IsModule, IsText, AreBytes}
-use Rattle.bl_mem.specs.Words.{u32_bytes}
+use Rattle.bl_mem.specs.LittleEndian.{u32_bytes}
 use Rattle.bl_mbi.specs.Tags.{text_body, module_body, memory_body}
 use Rattle.bl_mbi.specs.Fields.{first_u32}
 use Rattle.bl_mbi.specs.Bodies.{text_of_body, module_of, memory_of, load_base_of}

@@ -14,12 +14,12 @@ use Rattle.bl_map.specs.declared.kind.Kind.TheVariants.{Usable, Reserved, Acpi, 
 use Rattle.bl_map.specs.declared.region.Region.{Region}
 use Rattle.bl_map.specs.Kinds.{kind_number, kind_of, region_end}
 use Rattle.bl_mbi.specs.InformationFacts.{ModuleInfo, IsModule, IsText}
-use Rattle.bl_mem.specs.Words.{u32_bytes, u64_bytes}
+use Rattle.bl_mem.specs.LittleEndian.{u32_bytes, u64_bytes}
 use Rattle.bl_mbi.specs.Tags.{text_body, module_body, memory_body, run_bytes, map_body}
 use Rattle.bl_mbi.specs.Fields.{first_u32, first_u64}
 use Rattle.bl_mbi.specs.Bodies.{text_of_body, module_of, memory_of, run_of, runs_of, map_of}
 use Rattle.bl_mbi.specs.Bodies.{load_base_of}
-use Rattle.bl_mem.proofs.WordLaws.{length-u32_bytes}
+use Rattle.bl_mem.proofs.LittleEndianLaws.{length-u32_bytes}
 use Rattle.bl_mbi.proofs.Sizes.{length-text_body, length-module_body, length-run_bytes}
 use Rattle.bl_mbi.proofs.Sizes.{length-map_body}
 use Rattle.bl_mbi.proofs.WordLaws.{word_front, word_alone, long_front, behind_word, behind_words}

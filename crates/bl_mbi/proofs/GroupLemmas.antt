@@ -7,7 +7,7 @@ use Rattle.std.proofs.lemmas.List.Sums.{sum_by-cons}
 use Rattle.bl_mbi.specs.Size.{tag_size}
 use Rattle.bl_mbi.specs.InformationFacts.{InformationFacts, HasSpelling, ModuleInfo, info_size}
 use Rattle.bl_mbi.specs.GroupSizesKept.{texts_size, map_tags_size, last_size}
-use Rattle.bl_mem.specs.Words.{u32_bytes}
+use Rattle.bl_mem.specs.LittleEndian.{u32_bytes}
 use Rattle.bl_mbi.specs.Tags.{tag, text_body, module_tag, memory_body, map_body, copy_tag}
 use Rattle.bl_mbi.specs.Tags.{load_base_tag}
 use Rattle.bl_mbi.specs.Spelling.{tags, info_spelling}

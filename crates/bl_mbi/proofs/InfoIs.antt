@@ -7,7 +7,7 @@ use Rattle.std.proofs.lemmas.Bool.Decides.{nat_tests}
 use Rattle.std.proofs.lemmas.List.{drop-drop}
 use Rattle.bl_mbi.specs.InformationFacts.{InformationFacts, IsText, AreBytes, FitsFields}
 use Rattle.bl_mbi.specs.InfoFacts.{InfoFacts, IsSpelling}
-use Rattle.bl_mem.specs.Words.{u32_bytes}
+use Rattle.bl_mem.specs.LittleEndian.{u32_bytes}
 use Rattle.bl_mbi.specs.Tags.{tag}
 use Rattle.bl_mbi.specs.Spelling.{tags, info_spelling}
 use Rattle.bl_mbi.specs.Fields.{RestFacts, first_u32}

@@ -13,7 +13,7 @@ use Rattle.bl_map.specs.declared.kind.Kind.TheVariants.{Usable, Reserved, Acpi, 
 use Rattle.bl_map.specs.declared.region.Region.{Region}
 use Rattle.bl_map.specs.Kinds.{kind_number, kind_of, region_end}
 use Rattle.bl_mbi.specs.InformationFacts.{AreBytes}
-use Rattle.bl_mem.specs.Words.{u32_bytes, u64_bytes}
+use Rattle.bl_mem.specs.LittleEndian.{u32_bytes, u64_bytes}
 use Rattle.bl_mbi.specs.Tags.{run_bytes, map_body}
 use Rattle.bl_mbi.specs.Fields.{first_u32, first_u64}
 use Rattle.bl_mbi.specs.Bodies.{run_of, runs_of, map_of}

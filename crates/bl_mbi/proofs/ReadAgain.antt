@@ -5,13 +5,13 @@ use Rattle.std.specs.Prelude.{nat_eq, nat_lt}
 use Rattle.std.specs.List.{flat_map}
 use Rattle.std.proofs.lemmas.Bool.Decides.{nat_tests}
 use Rattle.bl_mbi.specs.InformationFacts.{InformationFacts, IsText, FitsFields}
-use Rattle.bl_mem.specs.Words.{u32_bytes}
+use Rattle.bl_mem.specs.LittleEndian.{u32_bytes}
 use Rattle.bl_mbi.specs.Tags.{tag, text_body, module_tag, memory_body, map_body, copy_tag}
 use Rattle.bl_mbi.specs.Tags.{load_base_tag}
 use Rattle.bl_mbi.specs.Spelling.{tags, info_spelling}
 use Rattle.bl_mbi.specs.Fields.{first_u32}
 use Rattle.bl_mbi.specs.Reading.{tags_of, info_of}
-use Rattle.bl_mem.proofs.WordLaws.{length-u32_bytes}
+use Rattle.bl_mem.proofs.LittleEndianLaws.{length-u32_bytes}
 use Rattle.bl_mbi.proofs.Sizes.{length-tag, length-tags, length-text_body, length-map_body}
 use Rattle.bl_mbi.proofs.WordLaws.{word_front, behind_word, behind_words}
 use Rattle.bl_mbi.proofs.TagLaws.{next_tag}

@@ -11,7 +11,7 @@ use Rattle.std.proofs.lemmas.List.Elements.{All-nil, All-cons}
 use Rattle.bl_map.specs.declared.region.Region.{Region}
 use Rattle.bl_map.specs.Kinds.{region_end}
 use Rattle.bl_mbi.specs.InformationFacts.{ModuleInfo, IsModule, IsText, AreBytes}
-use Rattle.bl_mem.specs.Words.{u32_bytes}
+use Rattle.bl_mem.specs.LittleEndian.{u32_bytes}
 use Rattle.bl_mbi.specs.Tags.{tag, text_body, module_body, module_tag, memory_body, map_body}
 use Rattle.bl_mbi.specs.Tags.{copy_tag, load_base_tag}
 use Rattle.bl_mbi.specs.Fields.{RestFacts, is_next, info_tag_at, or_bad}

@@ -7,10 +7,10 @@ use Rattle.std.specs.List.{flat_map}
 use Rattle.std.proofs.lemmas.List.{length-replicate}
 use Rattle.std.proofs.lemmas.List.Sums.{sum_by-cons}
 use Rattle.bl_map.specs.declared.region.Region.{Region}
-use Rattle.bl_mem.proofs.WordLaws.{length-u32_bytes, length-u64_bytes}
+use Rattle.bl_mem.proofs.LittleEndianLaws.{length-u32_bytes, length-u64_bytes}
 use Rattle.bl_mbi.specs.Size.{tag_size, copy_size, load_base_size}
 use Rattle.bl_mbi.specs.InformationFacts.{InformationFacts, ModuleInfo, info_size}
-use Rattle.bl_mem.specs.Words.{u32_bytes}
+use Rattle.bl_mem.specs.LittleEndian.{u32_bytes}
 use Rattle.bl_mbi.specs.Tags.{padding, tag, text_body, module_body, module_tag, memory_body}
 use Rattle.bl_mbi.specs.Tags.{run_bytes, map_body, copy_tag, load_base_tag}
 use Rattle.bl_mbi.specs.Spelling.{tags, info_spelling}

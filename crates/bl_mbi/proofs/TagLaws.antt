@@ -7,7 +7,7 @@ use Rattle.std.specs.List.{list_all}
 use Rattle.std.proofs.lemmas.Bool.Decides.{nat_tests}
 use Rattle.std.proofs.lemmas.List.{take_at, drop_at, drop-drop}
 use Rattle.bl_mbi.specs.Size.{padded}
-use Rattle.bl_mem.specs.Words.{u32_bytes}
+use Rattle.bl_mem.specs.LittleEndian.{u32_bytes}
 use Rattle.bl_mbi.specs.Tags.{padding, tag}
 use Rattle.bl_mbi.specs.Fields.{RestFacts, first_u32, is_next, info_tag_at}
 use Rattle.bl_mbi.proofs.Sizes.{length-padding, length-tag}

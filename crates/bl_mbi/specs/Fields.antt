@@ -2,7 +2,7 @@
 use Rattle.std.specs.Prelude.{◌≡◌, ◌+◌, ℕ, Bool, not, ◌&&◌, if◌then◌else◌, ◌==◌, nat_lt, nat_le}
 use Rattle.std.specs.Prelude.{List, length, drop, slice_range, Option, Some, None, Result, Ok, Err}
 use Rattle.std.specs.List.{list_all}
-use Rattle.bl_mem.specs.Words.{u32_at, u64_at}
+use Rattle.bl_mem.specs.LittleEndian.{u32_at, u64_at}
 use Rattle.bl_mbi.specs.declared.fault.InfoFault.{InfoFault}
 use Rattle.bl_mbi.specs.declared.fault.InfoFault.TheVariants.{BadTag, BadOrder, NoMemory}
 use Rattle.bl_mbi.specs.Size.{padded}

@@ -1,6 +1,6 @@
 pub mod Overwrites
 pub mod ReadLemmas
-pub mod WordLaws
+pub mod LittleEndianLaws
 pub mod LeastLaws
 pub mod SparseLemmas
 pub mod ValueLemmas

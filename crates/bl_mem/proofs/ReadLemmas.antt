@@ -2,7 +2,7 @@
 use Rattle.std.proofs.Common.{◌≡◌, ◌+◌, ◌-◌, ℕ, List, slice_range, drop, arith}
 use Rattle.byteorder.specs.Endian.{little_number}
 use Rattle.byteorder.specs.Numbers.{little_from-take}
-use Rattle.bl_mem.specs.Words.{number_at}
+use Rattle.bl_mem.specs.LittleEndian.{number_at}
 
 pub number_at_read : (n at : ℕ) (bytes read : List ℕ) → read ≡ slice_range bytes at (at + n)
     → little_number n read ≡ number_at n bytes at

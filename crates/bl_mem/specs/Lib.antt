@@ -1,5 +1,5 @@
 pub mod Memory
-pub mod Words
+pub mod LittleEndian
 pub mod Least
 pub mod Contents
 pub mod Frame

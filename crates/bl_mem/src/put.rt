@@ -3,7 +3,7 @@ ghost use Rattle.std.specs.Prelude.{◌≡◌, ◌≤◌, ◌<◌, ◌+◌, ◌*
 ghost use Rattle.std.specs.Prelude.{vec_capacity};
 ghost use Rattle.std.specs.List.{flat_map};
 ghost use Rattle.bl_mem.specs.Memory.{overwrite};
-ghost use Rattle.bl_mem.specs.Words.{u32_bytes, u64_bytes};
+ghost use Rattle.bl_mem.specs.LittleEndian.{u32_bytes, u64_bytes};
 
 use byteorder::{ByteOrder, LittleEndian};
 use std::alloc::Allocator;
@@ -29,7 +29,7 @@ pub(crate) fn put_at<A: Allocator>(out: &mut Vec<u8, A>, start: usize, bytes: &[
 }
 
 /// Appends the 4 bytes of a number to a vector that has room for them, and takes no memory.
-#[tactic(auto, unfolding(crate::specs::Words::u32_bytes))]
+#[tactic(auto, unfolding(crate::specs::LittleEndian::u32_bytes))]
 pub fn put_u32<A: Allocator>(out: &mut Vec<u8, A>, n: u32)
     requires { vec_len out.old + 4 ≤ vec_capacity out.old }
     ensures items { out.new.items ≡ out.old.items ++ u32_bytes n }
@@ -40,7 +40,7 @@ pub fn put_u32<A: Allocator>(out: &mut Vec<u8, A>, n: u32)
 }
 
 /// Appends the 8 bytes of a number to a vector that has room for them, and takes no memory.
-#[tactic(auto, unfolding(crate::specs::Words::u64_bytes))]
+#[tactic(auto, unfolding(crate::specs::LittleEndian::u64_bytes))]
 pub fn put_u64<A: Allocator>(out: &mut Vec<u8, A>, n: u64)
     requires { vec_len out.old + 8 ≤ vec_capacity out.old }
     ensures items { out.new.items ≡ out.old.items ++ u64_bytes n }
@@ -51,7 +51,7 @@ pub fn put_u64<A: Allocator>(out: &mut Vec<u8, A>, n: u64)
 }
 
 /// Fills a slice with the bytes of numbers, 4 for each.
-#[tactic(auto, unfolding(crate::specs::Words::u32_bytes))]
+#[tactic(auto, unfolding(crate::specs::LittleEndian::u32_bytes))]
 pub fn write_u32s(numbers: &[u32], out: &mut [u8])
     requires { length out.old ≡ 4 * length numbers.now }
     ensures bytes { out.new ≡ flat_map u32_bytes numbers.now }
@@ -61,7 +61,7 @@ pub fn write_u32s(numbers: &[u32], out: &mut [u8])
 }
 
 /// Fills a slice with the bytes of numbers, 8 for each.
-#[tactic(auto, unfolding(crate::specs::Words::u64_bytes))]
+#[tactic(auto, unfolding(crate::specs::LittleEndian::u64_bytes))]
 pub fn write_u64s(numbers: &[u64], out: &mut [u8])
     requires { length out.old ≡ 8 * length numbers.now }
     ensures bytes { out.new ≡ flat_map u64_bytes numbers.now }

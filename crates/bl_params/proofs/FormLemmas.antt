@@ -4,7 +4,7 @@ use Rattle.std.proofs.Common.{◌&&◌, ◌||◌, nat_lt, nat_le, List, arith, r
 use Rattle.std.specs.Prelude.{nat_eq}
 use Rattle.std.proofs.lemmas.Bool.{cases_lt}
 use Rattle.std.proofs.lemmas.Bool.Decides.{nat_tests}
-use Rattle.bl_mem.specs.Words.{u32_at, u64_at}
+use Rattle.bl_mem.specs.LittleEndian.{u32_at, u64_at}
 use Rattle.bl_bzimage.specs.Setup.{header_end}
 use Rattle.bl_params.specs.Form.{breaks, breaks_header, breaks_entry, is_nonzero_at, entries_in}
 use Rattle.bl_params.specs.Form.{e820_entry_at}

@@ -2,7 +2,7 @@
 -- own: what a loader of this kind writes), and the offsets at which bytes break it.
 use Rattle.std.specs.Prelude.{ℕ, ◌+◌, ◌-◌, ◌*◌, ◌%◌, Bool, ◌&&◌, ◌||◌, not, if◌then◌else◌}
 use Rattle.std.specs.Prelude.{◌==◌, nat_lt, nat_le, List, slice_index}
-use Rattle.bl_mem.specs.Words.{u16_at, u32_at, u64_at}
+use Rattle.bl_mem.specs.LittleEndian.{u16_at, u32_at, u64_at}
 use Rattle.bl_map.specs.Limits.{region_limit}
 use Rattle.bl_bzimage.specs.Setup.{header_end}
 use Rattle.bl_params.specs.BootParamsFacts.{max_e820_entries}

@@ -1,6 +1,6 @@
 -- What is read of boot parameters, or why they are refused.
 use Rattle.std.specs.Prelude.{◌≡◌, ℕ, ◌+◌, ◌<◌, List, [], ◌∷◌, length, slice_index, true, false}
-use Rattle.bl_mem.specs.Words.{u16_at, u32_at, u64_at}
+use Rattle.bl_mem.specs.LittleEndian.{u16_at, u32_at, u64_at}
 use Rattle.bl_mem.specs.Least.{IsLeast}
 use Rattle.bl_map.specs.declared.region.Region.{Region}
 use Rattle.bl_map.specs.Kinds.{kind_number}

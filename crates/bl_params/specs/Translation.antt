@@ -3,7 +3,7 @@
 -- that are present and writable, and no more (own: all else translates to nothing).
 use Rattle.std.specs.Prelude.{ℕ, ◌+◌, ◌*◌, ◌/◌, ◌%◌, ◌^◌, ◌==◌, ◌&&◌, nat_lt, if◌then◌else◌}
 use Rattle.std.specs.Prelude.{List, length, Option, None, Some}
-use Rattle.bl_mem.specs.Words.{u64_at}
+use Rattle.bl_mem.specs.LittleEndian.{u64_at}
 use Rattle.bl_params.specs.Paging.{upper_word}
 use Rattle.bl_params.specs.Numbers.{tables_size, page_size}
 

@@ -2,7 +2,7 @@
 use Rattle.std.specs.Prelude.{ℕ, ◌%◌, ◌==◌, ◌&&◌, ◌||◌, Bool, not, nat_le, if◌then◌else◌, List}
 use Rattle.std.specs.Prelude.{[], ◌++◌, length, codes, decimal, Option, Some, None, slice_get}
 use Rattle.std.specs.List.{flat_map, list_any, range_with_len}
-use Rattle.bl_mem.specs.Words.{u16_at, u32_at}
+use Rattle.bl_mem.specs.LittleEndian.{u16_at, u32_at}
 use Rattle.bl_map.specs.declared.region.Region.{Region}
 use Rattle.bl_map.specs.Kinds.{kind_number, region_end}
 use Rattle.bl_map.specs.Limits.{frame_size}

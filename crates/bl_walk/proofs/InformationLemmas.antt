@@ -10,8 +10,8 @@ use Rattle.std.proofs.lemmas.List.Elements.{All-head, All-tail, All-cons, All-ni
 use Rattle.std.proofs.lemmas.List.Folds.{list_any-append}
 use Rattle.std.specs.declared.ops.Range.{Range}
 use Rattle.bl_map.specs.MachineFacts.{MachineFacts}
-use Rattle.bl_mem.specs.Words.{u32_at, u32_bytes}
-use Rattle.bl_mem.proofs.WordLaws.{length-u32_bytes, u32_again}
+use Rattle.bl_mem.specs.LittleEndian.{u32_at, u32_bytes}
+use Rattle.bl_mem.proofs.LittleEndianLaws.{length-u32_bytes, u32_again}
 use Rattle.bl_mbi.specs.InformationFacts.{InformationFacts, AreBytes, IsModule}
 use Rattle.bl_mbi.specs.Spelling.{info_spelling, tags}
 use Rattle.bl_plan.specs.Placed.{ArePlaced, place_range}

@@ -1,7 +1,7 @@
 -- What an image tells is one: its information, its parameters and their modules.
 use Rattle.std.proofs.Common.{◌≡◌, ◌-◌, ◌<◌, ◌^◌, ℕ, zero, suc, List, [], ◌∷◌, length, get_or}
 use Rattle.std.proofs.Common.{Option, Some, None, Result, Ok, true, sym, ap, ◌∙◌, arith, subst}
-use Rattle.bl_mem.specs.Words.{u32_at}
+use Rattle.bl_mem.specs.LittleEndian.{u32_at}
 use Rattle.bl_mbi.specs.declared.fault.InfoFault.{InfoFault}
 use Rattle.bl_mbi.specs.InformationFacts.{ModuleInfo}
 use Rattle.bl_mbi.specs.InfoFacts.{InfoFacts, IsSpelling}

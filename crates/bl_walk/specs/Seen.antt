@@ -4,7 +4,7 @@
 use Rattle.std.specs.Prelude.{◌≡◌, ◌-◌, ◌<◌, ◌≤◌, ◌^◌, ◌⊎◌, ℕ, List, [], ◌∷◌, length, map, take}
 use Rattle.std.specs.Prelude.{◌==◌, true, Option, Some, None, option_map}
 use Rattle.std.specs.List.{filter, position}
-use Rattle.bl_mem.specs.Words.{u32_at}
+use Rattle.bl_mem.specs.LittleEndian.{u32_at}
 use Rattle.bl_mbi.specs.InformationFacts.{ModuleInfo}
 use Rattle.bl_mbi.specs.InfoFacts.{InfoFacts, IsSpelling}
 use Rattle.bl_params.specs.ParamsFacts.{ParamsFacts}

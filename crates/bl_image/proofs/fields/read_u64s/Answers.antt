@@ -2,7 +2,7 @@ use Rattle.std.proofs.Common.{◌≡◌, ◌+◌, ◌*◌, ◌≤◌, ◌<◌, �
 use Rattle.std.proofs.lemmas.List.{length-take-le}
 use Rattle.std.proofs.lemmas.Result.{err_from_is_err_and}
 use Rattle.std.specs.List.{flat_map}
-use Rattle.bl_mem.specs.Words.{u64_bytes}
+use Rattle.bl_mem.specs.LittleEndian.{u64_bytes}
 use Rattle.bl_image.proofs.Inputs.{comes_more, comes_as}
 use Rattle.bl_image.proofs.NumberLemmas.{length-u64s}
 use Rattle.bl_image.proofs.Listed.{spelled_more, fit_more}

@@ -1,6 +1,6 @@
 use Rattle.std.proofs.Common.{rules}
 use Rattle.std.proofs.lemmas.Nat.{le_bytes_8}
-use Rattle.bl_mem.specs.Words.{u64_bytes}
+use Rattle.bl_mem.specs.LittleEndian.{u64_bytes}
 use Rattle.bl_image.proofs.fields.u64_of.Goals as goal
 
 pub returns : goal.returns

@@ -1,7 +1,7 @@
 use Rattle.std.proofs.Common.{◌≡◌, ◌+◌, ◌++◌, ℕ, [], length, take, sym, ap, ◌∙◌, arith}
 use Rattle.std.specs.List.{flat_map}
 use Rattle.std.proofs.Math.Seq.{take-length}
-use Rattle.bl_mem.specs.Words.{u32_bytes, u64_bytes}
+use Rattle.bl_mem.specs.LittleEndian.{u32_bytes, u64_bytes}
 use Rattle.bl_plan.specs.Protocols.{protocol_number}
 use Rattle.bl_image.specs.declared.version.Version.TheVariants.{Two}
 use Rattle.bl_image.proofs.HeadPut.{head_put}

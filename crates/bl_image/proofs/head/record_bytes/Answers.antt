@@ -1,5 +1,5 @@
 use Rattle.std.proofs.Common.{refl}
-use Rattle.bl_mem.specs.Words.{u32_bytes, u64_bytes}
+use Rattle.bl_mem.specs.LittleEndian.{u32_bytes, u64_bytes}
 use Rattle.bl_image.proofs.head.record_bytes.Goals as goal
 
 -- the two pairs of numbers fill the record

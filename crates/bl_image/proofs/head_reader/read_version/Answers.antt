@@ -1,8 +1,8 @@
 use Rattle.std.proofs.Common.{◌≡◌, false, sym, ap}
 use Rattle.std.specs.Prelude.{nat_le, ◌&&◌}
 use Rattle.std.proofs.lemmas.Result.{err_from_is_err_and}
-use Rattle.bl_mem.specs.Words.{u32_bytes}
-use Rattle.bl_mem.proofs.WordLaws.{length-u32_bytes}
+use Rattle.bl_mem.specs.LittleEndian.{u32_bytes}
+use Rattle.bl_mem.proofs.LittleEndianLaws.{length-u32_bytes}
 use Rattle.bl_image.specs.declared.fault.ImageFault.TheVariants.{BadVersion}
 use Rattle.bl_image.specs.Fields.{version_field}
 use Rattle.bl_image.specs.Versions.{version_number}

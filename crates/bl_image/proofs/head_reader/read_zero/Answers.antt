@@ -2,8 +2,8 @@ use Rattle.std.proofs.Common.{◌≡◌, true, false, arith, refl, ap}
 use Rattle.std.specs.Prelude.{◌==◌}
 use Rattle.std.proofs.lemmas.Result.{err_from_is_err_and}
 use Rattle.std.proofs.lemmas.Bool.Decides.{nat_tests}
-use Rattle.bl_mem.specs.Words.{u32_bytes}
-use Rattle.bl_mem.proofs.WordLaws.{length-u32_bytes}
+use Rattle.bl_mem.specs.LittleEndian.{u32_bytes}
+use Rattle.bl_mem.proofs.LittleEndianLaws.{length-u32_bytes}
 use Rattle.bl_image.specs.declared.fault.ImageFault.TheVariants.{BadHeader}
 use Rattle.bl_image.specs.Fields.{zero_field}
 use Rattle.bl_image.proofs.Inputs.{comes_as}

@@ -1,6 +1,6 @@
 use Rattle.std.proofs.Common.{refl}
 use Rattle.std.proofs.lemmas.Result.{err_from_is_err_and}
-use Rattle.bl_mem.proofs.WordLaws.{length-u32_bytes}
+use Rattle.bl_mem.proofs.LittleEndianLaws.{length-u32_bytes}
 use Rattle.bl_image.specs.Fields.{index_field}
 use Rattle.bl_image.proofs.FieldLemmas.{field_cut}
 use Rattle.bl_image.proofs.record_reader.read_index.Goals as goal

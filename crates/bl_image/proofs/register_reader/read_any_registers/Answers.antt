@@ -2,7 +2,7 @@ use Rattle.std.proofs.Common.{◌≡◌, ◌<◌, ◌^◌, ◌++◌, ℕ, List, 
 use Rattle.std.proofs.lemmas.List.{places}
 use Rattle.std.proofs.lemmas.Result.{err_from_is_err_and}
 use Rattle.std.specs.List.{flat_map}
-use Rattle.bl_mem.specs.Words.{u32_bytes}
+use Rattle.bl_mem.specs.LittleEndian.{u32_bytes}
 use Rattle.bl_image.specs.Fields.{fields_fault, register_field}
 use Rattle.bl_image.specs.Layouts.{registers_1}
 use Rattle.bl_image.proofs.Inputs.{comes_as}

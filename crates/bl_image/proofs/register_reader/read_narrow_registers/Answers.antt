@@ -4,7 +4,7 @@ use Rattle.std.specs.List.{flat_map}
 use Rattle.std.proofs.lemmas.List.{places}
 use Rattle.std.proofs.lemmas.List.Elements.{All-append}
 use Rattle.std.proofs.lemmas.Result.{err_from_is_err_and}
-use Rattle.bl_mem.specs.Words.{u64_bytes}
+use Rattle.bl_mem.specs.LittleEndian.{u64_bytes}
 use Rattle.bl_load.specs.declared.registers.Registers32.{Registers32}
 use Rattle.bl_load.specs.declared.registers.Registers.TheVariants.{Bits32}
 use Rattle.bl_image.specs.Fields.{Field, narrow_field, absent_field}

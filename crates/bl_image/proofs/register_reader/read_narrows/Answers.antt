@@ -1,7 +1,7 @@
 use Rattle.std.proofs.Common.{◌<◌, ◌^◌, ◌∷◌, [], length, refl, arith}
 use Rattle.std.specs.Prelude.{replicate}
 use Rattle.std.proofs.lemmas.Result.{err_from_is_err_and}
-use Rattle.bl_mem.specs.Words.{u64_bytes}
+use Rattle.bl_mem.specs.LittleEndian.{u64_bytes}
 use Rattle.bl_image.specs.Fields.{narrow_field}
 use Rattle.bl_image.proofs.Listed.{spelled_more, fit_more}
 use Rattle.bl_image.proofs.FieldRows.{pass_none, pass_both, pass_one, refused_among, replicate_more}

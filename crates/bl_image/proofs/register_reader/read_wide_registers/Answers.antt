@@ -2,7 +2,7 @@ use Rattle.std.proofs.Common.{◌≡◌, ◌<◌, ◌^◌, ◌++◌, ℕ, length
 use Rattle.std.proofs.lemmas.List.{places}
 use Rattle.std.proofs.lemmas.Result.{err_from_is_err_and}
 use Rattle.std.specs.List.{flat_map}
-use Rattle.bl_mem.specs.Words.{u64_bytes}
+use Rattle.bl_mem.specs.LittleEndian.{u64_bytes}
 use Rattle.bl_image.specs.Fields.{fields_fault, wide_field}
 use Rattle.bl_image.specs.Layouts.{registers_2_wide}
 use Rattle.bl_image.proofs.Inputs.{comes_as}

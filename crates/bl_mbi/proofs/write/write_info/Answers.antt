@@ -1,5 +1,5 @@
 use Rattle.std.proofs.Common.{List, ℕ, ◌++◌, ◌∙◌, ap}
-use Rattle.bl_mem.specs.Words.{u32_bytes}
+use Rattle.bl_mem.specs.LittleEndian.{u32_bytes}
 use Rattle.bl_mbi.proofs.GroupLemmas.{spelled}
 use Rattle.bl_mbi.proofs.write.write_info.Goals as goal
 

@@ -1,6 +1,6 @@
 use Rattle.std.proofs.Common.{◌∙◌}
 use Rattle.bl_mem.proofs.ReadLemmas.{number_at_read}
-use Rattle.bl_mem.proofs.words.u64_at.Goals as goal
+use Rattle.bl_mem.proofs.little_endian.u64_at.Goals as goal
 
 pub returns : goal.returns
 returns g c =

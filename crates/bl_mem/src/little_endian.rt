@@ -1,6 +1,6 @@
 //! Numbers in a file, as the machines that are booted write them: the lowest byte first.
 ghost use Rattle.std.specs.Prelude.{◌≡◌, ◌≤◌, ◌+◌, length, slice_index};
-ghost use Rattle.bl_mem.specs.Words as words;
+ghost use Rattle.bl_mem.specs.LittleEndian as little_endian;
 
 use crate::view::ByteView;
 use byteorder::{ByteOrder, LittleEndian};
@@ -18,7 +18,7 @@ pub fn u8_at<V: ByteView>(view: &V, at: u64) -> u8
 /// The number in the 2 bytes from offset `at` on, the lowest first.
 pub fn u16_at<V: ByteView>(view: &V, at: u64) -> u16
     requires { at + 2 ≤ length (V.bytes view.now) }
-    ensures { result ≡ words.u16_at (V.bytes view.now) at }
+    ensures { result ≡ little_endian.u16_at (V.bytes view.now) at }
 {
     let mut field = [0u8; 2];
     view.read(at, &mut field);
@@ -28,7 +28,7 @@ pub fn u16_at<V: ByteView>(view: &V, at: u64) -> u16
 /// The number in the 4 bytes from offset `at` on, the lowest first.
 pub fn u32_at<V: ByteView>(view: &V, at: u64) -> u32
     requires { at + 4 ≤ length (V.bytes view.now) }
-    ensures { result ≡ words.u32_at (V.bytes view.now) at }
+    ensures { result ≡ little_endian.u32_at (V.bytes view.now) at }
 {
     let mut field = [0u8; 4];
     view.read(at, &mut field);
@@ -38,7 +38,7 @@ pub fn u32_at<V: ByteView>(view: &V, at: u64) -> u32
 /// The number in the 8 bytes from offset `at` on, the lowest first.
 pub fn u64_at<V: ByteView>(view: &V, at: u64) -> u64
     requires { at + 8 ≤ length (V.bytes view.now) }
-    ensures { result ≡ words.u64_at (V.bytes view.now) at }
+    ensures { result ≡ little_endian.u64_at (V.bytes view.now) at }
 {
     let mut field = [0u8; 8];
     view.read(at, &mut field);
