@@ -3,7 +3,7 @@ use Rattle.std.proofs.Common.{◌≡◌, ◌++◌, ◌∙◌, ℕ, Bool, true, f
 use Rattle.std.proofs.Common.{ap, if◌then◌else◌}
 use Rattle.std.specs.declared.ops.Range.{Range}
 use Rattle.bl_map.specs.MachineFacts.{MachineFacts}
-use Rattle.bl_map.specs.Kinds.{kind_at}
+use Rattle.bl_map.specs.NormalMap.{kind_at}
 use Rattle.bl_map.specs.declared.region.Region.{Region}
 use Rattle.bl_map.proofs.MapLaws.{one_normal_map}
 use Rattle.bl_load.specs.Handover.{Handover}

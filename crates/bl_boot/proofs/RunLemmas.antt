@@ -4,7 +4,8 @@ use Rattle.std.proofs.Common.{subst, arith, inl, inr}
 use Rattle.std.proofs.lemmas.Bool.{cases_lt}
 use Rattle.std.proofs.lemmas.List.Elements.{All-cons, All-head, All-weaker}
 use Rattle.bl_map.specs.declared.region.Region.{Region}
-use Rattle.bl_map.specs.Kinds.{AreRuns, ComesBefore, region_end, kind_at, kind_number}
+use Rattle.bl_map.specs.Kinds.{kind_number}
+use Rattle.bl_map.specs.NormalMap.{AreRuns, ComesBefore, region_end, kind_at}
 use Rattle.bl_map.specs.MachineFacts.{AreMachineFacts, IsPool, IsSize, MachineFacts}
 use Rattle.bl_map.proofs.EdgeLemmas.{edges_above, edges_fall, edges_fall_once, edges_most}
 use Rattle.bl_map.proofs.KindLemmas.{kind_not_held, none_before, not_held_behind, number_positive}

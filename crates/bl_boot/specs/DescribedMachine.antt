@@ -2,7 +2,7 @@
 use Rattle.std.specs.Prelude.{◌≡◌, ◌≢◌, ◌⊎◌, ℕ, List, None, Some}
 use Rattle.bl_map.specs.MachineFacts.{MachineFacts}
 use Rattle.bl_map.specs.Faults.{HasFirstMapFault, IsAccepted}
-use Rattle.bl_map.specs.Kinds.{IsNormalMap}
+use Rattle.bl_map.specs.NormalMap.{IsNormalMap}
 use Rattle.bl_map.specs.declared.fault.MapFault.{MapFault}
 use Rattle.bl_map.specs.declared.fault.MapFault.TheVariants as map_fault
 use Rattle.bl_desc.specs.Described.{Described, described}

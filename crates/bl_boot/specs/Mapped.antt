@@ -1,7 +1,7 @@
 -- What the map of a description's machine says. Own.
 use Rattle.std.specs.Prelude.{◌≡◌, ℕ, List, ◌++◌, Some}
 use Rattle.bl_map.specs.MachineFacts.{MachineFacts}
-use Rattle.bl_map.specs.Kinds.{low_kib, high_kib}
+use Rattle.bl_map.specs.NormalMap.{low_kib, high_kib}
 use Rattle.bl_desc.specs.Described.{Described, described}
 use Rattle.bl_boot.specs.DescribedMachine.{IsMachineOf}
 use Rattle.bl_say.specs.Says.{map_lines}

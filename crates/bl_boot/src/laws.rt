@@ -1,7 +1,7 @@
 //! Laws of boots: two boots of one entry write one image, which shows the entry.
 ghost use Rattle.std.specs.Prelude.{◌≡◌, ◌++◌, ℕ, List};
 ghost use Rattle.bl_map.specs.MachineFacts.{MachineFacts};
-ghost use Rattle.bl_map.specs.Kinds.{kind_at};
+ghost use Rattle.bl_map.specs.NormalMap.{kind_at};
 ghost use Rattle.bl_load.specs.Handover.{Handover};
 ghost use Rattle.bl_image.specs.Image.{spelling};
 ghost use Rattle.bl_image.specs.ImageParts.{IsImage};

@@ -4,7 +4,8 @@ use Rattle.std.proofs.Common.{if◌then◌else◌, nat_lt, max, arith, refl, ap�
 use Rattle.std.proofs.lemmas.Bool.{cases_lt}
 use Rattle.std.proofs.lemmas.Bool.Decides.{nat_tests}
 use Rattle.bl_map.specs.declared.region.Region.{Region}
-use Rattle.bl_map.specs.Kinds.{kind_number, region_end, region_holds, kind_at}
+use Rattle.bl_map.specs.Kinds.{kind_number}
+use Rattle.bl_map.specs.NormalMap.{region_end, region_holds, kind_at}
 
 -- how many ends of a region lie above an address
 above : ℕ → ℕ → ℕ

@@ -8,8 +8,9 @@ use Rattle.bl_map.specs.declared.kind.Kind.{Kind}
 use Rattle.bl_map.specs.declared.kind.Kind.TheVariants.{Usable, Reserved, Acpi, Nvs, Bad}
 use Rattle.bl_map.specs.declared.region.Region.{Region}
 use Rattle.std.specs.Prelude.{Some}
-use Rattle.bl_map.specs.Kinds.{kind_number, kind_of, region_end, kind_at, ComesBefore, AreRuns}
-use Rattle.bl_map.specs.Kinds.{IsNormalMap}
+use Rattle.bl_map.specs.Kinds.{kind_number, kind_of}
+use Rattle.bl_map.specs.NormalMap.{region_end, kind_at, ComesBefore, AreRuns}
+use Rattle.bl_map.specs.NormalMap.{IsNormalMap}
 use Rattle.bl_map.proofs.KindLemmas.{held, not_held_behind, kind_held, kind_not_held, none_before}
 use Rattle.bl_map.proofs.KindLemmas.{number_positive}
 

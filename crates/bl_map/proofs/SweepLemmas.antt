@@ -7,7 +7,8 @@ use Rattle.std.proofs.lemmas.List.Elements.{All-nil, All-push, All-weaker}
 use Rattle.std.proofs.lemmas.List.Quantifiers.{all_pairs_push}
 use Rattle.bl_map.specs.declared.kind.Kind.{Kind}
 use Rattle.bl_map.specs.declared.region.Region.{Region}
-use Rattle.bl_map.specs.Kinds.{kind_number, region_end, kind_at, ComesBefore, AreRuns, IsNormalMap}
+use Rattle.bl_map.specs.Kinds.{kind_number}
+use Rattle.bl_map.specs.NormalMap.{region_end, kind_at, ComesBefore, AreRuns, IsNormalMap}
 use Rattle.bl_map.specs.Faults.{IsLowRegion}
 use Rattle.bl_map.proofs.KindLemmas.{held, not_held_before, number_in, number_in-held}
 use Rattle.bl_map.proofs.KindLemmas.{number_in-not_held, kind_at-push, none_behind, number_positive}

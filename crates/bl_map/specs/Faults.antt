@@ -6,7 +6,7 @@ use Rattle.bl_map.specs.declared.fault.MapFault.{MapFault}
 use Rattle.bl_map.specs.declared.fault.MapFault.TheVariants.{BadSize, TooManyRegions, BadRegion}
 use Rattle.bl_map.specs.declared.fault.MapFault.TheVariants.{BadPool, NoMemory}
 use Rattle.bl_map.specs.Limits.{max_regions, region_limit}
-use Rattle.bl_map.specs.Kinds.{region_end}
+use Rattle.bl_map.specs.NormalMap.{region_end}
 use Rattle.bl_map.specs.MachineFacts.{IsSize, IsPool}
 
 abbrev pub map_fault_number : MapFault → ℕ

@@ -1,5 +1,6 @@
 pub mod Limits
 pub mod Kinds
+pub mod NormalMap
 pub mod MachineFacts
 pub mod Faults
 pub mod Room

@@ -4,7 +4,7 @@ use Rattle.std.specs.declared.ops.Range.{Range}
 use Rattle.bl_map.specs.declared.region.Region.{Region}
 use Rattle.bl_map.specs.Limits.{frame_size, min_size, max_size, first_usable, usable_limit}
 use Rattle.bl_map.specs.Limits.{max_runs}
-use Rattle.bl_map.specs.Kinds.{kind_at, AreRuns}
+use Rattle.bl_map.specs.NormalMap.{kind_at, AreRuns}
 
 -- a machine's facts: its size, its normal map, its pool
 pub record MachineFacts : Type 0 where

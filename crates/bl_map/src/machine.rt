@@ -53,8 +53,9 @@ impl<A: Allocator> Model for Machine<A> {
 
 impl<A: Allocator> Machine<A> {
     ghost use Rattle.std.specs.Prelude.{◌≡◌, ◌^◌, ◌<◌, ◌≤◌, IfErr, IfOk, MatchBool, OnOk};
-    ghost use Rattle.bl_map.specs.Kinds.{IsNormalMap, number_or_zero};
-    ghost use Rattle.bl_map.specs.Kinds as kinds;
+    ghost use Rattle.bl_map.specs.Kinds.{number_or_zero};
+    ghost use Rattle.bl_map.specs.NormalMap.{IsNormalMap};
+    ghost use Rattle.bl_map.specs.NormalMap as normal_map;
     ghost use Rattle.bl_map.specs.MachineFacts.{AllUsable, AreMachineFacts};
     ghost use Rattle.bl_map.specs.Faults.{HasFirstMapFault, IsAccepted};
 
@@ -111,7 +112,7 @@ impl<A: Allocator> Machine<A> {
 
     /// What an address is for.
     pub fn kind_at(&self, a: u64) -> Option<Kind>
-        ensures kind { number_or_zero result ≡ kinds.kind_at self.now.runs a }
+        ensures kind { number_or_zero result ≡ normal_map.kind_at self.now.runs a }
         ensures facts { AreMachineFacts self.now }
     {
         greatest_kind(self.runs.as_slice(), a)
@@ -132,7 +133,7 @@ impl<A: Allocator> Machine<A> {
     /// KiB of usable memory from address 0 on, at most 640 (Multiboot2 3.6.3 "Basic memory
     /// information").
     pub fn low_kib(&self) -> u64
-        ensures low_kib { result ≡ kinds.low_kib self.now.runs }
+        ensures low_kib { result ≡ normal_map.low_kib self.now.runs }
         ensures most { result ≤ MAX_LOW_KIB }
         ensures facts { AreMachineFacts self.now }
     {
@@ -142,7 +143,7 @@ impl<A: Allocator> Machine<A> {
     /// KiB of usable memory from 1 MiB on, at most what 32 bits hold (Multiboot2 3.6.3 "Basic
     /// memory information").
     pub fn high_kib(&self) -> u64
-        ensures high_kib { result ≡ kinds.high_kib self.now.runs }
+        ensures high_kib { result ≡ normal_map.high_kib self.now.runs }
         ensures most { result < 2 ^ 32 }
         ensures facts { AreMachineFacts self.now }
     {

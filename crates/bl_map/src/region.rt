@@ -13,12 +13,12 @@ pub struct Region {
 
 impl Region {
     ghost use Rattle.std.specs.Prelude.{◌≡◌, MatchBool};
-    ghost use Rattle.bl_map.specs.Kinds as kinds;
+    ghost use Rattle.bl_map.specs.NormalMap as normal_map;
     ghost use Rattle.bl_map.specs.Faults.{IsLowRegion};
 
     /// Whether the region holds this address.
     pub(crate) fn holds(&self, a: u64) -> bool
-        ensures { result ≡ kinds.region_holds self.now a }
+        ensures { result ≡ normal_map.region_holds self.now a }
     {
         self.base <= a && a - self.base < self.length
     }

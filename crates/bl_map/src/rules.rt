@@ -3,7 +3,7 @@ ghost use Rattle.std.specs.Prelude.{◌≡◌, ℕ, ◌<◌, ◌≤◌, All, IfS
 ghost use Rattle.std.specs.Prelude.{slice_get, take};
 ghost use Rattle.bl_map.specs.MachineFacts.{IsPool, IsSize, IsUsableAmong};
 ghost use Rattle.bl_map.specs.Faults.{IsLowRegion};
-ghost use Rattle.bl_map.specs.Kinds as kinds;
+ghost use Rattle.bl_map.specs.NormalMap as normal_map;
 
 use crate::kind::Kind;
 use crate::limits::{FIRST_USABLE, FRAME_SIZE, MAX_SIZE, MIN_SIZE, USABLE_LIMIT};
@@ -73,7 +73,7 @@ pub fn is_pool(regions: &[Region], size: u64, pool: &Range<u64>) -> bool
 /// Where the run of usable memory ends that holds an address, 0 where there is none.
 pub fn usable_end(runs: &[Region], a: u64) -> u64
     requires low { All IsLowRegion runs.now }
-    ensures { result ≡ kinds.usable_end runs.now a }
+    ensures { result ≡ normal_map.usable_end runs.now a }
 {
     for run in runs {
         if run.kind.number() == 1 && run.holds(a) {

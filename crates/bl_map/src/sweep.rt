@@ -1,6 +1,7 @@
 //! The normal map of regions, by a sweep over the addresses where kinds change.
 ghost use Rattle.std.specs.Prelude.{◌≡◌, ◌≢◌, ℕ, ◌*◌, ◌<◌, ◌≤◌, All, length, max, IfOk};
-ghost use Rattle.bl_map.specs.Kinds.{IsNormalMap, region_holds, kind_at, kind_number};
+ghost use Rattle.bl_map.specs.Kinds.{kind_number};
+ghost use Rattle.bl_map.specs.NormalMap.{IsNormalMap, region_holds, kind_at};
 ghost use Rattle.bl_map.specs.Kinds.{number_or_zero};
 ghost use Rattle.bl_map.specs.Faults.{IsLowRegion};
 

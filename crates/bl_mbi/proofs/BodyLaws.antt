@@ -12,7 +12,8 @@ use Rattle.std.proofs.Math.Seq.{get_or-append_seam}
 use Rattle.bl_map.specs.declared.kind.Kind.{Kind}
 use Rattle.bl_map.specs.declared.kind.Kind.TheVariants.{Usable, Reserved, Acpi, Nvs, Bad}
 use Rattle.bl_map.specs.declared.region.Region.{Region}
-use Rattle.bl_map.specs.Kinds.{kind_number, kind_of, region_end}
+use Rattle.bl_map.specs.Kinds.{kind_number, kind_of}
+use Rattle.bl_map.specs.NormalMap.{region_end}
 use Rattle.bl_mbi.specs.InformationFacts.{ModuleInfo, IsModule, IsText}
 use Rattle.bl_mem.specs.LittleEndian.{u32_bytes, u64_bytes}
 use Rattle.bl_mbi.specs.Tags.{text_body, module_body, memory_body, run_bytes, map_body}

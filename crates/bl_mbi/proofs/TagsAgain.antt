@@ -8,7 +8,7 @@ use Rattle.std.proofs.lemmas.Bool.Decides.{nat_tests}
 use Rattle.std.proofs.lemmas.List.{append-nil}
 use Rattle.std.proofs.lemmas.List.Elements.{All-head, All-tail}
 use Rattle.bl_map.specs.declared.region.Region.{Region}
-use Rattle.bl_map.specs.Kinds.{region_end}
+use Rattle.bl_map.specs.NormalMap.{region_end}
 use Rattle.bl_mbi.specs.declared.fault.InfoFault.{InfoFault}
 use Rattle.bl_mbi.specs.InformationFacts.{InformationFacts, ModuleInfo, IsModule, IsText}
 use Rattle.bl_mem.specs.LittleEndian.{u32_bytes}

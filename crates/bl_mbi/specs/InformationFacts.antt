@@ -4,7 +4,7 @@ use Rattle.std.specs.Prelude.{◌≢◌, ◌^◌, ◌<◌, ◌≤◌, ℕ, List,
 use Rattle.std.specs.Prelude.{is_some, IfSome}
 use Rattle.bl_map.specs.declared.region.Region.{Region}
 use Rattle.bl_map.specs.Limits.{region_limit, max_low_kib}
-use Rattle.bl_map.specs.Kinds.{region_end}
+use Rattle.bl_map.specs.NormalMap.{region_end}
 use Rattle.bl_mbi.specs.Size.{size_by_lengths}
 
 -- 3.6.6 "Modules": the addresses of its first byte and after its last one, and its line

@@ -12,7 +12,8 @@ use Rattle.bl_mem.specs.LittleEndian.{number_at, u32_at, u64_at}
 use Rattle.bl_map.specs.declared.region.Region.{Region}
 use Rattle.bl_map.specs.declared.kind.Kind.{Kind}
 use Rattle.bl_map.specs.declared.kind.Kind.TheVariants.{Usable, Reserved, Acpi, Nvs, Bad}
-use Rattle.bl_map.specs.Kinds.{kind_number, region_end}
+use Rattle.bl_map.specs.Kinds.{kind_number}
+use Rattle.bl_map.specs.NormalMap.{region_end}
 use Rattle.bl_params.specs.BootParams.{entry_bytes}
 use Rattle.bl_params.specs.Fields.{number_bytes}
 use Rattle.bl_params.specs.Form.{breaks_entry}

@@ -1,7 +1,7 @@
 //! Laws of the definitions: bytes have one reading or one first fault; page tables.
 ghost use Rattle.std.specs.Prelude.{◌≡◌, ◌⊎◌, ◌^◌, ◌+◌, ◌<◌, ◌≤◌, ℕ, List, length, take, All};
 ghost use Rattle.std.specs.Prelude.{None, Some};
-ghost use Rattle.bl_map.specs.Kinds.{region_end};
+ghost use Rattle.bl_map.specs.NormalMap.{region_end};
 ghost use Rattle.bl_bzimage.specs.declared.setup.Setup.{Setup};
 ghost use Rattle.bl_bzimage.specs.Setup.{IsSetup};
 ghost use Rattle.bl_params.specs.BootParams.{boot_params};

@@ -5,7 +5,7 @@ use Rattle.std.proofs.lemmas.Bool.{cases_lt}
 use Rattle.std.proofs.lemmas.List.Elements.{All-nil, All-cons, All-head, All-tail}
 use Rattle.std.specs.declared.ops.Range.{Range}
 use Rattle.bl_mem.specs.Memory.{IsIn}
-use Rattle.bl_map.specs.Kinds.{kind_at}
+use Rattle.bl_map.specs.NormalMap.{kind_at}
 use Rattle.bl_map.specs.Limits.{first_usable, usable_limit}
 use Rattle.bl_map.specs.MachineFacts.{MachineFacts, IsUsable, AllUsable}
 use Rattle.bl_plan.specs.Permitted.{AllOpen, IsPermitted}

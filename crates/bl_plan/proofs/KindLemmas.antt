@@ -7,7 +7,8 @@ use Rattle.std.proofs.lemmas.Bool.Decides.{nat_tests}
 use Rattle.std.proofs.lemmas.List.{get_or_default}
 use Rattle.bl_map.specs.declared.kind.Kind.TheVariants.{Usable}
 use Rattle.bl_map.specs.declared.region.Region.{Region}
-use Rattle.bl_map.specs.Kinds.{kind_at, kind_number, region_holds, region_end, AreRuns}
+use Rattle.bl_map.specs.Kinds.{kind_number}
+use Rattle.bl_map.specs.NormalMap.{kind_at, region_holds, region_end, AreRuns}
 use Rattle.bl_map.proofs.KindLemmas.{kind_not_held, not_held_behind}
 use Rattle.bl_map.proofs.MapLaws.{fewer_runs, kind_in, same_kind}
 use Rattle.bl_plan.specs.Kept.{IsBlocked}

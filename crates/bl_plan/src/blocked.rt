@@ -2,7 +2,7 @@
 ghost use Rattle.std.specs.Prelude.{◌≡◌, ℕ, ◌<◌, ◌≤◌, All, length, MatchOption};
 ghost use Rattle.std.specs.List.{AllWithin};
 ghost use Rattle.bl_mem.specs.Memory.{IsIn};
-ghost use Rattle.bl_map.specs.Kinds.{kind_at, AreRuns};
+ghost use Rattle.bl_map.specs.NormalMap.{kind_at, AreRuns};
 ghost use Rattle.bl_map.specs.MachineFacts.{AllUsable};
 ghost use Rattle.bl_plan.specs.Kept.{IsBlocked, IsFree};
 ghost use Rattle.bl_plan.specs.Permitted.{AllOpen};

@@ -6,7 +6,8 @@ use Rattle.std.specs.List.{find, range_with_len}
 use Rattle.std.proofs.lemmas.Bool.{both_ways, cases_Bool, cases_lt, not-false}
 use Rattle.std.proofs.lemmas.Bool.Decides.{nat_tests}
 use Rattle.bl_mem.specs.Least.{IsLeast}
-use Rattle.bl_map.specs.Kinds.{IsNormalMap, kind_at, kind_of, number_or_zero}
+use Rattle.bl_map.specs.Kinds.{kind_of, number_or_zero}
+use Rattle.bl_map.specs.NormalMap.{IsNormalMap, kind_at}
 use Rattle.bl_map.specs.MachineFacts.{AllUsable, IsUsable, IsUsableAmong, MachineFacts}
 use Rattle.bl_map.specs.declared.kind.Kind.{Kind}
 use Rattle.bl_map.specs.declared.kind.Kind.TheVariants.{Usable, Reserved, Acpi, Nvs, Bad}

@@ -1,6 +1,7 @@
 -- The lines of what is told of a refusal beside its number and its name. Own.
 use Rattle.std.specs.Prelude.{ℕ, List, [], ◌++◌, codes, decimal, Option, Some, None}
-use Rattle.bl_map.specs.Kinds.{kind_at, kind_of}
+use Rattle.bl_map.specs.Kinds.{kind_of}
+use Rattle.bl_map.specs.NormalMap.{kind_at}
 use Rattle.bl_map.specs.MachineFacts.{MachineFacts}
 use Rattle.bl_map.specs.Room.{frames_in}
 use Rattle.bl_plan.specs.declared.part.Choice.{Choice}

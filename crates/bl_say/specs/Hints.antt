@@ -4,7 +4,8 @@ use Rattle.std.specs.Prelude.{[], ◌++◌, length, codes, decimal, Option, Some
 use Rattle.std.specs.List.{flat_map, list_any, range_with_len}
 use Rattle.bl_mem.specs.LittleEndian.{u16_at, u32_at}
 use Rattle.bl_map.specs.declared.region.Region.{Region}
-use Rattle.bl_map.specs.Kinds.{kind_number, region_end}
+use Rattle.bl_map.specs.Kinds.{kind_number}
+use Rattle.bl_map.specs.NormalMap.{region_end}
 use Rattle.bl_map.specs.Limits.{frame_size}
 use Rattle.bl_load.specs.declared.refusal.Refusal.{Refusal}
 use Rattle.bl_load.specs.declared.refusal.Refusal.TheVariants.{NoHeader, NotBzImage}

@@ -2,7 +2,8 @@
 use Rattle.std.specs.Prelude.{ℕ, ◌-◌, ◌==◌, ◌&&◌, Bool, not, nat_le, nat_lt}
 use Rattle.std.specs.Prelude.{List, [], ◌++◌, Option, Some, None}
 use Rattle.std.specs.List.{find, range_with_len}
-use Rattle.bl_map.specs.Kinds.{kind_at, kind_of}
+use Rattle.bl_map.specs.Kinds.{kind_of}
+use Rattle.bl_map.specs.NormalMap.{kind_at}
 use Rattle.bl_map.specs.Limits.{first_usable, usable_limit}
 use Rattle.bl_map.specs.declared.region.Region.{Region}
 use Rattle.bl_desc.specs.Described.{Described}

@@ -2,7 +2,7 @@
 use Rattle.std.proofs.Common.{◌≤◌, List, Result, Ok, Err, sym, subst, All, ⊎_elim}
 use Rattle.std.specs.Prelude.{IfOk}
 use Rattle.bl_map.specs.declared.region.Region.{Region}
-use Rattle.bl_map.specs.Kinds.{region_end}
+use Rattle.bl_map.specs.NormalMap.{region_end}
 use Rattle.bl_map.specs.Limits.{region_limit}
 use Rattle.bl_params.proofs.RunLemmas as params
 use Rattle.bl_load.specs.Handover.{Handover}

@@ -2,7 +2,7 @@
 use Rattle.std.specs.Prelude.{◌≡◌, ◌<◌, ◌≤◌, ◌+◌, ℕ, List, [], ◌∷◌, length, map, slice_index_or}
 use Rattle.std.specs.Prelude.{All, Option, Some, None, option_map}
 use Rattle.bl_mem.specs.declared.segment.Segment.{Segment}
-use Rattle.bl_map.specs.Kinds.{region_end}
+use Rattle.bl_map.specs.NormalMap.{region_end}
 use Rattle.bl_map.specs.Limits.{region_limit}
 use Rattle.bl_map.specs.MachineFacts.{MachineFacts}
 use Rattle.bl_mb2head.specs.declared.relocation.Relocation.{Relocation}

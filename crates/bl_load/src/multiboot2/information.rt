@@ -1,7 +1,7 @@
 //! The information that a Multiboot2 kernel is handed.
 ghost use Rattle.std.specs.Prelude.{◌≡◌, ◌≤◌, ◌<◌, ◌+◌, ◌^◌, None, All, length, map, sum_by, codes};
 ghost use Rattle.std.specs.Prelude.{option_map, option_copied, IfOk, IfSome};
-ghost use Rattle.bl_map.specs.Kinds.{low_kib, high_kib};
+ghost use Rattle.bl_map.specs.NormalMap.{low_kib, high_kib};
 ghost use Rattle.bl_mbi.specs.InformationFacts.{AreBytes, IsModule, IsText};
 ghost use Rattle.bl_mbi.specs.Size.{tag_size};
 ghost use Rattle.bl_mbi.specs.Spelling.{info_spelling};

@@ -8,7 +8,7 @@
 //! - `read_params BYTES`: what boot parameters tell, or their first fault.
 //! - `gdt`: the descriptors.
 ghost use Rattle.std.specs.Prelude.{◌≤◌, ◌^◌, All, IsTrue};
-ghost use Rattle.bl_map.specs.Kinds.{region_end};
+ghost use Rattle.bl_map.specs.NormalMap.{region_end};
 
 use crate::row::Row;
 use bl_bzimage::{Setup, SetupFault, read_setup};

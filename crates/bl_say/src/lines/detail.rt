@@ -1,6 +1,7 @@
 //! What is told of a refusal beside its number and its name, line by line.
 ghost use Rattle.std.specs.Prelude.{◌≡◌, ◌++◌, OnOk, map};
-ghost use Rattle.bl_map.specs.Kinds.{kind_at, kind_of};
+ghost use Rattle.bl_map.specs.Kinds.{kind_of};
+ghost use Rattle.bl_map.specs.NormalMap.{kind_at};
 ghost use Rattle.bl_say.specs.DetailLines as words;
 ghost use Rattle.bl_desc.specs.Views.{entry_view};
 

@@ -1,6 +1,7 @@
 //! The first byte of a bad pool that is not usable, line by line.
 ghost use Rattle.std.specs.Prelude.{◌≡◌, ◌++◌, OnOk};
-ghost use Rattle.bl_map.specs.Kinds.{IsNormalMap, kind_at, kind_of};
+ghost use Rattle.bl_map.specs.Kinds.{kind_of};
+ghost use Rattle.bl_map.specs.NormalMap.{IsNormalMap, kind_at};
 ghost use Rattle.bl_desc.specs.Views.{view};
 ghost use Rattle.bl_say.specs.PoolLines as pool;
 

@@ -1,6 +1,6 @@
 //! Hints on usable regions that are not made of whole frames, line by line.
 ghost use Rattle.std.specs.Prelude.{◌≡◌, ◌++◌, OnOk};
-ghost use Rattle.bl_map.specs.Kinds.{region_end};
+ghost use Rattle.bl_map.specs.NormalMap.{region_end};
 ghost use Rattle.bl_say.specs.Hints as hints;
 ghost use Rattle.bl_say.specs.Hints.{region_hint, region_hint_at};
 

@@ -1,5 +1,5 @@
 use Rattle.std.proofs.Common.{◌≡◌, ◌^◌, ℕ, ◌<◌, ◌≤◌, drop}
-use Rattle.bl_map.specs.Kinds.{kind_at}
+use Rattle.bl_map.specs.NormalMap.{kind_at}
 use Rattle.bl_map.proofs.sweep.change_after.Given as goal
 
 -- up to the next address that the regions so far leave, only the rest can change the kind

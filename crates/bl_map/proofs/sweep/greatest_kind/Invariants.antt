@@ -1,5 +1,6 @@
 use Rattle.std.proofs.Common.{◌≡◌, drop, max}
-use Rattle.bl_map.specs.Kinds.{kind_at, number_or_zero}
+use Rattle.bl_map.specs.Kinds.{number_or_zero}
+use Rattle.bl_map.specs.NormalMap.{kind_at}
 use Rattle.bl_map.proofs.sweep.greatest_kind.Given as goal
 
 -- the greatest so far, or a greater one of the rest, is that of all

@@ -5,7 +5,8 @@ use Rattle.std.proofs.lemmas.Bool.{cases_lt}
 use Rattle.bl_map.specs.declared.kind.Kind.{Kind}
 use Rattle.bl_map.specs.declared.region.Region.{Region}
 use Rattle.bl_map.specs.Faults.{IsLowRegion}
-use Rattle.bl_map.specs.Kinds.{kind_at, kind_number}
+use Rattle.bl_map.specs.Kinds.{kind_number}
+use Rattle.bl_map.specs.NormalMap.{kind_at}
 use Rattle.bl_map.proofs.EdgeLemmas.{edges_most, edges_fall, edges_fall_once}
 use Rattle.bl_map.proofs.KindLemmas.{none_behind, number_positive}
 use Rattle.bl_map.proofs.SweepLemmas.{upto_none, upto_gap, upto_run, upto_all, run_of, IsRunEnd}

@@ -1,5 +1,5 @@
 use Rattle.std.proofs.Common.{◌-◌, ◌≡◌, ◌^◌, ℕ, ◌<◌, ◌≤◌}
-use Rattle.bl_map.specs.Kinds.{kind_at}
+use Rattle.bl_map.specs.NormalMap.{kind_at}
 use Rattle.bl_map.proofs.sweep.run_end.Given as goal
 
 -- the addresses so far have one kind

@@ -1,5 +1,5 @@
 use Rattle.std.proofs.Common.{◌≡◌, ℕ, ◌<◌, ◌≤◌, slice_index_or}
-use Rattle.bl_map.specs.Kinds.{kind_at, region_end}
+use Rattle.bl_map.specs.NormalMap.{kind_at, region_end}
 use Rattle.bl_map.specs.declared.kind.Kind.TheVariants.{Usable}
 use Rattle.bl_map.specs.declared.region.Region.{Region}
 use Rattle.bl_plan.proofs.blocked.unusable_stretch.Given as goal

@@ -1,7 +1,7 @@
 //! The runs of the memory map that a kernel sees, line by line.
 ghost use Rattle.std.specs.Prelude.{◌≡◌, ◌≤◌, ◌++◌, OnOk, All};
 ghost use Rattle.std.specs.List.{flat_map};
-ghost use Rattle.bl_map.specs.Kinds.{region_end};
+ghost use Rattle.bl_map.specs.NormalMap.{region_end};
 ghost use Rattle.bl_map.specs.Limits.{region_limit};
 ghost use Rattle.bl_say.specs.Says.{hex16};
 ghost use Rattle.bl_say.specs.WalkLines as says;

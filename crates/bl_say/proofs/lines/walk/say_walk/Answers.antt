@@ -1,6 +1,6 @@
 use Rattle.std.proofs.Common.{◌≤◌, List, sym, ap, subst, ◌∙◌, All}
 use Rattle.bl_map.specs.declared.region.Region.{Region}
-use Rattle.bl_map.specs.Kinds.{region_end}
+use Rattle.bl_map.specs.NormalMap.{region_end}
 use Rattle.bl_map.specs.Limits.{region_limit}
 use Rattle.bl_walk.specs.SeenFacts.{SeenFacts}
 use Rattle.bl_say.proofs.lines.walk.say_walk.Goals as goal
