@@ -8,7 +8,7 @@ use Rattle.bl_map.specs.MachineFacts.{MachineFacts}
 use Rattle.bl_load.specs.HandoffFacts.{most_parts}
 use Rattle.bl_load.specs.Value.{HasLimits}
 use Rattle.bl_plan.specs.Limits.{max_entries}
-use Rattle.bl_session.specs.Attempts.{attempts_of, NameEntries}
+use Rattle.bl_session.specs.Attempts.{attempt_order, NameEntries}
 use Rattle.bl_session.specs.Memory.{IsMemoryIn}
 use Rattle.bl_session.specs.Menu.{EntryFacts, MenuFacts}
 use Rattle.bl_session.specs.Outcome.{File, missing, whole, size_of, IsOutcome, HasEnded}
@@ -52,7 +52,7 @@ facts_given given entry =
 abbrev pub menu_given : GivenFacts → List EntryRecord → ℕ → List ℕ → MenuFacts
 menu_given given entries default fallbacks = record {
   entries = map (facts_given given) entries;
-  attempts = attempts_of default fallbacks;
+  attempts = attempt_order default fallbacks;
 }
 
 -- ---- what may not be given

@@ -7,7 +7,7 @@ use Rattle.std.specs.Str.{bytes_eq}
 use Rattle.std.specs.List.{list_any}
 use Rattle.std.specs.List.{flat_map}
 use Rattle.std.proofs.lemmas.List.{map-append, length-append, length-map, at_drop_more, at_drop_all}
-use Rattle.bl_session.specs.Attempts.{attempts_of}
+use Rattle.bl_session.specs.Attempts.{attempt_order}
 use Rattle.bl_session.proofs.OnceLemmas.{few_attempts}
 use Rattle.bl_desc.specs.declared.desc.Description.{Description}
 use Rattle.bl_desc.specs.declared.entry_row.EntryRow.{EntryRow}
@@ -120,7 +120,7 @@ few_once earlier (name ∷ names) =
 
 pub few_names : {A : Type 0} (d : Description A) → HasMenu d → length (names_in (view d)) ≤ 32 * 65
 few_names d menu =
-    let indices : List ℕ = attempts_of d.default d.fallbacks.items in
+    let indices : List ℕ = attempt_order d.default d.fallbacks.items in
     let attempts =
     few_attempts (length d.entries.items) d.default d.fallbacks.items menu.2 menu.3 in
     let once = few_once [] (flat_map (λ index. file_names (entry_of (view d) index)) indices) in

@@ -21,7 +21,7 @@ use Rattle.bl_params.specs.BootParamsFacts.{max_e820_entries}
 use Rattle.bl_plan.specs.Limits.{max_line}
 use Rattle.bl_plan.specs.declared.protocol.Protocol.{Protocol}
 use Rattle.bl_plan.specs.declared.protocol.Protocol.TheVariants.{Multiboot2, Linux, Linux64}
-use Rattle.bl_load.specs.Kernel.{HasKernelFault, HasLoadFault, counted_entry, elf_refusal}
+use Rattle.bl_load.specs.Kernel.{HasKernelFault, HasElfRefusal, counted_entry, elf_refusal}
 use Rattle.bl_load.specs.Kernel.{entry_fault, head_refusal}
 use Rattle.bl_load.specs.Linux.{entering_fault, entry_64, has_64_bit_entry, linux_fault}
 use Rattle.bl_load.specs.Linux.{setup_refusal, telling_fault}
@@ -99,7 +99,7 @@ other_entry segments (Some entry) =
     (other_is refusals.EntryOutside refl)
 
 other_load : (file : List ℕ) (segment : Option Segment) (r : Refusal)
-    → HasLoadFault file segment r → is_placing r ≡ false
+    → HasElfRefusal file segment r → is_placing r ≡ false
 other_load file (Some segment) r has = absurd has
 other_load file None r (fault, same, has) = other_elf fault r same
 

@@ -6,7 +6,7 @@ use Rattle.bl_map.specs.MachineFacts.{MachineFacts}
 use Rattle.bl_plan.specs.declared.protocol.Protocol.TheVariants.{Multiboot2}
 use Rattle.bl_load.specs.Value.{EntryValue}
 use Rattle.bl_session.specs.Menu.{EntryFacts, MenuFacts}
-use Rattle.bl_session.specs.Attempts.{without_repeats_by, attempts_of}
+use Rattle.bl_session.specs.Attempts.{without_repeats_by, attempt_order}
 use Rattle.bl_session.specs.Boot.{BootFacts}
 use Rattle.bl_session.specs.Outcome.{File, size_of}
 use Rattle.bl_desc.specs.Described.{Described}
@@ -30,7 +30,7 @@ entry_value entry files = record {
 
 -- the entries that are attempted, by their index, in order
 abbrev pub attempted : Described → List ℕ
-attempted description = attempts_of description.default description.fallbacks
+attempted description = attempt_order description.default description.fallbacks
 
 -- what is read after the last entry
 abbrev pub absent_entry : Entry

@@ -3,7 +3,7 @@ use Rattle.std.specs.Prelude.{◌≡◌, ◌≢◌, ℕ, List, Option, MatchBool
 use Rattle.std.specs.Prelude.{Result, length}
 use Rattle.bl_mem.specs.Memory.{memory_from}
 use Rattle.bl_session.specs.declared.outcome.Progress.{Progress}
-use Rattle.bl_session.specs.Boot.{EventFacts, StepsOrFails, StartsOrFails, is_taken, attempt_of}
+use Rattle.bl_session.specs.Boot.{EventFacts, StepsOrFails, StartsOrFails, is_taken, attempt_number}
 use Rattle.bl_session.specs.Boot as steps
 use Rattle.bl_session.specs.Memory.{IsMemoryIn}
 use Rattle.bl_session.specs.Phases.{SessionFacts, state_at, not_started}
@@ -21,7 +21,7 @@ pub record IsStarted (old new : Option SessionFacts) (base : ℕ) (before after 
       (state_at (memory_from base before) one.phase)
       (state_at (memory_from base after) other.phase)))
   pub progress : IfOk told (λ progress. Between old new ⊥ (λ one other. progress
-      ≡ steps.progress (attempt_of (state_at (memory_from base before) one.phase))
+      ≡ steps.progress (attempt_number (state_at (memory_from base before) one.phase))
       (state_at (memory_from base after) other.phase)))
   pub memory : OnOk told (Between old new ⊥ (λ one other. one.phase ≡ not_started
       → IsMemoryIn one.boot.machine.pool (state_at (memory_from base after) other.phase)
@@ -39,7 +39,7 @@ pub record IsStepped (old new : Option SessionFacts) (base : ℕ) (before after 
       (state_at (memory_from base before) one.phase) event
       (state_at (memory_from base after) other.phase)))
   pub progress : IfOk told (λ progress. Between old new ⊥ (λ one other. progress
-      ≡ steps.progress (attempt_of (state_at (memory_from base before) one.phase))
+      ≡ steps.progress (attempt_number (state_at (memory_from base before) one.phase))
       (state_at (memory_from base after) other.phase)))
   pub memory : OnOk told (Between old new ⊥ (λ one other. MatchBool
       (is_taken (state_at (memory_from base before) one.phase) event)

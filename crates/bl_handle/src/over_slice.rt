@@ -1,7 +1,7 @@
 //! One call of a session over memory in a slice.
 ghost use Rattle.std.specs.Prelude.{◌≡◌, ◌≢◌, IfErr, IfOk, MatchBool, OnErr, OnOk, length};
 ghost use Rattle.bl_mem.specs.Memory.{memory_from};
-ghost use Rattle.bl_session.specs.Boot.{StepsOrFails, StartsOrFails, is_taken, attempt_of};
+ghost use Rattle.bl_session.specs.Boot.{StepsOrFails, StartsOrFails, is_taken, attempt_number};
 ghost use Rattle.bl_session.specs.Boot as boot;
 ghost use Rattle.bl_session.specs.Memory.{IsMemoryIn};
 ghost use Rattle.bl_session.specs.Phases.{event_facts, state_at, not_started};
@@ -46,7 +46,7 @@ pub fn start_over<A: Allocator + Copy>(
         (state_at (memory_from base bytes.old) session.old.phase)
         (state_at (memory_from base bytes.new) session.new.phase)) }
     ensures progress { IfOk result (λ progress. progress ≡ boot.progress
-        (attempt_of (state_at (memory_from base bytes.old) session.old.phase))
+        (attempt_number (state_at (memory_from base bytes.old) session.old.phase))
         (state_at (memory_from base bytes.new) session.new.phase)) }
     ensures memory { OnOk result (session.old.phase ≡ not_started
         → IsMemoryIn session.old.boot.machine.pool
@@ -74,7 +74,7 @@ pub fn event_over<A: Allocator + Copy>(
         (state_at (memory_from base bytes.old) session.old.phase) (event_facts event.entry)
         (state_at (memory_from base bytes.new) session.new.phase)) }
     ensures progress { IfOk result (λ progress. progress ≡ boot.progress
-        (attempt_of (state_at (memory_from base bytes.old) session.old.phase))
+        (attempt_number (state_at (memory_from base bytes.old) session.old.phase))
         (state_at (memory_from base bytes.new) session.new.phase)) }
     ensures memory { OnOk result (MatchBool
         (is_taken (state_at (memory_from base bytes.old) session.old.phase)

@@ -1,7 +1,7 @@
 //! The calls through a handle over memory in a slice, as one in C has it.
 ghost use Rattle.std.specs.Prelude.{◌≡◌, ◌≢◌, IfErr, IfOk, MatchBool, OnErr, OnOk, length};
 ghost use Rattle.bl_mem.specs.Memory.{memory_from};
-ghost use Rattle.bl_session.specs.Boot.{StepsOrFails, StartsOrFails, is_taken, attempt_of};
+ghost use Rattle.bl_session.specs.Boot.{StepsOrFails, StartsOrFails, is_taken, attempt_number};
 ghost use Rattle.bl_session.specs.Boot as boot;
 ghost use Rattle.bl_session.specs.Memory.{IsMemoryIn};
 ghost use Rattle.bl_session.specs.Phases.{event_facts, state_at, not_started};
@@ -33,7 +33,7 @@ impl Handle {
             (state_at (memory_from base bytes.new) new.phase))) }
         ensures progress { IfOk result (λ progress. Between self.old.kept self.new.kept ⊥
             (λ old new. progress ≡ boot.progress
-            (attempt_of (state_at (memory_from base bytes.old) old.phase))
+            (attempt_number (state_at (memory_from base bytes.old) old.phase))
             (state_at (memory_from base bytes.new) new.phase))) }
         ensures memory { OnOk result (Between self.old.kept self.new.kept ⊥
             (λ old new. old.phase ≡ not_started → IsMemoryIn old.boot.machine.pool
@@ -72,7 +72,7 @@ impl Handle {
             (state_at (memory_from base bytes.new) new.phase))) }
         ensures progress { IfOk result (λ progress. Between self.old.kept self.new.kept ⊥
             (λ old new. progress ≡ boot.progress
-            (attempt_of (state_at (memory_from base bytes.old) old.phase))
+            (attempt_number (state_at (memory_from base bytes.old) old.phase))
             (state_at (memory_from base bytes.new) new.phase))) }
         ensures memory { OnOk result (Between self.old.kept self.new.kept ⊥
             (λ old new. MatchBool

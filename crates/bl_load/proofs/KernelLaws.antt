@@ -19,7 +19,7 @@ use Rattle.bl_load.specs.Blocks.{high_of}
 use Rattle.bl_load.specs.declared.refusal.PrepFault.{PrepFault}
 use Rattle.bl_load.specs.declared.refusal.PrepFault.TheVariants as prep
 use Rattle.bl_load.specs.Kernel.{IsLoadedBy, entry_fault}
-use Rattle.bl_load.specs.KernelKept.{IsLoadFault, IsKernelFault, AreLoadable}
+use Rattle.bl_load.specs.KernelKept.{IsElfRefusal, IsKernelFault, AreLoadable}
 
 none_when : {X : Type 0} (b : Bool) (x : X) → cond b None (Some x) ≡ None → b ≡ true
 none_when true x h = refl
@@ -110,6 +110,6 @@ kernel_loadable file None facts entry fits loaded sound short =
 
 -- a fault of what the header leads to refuses the kernel
 pub load_refused : (file : List ℕ) (head : Header) (fault : PrepFault) → IsHeader file head
-    → IsLoadFault file head.segment fault → IsKernelFault file fault
+    → IsElfRefusal file head.segment fault → IsKernelFault file fault
 load_refused file head (prep.Refused refused) is h = inr (inl (head, is, h))
 load_refused file head prep.NoMemory is h = tt

@@ -11,7 +11,7 @@ use Rattle.bl_mb2head.specs.declared.header.Header.{Header}
 use Rattle.bl_mb2head.specs.declared.relocation.Relocation.{Relocation}
 use Rattle.bl_mb2head.proofs.HeaderLaws as headers
 use Rattle.bl_load.specs.declared.refusal.Refusal.{Refusal}
-use Rattle.bl_load.specs.Kernel.{KernelFacts, IsLoadedBy, IsKernel, HasLoadFault, HasKernelFault}
+use Rattle.bl_load.specs.Kernel.{KernelFacts, IsLoadedBy, IsKernel, HasElfRefusal, HasKernelFault}
 use Rattle.bl_load.specs.Kernel.{entry_fault, counted_entry, head_refusal, elf_refusal}
 
 -- ---- a Multiboot2 kernel's file
@@ -66,7 +66,7 @@ refuses : (fault : ElfFault) (r : Refusal) → elf_refusal fault ≡ Some r
 refuses fault r h = λ none. let bad : None ≡ Some r = sym (ap elf_refusal none) ∙ h in absurd cc
 
 one_load_fault : (file : List ℕ) (segment : Option Segment) (r s : Refusal)
-    → HasLoadFault file segment r → HasLoadFault file segment s → r ≡ s
+    → HasElfRefusal file segment r → HasElfRefusal file segment s → r ≡ s
 one_load_fault file (Some segment) r s a b = absurd a
 one_load_fault file None r s (f, f_is, a) (g, g_is, b) =
     let same = fault_is_determined file f g (refuses f r f_is) (refuses g s g_is) a b in
@@ -74,17 +74,17 @@ one_load_fault file None r s (f, f_is, a) (g, g_is, b) =
 
 -- what is loaded has no fault
 loaded_no_fault : (file : List ℕ) (segment : Option Segment) (facts : ElfFacts) (r : Refusal)
-    → IsLoadedBy file segment facts → HasLoadFault file segment r → ⊥
+    → IsLoadedBy file segment facts → HasElfRefusal file segment r → ⊥
 loaded_no_fault file (Some segment) facts r is has = has
 loaded_no_fault file None facts r is (f, f_is, a) =
     elf_not_fault file facts f (refuses f r f_is) is a
 
 -- where its header leads to a fault, a file has nothing to load
 sound_no_fault : (file : List ℕ) (h k : Header) (facts : ElfFacts) (r : Refusal) → IsHeader file h
-    → IsHeader file k → IsLoadedBy file h.segment facts → HasLoadFault file k.segment r → ⊥
+    → IsHeader file k → IsLoadedBy file h.segment facts → HasElfRefusal file k.segment r → ⊥
 sound_no_fault file h k facts r is_h is_k is has =
     loaded_no_fault file h.segment facts r is
-    (subst (λ (x : Header). HasLoadFault file x.segment r) (same_header file h k is_h is_k) has)
+    (subst (λ (x : Header). HasElfRefusal file x.segment r) (same_header file h k is_h is_k) has)
 
 same_entry_fault : (file : List ℕ) (h k : Header) (f g : ElfFacts) → IsHeader file h
     → IsHeader file k → IsLoadedBy file h.segment f → IsLoadedBy file k.segment g
@@ -109,7 +109,7 @@ one_kernel_fault file r s (inr (inl (h, is, load))) (inl (g, b, s_is)) =
     absurd (headers.not_both file h g is b)
 one_kernel_fault file r s (inr (inl (h, is_h, a))) (inr (inl (k, is_k, b))) =
     one_load_fault file h.segment r s a
-    (subst (λ (x : Header). HasLoadFault file x.segment s) (same_header file h k is_h is_k) b)
+    (subst (λ (x : Header). HasElfRefusal file x.segment s) (same_header file h k is_h is_k) b)
 one_kernel_fault file r s (inr (inl (h, is_h, a))) (inr (inr (k, facts, is_k, loaded, b))) =
     absurd (sound_no_fault file k h facts r is_k is_h loaded a)
 one_kernel_fault file r s (inr (inr (h, facts, is, loaded, a))) (inl (g, b, s_is)) =

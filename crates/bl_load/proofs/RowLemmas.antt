@@ -9,7 +9,7 @@ use Rattle.bl_mem.specs.declared.segment.Segment.{Segment}
 use Rattle.bl_map.specs.MachineFacts.{MachineFacts}
 use Rattle.bl_mb2head.specs.declared.relocation.Relocation.{Relocation}
 use Rattle.bl_mbi.specs.InformationFacts.{InformationFacts, info_size}
-use Rattle.bl_plan.specs.Placed.{ArePlaced, IsSoundChoice, IsRow}
+use Rattle.bl_plan.specs.Placed.{ArePlaced, HasPositiveAlignment, IsRow}
 use Rattle.bl_plan.specs.declared.part.Choice.TheVariants.{Fixed, Lowest, Highest, Preferred}
 use Rattle.bl_plan.specs.declared.part.Place.{Place}
 use Rattle.bl_plan.specs.declared.part.Role.TheVariants.{Kernel}
@@ -53,14 +53,14 @@ some_align r =
     cond_both (nat_eq r.align 0) 1 r.align (λ n. 1 ≤ n) (λ _. omega arith)
     (λ e. grind (arith, nat_tests))
 
-block_choice_is : (r : Relocation) (linked : ℕ) → IsSoundChoice (block_choice r linked)
+block_choice_is : (r : Relocation) (linked : ℕ) → HasPositiveAlignment (block_choice r linked)
 block_choice_is r linked =
     let some = some_align r in
-    cond_both (nat_eq r.preference 1) (Lowest (align_of r) r.min_addr r.max_addr) _ IsSoundChoice
+    cond_both (nat_eq r.preference 1) (Lowest (align_of r) r.min_addr r.max_addr) _ HasPositiveAlignment
     (λ _. some)
     (λ _.
     cond_both (nat_eq r.preference 2) (Highest (align_of r) r.min_addr r.max_addr)
-    (Preferred linked (align_of r) r.min_addr r.max_addr) IsSoundChoice (λ _. some) (λ _. some))
+    (Preferred linked (align_of r) r.min_addr r.max_addr) HasPositiveAlignment (λ _. some) (λ _. some))
 
 pub some_frames : (n : ℕ) → 1 ≤ n → n ≤ round_up_to_frames n
 some_frames n some = omega arith

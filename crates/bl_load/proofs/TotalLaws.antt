@@ -22,7 +22,7 @@ use Rattle.bl_plan.specs.declared.protocol.Protocol.TheVariants as protocol
 use Rattle.bl_load.specs.declared.refusal.Refusal.{Refusal}
 use Rattle.bl_load.specs.declared.refusal.Refusal.TheVariants as refusal
 use Rattle.bl_load.specs.Value.{EntryValue, kernel_file, lines_fault, lines_of}
-use Rattle.bl_load.specs.Kernel.{KernelFacts, IsLoadedBy, IsKernel, HasLoadFault, HasKernelFault}
+use Rattle.bl_load.specs.Kernel.{KernelFacts, IsLoadedBy, IsKernel, HasElfRefusal, HasKernelFault}
 use Rattle.bl_load.specs.Kernel.{entry_fault, counted_entry, head_refusal, elf_refusal}
 use Rattle.bl_load.specs.Reading.{Reading, multiboot2, linux, IsRead, HasReadFault}
 use Rattle.bl_load.specs.Linux.{IsLinuxKernel, HasLinuxFault, linux_fault}
@@ -51,7 +51,7 @@ elf_refused elf_fault.NoMemory some = absurd (some refl)
 
 loaded_or_fault : (file : List ℕ) (segment : Option Segment)
     → ((facts : ElfFacts) × IsLoadedBy file segment facts)
-    ⊎ ((r : Refusal) × HasLoadFault file segment r)
+    ⊎ ((r : Refusal) × HasElfRefusal file segment r)
 loaded_or_fault file (Some segment) = inl (record { segments = segment ∷ []; entry = None }, refl)
 loaded_or_fault file None =
     elim (elf_or_fault file) [

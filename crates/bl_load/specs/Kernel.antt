@@ -72,16 +72,16 @@ elf_refusal elf_fault.NoMemory = None
 
 -- the fault of what a sound header leads to: that of the ELF file, and none where the header's
 -- address tag says what is loaded
-abbrev pub HasLoadFault : List ℕ → Option Segment → Refusal → Type 0
-HasLoadFault file (Some segment) refused = ⊥
-HasLoadFault file None refused =
+abbrev pub HasElfRefusal : List ℕ → Option Segment → Refusal → Type 0
+HasElfRefusal file (Some segment) refused = ⊥
+HasElfRefusal file None refused =
     (fault : ElfFault) × (elf_refusal fault ≡ Some refused) × elf.HasFirstElfFault file fault
 
 -- the file's first fault: the header's, the ELF file's, the entry's
 abbrev pub HasKernelFault : List ℕ → Refusal → Type 0
 HasKernelFault file refused =
     ((fault : HeadFault) × header.HasFirstHeadFault file fault × (refused ≡ head_refusal fault))
-    ⊎ ((head : Header) × IsHeader file head × HasLoadFault file head.segment refused)
+    ⊎ ((head : Header) × IsHeader file head × HasElfRefusal file head.segment refused)
     ⊎ ((head : Header) × (facts : ElfFacts) × IsHeader file head
     × IsLoadedBy file head.segment facts
     × (entry_fault facts.segments (counted_entry head facts) ≡ Some refused))

@@ -11,7 +11,7 @@ use Rattle.bl_load.specs.declared.multiboot2.kernel.Kernel.{Kernel}
 use Rattle.bl_load.specs.declared.refusal.PrepFault.{PrepFault}
 use Rattle.bl_load.specs.declared.refusal.PrepFault.TheVariants as prep_fault
 use Rattle.bl_load.specs.Blocks.{span_of}
-use Rattle.bl_load.specs.Kernel.{KernelFacts, HasLoadFault, HasKernelFault, elf_refusal}
+use Rattle.bl_load.specs.Kernel.{KernelFacts, HasElfRefusal, HasKernelFault, elf_refusal}
 
 -- what was read
 
@@ -32,9 +32,9 @@ abbrev pub IsElfFault : ElfFault → PrepFault → Type 0
 IsElfFault fault (prep_fault.Refused refused) = elf_refusal fault ≡ Some refused
 IsElfFault fault prep_fault.NoMemory = fault ≡ elf_fault.NoMemory
 
-abbrev pub IsLoadFault : List ℕ → Option Segment → PrepFault → Type 0
-IsLoadFault file segment (prep_fault.Refused refused) = HasLoadFault file segment refused
-IsLoadFault file segment prep_fault.NoMemory = Unit {0}
+abbrev pub IsElfRefusal : List ℕ → Option Segment → PrepFault → Type 0
+IsElfRefusal file segment (prep_fault.Refused refused) = HasElfRefusal file segment refused
+IsElfRefusal file segment prep_fault.NoMemory = Unit {0}
 
 abbrev pub IsKernelFault : List ℕ → PrepFault → Type 0
 IsKernelFault file (prep_fault.Refused refused) = HasKernelFault file refused

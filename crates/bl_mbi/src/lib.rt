@@ -1,19 +1,19 @@
 //! The boot information that a Multiboot2 kernel is handed: its facts, written as bytes and read
 //! from them.
 //!
-//! `Facts` is what is written, always with the loader's name `bootcore`: contracts see it as the
-//! record `InformationFacts`. `Info` is what was read, with the name of whatever loader wrote it:
-//! contracts see it as the record `InfoFacts`, which is a name and the facts.
+//! `InfoToWrite` is what is written, always with the loader's name `bootcore`: contracts see it as
+//! the record `InformationFacts`. `Info` is what was read, with the name of whatever loader wrote
+//! it: contracts see it as the record `InfoFacts`, which is a name and the facts.
 #![tactic(auto)]
 
 mod body_reader;
-mod facts;
 mod fault;
 mod groups;
 mod info;
+mod info_to_write;
 mod laws;
 mod module;
-mod module_facts;
+mod module_to_write;
 mod numbers;
 mod read;
 mod reader;
@@ -22,12 +22,12 @@ mod size;
 mod tags;
 mod write;
 
-pub use facts::Facts;
 pub use fault::InfoFault;
 pub use info::Info;
+pub use info_to_write::InfoToWrite;
 pub use laws::{read_is_spelled, spelled_is_read};
 pub use module::Module;
-pub use module_facts::ModuleFacts;
+pub use module_to_write::ModuleToWrite;
 pub use numbers::MIN_INFO_SIZE;
 pub use reader::read_info;
 pub use size::{module_size, size_by_lengths};

@@ -8,7 +8,7 @@ ghost use Rattle.bl_mbi.specs.Tags.{padding, tag, text_body, module_tag, memory_
 ghost use Rattle.bl_mbi.specs.Tags.{map_body};
 ghost use Rattle.bl_mbi.specs.Tags.{copy_tag, load_base_tag};
 
-use crate::module_facts::ModuleFacts;
+use crate::module_to_write::ModuleToWrite;
 use crate::numbers::{
     ENTRY_SIZE, TAG_BASIC_MEMORY, TAG_END, TAG_LOAD_BASE, TAG_MEMORY_MAP, TAG_MODULE,
 };
@@ -45,7 +45,7 @@ pub(crate) fn put_text<A: Allocator>(out: &mut Vec<u8, A>, kind: u32, text: &[u8
 }
 
 /// Appends a module's tag.
-fn put_module<A: Allocator>(out: &mut Vec<u8, A>, loaded: &ModuleFacts<'_>)
+fn put_module<A: Allocator>(out: &mut Vec<u8, A>, loaded: &ModuleToWrite<'_>)
     requires room { vec_len out.old + tag_size (length loaded.now.line + 9) ≤ vec_capacity out.old }
     requires small { tag_size (length loaded.now.line + 9) < 2 ^ 32 }
     ensures items { out.new.items ≡ out.old.items ++ module_tag loaded.now }
@@ -63,7 +63,7 @@ fn put_module<A: Allocator>(out: &mut Vec<u8, A>, loaded: &ModuleFacts<'_>)
 }
 
 /// Appends the tags of modules, in their order.
-pub(crate) fn put_modules<A: Allocator>(out: &mut Vec<u8, A>, modules: &[ModuleFacts<'_>])
+pub(crate) fn put_modules<A: Allocator>(out: &mut Vec<u8, A>, modules: &[ModuleToWrite<'_>])
     requires room { vec_len out.old + sum_by (λ m. tag_size (length m.line + 9)) modules.now
         ≤ vec_capacity out.old }
     requires small { sum_by (λ m. tag_size (length m.line + 9)) modules.now < 2 ^ 32 }

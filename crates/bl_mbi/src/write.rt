@@ -10,8 +10,8 @@ ghost use Rattle.bl_mbi.specs.Tags.{tag, text_body, module_tag, memory_body, map
 ghost use Rattle.bl_mbi.specs.Tags.{load_base_tag};
 ghost use Rattle.bl_mbi.specs.GroupSizesKept.{texts_size, map_tags_size, last_size};
 
-use crate::facts::Facts;
-use crate::module_facts::ModuleFacts;
+use crate::info_to_write::InfoToWrite;
+use crate::module_to_write::ModuleToWrite;
 use crate::numbers::{
     ENTRY_SIZE, TAG_ACPI_NEW, TAG_ACPI_OLD, TAG_BOOT_LOADER_NAME, TAG_COMMAND_LINE,
 };
@@ -21,7 +21,7 @@ use bl_mem::put_u32;
 use std::alloc::{AllocError, Allocator};
 
 /// How many bytes the tags of modules take.
-fn modules_len(modules: &[ModuleFacts<'_>]) -> u64
+fn modules_len(modules: &[ModuleToWrite<'_>]) -> u64
     requires { sum_by (λ m. tag_size (length m.line + 9)) modules.now < 2 ^ 32 }
     ensures { result ≡ sum_by (λ m. tag_size (length m.line + 9)) modules.now }
 {
@@ -44,7 +44,7 @@ fn copy_len(copy: Option<&[u8]>) -> u64
 }
 
 /// How many bytes the tags of texts take: the line, the loader's name, the modules.
-fn texts_len(facts: &Facts<'_>) -> u64
+fn texts_len(facts: &InfoToWrite<'_>) -> u64
     requires { texts_size facts.now < 2 ^ 32 }
     ensures { result ≡ texts_size facts.now }
 {
@@ -55,7 +55,7 @@ fn texts_len(facts: &Facts<'_>) -> u64
 
 /// How many bytes the last tags take: those that do not always stand, and the one that ends the
 /// information.
-fn last_len(facts: &Facts<'_>) -> u64
+fn last_len(facts: &InfoToWrite<'_>) -> u64
     requires { last_size facts.now < 2 ^ 32 }
     ensures { result ≡ last_size facts.now }
 {
@@ -64,7 +64,7 @@ fn last_len(facts: &Facts<'_>) -> u64
 }
 
 /// How many bytes the information takes: its `total_size`, with the loader's name `bootcore`.
-pub fn info_size(facts: &Facts<'_>) -> u64
+pub fn info_size(facts: &InfoToWrite<'_>) -> u64
     ensures size { result ≡ length (info_spelling (codes "bootcore") facts.now) }
     ensures by_lengths { result ≡ size_of_info facts.now }
     ensures small { result < 2 ^ 32 }
@@ -74,7 +74,7 @@ pub fn info_size(facts: &Facts<'_>) -> u64
 }
 
 /// Appends the tags of texts: the line, the loader's name, the modules.
-fn put_texts<A: Allocator>(facts: &Facts<'_>, out: &mut Vec<u8, A>)
+fn put_texts<A: Allocator>(facts: &InfoToWrite<'_>, out: &mut Vec<u8, A>)
     requires { vec_len out.old + texts_size facts.now ≤ vec_capacity out.old }
     ensures items { out.new.items ≡ out.old.items ++ (tag 1 (text_body facts.now.line)
         ++ (tag 2 (text_body (codes "bootcore")) ++ flat_map module_tag facts.now.modules)) }
@@ -87,7 +87,7 @@ fn put_texts<A: Allocator>(facts: &Facts<'_>, out: &mut Vec<u8, A>)
 }
 
 /// Appends the tags of memory: its sizes, its map.
-fn put_map_tags<A: Allocator>(facts: &Facts<'_>, out: &mut Vec<u8, A>)
+fn put_map_tags<A: Allocator>(facts: &InfoToWrite<'_>, out: &mut Vec<u8, A>)
     requires { vec_len out.old + map_tags_size facts.now ≤ vec_capacity out.old }
     ensures items { out.new.items ≡ out.old.items
         ++ (tag 4 (memory_body facts.now.mem_lower facts.now.mem_upper)
@@ -100,7 +100,7 @@ fn put_map_tags<A: Allocator>(facts: &Facts<'_>, out: &mut Vec<u8, A>)
 }
 
 /// Appends the tags that do not always stand, and the one that ends the information.
-fn put_last<A: Allocator>(facts: &Facts<'_>, out: &mut Vec<u8, A>)
+fn put_last<A: Allocator>(facts: &InfoToWrite<'_>, out: &mut Vec<u8, A>)
     requires { vec_len out.old + last_size facts.now ≤ vec_capacity out.old }
     ensures { out.new.items ≡ out.old.items ++ (copy_tag 14 facts.now.rsdp_old
         ++ (copy_tag 15 facts.now.rsdp_new ++ (load_base_tag facts.now.load_base ++ tag 0 []))) }
@@ -112,7 +112,10 @@ fn put_last<A: Allocator>(facts: &Facts<'_>, out: &mut Vec<u8, A>)
 }
 
 /// Appends the information, with the loader's name `bootcore`, or leaves the bytes as they were.
-pub fn write_info<A: Allocator>(facts: &Facts<'_>, out: &mut Vec<u8, A>) -> Result<(), AllocError>
+pub fn write_info<A: Allocator>(
+    facts: &InfoToWrite<'_>,
+    out: &mut Vec<u8, A>,
+) -> Result<(), AllocError>
     ensures ok { OnOk result
         (out.new.items ≡ out.old.items ++ info_spelling (codes "bootcore") facts.now) }
     ensures err { OnErr result (out.new.items ≡ out.old.items) }

@@ -3,7 +3,6 @@
 
 mod checks;
 mod descriptors;
-mod facts;
 mod fault;
 mod fields;
 mod laws;
@@ -11,13 +10,13 @@ mod map_reader;
 mod numbers;
 mod paging;
 mod params;
+mod params_to_write;
 mod put;
 mod reader;
 mod translation;
 mod write;
 
 pub use descriptors::{gdt, gdt64};
-pub use facts::ParamFacts;
 pub use fault::ParamFault;
 pub use fields::{MAX_E820_ENTRIES, PARAMS_SIZE};
 pub use laws::{
@@ -26,6 +25,7 @@ pub use laws::{
 };
 pub use paging::{LOW_PAGES, PAGE_SIZE, TABLES_SIZE, page_tables};
 pub use params::Params;
+pub use params_to_write::ParamsToWrite;
 pub use reader::read_params;
 pub use translation::translate;
 pub use write::write_params;

@@ -6,7 +6,7 @@ ghost use Rattle.bl_params.specs.Fields.{over};
 ghost use Rattle.bl_params.specs.BootParamsFacts.{max_e820_entries};
 ghost use Rattle.bl_params.specs.Numbers.{e820_entry_size, e820_table_at, params_size};
 
-use crate::facts::ParamFacts;
+use crate::params_to_write::ParamsToWrite;
 use crate::fields::{
     CMD_LINE_PTR, CODE32_START, E820_ENTRIES, E820_TABLE, ENTRY_LENGTH, ENTRY_SIZE, ENTRY_TYPE,
     HEADER_START, LOADER_UNDEFINED, RAMDISK_IMAGE, RAMDISK_SIZE, SETUP_DATA, TYPE_OF_LOADER,
@@ -49,7 +49,7 @@ fn put_entries(out: &mut [u8; 4096], runs: &[Region])
 /// Writes boot parameters over whatever stands there: zeros, the setup header from 0x1F1 on as it
 /// stands in the file, the fields that a loader writes, and the memory map (Linux/x86 Boot
 /// Protocol, "Zero Page"). Takes no memory.
-pub fn write_params(setup: &Setup, facts: &ParamFacts<'_>, out: &mut [u8; 4096])
+pub fn write_params(setup: &Setup, facts: &ParamsToWrite<'_>, out: &mut [u8; 4096])
     ensures { out.new ≡ boot_params setup.now.header facts.now }
 {
     let runs = facts.runs;

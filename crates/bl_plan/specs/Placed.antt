@@ -60,16 +60,16 @@ IsFirstPlaceFault facts taken (row ∷ rows) fault =
     × IsFirstPlaceFault facts (put_in (place_range (place_at row a)) taken) rows fault)
 
 -- a choice aligns to one byte at least
-abbrev pub IsSoundChoice : Choice → Type 0
-IsSoundChoice (Fixed at) = Unit {0}
-IsSoundChoice (Lowest align low high) = 1 ≤ align
-IsSoundChoice (Highest align low high) = 1 ≤ align
-IsSoundChoice (Preferred at align low high) = 1 ≤ align
+abbrev pub HasPositiveAlignment : Choice → Type 0
+HasPositiveAlignment (Fixed at) = Unit {0}
+HasPositiveAlignment (Lowest align low high) = 1 ≤ align
+HasPositiveAlignment (Highest align low high) = 1 ≤ align
+HasPositiveAlignment (Preferred at align low high) = 1 ≤ align
 
 -- a row of some bytes, aligned to one byte at least
 pub record IsRow (row : Row) : Type 0 where
   pub filled : 1 ≤ row.length
-  pub choice : IsSoundChoice row.choice
+  pub choice : HasPositiveAlignment row.choice
 
 -- why rows are not placed: their first fault, or want of memory
 abbrev pub IsPlacingFault : MachineFacts → List Row → PlanFault → Type 0

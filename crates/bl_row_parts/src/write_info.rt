@@ -7,14 +7,14 @@
 mod facts;
 mod row;
 
-use bl_mbi::{Facts, info_size, write_info};
+use bl_mbi::{InfoToWrite, info_size, write_info};
 use bl_rows::row::Row;
 use facts::{facts_of, modules_of, three_runs};
 use row::read_row;
 use std::alloc::AllocError;
 
 /// Writes the information over the heap, after the row's bytes.
-fn say_written(row: &mut Row<'_>, facts: &Facts<'_>) {
+fn say_written(row: &mut Row<'_>, facts: &InfoToWrite<'_>) {
     let Ok(mut out) = Vec::from_slice(row.heap, row.bytes) else {
         return row.say("no memory");
     };

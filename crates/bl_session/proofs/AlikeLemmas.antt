@@ -15,7 +15,7 @@ use Rattle.bl_session.specs.Boot.{BootFacts, EventFacts, piece, fault, State, un
 use Rattle.bl_session.specs.Boot.{handed_over, none_left, out_of_memory, sizes_of, fresh}
 use Rattle.bl_session.specs.Boot.{TextsHaveResult, Continuation, AfterAttempt, Continues}
 use Rattle.bl_session.specs.Boot.{BeginsUnless, Begins, is_wanted, Takes, Steps, StepsOrFails}
-use Rattle.bl_session.specs.Boot.{Starts, StartsOrFails, attempt_of}
+use Rattle.bl_session.specs.Boot.{Starts, StartsOrFails, attempt_number}
 use Rattle.bl_session.specs.History.{Item}
 use Rattle.bl_session.specs.Asked.{orders_of_files, orders, orders_after}
 
@@ -39,7 +39,7 @@ orders_alike f g alike out_of_memory = refl
 pub orders_after_alike : (f g : BootFacts) → AreAlike f g → (old new : State)
     → orders_after f old new ≡ orders_after g old new
 orders_after_alike f g alike old new =
-    ap (λ (items : List Item). if attempt_of new == attempt_of old then [] else items)
+    ap (λ (items : List Item). if attempt_number new == attempt_number old then [] else items)
     (orders_alike f g alike new)
 
 -- ---- one attempt after the other

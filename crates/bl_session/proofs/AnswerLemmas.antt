@@ -7,7 +7,7 @@ use Rattle.bl_stage.specs.PieceStates.{piece_states}
 use Rattle.bl_session.specs.declared.ticket.Ticket.{Ticket}
 use Rattle.bl_session.specs.declared.outcome.Progress.{Progress}
 use Rattle.bl_session.specs.declared.outcome.Progress.TheVariants.{Waiting}
-use Rattle.bl_session.specs.Boot.{BootFacts, piece, fault, State, StepsOrFails, attempt_of}
+use Rattle.bl_session.specs.Boot.{BootFacts, piece, fault, State, StepsOrFails, attempt_number}
 use Rattle.bl_session.specs.Boot.{is_running, progress}
 use Rattle.bl_session.specs.Outcome.{File}
 use Rattle.bl_session.specs.History.{Item, came, failed, nothing, file_under, IsPieceOf}
@@ -63,7 +63,7 @@ event_lost files given lacks_memory before ticket item w is first = absurd cc
 pub lost : (facts : BootFacts) (old new : PhaseFacts) (before after : List ℕ) (ticket : Ticket)
     (p : Progress) → is_waiting old ≡ true → missing_in (state_at before old) ≡ Some ticket
     → StepsOrFails facts (state_at before old) (fault ticket) (state_at after new)
-    → p ≡ progress (attempt_of (state_at before old)) (state_at after new) → p ≢ Waiting
+    → p ≡ progress (attempt_number (state_at before old)) (state_at after new) → p ≢ Waiting
 lost facts (waits entry rest earlier stage) new before after ticket p w first step told = λ e.
     lost_ends facts entry rest earlier (piece_states before stage) ticket (state_at after new) first
     step
@@ -126,7 +126,7 @@ owing facts files first last start new a b e heard =
 
 -- after which the attempt waits
 pub heard_waiting : (facts : BootFacts) (files : List File) (first last : List Item) (start : RunState)
-    (old new : State) (p : Progress) → p ≡ progress (attempt_of old) new → p ≡ Waiting
+    (old new : State) (p : Progress) → p ≡ progress (attempt_number old) new → p ≡ Waiting
     → IsHeard facts files first last start
     (record { state = new; owed = orders_after facts old new })
     → IsHeard facts files first last start (at new)
@@ -136,7 +136,7 @@ heard_waiting facts files first last start old new p told is heard =
 
 -- after which it has ended
 pub heard_ended : (facts : BootFacts) (files : List File) (first last : List Item) (start : RunState)
-    (old new : State) (p : Progress) → p ≡ progress (attempt_of old) new → p ≢ Waiting
+    (old new : State) (p : Progress) → p ≡ progress (attempt_number old) new → p ≢ Waiting
     → IsHeard facts files first last start
     (record { state = new; owed = orders_after facts old new })
     → IsHeard facts files first last start (run_state_of facts new)

@@ -10,7 +10,7 @@ use Rattle.bl_session.specs.declared.ticket.Ticket.{Ticket}
 use Rattle.bl_session.specs.Menu.{entry_at}
 use Rattle.bl_session.specs.Pieces.{with_piece}
 use Rattle.bl_session.specs.Boot.{BootFacts, EventFacts, State, unstarted, running, handed_over}
-use Rattle.bl_session.specs.Boot.{none_left, out_of_memory, Steps, attempt_of}
+use Rattle.bl_session.specs.Boot.{none_left, out_of_memory, Steps, attempt_number}
 use Rattle.bl_session.specs.History.{Item, file_under}
 use Rattle.bl_session.specs.Asked.{ticket_of, orders, orders_after}
 use Rattle.bl_session.proofs.TicketLemmas.{file_both}
@@ -74,14 +74,14 @@ asked_piece facts items entry rest earlier files ticket bytes (long, under) = (
 )
 
 -- nothing more is asked for as long as the attempt goes on
-owed_same : (facts : BootFacts) (old new : State) → attempt_of new ≡ attempt_of old
+owed_same : (facts : BootFacts) (old new : State) → attempt_number new ≡ attempt_number old
     → orders_after facts old new ≡ []
 owed_same facts old new e =
-    let same : (attempt_of new == attempt_of old) ≡ true = grind (arith, nat_tests) in
+    let same : (attempt_number new == attempt_number old) ≡ true = grind (arith, nat_tests) in
     ap (λ (b : Bool). if b then [] else orders facts new) same
 
 on_same : (facts : BootFacts) (items : List Item) (old new : State)
-    → attempt_of new ≡ attempt_of old → AreAsked facts items new
+    → attempt_number new ≡ attempt_number old → AreAsked facts items new
     → AreAsked facts (items ++ orders_after facts old new) new
 on_same facts items old new e asked =
     subst (λ (xs : List Item). AreAsked facts xs new)
@@ -121,10 +121,10 @@ pub asked_step : (facts : BootFacts) (items : List Item) (entry : ℕ) (rest : L
 asked_step facts items entry rest earlier files event new asked goes =
     elim (step_went facts entry rest earlier files event new goes) [
       | inl (e, same) ↦
-          on_same facts items (running entry rest earlier files) new (ap attempt_of same)
+          on_same facts items (running entry rest earlier files) new (ap attempt_number same)
           (subst (AreAsked facts items) (sym same) asked)
       | inr (e, inl (ticket, bytes, is, same)) ↦
-          on_same facts items (running entry rest earlier files) new (ap attempt_of same)
+          on_same facts items (running entry rest earlier files) new (ap attempt_number same)
           (subst (AreAsked facts items) (sym same)
           (asked_piece facts items entry rest earlier files ticket bytes asked))
       | inr (e, inr later) ↦ on_new facts items entry rest earlier files new later

@@ -15,7 +15,7 @@ use Rattle.bl_load.specs.PlanFacts.{handover_by, places_of}
 use Rattle.bl_load.specs.Value.{EntryValue, value_of}
 use Rattle.bl_session.specs.AttemptResult.{HasResult, HasRoomBeside, refused}
 use Rattle.bl_stage.specs.Staged.{Staging}
-use Rattle.bl_session.specs.Finished.{IsNotHandedOver, IsStageLeft}
+use Rattle.bl_session.specs.Finished.{IsNotHandedOver, IsStageAfterFault}
 use Rattle.bl_session.proofs.AfterLemmas.{ranges_are}
 
 -- a fault of preparing changed nothing
@@ -25,7 +25,7 @@ unprepared facts value (Refused refusal) old is = (inl is, refl)
 unprepared facts value NoMemory old is = λ a out. refl
 
 pub left_same : (fault : PrepFault) (stage : Staging) (bytes : List ℕ)
-    → IsStageLeft fault stage stage bytes bytes
+    → IsStageAfterFault fault stage stage bytes bytes
 left_same (Refused refusal) stage bytes = refl
 left_same NoMemory stage bytes = refl
 

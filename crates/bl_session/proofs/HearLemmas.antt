@@ -7,11 +7,11 @@ use Rattle.bl_session.specs.declared.outcome.Progress.{Progress}
 use Rattle.bl_session.specs.declared.outcome.Progress.TheVariants.{Waiting}
 use Rattle.bl_session.specs.declared.outcome.RefusedEntry.{RefusedEntry}
 use Rattle.bl_session.specs.Boot.{BootFacts, EventFacts, unstarted, running, is_taken, StepsOrFails}
-use Rattle.bl_session.specs.Boot.{attempt_of, progress}
+use Rattle.bl_session.specs.Boot.{attempt_number, progress}
 use Rattle.bl_session.specs.Memory.{IsMemoryIn}
 use Rattle.bl_session.specs.Phases.{PhaseFacts, not_started, waits, hands_over, has_none}
 use Rattle.bl_session.specs.Phases.{lacks_memory, state_at, is_waiting}
-use Rattle.bl_session.specs.TurnsKept.{attempts_in}
+use Rattle.bl_session.specs.TurnsKept.{attempts_left}
 use Rattle.bl_session.proofs.NextLemmas.{IsNext, next_step, still_runs, has_ended, fewer_left}
 use Rattle.bl_session.proofs.NextLemmas.{memory_step}
 
@@ -29,7 +29,7 @@ running_waits lacks_memory bytes entry rest earlier files e = absurd cc
 pub hears_on : (facts : BootFacts) (event : EventFacts) (old new : PhaseFacts)
     (before after : List ℕ) (p : Progress) → is_waiting old ≡ true
     → StepsOrFails facts (state_at before old) event (state_at after new)
-    → p ≡ progress (attempt_of (state_at before old)) (state_at after new) → p ≡ Waiting
+    → p ≡ progress (attempt_number (state_at before old)) (state_at after new) → p ≡ Waiting
     → is_waiting new ≡ true
 hears_on facts event (waits entry rest earlier stage) new before after p w step told is =
     let on =
@@ -45,14 +45,14 @@ hears_on facts event lacks_memory new before after p w step told is = absurd cc
 pub hears_as_many : (facts : BootFacts) (event : EventFacts) (old new : PhaseFacts)
     (before after : List ℕ) (p : Progress) → is_waiting old ≡ true
     → StepsOrFails facts (state_at before old) event (state_at after new)
-    → p ≡ progress (attempt_of (state_at before old)) (state_at after new) → p ≡ Waiting
-    → attempts_in (state_at after new) ≡ attempts_in (state_at before old)
+    → p ≡ progress (attempt_number (state_at before old)) (state_at after new) → p ≡ Waiting
+    → attempts_left (state_at after new) ≡ attempts_left (state_at before old)
 hears_as_many facts event (waits entry rest earlier stage) new before after p w step told is =
     let on =
     still_runs facts entry rest earlier (state_at after new)
     (next_step facts entry rest earlier (piece_states before stage) event (state_at after new)
     step) (sym told ∙ is) in
-    ap attempts_in on.1
+    ap attempts_left on.1
 hears_as_many facts event not_started new before after p w step told is = absurd cc
 hears_as_many facts event (hands_over n refusals handoff) new before after p w step told is =
     absurd cc
@@ -62,8 +62,8 @@ hears_as_many facts event lacks_memory new before after p w step told is = absur
 pub hears_fewer : (facts : BootFacts) (event : EventFacts) (old new : PhaseFacts)
     (before after : List ℕ) (p : Progress) → is_waiting old ≡ true
     → StepsOrFails facts (state_at before old) event (state_at after new)
-    → p ≡ progress (attempt_of (state_at before old)) (state_at after new) → p ≢ Waiting
-    → attempts_in (state_at after new) < attempts_in (state_at before old)
+    → p ≡ progress (attempt_number (state_at before old)) (state_at after new) → p ≢ Waiting
+    → attempts_left (state_at after new) < attempts_left (state_at before old)
 hears_fewer facts event (waits entry rest earlier stage) new before after p w step told is =
     fewer_left facts (length rest) (length earlier + 1) (state_at after new)
     (has_ended facts entry rest earlier (state_at after new)

@@ -1,7 +1,7 @@
 -- After want of memory a boot asks for nothing and hears nothing.
 use Rattle.std.proofs.Common.{◌≡◌, ◌==◌, Bool, true, false, if◌then◌else◌, List, [], ◌∷◌, refl, ap}
 use Rattle.std.proofs.Common.{subst, ◌∙◌}
-use Rattle.bl_session.specs.Boot.{BootFacts, State, out_of_memory, attempt_of}
+use Rattle.bl_session.specs.Boot.{BootFacts, State, out_of_memory, attempt_number}
 use Rattle.bl_session.specs.Outcome.{File}
 use Rattle.bl_session.specs.History.{Item}
 use Rattle.bl_session.specs.Asked.{orders, orders_after}
@@ -12,7 +12,7 @@ abbrev pub LacksMemory : RunState → Type 0
 LacksMemory run_state = (run_state.state ≡ out_of_memory) × (run_state.owed ≡ [])
 
 owes_nothing : (facts : BootFacts) (old : State) → orders_after facts old out_of_memory ≡ []
-owes_nothing facts old = either (attempt_of out_of_memory == attempt_of old)
+owes_nothing facts old = either (attempt_number out_of_memory == attempt_number old)
   where
     either : (b : Bool) → (if b then [] else orders facts out_of_memory) ≡ []
     either true = refl

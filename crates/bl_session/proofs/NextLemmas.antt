@@ -17,7 +17,7 @@ use Rattle.bl_session.specs.Boot.{handed_over, none_left, out_of_memory, is_want
 use Rattle.bl_session.specs.Boot.{StepsOrFails, progress}
 use Rattle.bl_session.specs.Asked.{first_ticket}
 use Rattle.bl_session.specs.Memory.{IsMemoryIn}
-use Rattle.bl_session.specs.TurnsKept.{attempts_in}
+use Rattle.bl_session.specs.TurnsKept.{attempts_left}
 use Rattle.bl_session.proofs.MissingLemmas.{first_wanted}
 use Rattle.bl_session.proofs.StepFaultLemmas.{ends_taken}
 use Rattle.bl_session.proofs.WentLemmas.{IsNewFrom, new_goes, new_begins, step_went}
@@ -76,7 +76,7 @@ has_ended facts entry rest earlier state (inl same) e =
 has_ended facts entry rest earlier state (inr later) e = later
 
 pub fewer_left : (facts : BootFacts) (count number : ℕ) (state : State)
-    → IsNewFrom facts count number state → attempts_in state < count + 1
+    → IsNewFrom facts count number state → attempts_left state < count + 1
 fewer_left facts count number unstarted later = absurd later
 fewer_left facts count number (running entry rest earlier files) (many, few, sized, first) =
     omega (arith, few)

@@ -8,7 +8,7 @@ use Rattle.std.proofs.lemmas.List.Folds.{list_any-append}
 use Rattle.std.proofs.lemmas.Map.Steps.{length-le_from_distinct_below}
 use Rattle.std.specs.List.{IsDistinct, AllByRecursion}
 use Rattle.std.specs.Prelude.{eqb}
-use Rattle.bl_session.specs.Attempts.{without_repeats_by, attempts_of}
+use Rattle.bl_session.specs.Attempts.{without_repeats_by, attempt_order}
 
 -- each index that is not among the earlier ones, once
 abbrev once : List ℕ → List ℕ → List ℕ
@@ -36,7 +36,7 @@ all_once_after count earlier (x ∷ xs) h =
     (all_once_after count earlier xs rest) (all_once_after count (earlier ++ x ∷ []) xs rest)
 
 pub all_attempts : (count default : ℕ) (fallbacks : List ℕ) → default < count
-    → All (λ y. y < count) fallbacks → All (λ y. y < count) (attempts_of default fallbacks)
+    → All (λ y. y < count) fallbacks → All (λ y. y < count) (attempt_order default fallbacks)
 all_attempts count default fallbacks h hs =
     all_once_after count [] (default ∷ fallbacks) (all_cons count default fallbacks h hs)
 
@@ -110,12 +110,12 @@ among_below count (x ∷ xs) q h e =
     (among_below count xs q (λ k d l. h (suc k) d (omega arith))) e
 
 pub few_attempts : (count default : ℕ) (fallbacks : List ℕ) → default < count
-    → All (λ y. y < count) fallbacks → length (attempts_of default fallbacks) ≤ count
+    → All (λ y. y < count) fallbacks → length (attempt_order default fallbacks) ≤ count
 few_attempts count default fallbacks h hs =
-    length-le_from_distinct_below (attempts_of default fallbacks) count
+    length-le_from_distinct_below (attempt_order default fallbacks) count
     (distinct_once [] (default ∷ fallbacks))
     (λ q e.
-    among_below count (attempts_of default fallbacks) q
+    among_below count (attempt_order default fallbacks) q
     (all_attempts count default fallbacks h hs) e)
 
 -- ---- one more

@@ -4,7 +4,7 @@ use Rattle.std.proofs.Common.{◌∷◌, ◌++◌, length, refl, sym, ap, subst,
 use Rattle.std.proofs.lemmas.List.{append-nil}
 use Rattle.bl_session.specs.declared.outcome.Progress.TheVariants.{Waiting, Next}
 use Rattle.bl_session.specs.Boot.{BootFacts, EventFacts, State, unstarted, running, handed_over}
-use Rattle.bl_session.specs.Boot.{none_left, out_of_memory, is_running, attempt_of, progress}
+use Rattle.bl_session.specs.Boot.{none_left, out_of_memory, is_running, attempt_number, progress}
 use Rattle.bl_session.specs.Boot.{StepsOrFails}
 use Rattle.bl_session.specs.Outcome.{File}
 use Rattle.bl_session.specs.History.{Item}
@@ -129,24 +129,24 @@ all_orders true n all e = absurd (e refl)
 all_orders false n all e = refl
 
 -- the attempt goes on
-pub owed_same : (facts : BootFacts) (old new : State) → progress (attempt_of old) new ≡ Waiting
+pub owed_same : (facts : BootFacts) (old new : State) → progress (attempt_number old) new ≡ Waiting
     → orders_after facts old new ≡ []
-owed_same facts old unstarted e = none_if (attempt_of unstarted == attempt_of old) [] refl
+owed_same facts old unstarted e = none_if (attempt_number unstarted == attempt_number old) [] refl
 owed_same facts old (running entry rest earlier files) e =
-    no_orders (length earlier == attempt_of old) (length earlier)
+    no_orders (length earlier == attempt_number old) (length earlier)
     (orders facts (running entry rest earlier files)) e
 owed_same facts old (handed_over entry earlier handover) e = absurd cc
 owed_same facts old (none_left earlier) e = absurd cc
 owed_same facts old out_of_memory e = absurd cc
 
 -- the next one begins, or none does
-pub owed_next : (facts : BootFacts) (old new : State) → progress (attempt_of old) new ≢ Waiting
+pub owed_next : (facts : BootFacts) (old new : State) → progress (attempt_number old) new ≢ Waiting
     → orders_after facts old new ≡ orders facts new
-owed_next facts old unstarted e = none_if (attempt_of unstarted == attempt_of old) [] refl
+owed_next facts old unstarted e = none_if (attempt_number unstarted == attempt_number old) [] refl
 owed_next facts old (running entry rest earlier files) e =
-    all_orders (length earlier == attempt_of old) (length earlier)
+    all_orders (length earlier == attempt_number old) (length earlier)
     (orders facts (running entry rest earlier files)) e
 owed_next facts old (handed_over entry earlier handover) e =
-    none_if (length earlier == attempt_of old) [] refl
-owed_next facts old (none_left earlier) e = none_if (length earlier == attempt_of old) [] refl
-owed_next facts old out_of_memory e = none_if (attempt_of out_of_memory == attempt_of old) [] refl
+    none_if (length earlier == attempt_number old) [] refl
+owed_next facts old (none_left earlier) e = none_if (length earlier == attempt_number old) [] refl
+owed_next facts old out_of_memory e = none_if (attempt_number out_of_memory == attempt_number old) [] refl

@@ -5,7 +5,7 @@ use Rattle.std.specs.List.{range_with_len}
 use Rattle.bl_stage.specs.PieceStates.{PieceState, waits, has}
 use Rattle.bl_session.specs.declared.ticket.Ticket.{Ticket}
 use Rattle.bl_session.specs.Menu.{entry_at}
-use Rattle.bl_session.specs.Boot.{BootFacts, State, attempt_of, on_running}
+use Rattle.bl_session.specs.Boot.{BootFacts, State, attempt_number, on_running}
 use Rattle.bl_session.specs.History.{Item, submitted}
 
 -- the ticket of a piece of the file at this place of an entry
@@ -35,7 +35,8 @@ orders facts state =
 -- what is to be asked for after a step from one state to another: nothing more if the attempt goes
 -- on, else each piece of the attempt that runs now
 abbrev pub orders_after : BootFacts → (old new : State) → List Item
-orders_after facts old new = if attempt_of new == attempt_of old then [] else orders facts new
+orders_after facts old new =
+    if attempt_number new == attempt_number old then [] else orders facts new
 
 -- ---- the first piece that is awaited: files ascending, and in each of them pieces ascending
 

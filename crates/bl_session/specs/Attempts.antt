@@ -18,8 +18,8 @@ without_repeats_by same earlier (x ∷ xs) =
     else x ∷ without_repeats_by same (earlier ++ x ∷ []) xs
 
 -- the default, then the fallbacks; one that was named before is left out
-abbrev pub attempts_of : ℕ → List ℕ → List ℕ
-attempts_of default fallbacks = without_repeats_by (λ i j. i == j) [] (default ∷ fallbacks)
+abbrev pub attempt_order : ℕ → List ℕ → List ℕ
+attempt_order default fallbacks = without_repeats_by (λ i j. i == j) [] (default ∷ fallbacks)
 
 -- few entries, each within its limits
 abbrev pub IsSmall : {A : Type 0} → List (Entry A) → Type 0

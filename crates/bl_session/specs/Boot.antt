@@ -171,12 +171,12 @@ abbrev pub StartsOrFails : BootFacts → State → State → Type 0
 StartsOrFails facts old new = Starts facts old new ⊎ ((new ≡ out_of_memory) × (old ≡ unstarted))
 
 -- the number of the attempt that runs
-abbrev pub attempt_of : State → ℕ
-attempt_of unstarted = 0
-attempt_of (running entry rest earlier files) = length earlier
-attempt_of (handed_over entry earlier handover) = length earlier
-attempt_of (none_left earlier) = length earlier
-attempt_of out_of_memory = 0
+abbrev pub attempt_number : State → ℕ
+attempt_number unstarted = 0
+attempt_number (running entry rest earlier files) = length earlier
+attempt_number (handed_over entry earlier handover) = length earlier
+attempt_number (none_left earlier) = length earlier
+attempt_number out_of_memory = 0
 
 -- what a call answers that leads from the attempt of this number to that state
 abbrev pub progress : ℕ → State → Progress

@@ -32,6 +32,6 @@ IsNotHandedOver facts value NoMemory old new = IsSameOutside facts.pool old new
 
 -- what is left of the entry's staged files then, where memory had and has these bytes: after a
 -- refusal the stage is as before; after want of memory each file reads as before
-abbrev pub IsStageLeft : PrepFault → (old new : Staging) → (before after : List ℕ) → Type 0
-IsStageLeft (Refused refusal) old new before after = new ≡ old
-IsStageLeft NoMemory old new before after = staged_texts after new ≡ staged_texts before old
+abbrev pub IsStageAfterFault : PrepFault → (old new : Staging) → (before after : List ℕ) → Type 0
+IsStageAfterFault (Refused refusal) old new before after = new ≡ old
+IsStageAfterFault NoMemory old new before after = staged_texts after new ≡ staged_texts before old

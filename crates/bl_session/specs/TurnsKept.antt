@@ -29,8 +29,8 @@ pub record IsHeard (facts : BootFacts) (files : List File) (old new : List Item)
   pub leads : LeadsOn facts files old start gained end
 
 -- how many attempts are left, with the one that runs
-abbrev pub attempts_in : State → ℕ
-attempts_in state = on_running state 0 (λ entry rest earlier files. length rest + 1)
+abbrev pub attempts_left : State → ℕ
+attempts_left state = on_running state 0 (λ entry rest earlier files. length rest + 1)
 
 -- the ticket of the first piece that the attempt awaits
 abbrev pub missing_in : State → Option Ticket

@@ -13,7 +13,7 @@ ghost use Rattle.bl_load.specs.Loadable.{lengths_of, IsLoadable};
 ghost use Rattle.bl_load.specs.Parts.{IsHandover, IsPrepFault};
 ghost use Rattle.bl_load.specs.PlanFacts.{handover_by, handover_in, places_of};
 ghost use Rattle.bl_load.specs.Value.{value_of, file_count, IsWithinLimits};
-ghost use Rattle.bl_session.specs.Finished.{IsHandedOver, IsNotHandedOver, IsStageLeft};
+ghost use Rattle.bl_session.specs.Finished.{IsHandedOver, IsNotHandedOver, IsStageAfterFault};
 
 use bl_load::{Entry, Handoff, Plan, PrepFault, Refusal, load, prepare};
 use bl_map::Machine;
@@ -157,7 +157,7 @@ pub fn finish<M: PhysMem, A: Allocator + Copy>(
     ensures err { IfErr result (λ fault. IsNotHandedOver machine.now
         (value_of (staged_texts (M.bytes memory.old) stage.old) entry.now) fault
         (M.bytes memory.old) (M.bytes memory.new)) }
-    ensures left { IfErr result (λ fault. IsStageLeft fault stage.old stage.new
+    ensures left { IfErr result (λ fault. IsStageAfterFault fault stage.old stage.new
         (M.bytes memory.old) (M.bytes memory.new)) }
     ensures stage { stage.new ≡ with_frames stage.old stage.new.frames }
     ensures kept { KeepsMemory M.lender M.bytes M.room memory.old memory.new }

@@ -5,7 +5,7 @@ ghost use Rattle.std.specs.List.{list_any};
 ghost use Rattle.bl_load.specs.Offered.{IsOfferedEntry, IsOffered};
 ghost use Rattle.bl_load.specs.Value.{IsWithinLimits};
 ghost use Rattle.bl_session.specs.Menu.{facts_of, entry_at};
-ghost use Rattle.bl_session.specs.Attempts.{attempts_of, IsSmall, NameEntries, HasMenuFault};
+ghost use Rattle.bl_session.specs.Attempts.{attempt_order, IsSmall, NameEntries, HasMenuFault};
 ghost use Rattle.bl_session.specs.Attempts as attempts;
 
 use crate::menu::fault::{is_small, name_entries};
@@ -75,7 +75,7 @@ pub fn order_attempts<A: Allocator>(
     default: u32,
     fallbacks: &[u32],
 ) -> Result<Vec<u32, A>, AllocError>
-    ensures { IfOk result (λ attempts. attempts.items ≡ attempts_of default fallbacks.now) }
+    ensures { IfOk result (λ attempts. attempts.items ≡ attempt_order default fallbacks.now) }
 {
     let mut attempts = Vec::new(alloc);
     attempts.push(default)?;
@@ -104,7 +104,7 @@ impl<A: Allocator + Copy> Menu<A> {
     ) -> Result<Menu<A>, MenuFault>
         ensures ok { IfOk result (λ menu. menu ≡ record {
           entries = map facts_of entries.items;
-          attempts = attempts_of default fallbacks.now;
+          attempts = attempt_order default fallbacks.now;
         }) }
         ensures allowed { OnOk result (IsSmall entries.items
             × NameEntries (length entries.items) default fallbacks.now) }

@@ -2,7 +2,7 @@
 ghost use Rattle.std.specs.Prelude.{◌≡◌, ◌≢◌, ℕ, List, true, false, IfOk, IfSome, MatchBool};
 ghost use Rattle.std.specs.Prelude.{length, option_map};
 ghost use Rattle.bl_mem.specs.Memory.{HasRoom, KeepsMemory};
-ghost use Rattle.bl_session.specs.Boot.{StepsOrFails, StartsOrFails, is_taken, attempt_of};
+ghost use Rattle.bl_session.specs.Boot.{StepsOrFails, StartsOrFails, is_taken, attempt_number};
 ghost use Rattle.bl_session.specs.Boot as boot;
 ghost use Rattle.bl_session.specs.Memory.{IsMemoryIn};
 ghost use Rattle.bl_session.specs.Phases.{boot_facts, event_facts, state_at, is_waiting};
@@ -91,7 +91,7 @@ impl<A: Allocator + Copy> OwnedSession<A> {
             (state_at (M.bytes memory.old) self.old.phase)
             (state_at (M.bytes memory.new) self.new.phase) }
         ensures progress { result ≡ boot.progress
-            (attempt_of (state_at (M.bytes memory.old) self.old.phase))
+            (attempt_number (state_at (M.bytes memory.old) self.old.phase))
             (state_at (M.bytes memory.new) self.new.phase) }
         ensures memory { self.old.phase ≡ not_started
             → IsMemoryIn self.old.boot.machine.pool (state_at (M.bytes memory.new) self.new.phase)
@@ -122,7 +122,7 @@ impl<A: Allocator + Copy> OwnedSession<A> {
             (state_at (M.bytes memory.old) self.old.phase) (event_facts event.entry)
             (state_at (M.bytes memory.new) self.new.phase) }
         ensures progress { result ≡ boot.progress
-            (attempt_of (state_at (M.bytes memory.old) self.old.phase))
+            (attempt_number (state_at (M.bytes memory.old) self.old.phase))
             (state_at (M.bytes memory.new) self.new.phase) }
         ensures memory { MatchBool
             (is_taken (state_at (M.bytes memory.old) self.old.phase) (event_facts event.entry))

@@ -1,6 +1,6 @@
 //! Where a session stands, and what its calls share.
 ghost use Rattle.std.specs.Prelude.{◌≡◌, ℕ, List};
-ghost use Rattle.bl_session.specs.Boot.{attempt_of};
+ghost use Rattle.bl_session.specs.Boot.{attempt_number};
 ghost use Rattle.bl_session.specs.Boot as boot;
 ghost use Rattle.bl_session.specs.Phases.{phase_facts, is_waiting};
 ghost use Rattle.bl_session.specs.PhasesKept.{state_of, IsPhaseKept};
@@ -54,7 +54,8 @@ pub fn awaits_pieces<A: Allocator>(phase: &Phase<A>) -> bool
 
 /// The number of the attempt of a phase.
 pub fn number_of<A: Allocator>(phase: &Phase<A>) -> usize
-    ensures { (attempts bytes : List ℕ) → result ≡ attempt_of (state_of attempts bytes phase.now) }
+    ensures { (attempts bytes : List ℕ) → result
+        ≡ attempt_number (state_of attempts bytes phase.now) }
 {
     match phase {
         Phase::Unstarted => 0,

@@ -3,7 +3,8 @@ ghost use Rattle.std.specs.Prelude.{◌≡◌, ◌≢◌, [], true, false, IfOk,
 ghost use Rattle.std.specs.Prelude.{length};
 ghost use Rattle.bl_mem.specs.Memory.{HasRoom, KeepsMemory};
 ghost use Rattle.bl_stage.specs.Ranges.{IsSameOutside};
-ghost use Rattle.bl_session.specs.Boot.{is_taken, attempt_of, Begins, StepsOrFails, StartsOrFails};
+ghost use Rattle.bl_session.specs.Boot.{is_taken, attempt_number, Begins};
+ghost use Rattle.bl_session.specs.Boot.{StepsOrFails, StartsOrFails};
 ghost use Rattle.bl_session.specs.Boot as boot_specs;
 ghost use Rattle.bl_session.specs.Memory.{IsMemoryIn};
 ghost use Rattle.bl_session.specs.Phases.{event_facts, phase_facts};
@@ -35,7 +36,7 @@ pub fn advance<M: PhysMem, A: Allocator + Copy>(
         (state_in boot.now (M.bytes memory.old) phase.old) (event_facts event.entry)
         (state_in boot.now (M.bytes memory.new) phase.new) }
     ensures progress { result ≡ boot_specs.progress
-        (attempt_of (state_in boot.now (M.bytes memory.old) phase.old))
+        (attempt_number (state_in boot.now (M.bytes memory.old) phase.old))
         (state_in boot.now (M.bytes memory.new) phase.new) }
     ensures memory { MatchBool
         (is_taken (state_in boot.now (M.bytes memory.old) phase.old)
@@ -117,7 +118,7 @@ pub fn begin_first<M: PhysMem, A: Allocator + Copy>(
         (state_in boot.now (M.bytes memory.old) phase.old)
         (state_in boot.now (M.bytes memory.new) phase.new) }
     ensures progress { result ≡ boot_specs.progress
-        (attempt_of (state_in boot.now (M.bytes memory.old) phase.old))
+        (attempt_number (state_in boot.now (M.bytes memory.old) phase.old))
         (state_in boot.now (M.bytes memory.new) phase.new) }
     ensures memory { phase_facts boot.now.menu.now.attempts phase.old ≡ not_started
         → IsMemoryIn boot.now.machine.now.pool (state_in boot.now (M.bytes memory.new) phase.new)

@@ -3,13 +3,13 @@ ghost use Rattle.std.specs.Prelude.{◌≡◌, ◌≢◌, ◌<◌, [], ℕ, List
 ghost use Rattle.std.specs.Prelude.{IfOk, OnOk, OnErr};
 ghost use Rattle.bl_mem.specs.Memory.{HasRoom, KeepsMemory};
 ghost use Rattle.bl_stage.specs.Ranges.{IsSameOutside};
-ghost use Rattle.bl_session.specs.Boot.{StepsOrFails, attempt_of, is_running};
+ghost use Rattle.bl_session.specs.Boot.{StepsOrFails, attempt_number, is_running};
 ghost use Rattle.bl_session.specs.Boot as boot;
 ghost use Rattle.bl_session.specs.Memory.{IsMemoryIn};
 ghost use Rattle.bl_session.specs.Asked.{orders_after};
 ghost use Rattle.bl_session.specs.Phases.{event_facts, state_at, is_waiting, not_started};
 ghost use Rattle.bl_session.specs.Run.{RunState, run_state_of};
-ghost use Rattle.bl_session.specs.TurnsKept.{IsHeard, attempts_in};
+ghost use Rattle.bl_session.specs.TurnsKept.{IsHeard, attempts_left};
 
 use crate::outcome::Progress;
 use crate::session::Session;
@@ -33,15 +33,15 @@ fn hear<M: PhysMem, A: Allocator + Copy>(
         (state_at (M.bytes memory.old) session.old.phase) (event_facts event.entry)
         (state_at (M.bytes memory.new) session.new.phase) }
     ensures progress { result ≡ boot.progress
-        (attempt_of (state_at (M.bytes memory.old) session.old.phase))
+        (attempt_number (state_at (M.bytes memory.old) session.old.phase))
         (state_at (M.bytes memory.new) session.new.phase) }
     ensures goes_on { result ≡ Progress.Waiting → is_waiting session.new.phase ≡ true }
     ensures as_many { result ≡ Progress.Waiting
-        → attempts_in (state_at (M.bytes memory.new) session.new.phase)
-        ≡ attempts_in (state_at (M.bytes memory.old) session.old.phase) }
+        → attempts_left (state_at (M.bytes memory.new) session.new.phase)
+        ≡ attempts_left (state_at (M.bytes memory.old) session.old.phase) }
     ensures fewer { result ≢ Progress.Waiting
-        → attempts_in (state_at (M.bytes memory.new) session.new.phase)
-        < attempts_in (state_at (M.bytes memory.old) session.old.phase) }
+        → attempts_left (state_at (M.bytes memory.new) session.new.phase)
+        < attempts_left (state_at (M.bytes memory.old) session.old.phase) }
     ensures started { session.new.phase ≢ not_started }
     ensures memory { IsMemoryIn session.old.boot.machine.pool
         (state_at (M.bytes memory.new) session.new.phase)
@@ -72,18 +72,18 @@ fn answer<M: PhysMem, S: Store, A: Allocator + Copy>(
               (state_at (M.bytes memory.new) session.new.phase);
         })) }
     ensures progress { IfOk result (λ progress. progress ≡ boot.progress
-        (attempt_of (state_at (M.bytes memory.old) session.old.phase))
+        (attempt_number (state_at (M.bytes memory.old) session.old.phase))
         (state_at (M.bytes memory.new) session.new.phase)) }
     ensures goes_on { IfOk result (λ progress. progress ≡ Progress.Waiting
         → is_waiting session.new.phase ≡ true) }
     ensures as_many { IfOk result (λ progress. progress ≡ Progress.Waiting
-        → attempts_in (state_at (M.bytes memory.new) session.new.phase)
-        ≡ attempts_in (state_at (M.bytes memory.old) session.old.phase)) }
+        → attempts_left (state_at (M.bytes memory.new) session.new.phase)
+        ≡ attempts_left (state_at (M.bytes memory.old) session.old.phase)) }
     ensures left { IfOk result (λ progress. progress ≡ Progress.Waiting
         → S.left store.new < S.left store.old) }
     ensures fewer { IfOk result (λ progress. progress ≢ Progress.Waiting
-        → attempts_in (state_at (M.bytes memory.new) session.new.phase)
-        < attempts_in (state_at (M.bytes memory.old) session.old.phase)) }
+        → attempts_left (state_at (M.bytes memory.new) session.new.phase)
+        < attempts_left (state_at (M.bytes memory.old) session.old.phase)) }
     ensures started { OnOk result (session.new.phase ≢ not_started) }
     ensures memory { OnOk result (IsMemoryIn session.old.boot.machine.pool
         (state_at (M.bytes memory.new) session.new.phase)
@@ -120,8 +120,8 @@ fn await_end<M: PhysMem, S: Store, A: Allocator + Copy>(
         (S.given store.old) (S.given store.new)
         (record { state = state_at (M.bytes memory.old) session.old.phase; owed = [] })
         (run_state_of session.old.boot (state_at (M.bytes memory.new) session.new.phase))) }
-    ensures fewer { OnOk result (attempts_in (state_at (M.bytes memory.new) session.new.phase)
-        < attempts_in (state_at (M.bytes memory.old) session.old.phase)) }
+    ensures fewer { OnOk result (attempts_left (state_at (M.bytes memory.new) session.new.phase)
+        < attempts_left (state_at (M.bytes memory.old) session.old.phase)) }
     ensures started { OnOk result (session.new.phase ≢ not_started) }
     ensures memory { OnOk result (IsMemoryIn session.old.boot.machine.pool
         (state_at (M.bytes memory.new) session.new.phase)

@@ -26,7 +26,7 @@ use crate::protocols::descriptors_of;
 use bl_bzimage::Setup;
 use bl_map::{FRAME_SIZE, Machine};
 use bl_mem::{ByteView, Bytes};
-use bl_params::{ParamFacts, page_tables, write_params};
+use bl_params::{ParamsToWrite, page_tables, write_params};
 use bl_plan::{Place, Protocol, Role};
 use std::alloc::{AllocError, Allocator};
 
@@ -35,7 +35,7 @@ fn told_of<'a, A: Allocator>(
     machine: &'a Machine<A>,
     ramdisk_size: u64,
     places: &[Place],
-) -> ParamFacts<'a>
+) -> ParamsToWrite<'a>
     requires few { length machine.now.runs ≤ max_e820_entries }
     requires size { ramdisk_size < 2 ^ 32 }
     requires low { All EndsLow places.now }
@@ -47,7 +47,7 @@ fn told_of<'a, A: Allocator>(
       runs = machine.now.runs;
     } }
 {
-    ParamFacts {
+    ParamsToWrite {
         code32_start: address_of(Role::Kernel, 0, places),
         ramdisk_image: address_of(Role::Initrd, 0, places),
         ramdisk_size: ramdisk_size as u32,

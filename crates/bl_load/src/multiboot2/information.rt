@@ -19,7 +19,7 @@ use crate::addresses;
 use crate::entry::Module;
 use crate::entry_files::EntryFiles;
 use bl_mb2head::Relocation;
-use bl_mbi::{Facts, ModuleFacts, write_info};
+use bl_mbi::{InfoToWrite, ModuleToWrite, write_info};
 use bl_mem::{ByteView, Bytes};
 use bl_plan::{Place, Role};
 use std::alloc::{AllocError, Allocator};
@@ -35,7 +35,7 @@ fn text_of(line: &[u8]) -> &[u8]
 
 /// What the information tells of the module of this line, whose file has `size` bytes, where the
 /// parts have these places.
-fn module_at<'a>(index: u32, line: &'a [u8], size: u64, places: &[Place]) -> ModuleFacts<'a>
+fn module_at<'a>(index: u32, line: &'a [u8], size: u64, places: &[Place]) -> ModuleToWrite<'a>
     requires sound { line_fault line.now ≡ None }
     requires low { All EndsLow places.now }
     requires end { address_of role.Module index places.now + size ≤ usable_limit }
@@ -47,7 +47,7 @@ fn module_at<'a>(index: u32, line: &'a [u8], size: u64, places: &[Place]) -> Mod
     ensures fits { IsModule result }
 {
     let mod_start = addresses::address_of(Role::Module, index, places);
-    ModuleFacts {
+    ModuleToWrite {
         mod_start,
         mod_end: mod_start + size as u32,
         line: text_of(line),
@@ -60,7 +60,7 @@ fn modules_at<'a, A: Allocator, V: ByteView>(
     modules: &'a [Module<A>],
     files: &[V],
     places: &[Place],
-) -> Result<Vec<ModuleFacts<'a>, A>, AllocError>
+) -> Result<Vec<ModuleToWrite<'a>, A>, AllocError>
     requires sound { All (λ m. line_fault m.line ≡ None) modules.now }
     requires few { length modules.now ≤ max_modules }
     requires files { length files.now ≡ 1 + length modules.now }
@@ -96,9 +96,9 @@ fn bytes_of<A: Allocator>(copy: &Option<Bytes<A>>) -> Option<&[u8]>
 /// What the information tells, with these modules.
 fn facts_of<'a, A: Allocator, V: ByteView>(
     entry: &'a EntryFiles<'_, A, V>,
-    modules: &'a [ModuleFacts<'a>],
+    modules: &'a [ModuleToWrite<'a>],
     load_base: Option<u32>,
-) -> Facts<'a>
+) -> InfoToWrite<'a>
     requires modules { All IsModule modules.now }
     requires small { sum_by (λ n. tag_size (n + 9)) (map (λ m. length m.line) modules.now)
         < 2 ^ 20 }
@@ -114,7 +114,7 @@ fn facts_of<'a, A: Allocator, V: ByteView>(
       load_base = load_base;
     } }
 {
-    Facts {
+    InfoToWrite {
         line: text_of(entry.line),
         modules,
         mem_lower: entry.machine.low_kib() as u32,

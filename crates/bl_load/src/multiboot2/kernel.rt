@@ -5,7 +5,7 @@ ghost use Rattle.std.specs.List.{list_any};
 ghost use Rattle.bl_load.specs.Kernel as kernel;
 ghost use Rattle.bl_mem.specs.Contents.{holds_at};
 ghost use Rattle.bl_load.specs.Kernel.{IsKernel, IsLoadedBy, entry_fault};
-ghost use Rattle.bl_load.specs.KernelKept.{IsElfFault, IsLoadFault, IsKernelFault, AreLoadable};
+ghost use Rattle.bl_load.specs.KernelKept.{IsElfFault, IsElfRefusal, IsKernelFault, AreLoadable};
 ghost use Rattle.bl_load.specs.KernelKept.{executable_facts, kernel_by};
 ghost use Rattle.bl_load.specs.declared.refusal.PrepFault.TheVariants.{Refused};
 
@@ -99,7 +99,7 @@ fn read_executable<A: Allocator + Copy, V: ByteView>(
 ) -> Result<Executable<A>, PrepFault>
     ensures loaded { IfOk result (λ executable. IsLoadedBy (V.bytes file.now) segment
         (executable_facts executable)) }
-    ensures fault { IfErr result (λ fault. IsLoadFault (V.bytes file.now) segment fault) }
+    ensures fault { IfErr result (λ fault. IsElfRefusal (V.bytes file.now) segment fault) }
 {
     match segment {
         Some(segment) => Ok(Executable::AddressTag([segment])),

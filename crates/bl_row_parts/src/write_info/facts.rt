@@ -7,7 +7,7 @@ ghost use Rattle.bl_mbi.specs.Size.{copy_size};
 
 use crate::write_info::row::{InfoRow, ModuleRow};
 use bl_map::{Kind, Region};
-use bl_mbi::{Facts, ModuleFacts};
+use bl_mbi::{InfoToWrite, ModuleToWrite};
 use bl_rows::row::Row;
 use std::alloc::AllocError;
 
@@ -65,7 +65,7 @@ fn copy_of<'a>(row: &mut Row<'_>, copy: &'a Option<Vec<u8>>) -> Option<&'a [u8]>
 }
 
 /// A module, which may not end before it starts.
-fn module_of<'a>(row: &mut Row<'_>, read: &'a ModuleRow) -> ModuleFacts<'a>
+fn module_of<'a>(row: &mut Row<'_>, read: &'a ModuleRow) -> ModuleToWrite<'a>
     ensures module { IsModule result }
     ensures short { length result.line ≤ 512 }
 {
@@ -75,7 +75,7 @@ fn module_of<'a>(row: &mut Row<'_>, read: &'a ModuleRow) -> ModuleFacts<'a>
         row.refuse();
         mod_end = mod_start;
     }
-    ModuleFacts {
+    ModuleToWrite {
         mod_start,
         mod_end,
         line: text_of(row, read.line.as_slice()),
@@ -86,7 +86,7 @@ fn module_of<'a>(row: &mut Row<'_>, read: &'a ModuleRow) -> ModuleFacts<'a>
 pub fn modules_of<'a>(
     row: &mut Row<'_>,
     rows: &'a [ModuleRow],
-) -> Result<Vec<ModuleFacts<'a>>, AllocError>
+) -> Result<Vec<ModuleToWrite<'a>>, AllocError>
     ensures modules { IfOk result (λ modules. All IsModule modules.items) }
     ensures short { IfOk result (λ modules. All (λ m. length m.line ≤ 512) modules.items) }
     ensures few { IfOk result (λ modules. length modules.items ≤ 2) }
@@ -139,16 +139,16 @@ fn base_of(read: &InfoRow) -> Option<u32>
 pub fn facts_of<'a>(
     row: &mut Row<'_>,
     read: &'a InfoRow,
-    modules: &'a [ModuleFacts<'a>],
+    modules: &'a [ModuleToWrite<'a>],
     runs: &'a [Region],
-) -> Facts<'a>
+) -> InfoToWrite<'a>
     requires modules { All IsModule modules.now }
     requires short { All (λ m. length m.line ≤ 512) modules.now }
     requires few { length modules.now ≤ 2 }
     requires count { length runs.now ≡ 3 }
     requires low { All (λ run. run.base + run.length ≤ 2 ^ 52) runs.now }
 {
-    Facts {
+    InfoToWrite {
         line: text_of(row, read.line.as_slice()),
         modules,
         mem_lower: 636,

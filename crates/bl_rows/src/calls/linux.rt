@@ -14,7 +14,7 @@ use crate::row::Row;
 use bl_bzimage::{Setup, SetupFault, read_setup};
 use bl_map::Region;
 use bl_mem::SliceView;
-use bl_params::{ParamFacts, ParamFault, Params, gdt, read_params, write_params};
+use bl_params::{ParamFault, Params, ParamsToWrite, gdt, read_params, write_params};
 use bl_refusing::Refusing;
 
 fn say_setup_fault(row: &mut Row<'_>, fault: SetupFault) {
@@ -114,7 +114,7 @@ pub fn answer_write(row: &mut Row<'_>) {
     if runs.len() > 128 || !are_low(runs.as_slice()) {
         return row.refuse();
     }
-    let facts = ParamFacts {
+    let facts = ParamsToWrite {
         code32_start: load,
         ramdisk_image: image,
         ramdisk_size: size,

@@ -2,7 +2,7 @@ use Rattle.std.proofs.Common.{◌<◌, ◌∙◌, subst}
 use Rattle.bl_session.specs.Boot.{BootFacts}
 use Rattle.bl_session.specs.Memory.{IsMemoryIn}
 use Rattle.bl_session.specs.Phases.{state_at}
-use Rattle.bl_session.specs.TurnsKept.{attempts_in}
+use Rattle.bl_session.specs.TurnsKept.{attempts_left}
 use Rattle.bl_session.proofs.KeptMemoryLemmas.{memory_on, same_on, keeps_on}
 use Rattle.bl_session.proofs.AnswerLemmas.{at, heard_more, heard_waiting, heard_ended}
 use Rattle.bl_session.proofs.AnswerLemmas.{waiting_memory}
@@ -74,7 +74,7 @@ returns-in_default g c =
           heard_ended facts (files c.args.store.now) (given c.args.store.now)
           (given c.answer.new.store) (at first) old new c.in_ok-answer.field-0 told.progress
           c.in_default.not-Waiting more;
-      fewer = subst (λ n. attempts_in new < n) so_far.as_many (told.fewer c.in_default.not-Waiting);
+      fewer = subst (λ n. attempts_left new < n) so_far.as_many (told.fewer c.in_default.not-Waiting);
       started = told.started;
       memory =
           memory_on facts.machine.pool new (bytes c.args.memory.now) (bytes c.answers.memory)

@@ -2,7 +2,7 @@ use Rattle.std.proofs.Common.{◌≡◌, true}
 use Rattle.bl_mem.specs.Memory.{KeepsMemory}
 use Rattle.bl_stage.specs.Ranges.{IsSameOutside}
 use Rattle.bl_session.specs.Phases.{state_at, is_waiting}
-use Rattle.bl_session.specs.TurnsKept.{IsHeard, attempts_in}
+use Rattle.bl_session.specs.TurnsKept.{IsHeard, attempts_left}
 use Rattle.bl_session.proofs.AnswerLemmas.{at}
 use Rattle.bl_session.proofs.turns.await_end.Given as goal
 
@@ -17,7 +17,7 @@ invariant-answers g l =
       waiting : is_waiting l.session.phase ≡ true;
       heard : IsHeard l.fn.session.boot (g.S.Store.files l.fn.store) (g.S.Store.given l.fn.store)
           (g.S.Store.given l.store) (at old) (at now);
-      as_many : attempts_in now ≡ attempts_in old;
+      as_many : attempts_left now ≡ attempts_left old;
       outside : IsSameOutside l.fn.session.boot.machine.pool (bytes l.fn.memory) (bytes l.memory);
       files : g.S.Store.files l.store ≡ g.S.Store.files l.fn.store;
       kept : KeepsMemory g.M.PhysMem.lender bytes g.M.PhysMem.room l.fn.memory l.memory;

@@ -3,7 +3,7 @@ use Rattle.bl_mem.specs.Memory.{HasRoom, KeepsMemory}
 use Rattle.bl_session.specs.Memory.{IsMemoryIn}
 use Rattle.bl_session.specs.Phases.{state_at, is_waiting, not_started}
 use Rattle.bl_session.specs.Run.{run_state_of}
-use Rattle.bl_session.specs.TurnsKept.{IsHeard, attempts_in}
+use Rattle.bl_session.specs.TurnsKept.{IsHeard, attempts_left}
 use Rattle.bl_session.proofs.turns.drive.Given as goal
 
 -- what was asked and heard so far led from where the boot stood
@@ -28,4 +28,4 @@ invariant-attempts g l =
 
 -- fewer attempts are left after each
 abbrev pub decreases-attempts : goal.decreases-attempts
-decreases-attempts g l = attempts_in (state_at (g.M.PhysMem.bytes l.memory) l.session.phase)
+decreases-attempts g l = attempts_left (state_at (g.M.PhysMem.bytes l.memory) l.session.phase)

@@ -1,7 +1,7 @@
 use Rattle.std.proofs.Common.{◌≡◌, All, List, ◌≤◌, length, refl, sym, subst, arith, rules}
 use Rattle.bl_load.specs.Offered.{IsOfferedEntry}
 use Rattle.bl_load.specs.declared.entry.Entry.{Entry}
-use Rattle.bl_session.specs.Attempts.{NameEntries, IsSmall, attempts_of}
+use Rattle.bl_session.specs.Attempts.{NameEntries, IsSmall, attempt_order}
 use Rattle.bl_session.proofs.MenuLemmas.{offered_entries}
 use Rattle.bl_session.proofs.OnceLemmas.{all_attempts, few_attempts}
 use Rattle.std.proofs.lemmas.Bool.{false≢true}
@@ -20,7 +20,7 @@ invariant_of-result g c =
     subst (λ (es : List (Entry g.row.A.Denot)). IsSmall es) same
     (c.if-not-is_small.ensures.0 refl) in
     let few = few_attempts (length entries) c.args.default fallbacks named.0 named.1 in
-    let most : length (attempts_of c.args.default fallbacks) ≤ 32 = omega (arith, few, small.0) in (
+    let most : length (attempt_order c.args.default fallbacks) ≤ 32 = omega (arith, few, small.0) in (
       rw c.in_ok-attempts.ensures
           (all_attempts (length entries) c.args.default fallbacks named.0 named.1),
       small.1,

@@ -1,17 +1,17 @@
-//! A module, as it is told of.
+//! A module, as it is to be told of.
 use std::marker::Model;
 
 /// What the information tells of a module (Multiboot2 3.6.6 "Modules"): the physical addresses of
 /// its first byte and after its last one, both in bytes, and its line, which is not copied, without
 /// a zero at its end. An empty module has `mod_end` equal to `mod_start`.
 #[derive(Drop)]
-pub struct ModuleFacts<'a> {
+pub struct ModuleToWrite<'a> {
     pub mod_start: u32,
     pub mod_end: u32,
     pub line: &'a [u8],
 }
 
-impl<'a> Model for ModuleFacts<'a> {
+impl<'a> Model for ModuleToWrite<'a> {
     ghost use Rattle.bl_mbi.specs.InformationFacts.{ModuleInfo};
 
     ghost Value = { ModuleInfo };

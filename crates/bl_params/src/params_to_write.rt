@@ -1,4 +1,4 @@
-//! What a kernel is told.
+//! What a kernel is to be told.
 use bl_map::Region;
 use std::marker::Model;
 
@@ -12,7 +12,7 @@ use std::marker::Model;
 /// - `cmd_line_ptr`: the address of the line.
 /// - `runs`: the memory map.
 #[derive(Drop)]
-pub struct ParamFacts<'a> {
+pub struct ParamsToWrite<'a> {
     pub code32_start: u32,
     pub ramdisk_image: u32,
     pub ramdisk_size: u32,
@@ -20,7 +20,7 @@ pub struct ParamFacts<'a> {
     pub runs: &'a [Region],
 }
 
-impl<'a> Model for ParamFacts<'a> {
+impl<'a> Model for ParamsToWrite<'a> {
     ghost use Rattle.bl_params.specs.BootParamsFacts.{BootParamsFacts, AreTold};
 
     ghost Value = { BootParamsFacts };

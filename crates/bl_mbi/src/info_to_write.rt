@@ -1,16 +1,16 @@
-//! The facts of boot information.
-use crate::module_facts::ModuleFacts;
+//! Boot information that is to be written.
+use crate::module_to_write::ModuleToWrite;
 use bl_map::Region;
 use std::marker::Model;
 
-/// The facts of boot information, all but the loader's name (Multiboot2 3.6 "Boot information
-/// format"). Sizes of memory are in KiB. What it tells stays its owner's: nothing is copied. Facts
-/// always have a spelling: texts without a zero byte, `mod_start` at most `mod_end`, at most 640
+/// All that boot information tells but the loader's name (Multiboot2 3.6 "Boot information
+/// format"). Sizes of memory are in KiB. What it tells stays its owner's: nothing is copied. It
+/// always has a spelling: texts without a zero byte, `mod_start` at most `mod_end`, at most 640
 /// KiB of lower memory, runs that end at most at 2^52, a total size below 2^32.
 #[derive(Drop)]
-pub struct Facts<'a> {
+pub struct InfoToWrite<'a> {
     pub line: &'a [u8],
-    pub modules: &'a [ModuleFacts<'a>],
+    pub modules: &'a [ModuleToWrite<'a>],
     pub mem_lower: u32,
     pub mem_upper: u32,
     pub runs: &'a [Region],
@@ -19,7 +19,7 @@ pub struct Facts<'a> {
     pub load_base: Option<u32>,
 }
 
-impl<'a> Model for Facts<'a> {
+impl<'a> Model for InfoToWrite<'a> {
     ghost use Rattle.std.specs.Prelude.{option_copied};
     ghost use Rattle.bl_mbi.specs.InformationFacts.{InformationFacts, HasSpelling};
 
