@@ -6,7 +6,7 @@ use Rattle.std.specs.List.{flat_map}
 use Rattle.bl_image.proofs.Spelled.{flat_map-take}
 use Rattle.bl_walk.specs.SeenFacts.{SeenModuleFacts}
 use Rattle.bl_abi.specs.SeenTold.{module_told, modules_told}
-use Rattle.bl_abi.specs.declared.walked.SeenModuleRecord.{SeenModuleRecord}
+use Rattle.bl_abi.specs.declared.seen_records.SeenModuleRecord.{SeenModuleRecord}
 
 module_next : (ms : List SeenModuleFacts) (i : ℕ) (m : SeenModuleFacts) (at end : ℕ)
     → i < length ms → m ≡ get_or ms i m → end ≡ at + length (flat_map (λ m. m.line) (take i ms))

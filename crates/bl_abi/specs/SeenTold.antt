@@ -9,9 +9,9 @@ use Rattle.bl_walk.specs.SeenFacts.{SeenFacts, SeenFileFacts, SeenModuleFacts}
 use Rattle.bl_walk.specs.declared.seen.SeenPart.{SeenPart}
 use Rattle.bl_abi.specs.declared.records.ByteRange.{ByteRange}
 use Rattle.bl_abi.specs.declared.records.RegionRecord.{RegionRecord}
-use Rattle.bl_abi.specs.declared.walked.SeenModuleRecord.{SeenModuleRecord}
-use Rattle.bl_abi.specs.declared.walked.SeenPartRecord.{SeenPartRecord}
-use Rattle.bl_abi.specs.declared.walked.SeenRecord.{SeenRecord}
+use Rattle.bl_abi.specs.declared.seen_records.SeenModuleRecord.{SeenModuleRecord}
+use Rattle.bl_abi.specs.declared.seen_records.SeenPartRecord.{SeenPartRecord}
+use Rattle.bl_abi.specs.declared.seen_records.SeenRecord.{SeenRecord}
 use Rattle.bl_abi.specs.Given.{no_range}
 
 -- ---- the text: the line, the modules' lines in order, the copies of the RSDP, the old one first

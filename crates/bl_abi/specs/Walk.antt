@@ -10,8 +10,8 @@ use Rattle.bl_walk.specs.Seen.{IsSeen}
 use Rattle.bl_walk.specs.SeenFacts.{SeenFacts}
 use Rattle.bl_walk.specs.declared.fault.WalkFault.{WalkFault}
 use Rattle.bl_abi.specs.SeenTold.{WalkRecordsFacts, walk_records}
-use Rattle.bl_abi.specs.declared.walked.WalkStop.{WalkStop}
-use Rattle.bl_abi.specs.declared.walked.WalkStop.TheVariants.{NoImage, NotWalked}
+use Rattle.bl_abi.specs.declared.seen_records.WalkStop.{WalkStop}
+use Rattle.bl_abi.specs.declared.seen_records.WalkStop.TheVariants.{NoImage, NotWalked}
 
 -- the bytes are an image, none of whose faults stand, and this is told of what a kernel sees in it
 pub record HasWalked (bytes : List ℕ) (told : WalkRecordsFacts) : Type 0 where

@@ -10,12 +10,12 @@ use Rattle.bl_abi.specs.SeenTold.{WalkRecordsFacts}
 use Rattle.bl_abi.specs.Status.{done, misuse_status}
 use Rattle.bl_abi.specs.declared.misuse.Misuse.TheVariants.{FewPlaces}
 use Rattle.bl_abi.specs.declared.records.RegionRecord.{RegionRecord}
-use Rattle.bl_abi.specs.declared.told.RefusalRecord.{RefusalRecord}
-use Rattle.bl_abi.specs.declared.walked.SeenModuleRecord.{SeenModuleRecord}
-use Rattle.bl_abi.specs.declared.walked.SeenPartRecord.{SeenPartRecord}
-use Rattle.bl_abi.specs.declared.walked.SeenRecord.{SeenRecord}
-use Rattle.bl_abi.specs.declared.walked.WalkStop.{WalkStop}
-use Rattle.bl_abi.specs.declared.walked.WalkStop.TheVariants.{NoImage, NotWalked}
+use Rattle.bl_abi.specs.declared.handoff_records.RefusalRecord.{RefusalRecord}
+use Rattle.bl_abi.specs.declared.seen_records.SeenModuleRecord.{SeenModuleRecord}
+use Rattle.bl_abi.specs.declared.seen_records.SeenPartRecord.{SeenPartRecord}
+use Rattle.bl_abi.specs.declared.seen_records.SeenRecord.{SeenRecord}
+use Rattle.bl_abi.specs.declared.seen_records.WalkStop.{WalkStop}
+use Rattle.bl_abi.specs.declared.seen_records.WalkStop.TheVariants.{NoImage, NotWalked}
 
 -- ---- why nothing is seen
 

@@ -5,13 +5,13 @@ ghost use Rattle.bl_abi.specs.Boot.{typed_end};
 ghost use Rattle.bl_abi.specs.BootTold as spec;
 ghost use Rattle.bl_abi.specs.Load.{of_given};
 ghost use Rattle.bl_abi.specs.Status.{fault_status};
-ghost use Rattle.bl_abi.specs.declared.told.HandoffRecord.{HandoffRecord};
-ghost use Rattle.bl_abi.specs.declared.told.PlaceRecord.{PlaceRecord};
+ghost use Rattle.bl_abi.specs.declared.handoff_records.HandoffRecord.{HandoffRecord};
+ghost use Rattle.bl_abi.specs.declared.handoff_records.PlaceRecord.{PlaceRecord};
 
 use crate::given_fault::GivenFault;
+use crate::handoff_records::{HandoffRecord, PlaceRecord, RefusalRecord};
 use crate::load_telling::{handoff_told, tell_places};
 use crate::refusal_telling::refusal_record;
-use crate::told::{HandoffRecord, PlaceRecord, RefusalRecord};
 use bl_session::{BootFault, Outcome, RefusedEntry};
 use std::alloc::Allocator;
 

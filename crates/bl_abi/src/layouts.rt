@@ -1,7 +1,7 @@
 //! The sizes of the records: those that `include/bootcore.h` asserts.
+use crate::handoff_records::{HandoffRecord, PlaceRecord, RefusalRecord, RegistersRecord};
 use crate::records::{ByteRange, EntryRecord, MachineRecord, ModuleRecord, RegionRecord};
-use crate::told::{HandoffRecord, PlaceRecord, RefusalRecord, RegistersRecord};
-use crate::walked::{SeenModuleRecord, SeenPartRecord, SeenRecord};
+use crate::seen_records::{SeenModuleRecord, SeenPartRecord, SeenRecord};
 
 const _: () = prove!(size_of::<ByteRange>() == 16);
 

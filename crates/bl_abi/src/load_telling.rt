@@ -6,9 +6,9 @@ ghost use Rattle.bl_abi.specs.Status.{fault_status};
 ghost use Rattle.bl_abi.specs.Told as spec;
 
 use crate::fault::LoadFault;
+use crate::handoff_records::{HandoffRecord, PlaceRecord, RefusalRecord};
 use crate::refusal_telling::refusal_record;
 use crate::register_telling::registers_told;
-use crate::told::{HandoffRecord, PlaceRecord, RefusalRecord};
 use bl_load::{Handoff, Place, Plan, PlannedPart};
 use std::alloc::Allocator;
 

@@ -4,8 +4,8 @@ ghost use Rattle.std.specs.List.{flat_map};
 ghost use Rattle.bl_abi.specs.SeenTold as spec;
 
 use crate::records::{ByteRange, MISSING, RegionRecord};
-use crate::walk_records::WalkRecords;
-use crate::walked::{SeenModuleRecord, SeenPartRecord, SeenRecord};
+use crate::seen_records::{SeenModuleRecord, SeenPartRecord, SeenRecord};
+use crate::seen_vectors::SeenVectors;
 use bl_map::Region;
 use bl_mem::Bytes;
 use bl_walk::{Seen, SeenFile, SeenModule, SeenPart};
@@ -166,7 +166,7 @@ fn seen_told<A: Allocator>(
 pub(crate) fn records_of<A: Allocator + Copy>(
     alloc: A,
     seen: &Seen<'_, A>,
-) -> Result<WalkRecords<A>, AllocError>
+) -> Result<SeenVectors<A>, AllocError>
     ensures { IfOk result (λ told. told ≡ spec.walk_records seen.now) }
 {
     let mut text = Vec::from_slice(alloc, seen.line.as_slice())?;
@@ -174,7 +174,7 @@ pub(crate) fn records_of<A: Allocator + Copy>(
     add_modules(&seen.modules, &mut modules, &mut text)?;
     let rsdp_old = add_copy(&seen.rsdp_old, &mut text)?;
     let rsdp_new = add_copy(&seen.rsdp_new, &mut text)?;
-    Ok(WalkRecords {
+    Ok(SeenVectors {
         seen: seen_told(seen, text.len() as u64, rsdp_old, rsdp_new),
         kernel: parts_told(alloc, &seen.kernel)?,
         modules,

@@ -2,8 +2,8 @@
 ghost use Rattle.std.specs.Prelude.{◌≡◌};
 ghost use Rattle.bl_abi.specs.WalkTold as spec;
 
-use crate::told::RefusalRecord;
-use crate::walked::WalkStop;
+use crate::handoff_records::RefusalRecord;
+use crate::seen_records::WalkStop;
 use bl_image::ImageFault;
 use bl_walk::WalkFault;
 

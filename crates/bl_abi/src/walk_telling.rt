@@ -2,17 +2,17 @@
 ghost use Rattle.std.specs.Prelude.{◌≡◌, ◌≤◌, ◌++◌, length, drop, MatchBool};
 ghost use Rattle.bl_abi.specs.WalkTold as spec;
 
+use crate::handoff_records::RefusalRecord;
 use crate::misuse::Misuse;
 use crate::records::RegionRecord;
-use crate::told::RefusalRecord;
-use crate::walk_records::WalkRecords;
+use crate::seen_records::{SeenModuleRecord, SeenPartRecord, SeenRecord, WalkStop};
+use crate::seen_vectors::SeenVectors;
 use crate::walk_stops::{stop_status, stop_told};
-use crate::walked::{SeenModuleRecord, SeenPartRecord, SeenRecord, WalkStop};
 use std::alloc::Allocator;
 
 /// Tells the summary, or why nothing is seen, with the status.
 pub(crate) fn tell_walk<A: Allocator>(
-    end: Result<WalkRecords<A>, WalkStop>,
+    end: Result<SeenVectors<A>, WalkStop>,
     told: &mut SeenRecord,
     fault: &mut RefusalRecord,
 ) -> u32
@@ -32,7 +32,7 @@ pub(crate) fn tell_walk<A: Allocator>(
 
 /// Whether arrays have room for all that is told.
 fn fits_into<A: Allocator>(
-    records: &WalkRecords<A>,
+    records: &SeenVectors<A>,
     kernel: &[SeenPartRecord],
     modules: &[SeenModuleRecord],
     runs: &[RegionRecord],
@@ -67,7 +67,7 @@ fn put_front<T: Copy>(elements: &[T], array: &mut [T])
 
 /// Tells all that is seen, if there is room for it, with the status.
 pub(crate) fn tell_records<A: Allocator>(
-    records: &WalkRecords<A>,
+    records: &SeenVectors<A>,
     told: &mut SeenRecord,
     kernel: &mut [SeenPartRecord],
     modules: &mut [SeenModuleRecord],

@@ -7,15 +7,15 @@ ghost use Rattle.bl_image.specs.declared.version.Version.{Version};
 ghost use Rattle.bl_abi.specs.SeenTold.{WalkRecordsFacts};
 ghost use Rattle.bl_abi.specs.Walk as ends;
 ghost use Rattle.bl_abi.specs.WalkTold as spec;
-ghost use Rattle.bl_abi.specs.declared.walked.WalkStop.{WalkStop};
+ghost use Rattle.bl_abi.specs.declared.seen_records.WalkStop.{WalkStop};
 
+use crate::handoff_records::RefusalRecord;
 use crate::records::RegionRecord;
+use crate::seen_records::{SeenModuleRecord, SeenPartRecord, SeenRecord, WalkStop};
 use crate::seen_telling::records_of;
-use crate::told::RefusalRecord;
-use crate::walk_records::WalkRecords;
+use crate::seen_vectors::SeenVectors;
 use crate::walk_stops::{stop_status, stop_told};
 use crate::walk_telling::{tell_records, tell_walk};
-use crate::walked::{SeenModuleRecord, SeenPartRecord, SeenRecord, WalkStop};
 use bl_image::{Image, ImageFault, IoSource, read_image};
 use bl_walk::{WalkFault, walk};
 use std::alloc::Allocator;
@@ -31,7 +31,7 @@ fn read_bytes<A: Allocator + Copy>(alloc: A, bytes: &[u8]) -> Result<Image<A>, I
 }
 
 /// What a kernel sees in the image that these bytes spell, or why nothing.
-fn walk_bytes<A: Allocator + Copy>(alloc: A, bytes: &[u8]) -> Result<WalkRecords<A>, WalkStop>
+fn walk_bytes<A: Allocator + Copy>(alloc: A, bytes: &[u8]) -> Result<SeenVectors<A>, WalkStop>
     ensures { ends.IsWalkEnd bytes.now result }
 {
     let image = match read_bytes(alloc, bytes) {

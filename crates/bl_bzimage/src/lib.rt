@@ -2,13 +2,13 @@
 #![tactic(auto)]
 
 mod checks;
-mod copied;
 mod fault;
 pub mod fields;
 mod laws;
 mod setup;
+mod setup_header;
 
-pub use copied::SetupHeader;
 pub use fault::SetupFault;
 pub use laws::setup_is_determined;
 pub use setup::{Setup, read_setup};
+pub use setup_header::SetupHeader;

@@ -6,8 +6,8 @@ use crate::checks::{
     end_of_header, has_alignment, has_preferred, is_bz_image, is_loaded_high, is_whole,
     start_of_payload,
 };
-use crate::copied::{SetupHeader, header_upto};
 use crate::fault::SetupFault;
+use crate::setup_header::{SetupHeader, header_upto};
 use crate::fields::{
     CMDLINE_SIZE, INIT_SIZE, INITRD_ADDR_MAX, KERNEL_ALIGNMENT, LOADFLAGS, MIN_VERSION,
     PREF_ADDRESS, RELOCATABLE_KERNEL, SETUP_SECTS, VERSION, XLOADFLAGS,

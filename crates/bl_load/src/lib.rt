@@ -26,7 +26,7 @@ mod register_text;
 mod registers;
 mod registers64;
 mod searching;
-mod segment_laws;
+mod segment_register_laws;
 mod segment_registers;
 
 pub use bl_plan::{Choice, MAX_COPY, MAX_LINE, Place, Protocol, Role, Row};
@@ -46,5 +46,5 @@ pub use refusal::{PrepFault, Refusal};
 pub use registers::{Registers, Registers32, linux_registers, multiboot2_registers};
 pub use registers64::{Registers64, linux64_registers};
 pub use searching::unplaced;
-pub use segment_laws::selectors_name_the_segments;
+pub use segment_register_laws::selectors_name_the_segments;
 pub use segment_registers::{SegmentName, SegmentRegister};

@@ -3,7 +3,7 @@ ghost use Rattle.std.specs.Prelude.{Result};
 ghost use Rattle.bl_abi.specs.SeenTold.{WalkRecordsFacts};
 ghost use Rattle.bl_abi.specs.Walk.{IsWalkEnd};
 ghost use Rattle.bl_abi.specs.WalkTold.{TellsWalk, TellsWalkAll};
-ghost use Rattle.bl_abi.specs.declared.walked.WalkStop.{WalkStop};
+ghost use Rattle.bl_abi.specs.declared.seen_records.WalkStop.{WalkStop};
 
 use bl_abi::{
     RefusalRecord, RegionRecord, SeenModuleRecord, SeenPartRecord, SeenRecord, walk_all_told,

@@ -2,7 +2,7 @@ use Rattle.std.proofs.Common.{◌≡◌, map, take}
 use Rattle.std.specs.Prelude.{option_copied}
 use Rattle.bl_session.specs.Ledger.{sliced_file}
 use Rattle.bl_abi.specs.Boot.{stored_given}
-use Rattle.bl_abi.proofs.stored.stored_files.Given as goal
+use Rattle.bl_abi.proofs.menu_files.stored_files.Given as goal
 
 -- the files so far
 abbrev pub invariant-loop-range : goal.invariant-loop-range

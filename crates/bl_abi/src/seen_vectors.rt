@@ -1,13 +1,13 @@
 //! All that C is told of what a kernel sees.
 use crate::records::RegionRecord;
-use crate::walked::{SeenModuleRecord, SeenPartRecord, SeenRecord};
+use crate::seen_records::{SeenModuleRecord, SeenPartRecord, SeenRecord};
 use std::alloc::Allocator;
 use std::marker::Model;
 
 /// What a kernel sees, as C is told: the summary; its parts, the modules and the runs of memory,
 /// each in order; and the text.
 #[derive(Drop)]
-pub(crate) struct WalkRecords<A: Allocator> {
+pub(crate) struct SeenVectors<A: Allocator> {
     pub(crate) seen: SeenRecord,
     pub(crate) kernel: Vec<SeenPartRecord, A>,
     pub(crate) modules: Vec<SeenModuleRecord, A>,
@@ -15,7 +15,7 @@ pub(crate) struct WalkRecords<A: Allocator> {
     pub(crate) text: Vec<u8, A>,
 }
 
-impl<A: Allocator> Model for WalkRecords<A> {
+impl<A: Allocator> Model for SeenVectors<A> {
     ghost use Rattle.bl_abi.specs.SeenTold.{WalkRecordsFacts};
 
     ghost Value = { WalkRecordsFacts };
