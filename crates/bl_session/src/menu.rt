@@ -126,7 +126,8 @@ impl<A: Allocator + Copy> Menu<A> {
 
 impl<A: Allocator> Menu<A> {
     /// How many files the menu names: the greatest index of a file plus 1, or 0 if no entry names
-    /// a file. At most 2^32.
+    /// a file. At most 2^32. `run` asks for the size of each index below it, also of one that no
+    /// entry names: number a menu's files without gaps.
     pub fn files(&self) -> usize
         ensures count { result ≡ attempts.files_named self.now.entries }
         ensures few { result ≤ 2 ^ 32 }

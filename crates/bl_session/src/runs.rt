@@ -92,7 +92,7 @@ fn end_of<A: Allocator + Copy>(session: Session<A>) -> Result<Outcome<A>, BootFa
 
 /// Boots the first entry of a menu, in the order of attempts, that is not refused: the default is
 /// attempted first, then the fallbacks. Pieces come from a store, which is asked once for the size
-/// of each file that the menu names. As an attempt begins the store is asked for each piece of its
+/// of each file below `Menu::files`. As an attempt begins the store is asked for each piece of its
 /// files, and then answers are taken until the attempt has ended. An answer that the attempt does
 /// not wait for changes nothing. If nothing more is to come, the first missing piece is lost, and
 /// the entry is refused for its file.
