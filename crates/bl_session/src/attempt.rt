@@ -46,9 +46,9 @@ fn attempt_with<A: Allocator>(stage: Stage<A>, end: Option<AttemptEnd<A>>) -> At
 pub fn end_attempt<M: PhysMem, A: Allocator + Copy>(
     alloc: A,
     machine: &Machine<A>,
+    memory: &mut M,
     entry: &Entry<A>,
     stage: &mut Stage<A>,
-    memory: &mut M,
 ) -> Result<Option<AttemptEnd<A>>, AllocError>
     requires limits { IsWithinLimits entry.now }
     requires files { length stage.old.sizes ≡ length (files_of entry.now) }
@@ -72,7 +72,7 @@ pub fn end_attempt<M: PhysMem, A: Allocator + Copy>(
     if !stage.complete() {
         return Ok(None);
     }
-    match finish(alloc, machine, entry, stage, memory) {
+    match finish(alloc, machine, memory, entry, stage) {
         Ok(handoff) => Ok(Some(AttemptEnd::HandedOver(handoff))),
         Err(PrepFault::Refused(refusal)) => Ok(Some(AttemptEnd::Refused(refusal))),
         Err(PrepFault::NoMemory) => Err(AllocError),
@@ -83,9 +83,9 @@ pub fn end_attempt<M: PhysMem, A: Allocator + Copy>(
 pub fn begin_attempt<M: PhysMem, A: Allocator + Copy>(
     alloc: A,
     machine: &Machine<A>,
+    memory: &mut M,
     entry: &Entry<A>,
     sizes: &[Option<u64>],
-    memory: &mut M,
 ) -> Result<Attempt<A>, AllocError>
     requires limits { IsWithinLimits entry.now }
     requires size { length (M.bytes memory.old) ≡ machine.now.size }
@@ -102,7 +102,7 @@ pub fn begin_attempt<M: PhysMem, A: Allocator + Copy>(
 {
     match begin_stage(alloc, machine, entry, sizes) {
         Ok(mut stage) => {
-            let end = end_attempt(alloc, machine, entry, &mut stage, memory)?;
+            let end = end_attempt(alloc, machine, memory, entry, &mut stage)?;
             Ok(attempt_with(stage, end))
         }
         Err(PrepFault::Refused(refusal)) => Ok(Attempt::Ended(AttemptEnd::Refused(refusal))),

@@ -49,9 +49,9 @@ pub fn begin<M: PhysMem, A: Allocator + Copy>(
         match begin_attempt(
             boot.alloc,
             boot.machine,
+            memory,
             boot.menu.entry(entry),
             boot.sizes,
-            memory,
         )? {
             Attempt::Waits(stage) => {
                 return Ok(Phase::Waits(Running {
@@ -144,9 +144,9 @@ pub fn settle<M: PhysMem, A: Allocator + Copy>(
     match end_attempt(
         boot.alloc,
         boot.machine,
+        memory,
         boot.menu.entry(entry),
         &mut running.stage,
-        memory,
     )? {
         None => Ok(None),
         Some(AttemptEnd::HandedOver(handoff)) => Ok(Some(Phase::HandedOver(Outcome {

@@ -25,8 +25,8 @@ use std::ops::Range;
 /// Views of a stage's files, in order.
 fn views_of<'a, M: PhysMem, A: Allocator + Copy>(
     alloc: A,
-    stage: &'a Stage<A>,
     memory: &'a M,
+    stage: &'a Stage<A>,
 ) -> Result<Vec<FrameView<'a, M>, A>, AllocError>
     requires few { length stage.now.sizes < 2 ^ 32 }
     requires complete { AllCame stage.now }
@@ -47,9 +47,9 @@ fn views_of<'a, M: PhysMem, A: Allocator + Copy>(
 fn prepare_staged<M: PhysMem, A: Allocator + Copy>(
     alloc: A,
     machine: &Machine<A>,
+    memory: &M,
     entry: &Entry<A>,
     stage: &Stage<A>,
-    memory: &M,
 ) -> Result<Plan<A>, PrepFault>
     requires files { length stage.now.sizes ≡ file_count entry.now }
     requires limits { IsWithinLimits entry.now }
@@ -63,15 +63,15 @@ fn prepare_staged<M: PhysMem, A: Allocator + Copy>(
     ensures fault { IfErr result (λ fault. IsPrepFault machine.now
         (value_of (staged_texts (M.bytes memory.now) stage.now) entry.now) fault) }
 {
-    let views = views_of(alloc, stage, memory)?;
+    let views = views_of(alloc, memory, stage)?;
     prepare(alloc, machine, entry, &views)
 }
 
 /// Makes way for the ranges of an entry's parts, or refuses the entry if the pool has too few
 /// frames beside them.
 fn evacuate_ranges<M: PhysMem, A: Allocator>(
-    stage: &mut Stage<A>,
     memory: &mut M,
+    stage: &mut Stage<A>,
     ranges: &[Range<u64>],
 ) -> Result<(), Refusal>
     requires inside { HasPool (M.bytes memory.old) stage.old.pool }
@@ -101,8 +101,8 @@ fn evacuate_ranges<M: PhysMem, A: Allocator>(
 /// Loads a plan out of staged files, and clears the rest of the pool.
 fn hand_over<M: PhysMem, A: Allocator>(
     machine: &Machine<A>,
-    stage: &Stage<A>,
     memory: &mut M,
+    stage: &Stage<A>,
     plan: Plan<A>,
 ) -> Handoff<A>
     requires held { AreBelow (λ a. IsStagedOn stage.now a) (length (M.bytes memory.old)) }
@@ -141,9 +141,9 @@ fn hand_over<M: PhysMem, A: Allocator>(
 pub fn finish<M: PhysMem, A: Allocator + Copy>(
     alloc: A,
     machine: &Machine<A>,
+    memory: &mut M,
     entry: &Entry<A>,
     stage: &mut Stage<A>,
-    memory: &mut M,
 ) -> Result<Handoff<A>, PrepFault>
     requires complete { AllCame stage.old }
     requires files { length stage.old.sizes ≡ file_count entry.now }
@@ -164,8 +164,8 @@ pub fn finish<M: PhysMem, A: Allocator + Copy>(
 {
     // what this ensures says where the pool lies
     machine.pool();
-    let plan = prepare_staged(alloc, machine, entry, stage, memory)?;
-    evacuate_ranges(stage, memory, plan.ranges())?;
+    let plan = prepare_staged(alloc, machine, memory, entry, stage)?;
+    evacuate_ranges(memory, stage, plan.ranges())?;
     memory.reserve(plan.ranges())?;
-    Ok(hand_over(machine, stage, memory, plan))
+    Ok(hand_over(machine, memory, stage, plan))
 }
