@@ -6,12 +6,12 @@ ghost use Rattle.bl_params.specs.Fields.{over};
 ghost use Rattle.bl_params.specs.BootParamsFacts.{max_e820_entries};
 ghost use Rattle.bl_params.specs.Numbers.{e820_entry_size, e820_table_at, params_size};
 
-use crate::params_to_write::ParamsToWrite;
 use crate::fields::{
     CMD_LINE_PTR, CODE32_START, E820_ENTRIES, E820_TABLE, ENTRY_LENGTH, ENTRY_SIZE, ENTRY_TYPE,
     HEADER_START, LOADER_UNDEFINED, RAMDISK_IMAGE, RAMDISK_SIZE, SETUP_DATA, TYPE_OF_LOADER,
     VID_MODE, VID_MODE_NORMAL,
 };
+use crate::params_to_write::ParamsToWrite;
 use crate::put::{write_field, write_u16, write_u32, write_u64};
 use bl_bzimage::Setup;
 use bl_map::Region;
