@@ -4,6 +4,7 @@
 mod handle;
 mod handle_fault;
 mod keeping;
+mod layouts;
 mod loose;
 mod over_slice;
 mod records;

@@ -1,0 +1,7 @@
+//! The sizes of what C keeps and is told: those that `include/bootcore.h` asserts.
+use crate::handle::Handle;
+use crate::records::RequestRecord;
+
+const _: () = prove!(size_of::<RequestRecord>() == 20);
+
+const _: () = prove!(size_of::<Handle>() == 8);
