@@ -15,7 +15,7 @@ static const bootcore_region usable[] = {{0, SIZE, BOOTCORE_USABLE, 0}};
 static const bootcore_region no_kind[] = {{0, SIZE, 6, 0}};
 static const bootcore_region high[] = {{0, SIZE, BOOTCORE_USABLE, 0},
                                        {UINT64_MAX, 1, BOOTCORE_USABLE, 0}};
-static const bootcore_region many_regions[129] = {{0, 1, BOOTCORE_USABLE, 0}};
+static bootcore_region many_regions[129];
 static bootcore_module modules[65];
 static const uint8_t text[300] = "line";
 static bootcore_range files[2];
@@ -88,6 +88,9 @@ static void expect(int line, uint32_t status, uint32_t wanted) {
     } while (0)
 
 static void try_make(void) {
+    for (int i = 0; i < 129; i++) {
+        many_regions[i] = usable[0];
+    }
     CHANGED(BOOTCORE_DONE, (void)0);
     CHANGED(BOOTCORE_NULL, given.regions = NULL);
     CHANGED(BOOTCORE_NULL, given.modules = NULL);
