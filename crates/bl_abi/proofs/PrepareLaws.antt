@@ -6,7 +6,7 @@ use Rattle.std.proofs.lemmas.List.Elements.{All-map}
 use Rattle.bl_map.specs.MachineFacts.{MachineFacts}
 use Rattle.bl_plan.specs.declared.part.Place.{Place}
 use Rattle.bl_load.specs.declared.refusal.Refusal.{Refusal}
-use Rattle.bl_load.specs.HandoffFacts.{HandoffFacts, most_parts}
+use Rattle.bl_load.specs.HandoffFacts.{HandoffFacts, max_parts}
 use Rattle.bl_load.specs.Handover.{Handover}
 use Rattle.bl_load.specs.Parts.{IsHandover, IsRefusal}
 use Rattle.bl_load.specs.PlanFacts.{part_in, handover_in}
@@ -105,7 +105,7 @@ module _ (machine : MachineRecord) (regions : List RegionRecord) (given : GivenF
   pub only_memory : (facts : MachineFacts) (handover : Handover)
       → IsMachineGiven machine regions facts → IsMachineSound machine regions
       → IsEntrySound given entry → IsHandover facts (value_given given entry) handover
-      → (room end : ℕ) (fault : LoadFault) → machine.size ≤ end → most_parts ≤ room
+      → (room end : ℕ) (fault : LoadFault) → machine.size ≤ end → max_parts ≤ room
       → IsNotLoaded machine regions given entry room end fault → fault ≡ NoMemory
   only_memory facts h is sound names handed room end fault large many (few_places few) =
       absurd (omega (arith, few, many))

@@ -5,7 +5,7 @@ use Rattle.std.specs.Prelude.{List, [], ◌∷◌, length, map, Option, None, So
 use Rattle.std.specs.List.{list_all}
 use Rattle.std.specs.Option.{option_or}
 use Rattle.bl_map.specs.MachineFacts.{MachineFacts}
-use Rattle.bl_load.specs.HandoffFacts.{most_parts}
+use Rattle.bl_load.specs.HandoffFacts.{max_parts}
 use Rattle.bl_load.specs.Value.{HasLimits}
 use Rattle.bl_plan.specs.Limits.{max_entries}
 use Rattle.bl_session.specs.Attempts.{attempt_order, NameEntries}
@@ -116,7 +116,7 @@ pub record HasBooted (facts : MachineFacts) (menu : MenuFacts) (files : List Fil
 pub record IsBooted (machine : MachineRecord) (regions : List RegionRecord) (given : GivenFacts)
     (entries : List EntryRecord) (default : ℕ) (fallbacks : List ℕ) (room : ℕ) (old new : List ℕ)
     (end : PhaseFacts) : Type 0 where
-  pub has_room : most_parts ≤ room
+  pub has_room : max_parts ≤ room
   pub facts : MachineFacts
   pub machine_is : IsMachineGiven machine regions facts
   pub machine_sound : IsMachineSound machine regions
@@ -146,15 +146,15 @@ menu_fault menu_faults.NoMemory = NoMemory
 pub data IsBootGivenFault (machine : MachineRecord) (regions : List RegionRecord)
     (given : GivenFacts) (entries : List EntryRecord) (default : ℕ) (fallbacks : List ℕ)
     (room end : ℕ) : GivenFault → Type 0 where
-  few_places : room < most_parts
+  few_places : room < max_parts
       → IsBootGivenFault machine regions given entries default fallbacks room end
       (Misused FewPlaces)
-  bad_machine : most_parts ≤ room → (fault : GivenFault) → HasMachineFault machine regions fault
+  bad_machine : max_parts ≤ room → (fault : GivenFault) → HasMachineFault machine regions fault
       → IsBootGivenFault machine regions given entries default fallbacks room end fault
-  bad_memory : most_parts ≤ room → IsMachineSound machine regions → end ≢ machine.size
+  bad_memory : max_parts ≤ room → IsMachineSound machine regions → end ≢ machine.size
       → IsBootGivenFault machine regions given entries default fallbacks room end
       (Misused BadMemory)
-  bad_menu : most_parts ≤ room → IsMachineSound machine regions → end ≡ machine.size
+  bad_menu : max_parts ≤ room → IsMachineSound machine regions → end ≡ machine.size
       → (fault : GivenFault) → IsBootMenuFault given entries default fallbacks fault
       → IsBootGivenFault machine regions given entries default fallbacks room end fault
 

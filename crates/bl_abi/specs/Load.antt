@@ -4,7 +4,7 @@ use Rattle.std.specs.Prelude.{None, Some, Result, Ok, Err}
 use Rattle.bl_map.specs.MachineFacts.{MachineFacts}
 use Rattle.bl_load.specs.declared.refusal.PrepFault.{PrepFault}
 use Rattle.bl_load.specs.declared.refusal.PrepFault.TheVariants as prep_fault
-use Rattle.bl_load.specs.HandoffFacts.{HandoffFacts, most_parts}
+use Rattle.bl_load.specs.HandoffFacts.{HandoffFacts, max_parts}
 use Rattle.bl_load.specs.Handover.{written}
 use Rattle.bl_load.specs.Parts.{IsHandover, IsRefusal}
 use Rattle.bl_load.specs.PlanFacts.{handover_in}
@@ -72,7 +72,7 @@ pub record IsHandedIn (facts : MachineFacts) (given : GivenFacts) (entry : Entry
 -- memory reaches to the machine's end
 pub record IsLoaded (machine : MachineRecord) (regions : List RegionRecord) (given : GivenFacts)
     (entry : EntryRecord) (room : ℕ) (old new : List ℕ) (handoff : HandoffFacts) : Type 0 where
-  pub has_room : most_parts ≤ room
+  pub has_room : max_parts ≤ room
   pub facts : MachineFacts
   pub machine_is : IsMachineGiven machine regions facts
   pub machine_sound : IsMachineSound machine regions
@@ -92,13 +92,13 @@ pub record HasEntryFault (machine : MachineRecord) (regions : List RegionRecord)
 -- memory may run out at the machine and at the entry
 pub data IsNotLoaded (machine : MachineRecord) (regions : List RegionRecord) (given : GivenFacts)
     (entry : EntryRecord) (room end : ℕ) : LoadFault → Type 0 where
-  few_places : room < most_parts
+  few_places : room < max_parts
       → IsNotLoaded machine regions given entry room end (Misused FewPlaces)
-  bad_machine : most_parts ≤ room → (fault : GivenFault) → HasMachineFault machine regions fault
+  bad_machine : max_parts ≤ room → (fault : GivenFault) → HasMachineFault machine regions fault
       → IsNotLoaded machine regions given entry room end (of_given fault)
-  bad_memory : most_parts ≤ room → IsMachineSound machine regions → end < machine.size
+  bad_memory : max_parts ≤ room → IsMachineSound machine regions → end < machine.size
       → IsNotLoaded machine regions given entry room end (Misused BadMemory)
-  bad_entry : most_parts ≤ room → IsMachineSound machine regions → machine.size ≤ end
+  bad_entry : max_parts ≤ room → IsMachineSound machine regions → machine.size ≤ end
       → (fault : LoadFault) → HasEntryFault machine regions given entry fault
       → IsNotLoaded machine regions given entry room end fault
 

@@ -2,7 +2,7 @@
 -- loaded. Nothing is said of memory. Own.
 use Rattle.std.specs.Prelude.{◌≡◌, ◌≤◌, ℕ, List, Result, Ok, Err}
 use Rattle.bl_map.specs.MachineFacts.{MachineFacts}
-use Rattle.bl_load.specs.HandoffFacts.{HandoffFacts, most_parts}
+use Rattle.bl_load.specs.HandoffFacts.{HandoffFacts, max_parts}
 use Rattle.bl_load.specs.Handover.{Handover}
 use Rattle.bl_load.specs.Parts.{IsHandover}
 use Rattle.bl_image.specs.ImageParts.{handoff_of}
@@ -25,7 +25,7 @@ pub record IsHandoffOf (facts : MachineFacts) (given : GivenFacts) (entry : Entr
 -- machine and the entry have none
 pub record IsPrepared (machine : MachineRecord) (regions : List RegionRecord) (given : GivenFacts)
     (entry : EntryRecord) (room : ℕ) (handoff : HandoffFacts) : Type 0 where
-  pub has_room : most_parts ≤ room
+  pub has_room : max_parts ≤ room
   pub facts : MachineFacts
   pub machine_is : IsMachineGiven machine regions facts
   pub machine_sound : IsMachineSound machine regions

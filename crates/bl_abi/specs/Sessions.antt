@@ -2,7 +2,7 @@
 use Rattle.std.specs.Prelude.{◌≡◌, ℕ, MatchBool, nat_lt, List, length, map, Option, None, Some}
 use Rattle.std.specs.Prelude.{Result, Ok, Err, if◌then◌else◌}
 use Rattle.bl_map.specs.MachineFacts.{MachineFacts}
-use Rattle.bl_load.specs.HandoffFacts.{most_parts}
+use Rattle.bl_load.specs.HandoffFacts.{max_parts}
 use Rattle.bl_session.specs.Phases.{PhaseFacts, SessionFacts, boot_facts, end_facts, not_started}
 use Rattle.bl_abi.specs.declared.records.ByteRange.{ByteRange}
 use Rattle.bl_abi.specs.declared.records.RegionRecord.{RegionRecord}
@@ -98,6 +98,6 @@ after_outcome (Some end) old = end_told end old
 -- for fewer places than there may be
 abbrev pub TellsOutcome : PhaseFacts → ℕ → (old new : Telling) → Type 0
 TellsOutcome phase status old new =
-    MatchBool (nat_lt (length old.places) most_parts)
+    MatchBool (nat_lt (length old.places) max_parts)
     ((status ≡ misuse_status FewPlaces) × (new ≡ old))
     ((status ≡ outcome_status (end_facts phase)) × (new ≡ after_outcome (end_facts phase) old))

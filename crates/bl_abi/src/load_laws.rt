@@ -1,6 +1,6 @@
 //! Laws of the definitions: a load of an entry and a preparation of it agree.
 ghost use Rattle.std.specs.Prelude.{◌≡◌, ◌≢◌, ◌≤◌, ℕ, List, length, Ok, Err};
-ghost use Rattle.bl_load.specs.HandoffFacts.{HandoffFacts, most_parts};
+ghost use Rattle.bl_load.specs.HandoffFacts.{HandoffFacts, max_parts};
 ghost use Rattle.bl_load.specs.declared.refusal.Refusal.{Refusal};
 ghost use Rattle.bl_abi.specs.declared.fault.LoadFault.{LoadFault};
 ghost use Rattle.bl_abi.specs.declared.fault.LoadFault.TheVariants.{Refused, NoMemory};
@@ -26,12 +26,12 @@ pub fn loads_end_as_prepared()
     ensures else_no_memory { (machine : MachineRecord) (regions : List RegionRecord)
         (given : GivenFacts) (entry : EntryRecord) (room space : ℕ) (old new : List ℕ)
         (prepared : HandoffFacts) (fault : LoadFault)
-        → machine.size ≤ length old → most_parts ≤ space
+        → machine.size ≤ length old → max_parts ≤ space
         → IsPrepareEnd machine regions given entry room (Ok prepared)
         → IsLoadEnd machine regions given entry space old new (Err fault) → fault ≡ NoMemory }
     ensures prepared_too { (machine : MachineRecord) (regions : List RegionRecord)
         (given : GivenFacts) (entry : EntryRecord) (room space : ℕ) (old new : List ℕ)
-        (fault : LoadFault) (loaded : HandoffFacts) → most_parts ≤ room
+        (fault : LoadFault) (loaded : HandoffFacts) → max_parts ≤ room
         → IsPrepareEnd machine regions given entry room (Err fault)
         → IsLoadEnd machine regions given entry space old new (Ok loaded) → fault ≡ NoMemory }
     ensures one_refusal { (machine : MachineRecord) (regions : List RegionRecord)

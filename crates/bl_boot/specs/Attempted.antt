@@ -51,8 +51,8 @@ abbrev pub names_in : Described → List (List ℕ)
 names_in description = names_of_entries description (attempted description)
 
 -- at most so many: 32 entries, each with a kernel and 64 modules
-abbrev pub most_names : ℕ
-most_names = 32 * 65
+abbrev pub max_names : ℕ
+max_names = 32 * 65
 
 -- ---- the menu
 

@@ -12,11 +12,11 @@ use Rattle.bl_plan.specs.Protocols as protocols
 use Rattle.bl_load.specs.declared.registers.Registers.{Registers}
 use Rattle.bl_load.specs.HandoffFacts.{MayStand}
 use Rattle.bl_image.specs.Image.{magic, head, spelled_registers}
-use Rattle.bl_image.specs.Layouts.{most_role}
+use Rattle.bl_image.specs.Layouts.{max_role}
 use Rattle.bl_image.specs.Spellable.{FitsRegisters}
 use Rattle.bl_image.specs.RecordsKept.{place_record, IsNext}
 use Rattle.bl_image.specs.declared.version.Version.{Version}
-use Rattle.bl_image.specs.Versions.{version_number, most_protocol, HasProtocol}
+use Rattle.bl_image.specs.Versions.{version_number, max_protocol, HasProtocol}
 use Rattle.bl_image.specs.Fields.{Field, fields_fault, magic_field, version_field, protocol_field}
 use Rattle.bl_image.specs.Fields.{count_field, zero_field}
 use Rattle.bl_image.specs.Fields.{role_field, index_field, address_field, length_field}
@@ -68,7 +68,7 @@ head_found bytes small none =
     let b3 : List ℕ = drop 4 b2 in
     let s3 : IsSmall b3 = small_drop 4 b2 s2 in
     let told_protocol = u32_at (take 4 b2) 0 in
-    let limits = both_from 1 told_protocol told_protocol (most_protocol n) f3.passes in
+    let limits = both_from 1 told_protocol told_protocol (max_protocol n) f3.passes in
     let p = protocol_by v.0 told_protocol limits.0 limits.1 in
     let e2 : u32_bytes (protocols.protocol_number p.0) ++ b3 ≡ b2 =
     ap (λ (k : ℕ). u32_bytes k ++ b3) p.2 ∙ u32_split b2 s2 f3.long in
@@ -114,13 +114,13 @@ pub record RecordFound (wide : Bool) (end : ℕ) (bytes : List ℕ) : Type 0 whe
   pub small : IsSmall rest
 
 pub record_found : (wide : Bool) (part end : ℕ) (bytes : List ℕ) → IsSmall bytes
-    → record_fault (most_role wide) part end bytes ≡ None
+    → record_fault (max_role wide) part end bytes ≡ None
     → RecordFound wide end bytes
 unfolding role_field index_field address_field length_field
 record_found wide part end bytes small none =
     let front = first_none _ _ none in
     let f1 =
-    field_none (role_field (most_role wide) part)
+    field_none (role_field (max_role wide) part)
     (index_field part ∷ address_field part end ∷ []) bytes front.0 in
     let b1 : List ℕ = drop 4 bytes in
     let s1 : IsSmall b1 = small_drop 4 bytes small in
@@ -131,7 +131,7 @@ record_found wide part end bytes small none =
     let b3 : List ℕ = drop 8 b2 in
     let s3 : IsSmall b3 = small_drop 8 b2 s2 in
     let n = u32_at (take 4 bytes) 0 in
-    let limits = both_from 1 n n (most_role wide) f1.passes in
+    let limits = both_from 1 n n (max_role wide) f1.passes in
     let r = role_by wide n limits.0 limits.1 in
     let index = u32_at (take 4 b1) 0 in
     let address = u64_at (take 8 b2) 0 in
@@ -149,7 +149,7 @@ record_found wide part end bytes small none =
     let last : fields_fault (length_field part address ∷ []) b3 ≡ None =
     sym
     (record_front wide part end r.0 index address b3 r.1 (u32_small b1 s1) (u64_small b2 s2) above)
-    ∙ ap (record_fault (most_role wide) part end) begun ∙ none in
+    ∙ ap (record_fault (max_role wide) part end) begun ∙ none in
     let f4 = field_none (length_field part address) [] b3 last in
     let count = u64_at (take 8 b3) 0 in
     let sizes = both_from 1 count (address + count) (2 ^ 32) f4.passes in

@@ -20,7 +20,7 @@ use Rattle.bl_image.specs.Image.{magic, head, spelled_registers}
 use Rattle.bl_image.specs.Fields.{fields_fault}
 use Rattle.bl_image.specs.Fields.{count_field, zero_field}
 use Rattle.bl_image.specs.ImageFaults.{head_fault, image_fault, parts_fault, none_before}
-use Rattle.bl_image.specs.Layouts.{Layout, layout, layout_of, most_role}
+use Rattle.bl_image.specs.Layouts.{Layout, layout, layout_of, max_role}
 use Rattle.bl_image.specs.Source.{Input, RefusesInput}
 use Rattle.bl_image.specs.Spellable.{FitsRegisters}
 use Rattle.bl_image.specs.Versions.{version_number, HasProtocol}
@@ -92,12 +92,12 @@ layout_told v p r count x =
     ∙ ap (layout (version_number v)) (protocol_stands v p r count x)
 
 -- its greatest number of a role
-most_told : (v : Version) (p : Protocol) → HasProtocol v p
-    → (layout (version_number v) (protocol_number p)).most_role ≡ most_role (is_wide p)
-most_told One p has = sym (ap most_role has)
-most_told Two Multiboot2 has = refl
-most_told Two Linux has = refl
-most_told Two Linux64 has = refl
+max_told : (v : Version) (p : Protocol) → HasProtocol v p
+    → (layout (version_number v) (protocol_number p)).max_role ≡ max_role (is_wide p)
+max_told One p has = sym (ap max_role has)
+max_told Two Multiboot2 has = refl
+max_told Two Linux has = refl
+max_told Two Linux64 has = refl
 
 -- in version 2 the number of parts and the records stand at the same places under each protocol
 counted_at : (p : Protocol) → (layout 2 (protocol_number p)).count_at ≡ 264
@@ -139,14 +139,14 @@ behind_head Two p (Bits64 r) count x has width =
 front_by : (bytes x : List ℕ) (count : ℕ) → head_fault bytes ≡ None
     → u32_at bytes (layout_of bytes).count_at ≡ count
     → drop (layout_of bytes).records_at bytes ≡ x
-    → image_fault bytes ≡ parts_fault (layout_of bytes).most_role count none_before x
+    → image_fault bytes ≡ parts_fault (layout_of bytes).max_role count none_before x
 unfolding image_fault
 front_by bytes x count sound stands behind = rw (sound, stands, behind) refl
 
 -- so it leaves the parts to be judged
 pub head_front : (v : Version) (p : Protocol) (r : Registers) (count : ℕ) (x : List ℕ)
     → HasProtocol v p → FitsRegisters p r → count ≤ 256
-    → image_fault (head v p r count ++ x) ≡ parts_fault (most_role (is_wide p)) count none_before x
+    → image_fault (head v p r count ++ x) ≡ parts_fault (max_role (is_wide p)) count none_before x
 head_front v p r count x has fit few =
     let bytes = head v p r count ++ x in
     let is = layout_told v p r count x in
@@ -155,7 +155,7 @@ head_front v p r count x has fit few =
     ∙ count_stands v p r count x has fit.0 (omega arith))
     (ap (λ (l : Layout). drop l.records_at bytes) is ∙ behind_head v p r count x has fit.0)
     ∙ ap (λ (n : ℕ). parts_fault n count none_before x)
-    (ap (λ (l : Layout). l.most_role) is ∙ most_told v p has)
+    (ap (λ (l : Layout). l.max_role) is ∙ max_told v p has)
 
 -- a fault of the head is the image's
 pub head_refuses : (old new : Input) (fault : ImageFault) → RefusesInput head_fault old new fault
@@ -164,5 +164,5 @@ unfolding image_fault
 head_refuses old new fault s =
     first_refuses head_fault
     (λ bytes.
-    parts_fault (layout_of bytes).most_role (u32_at bytes (layout_of bytes).count_at) none_before
+    parts_fault (layout_of bytes).max_role (u32_at bytes (layout_of bytes).count_at) none_before
     (drop (layout_of bytes).records_at bytes)) old new fault s

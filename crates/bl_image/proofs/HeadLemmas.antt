@@ -16,7 +16,7 @@ use Rattle.bl_image.specs.Fields.{protocol_field}
 use Rattle.bl_image.specs.ImageFaults.{first, head_fault}
 use Rattle.bl_image.specs.Layouts.{layout, layout_of, layout_fields}
 use Rattle.bl_image.specs.Source.{Input, Comes, RefusesInput}
-use Rattle.bl_image.specs.Versions.{version_number, most_protocol, HasProtocol}
+use Rattle.bl_image.specs.Versions.{version_number, max_protocol, HasProtocol}
 use Rattle.bl_image.proofs.FieldLemmas.{field_passes, word_tells, Passed, passed_more}
 use Rattle.bl_image.proofs.FieldLemmas.{passed_refuses}
 use Rattle.bl_image.proofs.Inputs.{comes_more}
@@ -35,7 +35,7 @@ pub protocol_passes : (v : Version) (p : Protocol) → HasProtocol v p
     → (protocol_field (version_number v)).passes (u32_bytes (protocol_number p)) ≡ true
 unfolding protocol_field
 protocol_passes v p has =
-    word_tells (λ k. nat_le 1 k && nat_le k (most_protocol (version_number v))) BadHeader
+    word_tells (λ k. nat_le 1 k && nat_le k (max_protocol (version_number v))) BadHeader
     (protocol_number p) true (protocol_fits p) (protocol_between v p has)
 
 -- ---- magic and version came: the protocol is to be judged, and what it tells

@@ -11,7 +11,7 @@ use Rattle.std.specs.List.{flat_map}
 use Rattle.bl_plan.proofs.OrderLemmas.{AreRelated, pairs_related}
 use Rattle.bl_load.specs.HandoffFacts.{Ascends, MayStand}
 use Rattle.bl_load.specs.Protocols.{is_wide}
-use Rattle.bl_image.specs.Layouts.{most_role}
+use Rattle.bl_image.specs.Layouts.{max_role}
 use Rattle.bl_image.specs.Versions.{HasProtocol}
 use Rattle.bl_load.specs.Handover.{Part, Handover, end_of}
 use Rattle.bl_image.specs.declared.fault.ImageFault.{ImageFault}
@@ -41,7 +41,7 @@ record IsSoundPart (wide : Bool) (part : Part) : Type 0 where
 parts_sound : (wide : Bool) (parts : List Part) (before : Before) (x : List ℕ)
     → All (λ (part : Part). before.end ≤ part.address) parts → AreRelated PartAscends parts
     → All (IsSoundPart wide) parts
-    → parts_fault (most_role wide) (length parts) before (flat_map part_record parts ++ x)
+    → parts_fault (max_role wide) (length parts) before (flat_map part_record parts ++ x)
     ≡ end_fault (before.bytes + length (all_bytes parts)) x
 parts_sound wide [] before x above related sound = ap (λ (n : ℕ). end_fault n x) (omega arith)
 parts_sound wide (part ∷ parts) before x above related sound =
@@ -55,7 +55,7 @@ parts_sound wide (part ∷ parts) before x above related sound =
     } in
     let after : Before = and_record before part.address (length part.bytes) in
     let size = length-append part.bytes (all_bytes parts) in
-    let most = most_role wide in
+    let most = max_role wide in
     ap (λ (l : List ℕ). parts_fault most (suc (length parts)) before (l ++ x))
     (flat_map-cons part_record part parts)
     ∙ ap (parts_fault most (suc (length parts)) before)

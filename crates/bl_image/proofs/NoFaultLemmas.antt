@@ -24,8 +24,8 @@ use Rattle.bl_load.specs.HandoffFacts.{MayStand}
 use Rattle.bl_image.specs.declared.fault.ImageFault.{ImageFault}
 use Rattle.bl_image.specs.declared.version.Version.{Version}
 use Rattle.bl_image.specs.declared.version.Version.TheVariants.{One, Two}
-use Rattle.bl_image.specs.Layouts.{most_role}
-use Rattle.bl_image.specs.Versions.{version_number, most_protocol, HasProtocol}
+use Rattle.bl_image.specs.Layouts.{max_role}
+use Rattle.bl_image.specs.Versions.{version_number, max_protocol, HasProtocol}
 use Rattle.bl_image.specs.Fields.{Field, fields_fault}
 use Rattle.bl_image.specs.ImageFaults.{first}
 
@@ -139,7 +139,7 @@ version_by (suc (suc zero)) least most = (Two, refl)
 version_by (suc (suc (suc n))) least most = absurd (omega arith)
 
 -- the protocol of a number that a version has
-pub protocol_by : (v : Version) (n : ℕ) → 1 ≤ n → n ≤ most_protocol (version_number v)
+pub protocol_by : (v : Version) (n : ℕ) → 1 ≤ n → n ≤ max_protocol (version_number v)
     → (p : Protocol) × HasProtocol v p × (protocols.protocol_number p ≡ n)
 protocol_by One zero h k = absurd (omega arith)
 protocol_by One (suc zero) h k = (Multiboot2, refl, refl)
@@ -152,7 +152,7 @@ protocol_by Two (suc (suc (suc zero))) h k = (Linux64, tt, refl)
 protocol_by Two (suc (suc (suc (suc n)))) h k = absurd (omega arith)
 
 -- the role of a number that an image has
-pub role_by : (wide : Bool) (n : ℕ) → 1 ≤ n → n ≤ most_role wide
+pub role_by : (wide : Bool) (n : ℕ) → 1 ≤ n → n ≤ max_role wide
     → (r : Role) × MayStand wide r × (roles.role_number r ≡ n)
 role_by wide zero h k = absurd (omega arith)
 role_by wide (suc zero) h k = (Kernel, tt, refl)

@@ -9,10 +9,10 @@ use Rattle.bl_plan.specs.declared.protocol.Protocol.{Protocol}
 use Rattle.bl_plan.specs.declared.protocol.Protocol.TheVariants.{Multiboot2, Linux, Linux64}
 use Rattle.bl_load.specs.HandoffFacts.{MayStand}
 use Rattle.bl_plan.specs.Protocols as protocols
-use Rattle.bl_image.specs.Layouts.{most_role}
+use Rattle.bl_image.specs.Layouts.{max_role}
 use Rattle.bl_image.specs.declared.version.Version.{Version}
 use Rattle.bl_image.specs.declared.version.Version.TheVariants.{One, Two}
-use Rattle.bl_image.specs.Versions.{version_number, most_protocol, HasProtocol}
+use Rattle.bl_image.specs.Versions.{version_number, max_protocol, HasProtocol}
 
 -- the role of its number
 role_of : ℕ → Role
@@ -34,7 +34,7 @@ role_again PageTables = refl
 
 -- a role that may stand in an image is one of its numbers
 pub role_between : (wide : Bool) (r : Role) → MayStand wide r
-    → nat_le 1 (roles.role_number r) && nat_le (roles.role_number r) (most_role wide) ≡ true
+    → nat_le 1 (roles.role_number r) && nat_le (roles.role_number r) (max_role wide) ≡ true
 role_between true Kernel may = refl
 role_between true Module may = refl
 role_between true Information may = refl
@@ -82,7 +82,7 @@ protocol_fits Linux64 = lit< tt
 -- a protocol that a version has is one of the version's numbers
 pub protocol_between : (v : Version) (p : Protocol) → HasProtocol v p
     → nat_le 1 (protocols.protocol_number p)
-    && nat_le (protocols.protocol_number p) (most_protocol (version_number v))
+    && nat_le (protocols.protocol_number p) (max_protocol (version_number v))
     ≡ true
 protocol_between One Multiboot2 has = refl
 protocol_between One Linux has = refl

@@ -13,7 +13,7 @@ use Rattle.bl_image.specs.declared.fault.ImageFault.TheVariants.{BadMagic, BadVe
 use Rattle.bl_image.specs.declared.fault.ImageFault.TheVariants.{BadPart, WrongLength, DeviceFault}
 use Rattle.bl_image.specs.declared.fault.ImageFault.TheVariants.{NoMemory}
 use Rattle.bl_load.specs.HandoffFacts.{MayStand}
-use Rattle.bl_image.specs.Layouts.{most_role}
+use Rattle.bl_image.specs.Layouts.{max_role}
 use Rattle.bl_image.specs.RecordsKept.{place_record, IsNext}
 use Rattle.bl_image.specs.Fields.{Field, fields_fault, record_fields, role_field, index_field}
 use Rattle.bl_image.specs.Fields.{address_field, length_field}
@@ -82,13 +82,13 @@ front role index address x =
 
 front_passes : (wide : Bool) (part before : ℕ) (role : Role) (index address : ℕ) (x : List ℕ)
     → MayStand wide role → index < 2 ^ 32 → address < 2 ^ 64 → before ≤ address
-    → fields_fault (record_fields (most_role wide) part before) (front role index address x) ≡ None
+    → fields_fault (record_fields (max_role wide) part before) (front role index address x) ≡ None
 unfolding role_field index_field address_field
 front_passes wide part before role index address x may hi ha above =
-    three_pass (role_field (most_role wide) part) (index_field part) (address_field part before)
+    three_pass (role_field (max_role wide) part) (index_field part) (address_field part before)
     (u32_bytes (roles.role_number role)) (u32_bytes index) (u64_bytes address) x
     (length-u32_bytes (roles.role_number role))
-    (word_tells (λ k. nat_le 1 k && nat_le k (most_role wide)) (BadPart part)
+    (word_tells (λ k. nat_le 1 k && nat_le k (max_role wide)) (BadPart part)
     (roles.role_number role) true (role_fits role) (role_between wide role may))
     (length-u32_bytes index) refl
     (length-u64_bytes address)
@@ -107,7 +107,7 @@ behind_front role index address x = refl
 -- they leave the length to be judged
 pub record_front : (wide : Bool) (part before : ℕ) (role : Role) (index address : ℕ) (x : List ℕ)
     → MayStand wide role → index < 2 ^ 32 → address < 2 ^ 64 → before ≤ address
-    → record_fault (most_role wide) part before (front role index address x)
+    → record_fault (max_role wide) part before (front role index address x)
     ≡ fields_fault (length_field part address ∷ []) x
 record_front wide part before role index address x may hi ha above =
     rw (
@@ -120,14 +120,14 @@ pub regroup : (r i a n x : List ℕ) → (r ++ (i ++ (a ++ n))) ++ x ≡ ((r ++ 
 regroup r i a n x = simp append_assoc
 
 record_passes : (wide : Bool) (part before : ℕ) (p : Place) (x : List ℕ) → MayStand wide p.role
-    → IsNext before p → record_fault (most_role wide) part before (place_record p ++ x) ≡ None
+    → IsNext before p → record_fault (max_role wide) part before (place_record p ++ x) ≡ None
 unfolding length_field
 record_passes wide part before p x may next =
     let fits : p.address < 2 ^ 64 = omega (arith, next.below) in
     let small : p.length < 2 ^ 64 = omega (arith, next.below) in
     let filled : 1 ≤ p.length = next.filled in
     let below : p.address + p.length ≤ 2 ^ 32 = next.below in
-    ap (record_fault (most_role wide) part before)
+    ap (record_fault (max_role wide) part before)
     (regroup (u32_bytes (roles.role_number p.role)) (u32_bytes p.index) (u64_bytes p.address)
     (u64_bytes p.length) x)
     ∙ record_front wide part before p.role p.index p.address (u64_bytes p.length ++ x) may
@@ -157,8 +157,8 @@ behind_record p x = refl
 -- one record leaves the others to be judged
 pub parts_step : (wide : Bool) (n : ℕ) (before : Before) (p : Place) (x : List ℕ)
     → MayStand wide p.role → IsNext before.end p
-    → parts_fault (most_role wide) (suc n) before (place_record p ++ x)
-    ≡ parts_fault (most_role wide) n (and_record before p.address p.length) x
+    → parts_fault (max_role wide) (suc n) before (place_record p ++ x)
+    ≡ parts_fault (max_role wide) n (and_record before p.address p.length) x
 parts_step wide n before p x may next =
     let fits : p.address < 2 ^ 64 = omega (arith, next.below) in
     let small : p.length < 2 ^ 64 = omega (arith, next.below) in

@@ -14,7 +14,7 @@ use Rattle.bl_load.specs.declared.registers.Registers.{Registers}
 use Rattle.bl_load.specs.HandoffFacts.{Ascends, AreHandoffFacts, MayStand}
 use Rattle.bl_load.specs.Protocols.{is_wide}
 use Rattle.bl_load.specs.Registers.{are_wide}
-use Rattle.bl_image.specs.Layouts.{most_role}
+use Rattle.bl_image.specs.Layouts.{max_role}
 use Rattle.bl_image.specs.RecordsKept.{place_record, IsNext, AreSound, bytes_at, PlaceFits}
 use Rattle.bl_image.specs.ImageFaults.{Before, parts_fault, none_before}
 use Rattle.bl_image.proofs.RecordLemmas.{parts_step}
@@ -38,15 +38,15 @@ so_far count end ps = record { count = count; end = end; bytes = bytes_at ps }
 pub judged_more : (wide : Bool) (count part : ℕ) (ps : List Place) (end : ℕ) (p : Place)
     → part < count → MayStand wide p.role → IsNext end p
     → ((bytes : List ℕ)
-    → parts_fault (most_role wide) count none_before (flat_map place_record ps ++ bytes)
-    ≡ parts_fault (most_role wide) (count - part) (so_far part end ps) bytes)
+    → parts_fault (max_role wide) count none_before (flat_map place_record ps ++ bytes)
+    ≡ parts_fault (max_role wide) (count - part) (so_far part end ps) bytes)
     → (bytes : List ℕ)
-    → parts_fault (most_role wide) count none_before
+    → parts_fault (max_role wide) count none_before
     (flat_map place_record (ps ++ p ∷ []) ++ bytes)
-    ≡ parts_fault (most_role wide) (count - (part + 1))
+    ≡ parts_fault (max_role wide) (count - (part + 1))
     (so_far (part + 1) (p.address + p.length) (ps ++ p ∷ [])) bytes
 judged_more wide count part ps end p inside may next judged bytes =
-    let most = most_role wide in
+    let most = max_role wide in
     let left : count - part ≡ suc (count - (part + 1)) = omega arith in
     ap (λ (l : List ℕ). parts_fault most count none_before (l ++ bytes)) (came_more ps p)
     ∙ ap (parts_fault most count none_before)

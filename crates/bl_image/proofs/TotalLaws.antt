@@ -14,7 +14,7 @@ use Rattle.bl_plan.proofs.OrderLemmas.{AreRelated, related_pairs}
 use Rattle.bl_load.specs.Handover.{Part, Handover}
 use Rattle.bl_load.specs.HandoffFacts.{Ascends, AreHandoffFacts, MayStand}
 use Rattle.bl_load.specs.Protocols.{is_wide}
-use Rattle.bl_image.specs.Layouts.{most_role}
+use Rattle.bl_image.specs.Layouts.{max_role}
 use Rattle.bl_image.specs.declared.fault.ImageFault.TheVariants.{WrongLength}
 use Rattle.bl_image.specs.declared.version.Version.{Version}
 use Rattle.bl_image.specs.Image.{head}
@@ -52,7 +52,7 @@ end_none : (count : ℕ) (bytes : List ℕ) → end_fault count bytes ≡ None �
 end_none count bytes e = (Decides-eqb (length bytes) count).0 (kept_none (length bytes == count) e)
 
 places_found : (wide : Bool) (count : ℕ) (before : Before) (bytes : List ℕ) → IsSmall bytes
-    → parts_fault (most_role wide) count before bytes ≡ None → PlacesFound wide count before bytes
+    → parts_fault (max_role wide) count before bytes ≡ None → PlacesFound wide count before bytes
 places_found wide zero before bytes small none = record {
   places = [];
   tail = bytes;
@@ -67,9 +67,9 @@ places_found wide (suc count) before bytes small none =
     let here = record_found wide before.count before.end bytes small (first_none _ _ none).0 in
     let p = here.place in
     let after : Before = and_record before p.address p.length in
-    let left : parts_fault (most_role wide) count after here.rest ≡ None =
+    let left : parts_fault (max_role wide) count after here.rest ≡ None =
     sym (parts_step wide count before p here.rest here.may here.next)
-    ∙ ap (parts_fault (most_role wide) (suc count) before) here.is ∙ none in
+    ∙ ap (parts_fault (max_role wide) (suc count) before) here.is ∙ none in
     let others = places_found wide count after here.rest here.small left in
     let next = here.next in
     let above : before.end ≤ p.address = next.above in
@@ -131,7 +131,7 @@ image_found bytes small none =
     let h = head_found bytes small (head_none bytes none) in
     let top : List ℕ = head h.version h.protocol h.registers h.count in
     let wide = is_wide h.protocol in
-    let left : parts_fault (most_role wide) h.count none_before h.rest ≡ None =
+    let left : parts_fault (max_role wide) h.count none_before h.rest ≡ None =
     sym (head_front h.version h.protocol h.registers h.count h.rest h.has h.fit h.few)
     ∙ ap image_fault h.is ∙ none in
     let f = places_found wide h.count none_before h.rest h.small left in

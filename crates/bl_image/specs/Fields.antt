@@ -3,12 +3,12 @@ use Rattle.std.specs.Prelude.{ℕ, ◌+◌, ◌^◌, Bool, true, not, ◌&&◌, 
 use Rattle.std.specs.Prelude.{nat_lt, nat_le, List, [], ◌∷◌, length, take, drop, bytes_eq}
 use Rattle.std.specs.Prelude.{Option, Some, None}
 use Rattle.bl_mem.specs.LittleEndian.{u32_at, u64_at}
-use Rattle.bl_load.specs.HandoffFacts.{most_parts}
+use Rattle.bl_load.specs.HandoffFacts.{max_parts}
 use Rattle.bl_image.specs.declared.fault.ImageFault.{ImageFault}
 use Rattle.bl_image.specs.declared.fault.ImageFault.TheVariants.{BadMagic, BadVersion, BadHeader}
 use Rattle.bl_image.specs.declared.fault.ImageFault.TheVariants.{BadPart, WrongLength}
 use Rattle.bl_image.specs.Image.{magic}
-use Rattle.bl_image.specs.Versions.{most_protocol}
+use Rattle.bl_image.specs.Versions.{max_protocol}
 
 -- a field: how many bytes it has, what they must pass, and the fault if they don't
 pub record Field : Type 0 where
@@ -46,7 +46,7 @@ opening_fields = magic_field ∷ version_field ∷ []
 -- the 64-bit entry of Linux
 unfoldable pub protocol_field : ℕ → Field
 protocol_field version =
-    u32_field (λ protocol. nat_le 1 protocol && nat_le protocol (most_protocol version)) BadHeader
+    u32_field (λ protocol. nat_le 1 protocol && nat_le protocol (max_protocol version)) BadHeader
 
 -- a register that may be anything
 unfoldable pub register_field : Field
@@ -66,7 +66,7 @@ absent_field = u64_field (λ register. register == 0) BadHeader
 
 -- the fields behind the registers
 unfoldable pub count_field : Field
-count_field = u32_field (λ count. nat_le count most_parts) BadHeader
+count_field = u32_field (λ count. nat_le count max_parts) BadHeader
 
 unfoldable pub zero_field : Field
 zero_field = u32_field (λ zero. zero == 0) BadHeader

@@ -73,5 +73,5 @@ parts_fault most (suc n) before bytes =
 unfoldable pub image_fault : List ℕ → Option ImageFault
 image_fault bytes =
     first (head_fault bytes)
-    (parts_fault (layout_of bytes).most_role (u32_at bytes (layout_of bytes).count_at) none_before
+    (parts_fault (layout_of bytes).max_role (u32_at bytes (layout_of bytes).count_at) none_before
     (drop (layout_of bytes).records_at bytes))

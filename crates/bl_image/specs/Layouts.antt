@@ -16,9 +16,9 @@ abbrev pub registers_at : ℕ
 registers_at = 16
 
 -- the greatest number of a role, where the registers are those of 64 bits, and where not
-abbrev pub most_role : Bool → ℕ
-most_role true = 8
-most_role false = 7
+abbrev pub max_role : Bool → ℕ
+max_role true = 8
+max_role false = 7
 
 -- a layout: the fields of the registers; where the number of parts stands,
 -- with a zero word behind it; where the records begin; the greatest number of a role
@@ -26,14 +26,14 @@ pub record Layout : Type 0 where
   pub registers : List Field
   pub count_at : ℕ
   pub records_at : ℕ
-  pub most_role : ℕ
+  pub max_role : ℕ
 
 -- version 1: 20 registers of 32 bits, each of which may be anything
 unfoldable pub registers_1 : List Field
 registers_1 = replicate 20 register_field
 
 abbrev pub layout_1 : Layout
-layout_1 = record { registers = registers_1; count_at = 96; records_at = 104; most_role = 7 }
+layout_1 = record { registers = registers_1; count_at = 96; records_at = 104; max_role = 7 }
 
 -- version 2: 31 registers of 64 bits; under Multiboot2 and Linux's 32-bit entry R8 to R15, and CR3,
 -- CR4 and EFER, are not given
@@ -47,7 +47,7 @@ layout_2_narrow = record {
   registers = registers_2_narrow;
   count_at = 264;
   records_at = 272;
-  most_role = 7;
+  max_role = 7;
 }
 
 -- under the 64-bit entry of Linux each may be anything, and page tables are a part
@@ -59,7 +59,7 @@ layout_2_wide = record {
   registers = registers_2_wide;
   count_at = 264;
   records_at = 272;
-  most_role = 8;
+  max_role = 8;
 }
 
 -- the layout of an image with this number of its version, and this one of its protocol

@@ -10,8 +10,8 @@ version_number One = 1
 version_number Two = 2
 
 -- the greatest number of a protocol of a version
-abbrev pub most_protocol : ℕ → ℕ
-most_protocol version = if version == 1 then 2 else 3
+abbrev pub max_protocol : ℕ → ℕ
+max_protocol version = if version == 1 then 2 else 3
 
 -- version 1 has no protocol that enters with 64 bits
 abbrev pub HasProtocol : Version → Protocol → Type 0

@@ -2,14 +2,14 @@
 ghost use Rattle.std.specs.Prelude.{◌≡◌, ◌+◌, ◌≤◌, ◌<◌, ◌^◌, MatchOption, IfOk, IfErr, IfSome};
 ghost use Rattle.bl_mem.specs.LittleEndian.{u32_bytes};
 ghost use Rattle.bl_plan.specs.Protocols as protocols;
-ghost use Rattle.bl_load.specs.HandoffFacts.{most_parts};
+ghost use Rattle.bl_load.specs.HandoffFacts.{max_parts};
 ghost use Rattle.bl_image.specs.Fields as fields;
 ghost use Rattle.bl_image.specs.Image.{magic, head};
 ghost use Rattle.bl_image.specs.ImageFaults.{head_fault};
 ghost use Rattle.bl_image.specs.Source.{Comes, RefusesInput, faults_met};
 ghost use Rattle.bl_image.specs.SourceKept.{ReadsField};
 ghost use Rattle.bl_image.specs.Spellable.{FitsRegisters};
-ghost use Rattle.bl_image.specs.Versions.{version_number, most_protocol, HasProtocol};
+ghost use Rattle.bl_image.specs.Versions.{version_number, max_protocol, HasProtocol};
 
 use crate::fault::ImageFault;
 use crate::fields::{read_exact, read_u32};
@@ -69,7 +69,7 @@ fn read_version<S: Source>(source: &mut S) -> Result<Version, ImageFault>
 
 fn protocol_of(version: Version, number: u32) -> Option<Protocol>
     ensures number { MatchOption result
-        ((1 ≤ number) × (number ≤ most_protocol (version_number version)) → ⊥)
+        ((1 ≤ number) × (number ≤ max_protocol (version_number version)) → ⊥)
         (λ protocol. protocols.protocol_number protocol ≡ number) }
     ensures has { IfSome result (HasProtocol version) }
 {
@@ -101,7 +101,7 @@ fn read_count<S: Source>(source: &mut S) -> Result<u32, ImageFault>
     requires { S.faults source.old < 2 ^ 63 }
     ensures field { ReadsField fields.count_field (S.input source.old) (S.input source.new)
         u32_bytes result }
-    ensures few { IfOk result (λ count. count ≤ most_parts) }
+    ensures few { IfOk result (λ count. count ≤ max_parts) }
     ensures faults { S.faults source.new ≡ S.faults source.old + faults_met result }
 {
     let count = read_u32(source)?;
@@ -130,7 +130,7 @@ pub(crate) fn read_head<S: Source>(source: &mut S) -> Result<Head, ImageFault>
         (head h.version h.protocol h.registers h.count)) }
     ensures fit { IfOk result (λ h. FitsRegisters h.protocol h.registers) }
     ensures has { IfOk result (λ h. HasProtocol h.version h.protocol) }
-    ensures few { IfOk result (λ h. h.count ≤ most_parts) }
+    ensures few { IfOk result (λ h. h.count ≤ max_parts) }
     ensures refused { IfErr result
         (RefusesInput head_fault (S.input source.old) (S.input source.new)) }
     ensures faults { S.faults source.new ≡ S.faults source.old + faults_met result }

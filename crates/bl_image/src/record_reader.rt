@@ -4,9 +4,9 @@ ghost use Rattle.std.specs.Prelude.{◌&&◌, All, IfOk, IfErr, IfSome, MatchOpt
 ghost use Rattle.std.specs.List.{flat_map};
 ghost use Rattle.bl_mem.specs.LittleEndian.{u32_bytes, u64_bytes};
 ghost use Rattle.bl_plan.specs.Roles as roles;
-ghost use Rattle.bl_load.specs.HandoffFacts.{most_parts, MayStand};
+ghost use Rattle.bl_load.specs.HandoffFacts.{max_parts, MayStand};
 ghost use Rattle.bl_image.specs.Fields as fields;
-ghost use Rattle.bl_image.specs.Layouts.{most_role};
+ghost use Rattle.bl_image.specs.Layouts.{max_role};
 ghost use Rattle.bl_image.specs.RecordsKept.{place_record, IsNext, AreSound, bytes_at};
 ghost use Rattle.bl_image.specs.ImageFaults.{record_fault, parts_fault, end_fault, none_before};
 ghost use Rattle.bl_image.specs.Source.{Comes, RefusesInput, faults_met};
@@ -24,7 +24,7 @@ const MAX_END: u64 = 0x1_0000_0000;
 fn role_of(number: u32, wide: bool) -> Option<Role>
     ensures may { IfSome result (MayStand wide) }
     ensures number { MatchOption result
-        ((1 ≤ number) × (number ≤ most_role wide) → ⊥)
+        ((1 ≤ number) × (number ≤ max_role wide) → ⊥)
         (λ role. roles.role_number role ≡ number) }
 {
     match number {
@@ -44,7 +44,7 @@ fn role_of(number: u32, wide: bool) -> Option<Role>
 fn read_role<S: Source>(source: &mut S, wide: bool, part: u32) -> Result<Role, ImageFault>
     requires { S.faults source.old < 2 ^ 63 }
     ensures may { IfOk result (MayStand wide) }
-    ensures field { ReadsField (fields.role_field (most_role wide) part)
+    ensures field { ReadsField (fields.role_field (max_role wide) part)
         (S.input source.old) (S.input source.new)
         (λ role. u32_bytes (roles.role_number role)) result }
     ensures faults { S.faults source.new ≡ S.faults source.old + faults_met result }
@@ -125,7 +125,7 @@ fn read_record<S: Source>(
     ensures next { IfOk result (IsNext before) }
     ensures may { IfOk result (λ place. MayStand wide place.role) }
     ensures refused { IfErr result
-        (RefusesInput (record_fault (most_role wide) part before)
+        (RefusesInput (record_fault (max_role wide) part before)
         (S.input source.old) (S.input source.new)) }
     ensures faults { S.faults source.new ≡ S.faults source.old + faults_met result }
 {
@@ -149,17 +149,17 @@ pub(crate) fn read_records<S: Source, A: Allocator>(
     count: u32,
 ) -> Result<Vec<Place, A>, ImageFault>
     requires faults { S.faults source.old < 2 ^ 63 }
-    requires few { count ≤ most_parts }
+    requires few { count ≤ max_parts }
     ensures ok { IfOk result (λ places. Comes (S.input source.old) (S.input source.new)
         (flat_map place_record places.items)) }
     ensures count { IfOk result (λ places. length places.items ≡ count) }
     ensures sound { IfOk result (λ places. AreSound places.items (2 ^ 32)) }
     ensures may { IfOk result (λ places. All (λ place. MayStand wide place.role) places.items) }
     ensures judged { IfOk result (λ places. (bytes : List ℕ)
-        → parts_fault (most_role wide) count none_before
+        → parts_fault (max_role wide) count none_before
         (flat_map place_record places.items ++ bytes)
         ≡ end_fault (bytes_at places.items) bytes) }
-    ensures refused { IfErr result (RefusesInput (parts_fault (most_role wide) count none_before)
+    ensures refused { IfErr result (RefusesInput (parts_fault (max_role wide) count none_before)
         (S.input source.old) (S.input source.new)) }
     ensures faults { S.faults source.new ≡ S.faults source.old + faults_met result }
 {

@@ -21,7 +21,7 @@ use Rattle.bl_load.specs.Value.{EntryValue, module_file}
 use Rattle.bl_load.specs.Kernel.{KernelFacts}
 use Rattle.bl_load.specs.Reading.{multiboot2}
 use Rattle.bl_load.specs.Rows.{module_rows, kernel_rows, information_row, rows_of}
-use Rattle.bl_load.specs.PlacingKept.{most_told, told_length, told_rows, told_rows_of}
+use Rattle.bl_load.specs.PlacingKept.{max_told, told_length, told_rows, told_rows_of}
 
 -- ---- rows that no machine has room for
 
@@ -30,10 +30,10 @@ Alike told length = (told ≡ length) ⊎ ((max_size < told) × (max_size < leng
 
 pub alike_lengths : (size : ℕ) → Alike (told_length size) (round_up_to_frames (max size 1))
 alike_lengths size =
-    elim (cases_lt most_told size) [
+    elim (cases_lt max_told size) [
       | inl above ↦ inr (omega arith, omega arith)
       | inr at_most ↦
-          let same : min size most_told ≡ size =
+          let same : min size max_told ≡ size =
           omega arith in inl (ap (λ (n : ℕ). round_up_to_frames (max n 1)) same)
     ]
 

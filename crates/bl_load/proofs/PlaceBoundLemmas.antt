@@ -11,7 +11,7 @@ use Rattle.bl_plan.specs.declared.protocol.Protocol.{Protocol}
 use Rattle.bl_plan.proofs.PlaceLaws.{all_usable, all_apart}
 use Rattle.bl_plan.specs.Order.{place_key, in_order}
 use Rattle.bl_load.specs.declared.registers.Registers.{Registers}
-use Rattle.bl_load.specs.HandoffFacts.{Ascends, AreHandoffFacts, MayStand, most_parts}
+use Rattle.bl_load.specs.HandoffFacts.{Ascends, AreHandoffFacts, MayStand, max_parts}
 use Rattle.bl_load.specs.Protocols.{is_wide}
 use Rattle.bl_load.specs.Registers.{are_wide}
 use Rattle.bl_plan.proofs.OrderLemmas.{in_order_all, in_order_pairs, in_order_sorted}
@@ -79,7 +79,7 @@ in_order_ascends places filled apart i j d ij within =
 
 -- at most 256 places of rows, in order, are what a handoff keeps
 pub handoff_kept : (facts : MachineFacts) (protocol : Protocol) (registers : Registers)
-    (rows : List Row) (places : List Place) → All IsRow rows → length places ≤ most_parts
+    (rows : List Row) (places : List Place) → All IsRow rows → length places ≤ max_parts
     → ArePlaced facts [] rows places → are_wide registers ≡ is_wide protocol
     → All (λ (p : Place). MayStand (is_wide protocol) p.role) places
     → AreHandoffFacts

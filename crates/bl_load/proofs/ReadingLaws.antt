@@ -21,7 +21,7 @@ use Rattle.bl_plan.specs.declared.part.Role.TheVariants.{CommandLine, Gdt, Initr
 use Rattle.bl_plan.specs.declared.protocol.Protocol.{Protocol}
 use Rattle.bl_plan.specs.declared.protocol.Protocol.TheVariants as protocols
 use Rattle.bl_load.specs.Addresses.{address_of}
-use Rattle.bl_load.specs.HandoffFacts.{AreHandoffFacts, MayStand, most_parts}
+use Rattle.bl_load.specs.HandoffFacts.{AreHandoffFacts, MayStand, max_parts}
 use Rattle.bl_load.specs.Kernel.{KernelFacts}
 use Rattle.bl_load.specs.LinuxRows.{fixed_row, moved_row, linux_kernel_row, told_of}
 use Rattle.bl_load.specs.Parts.{content_of, payload_of, registers_of}
@@ -77,7 +77,7 @@ reading_not_overlap facts value reading fault is has =
 pub reading_few : (facts : MachineFacts) (value : EntryValue) (reading : Reading)
     (places : List Place) → IsRead facts value reading → length value.module_lines ≤ 64
     → ArePlaced facts [] (rows_of facts value reading) places
-    → length places ≤ most_parts
+    → length places ≤ max_parts
 reading_few facts value (multiboot2 kernel) places is few placed =
     let full = kernel_full (kernel_file value) kernel is.1 in
     let most =

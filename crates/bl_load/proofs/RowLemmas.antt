@@ -17,7 +17,7 @@ use Rattle.bl_plan.proofs.PlaceLaws.{as_many}
 use Rattle.std.specs.Prelude.{min, max}
 use Rattle.bl_plan.specs.declared.part.Row.{Row}
 use Rattle.bl_load.specs.Value.{EntryValue, module_file}
-use Rattle.bl_load.specs.PlacingKept.{most_told, told_rows, told_rows_of}
+use Rattle.bl_load.specs.PlacingKept.{max_told, told_rows, told_rows_of}
 use Rattle.bl_load.specs.Reading.{multiboot2}
 use Rattle.bl_load.specs.Kernel.{KernelFacts}
 use Rattle.bl_load.specs.KernelKept.{AreLoadable}
@@ -102,7 +102,7 @@ told_rows_are : (files : List (List ℕ)) (k : ℕ) (lines : List (List ℕ))
     → All IsRow (told_rows files k lines)
 told_rows_are files k [] = All-nil IsRow
 told_rows_are files k (line ∷ lines) =
-    let frames = some_frames (max (min (length (module_file files k)) most_told) 1) (omega arith) in
+    let frames = some_frames (max (min (length (module_file files k)) max_told) 1) (omega arith) in
     All-cons IsRow _ (told_rows files (suc k) lines)
     (record { filled = omega arith; choice = omega arith }) (told_rows_are files (suc k) lines)
 

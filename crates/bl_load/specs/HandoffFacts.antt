@@ -19,8 +19,8 @@ abbrev pub Ascends : Place → Place → Type 0
 Ascends p q = p.address + p.length ≤ q.address
 
 -- there are at most so many parts
-abbrev pub most_parts : ℕ
-most_parts = 256
+abbrev pub max_parts : ℕ
+max_parts = 256
 
 -- page tables are a part where a kernel is entered with 64 bits alone
 abbrev pub MayStand : Bool → Role → Type 0
@@ -33,7 +33,7 @@ MayStand wide role = Unit {0}
 pub record AreHandoffFacts (handoff : HandoffFacts) : Type 0 where
   pub width : are_wide handoff.registers ≡ is_wide handoff.protocol
   pub roles : All (λ place. MayStand (is_wide handoff.protocol) place.role) handoff.places
-  pub few : length handoff.places ≤ most_parts
+  pub few : length handoff.places ≤ max_parts
   pub filled : All (λ place. 1 ≤ place.length) handoff.places
   pub below : All (λ place. place.address + place.length ≤ 2 ^ 32) handoff.places
   pub ascending : AllPairs Ascends handoff.places

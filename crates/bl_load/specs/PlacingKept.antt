@@ -92,11 +92,11 @@ pub record IsPlacedHandover (facts : MachineFacts) (value : EntryValue) (reading
 -- ---- what the code tells of a file that no machine can hold
 
 -- the most bytes of a file that the code tells of
-abbrev pub most_told : ℕ
-most_told = 2 ^ 40
+abbrev pub max_told : ℕ
+max_told = 2 ^ 40
 
 abbrev pub told_length : ℕ → ℕ
-told_length size = round_up_to_frames (max (min size most_told) 1)
+told_length size = round_up_to_frames (max (min size max_told) 1)
 
 -- the rows of modules as the code tells them
 abbrev pub told_rows : List (List ℕ) → ℕ → List (List ℕ) → List Row

@@ -23,14 +23,14 @@ frames_in pool = (pool.end - pool.start) / frame_size
 
 -- no byte of the frame at an address lies in the range; a range of no byte meets no frame
 abbrev pub is_beside : Range ℕ → ℕ → Bool
-is_beside range frame =
+is_beside range at =
     nat_le range.end range.start
-    || nat_le range.end frame
-    || nat_le (frame + frame_size) range.start
+    || nat_le range.end at
+    || nat_le (at + frame_size) range.start
 
--- no byte of the frame lies in one of these ranges
+-- no byte of the frame at an address lies in one of these ranges
 abbrev pub is_open : List (Range ℕ) → ℕ → Bool
-is_open ranges frame = list_all (λ range. is_beside range frame) ranges
+is_open ranges at = list_all (λ range. is_beside range at) ranges
 
 -- how many of the first n frames from start on meet none of these ranges
 abbrev pub open_among : List (Range ℕ) → ℕ → ℕ → ℕ

@@ -2,7 +2,7 @@
 use Rattle.std.proofs.Common.{◌≡◌, ℕ, ◌-◌, ◌*◌, ◌<◌, ◌==◌, Bool, true, false, min, List, length}
 use Rattle.std.proofs.Common.{map, Option, Some, None, refl, sym, ap, subst, ◌∙◌, arith}
 use Rattle.std.proofs.lemmas.Bool.Decides.{nat_tests}
-use Rattle.bl_stage.specs.PieceStates.{PieceState, waits, piece_of}
+use Rattle.bl_stage.specs.PieceStates.{PieceState, lacks, piece_of}
 use Rattle.bl_stage.proofs.PieceStateLemmas.{piece_long}
 use Rattle.bl_session.specs.declared.ticket.Ticket.{Ticket}
 use Rattle.bl_session.specs.declared.outcome.RefusedEntry.{RefusedEntry}
@@ -40,7 +40,7 @@ module _ (facts : BootFacts) (files : List File) (known : facts.sizes ≡ map si
   piece_is : (t : Ticket) → Awaited earlier piece_states t
       → (4096 * t.piece < length (text_at facts files known entry t.file))
       × (piece_state_of piece_states t.file t.piece
-      ≡ waits (min 4096 (length (text_at facts files known entry t.file) - 4096 * t.piece)))
+      ≡ lacks (min 4096 (length (text_at facts files known entry t.file) - 4096 * t.piece)))
   piece_is t (a, e) =
       let same = steady.1 t.file t.piece e in
       let one =
@@ -70,7 +70,7 @@ module _ (facts : BootFacts) (files : List File) (known : facts.sizes ≡ map si
       → IsFaithfulItem files given (came t count genuine) → genuine ≡ true
   marked t count genuine awaited (fewer, is) = is (once t awaited).0
 
-  same_count : (piece_state : PieceState) (size count : ℕ) → piece_state ≡ waits size → count ≡ size
+  same_count : (piece_state : PieceState) (size count : ℕ) → piece_state ≡ lacks size → count ≡ size
       → awaits piece_state count ≡ true
   same_count piece_state size count e f =
       let same : (size == count) ≡ true = grind (arith, nat_tests) in

@@ -6,7 +6,7 @@ use Rattle.std.proofs.lemmas.Bool.{cases_lt}
 use Rattle.std.proofs.lemmas.List.{length-set, get_or-map, get_or_past, length-map}
 use Rattle.std.proofs.lemmas.List.FromFn.{get_or-map-range_with_len, length-map-range_with_len}
 use Rattle.bl_map.specs.Room.{frames_of}
-use Rattle.bl_stage.specs.PieceStates.{PieceState, waits, has, waiting_pieces}
+use Rattle.bl_stage.specs.PieceStates.{PieceState, lacks, has, waiting_pieces}
 use Rattle.bl_session.specs.declared.ticket.Ticket.{Ticket}
 use Rattle.bl_session.specs.Asked.{ticket_of, first_awaited_piece, first_ticket, ticket_or}
 use Rattle.bl_session.specs.Pieces.{is_awaited, awaits, piece_state_of, with_piece, awaited}
@@ -19,7 +19,7 @@ pub record IsPiece (lengths : List ℕ) (file piece : ℕ) : Type 0 where
   pub piece_in : piece < length (get_or (awaited lengths) file [])
   pub inside : 4096 * piece < get_or lengths file 0
   pub piece_state : piece_state_of (awaited lengths) file piece
-      ≡ waits (min 4096 (get_or lengths file 0 - 4096 * piece))
+      ≡ lacks (min 4096 (get_or lengths file 0 - 4096 * piece))
 
 pub is_piece : (lengths : List ℕ) (file piece : ℕ)
     → is_awaited (piece_state_of (awaited lengths) file piece) ≡ true → IsPiece lengths file piece
@@ -30,7 +30,7 @@ is_piece lengths file piece e =
           let n = get_or lengths file 0 in
           let at : get_or (awaited lengths) file d ≡ waiting_pieces n =
           get_or-map waiting_pieces lengths file 0 d h in
-          let size : ℕ → PieceState = λ index. waits (min 4096 (n - 4096 * index)) in
+          let size : ℕ → PieceState = λ index. lacks (min 4096 (n - 4096 * index)) in
           let long = length-map-range_with_len size 0 (frames_of n) in
           let many = length-map lengths waiting_pieces in
           elim (cases_lt piece (frames_of n)) [
@@ -88,7 +88,7 @@ still_awaited (piece_states ∷ files) (suc file) piece bytes (suc f) k e =
 
 pub awaits_is_awaited : (piece_state : PieceState) (count : ℕ) → awaits piece_state count ≡ true
     → is_awaited piece_state ≡ true
-awaits_is_awaited (waits size) count e = refl
+awaits_is_awaited (lacks size) count e = refl
 awaits_is_awaited (has bytes) count e = absurd cc
 
 -- ---- the number of a file's pieces stays
@@ -114,7 +114,7 @@ piece_state_first : (start : ℕ) (piece_states : List PieceState) (k : ℕ)
     → first_awaited_piece start piece_states ≡ Some k
     → (j : ℕ) × (k ≡ start + j) × (is_awaited (get_or piece_states j (has [])) ≡ true)
 piece_state_first start [] k e = absurd cc
-piece_state_first start (waits size ∷ piece_states) k e =
+piece_state_first start (lacks size ∷ piece_states) k e =
     (0, (let same : start ≡ k = cc in omega arith), refl)
 piece_state_first start (has bytes ∷ piece_states) k e =
     let next = piece_state_first (start + 1) piece_states k e in

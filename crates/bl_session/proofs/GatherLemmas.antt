@@ -5,13 +5,13 @@ use Rattle.std.proofs.Common.{ap, ◌∙◌, arith, length-drop}
 use Rattle.std.specs.List.{list_all, range_with_len}
 use Rattle.std.proofs.lemmas.List.{take-append-drop, drop-drop}
 use Rattle.bl_map.specs.Room.{frames_of}
-use Rattle.bl_stage.specs.PieceStates.{PieceState, waits, has, waiting_pieces, piece_of, came_bytes}
+use Rattle.bl_stage.specs.PieceStates.{PieceState, lacks, has, waiting_pieces, piece_of, came_bytes}
 use Rattle.bl_session.specs.Pieces.{is_awaited, are_whole, with_piece}
 
 -- each piece that came is the file's, and each other one is awaited
 abbrev pub Fits : List PieceState → List ℕ → Type 0
 Fits [] text = text ≡ []
-Fits (waits size ∷ piece_states) text = Fits piece_states (drop 4096 text)
+Fits (lacks size ∷ piece_states) text = Fits piece_states (drop 4096 text)
 Fits (has bytes ∷ piece_states) text = (bytes ≡ take 4096 text) × Fits piece_states (drop 4096 text)
 
 abbrev pub FitAll : List (List PieceState) → List (List ℕ) → Type 0
@@ -25,7 +25,7 @@ no_bytes [] h = refl
 no_bytes (b ∷ text) h = absurd (omega arith)
 
 fits_waiting : (size : ℕ → ℕ) (start count : ℕ) (text : List ℕ) → length text ≤ 4096 * count
-    → Fits (map (λ index. waits (size index)) (range_with_len start count)) text
+    → Fits (map (λ index. lacks (size index)) (range_with_len start count)) text
 fits_waiting size start zero text h = no_bytes text (omega arith)
 fits_waiting size start (suc count) text h =
     fits_waiting size (start + 1) count (drop 4096 text) (rw length-drop (omega arith))
@@ -44,9 +44,9 @@ fits_set : (piece_states : List PieceState) (text : List ℕ) (k : ℕ) (bytes :
     → bytes ≡ piece_of text k
     → Fits piece_states text → Fits (set piece_states k (has bytes)) text
 fits_set [] text k bytes e f = f
-fits_set (waits size ∷ piece_states) text zero bytes e f = (e, f)
+fits_set (lacks size ∷ piece_states) text zero bytes e f = (e, f)
 fits_set (has other ∷ piece_states) text zero bytes e f = (e, f.1)
-fits_set (waits size ∷ piece_states) text (suc k) bytes e f =
+fits_set (lacks size ∷ piece_states) text (suc k) bytes e f =
     fits_set piece_states (drop 4096 text) k bytes (e ∙ next_piece text k) f
 fits_set (has other ∷ piece_states) text (suc k) bytes e f =
     (f.0, fits_set piece_states (drop 4096 text) k bytes (e ∙ next_piece text k) f.1)
@@ -71,7 +71,7 @@ whole_file : (piece_states : List PieceState) (text : List ℕ) → Fits piece_s
     → list_all (λ piece_state. not (is_awaited piece_state)) piece_states ≡ true
     → came_bytes piece_states ≡ text
 whole_file [] text f w = sym f
-whole_file (waits size ∷ piece_states) text f w = absurd cc
+whole_file (lacks size ∷ piece_states) text f w = absurd cc
 whole_file (has bytes ∷ piece_states) text f w =
     rw (f.0, whole_file piece_states (drop 4096 text) f.1 (both true _ w).1)
     (take-append-drop 4096 text)

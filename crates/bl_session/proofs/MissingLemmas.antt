@@ -7,7 +7,7 @@ use Rattle.std.proofs.lemmas.List.{drop_more, drop_all}
 use Rattle.std.proofs.lemmas.Bool.Decides.{nat_tests}
 use Rattle.bl_map.specs.Room.{frames_of}
 use Rattle.bl_stage.specs.Staged.{Staging}
-use Rattle.bl_stage.specs.PieceStates.{PieceState, waits, has, piece_states}
+use Rattle.bl_stage.specs.PieceStates.{PieceState, lacks, has, piece_states}
 use Rattle.bl_session.specs.declared.ticket.Ticket.{Ticket}
 use Rattle.bl_session.specs.declared.outcome.RefusedEntry.{RefusedEntry}
 use Rattle.bl_session.specs.Pieces.{is_awaited, piece_state_of, are_whole}
@@ -20,13 +20,13 @@ use Rattle.bl_session.proofs.PieceStateLemmas.{file_piece_states}
 
 here : (i : ℕ) (piece_state : PieceState) (rest : List PieceState) → is_awaited piece_state ≡ true
     → first_awaited_piece i (piece_state ∷ rest) ≡ Some i
-here i (waits size) rest e = refl
+here i (lacks size) rest e = refl
 here i (has bytes) rest e = absurd cc
 
 not_here : (i : ℕ) (piece_state : PieceState) (rest : List PieceState)
     → is_awaited piece_state ≡ false
     → first_awaited_piece i (piece_state ∷ rest) ≡ first_awaited_piece (i + 1) rest
-not_here i (waits size) rest e = absurd cc
+not_here i (lacks size) rest e = absurd cc
 not_here i (has bytes) rest e = refl
 
 pub piece_here : (all : List PieceState) (i : ℕ) (x : Option ℕ) → i < length all
@@ -101,7 +101,7 @@ ticket_none attempt place bytes stage x h so_far =
 none_awaited : (i : ℕ) (all : List PieceState) → first_awaited_piece i all ≡ None
     → list_all (λ piece_state. not (is_awaited piece_state)) all ≡ true
 none_awaited i [] e = refl
-none_awaited i (waits size ∷ all) e = absurd cc
+none_awaited i (lacks size ∷ all) e = absurd cc
 none_awaited i (has bytes ∷ all) e = none_awaited (i + 1) all e
 
 whole_by : (attempt place : ℕ) (all : List PieceState) (files : List (List PieceState))
@@ -125,7 +125,7 @@ none_missing attempt place (all ∷ files) e =
 piece_awaited : (i : ℕ) (all : List PieceState) (k : ℕ) → first_awaited_piece i all ≡ Some k
     → (d : ℕ) × (k ≡ i + d) × (is_awaited (get_or all d (has [])) ≡ true)
 piece_awaited i [] k e = absurd cc
-piece_awaited i (waits size ∷ all) k e = (0, (let q : k ≡ i = cc in omega arith), refl)
+piece_awaited i (lacks size ∷ all) k e = (0, (let q : k ≡ i = cc in omega arith), refl)
 piece_awaited i (has bytes ∷ all) k e =
     let more = piece_awaited (i + 1) all k e in
     (suc more.0, (let q = more.1 in omega arith), more.2)

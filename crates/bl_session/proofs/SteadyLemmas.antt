@@ -2,7 +2,7 @@
 use Rattle.std.proofs.Common.{◌≡◌, ℕ, ◌-◌, ◌*◌, ◌<◌, ◌≤◌, true, min, List, [], ◌++◌, length, map}
 use Rattle.std.proofs.Common.{get_or, None, refl, ap, ◌∙◌, arith}
 use Rattle.std.proofs.lemmas.List.{get_or-map}
-use Rattle.bl_stage.specs.PieceStates.{waits}
+use Rattle.bl_stage.specs.PieceStates.{lacks}
 use Rattle.bl_session.specs.declared.ticket.Ticket.{Ticket}
 use Rattle.bl_session.specs.AttemptResult.{size_refusal, known_lengths}
 use Rattle.bl_session.specs.Menu.{entry_at}
@@ -99,7 +99,7 @@ module _ (facts : BootFacts) (files : List File) (known : facts.sizes ≡ map si
       → is_awaited (piece_state_of (fresh facts entry) place index) ≡ true
       → (4096 * index < length (text_at entry place))
       × (piece_state_of (fresh facts entry) place index
-      ≡ waits (min 4096 (length (text_at entry place) - 4096 * index)))
+      ≡ lacks (min 4096 (length (text_at entry place) - 4096 * index)))
   awaited_piece entry place index sized e =
       let one = is_piece (known_lengths (sizes_of facts entry)) place index e in
       let file_in = one.file_in in

@@ -2,7 +2,7 @@
 use Rattle.std.specs.Prelude.{ℕ, ◌+◌, ◌==◌, List, [], ◌∷◌, ◌++◌, length, map, Option, None, Some}
 use Rattle.std.specs.Prelude.{if◌then◌else◌}
 use Rattle.std.specs.List.{range_with_len}
-use Rattle.bl_stage.specs.PieceStates.{PieceState, waits, has}
+use Rattle.bl_stage.specs.PieceStates.{PieceState, lacks, has}
 use Rattle.bl_session.specs.declared.ticket.Ticket.{Ticket}
 use Rattle.bl_session.specs.Menu.{entry_at}
 use Rattle.bl_session.specs.Boot.{BootFacts, State, attempt_number, on_running}
@@ -42,7 +42,7 @@ orders_after facts old new =
 
 abbrev pub first_awaited_piece : (piece : ℕ) → List PieceState → Option ℕ
 first_awaited_piece piece [] = None
-first_awaited_piece piece (waits size ∷ piece_states) = Some piece
+first_awaited_piece piece (lacks size ∷ piece_states) = Some piece
 first_awaited_piece piece (has bytes ∷ piece_states) = first_awaited_piece (piece + 1) piece_states
 
 abbrev pub ticket_or : (attempt place : ℕ) → Option Ticket → Option ℕ → Option Ticket

@@ -2,15 +2,15 @@
 use Rattle.std.specs.Prelude.{ℕ, ◌==◌, Bool, true, false, not, List, [], slice_index_or, slice_set}
 use Rattle.std.specs.Prelude.{map}
 use Rattle.std.specs.List.{list_all}
-use Rattle.bl_stage.specs.PieceStates.{PieceState, waits, has, waiting_pieces}
+use Rattle.bl_stage.specs.PieceStates.{PieceState, lacks, has, waiting_pieces}
 
 abbrev pub is_awaited : PieceState → Bool
-is_awaited (waits size) = true
+is_awaited (lacks size) = true
 is_awaited (has bytes) = false
 
 -- a piece of so many bytes is awaited
 abbrev pub awaits : PieceState → ℕ → Bool
-awaits (waits size) count = size == count
+awaits (lacks size) count = size == count
 awaits (has bytes) count = false
 
 -- the state of a piece; where there is no such file or piece, nothing is awaited

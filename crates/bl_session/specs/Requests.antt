@@ -2,7 +2,7 @@
 -- ascending, and in each of them pieces ascending. Own.
 use Rattle.std.specs.Prelude.{ℕ, ◌+◌, List, [], drop, length, slice_index_or, Option, None}
 use Rattle.std.specs.Prelude.{option_map}
-use Rattle.bl_stage.specs.PieceStates.{PieceState, waits, has}
+use Rattle.bl_stage.specs.PieceStates.{PieceState, lacks, has}
 use Rattle.bl_session.specs.declared.ticket.Ticket.{Ticket}
 use Rattle.bl_session.specs.declared.ticket.Request.{Request}
 use Rattle.bl_session.specs.Menu.{entry_at}
@@ -12,7 +12,7 @@ use Rattle.bl_session.specs.Asked.{first_awaited_piece, first_ticket, ticket_or}
 
 -- how many bytes a piece has that is awaited
 abbrev pub length_awaited : PieceState → ℕ
-length_awaited (waits size) = size
+length_awaited (lacks size) = size
 length_awaited (has bytes) = 0
 
 -- what is asked for under a ticket: the entry's file at its place, by its index in the menu

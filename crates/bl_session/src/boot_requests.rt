@@ -34,7 +34,7 @@ impl<'a, A: Allocator + Copy> Boot<'a, A> {
                 let entry = self.menu.entry(waiting.entry);
                 submit_files(store, waiting.earlier.len() as u32, entry, &waiting.stage)
             }
-            _ => unreachable!(),
+            Phase::Unstarted | Phase::HandedOver(_) | Phase::Failed(_) => unreachable!(),
         }
     }
 
@@ -92,7 +92,7 @@ impl<'a, A: Allocator + Copy> Boot<'a, A> {
                 self.menu.entry(waiting.entry);
                 missing_piece(waiting.earlier.len() as u32, &waiting.stage)
             }
-            _ => unreachable!(),
+            Phase::Unstarted | Phase::HandedOver(_) | Phase::Failed(_) => unreachable!(),
         }
     }
 }

@@ -3,7 +3,6 @@ ghost use Rattle.std.specs.Prelude.{◌≡◌, List, [], ◌∷◌, ◌++◌};
 ghost use Rattle.std.specs.Borrow.{ftrue};
 ghost use Rattle.bl_session.specs.History.{Item};
 
-use crate::fetched::Fetched;
 use crate::store::Completion;
 use crate::stored_files::StoredFiles;
 use crate::submission::Submission;
@@ -30,7 +29,6 @@ impl Model for History {
 
 impl History {
     ghost use Rattle.bl_session.specs.History.{submitted};
-    ghost use Rattle.bl_session.specs.Stores.{stored_files};
     ghost use Rattle.bl_session.specs.StoresKept.{item_of};
 
     /// Nothing was asked or answered.
@@ -49,19 +47,7 @@ impl History {
     }
 
     /// This was answered too, by a store of these files.
-    pub fn and_answer<A: Allocator>(
-        &self,
-        _files: &[Fetched<A>],
-        _answer: &Option<Completion<A>>,
-    ) -> History
-        ensures { result.items
-            ≡ self.now.items ++ item_of (stored_files _files.now) self.now.items _answer.now ∷ [] }
-    {
-        History {}
-    }
-
-    /// The same for a store of whatever keeps its files.
-    pub(crate) fn and_answer_of<F: StoredFiles, A: Allocator>(
+    pub fn and_answer<F: StoredFiles, A: Allocator>(
         &self,
         _files: &F,
         _answer: &Option<Completion<A>>,

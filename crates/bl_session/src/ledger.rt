@@ -184,7 +184,7 @@ impl<F: StoredFiles, A: Allocator + Copy> Ledger<F, A> {
     {
         let answer = self.find_answer(at)?;
         self.pending.remove(at)?;
-        self.history = self.history.and_answer_of(&self.files, &answer);
+        self.history = self.history.and_answer(&self.files, &answer);
         Ok(answer)
     }
 

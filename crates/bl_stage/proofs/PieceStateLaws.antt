@@ -13,7 +13,7 @@ use Rattle.bl_map.specs.Room.{frames_of}
 use Rattle.bl_stage.specs.Cells.{ReadAlike}
 use Rattle.bl_stage.specs.Staged.{Staging, AreStaged, AllCame, staged_file, empty_stage, table_of}
 use Rattle.bl_stage.specs.Pieces.{slot_in}
-use Rattle.bl_stage.specs.PieceStates.{PieceState, waits, has, piece_state_at, piece_states_of}
+use Rattle.bl_stage.specs.PieceStates.{PieceState, lacks, has, piece_state_at, piece_states_of}
 use Rattle.bl_stage.specs.PieceStates.{piece_states, piece_of}
 use Rattle.bl_stage.specs.PieceStates.{waiting_pieces, came_bytes}
 use Rattle.bl_stage.proofs.FrameLemmas.{staged_length}
@@ -34,12 +34,12 @@ fresh_piece_states bytes pool sizes frames =
     (length sizes) (λ file h.
     let size = get_or sizes file 0 in
     same_firsts (has []) (λ k. piece_state_at bytes stage file k)
-    (λ k. waits (min 4096 (size - 4096 * k)))
+    (λ k. lacks (min 4096 (size - 4096 * k)))
     (frames_of size) (λ k hk.
     let long : length (staged_file bytes stage file) ≡ size =
     staged_length bytes (table_of stage file) size in
     rw (never (length frames) (slot_in stage file k))
-    (ap waits
+    (ap lacks
     (piece_long (staged_file bytes stage file) k ∙ ap (λ n. min 4096 (n - 4096 * k)) long))))
   where
     never : (n k : ℕ) → get_or (replicate n false) k false ≡ false
@@ -51,7 +51,7 @@ fresh_piece_states bytes pool sizes frames =
 
 bytes_of-append : (xs ys : List PieceState) → came_bytes (xs ++ ys) ≡ came_bytes xs ++ came_bytes ys
 bytes_of-append [] ys = refl
-bytes_of-append (waits n ∷ xs) ys = bytes_of-append xs ys
+bytes_of-append (lacks n ∷ xs) ys = bytes_of-append xs ys
 bytes_of-append (has piece ∷ xs) ys =
     ap (λ l. piece ++ l) (bytes_of-append xs ys)
     ∙ sym (append_assoc piece (came_bytes xs) (came_bytes ys))

@@ -8,7 +8,7 @@ use Rattle.bl_stage.specs.Pieces.{slot_in}
 
 -- a piece of so many bytes is awaited, or it came and has these bytes
 pub data PieceState : Type 0 where
-  waits : ℕ → PieceState
+  lacks : ℕ → PieceState
   has : List ℕ → PieceState
 
 -- a file's piece of this index: 4096 of its bytes, or what is left
@@ -17,7 +17,7 @@ piece_of file index = take 4096 (drop (4096 * index) file)
 
 abbrev pub piece_state_by : Bool → List ℕ → PieceState
 piece_state_by true piece = has piece
-piece_state_by false piece = waits (length piece)
+piece_state_by false piece = lacks (length piece)
 
 abbrev pub piece_state_at : List ℕ → Staging → ℕ → ℕ → PieceState
 piece_state_at bytes stage file index =
@@ -44,10 +44,10 @@ put_piece_state bytes stage file index piece =
 -- the states of the pieces of a file of this size of which none came
 abbrev pub waiting_pieces : ℕ → List PieceState
 waiting_pieces size =
-    map (λ index. waits (min 4096 (size - 4096 * index))) (range_with_len 0 (frames_of size))
+    map (λ index. lacks (min 4096 (size - 4096 * index))) (range_with_len 0 (frames_of size))
 
 -- the bytes that came, in the file's order
 abbrev pub came_bytes : List PieceState → List ℕ
 came_bytes [] = []
-came_bytes (waits size ∷ piece_states) = came_bytes piece_states
+came_bytes (lacks size ∷ piece_states) = came_bytes piece_states
 came_bytes (has bytes ∷ piece_states) = bytes ++ came_bytes piece_states

@@ -6,7 +6,7 @@ ghost use Rattle.bl_boot.specs.DescribedMachine.{IsBadDescription};
 ghost use Rattle.bl_boot.specs.Ends.{IsCutShort};
 ghost use Rattle.bl_boot.specs.Found.{AsksFirst};
 ghost use Rattle.bl_boot.specs.Kept.{BootEnds, HasFaults, HasAsked};
-ghost use Rattle.bl_boot.specs.Attempted.{most_names};
+ghost use Rattle.bl_boot.specs.Attempted.{max_names};
 ghost use Rattle.bl_session.specs.Outcome.{File};
 ghost use Rattle.bl_desc.specs.Described.{described};
 
@@ -57,7 +57,7 @@ fn run_boot<A: Allocator + Copy, F: Files, S: Sink, B: Allocator>(
         F.answers files.new file answer → F.answers files.old file answer }
     ensures missing { (F.faults files.old ≤ F.faults files.new)
         × (F.faults files.new ≤ F.faults files.old + length (names_sought (described desc.now))) }
-    ensures few { F.faults files.new ≤ F.faults files.old + most_names }
+    ensures few { F.faults files.new ≤ F.faults files.old + max_names }
 {
     let description = read_description(alloc, global, desc)?;
     let machine = machine_of(alloc, &description)?;
@@ -130,7 +130,7 @@ pub fn boot<A: Allocator + Copy, F: Files, S: Sink, B: Allocator>(
         F.answers files.new file answer → F.answers files.old file answer }
     ensures missing { (F.faults files.old ≤ F.faults files.new)
         × (F.faults files.new ≤ F.faults files.old + length (names_sought (described desc.now))) }
-    ensures few { F.faults files.new ≤ F.faults files.old + most_names }
+    ensures few { F.faults files.new ≤ F.faults files.old + max_names }
 {
     match run_boot(alloc, global, desc, files, order, out, say) {
         Ok(End::Booted) => 0,

@@ -1,6 +1,6 @@
 //! One explanation.
 ghost use Rattle.std.specs.Prelude.{◌≡◌, ◌≢◌, ◌⊎◌, ℕ, List, ◌+◌, ◌<◌, ◌≤◌, ◌^◌, ◌++◌, length};
-ghost use Rattle.bl_boot.specs.Attempted.{most_names};
+ghost use Rattle.bl_boot.specs.Attempted.{max_names};
 ghost use Rattle.bl_boot.specs.Ends.{HasInlineFiles, names_sought, names_fetched};
 ghost use Rattle.bl_boot.specs.ExplainKept.{ExplainAsks, ExplainEnds};
 ghost use Rattle.bl_boot.specs.Explained.{ExplainsBlame, ExplainsBoot, ExplainsRefusals};
@@ -37,7 +37,7 @@ fn run_explain<A: Allocator + Copy, F: Files, B: Allocator>(
         F.answers files.new file answer → F.answers files.old file answer }
     ensures missing { (F.faults files.old ≤ F.faults files.new)
         × (F.faults files.new ≤ F.faults files.old + length (names_sought (described desc.now))) }
-    ensures few { F.faults files.new ≤ F.faults files.old + most_names }
+    ensures few { F.faults files.new ≤ F.faults files.old + max_names }
 {
     let description = read_blamed(alloc, global, desc, say)?;
     let machine = machine_blamed(alloc, &description, say)?;
@@ -93,7 +93,7 @@ pub fn explain_to<A: Allocator + Copy, F: Files, B: Allocator>(
         F.answers files.new file answer → F.answers files.old file answer }
     ensures missing { (F.faults files.old ≤ F.faults files.new)
         × (F.faults files.new ≤ F.faults files.old + length (names_sought (described desc.now))) }
-    ensures few { F.faults files.new ≤ F.faults files.old + most_names }
+    ensures few { F.faults files.new ≤ F.faults files.old + max_names }
 {
     match run_explain(alloc, global, desc, files, order, say) {
         Ok(End::Booted) => 0,

@@ -9,7 +9,7 @@ use crate::opening::give_room;
 use std::alloc::{AllocError, Allocator};
 
 /// The bytes of as many frames as a slot's number can tell apart, which are 2^32.
-const MOST: usize = 17592186044416;
+const MAX_KEPT: usize = 17592186044416;
 
 impl<A: Allocator + Copy> Frames<A> {
     /// Has an entry for each frame below `end`.
@@ -34,7 +34,7 @@ impl<A: Allocator + Copy> Frames<A> {
         ensures size { length self.new.table ≡ length self.old.table }
     {
         let more = (end - first) as usize;
-        if more > (MOST - self.kept.len()) / WIDTH - self.owed {
+        if more > (MAX_KEPT - self.kept.len()) / WIDTH - self.owed {
             return Err(AllocError);
         }
         self.kept.reserve_exact((self.owed + more) * WIDTH)?;

@@ -9,7 +9,7 @@ use std::ops::Range;
 pub const FILL: u8 = 0xa5;
 
 /// The most bytes of memory that are all looked at.
-const MOST_LOOKED_AT: u64 = 0x400_0000;
+const MAX_LOOKED_AT: u64 = 0x400_0000;
 
 /// Whether an address is in one of the ranges.
 fn is_in(ranges: &[Range<u64>], address: u64) -> bool {
@@ -66,7 +66,7 @@ pub fn say_outside<M: PhysMem>(
     parts: &[Range<u64>],
 ) {
     let size = memory.size();
-    if size > MOST_LOOKED_AT {
+    if size > MAX_LOOKED_AT {
         return row.say("outside not looked at");
     }
     // an empty pool may lie anywhere

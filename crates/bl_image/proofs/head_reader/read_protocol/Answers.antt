@@ -6,7 +6,7 @@ use Rattle.bl_mem.specs.LittleEndian.{u32_bytes}
 use Rattle.bl_mem.proofs.LittleEndianLaws.{length-u32_bytes}
 use Rattle.bl_image.specs.declared.fault.ImageFault.TheVariants.{BadHeader}
 use Rattle.bl_image.specs.Fields.{protocol_field}
-use Rattle.bl_image.specs.Versions.{version_number, most_protocol}
+use Rattle.bl_image.specs.Versions.{version_number, max_protocol}
 use Rattle.bl_image.proofs.Inputs.{comes_as}
 use Rattle.bl_image.proofs.FieldLemmas.{field_cut, field_shows, word_tells}
 use Rattle.bl_image.proofs.FieldTests.{not_between}
@@ -27,9 +27,9 @@ returns-in_default-clause-field g c =
     let n = c.in_ok-number.number in
     let version = version_number c.args.version in
     let fails =
-    word_tells (λ k. nat_le 1 k && nat_le k (most_protocol version)) BadHeader n false
+    word_tells (λ k. nat_le 1 k && nat_le k (max_protocol version)) BadHeader n false
     c.in_ok-number.ensures.fits
-    (not_between 1 n (most_protocol version) c.in_default.ensures.number) in
+    (not_between 1 n (max_protocol version) c.in_default.ensures.number) in
     λ fields.
     field_shows (protocol_field version) fields _ _ (u32_bytes n) c.in_ok-number.ensures.ok
     (length-u32_bytes n) fails

@@ -11,7 +11,7 @@ use Rattle.bl_load.specs.Handover.{Handover}
 use Rattle.bl_load.specs.HandoffFacts.{MayStand}
 use Rattle.bl_load.specs.Protocols.{is_wide}
 use Rattle.bl_image.specs.declared.version.Version.{Version}
-use Rattle.bl_image.specs.Layouts.{most_role}
+use Rattle.bl_image.specs.Layouts.{max_role}
 use Rattle.bl_image.specs.Source.{Input, Comes}
 use Rattle.bl_image.specs.Spellable.{FitsRegisters}
 use Rattle.bl_image.specs.Versions.{HasProtocol}
@@ -29,14 +29,14 @@ use Rattle.bl_image.proofs.read.read_image.Goals as goal
 fronted : {old new : Input} (v : Version) (p : Protocol) (r : Registers) (count : ℕ) (wide : Bool)
     → Comes old new (head v p r count) → HasProtocol v p → FitsRegisters p r → count ≤ 256
     → wide ≡ is_wide p
-    → Passed image_fault old new (parts_fault (most_role wide) count none_before)
+    → Passed image_fault old new (parts_fault (max_role wide) count none_before)
 fronted v p r count wide comes has fit few same = record {
   done = _;
   comes = comes;
   on =
       λ bytes.
       head_front v p r count bytes has fit few
-      ∙ ap (λ (b : Bool). parts_fault (most_role b) count none_before bytes) (sym same);
+      ∙ ap (λ (b : Bool). parts_fault (max_role b) count none_before bytes) (sym same);
 }
 
 pub returns-in_err-head-clause-refused : goal.returns-in_err-head-clause-refused
@@ -52,7 +52,7 @@ returns-in_err-places-clause-refused g c =
     let head = c.in_ok-head.head in
     let wide = c.are_wide.ensures ∙ c.in_ok-head.ensures.fit.0 in
     let front : Passed image_fault _ _
-    (parts_fault (most_role c.are_wide.result) head.count none_before) =
+    (parts_fault (max_role c.are_wide.result) head.count none_before) =
     fronted head.version head.protocol head.registers head.count c.are_wide.result
     c.in_ok-head.ensures.ok c.in_ok-head.ensures.has c.in_ok-head.ensures.fit
     c.in_ok-head.ensures.few wide in
@@ -67,7 +67,7 @@ returns-in_err-parts-clause-refused g c =
     let places = c.in_ok-places.places.items in
     let wide = c.are_wide.ensures ∙ c.in_ok-head.ensures.fit.0 in
     let front : Passed image_fault _ _
-    (parts_fault (most_role c.are_wide.result) head.count none_before) =
+    (parts_fault (max_role c.are_wide.result) head.count none_before) =
     fronted head.version head.protocol head.registers head.count c.are_wide.result
     c.in_ok-head.ensures.ok c.in_ok-head.ensures.has c.in_ok-head.ensures.fit
     c.in_ok-head.ensures.few wide in
@@ -89,7 +89,7 @@ returns-in_err-read_end-clause-refused g c =
     let parts = c.in_ok-parts.parts.items in
     let wide = c.are_wide.ensures ∙ c.in_ok-head.ensures.fit.0 in
     let front : Passed image_fault _ _
-    (parts_fault (most_role c.are_wide.result) head.count none_before) =
+    (parts_fault (max_role c.are_wide.result) head.count none_before) =
     fronted head.version head.protocol head.registers head.count c.are_wide.result
     c.in_ok-head.ensures.ok c.in_ok-head.ensures.has c.in_ok-head.ensures.fit
     c.in_ok-head.ensures.few wide in

@@ -1,7 +1,7 @@
 use Rattle.std.proofs.Common.{List, ℕ, [], ◌∷◌, Option}
 use Rattle.bl_image.specs.declared.fault.ImageFault.{ImageFault}
 use Rattle.bl_image.specs.ImageFaults.{record_fault}
-use Rattle.bl_image.specs.Layouts.{most_role}
+use Rattle.bl_image.specs.Layouts.{max_role}
 use Rattle.std.proofs.lemmas.Result.{err_from_is_err_and}
 use Rattle.bl_mem.specs.LittleEndian.{u64_at, u32_bytes, u64_bytes}
 use Rattle.bl_plan.specs.Roles as roles
@@ -20,9 +20,9 @@ returns-in_err-role-clause-refused g c =
     λ bytes. fields_fault (length_field c.args.part (u64_at bytes 8) ∷ []) (drop 16 bytes) in
     rw (p.1, p.2)
     (first_refuses
-    (fields_fault (record_fields (most_role c.args.wide) c.args.part c.args.before)) later
+    (fields_fault (record_fields (max_role c.args.wide) c.args.part c.args.before)) later
     _ _ _ (passed_refuses
-    (passed_none (fields_fault (record_fields (most_role c.args.wide) c.args.part c.args.before)) _)
+    (passed_none (fields_fault (record_fields (max_role c.args.wide) c.args.part c.args.before)) _)
     _ _ (c.in_err-role.ensures.field
     (index_field c.args.part ∷ address_field c.args.part c.args.before ∷ []))))
 
@@ -34,14 +34,14 @@ returns-in_err-index-clause-refused g c =
     let later : List ℕ → Option ImageFault =
     λ bytes. fields_fault (length_field c.args.part (u64_at bytes 8) ∷ []) (drop 16 bytes) in
     let p1 =
-    passed_field (role_field (most_role c.args.wide) c.args.part)
+    passed_field (role_field (max_role c.args.wide) c.args.part)
     (index_field c.args.part ∷ address_field c.args.part c.args.before ∷ [])
     _ (passed_none
-    (fields_fault (record_fields (most_role c.args.wide) c.args.part c.args.before)) _)
+    (fields_fault (record_fields (max_role c.args.wide) c.args.part c.args.before)) _)
     c.in_ok-role.ensures.field in
     rw (p.1, p.2)
     (first_refuses
-    (fields_fault (record_fields (most_role c.args.wide) c.args.part c.args.before)) later
+    (fields_fault (record_fields (max_role c.args.wide) c.args.part c.args.before)) later
     _ _ _ (passed_refuses p1
     _ _ (c.in_err-index.ensures.field c.args.part
     (address_field c.args.part c.args.before ∷ []))))
@@ -54,17 +54,17 @@ returns-in_err-address-clause-refused g c =
     let later : List ℕ → Option ImageFault =
     λ bytes. fields_fault (length_field c.args.part (u64_at bytes 8) ∷ []) (drop 16 bytes) in
     let p1 =
-    passed_field (role_field (most_role c.args.wide) c.args.part)
+    passed_field (role_field (max_role c.args.wide) c.args.part)
     (index_field c.args.part ∷ address_field c.args.part c.args.before ∷ [])
     _ (passed_none
-    (fields_fault (record_fields (most_role c.args.wide) c.args.part c.args.before)) _)
+    (fields_fault (record_fields (max_role c.args.wide) c.args.part c.args.before)) _)
     c.in_ok-role.ensures.field in
     let p2 =
     passed_field (index_field c.args.part) (address_field c.args.part c.args.before ∷ []) _ p1
     (c.in_ok-index.ensures.field c.args.part) in
     rw (p.1, p.2)
     (first_refuses
-    (fields_fault (record_fields (most_role c.args.wide) c.args.part c.args.before)) later
+    (fields_fault (record_fields (max_role c.args.wide) c.args.part c.args.before)) later
     _ _ _ (passed_refuses p2 _ _ (c.in_err-address.ensures.field ([]))))
 
 pub returns-in_err-length-clause-refused : goal.returns-in_err-length-clause-refused
@@ -77,7 +77,7 @@ returns-in_err-length-clause-refused g c =
     (comes_more c.in_ok-role.ensures.field.comes
     (c.in_ok-index.ensures.field c.args.part).comes)
     c.in_ok-address.ensures.field.comes in
-    let passed : Passed (record_fault (most_role c.args.wide) c.args.part c.args.before)
+    let passed : Passed (record_fault (max_role c.args.wide) c.args.part c.args.before)
     _ _ (fields_fault (length_field c.args.part c.in_ok-address.address ∷ [])) = record {
       done = _;
       comes = came;

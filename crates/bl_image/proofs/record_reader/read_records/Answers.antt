@@ -5,7 +5,7 @@ use Rattle.bl_plan.specs.declared.part.Place.{Place}
 use Rattle.bl_image.specs.RecordsKept.{place_record, AreSound, bytes_at}
 use Rattle.std.proofs.lemmas.Result.{err_from_is_err_and}
 use Rattle.bl_load.specs.HandoffFacts.{MayStand}
-use Rattle.bl_image.specs.Layouts.{most_role}
+use Rattle.bl_image.specs.Layouts.{max_role}
 use Rattle.bl_image.specs.ImageFaults.{parts_fault, none_before, Before}
 use Rattle.bl_image.proofs.Inputs.{comes_more, comes_as}
 use Rattle.bl_image.proofs.FieldLemmas.{Passed, passed_refuses}
@@ -27,8 +27,8 @@ returns-in_err-place-clause-refused g c =
     } in
     let inside : part < count = omega arith in
     let left : count - part ≡ suc (count - (part + 1)) = omega arith in
-    let passed : Passed (parts_fault (most_role c.args.wide) count none_before) _ _
-    (parts_fault (most_role c.args.wide) (count - part) before) =
+    let passed : Passed (parts_fault (max_role c.args.wide) count none_before) _ _
+    (parts_fault (max_role c.args.wide) (count - part) before) =
     record {
       done = _;
       comes = c.loop-part.invariant.came;
@@ -37,7 +37,7 @@ returns-in_err-place-clause-refused g c =
     rw (p.1, p.2)
     (passed_refuses passed
     _ _ (rw left
-    (record_refuses (most_role c.args.wide) (count - (part + 1))
+    (record_refuses (max_role c.args.wide) (count - (part + 1))
     before _ _ _ c.in_err-place.ensures.refused)))
 
 pub loop-part-preserved : goal.loop-part-preserved
@@ -51,9 +51,9 @@ loop-part-preserved g c =
     let e : c.push.new.self.items ≡ old ++ place ∷ [] = c.in_ok-push.ensures.items in
     let longer : length (old ++ place ∷ []) ≡ length old + 1 = length-append old (place ∷ []) in
     let judged : (bytes : List ℕ)
-    → parts_fault (most_role c.args.wide) count none_before
+    → parts_fault (max_role c.args.wide) count none_before
     (flat_map place_record (old ++ place ∷ []) ++ bytes)
-    ≡ parts_fault (most_role c.args.wide) (count - (part + 1))
+    ≡ parts_fault (max_role c.args.wide) (count - (part + 1))
     (so_far (part + 1) end (old ++ place ∷ [])) bytes =
     judged_more c.args.wide count part old c.loop-part.before place inside
     c.in_ok-place.ensures.may c.in_ok-place.ensures.next
@@ -70,9 +70,9 @@ loop-part-preserved g c =
       judged =
           subst
           (λ (ps : List Place). (bytes : List ℕ)
-          → parts_fault (most_role c.args.wide) count none_before
+          → parts_fault (max_role c.args.wide) count none_before
           (flat_map place_record ps ++ bytes)
-          ≡ parts_fault (most_role c.args.wide) (count - (part + 1))
+          ≡ parts_fault (max_role c.args.wide) (count - (part + 1))
           (so_far (part + 1) end ps) bytes)
           (sym e) judged;
       may =

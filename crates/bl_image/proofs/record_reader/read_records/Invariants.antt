@@ -2,7 +2,7 @@ use Rattle.std.proofs.Common.{◌≡◌, ◌-◌, ℕ, List, ◌++◌, length, A
 use Rattle.std.specs.List.{flat_map}
 use Rattle.bl_plan.specs.declared.part.Place.{Place}
 use Rattle.bl_load.specs.HandoffFacts.{MayStand}
-use Rattle.bl_image.specs.Layouts.{most_role}
+use Rattle.bl_image.specs.Layouts.{max_role}
 use Rattle.bl_image.specs.RecordsKept.{place_record, AreSound, bytes_at}
 use Rattle.bl_image.specs.ImageFaults.{parts_fault, none_before}
 use Rattle.bl_image.specs.Source.{Comes}
@@ -17,9 +17,9 @@ invariant-loop-part g l = record {
   sound : AreSound l.places.items l.before;
   may : All (λ (place : Place). MayStand l.wide place.role) l.places.items;
   judged : (bytes : List ℕ)
-      → parts_fault (most_role l.wide) l.count none_before
+      → parts_fault (max_role l.wide) l.count none_before
       (flat_map place_record l.places.items ++ bytes)
-      ≡ parts_fault (most_role l.wide) (l.count - l.part)
+      ≡ parts_fault (max_role l.wide) (l.count - l.part)
       (record { count = l.part; end = l.before; bytes = bytes_at l.places.items }) bytes;
   faults : g.S.Source.faults l.source ≡ g.S.Source.faults l.fn.source;
 }

@@ -6,7 +6,7 @@ use Rattle.bl_mem.proofs.LittleEndianLaws.{length-u32_bytes}
 use Rattle.bl_plan.specs.Roles as roles
 use Rattle.bl_image.specs.declared.fault.ImageFault.TheVariants.{BadPart}
 use Rattle.bl_image.specs.Fields.{role_field}
-use Rattle.bl_image.specs.Layouts.{most_role}
+use Rattle.bl_image.specs.Layouts.{max_role}
 use Rattle.bl_image.proofs.Inputs.{comes_as}
 use Rattle.bl_image.proofs.NumbersAgain.{role_fits, role_between}
 use Rattle.bl_image.proofs.FieldLemmas.{field_cut, field_shows, word_tells}
@@ -19,18 +19,18 @@ returns-in_err-number-clause-field g c =
     let p = err_from_is_err_and c.from_residual.result c.from_residual.ensures.1 in
     rw (p.1, p.2)
     (λ fields.
-    field_cut (role_field (most_role c.args.wide) c.args.part) fields _ _ _ c.in_err-number.ensures.cut)
+    field_cut (role_field (max_role c.args.wide) c.args.part) fields _ _ _ c.in_err-number.ensures.cut)
 
 pub returns-in_default-clause-field : goal.returns-in_default-clause-field
 unfolding role_field
 returns-in_default-clause-field g c =
     let n = c.in_ok-number.number in
     let fails =
-    word_tells (λ k. nat_le 1 k && nat_le k (most_role c.args.wide)) (BadPart c.args.part) n false
+    word_tells (λ k. nat_le 1 k && nat_le k (max_role c.args.wide)) (BadPart c.args.part) n false
     c.in_ok-number.ensures.fits
-    (not_between 1 n (most_role c.args.wide) c.in_default.ensures.number) in
+    (not_between 1 n (max_role c.args.wide) c.in_default.ensures.number) in
     λ fields.
-    field_shows (role_field (most_role c.args.wide) c.args.part) fields _ _ (u32_bytes n)
+    field_shows (role_field (max_role c.args.wide) c.args.part) fields _ _ (u32_bytes n)
     c.in_ok-number.ensures.ok
     (length-u32_bytes n) fails
 
@@ -43,7 +43,7 @@ returns-clause-field g c =
       comes = comes_as (ap u32_bytes (sym is)) c.in_ok-number.ensures.ok;
       size = length-u32_bytes _;
       passes =
-          word_tells (λ k. nat_le 1 k && nat_le k (most_role c.args.wide))
+          word_tells (λ k. nat_le 1 k && nat_le k (max_role c.args.wide))
           (BadPart c.args.part) _ true
           (role_fits c.in-Some.role)
           (role_between c.args.wide c.in-Some.role c.in-Some.ensures.may);

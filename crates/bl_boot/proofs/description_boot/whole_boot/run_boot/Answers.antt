@@ -8,7 +8,7 @@ use Rattle.bl_boot.specs.Ends.{names_fetched, names_sought}
 use Rattle.bl_session.specs.Stores.{file_of}
 use Rattle.bl_desc.specs.Views.{view}
 use Rattle.bl_session.proofs.MenuLemmas.{offered_values}
-use Rattle.bl_boot.specs.Attempted.{boot_of, most_names, names_in}
+use Rattle.bl_boot.specs.Attempted.{boot_of, max_names, names_in}
 use Rattle.bl_boot.proofs.EndLemmas.{inline_in, sought, fetched, ends_by, asked_by, asked_without}
 use Rattle.bl_boot.proofs.EndLemmas.{none_asked, none_missing}
 use Rattle.bl_boot.proofs.NameLemmas.{as_many}
@@ -64,7 +64,7 @@ returns-in_err-description g c =
       same_files = λ file answer told. told;
       missing = none_missing (g.F.Files.faults c.args.files.now)
           (length (names_sought (described c.args.desc.now)));
-      few = (none_missing (g.F.Files.faults c.args.files.now) most_names).1;
+      few = (none_missing (g.F.Files.faults c.args.files.now) max_names).1;
     })
 
 pub returns-in_err-machine : goal.returns-in_err-machine
@@ -86,7 +86,7 @@ returns-in_err-machine g c =
       same_files = λ file answer told. told;
       missing = none_missing (g.F.Files.faults c.args.files.now)
           (length (names_sought (described c.args.desc.now)));
-      few = (none_missing (g.F.Files.faults c.args.files.now) most_names).1;
+      few = (none_missing (g.F.Files.faults c.args.files.now) max_names).1;
     })
 
 pub returns-in_err-found-clause-ends : goal.returns-in_err-found-clause-ends
@@ -186,7 +186,7 @@ returns-in_err-names g c =
       same_files = λ file answer told. told;
       missing = none_missing (g.F.Files.faults c.args.files.now)
           (length (names_sought (described c.args.desc.now)));
-      few = (none_missing (g.F.Files.faults c.args.files.now) most_names).1;
+      few = (none_missing (g.F.Files.faults c.args.files.now) max_names).1;
     })
 
 pub returns-in_err-menu : goal.returns-in_err-menu
@@ -204,7 +204,7 @@ returns-in_err-menu g c =
       same_files = λ file answer told. told;
       missing = none_missing (g.F.Files.faults c.args.files.now)
           (length (names_sought (described c.args.desc.now)));
-      few = (none_missing (g.F.Files.faults c.args.files.now) most_names).1;
+      few = (none_missing (g.F.Files.faults c.args.files.now) max_names).1;
     })
 
 pub returns-in_err-memory : goal.returns-in_err-memory
@@ -222,7 +222,7 @@ returns-in_err-memory g c =
       same_files = λ file answer told. told;
       missing = none_missing (g.F.Files.faults c.args.files.now)
           (length (names_sought (described c.args.desc.now)));
-      few = (none_missing (g.F.Files.faults c.args.files.now) most_names).1;
+      few = (none_missing (g.F.Files.faults c.args.files.now) max_names).1;
     })
 
 pub returns-in_err-found-clause-asked : goal.returns-in_err-found-clause-asked

@@ -4,7 +4,7 @@ use Rattle.std.proofs.lemmas.Result.{err_from_is_err_and}
 use Rattle.bl_desc.specs.Described.{described}
 use Rattle.bl_desc.specs.Views.{view}
 use Rattle.bl_boot.specs.Ends.{names_fetched, names_sought}
-use Rattle.bl_boot.specs.Attempted.{most_names, names_in}
+use Rattle.bl_boot.specs.Attempted.{max_names, names_in}
 use Rattle.bl_boot.proofs.EndLemmas.{fetched, inline_in, none_asked, none_missing}
 use Rattle.bl_boot.proofs.EndLemmas.{sought}
 use Rattle.bl_boot.proofs.ExplainEnds.{explain_asked, explained_by, unmade, unread}
@@ -64,7 +64,7 @@ returns-in_err-description g c =
       same_files = λ file answer told. told;
       missing = none_missing (g.F.Files.faults c.args.files.now)
           (length (names_sought (described c.args.desc.now)));
-      few = (none_missing (g.F.Files.faults c.args.files.now) most_names).1;
+      few = (none_missing (g.F.Files.faults c.args.files.now) max_names).1;
     })
 
 pub returns-in_err-machine : goal.returns-in_err-machine
@@ -84,7 +84,7 @@ returns-in_err-machine g c =
       same_files = λ file answer told. told;
       missing = none_missing (g.F.Files.faults c.args.files.now)
           (length (names_sought (described c.args.desc.now)));
-      few = (none_missing (g.F.Files.faults c.args.files.now) most_names).1;
+      few = (none_missing (g.F.Files.faults c.args.files.now) max_names).1;
     })
 
 pub returns-in_err-names : goal.returns-in_err-names
@@ -101,7 +101,7 @@ returns-in_err-names g c =
       same_files = λ file answer told. told;
       missing = none_missing (g.F.Files.faults c.args.files.now)
           (length (names_sought (described c.args.desc.now)));
-      few = (none_missing (g.F.Files.faults c.args.files.now) most_names).1;
+      few = (none_missing (g.F.Files.faults c.args.files.now) max_names).1;
     })
 
 pub returns-in_err-menu : goal.returns-in_err-menu
@@ -118,7 +118,7 @@ returns-in_err-menu g c =
       same_files = λ file answer told. told;
       missing = none_missing (g.F.Files.faults c.args.files.now)
           (length (names_sought (described c.args.desc.now)));
-      few = (none_missing (g.F.Files.faults c.args.files.now) most_names).1;
+      few = (none_missing (g.F.Files.faults c.args.files.now) max_names).1;
     })
 
 pub returns-in_err-memory : goal.returns-in_err-memory
@@ -135,7 +135,7 @@ returns-in_err-memory g c =
       same_files = λ file answer told. told;
       missing = none_missing (g.F.Files.faults c.args.files.now)
           (length (names_sought (described c.args.desc.now)));
-      few = (none_missing (g.F.Files.faults c.args.files.now) most_names).1;
+      few = (none_missing (g.F.Files.faults c.args.files.now) max_names).1;
     })
 
 pub returns-in_err-found-clause-ends : goal.returns-in_err-found-clause-ends
