@@ -5,9 +5,9 @@
 //!
 //! FILEs are the modules, which have no lines, or the initial ramdisk. The numbers are those of a boot description, decimal
 //! or hexadecimal; the regions are ascending, apart, and none adjoins one of its kind, so that they are the machine's map
-//! as they stand. `pool` stages the files in frames of a pool and loads them from there, `straight` loads them from where
-//! they were read. The image is, byte for byte, the one that `bootcore boot` writes. A Multiboot2 kernel that may be moved
-//! is refused: it is no part of what is measured.
+//! as they stand. `pool` stages the files in frames of the machine's pool, moves each frame that a part meets, and loads
+//! them from there; `straight` loads them from where they were read. The image is, byte for byte, the one that `bootcore
+//! boot` writes. A Multiboot2 kernel that may be moved is refused: it is no part of what is measured.
 
 mod elf;
 mod header;
@@ -52,8 +52,11 @@ fn boot(is_staged: bool, entry: &Entry<'_>, image: &str, machine: &Machine) -> A
 
     let mut memory = vec![machine.fill; machine.size as usize];
     if is_staged {
-        let pool = (machine.pool.end - machine.pool.start) as usize;
-        load_parts(&mut memory, &Staged::new(&files, pool), &parts);
+        let pool = machine.pool.start as usize..machine.pool.end as usize;
+        let mut staged = Staged::new(&mut memory, pool, &files);
+        let ranges: Vec<_> = parts.iter().map(|part| part.range()).collect();
+        staged.make_way(&mut memory, &ranges);
+        load_parts(&mut memory, &staged, &parts);
     } else {
         load_parts(&mut memory, files.as_slice(), &parts);
     }

@@ -3,8 +3,8 @@
 //!
 //!     plain_boot own|memory KERNEL INITRD ROUNDS
 //!
-//! With `own` each boot takes its pool from the allocator, as `plain pool` does. With `memory` the pool lies in the memory that
-//! is booted, as that of `bootcore_boot` does, so that after the first boot no page is new.
+//! With `own` each boot takes its pool from the allocator. With `memory` the pool lies in the memory that is booted, as those of
+//! `plain pool` and `bootcore_boot` do, so that after the first boot no page is new.
 #![allow(dead_code)]
 
 mod image;
@@ -17,9 +17,9 @@ mod staging;
 mod words;
 
 use loading::load_parts;
-use machine::{Machine, Region, FRAME};
-use places::{check_room, Content, Part, INITRD};
-use staging::Staged;
+use machine::{Machine, Region};
+use places::{check_room, INITRD};
+use staging::{Staged, StagedApart};
 use std::{env, fs};
 
 const SIZE: usize = 0x2000_0000;
@@ -36,42 +36,6 @@ fn machine() -> Machine {
     }
 }
 
-/// Puts the files into frames of the pool one after the other, and answers where each begins.
-fn stage(memory: &mut [u8], files: &[Vec<u8>]) -> Vec<usize> {
-    let mut at = POOL;
-    let mut starts = Vec::new();
-    for file in files {
-        starts.push(at);
-        for piece in file.chunks(FRAME) {
-            memory[at..at + piece.len()].copy_from_slice(piece);
-            at += FRAME;
-        }
-    }
-    starts
-}
-
-/// Copies each part frame by frame from the pool, and clears what is behind it. No part meets the pool.
-fn load_within(memory: &mut [u8], starts: &[usize], parts: &[Part]) {
-    for part in parts {
-        let (start, end) = (part.address as usize, (part.address + part.length) as usize);
-        let count = match &part.content {
-            Content::Own(bytes) => {
-                memory[start..start + bytes.len()].copy_from_slice(bytes);
-                bytes.len()
-            }
-            Content::File { file, offset, count } => {
-                let (from, count) = (starts[*file] + *offset as usize, *count as usize);
-                for done in (0..count).step_by(FRAME) {
-                    let step = FRAME.min(count - done);
-                    memory.copy_within(from + done..from + done + step, start + done);
-                }
-                count
-            }
-        };
-        memory[start + count..end].fill(0);
-    }
-}
-
 fn main() {
     let words: Vec<String> = env::args().collect();
     let files = vec![fs::read(&words[2]).unwrap(), fs::read(&words[3]).unwrap()];
@@ -82,10 +46,10 @@ fn main() {
         let (parts, _) = linux::parts_of(&machine, "", &files).unwrap();
         check_room(&machine, &parts, &files).unwrap();
         if words[1] == "own" {
-            load_parts(&mut memory, &Staged::new(&files, POOL_END - POOL), &parts);
+            load_parts(&mut memory, &StagedApart::new(&files, POOL_END - POOL), &parts);
         } else {
-            let starts = stage(&mut memory, &files);
-            load_within(&mut memory, &starts, &parts);
+            let staged = Staged::new(&mut memory, POOL..POOL_END, &files);
+            load_parts(&mut memory, &staged, &parts);
         }
         let initrd = parts.iter().find(|part| part.role == INITRD).unwrap();
         println!("{round} {}", memory[(initrd.address + round) as usize]);

@@ -9,7 +9,7 @@
 #   modules   a small Multiboot2 kernel with 64 modules of 4 MiB
 #   linux     a Linux kernel of 10 MiB with an initial ramdisk of 200 MiB and a byte
 #   moved     the kernel of 60 MiB, where the pool begins with the kernel's own addresses: each of its frames is moved before
-#             it is loaded. The plain programs move nothing
+#             it is loaded
 #
 # The program under test is the argument, else the variable BOOTCORE, else crates/bootcore/out/bootcore; where it
 # does not stand its row is left out. Needs bash 5, coreutils and awk; the plain programs need rustc, without which
@@ -19,7 +19,7 @@
 #   cp                a copy of the entry's files, by coreutils
 #   plain copy        the same by a loop in Rust
 #   plain, straight   a boot in plain Rust that loads the files from where they were read (plain.rs)
-#   plain, pool       the same, by way of a pool of frames
+#   plain, pool       the same, by way of the frames of the machine's pool, of which those that a part meets are moved
 #   bootcore          the program under test
 #   bootcore, reverse the same, with the pieces of the files in reverse order
 #

@@ -3,7 +3,7 @@ use Rattle.std.specs.Prelude.{◌≡◌, ℕ, List, Result, Ok, Err}
 use Rattle.bl_load.specs.Handover.{Handover}
 use Rattle.bl_image.specs.ImageFaults.{image_fault}
 use Rattle.bl_image.specs.ImageParts.{IsImage}
-use Rattle.bl_image.specs.Source.{RefusesBytes}
+use Rattle.bl_image.specs.Source.{IsBytesFault}
 use Rattle.bl_image.specs.declared.version.Version.{Version}
 use Rattle.bl_walk.specs.Faults.{HasWalkFault, IsSound}
 use Rattle.bl_walk.specs.Seen.{IsSeen}
@@ -31,7 +31,7 @@ pub record HasFaultInImage (bytes : List ℕ) (fault : WalkFault) : Type 0 where
   pub has : HasWalkFault image fault
 
 abbrev pub IsNotWalked : List ℕ → WalkStop → Type 0
-IsNotWalked bytes (NoImage fault) = RefusesBytes image_fault bytes fault
+IsNotWalked bytes (NoImage fault) = IsBytesFault image_fault bytes fault
 IsNotWalked bytes (NotWalked fault) = HasFaultInImage bytes fault
 
 abbrev pub IsWalkEnd : List ℕ → Result WalkRecordsFacts WalkStop → Type 0

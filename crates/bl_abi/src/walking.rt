@@ -2,7 +2,7 @@
 ghost use Rattle.std.specs.Prelude.{MatchResult, Result};
 ghost use Rattle.bl_image.specs.ImageFaults.{image_fault};
 ghost use Rattle.bl_image.specs.ImageParts.{IsImage};
-ghost use Rattle.bl_image.specs.Source.{RefusesBytes};
+ghost use Rattle.bl_image.specs.Source.{IsBytesFault};
 ghost use Rattle.bl_image.specs.declared.version.Version.{Version};
 ghost use Rattle.bl_abi.specs.SeenTold.{WalkRecordsFacts};
 ghost use Rattle.bl_abi.specs.Walk as ends;
@@ -24,7 +24,7 @@ use std::alloc::Allocator;
 fn read_bytes<A: Allocator + Copy>(alloc: A, bytes: &[u8]) -> Result<Image<A>, ImageFault>
     ensures { MatchResult result
         (λ image. (version : Version) × IsImage version bytes.now image)
-        (RefusesBytes image_fault bytes.now) }
+        (IsBytesFault image_fault bytes.now) }
 {
     let mut source = IoSource::new(bytes);
     read_image(alloc, &mut source)

@@ -7,7 +7,7 @@ use Rattle.bl_image.specs.ImageFaults.{image_fault}
 use Rattle.bl_image.specs.ImageParts.{IsKeptByImages}
 use Rattle.bl_image.specs.Faults.{image_fault_number}
 use Rattle.bl_image.specs.Versions.{HasProtocol}
-use Rattle.bl_image.specs.Source.{Input, Comes, IsEnded, RefusesInput}
+use Rattle.bl_image.specs.Source.{Input, Comes, IsEnded, IsInputFault}
 use Rattle.bl_image.specs.declared.fault.ImageFault.{ImageFault}
 use Rattle.bl_image.specs.declared.fault.ImageFault.TheVariants as image
 use Rattle.bl_walk.specs.Seen.{IsSeen}
@@ -40,7 +40,7 @@ pub record IsNoImage (before after : Input) (number : ℕ) : Type 0 where
   pub fault : ImageFault
   pub no_device : fault ≢ image.DeviceFault
   pub no_memory : fault ≢ image.NoMemory
-  pub shown : RefusesInput image_fault before after fault
+  pub shown : IsInputFault image_fault before after fault
   pub numbered : number ≡ image_fault_number fault
 
 -- an image came in which a kernel sees nothing, for a fault of this number

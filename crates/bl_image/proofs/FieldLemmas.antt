@@ -13,7 +13,7 @@ use Rattle.bl_image.specs.declared.fault.ImageFault.TheVariants.{BadMagic, BadVe
 use Rattle.bl_image.specs.declared.fault.ImageFault.TheVariants.{BadPart, WrongLength, DeviceFault}
 use Rattle.bl_image.specs.declared.fault.ImageFault.TheVariants.{NoMemory}
 use Rattle.bl_image.specs.Fields.{Field, u32_field, u64_field, fields_fault}
-use Rattle.bl_image.specs.Source.{Input, Comes, MayFollow, Shows, RefusesInput}
+use Rattle.bl_image.specs.Source.{Input, Comes, MayFollow, Shows, IsInputFault}
 use Rattle.bl_image.specs.SourceKept.{EndsEarly, IsCut, Passes}
 use Rattle.bl_image.proofs.Inputs.{comes_nothing, comes_more}
 
@@ -62,7 +62,7 @@ field_short field fields bytes short =
 
 -- what shows a fault refuses
 pub shown : (fault_in : List ℕ → Option ImageFault) (old new : Input) (fault : ImageFault)
-    → Shows fault_in old new fault → RefusesInput fault_in old new fault
+    → Shows fault_in old new fault → IsInputFault fault_in old new fault
 shown fault_in old new BadMagic s = s
 shown fault_in old new BadVersion s = s
 shown fault_in old new BadHeader s = s
@@ -92,7 +92,7 @@ ended_shows fault_in old new count short ends = record {
 pub cut_refuses : (fault_in : List ℕ → Option ImageFault) (old new : Input) (count : ℕ)
     (fault : ImageFault)
     → ((bytes : List ℕ) → length bytes < count → fault_in bytes ≡ Some WrongLength)
-    → IsCut old new count fault → RefusesInput fault_in old new fault
+    → IsCut old new count fault → IsInputFault fault_in old new fault
 cut_refuses fault_in old new count BadMagic short h = absurd h
 cut_refuses fault_in old new count BadVersion short h = absurd h
 cut_refuses fault_in old new count BadHeader short h = absurd h
@@ -103,7 +103,7 @@ cut_refuses fault_in old new count NoMemory short h = tt
 
 -- the same for a field
 pub field_cut : (field : Field) (fields : List Field) (old new : Input) (fault : ImageFault)
-    → IsCut old new field.size fault → RefusesInput (fields_fault (field ∷ fields)) old new fault
+    → IsCut old new field.size fault → IsInputFault (fields_fault (field ∷ fields)) old new fault
 field_cut field fields old new fault h =
     cut_refuses (fields_fault (field ∷ fields)) old new field.size fault
     (λ bytes short. field_short field fields bytes short) h
@@ -159,8 +159,8 @@ passed_shows {fault_in = fault_in} p s = record {
 
 -- what is refused after it is refused
 pub passed_refuses : {fault_in left : List ℕ → Option ImageFault} {old mid : Input}
-    → Passed fault_in old mid left → (new : Input) (fault : ImageFault) → RefusesInput left mid new fault
-    → RefusesInput fault_in old new fault
+    → Passed fault_in old mid left → (new : Input) (fault : ImageFault) → IsInputFault left mid new fault
+    → IsInputFault fault_in old new fault
 passed_refuses p new BadMagic s = passed_shows p s
 passed_refuses p new BadVersion s = passed_shows p s
 passed_refuses p new BadHeader s = passed_shows p s

@@ -4,7 +4,7 @@ use Rattle.std.proofs.Common.{refl, sym, ap, ◌∙◌, arith, subst, append_ass
 use Rattle.std.specs.Prelude.{replicate}
 use Rattle.bl_image.specs.declared.fault.ImageFault.{ImageFault}
 use Rattle.bl_image.specs.Fields.{Field, fields_fault}
-use Rattle.bl_image.specs.Source.{Input, RefusesInput}
+use Rattle.bl_image.specs.Source.{Input, IsInputFault}
 use Rattle.bl_image.specs.SourceKept.{Passes, PassAll}
 use Rattle.bl_image.proofs.FieldLemmas.{field_passes, passed_refuses}
 use Rattle.bl_image.proofs.Inputs.{comes_nothing, comes_more}
@@ -45,10 +45,10 @@ pass_as {old} {new} f a b same passed =
 -- what is refused behind fields that passed is refused
 pub refused_behind : {old mid : Input} (f g : List Field) (a : List ℕ) → PassAll f old mid a
     → (new : Input) (fault : ImageFault)
-    → ((others : List Field) → RefusesInput (fields_fault (g ++ others)) mid new fault)
-    → (others : List Field) → RefusesInput (fields_fault ((f ++ g) ++ others)) old new fault
+    → ((others : List Field) → IsInputFault (fields_fault (g ++ others)) mid new fault)
+    → (others : List Field) → IsInputFault (fields_fault ((f ++ g) ++ others)) old new fault
 refused_behind {old} {mid} f g a passed new fault refused others =
-    subst (λ (fs : List Field). RefusesInput (fields_fault fs) old new fault)
+    subst (λ (fs : List Field). IsInputFault (fields_fault fs) old new fault)
     (sym (append_assoc f g others))
     (passed_refuses
     record { done = a; comes = passed.comes; on = passed.on (g ++ others) } new fault
@@ -56,10 +56,10 @@ refused_behind {old} {mid} f g a passed new fault refused others =
 
 -- and what is refused whatever follows is refused before others
 pub refused_before : (old : Input) (f g : List Field) (new : Input) (fault : ImageFault)
-    → ((others : List Field) → RefusesInput (fields_fault (f ++ others)) old new fault)
-    → (others : List Field) → RefusesInput (fields_fault ((f ++ g) ++ others)) old new fault
+    → ((others : List Field) → IsInputFault (fields_fault (f ++ others)) old new fault)
+    → (others : List Field) → IsInputFault (fields_fault ((f ++ g) ++ others)) old new fault
 refused_before old f g new fault refused others =
-    subst (λ (fs : List Field). RefusesInput (fields_fault fs) old new fault)
+    subst (λ (fs : List Field). IsInputFault (fields_fault fs) old new fault)
     (sym (append_assoc f g others)) (refused (g ++ others))
 
 -- ---- the same field several times
@@ -78,13 +78,13 @@ replicate_more n x = replicate_both n 1 x
 -- one that is refused after so many of it
 pub refused_among : {old mid : Input} (field : Field) (i n : ℕ) (a : List ℕ) → i < n
     → PassAll (replicate i field) old mid a → (new : Input) (fault : ImageFault)
-    → ((others : List Field) → RefusesInput (fields_fault (field ∷ others)) mid new fault)
-    → (others : List Field) → RefusesInput (fields_fault (replicate n field ++ others)) old new fault
+    → ((others : List Field) → IsInputFault (fields_fault (field ∷ others)) mid new fault)
+    → (others : List Field) → IsInputFault (fields_fault (replicate n field ++ others)) old new fault
 refused_among {old} field i n a below passed new fault refused others =
     let rest = n - (i + 1) in
     let is : replicate n field ≡ replicate i field ++ (field ∷ replicate rest field) =
     ap (λ (k : ℕ). replicate k field) (omega (arith, below))
     ∙ replicate_both i (suc rest) field in
-    subst (λ (fs : List Field). RefusesInput (fields_fault (fs ++ others)) old new fault) (sym is)
+    subst (λ (fs : List Field). IsInputFault (fields_fault (fs ++ others)) old new fault) (sym is)
     (refused_behind (replicate i field) (field ∷ replicate rest field) a passed new fault
     (λ more. refused (replicate rest field ++ more)) others)

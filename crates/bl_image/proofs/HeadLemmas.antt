@@ -15,7 +15,7 @@ use Rattle.bl_image.specs.Fields.{fields_fault, opening_fields, magic_field, ver
 use Rattle.bl_image.specs.Fields.{protocol_field}
 use Rattle.bl_image.specs.ImageFaults.{first, head_fault}
 use Rattle.bl_image.specs.Layouts.{layout, layout_of, layout_fields}
-use Rattle.bl_image.specs.Source.{Input, Comes, RefusesInput}
+use Rattle.bl_image.specs.Source.{Input, Comes, IsInputFault}
 use Rattle.bl_image.specs.Versions.{version_number, max_protocol, HasProtocol}
 use Rattle.bl_image.proofs.FieldLemmas.{field_passes, word_tells, Passed, passed_more}
 use Rattle.bl_image.proofs.FieldLemmas.{passed_refuses}
@@ -122,7 +122,7 @@ told_passed v p has passed comes =
 -- ---- faults of the head's beginning are faults of the head
 
 pub opening_refuses : (old new : Input) (fault : ImageFault)
-    → RefusesInput (fields_fault opening_fields) old new fault → RefusesInput head_fault old new fault
+    → IsInputFault (fields_fault opening_fields) old new fault → IsInputFault head_fault old new fault
 unfolding head_fault
 opening_refuses old new fault s =
     first_refuses (fields_fault opening_fields)
@@ -132,8 +132,8 @@ opening_refuses old new fault s =
 
 pub protocol_refuses : {old mid : Input} (version : ℕ)
     → Passed head_fault old mid (after_version version) → (new : Input) (fault : ImageFault)
-    → RefusesInput (fields_fault (protocol_field version ∷ [])) mid new fault
-    → RefusesInput head_fault old new fault
+    → IsInputFault (fields_fault (protocol_field version ∷ [])) mid new fault
+    → IsInputFault head_fault old new fault
 protocol_refuses {mid = mid} version passed new fault s =
     passed_refuses passed new fault
     (first_refuses (fields_fault (protocol_field version ∷ []))

@@ -24,7 +24,7 @@ use Rattle.bl_image.specs.ImageFaults.{Before, and_record, parts_fault, end_faul
 use Rattle.bl_image.specs.ImageFaults.{image_fault}
 use Rattle.bl_image.specs.ImageParts.{part_place, PartAscends, IsKeptByImages, IsImage}
 use Rattle.bl_image.specs.RecordsKept.{IsNext}
-use Rattle.bl_image.specs.Source.{RefusesBytes, Input, IsOfTheMoment, RefusesInput}
+use Rattle.bl_image.specs.Source.{IsBytesFault, Input, IsOfTheMoment, IsInputFault}
 use Rattle.bl_image.proofs.FrontLemmas.{head_front}
 use Rattle.bl_image.proofs.KnownLemmas.{fails_known}
 use Rattle.bl_image.proofs.PartLemmas.{all_bytes, all_under, related_under}
@@ -103,7 +103,7 @@ no_fault : (bytes : List ℕ) (fault : ImageFault) → image_fault bytes ≡ Non
 no_fault bytes fault e f = let both : None ≡ Some fault = sym e ∙ f in cc
 
 refused_for_now : (bytes : List ℕ) (fault : ImageFault) → image_fault bytes ≡ None
-    → RefusesBytes image_fault bytes fault → IsOfTheMoment fault
+    → IsBytesFault image_fault bytes fault → IsOfTheMoment fault
 refused_for_now bytes BadMagic e f = no_fault bytes BadMagic e f
 refused_for_now bytes BadVersion e f = no_fault bytes BadVersion e f
 refused_for_now bytes BadHeader e f = no_fault bytes BadHeader e f
@@ -115,7 +115,7 @@ refused_for_now bytes NoMemory e f = tt
 -- an image is read as what it spells
 pub accepted_by : (r : Result Handover ImageFault) (bytes : List ℕ)
     → MatchResult r (λ image. (version : Version) × IsImage version bytes image)
-    (RefusesBytes image_fault bytes)
+    (IsBytesFault image_fault bytes)
     → (version : Version) (handover : Handover) → IsImage version bytes handover
     → MatchResult r (λ image. image ≡ handover) IsOfTheMoment
 accepted_by (Ok image) bytes read version handover is =
@@ -128,7 +128,7 @@ accepted_by (Err fault) bytes fails version handover is =
 -- and is refused for nothing that its bytes say
 pub image_not_refused : (old new : Input) (fault : ImageFault) (bytes : List ℕ) (version : Version)
     (handover : Handover) → IsImage version bytes handover → old.rest ≡ Some bytes
-    → RefusesInput image_fault old new fault → IsOfTheMoment fault
+    → IsInputFault image_fault old new fault → IsOfTheMoment fault
 image_not_refused old new fault bytes version handover is e refuses =
     refused_for_now bytes fault
     (ap image_fault is.is ∙ image_sound version handover is.has is.kept)

@@ -14,7 +14,7 @@ use Rattle.bl_image.specs.Image.{spelling}
 use Rattle.bl_image.specs.ImageFaults.{image_fault}
 use Rattle.bl_image.specs.ImageParts.{IsKeptByImages, IsImage}
 use Rattle.bl_image.specs.Versions.{HasProtocol}
-use Rattle.bl_image.specs.Source.{Input, Comes, IsEnded, MayFollow, Shows, RefusesInput, RefusesBytes}
+use Rattle.bl_image.specs.Source.{Input, Comes, IsEnded, MayFollow, Shows, IsInputFault, IsBytesFault}
 
 all_came : (old new : Option (List ℕ)) (came bytes : List ℕ) → old ≡ Some bytes → new ≡ Some []
     → Consumes old new came → bytes ≡ came
@@ -38,7 +38,7 @@ shows_known fault_in old new fault bytes e s =
     ap fault_in f.2 ∙ s.shown f.0 f.1
 
 pub fails_known : (old new : Input) (fault : ImageFault) (bytes : List ℕ) → old.rest ≡ Some bytes
-    → RefusesInput image_fault old new fault → RefusesBytes image_fault bytes fault
+    → IsInputFault image_fault old new fault → IsBytesFault image_fault bytes fault
 fails_known old new BadMagic bytes e s = shows_known image_fault old new BadMagic bytes e s
 fails_known old new BadVersion bytes e s = shows_known image_fault old new BadVersion bytes e s
 fails_known old new BadHeader bytes e s = shows_known image_fault old new BadHeader bytes e s
@@ -66,9 +66,9 @@ known_ok image old new comes ended kept bytes e = (
 
 -- an error is their first fault
 pub known_err : (r : Result Handover ImageFault) (old new : Input) (P : ImageFault → Type 0)
-    → IsErrAnd r P → IfErr r (RefusesInput image_fault old new)
+    → IsErrAnd r P → IfErr r (IsInputFault image_fault old new)
     → (bytes : List ℕ) → old.rest ≡ Some bytes
     → MatchResult r (λ image. (version : Version) × IsImage version bytes image)
-    (RefusesBytes image_fault bytes)
+    (IsBytesFault image_fault bytes)
 known_err (Ok image) old new P is refused bytes e = absurd is
 known_err (Err fault) old new P is refused bytes e = fails_known old new fault bytes e refused

@@ -18,7 +18,7 @@ use Rattle.bl_image.specs.RecordsKept.{place_record, IsNext}
 use Rattle.bl_image.specs.Fields.{Field, fields_fault, record_fields, role_field, index_field}
 use Rattle.bl_image.specs.Fields.{address_field, length_field}
 use Rattle.bl_image.specs.ImageFaults.{first, record_fault, Before, and_record, parts_fault}
-use Rattle.bl_image.specs.Source.{Input, Shows, RefusesInput}
+use Rattle.bl_image.specs.Source.{Input, Shows, IsInputFault}
 use Rattle.bl_image.proofs.NumbersAgain.{role_fits, role_between}
 use Rattle.bl_image.proofs.FieldLemmas.{field_passes, word_tells, long_tells}
 
@@ -35,7 +35,7 @@ shows_as fault_in other old new fault e s = record {
 pub refuses_as : (fault_in other : List ℕ → Option ImageFault) (old new : Input)
     (fault : ImageFault)
     → ((bytes : List ℕ) → fault_in bytes ≡ Some fault → other bytes ≡ Some fault)
-    → RefusesInput fault_in old new fault → RefusesInput other old new fault
+    → IsInputFault fault_in old new fault → IsInputFault other old new fault
 refuses_as fault_in other old new BadMagic e s = shows_as fault_in other old new BadMagic e s
 refuses_as fault_in other old new BadVersion e s = shows_as fault_in other old new BadVersion e s
 refuses_as fault_in other old new BadHeader e s = shows_as fault_in other old new BadHeader e s
@@ -47,16 +47,16 @@ refuses_as fault_in other old new NoMemory e s = tt
 
 -- a fault in what comes first
 pub first_refuses : (fault_in later : List ℕ → Option ImageFault) (old new : Input)
-    (fault : ImageFault) → RefusesInput fault_in old new fault
-    → RefusesInput (λ bytes. first (fault_in bytes) (later bytes)) old new fault
+    (fault : ImageFault) → IsInputFault fault_in old new fault
+    → IsInputFault (λ bytes. first (fault_in bytes) (later bytes)) old new fault
 first_refuses fault_in later old new fault s =
     refuses_as fault_in (λ bytes. first (fault_in bytes) (later bytes)) old new fault
     (λ bytes e. ap (λ (o : Option ImageFault). first o (later bytes)) e) s
 
 -- a record's fault among the records that are left
 pub record_refuses : (most n : ℕ) (before : Before) (old new : Input) (fault : ImageFault)
-    → RefusesInput (record_fault most before.count before.end) old new fault
-    → RefusesInput (parts_fault most (suc n) before) old new fault
+    → IsInputFault (record_fault most before.count before.end) old new fault
+    → IsInputFault (parts_fault most (suc n) before) old new fault
 record_refuses most n before old new fault s =
     first_refuses (record_fault most before.count before.end)
     (λ bytes.

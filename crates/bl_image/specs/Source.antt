@@ -34,16 +34,16 @@ pub record Shows (fault_in : FaultIn) (old new : Input) (fault : ImageFault) : T
   pub shown : (bytes : List ℕ) → MayFollow new.rest bytes → fault_in (came ++ bytes) ≡ Some fault
 
 -- a fault of what came; but a device may fail and memory run out at any time
-abbrev pub RefusesInput : FaultIn → Input → Input → ImageFault → Type 0
-RefusesInput fault_in old new DeviceFault = Unit {0}
-RefusesInput fault_in old new NoMemory = Unit {0}
-RefusesInput fault_in old new fault = Shows fault_in old new fault
+abbrev pub IsInputFault : FaultIn → Input → Input → ImageFault → Type 0
+IsInputFault fault_in old new DeviceFault = Unit {0}
+IsInputFault fault_in old new NoMemory = Unit {0}
+IsInputFault fault_in old new fault = Shows fault_in old new fault
 
 -- the same of bytes that are known
-abbrev pub RefusesBytes : FaultIn → List ℕ → ImageFault → Type 0
-RefusesBytes fault_in bytes DeviceFault = Unit {0}
-RefusesBytes fault_in bytes NoMemory = Unit {0}
-RefusesBytes fault_in bytes fault = fault_in bytes ≡ Some fault
+abbrev pub IsBytesFault : FaultIn → List ℕ → ImageFault → Type 0
+IsBytesFault fault_in bytes DeviceFault = Unit {0}
+IsBytesFault fault_in bytes NoMemory = Unit {0}
+IsBytesFault fault_in bytes fault = fault_in bytes ≡ Some fault
 
 -- a fault that says nothing of the bytes
 abbrev pub IsOfTheMoment : ImageFault → Type 0

@@ -3,7 +3,7 @@ use Rattle.std.specs.Prelude.{◌≡◌, ◌<◌, ℕ, true, List, ◌∷◌, �
 use Rattle.bl_image.specs.declared.fault.ImageFault.{ImageFault}
 use Rattle.bl_image.specs.declared.fault.ImageFault.TheVariants.{WrongLength, DeviceFault, NoMemory}
 use Rattle.bl_image.specs.Fields.{Field, fields_fault}
-use Rattle.bl_image.specs.Source.{Input, Comes, IsEnded, RefusesInput}
+use Rattle.bl_image.specs.Source.{Input, Comes, IsEnded, IsInputFault}
 
 -- fewer bytes came than so many, and then the input ended
 pub record EndsEarly (old new : Input) (count : ℕ) : Type 0 where
@@ -43,7 +43,7 @@ abbrev pub ReadsField : {X : Type 0} → Field → Input → Input → (X → Li
     → Type 0
 ReadsField field old new spelled result =
     MatchResult result (λ value. Passes field old new (spelled value))
-    (λ fault. (fields : List Field) → RefusesInput (fields_fault (field ∷ fields)) old new fault)
+    (λ fault. (fields : List Field) → IsInputFault (fields_fault (field ∷ fields)) old new fault)
 
 -- the same of several fields
 abbrev pub ReadsFields : {X : Type 0} → List Field → Input → Input → (X → List ℕ)
@@ -51,4 +51,4 @@ abbrev pub ReadsFields : {X : Type 0} → List Field → Input → Input → (X 
     → Type 0
 ReadsFields fields old new spelled result =
     MatchResult result (λ value. PassAll fields old new (spelled value))
-    (λ fault. (others : List Field) → RefusesInput (fields_fault (fields ++ others)) old new fault)
+    (λ fault. (others : List Field) → IsInputFault (fields_fault (fields ++ others)) old new fault)

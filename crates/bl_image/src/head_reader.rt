@@ -6,7 +6,7 @@ ghost use Rattle.bl_load.specs.HandoffFacts.{max_parts};
 ghost use Rattle.bl_image.specs.Fields as fields;
 ghost use Rattle.bl_image.specs.Image.{magic, head};
 ghost use Rattle.bl_image.specs.ImageFaults.{head_fault};
-ghost use Rattle.bl_image.specs.Source.{Comes, RefusesInput, faults_met};
+ghost use Rattle.bl_image.specs.Source.{Comes, IsInputFault, faults_met};
 ghost use Rattle.bl_image.specs.SourceKept.{ReadsField};
 ghost use Rattle.bl_image.specs.Spellable.{FitsRegisters};
 ghost use Rattle.bl_image.specs.Versions.{version_number, max_protocol, HasProtocol};
@@ -132,7 +132,7 @@ pub(crate) fn read_head<S: Source>(source: &mut S) -> Result<Head, ImageFault>
     ensures has { IfOk result (λ h. HasProtocol h.version h.protocol) }
     ensures few { IfOk result (λ h. h.count ≤ max_parts) }
     ensures refused { IfErr result
-        (RefusesInput head_fault (S.input source.old) (S.input source.new)) }
+        (IsInputFault head_fault (S.input source.old) (S.input source.new)) }
     ensures faults { S.faults source.new ≡ S.faults source.old + faults_met result }
 {
     read_magic(source)?;

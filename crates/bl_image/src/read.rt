@@ -5,7 +5,7 @@ ghost use Rattle.bl_load.specs.Handover.{Handover};
 ghost use Rattle.bl_image.specs.Image.{spelling};
 ghost use Rattle.bl_image.specs.ImageFaults.{image_fault, end_fault};
 ghost use Rattle.bl_image.specs.ImageParts.{IsKeptByImages, IsImage};
-ghost use Rattle.bl_image.specs.Source.{Comes, IsEnded, RefusesInput, RefusesBytes, faults_met};
+ghost use Rattle.bl_image.specs.Source.{Comes, IsEnded, IsInputFault, IsBytesFault, faults_met};
 ghost use Rattle.bl_image.specs.Source.{IsOfTheMoment};
 ghost use Rattle.bl_image.specs.Versions.{HasProtocol};
 ghost use Rattle.bl_image.specs.declared.version.Version.{Version};
@@ -24,7 +24,7 @@ fn read_end<S: Source>(source: &mut S) -> Result<(), ImageFault>
     ensures ok { OnOk result (Comes (S.input source.old) (S.input source.new) []) }
     ensures ended { OnOk result (IsEnded (S.input source.new)) }
     ensures refused { IfErr result
-        (RefusesInput (end_fault 0) (S.input source.old) (S.input source.new)) }
+        (IsInputFault (end_fault 0) (S.input source.old) (S.input source.new)) }
     ensures faults { S.faults source.new ≡ S.faults source.old + faults_met result }
 {
     let mut next = [0u8; 1];
@@ -53,7 +53,7 @@ pub fn read_image<S: Source, A: Allocator + Copy>(
 
     // What came has that first fault, whatever may follow.
     ensures refused { IfErr result
-        (RefusesInput image_fault (S.input source.old) (S.input source.new)) }
+        (IsInputFault image_fault (S.input source.old) (S.input source.new)) }
 
     // The source's faults rose exactly where that is the answer.
     ensures faults { S.faults source.new ≡ S.faults source.old + faults_met result }
@@ -61,7 +61,7 @@ pub fn read_image<S: Source, A: Allocator + Copy>(
     // Where it is known what is to come, that decides.
     ensures known { (bytes : List ℕ) → (S.input source.old).rest ≡ Some bytes
         → MatchResult result (λ image. (version : Version) × IsImage version bytes image)
-        (RefusesBytes image_fault bytes) }
+        (IsBytesFault image_fault bytes) }
     ensures accepts { (bytes : List ℕ) → (S.input source.old).rest ≡ Some bytes
         → (version : Version) (handover : Handover) → IsImage version bytes handover
         → MatchResult result (λ image. image ≡ handover) IsOfTheMoment }

@@ -9,7 +9,7 @@ ghost use Rattle.bl_image.specs.Fields as fields;
 ghost use Rattle.bl_image.specs.Layouts.{max_role};
 ghost use Rattle.bl_image.specs.RecordsKept.{place_record, IsNext, AreSound, bytes_at};
 ghost use Rattle.bl_image.specs.ImageFaults.{record_fault, parts_fault, end_fault, none_before};
-ghost use Rattle.bl_image.specs.Source.{Comes, RefusesInput, faults_met};
+ghost use Rattle.bl_image.specs.Source.{Comes, IsInputFault, faults_met};
 ghost use Rattle.bl_image.specs.SourceKept.{ReadsField};
 
 use crate::fault::ImageFault;
@@ -125,7 +125,7 @@ fn read_record<S: Source>(
     ensures next { IfOk result (IsNext before) }
     ensures may { IfOk result (λ place. MayStand wide place.role) }
     ensures refused { IfErr result
-        (RefusesInput (record_fault (max_role wide) part before)
+        (IsInputFault (record_fault (max_role wide) part before)
         (S.input source.old) (S.input source.new)) }
     ensures faults { S.faults source.new ≡ S.faults source.old + faults_met result }
 {
@@ -159,7 +159,7 @@ pub(crate) fn read_records<S: Source, A: Allocator>(
         → parts_fault (max_role wide) count none_before
         (flat_map place_record places.items ++ bytes)
         ≡ end_fault (bytes_at places.items) bytes) }
-    ensures refused { IfErr result (RefusesInput (parts_fault (max_role wide) count none_before)
+    ensures refused { IfErr result (IsInputFault (parts_fault (max_role wide) count none_before)
         (S.input source.old) (S.input source.new)) }
     ensures faults { S.faults source.new ≡ S.faults source.old + faults_met result }
 {

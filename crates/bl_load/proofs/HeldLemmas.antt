@@ -9,7 +9,7 @@ use Rattle.std.proofs.lemmas.List.Elements.{All-map}
 use Rattle.std.proofs.lemmas.Bool.{cases_lt}
 use Rattle.std.proofs.lemmas.Simd.{map-map}
 use Rattle.std.specs.declared.ops.Range.{Range}
-use Rattle.bl_mem.specs.Files.{AllBeside, IsBeside, text_of_file}
+use Rattle.bl_mem.specs.Files.{AllBeside, IsBeside, nth_file}
 use Rattle.bl_mem.specs.Memory.{AllHaveRoom, HasRoom}
 use Rattle.bl_plan.specs.declared.part.Place.{Place}
 use Rattle.bl_plan.specs.Placed.{Covers, place_range}
@@ -17,7 +17,7 @@ use Rattle.bl_load.specs.declared.plan.Content.{Content}
 use Rattle.bl_load.specs.declared.plan.Content.TheVariants.{Own, File, Block}
 use Rattle.bl_load.specs.declared.plan.PlannedPart.{PlannedPart}
 use Rattle.bl_load.specs.declared.plan.Plan.{Plan}
-use Rattle.bl_load.specs.Handover.{part_at, written}
+use Rattle.bl_load.specs.Handover.{placed_part, written}
 use Rattle.bl_load.specs.Place.{planned_place}
 use Rattle.bl_load.specs.PlanFacts.{content_by, bytes_by, part_by, part_in, places_of}
 use Rattle.bl_load.specs.HandoffFacts.{Ascends}
@@ -60,7 +60,7 @@ AllPairs-map R f (x ∷ xs) h i j d ij within =
 
 -- a file's length, by the list of lengths
 pub length_at : (texts : List (List ℕ)) (file : ℕ)
-    → slice_index (lengths_of texts) file ≡ length (text_of_file texts file)
+    → slice_index (lengths_of texts) file ≡ length (nth_file texts file)
 length_at texts file = get_or-map (λ (text : List ℕ). length text) texts file []
 
 -- a file of the list of lengths is one of the texts
@@ -81,7 +81,7 @@ length-content_by texts (File file offset count) there =
       | inr none ↦ search (rules, places)
     ]
 length-content_by texts (Block file segments) there =
-    length-block_of (text_of_file texts file) segments.items
+    length-block_of (nth_file texts file) segments.items
 
 -- a part has as many bytes as its place
 pub length-bytes_by : {A : Type 0} (texts : List (List ℕ)) (part : PlannedPart A)
@@ -156,7 +156,7 @@ module _ {A : Type 0} (texts : List (List ℕ)) (size : ℕ) (plan : Plan A)
       let wide : length read ≡ part.place.length = search (rules, places) in
       let this : get_or parts k (part_by texts d) ≡ part_by texts part =
       get_or-map (part_by texts) plan.parts.items k d in
-      ap (part_at part.place)
+      ap (placed_part part.place)
       (same_lists read (bytes_by texts part) (omega arith)
       (λ (j e : ℕ) (below : j < length read).
       let there =

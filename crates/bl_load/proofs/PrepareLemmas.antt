@@ -15,11 +15,11 @@ use Rattle.bl_load.specs.Reading.{Reading, IsRead}
 use Rattle.bl_load.specs.Rows.{rows_of}
 use Rattle.bl_load.specs.Parts.{IsHandover, IsPrepFault}
 use Rattle.bl_load.specs.PlacingKept.{IsPlaceFault, IsPlacedHandover}
-use Rattle.bl_mem.specs.Files.{text_of_file}
+use Rattle.bl_mem.specs.Files.{nth_file}
 
 -- the kernel's file is the first
 pub first_text : {V : Type 0} (bytes : V → List ℕ) (files : List V) (file : V) → 1 ≤ length files
-    → file ≡ get_or files 0 file → bytes file ≡ text_of_file (map bytes files) 0
+    → file ≡ get_or files 0 file → bytes file ≡ nth_file (map bytes files) 0
 first_text bytes files file some is =
     ap bytes is ∙ sym (get_or-map bytes files 0 file [] (omega arith))
 
@@ -47,7 +47,7 @@ module _ (facts : MachineFacts) (value : EntryValue) (sound : lines_fault (lines
 -- a fault of its kernel refuses an entry whose lines have none
 pub refused_multiboot2 : (facts : MachineFacts) (texts : List (List ℕ)) (line : List ℕ)
     (lines : List (List ℕ)) (old new : Option (List ℕ)) → lines_fault (line ∷ lines) ≡ None
-    → (fault : PrepFault) → IsKernelFault (text_of_file texts 0) fault
+    → (fault : PrepFault) → IsKernelFault (nth_file texts 0) fault
     → IsPrepFault facts (multiboot2_value texts line lines old new) fault
 refused_multiboot2 facts texts line lines old new sound (prep.Refused refused) has =
     inr (sound, inl (inl (refl, has)))
@@ -56,7 +56,7 @@ refused_multiboot2 facts texts line lines old new sound prep.NoMemory has = tt
 pub refused_linux : (facts : MachineFacts) (protocol : Protocol) (texts : List (List ℕ))
     (line : List ℕ) → has_params protocol ≡ true → lines_fault (line ∷ []) ≡ None
     → (fault : PrepFault)
-    → IsLinuxFault protocol facts.runs line (text_of_file texts 0) fault
+    → IsLinuxFault protocol facts.runs line (nth_file texts 0) fault
     → IsPrepFault facts (linux_value protocol texts line) fault
 refused_linux facts protocol texts line params sound (prep.Refused refused) has =
     inr (sound, inl (inr (params, has)))

@@ -33,7 +33,7 @@ use Rattle.bl_load.specs.ReadKept.{IsLinuxFault}
 use Rattle.bl_load.specs.Protocols.{has_params}
 use Rattle.bl_load.specs.declared.refusal.PrepFault.{PrepFault}
 use Rattle.bl_load.specs.declared.refusal.PrepFault.TheVariants as prep
-use Rattle.bl_mem.specs.Files.{text_of_file}
+use Rattle.bl_mem.specs.Files.{nth_file}
 use Rattle.bl_load.proofs.NoRoomLemmas as modules
 use Rattle.bl_load.proofs.LinuxToldLemmas as initrds
 use Rattle.bl_load.proofs.ReadingLemmas.{told_placed}
@@ -166,7 +166,7 @@ as_unplaced_of facts value reading (Some which) has = as_unplaced facts which va
 -- what its kernel's file refuses, where its lines have no fault
 pub reading_multiboot2 : (facts : MachineFacts) (texts : List (List ℕ)) (line : List ℕ)
     (lines : List (List ℕ)) (old new : Option (List ℕ)) → lines_fault (line ∷ lines) ≡ None
-    → (fault : PrepFault) → IsKernelFault (text_of_file texts 0) fault
+    → (fault : PrepFault) → IsKernelFault (nth_file texts 0) fault
     → IsReadingFault facts (multiboot2_value texts line lines old new) fault
 reading_multiboot2 facts texts line lines old new sound (prep.Refused refused) has =
     inr (sound, inl (refl, has))
@@ -175,7 +175,7 @@ reading_multiboot2 facts texts line lines old new sound prep.NoMemory has = tt
 pub reading_linux : (facts : MachineFacts) (protocol : Protocol) (texts : List (List ℕ))
     (line : List ℕ) → has_params protocol ≡ true → lines_fault (line ∷ []) ≡ None
     → (fault : PrepFault)
-    → IsLinuxFault protocol facts.runs line (text_of_file texts 0) fault
+    → IsLinuxFault protocol facts.runs line (nth_file texts 0) fault
     → IsReadingFault facts (linux_value protocol texts line) fault
 reading_linux facts protocol texts line params sound (prep.Refused refused) has =
     inr (sound, inr (params, has))

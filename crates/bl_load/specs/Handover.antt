@@ -23,9 +23,9 @@ pub record Handover : Type 0 where
   pub registers : Registers
   pub parts : List Part
 
--- the part at a place
-abbrev pub part_at : Place → List ℕ → Part
-part_at place bytes =
+-- the part at a place, with these bytes
+abbrev pub placed_part : Place → List ℕ → Part
+placed_part place bytes =
     record { role = place.role; index = place.index; address = place.address; bytes = bytes }
 
 -- a content and zeros after it, up to a length; one that is longer stays as it is

@@ -34,7 +34,7 @@ use Rattle.bl_load.specs.Registers.{multiboot2_registers, linux_registers, linux
 use Rattle.bl_load.specs.Linux.{entry_64}
 use Rattle.bl_load.specs.Protocols.{descriptors_of}
 use Rattle.bl_plan.specs.Order.{in_order}
-use Rattle.bl_load.specs.Handover.{Part, Handover, part_at, filled}
+use Rattle.bl_load.specs.Handover.{Part, Handover, placed_part, filled}
 use Rattle.bl_load.specs.declared.refusal.PrepFault.{PrepFault}
 use Rattle.bl_load.specs.declared.refusal.PrepFault.TheVariants as prep_fault
 
@@ -81,7 +81,7 @@ content_of facts value (linux setup) places PageTables i =
 -- the part of an entry at one of its places
 abbrev pub part_from : MachineFacts → EntryValue → Reading → List Place → Place → Part
 part_from facts value reading places place =
-    part_at place
+    placed_part place
     (filled place.length (content_of facts value reading places place.role place.index))
 
 -- where a Multiboot2 kernel is entered: a block moves its entry with it

@@ -1,6 +1,6 @@
 -- What a plan holds, where the files hold these texts.
 use Rattle.std.specs.Prelude.{ℕ, ◌+◌, List, map, slice_range}
-use Rattle.bl_mem.specs.Files.{text_of_file}
+use Rattle.bl_mem.specs.Files.{nth_file}
 use Rattle.bl_plan.specs.declared.part.Place.{Place}
 use Rattle.bl_load.specs.declared.plan.Content.{Content}
 use Rattle.bl_load.specs.declared.plan.Content.TheVariants.{Own, File, Block}
@@ -10,20 +10,20 @@ use Rattle.bl_plan.specs.declared.protocol.Protocol.{Protocol}
 use Rattle.bl_load.specs.declared.registers.Registers.{Registers}
 use Rattle.bl_load.specs.Blocks.{block_of}
 use Rattle.bl_load.specs.HandoffFacts.{HandoffFacts}
-use Rattle.bl_load.specs.Handover.{Part, Handover, part_at, filled}
+use Rattle.bl_load.specs.Handover.{Part, Handover, placed_part, filled}
 
 -- what a content holds
 abbrev pub content_by : {A : Type 0} → List (List ℕ) → Content A → List ℕ
 content_by texts (Own bytes) = bytes
 content_by texts (File file offset count) =
-    slice_range (text_of_file texts file) offset (offset + count)
-content_by texts (Block file segments) = block_of (text_of_file texts file) segments.items
+    slice_range (nth_file texts file) offset (offset + count)
+content_by texts (Block file segments) = block_of (nth_file texts file) segments.items
 
 abbrev pub bytes_by : {A : Type 0} → List (List ℕ) → PlannedPart A → List ℕ
 bytes_by texts part = filled part.place.length (content_by texts part.content)
 
 abbrev pub part_by : {A : Type 0} → List (List ℕ) → PlannedPart A → Part
-part_by texts part = part_at part.place (bytes_by texts part)
+part_by texts part = placed_part part.place (bytes_by texts part)
 
 -- what a plan hands over
 abbrev pub handover_by : {A : Type 0} → List (List ℕ) → Plan A → Handover
@@ -45,7 +45,7 @@ handoff_by plan =
 
 -- a part as memory holds it
 abbrev pub part_in : List ℕ → Place → Part
-part_in bytes place = part_at place (slice_range bytes place.address (place.address + place.length))
+part_in bytes place = placed_part place (slice_range bytes place.address (place.address + place.length))
 
 -- what memory hands over, with this protocol, these registers and places
 abbrev pub handover_in : List ℕ → Protocol → Registers → List Place → Handover

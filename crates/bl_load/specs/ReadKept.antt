@@ -15,7 +15,7 @@ use Rattle.bl_load.specs.Linux.{HasLinuxFault}
 use Rattle.bl_load.specs.Parts.{entered_at}
 use Rattle.bl_load.specs.Protocols.{has_params}
 use Rattle.bl_load.specs.PlacingKept.{ModulesEndLow}
-use Rattle.bl_mem.specs.Files.{text_of_file}
+use Rattle.bl_mem.specs.Files.{nth_file}
 use Rattle.bl_load.specs.Reading.{Reading, multiboot2, linux}
 use Rattle.bl_load.specs.Value.{EntryValue, initrd_file}
 use Rattle.bl_params.specs.Numbers.{tables_size}
@@ -29,7 +29,7 @@ EntersBy protocol (linux setup) = has_params protocol ≡ true
 -- loaded
 abbrev pub HasFiles : List (List ℕ) → ℕ → Reading → Type 0
 HasFiles texts modules (multiboot2 kernel) =
-    (length texts ≡ 1 + modules) × AreLoadable (text_of_file texts 0) kernel.segments
+    (length texts ≡ 1 + modules) × AreLoadable (nth_file texts 0) kernel.segments
 HasFiles texts modules (linux setup) = 1 ≤ length texts
 
 -- page tables stand in whole frames below 4 GiB, as far as there are any

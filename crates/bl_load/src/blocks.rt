@@ -1,7 +1,7 @@
 //! A relocatable kernel's image comes into memory.
 ghost use Rattle.std.specs.Prelude.{◌≡◌, ◌+◌, ◌<◌, ◌≤◌, length, All, AllPairs};
 ghost use Rattle.bl_mem.specs.Contents.{contents_of};
-ghost use Rattle.bl_mem.specs.Files.{text_of_file, AreBelow, IsBeside};
+ghost use Rattle.bl_mem.specs.Files.{nth_file, AreBelow, IsBeside};
 ghost use Rattle.bl_mem.specs.Memory.{overwrite, HasRoom, KeepsMemory};
 ghost use Rattle.bl_load.specs.Blocks.{span_of, block_of};
 ghost use Rattle.bl_load.specs.Loadable.{IsCopyable, SegmentsAscend};
@@ -20,12 +20,12 @@ fn load_segment<M: PhysMem, F: FileSet>(
     requires held { AreBelow (F.holds files.now) (length (M.bytes memory.old)) }
     requires file { file < length (F.texts files.now (M.bytes memory.old)) }
     requires copied { IsCopyable
-        (length (text_of_file (F.texts files.now (M.bytes memory.old)) file)) segment.now }
+        (length (nth_file (F.texts files.now (M.bytes memory.old)) file)) segment.now }
     requires inside { at + segment.now.memsz ≤ length (M.bytes memory.old) }
     requires room { HasRoom (M.room memory.old) at (at + segment.now.memsz) }
     requires beside { IsBeside (F.holds files.now) at (at + segment.now.memsz) }
     ensures after { M.bytes memory.new ≡ overwrite (M.bytes memory.old) at
-        (contents_of (text_of_file (F.texts files.now (M.bytes memory.old)) file) segment.now) }
+        (contents_of (nth_file (F.texts files.now (M.bytes memory.old)) file) segment.now) }
     ensures texts { F.texts files.now (M.bytes memory.new)
         ≡ F.texts files.now (M.bytes memory.old) }
     ensures kept { KeepsMemory M.lender M.bytes M.room memory.old memory.new }
@@ -50,14 +50,14 @@ pub(crate) fn load_block<M: PhysMem, F: FileSet>(
     requires file { file < length (F.texts files.now (M.bytes memory.old)) }
     requires some { 1 ≤ length segments.now }
     requires copied { All (IsCopyable
-        (length (text_of_file (F.texts files.now (M.bytes memory.old)) file))) segments.now }
+        (length (nth_file (F.texts files.now (M.bytes memory.old)) file))) segments.now }
     requires ascending { AllPairs SegmentsAscend segments.now }
     requires inside { at + span_of segments.now ≤ length (M.bytes memory.old) }
     requires room { HasRoom (M.room memory.old) at (at + span_of segments.now) }
     requires beside { IsBeside (F.holds files.now) at (at + span_of segments.now) }
     ensures count { result ≡ span_of segments.now }
     ensures after { M.bytes memory.new ≡ overwrite (M.bytes memory.old) at
-        (block_of (text_of_file (F.texts files.now (M.bytes memory.old)) file) segments.now) }
+        (block_of (nth_file (F.texts files.now (M.bytes memory.old)) file) segments.now) }
     ensures texts { F.texts files.now (M.bytes memory.new)
         ≡ F.texts files.now (M.bytes memory.old) }
     ensures kept { KeepsMemory M.lender M.bytes M.room memory.old memory.new }

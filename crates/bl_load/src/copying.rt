@@ -1,6 +1,6 @@
 //! A file's bytes come into memory, which may hold the file.
 ghost use Rattle.std.specs.Prelude.{◌≡◌, ◌+◌, ◌<◌, ◌≤◌, length, slice_range};
-ghost use Rattle.bl_mem.specs.Files.{text_of_file, AreBelow, IsBeside};
+ghost use Rattle.bl_mem.specs.Files.{nth_file, AreBelow, IsBeside};
 ghost use Rattle.bl_mem.specs.Memory.{overwrite, HasRoom, KeepsMemory};
 
 use bl_mem::{FileSet, PhysMem};
@@ -17,12 +17,12 @@ fn copy_piece<M: PhysMem, F: FileSet>(
     requires held { AreBelow (F.holds files.now) (length (M.bytes memory.old)) }
     requires file { file < length (F.texts files.now (M.bytes memory.old)) }
     requires source { offset + length buffer.old
-        ≤ length (text_of_file (F.texts files.now (M.bytes memory.old)) file) }
+        ≤ length (nth_file (F.texts files.now (M.bytes memory.old)) file) }
     requires inside { at + length buffer.old ≤ length (M.bytes memory.old) }
     requires room { HasRoom (M.room memory.old) at (at + length buffer.old) }
     requires beside { IsBeside (F.holds files.now) at (at + length buffer.old) }
     ensures after { M.bytes memory.new ≡ overwrite (M.bytes memory.old) at (slice_range
-        (text_of_file (F.texts files.now (M.bytes memory.old)) file)
+        (nth_file (F.texts files.now (M.bytes memory.old)) file)
         offset (offset + length buffer.old)) }
     ensures texts { F.texts files.now (M.bytes memory.new)
         ≡ F.texts files.now (M.bytes memory.old) }
@@ -45,12 +45,12 @@ fn copy_by_pieces<M: PhysMem, F: FileSet>(
     requires held { AreBelow (F.holds files.now) (length (M.bytes memory.old)) }
     requires file { file < length (F.texts files.now (M.bytes memory.old)) }
     requires source { 1 ≤ count → offset + count
-        ≤ length (text_of_file (F.texts files.now (M.bytes memory.old)) file) }
+        ≤ length (nth_file (F.texts files.now (M.bytes memory.old)) file) }
     requires inside { at + count ≤ length (M.bytes memory.old) }
     requires room { HasRoom (M.room memory.old) at (at + count) }
     requires beside { IsBeside (F.holds files.now) at (at + count) }
     ensures after { M.bytes memory.new ≡ overwrite (M.bytes memory.old) at (slice_range
-        (text_of_file (F.texts files.now (M.bytes memory.old)) file) offset (offset + count)) }
+        (nth_file (F.texts files.now (M.bytes memory.old)) file) offset (offset + count)) }
     ensures texts { F.texts files.now (M.bytes memory.new)
         ≡ F.texts files.now (M.bytes memory.old) }
     ensures kept { KeepsMemory M.lender M.bytes M.room memory.old memory.new }
@@ -102,12 +102,12 @@ pub(crate) fn copy<M: PhysMem, F: FileSet>(
     requires held { AreBelow (F.holds files.now) (length (M.bytes memory.old)) }
     requires file { file < length (F.texts files.now (M.bytes memory.old)) }
     requires source { 1 ≤ count → offset + count
-        ≤ length (text_of_file (F.texts files.now (M.bytes memory.old)) file) }
+        ≤ length (nth_file (F.texts files.now (M.bytes memory.old)) file) }
     requires inside { at + count ≤ length (M.bytes memory.old) }
     requires room { HasRoom (M.room memory.old) at (at + count) }
     requires beside { IsBeside (F.holds files.now) at (at + count) }
     ensures after { M.bytes memory.new ≡ overwrite (M.bytes memory.old) at (slice_range
-        (text_of_file (F.texts files.now (M.bytes memory.old)) file) offset (offset + count)) }
+        (nth_file (F.texts files.now (M.bytes memory.old)) file) offset (offset + count)) }
     ensures texts { F.texts files.now (M.bytes memory.new)
         ≡ F.texts files.now (M.bytes memory.old) }
     ensures kept { KeepsMemory M.lender M.bytes M.room memory.old memory.new }

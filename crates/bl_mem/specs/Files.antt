@@ -2,9 +2,9 @@
 use Rattle.std.specs.Prelude.{◌≡◌, ℕ, ◌<◌, ◌≤◌, List, [], slice_index, slice_index_or, All}
 use Rattle.std.specs.declared.ops.Range.{Range}
 
--- the bytes of a file of a list
-abbrev pub text_of_file : List (List ℕ) → ℕ → List ℕ
-text_of_file texts file = slice_index_or texts file []
+-- the bytes of the file of this number; none if there is no such file
+abbrev pub nth_file : List (List ℕ) → ℕ → List ℕ
+nth_file texts file = slice_index_or texts file []
 
 -- memory of this size has each of these addresses
 abbrev pub AreBelow : (ℕ → Type 0) → ℕ → Type 0

@@ -1,7 +1,7 @@
 //! Files that memory may hold.
 ghost use Rattle.std.specs.Prelude.{◌≡◌, ℕ, ◌+◌, ◌<◌, ◌≤◌, List, length, map, slice_range, refl};
 ghost use Rattle.std.specs.Prelude.{IfSome};
-ghost use Rattle.bl_mem.specs.Files.{text_of_file, AreBelow, Agree};
+ghost use Rattle.bl_mem.specs.Files.{nth_file, AreBelow, Agree};
 
 use crate::memory::PhysMem;
 use crate::view::ByteView;
@@ -18,15 +18,15 @@ pub trait FileSet {
     /// A file's length in bytes.
     fn len<M: PhysMem>(&self, memory: &M, file: usize) -> u64
         requires file { file < length (texts self.now (M.bytes memory.now)) }
-        ensures { result ≡ length (text_of_file (texts self.now (M.bytes memory.now)) file) };
+        ensures { result ≡ length (nth_file (texts self.now (M.bytes memory.now)) file) };
 
     /// Copies bytes of a file from offset `at` on, as many as `out` holds.
     fn read<M: PhysMem>(&self, memory: &M, file: usize, at: u64, out: &mut [u8])
         requires held { AreBelow (holds self.now) (length (M.bytes memory.now)) }
         requires file { file < length (texts self.now (M.bytes memory.now)) }
         requires inside { at + length out.old
-            ≤ length (text_of_file (texts self.now (M.bytes memory.now)) file) }
-        ensures { out.new ≡ slice_range (text_of_file (texts self.now (M.bytes memory.now)) file)
+            ≤ length (nth_file (texts self.now (M.bytes memory.now)) file) }
+        ensures { out.new ≡ slice_range (nth_file (texts self.now (M.bytes memory.now)) file)
             at (at + length out.old) };
 
     /// Lends the `count` bytes of a file from offset `at` on, so that they are copied once on their
@@ -35,9 +35,9 @@ pub trait FileSet {
     fn lend<M: PhysMem>(&self, memory: &M, file: usize, at: u64, count: usize) -> Option<&[u8]>
         requires file { file < length (texts self.now (M.bytes memory.now)) }
         requires inside { at + count
-            ≤ length (text_of_file (texts self.now (M.bytes memory.now)) file) }
+            ≤ length (nth_file (texts self.now (M.bytes memory.now)) file) }
         ensures { IfSome result (λ part. part.now
-            ≡ slice_range (text_of_file (texts self.now (M.bytes memory.now)) file) at
+            ≡ slice_range (nth_file (texts self.now (M.bytes memory.now)) file) at
             (at + count)) }
     {
         None

@@ -6,7 +6,7 @@ use Rattle.std.proofs.lemmas.Bool.{cases_lt}
 use Rattle.std.proofs.lemmas.Bool.Decides.{nat_tests}
 use Rattle.bl_mem.specs.LittleEndian.{u32_at, u64_at}
 use Rattle.bl_bzimage.specs.Setup.{header_end}
-use Rattle.bl_params.specs.Form.{breaks, breaks_header, breaks_entry, is_nonzero_at, entries_in}
+use Rattle.bl_params.specs.Form.{breaks_at, breaks_header, breaks_entry, is_nonzero_at, entries_in}
 use Rattle.bl_params.specs.Form.{e820_entry_at}
 use Rattle.bl_params.specs.Kept.{IsSoundUpto, IsQuiet}
 
@@ -23,22 +23,22 @@ pub or_false : (x : Bool) → (x || false) ≡ x
 or_false true = refl
 or_false false = refl
 
-pub front_is : (bytes : List ℕ) (k : ℕ) → k < 0x1E8 → breaks bytes k ≡ is_nonzero_at bytes k
-unfolding breaks
+pub front_is : (bytes : List ℕ) (k : ℕ) → k < 0x1E8 → breaks_at bytes k ≡ is_nonzero_at bytes k
+unfolding breaks_at
 front_is bytes k below = rw (lt_yes k 0x1E8 below) refl
 
-pub count_is : (bytes : List ℕ) → breaks bytes 0x1E8 ≡ nat_lt 128 (entries_in bytes)
-unfolding breaks
+pub count_is : (bytes : List ℕ) → breaks_at bytes 0x1E8 ≡ nat_lt 128 (entries_in bytes)
+unfolding breaks_at
 count_is bytes = refl
 
-pub gap_is : (bytes : List ℕ) (k : ℕ) → 0x1E9 ≤ k → k < 0x1F1 → breaks bytes k ≡ is_nonzero_at bytes k
-unfolding breaks
+pub gap_is : (bytes : List ℕ) (k : ℕ) → 0x1E9 ≤ k → k < 0x1F1 → breaks_at bytes k ≡ is_nonzero_at bytes k
+unfolding breaks_at
 gap_is bytes k from below =
     rw (lt_no k 0x1E8 (omega arith), eq_no k 0x1E8 (omega arith), lt_yes k 0x1F1 below) refl
 
 pub header_is : (bytes : List ℕ) (k : ℕ) → 0x1F1 ≤ k → k < header_end bytes
-    → breaks bytes k ≡ breaks_header bytes k
-unfolding breaks
+    → breaks_at bytes k ≡ breaks_header bytes k
+unfolding breaks_at
 header_is bytes k from below =
     rw (
       lt_no k 0x1E8 (omega arith),
@@ -48,8 +48,8 @@ header_is bytes k from below =
     ) refl
 
 pub behind_is : (bytes : List ℕ) (k : ℕ) → header_end bytes ≤ k → k < 0x2D0
-    → breaks bytes k ≡ is_nonzero_at bytes k
-unfolding breaks
+    → breaks_at bytes k ≡ is_nonzero_at bytes k
+unfolding breaks_at
 behind_is bytes k from below =
     rw (
       lt_no k 0x1E8 (omega arith),
@@ -60,8 +60,8 @@ behind_is bytes k from below =
     ) refl
 
 pub entries_are : (bytes : List ℕ) (k : ℕ) → 0x2D0 ≤ k → k < e820_entry_at (entries_in bytes)
-    → breaks bytes k ≡ breaks_entry bytes ((k - 0x2D0) % 20) k
-unfolding breaks
+    → breaks_at bytes k ≡ breaks_entry bytes ((k - 0x2D0) % 20) k
+unfolding breaks_at
 entries_are bytes k from below =
     rw (
       lt_no k 0x1E8 (omega arith),
@@ -73,8 +73,8 @@ entries_are bytes k from below =
     ) refl
 
 pub end_is : (bytes : List ℕ) (k : ℕ) → 0x2D0 ≤ k → e820_entry_at (entries_in bytes) ≤ k
-    → breaks bytes k ≡ is_nonzero_at bytes k
-unfolding breaks
+    → breaks_at bytes k ≡ is_nonzero_at bytes k
+unfolding breaks_at
 end_is bytes k from above =
     rw (
       lt_no k 0x1E8 (omega arith),
@@ -90,7 +90,7 @@ end_is bytes k from above =
 pub entry_is : (bytes : List ℕ) (i n m : ℕ) → i < entries_in bytes → n
     ≡ u64_at bytes (e820_entry_at i)
     → m ≡ u64_at bytes (e820_entry_at i + 8)
-    → nat_lt (2 ^ 52) (n + m) ≡ breaks bytes (e820_entry_at i)
+    → nat_lt (2 ^ 52) (n + m) ≡ breaks_at bytes (e820_entry_at i)
 entry_is bytes i n m counted e f =
     let place : (e820_entry_at i - 0x2D0) % 20 ≡ 0 = omega arith in
     rw (e, f)
@@ -99,7 +99,7 @@ entry_is bytes i n m counted e f =
 
 pub kind_is : (bytes : List ℕ) (i n : ℕ) → i < entries_in bytes → n
     ≡ u32_at bytes (e820_entry_at i + 16)
-    → not (nat_le 1 n && nat_le n 5) ≡ breaks bytes (e820_entry_at i + 16)
+    → not (nat_le 1 n && nat_le n 5) ≡ breaks_at bytes (e820_entry_at i + 16)
 kind_is bytes i n counted e =
     let place : (e820_entry_at i + 16 - 0x2D0) % 20 ≡ 16 = omega arith in
     rw e (sym (entries_are bytes (e820_entry_at i + 16) (omega arith) (omega arith)

@@ -6,7 +6,7 @@ use Rattle.std.proofs.lemmas.Bool.{ltb-false}
 use Rattle.std.proofs.lemmas.Bool.Decides.{nat_tests}
 use Rattle.bl_mem.specs.LittleEndian.{u16_at, u32_at, u64_at}
 use Rattle.bl_bzimage.specs.Setup.{header_end}
-use Rattle.bl_params.specs.Form.{breaks, breaks_header}
+use Rattle.bl_params.specs.Form.{breaks_at, breaks_header}
 use Rattle.bl_params.specs.Kept.{IsQuiet}
 use Rattle.bl_params.proofs.FormLemmas.{eq_no, or_false, header_is}
 
@@ -35,7 +35,7 @@ between_is bytes k b =
     ) refl
 
 quiet_at : (bytes : List ℕ) (k : ℕ) → 0x1F1 ≤ k → k < header_end bytes → IsBetween k
-    → breaks bytes k ≡ false
+    → breaks_at bytes k ≡ false
 quiet_at bytes k from below between = header_is bytes k from below ∙ between_is bytes k between
 
 pub quiet_1F1 : (bytes : List ℕ) → IsQuiet bytes 0x1F1 0x1FA
@@ -151,17 +151,17 @@ quiet_251 bytes end e =
     }
 
 pub vid_mode_is : (bytes : List ℕ) (n : ℕ) → n ≡ u16_at bytes 0x1FA
-    → not (n == 0xFFFF) ≡ breaks bytes 0x1FA
+    → not (n == 0xFFFF) ≡ breaks_at bytes 0x1FA
 vid_mode_is bytes n e =
     rw e (sym (header_is bytes 0x1FA (omega arith) (omega arith) ∙ simp or_false))
 
 pub boot_flag_is : (bytes : List ℕ) (n : ℕ) → n ≡ u16_at bytes 0x1FE
-    → not (n == 0xAA55) ≡ breaks bytes 0x1FE
+    → not (n == 0xAA55) ≡ breaks_at bytes 0x1FE
 boot_flag_is bytes n e =
     rw e (sym (header_is bytes 0x1FE (omega arith) (omega arith) ∙ simp or_false))
 
 pub jump_is : (bytes : List ℕ) (end : ℕ) → end ≡ header_end bytes
-    → nat_lt end 0x264 ≡ breaks bytes 0x201
+    → nat_lt end 0x264 ≡ breaks_at bytes 0x201
 jump_is bytes end e = rw e (sym (header_is bytes 0x201 (omega arith) (omega arith) ∙ simp or_false))
 
 pub long_from : (bytes : List ℕ) (end : ℕ) → end ≡ header_end bytes → nat_lt end 0x264 ≡ false
@@ -171,19 +171,19 @@ long_from bytes end e test =
     first_of (grind (arith, nat_tests), omega (arith, ltb-false)) in omega arith
 
 pub magic_is : (bytes : List ℕ) (n : ℕ) → 0x264 ≤ header_end bytes → n ≡ u32_at bytes 0x202
-    → not (n == 0x53726448) ≡ breaks bytes 0x202
+    → not (n == 0x53726448) ≡ breaks_at bytes 0x202
 magic_is bytes n long e =
     rw e (sym (header_is bytes 0x202 (omega arith) (omega arith) ∙ simp or_false))
 
 pub version_is : (bytes : List ℕ) (n : ℕ) → 0x264 ≤ header_end bytes → n ≡ u16_at bytes 0x206
-    → nat_lt n 0x020A ≡ breaks bytes 0x206
+    → nat_lt n 0x020A ≡ breaks_at bytes 0x206
 version_is bytes n long e =
     rw e (sym (header_is bytes 0x206 (omega arith) (omega arith) ∙ simp or_false))
 
 pub loader_is : (bytes : List ℕ) → 0x264 ≤ header_end bytes
-    → not (slice_index bytes 0x210 == 0xFF) ≡ breaks bytes 0x210
+    → not (slice_index bytes 0x210 == 0xFF) ≡ breaks_at bytes 0x210
 loader_is bytes long = sym (header_is bytes 0x210 (omega arith) (omega arith) ∙ simp or_false)
 
 pub setup_data_is : (bytes : List ℕ) (n : ℕ) → 0x264 ≤ header_end bytes → n ≡ u64_at bytes 0x250
-    → not (n == 0) ≡ breaks bytes 0x250
+    → not (n == 0) ≡ breaks_at bytes 0x250
 setup_data_is bytes n long e = rw e (sym (header_is bytes 0x250 (omega arith) (omega arith)))

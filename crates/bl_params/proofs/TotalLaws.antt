@@ -13,7 +13,7 @@ use Rattle.bl_map.specs.declared.region.Region.{Region}
 use Rattle.bl_map.specs.Kinds.{kind_number}
 use Rattle.bl_params.specs.declared.fault.ParamFault.{ParamFault}
 use Rattle.bl_params.specs.declared.fault.ParamFault.TheVariants.{WrongLength, BadParams, NoMemory}
-use Rattle.bl_params.specs.Form.{breaks, entries_in, e820_entry_at}
+use Rattle.bl_params.specs.Form.{breaks_at, entries_in, e820_entry_at}
 use Rattle.bl_params.specs.ParamsFacts.{ParamsFacts}
 use Rattle.bl_params.specs.Reading.{IsEntry, AreEntries, IsParams, HasFirstParamFault}
 use Rattle.bl_params.proofs.FormLemmas.{count_is, kind_is}
@@ -21,7 +21,7 @@ use Rattle.bl_params.proofs.EntriesRead.{entries_push}
 
 -- no offset breaks the form
 abbrev IsSound : List ℕ → Type 0
-IsSound bytes = (k : ℕ) → k < 4096 → breaks bytes k ≡ false
+IsSound bytes = (k : ℕ) → k < 4096 → breaks_at bytes k ≡ false
 
 at_most_five : (n : ℕ) → not (nat_le 1 n && nat_le n 5) ≡ false → n ≤ 5
 at_most_five n test = grind (arith, nat_tests)
@@ -40,7 +40,7 @@ kind_numbered (suc (suc (suc (suc (suc (suc n)))))) test =
 
 -- the entry with a number, counted from 0
 entry_told : (bytes : List ℕ) (i : ℕ) → i < entries_in bytes
-    → breaks bytes (e820_entry_at i + 16) ≡ false
+    → breaks_at bytes (e820_entry_at i + 16) ≡ false
     → (run : Region) × IsEntry bytes (e820_entry_at i) run
 entry_told bytes i counted sound =
     let found =
@@ -125,12 +125,12 @@ told_of bytes whole sound =
 
 -- an offset of boot parameters that breaks their form
 abbrev BreaksAt : List ℕ → ℕ → Type 0
-BreaksAt bytes k = (k < 4096) × (breaks bytes k ≡ true)
+BreaksAt bytes k = (k < 4096) × (breaks_at bytes k ≡ true)
 
 breaks_or_not : (bytes : List ℕ) (k : ℕ) → BreaksAt bytes k ⊎ (BreaksAt bytes k → ⊥)
 breaks_or_not bytes k =
     elim (cases_lt k 4096) [
-      | inl within ↦ elim (cases_Bool (breaks bytes k)) [
+      | inl within ↦ elim (cases_Bool (breaks_at bytes k)) [
         | inl broken ↦ inl (within, broken)
         | inr sound ↦ inr (λ both. let broken = both.1 in cc)
       ]
@@ -156,7 +156,7 @@ params_or_fault bytes =
             inl
             (told_of bytes whole
             (λ k within.
-            false_from_ne_true (breaks bytes k) (λ broken. none k within (within, broken))))
+            false_from_ne_true (breaks_at bytes k) (λ broken. none k within (within, broken))))
         | inr (k, within, least) ↦ inr (BadParams k, (λ memory. cc), (whole, least))
       ]
       | inr other ↦ inr (WrongLength, (λ memory. cc), other)

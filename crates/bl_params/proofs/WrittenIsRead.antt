@@ -10,7 +10,7 @@ use Rattle.bl_bzimage.proofs.SetupLaws.{IsSoundFile, setup_sound, fields_are, he
 use Rattle.bl_bzimage.proofs.SetupLaws.{header_high, header_same}
 use Rattle.bl_params.specs.BootParamsFacts.{BootParamsFacts, AreTold}
 use Rattle.bl_params.specs.BootParams.{boot_params}
-use Rattle.bl_params.specs.Form.{breaks, breaks_header, is_nonzero_at, entries_in}
+use Rattle.bl_params.specs.Form.{breaks_at, breaks_header, is_nonzero_at, entries_in}
 use Rattle.bl_params.specs.Reading.{IsParams}
 use Rattle.bl_params.specs.Told.{params_of, FitFields}
 use Rattle.bl_params.proofs.Lengths.{length-boot_params}
@@ -69,7 +69,7 @@ module _ (file header : List ℕ) (end : ℕ) (facts : BootParamsFacts)
 
   -- nothing breaks the form
   form : IsSoundFile file → header_end file ≡ end → (k : ℕ) → k < 4096
-      → breaks (params header facts) k ≡ false
+      → breaks_at (params header facts) k ≡ false
   form sound e k within =
       let stop : header_end (params header facts) ≡ end =
       end_is_same file header end facts long low high same told ∙ e in
@@ -80,7 +80,7 @@ module _ (file header : List ℕ) (end : ℕ) (facts : BootParamsFacts)
       (λ past_front.
       ⊎_elim
       (λ at_count.
-      subst (λ (n : ℕ). breaks (params header facts) n ≡ false) (sym at_count)
+      subst (λ (n : ℕ). breaks_at (params header facts) n ≡ false) (sym at_count)
       (count_is (params header facts)
       ∙ lt_no 128 (entries_in (params header facts))
       (omega (arith, count file header end facts long low high same told, told.few))))

@@ -39,8 +39,8 @@ breaks_entry bytes place k =
     || (place == e820_type_at && not (nat_le 1 (u32_at bytes k) && nat_le (u32_at bytes k) 5))
 
 -- whether what stands at an offset breaks the form
-unfoldable pub breaks : List ℕ → ℕ → Bool
-breaks bytes k =
+unfoldable pub breaks_at : List ℕ → ℕ → Bool
+breaks_at bytes k =
     if nat_lt k e820_entries_at then is_nonzero_at bytes k else
     if k == e820_entries_at then nat_lt max_e820_entries (entries_in bytes) else
     if nat_lt k header_at then is_nonzero_at bytes k else

@@ -1,11 +1,11 @@
 -- What the reader keeps as it goes.
 use Rattle.std.specs.Prelude.{◌≡◌, ℕ, ◌<◌, ◌≤◌, List, false}
-use Rattle.bl_params.specs.Form.{breaks}
+use Rattle.bl_params.specs.Form.{breaks_at}
 
 -- nothing below this offset breaks the form
 pub record IsSoundUpto (bytes : List ℕ) (end : ℕ) : Type 0 where
-  pub sound : (k : ℕ) → k < end → breaks bytes k ≡ false
+  pub sound : (k : ℕ) → k < end → breaks_at bytes k ≡ false
 
 -- nothing from one offset up to another breaks it
 abbrev pub IsQuiet : List ℕ → ℕ → ℕ → Type 0
-IsQuiet bytes start end = (k : ℕ) → start ≤ k → k < end → breaks bytes k ≡ false
+IsQuiet bytes start end = (k : ℕ) → start ≤ k → k < end → breaks_at bytes k ≡ false

@@ -6,7 +6,7 @@ use Rattle.bl_map.specs.declared.region.Region.{Region}
 use Rattle.bl_map.specs.Kinds.{kind_number}
 use Rattle.bl_params.specs.declared.fault.ParamFault.{ParamFault}
 use Rattle.bl_params.specs.declared.fault.ParamFault.TheVariants.{WrongLength, BadParams, NoMemory}
-use Rattle.bl_params.specs.Form.{breaks, entries_in}
+use Rattle.bl_params.specs.Form.{breaks_at, entries_in}
 use Rattle.bl_params.specs.ParamsFacts.{ParamsFacts}
 use Rattle.bl_params.specs.Numbers.{params_size, e820_table_at, e820_entry_size, e820_size_at}
 use Rattle.bl_params.specs.Numbers.{e820_type_at}
@@ -27,7 +27,7 @@ AreEntries bytes at (run ∷ runs) =
 -- counted
 pub record IsParams (bytes : List ℕ) (params : ParamsFacts) : Type 0 where
   pub size : length bytes ≡ params_size
-  pub sound : (k : ℕ) → k < params_size → breaks bytes k ≡ false
+  pub sound : (k : ℕ) → k < params_size → breaks_at bytes k ≡ false
   pub version : params.version ≡ u16_at bytes 0x206
   pub loadflags : params.loadflags ≡ slice_index bytes 0x211
   pub code32_start : params.code32_start ≡ u32_at bytes 0x214
@@ -50,5 +50,5 @@ abbrev pub HasFirstParamFault : List ℕ → ParamFault → Type 0
 HasFirstParamFault bytes WrongLength = ¬ (length bytes ≡ params_size)
 HasFirstParamFault bytes (BadParams k) =
     (length bytes ≡ params_size)
-    × IsLeast (λ j. (j < params_size) × (breaks bytes j ≡ true)) k
+    × IsLeast (λ j. (j < params_size) × (breaks_at bytes j ≡ true)) k
 HasFirstParamFault bytes NoMemory = Unit {0}

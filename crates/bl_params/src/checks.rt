@@ -2,7 +2,7 @@
 ghost use Rattle.std.specs.Prelude.{◌≡◌, ◌≤◌, ◌<◌, ◌+◌, ◌==◌, ℕ, not, true, false, length};
 ghost use Rattle.std.specs.Prelude.{slice_index, MatchResult};
 ghost use Rattle.bl_bzimage.specs.Setup.{header_end};
-ghost use Rattle.bl_params.specs.Form.{breaks, is_nonzero_at, entries_in};
+ghost use Rattle.bl_params.specs.Form.{breaks_at, is_nonzero_at, entries_in};
 ghost use Rattle.bl_params.specs.Reading.{HasFirstParamFault};
 ghost use Rattle.bl_params.specs.BootParamsFacts.{max_e820_entries};
 ghost use Rattle.bl_params.specs.Kept.{IsSoundUpto, IsQuiet};
@@ -21,7 +21,7 @@ pub fn check_field(bytes: &[u8], at: usize, next: usize, is_broken: bool) -> Res
     requires whole { length bytes.now ≡ params_size }
     requires within { at < params_size }
     requires upto { IsSoundUpto bytes.now at }
-    requires here { is_broken ≡ breaks bytes.now at }
+    requires here { is_broken ≡ breaks_at bytes.now at }
     requires quiet { IsQuiet bytes.now (at + 1) next }
     ensures { MatchResult result
         (λ _. IsSoundUpto bytes.now next × (is_broken ≡ false))
@@ -40,7 +40,7 @@ pub fn pass_zeros(bytes: &[u8], start: usize, end: usize) -> Result<(), ParamFau
     requires forward { start ≤ end }
     requires upto { IsSoundUpto bytes.now start }
     requires plain { (k : ℕ) → start ≤ k → k < end
-        → breaks bytes.now k ≡ is_nonzero_at bytes.now k }
+        → breaks_at bytes.now k ≡ is_nonzero_at bytes.now k }
     ensures { MatchResult result (λ _. IsSoundUpto bytes.now end) (HasFirstParamFault bytes.now) }
 {
     for at in start..end {

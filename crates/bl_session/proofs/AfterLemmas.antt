@@ -15,7 +15,7 @@ use Rattle.bl_plan.specs.declared.part.Place.{Place}
 use Rattle.bl_plan.specs.Placed.{place_range}
 use Rattle.bl_stage.specs.Ranges.{is_in_ranges, scrubbed, IsSameOutside}
 use Rattle.bl_load.specs.declared.plan.PlannedPart.{PlannedPart}
-use Rattle.bl_load.specs.Handover.{Part, part_at}
+use Rattle.bl_load.specs.Handover.{Part, placed_part}
 use Rattle.bl_load.specs.Loadable.{lengths_of, IsBacked}
 use Rattle.bl_load.specs.PlanFacts.{part_by, part_in}
 use Rattle.bl_load.specs.After.{Spans, IsAfter}
@@ -135,7 +135,7 @@ held_on pool places loaded new size after inside =
     let was : List ℕ = slice_range loaded place.address (place.address + place.length) in
     let wide : length read ≡ place.length = search (rules, places_) in
     let long : length was ≡ place.length = search (rules, places_) in
-    ap (part_at place)
+    ap (placed_part place)
     (same_lists read was (wide ∙ sym long) (λ (j e : ℕ) (below : j < length read).
     let kept : is_in_ranges keep (place.address + j) ≡ true =
     has_one keep k (place.address + j) (place_range d) (rw length-map within)

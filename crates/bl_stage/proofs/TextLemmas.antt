@@ -3,7 +3,7 @@ use Rattle.std.proofs.Common.{◌≡◌, ℕ, ◌+◌, ◌*◌, ◌<◌, List, [
 use Rattle.std.proofs.lemmas.List.{places}
 use Rattle.std.proofs.lemmas.List.FromFn.{length-map-range_with_len, get_or-map-range_with_len}
 use Rattle.bl_map.specs.Room.{frames_of}
-use Rattle.bl_mem.specs.Files.{AreBelow, text_of_file}
+use Rattle.bl_mem.specs.Files.{AreBelow, nth_file}
 use Rattle.bl_stage.specs.Staged.{AreInside, Staging, AreStaged, HasPool, staged_file, table_of}
 use Rattle.bl_stage.specs.Staged.{first_of, staged_texts, IsStagedOn}
 use Rattle.bl_stage.proofs.FileLemmas.{file_within, read_part}
@@ -50,7 +50,7 @@ table_below stage file size kept h below k hk =
 -- a file of the texts
 pub staged_text : (stage : Staging) (bytes : List ℕ) (file : ℕ)
     → file < length (staged_texts bytes stage)
-    → (file < length stage.sizes) × (text_of_file (staged_texts bytes stage) file ≡ staged_file bytes stage file)
+    → (file < length stage.sizes) × (nth_file (staged_texts bytes stage) file ≡ staged_file bytes stage file)
 staged_text stage bytes file h =
     let below : file < length stage.sizes =
     let e =

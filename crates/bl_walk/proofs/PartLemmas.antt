@@ -17,7 +17,7 @@ use Rattle.bl_plan.specs.declared.part.Role.TheVariants.{Kernel, Module, Informa
 use Rattle.bl_plan.specs.declared.part.Role.TheVariants.{CommandLine, Gdt, Initrd, PageTables}
 use Rattle.bl_plan.proofs.OrderCountLemmas.{list_any-in_order}
 use Rattle.bl_load.specs.Addresses.{address_of}
-use Rattle.bl_load.specs.Handover.{Part, end_of, part_at, filled}
+use Rattle.bl_load.specs.Handover.{Part, end_of, placed_part, filled}
 use Rattle.bl_walk.specs.Inside.{lies_in, part_with, bytes_in}
 use Rattle.bl_walk.proofs.InsideLemmas.{lies-below}
 use Rattle.bl_walk.proofs.RangeLemmas.{nothing_in, inside_in}
@@ -106,7 +106,7 @@ front bytes rest a b n same fits =
 
 -- the part at a place: its content, and zeros after it
 abbrev pub part_of : (Role → ℕ → List ℕ) → Place → Part
-part_of content place = part_at place (filled place.length (content place.role place.index))
+part_of content place = placed_part place (filled place.length (content place.role place.index))
 
 abbrev pub parts_of : List Place → (Role → ℕ → List ℕ) → List Part
 parts_of places content = map (part_of content) (in_order places)

@@ -11,7 +11,7 @@ ghost use Rattle.bl_load.specs.Reading.{linux};
 ghost use Rattle.bl_load.specs.Parts.{content_of, payload_of};
 ghost use Rattle.bl_bzimage.specs.Setup.{IsSetup};
 ghost use Rattle.bl_load.specs.PlanFacts.{content_by};
-ghost use Rattle.bl_mem.specs.Files.{text_of_file};
+ghost use Rattle.bl_mem.specs.Files.{nth_file};
 ghost use Rattle.bl_load.specs.Loadable.{lengths_of, content_length, IsInFiles, IsLeanContent};
 ghost use Rattle.bl_load.specs.PlacingKept.{IsRowed, EndsLow};
 ghost use Rattle.bl_load.specs.ReadKept.{TablesFit};
@@ -121,9 +121,9 @@ fn initrd_content<A: Allocator, V: ByteView>(files: &[V]) -> Content<A>
 /// The content of the kernel's part: its payload.
 fn payload_content<A: Allocator, V: ByteView>(files: &[V], setup: &Setup) -> Content<A>
     requires some { 1 ≤ length files.now }
-    requires setup { IsSetup (text_of_file (map V.bytes files.now) 0) setup.now }
+    requires setup { IsSetup (nth_file (map V.bytes files.now) 0) setup.now }
     ensures content { content_by (map V.bytes files.now) result
-        ≡ payload_of (text_of_file (map V.bytes files.now) 0) setup.now }
+        ≡ payload_of (nth_file (map V.bytes files.now) 0) setup.now }
     ensures there { IsInFiles (lengths_of (map V.bytes files.now)) result }
     ensures length { content_length result ≡ setup.now.payload_size }
     ensures lean { IsLeanContent role.Kernel result }
@@ -144,7 +144,7 @@ pub fn linux_content<A: Allocator + Copy, V: ByteView>(
     place: &Place,
 ) -> Result<Content<A>, AllocError>
     requires some { 1 ≤ length entry.now.files.now }
-    requires setup { IsSetup (text_of_file (texts_in entry.now) 0) setup.now }
+    requires setup { IsSetup (nth_file (texts_in entry.now) 0) setup.now }
     requires few { length entry.now.machine.now.runs ≤ max_e820_entries }
     requires size { length (initrd_file (texts_in entry.now)) < 2 ^ 32 }
     requires low { All EndsLow places.now }

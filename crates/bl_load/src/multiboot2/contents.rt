@@ -8,7 +8,7 @@ ghost use Rattle.bl_load.specs.Rows.{module_length};
 ghost use Rattle.bl_load.specs.Parts as parts;
 ghost use Rattle.bl_load.specs.Parts.{content_of};
 ghost use Rattle.bl_load.specs.PlanFacts.{content_by};
-ghost use Rattle.bl_mem.specs.Files.{text_of_file};
+ghost use Rattle.bl_mem.specs.Files.{nth_file};
 ghost use Rattle.bl_load.specs.Loadable.{lengths_of, content_length, IsInFiles, IsLeanContent};
 ghost use Rattle.bl_load.specs.EntryFilesKept.{texts_in, value_of_files};
 ghost use Rattle.bl_load.specs.PlacingKept.{HasKernelLength, IsRowed, EndsLow, ModulesEndLow};
@@ -29,13 +29,13 @@ fn kernel_content<A: Allocator + Copy, B: Allocator, V: ByteView>(
     place: &Place,
 ) -> Result<Content<A>, AllocError>
     requires file { 1 ≤ length files.now }
-    requires loadable { AreLoadable (text_of_file (map V.bytes files.now) 0)
+    requires loadable { AreLoadable (nth_file (map V.bytes files.now) 0)
         (kernel_by kernel.now).segments }
     requires length { HasKernelLength (kernel_by kernel.now).segments kernel.now.relocation
         place.now.index place.now.length }
     requires small { place.now.length ≤ 2 ^ 32 }
     ensures content { IfOk result (λ content. content_by (map V.bytes files.now) content
-        ≡ parts.kernel_content (text_of_file (map V.bytes files.now) 0)
+        ≡ parts.kernel_content (nth_file (map V.bytes files.now) 0)
         (kernel_by kernel.now).segments kernel.now.relocation place.now.index) }
     ensures there { IfOk result
         (λ content. IsInFiles (lengths_of (map V.bytes files.now)) content) }
@@ -87,7 +87,7 @@ pub fn multiboot2_content<A: Allocator + Copy, B: Allocator, V: ByteView>(
     place: &Place,
 ) -> Result<Content<A>, AllocError>
     requires files { length entry.now.files.now ≡ 1 + length entry.now.modules.now }
-    requires loadable { AreLoadable (text_of_file (texts_in entry.now) 0)
+    requires loadable { AreLoadable (nth_file (texts_in entry.now) 0)
         (kernel_by kernel.now).segments }
     requires ends { ModulesEndLow (texts_in entry.now) places.now
         (length entry.now.modules.now) }

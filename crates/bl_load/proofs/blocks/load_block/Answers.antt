@@ -1,7 +1,7 @@
 use Rattle.std.proofs.Common.{◌≡◌, ◌+◌, ◌<◌, ◌≤◌, length, arith, refl, sym, ◌∙◌, get_or, drop, ◌∷◌}
 use Rattle.std.proofs.Common.{add-zero, zero-add}
 use Rattle.std.proofs.lemmas.List.{drop_more, get_or_default}
-use Rattle.bl_mem.specs.Files.{text_of_file}
+use Rattle.bl_mem.specs.Files.{nth_file}
 use Rattle.bl_load.specs.Blocks.{span_of}
 use Rattle.bl_load.specs.Parts.{no_segment}
 use Rattle.bl_load.proofs.BlockLemmas.{block_from}
@@ -15,7 +15,7 @@ loop-segment-init g c =
     let segments = c.args.segments.now in
     let first =
     block_from_first
-    (text_of_file (g.F.FileSet.texts c.args.files.now (g.M.PhysMem.bytes c.args.memory.now))
+    (nth_file (g.F.FileSet.texts c.args.files.now (g.M.PhysMem.bytes c.args.memory.now))
     c.args.file) segments no_segment c.requires.some c.requires.copied
     c.requires.ascending in
     record {
@@ -40,7 +40,7 @@ files_kept g c =
     let done = c.loop-segment.done in
     let old = g.M.PhysMem.bytes c.loop-segment.memory in
     let text =
-    text_of_file (g.F.FileSet.texts c.args.files.now (g.M.PhysMem.bytes c.args.memory.now))
+    nth_file (g.F.FileSet.texts c.args.files.now (g.M.PhysMem.bytes c.args.memory.now))
     c.args.file in
     let here = c.loop-segment-test.true in
     let rest = drop (i + 1) segments in
@@ -73,7 +73,7 @@ load_segment-requires-clause-beside g c =
     let done = c.loop-segment.done in
     let old = g.M.PhysMem.bytes c.loop-segment.memory in
     let text =
-    text_of_file (g.F.FileSet.texts c.args.files.now (g.M.PhysMem.bytes c.args.memory.now))
+    nth_file (g.F.FileSet.texts c.args.files.now (g.M.PhysMem.bytes c.args.memory.now))
     c.args.file in
     let here = c.loop-segment-test.true in
     let rest = drop (i + 1) segments in
@@ -94,7 +94,7 @@ load_segment-requires-clause-room g c =
     let done = c.loop-segment.done in
     let old = g.M.PhysMem.bytes c.loop-segment.memory in
     let text =
-    text_of_file (g.F.FileSet.texts c.args.files.now (g.M.PhysMem.bytes c.args.memory.now))
+    nth_file (g.F.FileSet.texts c.args.files.now (g.M.PhysMem.bytes c.args.memory.now))
     c.args.file in
     let here = c.loop-segment-test.true in
     let rest = drop (i + 1) segments in
@@ -118,7 +118,7 @@ loop-segment-preserved g c =
     let done = c.loop-segment.done in
     let old = g.M.PhysMem.bytes c.loop-segment.memory in
     let text =
-    text_of_file (g.F.FileSet.texts c.args.files.now (g.M.PhysMem.bytes c.args.memory.now))
+    nth_file (g.F.FileSet.texts c.args.files.now (g.M.PhysMem.bytes c.args.memory.now))
     c.args.file in
     let here = c.loop-segment-test.true in
     let rest = drop (i + 1) segments in

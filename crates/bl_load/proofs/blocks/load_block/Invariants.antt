@@ -1,6 +1,6 @@
 use Rattle.std.proofs.Common.{◌≡◌, ◌+◌, ◌≤◌, ◌<◌, ℕ, length, drop, get_or}
 use Rattle.bl_mem.specs.declared.segment.Segment.{Segment}
-use Rattle.bl_mem.specs.Files.{text_of_file}
+use Rattle.bl_mem.specs.Files.{nth_file}
 use Rattle.bl_mem.specs.Memory.{overwrite, KeepsMemory}
 use Rattle.bl_load.specs.Blocks.{span_of, block_of}
 use Rattle.bl_load.proofs.BlockLemmas.{block_from}
@@ -11,7 +11,7 @@ abbrev pub invariant-loop-segment : goal.invariant-loop-segment
 invariant-loop-segment g l =
     let bytes = g.M.PhysMem.bytes in
     let texts = g.F.FileSet.texts l.files in
-    let text = text_of_file (texts (bytes l.fn.memory)) l.file in
+    let text = nth_file (texts (bytes l.fn.memory)) l.file in
     let left = block_from text (l.low + l.done) (drop l.segment-index l.segments) in
     record {
       same : texts (bytes l.memory) ≡ texts (bytes l.fn.memory);

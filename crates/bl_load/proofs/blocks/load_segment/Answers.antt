@@ -1,5 +1,5 @@
 use Rattle.std.proofs.Common.{◌≡◌, ◌+◌, length, arith, slice_range, ◌∙◌}
-use Rattle.bl_mem.specs.Files.{text_of_file}
+use Rattle.bl_mem.specs.Files.{nth_file}
 use Rattle.bl_mem.proofs.Overwrites.{beside_zeros}
 use Rattle.bl_load.proofs.BlockLemmas.{length-filed}
 use Rattle.bl_load.proofs.WrittenLemmas.{zeros_behind}
@@ -9,7 +9,7 @@ pub returns-clause-after : goal.returns-clause-after
 returns-clause-after g c =
     let segment = c.args.segment.now in
     let text =
-    text_of_file (g.F.FileSet.texts c.args.files.now (g.M.PhysMem.bytes c.args.memory.now))
+    nth_file (g.F.FileSet.texts c.args.files.now (g.M.PhysMem.bytes c.args.memory.now))
     c.args.file in
     rw (c.zero.ensures.after, c.copy.ensures.after)
     (zeros_behind _ (slice_range text segment.offset (segment.offset + segment.filesz)) c.args.at
@@ -21,7 +21,7 @@ returns-clause-texts g c =
     let segment = c.args.segment.now in
     let old = g.M.PhysMem.bytes c.args.memory.now in
     let copied = g.M.PhysMem.bytes c.copy.new.memory in
-    let text = text_of_file (g.F.FileSet.texts c.args.files.now old) c.args.file in
+    let text = nth_file (g.F.FileSet.texts c.args.files.now old) c.args.file in
     let count = length-filed text segment c.requires.copied in
     let size : length copied ≡ length old = c.copy.ensures.kept.size in
     rw c.zero.ensures.after

@@ -1,6 +1,6 @@
 use Rattle.std.proofs.Common.{◌≡◌, length, take, arith, rules, ◌∙◌}
 use Rattle.std.proofs.lemmas.List.{places}
-use Rattle.bl_mem.specs.Files.{text_of_file}
+use Rattle.bl_mem.specs.Files.{nth_file}
 use Rattle.bl_mem.proofs.Overwrites.{copy_more}
 use Rattle.bl_load.proofs.MemoryLemmas.{keeps_on}
 use Rattle.bl_load.proofs.copying.copy_by_pieces.Goals as goal
@@ -28,7 +28,7 @@ pub loop-done-preserved : goal.loop-done-preserved
 loop-done-preserved g c =
     let before = c.loop-done.invariant in
     let old = g.M.PhysMem.bytes c.args.memory.now in
-    let text = text_of_file (g.F.FileSet.texts c.args.files.now old) c.args.file in
+    let text = nth_file (g.F.FileSet.texts c.args.files.now old) c.args.file in
     let next = c.min-next.result in
     let size : length (take next c.loop-done.buffer) ≡ next = search (rules, places) in
     record {

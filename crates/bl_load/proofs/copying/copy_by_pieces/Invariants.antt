@@ -1,5 +1,5 @@
 use Rattle.std.proofs.Common.{◌≡◌, ◌-◌, ◌+◌, ◌≤◌, slice_range}
-use Rattle.bl_mem.specs.Files.{text_of_file}
+use Rattle.bl_mem.specs.Files.{nth_file}
 use Rattle.bl_mem.specs.Memory.{overwrite, KeepsMemory}
 use Rattle.bl_load.proofs.copying.copy_by_pieces.Given as goal
 
@@ -13,7 +13,7 @@ invariant-loop-done g l =
       same : texts (bytes l.memory) ≡ texts (bytes l.fn.memory);
       after : bytes l.memory
           ≡ overwrite (bytes l.fn.memory) l.at
-          (slice_range (text_of_file (texts (bytes l.fn.memory)) l.file) l.offset
+          (slice_range (nth_file (texts (bytes l.fn.memory)) l.file) l.offset
           (l.offset + l.done));
       kept : KeepsMemory g.M.PhysMem.lender bytes g.M.PhysMem.room l.fn.memory l.memory;
     }

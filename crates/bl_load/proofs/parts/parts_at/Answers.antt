@@ -5,7 +5,7 @@ use Rattle.std.proofs.lemmas.Result.{err_from_is_err_and}
 use Rattle.bl_plan.specs.declared.part.Place.{Place}
 use Rattle.bl_plan.specs.declared.part.Role.TheVariants.{Kernel}
 use Rattle.bl_load.specs.declared.plan.PlannedPart.{PlannedPart}
-use Rattle.bl_load.specs.Handover.{Part, part_at, filled}
+use Rattle.bl_load.specs.Handover.{Part, placed_part, filled}
 use Rattle.bl_load.specs.Parts.{part_from}
 use Rattle.bl_load.specs.Place.{planned_place}
 use Rattle.bl_load.specs.PlanFacts.{part_by}
@@ -44,7 +44,7 @@ loop-place-preserved g c =
     record {
       parts = ap (map by) items ∙ map-append by c.loop-place.parts.items (new ∷ [])
           ∙ ap₂ (λ (xs : List Part) (x : Part). xs ++ x ∷ []) i.parts
-          (ap (λ (bytes : List ℕ). part_at place (filled place.length bytes))
+          (ap (λ (bytes : List ℕ). placed_part place (filled place.length bytes))
           c.in_ok-content.ensures.content)
           ∙ sym (map-append from (take k all) (place ∷ [])) ∙ ap (map from) (sym more);
       backed =

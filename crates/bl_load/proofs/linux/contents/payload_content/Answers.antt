@@ -1,7 +1,7 @@
 use Rattle.std.proofs.Common.{ℕ, List, length, map, arith}
 use Rattle.std.proofs.lemmas.List.{length-map}
 use Rattle.bl_bzimage.proofs.SetupLaws.{payload_is_tail}
-use Rattle.bl_mem.specs.Files.{text_of_file}
+use Rattle.bl_mem.specs.Files.{nth_file}
 use Rattle.bl_load.proofs.HeldLemmas.{length_at}
 use Rattle.bl_load.proofs.linux.contents.payload_content.Goals as goal
 
@@ -9,7 +9,7 @@ pub returns-clause-there : goal.returns-clause-there
 returns-clause-there g c =
     let texts = map g.V.ByteView.bytes c.args.files.now in
     let some = c.requires.some in
-    let tail = (payload_is_tail (text_of_file texts 0) c.args.setup.now c.requires.setup).0 in (
+    let tail = (payload_is_tail (nth_file texts 0) c.args.setup.now c.requires.setup).0 in (
       omega (
         arith,
         some,

@@ -1,7 +1,7 @@
 use Rattle.std.proofs.Common.{sym}
 use Rattle.bl_map.specs.NormalMap.{kind_at}
 use Rattle.bl_say.proofs.PoolLemmas.{kind_told}
-use Rattle.bl_say.proofs.lines.detail.kind_of_byte.Goals as goal
+use Rattle.bl_say.proofs.lines.refusal_detail.kind_of_byte.Goals as goal
 
 pub returns : goal.returns
 returns g c =
