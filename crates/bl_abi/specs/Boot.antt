@@ -75,8 +75,8 @@ stored_misuse given =
     if not (are_missing_or_within given given.files) then Some BadContents else None
 
 -- that of a menu: of its entries, or else of its files
-abbrev pub menu_misuse : GivenFacts → List EntryRecord → Option Misuse
-menu_misuse given entries = option_or (entries_misuse given entries) (stored_misuse given)
+abbrev pub entries_or_files_misuse : GivenFacts → List EntryRecord → Option Misuse
+entries_or_files_misuse given entries = option_or (entries_misuse given entries) (stored_misuse given)
 
 -- few entries, each within its limits
 abbrev pub AreFewGiven : GivenFacts → List EntryRecord → Type 0
@@ -105,7 +105,7 @@ pub data IsNoMenu (given : GivenFacts) (entries : List EntryRecord) (default : �
 
 -- memory that held the old bytes holds the new ones, where a boot on a machine of these facts ended
 -- so: the files alone decide, and no byte outside the pool and the parts has changed
-pub record HasBooted (facts : MachineFacts) (menu : MenuFacts) (files : List File)
+pub record HasBootEnded (facts : MachineFacts) (menu : MenuFacts) (files : List File)
     (old new : List ℕ) (end : PhaseFacts) : Type 0 where
   pub outcome : HasEnded (state_at new end)
       → IsOutcome (boot_facts facts menu (map size_of files)) files (λ _. None) (state_at new end)
@@ -124,14 +124,14 @@ pub record IsBooted (machine : MachineRecord) (regions : List RegionRecord) (giv
   pub allowed : IsMenuAllowed given entries default fallbacks
   pub stored : stored_misuse given ≡ None
   pub booted :
-      HasBooted facts (menu_given given entries default fallbacks) (given_files given) old new end
+      HasBootEnded facts (menu_given given entries default fallbacks) (given_files given) old new end
 
 -- why there is no menu: the first misuse of its entries and files, or else why these make none
 pub data IsBootMenuFault (given : GivenFacts) (entries : List EntryRecord) (default : ℕ)
     (fallbacks : List ℕ) : GivenFault → Type 0 where
-  misused : (misuse : Misuse) → menu_misuse given entries ≡ Some misuse
+  misused : (misuse : Misuse) → entries_or_files_misuse given entries ≡ Some misuse
       → IsBootMenuFault given entries default fallbacks (Misused misuse)
-  no_menu : menu_misuse given entries ≡ None → (fault : GivenFault)
+  no_menu : entries_or_files_misuse given entries ≡ None → (fault : GivenFault)
       → IsNoMenu given entries default fallbacks fault
       → IsBootMenuFault given entries default fallbacks fault
 

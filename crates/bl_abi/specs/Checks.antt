@@ -27,8 +27,8 @@ abbrev pub is_multiboot2 : EntryRecord → Bool
 is_multiboot2 entry = entry.protocol == 1
 
 -- its modules are among those given
-abbrev pub has_modules : GivenFacts → EntryRecord → Bool
-has_modules given entry =
+abbrev pub are_modules_in_range : GivenFacts → EntryRecord → Bool
+are_modules_in_range given entry =
     if is_multiboot2 entry
     then are_among entry.first_module entry.module_count (length given.modules)
     else true
@@ -71,7 +71,7 @@ has_contents given index = is_in_contents given (slice_index_or given.files inde
 unfoldable pub entry_misuse : GivenFacts → EntryRecord → Option Misuse
 entry_misuse given entry =
     if not (is_protocol entry.protocol) then Some BadProtocol else
-    if not (has_modules given entry) then Some BadModules else
+    if not (are_modules_in_range given entry) then Some BadModules else
     if not (has_texts given entry) then Some BadText else
     if not (all_files (is_file given) given entry) then Some BadFile else
     None

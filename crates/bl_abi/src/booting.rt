@@ -5,7 +5,7 @@ ghost use Rattle.bl_mem.specs.Memory.{KeepsMemory, memory_from};
 ghost use Rattle.bl_session.specs.Ledger.{sliced_file};
 ghost use Rattle.bl_session.specs.Run.{boot_end};
 ghost use Rattle.bl_session.specs.Phases.{PhaseFacts};
-ghost use Rattle.bl_abi.specs.Boot.{HasBooted, IsBootEnd, IsBootMenuFault, IsMenuAllowed};
+ghost use Rattle.bl_abi.specs.Boot.{HasBootEnded, IsBootEnd, IsBootMenuFault, IsMenuAllowed};
 ghost use Rattle.bl_abi.specs.Boot.{stored_misuse, typed_end, menu_given};
 ghost use Rattle.bl_abi.specs.Boot as spec;
 ghost use Rattle.bl_abi.specs.BootTold.{TellsBoot};
@@ -35,7 +35,7 @@ fn boot_slices<M: PhysMem, A: Allocator + Copy>(
     menu: &Menu<A>,
 ) -> Result<Outcome<A>, BootFault<A>>
     requires { length (M.bytes memory.old) ≡ machine.now.size }
-    ensures booted { HasBooted machine.now menu.now
+    ensures booted { HasBootEnded machine.now menu.now
         (map (λ file. sliced_file (option_copied file)) files.now)
         (M.bytes memory.old) (M.bytes memory.new) (boot_end result) }
     ensures kept { KeepsMemory M.lender M.bytes M.room memory.old memory.new }
@@ -56,7 +56,7 @@ fn boot_files<A: Allocator + Copy>(
     menu: &Menu<A>,
 ) -> Result<Outcome<A>, BootFault<A>>
     requires { base + length memory.old ≡ machine.now.size }
-    ensures { HasBooted machine.now menu.now
+    ensures { HasBootEnded machine.now menu.now
         (map (λ file. sliced_file (option_copied file)) files.now)
         (memory_from base memory.old) (memory_from base memory.new) (boot_end result) }
 {
@@ -74,7 +74,7 @@ fn boot_given<A: Allocator + Copy>(
     menu: &Menu<A>,
 ) -> Result<Outcome<A>, BootFault<A>>
     requires { base + length memory.old ≡ machine.now.size }
-    ensures { HasBooted machine.now menu.now (spec.given_files given.now)
+    ensures { HasBootEnded machine.now menu.now (spec.given_files given.now)
         (memory_from base memory.old) (memory_from base memory.new) (boot_end result) }
 {
     let Ok(files) = stored_files(alloc, given) else {

@@ -34,8 +34,8 @@ impl Given<'_> {
     ghost use Rattle.bl_abi.specs.Checks as spec;
 
     /// Whether an entry's modules are among those given.
-    fn has_modules(&self, entry: &EntryRecord) -> bool
-        ensures { result ≡ spec.has_modules self.now entry.now }
+    fn are_modules_in_range(&self, entry: &EntryRecord) -> bool
+        ensures { result ≡ spec.are_modules_in_range self.now entry.now }
     {
         if entry.protocol != 1 {
             return true;
@@ -162,7 +162,7 @@ impl Given<'_> {
         if !is_protocol(entry.protocol) {
             return Err(Misuse::BadProtocol);
         }
-        if !self.has_modules(entry) {
+        if !self.are_modules_in_range(entry) {
             return Err(Misuse::BadModules);
         }
         if !self.has_texts(entry) {

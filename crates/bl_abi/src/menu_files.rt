@@ -68,8 +68,8 @@ fn check_stored(given: &Given) -> Result<(), Misuse>
 /// Checks the entries and the files of a menu: the first misuse.
 pub(crate) fn check_menu(given: &Given, entries: &[EntryRecord]) -> Result<(), Misuse>
     ensures { MatchResult result
-        (λ _. spec.menu_misuse given.now entries.now ≡ None)
-        (λ misuse. spec.menu_misuse given.now entries.now ≡ Some misuse) }
+        (λ _. spec.entries_or_files_misuse given.now entries.now ≡ None)
+        (λ misuse. spec.entries_or_files_misuse given.now entries.now ≡ Some misuse) }
 {
     check_entries(given, entries)?;
     check_stored(given)

@@ -25,17 +25,17 @@ use Rattle.bl_boot.specs.declared.description_boot.boot_end.EndFault.TheVariants
 use Rattle.bl_boot.specs.declared.description_boot.boot_end.EndFault.TheVariants.{Device}
 use Rattle.bl_boot.specs.declared.description_boot.boot_end.EndFault.TheVariants.{NoMemory}
 use Rattle.bl_session.specs.Stores.{file_of, stored_files}
-use Rattle.bl_boot.specs.Found.{AreFound, AsksFirst, names_asked}
+use Rattle.bl_boot.specs.Found.{AreFound, AsksPrefix, names_asked}
 use Rattle.bl_boot.specs.Attempted.{names_in, menu_of, boot_of}
 use Rattle.bl_boot.specs.DescribedMachine.{IsMachineOf}
 use Rattle.bl_boot.specs.Ends.{BootCase, HasInlineFiles, names_sought, names_fetched}
 use Rattle.bl_boot.specs.Ends.{Surroundings}
 use Rattle.bl_boot.specs.Kept.{end_of_desc_fault}
-use Rattle.bl_boot.specs.Kept.{IsMachineFault, IsHandFault, HasFaults, HasAsked, FoundEnds, BootEnds}
+use Rattle.bl_boot.specs.Kept.{IsMachineFault, IsImageWriteFault, HasFaults, HasAsked, FoundEnds, BootEnds}
 
 -- the sink has one fault more exactly if it had one while the image was written
 pub faults_by : (old new : ℕ) (s t image : List ℕ) (fault : EndFault)
-    → IsHandFault old new s t image fault → HasFaults old new (Err fault)
+    → IsImageWriteFault old new s t image fault → HasFaults old new (Err fault)
 faults_by old new s t image BadDescription never = absurd never
 faults_by old new s t image Device broken = broken.0
 faults_by old new s t image NoMemory kept = kept.0
@@ -45,7 +45,7 @@ pub not_handed : (description : Described) (facts : BootFacts) (files : List Fil
     (entry : ℕ) (earlier : List RefusedEntry) (handover : Handover)
     → IsOutcome facts files no_fault (handed_over entry earlier handover)
     → (old new : ℕ) (s t u v : List ℕ) (fault : EndFault)
-    → IsHandFault old new s t (spelling written_version handover) fault → v ≡ u
+    → IsImageWriteFault old new s t (spelling written_version handover) fault → v ≡ u
     → FoundEnds description facts files s t u v (Err fault)
 not_handed description facts files entry earlier handover came old new s t u v BadDescription never
     unsaid = absurd never
@@ -57,12 +57,12 @@ not_handed description facts files entry earlier handover came old new s t u v N
 -- ---- the names that were asked for
 
 -- none of them is a beginning of them, and so are all
-pub none_asked : (names before : List (List ℕ)) → AsksFirst names before before
+pub none_asked : (names before : List (List ℕ)) → AsksPrefix names before before
 none_asked names before =
     record { first = []; left = names; names_are = refl; after_is = sym (append-nil before) }
 
 pub all_asked : (names before after : List (List ℕ)) → after ≡ before ++ names
-    → AsksFirst names before after
+    → AsksPrefix names before after
 all_asked names before after is =
     record { first = names; left = []; names_are = sym (append-nil names); after_is = is }
 

@@ -6,7 +6,7 @@ use Rattle.std.proofs.lemmas.List.{get_or-map, map-append, length-map, take_more
 use Rattle.std.proofs.lemmas.List.Elements.{filter-append}
 use Rattle.bl_desc.specs.Described.{InlineFile, file_named}
 use Rattle.bl_session.specs.Outcome.{File}
-use Rattle.bl_boot.specs.Found.{IsFound, AreFound, AsksFirst, names_asked}
+use Rattle.bl_boot.specs.Found.{IsFound, AreFound, AsksPrefix, names_asked}
 
 -- ---- found
 
@@ -84,7 +84,7 @@ one_more_asked inline names i before between after within so_far one =
 pub asks_first : (inline : List InlineFile) (names : List (Bor (List ℕ))) (i : ℕ)
     (before after : List (List ℕ))
     → after ≡ before ++ names_asked inline (map (λ n. n.now) (take i names))
-    → AsksFirst (names_asked inline (map (λ n. n.now) names)) before after
+    → AsksPrefix (names_asked inline (map (λ n. n.now) names)) before after
 asks_first inline names i before after is =
     let text : Bor (List ℕ) → List ℕ = λ n. n.now in
     let first : List (List ℕ) = map text (take i names) in

@@ -19,7 +19,7 @@ use Rattle.bl_session.specs.Attempts.{without_repeats_by}
 use Rattle.bl_boot.specs.Attempted.{entry_of, names_in}
 use Rattle.bl_say.specs.EntryNames.{file_names, names_beside}
 use Rattle.bl_boot.specs.Attempted.{absent_entry}
-use Rattle.bl_boot.specs.Kept.{names_with}
+use Rattle.bl_boot.specs.Kept.{with_new_names}
 
 -- names as they are kept
 abbrev pub texts : List (Bor (List ℕ)) → List (List ℕ)
@@ -34,13 +34,13 @@ any_text (n ∷ names) name = rw (any_text names name) refl
 -- a name that is new is added
 pub name_new : (names : List (Bor (List ℕ))) (name : Bor (List ℕ)) (rest : List (List ℕ))
     → list_any (λ n. bytes_eq n.now name.now) names ≡ false
-    → names_with (texts (names ++ name ∷ [])) rest ≡ names_with (texts names) (name.now ∷ rest)
+    → with_new_names (texts (names ++ name ∷ [])) rest ≡ with_new_names (texts names) (name.now ∷ rest)
 name_new names name rest is = rw (map-append, any_text names name.now, is, append_assoc) refl
 
 -- one that is there is left out
 pub name_there : (names : List (Bor (List ℕ))) (name : Bor (List ℕ)) (rest : List (List ℕ))
     → list_any (λ n. bytes_eq n.now name.now) names ≡ true
-    → names_with (texts names) rest ≡ names_with (texts names) (name.now ∷ rest)
+    → with_new_names (texts names) rest ≡ with_new_names (texts names) (name.now ∷ rest)
 name_there names name rest is = rw (any_text names name.now, is) refl
 
 -- ---- the names of modules' files
@@ -52,11 +52,11 @@ files_of modules = map (λ m. m.file) (map module_view modules)
 pub one_more_module : {A : Type 0} (start before after : List (List ℕ))
     (modules : List (ModuleRow A)) (i : ℕ) (m : ModuleRow A) (name : List ℕ)
     → i < length modules → m ≡ get_or modules i m → name ≡ m.file
-    → ((rest : List (List ℕ)) → names_with after rest ≡ names_with before (name ∷ rest))
-    → ((rest : List (List ℕ)) → names_with before (files_of (drop i modules) ++ rest)
-    ≡ names_with start (files_of modules ++ rest))
-    → (rest : List (List ℕ)) → names_with after (files_of (drop (i + 1) modules) ++ rest)
-    ≡ names_with start (files_of modules ++ rest)
+    → ((rest : List (List ℕ)) → with_new_names after rest ≡ with_new_names before (name ∷ rest))
+    → ((rest : List (List ℕ)) → with_new_names before (files_of (drop i modules) ++ rest)
+    ≡ with_new_names start (files_of modules ++ rest))
+    → (rest : List (List ℕ)) → with_new_names after (files_of (drop (i + 1) modules) ++ rest)
+    ≡ with_new_names start (files_of modules ++ rest)
 one_more_module start before after modules i m name within at_i named added so_far rest =
     let left = files_of (drop (i + 1) modules) in
     let here : files_of (drop i modules) ≡ name ∷ left =
@@ -64,17 +64,17 @@ one_more_module start before after modules i m name within at_i named added so_f
     ∙ ap (λ (x : ModuleRow _). x.file ∷ left) (sym at_i)
     ∙ ap (λ (n : List ℕ). n ∷ left) (sym named) in
     added (left ++ rest)
-    ∙ ap (λ (files : List (List ℕ)). names_with before (files ++ rest)) (sym here)
+    ∙ ap (λ (files : List (List ℕ)). with_new_names before (files ++ rest)) (sym here)
     ∙ so_far rest
 
 -- after the last one all are
 pub all_modules : {A : Type 0} (start after : List (List ℕ)) (modules : List (ModuleRow A)) (i : ℕ)
     → length modules ≤ i
-    → ((rest : List (List ℕ)) → names_with after (files_of (drop i modules) ++ rest)
-    ≡ names_with start (files_of modules ++ rest))
-    → (rest : List (List ℕ)) → names_with after rest ≡ names_with start (files_of modules ++ rest)
+    → ((rest : List (List ℕ)) → with_new_names after (files_of (drop i modules) ++ rest)
+    ≡ with_new_names start (files_of modules ++ rest))
+    → (rest : List (List ℕ)) → with_new_names after rest ≡ with_new_names start (files_of modules ++ rest)
 all_modules start after modules i past so_far rest =
-    ap (λ (files : List (List ℕ)). names_with after (files ++ rest))
+    ap (λ (files : List (List ℕ)). with_new_names after (files ++ rest))
     (sym (at_drop_all files_of modules i past))
     ∙ so_far rest
 

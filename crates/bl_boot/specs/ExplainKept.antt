@@ -24,7 +24,7 @@ use Rattle.bl_boot.specs.declared.explanation.fault.ExplainFault.{ExplainFault}
 use Rattle.bl_boot.specs.declared.explanation.fault.ExplainFault.TheVariants.{Blamed, NoMemory}
 use Rattle.bl_say.specs.BlameHints.{blame_lines}
 use Rattle.bl_boot.specs.Explained.{ExplainsBlame, ExplainsBoot, ExplainsRefusals}
-use Rattle.bl_boot.specs.Found.{AsksFirst}
+use Rattle.bl_boot.specs.Found.{AsksPrefix}
 use Rattle.bl_say.specs.Sought.{SoughtFacts, bytes_sought}
 use Rattle.bl_boot.specs.Details.{AreToldRefusals, value_sought}
 use Rattle.bl_boot.specs.KernelSegments.{AreSegmentsAt}
@@ -115,4 +115,4 @@ ExplainEnds answers faults desc before after old new (Err NoMemory) = new ≡ ol
 -- these names were asked for where the boot came to an end; else the first of them
 abbrev pub ExplainAsks : (names before after : List (List ℕ)) → Result End ExplainFault → Type 0
 ExplainAsks names before after (Ok ended) = after ≡ before ++ names
-ExplainAsks names before after (Err fault) = AsksFirst names before after
+ExplainAsks names before after (Err fault) = AsksPrefix names before after

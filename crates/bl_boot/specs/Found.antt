@@ -38,7 +38,7 @@ abbrev pub names_asked : List InlineFile → List (List ℕ) → List (List ℕ)
 names_asked inline names = filter (λ name. is_none (file_named name inline)) names
 
 -- of these names the first ones, perhaps none, perhaps all, were asked for after those before
-pub record AsksFirst (names before after : List (List ℕ)) : Type 0 where
+pub record AsksPrefix (names before after : List (List ℕ)) : Type 0 where
   pub first : List (List ℕ)
   pub left : List (List ℕ)
   pub names_are : names ≡ first ++ left

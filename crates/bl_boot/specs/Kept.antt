@@ -14,7 +14,7 @@ use Rattle.bl_session.specs.Boot.{BootFacts, handed_over, none_left}
 use Rattle.bl_session.specs.Outcome.{File, IsOutcome, no_fault}
 use Rattle.bl_session.specs.Attempts.{without_repeats_by}
 use Rattle.bl_boot.specs.Attempted.{entry_of}
-use Rattle.bl_boot.specs.Found.{AsksFirst}
+use Rattle.bl_boot.specs.Found.{AsksPrefix}
 use Rattle.bl_say.specs.Says.{booted_line, refused_lines, no_entry_line}
 use Rattle.bl_boot.specs.DescribedMachine.{IsBadMachine, IsBadDescription}
 use Rattle.bl_boot.specs.Ends.{IsBooted, IsRefused, IsCutShort}
@@ -33,8 +33,8 @@ end_of_desc_fault desc_fault.BadDescription = BadDescription
 end_of_desc_fault desc_fault.NoMemory = NoMemory
 
 -- the names so far, and after them what these add: each one that is not there yet
-abbrev pub names_with : List (List ℕ) → List (List ℕ) → List (List ℕ)
-names_with earlier names = earlier ++ without_repeats_by bytes_eq earlier names
+abbrev pub with_new_names : List (List ℕ) → List (List ℕ) → List (List ℕ)
+with_new_names earlier names = earlier ++ without_repeats_by bytes_eq earlier names
 
 -- why there is no such machine: a rule is broken, or memory ran out
 abbrev pub IsMachineFault : Described → EndFault → Type 0
@@ -44,11 +44,11 @@ IsMachineFault description NoMemory = Unit {0}
 
 -- why an image was not handed over whole to a sink: the sink had a fault and took a beginning, or
 -- memory ran out before
-abbrev pub IsHandFault : ℕ → ℕ → List ℕ → List ℕ → List ℕ → EndFault → Type 0
-IsHandFault faults_before faults_after before after image BadDescription = ⊥
-IsHandFault faults_before faults_after before after image Device =
+abbrev pub IsImageWriteFault : ℕ → ℕ → List ℕ → List ℕ → List ℕ → EndFault → Type 0
+IsImageWriteFault faults_before faults_after before after image BadDescription = ⊥
+IsImageWriteFault faults_before faults_after before after image Device =
     (faults_after ≡ faults_before + 1) × TookBeginning before after image
-IsHandFault faults_before faults_after before after image NoMemory =
+IsImageWriteFault faults_before faults_after before after image NoMemory =
     (faults_after ≡ faults_before) × (after ≡ before)
 
 -- a boot ends so
@@ -94,8 +94,8 @@ HasFaults before after (Ok ended) = after ≡ before
 abbrev pub HasAsked : (names before after : List (List ℕ)) → Result End EndFault → Type 0
 HasAsked names before after (Ok ended) = after ≡ before ++ names
 HasAsked names before after (Err Device) = after ≡ before ++ names
-HasAsked names before after (Err BadDescription) = AsksFirst names before after
-HasAsked names before after (Err NoMemory) = AsksFirst names before after
+HasAsked names before after (Err BadDescription) = AsksPrefix names before after
+HasAsked names before after (Err NoMemory) = AsksPrefix names before after
 
 -- a map ends so
 abbrev pub MapEnds : List ℕ → List ℕ → List ℕ → Result (Unit {0}) EndFault → Type 0

@@ -11,7 +11,7 @@ use Rattle.bl_desc.specs.Values.{◌>>=◌}
 use Rattle.bl_desc.specs.Allowed.{KeyRule, item_count, key_rules, may, must}
 use Rattle.bl_desc.specs.BadKeys.{BreaksOne, IsBadKey, IsFaultAt, IsItemFault}
 use Rattle.bl_desc.specs.BadKeys.{IsKeyFault, count_at, count_or_none, item_at, set_of_protocol}
-use Rattle.bl_desc.specs.BadKeysKept.{IsListedBad, IsNumberFault, array_items}
+use Rattle.bl_desc.specs.BadKeysKept.{IsListedBad, IsBadItemFault, array_items}
 use Rattle.bl_desc.specs.DescriptionKept.{IsEntryBad, IsEntryFaultAt, IsEntryItemFaultAt}
 use Rattle.bl_desc.specs.DescriptionKept.{IsFrontFault, IsMenuBad, IsModulesBad, IsModulesFaultAt}
 use Rattle.bl_desc.specs.DescriptionKept.{copy_rules, entry_set_in, common_rules, initrd_rules}
@@ -231,7 +231,7 @@ entry_whole count ms fault h = rule_fault count keys.Description ms fault (among
 
 -- an item of an array of numbers
 pub pool_item : (ms : Members) (fault : KeyFault)
-    → IsNumberFault (codes "pool") Number (array_items (get_member (codes "pool") ms)) fault
+    → IsBadItemFault (codes "pool") Number (array_items (get_member (codes "pool") ms)) fault
     → IsFaultAt ms places.Description fault
 pool_item ms (NoTable value) h = absurd h
 pool_item ms (Unknown key known) h = absurd h
@@ -242,7 +242,7 @@ pool_item ms (BadItem key index value told) h =
     inr (inl (h.0, ap Some (sym h.1), sym (item_of (get_member (codes "pool") ms) index) ∙ h.2, rw h.1 h.3))
 
 pub fallback_item : (count : ℕ) (ms : Members) (fault : KeyFault)
-    → IsNumberFault (codes "fallback") (IndexBelow count)
+    → IsBadItemFault (codes "fallback") (IndexBelow count)
     (array_items (get_member (codes "fallback") ms)) fault
     → IsKeyFault count keys.Description ms fault
 fallback_item count ms (NoTable value) h = absurd h

@@ -100,8 +100,8 @@ IsListedBad listed ds bad =
     × IsSomeAnd (get_item i ds) (λ d. IsItemFault (set_in listed) d bad.fault)
 
 -- one of these items of the array at a key is not allowed
-abbrev pub IsNumberFault : List ℕ → Allowed → Items → KeyFault → Type 0
-IsNumberFault key allowed ds (BadItem at_key index value told) =
+abbrev pub IsBadItemFault : List ℕ → Allowed → Items → KeyFault → Type 0
+IsBadItemFault key allowed ds (BadItem at_key index value told) =
     (at_key.now ≡ key) × (told ≡ allowed) × (get_item index ds ≡ Some (view value.now))
     × (allows allowed (view value.now) ≡ false)
-IsNumberFault key allowed ds _ = ⊥
+IsBadItemFault key allowed ds _ = ⊥

@@ -96,13 +96,13 @@ each_item read (item d ds) = do
   xs ← each_item read ds
   Some (x ∷ xs)
 
-abbrev pub in_array : {A : Type 0} → (Data → Option A) → Data → Option (List A)
-in_array read (array ds) = each_item read ds
-in_array read _ = None
+abbrev pub array_of : {A : Type 0} → (Data → Option A) → Data → Option (List A)
+array_of read (array ds) = each_item read ds
+array_of read _ = None
 
 -- an array of tables, each read by itself
 abbrev pub in_tables : {A : Type 0} → (Members → Option A) → Data → Option (List A)
-in_tables read d = in_array (in_table read) d
+in_tables read d = array_of (in_table read) d
 
 -- ---- indices
 
@@ -112,4 +112,4 @@ toml_index count d = toml_number d >>= passing (λ n. nat_lt n count)
 
 -- an array of such indices, in which one may repeat
 abbrev pub toml_indices : ℕ → Data → Option (List ℕ)
-toml_indices count d = in_array (toml_index count) d
+toml_indices count d = array_of (toml_index count) d

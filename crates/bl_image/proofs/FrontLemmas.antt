@@ -92,12 +92,12 @@ layout_told v p r count x =
     ∙ ap (layout (version_number v)) (protocol_stands v p r count x)
 
 -- its greatest number of a role
-max_told : (v : Version) (p : Protocol) → HasProtocol v p
+max_role_told : (v : Version) (p : Protocol) → HasProtocol v p
     → (layout (version_number v) (protocol_number p)).max_role ≡ max_role (is_wide p)
-max_told One p has = sym (ap max_role has)
-max_told Two Multiboot2 has = refl
-max_told Two Linux has = refl
-max_told Two Linux64 has = refl
+max_role_told One p has = sym (ap max_role has)
+max_role_told Two Multiboot2 has = refl
+max_role_told Two Linux has = refl
+max_role_told Two Linux64 has = refl
 
 -- in version 2 the number of parts and the records stand at the same places under each protocol
 counted_at : (p : Protocol) → (layout 2 (protocol_number p)).count_at ≡ 264
@@ -155,7 +155,7 @@ head_front v p r count x has fit few =
     ∙ count_stands v p r count x has fit.0 (omega arith))
     (ap (λ (l : Layout). drop l.records_at bytes) is ∙ behind_head v p r count x has fit.0)
     ∙ ap (λ (n : ℕ). parts_fault n count none_before x)
-    (ap (λ (l : Layout). l.max_role) is ∙ max_told v p has)
+    (ap (λ (l : Layout). l.max_role) is ∙ max_role_told v p has)
 
 -- a fault of the head is the image's
 pub head_refuses : (old new : Input) (fault : ImageFault) → IsInputFault head_fault old new fault

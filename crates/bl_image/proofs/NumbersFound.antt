@@ -7,7 +7,7 @@ use Rattle.std.specs.List.{flat_map}
 use Rattle.std.proofs.lemmas.Bool.Decides.{Decides-eqb, nat_tests}
 use Rattle.std.proofs.lemmas.List.Elements.{All-nil, All-cons}
 use Rattle.bl_mem.specs.LittleEndian.{u64_at, u64_bytes}
-use Rattle.bl_image.specs.Fields.{Field, fields_fault, narrow_field, absent_field, wide_field}
+use Rattle.bl_image.specs.Fields.{Field, fields_fault, zero_extended_field, absent_field, wide_field}
 use Rattle.bl_image.proofs.NoFaultLemmas.{IsSmall, small_drop, u64_split, u64_small, field_none}
 
 -- so many numbers below a limit, and what stands behind them
@@ -53,12 +53,12 @@ one_found limit n others bytes small long below behind =
     }
 
 pub narrows_found : (n : ℕ) (others : List Field) (bytes : List ℕ) → IsSmall bytes
-    → fields_fault (replicate n narrow_field ++ others) bytes ≡ None
+    → fields_fault (replicate n zero_extended_field ++ others) bytes ≡ None
     → NumbersFound (2 ^ 32) n others bytes
-unfolding narrow_field
+unfolding zero_extended_field
 narrows_found zero others bytes small none = none_found (2 ^ 32) others bytes small none
 narrows_found (suc n) others bytes small none =
-    let here = field_none narrow_field (replicate n narrow_field ++ others) bytes none in
+    let here = field_none zero_extended_field (replicate n zero_extended_field ++ others) bytes none in
     let number = u64_at (take 8 bytes) 0 in
     let below : number < 2 ^ 32 = let passes = here.passes in grind (arith, nat_tests) in
     one_found (2 ^ 32) n others bytes small here.long below

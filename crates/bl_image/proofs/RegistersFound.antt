@@ -13,7 +13,7 @@ use Rattle.bl_plan.specs.Protocols.{protocol_number}
 use Rattle.bl_load.specs.declared.registers.Registers.{Registers}
 use Rattle.bl_load.specs.declared.registers.Registers.TheVariants.{Bits32, Bits64}
 use Rattle.bl_load.specs.Protocols.{is_wide}
-use Rattle.bl_image.specs.Fields.{Field, fields_fault, register_field, narrow_field, absent_field}
+use Rattle.bl_image.specs.Fields.{Field, fields_fault, register_field, zero_extended_field, absent_field}
 use Rattle.bl_image.specs.Image.{narrow_values, wide_values, spelled_registers}
 use Rattle.bl_image.specs.Layouts.{layout, registers_1, registers_2_narrow, registers_2_wide}
 use Rattle.bl_image.specs.Spellable.{FitsRegisters}
@@ -75,7 +75,7 @@ found_2 : (protocol : Protocol) (others : List Field) (bytes : List ℕ)
 unfolding registers_2_narrow
 found_2 protocol others bytes is_narrow small none =
     let fits : ℕ → Type 0 = λ k. k < 2 ^ 32 in
-    let narrow : ℕ → List Field = λ n. replicate n narrow_field in
+    let narrow : ℕ → List Field = λ n. replicate n zero_extended_field in
     let absent : ℕ → List Field = λ n. replicate n absent_field in
     let apart =
     ap (λ (fs : List Field). fields_fault fs bytes)

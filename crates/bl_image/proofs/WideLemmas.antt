@@ -16,7 +16,7 @@ use Rattle.bl_mem.proofs.LittleEndianLaws.{length-u64_bytes}
 use Rattle.bl_load.specs.declared.registers.Registers32.{Registers32}
 use Rattle.bl_load.specs.declared.registers.Registers.TheVariants.{Bits32}
 use Rattle.bl_image.specs.declared.fault.ImageFault.TheVariants.{BadHeader}
-use Rattle.bl_image.specs.Fields.{Field, fields_fault, narrow_field, absent_field}
+use Rattle.bl_image.specs.Fields.{Field, fields_fault, zero_extended_field, absent_field}
 use Rattle.bl_image.specs.Image.{narrow_values, wide_values}
 use Rattle.bl_image.specs.Layouts.{registers_2_narrow}
 use Rattle.bl_image.proofs.FieldLemmas.{field_passes, long_tells}
@@ -24,21 +24,21 @@ use Rattle.bl_image.proofs.FieldRows.{Leaves, leaves_both, replicate_more}
 
 -- ---- numbers pass
 
-narrow_tells : (n : ℕ) → n < 2 ^ 32 → narrow_field.passes (u64_bytes n) ≡ true
-unfolding narrow_field
+narrow_tells : (n : ℕ) → n < 2 ^ 32 → zero_extended_field.passes (u64_bytes n) ≡ true
+unfolding zero_extended_field
 narrow_tells n fits =
     long_tells (λ k. nat_lt k (2 ^ 32)) BadHeader n true (omega (arith, fits))
     (grind (arith, nat_tests))
 
 pub narrow_leaves : (ns : List ℕ) → All (λ n. n < 2 ^ 32) ns
-    → Leaves (replicate (length ns) narrow_field) (flat_map u64_bytes ns)
-unfolding narrow_field
+    → Leaves (replicate (length ns) zero_extended_field) (flat_map u64_bytes ns)
+unfolding zero_extended_field
 narrow_leaves [] fit others more = refl
 narrow_leaves (n ∷ ns) fit others more =
     let fits : ℕ → Type 0 = λ k. k < 2 ^ 32 in
-    ap (fields_fault (replicate (length (n ∷ ns)) narrow_field ++ others))
+    ap (fields_fault (replicate (length (n ∷ ns)) zero_extended_field ++ others))
     (append_assoc (u64_bytes n) (flat_map u64_bytes ns) more)
-    ∙ field_passes narrow_field (replicate (length ns) narrow_field ++ others) (u64_bytes n)
+    ∙ field_passes zero_extended_field (replicate (length ns) zero_extended_field ++ others) (u64_bytes n)
     (flat_map u64_bytes ns ++ more) (length-u64_bytes n) (narrow_tells n (All-head fits n ns fit))
     ∙ narrow_leaves ns (All-tail fits n ns fit) others more
 
@@ -121,7 +121,7 @@ wide_pass r fit others more =
     let first = take 9 ns in
     let flags = take 2 (drop 9 ns) in
     let last = drop 11 ns in
-    let narrow : ℕ → List Field = λ n. replicate n narrow_field in
+    let narrow : ℕ → List Field = λ n. replicate n zero_extended_field in
     let absent : ℕ → List Field = λ n. replicate n absent_field in
     let of_first = narrow_leaves first (All-take fits 9 ns fit) in
     let of_flags = narrow_leaves flags (All-take fits 2 (drop 9 ns) (All-drop fits 9 ns fit)) in

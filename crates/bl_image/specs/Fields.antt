@@ -57,8 +57,8 @@ unfoldable pub wide_field : Field
 wide_field = u64_field (λ register. true) BadHeader
 
 -- a register of 64 bits, of which the protocol gives 32
-unfoldable pub narrow_field : Field
-narrow_field = u64_field (λ register. nat_lt register (2 ^ 32)) BadHeader
+unfoldable pub zero_extended_field : Field
+zero_extended_field = u64_field (λ register. nat_lt register (2 ^ 32)) BadHeader
 
 -- a register that the protocol does not give
 unfoldable pub absent_field : Field

@@ -59,7 +59,7 @@ fn read_any_registers<S: Source>(source: &mut S) -> Result<Registers32, ImageFau
 /// Reads a register of 64 bits, of which the protocol gives 32.
 fn read_narrow<S: Source>(source: &mut S) -> Result<u32, ImageFault>
     requires { S.faults source.old < 2 ^ 63 }
-    ensures field { ReadsField fields.narrow_field (S.input source.old) (S.input source.new)
+    ensures field { ReadsField fields.zero_extended_field (S.input source.old) (S.input source.new)
         u64_bytes result }
     ensures fits { IfOk result (λ n. n < 2 ^ 32) }
     ensures faults { S.faults source.new ≡ S.faults source.old + faults_met result }
@@ -87,7 +87,7 @@ fn read_absent<S: Source>(source: &mut S) -> Result<(), ImageFault>
 /// Reads as many registers of 64 bits as `out` holds, of which the protocol gives 32.
 fn read_narrows<S: Source>(source: &mut S, out: &mut [u32]) -> Result<(), ImageFault>
     requires { S.faults source.old < 2 ^ 63 }
-    ensures fields { ReadsFields (replicate (length out.new) fields.narrow_field)
+    ensures fields { ReadsFields (replicate (length out.new) fields.zero_extended_field)
         (S.input source.old) (S.input source.new) (λ _. flat_map u64_bytes out.new) result }
     ensures fit { OnOk result (All (λ n. n < 2 ^ 32) out.new) }
     ensures faults { S.faults source.new ≡ S.faults source.old + faults_met result }

@@ -22,16 +22,16 @@ use Rattle.bl_plan.specs.declared.part.Role.TheVariants.{Initrd}
 use Rattle.bl_plan.specs.declared.part.Row.{Row}
 use Rattle.bl_plan.specs.declared.protocol.Protocol.{Protocol}
 use Rattle.bl_load.specs.LinuxRows.{front_rows, initrd_rows, linux_rows}
-use Rattle.bl_load.specs.PlacingKept.{EndsLow, told_length, told_initrd_rows, told_linux_rows}
+use Rattle.bl_load.specs.PlacingKept.{EndsLow, capped_length, told_initrd_rows, told_linux_rows}
 use Rattle.bl_load.proofs.NoRoomLemmas.{Alike, alike_lengths, behind_placed, behind_fault}
 use Rattle.bl_load.proofs.RowLemmas.{some_frames}
 
 -- ---- the initrd's row as the code tells it
 
-pub alike : (size : ℕ) → 1 ≤ size → Alike (told_length size) (round_up_to_frames size)
+pub alike : (size : ℕ) → 1 ≤ size → Alike (capped_length size) (round_up_to_frames size)
 alike size some =
     let same : max size 1 ≡ size = omega arith in
-    subst (λ (n : ℕ). Alike (told_length size) (round_up_to_frames n)) same (alike_lengths size)
+    subst (λ (n : ℕ). Alike (capped_length size) (round_up_to_frames n)) same (alike_lengths size)
 
 initrd_choice : Setup → Choice
 initrd_choice setup = Highest 4096 4096 (setup.initrd_addr_max + 1)
@@ -83,7 +83,7 @@ module _ (facts : MachineFacts) (protocol : Protocol) (setup : Setup) where
           placed.2,
         )
         | inr long ↦
-            absurd (no_chosen taken 4096 4096 high (told_length size) p.address long.0 placed.0)
+            absurd (no_chosen taken 4096 4096 high (capped_length size) p.address long.0 placed.0)
       ]
 
   told_initrd_fault : (fault : PlanFault) (initrd : List ℕ) (taken : List (Range ℕ))
@@ -99,7 +99,7 @@ module _ (facts : MachineFacts) (protocol : Protocol) (setup : Setup) where
             (λ (n : ℕ). HasChoiceFault facts taken n (Highest 4096 4096 high) fault) same here)
         | inr long ↦
             inl
-            (no_room taken 4096 4096 high (round_up_to_frames size) (told_length size) fault long.1
+            (no_room taken 4096 4096 high (round_up_to_frames size) (capped_length size) fault long.1
             here)
       ]
   told_initrd_fault fault (byte ∷ bytes) taken (inr (a, chosen, later)) = absurd later

@@ -21,19 +21,19 @@ use Rattle.bl_load.specs.Value.{EntryValue, module_file}
 use Rattle.bl_load.specs.Kernel.{KernelFacts}
 use Rattle.bl_load.specs.Reading.{multiboot2}
 use Rattle.bl_load.specs.Rows.{module_rows, kernel_rows, information_row, rows_of}
-use Rattle.bl_load.specs.PlacingKept.{max_told, told_length, told_rows, told_rows_of}
+use Rattle.bl_load.specs.PlacingKept.{length_cap, capped_length, capped_rows, told_rows_of}
 
 -- ---- rows that no machine has room for
 
 abbrev pub Alike : ℕ → ℕ → Type 0
 Alike told length = (told ≡ length) ⊎ ((max_size < told) × (max_size < length))
 
-pub alike_lengths : (size : ℕ) → Alike (told_length size) (round_up_to_frames (max size 1))
+pub alike_lengths : (size : ℕ) → Alike (capped_length size) (round_up_to_frames (max size 1))
 alike_lengths size =
-    elim (cases_lt max_told size) [
+    elim (cases_lt length_cap size) [
       | inl above ↦ inr (omega arith, omega arith)
       | inr at_most ↦
-          let same : min size max_told ≡ size =
+          let same : min size length_cap ≡ size =
           omega arith in inl (ap (λ (n : ℕ). round_up_to_frames (max n 1)) same)
     ]
 
@@ -54,7 +54,7 @@ module _ (facts : MachineFacts) where
 
   told_placed : (files : List (List ℕ)) (rest : List Row) (k : ℕ) (lines : List (List ℕ))
       (taken : List (Range ℕ)) (places : List Place)
-      → ArePlaced facts taken (told_rows files k lines ++ rest) places
+      → ArePlaced facts taken (capped_rows files k lines ++ rest) places
       → ArePlaced facts taken (module_rows files k lines ++ rest) places
   told_placed files rest k [] taken places placed = placed
   told_placed files rest k (line ∷ lines) taken [] placed = absurd placed
@@ -78,12 +78,12 @@ module _ (facts : MachineFacts) where
           more,
         )
         | inr long ↦
-            absurd (no_chosen taken 4096 0x100000 (told_length size) p.address long.0 placed.0)
+            absurd (no_chosen taken 4096 0x100000 (capped_length size) p.address long.0 placed.0)
       ]
 
   told_fault : (files : List (List ℕ)) (rest : List Row) (fault : PlanFault) (k : ℕ)
       (lines : List (List ℕ)) (taken : List (Range ℕ))
-      → IsFirstPlaceFault facts taken (told_rows files k lines ++ rest) fault
+      → IsFirstPlaceFault facts taken (capped_rows files k lines ++ rest) fault
       → IsFirstPlaceFault facts taken (module_rows files k lines ++ rest) fault
   told_fault files rest fault k [] taken has = has
   told_fault files rest fault k (line ∷ lines) taken (inl here) =
@@ -95,7 +95,7 @@ module _ (facts : MachineFacts) where
             same here)
         | inr long ↦
             inl
-            (no_room taken 4096 0x100000 (round_up_to_frames (max size 1)) (told_length size) fault
+            (no_room taken 4096 0x100000 (round_up_to_frames (max size 1)) (capped_length size) fault
             long.1 here)
       ]
   told_fault files rest fault k (line ∷ lines) taken (inr (a, chosen, later)) =
@@ -117,10 +117,10 @@ module _ (facts : MachineFacts) where
                 length = n;
                 choice = Lowest 4096 0x100000 max_size;
               }) a)) taken)
-              (told_rows files (suc k) lines ++ rest) fault) same
+              (capped_rows files (suc k) lines ++ rest) fault) same
               later),
         )
-        | inr long ↦ absurd (no_chosen taken 4096 0x100000 (told_length size) a long.0 chosen)
+        | inr long ↦ absurd (no_chosen taken 4096 0x100000 (capped_length size) a long.0 chosen)
       ]
 
   -- rows with the same ones before them
@@ -154,7 +154,7 @@ module _ (facts : MachineFacts) where
     as_placed places placed =
         let rest = information_row facts value kernel.relocation ∷ [] in
         behind_placed (kernel_rows kernel.segments kernel.relocation)
-        (told_rows value.files 0 value.module_lines ++ rest)
+        (capped_rows value.files 0 value.module_lines ++ rest)
         (module_rows value.files 0 value.module_lines ++ rest)
         (λ taken ps. told_placed value.files rest 0 value.module_lines taken ps) [] places placed
 
@@ -164,7 +164,7 @@ module _ (facts : MachineFacts) where
     as_fault fault has =
         let rest = information_row facts value kernel.relocation ∷ [] in
         behind_fault fault (kernel_rows kernel.segments kernel.relocation)
-        (told_rows value.files 0 value.module_lines ++ rest)
+        (capped_rows value.files 0 value.module_lines ++ rest)
         (module_rows value.files 0 value.module_lines ++ rest)
         (λ taken. told_fault value.files rest fault 0 value.module_lines taken) [] has
 

@@ -17,7 +17,7 @@ use Rattle.bl_plan.proofs.PlaceLaws.{as_many}
 use Rattle.std.specs.Prelude.{min, max}
 use Rattle.bl_plan.specs.declared.part.Row.{Row}
 use Rattle.bl_load.specs.Value.{EntryValue, module_file}
-use Rattle.bl_load.specs.PlacingKept.{max_told, told_rows, told_rows_of}
+use Rattle.bl_load.specs.PlacingKept.{length_cap, capped_rows, told_rows_of}
 use Rattle.bl_load.specs.Reading.{multiboot2}
 use Rattle.bl_load.specs.Kernel.{KernelFacts}
 use Rattle.bl_load.specs.KernelKept.{AreLoadable}
@@ -99,11 +99,11 @@ module_rows_are files k (line ∷ lines) =
     (module_rows_are files (suc k) lines)
 
 told_rows_are : (files : List (List ℕ)) (k : ℕ) (lines : List (List ℕ))
-    → All IsRow (told_rows files k lines)
+    → All IsRow (capped_rows files k lines)
 told_rows_are files k [] = All-nil IsRow
 told_rows_are files k (line ∷ lines) =
-    let frames = some_frames (max (min (length (module_file files k)) max_told) 1) (omega arith) in
-    All-cons IsRow _ (told_rows files (suc k) lines)
+    let frames = some_frames (max (min (length (module_file files k)) length_cap) 1) (omega arith) in
+    All-cons IsRow _ (capped_rows files (suc k) lines)
     (record { filled = omega arith; choice = omega arith }) (told_rows_are files (suc k) lines)
 
 -- modules and the information
@@ -133,10 +133,10 @@ pub told_rows_are_rows : (file : List ℕ) (facts : MachineFacts) (value : Entry
     → All IsRow (told_rows_of facts value kernel)
 told_rows_are_rows file facts value kernel loadable =
     All-append IsRow (kernel_rows kernel.segments kernel.relocation)
-    (told_rows value.files 0 value.module_lines ++ information_row facts value kernel.relocation
+    (capped_rows value.files 0 value.module_lines ++ information_row facts value kernel.relocation
     ∷ [])
     (kernel_rows_are kernel.segments kernel.relocation loadable.some loadable.filled)
-    (behind_kernel facts value kernel.relocation (told_rows value.files 0 value.module_lines)
+    (behind_kernel facts value kernel.relocation (capped_rows value.files 0 value.module_lines)
     (told_rows_are value.files 0 value.module_lines))
 
 pub rows_are_rows : (file : List ℕ) (facts : MachineFacts) (value : EntryValue)

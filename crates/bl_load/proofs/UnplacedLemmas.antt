@@ -20,7 +20,7 @@ use Rattle.bl_plan.specs.declared.part.Role.TheVariants.{Module, Initrd}
 use Rattle.bl_plan.specs.declared.part.Row.{Row}
 use Rattle.bl_plan.specs.declared.protocol.Protocol.{Protocol}
 use Rattle.bl_load.specs.LinuxRows.{front_rows, initrd_rows}
-use Rattle.bl_load.specs.PlacingKept.{told_length, told_rows, told_initrd_rows}
+use Rattle.bl_load.specs.PlacingKept.{capped_length, capped_rows, told_initrd_rows}
 use Rattle.bl_load.specs.PlacingKept.{told_rows_by}
 use Rattle.bl_load.specs.Reading.{Reading, multiboot2, linux, IsRead}
 use Rattle.bl_load.specs.Rows.{module_rows, kernel_rows, information_row, rows_of}
@@ -63,7 +63,7 @@ itself_told row = record { role = refl; index = refl; choice = refl; length = in
 module _ (facts : MachineFacts) (which : Row) where
   told_unplaced : (files : List (List ℕ)) (rest : List Row) (k : ℕ) (lines : List (List ℕ))
       (taken : List (Range ℕ))
-      → IsFirstUnplaced facts taken (told_rows files k lines ++ rest) which
+      → IsFirstUnplaced facts taken (capped_rows files k lines ++ rest) which
       → IsFirstUnplaced facts taken (module_rows files k lines ++ rest) which
   told_unplaced files rest k [] taken has = has
   told_unplaced files rest k (line ∷ lines) taken (inl (kind, (fault, here))) =
@@ -75,11 +75,11 @@ module _ (facts : MachineFacts) (which : Row) where
           (fault, subst (λ (n : ℕ). HasChoiceFault facts taken n choice fault) same here),
         )
         | inr long ↦ inl (
-          long_told Module k choice (told_length size) (round_up_to_frames (max size 1)) which long.0
+          long_told Module k choice (capped_length size) (round_up_to_frames (max size 1)) which long.0
               long.1 kind,
           (
             fault,
-            modules.no_room facts taken 4096 0x100000 (round_up_to_frames (max size 1)) (told_length size)
+            modules.no_room facts taken 4096 0x100000 (round_up_to_frames (max size 1)) (capped_length size)
                 fault long.1 here,
           ),
         )
@@ -96,11 +96,11 @@ module _ (facts : MachineFacts) (which : Row) where
               (λ (n : ℕ).
               IsFirstUnplaced facts
               (put_in (place_range (place_at (row_of Module k choice n) a)) taken)
-              (told_rows files (suc k) lines ++ rest) which) same
+              (capped_rows files (suc k) lines ++ rest) which) same
               later),
         )
         | inr long ↦
-            absurd (modules.no_chosen facts taken 4096 0x100000 (told_length size) a long.0 chosen)
+            absurd (modules.no_chosen facts taken 4096 0x100000 (capped_length size) a long.0 chosen)
       ]
 
   told_initrd_unplaced : (protocol : Protocol) (setup : Setup) (initrd : List ℕ)
@@ -118,11 +118,11 @@ module _ (facts : MachineFacts) (which : Row) where
           (fault, subst (λ (n : ℕ). HasChoiceFault facts taken n choice fault) same here),
         )
         | inr long ↦ inl (
-          long_told Initrd 0 choice (told_length size) (round_up_to_frames size) which long.0 long.1 kind,
+          long_told Initrd 0 choice (capped_length size) (round_up_to_frames size) which long.0 long.1 kind,
           (
             fault,
             initrds.no_room facts protocol setup taken 4096 4096 high (round_up_to_frames size)
-                (told_length size) fault long.1 here,
+                (capped_length size) fault long.1 here,
           ),
         )
       ]
@@ -145,7 +145,7 @@ module _ (facts : MachineFacts) (which : Row) where
   as_unplaced value (multiboot2 kernel) has =
       let rest = information_row facts value kernel.relocation ∷ [] in
       behind_unplaced (kernel_rows kernel.segments kernel.relocation)
-      (told_rows value.files 0 value.module_lines ++ rest)
+      (capped_rows value.files 0 value.module_lines ++ rest)
       (module_rows value.files 0 value.module_lines ++ rest)
       (λ taken. told_unplaced value.files rest 0 value.module_lines taken) [] has
   as_unplaced value (linux setup) has =

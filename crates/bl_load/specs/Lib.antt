@@ -22,7 +22,7 @@ pub mod Protocols
 pub mod Parts
 pub mod PlacingKept
 pub mod ReadKept
-pub mod EntryFilesKept
+pub mod CheckedEntryKept
 pub mod Unplaced
 pub mod Legal
 pub mod After

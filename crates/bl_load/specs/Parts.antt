@@ -91,23 +91,23 @@ entered_at entry segments (Some r) base = entry - low_of segments + base
 
 -- where the kernel begins, where the parts have these places: a Linux kernel with its first byte,
 -- behind which its 64-bit entry lies
-abbrev pub start_of : Reading → List Place → ℕ
-start_of (multiboot2 kernel) places =
+abbrev pub kernel_entry_base : Reading → List Place → ℕ
+kernel_entry_base (multiboot2 kernel) places =
     entered_at kernel.entry kernel.segments kernel.relocation (address_of Kernel 0 places)
-start_of (linux setup) places = address_of Kernel 0 places
+kernel_entry_base (linux setup) places = address_of Kernel 0 places
 
 -- the registers as the kernel begins, where the parts have these places
 abbrev pub registers_of : Protocol → Reading → List Place → Registers
 registers_of protocols.Multiboot2 reading places =
-    Bits32 (multiboot2_registers (start_of reading places) (address_of Information 0 places))
+    Bits32 (multiboot2_registers (kernel_entry_base reading places) (address_of Information 0 places))
 registers_of protocols.Linux reading places =
     Bits32
     (linux_registers
-    (start_of reading places) (address_of BootParams 0 places) (address_of Gdt 0 places))
+    (kernel_entry_base reading places) (address_of BootParams 0 places) (address_of Gdt 0 places))
 registers_of protocols.Linux64 reading places =
     Bits64
     (linux64_registers
-    (start_of reading places + entry_64) (address_of BootParams 0 places) (address_of Gdt 0 places)
+    (kernel_entry_base reading places + entry_64) (address_of BootParams 0 places) (address_of Gdt 0 places)
     (address_of PageTables 0 places))
 
 -- what an entry hands over, where its rows have these places

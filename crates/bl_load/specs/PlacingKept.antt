@@ -92,27 +92,27 @@ pub record IsPlacedHandover (facts : MachineFacts) (value : EntryValue) (reading
 -- ---- what the code tells of a file that no machine can hold
 
 -- the most bytes of a file that the code tells of
-abbrev pub max_told : ℕ
-max_told = 2 ^ 40
+abbrev pub length_cap : ℕ
+length_cap = 2 ^ 40
 
-abbrev pub told_length : ℕ → ℕ
-told_length size = round_up_to_frames (max (min size max_told) 1)
+abbrev pub capped_length : ℕ → ℕ
+capped_length size = round_up_to_frames (max (min size length_cap) 1)
 
 -- the rows of modules as the code tells them
-abbrev pub told_rows : List (List ℕ) → ℕ → List (List ℕ) → List Row
-told_rows files k [] = []
-told_rows files k (line ∷ lines) = record {
+abbrev pub capped_rows : List (List ℕ) → ℕ → List (List ℕ) → List Row
+capped_rows files k [] = []
+capped_rows files k (line ∷ lines) = record {
   role = Module;
   index = k;
-  length = told_length (length (module_file files k));
+  length = capped_length (length (module_file files k));
   choice = Lowest frame_size high_start max_size;
-} ∷ told_rows files (suc k) lines
+} ∷ capped_rows files (suc k) lines
 
 -- the rows of an entry as the code tells them
 abbrev pub told_rows_of : MachineFacts → EntryValue → KernelFacts → List Row
 told_rows_of facts value kernel =
     kernel_rows kernel.segments kernel.relocation
-    ++ (told_rows value.files 0 value.module_lines
+    ++ (capped_rows value.files 0 value.module_lines
     ++ information_row facts value kernel.relocation ∷ [])
 
 -- the row of an initrd of so many bytes as the code tells it
@@ -120,7 +120,7 @@ abbrev pub told_initrd_row : Setup → ℕ → Row
 told_initrd_row setup size = record {
   role = Initrd;
   index = 0;
-  length = told_length size;
+  length = capped_length size;
   choice = Highest frame_size first_usable (setup.initrd_addr_max + 1);
 }
 

@@ -3,9 +3,9 @@
 
 mod addresses;
 mod blocks;
+mod checked_entry;
 mod copying;
 mod entry;
-mod entry_files;
 mod entry_loading;
 mod handoff;
 mod laws;

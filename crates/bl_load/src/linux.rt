@@ -9,7 +9,7 @@ ghost use Rattle.bl_load.specs.Loadable.{lengths_of, IsLoadable, IsLean};
 ghost use Rattle.bl_load.specs.Unplaced.{IsUnplaced, IsReadingFault};
 
 use crate::addresses::address_of;
-use crate::entry_files::EntryFiles;
+use crate::checked_entry::CheckedEntry;
 use crate::lines::check_line;
 use crate::linux::contents::linux_content;
 use crate::linux::kernel::{ENTRY_64, read_linux};
@@ -37,7 +37,7 @@ impl ReadKernel for Setup {
     fn rows<A: Allocator + Copy, V: ByteView>(
         &self,
         alloc: A,
-        entry: &EntryFiles<'_, A, V>,
+        entry: &CheckedEntry<'_, A, V>,
     ) -> Result<Vec<Row, A>, AllocError> {
         linux_rows(alloc, entry.protocol, self, entry.files)
     }
@@ -45,7 +45,7 @@ impl ReadKernel for Setup {
     fn content<A: Allocator + Copy, V: ByteView>(
         &self,
         alloc: A,
-        entry: &EntryFiles<'_, A, V>,
+        entry: &CheckedEntry<'_, A, V>,
         places: &[Place],
         place: &Place,
     ) -> Result<Content<A>, AllocError> {
@@ -95,7 +95,7 @@ pub fn prepare<A: Allocator + Copy, V: ByteView>(
 {
     check_line(line)?;
     let setup = read_linux(protocol, &files[0], line, machine.normal())?;
-    let entry = EntryFiles {
+    let entry = CheckedEntry {
         protocol,
         machine,
         line,
@@ -125,7 +125,7 @@ pub(crate) fn unplaced<A: Allocator + Copy, V: ByteView>(
 {
     check_line(line)?;
     let setup = read_linux(protocol, &files[0], line, machine.normal())?;
-    let entry = EntryFiles {
+    let entry = CheckedEntry {
         protocol,
         machine,
         line,

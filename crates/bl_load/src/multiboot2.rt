@@ -13,8 +13,8 @@ ghost use Rattle.bl_load.specs.Unplaced.{IsUnplaced, IsReadingFault};
 ghost use Rattle.bl_plan.specs.Limits.{max_modules};
 
 use crate::addresses::address_of;
+use crate::checked_entry::{CheckedEntry, Rsdps};
 use crate::entry::Module;
-use crate::entry_files::{EntryFiles, Rsdps};
 use crate::lines::check_lines;
 use crate::multiboot2::contents::multiboot2_content;
 use crate::multiboot2::kernel::{Kernel, read_kernel};
@@ -54,7 +54,7 @@ impl<B: Allocator> ReadKernel for Kernel<B> {
     fn rows<A: Allocator + Copy, V: ByteView>(
         &self,
         alloc: A,
-        entry: &EntryFiles<'_, A, V>,
+        entry: &CheckedEntry<'_, A, V>,
     ) -> Result<Vec<Row, A>, AllocError> {
         multiboot2_rows(alloc, entry, self)
     }
@@ -62,7 +62,7 @@ impl<B: Allocator> ReadKernel for Kernel<B> {
     fn content<A: Allocator + Copy, V: ByteView>(
         &self,
         alloc: A,
-        entry: &EntryFiles<'_, A, V>,
+        entry: &CheckedEntry<'_, A, V>,
         places: &[Place],
         place: &Place,
     ) -> Result<Content<A>, AllocError> {
@@ -104,7 +104,7 @@ pub fn prepare<A: Allocator + Copy, V: ByteView>(
 {
     check_lines(line, modules)?;
     let kernel = read_kernel(alloc, &files[0])?;
-    let entry = EntryFiles {
+    let entry = CheckedEntry {
         protocol: Protocol::Multiboot2,
         machine,
         line,
@@ -139,7 +139,7 @@ pub(crate) fn unplaced<A: Allocator + Copy, V: ByteView>(
 {
     check_lines(line, modules)?;
     let kernel = read_kernel(alloc, &files[0])?;
-    let entry = EntryFiles {
+    let entry = CheckedEntry {
         protocol: Protocol::Multiboot2,
         machine,
         line,

@@ -6,9 +6,9 @@ ghost use Rattle.bl_load.specs.PlanFacts.{part_by};
 ghost use Rattle.bl_load.specs.Loadable.{lengths_of, IsBacked, IsLean};
 ghost use Rattle.bl_load.specs.PlacingKept.{IsRowed, EndsLow};
 ghost use Rattle.bl_load.specs.ReadKept.{FitsTold};
-ghost use Rattle.bl_load.specs.EntryFilesKept.{texts_in, value_of_files, IsReady};
+ghost use Rattle.bl_load.specs.CheckedEntryKept.{texts_in, value_of_files, IsReady};
 
-use crate::entry_files::EntryFiles;
+use crate::checked_entry::CheckedEntry;
 use crate::plan::PlannedPart;
 use crate::reading::ReadKernel;
 use bl_mem::ByteView;
@@ -18,7 +18,7 @@ use std::alloc::{AllocError, Allocator};
 /// The parts at these places, in this order.
 pub fn parts_at<A: Allocator + Copy, V: ByteView, K: ReadKernel>(
     alloc: A,
-    entry: &EntryFiles<'_, A, V>,
+    entry: &CheckedEntry<'_, A, V>,
     kernel: &K,
     places: &[Place],
     sorted: &[Place],

@@ -8,9 +8,9 @@ ghost use Rattle.bl_load.specs.PlacingKept.{IsPlacedHandover, IsPlaceFault};
 ghost use Rattle.bl_load.specs.Place.{planned_place};
 ghost use Rattle.bl_load.specs.PlanFacts.{handover_by};
 ghost use Rattle.bl_load.specs.Loadable.{lengths_of, IsLoadable, IsLean};
-ghost use Rattle.bl_load.specs.EntryFilesKept.{texts_in, value_of_files, IsReady};
+ghost use Rattle.bl_load.specs.CheckedEntryKept.{texts_in, value_of_files, IsReady};
 
-use crate::entry_files::EntryFiles;
+use crate::checked_entry::CheckedEntry;
 use crate::parts::parts_at;
 use crate::plan::{Plan, PlannedPart};
 use crate::reading::ReadKernel;
@@ -51,7 +51,7 @@ fn ranges_of<A: Allocator + Copy>(
 /// The parts of an entry whose kernel was read, at their places, or the first fault of placing.
 pub fn plan_parts<A: Allocator + Copy, V: ByteView, K: ReadKernel>(
     alloc: A,
-    entry: &EntryFiles<'_, A, V>,
+    entry: &CheckedEntry<'_, A, V>,
     kernel: &K,
 ) -> Result<Plan<A>, PrepFault>
     requires { IsReady entry.now (K.reading kernel.now) }

@@ -5,8 +5,8 @@ ghost use Rattle.bl_load.specs.Parts.{IsHandover, IsPrepFault};
 ghost use Rattle.bl_load.specs.PlanFacts.{handover_by};
 ghost use Rattle.bl_load.specs.Loadable.{lengths_of, IsLoadable, IsLean};
 
+use crate::checked_entry::Rsdps;
 use crate::entry::Entry;
-use crate::entry_files::Rsdps;
 use crate::plan::Plan;
 use crate::refusal::PrepFault;
 use crate::{linux, multiboot2};

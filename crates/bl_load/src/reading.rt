@@ -6,9 +6,9 @@ ghost use Rattle.bl_load.specs.Loadable.{lengths_of, content_length, IsInFiles, 
 ghost use Rattle.bl_load.specs.PlacingKept.{IsRowed, EndsLow, told_rows_by};
 ghost use Rattle.bl_load.specs.ReadKept.{EntersBy, CanEnter, FitsTold};
 ghost use Rattle.bl_load.specs.Reading.{Reading};
-ghost use Rattle.bl_load.specs.EntryFilesKept.{texts_in, value_of_files, IsReady};
+ghost use Rattle.bl_load.specs.CheckedEntryKept.{texts_in, value_of_files, IsReady};
 
-use crate::entry_files::EntryFiles;
+use crate::checked_entry::CheckedEntry;
 use crate::plan::Content;
 use crate::registers::Registers;
 use bl_mem::ByteView;
@@ -25,7 +25,7 @@ pub trait ReadKernel {
     fn rows<A: Allocator + Copy, V: ByteView>(
         &self,
         alloc: A,
-        entry: &EntryFiles<'_, A, V>,
+        entry: &CheckedEntry<'_, A, V>,
     ) -> Result<Vec<Row, A>, AllocError>
         requires { IsReady entry.now (reading self.now) }
         ensures { IfOk result (λ rows. rows.items ≡ told_rows_by entry.now.machine.now
@@ -35,7 +35,7 @@ pub trait ReadKernel {
     fn content<A: Allocator + Copy, V: ByteView>(
         &self,
         alloc: A,
-        entry: &EntryFiles<'_, A, V>,
+        entry: &CheckedEntry<'_, A, V>,
         places: &[Place],
         place: &Place,
     ) -> Result<Content<A>, AllocError>

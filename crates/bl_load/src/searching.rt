@@ -3,14 +3,14 @@ ghost use Rattle.std.specs.Prelude.{◌≡◌, ◌+◌, All, [], IfOk, IfErr, le
 ghost use Rattle.bl_plan.specs.Permitted.{OrNoMemory};
 ghost use Rattle.bl_plan.specs.Placed.{IsRow, IsChosen, HasChoiceFault};
 ghost use Rattle.bl_plan.specs.PlannerFacts.{with_taken};
-ghost use Rattle.bl_load.specs.EntryFilesKept.{value_of_files, IsReady};
+ghost use Rattle.bl_load.specs.CheckedEntryKept.{value_of_files, IsReady};
 ghost use Rattle.bl_load.specs.Rows as table;
 ghost use Rattle.bl_load.specs.Unplaced.{IsUnplacedOf, IsUnplaced, IsReadingFault};
 ghost use Rattle.bl_load.specs.Value.{value_of, file_count, IsWithinLimits};
 ghost use Rattle.bl_load.specs.declared.refusal.PrepFault.TheVariants.{NoMemory};
 
+use crate::checked_entry::{CheckedEntry, Rsdps};
 use crate::entry::Entry;
-use crate::entry_files::{EntryFiles, Rsdps};
 use crate::reading::ReadKernel;
 use crate::refusal::PrepFault;
 use crate::{linux, multiboot2};
@@ -78,7 +78,7 @@ fn first_unplaced<A: Allocator + Copy>(
 /// The first part that has no place of an entry whose kernel was read, or none.
 pub(crate) fn unplaced_part<A: Allocator + Copy, V: ByteView, K: ReadKernel>(
     alloc: A,
-    entry: &EntryFiles<'_, A, V>,
+    entry: &CheckedEntry<'_, A, V>,
     kernel: &K,
 ) -> Result<Option<Row>, PrepFault>
     requires { IsReady entry.now (K.reading kernel.now) }

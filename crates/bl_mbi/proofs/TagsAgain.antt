@@ -14,7 +14,7 @@ use Rattle.bl_mbi.specs.InformationFacts.{InformationFacts, ModuleInfo, IsModule
 use Rattle.bl_mem.specs.LittleEndian.{u32_bytes}
 use Rattle.bl_mbi.specs.Tags.{tag, text_body, module_body, module_tag, memory_body, map_body}
 use Rattle.bl_mbi.specs.Tags.{copy_tag, load_base_tag}
-use Rattle.bl_mbi.specs.Fields.{◌>>=◌, RestFacts, is_next, info_tag_at}
+use Rattle.bl_mbi.specs.Fields.{◌>>=◌, RestFacts, is_next, front_info_tag}
 use Rattle.bl_mbi.specs.Reading.{text_tag_at, module_at, modules_upto, modules_at, memory_at}
 use Rattle.bl_mbi.specs.Reading.{map_at, copy_at, load_base_at, end_at, tags_of}
 use Rattle.bl_mem.proofs.LittleEndianLaws.{length-u32_bytes}
@@ -157,9 +157,9 @@ load_base_at_again at (Some base) rest fits last =
 pub end_at_again : (at : ℕ) → end_at (from at (tag 0 [])) ≡ Ok tt
 unfolding end_at
 end_at_again at =
-    let P : List ℕ → Type 0 = λ bytes. info_tag_at 0 (from at bytes)
+    let P : List ℕ → Type 0 = λ bytes. front_info_tag 0 (from at bytes)
     ≡ Ok ([], past at (tag 0 []) []) in
-    let here : info_tag_at 0 (from at (tag 0 [])) ≡ Ok ([], past at (tag 0 []) []) =
+    let here : front_info_tag 0 (from at (tag 0 [])) ≡ Ok ([], past at (tag 0 []) []) =
     subst P (append-nil (tag 0 [])) (tag_again 0 at [] [] (lit< tt) (lit< tt)) in
     rw here refl
 

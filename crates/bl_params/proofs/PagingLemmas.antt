@@ -4,7 +4,7 @@ use Rattle.std.proofs.Common.{length, slice_index, arith, refl, sym, ap, ◌∙�
 use Rattle.std.specs.List.{flat_map, range_with_len}
 use Rattle.std.proofs.lemmas.Bool.{cases_lt}
 use Rattle.std.proofs.lemmas.List.{length-append, get_or_append_left, get_or-append-add, ext_get_or}
-use Rattle.bl_params.specs.Fields.{over, number_bytes}
+use Rattle.bl_params.specs.Fields.{byte_over, number_bytes}
 use Rattle.bl_params.specs.Paging.{paging_word, paging_frame, paging}
 use Rattle.bl_params.proofs.EntryLemmas.{length-number_bytes}
 use Rattle.bl_params.proofs.OverLemmas.{over_in, over_below}
@@ -88,7 +88,7 @@ module _ (base : ℕ) where
   pub put_step : (frame i n : ℕ) (old new : List ℕ) → n ≡ paging_word base frame i → i < 512
       → ((k : ℕ) → k < 8 * i → slice_index old k ≡ slice_index (paging_frame base frame) k)
       → ((k : ℕ) → slice_index new k
-      ≡ over (8 * i) (number_bytes 8 n) (λ j. slice_index old j) k)
+      ≡ byte_over (8 * i) (number_bytes 8 n) (λ j. slice_index old j) k)
       → (k : ℕ) → k < 8 * (i + 1) → slice_index new k ≡ slice_index (paging_frame base frame) k
   put_step frame i n old new is inside told put k below =
       let size = length-number_bytes 8 n in

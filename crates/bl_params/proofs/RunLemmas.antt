@@ -5,13 +5,13 @@ use Rattle.std.proofs.lemmas.Bool.{ltb-false}
 use Rattle.std.proofs.lemmas.List.Elements.{All-nil, All-cons}
 use Rattle.bl_map.specs.declared.region.Region.{Region}
 use Rattle.bl_map.specs.NormalMap.{region_end}
-use Rattle.bl_params.specs.Form.{breaks_at, entries_in, e820_entry_at}
+use Rattle.bl_params.specs.Form.{breaks_at, e820_entry_count, e820_entry_at}
 use Rattle.bl_params.specs.ParamsFacts.{ParamsFacts}
 use Rattle.bl_params.specs.Reading.{IsEntry, AreEntries, IsParams}
 use Rattle.bl_params.proofs.FormLemmas.{entry_is}
 
 module _ (bytes : List ℕ) (sound : (k : ℕ) → k < 4096 → breaks_at bytes k ≡ false) where
-  run_ends_low : (i : ℕ) (run : Region) → i < entries_in bytes → e820_entry_at i < 4096
+  run_ends_low : (i : ℕ) (run : Region) → i < e820_entry_count bytes → e820_entry_at i < 4096
       → IsEntry bytes (e820_entry_at i) run → region_end run ≤ 2 ^ 52
   run_ends_low i run counted within is =
       let test =
@@ -19,7 +19,7 @@ module _ (bytes : List ℕ) (sound : (k : ℕ) → k < 4096 → breaks_at bytes 
       ∙ sound (e820_entry_at i) within in
       ltb-false (2 ^ 52) (run.base + run.length) test
 
-  entries_end_low : (i : ℕ) (runs : List Region) → i + length runs ≤ entries_in bytes
+  entries_end_low : (i : ℕ) (runs : List Region) → i + length runs ≤ e820_entry_count bytes
       → e820_entry_at (i + length runs) ≤ 4096
       → AreEntries bytes (e820_entry_at i) runs → All (λ run. region_end run ≤ 2 ^ 52) runs
   entries_end_low i [] counted within are = All-nil (λ (run : Region). region_end run ≤ 2 ^ 52)
@@ -31,9 +31,9 @@ module _ (bytes : List ℕ) (sound : (k : ℕ) → k < 4096 → breaks_at bytes 
       (subst (λ (at : ℕ). AreEntries bytes at runs) next are.1))
 
 -- the number of entries is in bounds
-few_entries : (bytes : List ℕ) → breaks_at bytes 0x1E8 ≡ false → entries_in bytes ≤ 128
+few_entries : (bytes : List ℕ) → breaks_at bytes 0x1E8 ≡ false → e820_entry_count bytes ≤ 128
 unfolding breaks_at
-few_entries bytes test = ltb-false 128 (entries_in bytes) test
+few_entries bytes test = ltb-false 128 (e820_entry_count bytes) test
 
 pub runs_end_low : (bytes : List ℕ) (params : ParamsFacts) → IsParams bytes params
     → All (λ run. region_end run ≤ 2 ^ 52) params.runs

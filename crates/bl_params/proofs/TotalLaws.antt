@@ -13,7 +13,7 @@ use Rattle.bl_map.specs.declared.region.Region.{Region}
 use Rattle.bl_map.specs.Kinds.{kind_number}
 use Rattle.bl_params.specs.declared.fault.ParamFault.{ParamFault}
 use Rattle.bl_params.specs.declared.fault.ParamFault.TheVariants.{WrongLength, BadParams, NoMemory}
-use Rattle.bl_params.specs.Form.{breaks_at, entries_in, e820_entry_at}
+use Rattle.bl_params.specs.Form.{breaks_at, e820_entry_count, e820_entry_at}
 use Rattle.bl_params.specs.ParamsFacts.{ParamsFacts}
 use Rattle.bl_params.specs.Reading.{IsEntry, AreEntries, IsParams, HasFirstParamFault}
 use Rattle.bl_params.proofs.FormLemmas.{count_is, kind_is}
@@ -39,7 +39,7 @@ kind_numbered (suc (suc (suc (suc (suc (suc n)))))) test =
     let low = at_most_five (suc (suc (suc (suc (suc (suc n)))))) test in absurd (omega arith)
 
 -- the entry with a number, counted from 0
-entry_told : (bytes : List ℕ) (i : ℕ) → i < entries_in bytes
+entry_told : (bytes : List ℕ) (i : ℕ) → i < e820_entry_count bytes
     → breaks_at bytes (e820_entry_at i + 16) ≡ false
     → (run : Region) × IsEntry bytes (e820_entry_at i) run
 entry_told bytes i counted sound =
@@ -70,7 +70,7 @@ told_push bytes n run told is =
           (subst (λ (at : ℕ). IsEntry bytes at run) place is),
     )
 
-entries_told : (bytes : List ℕ) (n : ℕ) → n ≤ entries_in bytes → entries_in bytes ≤ 128
+entries_told : (bytes : List ℕ) (n : ℕ) → n ≤ e820_entry_count bytes → e820_entry_count bytes ≤ 128
     → IsSound bytes → Told bytes n
 entries_told bytes zero within few sound = ([], refl, tt)
 entries_told bytes (suc n) within few sound =
@@ -84,8 +84,8 @@ few_from n test = grind (arith, nat_tests)
 told_of : (bytes : List ℕ) → length bytes ≡ 4096 → IsSound bytes
     → (params : ParamsFacts) × IsParams bytes params
 told_of bytes whole sound =
-    let few = few_from (entries_in bytes) (sym (count_is bytes) ∙ sound 0x1E8 (omega arith)) in
-    let told = entries_told bytes (entries_in bytes) (omega arith) few sound in (
+    let few = few_from (e820_entry_count bytes) (sym (count_is bytes) ∙ sound 0x1E8 (omega arith)) in
+    let told = entries_told bytes (e820_entry_count bytes) (omega arith) few sound in (
       record {
         version = u16_at bytes 0x206;
         loadflags = slice_index bytes 0x211;

@@ -6,7 +6,7 @@ use Rattle.std.specs.List.{flat_map}
 use Rattle.bl_map.specs.declared.region.Region.{Region}
 use Rattle.bl_params.specs.BootParams.{boot_params, fields_of, entry_bytes}
 use Rattle.bl_params.specs.BootParamsFacts.{BootParamsFacts}
-use Rattle.bl_params.specs.Fields.{over, byte_of_fields, number_bytes}
+use Rattle.bl_params.specs.Fields.{byte_over, byte_of_fields, number_bytes}
 use Rattle.bl_params.proofs.OverLemmas.{over_same}
 
 zero_at : (n k : ℕ) → slice_index (replicate n 0) k ≡ 0
@@ -16,7 +16,7 @@ zero_at (suc n) (suc k) = zero_at n k
 
 -- these bytes are those with a field over them
 abbrev pub IsPut : List ℕ → ℕ → List ℕ → List ℕ → Type 0
-IsPut old at field new = (k : ℕ) → slice_index new k ≡ over at field (λ j. slice_index old j) k
+IsPut old at field new = (k : ℕ) → slice_index new k ≡ byte_over at field (λ j. slice_index old j) k
 
 next : (old new : List ℕ) (at : ℕ) (field same : List ℕ) (fields : List (ℕ × List ℕ))
     → IsPut old at field new → field ≡ same
@@ -24,7 +24,7 @@ next : (old new : List ℕ) (at : ℕ) (field same : List ℕ) (fields : List (�
     → slice_index new k ≡ byte_of_fields ((at, same) ∷ fields) k
 next old new at field same fields put e so_far k =
     put k ∙ over_same at field (λ j. slice_index old j) (byte_of_fields fields) so_far k
-    ∙ ap (λ (x : List ℕ). over at x (byte_of_fields fields) k) e
+    ∙ ap (λ (x : List ℕ). byte_over at x (byte_of_fields fields) k) e
 
 pub written : (header h : List ℕ) (facts : BootParamsFacts) (runs : List Region) (n count : ℕ)
     (o0 o1 o2 o3 o4 o5 o6 o7 o8 o9 o10 : List ℕ)

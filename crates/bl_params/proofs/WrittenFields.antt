@@ -8,7 +8,7 @@ use Rattle.bl_bzimage.specs.Setup.{header_end}
 use Rattle.bl_params.specs.BootParamsFacts.{BootParamsFacts, AreTold}
 use Rattle.bl_params.specs.BootParams.{entry_bytes}
 use Rattle.bl_params.specs.Fields.{byte_of_fields, number_bytes}
-use Rattle.bl_params.specs.Form.{entries_in}
+use Rattle.bl_params.specs.Form.{e820_entry_count}
 use Rattle.bl_params.specs.Reading.{AreEntries}
 use Rattle.bl_params.proofs.OverLemmas.{over_in, over_above}
 use Rattle.bl_params.proofs.EntriesTold.{number_same, all_low, Stand, stand_number, entries_told}
@@ -132,7 +132,7 @@ module _ (file header : List ℕ) (end : ℕ) (facts : BootParamsFacts)
       ∙ above_3 header facts k (omega arith)
       ∙ over_in 0x250 (number_bytes 8 0) (byte_of_fields (l2 header facts)) k from below)
 
-  pub count : entries_in (params header facts) ≡ length facts.runs
+  pub count : e820_entry_count (params header facts) ≡ length facts.runs
   count =
       is_at header facts 0x1E8 (omega arith)
       ∙ over_in 0x1E8 (length facts.runs

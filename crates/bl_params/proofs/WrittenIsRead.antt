@@ -10,7 +10,7 @@ use Rattle.bl_bzimage.proofs.SetupLaws.{IsSoundFile, setup_sound, fields_are, he
 use Rattle.bl_bzimage.proofs.SetupLaws.{header_high, header_same}
 use Rattle.bl_params.specs.BootParamsFacts.{BootParamsFacts, AreTold}
 use Rattle.bl_params.specs.BootParams.{boot_params}
-use Rattle.bl_params.specs.Form.{breaks_at, breaks_header, is_nonzero_at, entries_in}
+use Rattle.bl_params.specs.Form.{breaks_at, breaks_header, is_nonzero_at, e820_entry_count}
 use Rattle.bl_params.specs.Reading.{IsParams}
 use Rattle.bl_params.specs.Told.{params_of, FitFields}
 use Rattle.bl_params.proofs.Lengths.{length-boot_params}
@@ -82,7 +82,7 @@ module _ (file header : List ℕ) (end : ℕ) (facts : BootParamsFacts)
       (λ at_count.
       subst (λ (n : ℕ). breaks_at (params header facts) n ≡ false) (sym at_count)
       (count_is (params header facts)
-      ∙ lt_no 128 (entries_in (params header facts))
+      ∙ lt_no 128 (e820_entry_count (params header facts))
       (omega (arith, count file header end facts long low high same told, told.few))))
       (λ not_count.
       ⊎_elim

@@ -8,12 +8,12 @@ unfoldable pub number_bytes : ℕ → ℕ → List ℕ
 number_bytes n x = little_bytes n x
 
 -- the byte at k where a field stands at an offset over other bytes
-unfoldable pub over : ℕ → List ℕ → (ℕ → ℕ) → ℕ → ℕ
-over at field rest k =
+unfoldable pub byte_over : ℕ → List ℕ → (ℕ → ℕ) → ℕ → ℕ
+byte_over at field rest k =
     if nat_le at k && nat_lt k (at + length field) then slice_index field (k - at) else rest k
 
 -- the byte at k of fields, each an offset and its bytes: where several reach it the first counts,
 -- where none does it is 0
 abbrev pub byte_of_fields : List (ℕ × List ℕ) → ℕ → ℕ
 byte_of_fields [] k = 0
-byte_of_fields ((at, field) ∷ fields) k = over at field (byte_of_fields fields) k
+byte_of_fields ((at, field) ∷ fields) k = byte_over at field (byte_of_fields fields) k

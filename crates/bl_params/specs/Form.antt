@@ -10,8 +10,8 @@ use Rattle.bl_params.specs.Numbers.{e820_entries_at, e820_table_at, e820_entry_s
 use Rattle.bl_params.specs.Numbers.{e820_type_at, header_at}
 
 -- "e820_entries"
-abbrev pub entries_in : List ℕ → ℕ
-entries_in bytes = slice_index bytes e820_entries_at
+abbrev pub e820_entry_count : List ℕ → ℕ
+e820_entry_count bytes = slice_index bytes e820_entries_at
 
 -- an entry of "e820_table"
 abbrev pub e820_entry_at : ℕ → ℕ
@@ -42,10 +42,10 @@ breaks_entry bytes place k =
 unfoldable pub breaks_at : List ℕ → ℕ → Bool
 breaks_at bytes k =
     if nat_lt k e820_entries_at then is_nonzero_at bytes k else
-    if k == e820_entries_at then nat_lt max_e820_entries (entries_in bytes) else
+    if k == e820_entries_at then nat_lt max_e820_entries (e820_entry_count bytes) else
     if nat_lt k header_at then is_nonzero_at bytes k else
     if nat_lt k (header_end bytes) then breaks_header bytes k else
     if nat_lt k e820_table_at then is_nonzero_at bytes k else
-    if nat_lt k (e820_entry_at (entries_in bytes)) then
+    if nat_lt k (e820_entry_at (e820_entry_count bytes)) then
     breaks_entry bytes ((k - e820_table_at) % e820_entry_size) k else
     is_nonzero_at bytes k

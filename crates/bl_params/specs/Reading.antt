@@ -6,7 +6,7 @@ use Rattle.bl_map.specs.declared.region.Region.{Region}
 use Rattle.bl_map.specs.Kinds.{kind_number}
 use Rattle.bl_params.specs.declared.fault.ParamFault.{ParamFault}
 use Rattle.bl_params.specs.declared.fault.ParamFault.TheVariants.{WrongLength, BadParams, NoMemory}
-use Rattle.bl_params.specs.Form.{breaks_at, entries_in}
+use Rattle.bl_params.specs.Form.{breaks_at, e820_entry_count}
 use Rattle.bl_params.specs.ParamsFacts.{ParamsFacts}
 use Rattle.bl_params.specs.Numbers.{params_size, e820_table_at, e820_entry_size, e820_size_at}
 use Rattle.bl_params.specs.Numbers.{e820_type_at}
@@ -41,7 +41,7 @@ pub record IsParams (bytes : List ℕ) (params : ParamsFacts) : Type 0 where
   pub cmdline_size : params.cmdline_size ≡ u32_at bytes 0x238
   pub pref_address : params.pref_address ≡ u64_at bytes 0x258
   pub init_size : params.init_size ≡ u32_at bytes 0x260
-  pub count : length params.runs ≡ entries_in bytes
+  pub count : length params.runs ≡ e820_entry_count bytes
   pub runs : AreEntries bytes e820_table_at params.runs
 
 -- the least offset that breaks the form, of as many bytes as boot parameters have; or memory ran

@@ -2,7 +2,7 @@
 ghost use Rattle.std.specs.Prelude.{◌≡◌, ◌≤◌, ◌<◌, ◌+◌, ◌==◌, ℕ, not, true, false, length};
 ghost use Rattle.std.specs.Prelude.{slice_index, MatchResult};
 ghost use Rattle.bl_bzimage.specs.Setup.{header_end};
-ghost use Rattle.bl_params.specs.Form.{breaks_at, is_nonzero_at, entries_in};
+ghost use Rattle.bl_params.specs.Form.{breaks_at, is_nonzero_at, e820_entry_count};
 ghost use Rattle.bl_params.specs.Reading.{HasFirstParamFault};
 ghost use Rattle.bl_params.specs.BootParamsFacts.{max_e820_entries};
 ghost use Rattle.bl_params.specs.Kept.{IsSoundUpto, IsQuiet};
@@ -63,7 +63,7 @@ pub fn end_of_header(bytes: &[u8]) -> usize
 pub fn pass_front(bytes: &[u8]) -> Result<(), ParamFault>
     requires { length bytes.now ≡ params_size }
     ensures { MatchResult result
-        (λ _. IsSoundUpto bytes.now 0x1F1 × (entries_in bytes.now ≤ max_e820_entries))
+        (λ _. IsSoundUpto bytes.now 0x1F1 × (e820_entry_count bytes.now ≤ max_e820_entries))
         (HasFirstParamFault bytes.now) }
 {
     pass_zeros(bytes, 0, E820_ENTRIES)?;

@@ -3,7 +3,7 @@ ghost use Rattle.std.specs.Prelude.{◌≡◌, ◌≤◌, ◌<◌, ◌+◌, ◌*
 ghost use Rattle.std.specs.Prelude.{length, MatchResult};
 ghost use Rattle.bl_map.specs.Kinds.{kind_number};
 ghost use Rattle.bl_bzimage.specs.Setup.{header_end};
-ghost use Rattle.bl_params.specs.Form.{entries_in, e820_entry_at};
+ghost use Rattle.bl_params.specs.Form.{e820_entry_count, e820_entry_at};
 ghost use Rattle.bl_params.specs.Reading.{HasFirstParamFault, AreEntries, IsEntry};
 ghost use Rattle.bl_params.specs.BootParamsFacts.{max_e820_entries};
 ghost use Rattle.bl_params.specs.Kept.{IsSoundUpto};
@@ -40,8 +40,8 @@ fn kind_of(number: u32) -> Kind
 /// The entry with a number, counted from 0.
 fn entry(bytes: &[u8], i: usize) -> Result<Region, ParamFault>
     requires whole { length bytes.now ≡ params_size }
-    requires few { entries_in bytes.now ≤ max_e820_entries }
-    requires counted { i < entries_in bytes.now }
+    requires few { e820_entry_count bytes.now ≤ max_e820_entries }
+    requires counted { i < e820_entry_count bytes.now }
     requires upto { IsSoundUpto bytes.now (e820_entry_at i) }
     ensures { MatchResult result
         (λ run. IsEntry bytes.now (e820_entry_at i) run
@@ -62,12 +62,12 @@ fn entry(bytes: &[u8], i: usize) -> Result<Region, ParamFault>
 /// The memory map's runs.
 pub fn entries<A: Allocator>(alloc: A, bytes: &[u8]) -> Result<Vec<Region, A>, ParamFault>
     requires whole { length bytes.now ≡ params_size }
-    requires few { entries_in bytes.now ≤ max_e820_entries }
+    requires few { e820_entry_count bytes.now ≤ max_e820_entries }
     requires upto { IsSoundUpto bytes.now e820_table_at }
     ensures { MatchResult result
         (λ runs. AreEntries bytes.now e820_table_at runs.items
-        × (length runs.items ≡ entries_in bytes.now)
-        × IsSoundUpto bytes.now (e820_entry_at (entries_in bytes.now)))
+        × (length runs.items ≡ e820_entry_count bytes.now)
+        × IsSoundUpto bytes.now (e820_entry_at (e820_entry_count bytes.now)))
         (HasFirstParamFault bytes.now) }
 {
     let mut runs = Vec::new(alloc);

@@ -1,16 +1,16 @@
 //! Fields written at their offsets.
 ghost use Rattle.std.specs.Prelude.{◌≡◌, ◌≤◌, ◌+◌, ℕ, length, slice_index};
-ghost use Rattle.bl_params.specs.Fields.{over, number_bytes};
+ghost use Rattle.bl_params.specs.Fields.{byte_over, number_bytes};
 ghost use Rattle.bl_params.specs.Numbers.{params_size};
 
 use byteorder::{ByteOrder, LittleEndian};
 
 /// Writes a field at an offset.
-#[tactic(auto, unfolding(crate::specs::Fields::over))]
+#[tactic(auto, unfolding(crate::specs::Fields::byte_over))]
 pub fn write_field(out: &mut [u8; 4096], at: usize, field: &[u8])
     requires { at + length field.now ≤ params_size }
     ensures { (k : ℕ) → slice_index out.new k
-        ≡ over at field.now (λ j. slice_index out.old j) k }
+        ≡ byte_over at field.now (λ j. slice_index out.old j) k }
 {
     out[at..at + field.len()].copy_from_slice(field);
 }
@@ -20,7 +20,7 @@ pub fn write_field(out: &mut [u8; 4096], at: usize, field: &[u8])
 pub fn write_u16(out: &mut [u8; 4096], at: usize, n: u16)
     requires { at + 2 ≤ params_size }
     ensures { (k : ℕ) → slice_index out.new k
-        ≡ over at (number_bytes 2 n) (λ j. slice_index out.old j) k }
+        ≡ byte_over at (number_bytes 2 n) (λ j. slice_index out.old j) k }
 {
     let mut field = [0u8; 2];
     LittleEndian::write_u16(&mut field, n);
@@ -32,7 +32,7 @@ pub fn write_u16(out: &mut [u8; 4096], at: usize, n: u16)
 pub fn write_u32(out: &mut [u8; 4096], at: usize, n: u32)
     requires { at + 4 ≤ params_size }
     ensures { (k : ℕ) → slice_index out.new k
-        ≡ over at (number_bytes 4 n) (λ j. slice_index out.old j) k }
+        ≡ byte_over at (number_bytes 4 n) (λ j. slice_index out.old j) k }
 {
     let mut field = [0u8; 4];
     LittleEndian::write_u32(&mut field, n);
@@ -44,7 +44,7 @@ pub fn write_u32(out: &mut [u8; 4096], at: usize, n: u32)
 pub fn write_u64(out: &mut [u8; 4096], at: usize, n: u64)
     requires { at + 8 ≤ params_size }
     ensures { (k : ℕ) → slice_index out.new k
-        ≡ over at (number_bytes 8 n) (λ j. slice_index out.old j) k }
+        ≡ byte_over at (number_bytes 8 n) (λ j. slice_index out.old j) k }
 {
     let mut field = [0u8; 8];
     LittleEndian::write_u64(&mut field, n);

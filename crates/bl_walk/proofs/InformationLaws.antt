@@ -14,7 +14,7 @@ use Rattle.bl_load.specs.Addresses.{address_of}
 use Rattle.bl_load.specs.Handover.{end_of}
 use Rattle.bl_load.specs.Kernel.{KernelFacts, IsKernel}
 use Rattle.bl_load.specs.Offered.{IsOffered}
-use Rattle.bl_load.specs.Parts.{handover_of, entered_at, start_of}
+use Rattle.bl_load.specs.Parts.{handover_of, entered_at, kernel_entry_base}
 use Rattle.bl_load.specs.Reading.{multiboot2}
 use Rattle.bl_load.specs.Registers.{entry_in, information_in}
 use Rattle.bl_load.specs.Rows.{rows_of, kernel_rows, module_rows}
@@ -150,7 +150,7 @@ module _ (facts : MachineFacts) (value : EntryValue) (kernel : KernelFacts) (pla
         (modules_other facts value kernel.relocation))
 
     entered : entry_in (handover facts value kernel places).registers
-        ≡ start_of (multiboot2 kernel) places
+        ≡ kernel_entry_base (multiboot2 kernel) places
     entered =
         let from = entered_from (multiboot2 kernel) places value.protocol in
         let none = ap entry_offset protocol in
@@ -191,7 +191,7 @@ module _ (facts : MachineFacts) (value : EntryValue) (kernel : KernelFacts) (pla
 
     pub information_entered : IsEntered (handover facts value kernel places)
     information_entered =
-        let start = start_of (multiboot2 kernel) places in
+        let start = kernel_entry_base (multiboot2 kernel) places in
         let rest = module_rows value.files 0 value.module_lines ++ last facts value kernel places in
         record {
           registers = as_entered (multiboot2 kernel) places value.protocol;

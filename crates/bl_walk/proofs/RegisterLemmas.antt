@@ -6,7 +6,7 @@ use Rattle.bl_plan.specs.declared.protocol.Protocol.{Protocol}
 use Rattle.bl_plan.specs.declared.protocol.Protocol.TheVariants.{Multiboot2, Linux, Linux64}
 use Rattle.bl_load.specs.Addresses.{address_of}
 use Rattle.bl_load.specs.Linux.{entry_64}
-use Rattle.bl_load.specs.Parts.{registers_of, start_of}
+use Rattle.bl_load.specs.Parts.{registers_of, kernel_entry_base}
 use Rattle.bl_load.specs.Protocols.{has_params, descriptors_of, is_wide}
 use Rattle.bl_load.specs.Reading.{Reading}
 use Rattle.bl_load.specs.Registers.{entry_in, information_in, params_in, gdt_in, tables_in}
@@ -26,7 +26,7 @@ module _ (reading : Reading) (places : List Place) where
   as_entered Linux64 = refl
 
   pub entered_from : (p : Protocol)
-      → entry_in (registers_of p reading places) ≡ start_of reading places + entry_offset p
+      → entry_in (registers_of p reading places) ≡ kernel_entry_base reading places + entry_offset p
   entered_from Multiboot2 = omega arith
   entered_from Linux = omega arith
   entered_from Linux64 = refl

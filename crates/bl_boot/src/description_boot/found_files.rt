@@ -1,7 +1,7 @@
 //! The files of a menu are found.
 ghost use Rattle.std.specs.Prelude.{◌≡◌, ℕ, List, ◌+◌, ◌-◌, ◌<◌, ◌≤◌, ◌^◌, All, IfOk, IsSome};
 ghost use Rattle.std.specs.Prelude.{length, map, [], ◌∷◌, ◌++◌, OnOk};
-ghost use Rattle.bl_boot.specs.Found.{AreFound, AsksFirst, IsFound, names_asked};
+ghost use Rattle.bl_boot.specs.Found.{AreFound, AsksPrefix, IsFound, names_asked};
 ghost use Rattle.bl_desc.specs.Described.{file_named};
 ghost use Rattle.bl_desc.specs.Views.{view};
 ghost use Rattle.bl_session.specs.Outcome.{File};
@@ -65,7 +65,7 @@ pub fn find_files<A: Allocator + Copy, F: Files>(
     // The names that no file of the description has are asked for, each once, in order.
     ensures asked { OnOk result (F.asked files.new ≡ F.asked files.old
         ++ names_asked (view description.now).files (map (λ n. n.now) names.now)) }
-    ensures asked_first { AsksFirst (names_asked (view description.now).files
+    ensures asked_first { AsksPrefix (names_asked (view description.now).files
         (map (λ n. n.now) names.now)) (F.asked files.old) (F.asked files.new) }
     ensures inline { All (λ name. IsSome (file_named name (view description.now).files))
         (map (λ n. n.now) names.now) → files.new ≡ files.old }

@@ -4,7 +4,7 @@ ghost use Rattle.bl_image.specs.Image.{spelling};
 ghost use Rattle.bl_image.specs.ImageParts.{IsKeptByImages};
 ghost use Rattle.bl_image.specs.Versions.{written_version};
 ghost use Rattle.bl_session.specs.Phases.{handover_held};
-ghost use Rattle.bl_boot.specs.Kept.{IsHandFault};
+ghost use Rattle.bl_boot.specs.Kept.{IsImageWriteFault};
 ghost use Rattle.bl_say.specs.Says.{booted_line, refused_lines, no_entry_line};
 
 use crate::description_boot::boot_end::EndFault;
@@ -53,7 +53,7 @@ pub fn write_handover<A: Allocator + Copy, M: PhysMem, S: Sink, B: Allocator>(
         ++ (refused_lines outcome.now.refused.items ++ booted_line outcome.now.entry title.now)) }
     ensures sound { OnOk result (S.faults out.new ≡ S.faults out.old) }
     ensures unsaid { OnErr result (say.new.items ≡ say.old.items) }
-    ensures fault { IfErr result (IsHandFault (S.faults out.old) (S.faults out.new)
+    ensures fault { IfErr result (IsImageWriteFault (S.faults out.old) (S.faults out.new)
         (S.contents out.old) (S.contents out.new)
         (spelling written_version (handover_held (M.bytes memory.now) outcome.now.handoff))) }
 {

@@ -6,7 +6,7 @@ ghost use Rattle.std.specs.List.{list_any};
 ghost use Rattle.bl_boot.specs.Attempted as attempted;
 ghost use Rattle.bl_boot.specs.Attempted.{names_of_entries};
 ghost use Rattle.bl_say.specs.EntryNames.{file_names};
-ghost use Rattle.bl_boot.specs.Kept.{names_with};
+ghost use Rattle.bl_boot.specs.Kept.{with_new_names};
 ghost use Rattle.bl_desc.specs.Views.{HasMenu, entry_view, module_view, view};
 
 use bl_desc::{Description, EntryForm, EntryRow, ModuleRow};
@@ -23,8 +23,8 @@ fn is_among(name: &str, names: &[&str]) -> bool
 /// Appends a name, if it is not among the earlier ones.
 fn add_name<'a, A: Allocator>(names: &mut Vec<&'a str, A>, name: &'a str) -> Result<(), AllocError>
     ensures { OnOk result ((rest : List (List ℕ)) →
-        names_with (map (λ n. n.now) names.new.items) rest
-        ≡ names_with (map (λ n. n.now) names.old.items) (name.now ∷ rest)) }
+        with_new_names (map (λ n. n.now) names.new.items) rest
+        ≡ with_new_names (map (λ n. n.now) names.old.items) (name.now ∷ rest)) }
 {
     if !is_among(name, names) {
         names.push(name)?;
@@ -38,8 +38,8 @@ fn add_modules<'a, A: Allocator>(
     modules: &'a [ModuleRow<A>],
 ) -> Result<(), AllocError>
     ensures { OnOk result ((rest : List (List ℕ)) →
-        names_with (map (λ n. n.now) names.new.items) rest
-        ≡ names_with (map (λ n. n.now) names.old.items)
+        with_new_names (map (λ n. n.now) names.new.items) rest
+        ≡ with_new_names (map (λ n. n.now) names.old.items)
         (map (λ m. m.file) (map module_view modules.now) ++ rest)) }
 {
     for module in modules {
@@ -54,8 +54,8 @@ fn add_entry<'a, A: Allocator>(
     entry: &'a EntryRow<A>,
 ) -> Result<(), AllocError>
     ensures { OnOk result ((rest : List (List ℕ)) →
-        names_with (map (λ n. n.now) names.new.items) rest
-        ≡ names_with (map (λ n. n.now) names.old.items)
+        with_new_names (map (λ n. n.now) names.new.items) rest
+        ≡ with_new_names (map (λ n. n.now) names.old.items)
         (file_names (entry_view entry.now) ++ rest)) }
 {
     add_name(names, entry.kernel.as_str())?;

@@ -4,7 +4,7 @@ ghost use Rattle.bl_boot.specs.Ends.{HasInlineFiles, names_sought, names_fetched
 ghost use Rattle.bl_boot.specs.Ends.{IsBooted, IsRefused};
 ghost use Rattle.bl_boot.specs.DescribedMachine.{IsBadDescription};
 ghost use Rattle.bl_boot.specs.Ends.{IsCutShort};
-ghost use Rattle.bl_boot.specs.Found.{AsksFirst};
+ghost use Rattle.bl_boot.specs.Found.{AsksPrefix};
 ghost use Rattle.bl_boot.specs.Kept.{BootEnds, HasFaults, HasAsked};
 ghost use Rattle.bl_boot.specs.Attempted.{max_names};
 ghost use Rattle.bl_session.specs.Outcome.{File};
@@ -120,7 +120,7 @@ pub fn boot<A: Allocator + Copy, F: Files, S: Sink, B: Allocator>(
     // each once, in order; the first of them where memory ran out. No other name is.
     ensures asked { result ≢ 2 → result ≢ 4 →
         F.asked files.new ≡ F.asked files.old ++ names_fetched (described desc.now) }
-    ensures asked_first { AsksFirst (names_fetched (described desc.now))
+    ensures asked_first { AsksPrefix (names_fetched (described desc.now))
         (F.asked files.old) (F.asked files.new) }
     ensures inline { HasInlineFiles desc.now → files.new ≡ files.old }
 

@@ -4,7 +4,7 @@ ghost use Rattle.bl_boot.specs.Attempted.{max_names};
 ghost use Rattle.bl_boot.specs.Ends.{HasInlineFiles, names_sought, names_fetched};
 ghost use Rattle.bl_boot.specs.ExplainKept.{ExplainAsks, ExplainEnds};
 ghost use Rattle.bl_boot.specs.Explained.{ExplainsBlame, ExplainsBoot, ExplainsRefusals};
-ghost use Rattle.bl_boot.specs.Found.{AsksFirst};
+ghost use Rattle.bl_boot.specs.Found.{AsksPrefix};
 ghost use Rattle.bl_session.specs.Outcome.{File};
 ghost use Rattle.bl_desc.specs.Described.{described};
 
@@ -84,7 +84,7 @@ pub fn explain_to<A: Allocator + Copy, F: Files, B: Allocator>(
     // The names of the files are asked for as in `boot`.
     ensures asked { result ≢ 2 → result ≢ 4 →
         F.asked files.new ≡ F.asked files.old ++ names_fetched (described desc.now) }
-    ensures asked_first { AsksFirst (names_fetched (described desc.now))
+    ensures asked_first { AsksPrefix (names_fetched (described desc.now))
         (F.asked files.old) (F.asked files.new) }
     ensures inline { HasInlineFiles desc.now → files.new ≡ files.old }
 

@@ -127,7 +127,7 @@ pub fn bad_number<'a>(items: &'a [Value], key: &'static str, allowed: Allowed) -
     ensures { MatchOption result
         (kept.all_items (allowed_of allowed) (items_view items.now) ≡ true)
         (λ bad. (bad.table ≡ TablePlace.Description)
-        × kept.IsNumberFault key.now allowed (items_view items.now) bad.fault) }
+        × kept.IsBadItemFault key.now allowed (items_view items.now) bad.fault) }
 {
     for (i, item) in items.iter().enumerate() {
         if !allows(allowed, item) {

@@ -15,11 +15,11 @@ ghost use Rattle.bl_mem.specs.Files.{nth_file};
 ghost use Rattle.bl_load.specs.Loadable.{lengths_of, content_length, IsInFiles, IsLeanContent};
 ghost use Rattle.bl_load.specs.PlacingKept.{IsRowed, EndsLow};
 ghost use Rattle.bl_load.specs.ReadKept.{TablesFit};
-ghost use Rattle.bl_load.specs.EntryFilesKept.{texts_in, value_of_files};
+ghost use Rattle.bl_load.specs.CheckedEntryKept.{texts_in, value_of_files};
 ghost use Rattle.bl_params.specs.BootParamsFacts.{max_e820_entries};
 
 use crate::addresses::address_of;
-use crate::entry_files::EntryFiles;
+use crate::checked_entry::CheckedEntry;
 use crate::linux::rows::initrd_size;
 use crate::plan::Content;
 use crate::protocols::descriptors_of;
@@ -59,7 +59,7 @@ fn told_of<'a, A: Allocator>(
 /// The boot parameters, where the parts have these places.
 fn boot_params<A: Allocator, V: ByteView>(
     alloc: A,
-    entry: &EntryFiles<'_, A, V>,
+    entry: &CheckedEntry<'_, A, V>,
     setup: &Setup,
     places: &[Place],
 ) -> Result<Bytes<A>, AllocError>
@@ -138,7 +138,7 @@ fn payload_content<A: Allocator, V: ByteView>(files: &[V], setup: &Setup) -> Con
 /// The content of the part at a place, where the parts have these places.
 pub fn linux_content<A: Allocator + Copy, V: ByteView>(
     alloc: A,
-    entry: &EntryFiles<'_, A, V>,
+    entry: &CheckedEntry<'_, A, V>,
     setup: &Setup,
     places: &[Place],
     place: &Place,

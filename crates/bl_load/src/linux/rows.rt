@@ -6,7 +6,7 @@ ghost use Rattle.bl_load.specs.PlacingKept as kept;
 ghost use Rattle.bl_load.specs.Value.{initrd_file};
 ghost use Rattle.bl_map.specs.Limits.{high_start};
 
-use crate::lengths::told_length;
+use crate::lengths::capped_length;
 use bl_bzimage::Setup;
 use bl_map::{FIRST_USABLE, FRAME_SIZE, HIGH_START, MAX_SIZE};
 use bl_mem::ByteView;
@@ -125,7 +125,7 @@ fn push_initrd_row<A: Allocator>(
         rows.push(Row {
             role: Role::Initrd,
             index: 0,
-            length: told_length(size),
+            length: capped_length(size),
             choice: Choice::Highest {
                 align: FRAME_SIZE,
                 low: FIRST_USABLE,

@@ -10,10 +10,10 @@ ghost use Rattle.bl_load.specs.Parts.{content_of};
 ghost use Rattle.bl_load.specs.PlanFacts.{content_by};
 ghost use Rattle.bl_mem.specs.Files.{nth_file};
 ghost use Rattle.bl_load.specs.Loadable.{lengths_of, content_length, IsInFiles, IsLeanContent};
-ghost use Rattle.bl_load.specs.EntryFilesKept.{texts_in, value_of_files};
+ghost use Rattle.bl_load.specs.CheckedEntryKept.{texts_in, value_of_files};
 ghost use Rattle.bl_load.specs.PlacingKept.{HasKernelLength, IsRowed, EndsLow, ModulesEndLow};
 
-use crate::entry_files::EntryFiles;
+use crate::checked_entry::CheckedEntry;
 use crate::multiboot2::information::information;
 use crate::multiboot2::kernel::Kernel;
 use crate::plan::Content;
@@ -81,7 +81,7 @@ fn module_content<A: Allocator, V: ByteView>(files: &[V], place: &Place) -> Cont
 /// The content of the part at a place, where the parts have these places.
 pub fn multiboot2_content<A: Allocator + Copy, B: Allocator, V: ByteView>(
     alloc: A,
-    entry: &EntryFiles<'_, A, V>,
+    entry: &CheckedEntry<'_, A, V>,
     kernel: &Kernel<B>,
     places: &[Place],
     place: &Place,

@@ -11,13 +11,13 @@ ghost use Rattle.bl_load.specs.Value.{line_fault};
 ghost use Rattle.bl_load.specs.Rows.{told_modules, information_of};
 ghost use Rattle.bl_load.specs.Kept.{lines_by};
 ghost use Rattle.bl_load.specs.PlacingKept.{EndsLow, ModulesEndLow};
-ghost use Rattle.bl_load.specs.EntryFilesKept.{texts_in, value_of_files};
+ghost use Rattle.bl_load.specs.CheckedEntryKept.{texts_in, value_of_files};
 ghost use Rattle.bl_plan.specs.Limits.{max_modules};
 ghost use Rattle.bl_map.specs.Limits.{usable_limit};
 
 use crate::addresses;
+use crate::checked_entry::CheckedEntry;
 use crate::entry::Module;
-use crate::entry_files::EntryFiles;
 use bl_mb2head::Relocation;
 use bl_mbi::{InfoToWrite, ModuleToWrite, write_info};
 use bl_mem::{ByteView, Bytes};
@@ -95,7 +95,7 @@ fn bytes_of<A: Allocator>(copy: &Option<Bytes<A>>) -> Option<&[u8]>
 
 /// What the information tells, with these modules.
 fn facts_of<'a, A: Allocator, V: ByteView>(
-    entry: &'a EntryFiles<'_, A, V>,
+    entry: &'a CheckedEntry<'_, A, V>,
     modules: &'a [ModuleToWrite<'a>],
     load_base: Option<u32>,
 ) -> InfoToWrite<'a>
@@ -140,7 +140,7 @@ fn load_base_of(relocation: &Option<Relocation>, base: u32) -> Option<u32>
 /// The information's bytes, where the parts have these places.
 pub fn information<A: Allocator + Copy, V: ByteView>(
     alloc: A,
-    entry: &EntryFiles<'_, A, V>,
+    entry: &CheckedEntry<'_, A, V>,
     relocation: &Option<Relocation>,
     places: &[Place],
 ) -> Result<Bytes<A>, AllocError>

@@ -6,12 +6,12 @@ ghost use Rattle.bl_load.specs.Rows as table;
 ghost use Rattle.bl_load.specs.Kept.{lines_by};
 ghost use Rattle.bl_load.specs.PlacingKept as kept;
 ghost use Rattle.bl_load.specs.KernelKept.{kernel_by, max_segments};
-ghost use Rattle.bl_load.specs.EntryFilesKept.{value_of_files};
+ghost use Rattle.bl_load.specs.CheckedEntryKept.{value_of_files};
 ghost use Rattle.bl_plan.specs.Limits.{max_line, max_modules};
 
+use crate::checked_entry::CheckedEntry;
 use crate::entry::Module;
-use crate::entry_files::EntryFiles;
-use crate::lengths::told_length;
+use crate::lengths::capped_length;
 use crate::multiboot2::kernel::Kernel;
 use crate::multiboot2::rows::kernel::push_kernel_rows;
 use bl_map::{FIRST_USABLE, FRAME_SIZE, HIGH_START, MAX_SIZE, round_up_to_frames};
@@ -33,13 +33,13 @@ fn push_module_rows<A: Allocator, B: Allocator, V: ByteView>(
     requires few { length modules.now ≤ max_modules }
     requires files { length files.now ≡ 1 + length modules.now }
     ensures { IfOk result (λ _. rows.new.items
-        ≡ rows.old.items ++ kept.told_rows (map V.bytes files.now) 0 (lines_by modules.now)) }
+        ≡ rows.old.items ++ kept.capped_rows (map V.bytes files.now) 0 (lines_by modules.now)) }
 {
     for (index, _) in modules.iter().enumerate() {
         rows.push(Row {
             role: Role::Module,
             index: index as u32,
-            length: told_length(files[index + 1].len()),
+            length: capped_length(files[index + 1].len()),
             choice: Choice::Lowest {
                 align: FRAME_SIZE,
                 low: HIGH_START,
@@ -76,7 +76,7 @@ fn length_of<A: Allocator>(copy: &Option<Bytes<A>>) -> Option<u64>
 
 /// The row of the information.
 fn information_row<A: Allocator, B: Allocator, V: ByteView>(
-    entry: &EntryFiles<'_, A, V>,
+    entry: &CheckedEntry<'_, A, V>,
     kernel: &Kernel<B>,
 ) -> Row
     ensures { result ≡ table.information_row entry.now.machine.now (value_of_files entry.now)
@@ -105,7 +105,7 @@ fn information_row<A: Allocator, B: Allocator, V: ByteView>(
 /// The rows of an entry's parts: the kernel's, those of its modules, and that of the information.
 pub fn multiboot2_rows<A: Allocator, B: Allocator, V: ByteView>(
     alloc: A,
-    entry: &EntryFiles<'_, A, V>,
+    entry: &CheckedEntry<'_, A, V>,
     kernel: &Kernel<B>,
 ) -> Result<Vec<Row, A>, AllocError>
     requires files { length entry.now.files.now ≡ 1 + length entry.now.modules.now }

@@ -4,7 +4,7 @@ use Rattle.bl_mem.specs.Memory.{memory_from}
 use Rattle.bl_session.specs.Menu.{MenuFacts}
 use Rattle.bl_session.specs.Run.{boot_end}
 use Rattle.bl_abi.specs.Boot.{few_places, bad_machine, bad_memory, bad_menu}
-use Rattle.bl_abi.specs.Boot.{HasBooted, given_files}
+use Rattle.bl_abi.specs.Boot.{HasBootEnded, given_files}
 use Rattle.bl_abi.proofs.booting.boot.Goals as goal
 
 pub returns-then-room-lt-MAX_PARTS-clause-end : goal.returns-then-room-lt-MAX_PARTS-clause-end
@@ -67,6 +67,6 @@ returns-clause-end g c =
           let new = memory_from c.args.base c.boot_given.new.memory in
           subst
           (λ (menu : MenuFacts).
-          HasBooted c.in-Ok.made menu files old new (boot_end c.boot_given.result))
+          HasBootEnded c.in-Ok.made menu files old new (boot_end c.boot_given.result))
           c.in-Ok-menu_of.ensures.menu c.boot_given.ensures;
     }

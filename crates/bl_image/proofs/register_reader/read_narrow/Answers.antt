@@ -5,29 +5,29 @@ use Rattle.std.proofs.lemmas.Bool.Decides.{nat_tests}
 use Rattle.bl_mem.specs.LittleEndian.{u64_bytes}
 use Rattle.bl_mem.proofs.LittleEndianLaws.{length-u64_bytes}
 use Rattle.bl_image.specs.declared.fault.ImageFault.TheVariants.{BadHeader}
-use Rattle.bl_image.specs.Fields.{narrow_field}
+use Rattle.bl_image.specs.Fields.{zero_extended_field}
 use Rattle.bl_image.proofs.FieldLemmas.{field_cut, field_shows, long_tells}
 use Rattle.bl_image.proofs.register_reader.read_narrow.Goals as goal
 
 pub returns-in_err-number-clause-field : goal.returns-in_err-number-clause-field
-unfolding narrow_field
+unfolding zero_extended_field
 returns-in_err-number-clause-field g c =
     let p = err_from_is_err_and c.from_residual.result c.from_residual.ensures.1 in
-    rw (p.1, p.2) (λ fields. field_cut narrow_field fields _ _ _ c.in_err-number.ensures.cut)
+    rw (p.1, p.2) (λ fields. field_cut zero_extended_field fields _ _ _ c.in_err-number.ensures.cut)
 
 pub returns-then-number-clause-field : goal.returns-then-number-clause-field
-unfolding narrow_field
+unfolding zero_extended_field
 returns-then-number-clause-field g c =
     let n = c.in_ok-number.number in
     let fails =
     long_tells (λ k. nat_lt k (2 ^ 32)) BadHeader n false c.in_ok-number.ensures.fits
     (grind (arith, nat_tests)) in
     λ fields.
-    field_shows narrow_field fields _ _ (u64_bytes n) c.in_ok-number.ensures.ok
+    field_shows zero_extended_field fields _ _ (u64_bytes n) c.in_ok-number.ensures.ok
     (length-u64_bytes n) fails
 
 pub returns-clause-field : goal.returns-clause-field
-unfolding narrow_field
+unfolding zero_extended_field
 returns-clause-field g c =
     let n = c.in_ok-number.number in
     record {

@@ -7,7 +7,7 @@ use Rattle.std.proofs.lemmas.Result.{err_from_is_err_and}
 use Rattle.bl_mem.specs.LittleEndian.{u64_bytes}
 use Rattle.bl_load.specs.declared.registers.Registers32.{Registers32}
 use Rattle.bl_load.specs.declared.registers.Registers.TheVariants.{Bits32}
-use Rattle.bl_image.specs.Fields.{Field, narrow_field, absent_field}
+use Rattle.bl_image.specs.Fields.{Field, zero_extended_field, absent_field}
 use Rattle.bl_image.specs.Image.{narrow_values, wide_values}
 use Rattle.bl_image.specs.Layouts.{registers_2_narrow}
 use Rattle.bl_image.specs.Source.{Input}
@@ -17,7 +17,7 @@ use Rattle.bl_image.proofs.WideLemmas.{wide_by, wide_spelling, spelled_wide}
 use Rattle.bl_image.proofs.register_reader.read_narrow_registers.Goals as goal
 
 abbrev narrow : ℕ → List Field
-narrow n = replicate n narrow_field
+narrow n = replicate n zero_extended_field
 
 abbrev absent : ℕ → List Field
 absent n = replicate n absent_field

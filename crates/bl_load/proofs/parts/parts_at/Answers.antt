@@ -10,7 +10,7 @@ use Rattle.bl_load.specs.Parts.{part_from}
 use Rattle.bl_load.specs.Place.{planned_place}
 use Rattle.bl_load.specs.PlanFacts.{part_by}
 use Rattle.bl_load.specs.Loadable.{lengths_of, IsBacked, IsLeanContent}
-use Rattle.bl_load.specs.EntryFilesKept.{texts_in, value_of_files}
+use Rattle.bl_load.specs.CheckedEntryKept.{texts_in, value_of_files}
 use Rattle.bl_load.proofs.parts.parts_at.Goals as goal
 
 pub content-requires-clause-rowed : goal.content-requires-clause-rowed

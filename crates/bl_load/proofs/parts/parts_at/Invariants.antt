@@ -3,7 +3,7 @@ use Rattle.bl_load.specs.Parts.{part_from}
 use Rattle.bl_load.specs.Place.{planned_place}
 use Rattle.bl_load.specs.PlanFacts.{part_by}
 use Rattle.bl_load.specs.Loadable.{lengths_of, IsBacked, IsLean}
-use Rattle.bl_load.specs.EntryFilesKept.{texts_in, value_of_files}
+use Rattle.bl_load.specs.CheckedEntryKept.{texts_in, value_of_files}
 use Rattle.bl_load.proofs.parts.parts_at.Given as goal
 
 -- the parts so far are those at the places so far

@@ -3,7 +3,7 @@ use Rattle.std.proofs.lemmas.Result.{IfOk-weaker}
 use Rattle.bl_plan.specs.declared.part.Row.{Row}
 use Rattle.bl_plan.specs.Placed.{IsRow}
 use Rattle.bl_load.specs.PlacingKept.{told_rows_by}
-use Rattle.bl_load.specs.EntryFilesKept.{value_of_files}
+use Rattle.bl_load.specs.CheckedEntryKept.{value_of_files}
 use Rattle.bl_load.specs.Unplaced.{IsUnplacedOf}
 use Rattle.bl_load.proofs.ReadingLemmas.{told_are_rows}
 use Rattle.bl_load.proofs.UnplacedLemmas.{as_unplaced_of}

@@ -1,12 +1,12 @@
 use Rattle.std.proofs.Common.{◌≡◌, ◌++◌, ℕ, List, map, drop}
 use Rattle.bl_desc.specs.Views.{module_view}
-use Rattle.bl_boot.specs.Kept.{names_with}
+use Rattle.bl_boot.specs.Kept.{with_new_names}
 use Rattle.bl_boot.proofs.description_boot.names.add_modules.Given as goal
 
 -- what was added so far, and what is left, give all
 abbrev pub invariant-loop-module : goal.invariant-loop-module
 invariant-loop-module g l = (rest : List (List ℕ))
-    → names_with (map (λ n. n.now) l.names.items)
+    → with_new_names (map (λ n. n.now) l.names.items)
     (map (λ m. m.file) (map module_view (drop l.module-index l.modules)) ++ rest)
-    ≡ names_with (map (λ n. n.now) l.initial.names.items)
+    ≡ with_new_names (map (λ n. n.now) l.initial.names.items)
     (map (λ m. m.file) (map module_view l.modules) ++ rest)

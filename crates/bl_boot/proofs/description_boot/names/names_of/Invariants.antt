@@ -3,13 +3,13 @@ use Rattle.std.specs.List.{flat_map}
 use Rattle.bl_desc.specs.Views.{view}
 use Rattle.bl_boot.specs.Attempted.{entry_of, names_of_entries}
 use Rattle.bl_say.specs.EntryNames.{file_names}
-use Rattle.bl_boot.specs.Kept.{names_with}
+use Rattle.bl_boot.specs.Kept.{with_new_names}
 use Rattle.bl_boot.proofs.description_boot.names.names_of.Given as goal
 
 -- what was added so far, and what is left, give all
 abbrev pub invariant-loop-index : goal.invariant-loop-index
 invariant-loop-index g l =
-    names_with (map (λ n. n.now) l.names.items)
+    with_new_names (map (λ n. n.now) l.names.items)
     (flat_map (λ index. file_names (entry_of (view l.description) index))
     (drop l.index-index l.indices))
     ≡ names_of_entries (view l.description) l.indices

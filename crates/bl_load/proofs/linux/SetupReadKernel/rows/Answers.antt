@@ -1,4 +1,4 @@
-use Rattle.bl_load.specs.EntryFilesKept.{value_of_files}
+use Rattle.bl_load.specs.CheckedEntryKept.{value_of_files}
 use Rattle.bl_load.specs.Value.{kernel_file}
 use Rattle.bl_bzimage.proofs.CheckLaws.{fixed_preferred}
 use Rattle.bl_load.proofs.LinuxKernelLemmas.{setup_is}

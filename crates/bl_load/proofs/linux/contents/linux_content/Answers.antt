@@ -8,7 +8,7 @@ use Rattle.bl_load.specs.Protocols.{is_wide}
 use Rattle.bl_load.specs.LinuxRows.{told_of}
 use Rattle.bl_load.specs.Reading.{linux}
 use Rattle.bl_load.specs.PlacingKept.{HasLength}
-use Rattle.bl_load.specs.EntryFilesKept.{value_of_files}
+use Rattle.bl_load.specs.CheckedEntryKept.{value_of_files}
 use Rattle.bl_load.proofs.linux.contents.linux_content.Goals as goal
 
 pub returns-in_ok-boot_params-in-BootParams-clause-short : goal.returns-in_ok-boot_params-in-BootParams-clause-short

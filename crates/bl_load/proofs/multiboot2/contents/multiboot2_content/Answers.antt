@@ -6,7 +6,7 @@ use Rattle.bl_load.specs.KernelKept.{kernel_by}
 use Rattle.bl_map.specs.Room.{round_up_to_frames}
 use Rattle.bl_load.specs.Rows.{information_of}
 use Rattle.bl_load.specs.PlacingKept.{HasLength}
-use Rattle.bl_load.specs.EntryFilesKept.{value_of_files}
+use Rattle.bl_load.specs.CheckedEntryKept.{value_of_files}
 use Rattle.bl_load.proofs.InformationLemmas.{information_short}
 use Rattle.bl_load.proofs.multiboot2.contents.multiboot2_content.Goals as goal
 

@@ -1,19 +1,19 @@
 -- What the code keeps of an entry with its files.
 use Rattle.std.specs.Prelude.{ℕ, List, length, map}
 use Rattle.bl_mem.specs.declared.view.ByteView.{Ghosts}
-use Rattle.bl_load.specs.declared.entry_files.EntryFiles.{EntryFiles}
+use Rattle.bl_load.specs.declared.checked_entry.CheckedEntry.{CheckedEntry}
 use Rattle.bl_load.specs.Kept.{lines_by}
 use Rattle.bl_load.specs.ReadKept.{HasFiles}
 use Rattle.bl_load.specs.Reading.{Reading, IsRead}
 use Rattle.bl_load.specs.Value.{EntryValue}
 
 -- the files' bytes
-abbrev pub texts_in : {A : Type 0} → {V : Type 0} → {view : Ghosts V} → EntryFiles A V view
+abbrev pub texts_in : {A : Type 0} → {V : Type 0} → {view : Ghosts V} → CheckedEntry A V view
     → List (List ℕ)
 texts_in {view = view} entry = map view.bytes entry.files.now
 
 -- the entry's value
-abbrev pub value_of_files : {A : Type 0} → {V : Type 0} → {view : Ghosts V} → EntryFiles A V view
+abbrev pub value_of_files : {A : Type 0} → {V : Type 0} → {view : Ghosts V} → CheckedEntry A V view
     → EntryValue
 value_of_files entry = record {
   protocol = entry.protocol;
@@ -26,6 +26,6 @@ value_of_files entry = record {
 
 -- the kernel was read so, and there is what it needs
 pub record IsReady {A : Type 0} {V : Type 0} {view : Ghosts V}
-    (entry : EntryFiles A V view) (reading : Reading) : Type 0 where
+    (entry : CheckedEntry A V view) (reading : Reading) : Type 0 where
   pub read : IsRead entry.machine.now (value_of_files entry) reading
   pub files : HasFiles (texts_in entry) (length entry.modules.now) reading

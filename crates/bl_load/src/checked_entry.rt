@@ -13,7 +13,7 @@ use std::alloc::Allocator;
 /// An entry with its files, on a machine: its protocol, its line, its modules and its copies of the
 /// RSDP, and its files, the kernel first. The lines have no fault.
 #[derive(Drop)]
-pub struct EntryFiles<'a, A: Allocator, V: ByteView> {
+pub struct CheckedEntry<'a, A: Allocator, V: ByteView> {
     pub protocol: Protocol,
     pub machine: &'a Machine<A>,
     pub line: &'a [u8],
