@@ -11,12 +11,12 @@ use Rattle.bl_desc.specs.Described.{described}
 use Rattle.bl_desc.specs.Views.{view}
 use Rattle.bl_boot.specs.declared.description_boot.boot_end.End.{End}
 use Rattle.bl_boot.specs.declared.description_boot.boot_end.End.TheVariants.{Booted, NoEntryLeft}
-use Rattle.bl_say.specs.declared.told.blame.Blame.{Blame}
-use Rattle.bl_say.specs.declared.told.blame.Blame.TheVariants.{BadMachine}
+use Rattle.bl_blame.specs.declared.told.blame.Blame.{Blame}
+use Rattle.bl_blame.specs.declared.told.blame.Blame.TheVariants.{BadMachine}
 use Rattle.bl_boot.specs.declared.explanation.fault.ExplainFault.{ExplainFault}
 use Rattle.bl_boot.specs.declared.explanation.fault.ExplainFault.TheVariants.{Blamed, NoMemory}
 use Rattle.bl_boot.specs.Attempted.{menu_of, names_in}
-use Rattle.bl_say.specs.BlameHints.{blame_lines}
+use Rattle.bl_blame.specs.BlameHints.{blame_lines}
 use Rattle.bl_boot.specs.Blames.{HasBlame}
 use Rattle.bl_boot.specs.DescribedMachine.{IsMachineOf}
 use Rattle.bl_boot.specs.Ends.{BootCase}

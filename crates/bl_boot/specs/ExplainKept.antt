@@ -19,10 +19,10 @@ use Rattle.bl_desc.specs.Described.{Described}
 use Rattle.bl_desc.specs.Entries.{Entry}
 use Rattle.bl_boot.specs.declared.description_boot.boot_end.End.{End}
 use Rattle.bl_boot.specs.declared.description_boot.boot_end.End.TheVariants.{Booted, NoEntryLeft}
-use Rattle.bl_say.specs.declared.told.blame.Blame.TheVariants.{BadMachine}
+use Rattle.bl_blame.specs.declared.told.blame.Blame.TheVariants.{BadMachine}
 use Rattle.bl_boot.specs.declared.explanation.fault.ExplainFault.{ExplainFault}
 use Rattle.bl_boot.specs.declared.explanation.fault.ExplainFault.TheVariants.{Blamed, NoMemory}
-use Rattle.bl_say.specs.BlameHints.{blame_lines}
+use Rattle.bl_blame.specs.BlameHints.{blame_lines}
 use Rattle.bl_boot.specs.Explained.{ExplainsBlame, ExplainsBoot, ExplainsRefusals}
 use Rattle.bl_boot.specs.Found.{AsksPrefix}
 use Rattle.bl_say.specs.Sought.{SoughtFacts, bytes_sought}

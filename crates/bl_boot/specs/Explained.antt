@@ -5,9 +5,9 @@ use Rattle.bl_session.specs.declared.outcome.RefusedEntry.{RefusedEntry}
 use Rattle.bl_session.specs.Boot.{State, handed_over, none_left}
 use Rattle.bl_session.specs.Outcome.{File}
 use Rattle.bl_desc.specs.Described.{described}
-use Rattle.bl_say.specs.declared.told.blame.Blame.{Blame}
+use Rattle.bl_blame.specs.declared.told.blame.Blame.{Blame}
 use Rattle.bl_boot.specs.Blames.{HasBlame}
-use Rattle.bl_say.specs.BlameHints.{blame_lines}
+use Rattle.bl_blame.specs.BlameHints.{blame_lines}
 use Rattle.bl_boot.specs.DescribedMachine.{IsBadDescription}
 use Rattle.bl_boot.specs.Ends.{BootCase, ComesTo}
 use Rattle.bl_boot.specs.Details.{AreToldRefusals}

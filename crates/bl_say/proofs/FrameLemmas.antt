@@ -1,5 +1,5 @@
--- The ranges of parts, and sums within a frame.
-use Rattle.std.proofs.Common.{◌≡◌, ◌+◌, ◌≤◌, ◌%◌, ℕ, map, arith}
+-- The ranges of parts.
+use Rattle.std.proofs.Common.{◌≤◌, map, arith}
 use Rattle.std.proofs.lemmas.List.Elements.{All-map}
 use Rattle.bl_map.specs.Room.{AreAscending}
 use Rattle.bl_plan.specs.Placed.{place_range}
@@ -14,7 +14,3 @@ ascending_parts handoff h = record {
       (λ k d within. omega arith);
   in_order = AllPairs-map (λ p q. p.end ≤ q.start) place_range handoff.places h.ascending;
 }
-
--- the place of a sum in its frame
-pub frame_sum : (a b : ℕ) → (a % 4096 + b % 4096) % 4096 ≡ (a + b) % 4096
-frame_sum a b = omega arith

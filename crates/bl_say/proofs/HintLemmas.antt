@@ -1,13 +1,10 @@
--- What is said of an entry or a region at an index.
-use Rattle.std.proofs.Common.{◌≡◌, ◌<◌, ◌≤◌, ℕ, List, [], length, map, get_or, refl, ap}
-use Rattle.std.proofs.lemmas.Option.{slice_get_past, slice_get_read}
-use Rattle.bl_map.specs.declared.region.Region.{Region}
+-- What is said of an entry at an index.
+use Rattle.std.proofs.Common.{◌≡◌, ◌<◌, ◌≤◌, ℕ, List, [], length, map, get_or, ap}
 use Rattle.bl_plan.specs.declared.part.Role.{Role}
 use Rattle.bl_session.specs.declared.outcome.RefusedEntry.{RefusedEntry}
 use Rattle.bl_desc.specs.declared.entry_row.EntryRow.{EntryRow}
 use Rattle.bl_desc.specs.Views.{entry_view}
 use Rattle.bl_say.specs.Hints.{kernel_hint, kernel_hint_if, kernel_hint_of}
-use Rattle.bl_say.specs.Hints.{region_hint, region_hint_at, region_hint_if}
 use Rattle.bl_say.specs.Segments.{KernelSegmentsFacts}
 use Rattle.bl_say.specs.Sought.{SoughtFacts, bytes_sought}
 use Rattle.bl_say.specs.Sources.{source_at, source_if, source_words}
@@ -40,13 +37,3 @@ pub one_source : {A : Type 0} (rows : List (EntryRow A)) (sought : SoughtFacts)
     ≡ source_words sought kernel (entry_view row) role i
 one_source rows sought kernel index role i row within at =
     ap (λ entry. source_if sought kernel entry role i) (one_row rows index row within at)
-
-pub no_region : (regions : List Region) (index : ℕ) → length regions ≤ index
-    → region_hint_at regions index ≡ []
-no_region regions index past = ap (region_hint_if index) (slice_get_past regions index past)
-
-pub one_region : (regions : List Region) (index : ℕ) (region : Region) → index < length regions
-    → region ≡ get_or regions index region
-    → region_hint_at regions index ≡ region_hint index region
-one_region regions index region within at =
-    ap (region_hint_if index) (slice_get_read regions (length regions) index region refl within at)

@@ -9,8 +9,9 @@ use Rattle.bl_load.specs.HandoffFacts.{HandoffFacts}
 use Rattle.bl_load.specs.Handover.{Part, Handover}
 use Rattle.bl_load.specs.NamedRegisters.{named_in}
 use Rattle.bl_load.specs.declared.registers.Registers.{Registers}
+use Rattle.bl_blame.specs.Addresses.{hex8}
 use Rattle.bl_say.specs.Says.{hex16}
-use Rattle.bl_say.specs.WalkLines.{hex8, protocol_line}
+use Rattle.bl_say.specs.WalkLines.{protocol_line}
 
 -- ---- the parts
 

@@ -8,13 +8,5 @@ pub mod Hints
 pub mod Sources
 pub mod RefusalWords
 pub mod HandedLines
-pub mod UnusableWords
 pub mod DetailLines
 pub mod AttemptLines
-pub mod KeyWords
-pub mod BlameLines
-pub mod Near
-pub mod WordHints
-pub mod PoolLines
-pub mod RadixHints
-pub mod BlameHints

@@ -14,6 +14,7 @@ use Rattle.bl_load.specs.declared.refusal.Refusal.TheVariants.{NotUsable, NoRoom
 use Rattle.bl_load.specs.declared.refusal.Refusal.TheVariants.{NotBzImage, OldProtocol, NotHigh}
 use Rattle.bl_load.specs.declared.refusal.Refusal.TheVariants.{SetupCut, BadPreferred, LineTooLong}
 use Rattle.bl_load.specs.declared.refusal.Refusal.TheVariants.{LineHasNul, MapTooLong, No64Entry}
+use Rattle.bl_blame.specs.ToldNumbers.{number_told}
 
 abbrev pub refusal_name : Refusal → List ℕ
 refusal_name (NoFile file) = codes "NoFile"
@@ -97,9 +98,6 @@ refusal_meaning No64Entry =
     codes "no 64-bit entry: the boot protocol is older than 2.12, or xloadflags has bit 0 clear"
 
 -- ---- what it tells beside, in brackets
-
-abbrev pub number_told : ℕ → List ℕ
-number_told n = codes "(" ++ decimal n ++ codes ")"
 
 abbrev pub offset_told : ℕ → List ℕ
 offset_told offset = codes "(0x" ++ digits 16 false offset ++ codes ")"

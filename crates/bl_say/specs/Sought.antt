@@ -1,10 +1,9 @@
 -- What is told of the files that an entry names. Own.
-use Rattle.std.specs.Prelude.{ℕ, ◌+◌, ◌==◌, ◌||◌, nat_lt, if◌then◌else◌, List, [], ◌∷◌, ◌++◌, codes}
-use Rattle.std.specs.Prelude.{decimal, slice_index_or, Option, Some, None}
-use Rattle.std.specs.List.{flat_map}
-use Rattle.hex.specs.Hex.{encode_lower}
+use Rattle.std.specs.Prelude.{ℕ, ◌+◌, List, [], ◌∷◌, ◌++◌, codes, decimal, slice_index_or}
+use Rattle.std.specs.Prelude.{Option, Some, None}
 use Rattle.bl_map.specs.Room.{frames_of}
 use Rattle.bl_session.specs.Outcome.{File, missing, size_of, file_bytes}
+use Rattle.bl_blame.specs.ShownNames.{shown_name}
 use Rattle.bl_say.specs.EntryNames.{index_of}
 
 -- the names that were looked for, and what was found for each of them
@@ -23,17 +22,6 @@ bytes_sought sought name = file_bytes (file_sought sought name)
 -- its length in bytes, None if there is no such file
 abbrev pub size_sought : SoughtFacts → List ℕ → Option ℕ
 size_sought sought name = size_of (file_sought sought name)
-
--- a byte of a name: a control character or a backslash is told by its number, so that a name stays
--- within its line
-unfoldable pub shown_byte : ℕ → List ℕ
-shown_byte b =
-    if nat_lt b 0x20 || (b == 0x7F) || (b == 0x5C)
-    then codes "\\x" ++ encode_lower (b ∷ [])
-    else b ∷ []
-
-abbrev pub shown_name : List ℕ → List ℕ
-shown_name name = flat_map shown_byte name
 
 -- a file: its place in the entry, the kernel's being 0; its length in bytes and in frames
 abbrev pub sought_front : ℕ → Option ℕ → List ℕ

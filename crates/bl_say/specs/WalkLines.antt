@@ -1,7 +1,6 @@
 -- The lines that tell what a kernel sees in an image. Own.
-use Rattle.std.specs.Prelude.{ℕ, ◌-◌, ◌==◌, if◌then◌else◌, false, List, [], ◌++◌, Option, Some}
-use Rattle.std.specs.Prelude.{None, length, replicate, codes, decimal}
-use Rattle.std.specs.Fmt.{digits}
+use Rattle.std.specs.Prelude.{ℕ, ◌==◌, if◌then◌else◌, List, [], ◌++◌, Option, Some, None}
+use Rattle.std.specs.Prelude.{length, codes, decimal}
 use Rattle.std.specs.List.{flat_map}
 use Rattle.hex.specs.Hex.{encode_lower}
 use Rattle.bl_map.specs.declared.region.Region.{Region}
@@ -11,11 +10,8 @@ use Rattle.bl_plan.specs.declared.protocol.Protocol.{Protocol}
 use Rattle.bl_plan.specs.Protocols.{protocol_name}
 use Rattle.bl_walk.specs.SeenFacts.{SeenModuleFacts, SeenFileFacts, SeenFacts}
 use Rattle.bl_walk.specs.declared.seen.SeenPart.{SeenPart}
+use Rattle.bl_blame.specs.Addresses.{hex8}
 use Rattle.bl_say.specs.Says.{hex16}
-
--- an address: lower-case hexadecimal digits, zeros in front up to eight
-unfoldable pub hex8 : ℕ → List ℕ
-hex8 n = replicate (8 - length (digits 16 false n)) 48 ++ digits 16 false n
 
 -- a text: how many bytes it has, and after a space its bytes in hexadecimal digits, if there are
 -- any

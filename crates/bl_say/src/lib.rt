@@ -5,7 +5,7 @@ mod lines;
 mod told;
 
 pub use lines::{
-    say_attempt, say_bad_image, say_blame, say_booted, say_handoff, say_hints, say_machine_blame,
-    say_map, say_no_entry_left, say_refusals, say_refused_attempts, say_room, say_walk,
+    say_attempt, say_bad_image, say_booted, say_handoff, say_hints, say_map, say_no_entry_left,
+    say_refusals, say_refused_attempts, say_room, say_walk,
 };
-pub use told::{Blame, Detail, KernelSegments, Sought, TextPlace, ToldRefusal, index_of};
+pub use told::{Detail, KernelSegments, Sought, ToldRefusal, index_of};

@@ -2,33 +2,23 @@
 
 mod attempts;
 mod bad_image;
-mod bad_key;
-mod blame;
 mod file_ranges;
 mod frames;
 mod handed;
 mod hints;
 mod kernel_hints;
-mod key_values;
 mod map;
-mod near;
 mod outcome;
-mod pool_lines;
-mod radix_hints;
 mod refusal;
 mod refusal_detail;
 mod refusal_words;
-mod region_hints;
 mod registers;
 mod sought;
 mod sources;
-mod unusable;
 mod walk;
-mod word_hints;
 
 pub use attempts::{say_attempt, say_refused_attempts};
 pub use bad_image::say_bad_image;
-pub use blame::{say_blame, say_machine_blame};
 pub use frames::say_room;
 pub use handed::say_handoff;
 pub use hints::say_hints;

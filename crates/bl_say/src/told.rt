@@ -1,12 +1,10 @@
 //! What lines are said of.
 
-mod blame;
 mod detail;
 mod kernel_segments;
 mod name_index;
 mod sought;
 
-pub use blame::{Blame, TextPlace};
 pub use detail::{Detail, ToldRefusal};
 pub use kernel_segments::KernelSegments;
 pub use name_index::index_of;

@@ -5,16 +5,16 @@ ghost use Rattle.toml.specs.Errors.{IsMemory, IsWithin};
 ghost use Rattle.toml.specs.Parse.{parse_document};
 ghost use Rattle.bl_desc.specs.Described.{described};
 ghost use Rattle.bl_desc.specs.Views.{HasMenu, view};
-ghost use Rattle.bl_say.specs.declared.told.blame.Blame.TheVariants.{BadMachine};
-ghost use Rattle.bl_say.specs.BlameHints.{blame_lines};
+ghost use Rattle.bl_blame.specs.declared.told.blame.Blame.TheVariants.{BadMachine};
+ghost use Rattle.bl_blame.specs.BlameHints.{blame_lines};
 ghost use Rattle.bl_boot.specs.DescribedMachine.{IsMachineOf};
 ghost use Rattle.bl_boot.specs.ExplainKept.{IsMachineBlame, IsReadBlame, SaysLines};
 
 use crate::explanation::fault::ExplainFault;
 use crate::explanation::text_place::text_place;
+use bl_blame::{Blame, say_blame, say_machine_blame};
 use bl_desc::{DescFault, Description, first_bad_key, read_description};
 use bl_map::{Machine, MapFault};
-use bl_say::{Blame, say_blame, say_machine_blame};
 use std::alloc::{Allocator, Global};
 
 /// Says why nothing is described, in `alloc` first, so that an error leaves what was said as it

@@ -2,7 +2,7 @@
 ghost use Rattle.std.specs.Prelude.{◌≡◌, ◌<◌, ◌^◌, ◌-◌};
 ghost use Rattle.bl_boot.specs.Blames as blames;
 
-use bl_say::TextPlace;
+use bl_blame::TextPlace;
 
 /// The place behind a byte.
 fn after_byte(place: TextPlace, byte: u8) -> TextPlace

@@ -1,5 +1,5 @@
 //! What a kernel is handed, line by line.
-ghost use Rattle.std.specs.Prelude.{◌≡◌, ◌++◌, OnOk, codes, map};
+ghost use Rattle.std.specs.Prelude.{◌≡◌, ◌++◌, OnOk, map};
 ghost use Rattle.std.specs.List.{flat_map};
 ghost use Rattle.bl_say.specs.HandedLines as handed;
 ghost use Rattle.bl_say.specs.HandedLines.{place_line};
@@ -10,6 +10,7 @@ use crate::lines::registers::say_registers;
 use crate::lines::sources::say_source;
 use crate::lines::walk::say_protocol;
 use crate::told::{KernelSegments, Sought};
+use bl_blame::say_line_end;
 use bl_desc::EntryRow;
 use bl_load::{Handoff, Place, Role};
 use std::alloc::{AllocError, Allocator};
@@ -44,12 +45,6 @@ fn say_part_front<A: Allocator + Copy>(
     let length = place.length;
     let line = format!(in alloc; "part {role} {index} {address:08x} {length} from ")?;
     out.extend_from_slice(line.as_bytes())
-}
-
-pub fn say_line_end<A: Allocator>(out: &mut Vec<u8, A>) -> Result<(), AllocError>
-    ensures { OnOk result (out.new.items ≡ out.old.items ++ codes "\n") }
-{
-    out.extend_from_slice(b"\n")
 }
 
 fn say_part<A: Allocator + Copy, B: Allocator>(

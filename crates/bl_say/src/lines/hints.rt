@@ -5,8 +5,8 @@ ghost use Rattle.bl_say.specs.Hints as hints;
 ghost use Rattle.bl_desc.specs.Views.{view};
 
 use crate::lines::kernel_hints::say_kernel_hints;
-use crate::lines::region_hints::say_region_hints;
 use crate::told::Sought;
+use bl_blame::say_region_hints;
 use bl_desc::Description;
 use bl_session::RefusedEntry;
 use std::alloc::{AllocError, Allocator};

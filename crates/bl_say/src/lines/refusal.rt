@@ -3,19 +3,9 @@ ghost use Rattle.std.specs.Prelude.{◌≡◌, ◌++◌, OnOk};
 ghost use Rattle.bl_say.specs.RefusalWords as words;
 
 use crate::lines::refusal_words::{refusal_meaning, refusal_name};
+use bl_blame::say_number;
 use bl_load::Refusal;
 use std::alloc::{AllocError, Allocator};
-
-pub(crate) fn say_number<A: Allocator + Copy>(
-    out: &mut Vec<u8, A>,
-    number: u64,
-) -> Result<(), AllocError>
-    ensures { OnOk result (out.new.items ≡ out.old.items ++ words.number_told number) }
-{
-    let alloc = *out.allocator();
-    let told = format!(in alloc; "({number})")?;
-    out.extend_from_slice(told.as_bytes())
-}
 
 fn say_offset<A: Allocator + Copy>(out: &mut Vec<u8, A>, offset: u64) -> Result<(), AllocError>
     ensures { OnOk result (out.new.items ≡ out.old.items ++ words.offset_told offset) }

@@ -6,9 +6,9 @@ ghost use Rattle.bl_say.specs.DetailLines as words;
 ghost use Rattle.bl_desc.specs.Views.{entry_view};
 
 use crate::lines::frames::{frames_at, say_counted, say_frames};
-use crate::lines::handed::{role_name, say_line_end};
-use crate::lines::unusable::{say_address, say_unusable};
+use crate::lines::handed::role_name;
 use crate::told::{Detail, Sought};
+use bl_blame::{say_address, say_line_end, say_unusable};
 use bl_desc::EntryRow;
 use bl_load::{Choice, Row};
 use bl_map::{Kind, Machine, frames_in};

@@ -6,32 +6,10 @@ ghost use Rattle.bl_say.specs.Sought.{sought_line, sought_lines};
 ghost use Rattle.bl_desc.specs.Views.{entry_view, module_view};
 
 use crate::told::Sought;
+use bl_blame::say_name;
 use bl_desc::{EntryForm, EntryRow, ModuleRow};
 use bl_map::frames_of;
 use std::alloc::{AllocError, Allocator};
-
-/// Appends a byte of a name, a control character or a backslash by its number.
-#[tactic(auto, unfolding(crate::specs::Sought::shown_byte))]
-fn say_byte<A: Allocator + Copy>(out: &mut Vec<u8, A>, byte: u8) -> Result<(), AllocError>
-    ensures { OnOk result (out.new.items ≡ out.old.items ++ sought_files.shown_byte byte) }
-{
-    if byte < 0x20 || byte == 0x7F || byte == b'\\' {
-        let alloc = *out.allocator();
-        let digits = hex::encode(alloc, &[byte])?;
-        out.extend_from_slice(b"\\x")?;
-        return out.extend_from_slice(digits.as_bytes());
-    }
-    out.extend_from_slice(&[byte])
-}
-
-pub fn say_name<A: Allocator + Copy>(out: &mut Vec<u8, A>, name: &[u8]) -> Result<(), AllocError>
-    ensures { OnOk result (out.new.items ≡ out.old.items ++ sought_files.shown_name name.now) }
-{
-    for byte in name {
-        say_byte(out, *byte)?;
-    }
-    Ok(())
-}
 
 /// Appends what stands before a file's name: its place in the entry and its length, if there is
 /// such a file.

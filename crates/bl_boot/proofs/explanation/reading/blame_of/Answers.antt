@@ -1,5 +1,5 @@
 use Rattle.std.proofs.lemmas.Str.{is_utf8-from_IsUtf8}
-use Rattle.bl_say.specs.declared.told.blame.Blame.TheVariants as blames
+use Rattle.bl_blame.specs.declared.told.blame.Blame.TheVariants as blames
 use Rattle.bl_boot.proofs.ExplainEnds.{blamed_for}
 use Rattle.bl_boot.proofs.ExplainLemmas.{no_text}
 use Rattle.bl_boot.proofs.explanation.reading.blame_of.Goals as goal

@@ -1,4 +1,4 @@
-use Rattle.bl_say.specs.declared.told.blame.Blame.TheVariants.{BadKey}
+use Rattle.bl_blame.specs.declared.told.blame.Blame.TheVariants.{BadKey}
 use Rattle.bl_boot.proofs.ExplainEnds.{blamed_for}
 use Rattle.bl_boot.proofs.ExplainLemmas.{undescribed}
 use Rattle.bl_boot.proofs.explanation.reading.blame_of_text.Goals as goal

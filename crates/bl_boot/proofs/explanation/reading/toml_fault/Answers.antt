@@ -1,6 +1,6 @@
 use Rattle.std.proofs.Common.{rules}
 use Rattle.bl_boot.specs.Blames.{HasBlame}
-use Rattle.bl_say.specs.declared.told.blame.Blame.TheVariants.{NotToml}
+use Rattle.bl_blame.specs.declared.told.blame.Blame.TheVariants.{NotToml}
 use Rattle.bl_boot.proofs.ExplainEnds.{blamed_for}
 use Rattle.bl_boot.proofs.explanation.reading.toml_fault.Goals as goal
 

@@ -1,7 +1,7 @@
 use Rattle.std.proofs.Common.{rules, arith, ◌≡◌, ◌++◌, ◌^◌, ◌-◌}
 use Rattle.std.specs.Prelude.{codes, decimal}
 use Rattle.std.proofs.lemmas.Grind.{common_steps}
-use Rattle.bl_say.proofs.HexLemmas.{hex8_hole, hex8_is}
+use Rattle.bl_blame.proofs.AddressLemmas.{hex8_hole, hex8_is}
 use Rattle.bl_say.specs.HandedLines.{part_front, role_name}
 use Rattle.bl_say.proofs.lines.handed.say_part_front.Goals as goal
 

@@ -1,6 +1,6 @@
 use Rattle.bl_desc.specs.Views.{view}
+use Rattle.bl_blame.proofs.CountedLemmas.{one_more_counted}
 use Rattle.bl_say.specs.Hints.{hint_at}
-use Rattle.bl_say.proofs.RowLemmas.{one_more_counted}
 use Rattle.bl_say.proofs.lines.hints.say_unattempted.Goals as goal
 
 pub loop-index-preserved : goal.loop-index-preserved

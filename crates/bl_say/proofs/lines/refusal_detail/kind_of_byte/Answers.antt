@@ -1,6 +1,6 @@
 use Rattle.std.proofs.Common.{sym}
 use Rattle.bl_map.specs.NormalMap.{kind_at}
-use Rattle.bl_say.proofs.PoolLemmas.{kind_told}
+use Rattle.bl_blame.proofs.PoolLemmas.{kind_told}
 use Rattle.bl_say.proofs.lines.refusal_detail.kind_of_byte.Goals as goal
 
 pub returns : goal.returns

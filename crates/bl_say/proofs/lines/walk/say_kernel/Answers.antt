@@ -1,7 +1,7 @@
 use Rattle.std.proofs.Common.{rules, arith, ◌≡◌, ◌++◌, ◌^◌, ◌-◌}
 use Rattle.std.specs.Prelude.{codes, decimal}
 use Rattle.std.proofs.lemmas.Grind.{common_steps}
-use Rattle.bl_say.proofs.HexLemmas.{hex8_hole, hex8_is}
+use Rattle.bl_blame.proofs.AddressLemmas.{hex8_hole, hex8_is}
 use Rattle.bl_say.specs.WalkLines.{kernel_line}
 use Rattle.bl_say.proofs.lines.walk.say_kernel.Goals as goal
 

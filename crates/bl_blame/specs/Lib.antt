@@ -1,0 +1,12 @@
+pub mod ShownNames
+pub mod ToldNumbers
+pub mod Addresses
+pub mod RegionHints
+pub mod UnusableWords
+pub mod KeyWords
+pub mod BlameLines
+pub mod Near
+pub mod WordHints
+pub mod PoolLines
+pub mod RadixHints
+pub mod BlameHints

@@ -1,0 +1,19 @@
+//! The lines that tell why a description is refused, and pieces of them that other lines have too.
+
+mod bad_key;
+mod blame;
+mod key_values;
+mod names;
+mod near;
+mod pieces;
+mod pool_lines;
+mod radix_hints;
+mod region_hints;
+mod unusable;
+mod word_hints;
+
+pub use blame::{say_blame, say_machine_blame};
+pub use names::say_name;
+pub use pieces::{say_line_end, say_number};
+pub use region_hints::say_region_hints;
+pub use unusable::{say_address, say_unusable};

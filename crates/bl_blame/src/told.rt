@@ -1,0 +1,5 @@
+//! What lines are said of.
+
+mod blame;
+
+pub use blame::{Blame, TextPlace};
