@@ -11,23 +11,23 @@ use Rattle.bl_map.specs.Limits.{frame_size}
 abbrev pub is_unaligned : ℕ → Bool
 is_unaligned a = not (a % frame_size == 0)
 
-abbrev pub begins_line : ℕ → List ℕ
-begins_line index = codes "hint: region " ++ decimal index ++ codes " begins within a frame\n"
+abbrev pub region_begin_line : ℕ → List ℕ
+region_begin_line index = codes "hint: region " ++ decimal index ++ codes " begins within a frame\n"
 
-abbrev pub ends_line : ℕ → List ℕ
-ends_line index = codes "hint: region " ++ decimal index ++ codes " ends within a frame\n"
+abbrev pub region_end_line : ℕ → List ℕ
+region_end_line index = codes "hint: region " ++ decimal index ++ codes " ends within a frame\n"
 
-abbrev pub begin_hint : ℕ → Region → List ℕ
-begin_hint index region = if is_unaligned region.base then begins_line index else []
+abbrev pub region_begin_hint : ℕ → Region → List ℕ
+region_begin_hint index region = if is_unaligned region.base then region_begin_line index else []
 
-abbrev pub end_hint : ℕ → Region → List ℕ
-end_hint index region = if is_unaligned (region_end region) then ends_line index else []
+abbrev pub region_end_hint : ℕ → Region → List ℕ
+region_end_hint index region = if is_unaligned (region_end region) then region_end_line index else []
 
 -- of kind usable, which has the number 1
 abbrev pub region_hint : ℕ → Region → List ℕ
 region_hint index region =
     if kind_number region.kind == 1
-    then begin_hint index region ++ end_hint index region
+    then region_begin_hint index region ++ region_end_hint index region
     else []
 
 abbrev pub region_hint_if : ℕ → Option Region → List ℕ

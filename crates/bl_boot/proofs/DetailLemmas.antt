@@ -26,7 +26,7 @@ use Rattle.bl_desc.specs.Views.{entry_view}
 use Rattle.bl_boot.specs.Attempted.{entry_facts}
 use Rattle.bl_say.specs.EntryNames.{file_names, index_of}
 use Rattle.bl_boot.specs.Details.{AreFramesBeside, IsDetail, IsDetailIf, value_sought}
-use Rattle.bl_say.specs.Sought.{SoughtFacts, bytes_sought}
+use Rattle.bl_say.specs.Sought.{SoughtFacts, bytes_found}
 use Rattle.bl_say.specs.declared.told.detail.Detail.{Detail}
 use Rattle.bl_say.specs.declared.told.detail.Detail.TheVariants.{Nothing}
 use Rattle.bl_say.specs.declared.told.detail.ToldRefusal.{ToldRefusal}
@@ -43,11 +43,11 @@ as_many (Linux kernel line (Some file) wide) = refl
 -- an entry that is made of one of a description, with what was found for the names of its files
 module _ {A : Type 0} (entry : loaded.Entry A) (names texts : List (List ℕ)) (e : Entry)
     (sought : SoughtFacts) (made : facts_of entry ≡ entry_facts names e)
-    (are : texts ≡ map (bytes_sought sought) (file_names e)) where
+    (are : texts ≡ map (bytes_found sought) (file_names e)) where
   -- it has as many files
   pub counted_files : length texts ≡ file_count entry
   counted_files =
-      ap length are ∙ length-map (file_names e) (bytes_sought sought)
+      ap length are ∙ length-map (file_names e) (bytes_found sought)
       ∙ sym (length-map (file_names e) (index_of names))
       ∙ sym (ap (λ (f : EntryFacts). length f.files) made) ∙ as_many entry
 

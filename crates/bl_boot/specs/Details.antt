@@ -18,14 +18,14 @@ use Rattle.bl_session.specs.declared.outcome.RefusedEntry.{RefusedEntry}
 use Rattle.bl_desc.specs.Entries.{Entry}
 use Rattle.bl_boot.specs.Attempted.{entry_value}
 use Rattle.bl_say.specs.EntryNames.{file_names}
-use Rattle.bl_say.specs.Sought.{SoughtFacts, bytes_sought}
+use Rattle.bl_say.specs.Sought.{SoughtFacts, bytes_found}
 use Rattle.bl_say.specs.declared.told.detail.Detail.{Detail}
 use Rattle.bl_say.specs.declared.told.detail.Detail.TheVariants.{Nothing, NoPlace, Frames}
 use Rattle.bl_say.specs.declared.told.detail.ToldRefusal.{ToldRefusal}
 
 -- the value of an entry with what was found for the names of its files
 abbrev pub value_sought : SoughtFacts → Entry → EntryValue
-value_sought sought entry = entry_value entry (map (bytes_sought sought) (file_names entry))
+value_sought sought entry = entry_value entry (map (bytes_found sought) (file_names entry))
 
 -- ---- a part that finds no place
 

@@ -25,7 +25,7 @@ use Rattle.bl_boot.specs.declared.explanation.fault.ExplainFault.TheVariants.{Bl
 use Rattle.bl_blame.specs.BlameHints.{blame_lines}
 use Rattle.bl_boot.specs.Explained.{ExplainsBlame, ExplainsBoot, ExplainsRefusals}
 use Rattle.bl_boot.specs.Found.{AsksPrefix}
-use Rattle.bl_say.specs.Sought.{SoughtFacts, bytes_sought}
+use Rattle.bl_say.specs.Sought.{SoughtFacts, bytes_found}
 use Rattle.bl_boot.specs.Details.{AreToldRefusals, value_sought}
 use Rattle.bl_boot.specs.KernelSegments.{AreSegmentsAt}
 use Rattle.bl_say.specs.Segments.{KernelSegmentsFacts, no_segments}
@@ -72,7 +72,7 @@ HasPlaceRefusal facts entries sought refused =
 abbrev pub HasKernel : SoughtFacts → Entry → Type 0
 HasKernel sought entry =
     entry.form.protocol ≡ Multiboot2
-    → (kernel : KernelFacts) × IsKernel (bytes_sought sought entry.kernel) kernel
+    → (kernel : KernelFacts) × IsKernel (bytes_found sought entry.kernel) kernel
 
 -- so is that of the entry of a menu that has this index, if there is one
 abbrev pub HasKernelAt : List Entry → SoughtFacts → ℕ → Type 0

@@ -5,7 +5,7 @@ use Rattle.bl_plan.specs.declared.protocol.Protocol.TheVariants.{Multiboot2, Lin
 use Rattle.bl_load.specs.Kernel.{KernelFacts, IsKernel}
 use Rattle.bl_session.specs.Boot.{State, unstarted, running, handed_over, none_left, out_of_memory}
 use Rattle.bl_desc.specs.Entries.{Entry}
-use Rattle.bl_say.specs.Sought.{SoughtFacts, bytes_sought}
+use Rattle.bl_say.specs.Sought.{SoughtFacts, bytes_found}
 use Rattle.bl_say.specs.Segments.{KernelSegmentsFacts, no_segments}
 
 -- those of a kernel; with a relocatable tag they are a block
@@ -27,7 +27,7 @@ AreSegmentsBy Linux64 bytes segments = segments ≡ no_segments
 -- of an entry's kernel, as it was found
 abbrev pub AreEntrySegments : SoughtFacts → Entry → KernelSegmentsFacts → Type 0
 AreEntrySegments sought entry segments =
-    AreSegmentsBy entry.form.protocol (bytes_sought sought entry.kernel) segments
+    AreSegmentsBy entry.form.protocol (bytes_found sought entry.kernel) segments
 
 abbrev pub AreSegmentsIf : SoughtFacts → Option Entry → KernelSegmentsFacts → Type 0
 AreSegmentsIf sought None segments = segments ≡ no_segments

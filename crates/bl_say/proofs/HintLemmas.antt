@@ -6,7 +6,7 @@ use Rattle.bl_desc.specs.declared.entry_row.EntryRow.{EntryRow}
 use Rattle.bl_desc.specs.Views.{entry_view}
 use Rattle.bl_say.specs.Hints.{kernel_hint, kernel_hint_if, kernel_hint_of}
 use Rattle.bl_say.specs.Segments.{KernelSegmentsFacts}
-use Rattle.bl_say.specs.Sought.{SoughtFacts, bytes_sought}
+use Rattle.bl_say.specs.Sought.{SoughtFacts, bytes_found}
 use Rattle.bl_say.specs.Sources.{source_at, source_if, source_words}
 use Rattle.bl_say.proofs.RowLemmas.{no_row, one_row}
 
@@ -20,7 +20,7 @@ pub one_kernel_hint : {A : Type 0} (rows : List (EntryRow A)) (sought : SoughtFa
     (refused : RefusedEntry) (row : EntryRow A) → refused.entry < length rows
     → row ≡ get_or rows refused.entry row
     → kernel_hint_of (map entry_view rows) sought refused
-    ≡ kernel_hint refused.entry refused.refusal (bytes_sought sought (entry_view row).kernel)
+    ≡ kernel_hint refused.entry refused.refusal (bytes_found sought (entry_view row).kernel)
 one_kernel_hint rows sought refused row within at =
     ap (kernel_hint_if sought refused) (one_row rows refused.entry row within at)
 

@@ -5,7 +5,7 @@ use Rattle.std.specs.declared.ops.Range.{Range}
 use Rattle.bl_map.specs.Room.{frames_in, frames_of, open_frames}
 use Rattle.bl_desc.specs.Entries.{Entry}
 use Rattle.bl_say.specs.EntryNames.{file_names}
-use Rattle.bl_say.specs.Sought.{SoughtFacts, size_sought}
+use Rattle.bl_say.specs.Sought.{SoughtFacts, size_found}
 
 -- the names of the files of an entry, by its index in a menu
 abbrev pub names_if : Option Entry → List (List ℕ)
@@ -16,14 +16,14 @@ abbrev pub names_at : List Entry → ℕ → List (List ℕ)
 names_at entries index = names_if (slice_get entries index)
 
 -- the length of what was found for a name; what is missing has none
-abbrev pub length_sought : SoughtFacts → List ℕ → ℕ
-length_sought sought name = unwrap_or (size_sought sought name) 0
+abbrev pub length_found : SoughtFacts → List ℕ → ℕ
+length_found sought name = unwrap_or (size_found sought name) 0
 
 -- how many frames the files of these names take, each in frames of its own
 abbrev pub frames_wanted : SoughtFacts → List (List ℕ) → ℕ
 frames_wanted sought [] = 0
 frames_wanted sought (name ∷ names) =
-    frames_of (length_sought sought name) + frames_wanted sought names
+    frames_of (length_found sought name) + frames_wanted sought names
 
 -- a number between two texts
 unfoldable pub number_between : (before : List ℕ) → ℕ → (behind : List ℕ) → List ℕ

@@ -9,7 +9,7 @@ use Rattle.bl_session.specs.declared.outcome.RefusedEntry.{RefusedEntry}
 use Rattle.bl_desc.specs.Described.{Described}
 use Rattle.bl_desc.specs.Entries.{Entry}
 use Rattle.bl_blame.specs.RegionHints.{region_hints}
-use Rattle.bl_say.specs.Sought.{SoughtFacts, bytes_sought}
+use Rattle.bl_say.specs.Sought.{SoughtFacts, bytes_found}
 
 -- ---- kernels of another protocol
 
@@ -45,7 +45,7 @@ kernel_hint entry _ bytes = []
 abbrev pub kernel_hint_if : SoughtFacts → RefusedEntry → Option Entry → List ℕ
 kernel_hint_if sought refused None = []
 kernel_hint_if sought refused (Some entry) =
-    kernel_hint refused.entry refused.refusal (bytes_sought sought entry.kernel)
+    kernel_hint refused.entry refused.refusal (bytes_found sought entry.kernel)
 
 abbrev pub kernel_hint_of : List Entry → SoughtFacts → RefusedEntry → List ℕ
 kernel_hint_of entries sought refused =
@@ -54,8 +54,8 @@ kernel_hint_of entries sought refused =
 -- ---- entries that are never attempted
 
 -- the default or a fallback is this entry
-abbrev pub is_named : Described → ℕ → Bool
-is_named description index =
+abbrev pub is_attempted : Described → ℕ → Bool
+is_attempted description index =
     (description.default == index) || list_any (λ f. f == index) description.fallbacks
 
 abbrev pub hint_line : ℕ → List ℕ
@@ -64,7 +64,7 @@ hint_line index =
     ++ codes " is not attempted: neither default nor fallback names it\n"
 
 abbrev pub hint_at : Described → ℕ → List ℕ
-hint_at description index = if is_named description index then [] else hint_line index
+hint_at description index = if is_attempted description index then [] else hint_line index
 
 abbrev pub unattempted_hints : Described → List ℕ
 unattempted_hints description =

@@ -12,16 +12,16 @@ pub record SoughtFacts : Type 0 where
   pub files : List File
 
 -- what was found for a name
-abbrev pub file_sought : SoughtFacts → List ℕ → File
-file_sought sought name = slice_index_or sought.files (index_of sought.names name) missing
+abbrev pub file_found : SoughtFacts → List ℕ → File
+file_found sought name = slice_index_or sought.files (index_of sought.names name) missing
 
 -- its bytes; what is missing or too long has none
-abbrev pub bytes_sought : SoughtFacts → List ℕ → List ℕ
-bytes_sought sought name = file_bytes (file_sought sought name)
+abbrev pub bytes_found : SoughtFacts → List ℕ → List ℕ
+bytes_found sought name = file_bytes (file_found sought name)
 
 -- its length in bytes, None if there is no such file
-abbrev pub size_sought : SoughtFacts → List ℕ → Option ℕ
-size_sought sought name = size_of (file_sought sought name)
+abbrev pub size_found : SoughtFacts → List ℕ → Option ℕ
+size_found sought name = size_of (file_found sought name)
 
 -- a file: its place in the entry, the kernel's being 0; its length in bytes and in frames
 abbrev pub sought_front : ℕ → Option ℕ → List ℕ
@@ -33,7 +33,7 @@ sought_front place (Some size) =
 -- then its name
 abbrev pub sought_line : SoughtFacts → ℕ → List ℕ → List ℕ
 sought_line sought place name =
-    sought_front place (size_sought sought name) ++ shown_name name ++ codes "\n"
+    sought_front place (size_found sought name) ++ shown_name name ++ codes "\n"
 
 -- files of these names, one after the other, from this place on
 abbrev pub sought_lines : SoughtFacts → ℕ → List (List ℕ) → List ℕ

@@ -12,9 +12,9 @@ use Rattle.bl_plan.specs.declared.protocol.Protocol.{Protocol}
 use Rattle.bl_plan.specs.declared.protocol.Protocol.TheVariants.{Multiboot2, Linux, Linux64}
 use Rattle.bl_load.specs.Parts.{no_segment}
 use Rattle.bl_desc.specs.Entries.{Entry, Form}
-use Rattle.bl_say.specs.Frames.{length_sought}
+use Rattle.bl_say.specs.Frames.{length_found}
 use Rattle.bl_say.specs.Segments.{KernelSegmentsFacts}
-use Rattle.bl_say.specs.Sought.{SoughtFacts, bytes_sought}
+use Rattle.bl_say.specs.Sought.{SoughtFacts, bytes_found}
 
 -- so many bytes of the file at this place of the entry, from an offset on
 abbrev pub file_words : (place offset count : ℕ) → List ℕ
@@ -24,7 +24,7 @@ file_words place offset count =
 
 -- a whole file
 abbrev pub whole_words : SoughtFacts → (place : ℕ) → (name : List ℕ) → List ℕ
-whole_words sought place name = file_words place 0 (length_sought sought name)
+whole_words sought place name = file_words place 0 (length_found sought name)
 
 -- of a Linux kernel's file all from the payload on
 abbrev pub payload_words : List ℕ → List ℕ
@@ -68,7 +68,7 @@ initrd_name form = unwrap_or form.initrd []
 -- by the part's role, and its index among those of its role; of the kernel these segments are told
 abbrev pub source_words : SoughtFacts → KernelSegmentsFacts → Entry → Role → ℕ → List ℕ
 source_words sought kernel entry Kernel i =
-    kernel_words entry.form.protocol kernel (bytes_sought sought entry.kernel) i
+    kernel_words entry.form.protocol kernel (bytes_found sought entry.kernel) i
 source_words sought kernel entry Module i =
     whole_words sought (i + 1) (module_name entry.form i)
 source_words sought kernel entry Initrd i = whole_words sought 1 (initrd_name entry.form)

@@ -23,7 +23,7 @@ fn ends_in_frame(region: &Region) -> bool
 }
 
 fn say_begins<A: Allocator + Copy>(out: &mut Vec<u8, A>, index: u64) -> Result<(), AllocError>
-    ensures { OnOk result (out.new.items ≡ out.old.items ++ hints.begins_line index) }
+    ensures { OnOk result (out.new.items ≡ out.old.items ++ hints.region_begin_line index) }
 {
     let alloc = *out.allocator();
     let line = format!(in alloc; "hint: region {index} begins within a frame\n")?;
@@ -31,7 +31,7 @@ fn say_begins<A: Allocator + Copy>(out: &mut Vec<u8, A>, index: u64) -> Result<(
 }
 
 fn say_ends<A: Allocator + Copy>(out: &mut Vec<u8, A>, index: u64) -> Result<(), AllocError>
-    ensures { OnOk result (out.new.items ≡ out.old.items ++ hints.ends_line index) }
+    ensures { OnOk result (out.new.items ≡ out.old.items ++ hints.region_end_line index) }
 {
     let alloc = *out.allocator();
     let line = format!(in alloc; "hint: region {index} ends within a frame\n")?;
@@ -44,7 +44,7 @@ fn say_begin_hint<A: Allocator + Copy>(
     region: &Region,
 ) -> Result<(), AllocError>
     ensures { OnOk result
-        (out.new.items ≡ out.old.items ++ hints.begin_hint index region.now) }
+        (out.new.items ≡ out.old.items ++ hints.region_begin_hint index region.now) }
 {
     if begins_in_frame(region) {
         return say_begins(out, index);
@@ -58,7 +58,7 @@ fn say_end_hint<A: Allocator + Copy>(
     region: &Region,
 ) -> Result<(), AllocError>
     ensures { OnOk result
-        (out.new.items ≡ out.old.items ++ hints.end_hint index region.now) }
+        (out.new.items ≡ out.old.items ++ hints.region_end_hint index region.now) }
 {
     if ends_in_frame(region) {
         return say_ends(out, index);

@@ -1,7 +1,7 @@
 //! The bytes of an entry's files, as they were found.
 ghost use Rattle.std.specs.Prelude.{◌≡◌, ◌∷◌, [], ◌++◌, IfOk, OnOk, map};
 ghost use Rattle.bl_say.specs.EntryNames.{file_names, names_beside};
-ghost use Rattle.bl_say.specs.Sought.{bytes_sought};
+ghost use Rattle.bl_say.specs.Sought.{bytes_found};
 ghost use Rattle.bl_desc.specs.Views.{entry_view, form_view, module_view};
 
 use bl_desc::{EntryForm, EntryRow, ModuleRow};
@@ -16,7 +16,7 @@ fn add_text<'s, A: Allocator>(
     name: &str,
 ) -> Result<(), AllocError>
     ensures { OnOk result (map (λ t. t.bytes.now) texts.new.items
-        ≡ map (λ t. t.bytes.now) texts.old.items ++ bytes_sought sought.now name.now ∷ []) }
+        ≡ map (λ t. t.bytes.now) texts.old.items ++ bytes_found sought.now name.now ∷ []) }
 {
     texts.push(SliceView::new(sought.bytes(name)))?;
     Ok(())
@@ -30,7 +30,7 @@ fn add_modules<'s, A: Allocator, B: Allocator>(
 ) -> Result<(), AllocError>
     ensures { OnOk result (map (λ t. t.bytes.now) texts.new.items
         ≡ map (λ t. t.bytes.now) texts.old.items
-        ++ map (bytes_sought sought.now) (map (λ m. m.file) (map module_view modules.now))) }
+        ++ map (bytes_found sought.now) (map (λ m. m.file) (map module_view modules.now))) }
 {
     match modules {
         [] => Ok(()),
@@ -49,7 +49,7 @@ fn add_beside<'s, A: Allocator, B: Allocator>(
 ) -> Result<(), AllocError>
     ensures { OnOk result (map (λ t. t.bytes.now) texts.new.items
         ≡ map (λ t. t.bytes.now) texts.old.items
-        ++ map (bytes_sought sought.now) (names_beside (form_view form.now))) }
+        ++ map (bytes_found sought.now) (names_beside (form_view form.now))) }
 {
     match form {
         EntryForm::Multiboot2 { modules, .. } => add_modules(texts, sought, &modules.rows),
@@ -69,7 +69,7 @@ pub fn entry_texts<'s, A: Allocator, B: Allocator>(
     entry: &EntryRow<B>,
 ) -> Result<Vec<SliceView<'s>, A>, AllocError>
     ensures { IfOk result (λ texts. map (λ t. t.bytes.now) texts.items
-        ≡ map (bytes_sought sought.now) (file_names (entry_view entry.now))) }
+        ≡ map (bytes_found sought.now) (file_names (entry_view entry.now))) }
 {
     let mut texts = Vec::new(alloc);
     add_text(&mut texts, sought, entry.kernel.as_str())?;

@@ -3,7 +3,7 @@ ghost use Rattle.std.specs.Prelude.{◌≡◌, ◌*◌, ◌≤◌, ◌^◌, ◌+
 ghost use Rattle.bl_map.specs.Room as room;
 ghost use Rattle.bl_plan.specs.Placed.{place_range};
 ghost use Rattle.bl_say.specs.EntryNames.{file_names, names_beside};
-ghost use Rattle.bl_say.specs.Frames.{number_between, frames_line, frames_wanted, length_sought};
+ghost use Rattle.bl_say.specs.Frames.{number_between, frames_line, frames_wanted, length_found};
 ghost use Rattle.bl_say.specs.Frames.{names_at, room_line};
 ghost use Rattle.bl_desc.specs.Views.{entry_view, form_view, module_view};
 
@@ -15,7 +15,7 @@ use std::alloc::{AllocError, Allocator};
 
 /// How many frames the file of this name takes.
 fn frames_of_name<A: Allocator>(sought: &Sought<'_, A>, name: &str) -> u64
-    ensures frames { result ≡ room.frames_of (length_sought sought.now name.now) }
+    ensures frames { result ≡ room.frames_of (length_found sought.now name.now) }
     ensures most { result ≤ 2 ^ 52 }
 {
     match sought.size(name) {

@@ -19,8 +19,8 @@ fn is_among(index: u32, indices: &[u32]) -> bool
 }
 
 /// Whether the default or a fallback is this entry.
-fn is_named<A: Allocator>(description: &Description<A>, index: u32) -> bool
-    ensures { result ≡ hints.is_named (view description.now) index }
+fn is_attempted<A: Allocator>(description: &Description<A>, index: u32) -> bool
+    ensures { result ≡ hints.is_attempted (view description.now) index }
 {
     if description.default == index {
         return true;
@@ -47,7 +47,7 @@ fn say_hint_at<A: Allocator + Copy, B: Allocator>(
     ensures { OnOk result
         (out.new.items ≡ out.old.items ++ hints.hint_at (view description.now) index) }
 {
-    if is_named(description, index) {
+    if is_attempted(description, index) {
         return Ok(());
     }
     say_hint(out, index as u64)

@@ -3,7 +3,7 @@ ghost use Rattle.std.specs.Prelude.{◌≡◌, ◌++◌, OnOk, map};
 ghost use Rattle.std.specs.List.{flat_map};
 ghost use Rattle.bl_say.specs.Hints as hints;
 ghost use Rattle.bl_say.specs.Hints.{kernel_hint, kernel_hint_of};
-ghost use Rattle.bl_say.specs.Sought.{bytes_sought};
+ghost use Rattle.bl_say.specs.Sought.{bytes_found};
 ghost use Rattle.bl_desc.specs.Views.{entry_view};
 
 use crate::told::Sought;
@@ -91,7 +91,7 @@ fn say_row_hint<A: Allocator + Copy, B: Allocator>(
     entry: &EntryRow<B>,
 ) -> Result<(), AllocError>
     ensures { OnOk result (out.new.items ≡ out.old.items ++ kernel_hint refused.now.entry
-        refused.now.refusal (bytes_sought sought.now (entry_view entry.now).kernel)) }
+        refused.now.refusal (bytes_found sought.now (entry_view entry.now).kernel)) }
 {
     let bytes = sought.bytes(entry.kernel.as_str());
     say_kernel_hint(out, refused.entry as u64, refused.refusal, bytes)

@@ -29,8 +29,8 @@ impl<'a, A: Allocator> Model for Sought<'a, A> {
 impl<'a, A: Allocator> Sought<'a, A> {
     ghost use Rattle.std.specs.Prelude.{◌≡◌, map};
     ghost use Rattle.bl_session.specs.Stores.{stored_files};
-    ghost use Rattle.bl_say.specs.Frames.{length_sought};
-    ghost use Rattle.bl_say.specs.Sought.{bytes_sought, size_sought};
+    ghost use Rattle.bl_say.specs.Frames.{length_found};
+    ghost use Rattle.bl_say.specs.Sought.{bytes_found, size_found};
 
     /// These names, for which these files were found.
     pub fn new(names: &'a [&'a str], files: &'a [Fetched<A>]) -> Sought<'a, A>
@@ -44,7 +44,7 @@ impl<'a, A: Allocator> Sought<'a, A> {
 
     /// The length of what was found for a name, none if there is no such file.
     pub fn size(&self, name: &str) -> Option<u64>
-        ensures { result ≡ size_sought self.now name.now }
+        ensures { result ≡ size_found self.now name.now }
     {
         match self.files.get(index_of(self.names, name)) {
             Some(file) => file.size(),
@@ -54,7 +54,7 @@ impl<'a, A: Allocator> Sought<'a, A> {
 
     /// The length of what was found for a name, 0 if there is no such file.
     pub fn length(&self, name: &str) -> u64
-        ensures { result ≡ length_sought self.now name.now }
+        ensures { result ≡ length_found self.now name.now }
     {
         match self.size(name) {
             Some(size) => size,
@@ -64,7 +64,7 @@ impl<'a, A: Allocator> Sought<'a, A> {
 
     /// The bytes of what was found for a name, none if there is no such file or it is too long.
     pub fn bytes(&self, name: &str) -> &[u8]
-        ensures { result.now ≡ bytes_sought self.now name.now }
+        ensures { result.now ≡ bytes_found self.now name.now }
     {
         match self.files.get(index_of(self.names, name)) {
             Some(Fetched::Bytes(bytes)) => bytes.as_slice(),

@@ -1,7 +1,7 @@
 use Rattle.std.proofs.Common.{IfOk, subst, sym}
 use Rattle.bl_desc.specs.Views.{form_view}
 use Rattle.bl_boot.specs.KernelSegments.{AreSegmentsBy}
-use Rattle.bl_say.specs.Sought.{bytes_sought}
+use Rattle.bl_say.specs.Sought.{bytes_found}
 use Rattle.bl_boot.proofs.explanation.kernel_segments.entry_segments.Goals as goal
 
 pub returns-in-Multiboot2 : goal.returns-in-Multiboot2
@@ -9,6 +9,6 @@ returns-in-Multiboot2 g c =
     subst
     (λ form. IfOk c.kernel_segments.result
     (AreSegmentsBy (form_view form).protocol
-    (bytes_sought c.args.sought.now c.args.row.now.kernel)))
+    (bytes_found c.args.sought.now c.args.row.now.kernel)))
     (sym c.in-Multiboot2.is)
     (rw (c.bytes.ensures, c.as_str.ensures) at c.kernel_segments.ensures)
