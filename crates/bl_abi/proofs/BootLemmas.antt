@@ -6,7 +6,7 @@ use Rattle.std.proofs.lemmas.List.{length-map, get_or-map, drop_more}
 use Rattle.std.proofs.lemmas.List.Elements.{All-map}
 use Rattle.bl_load.specs.declared.entry.Entry.{Entry}
 use Rattle.bl_load.specs.Value.{HasLimits, IsWithinLimits}
-use Rattle.bl_session.specs.Attempts.{IsSmall, NameEntries, HasMenuFault}
+use Rattle.bl_session.specs.Attempts.{AreWithinLimits, NameEntries, HasMenuFault}
 use Rattle.bl_session.specs.Menu.{EntryFacts, facts_of}
 use Rattle.bl_session.specs.declared.menu.fault.MenuFault.{MenuFault}
 use Rattle.bl_session.specs.declared.menu.fault.MenuFault.TheVariants as menu_faults
@@ -25,7 +25,7 @@ entry_count given rows typed is =
     sym (length-map typed facts_of) ∙ ap length is ∙ length-map rows (facts_given given)
 
 few_typed : {A : Type 0} (given : GivenFacts) (rows : List EntryRecord) (typed : List (Entry A))
-    → map facts_of typed ≡ map (facts_given given) rows → AreFewGiven given rows → IsSmall typed
+    → map facts_of typed ≡ map (facts_given given) rows → AreFewGiven given rows → AreWithinLimits typed
 unfolding IsWithinLimits
 few_typed given rows typed is few =
     let count = entry_count given rows typed is in
@@ -40,7 +40,7 @@ few_typed given rows typed is few =
 
 -- the other way round
 pub few_given : {A : Type 0} (given : GivenFacts) (rows : List EntryRecord)
-    (typed : List (Entry A)) → map facts_of typed ≡ map (facts_given given) rows → IsSmall typed
+    (typed : List (Entry A)) → map facts_of typed ≡ map (facts_given given) rows → AreWithinLimits typed
     → AreFewGiven given rows
 unfolding IsWithinLimits
 few_given given rows typed is small =

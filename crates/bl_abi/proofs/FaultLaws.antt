@@ -5,8 +5,8 @@ use Rattle.std.proofs.lemmas.Option.{same_Some}
 use Rattle.bl_map.specs.MachineFacts.{MachineFacts}
 use Rattle.bl_load.specs.Parts.{IsRefusal}
 use Rattle.bl_load.proofs.HandoverLaws as handovers
-use Rattle.bl_abi.specs.declared.fault.LoadFault.{LoadFault}
-use Rattle.bl_abi.specs.declared.fault.LoadFault.TheVariants.{Misused, Refused, NoMemory}
+use Rattle.bl_abi.specs.declared.load_fault.LoadFault.{LoadFault}
+use Rattle.bl_abi.specs.declared.load_fault.LoadFault.TheVariants.{Misused, Refused, NoMemory}
 use Rattle.bl_abi.specs.declared.misuse.Misuse.{Misuse}
 use Rattle.bl_abi.specs.declared.given_fault.GivenFault.TheVariants as given_fault
 use Rattle.bl_abi.specs.declared.records.EntryRecord.{EntryRecord}

@@ -11,7 +11,7 @@ use Rattle.bl_map.specs.declared.fault.MapFault.TheVariants as map_fault
 use Rattle.bl_map.specs.Faults.{HasFirstMapFault, IsAccepted, IsLowRegion}
 use Rattle.bl_map.specs.MachineFacts.{MachineFacts}
 use Rattle.bl_map.proofs.MapLaws.{one_normal_map}
-use Rattle.bl_abi.specs.declared.fault.LoadFault.TheVariants.{NoMemory}
+use Rattle.bl_abi.specs.declared.load_fault.LoadFault.TheVariants.{NoMemory}
 use Rattle.bl_abi.specs.declared.misuse.Misuse.{Misuse}
 use Rattle.bl_abi.specs.declared.given_fault.GivenFault.{GivenFault}
 use Rattle.bl_abi.specs.declared.given_fault.GivenFault.TheVariants as given_fault

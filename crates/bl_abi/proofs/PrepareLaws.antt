@@ -14,8 +14,8 @@ use Rattle.bl_load.proofs.HandoverLaws as handovers
 use Rattle.bl_load.proofs.WrittenLemmas.{EndsWithin, length-written}
 use Rattle.bl_image.specs.ImageParts.{part_place, handoff_of}
 use Rattle.bl_image.proofs.Spelled.{EndsIn, length-place_bytes}
-use Rattle.bl_abi.specs.declared.fault.LoadFault.{LoadFault}
-use Rattle.bl_abi.specs.declared.fault.LoadFault.TheVariants.{Misused, Refused, NoMemory}
+use Rattle.bl_abi.specs.declared.load_fault.LoadFault.{LoadFault}
+use Rattle.bl_abi.specs.declared.load_fault.LoadFault.TheVariants.{Misused, Refused, NoMemory}
 use Rattle.bl_abi.specs.declared.given_fault.GivenFault.TheVariants as given_fault
 use Rattle.bl_abi.specs.declared.records.EntryRecord.{EntryRecord}
 use Rattle.bl_abi.specs.declared.records.MachineRecord.{MachineRecord}

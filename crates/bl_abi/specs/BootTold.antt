@@ -4,9 +4,9 @@ use Rattle.bl_load.specs.HandoffFacts.{HandoffFacts}
 use Rattle.bl_session.specs.declared.outcome.RefusedEntry.{RefusedEntry}
 use Rattle.bl_session.specs.Phases.{PhaseFacts, not_started, waits, hands_over, has_none}
 use Rattle.bl_session.specs.Phases.{lacks_memory}
-use Rattle.bl_abi.specs.declared.handoff_records.PlaceRecord.{PlaceRecord}
-use Rattle.bl_abi.specs.declared.handoff_records.HandoffRecord.{HandoffRecord}
-use Rattle.bl_abi.specs.declared.handoff_records.RefusalRecord.{RefusalRecord}
+use Rattle.bl_abi.specs.declared.end_records.PlaceRecord.{PlaceRecord}
+use Rattle.bl_abi.specs.declared.end_records.HandoffRecord.{HandoffRecord}
+use Rattle.bl_abi.specs.declared.end_records.RefusalRecord.{RefusalRecord}
 use Rattle.bl_abi.specs.declared.given_fault.GivenFault.{GivenFault}
 use Rattle.bl_abi.specs.Load.{of_given}
 use Rattle.bl_abi.specs.Refused.{refusal_record}

@@ -9,7 +9,7 @@ use Rattle.bl_image.specs.ImageParts.{handoff_of}
 use Rattle.bl_abi.specs.declared.records.RegionRecord.{RegionRecord}
 use Rattle.bl_abi.specs.declared.records.MachineRecord.{MachineRecord}
 use Rattle.bl_abi.specs.declared.records.EntryRecord.{EntryRecord}
-use Rattle.bl_abi.specs.declared.fault.LoadFault.{LoadFault}
+use Rattle.bl_abi.specs.declared.load_fault.LoadFault.{LoadFault}
 use Rattle.bl_abi.specs.Given.{GivenFacts, value_given}
 use Rattle.bl_abi.specs.Load.{IsEntrySound, IsNotLoaded}
 use Rattle.bl_abi.specs.Machines.{IsMachineGiven, IsMachineSound}

@@ -3,7 +3,7 @@ use Rattle.std.specs.Prelude.{ℕ}
 use Rattle.bl_load.specs.Numbers.{refusal_number}
 use Rattle.bl_load.specs.declared.refusal.Refusal.{Refusal}
 use Rattle.bl_load.specs.declared.refusal.Refusal.TheVariants as refusal
-use Rattle.bl_abi.specs.declared.handoff_records.RefusalRecord.{RefusalRecord}
+use Rattle.bl_abi.specs.declared.end_records.RefusalRecord.{RefusalRecord}
 
 -- what it carries first: a file's place in its entry, the offset of a tag, a type, a segment's
 -- index; 0 if nothing

@@ -90,9 +90,9 @@ outcome_status None = still_waits
 outcome_status (Some end) = end_status end
 
 -- what is told beside it
-abbrev pub after_outcome : Option PhaseFacts → Telling → Telling
-after_outcome None old = old
-after_outcome (Some end) old = end_told end old
+abbrev pub telling_after_outcome : Option PhaseFacts → Telling → Telling
+telling_after_outcome None old = old
+telling_after_outcome (Some end) old = end_told end old
 
 -- a status and what is told of the outcome of a session that stands so: nothing if there is room
 -- for fewer places than there may be
@@ -100,4 +100,4 @@ abbrev pub TellsOutcome : PhaseFacts → ℕ → (old new : Telling) → Type 0
 TellsOutcome phase status old new =
     MatchBool (nat_lt (length old.places) max_parts)
     ((status ≡ misuse_status FewPlaces) × (new ≡ old))
-    ((status ≡ outcome_status (end_facts phase)) × (new ≡ after_outcome (end_facts phase) old))
+    ((status ≡ outcome_status (end_facts phase)) × (new ≡ telling_after_outcome (end_facts phase) old))

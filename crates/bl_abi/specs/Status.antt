@@ -2,8 +2,8 @@
 use Rattle.std.specs.Prelude.{ℕ}
 use Rattle.bl_abi.specs.declared.misuse.Misuse.{Misuse}
 use Rattle.bl_abi.specs.declared.misuse.Misuse.TheVariants as misuse
-use Rattle.bl_abi.specs.declared.fault.LoadFault.{LoadFault}
-use Rattle.bl_abi.specs.declared.fault.LoadFault.TheVariants.{Misused, Refused, NoMemory}
+use Rattle.bl_abi.specs.declared.load_fault.LoadFault.{LoadFault}
+use Rattle.bl_abi.specs.declared.load_fault.LoadFault.TheVariants.{Misused, Refused, NoMemory}
 
 -- it was done
 abbrev pub done : ℕ

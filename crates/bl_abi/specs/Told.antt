@@ -8,12 +8,12 @@ use Rattle.bl_load.specs.declared.registers.Registers.{Registers}
 use Rattle.bl_load.specs.declared.registers.Registers.TheVariants.{Bits32, Bits64}
 use Rattle.bl_load.specs.declared.registers.Registers32.{Registers32}
 use Rattle.bl_load.specs.declared.registers64.Registers64.{Registers64}
-use Rattle.bl_abi.specs.declared.handoff_records.RegistersRecord.{RegistersRecord}
-use Rattle.bl_abi.specs.declared.handoff_records.PlaceRecord.{PlaceRecord}
-use Rattle.bl_abi.specs.declared.handoff_records.HandoffRecord.{HandoffRecord}
-use Rattle.bl_abi.specs.declared.handoff_records.RefusalRecord.{RefusalRecord}
-use Rattle.bl_abi.specs.declared.fault.LoadFault.{LoadFault}
-use Rattle.bl_abi.specs.declared.fault.LoadFault.TheVariants.{Misused, Refused, NoMemory}
+use Rattle.bl_abi.specs.declared.end_records.RegistersRecord.{RegistersRecord}
+use Rattle.bl_abi.specs.declared.end_records.PlaceRecord.{PlaceRecord}
+use Rattle.bl_abi.specs.declared.end_records.HandoffRecord.{HandoffRecord}
+use Rattle.bl_abi.specs.declared.end_records.RefusalRecord.{RefusalRecord}
+use Rattle.bl_abi.specs.declared.load_fault.LoadFault.{LoadFault}
+use Rattle.bl_abi.specs.declared.load_fault.LoadFault.TheVariants.{Misused, Refused, NoMemory}
 use Rattle.bl_abi.specs.Refused.{refusal_record}
 use Rattle.bl_abi.specs.Status.{done, fault_status}
 

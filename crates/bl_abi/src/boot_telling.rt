@@ -5,11 +5,11 @@ ghost use Rattle.bl_abi.specs.Boot.{typed_end};
 ghost use Rattle.bl_abi.specs.BootTold as spec;
 ghost use Rattle.bl_abi.specs.Load.{of_given};
 ghost use Rattle.bl_abi.specs.Status.{fault_status};
-ghost use Rattle.bl_abi.specs.declared.handoff_records.HandoffRecord.{HandoffRecord};
-ghost use Rattle.bl_abi.specs.declared.handoff_records.PlaceRecord.{PlaceRecord};
+ghost use Rattle.bl_abi.specs.declared.end_records.HandoffRecord.{HandoffRecord};
+ghost use Rattle.bl_abi.specs.declared.end_records.PlaceRecord.{PlaceRecord};
 
+use crate::end_records::{HandoffRecord, PlaceRecord, RefusalRecord};
 use crate::given_fault::GivenFault;
-use crate::handoff_records::{HandoffRecord, PlaceRecord, RefusalRecord};
 use crate::load_telling::{handoff_told, tell_places};
 use crate::refusal_telling::refusal_record;
 use bl_session::{BootFault, Outcome, RefusedEntry};

@@ -1,20 +1,20 @@
 //! A menu is booted in memory of the caller's own.
 ghost use Rattle.std.specs.Prelude.{◌≡◌, ◌+◌, ◌≤◌, None, IfOk, IfErr, OnOk, Result, map, length};
 ghost use Rattle.std.specs.Prelude.{option_copied};
-ghost use Rattle.bl_mem.specs.Memory.{KeepsMemory, memory_from};
+ghost use Rattle.bl_mem.specs.Memory.{KeepsSizeAndRoom, memory_from};
 ghost use Rattle.bl_session.specs.Ledger.{sliced_file};
 ghost use Rattle.bl_session.specs.Run.{boot_end};
 ghost use Rattle.bl_session.specs.Phases.{PhaseFacts};
 ghost use Rattle.bl_abi.specs.Boot.{HasBootEnded, IsBootEnd, IsBootMenuFault, IsMenuAllowed};
-ghost use Rattle.bl_abi.specs.Boot.{stored_misuse, typed_end, menu_given};
+ghost use Rattle.bl_abi.specs.Boot.{files_misuse, typed_end, menu_given};
 ghost use Rattle.bl_abi.specs.Boot as spec;
 ghost use Rattle.bl_abi.specs.BootTold.{TellsBoot};
 ghost use Rattle.bl_abi.specs.declared.given_fault.GivenFault.{GivenFault};
 
 use crate::boot_telling::tell_boot;
-use crate::given::Given;
+use crate::end_records::{HandoffRecord, PlaceRecord, RefusalRecord};
+use crate::given_arrays::Given;
 use crate::given_fault::GivenFault;
-use crate::handoff_records::{HandoffRecord, PlaceRecord, RefusalRecord};
 use crate::machines::machine_of;
 use crate::menu_files::{check_menu, stored_files};
 use crate::menus::menu_made;
@@ -38,7 +38,7 @@ fn boot_slices<M: PhysMem, A: Allocator + Copy>(
     ensures booted { HasBootEnded machine.now menu.now
         (map (λ file. sliced_file (option_copied file)) files.now)
         (M.bytes memory.old) (M.bytes memory.new) (boot_end result) }
-    ensures kept { KeepsMemory M.lender M.bytes M.room memory.old memory.new }
+    ensures kept { KeepsSizeAndRoom M.lender M.bytes M.room memory.old memory.new }
 {
     let mut store = SliceStore::new(alloc, files, Order::Forward);
     let end = run(alloc, memory, &mut store, machine, menu);
@@ -95,7 +95,7 @@ fn menu_of<A: Allocator + Copy>(
         menu ≡ menu_given given.now entries.now default fallbacks.now) }
     ensures allowed { OnOk result
         (IsMenuAllowed given.now entries.now default fallbacks.now) }
-    ensures stored { OnOk result (stored_misuse given.now ≡ None) }
+    ensures stored { OnOk result (files_misuse given.now ≡ None) }
     ensures fault { IfErr result (IsBootMenuFault given.now entries.now default fallbacks.now) }
 {
     if let Err(misuse) = check_menu(given, entries) {

@@ -2,7 +2,7 @@
 ghost use Rattle.std.specs.Prelude.{◌≡◌};
 ghost use Rattle.bl_abi.specs.Checks as spec;
 
-use crate::given::Given;
+use crate::given_arrays::Given;
 use crate::misuse::Misuse;
 use crate::ranges::are_among;
 use crate::records::{ByteRange, EntryRecord, ModuleRecord, NO_FILE, RegionRecord};

@@ -8,7 +8,7 @@ ghost use Rattle.bl_abi.specs.Checks.{load_misuse};
 ghost use Rattle.bl_abi.specs.Given as spec;
 ghost use Rattle.bl_abi.specs.Load.{IsEntryGivenFault};
 
-use crate::given::Given;
+use crate::given_arrays::Given;
 use crate::given_fault::GivenFault;
 use crate::misuse::Misuse;
 use crate::records::{ByteRange, EntryRecord, NO_FILE};

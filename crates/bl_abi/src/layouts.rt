@@ -1,5 +1,5 @@
 //! The sizes of the records: those that `include/bootcore.h` asserts.
-use crate::handoff_records::{HandoffRecord, PlaceRecord, RefusalRecord, RegistersRecord};
+use crate::end_records::{HandoffRecord, PlaceRecord, RefusalRecord, RegistersRecord};
 use crate::records::{ByteRange, EntryRecord, MachineRecord, ModuleRecord, RegionRecord};
 use crate::seen_records::{SeenModuleRecord, SeenPartRecord, SeenRecord};
 

@@ -2,8 +2,8 @@
 ghost use Rattle.std.specs.Prelude.{◌≡◌, ◌≢◌, ◌≤◌, ℕ, List, length, Ok, Err};
 ghost use Rattle.bl_load.specs.HandoffFacts.{HandoffFacts, max_parts};
 ghost use Rattle.bl_load.specs.declared.refusal.Refusal.{Refusal};
-ghost use Rattle.bl_abi.specs.declared.fault.LoadFault.{LoadFault};
-ghost use Rattle.bl_abi.specs.declared.fault.LoadFault.TheVariants.{Refused, NoMemory};
+ghost use Rattle.bl_abi.specs.declared.load_fault.LoadFault.{LoadFault};
+ghost use Rattle.bl_abi.specs.declared.load_fault.LoadFault.TheVariants.{Refused, NoMemory};
 ghost use Rattle.bl_abi.specs.declared.records.EntryRecord.{EntryRecord};
 ghost use Rattle.bl_abi.specs.declared.records.MachineRecord.{MachineRecord};
 ghost use Rattle.bl_abi.specs.declared.records.RegionRecord.{RegionRecord};

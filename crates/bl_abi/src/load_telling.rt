@@ -5,8 +5,8 @@ ghost use Rattle.bl_load.specs.PlanFacts.{handoff_by, places_of};
 ghost use Rattle.bl_abi.specs.Status.{fault_status};
 ghost use Rattle.bl_abi.specs.Told as spec;
 
-use crate::fault::LoadFault;
-use crate::handoff_records::{HandoffRecord, PlaceRecord, RefusalRecord};
+use crate::end_records::{HandoffRecord, PlaceRecord, RefusalRecord};
+use crate::load_fault::LoadFault;
 use crate::refusal_telling::refusal_record;
 use crate::register_telling::registers_told;
 use bl_load::{Handoff, Place, Plan, PlannedPart};

@@ -9,12 +9,12 @@ ghost use Rattle.bl_load.specs.Value.{value_of, file_count, IsWithinLimits};
 ghost use Rattle.bl_load.specs.HandoffFacts.{HandoffFacts};
 ghost use Rattle.bl_abi.specs.Load.{IsHandedIn, IsEntryFault, IsEntrySound, IsLoadEnd};
 ghost use Rattle.bl_abi.specs.Told.{TellsEnd};
-ghost use Rattle.bl_abi.specs.declared.fault.LoadFault.{LoadFault};
+ghost use Rattle.bl_abi.specs.declared.load_fault.LoadFault.{LoadFault};
 
+use crate::end_records::{HandoffRecord, PlaceRecord, RefusalRecord};
 use crate::entries::take_entry;
-use crate::fault::{LoadFault, given_fault, load_fault};
-use crate::given::Given;
-use crate::handoff_records::{HandoffRecord, PlaceRecord, RefusalRecord};
+use crate::given_arrays::Given;
+use crate::load_fault::{LoadFault, given_fault, load_fault};
 use crate::load_telling::tell_end;
 use crate::machines::machine_of;
 use crate::misuse::Misuse;

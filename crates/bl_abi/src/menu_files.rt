@@ -4,7 +4,7 @@ ghost use Rattle.bl_session.specs.Ledger.{sliced_file};
 ghost use Rattle.bl_abi.specs.Boot as spec;
 
 use crate::entries::check_entries;
-use crate::given::Given;
+use crate::given_arrays::Given;
 use crate::misuse::Misuse;
 use crate::ranges::range_bytes;
 use crate::records::{ByteRange, EntryRecord, MISSING};
@@ -53,11 +53,11 @@ fn are_missing_or_within(given: &Given, files: &[ByteRange]) -> bool
         .all(|range| is_missing_or_within(given, *range))
 }
 
-#[tactic(auto, unfolding(crate::specs::Boot::stored_misuse))]
+#[tactic(auto, unfolding(crate::specs::Boot::files_misuse))]
 fn check_stored(given: &Given) -> Result<(), Misuse>
     ensures { MatchResult result
-        (λ _. spec.stored_misuse given.now ≡ None)
-        (λ misuse. spec.stored_misuse given.now ≡ Some misuse) }
+        (λ _. spec.files_misuse given.now ≡ None)
+        (λ misuse. spec.files_misuse given.now ≡ Some misuse) }
 {
     if !are_missing_or_within(given, given.files) {
         return Err(Misuse::BadContents);

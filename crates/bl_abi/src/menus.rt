@@ -5,7 +5,7 @@ ghost use Rattle.bl_abi.specs.Boot.{AreFewGiven, IsNoMenu, menu_given};
 ghost use Rattle.bl_abi.specs.Boot as spec;
 
 use crate::entries::entries_of;
-use crate::given::Given;
+use crate::given_arrays::Given;
 use crate::given_fault::GivenFault;
 use crate::misuse::Misuse;
 use crate::records::EntryRecord;

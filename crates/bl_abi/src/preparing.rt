@@ -5,12 +5,12 @@ ghost use Rattle.bl_load.specs.PlanFacts.{handoff_by};
 ghost use Rattle.bl_abi.specs.Load.{IsEntryFault, IsEntrySound, IsNotLoaded};
 ghost use Rattle.bl_abi.specs.Prepare.{IsHandoffOf, IsPrepared, IsPrepareEnd};
 ghost use Rattle.bl_abi.specs.Told.{TellsEnd};
-ghost use Rattle.bl_abi.specs.declared.fault.LoadFault.{LoadFault};
+ghost use Rattle.bl_abi.specs.declared.load_fault.LoadFault.{LoadFault};
 
+use crate::end_records::{HandoffRecord, PlaceRecord, RefusalRecord};
 use crate::entries::take_entry;
-use crate::fault::{LoadFault, given_fault, load_fault};
-use crate::given::Given;
-use crate::handoff_records::{HandoffRecord, PlaceRecord, RefusalRecord};
+use crate::given_arrays::Given;
+use crate::load_fault::{LoadFault, given_fault, load_fault};
 use crate::load_telling::{tell_fault, tell_plan};
 use crate::machines::machine_of;
 use crate::misuse::Misuse;

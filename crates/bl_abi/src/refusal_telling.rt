@@ -2,7 +2,7 @@
 ghost use Rattle.std.specs.Prelude.{◌≡◌};
 ghost use Rattle.bl_abi.specs.Refused as spec;
 
-use crate::handoff_records::RefusalRecord;
+use crate::end_records::RefusalRecord;
 use bl_load::Refusal;
 
 fn first_carried(refusal: Refusal) -> u64

@@ -2,7 +2,7 @@
 ghost use Rattle.std.specs.Prelude.{◌≡◌};
 ghost use Rattle.bl_abi.specs.Told as spec;
 
-use crate::handoff_records::RegistersRecord;
+use crate::end_records::RegistersRecord;
 use bl_load::{Registers, Registers32, Registers64};
 
 fn told_32(r: &Registers32) -> RegistersRecord

@@ -5,10 +5,10 @@ ghost use Rattle.bl_abi.specs.Sessions.{IsSessionMenuFault, IsSessionMade, Tells
 ghost use Rattle.bl_abi.specs.Sessions as spec;
 
 use crate::boot_telling::{tell_boot_fault, tell_outcome};
+use crate::end_records::{HandoffRecord, PlaceRecord, RefusalRecord};
 use crate::entries::check_entries;
-use crate::given::Given;
+use crate::given_arrays::Given;
 use crate::given_fault::GivenFault;
-use crate::handoff_records::{HandoffRecord, PlaceRecord, RefusalRecord};
 use crate::machines::machine_of;
 use crate::menus::menu_made;
 use crate::misuse::Misuse;

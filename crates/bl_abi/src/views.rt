@@ -2,7 +2,7 @@
 ghost use Rattle.std.specs.Prelude.{◌≡◌, ◌++◌, IfOk, OnOk, map};
 ghost use Rattle.bl_abi.specs.Given as spec;
 
-use crate::given::Given;
+use crate::given_arrays::Given;
 use crate::records::{EntryRecord, ModuleRecord, NO_FILE};
 use bl_mem::SliceView;
 use std::alloc::{AllocError, Allocator};

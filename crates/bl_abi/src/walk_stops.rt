@@ -2,7 +2,7 @@
 ghost use Rattle.std.specs.Prelude.{◌≡◌};
 ghost use Rattle.bl_abi.specs.WalkTold as spec;
 
-use crate::handoff_records::RefusalRecord;
+use crate::end_records::RefusalRecord;
 use crate::seen_records::WalkStop;
 use bl_image::ImageFault;
 use bl_walk::WalkFault;

@@ -2,7 +2,7 @@
 ghost use Rattle.std.specs.Prelude.{◌≡◌, ◌≤◌, ◌++◌, length, drop, MatchBool};
 ghost use Rattle.bl_abi.specs.WalkTold as spec;
 
-use crate::handoff_records::RefusalRecord;
+use crate::end_records::RefusalRecord;
 use crate::misuse::Misuse;
 use crate::records::RegionRecord;
 use crate::seen_records::{SeenModuleRecord, SeenPartRecord, SeenRecord, WalkStop};

@@ -37,14 +37,14 @@ map_fault_words fault =
     decimal (map_fault_number fault) ++ codes " " ++ map_fault_name fault ++ map_fault_told fault
     ++ codes ": " ++ map_fault_meaning fault
 
-abbrev pub place_words : TextPlace → List ℕ
-place_words place =
+abbrev pub not_toml_words : TextPlace → List ℕ
+not_toml_words place =
     codes "it is not TOML, at line " ++ decimal place.line ++ codes ", column "
     ++ decimal place.column
 
 abbrev pub blame_words : Blame → List ℕ
 blame_words NotUtf8 = codes "it is not UTF-8"
-blame_words (NotToml place) = place_words place
+blame_words (NotToml place) = not_toml_words place
 blame_words (blames.BadKey bad) = bad_key_words bad
 blame_words (BadMachine fault) = codes "machine " ++ map_fault_words fault
 

@@ -94,14 +94,14 @@ listed_words (name ∷ more ∷ names) = name ++ codes ", " ++ listed_words (mor
 -- ---- the whole
 
 -- what a path holds, and what is allowed there
-unfoldable pub is_words : Data → List ℕ
-is_words held = codes " is " ++ held_words held
+unfoldable pub actual_words : Data → List ℕ
+actual_words held = codes " is " ++ held_words held
 
 unfoldable pub must_words : List ℕ → List ℕ
 must_words allowed = codes "; it must be " ++ allowed
 
 abbrev pub instead_words : Data → (allowed : List ℕ) → List ℕ
-instead_words held allowed = is_words held ++ must_words allowed
+instead_words held allowed = actual_words held ++ must_words allowed
 
 -- that a key may not be there, and which may; that one is not there, and what must be
 unfoldable pub unknown_words : KeySet → List ℕ

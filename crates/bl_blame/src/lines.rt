@@ -3,17 +3,17 @@
 mod bad_key;
 mod blame;
 mod key_values;
-mod names;
 mod near;
 mod pieces;
 mod pool_lines;
 mod radix_hints;
 mod region_hints;
+mod shown_names;
 mod unusable;
 mod word_hints;
 
 pub use blame::{say_blame, say_machine_blame};
-pub use names::say_name;
 pub use pieces::{say_line_end, say_number};
 pub use region_hints::say_region_hints;
+pub use shown_names::say_name;
 pub use unusable::{say_address, say_unusable};

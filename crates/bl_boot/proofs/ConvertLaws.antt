@@ -7,7 +7,7 @@ use Rattle.bl_image.specs.declared.fault.ImageFault.{ImageFault}
 use Rattle.bl_image.specs.declared.fault.ImageFault.TheVariants as image
 use Rattle.bl_image.specs.declared.version.Version.{Version}
 use Rattle.bl_image.specs.ImageParts.{IsImage}
-use Rattle.bl_image.specs.Source.{Input, IsOfTheMoment}
+use Rattle.bl_image.specs.Source.{SourceFacts, IsOfTheMoment}
 use Rattle.bl_image.specs.Versions.{written_version}
 use Rattle.bl_image.proofs.ImageLaws.{image_not_refused}
 use Rattle.bl_image.proofs.KnownLemmas.{known_ok}
@@ -22,13 +22,13 @@ use Rattle.bl_boot.specs.Walked.{ReadsImage, IsBadImage}
 use Rattle.bl_say.specs.WalkLines.{walk_lines}
 
 -- what was read of bytes that are known is an image of them
-is_image : (before after : Input) (h : Handover) (bytes : List ℕ) → before.rest ≡ Some bytes
+is_image : (before after : SourceFacts) (h : Handover) (bytes : List ℕ) → before.rest ≡ Some bytes
     → ReadsImage before after h → (version : Version) × IsImage version bytes h
 is_image before after h bytes e read =
     known_ok h before after (read.version, read.has, read.came) read.ended read.kept bytes e
 
 -- and the one that they are an image of
-read_same : (before after : Input) (h k : Handover) (bytes : List ℕ) (version : Version)
+read_same : (before after : SourceFacts) (h k : Handover) (bytes : List ℕ) (version : Version)
     → before.rest ≡ Some bytes → ReadsImage before after k → IsImage version bytes h → k ≡ h
 read_same before after h k bytes version e read is =
     let other = is_image before after k bytes e read in
@@ -53,7 +53,7 @@ sound_has_none h walking.BadState sound stands memory = sound.state stands
 sound_has_none h walking.NoMemory sound stands memory = memory refl
 
 -- an image in which no fault stands is not refused
-not_bad : (before after : Input) (h : Handover) (bytes : List ℕ) (version : Version) (number : ℕ)
+not_bad : (before after : SourceFacts) (h : Handover) (bytes : List ℕ) (version : Version) (number : ℕ)
     → before.rest ≡ Some bytes → IsImage version bytes h → IsSound h
     → IsBadImage before after number → ⊥
 not_bad before after h bytes version number e is sound (inl none) =

@@ -25,11 +25,11 @@ use Rattle.bl_desc.specs.Entries.{Entry}
 use Rattle.bl_desc.specs.Views.{entry_view}
 use Rattle.bl_boot.specs.Attempted.{entry_facts}
 use Rattle.bl_say.specs.EntryNames.{file_names, index_of}
-use Rattle.bl_boot.specs.Details.{AreFramesBeside, IsDetail, IsDetailIf, value_sought}
+use Rattle.bl_boot.specs.Details.{AreFramesBeside, IsRefusalDetail, IsRefusalDetailOrNothing, value_sought}
 use Rattle.bl_say.specs.Sought.{SoughtFacts, bytes_found}
-use Rattle.bl_say.specs.declared.told.detail.Detail.{Detail}
-use Rattle.bl_say.specs.declared.told.detail.Detail.TheVariants.{Nothing}
-use Rattle.bl_say.specs.declared.told.detail.ToldRefusal.{ToldRefusal}
+use Rattle.bl_say.specs.declared.told.refusal_detail.RefusalDetail.{RefusalDetail}
+use Rattle.bl_say.specs.declared.told.refusal_detail.RefusalDetail.TheVariants.{Nothing}
+use Rattle.bl_say.specs.declared.told.refusal_detail.ToldRefusal.{ToldRefusal}
 use Rattle.bl_say.proofs.RowLemmas.{no_row, one_row}
 
 -- ---- an entry of a description
@@ -76,26 +76,26 @@ beside_plan facts value texts size plan count is loadable counted = (
 
 pub no_detail : {A : Type 0} (rows : List (EntryRow A)) (facts : MachineFacts)
     (sought : SoughtFacts) (index : ℕ) (refusal : Refusal) → length rows ≤ index
-    → IsDetailIf facts sought (slice_get (map entry_view rows) index) refusal Nothing
+    → IsRefusalDetailOrNothing facts sought (slice_get (map entry_view rows) index) refusal Nothing
 no_detail rows facts sought index refusal past =
-    subst (λ (e : Option Entry). IsDetailIf facts sought e refusal Nothing)
+    subst (λ (e : Option Entry). IsRefusalDetailOrNothing facts sought e refusal Nothing)
     (sym (no_row rows index past)) refl
 
 pub one_detail : {A : Type 0} (rows : List (EntryRow A)) (facts : MachineFacts)
-    (sought : SoughtFacts) (index : ℕ) (row : EntryRow A) (refusal : Refusal) (detail : Detail)
+    (sought : SoughtFacts) (index : ℕ) (row : EntryRow A) (refusal : Refusal) (detail : RefusalDetail)
     → index < length rows → row ≡ get_or rows index row
-    → IsDetail facts (value_sought sought (entry_view row)) refusal detail
-    → IsDetailIf facts sought (slice_get (map entry_view rows) index) refusal detail
+    → IsRefusalDetail facts (value_sought sought (entry_view row)) refusal detail
+    → IsRefusalDetailOrNothing facts sought (slice_get (map entry_view rows) index) refusal detail
 one_detail rows facts sought index row refusal detail within at is =
-    subst (λ (e : Option Entry). IsDetailIf facts sought e refusal detail)
+    subst (λ (e : Option Entry). IsRefusalDetailOrNothing facts sought e refusal detail)
     (sym (one_row rows index row within at)) is
 
 -- where one is found
 pub one_detail_if : {A : Type 0} (rows : List (EntryRow A)) (facts : MachineFacts)
     (sought : SoughtFacts) (index : ℕ) (row : EntryRow A) (refusal : Refusal)
-    (found : Result Detail AllocError) → index < length rows → row ≡ get_or rows index row
-    → IfOk found (IsDetail facts (value_sought sought (entry_view row)) refusal)
-    → IfOk found (IsDetailIf facts sought (slice_get (map entry_view rows) index) refusal)
+    (found : Result RefusalDetail AllocError) → index < length rows → row ≡ get_or rows index row
+    → IfOk found (IsRefusalDetail facts (value_sought sought (entry_view row)) refusal)
+    → IfOk found (IsRefusalDetailOrNothing facts sought (slice_get (map entry_view rows) index) refusal)
 one_detail_if rows facts sought index row refusal (Ok detail) within at is =
     one_detail rows facts sought index row refusal detail within at is
 one_detail_if rows facts sought index row refusal (Err e) within at is = is

@@ -19,7 +19,7 @@ use Rattle.bl_boot.specs.Details.{AreToldRefusals}
 use Rattle.bl_say.specs.Sought.{SoughtFacts}
 use Rattle.bl_say.specs.AttemptLines.{attempt_lines, refused_attempt_lines}
 use Rattle.bl_blame.specs.declared.told.blame.TextPlace.{TextPlace}
-use Rattle.bl_say.specs.declared.told.detail.ToldRefusal.{ToldRefusal}
+use Rattle.bl_say.specs.declared.told.refusal_detail.ToldRefusal.{ToldRefusal}
 
 -- ---- places in a text
 

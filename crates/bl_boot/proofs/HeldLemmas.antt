@@ -24,7 +24,7 @@ use Rattle.bl_say.specs.Segments.{KernelSegmentsFacts}
 use Rattle.bl_say.specs.Sought.{SoughtFacts}
 use Rattle.bl_say.specs.Sources.{source_at}
 use Rattle.bl_boot.specs.Told.{booted_lines, entry_handoff_lines, entry_handover_lines, told_lines}
-use Rattle.bl_say.specs.declared.told.detail.ToldRefusal.{ToldRefusal}
+use Rattle.bl_say.specs.declared.told.refusal_detail.ToldRefusal.{ToldRefusal}
 
 -- ---- part by part
 

@@ -7,7 +7,7 @@ use Rattle.bl_load.specs.declared.entry.Entry.{Entry}
 use Rattle.bl_load.specs.declared.entry.Module.{Module}
 use Rattle.bl_load.specs.Value.{IsCopy}
 use Rattle.bl_desc.specs.Forms.{HasCopyLength}
-use Rattle.bl_session.specs.Attempts.{IsSmall, NameEntries, HasMenuFault}
+use Rattle.bl_session.specs.Attempts.{AreWithinLimits, NameEntries, HasMenuFault}
 use Rattle.bl_session.specs.Menu.{EntryFacts, facts_of}
 use Rattle.bl_session.specs.declared.menu.fault.MenuFault.{MenuFault}
 use Rattle.bl_session.specs.declared.menu.fault.MenuFault.TheVariants.{BadIndex, TooMany, NoMemory}
@@ -20,7 +20,7 @@ use Rattle.bl_say.specs.EntryNames.{index_of}
 -- a menu that is small, and whose indices name entries, has no fault; memory may run out
 pub only_memory : {A : Type 0} (entries : List (Entry A)) (default : ℕ) (fallbacks : List ℕ)
     (fault : MenuFault)
-    → IsSmall entries → NameEntries (length entries) default fallbacks
+    → AreWithinLimits entries → NameEntries (length entries) default fallbacks
     → HasMenuFault entries default fallbacks fault → fault ≡ NoMemory
 only_memory entries default fallbacks BadIndex small named is = absurd (is.1 named)
 only_memory entries default fallbacks TooMany small named is = absurd (is small)

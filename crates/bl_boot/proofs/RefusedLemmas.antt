@@ -17,7 +17,7 @@ use Rattle.bl_session.specs.AttemptResult.{file_limit, file_refusal, known_lengt
 use Rattle.bl_session.specs.AttemptResult.{size_refusal}
 use Rattle.bl_session.specs.Boot.{BootFacts, State, fresh, sizes_of}
 use Rattle.bl_session.specs.Menu.{EntryFacts, MenuFacts, entry_at, no_entry, value_with}
-use Rattle.bl_session.specs.Outcome.{EntryHasResult, File, IsFirst, IsOutcome, faulty_in}
+use Rattle.bl_session.specs.Outcome.{EntryHasResult, File, IsFirst, IsOutcome, faulty_file}
 use Rattle.bl_session.specs.Outcome.{file_bytes, missing, no_fault, size_of, value_in}
 use Rattle.bl_session.specs.Phases.{boot_facts}
 use Rattle.bl_session.specs.Pieces.{are_whole}
@@ -62,7 +62,7 @@ behind (Some s) rest r placing other is =
     let same : s ≡ r = ap (λ e. refusal_in e s) (sym is) in
     let bad : true ≡ false = sym placing ∙ other r (ap Some same) in absurd cc
 
-never_faulty : (facts : BootFacts) (entry : ℕ) → faulty_in facts entry None ≡ None
+never_faulty : (facts : BootFacts) (entry : ℕ) → faulty_file facts entry None ≡ None
 never_faulty facts entry =
     elim (cases_Bool (are_whole (fresh facts entry))) [
       | inl whole ↦ rw whole refl

@@ -19,9 +19,9 @@ use Rattle.bl_desc.specs.Entries.{Entry}
 use Rattle.bl_boot.specs.Attempted.{entry_value}
 use Rattle.bl_say.specs.EntryNames.{file_names}
 use Rattle.bl_say.specs.Sought.{SoughtFacts, bytes_found}
-use Rattle.bl_say.specs.declared.told.detail.Detail.{Detail}
-use Rattle.bl_say.specs.declared.told.detail.Detail.TheVariants.{Nothing, NoPlace, Frames}
-use Rattle.bl_say.specs.declared.told.detail.ToldRefusal.{ToldRefusal}
+use Rattle.bl_say.specs.declared.told.refusal_detail.RefusalDetail.{RefusalDetail}
+use Rattle.bl_say.specs.declared.told.refusal_detail.RefusalDetail.TheVariants.{Nothing, NoPlace, Frames}
+use Rattle.bl_say.specs.declared.told.refusal_detail.ToldRefusal.{ToldRefusal}
 
 -- the value of an entry with what was found for the names of its files
 abbrev pub value_sought : SoughtFacts → Entry → EntryValue
@@ -40,7 +40,7 @@ IsFirstUnusable facts count (Highest align low high) byte = byte ≡ None
 IsFirstUnusable facts count (Preferred at align low high) byte = byte ≡ None
 
 -- the first part that finds no place is told, with that byte
-abbrev pub IsPlaceDetail : MachineFacts → EntryValue → Detail → Type 0
+abbrev pub IsPlaceDetail : MachineFacts → EntryValue → RefusalDetail → Type 0
 IsPlaceDetail facts value Nothing = ⊥
 IsPlaceDetail facts value (NoPlace row unusable) =
     IsUnplaced facts value (Some row) × IsFirstUnusable facts row.length row.choice unusable
@@ -56,7 +56,7 @@ AreFramesBeside facts value (Some beside) =
     (handover : Handover) × IsHandover facts value handover
     × (beside ≡ open_frames facts.pool (map part_range handover.parts))
 
-abbrev pub IsFramesDetail : MachineFacts → EntryValue → Detail → Type 0
+abbrev pub IsFramesDetail : MachineFacts → EntryValue → RefusalDetail → Type 0
 IsFramesDetail facts value Nothing = ⊥
 IsFramesDetail facts value (NoPlace row unusable) = ⊥
 IsFramesDetail facts value (Frames beside) = AreFramesBeside facts value beside
@@ -64,21 +64,21 @@ IsFramesDetail facts value (Frames beside) = AreFramesBeside facts value beside
 -- ---- a refusal
 
 -- of an entry of this value: 19 and 20 tell the part, 21 the frames, any other one nothing
-abbrev pub IsDetail : MachineFacts → EntryValue → Refusal → Detail → Type 0
-IsDetail facts value NotUsable detail = IsPlaceDetail facts value detail
-IsDetail facts value NoRoom detail = IsPlaceDetail facts value detail
-IsDetail facts value NoPool detail = IsFramesDetail facts value detail
-IsDetail facts value _ detail = detail ≡ Nothing
+abbrev pub IsRefusalDetail : MachineFacts → EntryValue → Refusal → RefusalDetail → Type 0
+IsRefusalDetail facts value NotUsable detail = IsPlaceDetail facts value detail
+IsRefusalDetail facts value NoRoom detail = IsPlaceDetail facts value detail
+IsRefusalDetail facts value NoPool detail = IsFramesDetail facts value detail
+IsRefusalDetail facts value _ detail = detail ≡ Nothing
 
-abbrev pub IsDetailIf : MachineFacts → SoughtFacts → Option Entry → Refusal → Detail → Type 0
-IsDetailIf facts sought None refusal detail = detail ≡ Nothing
-IsDetailIf facts sought (Some entry) refusal detail =
-    IsDetail facts (value_sought sought entry) refusal detail
+abbrev pub IsRefusalDetailOrNothing : MachineFacts → SoughtFacts → Option Entry → Refusal → RefusalDetail → Type 0
+IsRefusalDetailOrNothing facts sought None refusal detail = detail ≡ Nothing
+IsRefusalDetailOrNothing facts sought (Some entry) refusal detail =
+    IsRefusalDetail facts (value_sought sought entry) refusal detail
 
 -- of an entry of a menu
 abbrev pub HasDetail : MachineFacts → List Entry → SoughtFacts → ToldRefusal → Type 0
 HasDetail facts entries sought told =
-    IsDetailIf facts sought (slice_get entries told.refused.entry) told.refused.refusal told.detail
+    IsRefusalDetailOrNothing facts sought (slice_get entries told.refused.entry) told.refused.refusal told.detail
 
 -- these refusals are told, each with what is told beside it
 pub record AreToldRefusals (facts : MachineFacts) (entries : List Entry) (sought : SoughtFacts)

@@ -30,7 +30,7 @@ use Rattle.bl_boot.specs.Details.{AreToldRefusals, value_sought}
 use Rattle.bl_boot.specs.KernelSegments.{AreSegmentsAt}
 use Rattle.bl_say.specs.Segments.{KernelSegmentsFacts, no_segments}
 use Rattle.bl_boot.specs.Told.{told_lines}
-use Rattle.bl_say.specs.declared.told.detail.ToldRefusal.{ToldRefusal}
+use Rattle.bl_say.specs.declared.told.refusal_detail.ToldRefusal.{ToldRefusal}
 
 -- why the bytes are not read: they are a bad description, for what is said, or memory ran out
 abbrev pub IsReadBlame : (desc old new : List ℕ) → ExplainFault → Type 0

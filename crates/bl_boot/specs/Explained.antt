@@ -14,7 +14,7 @@ use Rattle.bl_boot.specs.Details.{AreToldRefusals}
 use Rattle.bl_boot.specs.KernelSegments.{AreToldSegments}
 use Rattle.bl_say.specs.Segments.{KernelSegmentsFacts}
 use Rattle.bl_boot.specs.Told.{refused_in, sought_in, told_lines}
-use Rattle.bl_say.specs.declared.told.detail.ToldRefusal.{ToldRefusal}
+use Rattle.bl_say.specs.declared.told.refusal_detail.ToldRefusal.{ToldRefusal}
 
 -- with files of a type F: what they may answer for a name, and how many faults they had
 module _ {F : Type 0} (answers : F → List ℕ → File → Type 0) (faults : F → ℕ) where

@@ -20,7 +20,7 @@ use Rattle.bl_say.specs.Segments.{KernelSegmentsFacts}
 use Rattle.bl_say.specs.Says.{booted_line, no_entry_line}
 use Rattle.bl_say.specs.Sought.{SoughtFacts}
 use Rattle.bl_say.specs.Sources.{source_at}
-use Rattle.bl_say.specs.declared.told.detail.ToldRefusal.{ToldRefusal}
+use Rattle.bl_say.specs.declared.told.refusal_detail.ToldRefusal.{ToldRefusal}
 use Rattle.bl_say.specs.AttemptLines.{attempt_lines, refused_attempt_lines}
 
 -- ---- the boot

@@ -1,7 +1,7 @@
 -- What the code keeps of how a walk ends, by its result.
 use Rattle.std.specs.Prelude.{◌≡◌, ℕ, List, Result, Ok, Err}
 use Rattle.bl_image.specs.Faults.{image_fault_number}
-use Rattle.bl_image.specs.Source.{Input}
+use Rattle.bl_image.specs.Source.{SourceFacts}
 use Rattle.bl_image.specs.declared.fault.ImageFault.{ImageFault}
 use Rattle.bl_image.specs.declared.fault.ImageFault.TheVariants as image
 use Rattle.bl_walk.specs.Faults.{walk_fault_number}
@@ -30,7 +30,7 @@ end_of_walk_fault walking.BadInfo = BadImage (walk_fault_number walking.BadInfo)
 end_of_walk_fault walking.BadState = BadImage (walk_fault_number walking.BadState)
 
 -- the walk ends so, and says nothing if it does not end well
-abbrev pub WalkEnds : Input → Input → List ℕ → List ℕ → Result (Unit {0}) WalkEnd → Type 0
+abbrev pub WalkEnds : SourceFacts → SourceFacts → List ℕ → List ℕ → Result (Unit {0}) WalkEnd → Type 0
 WalkEnds before after old new (Ok done) = IsWalked before after old new
 WalkEnds before after old new (Err (BadImage number)) = IsBadImage before after number × (new ≡ old)
 WalkEnds before after old new (Err Device) = new ≡ old

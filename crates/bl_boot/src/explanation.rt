@@ -1,6 +1,5 @@
 //! A boot, told for a person.
 
-mod details;
 mod entry_texts;
 mod fault;
 mod found;
@@ -8,6 +7,7 @@ mod handed;
 mod kernel_segments;
 mod placing_details;
 mod reading;
+mod refusal_details;
 mod text_place;
 mod whole;
 

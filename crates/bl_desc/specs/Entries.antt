@@ -123,12 +123,12 @@ toml_protocol d = toml_text d >>= protocol_named
 -- ---- entry
 
 -- the keys that an entry of each protocol has
-abbrev pub entry_keys : List (List ℕ)
-entry_keys = codes "title" ∷ codes "protocol" ∷ codes "kernel" ∷ codes "line" ∷ []
+abbrev pub common_entry_keys : List (List ℕ)
+common_entry_keys = codes "title" ∷ codes "protocol" ∷ codes "kernel" ∷ codes "line" ∷ []
 
 unfoldable pub entry_by : Members → Protocol → Option Entry
 entry_by ms protocol =
-    if has_only (entry_keys ++ (protocol_row protocol).keys) ms then (do
+    if has_only (common_entry_keys ++ (protocol_row protocol).keys) ms then (do
       title ← at_key toml_title (codes "title") ms
       kernel ← at_key toml_text (codes "kernel") ms
       line ← at_key_or [] toml_text (codes "line") ms

@@ -4,7 +4,7 @@ ghost use Rattle.std.proofs.Props.{props};
 ghost use Rattle.bl_desc.specs.Forms.{form_view, HasCopyLength};
 
 use crate::form::EntryForm;
-use crate::text::Text;
+use crate::owned_text::Text;
 use std::alloc::Allocator;
 
 /// An entry of the menu. The title is 1 to 64 bytes from 0x20 to 0x7E, `kernel` names a file, and

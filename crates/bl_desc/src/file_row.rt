@@ -1,5 +1,5 @@
 //! A file of the description.
-use crate::text::Text;
+use crate::owned_text::Text;
 use bl_mem::Bytes;
 use std::alloc::Allocator;
 

@@ -8,7 +8,7 @@ ghost use Rattle.bl_desc.specs.Views.{AnswersAs, file_view};
 use crate::fault::DescFault;
 use crate::file_row::FileRow;
 use crate::keys::{at_key, has_only, text_at};
-use crate::text::Text;
+use crate::owned_text::Text;
 use crate::values::toml_bytes;
 use bl_mem::Bytes;
 use std::alloc::{Allocator, Global};

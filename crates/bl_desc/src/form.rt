@@ -1,7 +1,7 @@
 //! What an entry has beside its kernel.
 ghost use Rattle.std.specs.Prelude.{◌≤◌, length};
 
-use crate::text::Text;
+use crate::owned_text::Text;
 use bl_mem::Bytes;
 use bl_plan::Protocol;
 use std::alloc::Allocator;

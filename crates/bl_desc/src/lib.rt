@@ -15,9 +15,9 @@ mod files;
 mod form;
 mod keys;
 mod modules;
+mod owned_text;
 mod protocols;
 mod regions;
-mod text;
 mod values;
 
 pub use bad_key::{Allowed, BadKey, KeyFault, KeySet, TablePlace};
@@ -29,4 +29,4 @@ pub use entry_row::EntryRow;
 pub use fault::DescFault;
 pub use file_row::FileRow;
 pub use form::{EntryForm, ModuleRow, Modules};
-pub use text::Text;
+pub use owned_text::Text;

@@ -8,7 +8,7 @@ ghost use Rattle.bl_desc.specs.Views.{AnswersAs, module_view};
 use crate::fault::DescFault;
 use crate::form::{ModuleRow, Modules};
 use crate::keys::{at_key, has_only, text_at, text_or_empty};
-use crate::text::Text;
+use crate::owned_text::Text;
 use bl_plan::MAX_MODULES;
 use std::alloc::Allocator;
 use toml::{Table, Value};

@@ -4,7 +4,7 @@ ghost use Rattle.toml.specs.View.{table_view};
 ghost use Rattle.bl_plan.specs.Protocols.{of_linux};
 ghost use Rattle.bl_desc.specs.Values as values;
 ghost use Rattle.bl_desc.specs.Entries as spec;
-ghost use Rattle.bl_desc.specs.Entries.{entry_keys, protocol_row};
+ghost use Rattle.bl_desc.specs.Entries.{common_entry_keys, protocol_row};
 ghost use Rattle.bl_desc.specs.Forms.{HasCopyLength};
 ghost use Rattle.bl_desc.specs.Views.{AnswersAs, form_view};
 
@@ -13,7 +13,7 @@ use crate::fault::DescFault;
 use crate::form::EntryForm;
 use crate::keys::{has_only, text_at, text_if};
 use crate::modules::modules_at;
-use crate::text::Text;
+use crate::owned_text::Text;
 use bl_plan::Protocol;
 use std::alloc::{AllocError, Allocator};
 use toml::Table;
@@ -30,7 +30,7 @@ pub fn protocol_in(table: &Table) -> Result<Protocol, DescFault>
 /// Whether an entry has no key but those of each entry and of its protocol.
 pub fn has_keys(table: &Table, protocol: Protocol) -> bool
     ensures { result
-        ≡ values.has_only (entry_keys ++ (protocol_row protocol).keys) (table_view table.now) }
+        ≡ values.has_only (common_entry_keys ++ (protocol_row protocol).keys) (table_view table.now) }
 {
     match protocol {
         Protocol::Multiboot2 => {

@@ -59,8 +59,8 @@ abbrev pub has_magic : List ℕ → Bool
 has_magic bytes = nat_le 16 (length bytes) && u32_at bytes 0 == 0x464C457F
 
 -- EI_CLASS is 1 or 2, EI_DATA is 1 (ELFDATA2LSB), EI_VERSION is 1 (EV_CURRENT)
-abbrev pub has_ident : List ℕ → Bool
-has_ident bytes =
+abbrev pub has_supported_ident : List ℕ → Bool
+has_supported_ident bytes =
     (slice_index bytes 4 == 1 || slice_index bytes 4 == 2)
     && slice_index bytes 5 == 1
     && slice_index bytes 6 == 1
@@ -92,6 +92,6 @@ field_fault size header =
 unfoldable pub header_fault : List ℕ → Option ElfFault
 header_fault bytes =
     if not (has_magic bytes) then Some NotElf else
-    if not (has_ident bytes) then Some BadElf else
+    if not (has_supported_ident bytes) then Some BadElf else
     if nat_lt (length bytes) (header_size (class_of bytes)) then Some BadElf else
     field_fault (length bytes) (header_of bytes)

@@ -39,7 +39,7 @@ pub fn read_header<V: ByteView>(view: &V) -> Result<Header, ElfFault>
     if !has_magic(view) {
         return Err(ElfFault::NotElf);
     }
-    if !has_ident(view) {
+    if !has_supported_ident(view) {
         return Err(ElfFault::BadElf);
     }
     let class = class_of(view);
@@ -63,9 +63,9 @@ fn has_magic<V: ByteView>(view: &V) -> bool
     u32_at(view, 0) == MAGIC
 }
 
-fn has_ident<V: ByteView>(view: &V) -> bool
+fn has_supported_ident<V: ByteView>(view: &V) -> bool
     requires { EI_NIDENT ≤ length (V.bytes view.now) }
-    ensures { result ≡ spec.has_ident (V.bytes view.now) }
+    ensures { result ≡ spec.has_supported_ident (V.bytes view.now) }
 {
     let class = u8_at(view, EI_CLASS);
     if class != ELFCLASS32 && class != ELFCLASS64 {

@@ -17,8 +17,8 @@ IsMemoryFault machine base count BelowBase =
     × (machine.pool.start < base)
 
 -- memory of so many bytes from `base` on is the machine's up to its end, and has the pool
-abbrev pub IsSuited : MachineFacts → (base count : ℕ) → Type 0
-IsSuited machine base count =
+abbrev pub IsMachineMemory : MachineFacts → (base count : ℕ) → Type 0
+IsMachineMemory machine base count =
     (base + count ≡ machine.size)
     × HasRoom (λ a. base ≤ a) machine.pool.start machine.pool.end
 

@@ -3,9 +3,9 @@ ghost use Rattle.std.specs.Prelude.{◌≡◌, ◌≢◌, IfErr, IfOk, MatchBool
 ghost use Rattle.bl_mem.specs.Memory.{memory_from};
 ghost use Rattle.bl_session.specs.Boot.{StepsOrFails, StartsOrFails, is_taken, attempt_number};
 ghost use Rattle.bl_session.specs.Boot as boot;
-ghost use Rattle.bl_session.specs.Memory.{IsMemoryIn};
+ghost use Rattle.bl_session.specs.Memory.{IsMemoryInState};
 ghost use Rattle.bl_session.specs.Phases.{event_facts, state_at, not_started};
-ghost use Rattle.bl_handle.specs.Faults.{IsMemoryFault, IsSuited};
+ghost use Rattle.bl_handle.specs.Faults.{IsMemoryFault, IsMachineMemory};
 
 use crate::handle_fault::HandleFault;
 use bl_map::Machine;
@@ -19,7 +19,7 @@ fn check_memory<A: Allocator>(
     base: u32,
     count: usize,
 ) -> Result<(), HandleFault>
-    ensures ok { OnOk result (IsSuited machine.now base count) }
+    ensures ok { OnOk result (IsMachineMemory machine.now base count) }
     ensures err { IfErr result (IsMemoryFault machine.now base count) }
 {
     let base = base as u64;
@@ -49,7 +49,7 @@ pub fn start_over<A: Allocator + Copy>(
         (attempt_number (state_at (memory_from base bytes.old) session.old.phase))
         (state_at (memory_from base bytes.new) session.new.phase)) }
     ensures memory { OnOk result (session.old.phase ≡ not_started
-        → IsMemoryIn session.old.boot.machine.pool
+        → IsMemoryInState session.old.boot.machine.pool
         (state_at (memory_from base bytes.new) session.new.phase)
         (memory_from base bytes.old) (memory_from base bytes.new)) }
     ensures same { OnOk result (session.old.phase ≢ not_started
@@ -79,7 +79,7 @@ pub fn event_over<A: Allocator + Copy>(
     ensures memory { OnOk result (MatchBool
         (is_taken (state_at (memory_from base bytes.old) session.old.phase)
         (event_facts event.entry))
-        (IsMemoryIn session.old.boot.machine.pool
+        (IsMemoryInState session.old.boot.machine.pool
         (state_at (memory_from base bytes.new) session.new.phase)
         (memory_from base bytes.old) (memory_from base bytes.new))
         (memory_from base bytes.new ≡ memory_from base bytes.old)) }

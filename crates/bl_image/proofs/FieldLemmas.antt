@@ -13,7 +13,7 @@ use Rattle.bl_image.specs.declared.fault.ImageFault.TheVariants.{BadMagic, BadVe
 use Rattle.bl_image.specs.declared.fault.ImageFault.TheVariants.{BadPart, WrongLength, DeviceFault}
 use Rattle.bl_image.specs.declared.fault.ImageFault.TheVariants.{NoMemory}
 use Rattle.bl_image.specs.Fields.{Field, u32_field, u64_field, fields_fault}
-use Rattle.bl_image.specs.Source.{Input, Comes, MayFollow, Shows, IsInputFault}
+use Rattle.bl_image.specs.Source.{SourceFacts, Comes, IsPossibleRest, Shows, IsInputFault}
 use Rattle.bl_image.specs.SourceKept.{EndsEarly, IsCut, Passes}
 use Rattle.bl_image.proofs.Inputs.{comes_nothing, comes_more}
 
@@ -61,7 +61,7 @@ field_short field fields bytes short =
     let e : nat_lt (length bytes) field.size ≡ true = grind (arith, nat_tests) in rw e refl
 
 -- what shows a fault refuses
-pub shown : (fault_in : List ℕ → Option ImageFault) (old new : Input) (fault : ImageFault)
+pub shown : (fault_in : List ℕ → Option ImageFault) (old new : SourceFacts) (fault : ImageFault)
     → Shows fault_in old new fault → IsInputFault fault_in old new fault
 shown fault_in old new BadMagic s = s
 shown fault_in old new BadVersion s = s
@@ -71,12 +71,12 @@ shown fault_in old new WrongLength s = s
 shown fault_in old new DeviceFault s = tt
 shown fault_in old new NoMemory s = tt
 
-nothing_follows : (rest : Option (List ℕ)) (bytes : List ℕ) → rest ≡ Some [] → MayFollow rest bytes
+nothing_follows : (rest : Option (List ℕ)) (bytes : List ℕ) → rest ≡ Some [] → IsPossibleRest rest bytes
     → bytes ≡ []
 nothing_follows rest bytes e may =
-    let P : Option (List ℕ) → Type 0 = λ r. MayFollow r bytes in subst P e may
+    let P : Option (List ℕ) → Type 0 = λ r. IsPossibleRest r bytes in subst P e may
 
-ended_shows : (fault_in : List ℕ → Option ImageFault) (old new : Input) (count : ℕ)
+ended_shows : (fault_in : List ℕ → Option ImageFault) (old new : SourceFacts) (count : ℕ)
     → ((bytes : List ℕ) → length bytes < count → fault_in bytes ≡ Some WrongLength)
     → EndsEarly old new count → Shows fault_in old new WrongLength
 ended_shows fault_in old new count short ends = record {
@@ -89,7 +89,7 @@ ended_shows fault_in old new count short ends = record {
 }
 
 -- an input that ended too early is refused where fewer bytes have the wrong length
-pub cut_refuses : (fault_in : List ℕ → Option ImageFault) (old new : Input) (count : ℕ)
+pub cut_refuses : (fault_in : List ℕ → Option ImageFault) (old new : SourceFacts) (count : ℕ)
     (fault : ImageFault)
     → ((bytes : List ℕ) → length bytes < count → fault_in bytes ≡ Some WrongLength)
     → IsCut old new count fault → IsInputFault fault_in old new fault
@@ -102,14 +102,14 @@ cut_refuses fault_in old new count DeviceFault short h = tt
 cut_refuses fault_in old new count NoMemory short h = tt
 
 -- the same for a field
-pub field_cut : (field : Field) (fields : List Field) (old new : Input) (fault : ImageFault)
+pub field_cut : (field : Field) (fields : List Field) (old new : SourceFacts) (fault : ImageFault)
     → IsCut old new field.size fault → IsInputFault (fields_fault (field ∷ fields)) old new fault
 field_cut field fields old new fault h =
     cut_refuses (fields_fault (field ∷ fields)) old new field.size fault
     (λ bytes short. field_short field fields bytes short) h
 
 -- a field that came and fails
-pub field_shows : (field : Field) (fields : List Field) (old new : Input) (a : List ℕ)
+pub field_shows : (field : Field) (fields : List Field) (old new : SourceFacts) (a : List ℕ)
     → Comes old new a → length a ≡ field.size → field.passes a ≡ false
     → Shows (fields_fault (field ∷ fields)) old new field.fault
 field_shows field fields old new a comes size fails = record {
@@ -119,17 +119,17 @@ field_shows field fields old new a comes size fails = record {
 }
 
 -- what came so far has no fault, and leaves what follows to be judged in another way
-pub record Passed (fault_in : List ℕ → Option ImageFault) (old now : Input)
+pub record Passed (fault_in : List ℕ → Option ImageFault) (old now : SourceFacts)
     (left : List ℕ → Option ImageFault) : Type 0 where
   pub done : List ℕ
   pub comes : Comes old now done
   pub on : (bytes : List ℕ) → fault_in (done ++ bytes) ≡ left bytes
 
-pub passed_none : (fault_in : List ℕ → Option ImageFault) (old : Input)
+pub passed_none : (fault_in : List ℕ → Option ImageFault) (old : SourceFacts)
     → Passed fault_in old old fault_in
 passed_none fault_in old = record { done = []; comes = comes_nothing old; on = λ bytes. refl }
 
-pub passed_more : {fault_in left rest : List ℕ → Option ImageFault} {old mid new : Input}
+pub passed_more : {fault_in left rest : List ℕ → Option ImageFault} {old mid new : SourceFacts}
     (a : List ℕ) → Passed fault_in old mid left → Comes mid new a
     → ((bytes : List ℕ) → left (a ++ bytes) ≡ rest bytes) → Passed fault_in old new rest
 passed_more {fault_in = fault_in} a p comes on = record {
@@ -138,14 +138,14 @@ passed_more {fault_in = fault_in} a p comes on = record {
   on = λ bytes. ap fault_in (append_assoc p.done a bytes) ∙ p.on (a ++ bytes) ∙ on bytes;
 }
 
-pub passed_field : {fault_in : List ℕ → Option ImageFault} {old mid new : Input} (field : Field)
+pub passed_field : {fault_in : List ℕ → Option ImageFault} {old mid new : SourceFacts} (field : Field)
     (fields : List Field) (a : List ℕ) → Passed fault_in old mid (fields_fault (field ∷ fields))
     → Passes field mid new a → Passed fault_in old new (fields_fault fields)
 passed_field field fields a p passes =
     passed_more a p passes.comes
     (λ bytes. field_passes field fields a bytes passes.size passes.passes)
 
-passed_shows : {fault_in left : List ℕ → Option ImageFault} {old mid new : Input}
+passed_shows : {fault_in left : List ℕ → Option ImageFault} {old mid new : SourceFacts}
     {fault : ImageFault} → Passed fault_in old mid left → Shows left mid new fault
     → Shows fault_in old new fault
 passed_shows {fault_in = fault_in} p s = record {
@@ -158,8 +158,8 @@ passed_shows {fault_in = fault_in} p s = record {
 }
 
 -- what is refused after it is refused
-pub passed_refuses : {fault_in left : List ℕ → Option ImageFault} {old mid : Input}
-    → Passed fault_in old mid left → (new : Input) (fault : ImageFault) → IsInputFault left mid new fault
+pub passed_refuses : {fault_in left : List ℕ → Option ImageFault} {old mid : SourceFacts}
+    → Passed fault_in old mid left → (new : SourceFacts) (fault : ImageFault) → IsInputFault left mid new fault
     → IsInputFault fault_in old new fault
 passed_refuses p new BadMagic s = passed_shows p s
 passed_refuses p new BadVersion s = passed_shows p s
@@ -170,8 +170,8 @@ passed_refuses p new DeviceFault s = tt
 passed_refuses p new NoMemory s = tt
 
 -- fewer bytes came than one piece needs, so fewer than all need
-pub cut_behind : {old mid : Input} {a : List ℕ} (n count : ℕ) → Comes old mid a
-    → length a + n ≤ count → (new : Input) (fault : ImageFault) → IsCut mid new n fault
+pub cut_behind : {old mid : SourceFacts} {a : List ℕ} (n count : ℕ) → Comes old mid a
+    → length a + n ≤ count → (new : SourceFacts) (fault : ImageFault) → IsCut mid new n fault
     → IsCut old new count fault
 cut_behind n count comes few new BadMagic h = absurd h
 cut_behind n count comes few new BadVersion h = absurd h

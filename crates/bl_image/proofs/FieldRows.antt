@@ -4,7 +4,7 @@ use Rattle.std.proofs.Common.{refl, sym, ap, ◌∙◌, arith, subst, append_ass
 use Rattle.std.specs.Prelude.{replicate}
 use Rattle.bl_image.specs.declared.fault.ImageFault.{ImageFault}
 use Rattle.bl_image.specs.Fields.{Field, fields_fault}
-use Rattle.bl_image.specs.Source.{Input, IsInputFault}
+use Rattle.bl_image.specs.Source.{SourceFacts, IsInputFault}
 use Rattle.bl_image.specs.SourceKept.{Passes, PassAll}
 use Rattle.bl_image.proofs.FieldLemmas.{field_passes, passed_refuses}
 use Rattle.bl_image.proofs.Inputs.{comes_nothing, comes_more}
@@ -22,29 +22,29 @@ leaves_both f g a b first then others more =
     ∙ ap (fields_fault (f ++ (g ++ others))) (append_assoc a b more)
     ∙ first (g ++ others) (b ++ more) ∙ then others more
 
-pub pass_none : (input : Input) → PassAll [] input input []
+pub pass_none : (input : SourceFacts) → PassAll [] input input []
 pass_none input = record { comes = comes_nothing input; on = λ others more. refl }
 
-pub pass_both : {old mid new : Input} (f g : List Field) (a b : List ℕ) → PassAll f old mid a
+pub pass_both : {old mid new : SourceFacts} (f g : List Field) (a b : List ℕ) → PassAll f old mid a
     → PassAll g mid new b → PassAll (f ++ g) old new (a ++ b)
 pass_both f g a b first then =
     record { comes = comes_more first.comes then.comes; on = leaves_both f g a b first.on then.on }
 
-pub pass_one : {old new : Input} (field : Field) (a : List ℕ) → Passes field old new a
+pub pass_one : {old new : SourceFacts} (field : Field) (a : List ℕ) → Passes field old new a
     → PassAll (field ∷ []) old new a
 pass_one field a passes = record {
   comes = passes.comes;
   on = λ others more. field_passes field others a more passes.size passes.passes;
 }
 
-pub pass_as : {old new : Input} (f : List Field) (a b : List ℕ) → a ≡ b → PassAll f old new a
+pub pass_as : {old new : SourceFacts} (f : List Field) (a b : List ℕ) → a ≡ b → PassAll f old new a
     → PassAll f old new b
 pass_as {old} {new} f a b same passed =
     subst (λ (l : List ℕ). PassAll f old new l) same passed
 
 -- what is refused behind fields that passed is refused
-pub refused_behind : {old mid : Input} (f g : List Field) (a : List ℕ) → PassAll f old mid a
-    → (new : Input) (fault : ImageFault)
+pub refused_behind : {old mid : SourceFacts} (f g : List Field) (a : List ℕ) → PassAll f old mid a
+    → (new : SourceFacts) (fault : ImageFault)
     → ((others : List Field) → IsInputFault (fields_fault (g ++ others)) mid new fault)
     → (others : List Field) → IsInputFault (fields_fault ((f ++ g) ++ others)) old new fault
 refused_behind {old} {mid} f g a passed new fault refused others =
@@ -55,7 +55,7 @@ refused_behind {old} {mid} f g a passed new fault refused others =
     (refused others))
 
 -- and what is refused whatever follows is refused before others
-pub refused_before : (old : Input) (f g : List Field) (new : Input) (fault : ImageFault)
+pub refused_before : (old : SourceFacts) (f g : List Field) (new : SourceFacts) (fault : ImageFault)
     → ((others : List Field) → IsInputFault (fields_fault (f ++ others)) old new fault)
     → (others : List Field) → IsInputFault (fields_fault ((f ++ g) ++ others)) old new fault
 refused_before old f g new fault refused others =
@@ -76,8 +76,8 @@ pub replicate_more : {X : Type 0} (n : ℕ) (x : X) → replicate (n + 1) x ≡ 
 replicate_more n x = replicate_both n 1 x
 
 -- one that is refused after so many of it
-pub refused_among : {old mid : Input} (field : Field) (i n : ℕ) (a : List ℕ) → i < n
-    → PassAll (replicate i field) old mid a → (new : Input) (fault : ImageFault)
+pub refused_among : {old mid : SourceFacts} (field : Field) (i n : ℕ) (a : List ℕ) → i < n
+    → PassAll (replicate i field) old mid a → (new : SourceFacts) (fault : ImageFault)
     → ((others : List Field) → IsInputFault (fields_fault (field ∷ others)) mid new fault)
     → (others : List Field) → IsInputFault (fields_fault (replicate n field ++ others)) old new fault
 refused_among {old} field i n a below passed new fault refused others =

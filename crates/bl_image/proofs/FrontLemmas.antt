@@ -21,7 +21,7 @@ use Rattle.bl_image.specs.Fields.{fields_fault}
 use Rattle.bl_image.specs.Fields.{count_field, zero_field}
 use Rattle.bl_image.specs.ImageFaults.{head_fault, image_fault, parts_fault, none_before}
 use Rattle.bl_image.specs.Layouts.{Layout, layout, layout_of, max_role}
-use Rattle.bl_image.specs.Source.{Input, IsInputFault}
+use Rattle.bl_image.specs.Source.{SourceFacts, IsInputFault}
 use Rattle.bl_image.specs.Spellable.{FitsRegisters}
 use Rattle.bl_image.specs.Versions.{version_number, HasProtocol}
 use Rattle.bl_image.proofs.FieldLemmas.{field_passes, word_tells}
@@ -158,7 +158,7 @@ head_front v p r count x has fit few =
     (ap (λ (l : Layout). l.max_role) is ∙ max_role_told v p has)
 
 -- a fault of the head is the image's
-pub head_refuses : (old new : Input) (fault : ImageFault) → IsInputFault head_fault old new fault
+pub head_refuses : (old new : SourceFacts) (fault : ImageFault) → IsInputFault head_fault old new fault
     → IsInputFault image_fault old new fault
 unfolding image_fault
 head_refuses old new fault s =

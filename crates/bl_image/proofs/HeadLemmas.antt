@@ -15,7 +15,7 @@ use Rattle.bl_image.specs.Fields.{fields_fault, opening_fields, magic_field, ver
 use Rattle.bl_image.specs.Fields.{protocol_field}
 use Rattle.bl_image.specs.ImageFaults.{first, head_fault}
 use Rattle.bl_image.specs.Layouts.{layout, layout_of, layout_fields}
-use Rattle.bl_image.specs.Source.{Input, Comes, IsInputFault}
+use Rattle.bl_image.specs.Source.{SourceFacts, Comes, IsInputFault}
 use Rattle.bl_image.specs.Versions.{version_number, max_protocol, HasProtocol}
 use Rattle.bl_image.proofs.FieldLemmas.{field_passes, word_tells, Passed, passed_more}
 use Rattle.bl_image.proofs.FieldLemmas.{passed_refuses}
@@ -85,7 +85,7 @@ opened v x =
     opened_by n ((magic ++ u32_bytes n) ++ x) x (opening_passes v x) (version_stands v x)
     (protocol_behind n x) (behind_version n x) (further n x)
 
-pub opened_passed : {old mid new : Input} (v : Version) → Comes old mid magic
+pub opened_passed : {old mid new : SourceFacts} (v : Version) → Comes old mid magic
     → Comes mid new (u32_bytes (version_number v))
     → Passed head_fault old new (after_version (version_number v))
 opened_passed v first_came then_came =
@@ -111,7 +111,7 @@ told v p has x =
     (field_passes (protocol_field version) [] b x size (protocol_passes v p has))
     (u32_again (protocol_number p) x (protocol_fits p)) (drop_at b x 4 size)
 
-pub told_passed : {old mid new : Input} (v : Version) (p : Protocol) → HasProtocol v p
+pub told_passed : {old mid new : SourceFacts} (v : Version) (p : Protocol) → HasProtocol v p
     → Passed head_fault old mid (after_version (version_number v))
     → Comes mid new (u32_bytes (protocol_number p))
     → Passed head_fault old new
@@ -121,7 +121,7 @@ told_passed v p has passed comes =
 
 -- ---- faults of the head's beginning are faults of the head
 
-pub opening_refuses : (old new : Input) (fault : ImageFault)
+pub opening_refuses : (old new : SourceFacts) (fault : ImageFault)
     → IsInputFault (fields_fault opening_fields) old new fault → IsInputFault head_fault old new fault
 unfolding head_fault
 opening_refuses old new fault s =
@@ -130,8 +130,8 @@ opening_refuses old new fault s =
     first (fields_fault (protocol_field (u32_at bytes 8) ∷ []) (drop 12 bytes))
     (fields_fault (layout_fields (layout_of bytes)) (drop 16 bytes))) old new fault s
 
-pub protocol_refuses : {old mid : Input} (version : ℕ)
-    → Passed head_fault old mid (after_version version) → (new : Input) (fault : ImageFault)
+pub protocol_refuses : {old mid : SourceFacts} (version : ℕ)
+    → Passed head_fault old mid (after_version version) → (new : SourceFacts) (fault : ImageFault)
     → IsInputFault (fields_fault (protocol_field version ∷ [])) mid new fault
     → IsInputFault head_fault old new fault
 protocol_refuses {mid = mid} version passed new fault s =

@@ -24,7 +24,7 @@ use Rattle.bl_image.specs.ImageFaults.{Before, and_record, parts_fault, end_faul
 use Rattle.bl_image.specs.ImageFaults.{image_fault}
 use Rattle.bl_image.specs.ImageParts.{part_place, PartAscends, IsKeptByImages, IsImage}
 use Rattle.bl_image.specs.RecordsKept.{IsNext}
-use Rattle.bl_image.specs.Source.{IsBytesFault, Input, IsOfTheMoment, IsInputFault}
+use Rattle.bl_image.specs.Source.{IsBytesFault, SourceFacts, IsOfTheMoment, IsInputFault}
 use Rattle.bl_image.proofs.FrontLemmas.{head_front}
 use Rattle.bl_image.proofs.KnownLemmas.{fails_known}
 use Rattle.bl_image.proofs.PartLemmas.{all_bytes, all_under, related_under}
@@ -126,7 +126,7 @@ accepted_by (Err fault) bytes fails version handover is =
     (ap image_fault is.is ∙ image_sound version handover is.has is.kept) fails
 
 -- and is refused for nothing that its bytes say
-pub image_not_refused : (old new : Input) (fault : ImageFault) (bytes : List ℕ) (version : Version)
+pub image_not_refused : (old new : SourceFacts) (fault : ImageFault) (bytes : List ℕ) (version : Version)
     (handover : Handover) → IsImage version bytes handover → old.rest ≡ Some bytes
     → IsInputFault image_fault old new fault → IsOfTheMoment fault
 image_not_refused old new fault bytes version handover is e refuses =

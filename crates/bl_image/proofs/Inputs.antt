@@ -7,8 +7,8 @@ use Rattle.std.proofs.Math.Seq.{take-append-add}
 use Rattle.std.proofs.lemmas.List.{append-nil, length-take-le, take-append-le, same_lists, places}
 use Rattle.std.proofs.lemmas.List.{take_at}
 use Rattle.std.specs.Io.KnownBytes.{Consumes}
-use Rattle.bl_image.specs.Source.{Input, Comes}
-use Rattle.bl_image.specs.Sources.{MemSourceFacts, input_of}
+use Rattle.bl_image.specs.Source.{SourceFacts, Comes}
+use Rattle.bl_image.specs.Sources.{MemSourceFacts, mem_source_input}
 
 consumes_nothing : (rest : Option (List ℕ)) → Consumes rest rest []
 consumes_nothing None = tt
@@ -23,12 +23,12 @@ consumes_more (Some xs) (Some ys) (Some zs) front back h k =
     h ∙ ap (λ (l : List ℕ). front ++ l) k ∙ sym (append_assoc front back zs)
 
 -- nothing came yet
-pub comes_nothing : (input : Input) → Comes input input []
+pub comes_nothing : (input : SourceFacts) → Comes input input []
 comes_nothing input =
     record { given_is = sym (append-nil input.given); rest_is = consumes_nothing input.rest }
 
 -- more came
-pub comes_more : {old mid new : Input} {front back : List ℕ} → Comes old mid front
+pub comes_more : {old mid new : SourceFacts} {front back : List ℕ} → Comes old mid front
     → Comes mid new back → Comes old new (front ++ back)
 comes_more {old = old} {mid = mid} {new = new} {front = front} {back = back} h k = record {
   given_is =
@@ -37,7 +37,7 @@ comes_more {old = old} {mid = mid} {new = new} {front = front} {back = back} h k
 }
 
 -- the same bytes, written in another way
-pub comes_as : {old new : Input} {bytes other : List ℕ} → bytes ≡ other → Comes old new bytes
+pub comes_as : {old new : SourceFacts} {bytes other : List ℕ} → bytes ≡ other → Comes old new bytes
     → Comes old new other
 comes_as {old = old} {new = new} e h = let P : List ℕ → Type 0 = λ l. Comes old new l in subst P e h
 
@@ -78,7 +78,7 @@ part_came bytes at n piece rest h is =
     }
 
 -- the same where the state is seen in another way
-pub came_from : {new : Input} {bytes : List ℕ} (made facts : MemSourceFacts) → made ≡ facts
-    → Comes (input_of made) new bytes → Comes (input_of facts) new bytes
+pub came_from : {new : SourceFacts} {bytes : List ℕ} (made facts : MemSourceFacts) → made ≡ facts
+    → Comes (mem_source_input made) new bytes → Comes (mem_source_input facts) new bytes
 came_from {new = new} {bytes = bytes} made facts e h =
-    let P : MemSourceFacts → Type 0 = λ f. Comes (input_of f) new bytes in subst P e h
+    let P : MemSourceFacts → Type 0 = λ f. Comes (mem_source_input f) new bytes in subst P e h

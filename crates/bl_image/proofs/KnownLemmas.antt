@@ -14,7 +14,7 @@ use Rattle.bl_image.specs.Image.{spelling}
 use Rattle.bl_image.specs.ImageFaults.{image_fault}
 use Rattle.bl_image.specs.ImageParts.{IsKeptByImages, IsImage}
 use Rattle.bl_image.specs.Versions.{HasProtocol}
-use Rattle.bl_image.specs.Source.{Input, Comes, IsEnded, MayFollow, Shows, IsInputFault, IsBytesFault}
+use Rattle.bl_image.specs.Source.{SourceFacts, Comes, IsEnded, IsPossibleRest, Shows, IsInputFault, IsBytesFault}
 
 all_came : (old new : Option (List ℕ)) (came bytes : List ℕ) → old ≡ Some bytes → new ≡ Some []
     → Consumes old new came → bytes ≡ came
@@ -25,11 +25,11 @@ all_came old new came bytes e f h =
     at_end ∙ append-nil came
 
 what_follows : (rest : Option (List ℕ)) (came bytes : List ℕ) → Consumes (Some bytes) rest came
-    → (more : List ℕ) × MayFollow rest more × (bytes ≡ came ++ more)
+    → (more : List ℕ) × IsPossibleRest rest more × (bytes ≡ came ++ more)
 what_follows None came bytes h = absurd h
 what_follows (Some more) came bytes h = (more, refl, h)
 
-shows_known : (fault_in : List ℕ → Option ImageFault) (old new : Input) (fault : ImageFault)
+shows_known : (fault_in : List ℕ → Option ImageFault) (old new : SourceFacts) (fault : ImageFault)
     (bytes : List ℕ) → old.rest ≡ Some bytes → Shows fault_in old new fault
     → fault_in bytes ≡ Some fault
 shows_known fault_in old new fault bytes e s =
@@ -37,7 +37,7 @@ shows_known fault_in old new fault bytes e s =
     let f = what_follows new.rest s.came bytes (subst P e s.comes.rest_is) in
     ap fault_in f.2 ∙ s.shown f.0 f.1
 
-pub fails_known : (old new : Input) (fault : ImageFault) (bytes : List ℕ) → old.rest ≡ Some bytes
+pub fails_known : (old new : SourceFacts) (fault : ImageFault) (bytes : List ℕ) → old.rest ≡ Some bytes
     → IsInputFault image_fault old new fault → IsBytesFault image_fault bytes fault
 fails_known old new BadMagic bytes e s = shows_known image_fault old new BadMagic bytes e s
 fails_known old new BadVersion bytes e s = shows_known image_fault old new BadVersion bytes e s
@@ -49,7 +49,7 @@ fails_known old new DeviceFault bytes e s = tt
 fails_known old new NoMemory bytes e s = tt
 
 -- what was read is an image of the bytes that were known
-pub known_ok : (image : Handover) (old new : Input)
+pub known_ok : (image : Handover) (old new : SourceFacts)
     → ((version : Version) × HasProtocol version image.protocol
     × Comes old new (spelling version image))
     → IsEnded new → IsKeptByImages image → (bytes : List ℕ) → old.rest ≡ Some bytes
@@ -65,7 +65,7 @@ known_ok image old new comes ended kept bytes e = (
 )
 
 -- an error is their first fault
-pub known_err : (r : Result Handover ImageFault) (old new : Input) (P : ImageFault → Type 0)
+pub known_err : (r : Result Handover ImageFault) (old new : SourceFacts) (P : ImageFault → Type 0)
     → IsErrAnd r P → IfErr r (IsInputFault image_fault old new)
     → (bytes : List ℕ) → old.rest ≡ Some bytes
     → MatchResult r (λ image. (version : Version) × IsImage version bytes image)

@@ -7,7 +7,7 @@ use Rattle.std.specs.List.{flat_map}
 use Rattle.std.proofs.lemmas.Bool.Decides.{Decides-eqb, nat_tests}
 use Rattle.std.proofs.lemmas.List.Elements.{All-nil, All-cons}
 use Rattle.bl_mem.specs.LittleEndian.{u64_at, u64_bytes}
-use Rattle.bl_image.specs.Fields.{Field, fields_fault, zero_extended_field, absent_field, wide_field}
+use Rattle.bl_image.specs.Fields.{Field, fields_fault, zero_extended_field, absent_field, wide_register_field}
 use Rattle.bl_image.proofs.NoFaultLemmas.{IsSmall, small_drop, u64_split, u64_small, field_none}
 
 -- so many numbers below a limit, and what stands behind them
@@ -65,12 +65,12 @@ narrows_found (suc n) others bytes small none =
     (narrows_found n others (drop 8 bytes) (small_drop 8 bytes small) here.rest)
 
 pub wides_found : (n : ℕ) (others : List Field) (bytes : List ℕ) → IsSmall bytes
-    → fields_fault (replicate n wide_field ++ others) bytes ≡ None
+    → fields_fault (replicate n wide_register_field ++ others) bytes ≡ None
     → NumbersFound (2 ^ 64) n others bytes
-unfolding wide_field
+unfolding wide_register_field
 wides_found zero others bytes small none = none_found (2 ^ 64) others bytes small none
 wides_found (suc n) others bytes small none =
-    let here = field_none wide_field (replicate n wide_field ++ others) bytes none in
+    let here = field_none wide_register_field (replicate n wide_register_field ++ others) bytes none in
     one_found (2 ^ 64) n others bytes small here.long (u64_small bytes small)
     (wides_found n others (drop 8 bytes) (small_drop 8 bytes small) here.rest)
 

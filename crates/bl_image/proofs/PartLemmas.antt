@@ -22,7 +22,7 @@ use Rattle.bl_image.specs.Image.{head, part_record, spelling}
 use Rattle.bl_image.specs.RecordsKept.{place_record, bytes_at, PlaceFits, AreSpellable}
 use Rattle.bl_image.specs.ImageFaults.{end_fault}
 use Rattle.bl_image.specs.ImageParts.{part_place, handoff_of, PartAscends, IsKeptByImages}
-use Rattle.bl_image.specs.Source.{Input, Comes}
+use Rattle.bl_image.specs.Source.{SourceFacts, Comes}
 use Rattle.bl_image.specs.SourceKept.{IsCut}
 use Rattle.bl_image.specs.Spellable.{FitsRecord, AreFit}
 use Rattle.bl_image.proofs.FieldLemmas.{cut_behind}
@@ -43,9 +43,9 @@ parts_size (part ∷ parts) =
     omega (arith, length-append part.bytes (all_bytes parts), parts_size parts)
 
 -- the input ended inside a part
-pub part_cut : (ps : List Place) (parts : List Part) (i : ℕ) (d : Place) {old mid : Input}
+pub part_cut : (ps : List Place) (parts : List Part) (i : ℕ) (d : Place) {old mid : SourceFacts}
     → map part_place parts ≡ take i ps → i < length ps → Comes old mid (all_bytes parts)
-    → (new : Input) (fault : ImageFault) → IsCut mid new (get_or ps i d).length fault
+    → (new : SourceFacts) (fault : ImageFault) → IsCut mid new (get_or ps i d).length fault
     → IsCut old new (bytes_at ps) fault
 part_cut ps parts i d are inside comes new fault cut =
     let size : length (all_bytes parts) ≡ bytes_at (take i ps) =

@@ -18,11 +18,11 @@ use Rattle.bl_image.specs.RecordsKept.{place_record, IsNext}
 use Rattle.bl_image.specs.Fields.{Field, fields_fault, record_fields, role_field, index_field}
 use Rattle.bl_image.specs.Fields.{address_field, length_field}
 use Rattle.bl_image.specs.ImageFaults.{first, record_fault, Before, and_record, parts_fault}
-use Rattle.bl_image.specs.Source.{Input, Shows, IsInputFault}
+use Rattle.bl_image.specs.Source.{SourceFacts, Shows, IsInputFault}
 use Rattle.bl_image.proofs.NumbersAgain.{role_fits, role_between}
 use Rattle.bl_image.proofs.FieldLemmas.{field_passes, word_tells, long_tells}
 
-shows_as : (fault_in other : List ℕ → Option ImageFault) (old new : Input) (fault : ImageFault)
+shows_as : (fault_in other : List ℕ → Option ImageFault) (old new : SourceFacts) (fault : ImageFault)
     → ((bytes : List ℕ) → fault_in bytes ≡ Some fault → other bytes ≡ Some fault)
     → Shows fault_in old new fault → Shows other old new fault
 shows_as fault_in other old new fault e s = record {
@@ -32,7 +32,7 @@ shows_as fault_in other old new fault e s = record {
 }
 
 -- what refuses a beginning refuses the whole
-pub refuses_as : (fault_in other : List ℕ → Option ImageFault) (old new : Input)
+pub refuses_as : (fault_in other : List ℕ → Option ImageFault) (old new : SourceFacts)
     (fault : ImageFault)
     → ((bytes : List ℕ) → fault_in bytes ≡ Some fault → other bytes ≡ Some fault)
     → IsInputFault fault_in old new fault → IsInputFault other old new fault
@@ -46,7 +46,7 @@ refuses_as fault_in other old new DeviceFault e s = tt
 refuses_as fault_in other old new NoMemory e s = tt
 
 -- a fault in what comes first
-pub first_refuses : (fault_in later : List ℕ → Option ImageFault) (old new : Input)
+pub first_refuses : (fault_in later : List ℕ → Option ImageFault) (old new : SourceFacts)
     (fault : ImageFault) → IsInputFault fault_in old new fault
     → IsInputFault (λ bytes. first (fault_in bytes) (later bytes)) old new fault
 first_refuses fault_in later old new fault s =
@@ -54,7 +54,7 @@ first_refuses fault_in later old new fault s =
     (λ bytes e. ap (λ (o : Option ImageFault). first o (later bytes)) e) s
 
 -- a record's fault among the records that are left
-pub record_refuses : (most n : ℕ) (before : Before) (old new : Input) (fault : ImageFault)
+pub record_refuses : (most n : ℕ) (before : Before) (old new : SourceFacts) (fault : ImageFault)
     → IsInputFault (record_fault most before.count before.end) old new fault
     → IsInputFault (parts_fault most (suc n) before) old new fault
 record_refuses most n before old new fault s =

@@ -18,10 +18,10 @@ use Rattle.bl_image.specs.declared.fault.ImageFault.{ImageFault}
 use Rattle.bl_image.specs.declared.fault.ImageFault.TheVariants.{WrongLength}
 use Rattle.bl_image.specs.declared.version.Version.{Version}
 use Rattle.bl_image.specs.declared.version.Version.TheVariants.{One, Two}
-use Rattle.bl_image.specs.Fields.{Field, fields_fault, register_field, wide_field}
+use Rattle.bl_image.specs.Fields.{Field, fields_fault, register_field, wide_register_field}
 use Rattle.bl_image.specs.Image.{narrow_values, wide_values, spelled_registers}
 use Rattle.bl_image.specs.Layouts.{layout, registers_1, registers_2_wide}
-use Rattle.bl_image.specs.Source.{Input}
+use Rattle.bl_image.specs.Source.{SourceFacts}
 use Rattle.bl_image.specs.SourceKept.{PassAll}
 use Rattle.bl_image.specs.Spellable.{FitsRegisters}
 use Rattle.bl_image.specs.Versions.{version_number, HasProtocol}
@@ -39,8 +39,8 @@ pub register_any : IsAny register_field
 unfolding register_field
 register_any bytes = refl
 
-pub wide_any : IsAny wide_field
-unfolding wide_field
+pub wide_any : IsAny wide_register_field
+unfolding wide_register_field
 wide_any bytes = refl
 
 -- so many of a field, and others behind them
@@ -106,9 +106,9 @@ narrow_pass r others x =
 
 -- and those of 64 bits the fields of version 2 under such a protocol
 pub full_pass : (r : Registers64) → Leaves registers_2_wide (spelled_registers Two (Bits64 r))
-unfolding registers_2_wide wide_field
+unfolding registers_2_wide wide_register_field
 full_pass r others x =
-    any_pass wide_field wide_any 31 others (flat_map u64_bytes (wide_values (Bits64 r))) x
+    any_pass wide_register_field wide_any 31 others (flat_map u64_bytes (wide_values (Bits64 r))) x
     (length-u64s (wide_values (Bits64 r)))
 
 -- the registers of an image pass their fields
@@ -125,7 +125,7 @@ registers_pass Two Linux64 (Bits32 r) has fit = let both : false ≡ true = fit.
 registers_pass Two Linux64 (Bits64 r) has fit = full_pass r
 
 -- fields that came leave the others to be judged
-pub passed_all : {fault_in : List ℕ → Option ImageFault} {old mid new : Input}
+pub passed_all : {fault_in : List ℕ → Option ImageFault} {old mid new : SourceFacts}
     (fields others : List Field) (a : List ℕ)
     → Passed fault_in old mid (fields_fault (fields ++ others)) → PassAll fields mid new a
     → Passed fault_in old new (fields_fault others)

@@ -53,8 +53,8 @@ unfoldable pub register_field : Field
 register_field = u32_field (λ register. true) BadHeader
 
 -- a register of 64 bits that may be anything
-unfoldable pub wide_field : Field
-wide_field = u64_field (λ register. true) BadHeader
+unfoldable pub wide_register_field : Field
+wide_register_field = u64_field (λ register. true) BadHeader
 
 -- a register of 64 bits, of which the protocol gives 32
 unfoldable pub zero_extended_field : Field

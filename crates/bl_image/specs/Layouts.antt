@@ -2,7 +2,7 @@
 use Rattle.std.specs.Prelude.{ℕ, Bool, true, false, List, [], ◌∷◌, ◌++◌, ◌==◌, if◌then◌else◌}
 use Rattle.std.specs.Prelude.{replicate}
 use Rattle.bl_mem.specs.LittleEndian.{u32_at}
-use Rattle.bl_image.specs.Fields.{Field, register_field, zero_extended_field, absent_field, wide_field}
+use Rattle.bl_image.specs.Fields.{Field, register_field, zero_extended_field, absent_field, wide_register_field}
 use Rattle.bl_image.specs.Fields.{count_field, zero_field}
 
 -- where version, protocol and registers stand in each image
@@ -52,7 +52,7 @@ layout_2_narrow = record {
 
 -- under the 64-bit entry of Linux each may be anything, and page tables are a part
 unfoldable pub registers_2_wide : List Field
-registers_2_wide = replicate 31 wide_field
+registers_2_wide = replicate 31 wide_register_field
 
 abbrev pub layout_2_wide : Layout
 layout_2_wide = record {

@@ -5,36 +5,36 @@ use Rattle.bl_image.specs.declared.fault.ImageFault.{ImageFault}
 use Rattle.bl_image.specs.declared.fault.ImageFault.TheVariants.{DeviceFault, NoMemory}
 
 -- the bytes that reads gave so far; those that they will give from here on, where that is known
-pub record Input : Type 0 where
+pub record SourceFacts : Type 0 where
   pub given : List ℕ
   pub rest : Option (List ℕ)
 
 -- these bytes came, and no others; where it was known what was to come, it begins with them
-pub record Comes (old new : Input) (bytes : List ℕ) : Type 0 where
+pub record Comes (old new : SourceFacts) (bytes : List ℕ) : Type 0 where
   pub given_is : new.given ≡ old.given ++ bytes
   pub rest_is : Consumes old.rest new.rest bytes
 
 -- nothing is to come
-abbrev pub IsEnded : Input → Type 0
+abbrev pub IsEnded : SourceFacts → Type 0
 IsEnded input = input.rest ≡ Some []
 
 -- these bytes may be all that is to come
-abbrev pub MayFollow : Option (List ℕ) → List ℕ → Type 0
-MayFollow None bytes = Unit {0}
-MayFollow (Some rest) bytes = bytes ≡ rest
+abbrev pub IsPossibleRest : Option (List ℕ) → List ℕ → Type 0
+IsPossibleRest None bytes = Unit {0}
+IsPossibleRest (Some rest) bytes = bytes ≡ rest
 
 -- a definition of the first fault of bytes
 abbrev pub FaultIn : Type 0
 FaultIn = List ℕ → Option ImageFault
 
 -- what came shows this fault, whatever may follow
-pub record Shows (fault_in : FaultIn) (old new : Input) (fault : ImageFault) : Type 0 where
+pub record Shows (fault_in : FaultIn) (old new : SourceFacts) (fault : ImageFault) : Type 0 where
   pub came : List ℕ
   pub comes : Comes old new came
-  pub shown : (bytes : List ℕ) → MayFollow new.rest bytes → fault_in (came ++ bytes) ≡ Some fault
+  pub shown : (bytes : List ℕ) → IsPossibleRest new.rest bytes → fault_in (came ++ bytes) ≡ Some fault
 
 -- a fault of what came; but a device may fail and memory run out at any time
-abbrev pub IsInputFault : FaultIn → Input → Input → ImageFault → Type 0
+abbrev pub IsInputFault : FaultIn → SourceFacts → SourceFacts → ImageFault → Type 0
 IsInputFault fault_in old new DeviceFault = Unit {0}
 IsInputFault fault_in old new NoMemory = Unit {0}
 IsInputFault fault_in old new fault = Shows fault_in old new fault

@@ -1,11 +1,11 @@
 -- What contracts see of the sources here. Own.
 use Rattle.std.specs.Prelude.{ℕ, Bool, List, [], take, drop, Option, Some, if◌then◌else◌}
-use Rattle.bl_image.specs.Source.{Input}
+use Rattle.bl_image.specs.Source.{SourceFacts}
 
 -- of an `IoSource`: what its reader gave since it was wrapped, and what it tells that it still has;
 -- its faults so far
 pub record IoSourceFacts : Type 0 where
-  pub input : Input
+  pub input : SourceFacts
   pub faults : ℕ
 
 -- once its reader said that the input ended, nothing is to come
@@ -21,8 +21,8 @@ pub record MemSourceFacts : Type 0 where
   pub fail : ℕ
   pub faults : ℕ
 
-abbrev pub input_of : MemSourceFacts → Input
-input_of source = record {
+abbrev pub mem_source_input : MemSourceFacts → SourceFacts
+mem_source_input source = record {
   given = take source.at source.bytes;
   rest = Some (drop source.at source.bytes);
 }

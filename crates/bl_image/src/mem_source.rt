@@ -68,9 +68,9 @@ impl<A: Allocator> Source for MemSource<A> {
     ghost use Rattle.std.specs.Prelude.{◌≡◌, [], ◌+◌, ◌-◌, ◌<◌, ◌≤◌, ◌^◌, length, min, take};
     ghost use Rattle.std.specs.Prelude.{IfOk, OnOk, OnErr, MatchResult};
     ghost use Rattle.bl_image.specs.Source.{Comes, IsEnded};
-    ghost use Rattle.bl_image.specs.Sources.{input_of};
+    ghost use Rattle.bl_image.specs.Sources.{mem_source_input};
 
-    ghost input = { input_of };
+    ghost input = { mem_source_input };
 
     ghost faults = { λ s. s.faults };
 
@@ -78,11 +78,11 @@ impl<A: Allocator> Source for MemSource<A> {
         requires { self.old.faults < 2 ^ 64 - 1 }
         ensures within { IfOk result (λ count. count ≤ length out.new) }
         ensures gave { IfOk result
-            (λ count. Comes (input_of self.old) (input_of self.new) (take count out.new)) }
+            (λ count. Comes (mem_source_input self.old) (mem_source_input self.new) (take count out.new)) }
         ensures ended { IfOk result
-            (λ count. count ≡ 0 → 1 ≤ length out.new → IsEnded (input_of self.new)) }
+            (λ count. count ≡ 0 → 1 ≤ length out.new → IsEnded (mem_source_input self.new)) }
         ensures sound { OnOk result (self.new.faults ≡ self.old.faults) }
-        ensures nothing { OnErr result (Comes (input_of self.old) (input_of self.new) []) }
+        ensures nothing { OnErr result (Comes (mem_source_input self.old) (mem_source_input self.new) []) }
         ensures fault { OnErr result (self.new.faults ≡ self.old.faults + 1) }
 
         // As much as it may; a fault exactly where its read has come.

@@ -1,7 +1,7 @@
 //! Where bytes are read from.
 ghost use Rattle.std.specs.Prelude.{◌≡◌, ℕ, [], ◌+◌, ◌-◌, ◌≤◌, ◌<◌, ◌^◌, length, take};
 ghost use Rattle.std.specs.Prelude.{IfOk, OnOk, OnErr};
-ghost use Rattle.bl_image.specs.Source.{Input, Comes, IsEnded};
+ghost use Rattle.bl_image.specs.Source.{SourceFacts, Comes, IsEnded};
 
 use crate::sink::DeviceFault;
 
@@ -9,7 +9,7 @@ use crate::sink::DeviceFault;
 /// be shown it.
 pub trait Source {
     /// The bytes that reads gave so far, and those to come, where they are known.
-    ghost input: { Self → Input };
+    ghost input: { Self → SourceFacts };
 
     /// How many faults there were.
     ghost faults: { Self → ℕ };

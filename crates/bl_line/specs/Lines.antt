@@ -26,8 +26,8 @@ IsOrderParser parser = (names : Bor (List (Bor Text))) × (parser ≡ Names name
     × (map (λ name. name.now) names.now ≡ codes "forward" ∷ codes "reverse" ∷ [])
 
 -- for such a parser
-abbrev pub SomeOrderParser : (ValueParser → Type 0) → Type 0
-SomeOrderParser P = (parser : ValueParser) × IsOrderParser parser × P parser
+abbrev pub HasOrderParser : (ValueParser → Type 0) → Type 0
+HasOrderParser P = (parser : ValueParser) × IsOrderParser parser × P parser
 
 -- the description, which must be given
 abbrev pub desc_rule : Rule
@@ -107,8 +107,8 @@ IsJobOf chosen (Explain description order) = (bytes_eq chosen.0 (codes "explain"
     × (order ≡ order_named (argument_text (codes "order") chosen.1))
 
 -- clap's own definition has no fault for the words, and its matches tell the job
-abbrev pub Tells : List Text → Job → Type 0
-Tells words job = SomeOrderParser (λ parser. (fault_of (line_app parser) words ≡ [])
+abbrev pub IsJobOfWords : List Text → Job → Type 0
+IsJobOfWords words job = HasOrderParser (λ parser. (fault_of (line_app parser) words ≡ [])
     × ((chosen : Text × List Row)
     × (subcommand_of (line_app parser) words ≡ Some chosen) × IsJobOf chosen job))
 
@@ -128,7 +128,7 @@ IsFaultAmong kinds fault = (kind : ErrorKind) × IsAmong kind kinds × (fault �
 abbrev pub RefusesLine : List Text → LineFault → Type 0
 RefusesLine words fault =
     (fault ≡ NoMemory)
-    ⊎ SomeOrderParser (λ parser. IsFaultAmong (fault_of (line_app parser) words) fault)
+    ⊎ HasOrderParser (λ parser. IsFaultAmong (fault_of (line_app parser) words) fault)
 
 -- clap's own definition takes the words
 abbrev pub IsTaken : List Text → Type 0

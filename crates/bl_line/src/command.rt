@@ -3,7 +3,7 @@
 ghost use Rattle.std.specs.Prelude.{◌≡◌, true, false, IfOk};
 ghost use Rattle.clap.specs.Words.{app_of, new_app, new_rule, rule_of, with_rule, with_subcommand};
 ghost use Rattle.clap.specs.declared.builder.command.Command.TheViews.{out-Command as fields_of};
-ghost use Rattle.bl_line.specs.Lines.{SomeOrderParser, boot_app, convert_app, explain_app, top_app};
+ghost use Rattle.bl_line.specs.Lines.{HasOrderParser, boot_app, convert_app, explain_app, top_app};
 ghost use Rattle.bl_line.specs.Lines.{line_app, out_rule, order_rule};
 ghost use Rattle.clap.specs.declared.builder.value_parser.ValueParser.TheVariants.{Names};
 
@@ -126,7 +126,7 @@ fn command_with<'a>(global: Global, orders: &'a [&'a str]) -> Result<Command<'a>
 
 /// The program's command, with its subcommands.
 pub fn line_command<'a>(global: Global) -> Result<Command<'a>, AllocError>
-    ensures { IfOk result (λ c. SomeOrderParser (λ parser. app_of c ≡ line_app parser)) }
+    ensures { IfOk result (λ c. HasOrderParser (λ parser. app_of c ≡ line_app parser)) }
 {
     command_with(global, ORDERS.as_slice())
 }

@@ -3,7 +3,7 @@ ghost use Rattle.std.specs.Prelude.{◌≡◌, false, map, codes, IfOk, IfErr, M
 ghost use Rattle.std.specs.Str.{bytes_eq};
 ghost use Rattle.clap.specs.Words.{found_of, rows_of};
 ghost use Rattle.bl_line.specs.Lines as lines;
-ghost use Rattle.bl_line.specs.Lines.{IsJobOf, IsTaken, Tells, RefusesLine};
+ghost use Rattle.bl_line.specs.Lines.{IsJobOf, IsTaken, IsJobOfWords, RefusesLine};
 
 use crate::command::line_command;
 use crate::fault::LineFault;
@@ -80,7 +80,7 @@ fn fault_of(kind: ErrorKind) -> LineFault
 /// The job that a command line asks for; its first word is the program's name. No words at all are
 /// refused, and words that ask for help are a fault of their own.
 pub fn read_line<'a>(global: Global, words: &'a [&'a str]) -> Result<Job<'a>, LineFault>
-    ensures job { IfOk result (Tells (map (λ word. word.now) words.entry.now)) }
+    ensures job { IfOk result (IsJobOfWords (map (λ word. word.now) words.entry.now)) }
     ensures fault { IfErr result (RefusesLine (map (λ word. word.now) words.entry.now)) }
     ensures taken { IfErr result (λ fault.
         IsTaken (map (λ word. word.now) words.entry.now) → fault ≡ LineFault.NoMemory) }

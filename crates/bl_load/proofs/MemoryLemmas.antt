@@ -1,16 +1,16 @@
 -- What calls of memory keep, one after the other.
 use Rattle.std.proofs.Common.{◌∙◌, ℕ, List, refl}
-use Rattle.bl_mem.specs.Memory.{KeepsMemory}
+use Rattle.bl_mem.specs.Memory.{KeepsSizeAndRoom}
 
 -- no call keeps all
 pub keeps_all : {M : Type 0} {lender : M → ℕ} {bytes : M → List ℕ} {room : M → ℕ → Type 0} {old : M}
-    → KeepsMemory lender bytes room old old
+    → KeepsSizeAndRoom lender bytes room old old
 keeps_all = record { lender = refl; size = refl; room = λ a had. had }
 
 -- a further call keeps what those before it kept
 pub keeps_on : {M : Type 0} {lender : M → ℕ} {bytes : M → List ℕ} {room : M → ℕ → Type 0}
-    {old middle new : M} → KeepsMemory lender bytes room old middle
-    → KeepsMemory lender bytes room middle new → KeepsMemory lender bytes room old new
+    {old middle new : M} → KeepsSizeAndRoom lender bytes room old middle
+    → KeepsSizeAndRoom lender bytes room middle new → KeepsSizeAndRoom lender bytes room old new
 keeps_on before further =
     record {
       lender = further.lender ∙ before.lender;

@@ -2,7 +2,7 @@
 ghost use Rattle.std.specs.Prelude.{◌≡◌, ◌+◌, ◌<◌, ◌≤◌, length, All, AllPairs};
 ghost use Rattle.bl_mem.specs.Contents.{contents_of};
 ghost use Rattle.bl_mem.specs.Files.{nth_file, AreBelow, IsBeside};
-ghost use Rattle.bl_mem.specs.Memory.{overwrite, HasRoom, KeepsMemory};
+ghost use Rattle.bl_mem.specs.Memory.{overwrite, HasRoom, KeepsSizeAndRoom};
 ghost use Rattle.bl_load.specs.Blocks.{span_of, block_of};
 ghost use Rattle.bl_load.specs.Loadable.{IsCopyable, SegmentsAscend};
 
@@ -28,7 +28,7 @@ fn load_segment<M: PhysMem, F: FileSet>(
         (contents_of (nth_file (F.texts files.now (M.bytes memory.old)) file) segment.now) }
     ensures texts { F.texts files.now (M.bytes memory.new)
         ≡ F.texts files.now (M.bytes memory.old) }
-    ensures kept { KeepsMemory M.lender M.bytes M.room memory.old memory.new }
+    ensures kept { KeepsSizeAndRoom M.lender M.bytes M.room memory.old memory.new }
 {
     // Memory's size is known to be below 2^64, so that no sum here wraps, only once it was asked
     // for.
@@ -60,7 +60,7 @@ pub(crate) fn load_block<M: PhysMem, F: FileSet>(
         (block_of (nth_file (F.texts files.now (M.bytes memory.old)) file) segments.now) }
     ensures texts { F.texts files.now (M.bytes memory.new)
         ≡ F.texts files.now (M.bytes memory.old) }
-    ensures kept { KeepsMemory M.lender M.bytes M.room memory.old memory.new }
+    ensures kept { KeepsSizeAndRoom M.lender M.bytes M.room memory.old memory.new }
 {
     // Memory's size is known to be below 2^64, so that no sum here wraps, only once it was asked
     // for.

@@ -1,7 +1,7 @@
 //! A file's bytes come into memory, which may hold the file.
 ghost use Rattle.std.specs.Prelude.{◌≡◌, ◌+◌, ◌<◌, ◌≤◌, length, slice_range};
 ghost use Rattle.bl_mem.specs.Files.{nth_file, AreBelow, IsBeside};
-ghost use Rattle.bl_mem.specs.Memory.{overwrite, HasRoom, KeepsMemory};
+ghost use Rattle.bl_mem.specs.Memory.{overwrite, HasRoom, KeepsSizeAndRoom};
 
 use bl_mem::{FileSet, PhysMem};
 
@@ -26,7 +26,7 @@ fn copy_piece<M: PhysMem, F: FileSet>(
         offset (offset + length buffer.old)) }
     ensures texts { F.texts files.now (M.bytes memory.new)
         ≡ F.texts files.now (M.bytes memory.old) }
-    ensures kept { KeepsMemory M.lender M.bytes M.room memory.old memory.new }
+    ensures kept { KeepsSizeAndRoom M.lender M.bytes M.room memory.old memory.new }
 {
     files.read(memory, file, offset, buffer);
     memory.write(at, buffer);
@@ -53,7 +53,7 @@ fn copy_by_pieces<M: PhysMem, F: FileSet>(
         (nth_file (F.texts files.now (M.bytes memory.old)) file) offset (offset + count)) }
     ensures texts { F.texts files.now (M.bytes memory.new)
         ≡ F.texts files.now (M.bytes memory.old) }
-    ensures kept { KeepsMemory M.lender M.bytes M.room memory.old memory.new }
+    ensures kept { KeepsSizeAndRoom M.lender M.bytes M.room memory.old memory.new }
 {
     // Both lengths are known to be below 2^64, so that no sum here wraps, only once they were asked
     // for.
@@ -84,7 +84,7 @@ fn write_lent<M: PhysMem, F: FileSet>(memory: &mut M, at: u64, files: &F, lent: 
     ensures after { M.bytes memory.new ≡ overwrite (M.bytes memory.old) at lent.now }
     ensures texts { F.texts files.now (M.bytes memory.new)
         ≡ F.texts files.now (M.bytes memory.old) }
-    ensures kept { KeepsMemory M.lender M.bytes M.room memory.old memory.new }
+    ensures kept { KeepsSizeAndRoom M.lender M.bytes M.room memory.old memory.new }
 {
     memory.write(at, lent);
 }
@@ -110,7 +110,7 @@ pub(crate) fn copy<M: PhysMem, F: FileSet>(
         (nth_file (F.texts files.now (M.bytes memory.old)) file) offset (offset + count)) }
     ensures texts { F.texts files.now (M.bytes memory.new)
         ≡ F.texts files.now (M.bytes memory.old) }
-    ensures kept { KeepsMemory M.lender M.bytes M.room memory.old memory.new }
+    ensures kept { KeepsSizeAndRoom M.lender M.bytes M.room memory.old memory.new }
 {
     if count == 0 {
         return;

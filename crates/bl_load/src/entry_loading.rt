@@ -1,6 +1,6 @@
 //! One entry comes into memory, from files beside it.
 ghost use Rattle.std.specs.Prelude.{◌≡◌, ℕ, ◌+◌, ◌≤◌, length, map, slice_index, All, IfOk, IfErr};
-ghost use Rattle.bl_mem.specs.Memory.{KeepsMemory};
+ghost use Rattle.bl_mem.specs.Memory.{KeepsSizeAndRoom};
 ghost use Rattle.bl_plan.specs.Placed.{Covers};
 ghost use Rattle.bl_load.specs.Value.{value_of, file_count, IsWithinLimits};
 ghost use Rattle.bl_load.specs.Handover.{written};
@@ -54,7 +54,7 @@ pub fn load_entry<A: Allocator + Copy, M: PhysMem, V: ByteView>(
     ensures fault { IfErr result (λ fault. IsPrepFault machine.now
         (value_of (map V.bytes files.now) entry.now) fault) }
     ensures unchanged { IfErr result (λ _. M.bytes memory.new ≡ M.bytes memory.old) }
-    ensures kept { KeepsMemory M.lender M.bytes M.room memory.old memory.new }
+    ensures kept { KeepsSizeAndRoom M.lender M.bytes M.room memory.old memory.new }
 {
     let plan = prepare(alloc, machine, entry, files)?;
     memory.reserve(plan.ranges())?;

@@ -1,7 +1,7 @@
 //! The parts of a plan come into memory.
 ghost use Rattle.std.specs.Prelude.{◌≡◌, ℕ, ◌+◌, ◌-◌, ◌<◌, ◌≤◌, length, map, slice_index, All};
 ghost use Rattle.bl_mem.specs.Files.{AreBelow, IsBeside, AllBeside};
-ghost use Rattle.bl_mem.specs.Memory.{overwrite, HasRoom, AllHaveRoom, KeepsMemory};
+ghost use Rattle.bl_mem.specs.Memory.{overwrite, HasRoom, AllHaveRoom, KeepsSizeAndRoom};
 ghost use Rattle.bl_plan.specs.Placed.{Covers, place_range};
 ghost use Rattle.bl_load.specs.Handover.{written};
 ghost use Rattle.bl_load.specs.PlanFacts.{content_by, bytes_by, part_by, handover_by};
@@ -33,7 +33,7 @@ fn load_content<M: PhysMem, F: FileSet, A: Allocator>(
         (content_by (F.texts files.now (M.bytes memory.old)) content.now) }
     ensures texts { F.texts files.now (M.bytes memory.new)
         ≡ F.texts files.now (M.bytes memory.old) }
-    ensures kept { KeepsMemory M.lender M.bytes M.room memory.old memory.new }
+    ensures kept { KeepsSizeAndRoom M.lender M.bytes M.room memory.old memory.new }
 {
     match content {
         Content::Own(bytes) => {
@@ -63,7 +63,7 @@ fn load_part<M: PhysMem, F: FileSet, A: Allocator>(memory: &mut M, part: &Planne
         (bytes_by (F.texts files.now (M.bytes memory.old)) part.now) }
     ensures texts { F.texts files.now (M.bytes memory.new)
         ≡ F.texts files.now (M.bytes memory.old) }
-    ensures kept { KeepsMemory M.lender M.bytes M.room memory.old memory.new }
+    ensures kept { KeepsSizeAndRoom M.lender M.bytes M.room memory.old memory.new }
 {
     // Memory's size is known to be below 2^64, so that no sum here wraps, only once it was asked
     // for.
@@ -87,7 +87,7 @@ fn load_parts<M: PhysMem, F: FileSet, A: Allocator>(
         (M.bytes memory.old) }
     ensures texts { F.texts files.now (M.bytes memory.new)
         ≡ F.texts files.now (M.bytes memory.old) }
-    ensures kept { KeepsMemory M.lender M.bytes M.room memory.old memory.new }
+    ensures kept { KeepsSizeAndRoom M.lender M.bytes M.room memory.old memory.new }
 {
     for part in parts {
         load_part(memory, part, files);
@@ -131,7 +131,7 @@ pub fn load<M: PhysMem, F: FileSet, A: Allocator>(
     // Each file reads as before, so none was overwritten before it was read.
     ensures texts { F.texts files.now (M.bytes memory.new)
         ≡ F.texts files.now (M.bytes memory.old) }
-    ensures kept { KeepsMemory M.lender M.bytes M.room memory.old memory.new }
+    ensures kept { KeepsSizeAndRoom M.lender M.bytes M.room memory.old memory.new }
 {
     let Plan {
         protocol,

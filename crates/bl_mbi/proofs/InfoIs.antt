@@ -12,7 +12,7 @@ use Rattle.bl_mbi.specs.Tags.{tag}
 use Rattle.bl_mbi.specs.Spelling.{tags, info_spelling}
 use Rattle.bl_mbi.specs.Fields.{RestFacts, first_u32}
 use Rattle.bl_mbi.specs.Reading.{text_tag_at, modules_at, memory_at, map_at, copy_at, load_base_at}
-use Rattle.bl_mbi.specs.Reading.{end_at, tags_of, info_of}
+use Rattle.bl_mbi.specs.Reading.{end_at, info_of_tags, info_of}
 use Rattle.bl_mbi.proofs.Inverse.{passed, made, same_ok}
 use Rattle.bl_mbi.proofs.Sizes.{length-tag}
 use Rattle.bl_mbi.proofs.WordLaws.{word_then, word_small}
@@ -44,9 +44,9 @@ in_order l0 l1 l2 l3 l4 l5 l6 l7 l8 a b c d e f g h r1 r2 r3 r4 r5 r6 r7 r8 last
     let from_1 = both_read l0 l1 l8 a _ r1 from_2 in
     from_1.bytes (rw last end_stands) ∙ rw last (simp append_assoc)
 
-tags_are : (left : RestFacts) (info : InfoFacts) → AreBytes left.bytes → tags_of left ≡ Ok info
+tags_are : (left : RestFacts) (info : InfoFacts) → AreBytes left.bytes → info_of_tags left ≡ Ok info
     → IsInOrder left info
-unfolding tags_of
+unfolding info_of_tags
 tags_are left info small h =
     let s1 = made (text_tag_at 1 left) _ info h in
     let s2 = made (text_tag_at 2 s1.0.1) _ info s1.2 in

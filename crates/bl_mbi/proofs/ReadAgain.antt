@@ -10,7 +10,7 @@ use Rattle.bl_mbi.specs.Tags.{tag, text_body, module_tag, memory_body, map_body,
 use Rattle.bl_mbi.specs.Tags.{load_base_tag}
 use Rattle.bl_mbi.specs.Spelling.{tags, info_spelling}
 use Rattle.bl_mbi.specs.Fields.{first_u32}
-use Rattle.bl_mbi.specs.Reading.{tags_of, info_of}
+use Rattle.bl_mbi.specs.Reading.{info_of_tags, info_of}
 use Rattle.bl_mem.proofs.LittleEndianLaws.{length-u32_bytes}
 use Rattle.bl_mbi.proofs.Sizes.{length-tag, length-tags, length-text_body, length-map_body}
 use Rattle.bl_mbi.proofs.WordLaws.{word_front, behind_word, behind_words}
@@ -22,7 +22,7 @@ use Rattle.bl_mbi.proofs.TagsAgain.{in_order}
 
 pub tags_again : (at : ℕ) (name : List ℕ) (facts : InformationFacts) → IsText name
     → FitsFields facts → 8 + length (tags name facts) < 2 ^ 32
-    → tags_of (from at (tags name facts)) ≡ Ok record { name = name; facts = facts }
+    → info_of_tags (from at (tags name facts)) ≡ Ok record { name = name; facts = facts }
 tags_again at name facts name_is is fits =
     let line = tag 1 (text_body facts.line) in
     let loader = tag 2 (text_body name) in

@@ -6,7 +6,7 @@ use Rattle.bl_mbi.specs.InformationFacts.{ModuleInfo}
 use Rattle.bl_mbi.specs.InfoFacts.{InfoFacts}
 use Rattle.bl_mbi.specs.Fields.{◌>>=◌, RestFacts}
 use Rattle.bl_mbi.specs.Reading.{text_tag_at, modules_at, memory_at, map_at, copy_at, load_base_at}
-use Rattle.bl_mbi.specs.Reading.{end_at, tags_of}
+use Rattle.bl_mbi.specs.Reading.{end_at, info_of_tags}
 use Rattle.bl_mbi.specs.GroupsKept.{texts_at, map_tags_at, last_at}
 
 abbrev Texts : Type 0
@@ -87,12 +87,12 @@ info_with texts maps last = record {
 }
 
 pub tags_by_groups : (left : RestFacts)
-    → tags_of left
+    → info_of_tags left
     ≡ (texts_at left
     >>= (λ texts.
     map_tags_at texts.1
     >>= (λ maps. last_at maps.1 >>= (λ last. Ok (info_with texts.0 maps.0 last)))))
-unfolding tags_of
+unfolding info_of_tags
 tags_by_groups left =
     sym
     (texts_then left _

@@ -14,7 +14,7 @@ use Rattle.bl_mbi.specs.InformationFacts.{ModuleInfo, IsModule, IsText, AreBytes
 use Rattle.bl_mem.specs.LittleEndian.{u32_bytes}
 use Rattle.bl_mbi.specs.Tags.{tag, text_body, module_body, module_tag, memory_body, map_body}
 use Rattle.bl_mbi.specs.Tags.{copy_tag, load_base_tag}
-use Rattle.bl_mbi.specs.Fields.{RestFacts, is_next, front_info_tag, or_bad}
+use Rattle.bl_mbi.specs.Fields.{RestFacts, is_next, next_info_tag, or_bad}
 use Rattle.bl_mbi.specs.Bodies.{text_of_body, module_of, memory_of, map_of, load_base_of}
 use Rattle.bl_mbi.specs.Reading.{text_tag_at, module_at, modules_upto, modules_at, memory_at}
 use Rattle.bl_mbi.specs.Reading.{map_at, copy_at, load_base_at, end_at}
@@ -50,7 +50,7 @@ pub text_tag_at_is : (kind : ℕ) (left : RestFacts) (read : List ℕ × RestFac
     → IsRead left (tag kind (text_body read.0)) read.1 × IsText read.0
 unfolding text_tag_at
 text_tag_at_is kind left read small h =
-    let s1 = made (front_info_tag kind left) _ read h in
+    let s1 = made (next_info_tag kind left) _ read h in
     let s2 = made (or_bad left.at (text_of_body s1.0.0)) _ read s1.2 in
     let whole = tag_is kind left s1.0 small s1.1 in
     let text = text_is s1.0.0 s2.0 whole.1 (not_bad left.at _ _ s2.1) in
@@ -62,7 +62,7 @@ module_at_is : (left : RestFacts) (read : ModuleInfo × RestFacts) → AreBytes 
     → module_at left ≡ Ok read → IsRead left (module_tag read.0) read.1 × IsModule read.0
 unfolding module_at
 module_at_is left read small h =
-    let s1 = made (front_info_tag 3 left) _ read h in
+    let s1 = made (next_info_tag 3 left) _ read h in
     let s2 = made (or_bad left.at (module_of s1.0.0)) _ read s1.2 in
     let whole = tag_is 3 left s1.0 small s1.1 in
     let body = module_is s1.0.0 s2.0 whole.1 (not_bad left.at _ _ s2.1) in
@@ -112,7 +112,7 @@ pub memory_at_is : (left : RestFacts) (read : (ℕ × ℕ) × RestFacts) → Are
     × (read.0.1 < 2 ^ 32)
 unfolding memory_at
 memory_at_is left read small h =
-    let s1 = made (front_info_tag 4 left) _ read h in
+    let s1 = made (next_info_tag 4 left) _ read h in
     let s2 = made (or_bad left.at (memory_of s1.0.0)) _ read s1.2 in
     let whole = tag_is 4 left s1.0 small s1.1 in
     let body = memory_is s1.0.0 s2.0 whole.1 (not_bad left.at _ _ s2.1) in
@@ -129,7 +129,7 @@ pub map_at_is : (left : RestFacts) (read : List Region × RestFacts) → AreByte
     → IsRead left (tag 6 (map_body read.0)) read.1 × All (λ run. region_end run ≤ 2 ^ 52) read.0
 unfolding map_at
 map_at_is left read small h =
-    let s1 = made (front_info_tag 6 left) _ read h in
+    let s1 = made (next_info_tag 6 left) _ read h in
     let s2 = made (or_bad left.at (map_of s1.0.0)) _ read s1.2 in
     let whole = tag_is 6 left s1.0 small s1.1 in
     let body = map_is s1.0.0 s2.0 whole.1 (not_bad left.at _ _ s2.1) in
@@ -150,7 +150,7 @@ copy_at_is kind left read small h =
           (nothing_read left small, tt) in
           rw (← same_ok (None, left) read none) is
       | inr some ↦
-          let s1 = made (front_info_tag kind left) _ read some in
+          let s1 = made (next_info_tag kind left) _ read some in
           let whole = tag_is kind left s1.0 small s1.1 in
           let is : IsRead left (copy_tag kind (Some s1.0.0)) s1.0.1
           × IfSome (Some s1.0.0) AreBytes = whole in
@@ -169,7 +169,7 @@ load_base_at_is left read small h =
           × IfSome None (λ (base : ℕ). base < 2 ^ 32) = (nothing_read left small, tt) in
           rw (← same_ok (None, left) read none) is
       | inr some ↦
-          let s1 = made (front_info_tag 21 left) _ read some in
+          let s1 = made (next_info_tag 21 left) _ read some in
           let s2 = made (or_bad left.at (load_base_of s1.0.0)) _ read s1.2 in
           let whole = tag_is 21 left s1.0 small s1.1 in
           let body = load_base_is s1.0.0 s2.0 whole.1 (not_bad left.at _ _ s2.1) in
@@ -182,7 +182,7 @@ load_base_at_is left read small h =
 pub end_at_is : (left : RestFacts) → AreBytes left.bytes → end_at left ≡ Ok tt → left.bytes ≡ tag 0 []
 unfolding end_at
 end_at_is left small h =
-    let s1 = made (front_info_tag 0 left) _ tt h in
+    let s1 = made (next_info_tag 0 left) _ tt h in
     let s2 = passed (not (nat_eq (length s1.0.0) 0)) _ _ tt s1.2 in
     let s3 = passed_last (nat_eq (length s1.0.1.bytes) 0) _ _ tt s2.1 in
     let empty : length s1.0.0 ≡ 0 = grind (arith, nat_tests, not-false _ s2.0) in

@@ -12,7 +12,7 @@ use Rattle.bl_mbi.specs.Size.{padded}
 use Rattle.bl_mbi.specs.InformationFacts.{AreBytes}
 use Rattle.bl_mem.specs.LittleEndian.{u32_bytes}
 use Rattle.bl_mbi.specs.Tags.{padding, tag}
-use Rattle.bl_mbi.specs.Fields.{RestFacts, first_u32, front_info_tag}
+use Rattle.bl_mbi.specs.Fields.{RestFacts, first_u32, next_info_tag}
 use Rattle.bl_mbi.proofs.Inverse.{passed, same_ok}
 use Rattle.bl_mbi.proofs.WordLaws.{word_then}
 
@@ -46,9 +46,9 @@ record IsPassed (kind : ℕ) (left : RestFacts) (read : List ℕ × RestFacts) :
   body : slice_range left.bytes 8 (first_u32 (drop 4 left.bytes)) ≡ read.0
   rest : drop (padded (first_u32 (drop 4 left.bytes))) left.bytes ≡ read.1.bytes
 
-passes : (kind : ℕ) (left : RestFacts) (read : List ℕ × RestFacts) → front_info_tag kind left ≡ Ok read
+passes : (kind : ℕ) (left : RestFacts) (read : List ℕ × RestFacts) → next_info_tag kind left ≡ Ok read
     → IsPassed kind left read
-unfolding front_info_tag
+unfolding next_info_tag
 passes kind left read h =
     let size = first_u32 (drop 4 left.bytes) in
     let s1 = passed (nat_eq (length left.bytes) 0) _ _ read h in
@@ -126,7 +126,7 @@ whole_tag_is kind left read small p enough =
 
 -- where something is left after a tag, its padding is all there
 pub tag_is : (kind : ℕ) (left : RestFacts) (read : List ℕ × RestFacts) → AreBytes left.bytes
-    → front_info_tag kind left ≡ Ok read → IsRead left (tag kind read.0) read.1 × AreBytes read.0
+    → next_info_tag kind left ≡ Ok read → IsRead left (tag kind read.0) read.1 × AreBytes read.0
 tag_is kind left read small h =
     let p = passes kind left read h in
     let size = first_u32 (drop 4 left.bytes) in
@@ -140,7 +140,7 @@ tag_is kind left read small h =
 
 -- a tag with no body has no padding
 pub empty_tag_is : (kind : ℕ) (left : RestFacts) (read : List ℕ × RestFacts) → AreBytes left.bytes
-    → front_info_tag kind left ≡ Ok read → length read.0 ≡ 0
+    → next_info_tag kind left ≡ Ok read → length read.0 ≡ 0
     → left.bytes ≡ tag kind read.0 ++ read.1.bytes
 empty_tag_is kind left read small h empty =
     let p = passes kind left read h in

@@ -9,7 +9,7 @@ use Rattle.std.proofs.lemmas.List.{take_at, drop_at, drop-drop}
 use Rattle.bl_mbi.specs.Size.{padded}
 use Rattle.bl_mem.specs.LittleEndian.{u32_bytes}
 use Rattle.bl_mbi.specs.Tags.{padding, tag}
-use Rattle.bl_mbi.specs.Fields.{RestFacts, first_u32, is_next, front_info_tag}
+use Rattle.bl_mbi.specs.Fields.{RestFacts, first_u32, is_next, next_info_tag}
 use Rattle.bl_mbi.proofs.Sizes.{length-padding, length-tag}
 use Rattle.bl_mbi.proofs.WordLaws.{word_front, behind_word}
 
@@ -17,12 +17,12 @@ use Rattle.bl_mbi.proofs.WordLaws.{word_front, behind_word}
 tag_at_ok : (kind size : ℕ) (left : RestFacts) → 8 ≤ length left.bytes → first_u32 left.bytes ≡ kind
     → first_u32 (drop 4 left.bytes) ≡ size → 8 ≤ size → size ≤ length left.bytes
     → list_all (λ b. b == 0) (slice_range left.bytes size (padded size)) ≡ true
-    → front_info_tag kind left
+    → next_info_tag kind left
     ≡ Ok (
       slice_range left.bytes 8 size,
       record { at = left.at + padded size; bytes = drop (padded size) left.bytes },
     )
-unfolding front_info_tag
+unfolding next_info_tag
 tag_at_ok kind size left long kind_is size_is large fits zeros =
     let not_empty : nat_eq (length left.bytes) 0 ≡ false = grind (arith, nat_tests) in
     let not_short : nat_lt (length left.bytes) 8 ≡ false = grind (arith, nat_tests) in
@@ -48,7 +48,7 @@ behind_head kind body rest =
     rw (both, first, behind_word, behind_word) refl
 
 pub tag_again : (kind at : ℕ) (body rest : List ℕ) → kind < 2 ^ 32 → 8 + length body < 2 ^ 32
-    → front_info_tag kind record { at = at; bytes = tag kind body ++ rest }
+    → next_info_tag kind record { at = at; bytes = tag kind body ++ rest }
     ≡ Ok (body, record { at = at + length (tag kind body); bytes = rest })
 tag_again kind at body rest kind_fits size_fits =
     let size = 8 + length body in

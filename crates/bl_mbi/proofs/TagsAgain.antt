@@ -14,9 +14,9 @@ use Rattle.bl_mbi.specs.InformationFacts.{InformationFacts, ModuleInfo, IsModule
 use Rattle.bl_mem.specs.LittleEndian.{u32_bytes}
 use Rattle.bl_mbi.specs.Tags.{tag, text_body, module_body, module_tag, memory_body, map_body}
 use Rattle.bl_mbi.specs.Tags.{copy_tag, load_base_tag}
-use Rattle.bl_mbi.specs.Fields.{◌>>=◌, RestFacts, is_next, front_info_tag}
+use Rattle.bl_mbi.specs.Fields.{◌>>=◌, RestFacts, is_next, next_info_tag}
 use Rattle.bl_mbi.specs.Reading.{text_tag_at, module_at, modules_upto, modules_at, memory_at}
-use Rattle.bl_mbi.specs.Reading.{map_at, copy_at, load_base_at, end_at, tags_of}
+use Rattle.bl_mbi.specs.Reading.{map_at, copy_at, load_base_at, end_at, info_of_tags}
 use Rattle.bl_mem.proofs.LittleEndianLaws.{length-u32_bytes}
 use Rattle.bl_mbi.proofs.Sizes.{length-tag, length-text_body, length-module_body, length-map_body}
 use Rattle.bl_mbi.proofs.Sizes.{length-module_tag}
@@ -157,9 +157,9 @@ load_base_at_again at (Some base) rest fits last =
 pub end_at_again : (at : ℕ) → end_at (from at (tag 0 [])) ≡ Ok tt
 unfolding end_at
 end_at_again at =
-    let P : List ℕ → Type 0 = λ bytes. front_info_tag 0 (from at bytes)
+    let P : List ℕ → Type 0 = λ bytes. next_info_tag 0 (from at bytes)
     ≡ Ok ([], past at (tag 0 []) []) in
-    let here : front_info_tag 0 (from at (tag 0 [])) ≡ Ok ([], past at (tag 0 []) []) =
+    let here : next_info_tag 0 (from at (tag 0 [])) ≡ Ok ([], past at (tag 0 []) []) =
     subst P (append-nil (tag 0 [])) (tag_again 0 at [] [] (lit< tt) (lit< tt)) in
     rw here refl
 
@@ -189,7 +189,7 @@ pub in_order : (l0 l1 l2 l3 l4 l5 l6 l7 l8 : RestFacts) (name : List ℕ) (facts
     → memory_at l3 ≡ Ok ((facts.mem_lower, facts.mem_upper), l4) → map_at l4 ≡ Ok (facts.runs, l5)
     → copy_at 14 l5 ≡ Ok (facts.rsdp_old, l6) → copy_at 15 l6 ≡ Ok (facts.rsdp_new, l7)
     → load_base_at l7 ≡ Ok (facts.load_base, l8) → end_at l8 ≡ Ok tt
-    → tags_of l0 ≡ Ok record { name = name; facts = facts }
-unfolding tags_of
+    → info_of_tags l0 ≡ Ok record { name = name; facts = facts }
+unfolding info_of_tags
 in_order l0 l1 l2 l3 l4 l5 l6 l7 l8 name facts line loader modules memory map old new base end =
     rw (line, loader, modules, memory, map, old, new, base, end) refl

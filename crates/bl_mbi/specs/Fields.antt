@@ -44,8 +44,8 @@ is_next kind left = nat_le 8 (length left.bytes) && (first_u32 left.bytes == kin
 -- the body of the tag there, which must be of this type, and what is left after it: type and size
 -- take 8 bytes, the size counts them and the body, zeros follow up to a multiple of 8. The end may
 -- cut these zeros, and then nothing is left at that multiple.
-unfoldable pub front_info_tag : ℕ → RestFacts → Result (List ℕ × RestFacts) InfoFault
-front_info_tag kind left =
+unfoldable pub next_info_tag : ℕ → RestFacts → Result (List ℕ × RestFacts) InfoFault
+next_info_tag kind left =
     if length left.bytes == 0 then Err (BadOrder left.at) else
     if nat_lt (length left.bytes) 8 then Err (BadTag left.at) else
     if not (first_u32 left.bytes == kind) then Err (BadOrder left.at) else

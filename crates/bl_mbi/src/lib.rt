@@ -8,7 +8,7 @@
 
 mod body_reader;
 mod fault;
-mod groups;
+mod group_reader;
 mod info;
 mod info_to_write;
 mod laws;

@@ -22,10 +22,10 @@ fn is_next(kind: u32, rest: Rest) -> bool
 }
 
 /// The body of the tag there, which must be of this type, and what is left after it.
-#[tactic(auto, unfolding(crate::specs::Fields::front_info_tag))]
+#[tactic(auto, unfolding(crate::specs::Fields::next_info_tag))]
 fn tag_at<'a>(kind: u32, rest: Rest<'a>) -> Result<(&'a [u8], Rest<'a>), InfoFault>
     ensures read { MatchesReading (λ x. (x.0.now, rest_facts x.1)) result
-        (fields.front_info_tag kind (rest_facts rest.entry)) }
+        (fields.next_info_tag kind (rest_facts rest.entry)) }
     ensures shorter { IfOk result (λ x. length x.1.bytes.now + 8 ≤ length rest.entry.bytes.now) }
 {
     if rest.bytes.is_empty() {

@@ -9,15 +9,15 @@ ghost use Rattle.bl_mbi.specs.Reading as spec;
 
 use crate::body_reader::word;
 use crate::fault::InfoFault;
-use crate::groups::{last_at, map_tags_at, texts_at};
+use crate::group_reader::{last_at, map_tags_at, texts_at};
 use crate::info::Info;
 use crate::numbers::MIN_INFO_SIZE;
 use crate::rest::Rest;
 use std::alloc::Allocator;
 
 /// What the tags tell.
-fn tags_of<A: Allocator + Copy>(alloc: A, rest: Rest) -> Result<Info<A>, InfoFault>
-    ensures { MatchesReading (λ info. info) result (spec.tags_of (rest_facts rest.entry)) }
+fn info_of_tags<A: Allocator + Copy>(alloc: A, rest: Rest) -> Result<Info<A>, InfoFault>
+    ensures { MatchesReading (λ info. info) result (spec.info_of_tags (rest_facts rest.entry)) }
 {
     let ((line, name, modules), rest) = texts_at(alloc, rest)?;
     let (((mem_lower, mem_upper), runs), rest) = map_tags_at(alloc, rest)?;
@@ -38,7 +38,7 @@ fn tags_of<A: Allocator + Copy>(alloc: A, rest: Rest) -> Result<Info<A>, InfoFau
 /// The tags, where the bytes are exactly `total_size` and the reserved word is 0.
 #[tactic(auto, unfolding(crate::specs::Reading::info_of))]
 fn tags_in(bytes: &[u8]) -> Result<Rest, InfoFault>
-    ensures tags { IfOk result (λ rest. spec.info_of bytes.now ≡ spec.tags_of (rest_facts rest)) }
+    ensures tags { IfOk result (λ rest. spec.info_of bytes.now ≡ spec.info_of_tags (rest_facts rest)) }
     ensures first_fault { IfErr result (λ fault. spec.info_of bytes.now ≡ Err fault) }
 {
     if bytes.len() < MIN_INFO_SIZE as usize {
@@ -67,5 +67,5 @@ pub fn read_info<A: Allocator + Copy>(alloc: A, bytes: &[u8]) -> Result<Info<A>,
     ensures first_fault { MatchesReading (λ info. info) result (spec.info_of bytes.now) }
 {
     let rest = tags_in(bytes)?;
-    tags_of(alloc, rest)
+    info_of_tags(alloc, rest)
 }

@@ -28,7 +28,7 @@ abbrev pub KeepsRoom : (ℕ → Type 0) → (ℕ → Type 0) → Type 0
 KeepsRoom old new = (a : ℕ) → old a → new a
 
 -- what each call leaves of a memory: whose it is, its size, and at least the room that it had
-pub record KeepsMemory {M : Type 0} (lender_in : M → ℕ) (bytes_in : M → List ℕ)
+pub record KeepsSizeAndRoom {M : Type 0} (lender_in : M → ℕ) (bytes_in : M → List ℕ)
     (room_in : M → ℕ → Type 0) (old : M) (new : M) : Type 0 where
   pub lender : lender_in new ≡ lender_in old
   pub size : length (bytes_in new) ≡ length (bytes_in old)

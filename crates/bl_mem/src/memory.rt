@@ -1,7 +1,7 @@
 //! What a loader asks of a machine's memory.
 ghost use Rattle.std.specs.Prelude.{◌≡◌, ℕ, ◌+◌, ◌-◌, ◌≤◌, List, length, replicate, slice_range};
 ghost use Rattle.std.specs.Prelude.{All, OnOk, IfSome};
-ghost use Rattle.bl_mem.specs.Memory.{overwrite, HasRoom, AllHaveRoom, KeepsMemory};
+ghost use Rattle.bl_mem.specs.Memory.{overwrite, HasRoom, AllHaveRoom, KeepsSizeAndRoom};
 
 use std::alloc::AllocError;
 use std::ops::Range;
@@ -10,7 +10,7 @@ use std::ops::Range;
 ///
 /// Each address can be read, but only one with room can be written. Room comes by `reserve`, the
 /// one call that may run out of memory. What an address without room reads as is for the type to
-/// say. No call changes whose memory it is or its size, or takes room away (`KeepsMemory`).
+/// say. No call changes whose memory it is or its size, or takes room away (`KeepsSizeAndRoom`).
 pub trait PhysMem {
     /// The byte that is read at each address.
     ghost bytes: { Self → List ℕ };
@@ -47,7 +47,7 @@ pub trait PhysMem {
         requires forward { All (λ range. range.start ≤ range.end) ranges.now }
         requires inside { All (λ range. range.end ≤ length (bytes self.old)) ranges.now }
         ensures same { bytes self.new ≡ bytes self.old }
-        ensures kept { KeepsMemory lender bytes room self.old self.new }
+        ensures kept { KeepsSizeAndRoom lender bytes room self.old self.new }
         ensures made { OnOk result (AllHaveRoom (room self.new) ranges.now) };
 
     /// Puts the bytes of `part` at the addresses from `at` on. All other bytes stay.
@@ -55,7 +55,7 @@ pub trait PhysMem {
         requires inside { at + length part.now ≤ length (bytes self.old) }
         requires room { HasRoom (room self.old) at (at + length part.now) }
         ensures after { bytes self.new ≡ overwrite (bytes self.old) at part.now }
-        ensures kept { KeepsMemory lender bytes room self.old self.new };
+        ensures kept { KeepsSizeAndRoom lender bytes room self.old self.new };
 
     /// Clears the addresses of the range to 0. All other bytes stay.
     fn zero(&mut self, range: Range<u64>)
@@ -64,5 +64,5 @@ pub trait PhysMem {
         requires room { HasRoom (room self.old) range.start range.end }
         ensures after { bytes self.new
             ≡ overwrite (bytes self.old) range.start (replicate (range.end - range.start) 0) }
-        ensures kept { KeepsMemory lender bytes room self.old self.new };
+        ensures kept { KeepsSizeAndRoom lender bytes room self.old self.new };
 }

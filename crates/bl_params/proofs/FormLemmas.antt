@@ -7,8 +7,8 @@ use Rattle.std.proofs.lemmas.Bool.Decides.{nat_tests}
 use Rattle.bl_mem.specs.LittleEndian.{u32_at, u64_at}
 use Rattle.bl_bzimage.specs.Setup.{header_end}
 use Rattle.bl_params.specs.Form.{breaks_at, breaks_header, breaks_entry, is_nonzero_at, e820_entry_count}
-use Rattle.bl_params.specs.Form.{e820_entry_at}
-use Rattle.bl_params.specs.Kept.{IsSoundUpto, IsQuiet}
+use Rattle.bl_params.specs.Form.{e820_entry_offset}
+use Rattle.bl_params.specs.Kept.{HasFormBelow, IsQuiet}
 
 pub lt_yes : (k n : ℕ) → k < n → nat_lt k n ≡ true
 lt_yes k n below = grind (arith, nat_tests)
@@ -59,7 +59,7 @@ behind_is bytes k from below =
       lt_yes k 0x2D0 below,
     ) refl
 
-pub entries_are : (bytes : List ℕ) (k : ℕ) → 0x2D0 ≤ k → k < e820_entry_at (e820_entry_count bytes)
+pub entries_are : (bytes : List ℕ) (k : ℕ) → 0x2D0 ≤ k → k < e820_entry_offset (e820_entry_count bytes)
     → breaks_at bytes k ≡ breaks_entry bytes ((k - 0x2D0) % 20) k
 unfolding breaks_at
 entries_are bytes k from below =
@@ -69,10 +69,10 @@ entries_are bytes k from below =
       lt_no k 0x1F1 (omega arith),
       lt_no k (header_end bytes) (omega arith),
       lt_no k 0x2D0 from,
-      lt_yes k (e820_entry_at (e820_entry_count bytes)) below,
+      lt_yes k (e820_entry_offset (e820_entry_count bytes)) below,
     ) refl
 
-pub end_is : (bytes : List ℕ) (k : ℕ) → 0x2D0 ≤ k → e820_entry_at (e820_entry_count bytes) ≤ k
+pub end_is : (bytes : List ℕ) (k : ℕ) → 0x2D0 ≤ k → e820_entry_offset (e820_entry_count bytes) ≤ k
     → breaks_at bytes k ≡ is_nonzero_at bytes k
 unfolding breaks_at
 end_is bytes k from above =
@@ -82,27 +82,27 @@ end_is bytes k from above =
       lt_no k 0x1F1 (omega arith),
       lt_no k (header_end bytes) (omega arith),
       lt_no k 0x2D0 from,
-      lt_no k (e820_entry_at (e820_entry_count bytes)) above,
+      lt_no k (e820_entry_offset (e820_entry_count bytes)) above,
     ) refl
 
 -- ---- the fields of an entry
 
 pub entry_is : (bytes : List ℕ) (i n m : ℕ) → i < e820_entry_count bytes → n
-    ≡ u64_at bytes (e820_entry_at i)
-    → m ≡ u64_at bytes (e820_entry_at i + 8)
-    → nat_lt (2 ^ 52) (n + m) ≡ breaks_at bytes (e820_entry_at i)
+    ≡ u64_at bytes (e820_entry_offset i)
+    → m ≡ u64_at bytes (e820_entry_offset i + 8)
+    → nat_lt (2 ^ 52) (n + m) ≡ breaks_at bytes (e820_entry_offset i)
 entry_is bytes i n m counted e f =
-    let place : (e820_entry_at i - 0x2D0) % 20 ≡ 0 = omega arith in
+    let place : (e820_entry_offset i - 0x2D0) % 20 ≡ 0 = omega arith in
     rw (e, f)
     (sym
-    (entries_are bytes (e820_entry_at i) (omega arith) (omega arith) ∙ rw place (simp or_false)))
+    (entries_are bytes (e820_entry_offset i) (omega arith) (omega arith) ∙ rw place (simp or_false)))
 
 pub kind_is : (bytes : List ℕ) (i n : ℕ) → i < e820_entry_count bytes → n
-    ≡ u32_at bytes (e820_entry_at i + 16)
-    → not (nat_le 1 n && nat_le n 5) ≡ breaks_at bytes (e820_entry_at i + 16)
+    ≡ u32_at bytes (e820_entry_offset i + 16)
+    → not (nat_le 1 n && nat_le n 5) ≡ breaks_at bytes (e820_entry_offset i + 16)
 kind_is bytes i n counted e =
-    let place : (e820_entry_at i + 16 - 0x2D0) % 20 ≡ 16 = omega arith in
-    rw e (sym (entries_are bytes (e820_entry_at i + 16) (omega arith) (omega arith)
+    let place : (e820_entry_offset i + 16 - 0x2D0) % 20 ≡ 16 = omega arith in
+    rw e (sym (entries_are bytes (e820_entry_offset i + 16) (omega arith) (omega arith)
     ∙ rw place refl))
 
 pub quiet_place : (bytes : List ℕ) (place k : ℕ) → place ≢ 0 → place ≢ 16
@@ -111,21 +111,21 @@ quiet_place bytes place k not_first not_kind =
     rw (eq_no place 0 not_first, eq_no place 16 not_kind) refl
 
 pub quiet_first : (bytes : List ℕ) (i : ℕ) → i < e820_entry_count bytes
-    → IsQuiet bytes (e820_entry_at i + 1) (e820_entry_at i + 16)
+    → IsQuiet bytes (e820_entry_offset i + 1) (e820_entry_offset i + 16)
 quiet_first bytes i counted = λ k from below.
     entries_are bytes k (omega arith) (omega arith)
     ∙ quiet_place bytes ((k - 0x2D0) % 20) k (omega arith) (omega arith)
 
 pub quiet_last : (bytes : List ℕ) (i : ℕ) → i < e820_entry_count bytes
-    → IsQuiet bytes (e820_entry_at i + 16 + 1) (e820_entry_at i + 20)
+    → IsQuiet bytes (e820_entry_offset i + 16 + 1) (e820_entry_offset i + 20)
 quiet_last bytes i counted = λ k from below.
     entries_are bytes k (omega arith) (omega arith)
     ∙ quiet_place bytes ((k - 0x2D0) % 20) k (omega arith) (omega arith)
 
 -- ---- further on
 
-pub sound_more : (bytes : List ℕ) (mid end : ℕ) → IsSoundUpto bytes mid → IsQuiet bytes mid end
-    → IsSoundUpto bytes end
+pub sound_more : (bytes : List ℕ) (mid end : ℕ) → HasFormBelow bytes mid → IsQuiet bytes mid end
+    → HasFormBelow bytes end
 sound_more bytes mid end upto quiet =
     record {
       sound = λ k below.

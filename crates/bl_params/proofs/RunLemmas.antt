@@ -5,26 +5,26 @@ use Rattle.std.proofs.lemmas.Bool.{ltb-false}
 use Rattle.std.proofs.lemmas.List.Elements.{All-nil, All-cons}
 use Rattle.bl_map.specs.declared.region.Region.{Region}
 use Rattle.bl_map.specs.NormalMap.{region_end}
-use Rattle.bl_params.specs.Form.{breaks_at, e820_entry_count, e820_entry_at}
+use Rattle.bl_params.specs.Form.{breaks_at, e820_entry_count, e820_entry_offset}
 use Rattle.bl_params.specs.ParamsFacts.{ParamsFacts}
 use Rattle.bl_params.specs.Reading.{IsEntry, AreEntries, IsParams}
 use Rattle.bl_params.proofs.FormLemmas.{entry_is}
 
 module _ (bytes : List ℕ) (sound : (k : ℕ) → k < 4096 → breaks_at bytes k ≡ false) where
-  run_ends_low : (i : ℕ) (run : Region) → i < e820_entry_count bytes → e820_entry_at i < 4096
-      → IsEntry bytes (e820_entry_at i) run → region_end run ≤ 2 ^ 52
+  run_ends_low : (i : ℕ) (run : Region) → i < e820_entry_count bytes → e820_entry_offset i < 4096
+      → IsEntry bytes (e820_entry_offset i) run → region_end run ≤ 2 ^ 52
   run_ends_low i run counted within is =
       let test =
       entry_is bytes i run.base run.length counted is.base is.size
-      ∙ sound (e820_entry_at i) within in
+      ∙ sound (e820_entry_offset i) within in
       ltb-false (2 ^ 52) (run.base + run.length) test
 
   entries_end_low : (i : ℕ) (runs : List Region) → i + length runs ≤ e820_entry_count bytes
-      → e820_entry_at (i + length runs) ≤ 4096
-      → AreEntries bytes (e820_entry_at i) runs → All (λ run. region_end run ≤ 2 ^ 52) runs
+      → e820_entry_offset (i + length runs) ≤ 4096
+      → AreEntries bytes (e820_entry_offset i) runs → All (λ run. region_end run ≤ 2 ^ 52) runs
   entries_end_low i [] counted within are = All-nil (λ (run : Region). region_end run ≤ 2 ^ 52)
   entries_end_low i (run ∷ runs) counted within are =
-      let next : e820_entry_at i + 20 ≡ e820_entry_at (suc i) = omega arith in
+      let next : e820_entry_offset i + 20 ≡ e820_entry_offset (suc i) = omega arith in
       All-cons (λ (r : Region). region_end r ≤ 2 ^ 52) run runs
       (run_ends_low i run (omega arith) (omega arith) are.0)
       (entries_end_low (suc i) runs (omega arith) (omega arith)

@@ -13,7 +13,7 @@ use Rattle.bl_map.specs.declared.region.Region.{Region}
 use Rattle.bl_map.specs.Kinds.{kind_number}
 use Rattle.bl_params.specs.declared.fault.ParamFault.{ParamFault}
 use Rattle.bl_params.specs.declared.fault.ParamFault.TheVariants.{WrongLength, BadParams, NoMemory}
-use Rattle.bl_params.specs.Form.{breaks_at, e820_entry_count, e820_entry_at}
+use Rattle.bl_params.specs.Form.{breaks_at, e820_entry_count, e820_entry_offset}
 use Rattle.bl_params.specs.ParamsFacts.{ParamsFacts}
 use Rattle.bl_params.specs.Reading.{IsEntry, AreEntries, IsParams, HasFirstParamFault}
 use Rattle.bl_params.proofs.FormLemmas.{count_is, kind_is}
@@ -40,15 +40,15 @@ kind_numbered (suc (suc (suc (suc (suc (suc n)))))) test =
 
 -- the entry with a number, counted from 0
 entry_told : (bytes : List ℕ) (i : ℕ) → i < e820_entry_count bytes
-    → breaks_at bytes (e820_entry_at i + 16) ≡ false
-    → (run : Region) × IsEntry bytes (e820_entry_at i) run
+    → breaks_at bytes (e820_entry_offset i + 16) ≡ false
+    → (run : Region) × IsEntry bytes (e820_entry_offset i) run
 entry_told bytes i counted sound =
     let found =
-    kind_numbered (u32_at bytes (e820_entry_at i + 16))
-    (kind_is bytes i (u32_at bytes (e820_entry_at i + 16)) counted refl ∙ sound) in (
+    kind_numbered (u32_at bytes (e820_entry_offset i + 16))
+    (kind_is bytes i (u32_at bytes (e820_entry_offset i + 16)) counted refl ∙ sound) in (
       record {
-        base = u64_at bytes (e820_entry_at i);
-        length = u64_at bytes (e820_entry_at i + 8);
+        base = u64_at bytes (e820_entry_offset i);
+        length = u64_at bytes (e820_entry_offset i + 8);
         kind = found.0;
       },
       record { base = refl; size = refl; kind = found.1 },
@@ -59,10 +59,10 @@ abbrev Told : List ℕ → ℕ → Type 0
 Told bytes n = (runs : List Region) × (length runs ≡ n) × AreEntries bytes 0x2D0 runs
 
 told_push : (bytes : List ℕ) (n : ℕ) (run : Region) → Told bytes n
-    → IsEntry bytes (e820_entry_at n) run → Told bytes (suc n)
+    → IsEntry bytes (e820_entry_offset n) run → Told bytes (suc n)
 told_push bytes n run told is =
     let count = told.1 in
-    let place : e820_entry_at n ≡ 0x2D0 + 20 * length told.0 = omega arith in
+    let place : e820_entry_offset n ≡ 0x2D0 + 20 * length told.0 = omega arith in
     let longer = length-append told.0 (run ∷ []) in (
       told.0 ++ run ∷ [],
       omega arith,
@@ -75,7 +75,7 @@ entries_told : (bytes : List ℕ) (n : ℕ) → n ≤ e820_entry_count bytes →
 entries_told bytes zero within few sound = ([], refl, tt)
 entries_told bytes (suc n) within few sound =
     let next =
-    entry_told bytes n (omega arith) (sound (e820_entry_at n + 16) (omega arith)) in
+    entry_told bytes n (omega arith) (sound (e820_entry_offset n + 16) (omega arith)) in
     told_push bytes n next.0 (entries_told bytes n (omega arith) few sound) next.1
 
 few_from : (n : ℕ) → nat_lt 128 n ≡ false → n ≤ 128

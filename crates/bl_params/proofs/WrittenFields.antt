@@ -5,7 +5,7 @@ use Rattle.std.specs.Prelude.{min}
 use Rattle.std.specs.List.{flat_map}
 use Rattle.bl_mem.specs.LittleEndian.{number_at, u16_at, u32_at, u64_at}
 use Rattle.bl_bzimage.specs.Setup.{header_end}
-use Rattle.bl_params.specs.BootParamsFacts.{BootParamsFacts, AreTold}
+use Rattle.bl_params.specs.BootParamsFacts.{BootParamsFacts, AreE820Runs}
 use Rattle.bl_params.specs.BootParams.{entry_bytes}
 use Rattle.bl_params.specs.Fields.{byte_of_fields, number_bytes}
 use Rattle.bl_params.specs.Form.{e820_entry_count}
@@ -21,7 +21,7 @@ use Rattle.bl_params.proofs.RegionLemmas.{below_7, below_8, below_9, below_10, b
 module _ (file header : List ℕ) (end : ℕ) (facts : BootParamsFacts)
     (long : 0x1F1 + length header ≡ end) (low : 0x264 ≤ end) (high : end ≤ 0x290)
     (same : (k : ℕ) → 0x1F1 ≤ k → k < end → slice_index header (k - 0x1F1) ≡ slice_index file k)
-    (told : AreTold facts.runs) where
+    (told : AreE820Runs facts.runs) where
   above_0 : (k : ℕ) → end ≤ k → byte_of_fields (l1 header facts) k ≡ 0
   above_0 k from = over_above 0x1F1 header (byte_of_fields []) k (omega (arith, long))
 

@@ -8,7 +8,7 @@ use Rattle.bl_bzimage.specs.declared.setup.Setup.{Setup}
 use Rattle.bl_bzimage.specs.Setup.{IsSetup, header_end}
 use Rattle.bl_bzimage.proofs.SetupLaws.{IsSoundFile, setup_sound, fields_are, header_long}
 use Rattle.bl_bzimage.proofs.SetupLaws.{header_high, header_same}
-use Rattle.bl_params.specs.BootParamsFacts.{BootParamsFacts, AreTold}
+use Rattle.bl_params.specs.BootParamsFacts.{BootParamsFacts, AreE820Runs}
 use Rattle.bl_params.specs.BootParams.{boot_params}
 use Rattle.bl_params.specs.Form.{breaks_at, breaks_header, is_nonzero_at, e820_entry_count}
 use Rattle.bl_params.specs.Reading.{IsParams}
@@ -26,7 +26,7 @@ use Rattle.bl_params.proofs.WrittenFields.{number_1, number_3, number_4, end_is_
 module _ (file header : List ℕ) (end : ℕ) (facts : BootParamsFacts)
     (long : 0x1F1 + length header ≡ end) (low : 0x264 ≤ end) (high : end ≤ 0x290)
     (same : (k : ℕ) → 0x1F1 ≤ k → k < end → slice_index header (k - 0x1F1) ≡ slice_index file k)
-    (told : AreTold facts.runs) where
+    (told : AreE820Runs facts.runs) where
   unfilled : (k : ℕ) → slice_index (params header facts) k ≡ 0
       → is_nonzero_at (params header facts) k ≡ false
   unfilled k zero_there = rw zero_there refl
@@ -116,7 +116,7 @@ module _ (file header : List ℕ) (end : ℕ) (facts : BootParamsFacts)
       (cases_lt k 0x1E8)
 
 pub written_is_read : (file : List ℕ) (setup : Setup) (facts : BootParamsFacts) → IsSetup file setup
-    → AreTold facts.runs → FitFields facts
+    → AreE820Runs facts.runs → FitFields facts
     → IsParams (boot_params setup.header facts) (params_of setup facts)
 written_is_read file setup facts is told words =
     let sound = setup_sound file is.sound in

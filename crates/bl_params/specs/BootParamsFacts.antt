@@ -19,6 +19,6 @@ abbrev pub max_e820_entries : ℕ
 max_e820_entries = 128
 
 -- own: a memory map that boot parameters have room for, each run of which ends at most at 2^52
-pub record AreTold (runs : List Region) : Type 0 where
+pub record AreE820Runs (runs : List Region) : Type 0 where
   pub few : length runs ≤ max_e820_entries
   pub low : All (λ run. region_end run ≤ region_limit) runs

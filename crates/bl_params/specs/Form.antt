@@ -14,8 +14,8 @@ abbrev pub e820_entry_count : List ℕ → ℕ
 e820_entry_count bytes = slice_index bytes e820_entries_at
 
 -- an entry of "e820_table"
-abbrev pub e820_entry_at : ℕ → ℕ
-e820_entry_at i = e820_table_at + e820_entry_size * i
+abbrev pub e820_entry_offset : ℕ → ℕ
+e820_entry_offset i = e820_table_at + e820_entry_size * i
 
 -- a byte of no field must be 0
 abbrev pub is_nonzero_at : List ℕ → ℕ → Bool
@@ -46,6 +46,6 @@ breaks_at bytes k =
     if nat_lt k header_at then is_nonzero_at bytes k else
     if nat_lt k (header_end bytes) then breaks_header bytes k else
     if nat_lt k e820_table_at then is_nonzero_at bytes k else
-    if nat_lt k (e820_entry_at (e820_entry_count bytes)) then
+    if nat_lt k (e820_entry_offset (e820_entry_count bytes)) then
     breaks_entry bytes ((k - e820_table_at) % e820_entry_size) k else
     is_nonzero_at bytes k

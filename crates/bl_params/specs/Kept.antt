@@ -3,7 +3,7 @@ use Rattle.std.specs.Prelude.{◌≡◌, ℕ, ◌<◌, ◌≤◌, List, false}
 use Rattle.bl_params.specs.Form.{breaks_at}
 
 -- nothing below this offset breaks the form
-pub record IsSoundUpto (bytes : List ℕ) (end : ℕ) : Type 0 where
+pub record HasFormBelow (bytes : List ℕ) (end : ℕ) : Type 0 where
   pub sound : (k : ℕ) → k < end → breaks_at bytes k ≡ false
 
 -- nothing from one offset up to another breaks it

@@ -5,7 +5,7 @@ ghost use Rattle.bl_bzimage.specs.Setup.{header_end};
 ghost use Rattle.bl_params.specs.Form.{breaks_at, is_nonzero_at, e820_entry_count};
 ghost use Rattle.bl_params.specs.Reading.{HasFirstParamFault};
 ghost use Rattle.bl_params.specs.BootParamsFacts.{max_e820_entries};
-ghost use Rattle.bl_params.specs.Kept.{IsSoundUpto, IsQuiet};
+ghost use Rattle.bl_params.specs.Kept.{HasFormBelow, IsQuiet};
 ghost use Rattle.bl_params.specs.Numbers.{params_size};
 
 use crate::fault::ParamFault;
@@ -20,11 +20,11 @@ use crate::numbers::{u16_in, u32_in, u64_in};
 pub fn check_field(bytes: &[u8], at: usize, next: usize, is_broken: bool) -> Result<(), ParamFault>
     requires whole { length bytes.now ≡ params_size }
     requires within { at < params_size }
-    requires upto { IsSoundUpto bytes.now at }
+    requires upto { HasFormBelow bytes.now at }
     requires here { is_broken ≡ breaks_at bytes.now at }
     requires quiet { IsQuiet bytes.now (at + 1) next }
     ensures { MatchResult result
-        (λ _. IsSoundUpto bytes.now next × (is_broken ≡ false))
+        (λ _. HasFormBelow bytes.now next × (is_broken ≡ false))
         (HasFirstParamFault bytes.now) }
 {
     if is_broken {
@@ -38,10 +38,10 @@ pub fn pass_zeros(bytes: &[u8], start: usize, end: usize) -> Result<(), ParamFau
     requires whole { length bytes.now ≡ params_size }
     requires within { end ≤ params_size }
     requires forward { start ≤ end }
-    requires upto { IsSoundUpto bytes.now start }
+    requires upto { HasFormBelow bytes.now start }
     requires plain { (k : ℕ) → start ≤ k → k < end
         → breaks_at bytes.now k ≡ is_nonzero_at bytes.now k }
-    ensures { MatchResult result (λ _. IsSoundUpto bytes.now end) (HasFirstParamFault bytes.now) }
+    ensures { MatchResult result (λ _. HasFormBelow bytes.now end) (HasFirstParamFault bytes.now) }
 {
     for at in start..end {
         check_field(bytes, at, at + 1, bytes[at] != 0)?;
@@ -63,7 +63,7 @@ pub fn end_of_header(bytes: &[u8]) -> usize
 pub fn pass_front(bytes: &[u8]) -> Result<(), ParamFault>
     requires { length bytes.now ≡ params_size }
     ensures { MatchResult result
-        (λ _. IsSoundUpto bytes.now 0x1F1 × (e820_entry_count bytes.now ≤ max_e820_entries))
+        (λ _. HasFormBelow bytes.now 0x1F1 × (e820_entry_count bytes.now ≤ max_e820_entries))
         (HasFirstParamFault bytes.now) }
 {
     pass_zeros(bytes, 0, E820_ENTRIES)?;
@@ -80,9 +80,9 @@ pub fn pass_front(bytes: &[u8]) -> Result<(), ParamFault>
 /// The fields of the header that precede its version.
 fn pass_magic(bytes: &[u8]) -> Result<(), ParamFault>
     requires whole { length bytes.now ≡ params_size }
-    requires upto { IsSoundUpto bytes.now 0x1F1 }
+    requires upto { HasFormBelow bytes.now 0x1F1 }
     ensures { MatchResult result
-        (λ _. IsSoundUpto bytes.now 0x206 × (0x264 ≤ header_end bytes.now))
+        (λ _. HasFormBelow bytes.now 0x206 × (0x264 ≤ header_end bytes.now))
         (HasFirstParamFault bytes.now) }
 {
     check_field(
@@ -116,9 +116,9 @@ fn pass_magic(bytes: &[u8]) -> Result<(), ParamFault>
 fn pass_loader(bytes: &[u8]) -> Result<(), ParamFault>
     requires whole { length bytes.now ≡ params_size }
     requires long { 0x264 ≤ header_end bytes.now }
-    requires upto { IsSoundUpto bytes.now 0x206 }
+    requires upto { HasFormBelow bytes.now 0x206 }
     ensures { MatchResult result
-        (λ _. IsSoundUpto bytes.now (header_end bytes.now))
+        (λ _. HasFormBelow bytes.now (header_end bytes.now))
         (HasFirstParamFault bytes.now) }
 {
     let end = end_of_header(bytes);
@@ -140,9 +140,9 @@ fn pass_loader(bytes: &[u8]) -> Result<(), ParamFault>
 /// The header.
 pub fn pass_header(bytes: &[u8]) -> Result<(), ParamFault>
     requires whole { length bytes.now ≡ params_size }
-    requires upto { IsSoundUpto bytes.now 0x1F1 }
+    requires upto { HasFormBelow bytes.now 0x1F1 }
     ensures { MatchResult result
-        (λ _. IsSoundUpto bytes.now (header_end bytes.now)
+        (λ _. HasFormBelow bytes.now (header_end bytes.now)
         × (0x264 ≤ header_end bytes.now))
         (HasFirstParamFault bytes.now) }
 {

@@ -5,7 +5,7 @@ ghost use Rattle.bl_map.specs.NormalMap.{region_end};
 ghost use Rattle.bl_bzimage.specs.declared.setup.Setup.{Setup};
 ghost use Rattle.bl_bzimage.specs.Setup.{IsSetup};
 ghost use Rattle.bl_params.specs.BootParams.{boot_params};
-ghost use Rattle.bl_params.specs.BootParamsFacts.{BootParamsFacts, AreTold};
+ghost use Rattle.bl_params.specs.BootParamsFacts.{BootParamsFacts, AreE820Runs};
 ghost use Rattle.bl_params.specs.Gdt.{gdt, gdt_part};
 ghost use Rattle.bl_params.specs.Paging.{paging};
 ghost use Rattle.bl_params.specs.Translation.{translation};
@@ -21,7 +21,7 @@ ghost use Rattle.bl_map.specs.Limits.{frame_size};
 /// made of.
 pub fn written_is_read()
     ensures { (file : List ℕ) (setup : Setup) (facts : BootParamsFacts) → IsSetup file setup
-        → AreTold facts.runs → FitFields facts
+        → AreE820Runs facts.runs → FitFields facts
         → IsParams (boot_params setup.header facts) (params_of setup facts) }
 {}
 

@@ -3,10 +3,10 @@ ghost use Rattle.std.specs.Prelude.{◌≡◌, ◌≤◌, ◌<◌, ◌+◌, ◌*
 ghost use Rattle.std.specs.Prelude.{length, MatchResult};
 ghost use Rattle.bl_map.specs.Kinds.{kind_number};
 ghost use Rattle.bl_bzimage.specs.Setup.{header_end};
-ghost use Rattle.bl_params.specs.Form.{e820_entry_count, e820_entry_at};
+ghost use Rattle.bl_params.specs.Form.{e820_entry_count, e820_entry_offset};
 ghost use Rattle.bl_params.specs.Reading.{HasFirstParamFault, AreEntries, IsEntry};
 ghost use Rattle.bl_params.specs.BootParamsFacts.{max_e820_entries};
-ghost use Rattle.bl_params.specs.Kept.{IsSoundUpto};
+ghost use Rattle.bl_params.specs.Kept.{HasFormBelow};
 ghost use Rattle.bl_params.specs.Numbers.{e820_table_at, params_size};
 
 use crate::checks::check_field;
@@ -42,10 +42,10 @@ fn entry(bytes: &[u8], i: usize) -> Result<Region, ParamFault>
     requires whole { length bytes.now ≡ params_size }
     requires few { e820_entry_count bytes.now ≤ max_e820_entries }
     requires counted { i < e820_entry_count bytes.now }
-    requires upto { IsSoundUpto bytes.now (e820_entry_at i) }
+    requires upto { HasFormBelow bytes.now (e820_entry_offset i) }
     ensures { MatchResult result
-        (λ run. IsEntry bytes.now (e820_entry_at i) run
-        × IsSoundUpto bytes.now (e820_entry_at (i + 1)))
+        (λ run. IsEntry bytes.now (e820_entry_offset i) run
+        × HasFormBelow bytes.now (e820_entry_offset (i + 1)))
         (HasFirstParamFault bytes.now) }
 {
     let at = E820_TABLE + ENTRY_SIZE * i;
@@ -63,11 +63,11 @@ fn entry(bytes: &[u8], i: usize) -> Result<Region, ParamFault>
 pub fn entries<A: Allocator>(alloc: A, bytes: &[u8]) -> Result<Vec<Region, A>, ParamFault>
     requires whole { length bytes.now ≡ params_size }
     requires few { e820_entry_count bytes.now ≤ max_e820_entries }
-    requires upto { IsSoundUpto bytes.now e820_table_at }
+    requires upto { HasFormBelow bytes.now e820_table_at }
     ensures { MatchResult result
         (λ runs. AreEntries bytes.now e820_table_at runs.items
         × (length runs.items ≡ e820_entry_count bytes.now)
-        × IsSoundUpto bytes.now (e820_entry_at (e820_entry_count bytes.now)))
+        × HasFormBelow bytes.now (e820_entry_offset (e820_entry_count bytes.now)))
         (HasFirstParamFault bytes.now) }
 {
     let mut runs = Vec::new(alloc);

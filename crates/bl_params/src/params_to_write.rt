@@ -21,7 +21,7 @@ pub struct ParamsToWrite<'a> {
 }
 
 impl<'a> Model for ParamsToWrite<'a> {
-    ghost use Rattle.bl_params.specs.BootParamsFacts.{BootParamsFacts, AreTold};
+    ghost use Rattle.bl_params.specs.BootParamsFacts.{BootParamsFacts, AreE820Runs};
 
     ghost Value = { BootParamsFacts };
 
@@ -33,5 +33,5 @@ impl<'a> Model for ParamsToWrite<'a> {
       runs = f.runs.now;
     } };
 
-    ghost invariant = { λ f. AreTold f.runs.now };
+    ghost invariant = { λ f. AreE820Runs f.runs.now };
 }

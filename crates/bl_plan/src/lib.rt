@@ -1,7 +1,7 @@
 //! Where the parts of an entry are placed.
 #![tactic(auto)]
 
-mod blocked;
+mod blocked_stretches;
 mod fault;
 mod laws;
 mod limits;
@@ -12,7 +12,7 @@ mod planner;
 mod protocol;
 mod rounding;
 mod search;
-mod unusable;
+mod unusable_byte;
 
 pub use fault::PlanFault;
 pub use laws::{
@@ -24,4 +24,4 @@ pub use part::{Choice, Place, Role, Row, Side};
 pub use placing::place_rows;
 pub use planner::Planner;
 pub use protocol::Protocol;
-pub use unusable::first_unusable;
+pub use unusable_byte::first_unusable;

@@ -1,5 +1,5 @@
 //! A planner.
-use crate::blocked::taken_stretch;
+use crate::blocked_stretches::taken_stretch;
 use crate::fault::PlanFault;
 use crate::order::position_for;
 use bl_map::Machine;

@@ -6,7 +6,7 @@ ghost use Rattle.bl_plan.specs.Permitted.{IsAtSide};
 ghost use Rattle.bl_plan.specs.Kept.{IsPermittedIn};
 ghost use Rattle.bl_plan.specs.PlannerFacts.{AreApartRanges};
 
-use crate::blocked::{blocked_stretch, taken_stretch};
+use crate::blocked_stretches::{blocked_stretch, taken_stretch};
 use crate::part::{Side, Window};
 use crate::rounding::{round_down, round_up};
 use bl_map::{FIRST_USABLE, Machine, USABLE_LIMIT};

@@ -6,16 +6,16 @@ use Rattle.bl_say.specs.DetailLines.{detail_lines}
 use Rattle.bl_say.specs.EntryNames.{file_names}
 use Rattle.bl_say.specs.RefusalWords.{refusal_line}
 use Rattle.bl_say.specs.Sought.{SoughtFacts, sought_lines}
-use Rattle.bl_say.specs.declared.told.detail.ToldRefusal.{ToldRefusal}
+use Rattle.bl_say.specs.declared.told.refusal_detail.ToldRefusal.{ToldRefusal}
 
 -- an entry by its index in the menu, and its title
-abbrev pub attempt_line : ℕ → List ℕ → List ℕ
-attempt_line entry title = codes "entry " ++ decimal entry ++ codes " " ++ title ++ codes "\n"
+abbrev pub entry_title_line : ℕ → List ℕ → List ℕ
+entry_title_line entry title = codes "entry " ++ decimal entry ++ codes " " ++ title ++ codes "\n"
 
 -- an entry of a menu, and its files
 abbrev pub row_lines : SoughtFacts → ℕ → Entry → List ℕ
 row_lines sought index entry =
-    attempt_line index entry.title ++ sought_lines sought 0 (file_names entry)
+    entry_title_line index entry.title ++ sought_lines sought 0 (file_names entry)
 
 abbrev pub row_lines_if : SoughtFacts → ℕ → Option Entry → List ℕ
 row_lines_if sought index None = []

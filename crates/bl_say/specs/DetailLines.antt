@@ -12,8 +12,8 @@ use Rattle.bl_blame.specs.UnusableWords.{address_words, unusable_line}
 use Rattle.bl_say.specs.Frames.{number_between, frames_line, frames_wanted, names_at}
 use Rattle.bl_say.specs.HandedLines.{role_name}
 use Rattle.bl_say.specs.Sought.{SoughtFacts}
-use Rattle.bl_say.specs.declared.told.detail.Detail.{Detail}
-use Rattle.bl_say.specs.declared.told.detail.Detail.TheVariants.{Nothing, NoPlace, Frames}
+use Rattle.bl_say.specs.declared.told.refusal_detail.RefusalDetail.{RefusalDetail}
+use Rattle.bl_say.specs.declared.told.refusal_detail.RefusalDetail.TheVariants.{Nothing, NoPlace, Frames}
 
 -- ---- a part that finds no place
 
@@ -58,7 +58,7 @@ pool_frames_line wanted all None =
 
 -- ---- a refusal of an entry, by its index in a menu
 
-abbrev pub detail_lines : List Entry → MachineFacts → SoughtFacts → ℕ → Detail → List ℕ
+abbrev pub detail_lines : List Entry → MachineFacts → SoughtFacts → ℕ → RefusalDetail → List ℕ
 detail_lines entries facts sought index Nothing = []
 detail_lines entries facts sought index (NoPlace row unusable) =
     no_place_line row ++ unusable_lines facts unusable

@@ -58,17 +58,17 @@ abbrev pub is_attempted : Described → ℕ → Bool
 is_attempted description index =
     (description.default == index) || list_any (λ f. f == index) description.fallbacks
 
-abbrev pub hint_line : ℕ → List ℕ
-hint_line index =
+abbrev pub unattempted_line : ℕ → List ℕ
+unattempted_line index =
     codes "hint: entry " ++ decimal index
     ++ codes " is not attempted: neither default nor fallback names it\n"
 
-abbrev pub hint_at : Described → ℕ → List ℕ
-hint_at description index = if is_attempted description index then [] else hint_line index
+abbrev pub unattempted_hint_at : Described → ℕ → List ℕ
+unattempted_hint_at description index = if is_attempted description index then [] else unattempted_line index
 
 abbrev pub unattempted_hints : Described → List ℕ
 unattempted_hints description =
-    flat_map (hint_at description) (range_with_len 0 (length description.entries))
+    flat_map (unattempted_hint_at description) (range_with_len 0 (length description.entries))
 
 -- ---- all of them
 

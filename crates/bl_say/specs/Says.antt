@@ -37,18 +37,18 @@ run_line run = hex16 run.base ++ codes " " ++ hex16 (run.base + run.length) ++ c
     ++ kind_name run.kind ++ codes "\n"
 
 -- how many KiB are usable from 0 on, and from 1 MiB on
-abbrev pub low_line : ℕ → List ℕ
-low_line low = codes "low " ++ decimal low ++ codes "\n"
+abbrev pub low_kib_line : ℕ → List ℕ
+low_kib_line low = codes "low " ++ decimal low ++ codes "\n"
 
-abbrev pub high_line : ℕ → List ℕ
-high_line high = codes "high " ++ decimal high ++ codes "\n"
+abbrev pub high_kib_line : ℕ → List ℕ
+high_kib_line high = codes "high " ++ decimal high ++ codes "\n"
 
 abbrev pub pool_line : Range ℕ → List ℕ
 pool_line pool = codes "pool " ++ hex16 pool.start ++ codes " " ++ hex16 pool.end ++ codes "\n"
 
 abbrev pub map_lines : List Region → ℕ → ℕ → Range ℕ → List ℕ
 map_lines runs low high pool =
-    flat_map run_line runs ++ low_line low ++ high_line high ++ pool_line pool
+    flat_map run_line runs ++ low_kib_line low ++ high_kib_line high ++ pool_line pool
 
 -- ---- images
 

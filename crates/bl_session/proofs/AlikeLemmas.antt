@@ -13,7 +13,7 @@ use Rattle.bl_session.specs.Menu.{MenuFacts, entry_at, value_with}
 use Rattle.bl_session.specs.Pieces.{are_whole, awaited, with_piece}
 use Rattle.bl_session.specs.Boot.{BootFacts, EventFacts, piece, fault, State, unstarted, running}
 use Rattle.bl_session.specs.Boot.{handed_over, none_left, out_of_memory, sizes_of, fresh}
-use Rattle.bl_session.specs.Boot.{TextsHaveResult, Continuation, AfterAttempt, Continues}
+use Rattle.bl_session.specs.Boot.{TextsHaveResult, RestOfBoot, AfterAttempt, Continues}
 use Rattle.bl_session.specs.Boot.{BeginsUnless, Begins, is_wanted, Takes, Steps, StepsOrFails}
 use Rattle.bl_session.specs.Boot.{Starts, StartsOrFails, attempt_number}
 use Rattle.bl_session.specs.History.{Item}
@@ -52,14 +52,14 @@ ends_alike f g alike entry texts end ends =
     (subst (λ (m : MenuFacts). HasResult f.machine (value_with (entry_at m entry) texts) end)
     alike.menu ends)
 
-goes_alike : (next more : Continuation) → ((r : List RefusedEntry) (s : State) → next r s → more r s)
+goes_alike : (next more : RestOfBoot) → ((r : List RefusedEntry) (s : State) → next r s → more r s)
     → (entry : ℕ) (earlier : List RefusedEntry) (end : AttemptResult) (new : State)
     → AfterAttempt next entry earlier end new → AfterAttempt more entry earlier end new
 goes_alike next more leads entry earlier (handed handover) new goes = goes
 goes_alike next more leads entry earlier (refused refusal) new goes =
     leads (earlier ++ record { entry = entry; refusal = refusal } ∷ []) new goes
 
-continues_alike : (f g : BootFacts) → AreAlike f g → (next more : Continuation)
+continues_alike : (f g : BootFacts) → AreAlike f g → (next more : RestOfBoot)
     → ((r : List RefusedEntry) (s : State) → next r s → more r s)
     → (entry : ℕ) (rest : List ℕ) (earlier : List RefusedEntry) (files : List (List PieceState))
     (new : State)
@@ -81,7 +81,7 @@ continues_alike f g alike next more leads entry rest earlier files new goes =
     )
     choice false same = same
 
-unless_alike : (f g : BootFacts) → AreAlike f g → (next more : Continuation)
+unless_alike : (f g : BootFacts) → AreAlike f g → (next more : RestOfBoot)
     → ((r : List RefusedEntry) (s : State) → next r s → more r s)
     → (entry : ℕ) (rest : List ℕ) (earlier : List RefusedEntry) (why : Option Refusal) (new : State)
     → BeginsUnless f next entry rest earlier why new

@@ -12,11 +12,11 @@ use Rattle.bl_session.specs.Boot.{is_running, progress}
 use Rattle.bl_session.specs.Outcome.{File}
 use Rattle.bl_session.specs.History.{Item, came, failed, nothing, file_under, IsPieceOf}
 use Rattle.bl_session.specs.Asked.{orders, orders_after}
-use Rattle.bl_session.specs.Memory.{IsMemoryIn}
+use Rattle.bl_session.specs.Memory.{IsMemoryInState}
 use Rattle.bl_session.specs.Phases.{PhaseFacts, not_started, waits, hands_over, has_none}
 use Rattle.bl_session.specs.Phases.{lacks_memory, state_at, is_waiting}
 use Rattle.bl_session.specs.Run.{RunState, run_state_of, IsAnswer, IsEventOf}
-use Rattle.bl_session.specs.TurnsKept.{IsHeard, missing_in}
+use Rattle.bl_session.specs.TurnsKept.{IsHeard, first_awaited_ticket}
 use Rattle.bl_session.proofs.NextLemmas.{lost_ends}
 use Rattle.bl_session.proofs.TurnLemmas.{heard_on, owed_same, owed_next}
 
@@ -49,7 +49,7 @@ event_fault files given lacks_memory before ticket item w is = absurd cc
 
 pub event_lost : (files : List File) (given : List Item) (phase : PhaseFacts) (before : List ℕ)
     (ticket : Ticket) (item : Item) → is_waiting phase ≡ true → item ≡ nothing
-    → missing_in (state_at before phase) ≡ Some ticket
+    → first_awaited_ticket (state_at before phase) ≡ Some ticket
     → IsEventOf files given (state_at before phase) item (fault ticket)
 event_lost files given (waits entry rest earlier stage) before ticket item w is first =
     subst (λ (i : Item). IsAnswer files given earlier (piece_states before stage) i (fault ticket))
@@ -61,7 +61,7 @@ event_lost files given lacks_memory before ticket item w is first = absurd cc
 
 -- the attempt that lost a piece has ended
 pub lost : (facts : BootFacts) (old new : PhaseFacts) (before after : List ℕ) (ticket : Ticket)
-    (p : Progress) → is_waiting old ≡ true → missing_in (state_at before old) ≡ Some ticket
+    (p : Progress) → is_waiting old ≡ true → first_awaited_ticket (state_at before old) ≡ Some ticket
     → StepsOrFails facts (state_at before old) (fault ticket) (state_at after new)
     → p ≡ progress (attempt_number (state_at before old)) (state_at after new) → p ≢ Waiting
 lost facts (waits entry rest earlier stage) new before after ticket p w first step told = λ e.
@@ -84,7 +84,7 @@ running_waiting bytes (has_none refusals) w = absurd cc
 running_waiting bytes lacks_memory w = absurd cc
 
 pub waiting_memory : (pool : Range ℕ) (phase : PhaseFacts) (bytes old new : List ℕ)
-    → is_waiting phase ≡ true → IsMemoryIn pool (state_at bytes phase) old new
+    → is_waiting phase ≡ true → IsMemoryInState pool (state_at bytes phase) old new
     → IsSameOutside pool old new
 waiting_memory pool (waits entry rest earlier stage) bytes old new w memory = memory
 waiting_memory pool not_started bytes old new w memory = absurd cc

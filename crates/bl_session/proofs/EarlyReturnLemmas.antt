@@ -1,6 +1,6 @@
 -- A return that answers an error, as the one of `?` does.
 use Rattle.std.proofs.Common.{ℕ, List, refl, Result, Ok, Err, IfOk, OnErr, IsErrAnd}
-use Rattle.bl_mem.specs.Memory.{KeepsMemory}
+use Rattle.bl_mem.specs.Memory.{KeepsSizeAndRoom}
 
 module _ {T E : Type 0} where
   -- it says nothing of a value
@@ -14,7 +14,7 @@ module _ {T E : Type 0} where
 
 -- memory that nothing was done with
 pub keeps_same : {M : Type 0} {lender : M → ℕ} {bytes : M → List ℕ} {room : M → ℕ → Type 0}
-    {memory : M} → KeepsMemory lender bytes room memory memory
+    {memory : M} → KeepsSizeAndRoom lender bytes room memory memory
 keeps_same = record {
   lender = refl;
   size = refl;

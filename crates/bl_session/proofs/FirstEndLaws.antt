@@ -11,7 +11,7 @@ use Rattle.bl_session.specs.Boot.{BootFacts, EventFacts, piece, fault, State, un
 use Rattle.bl_session.specs.Boot.{handed_over, none_left, out_of_memory, sizes_of, fresh}
 use Rattle.bl_session.specs.Boot.{TextsHaveResult, AfterAttempt, BeginsUnless, Begins, is_wanted}
 use Rattle.bl_session.specs.Boot.{Takes, Steps, LeadsTo}
-use Rattle.bl_session.specs.Outcome.{File, size_of, texts_of, value_in, faulty_in, IsTrueOf}
+use Rattle.bl_session.specs.Outcome.{File, size_of, texts_of, value_in, faulty_file, IsTrueOf}
 use Rattle.bl_session.specs.Outcome.{IsGenuineAt, IsGenuine, EntryHasResult, IsFirst, IsOutcome}
 use Rattle.bl_session.specs.Outcome.{HasEnded}
 use Rattle.bl_session.proofs.GatherLemmas.{FitAll, fits_piece, whole_files}
@@ -66,7 +66,7 @@ module _ (facts : BootFacts) (files : List File) (faults : ℕ → Option ℕ)
       → size_refusal facts.machine (sizes_of facts entry) ≡ None
       → FitAll piece_states (texts_of facts files entry)
       → (full ≡ false → are_whole (fresh facts entry) ≡ false)
-      → (full ≡ true → faulty_in facts entry (faults (length earlier)) ≡ None)
+      → (full ≡ true → faulty_file facts entry (faults (length earlier)) ≡ None)
       → are_whole piece_states ≡ full
       → MatchBool full
       ((end : AttemptResult) × TextsHaveResult facts entry (map came_bytes piece_states) end
@@ -88,7 +88,7 @@ module _ (facts : BootFacts) (files : List File) (faults : ℕ → Option ℕ)
       (told refl) of_value) goes
 
   no_pieces : (entry : ℕ) (faulty : Option ℕ) → are_whole (fresh facts entry) ≡ true
-      → faulty_in facts entry faulty ≡ None
+      → faulty_file facts entry faulty ≡ None
   no_pieces entry faulty e = ap (λ (b : Bool). if b then None else faulty) e
 
   follows_unless : (entry : ℕ) (rest : List ℕ) (earlier : List RefusedEntry) (why : Option Refusal)
@@ -119,11 +119,11 @@ module _ (facts : BootFacts) (files : List File) (faults : ℕ → Option ℕ)
   Keeps old new = Holds new × ((end : State) → Comes new end → Comes old end)
 
   has_fault : (entry : ℕ) (told : Option ℕ) (place : ℕ) → are_whole (fresh facts entry) ≡ false
-      → told ≡ Some place → faulty_in facts entry told ≡ Some place
+      → told ≡ Some place → faulty_file facts entry told ≡ Some place
   has_fault entry told place e f = ap (λ (b : Bool). if b then None else told) e ∙ f
 
   has_none : (entry : ℕ) (told : Option ℕ) → are_whole (fresh facts entry) ≡ false → told ≡ None
-      → faulty_in facts entry told ≡ None
+      → faulty_file facts entry told ≡ None
   has_none entry told e f = ap (λ (b : Bool). if b then None else told) e ∙ f
 
   keeps_taken : (entry : ℕ) (rest : List ℕ) (earlier : List RefusedEntry)

@@ -5,19 +5,19 @@ use Rattle.std.proofs.Common.{inr, arith}
 use Rattle.std.specs.declared.ops.Range.{Range}
 use Rattle.std.proofs.lemmas.Bool.{cases_lt}
 use Rattle.std.proofs.lemmas.Bool.Decides.{nat_tests}
-use Rattle.bl_mem.specs.Memory.{IsIn, KeepsMemory}
+use Rattle.bl_mem.specs.Memory.{IsIn, KeepsSizeAndRoom}
 use Rattle.bl_load.specs.After.{IsAfter}
 use Rattle.bl_load.specs.Handover.{Part}
 use Rattle.bl_stage.specs.Ranges.{IsSameOutside, scrubbed}
 use Rattle.bl_session.specs.Boot.{State, running, handed_over, none_left, unstarted, out_of_memory}
-use Rattle.bl_session.specs.Memory.{IsMemoryIn}
+use Rattle.bl_session.specs.Memory.{IsMemoryInState}
 
 -- ---- memory
 
 -- a call after another keeps what both keep
 pub keeps_on : {M : Type 0} {lender : M → ℕ} {bytes : M → List ℕ} {room : M → ℕ → Type 0}
-    {old mid new : M} → KeepsMemory lender bytes room old mid
-    → KeepsMemory lender bytes room mid new → KeepsMemory lender bytes room old new
+    {old mid new : M} → KeepsSizeAndRoom lender bytes room old mid
+    → KeepsSizeAndRoom lender bytes room mid new → KeepsSizeAndRoom lender bytes room old new
 keeps_on first second = record {
   lender = second.lender ∙ first.lender;
   size = second.size ∙ first.size;
@@ -45,7 +45,7 @@ after_on pool parts old mid new first second = record {
 }
 
 pub memory_on : (pool : Range ℕ) (state : State) (old mid new : List ℕ) → IsSameOutside pool old mid
-    → IsMemoryIn pool state mid new → IsMemoryIn pool state old new
+    → IsMemoryInState pool state mid new → IsMemoryInState pool state old new
 memory_on pool unstarted old mid new first second = same_on pool old mid new first second
 memory_on pool (running entry rest earlier files) old mid new first second =
     same_on pool old mid new first second
@@ -57,8 +57,8 @@ memory_on pool out_of_memory old mid new first second = same_on pool old mid new
 
 pub memory_later : {P E : Type 0} (pool : Range ℕ) (old mid new : List ℕ) (result : Result P E)
     (state : P → State)
-    → IsSameOutside pool old mid → IfOk result (λ phase. IsMemoryIn pool (state phase) mid new)
-    → IfOk result (λ phase. IsMemoryIn pool (state phase) old new)
+    → IsSameOutside pool old mid → IfOk result (λ phase. IsMemoryInState pool (state phase) mid new)
+    → IfOk result (λ phase. IsMemoryInState pool (state phase) old new)
 memory_later pool old mid new (Err e) state first second = tt
 memory_later pool old mid new (Ok phase) state first second =
     memory_on pool (state phase) old mid new first second

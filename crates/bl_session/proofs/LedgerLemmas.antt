@@ -11,21 +11,21 @@ use Rattle.bl_session.specs.declared.submission.Submission.{Submission}
 use Rattle.bl_session.specs.Boot.{EventFacts}
 use Rattle.bl_session.specs.Outcome.{File}
 use Rattle.bl_session.specs.History.{Item}
-use Rattle.bl_session.specs.Stores.{event_of, answer_to, item_of_event, item_of_told, without}
+use Rattle.bl_session.specs.Stores.{event_of, answer_to, item_of_event, item_of_told, without_index}
 use Rattle.bl_session.specs.StoresKept.{item_of, AreKept}
-use Rattle.bl_session.specs.Ledger.{LedgerFacts, answer_at, ledger_answered}
+use Rattle.bl_session.specs.Ledger.{LedgerFacts, pending_answer, ledger_answered}
 use Rattle.bl_session.proofs.StoreLemmas.{kept_answer, kept_nothing}
 use Rattle.bl_session.proofs.ToldLemmas.{Tells, tells_taken}
 
 -- ---- what is kept
 
-without_any : (place : ℕ) → without {T = Submission} [] place ≡ []
+without_any : (place : ℕ) → without_index {T = Submission} [] place ≡ []
 without_any place = rw (take-nil {A = Submission} place, drop-nil {A = Submission} (place + 1)) refl
 
 kept_place : (files : List File) (pending : List Submission) (place : ℕ) (given : List Item)
     (told : Option EventFacts) → (0 < length pending → place < length pending)
     → told ≡ option_map (answer_to files) (slice_get pending place) → AreKept files pending given
-    → AreKept files (without pending place) (given ++ item_of_told files given told ∷ [])
+    → AreKept files (without_index pending place) (given ++ item_of_told files given told ∷ [])
 kept_place files [] place given told within is kept =
     subst
     (λ (left : List Submission).
@@ -44,7 +44,7 @@ kept_place files (first ∷ others) place given told within is kept =
     kept in
     subst
     (λ (t : Option EventFacts).
-    AreKept files (without pending place) (given ++ item_of_told files given t ∷ []))
+    AreKept files (without_index pending place) (given ++ item_of_told files given t ∷ []))
     (sym e)
     (subst
     (λ (n : ℕ).
@@ -58,7 +58,7 @@ pub kept_at : {A : Type 0} (files : List File) (pending : List Submission) (plac
     → (0 < length pending → place < length pending)
     → option_map event_of answer ≡ option_map (answer_to files) (slice_get pending place)
     → AreKept files pending given
-    → AreKept files (without pending place) (given ++ item_of files given answer ∷ [])
+    → AreKept files (without_index pending place) (given ++ item_of files given answer ∷ [])
 kept_at files pending place given answer within is kept =
     kept_place files pending place given (option_map event_of answer) within is kept
 
@@ -67,7 +67,7 @@ kept_at files pending place given answer within is kept =
 pub ledger_tells : {A E : Type 0} (old new : LedgerFacts) (place : ℕ)
     (result : Result (Option (Completion A)) E)
     → (0 < length old.pending → place < length old.pending)
-    → IfOk result (λ answer. option_map event_of answer ≡ answer_at old place)
+    → IfOk result (λ answer. option_map event_of answer ≡ pending_answer old place)
     → OnOk result (new ≡ ledger_answered old place) → OnErr result (new ≡ old)
     → Tells old.files new.files old.given new.given (length old.pending) (length new.pending) result
 ledger_tells old new place (Ok answer) within is ok unchanged =

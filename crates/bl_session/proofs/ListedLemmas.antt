@@ -8,7 +8,7 @@ use Rattle.std.proofs.Math.Seq.{split_at, take-append-add, drop-append-add}
 use Rattle.std.specs.List.{insert}
 use Rattle.std.specs.Prelude.{slice_get}
 use Rattle.bl_session.specs.declared.submission.Submission.{Submission}
-use Rattle.bl_session.specs.Stores.{without}
+use Rattle.bl_session.specs.Stores.{without_index}
 use Rattle.bl_session.specs.PendingKept.{runs_listed, listed_without}
 
 -- ---- a run among the others
@@ -69,7 +69,7 @@ listed_two runs index run rest within =
 -- ---- a place in a run
 
 within_run : (front run back : List Submission) (at : ℕ) → at < length run
-    → without (front ++ (run ++ back)) (length front + at) ≡ front ++ (without run at ++ back)
+    → without_index (front ++ (run ++ back)) (length front + at) ≡ front ++ (without_index run at ++ back)
 within_run front run back at within =
     let next : length front + at + 1 ≡ length front + (at + 1) = omega arith in
     let kept : take (length front + at) (front ++ (run ++ back)) ≡ front ++ take at run =
@@ -83,11 +83,11 @@ within_run front run back at within =
 
 pub place_without : (runs : List (List Submission)) (index at : ℕ) → index < length runs
     → at < length (get_or runs index [])
-    → without (runs_listed runs) (length (runs_listed (take index runs)) + at)
+    → without_index (runs_listed runs) (length (runs_listed (take index runs)) + at)
     ≡ listed_without runs index at
 place_without runs index at within inside =
     let front : List Submission = runs_listed (take index runs) in
-    ap (λ (l : List Submission). without l (length front + at)) (listed_at runs index within)
+    ap (λ (l : List Submission). without_index l (length front + at)) (listed_at runs index within)
     ∙ within_run front (get_or runs index []) (runs_listed (drop (index + 1) runs)) at inside
 
 get_past : (front others : List Submission) (at : ℕ)
@@ -115,5 +115,5 @@ listed_get runs index at within inside =
     ∙ get_before (get_or runs index []) back at inside
 
 pub length_without : {T : Type 0} (all : List T) (place : ℕ) → place < length all
-    → length (without all place) + 1 ≡ length all
+    → length (without_index all place) + 1 ≡ length all
 length_without all place within = simp (length-append, length-take, length-drop) (omega arith)

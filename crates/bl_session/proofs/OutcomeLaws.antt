@@ -12,7 +12,7 @@ use Rattle.bl_session.specs.declared.outcome.RefusedEntry.{RefusedEntry}
 use Rattle.bl_session.specs.AttemptResult.{AttemptResult, handed, refused, HasResult}
 use Rattle.bl_session.specs.AttemptResult.{AttemptHasResult, UnlessRefused, size_refusal}
 use Rattle.bl_session.specs.Boot.{BootFacts, State, handed_over, sizes_of}
-use Rattle.bl_session.specs.Outcome.{File, value_in, faulty_in, IsFirst, IsOutcome}
+use Rattle.bl_session.specs.Outcome.{File, value_in, faulty_file, IsFirst, IsOutcome}
 use Rattle.bl_session.proofs.EndLaws.{one_end}
 use Rattle.bl_session.proofs.BootLaws.{one_goes}
 
@@ -79,7 +79,7 @@ one_first : (facts : BootFacts) (files : List File) (faults : ℕ → Option ℕ
 one_first facts files faults [] earlier a b p q = p ∙ sym q
 one_first facts files faults (entry ∷ rest) earlier a b (e, p, x) (f, q, y) =
     one_goes (IsFirst facts files faults rest) entry earlier e f (one_first facts files faults rest)
-    (one_end facts.machine (sizes_of facts entry) (faulty_in facts entry (faults (length earlier)))
+    (one_end facts.machine (sizes_of facts entry) (faulty_file facts entry (faults (length earlier)))
     (value_in facts files entry) e f p q) a b x y
 
 pub one_outcome : (facts : BootFacts) (files : List File) (faults : ℕ → Option ℕ) (a b : State)

@@ -7,7 +7,7 @@ use Rattle.std.proofs.lemmas.List.{append-nil}
 use Rattle.std.specs.List.{insert}
 use Rattle.std.specs.Prelude.{slice_get}
 use Rattle.bl_session.specs.declared.submission.Submission.{Submission}
-use Rattle.bl_session.specs.Stores.{without}
+use Rattle.bl_session.specs.Stores.{without_index}
 use Rattle.bl_session.specs.PendingKept.{runs_listed, listed_without, StandsIn}
 use Rattle.bl_session.proofs.ListedLemmas.{listed_at, listed_length, listed_set, listed_two}
 use Rattle.bl_session.proofs.ListedLemmas.{place_without, listed_get, length_without}
@@ -15,21 +15,21 @@ use Rattle.bl_session.proofs.ListedLemmas.{place_without, listed_get, length_wit
 -- ---- a run that was read, and one that is written in its place
 
 left_in_place : (runs : List (List Submission)) (index at : ℕ) (run left : List Submission)
-    → index < length runs → run ≡ get_or runs index run → left ≡ without run at
+    → index < length runs → run ≡ get_or runs index run → left ≡ without_index run at
     → runs_listed (set runs index left) ≡ listed_without runs index at
 left_in_place runs index at run left within is left_is =
     listed_set runs index left within
     ∙ ap (λ (l : List Submission).
     runs_listed (take index runs) ++ (l ++ runs_listed (drop (index + 1) runs)))
     (left_is
-    ∙ ap (λ (r : List Submission). without r at) (get_or_read runs index run within is []))
+    ∙ ap (λ (r : List Submission). without_index r at) (get_or_read runs index run within is []))
 
 pub first_left_out : (runs : List (List Submission)) (index at : ℕ) (run left : List Submission)
     → index < length runs → run ≡ get_or runs index run → at ≡ 0 → left ≡ drop 1 run
     → runs_listed (set runs index left) ≡ listed_without runs index at
 first_left_out runs index at run left within is first left_is =
     left_in_place runs index at run left within is
-    (left_is ∙ ap (λ (n : ℕ). without run n) (sym first))
+    (left_is ∙ ap (λ (n : ℕ). without_index run n) (sym first))
 
 pub last_left_out : (runs : List (List Submission)) (index at count : ℕ)
     (read run left : List Submission) → index < length runs
@@ -99,7 +99,7 @@ placed_get runs slice place index at run shown stands is =
 
 pub record IsLeftOut (runs : List (List Submission)) (place : ℕ) (left : List Submission)
     : Type 0 where
-  pub list : left ≡ without (runs_listed runs) place
+  pub list : left ≡ without_index (runs_listed runs) place
   pub fewer : length left + 1 ≡ length (runs_listed runs)
 
 pub left_out : (runs slice : List (List Submission)) (place index at : ℕ)
@@ -108,10 +108,10 @@ pub left_out : (runs slice : List (List Submission)) (place index at : ℕ)
 left_out runs slice place index at left shown stands left_is =
     let stands_in : StandsIn runs place index at =
     subst (λ (l : List (List Submission)). StandsIn l place index at) shown stands in
-    let list : left ≡ without (runs_listed runs) place =
+    let list : left ≡ without_index (runs_listed runs) place =
     left_is
     ∙ sym (place_without runs index at stands_in.0 stands_in.1)
-    ∙ ap (without (runs_listed runs)) (sym stands_in.2) in
+    ∙ ap (without_index (runs_listed runs)) (sym stands_in.2) in
     let inside : place < length (runs_listed runs) =
     omega (arith, listed_length runs index stands_in.0) in
     record {

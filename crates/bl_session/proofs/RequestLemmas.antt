@@ -43,7 +43,7 @@ missing_named stage file index e =
     )
 
 length_if : (came : Bool) (piece : List ℕ) → not came ≡ true
-    → length_awaited (stage.piece_state_by came piece) ≡ length piece
+    → length_awaited (stage.piece_state_if_came came piece) ≡ length piece
 length_if true piece e = absurd cc
 length_if false piece e = refl
 

@@ -20,12 +20,12 @@ use Rattle.bl_session.proofs.PieceStateLemmas.{piece_state_past, index_past}
 -- ---- what is awaited
 
 awaits_if : (came : Bool) (piece : List ℕ) (size len : ℕ) → length piece ≡ size
-    → awaits (stage.piece_state_by came piece) len ≡ (not came && (size == len))
+    → awaits (stage.piece_state_if_came came piece) len ≡ (not came && (size == len))
 awaits_if true piece size len e = refl
 awaits_if false piece size len e = ap (λ n. n == len) e
 
 awaited_if : (came : Bool) (piece : List ℕ)
-    → is_awaited (stage.piece_state_by came piece) ≡ not came
+    → is_awaited (stage.piece_state_if_came came piece) ≡ not came
 awaited_if true piece = refl
 awaited_if false piece = refl
 

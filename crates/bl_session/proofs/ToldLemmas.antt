@@ -11,10 +11,10 @@ use Rattle.bl_session.specs.Boot.{EventFacts}
 use Rattle.bl_session.specs.Outcome.{File}
 use Rattle.bl_session.specs.History.{Item, IsItemOf}
 use Rattle.bl_session.specs.Stores.{FileStoreFacts, event_of, answer_to, next_event}
-use Rattle.bl_session.specs.Stores.{next_place, without, after_answer}
+use Rattle.bl_session.specs.Stores.{next_place, without_index, after_answer}
 use Rattle.bl_session.specs.StoresKept.{item_of}
 use Rattle.bl_session.specs.Scripts as scripts
-use Rattle.bl_session.specs.Scripts.{ScriptStoreFacts, event_by, picked_place}
+use Rattle.bl_session.specs.Scripts.{ScriptStoreFacts, event_of_reply, picked_place}
 use Rattle.bl_session.proofs.SubmissionLemmas.{item_is}
 use Rattle.bl_session.proofs.StoreLemmas.{place_within}
 use Rattle.bl_session.proofs.ListedLemmas.{length_without}
@@ -36,13 +36,13 @@ none_left event (first ∷ others) place (Some completion) within is =
     (λ h. cc, λ h. absurd (omega arith))
 
 none_taken : {R : Type 0} (pending : List R) (place : ℕ) → length pending ≡ 0
-    → length (without pending place) ≡ length pending
+    → length (without_index pending place) ≡ length pending
 none_taken pending place empty = simp (length-append, length-take, length-drop) (omega arith)
 
 fewer_left : {A R : Type 0} (event : R → EventFacts) (pending : List R) (place : ℕ)
     (answer : Option (Completion A)) → (0 < length pending → place < length pending)
     → option_map event_of answer ≡ option_map event (slice_get pending place)
-    → IfSome answer (λ completion. length (without pending place) + 1 ≡ length pending)
+    → IfSome answer (λ completion. length (without_index pending place) + 1 ≡ length pending)
 fewer_left event pending place None within is = tt
 fewer_left event [] place (Some completion) within is = cc
 fewer_left event (first ∷ others) place (Some completion) within is =
@@ -66,7 +66,7 @@ pub tells_taken : {A E R : Type 0} (event : R → EventFacts) (files1 files2 : L
     (answer : Option (Completion A)) → (0 < length pending1 → place < length pending1)
     → option_map event_of answer ≡ option_map event (slice_get pending1 place)
     → files2 ≡ files1 → given2 ≡ given1 ++ item_of files1 given1 answer ∷ []
-    → pending2 ≡ without pending1 place
+    → pending2 ≡ without_index pending1 place
     → Tells {E = E} files1 files2 given1 given2 (length pending1) (length pending2) (Ok answer)
 tells_taken event files1 files2 given1 given2 pending1 pending2 place answer within is files given
     pending = record {
@@ -114,12 +114,12 @@ picked_within store some = omega arith
 
 pub script_store_tells : {A E : Type 0} (old new : ScriptStoreFacts)
     (result : Result (Option (Completion A)) E)
-    → IfOk result (λ answer. option_map event_of answer ≡ scripts.script_event old)
+    → IfOk result (λ answer. option_map event_of answer ≡ scripts.next_script_event old)
     → IfOk result (λ answer. new ≡ scripts.after_script_answer old (option_map event_of answer))
     → OnErr result (new ≡ old)
     → Tells old.files new.files old.given new.given (length old.pending) (length new.pending) result
 script_store_tells old new (Ok answer) is ok err =
-    tells_taken (event_by old.files) old.files new.files old.given new.given old.pending new.pending
+    tells_taken (event_of_reply old.files) old.files new.files old.given new.given old.pending new.pending
     (picked_place old) answer (picked_within old) is
     (ap (λ (s : ScriptStoreFacts). s.files) ok) (ap (λ (s : ScriptStoreFacts). s.given) ok)
     (ap (λ (s : ScriptStoreFacts). s.pending) ok)

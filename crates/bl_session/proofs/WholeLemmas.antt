@@ -98,7 +98,7 @@ came_whole bytes stage kept came =
     (λ k m i.
     rw (came_slot stage file k kept came (omega arith) (omega arith)) refl))
 
-flag_of : (came : Bool) (piece : List ℕ) → not (is_awaited (stage.piece_state_by came piece)) ≡ true
+flag_of : (came : Bool) (piece : List ℕ) → not (is_awaited (stage.piece_state_if_came came piece)) ≡ true
     → came ≡ true
 flag_of true piece e = refl
 flag_of false piece e = absurd cc

@@ -22,8 +22,8 @@ abbrev pub attempt_order : ℕ → List ℕ → List ℕ
 attempt_order default fallbacks = without_repeats_by (λ i j. i == j) [] (default ∷ fallbacks)
 
 -- few entries, each within its limits
-abbrev pub IsSmall : {A : Type 0} → List (Entry A) → Type 0
-IsSmall entries =
+abbrev pub AreWithinLimits : {A : Type 0} → List (Entry A) → Type 0
+AreWithinLimits entries =
     (length entries ≤ max_entries) × All IsWithinLimits entries
 
 -- each index names one of so many entries
@@ -32,11 +32,11 @@ NameEntries count default fallbacks = (default < count) × All (λ index. index 
 
 -- the first fault of a menu, in the order of these lines; memory may run out if it has none
 abbrev pub HasMenuFault : {A : Type 0} → List (Entry A) → ℕ → List ℕ → MenuFault → Type 0
-HasMenuFault entries default fallbacks TooMany = ¬ IsSmall entries
+HasMenuFault entries default fallbacks TooMany = ¬ AreWithinLimits entries
 HasMenuFault entries default fallbacks BadIndex =
-    IsSmall entries × (¬ NameEntries (length entries) default fallbacks)
+    AreWithinLimits entries × (¬ NameEntries (length entries) default fallbacks)
 HasMenuFault entries default fallbacks NoMemory =
-    IsSmall entries × NameEntries (length entries) default fallbacks
+    AreWithinLimits entries × NameEntries (length entries) default fallbacks
 
 -- the number of why there is no menu
 abbrev pub menu_fault_number : MenuFault → ℕ

@@ -69,19 +69,19 @@ TextsHaveResult facts entry texts =
 -- ---- attempts, one after the other
 
 -- the rest of a boot: with these refusals so far, it leads to this state
-abbrev pub Continuation : Type 1
-Continuation = List RefusedEntry → State → Type 0
+abbrev pub RestOfBoot : Type 1
+RestOfBoot = List RefusedEntry → State → Type 0
 
 -- the attempt of an entry has this result: a handover ends the boot; a refusal is added to those so
 -- far, and the rest of the boot follows
-abbrev pub AfterAttempt : Continuation → ℕ → List RefusedEntry → AttemptResult → State → Type 0
+abbrev pub AfterAttempt : RestOfBoot → ℕ → List RefusedEntry → AttemptResult → State → Type 0
 AfterAttempt next entry earlier (handed handover) state = state ≡ handed_over entry earlier handover
 AfterAttempt next entry earlier (refused refusal) state =
     next (earlier ++ record { entry = entry; refusal = refusal } ∷ []) state
 
 -- the attempt has these pieces: it waits for what is missing; if each piece came, it ends
 abbrev pub Continues :
-    BootFacts → Continuation → ℕ → List ℕ → List RefusedEntry → List (List PieceState) → State
+    BootFacts → RestOfBoot → ℕ → List ℕ → List RefusedEntry → List (List PieceState) → State
     → Type 0
 Continues facts next entry rest earlier files state =
     MatchBool (are_whole files)
@@ -91,7 +91,7 @@ Continues facts next entry rest earlier files state =
 
 -- the attempt begins, if the sizes of its files don't refuse it
 abbrev pub BeginsUnless :
-    BootFacts → Continuation → ℕ → List ℕ → List RefusedEntry → Option Refusal → State → Type 0
+    BootFacts → RestOfBoot → ℕ → List ℕ → List RefusedEntry → Option Refusal → State → Type 0
 BeginsUnless facts next entry rest earlier (Some refusal) state =
     AfterAttempt next entry earlier (refused refusal) state
 BeginsUnless facts next entry rest earlier None state =

@@ -4,7 +4,7 @@ use Rattle.bl_session.specs.declared.submission.Submission.{Submission}
 use Rattle.bl_session.specs.Boot.{EventFacts}
 use Rattle.bl_session.specs.Outcome.{File, missing, whole}
 use Rattle.bl_session.specs.History.{Item, submitted}
-use Rattle.bl_session.specs.Stores.{answer_to, item_of_told, without}
+use Rattle.bl_session.specs.Stores.{answer_to, item_of_told, without_index}
 
 -- a file in a slice, or none
 abbrev pub sliced_file : Option (List ℕ) → File
@@ -18,8 +18,8 @@ pub record LedgerFacts : Type 0 where
   pub given : List Item
 
 -- the answer to the submission at a place
-abbrev pub answer_at : LedgerFacts → ℕ → Option EventFacts
-answer_at ledger place = option_map (answer_to ledger.files) (slice_get ledger.pending place)
+abbrev pub pending_answer : LedgerFacts → ℕ → Option EventFacts
+pending_answer ledger place = option_map (answer_to ledger.files) (slice_get ledger.pending place)
 
 -- after a submission it is the last that is to be answered; after the answer to the submission at a
 -- place that one is left out
@@ -33,7 +33,7 @@ ledger_asked ledger submission = record {
 abbrev pub ledger_answered : LedgerFacts → ℕ → LedgerFacts
 ledger_answered ledger place = record {
   files = ledger.files;
-  pending = without ledger.pending place;
+  pending = without_index ledger.pending place;
   given =
-      ledger.given ++ item_of_told ledger.files ledger.given (answer_at ledger place) ∷ [];
+      ledger.given ++ item_of_told ledger.files ledger.given (pending_answer ledger place) ∷ [];
 }

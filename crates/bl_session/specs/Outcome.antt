@@ -85,13 +85,13 @@ IsGenuine facts files faults state (event ∷ events) =
 
 -- the file of which a fault comes. If the files have no byte there is no piece, so that no fault
 -- can come: they are whole as the attempt begins
-abbrev pub faulty_in : BootFacts → ℕ → Option ℕ → Option ℕ
-faulty_in facts entry faulty = if are_whole (fresh facts entry) then None else faulty
+abbrev pub faulty_file : BootFacts → ℕ → Option ℕ → Option ℕ
+faulty_file facts entry faulty = if are_whole (fresh facts entry) then None else faulty
 
 -- the result of the attempt of an entry
 abbrev pub EntryHasResult : BootFacts → List File → Option ℕ → ℕ → AttemptResult → Type 0
 EntryHasResult facts files faulty entry =
-    AttemptHasResult facts.machine (sizes_of facts entry) (faulty_in facts entry faulty)
+    AttemptHasResult facts.machine (sizes_of facts entry) (faulty_file facts entry faulty)
     (value_in facts files entry)
 
 -- the first of these entries that is not refused is handed over, with the refusals before it; or

@@ -3,7 +3,7 @@ use Rattle.std.specs.Prelude.{◌≡◌, ℕ, ◌+◌, ◌<◌, List, [], ◌∷
 use Rattle.std.specs.Prelude.{slice_index_or}
 use Rattle.std.specs.List.{flat_map, range_with_len}
 use Rattle.bl_session.specs.declared.submission.Submission.{Submission}
-use Rattle.bl_session.specs.Stores.{without}
+use Rattle.bl_session.specs.Stores.{without_index}
 
 -- ---- a run: submissions for one file under one attempt, of one piece after the other
 
@@ -46,4 +46,4 @@ StandsIn runs place index at =
 abbrev pub listed_without : List (List Submission) → ℕ → ℕ → List Submission
 listed_without runs index at =
     runs_listed (take index runs)
-    ++ (without (slice_index_or runs index []) at ++ runs_listed (drop (index + 1) runs))
+    ++ (without_index (slice_index_or runs index []) at ++ runs_listed (drop (index + 1) runs))

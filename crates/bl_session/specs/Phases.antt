@@ -77,11 +77,11 @@ end_facts (has_none earlier) = Some (has_none earlier)
 end_facts lacks_memory = Some lacks_memory
 
 -- the end that is told
-abbrev pub told :
+abbrev pub told_end :
     {A : Type 0} → Option (Result (Bor (Outcome A)) (Bor (BootFault A))) → Option PhaseFacts
-told None = None
-told (Some (Ok outcome)) = Some (outcome_facts outcome.now)
-told (Some (Err why)) = Some (fault_facts why.now)
+told_end None = None
+told_end (Some (Ok outcome)) = Some (outcome_facts outcome.now)
+told_end (Some (Err why)) = Some (fault_facts why.now)
 
 -- a session as contracts see it: what does not change, and where it stands
 pub record SessionFacts : Type 0 where

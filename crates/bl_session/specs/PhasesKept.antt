@@ -20,9 +20,9 @@ abbrev pub state_of : {A : Type 0} → (attempts bytes : List ℕ) → Phase A �
 state_of attempts bytes phase = state_at bytes (phase_facts attempts phase)
 
 -- why files of these sizes are not taken, unless memory ran out
-abbrev pub IsFileFault : List (Option ℕ) → PrepFault → Type 0
-IsFileFault sizes (prep_fault.Refused refusal) = file_refusal 0 sizes ≡ Some refusal
-IsFileFault sizes prep_fault.NoMemory = Unit {0}
+abbrev pub IsFileRefusal : List (Option ℕ) → PrepFault → Type 0
+IsFileRefusal sizes (prep_fault.Refused refusal) = file_refusal 0 sizes ≡ Some refusal
+IsFileRefusal sizes prep_fault.NoMemory = Unit {0}
 
 -- why an attempt with files of these sizes does not begin, unless memory ran out
 abbrev pub IsSizeFault : MachineFacts → List (Option ℕ) → PrepFault → Type 0

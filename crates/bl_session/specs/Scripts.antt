@@ -5,28 +5,28 @@ use Rattle.std.specs.List.{list_any}
 use Rattle.std.specs.Int.Bits.{bit_xor}
 use Rattle.bl_session.specs.declared.ticket.Ticket.{Ticket}
 use Rattle.bl_session.specs.declared.submission.Submission.{Submission}
-use Rattle.bl_session.specs.declared.reply.Reply.{Reply}
-use Rattle.bl_session.specs.declared.reply.Reply.TheVariants.{Answer, Altered, Fault}
+use Rattle.bl_session.specs.declared.script_reply.ScriptReply.{ScriptReply}
+use Rattle.bl_session.specs.declared.script_reply.ScriptReply.TheVariants.{Answer, Altered, Fault}
 use Rattle.bl_session.specs.Boot.{EventFacts, piece, fault}
 use Rattle.bl_session.specs.Outcome.{File}
 use Rattle.bl_session.specs.History.{Item, submitted, is_same}
-use Rattle.bl_session.specs.Stores.{answer_to, item_of_told, without}
+use Rattle.bl_session.specs.Stores.{answer_to, item_of_told, without_index}
 
 -- each byte of a piece exclusive-or 0xFF
 abbrev pub altered : EventFacts → EventFacts
 altered (piece ticket bytes) = piece ticket (map (λ byte. bit_xor byte 255) bytes)
 altered (fault ticket) = fault ticket
 
-abbrev pub event_by : List File → Reply → EventFacts
-event_by files (Answer submission) = answer_to files submission
-event_by files (Altered submission) = altered (answer_to files submission)
-event_by files (Fault ticket) = fault ticket
+abbrev pub event_of_reply : List File → ScriptReply → EventFacts
+event_of_reply files (Answer submission) = answer_to files submission
+event_of_reply files (Altered submission) = altered (answer_to files submission)
+event_of_reply files (Fault ticket) = fault ticket
 
 abbrev pub is_among : List Ticket → Ticket → Bool
 is_among tickets ticket = list_any (λ t. is_same t ticket) tickets
 
 -- what comes of a submission: a fault, or the answer, or the answer and an altered one
-abbrev pub replies_to : (twice fail : List Ticket) → Submission → List Reply
+abbrev pub replies_to : (twice fail : List Ticket) → Submission → List ScriptReply
 replies_to twice fail submission =
     if is_among fail submission.ticket
     then Fault submission.ticket ∷ []
@@ -41,16 +41,16 @@ pub record ScriptStoreFacts : Type 0 where
   pub twice : List Ticket
   pub fail : List Ticket
   pub picks : List ℕ
-  pub pending : List Reply
+  pub pending : List ScriptReply
   pub given : List Item
 
 -- the place that is answered next: the first that is told, modulo the list's length, 0 if none is
 abbrev pub picked_place : ScriptStoreFacts → ℕ
 picked_place store = slice_index_or store.picks 0 0 % length store.pending
 
-abbrev pub script_event : ScriptStoreFacts → Option EventFacts
-script_event store =
-    option_map (event_by store.files) (slice_get store.pending (picked_place store))
+abbrev pub next_script_event : ScriptStoreFacts → Option EventFacts
+next_script_event store =
+    option_map (event_of_reply store.files) (slice_get store.pending (picked_place store))
 
 -- after a submission what comes of it is the last that is still to come; after an answer it is left
 -- out, and so is its place
@@ -70,6 +70,6 @@ after_script_answer store told = record {
   twice = store.twice;
   fail = store.fail;
   picks = drop 1 store.picks;
-  pending = without store.pending (picked_place store);
+  pending = without_index store.pending (picked_place store);
   given = store.given ++ item_of_told store.files store.given told ∷ [];
 }

@@ -76,8 +76,8 @@ next_place Forward pending = 0
 next_place Reverse pending = length pending - 1
 
 -- the list without what stands at a place
-abbrev pub without : {T : Type 0} → List T → ℕ → List T
-without list place = take place list ++ drop (place + 1) list
+abbrev pub without_index : {T : Type 0} → List T → ℕ → List T
+without_index list place = take place list ++ drop (place + 1) list
 
 -- a `FileStore`: its files, the order of its answers, the submissions that are still to be
 -- answered, and its history
@@ -107,6 +107,6 @@ abbrev pub after_answer : FileStoreFacts → Option EventFacts → FileStoreFact
 after_answer store told = record {
   files = store.files;
   order = store.order;
-  pending = without store.pending (next_place store.order store.pending);
+  pending = without_index store.pending (next_place store.order store.pending);
   given = store.given ++ item_of_told store.files store.given told ∷ [];
 }

@@ -33,6 +33,6 @@ abbrev pub attempts_left : State → ℕ
 attempts_left state = on_running state 0 (λ entry rest earlier files. length rest + 1)
 
 -- the ticket of the first piece that the attempt awaits
-abbrev pub missing_in : State → Option Ticket
-missing_in state =
+abbrev pub first_awaited_ticket : State → Option Ticket
+first_awaited_ticket state =
     on_running state None (λ entry rest earlier files. first_ticket (length earlier) 0 files)

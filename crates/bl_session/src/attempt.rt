@@ -1,6 +1,6 @@
 //! One attempt: it begins, and ends once each piece of its files came.
 ghost use Rattle.std.specs.Prelude.{◌≡◌, None, IfOk, OnErr, length, map, slice_index_or, true};
-ghost use Rattle.bl_mem.specs.Memory.{HasRoom, KeepsMemory};
+ghost use Rattle.bl_mem.specs.Memory.{HasRoom, KeepsSizeAndRoom};
 ghost use Rattle.bl_load.specs.Value.{IsWithinLimits};
 ghost use Rattle.bl_stage.specs.Ranges.{IsSameOutside};
 ghost use Rattle.bl_stage.specs.PieceStates.{piece_states};
@@ -66,7 +66,7 @@ pub fn end_attempt<M: PhysMem, A: Allocator + Copy>(
     ensures err { OnErr result
         (IsSameOutside machine.now.pool (M.bytes memory.old) (M.bytes memory.new)) }
     ensures whole { OnErr result (are_whole (piece_states (M.bytes memory.old) stage.old) ≡ true) }
-    ensures kept { KeepsMemory M.lender M.bytes M.room memory.old memory.new }
+    ensures kept { KeepsSizeAndRoom M.lender M.bytes M.room memory.old memory.new }
 {
     stage.are_staged();
     if !stage.complete() {
@@ -98,7 +98,7 @@ pub fn begin_attempt<M: PhysMem, A: Allocator + Copy>(
         (IsMemoryOf machine.now.pool (M.bytes memory.old) (M.bytes memory.new)) }
     ensures err { OnErr result
         (IsSameOutside machine.now.pool (M.bytes memory.old) (M.bytes memory.new)) }
-    ensures kept { KeepsMemory M.lender M.bytes M.room memory.old memory.new }
+    ensures kept { KeepsSizeAndRoom M.lender M.bytes M.room memory.old memory.new }
 {
     match begin_stage(alloc, machine, entry, sizes) {
         Ok(mut stage) => {

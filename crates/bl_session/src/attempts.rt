@@ -1,11 +1,11 @@
 //! Attempts, one after the other.
 ghost use Rattle.std.specs.Prelude.{◌≡◌, ◌<◌, ◌≤◌, ◌++◌, ◌∷◌, [], true, IfOk, OnErr, length, drop};
-ghost use Rattle.bl_mem.specs.Memory.{HasRoom, KeepsMemory};
+ghost use Rattle.bl_mem.specs.Memory.{HasRoom, KeepsSizeAndRoom};
 ghost use Rattle.bl_stage.specs.Ranges.{IsSameOutside};
 ghost use Rattle.bl_stage.specs.PieceStates.{piece_states};
 ghost use Rattle.bl_session.specs.Boot.{Begins, Continues};
 ghost use Rattle.bl_session.specs.Pieces.{are_whole};
-ghost use Rattle.bl_session.specs.Memory.{IsMemoryIn};
+ghost use Rattle.bl_session.specs.Memory.{IsMemoryInState};
 ghost use Rattle.bl_session.specs.PhasesKept.{facts_of_boot, state_in, phase_by};
 ghost use Rattle.bl_session.specs.PhasesKept.{IsPhaseKept, IsWaiting};
 
@@ -33,13 +33,13 @@ pub fn begin<M: PhysMem, A: Allocator + Copy>(
     ensures begun { IfOk result (λ phase. Begins (facts_of_boot boot.now)
         (drop next boot.now.menu.now.attempts) earlier.items
         (state_in boot.now (M.bytes memory.new) phase)) }
-    ensures memory { IfOk result (λ phase. IsMemoryIn boot.now.machine.now.pool
+    ensures memory { IfOk result (λ phase. IsMemoryInState boot.now.machine.now.pool
         (state_in boot.now (M.bytes memory.new) phase)
         (M.bytes memory.old) (M.bytes memory.new)) }
     ensures phase { IfOk result (IsPhaseKept boot.now.machine.now boot.now.menu.now) }
     ensures err { OnErr result
         (IsSameOutside boot.now.machine.now.pool (M.bytes memory.old) (M.bytes memory.new)) }
-    ensures kept { KeepsMemory M.lender M.bytes M.room memory.old memory.new }
+    ensures kept { KeepsSizeAndRoom M.lender M.bytes M.room memory.old memory.new }
 {
     let mut number = next;
     let mut refused = earlier;
@@ -95,14 +95,14 @@ pub fn refuse<M: PhysMem, A: Allocator + Copy>(
         (running.old.earlier.items
         ++ record { entry = running.old.entry; refusal = refusal } ∷ [])
         (state_in boot.now (M.bytes memory.new) (phase_by running.new ended))) }
-    ensures memory { IfOk result (λ ended. IsMemoryIn boot.now.machine.now.pool
+    ensures memory { IfOk result (λ ended. IsMemoryInState boot.now.machine.now.pool
         (state_in boot.now (M.bytes memory.new) (phase_by running.new ended))
         (M.bytes memory.old) (M.bytes memory.new)) }
     ensures phase { IfOk result (λ ended.
         IsPhaseKept boot.now.machine.now boot.now.menu.now (phase_by running.new ended)) }
     ensures err { OnErr result
         (IsSameOutside boot.now.machine.now.pool (M.bytes memory.old) (M.bytes memory.new)) }
-    ensures kept { KeepsMemory M.lender M.bytes M.room memory.old memory.new }
+    ensures kept { KeepsSizeAndRoom M.lender M.bytes M.room memory.old memory.new }
 {
     let mut refused = mem::replace(&mut running.earlier, Vec::new(boot.alloc));
     refused.push(RefusedEntry {
@@ -129,7 +129,7 @@ pub fn settle<M: PhysMem, A: Allocator + Copy>(
         running.old.entry (drop running.old.next boot.now.menu.now.attempts)
         running.old.earlier.items (piece_states (M.bytes memory.old) running.old.stage)
         (state_in boot.now (M.bytes memory.new) (phase_by running.new ended))) }
-    ensures memory { IfOk result (λ ended. IsMemoryIn boot.now.machine.now.pool
+    ensures memory { IfOk result (λ ended. IsMemoryInState boot.now.machine.now.pool
         (state_in boot.now (M.bytes memory.new) (phase_by running.new ended))
         (M.bytes memory.old) (M.bytes memory.new)) }
     ensures phase { IfOk result (λ ended.
@@ -138,7 +138,7 @@ pub fn settle<M: PhysMem, A: Allocator + Copy>(
         (IsSameOutside boot.now.machine.now.pool (M.bytes memory.old) (M.bytes memory.new)) }
     ensures whole { OnErr result
         (are_whole (piece_states (M.bytes memory.old) running.old.stage) ≡ true) }
-    ensures kept { KeepsMemory M.lender M.bytes M.room memory.old memory.new }
+    ensures kept { KeepsSizeAndRoom M.lender M.bytes M.room memory.old memory.new }
 {
     let entry = running.entry;
     match end_attempt(

@@ -5,7 +5,7 @@ ghost use Rattle.bl_session.specs.Asked.{orders};
 ghost use Rattle.bl_session.specs.Phases.{phase_facts, is_waiting};
 ghost use Rattle.bl_session.specs.PhasesKept.{IsPhaseKept, facts_of_boot, state_in};
 ghost use Rattle.bl_session.specs.Requests.{first_request, request_after};
-ghost use Rattle.bl_session.specs.TurnsKept.{IsAsked, missing_in};
+ghost use Rattle.bl_session.specs.TurnsKept.{IsAsked, first_awaited_ticket};
 
 use crate::asking::submit_files;
 use crate::phase::{Boot, Phase};
@@ -83,7 +83,7 @@ impl<'a, A: Allocator + Copy> Boot<'a, A> {
     pub fn first_missing_ticket(&self, phase: &Phase<A>) -> Ticket
         requires standing { IsPhaseKept self.now.machine.now self.now.menu.now phase.now }
         requires waiting { is_waiting (phase_facts self.now.menu.now.attempts phase.now) ≡ true }
-        ensures { (bytes : List ℕ) → missing_in (state_in self.now bytes phase.now) ≡ Some result }
+        ensures { (bytes : List ℕ) → first_awaited_ticket (state_in self.now bytes phase.now) ≡ Some result }
     {
         match phase {
             Phase::Waits(waiting) => {

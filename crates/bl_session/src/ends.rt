@@ -2,7 +2,7 @@
 ghost use Rattle.std.specs.Prelude.{◌≡◌, ℕ, List, IfOk, IfSome, option_map};
 ghost use Rattle.bl_map.specs.MachineFacts.{MachineFacts};
 ghost use Rattle.bl_session.specs.Menu.{MenuFacts};
-ghost use Rattle.bl_session.specs.Phases.{phase_facts, end_facts, told, LiesWithin};
+ghost use Rattle.bl_session.specs.Phases.{phase_facts, end_facts, told_end, LiesWithin};
 ghost use Rattle.bl_session.specs.PhasesKept.{IsPhaseKept};
 ghost use Rattle.bl_session.specs.Run.{boot_end};
 
@@ -12,7 +12,7 @@ use std::alloc::Allocator;
 
 /// The end, if a phase is one.
 pub fn end_of<A: Allocator>(phase: &Phase<A>) -> Option<Result<&Outcome<A>, &BootFault<A>>>
-    ensures end { (attempts : List ℕ) → told result ≡ end_facts (phase_facts attempts phase.now) }
+    ensures end { (attempts : List ℕ) → told_end result ≡ end_facts (phase_facts attempts phase.now) }
     ensures inside { (machine : MachineFacts) → (menu : MenuFacts)
         → IsPhaseKept machine menu phase.now
         → IfSome result (λ end. IfOk end (λ outcome.

@@ -1,11 +1,11 @@
 //! One event of an attempt that waits.
 ghost use Rattle.std.specs.Prelude.{◌≡◌, ◌≢◌, ◌==◌, ℕ, List, true, false, IfOk, OnErr, Ok, None};
 ghost use Rattle.std.specs.Prelude.{MatchBool, length};
-ghost use Rattle.bl_mem.specs.Memory.{HasRoom, KeepsMemory};
+ghost use Rattle.bl_mem.specs.Memory.{HasRoom, KeepsSizeAndRoom};
 ghost use Rattle.bl_stage.specs.Ranges.{IsSameOutside};
 ghost use Rattle.bl_stage.specs.PieceStates.{piece_states};
 ghost use Rattle.bl_session.specs.Boot.{Steps, piece, fault, is_wanted, is_taken, ends_attempt};
-ghost use Rattle.bl_session.specs.Memory.{IsMemoryIn};
+ghost use Rattle.bl_session.specs.Memory.{IsMemoryInState};
 ghost use Rattle.bl_session.specs.Phases.{event_facts};
 ghost use Rattle.bl_session.specs.PhasesKept.{facts_of_boot, running_in, state_in, phase_by};
 ghost use Rattle.bl_session.specs.PhasesKept.{IsPhaseKept, IsWaiting, LacksPiece};
@@ -65,7 +65,7 @@ fn take_piece<M: PhysMem, A: Allocator + Copy>(
     ensures memory { IfOk result (λ ended. MatchBool
         (is_taken (running_in boot.now (M.bytes memory.old) running.old)
         (piece ticket bytes.now))
-        (IsMemoryIn boot.now.machine.now.pool
+        (IsMemoryInState boot.now.machine.now.pool
         (state_in boot.now (M.bytes memory.new) (phase_by running.new ended))
         (M.bytes memory.old) (M.bytes memory.new))
         (M.bytes memory.new ≡ M.bytes memory.old)) }
@@ -75,7 +75,7 @@ fn take_piece<M: PhysMem, A: Allocator + Copy>(
         IsPhaseKept boot.now.machine.now boot.now.menu.now (phase_by running.new ended)) }
     ensures err { OnErr result
         (IsSameOutside boot.now.machine.now.pool (M.bytes memory.old) (M.bytes memory.new)) }
-    ensures kept { KeepsMemory M.lender M.bytes M.room memory.old memory.new }
+    ensures kept { KeepsSizeAndRoom M.lender M.bytes M.room memory.old memory.new }
 {
     if !is_of(running, ticket) {
         return Ok(None);
@@ -108,7 +108,7 @@ fn take_fault<M: PhysMem, A: Allocator + Copy>(
         (running_in boot.now (M.bytes memory.old) running.old) (fault ticket) ≡ true) }
     ensures memory { IfOk result (λ ended. MatchBool
         (is_taken (running_in boot.now (M.bytes memory.old) running.old) (fault ticket))
-        (IsMemoryIn boot.now.machine.now.pool
+        (IsMemoryInState boot.now.machine.now.pool
         (state_in boot.now (M.bytes memory.new) (phase_by running.new ended))
         (M.bytes memory.old) (M.bytes memory.new))
         (M.bytes memory.new ≡ M.bytes memory.old)) }
@@ -118,7 +118,7 @@ fn take_fault<M: PhysMem, A: Allocator + Copy>(
         IsPhaseKept boot.now.machine.now boot.now.menu.now (phase_by running.new ended)) }
     ensures err { OnErr result
         (IsSameOutside boot.now.machine.now.pool (M.bytes memory.old) (M.bytes memory.new)) }
-    ensures kept { KeepsMemory M.lender M.bytes M.room memory.old memory.new }
+    ensures kept { KeepsSizeAndRoom M.lender M.bytes M.room memory.old memory.new }
 {
     if !awaits_fault(running, ticket) {
         return Ok(None);
@@ -147,7 +147,7 @@ pub fn take<M: PhysMem, A: Allocator + Copy>(
     ensures memory { IfOk result (λ ended. MatchBool
         (is_taken (running_in boot.now (M.bytes memory.old) running.old)
         (event_facts event.entry))
-        (IsMemoryIn boot.now.machine.now.pool
+        (IsMemoryInState boot.now.machine.now.pool
         (state_in boot.now (M.bytes memory.new) (phase_by running.new ended))
         (M.bytes memory.old) (M.bytes memory.new))
         (M.bytes memory.new ≡ M.bytes memory.old)) }
@@ -157,7 +157,7 @@ pub fn take<M: PhysMem, A: Allocator + Copy>(
         IsPhaseKept boot.now.machine.now boot.now.menu.now (phase_by running.new ended)) }
     ensures err { OnErr result
         (IsSameOutside boot.now.machine.now.pool (M.bytes memory.old) (M.bytes memory.new)) }
-    ensures kept { KeepsMemory M.lender M.bytes M.room memory.old memory.new }
+    ensures kept { KeepsSizeAndRoom M.lender M.bytes M.room memory.old memory.new }
 {
     match event {
         Event::Piece(ticket, bytes) => { take_piece(boot, memory, running, ticket, bytes) }

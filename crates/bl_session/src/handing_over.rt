@@ -3,7 +3,7 @@ ghost use Rattle.std.specs.Prelude.{◌≡◌, ◌+◌, ◌≤◌, ◌<◌, ◌^
 ghost use Rattle.std.specs.Prelude.{length, map};
 ghost use Rattle.bl_map.specs.Room.{HasRoomFor};
 ghost use Rattle.bl_mem.specs.Files.{AreBelow, AllBeside};
-ghost use Rattle.bl_mem.specs.Memory.{HasRoom, AllHaveRoom, KeepsMemory};
+ghost use Rattle.bl_mem.specs.Memory.{HasRoom, AllHaveRoom, KeepsSizeAndRoom};
 ghost use Rattle.bl_plan.specs.Placed.{place_range};
 ghost use Rattle.bl_stage.specs.Ranges.{IsSameOutside};
 ghost use Rattle.bl_stage.specs.Staged.{AllCame, HasPool, IsStagedOn, staged_texts, with_frames};
@@ -90,7 +90,7 @@ fn evacuate_ranges<M: PhysMem, A: Allocator>(
         (AreBelow (λ a. IsStagedOn stage.new a) (length (M.bytes memory.new))) }
     ensures beside { OnOk result (AllBeside (λ a. IsStagedOn stage.new a) ranges.now) }
     ensures outside { IsSameOutside stage.old.pool (M.bytes memory.old) (M.bytes memory.new) }
-    ensures kept { KeepsMemory M.lender M.bytes M.room memory.old memory.new }
+    ensures kept { KeepsSizeAndRoom M.lender M.bytes M.room memory.old memory.new }
 {
     if stage.evacuate(memory, ranges).is_err() {
         return Err(Refusal::NoPool);
@@ -118,7 +118,7 @@ fn hand_over<M: PhysMem, A: Allocator>(
     ensures after { IsAfter machine.now.pool
         (handover_by (staged_texts (M.bytes memory.old) stage.now) plan).parts
         (M.bytes memory.old) (M.bytes memory.new) }
-    ensures kept { KeepsMemory M.lender M.bytes M.room memory.old memory.new }
+    ensures kept { KeepsSizeAndRoom M.lender M.bytes M.room memory.old memory.new }
 {
     let handoff = load(memory, plan, stage);
     scrub(machine, memory, handoff.ranges());
@@ -160,7 +160,7 @@ pub fn finish<M: PhysMem, A: Allocator + Copy>(
     ensures left { IfErr result (λ fault. IsStageAfterFault fault stage.old stage.new
         (M.bytes memory.old) (M.bytes memory.new)) }
     ensures stage { stage.new ≡ with_frames stage.old stage.new.frames }
-    ensures kept { KeepsMemory M.lender M.bytes M.room memory.old memory.new }
+    ensures kept { KeepsSizeAndRoom M.lender M.bytes M.room memory.old memory.new }
 {
     // what this ensures says where the pool lies
     machine.pool();

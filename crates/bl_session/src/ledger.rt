@@ -75,7 +75,7 @@ impl<F: StoredFiles, A: Allocator + Copy> Ledger<F, A> {
     ghost use Rattle.bl_session.specs.History.{Item, submitted, IsItemOf};
     ghost use Rattle.bl_session.specs.Faithful.{IsFaithful};
     ghost use Rattle.bl_session.specs.Stores.{event_of};
-    ghost use Rattle.bl_session.specs.Ledger.{answer_at, ledger_asked, ledger_answered};
+    ghost use Rattle.bl_session.specs.Ledger.{pending_answer, ledger_asked, ledger_answered};
 
     /// The books of a store of these files that was asked for nothing yet.
     pub fn new(alloc: A, files: F) -> Ledger<F, A>
@@ -155,7 +155,7 @@ impl<F: StoredFiles, A: Allocator + Copy> Ledger<F, A> {
     pub fn answer(&mut self, at: usize) -> Result<Option<Completion<A>>, AllocError>
         requires { 0 < length self.old.pending → at < length self.old.pending }
         ensures answer { IfOk result (λ answer.
-            option_map event_of answer ≡ answer_at self.old at) }
+            option_map event_of answer ≡ pending_answer self.old at) }
         ensures ok { OnOk result (self.new ≡ ledger_answered self.old at) }
         ensures unchanged { OnErr result (self.new ≡ self.old) }
         ensures files { self.new.files ≡ self.old.files }
@@ -178,7 +178,7 @@ impl<F: StoredFiles, A: Allocator + Copy> Ledger<F, A> {
     fn take_answer(&mut self, at: usize) -> Result<Option<Completion<A>>, AllocError>
         requires { 0 < length self.old.pending → at < length self.old.pending }
         ensures answer { IfOk result (λ answer.
-            option_map event_of answer ≡ answer_at self.old at) }
+            option_map event_of answer ≡ pending_answer self.old at) }
         ensures ok { OnOk result (self.new ≡ ledger_answered self.old at) }
         ensures unchanged { OnErr result (self.new ≡ self.old) }
     {
@@ -190,7 +190,7 @@ impl<F: StoredFiles, A: Allocator + Copy> Ledger<F, A> {
 
     /// The answer to the submission at this place.
     fn find_answer(&self, at: usize) -> Result<Option<Completion<A>>, AllocError>
-        ensures { IfOk result (λ answer. option_map event_of answer ≡ answer_at self.now at) }
+        ensures { IfOk result (λ answer. option_map event_of answer ≡ pending_answer self.now at) }
     {
         match self.pending.at(at) {
             Some(submission) => Ok(Some(answer(self.alloc, &self.files, &submission)?)),

@@ -5,7 +5,7 @@ ghost use Rattle.std.specs.List.{list_any};
 ghost use Rattle.bl_load.specs.Offered.{IsOfferedEntry, IsOffered};
 ghost use Rattle.bl_load.specs.Value.{IsWithinLimits};
 ghost use Rattle.bl_session.specs.Menu.{facts_of, entry_at};
-ghost use Rattle.bl_session.specs.Attempts.{attempt_order, IsSmall, NameEntries, HasMenuFault};
+ghost use Rattle.bl_session.specs.Attempts.{attempt_order, AreWithinLimits, NameEntries, HasMenuFault};
 ghost use Rattle.bl_session.specs.Attempts as attempts;
 
 use crate::menu::fault::{is_small, name_entries};
@@ -106,7 +106,7 @@ impl<A: Allocator + Copy> Menu<A> {
           entries = map facts_of entries.items;
           attempts = attempt_order default fallbacks.now;
         }) }
-        ensures allowed { OnOk result (IsSmall entries.items
+        ensures allowed { OnOk result (AreWithinLimits entries.items
             × NameEntries (length entries.items) default fallbacks.now) }
         ensures first_fault { IfErr result (HasMenuFault entries.items default fallbacks.now) }
         ensures offered { IfOk result (λ menu. All (λ entry. IsOffered entry.blank) menu.entries) }

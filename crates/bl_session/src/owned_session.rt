@@ -1,12 +1,12 @@
 //! A boot that owns its machine and its menu.
 ghost use Rattle.std.specs.Prelude.{◌≡◌, ◌≢◌, ℕ, List, true, false, IfOk, IfSome, MatchBool};
 ghost use Rattle.std.specs.Prelude.{length, option_map};
-ghost use Rattle.bl_mem.specs.Memory.{HasRoom, KeepsMemory};
+ghost use Rattle.bl_mem.specs.Memory.{HasRoom, KeepsSizeAndRoom};
 ghost use Rattle.bl_session.specs.Boot.{StepsOrFails, StartsOrFails, is_taken, attempt_number};
 ghost use Rattle.bl_session.specs.Boot as boot;
-ghost use Rattle.bl_session.specs.Memory.{IsMemoryIn};
+ghost use Rattle.bl_session.specs.Memory.{IsMemoryInState};
 ghost use Rattle.bl_session.specs.Phases.{boot_facts, event_facts, state_at, is_waiting};
-ghost use Rattle.bl_session.specs.Phases.{end_facts, told, not_started, LiesWithin};
+ghost use Rattle.bl_session.specs.Phases.{end_facts, told_end, not_started, LiesWithin};
 ghost use Rattle.bl_session.specs.Requests.{first_request, request_after};
 ghost use Rattle.bl_session.specs.Run.{boot_end};
 
@@ -94,14 +94,14 @@ impl<A: Allocator + Copy> OwnedSession<A> {
             (attempt_number (state_at (M.bytes memory.old) self.old.phase))
             (state_at (M.bytes memory.new) self.new.phase) }
         ensures memory { self.old.phase ≡ not_started
-            → IsMemoryIn self.old.boot.machine.pool (state_at (M.bytes memory.new) self.new.phase)
+            → IsMemoryInState self.old.boot.machine.pool (state_at (M.bytes memory.new) self.new.phase)
             (M.bytes memory.old) (M.bytes memory.new) }
         ensures unchanged { self.old.phase ≢ not_started
             → (self.new ≡ self.old) × (M.bytes memory.new ≡ M.bytes memory.old) }
         ensures room { self.old.phase ≡ not_started → is_waiting self.new.phase ≡ true
             → HasRoom (M.room memory.new)
             self.old.boot.machine.pool.start self.old.boot.machine.pool.end }
-        ensures kept { KeepsMemory M.lender M.bytes M.room memory.old memory.new }
+        ensures kept { KeepsSizeAndRoom M.lender M.bytes M.room memory.old memory.new }
     {
         let boot = Boot {
             alloc: self.alloc,
@@ -126,14 +126,14 @@ impl<A: Allocator + Copy> OwnedSession<A> {
             (state_at (M.bytes memory.new) self.new.phase) }
         ensures memory { MatchBool
             (is_taken (state_at (M.bytes memory.old) self.old.phase) (event_facts event.entry))
-            (IsMemoryIn self.old.boot.machine.pool (state_at (M.bytes memory.new) self.new.phase)
+            (IsMemoryInState self.old.boot.machine.pool (state_at (M.bytes memory.new) self.new.phase)
             (M.bytes memory.old) (M.bytes memory.new))
             (M.bytes memory.new ≡ M.bytes memory.old) }
         ensures unchanged { is_taken (state_at (M.bytes memory.old) self.old.phase)
             (event_facts event.entry) ≡ false → self.new ≡ self.old }
         ensures room { is_waiting self.new.phase ≡ true → HasRoom (M.room memory.new)
             self.old.boot.machine.pool.start self.old.boot.machine.pool.end }
-        ensures kept { KeepsMemory M.lender M.bytes M.room memory.old memory.new }
+        ensures kept { KeepsSizeAndRoom M.lender M.bytes M.room memory.old memory.new }
     {
         let boot = Boot {
             alloc: self.alloc,
@@ -181,7 +181,7 @@ impl<A: Allocator + Copy> OwnedSession<A> {
 
     /// The end, once there is one.
     pub fn outcome(&self) -> Option<Result<&Outcome<A>, &BootFault<A>>>
-        ensures end { told result ≡ end_facts self.now.phase }
+        ensures end { told_end result ≡ end_facts self.now.phase }
         ensures inside { IfSome result (λ end. IfOk end (λ outcome.
             LiesWithin self.now.boot.machine.size outcome.now.handoff)) }
     {

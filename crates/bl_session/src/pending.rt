@@ -1,7 +1,7 @@
 //! The submissions that are to be answered, in any order.
 ghost use Rattle.std.specs.Prelude.{◌≡◌, ◌+◌, ◌<◌, ◌≤◌, [], ◌∷◌, ◌++◌, length, slice_get};
 ghost use Rattle.std.specs.Prelude.{slice_index_or, vec_len, OnOk, OnErr, IsOk, IfSome, IfNone};
-ghost use Rattle.bl_session.specs.Stores.{without};
+ghost use Rattle.bl_session.specs.Stores.{without_index};
 ghost use Rattle.bl_session.specs.PendingKept.{runs_listed, listed_without, StandsIn};
 
 use crate::submission::Submission;
@@ -75,7 +75,7 @@ impl<A: Allocator> Pending<A> {
 
     /// Leaves out the one at a place, if there is one. The first and the last one take no memory.
     pub(crate) fn remove(&mut self, place: usize) -> Result<(), AllocError>
-        ensures ok { OnOk result (self.new ≡ without self.old place) }
+        ensures ok { OnOk result (self.new ≡ without_index self.old place) }
         ensures err { OnErr result (self.new ≡ self.old) }
         ensures first { place ≡ 0 → IsOk result }
         ensures last { place + 1 ≡ length self.old → IsOk result }

@@ -3,10 +3,10 @@ ghost use Rattle.std.specs.Prelude.{◌≡◌, ◌≢◌, ◌+◌, ◌≤◌, �
 ghost use Rattle.std.specs.Prelude.{IfOk, OnErr, length, map};
 ghost use Rattle.std.specs.Prelude.{slice_index_or};
 ghost use Rattle.std.specs.List.{range_with_len};
-ghost use Rattle.bl_mem.specs.Memory.{KeepsMemory};
+ghost use Rattle.bl_mem.specs.Memory.{KeepsSizeAndRoom};
 ghost use Rattle.bl_stage.specs.Ranges.{IsSameOutside};
 ghost use Rattle.bl_session.specs.Boot.{out_of_memory};
-ghost use Rattle.bl_session.specs.Memory.{IsMemoryIn};
+ghost use Rattle.bl_session.specs.Memory.{IsMemoryInState};
 ghost use Rattle.bl_session.specs.Faithful.{IsFaithful};
 ghost use Rattle.bl_session.specs.Outcome.{Faults, IsOutcome, HasEnded, missing};
 ghost use Rattle.bl_session.specs.Outcome as outcome;
@@ -58,7 +58,7 @@ fn run_session<'a, M: PhysMem, S: Store, A: Allocator + Copy>(
     ensures machine { IfOk result (λ session. session.boot.machine ≡ machine.now) }
     ensures started { IfOk result (λ session. session.phase ≢ not_started) }
     ensures ended { IfOk result (λ session. is_waiting session.phase ≡ false) }
-    ensures memory { IfOk result (λ session. IsMemoryIn machine.now.pool
+    ensures memory { IfOk result (λ session. IsMemoryInState machine.now.pool
         (state_at (M.bytes memory.new) session.phase)
         (M.bytes memory.old) (M.bytes memory.new)) }
     ensures lacking { OnErr result (IsRun
@@ -67,7 +67,7 @@ fn run_session<'a, M: PhysMem, S: Store, A: Allocator + Copy>(
     ensures outside { OnErr result
         (IsSameOutside machine.now.pool (M.bytes memory.old) (M.bytes memory.new)) }
     ensures files { S.files store.new ≡ S.files store.old }
-    ensures kept { KeepsMemory M.lender M.bytes M.room memory.old memory.new }
+    ensures kept { KeepsSizeAndRoom M.lender M.bytes M.room memory.old memory.new }
 {
     let sizes = sizes_of(alloc, store, menu.files())?;
     let mut session = Session::new(alloc, machine, menu, &sizes)?;
@@ -123,12 +123,12 @@ pub fn run<M: PhysMem, S: Store, A: Allocator + Copy>(
         → HasEnded (state_at (M.bytes memory.new) (boot_end result))
         → IsOutcome (boot_facts machine.now menu.now (map outcome.size_of (S.files store.old)))
         (S.files store.old) (λ _. None) (state_at (M.bytes memory.new) (boot_end result)) }
-    ensures memory { IsMemoryIn machine.now.pool (state_at (M.bytes memory.new) (boot_end result))
+    ensures memory { IsMemoryInState machine.now.pool (state_at (M.bytes memory.new) (boot_end result))
         (M.bytes memory.old) (M.bytes memory.new) }
     ensures inside { IfOk result (λ outcome. All (λ place.
         place.address + place.length ≤ machine.now.size) outcome.handoff.places) }
     ensures files { S.files store.new ≡ S.files store.old }
-    ensures kept { KeepsMemory M.lender M.bytes M.room memory.old memory.new }
+    ensures kept { KeepsSizeAndRoom M.lender M.bytes M.room memory.old memory.new }
 {
     match run_session(alloc, memory, store, machine, menu) {
         Ok(session) => end_of(session),

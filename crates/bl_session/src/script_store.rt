@@ -2,7 +2,7 @@
 use crate::fetched::{Fetched, size_in};
 use crate::history::History;
 use crate::picks::Picks;
-use crate::reply::{Reply, completion_of, push_replies};
+use crate::script_reply::{ScriptReply, completion_of, push_replies};
 use crate::store::{Completion, Store};
 use crate::submission::Submission;
 use crate::ticket::Ticket;
@@ -18,7 +18,7 @@ pub struct ScriptStore<A: Allocator + Copy> {
     twice: Vec<Ticket, A>,
     fail: Vec<Ticket, A>,
     picks: Picks<A>,
-    replies: Vec<Reply, A>,
+    replies: Vec<ScriptReply, A>,
     history: History,
 }
 
@@ -41,7 +41,7 @@ impl<A: Allocator + Copy> Model for ScriptStore<A> {
 impl<A: Allocator + Copy> ScriptStore<A> {
     ghost use Rattle.std.specs.Prelude.{◌≡◌, [], slice_get, IfOk, option_map};
     ghost use Rattle.bl_session.specs.Stores.{stored_files, event_of};
-    ghost use Rattle.bl_session.specs.Scripts.{script_event, picked_place};
+    ghost use Rattle.bl_session.specs.Scripts.{next_script_event, picked_place};
 
     /// A store of these files, by their index in the menu. A ticket of `fail` comes as a fault, and
     /// else one of `twice` comes twice, the second time with each byte exclusive-or 0xFF.
@@ -77,7 +77,7 @@ impl<A: Allocator + Copy> ScriptStore<A> {
     }
 
     /// What is answered next.
-    fn next_reply(&self) -> Option<Reply>
+    fn next_reply(&self) -> Option<ScriptReply>
         ensures { result ≡ slice_get self.now.pending (picked_place self.now) }
     {
         let replies = self.replies.as_slice();
@@ -89,7 +89,7 @@ impl<A: Allocator + Copy> ScriptStore<A> {
 
     /// The answer that is next.
     fn answer_next(&self) -> Result<Option<Completion<A>>, AllocError>
-        ensures { IfOk result (λ answer. option_map event_of answer ≡ script_event self.now) }
+        ensures { IfOk result (λ answer. option_map event_of answer ≡ next_script_event self.now) }
     {
         match self.next_reply() {
             Some(reply) => Ok(Some(completion_of(self.alloc, &self.files, &reply)?)),
@@ -103,7 +103,7 @@ impl<A: Allocator + Copy> Store for ScriptStore<A> {
     ghost use Rattle.std.specs.Prelude.{slice_index_or};
     ghost use Rattle.bl_session.specs.Outcome.{missing, size_of};
     ghost use Rattle.bl_session.specs.Stores.{event_of};
-    ghost use Rattle.bl_session.specs.Scripts.{script_event, after_script_submission};
+    ghost use Rattle.bl_session.specs.Scripts.{next_script_event, after_script_submission};
     ghost use Rattle.bl_session.specs.Scripts.{after_script_answer};
 
     type Alloc = A;
@@ -139,7 +139,7 @@ impl<A: Allocator + Copy> Store for ScriptStore<A> {
 
     fn next(&mut self) -> Result<Option<Completion<A>>, AllocError>
         ensures answer { IfOk result (λ answer.
-            option_map event_of answer ≡ script_event self.old) }
+            option_map event_of answer ≡ next_script_event self.old) }
         ensures ok { IfOk result (λ answer.
             self.new ≡ after_script_answer self.old (option_map event_of answer)) }
         ensures err { OnErr result (self.new ≡ self.old) }

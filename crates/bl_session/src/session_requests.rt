@@ -4,7 +4,7 @@ ghost use Rattle.bl_session.specs.History.{Item};
 ghost use Rattle.bl_session.specs.Asked.{orders};
 ghost use Rattle.bl_session.specs.Phases.{state_at, is_waiting};
 ghost use Rattle.bl_session.specs.Requests.{first_request, request_after};
-ghost use Rattle.bl_session.specs.TurnsKept.{IsAsked, missing_in};
+ghost use Rattle.bl_session.specs.TurnsKept.{IsAsked, first_awaited_ticket};
 
 use crate::phase::{Boot, awaits_pieces};
 use crate::session::Session;
@@ -71,7 +71,7 @@ impl<'a, A: Allocator + Copy> Session<'a, A> {
     /// The ticket of the first piece that the attempt awaits.
     pub(crate) fn first_missing_ticket(&self) -> Ticket
         requires { is_waiting self.now.phase ≡ true }
-        ensures { (bytes : List ℕ) → missing_in (state_at bytes self.now.phase) ≡ Some result }
+        ensures { (bytes : List ℕ) → first_awaited_ticket (state_at bytes self.now.phase) ≡ Some result }
     {
         let boot = Boot {
             alloc: self.alloc,

@@ -52,7 +52,7 @@ impl<'a, A: Allocator + Copy> Store for SliceStore<'a, A> {
     ghost use Rattle.bl_session.specs.History.{Item, submitted, IsItemOf};
     ghost use Rattle.bl_session.specs.Outcome.{missing, size_of};
     ghost use Rattle.bl_session.specs.Stores.{event_of, next_place};
-    ghost use Rattle.bl_session.specs.Ledger.{answer_at, ledger_asked, ledger_answered};
+    ghost use Rattle.bl_session.specs.Ledger.{pending_answer, ledger_asked, ledger_answered};
 
     type Alloc = A;
 
@@ -92,7 +92,7 @@ impl<'a, A: Allocator + Copy> Store for SliceStore<'a, A> {
 
     fn next(&mut self) -> Result<Option<Completion<A>>, AllocError>
         ensures answer { IfOk result (λ answer. option_map event_of answer
-            ≡ answer_at self.old.ledger (next_place self.old.order self.old.ledger.pending)) }
+            ≡ pending_answer self.old.ledger (next_place self.old.order self.old.ledger.pending)) }
         ensures ok { OnOk result (self.new ≡ record {
           ledger = ledger_answered self.old.ledger
               (next_place self.old.order self.old.ledger.pending);

@@ -7,7 +7,7 @@ ghost use Rattle.bl_stage.specs.Staged.{AreStaged};
 ghost use Rattle.bl_session.specs.AttemptResult.{file_refusal, size_refusal};
 ghost use Rattle.bl_session.specs.AttemptResult as attempt;
 ghost use Rattle.bl_session.specs.Menu as menu;
-ghost use Rattle.bl_session.specs.PhasesKept.{IsFresh, IsSizeFault, IsFileFault, HasSmallFiles};
+ghost use Rattle.bl_session.specs.PhasesKept.{IsFresh, IsSizeFault, IsFileRefusal, HasSmallFiles};
 
 use bl_load::{Entry, Module, PrepFault, Refusal};
 use bl_map::Machine;
@@ -92,7 +92,7 @@ fn lengths_of<A: Allocator + Copy>(
     ensures ok { IfOk result (λ lengths.
         let known = map (λ file. slice_index_or sizes.now file None) files.now in
         (file_refusal 0 known ≡ None) × (lengths.items ≡ attempt.known_lengths known)) }
-    ensures err { IfErr result (λ fault. IsFileFault
+    ensures err { IfErr result (λ fault. IsFileRefusal
         (map (λ file. slice_index_or sizes.now file None) files.now) fault) }
 {
     let mut lengths = Vec::new(alloc);

@@ -1,12 +1,12 @@
 //! The phase of a session after its start, and after an event.
 ghost use Rattle.std.specs.Prelude.{◌≡◌, ◌≢◌, [], true, false, IfOk, OnErr, OnOk, MatchBool};
 ghost use Rattle.std.specs.Prelude.{length};
-ghost use Rattle.bl_mem.specs.Memory.{HasRoom, KeepsMemory};
+ghost use Rattle.bl_mem.specs.Memory.{HasRoom, KeepsSizeAndRoom};
 ghost use Rattle.bl_stage.specs.Ranges.{IsSameOutside};
 ghost use Rattle.bl_session.specs.Boot.{is_taken, attempt_number, Begins};
 ghost use Rattle.bl_session.specs.Boot.{StepsOrFails, StartsOrFails};
 ghost use Rattle.bl_session.specs.Boot as boot_specs;
-ghost use Rattle.bl_session.specs.Memory.{IsMemoryIn};
+ghost use Rattle.bl_session.specs.Memory.{IsMemoryInState};
 ghost use Rattle.bl_session.specs.Phases.{event_facts, phase_facts};
 ghost use Rattle.bl_session.specs.Phases.{is_waiting, not_started};
 ghost use Rattle.bl_session.specs.PhasesKept.{facts_of_boot, state_in, IsPhaseKept};
@@ -41,13 +41,13 @@ pub fn advance<M: PhysMem, A: Allocator + Copy>(
     ensures memory { MatchBool
         (is_taken (state_in boot.now (M.bytes memory.old) phase.old)
         (event_facts event.entry))
-        (IsMemoryIn boot.now.machine.now.pool (state_in boot.now (M.bytes memory.new) phase.new)
+        (IsMemoryInState boot.now.machine.now.pool (state_in boot.now (M.bytes memory.new) phase.new)
         (M.bytes memory.old) (M.bytes memory.new))
         (M.bytes memory.new ≡ M.bytes memory.old) }
     ensures unchanged { is_taken (state_in boot.now (M.bytes memory.old) phase.old)
         (event_facts event.entry) ≡ false → phase.new ≡ phase.old }
     ensures stands { IsPhaseKept boot.now.machine.now boot.now.menu.now phase.new }
-    ensures kept { KeepsMemory M.lender M.bytes M.room memory.old memory.new }
+    ensures kept { KeepsSizeAndRoom M.lender M.bytes M.room memory.old memory.new }
 {
     let attempt = number_of(phase);
     let ended = match phase {
@@ -73,7 +73,7 @@ fn reserve_pool<M: PhysMem, A: Allocator>(
     ensures same { M.bytes memory.new ≡ M.bytes memory.old }
     ensures room { OnOk result
         (HasRoom (M.room memory.new) machine.now.pool.start machine.now.pool.end) }
-    ensures kept { KeepsMemory M.lender M.bytes M.room memory.old memory.new }
+    ensures kept { KeepsSizeAndRoom M.lender M.bytes M.room memory.old memory.new }
 {
     let pool = machine.pool();
     // A pool of no frames may lie anywhere.
@@ -91,7 +91,7 @@ fn begin_all<M: PhysMem, A: Allocator + Copy>(
     requires { length (M.bytes memory.old) ≡ boot.now.machine.now.size }
     ensures begun { IfOk result (λ phase. Begins (facts_of_boot boot.now)
         boot.now.menu.now.attempts [] (state_in boot.now (M.bytes memory.new) phase)) }
-    ensures memory { IfOk result (λ phase. IsMemoryIn boot.now.machine.now.pool
+    ensures memory { IfOk result (λ phase. IsMemoryInState boot.now.machine.now.pool
         (state_in boot.now (M.bytes memory.new) phase)
         (M.bytes memory.old) (M.bytes memory.new)) }
     ensures phase { IfOk result (IsPhaseKept boot.now.machine.now boot.now.menu.now) }
@@ -100,7 +100,7 @@ fn begin_all<M: PhysMem, A: Allocator + Copy>(
     ensures room { OnOk result
         (HasRoom (M.room memory.new)
         boot.now.machine.now.pool.start boot.now.machine.now.pool.end) }
-    ensures kept { KeepsMemory M.lender M.bytes M.room memory.old memory.new }
+    ensures kept { KeepsSizeAndRoom M.lender M.bytes M.room memory.old memory.new }
 {
     reserve_pool(boot.machine, memory)?;
     begin(boot, memory, 0, Vec::new(boot.alloc))
@@ -121,7 +121,7 @@ pub fn begin_first<M: PhysMem, A: Allocator + Copy>(
         (attempt_number (state_in boot.now (M.bytes memory.old) phase.old))
         (state_in boot.now (M.bytes memory.new) phase.new) }
     ensures memory { phase_facts boot.now.menu.now.attempts phase.old ≡ not_started
-        → IsMemoryIn boot.now.machine.now.pool (state_in boot.now (M.bytes memory.new) phase.new)
+        → IsMemoryInState boot.now.machine.now.pool (state_in boot.now (M.bytes memory.new) phase.new)
         (M.bytes memory.old) (M.bytes memory.new) }
     ensures same { phase_facts boot.now.menu.now.attempts phase.old ≢ not_started
         → (phase.new ≡ phase.old) × (M.bytes memory.new ≡ M.bytes memory.old) }
@@ -130,7 +130,7 @@ pub fn begin_first<M: PhysMem, A: Allocator + Copy>(
         → HasRoom (M.room memory.new)
         boot.now.machine.now.pool.start boot.now.machine.now.pool.end }
     ensures stands { IsPhaseKept boot.now.machine.now boot.now.menu.now phase.new }
-    ensures kept { KeepsMemory M.lender M.bytes M.room memory.old memory.new }
+    ensures kept { KeepsSizeAndRoom M.lender M.bytes M.room memory.old memory.new }
 {
     let attempt = number_of(phase);
     if let Phase::Unstarted = phase {

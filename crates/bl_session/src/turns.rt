@@ -1,11 +1,11 @@
 //! One attempt of a boot over a store: its pieces are asked for, and the answers are taken.
 ghost use Rattle.std.specs.Prelude.{◌≡◌, ◌≢◌, ◌<◌, [], ℕ, List, true, false, length};
 ghost use Rattle.std.specs.Prelude.{IfOk, OnOk, OnErr};
-ghost use Rattle.bl_mem.specs.Memory.{HasRoom, KeepsMemory};
+ghost use Rattle.bl_mem.specs.Memory.{HasRoom, KeepsSizeAndRoom};
 ghost use Rattle.bl_stage.specs.Ranges.{IsSameOutside};
 ghost use Rattle.bl_session.specs.Boot.{StepsOrFails, attempt_number, is_running};
 ghost use Rattle.bl_session.specs.Boot as boot;
-ghost use Rattle.bl_session.specs.Memory.{IsMemoryIn};
+ghost use Rattle.bl_session.specs.Memory.{IsMemoryInState};
 ghost use Rattle.bl_session.specs.Asked.{orders_after};
 ghost use Rattle.bl_session.specs.Phases.{event_facts, state_at, is_waiting, not_started};
 ghost use Rattle.bl_session.specs.Run.{RunState, run_state_of};
@@ -43,10 +43,10 @@ fn hear<M: PhysMem, A: Allocator + Copy>(
         → attempts_left (state_at (M.bytes memory.new) session.new.phase)
         < attempts_left (state_at (M.bytes memory.old) session.old.phase) }
     ensures started { session.new.phase ≢ not_started }
-    ensures memory { IsMemoryIn session.old.boot.machine.pool
+    ensures memory { IsMemoryInState session.old.boot.machine.pool
         (state_at (M.bytes memory.new) session.new.phase)
         (M.bytes memory.old) (M.bytes memory.new) }
-    ensures kept { KeepsMemory M.lender M.bytes M.room memory.old memory.new }
+    ensures kept { KeepsSizeAndRoom M.lender M.bytes M.room memory.old memory.new }
 {
     session.event(memory, event)
 }
@@ -85,13 +85,13 @@ fn answer<M: PhysMem, S: Store, A: Allocator + Copy>(
         → attempts_left (state_at (M.bytes memory.new) session.new.phase)
         < attempts_left (state_at (M.bytes memory.old) session.old.phase)) }
     ensures started { OnOk result (session.new.phase ≢ not_started) }
-    ensures memory { OnOk result (IsMemoryIn session.old.boot.machine.pool
+    ensures memory { OnOk result (IsMemoryInState session.old.boot.machine.pool
         (state_at (M.bytes memory.new) session.new.phase)
         (M.bytes memory.old) (M.bytes memory.new)) }
     ensures unchanged { OnErr result (M.bytes memory.new ≡ M.bytes memory.old) }
     ensures given { OnErr result (S.given store.new ≡ S.given store.old) }
     ensures files { S.files store.new ≡ S.files store.old }
-    ensures kept { KeepsMemory M.lender M.bytes M.room memory.old memory.new }
+    ensures kept { KeepsSizeAndRoom M.lender M.bytes M.room memory.old memory.new }
 {
     match store.next()? {
         Some(Completion::Piece(ticket, bytes)) => {
@@ -123,7 +123,7 @@ fn await_end<M: PhysMem, S: Store, A: Allocator + Copy>(
     ensures fewer { OnOk result (attempts_left (state_at (M.bytes memory.new) session.new.phase)
         < attempts_left (state_at (M.bytes memory.old) session.old.phase)) }
     ensures started { OnOk result (session.new.phase ≢ not_started) }
-    ensures memory { OnOk result (IsMemoryIn session.old.boot.machine.pool
+    ensures memory { OnOk result (IsMemoryInState session.old.boot.machine.pool
         (state_at (M.bytes memory.new) session.new.phase)
         (M.bytes memory.old) (M.bytes memory.new)) }
     ensures lacking { OnErr result ((run_state : RunState) × IsHeard session.old.boot
@@ -133,7 +133,7 @@ fn await_end<M: PhysMem, S: Store, A: Allocator + Copy>(
     ensures outside { OnErr result (IsSameOutside session.old.boot.machine.pool
         (M.bytes memory.old) (M.bytes memory.new)) }
     ensures files { S.files store.new ≡ S.files store.old }
-    ensures kept { KeepsMemory M.lender M.bytes M.room memory.old memory.new }
+    ensures kept { KeepsSizeAndRoom M.lender M.bytes M.room memory.old memory.new }
 {
     'answers: loop {
         match answer(session, memory, store)? {
@@ -162,20 +162,20 @@ pub fn drive<M: PhysMem, S: Store, A: Allocator + Copy>(
     ensures ended { OnOk result (is_waiting session.new.phase ≡ false) }
     ensures started { OnOk result (session.new.phase ≢ not_started) }
     ensures memory { OnOk result ((first : List ℕ)
-        → IsMemoryIn session.old.boot.machine.pool
+        → IsMemoryInState session.old.boot.machine.pool
         (state_at (M.bytes memory.old) session.old.phase) first (M.bytes memory.old)
-        → IsMemoryIn session.old.boot.machine.pool
+        → IsMemoryInState session.old.boot.machine.pool
         (state_at (M.bytes memory.new) session.new.phase) first (M.bytes memory.new)) }
     ensures lacking { OnErr result ((run_state : RunState) × IsHeard session.old.boot
         (S.files store.old) (S.given store.old) (S.given store.new)
         (run_state_of session.old.boot (state_at (M.bytes memory.old) session.old.phase)) run_state
         × (is_running run_state.state ≡ true)) }
     ensures outside { OnErr result ((first : List ℕ)
-        → IsMemoryIn session.old.boot.machine.pool
+        → IsMemoryInState session.old.boot.machine.pool
         (state_at (M.bytes memory.old) session.old.phase) first (M.bytes memory.old)
         → IsSameOutside session.old.boot.machine.pool first (M.bytes memory.new)) }
     ensures files { S.files store.new ≡ S.files store.old }
-    ensures kept { KeepsMemory M.lender M.bytes M.room memory.old memory.new }
+    ensures kept { KeepsSizeAndRoom M.lender M.bytes M.room memory.old memory.new }
 {
     'attempts: while session.is_waiting() {
         session.submit(store)?;

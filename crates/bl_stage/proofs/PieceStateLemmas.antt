@@ -14,7 +14,7 @@ use Rattle.bl_mem.proofs.Overwrites.{get_or-overwrite_above}
 use Rattle.bl_stage.specs.Staged.{Staging, AreStaged, staged_file, table_of, with_frames}
 use Rattle.bl_stage.specs.Pieces.{is_piece, slot_in, stage_with}
 use Rattle.bl_stage.specs.TextLaws.{same_firsts}
-use Rattle.bl_stage.specs.PieceStates.{PieceState, has, piece_state_by, piece_state_at}
+use Rattle.bl_stage.specs.PieceStates.{PieceState, has, piece_state_if_came, piece_state_at}
 use Rattle.bl_stage.specs.PieceStates.{piece_states_of, piece_states, piece_of, put_piece_state}
 use Rattle.bl_stage.proofs.FrameLemmas.{staged_length}
 use Rattle.bl_stage.proofs.FileLemmas.{file_within, file_before}
@@ -140,7 +140,7 @@ module _ (stage : Staging) (old new piece : List ℕ) (file index : ℕ) (staged
       get_or-set_other stage.came (slot_in stage file index) (slot_in stage file k) true
       false (λ e. other (omega arith)) in
       rw (came, in_file)
-      (ap (piece_state_by (get_or stage.came (slot_in stage file k) false))
+      (ap (piece_state_if_came (get_or stage.came (slot_in stage file k) false))
       (piece_there (staged_file old stage file) piece index room size k other))
 
   -- and so is each piece of the other files

@@ -15,13 +15,13 @@ pub data PieceState : Type 0 where
 abbrev pub piece_of : List ℕ → ℕ → List ℕ
 piece_of file index = take 4096 (drop (4096 * index) file)
 
-abbrev pub piece_state_by : Bool → List ℕ → PieceState
-piece_state_by true piece = has piece
-piece_state_by false piece = lacks (length piece)
+abbrev pub piece_state_if_came : Bool → List ℕ → PieceState
+piece_state_if_came true piece = has piece
+piece_state_if_came false piece = lacks (length piece)
 
 abbrev pub piece_state_at : List ℕ → Staging → ℕ → ℕ → PieceState
 piece_state_at bytes stage file index =
-    piece_state_by (slice_index_or stage.came (slot_in stage file index) false)
+    piece_state_if_came (slice_index_or stage.came (slot_in stage file index) false)
     (piece_of (staged_file bytes stage file) index)
 
 -- the states of a file's pieces

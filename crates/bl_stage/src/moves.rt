@@ -4,7 +4,7 @@ ghost use Rattle.std.specs.Prelude.{slice_range, slice_set, true, false, Some, N
 ghost use Rattle.std.specs.List.{count_by};
 ghost use Rattle.std.specs.Bool.{OnTrue, OnFalse};
 ghost use Rattle.bl_map.specs.Room.{open_among};
-ghost use Rattle.bl_mem.specs.Memory.{overwrite, HasRoom, KeepsMemory};
+ghost use Rattle.bl_mem.specs.Memory.{overwrite, HasRoom, KeepsSizeAndRoom};
 ghost use Rattle.bl_stage.specs.Cells.{is_open_cell, is_spare_cell, cell_at, AreHeld, Moved};
 ghost use Rattle.bl_stage.specs.Cells.{MadeWay, AreFramesInMemory};
 ghost use Rattle.bl_stage.specs.CellGroups.{no_holder};
@@ -48,7 +48,7 @@ fn copy_frame<M: PhysMem>(
     ensures after { M.bytes memory.new
         ≡ overwrite (M.bytes memory.old) (4096 * (base + to))
         (slice_range (M.bytes memory.old) (4096 * (base + from)) (4096 * (base + from) + 4096)) }
-    ensures kept { KeepsMemory M.lender M.bytes M.room memory.old memory.new }
+    ensures kept { KeepsSizeAndRoom M.lender M.bytes M.room memory.old memory.new }
 {
     let _size = memory.size();
     memory.read(FRAME_SIZE * (base + from as u64), buffer);
@@ -102,7 +102,7 @@ fn move_out<A: Allocator, M: PhysMem>(
     requires room { HasRoom (M.room memory.old) (4096 * base) (4096 * (base + length cells.old)) }
     ensures moved { Moved base (M.bytes memory.old) (M.bytes memory.new) frames.old frames.new
         cells.old cells.new (length cells.old) }
-    ensures kept { KeepsMemory M.lender M.bytes M.room memory.old memory.new }
+    ensures kept { KeepsSizeAndRoom M.lender M.bytes M.room memory.old memory.new }
 {
     let mut to = 0;
     for from in 0..cells.len() {
@@ -139,7 +139,7 @@ pub fn make_way<A: Allocator, M: PhysMem>(
         (M.bytes memory.old) (M.bytes memory.new) frames.old frames.new) }
     ensures no { OnFalse result
         ((frames.new ≡ frames.old) × (M.bytes memory.new ≡ M.bytes memory.old)) }
-    ensures kept { KeepsMemory M.lender M.bytes M.room memory.old memory.new }
+    ensures kept { KeepsSizeAndRoom M.lender M.bytes M.room memory.old memory.new }
 {
     mark(cells, base, ranges);
     if count_open(cells) < frames.len() {

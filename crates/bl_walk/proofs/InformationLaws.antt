@@ -19,7 +19,7 @@ use Rattle.bl_load.specs.Reading.{multiboot2}
 use Rattle.bl_load.specs.Registers.{entry_in, information_in}
 use Rattle.bl_load.specs.Rows.{rows_of, kernel_rows, module_rows}
 use Rattle.bl_load.specs.Value.{EntryValue, kernel_file, module_file, lines_fault, lines_of}
-use Rattle.bl_walk.specs.Seen.{HasTotalSize, IsInformation, InformationSays, InformationShows}
+use Rattle.bl_walk.specs.Seen.{HasTotalSize, IsInformation, HasInformation, InformationShows}
 use Rattle.bl_walk.specs.Seen.{IsSeen}
 use Rattle.bl_walk.specs.Kept.{seen_alone}
 use Rattle.bl_walk.specs.SeenFacts.{SeenFacts}
@@ -88,7 +88,7 @@ module _ (facts : MachineFacts) (value : EntryValue) (kernel : KernelFacts) (pla
           ∙ ap Some (take-length (text facts value kernel places));
     }
 
-    says : InformationSays (handover facts value kernel places)
+    says : HasInformation (handover facts value kernel places)
         record { name = codes "bootcore"; facts = told facts value kernel places }
     says = record {
       bytes = text facts value kernel places;

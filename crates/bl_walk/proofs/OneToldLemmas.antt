@@ -16,8 +16,8 @@ use Rattle.bl_load.specs.Registers.{information_in}
 use Rattle.bl_plan.specs.declared.protocol.Protocol.{Protocol}
 use Rattle.bl_plan.specs.declared.protocol.Protocol.TheVariants.{Multiboot2}
 use Rattle.bl_walk.specs.Inside.{bytes_in}
-use Rattle.bl_walk.specs.Seen.{HasTotalSize, IsInformation, InformationSays, AreSeenModules}
-use Rattle.bl_walk.specs.Seen.{AreParameters, ParametersSay}
+use Rattle.bl_walk.specs.Seen.{HasTotalSize, IsInformation, HasInformation, AreSeenModules}
+use Rattle.bl_walk.specs.Seen.{AreParameters, HasParameters}
 use Rattle.bl_walk.specs.SeenFacts.{SeenModuleFacts}
 use Rattle.bl_walk.proofs.LengthLemmas.{same_some, length_in}
 
@@ -58,12 +58,12 @@ spelling_read bytes info is =
     let e = is.exact in
     rw e (spelled_is_read info.name info.facts is.name is.facts (rw (← e) is.short))
 
-pub says_read : (h : Handover) (info : InfoFacts) (says : InformationSays h info)
+pub says_read : (h : Handover) (info : InfoFacts) (says : HasInformation h info)
     → info_of says.bytes ≡ Ok info
 says_read h info says =
     spelling_read says.bytes info says.spelling
 
-pub same_info : (h : Handover) (a b : InfoFacts) → InformationSays h a → InformationSays h b → a ≡ b
+pub same_info : (h : Handover) (a b : InfoFacts) → HasInformation h a → HasInformation h b → a ≡ b
 same_info h a b p q =
     same_ok a b
     (sym (says_read h a p)
@@ -75,7 +75,7 @@ same_info h a b p q =
 pub same_bytes : (h : Handover) (a b : List ℕ) → AreParameters h a → AreParameters h b → a ≡ b
 same_bytes h a b p q = same_some a b (sym p.whole ∙ q.whole)
 
-pub same_params : (h : Handover) (a b : ParamsFacts) → ParametersSay h a → ParametersSay h b → a ≡ b
+pub same_params : (h : Handover) (a b : ParamsFacts) → HasParameters h a → HasParameters h b → a ≡ b
 same_params h a b p q =
     one_reading q.bytes a b
     (subst (λ bytes. IsParams bytes a) (same_bytes h p.bytes q.bytes p.parameters q.parameters)

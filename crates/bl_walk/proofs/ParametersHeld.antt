@@ -10,7 +10,7 @@ use Rattle.bl_map.specs.MachineFacts.{MachineFacts, AreMachineFacts}
 use Rattle.bl_mbi.specs.InformationFacts.{AreBytes}
 use Rattle.bl_bzimage.specs.declared.setup.Setup.{Setup}
 use Rattle.bl_params.specs.BootParams.{boot_params}
-use Rattle.bl_params.specs.BootParamsFacts.{BootParamsFacts, AreTold}
+use Rattle.bl_params.specs.BootParamsFacts.{BootParamsFacts, AreE820Runs}
 use Rattle.bl_params.specs.ParamsFacts.{ParamsFacts}
 use Rattle.bl_params.specs.Told.{FitFields, params_of}
 use Rattle.bl_params.proofs.Lengths.{length-boot_params}
@@ -39,7 +39,7 @@ use Rattle.bl_load.proofs.LinuxLemmas.{linux_rows_are_rows, linux_rowed}
 use Rattle.bl_load.proofs.LinuxToldLemmas.{initrd_fits}
 use Rattle.bl_load.proofs.PlaceBoundLemmas.{are_below}
 use Rattle.bl_walk.specs.Inside.{bytes_in}
-use Rattle.bl_walk.specs.Seen.{ParametersSay, IsLine, IsInitrd}
+use Rattle.bl_walk.specs.Seen.{HasParameters, IsLine, IsInitrd}
 use Rattle.bl_walk.specs.SeenFacts.{SeenFileFacts}
 use Rattle.bl_walk.specs.Shown.{some_bytes}
 use Rattle.bl_walk.proofs.InformationLemmas.{is_row, row_held, behind}
@@ -100,7 +100,7 @@ module _ (facts : MachineFacts) (value : EntryValue) (setup : Setup) (places : L
         cmd_line_ptr = omega arith;
       }
 
-  are_told : AreTold (told facts value setup places).runs
+  are_told : AreE820Runs (told facts value setup places).runs
   are_told = record { few = few_runs is_kernel; low = machine.runs.low }
 
   -- each row after the kernel's has a place
@@ -128,7 +128,7 @@ module _ (facts : MachineFacts) (value : EntryValue) (setup : Setup) (places : L
       (ap (λ (n : ℕ). take n (boot_params setup.header (told facts value setup places))) (sym size)
       ∙ take-length (boot_params setup.header (told facts value setup places)))
 
-  pub say : ParametersSay (handover facts value setup places) (params facts value setup places)
+  pub say : HasParameters (handover facts value setup places) (params facts value setup places)
   say = record {
     bytes = boot_params setup.header (told facts value setup places);
     parameters = record { handed = handed; whole = params_held };

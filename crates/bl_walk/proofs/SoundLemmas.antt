@@ -19,7 +19,7 @@ use Rattle.bl_walk.specs.Faults.{short_information, other_information, other_par
 use Rattle.bl_walk.specs.Faults.{endless_line, other_registers, other_descriptors}
 use Rattle.bl_walk.specs.Faults.{other_translation}
 use Rattle.bl_walk.specs.Inside.{bytes_in, rest_in}
-use Rattle.bl_walk.specs.Seen.{InformationSays, AreSeenModules, InformationShows, ParametersSay}
+use Rattle.bl_walk.specs.Seen.{HasInformation, AreSeenModules, InformationShows, HasParameters}
 use Rattle.bl_walk.specs.Seen.{IsLine, IsInitrd, ParametersShow, IsSeen, text_to_zero}
 use Rattle.bl_walk.specs.SeenFacts.{SeenModuleFacts, SeenFileFacts, SeenFacts}
 use Rattle.bl_walk.specs.State.{IsEntered}
@@ -32,7 +32,7 @@ use Rattle.bl_walk.proofs.OneToldLemmas.{same_info, same_bytes, same_params, see
 -- ---- Multiboot2
 
 module _ (h : Handover) (info : InfoFacts) (ss : List SeenModuleFacts)
-    (says : InformationSays h info)
+    (says : HasInformation h info)
     (modules : AreSeenModules h.parts info.facts.modules ss) where
   protocol_is : h.protocol ≡ Multiboot2
   protocol_is = says.information.total_size.protocol
@@ -77,7 +77,7 @@ module _ (h : Handover) (info : InfoFacts) (ss : List SeenModuleFacts)
 -- ---- Linux
 
 module _ (h : Handover) (params : ParamsFacts) (line : List ℕ) (file : Option SeenFileFacts)
-    (say : ParametersSay h params)
+    (say : HasParameters h params)
     (text : IsLine h.parts params.cmd_line_ptr line) (ramdisk : IsInitrd h.parts params file)
     (entered : IsEntered h) where
   not_told : h.protocol ≡ Multiboot2 → ⊥

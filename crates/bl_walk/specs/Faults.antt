@@ -20,8 +20,8 @@ use Rattle.bl_walk.specs.declared.fault.WalkFault.TheVariants.{OutsideImage, Bad
 use Rattle.bl_walk.specs.declared.fault.WalkFault.TheVariants.{NoMemory}
 use Rattle.bl_walk.specs.Inside.{bytes_in, rest_in}
 use Rattle.bl_walk.specs.State.{entry_registers, is_in_kernel}
-use Rattle.bl_walk.specs.Seen.{HasTotalSize, IsInformation, InformationSays, AreParameters}
-use Rattle.bl_walk.specs.Seen.{ParametersSay, text_to_zero}
+use Rattle.bl_walk.specs.Seen.{HasTotalSize, IsInformation, HasInformation, AreParameters}
+use Rattle.bl_walk.specs.Seen.{HasParameters, text_to_zero}
 use Rattle.bl_mbi.specs.Size.{min_info_size}
 use Rattle.bl_params.specs.Numbers.{params_size, tables_size, page_size, low_pages}
 
@@ -38,16 +38,16 @@ pub data IsFollowed (h : Handover) : ℕ → ℕ → Type 0 where
   size_word : h.protocol ≡ Multiboot2 → IsFollowed h (information_in h.registers) 4
   information : (size : ℕ) → HasTotalSize h size → min_info_size ≤ size
       → IsFollowed h (information_in h.registers) size
-  loaded_module : (info : InfoFacts) (m : ModuleInfo) → InformationSays h info
+  loaded_module : (info : InfoFacts) (m : ModuleInfo) → HasInformation h info
       → Contains info.facts.modules m → IsFollowed h m.mod_start (m.mod_end - m.mod_start)
   -- the descriptors, where a kernel is handed them
   descriptors : (gdt : List ℕ) → descriptors_of h.protocol ≡ Some gdt
       → IsFollowed h (gdt_in h.registers) (length gdt)
   -- Linux: the boot parameters, the line's first byte, the initial ramdisk
   boot_params : has_params h.protocol ≡ true → IsFollowed h (params_in h.registers) params_size
-  command_line : (params : ParamsFacts) → ParametersSay h params
+  command_line : (params : ParamsFacts) → HasParameters h params
       → IsFollowed h params.cmd_line_ptr 1
-  initrd : (params : ParamsFacts) → ParametersSay h params
+  initrd : (params : ParamsFacts) → HasParameters h params
       → IsFollowed h params.ramdisk_image params.ramdisk_size
   -- the page tables, where a kernel is entered with paging
   page_tables : is_wide h.protocol ≡ true → IsFollowed h (tables_in h.registers) tables_size
@@ -66,7 +66,7 @@ pub data HasBadInfo (h : Handover) : Type 0 where
       → info_of bytes ≡ Err fault → HasBadInfo h
   other_parameters : (bytes : List ℕ) (fault : ParamFault) → AreParameters h bytes
       → ¬ (fault ≡ param_fault.NoMemory) → HasFirstParamFault bytes fault → HasBadInfo h
-  endless_line : (params : ParamsFacts) (rest : List ℕ) → ParametersSay h params
+  endless_line : (params : ParamsFacts) (rest : List ℕ) → HasParameters h params
       → rest_in h.parts params.cmd_line_ptr ≡ Some rest → text_to_zero rest ≡ None → HasBadInfo h
 
 -- 83: a register that does not hold an address has another number, or the kernel is handed other

@@ -45,7 +45,7 @@ pub record IsInformation (h : Handover) (bytes : List ℕ) : Type 0 where
   pub whole : bytes_in h.parts (information_in h.registers) size ≡ Some bytes
 
 -- what it says
-pub record InformationSays (h : Handover) (info : InfoFacts) : Type 0 where
+pub record HasInformation (h : Handover) (info : InfoFacts) : Type 0 where
   pub bytes : List ℕ
   pub information : IsInformation h bytes
   pub spelling : IsSpelling bytes info
@@ -67,7 +67,7 @@ AreSeenModules parts (m ∷ modules) (seen ∷ more) =
 -- what the information shows
 pub record InformationShows (h : Handover) (seen : SeenFacts) : Type 0 where
   pub info : InfoFacts
-  pub says : InformationSays h info
+  pub says : HasInformation h info
   pub line : seen.line ≡ info.facts.line
   pub modules : AreSeenModules h.parts info.facts.modules seen.modules
   pub initrd : seen.initrd ≡ None
@@ -83,7 +83,7 @@ pub record AreParameters (h : Handover) (bytes : List ℕ) : Type 0 where
   pub whole : bytes_in h.parts (params_in h.registers) params_size ≡ Some bytes
 
 -- their numbers
-pub record ParametersSay (h : Handover) (params : ParamsFacts) : Type 0 where
+pub record HasParameters (h : Handover) (params : ParamsFacts) : Type 0 where
   pub bytes : List ℕ
   pub parameters : AreParameters h bytes
   pub told : IsParams bytes params
@@ -108,7 +108,7 @@ IsInitrd parts params (Some file) =
 -- what the boot parameters show
 pub record ParametersShow (h : Handover) (seen : SeenFacts) : Type 0 where
   pub params : ParamsFacts
-  pub say : ParametersSay h params
+  pub say : HasParameters h params
   pub line : IsLine h.parts params.cmd_line_ptr seen.line
   pub modules : seen.modules ≡ []
   pub initrd : IsInitrd h.parts params seen.initrd

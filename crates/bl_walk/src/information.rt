@@ -2,7 +2,7 @@
 ghost use Rattle.std.specs.Prelude.{◌≡◌, ◌-◌, ◌≤◌, IfOk, IfErr};
 ghost use Rattle.bl_plan.specs.declared.protocol.Protocol.TheVariants as protocol;
 ghost use Rattle.bl_walk.specs.Faults.{HasWalkFault};
-ghost use Rattle.bl_walk.specs.Seen.{HasTotalSize, InformationSays, IsSeen};
+ghost use Rattle.bl_walk.specs.Seen.{HasTotalSize, HasInformation, IsSeen};
 ghost use Rattle.bl_mbi.specs.Size.{min_info_size};
 
 use crate::fault::WalkFault;
@@ -35,7 +35,7 @@ fn total_size<A: Allocator>(image: &Image<A>) -> Result<u32, WalkFault>
 /// What the information says.
 fn information<A: Allocator + Copy>(alloc: A, image: &Image<A>) -> Result<Info<A>, WalkFault>
     requires { image.now.protocol ≡ protocol.Multiboot2 }
-    ensures ok { IfOk result (InformationSays image.now) }
+    ensures ok { IfOk result (HasInformation image.now) }
     ensures fault { IfErr result (HasWalkFault image.now) }
 {
     let size = total_size(image)?;

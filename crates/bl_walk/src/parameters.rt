@@ -2,7 +2,7 @@
 ghost use Rattle.std.specs.Prelude.{◌≡◌, ◌-◌, ◌≤◌, true, IfOk, IfErr};
 ghost use Rattle.bl_load.specs.Protocols.{has_params};
 ghost use Rattle.bl_walk.specs.Faults.{HasWalkFault};
-ghost use Rattle.bl_walk.specs.Seen.{ParametersSay, IsLine, IsInitrd, IsSeen};
+ghost use Rattle.bl_walk.specs.Seen.{HasParameters, IsLine, IsInitrd, IsSeen};
 
 use crate::fault::WalkFault;
 use crate::follow::{follow, text_to_zero};
@@ -16,7 +16,7 @@ use std::alloc::Allocator;
 /// What the boot parameters say.
 fn parameters<A: Allocator + Copy>(alloc: A, image: &Image<A>) -> Result<Params<A>, WalkFault>
     requires { has_params image.now.protocol ≡ true }
-    ensures ok { IfOk result (ParametersSay image.now) }
+    ensures ok { IfOk result (HasParameters image.now) }
     ensures fault { IfErr result (HasWalkFault image.now) }
 {
     let bytes = follow(image, image.registers().params(), PARAMS_SIZE as u32)?;
@@ -29,7 +29,7 @@ fn line<A: Allocator + Copy>(
     image: &Image<A>,
     params: &Params<A>,
 ) -> Result<Bytes<A>, WalkFault>
-    requires { ParametersSay image.now params.now }
+    requires { HasParameters image.now params.now }
     ensures ok { IfOk result (IsLine image.now.parts params.now.cmd_line_ptr) }
     ensures fault { IfErr result (HasWalkFault image.now) }
 {
@@ -47,7 +47,7 @@ fn initrd<'a, A: Allocator>(
     image: &'a Image<A>,
     params: &Params<A>,
 ) -> Result<Option<SeenFile<'a>>, WalkFault>
-    requires { ParametersSay image.now params.now }
+    requires { HasParameters image.now params.now }
     ensures ok { IfOk result (IsInitrd image.now.parts params.now) }
     ensures fault { IfErr result (HasWalkFault image.now) }
 {

@@ -29,8 +29,8 @@ pub fn tell(rt: &HostRuntime, text: &[u8]) {
 }
 
 /// What is said on standard error as the program ends with a status.
-fn word_of(status: u8) -> Option<&'static str>
-    ensures { option_map (λ word. word.now) result ≡ statuses.word_of status }
+fn status_words(status: u8) -> Option<&'static str>
+    ensures { option_map (λ word. word.now) result ≡ statuses.status_words status }
 {
     match status {
         2 => Some("bad description"),
@@ -45,7 +45,7 @@ fn word_of(status: u8) -> Option<&'static str>
 pub fn tell_status(rt: &HostRuntime, status: u8) -> u8
     ensures { result ≡ status }
 {
-    if let Some(word) = word_of(status) {
+    if let Some(word) = status_words(status) {
         let _ = rt.eprintln(word);
     }
     status

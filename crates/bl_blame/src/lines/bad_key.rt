@@ -4,7 +4,7 @@ ghost use Rattle.bl_desc.specs.Allowed.{keys_of_set};
 ghost use Rattle.bl_blame.specs.KeyWords as words;
 
 use crate::lines::key_values::{say_bad_value, say_instead, say_missing};
-use crate::lines::names::say_name;
+use crate::lines::shown_names::say_name;
 use bl_desc::{BadKey, KeyFault, KeySet, TablePlace};
 use std::alloc::{AllocError, Allocator};
 

@@ -70,7 +70,7 @@ fn say_map_fault<A: Allocator + Copy>(
 
 /// Appends where a text is not TOML.
 fn say_place<A: Allocator + Copy>(out: &mut Vec<u8, A>, place: &TextPlace) -> Result<(), AllocError>
-    ensures { OnOk result (out.new.items ≡ out.old.items ++ blames.place_words place.now) }
+    ensures { OnOk result (out.new.items ≡ out.old.items ++ blames.not_toml_words place.now) }
 {
     let alloc = *out.allocator();
     let line = place.line;

@@ -4,7 +4,7 @@ ghost use Rattle.std.specs.Fmt.{signed_decimal};
 ghost use Rattle.toml.specs.View.{view};
 ghost use Rattle.bl_blame.specs.KeyWords as words;
 
-use crate::lines::names::say_name;
+use crate::lines::shown_names::say_name;
 use bl_desc::Allowed;
 use std::alloc::{AllocError, Allocator};
 use toml::Value;
@@ -102,9 +102,9 @@ pub fn say_allowed<A: Allocator + Copy>(
     }
 }
 
-#[tactic(auto, unfolding(crate::specs::KeyWords::is_words))]
+#[tactic(auto, unfolding(crate::specs::KeyWords::actual_words))]
 fn say_is<A: Allocator + Copy>(out: &mut Vec<u8, A>, value: &Value) -> Result<(), AllocError>
-    ensures { OnOk result (out.new.items ≡ out.old.items ++ words.is_words (view value.now)) }
+    ensures { OnOk result (out.new.items ≡ out.old.items ++ words.actual_words (view value.now)) }
 {
     out.extend_from_slice(b" is ")?;
     say_held(out, value)

@@ -12,10 +12,10 @@ ghost use Rattle.bl_boot.specs.Told.{booted_lines, entry_handoff_lines, none_lef
 ghost use Rattle.bl_desc.specs.Views.{view};
 
 use crate::description_boot::{DescribedBoot, End};
-use crate::explanation::details::find_details;
 use crate::explanation::fault::ExplainFault;
 use crate::explanation::handed::say_outcome;
 use crate::explanation::kernel_segments::find_segments;
+use crate::explanation::refusal_details::find_details;
 use bl_mem::PhysMem;
 use bl_say::{
     KernelSegments, Sought, ToldRefusal, say_attempt, say_hints, say_no_entry_left,

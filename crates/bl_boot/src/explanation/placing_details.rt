@@ -11,7 +11,7 @@ use bl_load::{Choice, Entry, PrepFault, Row, prepare, unplaced};
 use bl_map::{Machine, open_frames};
 use bl_mem::SliceView;
 use bl_plan::first_unusable;
-use bl_say::Detail;
+use bl_say::RefusalDetail;
 use std::alloc::{AllocError, Allocator};
 
 /// The first of `count` bytes from `at` on that is not usable, if there is one. None from the
@@ -46,7 +46,7 @@ pub fn place_detail<A: Allocator + Copy>(
     machine: &Machine<A>,
     entry: &Entry<A>,
     files: &[SliceView<'_>],
-) -> Result<Detail, AllocError>
+) -> Result<RefusalDetail, AllocError>
     requires files { length files.now ≡ file_count entry.now }
     requires limits { IsWithinLimits entry.now }
     requires refused { HasNoPlace machine.now
@@ -55,7 +55,7 @@ pub fn place_detail<A: Allocator + Copy>(
         (value_of (map (λ f. f.bytes.now) files.now) entry.now)) }
 {
     match unplaced(alloc, machine, entry, files) {
-        Ok(Some(row)) => Ok(Detail::NoPlace {
+        Ok(Some(row)) => Ok(RefusalDetail::NoPlace {
             row,
             unusable: unusable_byte(machine, &row),
         }),
@@ -73,17 +73,17 @@ pub fn frames_detail<A: Allocator + Copy>(
     machine: &Machine<A>,
     entry: &Entry<A>,
     files: &[SliceView<'_>],
-) -> Result<Detail, AllocError>
+) -> Result<RefusalDetail, AllocError>
     requires files { length files.now ≡ file_count entry.now }
     requires limits { IsWithinLimits entry.now }
     ensures { IfOk result (IsFramesDetail machine.now
         (value_of (map (λ f. f.bytes.now) files.now) entry.now)) }
 {
     match prepare(alloc, machine, entry, files) {
-        Ok(plan) => Ok(Detail::Frames {
+        Ok(plan) => Ok(RefusalDetail::Frames {
             beside: Some(open_frames(&machine.pool(), plan.ranges())),
         }),
-        Err(PrepFault::Refused(_)) => Ok(Detail::Frames { beside: None }),
+        Err(PrepFault::Refused(_)) => Ok(RefusalDetail::Frames { beside: None }),
         Err(PrepFault::NoMemory) => Err(AllocError),
     }
 }

@@ -20,7 +20,7 @@ fn say_title<A: Allocator + Copy>(
     title: &str,
 ) -> Result<(), AllocError>
     ensures { OnOk result (out.new.items ≡ out.old.items
-        ++ told_words.attempt_line entry title.now) }
+        ++ told_words.entry_title_line entry title.now) }
 {
     let alloc = *out.allocator();
     let line = format!(in alloc; "entry {entry} {title}\n")?;

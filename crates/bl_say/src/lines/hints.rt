@@ -29,7 +29,7 @@ fn is_attempted<A: Allocator>(description: &Description<A>, index: u32) -> bool
 }
 
 fn say_hint<A: Allocator + Copy>(out: &mut Vec<u8, A>, index: u64) -> Result<(), AllocError>
-    ensures { OnOk result (out.new.items ≡ out.old.items ++ hints.hint_line index) }
+    ensures { OnOk result (out.new.items ≡ out.old.items ++ hints.unattempted_line index) }
 {
     let alloc = *out.allocator();
     let line = format!(in alloc;
@@ -45,7 +45,7 @@ fn say_hint_at<A: Allocator + Copy, B: Allocator>(
     index: u32,
 ) -> Result<(), AllocError>
     ensures { OnOk result
-        (out.new.items ≡ out.old.items ++ hints.hint_at (view description.now) index) }
+        (out.new.items ≡ out.old.items ++ hints.unattempted_hint_at (view description.now) index) }
 {
     if is_attempted(description, index) {
         return Ok(());

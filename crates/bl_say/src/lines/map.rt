@@ -31,7 +31,7 @@ fn say_runs<A: Allocator + Copy>(out: &mut Vec<u8, A>, runs: &[Region]) -> Resul
 }
 
 fn say_low<A: Allocator + Copy>(out: &mut Vec<u8, A>, low: u64) -> Result<(), AllocError>
-    ensures { OnOk result (out.new.items ≡ out.old.items ++ says.low_line low) }
+    ensures { OnOk result (out.new.items ≡ out.old.items ++ says.low_kib_line low) }
 {
     let alloc = *out.allocator();
     let line = format!(in alloc; "low {low}\n")?;
@@ -39,7 +39,7 @@ fn say_low<A: Allocator + Copy>(out: &mut Vec<u8, A>, low: u64) -> Result<(), Al
 }
 
 fn say_high<A: Allocator + Copy>(out: &mut Vec<u8, A>, high: u64) -> Result<(), AllocError>
-    ensures { OnOk result (out.new.items ≡ out.old.items ++ says.high_line high) }
+    ensures { OnOk result (out.new.items ≡ out.old.items ++ says.high_kib_line high) }
 {
     let alloc = *out.allocator();
     let line = format!(in alloc; "high {high}\n")?;

@@ -7,7 +7,7 @@ ghost use Rattle.bl_desc.specs.Views.{entry_view};
 
 use crate::lines::frames::{frames_at, say_counted, say_frames};
 use crate::lines::handed::role_name;
-use crate::told::{Detail, Sought};
+use crate::told::{RefusalDetail, Sought};
 use bl_blame::{say_address, say_line_end, say_unusable};
 use bl_desc::EntryRow;
 use bl_load::{Choice, Row};
@@ -129,18 +129,18 @@ pub fn say_detail<A: Allocator + Copy, B: Allocator>(
     entries: &[EntryRow<B>],
     sought: &Sought<'_, A>,
     entry: u32,
-    detail: Detail,
+    detail: RefusalDetail,
 ) -> Result<(), AllocError>
     ensures { OnOk result (out.new.items ≡ out.old.items
         ++ words.detail_lines (map entry_view entries.now) machine.now sought.now entry detail) }
 {
     match detail {
-        Detail::Nothing => Ok(()),
-        Detail::NoPlace { row, unusable } => {
+        RefusalDetail::Nothing => Ok(()),
+        RefusalDetail::NoPlace { row, unusable } => {
             say_no_place(out, &row)?;
             say_unusable_if(out, machine, unusable)
         }
-        Detail::Frames { beside } => {
+        RefusalDetail::Frames { beside } => {
             let wanted = frames_at(entries, sought, entry);
             say_pool_frames(out, wanted, frames_in(&machine.pool()), beside)
         }

@@ -1,7 +1,7 @@
 //! Why there is no menu.
 ghost use Rattle.std.specs.Prelude.{◌≡◌, ◌↔◌, All, IsTrue};
 ghost use Rattle.bl_load.specs.Value.{IsWithinLimits};
-ghost use Rattle.bl_session.specs.Attempts.{IsSmall, NameEntries};
+ghost use Rattle.bl_session.specs.Attempts.{AreWithinLimits, NameEntries};
 ghost use Rattle.bl_session.specs.declared.menu.fault.MenuFault.TheVariants.{NoMemory};
 
 use bl_load::Entry;
@@ -63,7 +63,7 @@ fn are_within_limits<A: Allocator>(entries: &[Entry<A>]) -> bool
 }
 
 pub(crate) fn is_small<A: Allocator>(entries: &[Entry<A>]) -> bool
-    ensures { IsTrue result ↔ IsSmall entries.now }
+    ensures { IsTrue result ↔ AreWithinLimits entries.now }
 {
     entries.len() <= MAX_ENTRIES && are_within_limits(entries)
 }

@@ -1,7 +1,7 @@
 //! The files' frames make way for ranges.
 ghost use Rattle.std.specs.Prelude.{◌≡◌, ℕ, ◌<◌, ◌↔◌, length, slice_index, IsErr, IfErr, OnErr};
 ghost use Rattle.std.specs.Prelude.{OnOk, false};
-ghost use Rattle.bl_mem.specs.Memory.{HasRoom, KeepsMemory};
+ghost use Rattle.bl_mem.specs.Memory.{HasRoom, KeepsSizeAndRoom};
 ghost use Rattle.bl_map.specs.Room as room;
 ghost use Rattle.bl_stage.specs.Staged.{staged_file, with_frames, AreStaged, HasPool};
 ghost use Rattle.bl_map.specs.Room.{frames_for};
@@ -47,7 +47,7 @@ impl<A: Allocator> Stage<A> {
             ≡ piece_states (M.bytes memory.old) self.old) }
         ensures staged { AreStaged self.new }
         ensures outside { IsSameOutside self.old.pool (M.bytes memory.old) (M.bytes memory.new) }
-        ensures kept { KeepsMemory M.lender M.bytes M.room memory.old memory.new }
+        ensures kept { KeepsSizeAndRoom M.lender M.bytes M.room memory.old memory.new }
     {
         let made = make_way(
             memory,

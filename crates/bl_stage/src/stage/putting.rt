@@ -1,7 +1,7 @@
 //! A piece is put into its frame.
 ghost use Rattle.std.specs.Prelude.{◌≡◌, ◌≢◌, ℕ, ◌+◌, ◌*◌, ◌<◌, ◌≤◌, IfSome, length, slice_index};
 ghost use Rattle.std.specs.Prelude.{if◌then◌else◌, Some, None};
-ghost use Rattle.bl_mem.specs.Memory.{overwrite, HasRoom, KeepsMemory};
+ghost use Rattle.bl_mem.specs.Memory.{overwrite, HasRoom, KeepsSizeAndRoom};
 ghost use Rattle.bl_stage.specs.Staged.{staged_file, AreStaged, HasPool};
 ghost use Rattle.bl_stage.specs.Pieces.{is_piece, slot_in, put_answer, stage_with};
 ghost use Rattle.bl_stage.specs.PieceStates.{piece_states, put_piece_state};
@@ -81,7 +81,7 @@ impl<A: Allocator> Stage<A> {
             → (self.new ≡ self.old) × (M.bytes memory.new ≡ M.bytes memory.old) }
         ensures staged { AreStaged self.new }
         ensures outside { IsSameOutside self.old.pool (M.bytes memory.old) (M.bytes memory.new) }
-        ensures kept { KeepsMemory M.lender M.bytes M.room memory.old memory.new }
+        ensures kept { KeepsSizeAndRoom M.lender M.bytes M.room memory.old memory.new }
     {
         let Some(slot) = self.slot_of(file, index, bytes.len()) else {
             return Put::Strange;

@@ -1,4 +1,4 @@
-use Rattle.bl_abi.specs.Boot.{entries_misuse, stored_misuse, misused, no_menu}
+use Rattle.bl_abi.specs.Boot.{entries_misuse, files_misuse, misused, no_menu}
 use Rattle.bl_abi.proofs.BootLemmas.{none_first, none_other}
 use Rattle.bl_abi.proofs.booting.menu_of.Goals as goal
 
@@ -10,7 +10,7 @@ returns-in-Ok-clause-allowed g c =
     let given = c.args.given.now in
     record {
       sound =
-          none_first (entries_misuse given c.args.entries.now) (stored_misuse given)
+          none_first (entries_misuse given c.args.entries.now) (files_misuse given)
           c.in_default.ensures;
       few = c.in-Ok.ensures.few;
       named = c.in-Ok.ensures.named;
@@ -19,7 +19,7 @@ returns-in-Ok-clause-allowed g c =
 pub returns-in-Ok-clause-stored : goal.returns-in-Ok-clause-stored
 returns-in-Ok-clause-stored g c =
     let given = c.args.given.now in
-    none_other (entries_misuse given c.args.entries.now) (stored_misuse given) c.in_default.ensures
+    none_other (entries_misuse given c.args.entries.now) (files_misuse given) c.in_default.ensures
 
 pub returns-in-Err-menu_made-clause-fault : goal.returns-in-Err-menu_made-clause-fault
 returns-in-Err-menu_made-clause-fault g c =

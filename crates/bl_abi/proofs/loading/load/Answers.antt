@@ -1,7 +1,7 @@
 use Rattle.std.proofs.Common.{ℕ, arith, length, refl, subst, sym}
 use Rattle.std.proofs.lemmas.List.{length-append, length-replicate}
 use Rattle.bl_mem.specs.Memory.{memory_from}
-use Rattle.bl_abi.specs.declared.fault.LoadFault.{LoadFault}
+use Rattle.bl_abi.specs.declared.load_fault.LoadFault.{LoadFault}
 use Rattle.bl_abi.specs.Load.{few_places, bad_machine, bad_memory, bad_entry}
 use Rattle.bl_abi.specs.Load.{IsNotLoaded}
 use Rattle.bl_abi.proofs.loading.load.Goals as goal

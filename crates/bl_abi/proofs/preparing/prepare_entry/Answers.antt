@@ -1,5 +1,5 @@
 use Rattle.std.proofs.Common.{arith, subst, sym}
-use Rattle.bl_abi.specs.declared.fault.LoadFault.{LoadFault}
+use Rattle.bl_abi.specs.declared.load_fault.LoadFault.{LoadFault}
 use Rattle.bl_abi.specs.Load.{few_places, bad_machine, bad_entry, IsNotLoaded}
 use Rattle.bl_abi.proofs.preparing.prepare_entry.Goals as goal
 

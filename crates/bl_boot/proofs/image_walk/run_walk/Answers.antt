@@ -1,7 +1,7 @@
 use Rattle.std.proofs.Common.{List, ℕ, Err, inr, refl}
 use Rattle.std.proofs.lemmas.Result.{err_from_is_err_and}
 use Rattle.bl_load.specs.Handover.{Handover}
-use Rattle.bl_image.specs.Source.{Input}
+use Rattle.bl_image.specs.Source.{SourceFacts}
 use Rattle.bl_walk.specs.Faults.{HasWalkFault}
 use Rattle.bl_walk.specs.declared.fault.WalkFault.{WalkFault}
 use Rattle.bl_walk.specs.declared.fault.WalkFault.TheVariants.{OutsideImage, BadInfo, BadState}
@@ -11,7 +11,7 @@ use Rattle.bl_boot.specs.WalkKept.{WalkEnds, end_of_walk_fault}
 use Rattle.bl_boot.proofs.image_walk.run_walk.Goals as goal
 
 -- an image came in which a kernel sees nothing
-shows_nothing : (before after : Input) (old : List ℕ) (h : Handover) (fault : WalkFault)
+shows_nothing : (before after : SourceFacts) (old : List ℕ) (h : Handover) (fault : WalkFault)
     → ReadsImage before after h → HasWalkFault h fault
     → WalkEnds before after old old (Err (end_of_walk_fault fault))
 shows_nothing before after old h OutsideImage read stands = (

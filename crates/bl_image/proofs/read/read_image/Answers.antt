@@ -12,7 +12,7 @@ use Rattle.bl_load.specs.HandoffFacts.{MayStand}
 use Rattle.bl_load.specs.Protocols.{is_wide}
 use Rattle.bl_image.specs.declared.version.Version.{Version}
 use Rattle.bl_image.specs.Layouts.{max_role}
-use Rattle.bl_image.specs.Source.{Input, Comes}
+use Rattle.bl_image.specs.Source.{SourceFacts, Comes}
 use Rattle.bl_image.specs.Spellable.{FitsRegisters}
 use Rattle.bl_image.specs.Versions.{HasProtocol}
 use Rattle.bl_image.proofs.Inputs.{comes_more, comes_as}
@@ -26,7 +26,7 @@ use Rattle.bl_image.proofs.ImageLaws.{accepted_by}
 use Rattle.bl_image.proofs.read.read_image.Goals as goal
 
 -- a head came, and leaves the parts to be judged
-fronted : {old new : Input} (v : Version) (p : Protocol) (r : Registers) (count : ℕ) (wide : Bool)
+fronted : {old new : SourceFacts} (v : Version) (p : Protocol) (r : Registers) (count : ℕ) (wide : Bool)
     → Comes old new (head v p r count) → HasProtocol v p → FitsRegisters p r → count ≤ 256
     → wide ≡ is_wide p
     → Passed image_fault old new (parts_fault (max_role wide) count none_before)

@@ -10,7 +10,7 @@ use Rattle.bl_load.specs.declared.registers.Registers.TheVariants.{Bits32}
 use Rattle.bl_image.specs.Fields.{Field, zero_extended_field, absent_field}
 use Rattle.bl_image.specs.Image.{narrow_values, wide_values}
 use Rattle.bl_image.specs.Layouts.{registers_2_narrow}
-use Rattle.bl_image.specs.Source.{Input}
+use Rattle.bl_image.specs.Source.{SourceFacts}
 use Rattle.bl_image.specs.SourceKept.{PassAll}
 use Rattle.bl_image.proofs.FieldRows.{pass_as, pass_both, refused_before, refused_behind}
 use Rattle.bl_image.proofs.WideLemmas.{wide_by, wide_spelling, spelled_wide}
@@ -33,7 +33,7 @@ abbrev after_first : List Field
 after_first = absent 8 ++ after_second
 
 -- so many numbers came
-sized : {old new : Input} (ns : List ℕ) (n : ℕ) → length ns ≡ n
+sized : {old new : SourceFacts} (ns : List ℕ) (n : ℕ) → length ns ≡ n
     → PassAll (narrow (length ns)) old new (flat_map u64_bytes ns)
     → PassAll (narrow n) old new (flat_map u64_bytes ns)
 sized {old} {new} ns n size passed =

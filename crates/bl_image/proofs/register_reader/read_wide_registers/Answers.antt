@@ -3,7 +3,7 @@ use Rattle.std.proofs.lemmas.List.{places}
 use Rattle.std.proofs.lemmas.Result.{err_from_is_err_and}
 use Rattle.std.specs.List.{flat_map}
 use Rattle.bl_mem.specs.LittleEndian.{u64_bytes}
-use Rattle.bl_image.specs.Fields.{fields_fault, wide_field}
+use Rattle.bl_image.specs.Fields.{fields_fault, wide_register_field}
 use Rattle.bl_image.specs.Layouts.{registers_2_wide}
 use Rattle.bl_image.proofs.Inputs.{comes_as}
 use Rattle.bl_image.proofs.FieldLemmas.{cut_refuses}
@@ -11,7 +11,7 @@ use Rattle.bl_image.proofs.RegisterLemmas.{any_short, wide_any, full_pass}
 use Rattle.bl_image.proofs.register_reader.read_wide_registers.Goals as goal
 
 pub returns-in_err-read_u64s-clause-fields : goal.returns-in_err-read_u64s-clause-fields
-unfolding registers_2_wide wide_field
+unfolding registers_2_wide wide_register_field
 returns-in_err-read_u64s-clause-fields g c =
     let p = err_from_is_err_and c.from_residual.result c.from_residual.ensures.1 in
     let size : length c.read_u64s.new.out ≡ 31 = search (rules, places) in
@@ -19,7 +19,7 @@ returns-in_err-read_u64s-clause-fields g c =
     rw (p.1, p.2)
     (λ others.
     cut_refuses (fields_fault (registers_2_wide ++ others)) _ _ 248 _
-    (any_short wide_field wide_any 31 others) cut)
+    (any_short wide_register_field wide_any 31 others) cut)
 
 pub returns-clause-fields : goal.returns-clause-fields
 returns-clause-fields g c = record {

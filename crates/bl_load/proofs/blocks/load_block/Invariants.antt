@@ -1,7 +1,7 @@
 use Rattle.std.proofs.Common.{◌≡◌, ◌+◌, ◌≤◌, ◌<◌, ℕ, length, drop, get_or}
 use Rattle.bl_mem.specs.declared.segment.Segment.{Segment}
 use Rattle.bl_mem.specs.Files.{nth_file}
-use Rattle.bl_mem.specs.Memory.{overwrite, KeepsMemory}
+use Rattle.bl_mem.specs.Memory.{overwrite, KeepsSizeAndRoom}
 use Rattle.bl_load.specs.Blocks.{span_of, block_of}
 use Rattle.bl_load.proofs.BlockLemmas.{block_from}
 use Rattle.bl_load.proofs.blocks.load_block.Given as goal
@@ -20,5 +20,5 @@ invariant-loop-segment g l =
       count : l.done + length left ≡ span_of l.segments;
       rest : overwrite (bytes l.memory) (l.at + l.done) left
           ≡ overwrite (bytes l.fn.memory) l.at (block_of text l.segments);
-      kept : KeepsMemory g.M.PhysMem.lender bytes g.M.PhysMem.room l.fn.memory l.memory;
+      kept : KeepsSizeAndRoom g.M.PhysMem.lender bytes g.M.PhysMem.room l.fn.memory l.memory;
     }

@@ -1,6 +1,6 @@
 use Rattle.std.proofs.Common.{◌≡◌, ◌-◌, ◌+◌, ◌≤◌, slice_range}
 use Rattle.bl_mem.specs.Files.{nth_file}
-use Rattle.bl_mem.specs.Memory.{overwrite, KeepsMemory}
+use Rattle.bl_mem.specs.Memory.{overwrite, KeepsSizeAndRoom}
 use Rattle.bl_load.proofs.copying.copy_by_pieces.Given as goal
 
 -- what was copied so far; the files are as they were
@@ -15,7 +15,7 @@ invariant-loop-done g l =
           ≡ overwrite (bytes l.fn.memory) l.at
           (slice_range (nth_file (texts (bytes l.fn.memory)) l.file) l.offset
           (l.offset + l.done));
-      kept : KeepsMemory g.M.PhysMem.lender bytes g.M.PhysMem.room l.fn.memory l.memory;
+      kept : KeepsSizeAndRoom g.M.PhysMem.lender bytes g.M.PhysMem.room l.fn.memory l.memory;
     }
 
 abbrev pub decreases-loop-done : goal.decreases-loop-done

@@ -1,5 +1,5 @@
 use Rattle.std.proofs.Common.{◌≡◌, drop, map}
-use Rattle.bl_mem.specs.Memory.{KeepsMemory}
+use Rattle.bl_mem.specs.Memory.{KeepsSizeAndRoom}
 use Rattle.bl_load.specs.Handover.{written}
 use Rattle.bl_load.specs.PlanFacts.{part_by}
 use Rattle.bl_load.proofs.loading.load_parts.Given as goal
@@ -14,5 +14,5 @@ invariant-loop-part g l =
       same : texts (bytes l.memory) ≡ texts (bytes l.fn.memory);
       rest : written (map part (drop l.part-index l.parts)) (bytes l.memory)
           ≡ written (map part l.parts) (bytes l.fn.memory);
-      kept : KeepsMemory g.M.PhysMem.lender bytes g.M.PhysMem.room l.fn.memory l.memory;
+      kept : KeepsSizeAndRoom g.M.PhysMem.lender bytes g.M.PhysMem.room l.fn.memory l.memory;
     }

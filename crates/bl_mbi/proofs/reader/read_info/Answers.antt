@@ -11,13 +11,13 @@ returns-in_err-rest-clause-accepts g c = λ info is.
 
 pub returns-clause-spelled : goal.returns-clause-spelled
 returns-clause-spelled g c =
-    spelling_by c.tags_of.result c.args.bytes.now
+    spelling_by c.info_of_tags.result c.args.bytes.now
     (are_bytes c.args.bytes.now (λ i. omega (arith, c.type_inv.bytes i)))
-    (subst (λ (read : Result InfoFacts InfoFault). MatchesReading (λ info. info) c.tags_of.result read)
-    (sym c.in_ok-rest.ensures.tags) c.tags_of.ensures)
+    (subst (λ (read : Result InfoFacts InfoFault). MatchesReading (λ info. info) c.info_of_tags.result read)
+    (sym c.in_ok-rest.ensures.tags) c.info_of_tags.ensures)
 
 pub returns-clause-accepts : goal.returns-clause-accepts
 returns-clause-accepts g c = λ info is.
-    accepted_by c.tags_of.result c.args.bytes.now info
-    (subst (λ (read : Result InfoFacts InfoFault). MatchesReading (λ info. info) c.tags_of.result read)
-    (sym c.in_ok-rest.ensures.tags) c.tags_of.ensures) is
+    accepted_by c.info_of_tags.result c.args.bytes.now info
+    (subst (λ (read : Result InfoFacts InfoFault). MatchesReading (λ info. info) c.info_of_tags.result read)
+    (sym c.in_ok-rest.ensures.tags) c.info_of_tags.ensures) is

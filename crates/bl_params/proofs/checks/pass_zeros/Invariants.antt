@@ -1,6 +1,6 @@
-use Rattle.bl_params.specs.Kept.{IsSoundUpto}
+use Rattle.bl_params.specs.Kept.{HasFormBelow}
 use Rattle.bl_params.proofs.checks.pass_zeros.Given as goal
 
 -- nothing so far breaks the form
 abbrev pub invariant-loop-at : goal.invariant-loop-at
-invariant-loop-at l = IsSoundUpto l.bytes l.at
+invariant-loop-at l = HasFormBelow l.bytes l.at

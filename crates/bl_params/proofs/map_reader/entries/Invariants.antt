@@ -1,13 +1,13 @@
 use Rattle.std.proofs.Common.{◌≡◌, length}
-use Rattle.bl_params.specs.Form.{e820_entry_at}
+use Rattle.bl_params.specs.Form.{e820_entry_offset}
 use Rattle.bl_params.specs.Reading.{AreEntries}
-use Rattle.bl_params.specs.Kept.{IsSoundUpto}
+use Rattle.bl_params.specs.Kept.{HasFormBelow}
 use Rattle.bl_params.proofs.map_reader.entries.Given as goal
 
 -- the entries so far are read
 abbrev pub invariant-loop-i : goal.invariant-loop-i
 invariant-loop-i g l = record {
-  sound : IsSoundUpto l.bytes (e820_entry_at l.i);
+  sound : HasFormBelow l.bytes (e820_entry_offset l.i);
   count : length l.runs.items ≡ l.i;
   are : AreEntries l.bytes 0x2D0 l.runs.items;
 }

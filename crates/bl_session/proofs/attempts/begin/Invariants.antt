@@ -1,5 +1,5 @@
 use Rattle.std.proofs.Common.{◌≤◌, ◌-◌, length, drop}
-use Rattle.bl_mem.specs.Memory.{KeepsMemory}
+use Rattle.bl_mem.specs.Memory.{KeepsSizeAndRoom}
 use Rattle.bl_stage.specs.Ranges.{IsSameOutside}
 use Rattle.bl_session.specs.Boot.{State, Begins}
 use Rattle.bl_session.specs.PhasesKept.{facts_of_boot}
@@ -16,7 +16,7 @@ invariant-attempts g l =
           → Begins facts (drop l.number facts.menu.attempts) l.refused.items state
           → Begins facts (drop l.fn.next facts.menu.attempts) l.fn.earlier.items state;
       outside : IsSameOutside facts.machine.pool (bytes l.fn.memory) (bytes l.memory);
-      kept : KeepsMemory g.M.PhysMem.lender bytes g.M.PhysMem.room l.fn.memory l.memory;
+      kept : KeepsSizeAndRoom g.M.PhysMem.lender bytes g.M.PhysMem.room l.fn.memory l.memory;
     }
 
 -- how many attempts are left

@@ -1,5 +1,5 @@
 use Rattle.std.proofs.Common.{◌≡◌, true}
-use Rattle.bl_mem.specs.Memory.{KeepsMemory}
+use Rattle.bl_mem.specs.Memory.{KeepsSizeAndRoom}
 use Rattle.bl_stage.specs.Ranges.{IsSameOutside}
 use Rattle.bl_session.specs.Phases.{state_at, is_waiting}
 use Rattle.bl_session.specs.TurnsKept.{IsHeard, attempts_left}
@@ -20,7 +20,7 @@ invariant-answers g l =
       as_many : attempts_left now ≡ attempts_left old;
       outside : IsSameOutside l.fn.session.boot.machine.pool (bytes l.fn.memory) (bytes l.memory);
       files : g.S.Store.files l.store ≡ g.S.Store.files l.fn.store;
-      kept : KeepsMemory g.M.PhysMem.lender bytes g.M.PhysMem.room l.fn.memory l.memory;
+      kept : KeepsSizeAndRoom g.M.PhysMem.lender bytes g.M.PhysMem.room l.fn.memory l.memory;
     }
 
 -- each answer leaves one fewer to come

@@ -1,5 +1,5 @@
 use Rattle.std.proofs.Common.{◌≡◌, ℕ, ◌<◌, ◌≤◌, ◌-◌, get_or}
-use Rattle.bl_mem.specs.Memory.{KeepsMemory}
+use Rattle.bl_mem.specs.Memory.{KeepsSizeAndRoom}
 use Rattle.bl_stage.specs.Ranges.{scrubbed}
 use Rattle.bl_stage.proofs.scrubbing.scrub.Given as goal
 
@@ -13,7 +13,7 @@ invariant-loop-at g l =
       done : (a : ℕ) → a < l.at
           → get_or (bytes l.memory) a 0 ≡ scrubbed l.pool l.keep (bytes l.fn.memory) a;
       rest : (a : ℕ) → l.at ≤ a → get_or (bytes l.memory) a 0 ≡ get_or (bytes l.fn.memory) a 0;
-      kept : KeepsMemory g.M.PhysMem.lender bytes g.M.PhysMem.room l.fn.memory l.memory;
+      kept : KeepsSizeAndRoom g.M.PhysMem.lender bytes g.M.PhysMem.room l.fn.memory l.memory;
     }
 
 abbrev pub decreases-loop-at : goal.decreases-loop-at

@@ -1,7 +1,7 @@
 use Rattle.std.proofs.Common.{◌≡◌, All, List, ◌≤◌, length, refl, sym, subst, arith, rules}
 use Rattle.bl_load.specs.Offered.{IsOfferedEntry}
 use Rattle.bl_load.specs.declared.entry.Entry.{Entry}
-use Rattle.bl_session.specs.Attempts.{NameEntries, IsSmall, attempt_order}
+use Rattle.bl_session.specs.Attempts.{NameEntries, AreWithinLimits, attempt_order}
 use Rattle.bl_session.proofs.MenuLemmas.{offered_entries}
 use Rattle.bl_session.proofs.OnceLemmas.{all_attempts, few_attempts}
 use Rattle.std.proofs.lemmas.Bool.{false≢true}
@@ -16,8 +16,8 @@ invariant_of-result g c =
     let named : NameEntries (length entries) c.args.default fallbacks =
     subst (λ (es : List (Entry g.row.A.Denot)). NameEntries (length es) c.args.default fallbacks)
     same (c.if-not-name_entries.ensures.0 refl) in
-    let small : IsSmall entries =
-    subst (λ (es : List (Entry g.row.A.Denot)). IsSmall es) same
+    let small : AreWithinLimits entries =
+    subst (λ (es : List (Entry g.row.A.Denot)). AreWithinLimits es) same
     (c.if-not-is_small.ensures.0 refl) in
     let few = few_attempts (length entries) c.args.default fallbacks named.0 named.1 in
     let most : length (attempt_order c.args.default fallbacks) ≤ 32 = omega (arith, few, small.0) in (
@@ -38,7 +38,7 @@ pub returns-then-not-name_entries-clause-first_fault :
     goal.returns-then-not-name_entries-clause-first_fault
 returns-then-not-name_entries-clause-first_fault g c =
     let same = c.as_slice-offered.ensures.value in (
-      subst (λ (es : List (Entry g.row.A.Denot)). IsSmall es) same
+      subst (λ (es : List (Entry g.row.A.Denot)). AreWithinLimits es) same
           (c.if-not-is_small.ensures.0 refl),
       λ named. false≢true (c.if-not-name_entries.ensures.1
           (subst (λ (es : List (Entry g.row.A.Denot)).
@@ -50,7 +50,7 @@ returns-in_err-attempts-clause-first_fault g c =
     let p = err_from_is_err_and c.from_residual.result c.from_residual.ensures.1 in
     let same = c.as_slice-offered.ensures.value in
     rw (p.1, p.2) (
-      subst (λ (es : List (Entry g.row.A.Denot)). IsSmall es) same
+      subst (λ (es : List (Entry g.row.A.Denot)). AreWithinLimits es) same
           (c.if-not-is_small.ensures.0 refl),
       subst (λ (es : List (Entry g.row.A.Denot)).
           NameEntries (length es) c.args.default c.args.fallbacks.now) same
@@ -61,7 +61,7 @@ pub returns-clause-allowed : goal.returns-clause-allowed
 returns-clause-allowed g c =
     let entries = c.args.entries.items in
     let same = c.as_slice-offered.ensures.value in (
-      subst (λ (es : List (Entry g.row.A.Denot)). IsSmall es) same
+      subst (λ (es : List (Entry g.row.A.Denot)). AreWithinLimits es) same
           (c.if-not-is_small.ensures.0 refl),
       subst (λ (es : List (Entry g.row.A.Denot)).
           NameEntries (length es) c.args.default c.args.fallbacks.now) same

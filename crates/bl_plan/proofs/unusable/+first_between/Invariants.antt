@@ -1,5 +1,0 @@
-use Rattle.std.proofs.Common.{◌-◌}
-use Rattle.bl_plan.proofs.unusable.+first_between.Given as goal
-
-abbrev pub decreases-first_between : goal.decreases-first_between
-decreases-first_between g l = l.high - l.low
